@@ -1,0 +1,15 @@
+pub mod WholeNumbers
+pub mod ArcSums
+pub mod NodeRuns
+pub mod RangeSides
+pub mod RoomArcs
+pub mod Surplus
+pub mod Supplies
+pub mod ArcLifts
+pub mod OneToOne
+pub mod Sizes
+pub mod ArcCounts
+pub mod FlowArcs
+pub mod ArcPasses
+pub mod NodePasses
+pub mod Fits

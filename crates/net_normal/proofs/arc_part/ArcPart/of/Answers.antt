@@ -1,0 +1,19 @@
+use Rattle.std.proofs.Common.{◌≤◌, arith, get_or}
+use Rattle.net_normal.proofs.ArcPasses.{has_read_next, sums-small, constant_small}
+use Rattle.net_normal.proofs.arc_part.ArcPart.of.Goals as goal
+
+pub add-requires-clause-sums : goal.add-requires-clause-sums
+add-requires-clause-sums c = λ k d h.
+    let few : c.loop-arc.arc-index ≤ 100000 = omega (arith, c.loop-arc-test.true, c.deref-arc-items.ensures.len, c.args.instance.now.few_arcs) in
+    sums-small c.loop-arc.arc-index (get_or c.loop-arc.part.sums.items k d) few (c.loop-arc.invariant.sizes k d h)
+
+pub loop-arc-preserved : goal.loop-arc-preserved
+loop-arc-preserved c =
+    let h = c.in_ok-add.ensures in
+    has_read_next c.args.instance.now c.deref-arc-items.result.now c.loop-arc.arc-index _ c.loop-arc.part c.add.new.self c.deref-arc-items.ensures.value c.loop-arc-test.true c.loop-arc.invariant
+    (record { arcs = h.arcs; numbers = h.numbers; offsets = h.offsets; constant = h.constant; nodes = h.nodes; sums = h.sums })
+
+pub returns-clause-size : goal.returns-clause-size
+returns-clause-size c =
+    let few : c.loop-arc.arc-index ≤ 100000 = omega (arith, c.loop-arc.auto.arc-index-end, c.deref-arc-items.ensures.len, c.args.instance.now.few_arcs) in
+    constant_small c.args.instance.now c.loop-arc.arc-index c.loop-arc.part few c.loop-arc.invariant

@@ -1,0 +1,8 @@
+use Rattle.std.proofs.Common.{arith}
+use Rattle.std.proofs.lemmas.Int.{ints}
+use Rattle.net_normal.proofs.instance.NodeRange.high_side.Goals as goal
+
+pub returns-in_default-Some-clause-size : goal.returns-in_default-Some-clause-size
+returns-in_default-Some-clause-size c = λ k.
+    let fits = c.args.self.now.high_fits c.in_default-Some.high c.in_default-Some.is-1 in
+    record { above = omega (arith, ints, fits.above, fits.below); below = omega (arith, ints, fits.above, fits.below) }

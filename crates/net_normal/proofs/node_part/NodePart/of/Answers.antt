@@ -1,0 +1,38 @@
+use Rattle.std.proofs.Common.{◌≡◌, ◌≤◌, ◌<◌, ◌++◌, ◌∷◌, [], ℕ, length, get_or, arith, sym, ◌∙◌, ap, vec_len, ℤ, to_z, of_z, w64}
+use Rattle.std.proofs.lemmas.Int.{ints}
+use Rattle.net_normal.specs.Limits.{arc_limit}
+use Rattle.net_normal.proofs.Sizes.{sums_sized}
+use Rattle.net_normal.proofs.NodePasses.{has_served_next, balance_sized, all_supplies}
+use Rattle.net_normal.proofs.node_part.NodePart.of.Goals as goal
+
+pub add-requires-clause-sums : goal.add-requires-clause-sums
+add-requires-clause-sums c =
+    let instance = c.args.instance.now in
+    let few : length instance.arcs.items ≤ arc_limit = omega (arith, instance.few_arcs, instance.arcs.ok.0) in
+    let inside : c.loop-node.node < length c.args.sums.now = omega (arith, c.loop-node-test.true, c.deref-range-items.ensures.len, c.requires.len) in
+    sums_sized (vec_len instance.nodes) instance.arcs.items c.loop-node.node _ instance.arcs_fit few (c.requires.sums c.loop-node.node _ inside)
+
+pub add-requires-clause-balance : goal.add-requires-clause-balance
+add-requires-clause-balance c =
+    let instance = c.args.instance.now in
+    let upto : c.loop-node.node ≤ length instance.nodes.items = omega (arith, c.loop-node-test.true, c.deref-range-items.ensures.len, instance.nodes.ok.0) in
+    balance_sized instance c.args.arcs.items c.loop-node.node c.loop-node.part upto c.loop-node.invariant
+
+pub loop-node-preserved : goal.loop-node-preserved
+loop-node-preserved c =
+    let h = c.in_ok-add.ensures in
+    let instance = c.args.instance.now in
+    let inside : c.loop-node.node < length c.args.sums.now = omega (arith, c.loop-node-test.true, c.deref-range-items.ensures.len, c.requires.len) in
+    has_served_next instance c.args.arcs.items c.deref-range-items.result.now c.loop-node.node c.len-outside.result c.range-item.result _ c.loop-node.part c.add.new.self
+    c.deref-range-items.ensures.value c.len-outside.ensures c.loop-node-test.true c.range-item.is (c.requires.sums c.loop-node.node _ inside) c.loop-node.invariant
+    (record { supplies = h.supplies; arcs = h.arcs; balance = h.balance })
+
+pub returns-clause-supplies : goal.returns-clause-supplies
+returns-clause-supplies c =
+    let instance = c.args.instance.now in
+    let past : length instance.nodes.items ≤ c.loop-node.node = omega (arith, c.loop-node-test.false, c.deref-range-items.ensures.len, instance.nodes.ok.0) in
+    let upto : c.loop-node.node ≤ length instance.nodes.items = omega (arith, c.loop-node.auto.node-end, c.deref-range-items.ensures.len, instance.nodes.ok.0) in
+    let small = balance_sized instance c.args.arcs.items c.loop-node.node c.loop-node.part upto c.loop-node.invariant in
+    let plain : to_z w64 (of_z w64 c.loop-node.part.balance) ≡ c.loop-node.part.balance = omega (arith, ints) in
+    all_supplies instance c.args.arcs.items c.loop-node.node c.loop-node.part c.push.new.self.items past c.loop-node.invariant
+    (c.in_ok-push.ensures.items ∙ ap (λ (z : ℤ). c.loop-node.part.supplies.items ++ z ∷ []) plain)

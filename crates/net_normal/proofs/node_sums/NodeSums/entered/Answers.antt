@@ -1,0 +1,8 @@
+use Rattle.std.proofs.Common.{arith}
+use Rattle.std.proofs.lemmas.Int.{ints}
+use Rattle.net_normal.specs.NodeSums.{entered}
+use Rattle.net_normal.proofs.ArcCounts.{same_sums}
+use Rattle.net_normal.proofs.node_sums.NodeSums.entered.Goals as goal
+
+pub returns : goal.returns
+returns c = same_sums _ (entered c.args.arc.now c.args.self.now) (omega (arith, ints)) (omega (arith, ints)) (omega (arith, ints, c.offset.ensures.value, c.offset.ensures.size c.requires.lower))

@@ -1,0 +1,77 @@
+use Rattle.std.proofs.Common.{◌≡◌, ◌≤◌, ◌++◌, ◌<◌, ℕ, suc, map, List, length, sym, ◌∙◌, ap, refl, subst, arith, All, vec_len, to_z, of_z}
+use mir.Syntax.{w128}
+use Rattle.std.proofs.lemmas.Int.{ints}
+use Rattle.net_normal.specs.Limits.{IsSized, IsFlowArcOf, flow_limit, flow_arc_limit, value_limit, constant_limit}
+use Rattle.net_normal.specs.NormalForm.{supplies_of, flow_arcs_of, room_arcs_from, numbers_from, offsets_of, flow_arc_of}
+use Rattle.net_normal.specs.declared.instance.Instance.{Instance}
+use Rattle.net_normal.specs.declared.problem.FlowArc.{FlowArc}
+use Rattle.net_normal.proofs.ArcLifts.{length-offsets}
+use Rattle.net_normal.proofs.Fits.{arcs_fit, few_arcs, supplies_fit, length-supplies, length-numbers, numbered, offsets_fit}
+use Rattle.net_normal.proofs.OneToOne.{normal_form-corresponds}
+use Rattle.net_normal.proofs.normal_form.normalise.Goals as goal
+
+-- the arcs of both passes
+all_arcs : (instance : Instance) (made all : List FlowArc) → made ≡ map (flow_arc_of instance.sense (vec_len instance.nodes)) instance.arcs.items → all ≡ made ++ room_arcs_from instance.arcs.items (vec_len instance.nodes) 0 instance.nodes.items → all ≡ flow_arcs_of instance
+all_arcs instance made all e h = h ∙ ap (λ (zs : List FlowArc). zs ++ room_arcs_from instance.arcs.items (vec_len instance.nodes) 0 instance.nodes.items) e
+
+pub invariant_of-result-clause-some_node : goal.invariant_of-result-clause-some_node
+invariant_of-result-clause-some_node c =
+    let supplies = c.in_ok-supplies.field-0.supplies in
+    omega (arith, supplies.ok.0, ap length c.in_ok-supplies.ensures.supplies, length-supplies c.args.instance.now)
+
+pub invariant_of-result-clause-few_nodes : goal.invariant_of-result-clause-few_nodes
+invariant_of-result-clause-few_nodes c =
+    let supplies = c.in_ok-supplies.field-0.supplies in
+    omega (arith, supplies.ok.0, ap length c.in_ok-supplies.ensures.supplies, length-supplies c.args.instance.now, c.args.instance.now.few_nodes)
+
+pub invariant_of-result-clause-few_arcs : goal.invariant_of-result-clause-few_arcs
+invariant_of-result-clause-few_arcs c =
+    let arcs = c.in_ok-supplies.field-0.arcs in
+    let same : arcs.items ≡ flow_arcs_of c.args.instance.now = all_arcs c.args.instance.now c.in_ok-arcs.field-0.arcs.items arcs.items c.in_ok-arcs.ensures.arcs c.in_ok-supplies.ensures.arcs in
+    omega (arith, arcs.ok.0, ap length same, few_arcs c.args.instance.now)
+
+pub invariant_of-result-clause-supplies_fit : goal.invariant_of-result-clause-supplies_fit
+invariant_of-result-clause-supplies_fit c = subst (All (IsSized flow_limit)) (sym c.in_ok-supplies.ensures.supplies) (supplies_fit c.args.instance.now)
+
+pub invariant_of-result-clause-arcs_fit : goal.invariant_of-result-clause-arcs_fit
+invariant_of-result-clause-arcs_fit c =
+    let instance = c.args.instance.now in
+    let supplies = c.in_ok-supplies.field-0.supplies in
+    let same : c.in_ok-supplies.field-0.arcs.items ≡ flow_arcs_of instance = all_arcs instance c.in_ok-arcs.field-0.arcs.items c.in_ok-supplies.field-0.arcs.items c.in_ok-arcs.ensures.arcs c.in_ok-supplies.ensures.arcs in
+    let count : suc (vec_len instance.nodes) ≡ vec_len supplies = omega (arith, supplies.ok.0, ap length c.in_ok-supplies.ensures.supplies, length-supplies instance) in
+    subst (λ (all : List FlowArc). All (IsFlowArcOf (vec_len supplies)) all) (sym same)
+    (subst (λ (n : ℕ). All (IsFlowArcOf n) (flow_arcs_of instance)) count (arcs_fit instance))
+
+pub invariant_of-link-clause-paired : goal.invariant_of-link-clause-paired
+invariant_of-link-clause-paired c =
+    let numbers = c.in_ok-arcs.field-0.numbers in
+    let offsets = c.in_ok-arcs.field-0.offsets in
+    let arcs = c.args.instance.now.arcs.items in
+    omega (arith, numbers.ok.0, offsets.ok.0, ap length c.in_ok-arcs.ensures.numbers, ap length c.in_ok-arcs.ensures.offsets, length-numbers 1 arcs, length-offsets arcs)
+
+pub invariant_of-link-clause-numbered : goal.invariant_of-link-clause-numbered
+invariant_of-link-clause-numbered c = subst (λ (ns : List ℕ). All (λ n. 0 < n) ns) (sym c.in_ok-arcs.ensures.numbers) (numbered c.args.instance.now.arcs.items)
+
+pub invariant_of-link-clause-offsets_fit : goal.invariant_of-link-clause-offsets_fit
+invariant_of-link-clause-offsets_fit c = subst (All (IsSized value_limit)) (sym c.in_ok-arcs.ensures.offsets) (offsets_fit c.args.instance.now)
+
+pub invariant_of-link-clause-constant_fits : goal.invariant_of-link-clause-constant_fits
+invariant_of-link-clause-constant_fits c =
+    let small = c.in_ok-arcs.ensures.size in
+    let plain : to_z w128 (of_z w128 c.in_ok-arcs.field-0.constant) ≡ c.in_ok-arcs.field-0.constant = omega (arith, ints, small.above, small.below) in
+    subst (IsSized constant_limit) (sym plain) small
+
+pub returns-clause-corresponds : goal.returns-clause-corresponds
+returns-clause-corresponds c =
+    let instance = c.args.instance.now in
+    let constant = c.in_ok-arcs.field-0.constant in
+    let small = c.in_ok-arcs.ensures.size in
+    let plain : to_z w128 (of_z w128 constant) ≡ constant = omega (arith, ints, small.above, small.below) in
+    normal_form-corresponds instance _ _ (record {
+      supplies = c.in_ok-supplies.ensures.supplies;
+      arcs = all_arcs instance c.in_ok-arcs.field-0.arcs.items c.in_ok-supplies.field-0.arcs.items c.in_ok-arcs.ensures.arcs c.in_ok-supplies.ensures.arcs;
+      numbers = c.in_ok-arcs.ensures.numbers;
+      offsets = c.in_ok-arcs.ensures.offsets;
+      constant = plain ∙ c.in_ok-arcs.ensures.constant;
+      sense = refl;
+    })

@@ -1,0 +1,69 @@
+-- The limits of a network and of its minimum-cost flow problem (First DIMACS Implementation Challenge), as netflow sets them.
+use Rattle.std.specs.Prelude.{◌≡◌, ℕ, ◌*◌, ◌^◌, ◌<◌, Bool, ◌||◌, ℤ, pos, ◌≤ℤ◌, neg_ℤ, IsTrue, is_some}
+use Rattle.std.specs.Option.{ForSome}
+use Rattle.net_normal.specs.declared.instance.InstArc.{InstArc}
+use Rattle.net_normal.specs.declared.problem.FlowArc.{FlowArc}
+
+-- of a network
+abbrev pub node_limit : ℕ
+node_limit = 10000
+
+abbrev pub arc_limit : ℕ
+arc_limit = 100000
+
+-- of a bound, a coefficient and an objective's constant
+abbrev pub value_limit : ℕ
+value_limit = 10 ^ 12
+
+-- of a side of a node's range
+abbrev pub range_limit : ℕ
+range_limit = 2 * 10 ^ 12
+
+-- of a problem
+abbrev pub flow_node_limit : ℕ
+flow_node_limit = 20000
+
+abbrev pub flow_arc_limit : ℕ
+flow_arc_limit = 200000
+
+-- of LOW, CAP and a supply
+abbrev pub flow_limit : ℕ
+flow_limit = 10 ^ 18
+
+abbrev pub cost_limit : ℕ
+cost_limit = 10 ^ 12
+
+-- of a link's constant, and of a cost that it is added to
+abbrev pub constant_limit : ℕ
+constant_limit = 10 ^ 30
+
+abbrev pub total_cost_limit : ℕ
+total_cost_limit = 10 ^ 36
+
+-- of what the arcs at one node sum to, as each has two ends
+abbrev pub sum_limit : ℕ
+sum_limit = 2 * 10 ^ 17
+
+-- at most n in size, of either sign
+pub record IsSized (n : ℕ) (x : ℤ) : Type 0 where
+  pub above : neg_ℤ (pos n) ≤ℤ x
+  pub below : x ≤ℤ pos n
+
+-- an arc of a network with this number of nodes
+pub record IsArcOf (nodes : ℕ) (arc : InstArc) : Type 0 where
+  pub lower : IsSized value_limit arc.lower
+  pub upper : IsSized value_limit arc.upper
+  pub ordered : arc.lower ≤ℤ arc.upper
+  pub coefficient : IsSized value_limit arc.coefficient
+  pub tail : ForSome arc.tail (λ v. v < nodes)
+  pub head : ForSome arc.head (λ v. v < nodes)
+  pub an_end : IsTrue (is_some arc.tail || is_some arc.head)
+
+-- an arc of a problem with this number of nodes
+pub record IsFlowArcOf (nodes : ℕ) (arc : FlowArc) : Type 0 where
+  pub src : arc.src < nodes
+  pub dst : arc.dst < nodes
+  pub low : pos 0 ≤ℤ arc.low
+  pub room : arc.low ≤ℤ arc.cap
+  pub cap : arc.cap ≤ℤ pos flow_limit
+  pub cost : IsSized cost_limit arc.cost

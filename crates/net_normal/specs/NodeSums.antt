@@ -1,0 +1,59 @@
+-- What is summed of each node while the arcs of a network are read in order.
+use Rattle.std.specs.Prelude.{◌≡◌, ℕ, ◌<◌, Bool, List, length, ℤ, pos, ◌+ℤ◌, ◌-ℤ◌, slice_index_or, if◌then◌else◌}
+use Rattle.net_normal.specs.Limits.{IsSized}
+use Rattle.net_normal.specs.Assignments.{enters, leaves}
+use Rattle.net_normal.specs.NormalForm.{offset_of, least_inflow, most_inflow, shift_of, low_side, high_side}
+use Rattle.net_normal.specs.declared.instance.NodeRange.{NodeRange}
+use Rattle.net_normal.specs.declared.problem.FlowArc.{FlowArc}
+use Rattle.net_normal.specs.declared.instance.InstArc.{InstArc}
+use Rattle.net_normal.specs.declared.node_sums.NodeSums.{NodeSums}
+
+-- of a node without arcs
+abbrev pub no_sums : NodeSums
+no_sums = record { least = pos 0; most = pos 0; shift = pos 0 }
+
+-- the sums of node v when an arc has come to it, and when one has left it
+abbrev pub entered : InstArc → NodeSums → NodeSums
+entered arc sums = record { least = sums.least +ℤ arc.lower; most = sums.most +ℤ arc.upper; shift = sums.shift +ℤ offset_of arc }
+
+abbrev pub left : InstArc → NodeSums → NodeSums
+left arc sums = record { least = sums.least -ℤ arc.upper; most = sums.most -ℤ arc.lower; shift = sums.shift -ℤ offset_of arc }
+
+-- at most n in size, each of them
+pub record AreSized (n : ℕ) (sums : NodeSums) : Type 0 where
+  pub least : IsSized n sums.least
+  pub most : IsSized n sums.most
+  pub shift : IsSized n sums.shift
+
+-- the sums of node v over these arcs, and no others
+pub record AreSumsAt (arcs : List InstArc) (v : ℕ) (sums : NodeSums) : Type 0 where
+  pub least : sums.least ≡ least_inflow arcs v
+  pub most : sums.most ≡ most_inflow arcs v
+  pub shift : sums.shift ≡ shift_of arcs v
+
+-- the same of each node
+abbrev pub AreSumsOf : List InstArc → List NodeSums → Type 0
+AreSumsOf arcs all = (v : ℕ) (d : NodeSums) → v < length all → AreSumsAt arcs v (slice_index_or all v d)
+
+-- the arc counts at the node that it leads to, and at the one that it leads from
+abbrev pub counted_head : InstArc → ℕ → NodeSums → NodeSums
+counted_head arc v sums = if enters v arc then entered arc sums else sums
+
+abbrev pub counted_tail : InstArc → ℕ → NodeSums → NodeSums
+counted_tail arc v sums = if leaves v arc then left arc sums else sums
+
+abbrev pub CountsHead : InstArc → List NodeSums → List NodeSums → Type 0
+CountsHead arc old new = (v : ℕ) (d : NodeSums) → v < length old → slice_index_or new v d ≡ counted_head arc v (slice_index_or old v d)
+
+abbrev pub CountsTail : InstArc → List NodeSums → List NodeSums → Type 0
+CountsTail arc old new = (v : ℕ) (d : NodeSums) → v < length old → slice_index_or new v d ≡ counted_tail arc v (slice_index_or old v d)
+
+abbrev pub CountsArc : InstArc → List NodeSums → List NodeSums → Type 0
+CountsArc arc old new = (v : ℕ) (d : NodeSums) → v < length old → slice_index_or new v d ≡ counted_tail arc v (counted_head arc v (slice_index_or old v d))
+
+-- a node's supply and the arc for its room, by its own sums
+abbrev pub own_supply : NodeRange → NodeSums → ℤ
+own_supply range sums = sums.shift -ℤ low_side range.low range.high sums.least
+
+abbrev pub own_room : ℕ → ℕ → NodeRange → NodeSums → FlowArc
+own_room node outside range sums = record { src = node; dst = outside; low = pos 0; cap = high_side range.low range.high sums.most -ℤ low_side range.low range.high sums.least; cost = pos 0 }

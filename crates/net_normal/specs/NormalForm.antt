@@ -1,0 +1,112 @@
+-- The normal form of a network as netflow lays it down: which problem and which link an instance has. Nodes keep their numbers, and the
+-- outside node, which stands for the arcs' missing ends and for the room in the nodes' ranges, comes after them.
+use Rattle.std.specs.Prelude.{◌≡◌, ℕ, suc, Bool, true, List, [], ◌∷◌, ◌++◌, map, Option, Some, None, ℤ, pos, ◌+ℤ◌, ◌-ℤ◌, neg_ℤ, int_lt, vec_len, unwrap_or, if◌then◌else◌}
+use Rattle.std.specs.Int.{int_min, int_max}
+use Rattle.net_normal.specs.Sums.{flow_on, price_of, sum_of}
+use Rattle.net_normal.specs.Assignments.{enters, leaves, net_inflow}
+use Rattle.net_normal.specs.Links.{signed}
+use Rattle.net_normal.specs.declared.instance.Sense.{Sense}
+use Rattle.net_normal.specs.declared.instance.InstArc.{InstArc}
+use Rattle.net_normal.specs.declared.instance.NodeRange.{NodeRange}
+use Rattle.net_normal.specs.declared.instance.Instance.{Instance}
+use Rattle.net_normal.specs.declared.problem.FlowArc.{FlowArc}
+use Rattle.net_normal.specs.declared.problem.Problem.{Problem}
+use Rattle.net_normal.specs.declared.link.Link.{Link}
+
+-- a negative lower bound is moved to 0
+abbrev pub offset_of : InstArc → ℤ
+offset_of arc = int_min arc.lower (pos 0)
+
+abbrev pub offsets_of : List InstArc → List ℤ
+offsets_of arcs = map offset_of arcs
+
+-- counted from this number
+abbrev pub numbers_from : ℕ → List InstArc → List ℕ
+numbers_from n [] = []
+numbers_from n (arc ∷ arcs) = n ∷ numbers_from (suc n) arcs
+
+abbrev pub flow_arc_of : Sense → ℕ → InstArc → FlowArc
+flow_arc_of sense outside arc =
+    record {
+      src = unwrap_or arc.tail outside;
+      dst = unwrap_or arc.head outside;
+      low = arc.lower -ℤ offset_of arc;
+      cap = arc.upper -ℤ offset_of arc;
+      cost = signed sense arc.coefficient;
+    }
+
+-- the greatest net inflow that the bounds allow
+abbrev pub most_inflow : List InstArc → ℕ → ℤ
+most_inflow arcs v = flow_on (enters v) arcs (map (λ arc. arc.upper) arcs) -ℤ flow_on (leaves v) arcs (map (λ arc. arc.lower) arcs)
+
+-- the least
+abbrev pub least_inflow : List InstArc → ℕ → ℤ
+least_inflow arcs v = flow_on (enters v) arcs (map (λ arc. arc.lower) arcs) -ℤ flow_on (leaves v) arcs (map (λ arc. arc.upper) arcs)
+
+-- what the offsets bring into a node
+abbrev pub shift_of : List InstArc → ℕ → ℤ
+shift_of arcs v = net_inflow arcs (offsets_of arcs) v
+
+-- a missing low side is the lesser of the high side and the least inflow
+abbrev pub low_side : Option ℤ → Option ℤ → ℤ → ℤ
+low_side (Some low) high least = low
+low_side None (Some high) least = int_min high least
+low_side None None least = least
+
+-- a missing high side is the greater of the low side and the greatest inflow
+abbrev pub high_side : Option ℤ → Option ℤ → ℤ → ℤ
+high_side low (Some high) most = high
+high_side (Some low) None most = int_max low most
+high_side None None most = most
+
+abbrev pub low_of : List InstArc → ℕ → NodeRange → ℤ
+low_of arcs v range = low_side range.low range.high (least_inflow arcs v)
+
+abbrev pub high_of : List InstArc → ℕ → NodeRange → ℤ
+high_of arcs v range = high_side range.low range.high (most_inflow arcs v)
+
+-- the range, as it is given, leaves more than one net inflow open
+abbrev pub is_open : Option ℤ → Option ℤ → Bool
+is_open (Some low) (Some high) = int_lt low high
+is_open (Some low) None = true
+is_open None high = true
+
+abbrev pub supply_of : List InstArc → ℕ → NodeRange → ℤ
+supply_of arcs v range = shift_of arcs v -ℤ low_of arcs v range
+
+-- of the nodes from number v on
+abbrev pub supplies_from : List InstArc → ℕ → List NodeRange → List ℤ
+supplies_from arcs v [] = []
+supplies_from arcs v (range ∷ ranges) = supply_of arcs v range ∷ supplies_from arcs (suc v) ranges
+
+-- the arc that takes what a node receives above its low side to the outside node
+abbrev pub room_arc : List InstArc → ℕ → ℕ → NodeRange → FlowArc
+room_arc arcs outside v range = record { src = v; dst = outside; low = pos 0; cap = high_of arcs v range -ℤ low_of arcs v range; cost = pos 0 }
+
+abbrev pub room_arcs_from : List InstArc → ℕ → ℕ → List NodeRange → List FlowArc
+room_arcs_from arcs outside v [] = []
+room_arcs_from arcs outside v (range ∷ ranges) =
+    if is_open range.low range.high then room_arc arcs outside v range ∷ room_arcs_from arcs outside (suc v) ranges
+    else room_arcs_from arcs outside (suc v) ranges
+
+-- the outside node makes the supplies sum to 0
+abbrev pub supplies_of : Instance → List ℤ
+supplies_of instance = let inner = supplies_from instance.arcs.items 0 instance.nodes.items in inner ++ neg_ℤ (sum_of inner) ∷ []
+
+-- the network's arcs in order, then one arc for each node with an open range, in the nodes' order
+abbrev pub flow_arcs_of : Instance → List FlowArc
+flow_arcs_of instance =
+    let outside = vec_len instance.nodes in
+    map (flow_arc_of instance.sense outside) instance.arcs.items ++ room_arcs_from instance.arcs.items outside 0 instance.nodes.items
+
+-- the constant, and what the offsets cost
+abbrev pub constant_of : Instance → ℤ
+constant_of instance = instance.constant +ℤ price_of (λ arc. arc.coefficient) instance.arcs.items (offsets_of instance.arcs.items)
+
+pub record IsNormalForm (instance : Instance) (problem : Problem) (link : Link) : Type 0 where
+  pub supplies : problem.supplies.items ≡ supplies_of instance
+  pub arcs : problem.arcs.items ≡ flow_arcs_of instance
+  pub numbers : link.numbers.items ≡ numbers_from 1 instance.arcs.items
+  pub offsets : link.offsets.items ≡ offsets_of instance.arcs.items
+  pub constant : link.constant ≡ constant_of instance
+  pub sense : link.sense ≡ instance.sense

@@ -1,0 +1,22 @@
+//! The normal form of a network: an instance in the model's terms becomes a minimum-cost flow problem, and a link leads back.
+#![tactic(auto)]
+
+mod arc_count;
+mod arc_part;
+mod instance;
+mod limits;
+mod link;
+mod node_part;
+mod node_sums;
+mod normal_form;
+mod problem;
+mod sides;
+
+pub use instance::{InstArc, Instance, NodeRange, Sense};
+pub use limits::{
+    ARC_LIMIT, COST_LIMIT, FLOW_ARC_LIMIT, FLOW_LIMIT, FLOW_NODE_LIMIT, NODE_LIMIT, RANGE_LIMIT,
+    VALUE_LIMIT,
+};
+pub use link::Link;
+pub use normal_form::normalise;
+pub use problem::{FlowArc, Problem};

@@ -1,0 +1,91 @@
+//! The part of a normal form that the nodes of a network make, in their order.
+
+ghost use Rattle.std.specs.Prelude.{◌≡◌, ◌<◌, ◌≤◌, ◌+◌, ◌*◌, ◌^◌, ◌++◌, ◌∷◌, [], pos, ◌-ℤ◌, ◌≤ℤ◌, length, IfOk, OnOk, vec_len, if◌then◌else◌};
+ghost use Rattle.net_normal.specs.Limits.{IsSized, node_limit, range_limit, flow_limit, sum_limit};
+ghost use Rattle.net_normal.specs.NormalForm.{low_side, high_side, is_open, supplies_of, room_arcs_from};
+ghost use Rattle.net_normal.specs.NodeSums.{AreSized, AreSumsOf, own_supply, own_room};
+
+use crate::instance::{Instance, NodeRange};
+use crate::node_sums::NodeSums;
+use crate::problem::FlowArc;
+use std::alloc::{AllocError, Global};
+
+/// What a node has to send out, where the outside node takes what it receives above its low side.
+fn own_supply(range: &NodeRange, sums: &NodeSums) -> i64
+    requires { AreSized sum_limit sums.now }
+    ensures value { result ≡ own_supply range.now sums.now }
+    ensures size { IsSized (2 * sum_limit) result }
+{
+    sums.shift - range.low_side(&sums.least)
+}
+
+/// The arc that takes what a node receives above its low side to the outside node.
+fn own_room(node: u32, outside: u32, range: &NodeRange, sums: &NodeSums) -> FlowArc
+    requires { AreSized sum_limit sums.now }
+    ensures { result ≡ own_room node outside range.now sums.now }
+{
+    FlowArc {
+        src: node,
+        dst: outside,
+        low: 0,
+        cap: range.high_side(&sums.most) - range.low_side(&sums.least),
+        cost: 0,
+    }
+}
+
+/// What the nodes make.
+#[derive(Drop)]
+pub struct NodePart {
+    /// Each node's supply.
+    pub supplies: Vec<i64>,
+    /// The arcs of the network, and those for the room in the nodes' ranges.
+    pub arcs: Vec<FlowArc>,
+    /// What the supplies are short of 0 together.
+    pub balance: i64,
+}
+
+impl NodePart {
+    /// Takes the next node.
+    fn add(&mut self, outside: u32, range: &NodeRange, sums: &NodeSums) -> Result<(), AllocError>
+        requires few { vec_len self.old.supplies < node_limit }
+        requires sums { AreSized sum_limit sums.now }
+        requires balance { IsSized flow_limit self.old.balance }
+        ensures supplies { OnOk result (self.new.supplies.items ≡ self.old.supplies.items ++ own_supply range.now sums.now ∷ []) }
+        ensures arcs { OnOk result (self.new.arcs.items ≡ self.old.arcs.items ++ (if is_open range.now.low range.now.high then own_room (vec_len self.old.supplies) outside range.now sums.now ∷ [] else [])) }
+        ensures balance { OnOk result (self.new.balance ≡ self.old.balance -ℤ own_supply range.now sums.now) }
+    {
+        let node = self.supplies.len() as u32;
+        let supply = own_supply(range, sums);
+        self.supplies.push(supply)?;
+        self.balance -= supply;
+        if range.is_open() {
+            self.arcs.push(own_room(node, outside, range, sums))?;
+        }
+        Ok(())
+    }
+
+    /// Takes all nodes of a network, in one pass; the arcs before are those of its arcs, and the sums what these say of its nodes.
+    pub fn of(
+        alloc: Global,
+        instance: &Instance,
+        arcs: Vec<FlowArc>,
+        sums: &[NodeSums],
+    ) -> Result<NodePart, AllocError>
+        requires len { length sums.now ≡ vec_len instance.now.nodes }
+        requires sums { AreSumsOf instance.now.arcs.items sums.now }
+        ensures supplies { IfOk result (λ part. part.supplies.items ≡ supplies_of instance.now) }
+        ensures arcs { IfOk result (λ part. part.arcs.items ≡ arcs.items ++ room_arcs_from instance.now.arcs.items (vec_len instance.now.nodes) 0 instance.now.nodes.items) }
+    {
+        let outside = instance.nodes.len() as u32;
+        let mut part = NodePart {
+            supplies: Vec::with_capacity(alloc, instance.nodes.len() + 1)?,
+            arcs,
+            balance: 0,
+        };
+        for (node, range) in instance.nodes.iter().enumerate() {
+            part.add(outside, range, &sums[node])?;
+        }
+        part.supplies.push(part.balance)?;
+        Ok(part)
+    }
+}
