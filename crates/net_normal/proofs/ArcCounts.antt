@@ -1,12 +1,9 @@
 -- An arc counted at its ends, node by node.
-use Rattle.std.proofs.Common.{◌≡◌, ◌≢◌, ℕ, ◌*◌, ◌^◌, ◌<◌, Bool, true, false, cond, Option, Some, None, List, length, get_or, set, ℤ, pos, ◌+ℤ◌, ◌-ℤ◌, ◌≤ℤ◌, inl, inr, nat_eq, refl, sym, ◌∙◌, ap, subst, arith, get_or-set_same, get_or-set_other, All}
+use Rattle.std.proofs.Common.{◌≡◌, ◌*◌, ◌^◌, true, false, cond, List, length, get_or, ℤ, sym, ◌∙◌, ap, subst, arith, All}
 use Rattle.std.proofs.lemmas.Int.{ints, clamps}
-use Rattle.std.proofs.lemmas.Bool.Decides.{eqb_tells}
 use Rattle.net_normal.specs.Limits.{IsSized, value_limit, flow_limit}
-use Rattle.net_normal.specs.Sums.{is_node}
-use Rattle.net_normal.specs.Assignments.{enters, leaves}
-use Rattle.net_normal.specs.NormalForm.{offset_of, least_inflow, most_inflow, shift_of}
-use Rattle.net_normal.specs.NodeSums.{AreSized, entered, left, counted_head, counted_tail, CountsHead, CountsTail, CountsArc}
+use Rattle.net_normal.specs.Assignments.{enters}
+use Rattle.net_normal.specs.NodeSums.{AreSized, entered, counted_head, CountsHead}
 use Rattle.net_normal.specs.declared.instance.InstArc.{InstArc}
 use Rattle.net_normal.specs.declared.node_sums.NodeSums.{NodeSums}
 

@@ -1,10 +1,10 @@
 -- The arcs of a network beside those of its normal form: a flow and its offset make the number that the model's arc has.
-use Rattle.std.proofs.Common.{◌≡◌, ◌≢◌, ℕ, zero, suc, ◌+◌, ◌-◌, ◌<◌, Bool, true, false, Option, Some, None, List, [], ◌∷◌, ◌++◌, length, map, get_or, drop, ℤ, pos, ◌+ℤ◌, ◌-ℤ◌, ◌*ℤ◌, ◌≤ℤ◌, neg_ℤ, nat_eq, unwrap_or, refl, sym, ◌∙◌, ap, arith, length-drop}
+use Rattle.std.proofs.Common.{◌≡◌, ◌≢◌, ℕ, suc, ◌-◌, ◌<◌, Option, Some, None, List, [], ◌∷◌, ◌++◌, length, map, get_or, drop, ℤ, pos, ◌+ℤ◌, ◌-ℤ◌, ◌≤ℤ◌, neg_ℤ, nat_eq, unwrap_or, refl, sym, ◌∙◌, ap, arith, length-drop}
 use Rattle.std.proofs.lemmas.Int.{ints}
 use Rattle.std.proofs.lemmas.Bool.{ne_eqb}
 use Rattle.std.proofs.Math.Seq.{drop-cons}
 use Rattle.std.specs.List.{AllZip}
-use Rattle.net_normal.specs.Sums.{is_node, flow_on, price_of}
+use Rattle.net_normal.specs.Sums.{is_node, price_of}
 use Rattle.net_normal.specs.Assignments.{IsWithinBounds, enters, leaves, net_inflow}
 use Rattle.net_normal.specs.Flows.{IsWithinCapacity, net_outflow}
 use Rattle.net_normal.specs.Links.{signed, lifted_by}

@@ -1,9 +1,9 @@
 -- The pass over the arcs of a network: what is made so far, with what the arcs to come will make, is what all arcs make.
-use Rattle.std.proofs.Common.{◌≡◌, ℕ, suc, ◌+◌, ◌*◌, ◌^◌, ◌<◌, ◌≤◌, Bool, true, false, cond, List, [], ◌∷◌, ◌++◌, length, map, drop, get_or, ℤ, pos, ◌+ℤ◌, ◌-ℤ◌, ◌*ℤ◌, ◌≤ℤ◌, vec_len, All, refl, sym, ◌∙◌, ap, subst, arith, append_assoc, length-append}
+use Rattle.std.proofs.Common.{◌≡◌, ℕ, suc, ◌+◌, ◌*◌, ◌^◌, ◌<◌, ◌≤◌, Bool, true, false, cond, List, [], ◌∷◌, ◌++◌, length, map, drop, get_or, ℤ, pos, ◌+ℤ◌, ◌-ℤ◌, ◌*ℤ◌, vec_len, All, refl, sym, ◌∙◌, ap, subst, arith, append_assoc, length-append}
 use Rattle.std.proofs.lemmas.Int.{ints, clamps}
 use Rattle.std.proofs.Math.Seq.{drop-cons}
 use Rattle.net_normal.specs.Limits.{IsSized, IsArcOf, value_limit, constant_limit}
-use Rattle.net_normal.specs.Sums.{flow_on, price_of}
+use Rattle.net_normal.specs.Sums.{price_of}
 use Rattle.net_normal.specs.Assignments.{enters, leaves}
 use Rattle.net_normal.specs.NormalForm.{offset_of, offsets_of, numbers_from, flow_arc_of, least_inflow, most_inflow, shift_of, constant_of}
 use Rattle.net_normal.specs.NodeSums.{AreSized, entered, left, counted_head, counted_tail, CountsArc}
@@ -11,7 +11,7 @@ use Rattle.net_normal.specs.declared.instance.Instance.{Instance}
 use Rattle.net_normal.specs.declared.instance.InstArc.{InstArc}
 use Rattle.net_normal.specs.declared.node_sums.NodeSums.{NodeSums}
 use Rattle.net_normal.specs.declared.arc_part.ArcPart.{ArcPart}
-use Rattle.net_normal.proofs.WholeNumbers.{sized-mul, choice_within}
+use Rattle.net_normal.proofs.WholeNumbers.{sized-mul}
 
 -- a node's sums lack only the arcs to come
 pub record LackOnly (rest all : List InstArc) (v : ℕ) (sums : NodeSums) : Type 0 where

@@ -1,9 +1,9 @@
 -- Laws of sums over the arcs of a network, by induction on the arcs.
-use Rattle.std.proofs.Common.{◌≡◌, ℕ, suc, Bool, true, false, cond, List, [], ◌∷◌, ◌++◌, map, length, ℤ, pos, ◌+ℤ◌, ◌-ℤ◌, ◌*ℤ◌, ◌≤ℤ◌, neg_ℤ, refl, sym, ◌∙◌, ap, arith}
+use Rattle.std.proofs.Common.{◌≡◌, suc, Bool, false, cond, List, [], ◌∷◌, ◌++◌, map, length, ℤ, pos, ◌+ℤ◌, ◌-ℤ◌, ◌*ℤ◌, ◌≤ℤ◌, refl, sym, ◌∙◌, ap, arith}
 use Rattle.std.proofs.lemmas.Int.{ints}
 use Rattle.std.specs.List.{AllZip}
 use Rattle.net_normal.specs.Sums.{flow_on, price_of}
-use Rattle.net_normal.proofs.WholeNumbers.{mul-add, choice-add, choice-le, choice_within}
+use Rattle.net_normal.proofs.WholeNumbers.{mul-add, choice-add, choice-le}
 
 -- two flows on the same arcs, added
 abbrev pub added : List ℤ → List ℤ → List ℤ

@@ -1,23 +1,22 @@
 -- A normal form is within the limits of a problem and of a link.
-use Rattle.std.proofs.Common.{◌≡◌, ℕ, zero, suc, ◌+◌, ◌<◌, ◌≤◌, Bool, true, false, cond, Option, Some, None, List, [], ◌∷◌, ◌++◌, length, map, ℤ, pos, ◌+ℤ◌, ◌-ℤ◌, ◌≤ℤ◌, neg_ℤ, unwrap_or, vec_len, All, refl, sym, ◌∙◌, ap, subst, arith, length-append}
+use Rattle.std.proofs.Common.{◌≡◌, ℕ, suc, ◌+◌, ◌<◌, ◌≤◌, true, false, cond, Option, Some, None, List, [], ◌∷◌, length, map, ℤ, ◌≤ℤ◌, neg_ℤ, unwrap_or, vec_len, All, refl, ◌∙◌, ap, arith, length-append}
 use Rattle.std.proofs.lemmas.Int.{ints, clamps}
 use Rattle.std.specs.Option.{ForSome}
 use Rattle.std.specs.List.{AllByRecursion}
-use Rattle.std.proofs.lemmas.List.Elements.{recursion_from_All, All-from_recursion, All-append, All-cons, All-nil, All-weaker}
+use Rattle.std.proofs.lemmas.List.Elements.{recursion_from_All, All-from_recursion, All-append, All-cons, All-nil}
 use Rattle.net_normal.specs.Limits.{IsSized, IsArcOf, IsFlowArcOf, value_limit, flow_limit, cost_limit, arc_limit, node_limit, flow_arc_limit}
 use Rattle.net_normal.specs.Sums.{sum_of}
 use Rattle.net_normal.specs.Links.{signed}
-use Rattle.net_normal.specs.NormalForm.{offset_of, offsets_of, numbers_from, flow_arc_of, is_open, low_of, high_of, least_inflow, most_inflow, supply_of, supplies_from, supplies_of, room_arc, room_arcs_from, flow_arcs_of}
+use Rattle.net_normal.specs.NormalForm.{offsets_of, numbers_from, flow_arc_of, is_open, least_inflow, most_inflow, supplies_from, supplies_of, room_arc, room_arcs_from, flow_arcs_of}
 use Rattle.net_normal.specs.declared.instance.Instance.{Instance}
 use Rattle.net_normal.specs.declared.instance.InstArc.{InstArc}
 use Rattle.net_normal.specs.declared.instance.NodeRange.{NodeRange}
 use Rattle.net_normal.specs.declared.instance.Sense.{Sense}
 use Rattle.net_normal.specs.declared.instance.Sense.TheVariants.{Minimise, Maximise}
-use Rattle.net_normal.specs.declared.problem.FlowArc.{FlowArc}
 use Rattle.net_normal.proofs.NodeRuns.{sum_over}
 use Rattle.net_normal.proofs.Supplies.{length-supplies_from}
 use Rattle.net_normal.proofs.RangeSides.{sides-ordered}
-use Rattle.net_normal.proofs.Sizes.{reach, reach-small, supply_bound, supply_bounds-sum, supply_within, low_within, high_within, least_upto_most, offset_sized}
+use Rattle.net_normal.proofs.Sizes.{reach-small, supply_bound, supply_bounds-sum, supply_within, low_within, high_within, least_upto_most, offset_sized}
 
 -- each arc of the network
 end_among : (nodes : ℕ) (end : Option ℕ) → ForSome end (λ v. v < nodes) → unwrap_or end nodes < suc nodes

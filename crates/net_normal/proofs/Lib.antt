@@ -13,3 +13,5 @@ pub mod FlowArcs
 pub mod ArcPasses
 pub mod NodePasses
 pub mod Fits
+pub mod Constants
+pub mod Examples

@@ -1,13 +1,13 @@
 -- The pass over the nodes of a network: what is made so far, with what the nodes to come will make, is what all nodes make.
-use Rattle.std.proofs.Common.{◌≡◌, ℕ, suc, ◌+◌, ◌<◌, ◌≤◌, Bool, true, false, cond, List, [], ◌∷◌, ◌++◌, length, drop, get_or, ℤ, pos, ◌+ℤ◌, ◌-ℤ◌, ◌≤ℤ◌, neg_ℤ, vec_len, All, refl, sym, ◌∙◌, ap, subst, arith, append_assoc, length-append}
+use Rattle.std.proofs.Common.{◌≡◌, ℕ, suc, ◌+◌, ◌<◌, ◌≤◌, Bool, true, false, cond, List, [], ◌∷◌, ◌++◌, length, drop, get_or, ℤ, pos, ◌+ℤ◌, ◌-ℤ◌, ◌≤ℤ◌, neg_ℤ, vec_len, sym, ◌∙◌, ap, subst, arith, append_assoc, length-append}
 use Rattle.std.proofs.lemmas.Int.{ints}
 use Rattle.std.proofs.Math.Seq.{drop-cons}
 use Rattle.std.proofs.Math.ListN.{drop_of_length-le}
 use Rattle.std.proofs.lemmas.List.{append-nil}
-use Rattle.net_normal.specs.Limits.{IsSized, IsArcOf, node_limit, arc_limit, flow_limit, sum_limit}
+use Rattle.net_normal.specs.Limits.{IsSized, node_limit, arc_limit, flow_limit}
 use Rattle.net_normal.specs.Sums.{sum_of}
-use Rattle.net_normal.specs.NormalForm.{is_open, low_of, high_of, supply_of, supplies_from, supplies_of, room_arc, room_arcs_from, low_side, high_side, shift_of}
-use Rattle.net_normal.specs.NodeSums.{AreSized, AreSumsAt, AreSumsOf, own_supply, own_room}
+use Rattle.net_normal.specs.NormalForm.{is_open, high_of, supply_of, supplies_from, supplies_of, room_arc, room_arcs_from, low_side, high_side, shift_of}
+use Rattle.net_normal.specs.NodeSums.{AreSumsAt, own_supply, own_room}
 use Rattle.net_normal.specs.declared.instance.Instance.{Instance}
 use Rattle.net_normal.specs.declared.instance.InstArc.{InstArc}
 use Rattle.net_normal.specs.declared.instance.NodeRange.{NodeRange}
@@ -16,7 +16,7 @@ use Rattle.net_normal.specs.declared.node_part.NodePart.{NodePart}
 use Rattle.net_normal.specs.declared.problem.FlowArc.{FlowArc}
 use Rattle.net_normal.proofs.ArcPasses.{snoc_step}
 use Rattle.net_normal.proofs.NodeRuns.{sum_over, sum_over_last}
-use Rattle.net_normal.proofs.Sizes.{supply_bound, supply_bounds-sum, supply_within, sums_sized}
+use Rattle.net_normal.proofs.Sizes.{supply_bound, supply_bounds-sum, supply_within}
 
 -- how far the pass has come after i nodes
 pub record HasServed (instance : Instance) (before : List FlowArc) (i : ℕ) (part : NodePart) : Type 0 where

@@ -1,10 +1,10 @@
 -- Sums and facts over a run of nodes, and how a sum over nodes counts each arc once at each end.
-use Rattle.std.proofs.Common.{◌≡◌, ◌≢◌, ℕ, zero, suc, ◌+◌, ◌<◌, ◌≤◌, ◌⊎◌, inl, inr, Bool, true, false, cond, List, [], ◌∷◌, ◌++◌, map, length, Option, Some, None, ℤ, pos, ◌+ℤ◌, ◌-ℤ◌, ◌≤ℤ◌, neg_ℤ, nat_eq, refl, sym, ◌∙◌, ap, subst, arith}
+use Rattle.std.proofs.Common.{◌≡◌, ◌≢◌, ℕ, zero, suc, ◌+◌, ◌<◌, ◌≤◌, inl, inr, Bool, true, cond, List, [], ◌∷◌, length, Some, ℤ, pos, ◌+ℤ◌, ◌-ℤ◌, nat_eq, refl, ap, subst, arith}
 use Rattle.std.proofs.lemmas.Int.{ints}
 use Rattle.std.proofs.Common.{eq-eqb}
 use Rattle.std.proofs.lemmas.Bool.{cases_lt, ne_eqb}
-use Rattle.std.specs.List.{All, AllByRecursion, slice_get}
-use Rattle.net_normal.specs.Sums.{is_node, flow_on}
+use Rattle.std.specs.List.{AllByRecursion, slice_get}
+use Rattle.net_normal.specs.Sums.{flow_on}
 
 -- the sum of f over n nodes from v on
 abbrev pub sum_over : (ℕ → ℤ) → ℕ → ℕ → ℤ

@@ -1,15 +1,14 @@
 -- What is laid down by the rules corresponds one to one.
-use Rattle.std.proofs.Common.{◌≡◌, ◌≢◌, ℕ, zero, suc, ◌+◌, ◌<◌, true, false, Option, Some, None, List, [], ◌∷◌, ◌++◌, length, map, drop, ℤ, pos, ◌+ℤ◌, ◌-ℤ◌, ◌*ℤ◌, ◌≤ℤ◌, neg_ℤ, nat_eq, slice_get, vec_len, refl, sym, ◌∙◌, ap, subst, arith, length-append}
+use Rattle.std.proofs.Common.{◌≡◌, ◌≢◌, ℕ, suc, ◌+◌, ◌<◌, Some, List, [], ◌∷◌, ◌++◌, length, map, ℤ, pos, ◌+ℤ◌, ◌-ℤ◌, ◌≤ℤ◌, neg_ℤ, nat_eq, slice_get, vec_len, refl, sym, ◌∙◌, ap, subst, arith, length-append}
 use Rattle.std.proofs.lemmas.Int.{ints}
-use Rattle.std.proofs.lemmas.Option.{slice_get-get_or}
 use Rattle.std.proofs.lemmas.List.Elements.{recursion_from_All, All-weaker}
-use Rattle.std.specs.List.{All, AllZip, AllByRecursion}
+use Rattle.std.specs.List.{All, AllZip}
 use Rattle.net_normal.specs.Limits.{IsFlowArcOf}
-use Rattle.net_normal.specs.Sums.{flow_on, price_of, sum_of}
-use Rattle.net_normal.specs.Assignments.{enters, leaves, net_inflow, IsWithinBounds, IsInRange, IsFeasibleAssignment, value_of}
+use Rattle.net_normal.specs.Sums.{price_of, sum_of}
+use Rattle.net_normal.specs.Assignments.{enters, leaves, net_inflow, IsWithinBounds, IsFeasibleAssignment, value_of}
 use Rattle.net_normal.specs.Flows.{net_outflow, IsWithinCapacity, IsFeasibleFlow, cost_of}
 use Rattle.net_normal.specs.Links.{signed, lifted, lifted_by, value_at}
-use Rattle.net_normal.specs.NormalForm.{offsets_of, numbers_from, flow_arc_of, least_inflow, most_inflow, shift_of, low_of, high_of, supply_of, supplies_from, room_arcs_from, IsNormalForm}
+use Rattle.net_normal.specs.NormalForm.{offsets_of, numbers_from, flow_arc_of, least_inflow, most_inflow, shift_of, supply_of, supplies_from, room_arcs_from, IsNormalForm}
 use Rattle.net_normal.specs.Correspondence.{CorrespondsOneToOne}
 use Rattle.net_normal.specs.declared.instance.Instance.{Instance}
 use Rattle.net_normal.specs.declared.instance.InstArc.{InstArc}
@@ -21,7 +20,7 @@ use Rattle.net_normal.specs.declared.problem.FlowArc.{FlowArc}
 use Rattle.net_normal.specs.declared.problem.Problem.{Problem}
 use Rattle.net_normal.specs.declared.link.Link.{Link}
 use Rattle.net_normal.proofs.ArcSums.{added, lessened, flow_on-append, flow_on-added, flow_on-le, flow_on-ge, price_of-append, price_of-added, zipped_parts, zipped_whole, zipped-weaker, zipped-length, added-lessened, lessened-added, length-lessened}
-use Rattle.net_normal.proofs.NodeRuns.{EachNode, each-weaker, each-get_from_zero, each-from_get_zero, slice_get-inside, sum_over, sum_over_last}
+use Rattle.net_normal.proofs.NodeRuns.{EachNode, each-get_from_zero, each-from_get_zero, slice_get-inside, sum_over_last}
 use Rattle.net_normal.proofs.RangeSides.{within_sides, from_low_side, from_high_side}
 use Rattle.net_normal.proofs.RoomArcs.{room_out, room_in-none, room_price-zero, surplus_from}
 use Rattle.net_normal.proofs.Surplus.{IsBetween, CarriesOff, surplus_determined, surplus_serves}

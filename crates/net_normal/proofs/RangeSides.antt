@@ -1,5 +1,5 @@
 -- What the completed sides of a node's range allow, among the net inflows that the arcs' bounds leave.
-use Rattle.std.proofs.Common.{◌≡◌, ℕ, Bool, true, false, ◌||◌, Option, Some, None, ℤ, pos, ◌≤ℤ◌, ◌<ℤ◌, int_lt, IsTrue, is_some, refl, sym, arith}
+use Rattle.std.proofs.Common.{◌≡◌, false, ◌||◌, Option, Some, None, ℤ, ◌≤ℤ◌, IsTrue, is_some, refl, arith}
 use Rattle.std.proofs.lemmas.Int.{ints, clamps}
 use Rattle.std.specs.Option.{ForSome}
 use Rattle.net_normal.specs.NormalForm.{low_side, high_side, is_open}

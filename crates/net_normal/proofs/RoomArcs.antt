@@ -1,19 +1,14 @@
 -- The arcs that stand for the room in the nodes' ranges: which flows on them serve given net inflows.
-use Rattle.std.proofs.Common.{◌≡◌, ◌≢◌, ℕ, suc, ◌<◌, ◌≤◌, Bool, true, false, cond, List, [], ◌∷◌, ℤ, pos, ◌+ℤ◌, ◌-ℤ◌, ◌*ℤ◌, ◌≤ℤ◌, nat_eq, refl, sym, ◌∙◌, ap, subst, arith, eq-eqb}
+use Rattle.std.proofs.Common.{◌≡◌, ◌≢◌, ℕ, suc, ◌<◌, Bool, true, false, cond, List, [], ◌∷◌, ℤ, pos, ◌-ℤ◌, nat_eq, refl, ◌∙◌, arith}
 use Rattle.std.proofs.lemmas.Bool.{ne_eqb}
 use Rattle.std.proofs.lemmas.Int.{ints}
-use Rattle.std.specs.Option.{ForSome}
-use Rattle.std.specs.List.{AllZip}
 use lib.IntN.{zero-*ℤ}
 use Rattle.net_normal.specs.Sums.{flow_on, price_of}
-use Rattle.net_normal.specs.Flows.{IsWithinCapacity}
-use Rattle.net_normal.specs.NormalForm.{is_open, low_of, high_of, room_arc, room_arcs_from}
+use Rattle.net_normal.specs.NormalForm.{is_open, low_of, room_arc, room_arcs_from}
 use Rattle.net_normal.specs.declared.instance.InstArc.{InstArc}
 use Rattle.net_normal.specs.declared.instance.NodeRange.{NodeRange}
 use Rattle.net_normal.specs.declared.problem.FlowArc.{FlowArc}
 use Rattle.net_normal.proofs.ArcSums.{flow_on-skip, rest_of}
-use Rattle.net_normal.proofs.NodeRuns.{EachNode, each-weaker}
-use Rattle.net_normal.proofs.RangeSides.{closed_sides}
 
 -- what leaves node u by these arcs
 abbrev pub room_out : List InstArc → ℕ → ℕ → List NodeRange → List ℤ → ℕ → ℤ

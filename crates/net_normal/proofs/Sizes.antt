@@ -1,20 +1,20 @@
 -- How large the numbers of a normal form are: each arc counts at its two ends only, so sums over nodes are bounded by sums over arcs.
-use Rattle.std.proofs.Common.{◌≡◌, ℕ, zero, suc, ◌+◌, ◌*◌, ◌^◌, ◌<◌, ◌≤◌, Bool, true, false, cond, ◌||◌, inl, inr, Option, Some, None, List, [], ◌∷◌, ◌++◌, length, map, ℤ, pos, ◌+ℤ◌, ◌-ℤ◌, ◌≤ℤ◌, neg_ℤ, nat_eq, IsTrue, is_some, refl, sym, ◌∙◌, ap, arith}
+use Rattle.std.proofs.Common.{◌≡◌, ℕ, zero, suc, ◌*◌, ◌≤◌, Bool, true, false, cond, inl, inr, Option, Some, None, List, [], ◌∷◌, length, map, ℤ, pos, ◌+ℤ◌, ◌≤ℤ◌, neg_ℤ, refl, arith}
 use Rattle.std.proofs.lemmas.Int.{ints, clamps}
 use Rattle.std.proofs.lemmas.Bool.Decides.{eqb_tells}
 use Rattle.std.specs.Option.{ForSome}
 use Rattle.std.specs.List.{All, AllByRecursion}
 use Rattle.std.proofs.lemmas.List.Elements.{recursion_from_All, All-weaker}
 use Rattle.net_normal.specs.Limits.{IsSized, IsArcOf, value_limit, range_limit, flow_limit, arc_limit, node_limit, sum_limit}
-use Rattle.net_normal.specs.Sums.{is_node, flow_on, sum_of}
-use Rattle.net_normal.specs.Assignments.{enters, leaves, net_inflow}
-use Rattle.net_normal.specs.NormalForm.{offset_of, offsets_of, least_inflow, most_inflow, shift_of, low_side, high_side, low_of, high_of, supply_of, supplies_from}
+use Rattle.net_normal.specs.Sums.{is_node, flow_on}
+use Rattle.net_normal.specs.Assignments.{enters, leaves}
+use Rattle.net_normal.specs.NormalForm.{offset_of, least_inflow, most_inflow, shift_of, low_side, high_side, low_of, high_of, supply_of}
 use Rattle.net_normal.specs.declared.instance.InstArc.{InstArc}
 use Rattle.net_normal.specs.NodeSums.{AreSized, AreSumsAt}
 use Rattle.net_normal.specs.declared.instance.NodeRange.{NodeRange}
 use Rattle.net_normal.specs.declared.node_sums.NodeSums.{NodeSums}
 use Rattle.net_normal.proofs.WholeNumbers.{choice-le, choice_within}
-use Rattle.net_normal.proofs.NodeRuns.{sum_over, sum_over-add, sum_over-zero, sum_over_last, standing, standing_on, standing_off, sum_over-before}
+use Rattle.net_normal.proofs.NodeRuns.{sum_over, sum_over-add, sum_over-zero, standing, standing_on, standing_off, sum_over-before}
 
 -- the same size at each arc
 abbrev pub sizes : ℕ → List InstArc → List ℤ

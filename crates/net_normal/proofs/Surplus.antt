@@ -1,6 +1,5 @@
 -- Flows on the arcs that stand for room: given net inflows are served by the surplus over the low sides, and by nothing else.
-use Rattle.std.proofs.Common.{◌≡◌, ◌≢◌, ℕ, suc, ◌<◌, ◌≤◌, Bool, true, false, cond, List, [], ◌∷◌, ℤ, pos, ◌+ℤ◌, ◌-ℤ◌, ◌≤ℤ◌, nat_eq, refl, sym, ◌∙◌, ap, subst, arith, eq-eqb}
-use Rattle.std.proofs.lemmas.Bool.{ne_eqb}
+use Rattle.std.proofs.Common.{◌≡◌, ℕ, suc, true, false, cond, List, [], ◌∷◌, ℤ, pos, ◌-ℤ◌, ◌≤ℤ◌, nat_eq, refl, ◌∙◌, ap, arith}
 use Rattle.std.proofs.lemmas.Int.{ints}
 use Rattle.std.specs.List.{AllZip}
 use Rattle.net_normal.specs.Sums.{flow_on}
@@ -9,9 +8,9 @@ use Rattle.net_normal.specs.NormalForm.{is_open, low_of, high_of, least_inflow, 
 use Rattle.net_normal.specs.declared.instance.InstArc.{InstArc}
 use Rattle.net_normal.specs.declared.instance.NodeRange.{NodeRange}
 use Rattle.net_normal.specs.declared.problem.FlowArc.{FlowArc}
-use Rattle.net_normal.proofs.NodeRuns.{EachNode, each-weaker, standing, standing_on, standing_off}
+use Rattle.net_normal.proofs.NodeRuns.{EachNode, each-weaker, standing_on, standing_off}
 use Rattle.net_normal.proofs.RangeSides.{closed_sides}
-use Rattle.net_normal.proofs.RoomArcs.{room_out, room_out-before, surplus_from}
+use Rattle.net_normal.proofs.RoomArcs.{room_out-before, surplus_from}
 
 -- the net inflow lies between the completed sides
 abbrev pub IsBetween : List InstArc → (ℕ → ℤ) → ℕ → NodeRange → Type 0

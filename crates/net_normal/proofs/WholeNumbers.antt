@@ -1,5 +1,5 @@
 -- Laws of whole numbers that the library lacks: products over sums, and choices between a number and 0.
-use Rattle.std.proofs.Common.{◌≡◌, ℕ, zero, suc, Bool, true, false, cond, ℤ, pos, negsuc, ◌+ℤ◌, ◌-ℤ◌, ◌*ℤ◌, ◌≤ℤ◌, neg_ℤ, refl, sym, ◌∙◌, ap, arith}
+use Rattle.std.proofs.Common.{◌≡◌, ℕ, zero, suc, Bool, true, false, cond, ℤ, pos, negsuc, ◌+ℤ◌, ◌*ℤ◌, ◌≤ℤ◌, neg_ℤ, refl, ◌∙◌, ap, arith}
 use Rattle.std.proofs.Common.{◌*◌, ◌+◌, ◌^◌, ◌≤◌, unsigned_abs, to_z, of_z, FitsSigned}
 use mir.Syntax.{w128}
 use Rattle.std.proofs.lemmas.Int.{ints, unsigned_abs-mul}

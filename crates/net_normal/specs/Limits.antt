@@ -1,5 +1,5 @@
 -- The limits of a network and of its minimum-cost flow problem (First DIMACS Implementation Challenge), as netflow sets them.
-use Rattle.std.specs.Prelude.{◌≡◌, ℕ, ◌*◌, ◌^◌, ◌<◌, Bool, ◌||◌, ℤ, pos, ◌≤ℤ◌, neg_ℤ, IsTrue, is_some}
+use Rattle.std.specs.Prelude.{ℕ, ◌*◌, ◌^◌, ◌<◌, ◌||◌, ℤ, pos, ◌≤ℤ◌, neg_ℤ, IsTrue, is_some}
 use Rattle.std.specs.Option.{ForSome}
 use Rattle.net_normal.specs.declared.instance.InstArc.{InstArc}
 use Rattle.net_normal.specs.declared.problem.FlowArc.{FlowArc}

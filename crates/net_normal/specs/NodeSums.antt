@@ -1,5 +1,5 @@
 -- What is summed of each node while the arcs of a network are read in order.
-use Rattle.std.specs.Prelude.{◌≡◌, ℕ, ◌<◌, Bool, List, length, ℤ, pos, ◌+ℤ◌, ◌-ℤ◌, slice_index_or, if◌then◌else◌}
+use Rattle.std.specs.Prelude.{◌≡◌, ℕ, ◌<◌, List, length, ℤ, pos, ◌+ℤ◌, ◌-ℤ◌, slice_index_or, if◌then◌else◌}
 use Rattle.net_normal.specs.Limits.{IsSized}
 use Rattle.net_normal.specs.Assignments.{enters, leaves}
 use Rattle.net_normal.specs.NormalForm.{offset_of, least_inflow, most_inflow, shift_of, low_side, high_side}

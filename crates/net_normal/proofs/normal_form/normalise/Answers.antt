@@ -1,8 +1,8 @@
-use Rattle.std.proofs.Common.{◌≡◌, ◌≤◌, ◌++◌, ◌<◌, ℕ, suc, map, List, length, sym, ◌∙◌, ap, refl, subst, arith, All, vec_len, to_z, of_z}
+use Rattle.std.proofs.Common.{◌≡◌, ◌++◌, ◌<◌, ℕ, suc, map, List, length, sym, ◌∙◌, ap, refl, subst, arith, All, vec_len, to_z, of_z}
 use mir.Syntax.{w128}
 use Rattle.std.proofs.lemmas.Int.{ints}
-use Rattle.net_normal.specs.Limits.{IsSized, IsFlowArcOf, flow_limit, flow_arc_limit, value_limit, constant_limit}
-use Rattle.net_normal.specs.NormalForm.{supplies_of, flow_arcs_of, room_arcs_from, numbers_from, offsets_of, flow_arc_of}
+use Rattle.net_normal.specs.Limits.{IsSized, IsFlowArcOf, flow_limit, value_limit, constant_limit}
+use Rattle.net_normal.specs.NormalForm.{flow_arcs_of, room_arcs_from, flow_arc_of}
 use Rattle.net_normal.specs.declared.instance.Instance.{Instance}
 use Rattle.net_normal.specs.declared.problem.FlowArc.{FlowArc}
 use Rattle.net_normal.proofs.ArcLifts.{length-offsets}

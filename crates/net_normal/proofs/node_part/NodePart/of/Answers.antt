@@ -1,4 +1,4 @@
-use Rattle.std.proofs.Common.{◌≡◌, ◌≤◌, ◌<◌, ◌++◌, ◌∷◌, [], ℕ, length, get_or, arith, sym, ◌∙◌, ap, vec_len, ℤ, to_z, of_z, w64}
+use Rattle.std.proofs.Common.{◌≡◌, ◌≤◌, ◌<◌, ◌++◌, ◌∷◌, [], length, arith, ◌∙◌, ap, vec_len, ℤ, to_z, of_z, w64}
 use Rattle.std.proofs.lemmas.Int.{ints}
 use Rattle.net_normal.specs.Limits.{arc_limit}
 use Rattle.net_normal.proofs.Sizes.{sums_sized}

@@ -1,0 +1,4 @@
+//! Networks whose problems were worked out by hand.
+
+mod examples;
+mod networks;
