@@ -58,7 +58,8 @@ fn flow_arc(sense: Sense, outside: u32, arc: &InstArc) -> FlowArc
 fn offset_price(coefficient: &i64, offset: &i64) -> i128
     requires coefficient { IsSized value_limit coefficient.now }
     requires offset { IsSized value_limit offset.now }
-    ensures { result ≡ coefficient.now *ℤ offset.now }
+    ensures value { result ≡ coefficient.now *ℤ offset.now }
+    ensures size { IsSized (10 ^ 24) result }
 {
     i128::from(*coefficient) * i128::from(*offset)
 }
