@@ -21,7 +21,7 @@ impl InstArc {
     ghost use Rattle.net_normal.specs.NormalForm.{offset_of};
 
     /// What a negative lower bound is moved by to 0, or else 0.
-    pub fn offset(&self) -> i64
+    pub(crate) fn offset(&self) -> i64
         ensures value { result ≡ offset_of self.now }
         ensures size { IsSized value_limit self.now.lower → IsSized value_limit result }
     {

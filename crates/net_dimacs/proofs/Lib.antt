@@ -1,0 +1,15 @@
+mod DraftSteps
+mod Words
+mod Splitting
+mod Saying
+mod Returns
+mod Cutting
+mod LineSteps
+mod Lists
+mod Steps
+mod Sound
+mod Complete
+mod ReadLaws
+mod Decimals
+mod WrittenLines
+mod WriteLaws

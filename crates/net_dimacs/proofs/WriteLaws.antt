@@ -1,0 +1,18 @@
+-- What a caller of the writer may rely on.
+use Rattle.std.proofs.Common.{◌≡◌, ℕ, Ok, Err, sym, subst}
+use Rattle.std.specs.Prelude.{Result, IfOk}
+use Rattle.std.specs.Global.{Vec}
+use Rattle.net_normal.specs.declared.problem.Problem.{Problem}
+use Rattle.net_dimacs.specs.Written.{problem_text}
+use Rattle.net_dimacs.specs.Problems.{IsProblemText, IsOnlyProblem}
+use Rattle.net_dimacs.proofs.Complete.{one_problem}
+use Rattle.net_dimacs.proofs.ReadLaws.{limits_of}
+use Rattle.net_dimacs.proofs.WrittenLines.{written_is}
+
+pub written_ok : {E : Type 0} (p : Problem) (r : Result (Vec ℕ) E) → IfOk r (λ t. t.items ≡ problem_text p.supplies.items p.arcs.items) → IfOk r (λ t. IsProblemText t.items p.supplies.items p.arcs.items)
+written_ok p (Ok t) e = subst (λ text. IsProblemText text p.supplies.items p.arcs.items) (sym e) (written_is p.supplies.items p.arcs.items (limits_of p))
+written_ok p (Err fault) e = tt
+
+pub written_only : {E : Type 0} (p : Problem) (r : Result (Vec ℕ) E) → IfOk r (λ t. t.items ≡ problem_text p.supplies.items p.arcs.items) → IfOk r (λ t. IsOnlyProblem t.items p.supplies.items p.arcs.items)
+written_only {E} p (Ok t) e = λ s a fit text. one_problem t.items s p.supplies.items a p.arcs.items text fit (written_ok {E = E} p (Ok t) e) (limits_of p)
+written_only p (Err fault) e = tt

@@ -1,0 +1,30 @@
+-- The numbers and names of the faults of a DIMACS text (First DIMACS Implementation Challenge), as netflow prints them.
+use Rattle.std.specs.Prelude.{ℕ, List, ◌++◌, codes}
+use Rattle.std.specs.Fmt.{decimal}
+use Rattle.net_dimacs.specs.declared.problem_fault.LineFault.{LineFault}
+use Rattle.net_dimacs.specs.declared.problem_fault.Refusal.{Refusal}
+use Rattle.net_dimacs.specs.declared.problem_fault.LineFault.TheVariants.{BadLine, NoProblemLine, LineOrder, NodeNumber, DoubleNode, Count, Bounds, TooLarge}
+
+abbrev pub number_of : LineFault → ℕ
+number_of BadLine = 70
+number_of NoProblemLine = 71
+number_of LineOrder = 72
+number_of NodeNumber = 73
+number_of DoubleNode = 74
+number_of Count = 75
+number_of Bounds = 76
+number_of TooLarge = 77
+
+abbrev pub name_of : LineFault → List ℕ
+name_of BadLine = codes "BadLine"
+name_of NoProblemLine = codes "NoProblemLine"
+name_of LineOrder = codes "LineOrder"
+name_of NodeNumber = codes "NodeNumber"
+name_of DoubleNode = codes "DoubleNode"
+name_of Count = codes "Count"
+name_of Bounds = codes "Bounds"
+name_of TooLarge = codes "TooLarge"
+
+-- number, name, the word problem, line
+abbrev pub refusal_text : Refusal → List ℕ
+refusal_text r = codes "E" ++ decimal (number_of r.fault) ++ codes " " ++ name_of r.fault ++ codes " problem " ++ decimal r.line

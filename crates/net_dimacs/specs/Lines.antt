@@ -1,0 +1,60 @@
+-- Lines, fields and numbers of a DIMACS text (First DIMACS Implementation Challenge, minimum-cost flow).
+use Rattle.std.specs.Prelude.{ℕ, ◌+◌, ◌-◌, ◌*◌, Bool, true, false, ◌||◌, ◌&&◌, ◌==◌, if◌then◌else◌, List, [], ◌∷◌, codes, filter, ℤ, pos, neg_ℤ, Option, Some, None}
+use Rattle.std.specs.List.{slice_split}
+use Rattle.std.specs.Option.{option_map}
+use Rattle.std.specs.Str.{all_ascii_digits}
+use Rattle.net_dimacs.specs.declared.word.Word.{Word}
+use Rattle.net_dimacs.specs.declared.word.Word.TheVariants as words
+
+-- blanks and tabs separate fields
+abbrev pub is_blank : ℕ → Bool
+is_blank b = b == 32 || b == 9
+
+abbrev pub has_byte : List ℕ → Bool
+has_byte [] = false
+has_byte (b ∷ bs) = true
+
+-- what stands between blanks and tabs
+abbrev pub fields_of : List ℕ → List (List ℕ)
+fields_of line = filter has_byte (slice_split is_blank line)
+
+-- n, and then these digits
+abbrev pub value_after : ℕ → List ℕ → ℕ
+value_after n [] = n
+value_after n (d ∷ ds) = value_after (n * 10 + (d - 48)) ds
+
+-- a digit or more
+abbrev pub natural_of : List ℕ → Option ℕ
+natural_of ds = if has_byte ds && all_ascii_digits ds then Some (value_after 0 ds) else None
+
+-- an optional sign and digits
+abbrev pub number_of : List ℕ → Option ℤ
+number_of [] = None
+number_of (b ∷ bs) =
+    if b == 43 then option_map pos (natural_of bs)
+    else if b == 45 then option_map (λ n. neg_ℤ (pos n)) (natural_of bs)
+    else option_map pos (natural_of (b ∷ bs))
+
+abbrev pub is_text : List ℕ → List ℕ → Bool
+is_text [] [] = true
+is_text (a ∷ more) (b ∷ bs) = b == a && is_text more bs
+is_text [] (b ∷ bs) = false
+is_text (a ∷ more) [] = false
+
+abbrev pub begins_with : ℕ → List ℕ → Bool
+begins_with c [] = false
+begins_with c (b ∷ bs) = b == c
+
+abbrev pub number_or_other : Option ℤ → Word
+number_or_other None = words.Other
+number_or_other (Some z) = words.Number z
+
+-- what a field is
+abbrev pub word_of : List ℕ → Word
+word_of field =
+    if begins_with 99 field then words.Comment
+    else if is_text (codes "p") field then words.Problem
+    else if is_text (codes "n") field then words.Node
+    else if is_text (codes "a") field then words.Arc
+    else if is_text (codes "min") field then words.Min
+    else number_or_other (number_of field)

@@ -1,0 +1,159 @@
+-- Reading a DIMACS text line by line, with the first fault (First DIMACS Implementation Challenge, minimum-cost flow).
+use Rattle.std.specs.Prelude.{◌≡◌, ℕ, ◌+◌, ◌-◌, ◌*◌, Bool, true, false, ◌||◌, ◌&&◌, ◌==◌, nat_le, nat_lt, if◌then◌else◌, List, [], ◌∷◌, ◌++◌, length, replicate, map, slice_index_or, slice_set, ℤ, pos, neg_ℤ, unsigned_abs, int_lt, int_le, Option, Some, None, Result, Ok, Err}
+use Rattle.std.specs.Str.Lines.{lines}
+use Rattle.net_normal.specs.Limits.{flow_node_limit, flow_arc_limit, flow_limit, cost_limit}
+use Rattle.net_normal.specs.declared.problem.FlowArc.{FlowArc}
+use Rattle.net_normal.specs.declared.problem.Problem as problems
+use Rattle.net_dimacs.specs.Lines.{fields_of, word_of}
+use Rattle.net_dimacs.specs.declared.word.Word.{Word}
+use Rattle.net_dimacs.specs.declared.word.Word.TheVariants.{Comment, Problem, Node, Arc, Min, Number}
+use Rattle.net_dimacs.specs.declared.statement.Statement.{Statement}
+use Rattle.net_dimacs.specs.declared.statement.Statement.TheVariants as statements
+use Rattle.net_dimacs.specs.declared.problem_fault.LineFault.{LineFault}
+use Rattle.net_dimacs.specs.declared.problem_fault.LineFault.TheVariants.{BadLine, NoProblemLine, LineOrder, NodeNumber, DoubleNode, Count, Bounds, TooLarge}
+use Rattle.net_dimacs.specs.declared.problem_fault.Refusal.{Refusal}
+use Rattle.net_dimacs.specs.declared.problem_fault.ProblemFault.{ProblemFault}
+use Rattle.net_dimacs.specs.declared.problem_fault.ProblemFault.TheVariants as faults
+
+-- ---- what a line says
+
+-- the three kinds of line; a blank line and a comment say nothing
+abbrev pub said_by : List Word → Option Statement
+said_by [] = None
+said_by (Comment ∷ words) = None
+said_by (Problem ∷ Min ∷ Number nodes ∷ Number arcs ∷ []) = Some (statements.Problem nodes arcs)
+said_by (Node ∷ Number node ∷ Number supply ∷ []) = Some (statements.Node node supply)
+said_by (Arc ∷ Number src ∷ Number dst ∷ Number low ∷ Number cap ∷ Number cost ∷ []) = Some (statements.Arc src dst low cap cost)
+said_by words = Some statements.Other
+
+abbrev pub said : List ℕ → Option Statement
+said line = said_by (map word_of (fields_of line))
+
+-- ---- what is known after some lines
+
+-- behind the `p` line: the supplies so far, 0 where no line named the node, which nodes a line named, the arcs so far, and ARCS
+pub record Sketch : Type 0 where
+  pub supplies : List ℤ
+  pub named : List Bool
+  pub arcs : List FlowArc
+  pub arc_count : ℕ
+
+-- more than this limit in size
+abbrev pub is_past : ℤ → ℤ → Bool
+is_past limit z = int_lt limit z || int_lt z (neg_ℤ limit)
+
+-- a node's place, counted from 0
+abbrev pub place_of : Sketch → ℤ → Option ℕ
+place_of d node = if int_le (pos 1) node && int_le node (pos (length d.supplies)) then Some (unsigned_abs node - 1) else None
+
+abbrev pub new_sketch : ℤ → ℤ → Result Sketch LineFault
+new_sketch nodes arcs =
+    if int_lt nodes (pos 1) || int_lt arcs (pos 0) then Err Count
+    else if int_lt (pos flow_node_limit) nodes || int_lt (pos flow_arc_limit) arcs then Err TooLarge
+    else Ok (record {
+      supplies = replicate (unsigned_abs nodes) (pos 0);
+      named = replicate (unsigned_abs nodes) false;
+      arcs = [];
+      arc_count = unsigned_abs arcs;
+    })
+
+abbrev pub with_node_at : Sketch → Option ℕ → ℤ → Result Sketch LineFault
+with_node_at d None supply = Err NodeNumber
+with_node_at d (Some node) supply =
+    if slice_index_or d.named node false then Err DoubleNode
+    else if is_past (pos flow_limit) supply then Err TooLarge
+    else Ok (record d { supplies = slice_set d.supplies node supply; named = slice_set d.named node true })
+
+abbrev pub with_node : Sketch → ℤ → ℤ → Result Sketch LineFault
+with_node d node supply = if length d.arcs == 0 then with_node_at d (place_of d node) supply else Err LineOrder
+
+abbrev pub bounds_fault : ℤ → ℤ → ℤ → Option LineFault
+bounds_fault low cap cost =
+    if int_lt (pos flow_limit) low || int_lt (pos flow_limit) cap || is_past (pos cost_limit) cost then Some TooLarge
+    else if int_lt low (pos 0) || int_lt cap low then Some Bounds
+    else None
+
+abbrev pub with_arc_or : Sketch → Option LineFault → FlowArc → Result Sketch LineFault
+with_arc_or d (Some fault) arc = Err fault
+with_arc_or d None arc = Ok (record d { arcs = d.arcs ++ arc ∷ [] })
+
+abbrev pub with_arc_at : Sketch → Option ℕ → Option ℕ → ℤ → ℤ → ℤ → Result Sketch LineFault
+with_arc_at d None dst low cap cost = Err NodeNumber
+with_arc_at d (Some src) None low cap cost = Err NodeNumber
+with_arc_at d (Some src) (Some dst) low cap cost = with_arc_or d (bounds_fault low cap cost) (record { src = src; dst = dst; low = low; cap = cap; cost = cost })
+
+abbrev pub with_arc : Sketch → ℤ → ℤ → ℤ → ℤ → ℤ → Result Sketch LineFault
+with_arc d src dst low cap cost =
+    if nat_le d.arc_count (length d.arcs) then Err Count else with_arc_at d (place_of d src) (place_of d dst) low cap cost
+
+-- nothing yet, a problem so far, or the first fault
+pub data State : Type 0 where
+  Start : State
+  Open : Sketch → State
+  Refused : Refusal → State
+
+abbrev pub refused : ℕ → LineFault → State
+refused line fault = Refused (record { fault = fault; line = line })
+
+abbrev pub kept : ℕ → Result Sketch LineFault → State
+kept line (Ok d) = Open d
+kept line (Err fault) = refused line fault
+
+abbrev pub with_statement : ℕ → State → Statement → State
+with_statement line Start (statements.Problem nodes arcs) = kept line (new_sketch nodes arcs)
+with_statement line Start (statements.Node node supply) = refused line NoProblemLine
+with_statement line Start (statements.Arc src dst low cap cost) = refused line NoProblemLine
+with_statement line Start statements.Other = refused line BadLine
+with_statement line (Open d) (statements.Problem nodes arcs) = refused line LineOrder
+with_statement line (Open d) (statements.Node node supply) = kept line (with_node d node supply)
+with_statement line (Open d) (statements.Arc src dst low cap cost) = kept line (with_arc d src dst low cap cost)
+with_statement line (Open d) statements.Other = refused line BadLine
+with_statement line (Refused r) statement = Refused r
+
+abbrev pub with_said : ℕ → State → Option Statement → State
+with_said line state None = state
+with_said line state (Some statement) = with_statement line state statement
+
+-- ---- a whole text
+
+abbrev pub Numbers : Type 0
+Numbers = List ℤ × List FlowArc
+
+-- at the end of the text, where a line more would have this number
+abbrev pub finished : ℕ → State → Result Numbers Refusal
+finished line Start = Err (record { fault = NoProblemLine; line = line })
+finished line (Open d) = if nat_lt (length d.arcs) d.arc_count then Err (record { fault = Count; line = line }) else Ok (d.supplies, d.arcs)
+finished line (Refused r) = Err r
+
+-- the lines from this number on
+abbrev pub read_lines : ℕ → State → List (List ℕ) → Result Numbers Refusal
+read_lines number state [] = finished number state
+read_lines number state (line ∷ more) = read_lines (number + 1) (with_said number state (said line)) more
+
+-- 64 MiB
+abbrev pub text_limit : ℕ
+text_limit = 64 * 1024 * 1024
+
+-- the problem of a text, or its first fault
+abbrev pub read_text : List ℕ → Result Numbers Refusal
+read_text text = if nat_lt text_limit (length text) then Err (record { fault = TooLarge; line = 1 }) else read_lines 1 Start (lines text)
+
+-- ---- what a reader answers
+
+abbrev pub Fails : Result Numbers Refusal → ProblemFault → Type 0
+Fails read faults.OutOfMemory = Unit {0}
+Fails read (faults.Refused refusal) = read ≡ Err refusal
+
+-- a problem or a refusal is what reading gives, unless memory ran out
+abbrev pub Gives : Result Numbers Refusal → Result problems.Problem ProblemFault → Type 0
+Gives read (Ok problem) = read ≡ Ok (problem.supplies.items, problem.arcs.items)
+Gives read (Err e) = Fails read e
+
+-- a fact of a refusal, where there is one
+abbrev pub OnRefused : ProblemFault → (Refusal → Type 0) → Type 0
+OnRefused faults.OutOfMemory P = Unit {0}
+OnRefused (faults.Refused refusal) P = P refusal
+
+abbrev pub IfRefused : Result problems.Problem ProblemFault → (Refusal → Type 0) → Type 0
+IfRefused (Ok problem) P = Unit {0}
+IfRefused (Err fault) P = OnRefused fault P

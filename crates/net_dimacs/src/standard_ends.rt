@@ -1,0 +1,82 @@
+//! Sources and sinks made of the readers and writers of std.
+
+ghost use Rattle.std.specs.Prelude.{◌≡◌, false};
+
+use crate::failed::Failed;
+use crate::sink::Sink;
+use crate::source::Source;
+use std::io::{Read, Write};
+
+/// A reader as a source. Each error of the reader, an interruption too, is `Failed`.
+#[derive(Debug, Drop)]
+pub struct OfRead<R> {
+    pub reader: R,
+    /// Whether a read has failed.
+    pub failed: bool,
+}
+
+impl<R> OfRead<R> {
+    /// No read has failed yet.
+    pub fn new(reader: R) -> OfRead<R>
+        ensures reader { result.reader ≡ reader }
+        ensures flag { result.failed ≡ false }
+    {
+        OfRead {
+            reader,
+            failed: false,
+        }
+    }
+}
+
+impl<R: Read> Source for OfRead<R> {
+    ghost remaining = { λ s. R.remaining s.reader };
+
+    ghost failed = { λ s. s.failed };
+
+    fn read(&mut self, buf: &mut [u8]) -> Result<usize, Failed> {
+        match self.reader.read(buf) {
+            Ok(count) => Ok(count),
+            Err(_) => {
+                self.failed = true;
+                Err(Failed)
+            }
+        }
+    }
+}
+
+/// A writer as a sink. Each error of the writer is `Failed`, and so is a write that takes no byte.
+#[derive(Debug, Drop)]
+pub struct OfWrite<W> {
+    pub writer: W,
+    /// Whether a write has failed.
+    pub failed: bool,
+}
+
+impl<W> OfWrite<W> {
+    /// No write has failed yet.
+    pub fn new(writer: W) -> OfWrite<W>
+        ensures writer { result.writer ≡ writer }
+        ensures flag { result.failed ≡ false }
+    {
+        OfWrite {
+            writer,
+            failed: false,
+        }
+    }
+}
+
+impl<W: Write> Sink for OfWrite<W> {
+    ghost taken = { λ s. W.contents s.writer };
+
+    ghost failed = { λ s. s.failed };
+
+    fn write(&mut self, bytes: &[u8]) -> Result<usize, Failed> {
+        match self.writer.write(bytes) {
+            Ok(count) if count > 0 || bytes.is_empty() => Ok(count),
+            _ => {
+                self.failed = true;
+                Err(Failed)
+            }
+        }
+    }
+}

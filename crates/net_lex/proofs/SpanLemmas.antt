@@ -1,0 +1,62 @@
+-- The spans of tokens and faults lie in the text.
+use Rattle.std.proofs.Common.{◌≡◌, ℕ, ◌+◌, ◌-◌, ◌≤◌, List, [], ◌∷◌, ◌++◌, length, take, drop, Result, Ok, Err, MatchResult, refl, sym, ap, ◌∙◌, arith, append_assoc, length-append, take_at, drop_at}
+use Rattle.std.specs.Char.{encode_utf8}
+use Rattle.std.specs.List.{AllByRecursion}
+use Rattle.net_lex.specs.declared.fault.Defect.{Defect}
+use Rattle.net_lex.specs.declared.fault.LexFault.{LexFault}
+use Rattle.net_lex.specs.declared.fault.LexFault.TheVariants.{OutOfMemory, At}
+use Rattle.net_lex.specs.declared.language.Language.{Language}
+use Rattle.net_lex.specs.declared.span.Span.{Span}
+use Rattle.net_lex.specs.declared.token.Token.{Token}
+use Rattle.net_lex.specs.Reading.{IsNext, StandIn, EndsInGap, IsSliceOf}
+use Rattle.net_lex.specs.Faults.{Limits, IsDefect, no_token, control, open_string, too_long, not_whole, too_large, IsFault, comment, token, StandSound, HasPlace, IsFaultBehind}
+use Rattle.net_lex.proofs.StandLemmas.{sound_reads, next_room}
+
+pub slices : (language : Language) (text front rest : List ℕ) (at : ℕ) (ts : List Token) → text ≡ front ++ rest → length front ≡ at
+    → StandIn (IsNext language) EndsInGap at rest ts → AllByRecursion (IsSliceOf text) ts
+slices language text front rest at [] e len stand = tt
+slices language text front rest at (t ∷ ts) e len (gap, after, next, tail) =
+    let before : text ≡ (front ++ gap) ++ (t.text ++ after) = e ∙ (ap (λ x. front ++ x) next.joined ∙ sym (append_assoc front gap (t.text ++ after))) in
+    let start : length (front ++ gap) ≡ t.span.start = omega (arith, length-append front gap, next.start) in
+    let size : length t.text ≡ t.span.end - t.span.start = omega (arith, next.start, next.end) in
+    let dropped : drop t.span.start text ≡ t.text ++ after = ap (drop t.span.start) before ∙ drop_at (front ++ gap) (t.text ++ after) t.span.start start in
+    let through : text ≡ ((front ++ gap) ++ t.text) ++ after = before ∙ sym (append_assoc (front ++ gap) t.text after) in
+    let end : length ((front ++ gap) ++ t.text) ≡ t.span.end = omega (arith, length-append (front ++ gap) t.text, start, size, next.end, next.start) in (
+      record {
+        order = omega (arith, next.start, next.end);
+        within = omega (arith, ap length through, length-append ((front ++ gap) ++ t.text) after, end);
+        slice = sym (ap (take (t.span.end - t.span.start)) dropped ∙ take_at t.text after (t.span.end - t.span.start) size);
+      },
+      slices language text ((front ++ gap) ++ t.text) after t.span.end ts through end tail,
+    )
+
+defect_within : (limits : Limits) (language : Language) (text : List ℕ) (d : Defect) (from to : ℕ) → IsDefect limits language text d from to → (from ≤ to) × (to ≤ length text)
+defect_within limits language text _ _ _ (no_token c after split other none) = (omega arith, omega (arith, ap length split, length-append (encode_utf8 c) after))
+defect_within limits language text _ _ _ (control q c inside after quote body bad split) = (omega arith, omega (arith, ap length split, length-append inside (c ∷ after)))
+defect_within limits language text _ _ _ (open_string q inside quote body split) = (omega arith, omega (arith, ap length split))
+defect_within limits language text _ _ _ (too_long kind word after split other whole_word long) = (omega arith, omega (arith, ap length split, length-append word after))
+defect_within limits language text _ _ _ (not_whole word after split other short fault) = (omega arith, omega (arith, ap length split, length-append word after))
+defect_within limits language text _ _ _ (too_large word after split other short fault) = (omega arith, omega (arith, ap length split, length-append word after))
+
+fault_within : (limits : Limits) (language : Language) (at : ℕ) (rest : List ℕ) (d : Defect) (span : Span) → IsFault limits language at rest d span → (span.start ≤ span.end) × (span.end ≤ at + length rest)
+fault_within limits language at rest d span (comment gap opened e g o is place) =
+    (omega (arith, ap (λ s. s.start) place, ap (λ s. s.end) place), omega (arith, ap (λ s. s.end) place, ap length e, length-append gap opened, ap length o.is))
+fault_within limits language at rest d span (token gap text from to e g bare no_comment defect place) =
+    let (order, within) = defect_within limits language text d from to defect in
+    (omega (arith, ap (λ s. s.start) place, ap (λ s. s.end) place), omega (arith, ap (λ s. s.end) place, ap length e, length-append gap text))
+
+behind_within : (limits : Limits) (language : Language) (at : ℕ) (rest : List ℕ) (d : Defect) (span : Span) (ts : List Token)
+    → StandSound limits language (λ at rest. IsFault limits language at rest d span) at rest ts → (span.start ≤ span.end) × (span.end ≤ at + length rest)
+behind_within limits language at rest d span [] fault = fault_within limits language at rest d span fault
+behind_within limits language at rest d span (t ∷ ts) (gap, after, next, tail) =
+    let (order, within) = behind_within limits language t.span.end after d span ts tail in
+    (order, omega (arith, within, next_room language at rest t gap after next.next))
+
+module _ {V : Type 0} (items : V → List Token) (limits : Limits) (language : Language) (text : List ℕ) where
+  abbrev pub Told : Result V LexFault → Type 0
+  Told r = MatchResult r (λ v. StandSound limits language EndsInGap 0 text (items v)) (IsFaultBehind limits language text)
+
+  pub told_place : (r : Result V LexFault) → Told r → MatchResult r (λ v. AllByRecursion (IsSliceOf text) (items v)) (HasPlace text)
+  told_place (Ok v) stand = slices language text [] text 0 (items v) refl refl (sound_reads limits language 0 text (items v) stand)
+  told_place (Err OutOfMemory) fault = tt
+  told_place (Err (At defect span)) (ts, fault) = let (order, within) = behind_within limits language 0 text defect span ts fault in (order, omega (arith, within))

@@ -1,0 +1,9 @@
+use Rattle.std.proofs.Common.{◌<◌, arith}
+use Rattle.net_lex.proofs.Tens.{ten_large}
+use Rattle.net_lex.proofs.numeral.grown.Goals as goal
+
+pub returns-then-places-gt12 : goal.returns-then-places-gt12
+returns-then-places-gt12 c =
+    let some : 0 < c.args.digits = omega arith in
+    let far : 12 < c.args.places = omega arith in
+    omega (arith, ten_large c.args.digits c.args.places c.args.digit some far)

@@ -1,0 +1,9 @@
+use Rattle.std.proofs.Common.{subst}
+use Rattle.net_lex.specs.Tokens.{HasShape}
+use Rattle.net_lex.proofs.ScanLemmas.{numeral_shape_kind}
+use Rattle.net_lex.proofs.scan.kind_of.Goals as goal
+
+pub returns-in-Numeral : goal.returns-in-Numeral
+returns-in-Numeral c =
+    numeral_shape_kind c.args.language c.args.word.now c.numeral_kind.result
+    (subst (λ shape. HasShape c.args.language shape c.args.word.now) c.in-Numeral.is c.requires) c.numeral_kind.ensures

@@ -1,0 +1,14 @@
+use Rattle.std.proofs.Common.{◌≡◌, ◌+◌, length, IsUtf8}
+use Rattle.net_lex.specs.Faults.{StandSound}
+use Rattle.net_lex.specs.Scanning.{limits}
+use Rattle.net_lex.proofs.tokens.tokens_of.Given as goal
+
+abbrev pub invariant-tokens : goal.invariant-tokens
+invariant-tokens l = record {
+  value : StandSound limits l.language (λ at rest. (at ≡ l.at) × (rest ≡ l.rest)) 0 l.text l.tokens.items;
+  text : IsUtf8 l.rest;
+  room : l.at + length l.rest ≡ length l.text;
+}
+
+abbrev pub decreases-tokens : goal.decreases-tokens
+decreases-tokens l = length l.rest

@@ -1,0 +1,89 @@
+-- The first fault of a text (AMPL book, section A.1, for the forms; the limits and the order are this profile's).
+use Rattle.std.specs.Prelude.{◌≡◌, ℕ, ◌+◌, ◌≤◌, ◌<◌, true, false, List, ◌∷◌, ◌++◌, length}
+use Rattle.std.specs.Char.{encode_utf8}
+use Rattle.std.specs.Str.{IsUtf8, IsValidUpTo}
+use Rattle.net_lex.specs.declared.fault.Defect.{Defect}
+use Rattle.net_lex.specs.declared.fault.Defect.TheVariants.{BadCharacter, OpenString, OpenComment, NotWhole, TooLarge, NotUtf8, TextTooLong}
+use Rattle.net_lex.specs.declared.fault.LexFault.{LexFault}
+use Rattle.net_lex.specs.declared.fault.LexFault.TheVariants.{OutOfMemory, At}
+use Rattle.net_lex.specs.declared.language.Language.{Language}
+use Rattle.net_lex.specs.declared.numeral.NumFault.TheVariants as num
+use Rattle.net_lex.specs.declared.span.Span.{Span}
+use Rattle.net_lex.specs.declared.token.Kind.{Kind}
+use Rattle.net_lex.specs.declared.token.Kind.TheVariants.{Num, Str}
+use Rattle.net_lex.specs.declared.token.Token.{Token}
+use Rattle.net_lex.specs.Bytes.{first}
+use Rattle.net_lex.specs.Characters.{is_blank, is_quote, is_control}
+use Rattle.net_lex.specs.Gaps.{IsGap, IsOpenComment}
+use Rattle.net_lex.specs.Numerals.{IsNumFault}
+use Rattle.net_lex.specs.Tokens.{IsInside, Allows}
+use Rattle.net_lex.specs.Reading.{IsLongest, IsNext, BeginsNoComment, StandIn, IsSound}
+
+-- a string ends where its delimiter is not doubled
+abbrev pub EndsWhole : Kind → (text after : List ℕ) → Type 0
+EndsWhole kind text after = kind ≡ Str → first after ≡ first text → ⊥
+
+-- the greatest length of a token, and of a value in size
+pub record Limits : Type 0 where
+  pub token : ℕ
+  pub value : ℕ
+
+-- what is wrong where a token should begin, from one byte up to another, counted from there
+pub data IsDefect (limits : Limits) (language : Language) (text : List ℕ) : Defect → ℕ → ℕ → Type 0 where
+  -- a character with which no token begins
+  no_token : (c : ℕ) (after : List ℕ) → text ≡ encode_utf8 c ++ after → is_quote (first text) ≡ false
+      → ((kind : Kind) (more rest : List ℕ) → text ≡ more ++ rest → ¬ Allows language kind more)
+      → IsDefect limits language text BadCharacter 0 (length (encode_utf8 c))
+  -- a control character in a string
+  control : (delimiter c : ℕ) (inside after : List ℕ) → is_quote delimiter ≡ true → IsInside delimiter inside → is_control c ≡ true
+      → text ≡ delimiter ∷ (inside ++ c ∷ after) → IsDefect limits language text BadCharacter (length inside + 1) (length inside + 2)
+  -- a string that the text's end leaves open
+  open_string : (delimiter : ℕ) (inside : List ℕ) → is_quote delimiter ≡ true → IsInside delimiter inside
+      → text ≡ delimiter ∷ inside → IsDefect limits language text OpenString 0 1
+  too_long : (kind : Kind) (word after : List ℕ) → text ≡ word ++ after → IsLongest language kind word after → EndsWhole kind word after
+      → limits.token < length word → IsDefect limits language text TextTooLong 0 (length word)
+  not_whole : (word after : List ℕ) → text ≡ word ++ after → IsLongest language Num word after
+      → length word ≤ limits.token → IsNumFault limits.value word num.NotWhole → IsDefect limits language text NotWhole 0 (length word)
+  too_large : (word after : List ℕ) → text ≡ word ++ after → IsLongest language Num word after
+      → length word ≤ limits.token → IsNumFault limits.value word num.TooLarge → IsDefect limits language text TooLarge 0 (length word)
+
+-- what is wrong behind the blanks and comments from the byte `at` on
+pub data IsFault (limits : Limits) (language : Language) (at : ℕ) (rest : List ℕ) (defect : Defect) (span : Span) : Type 0 where
+  comment : (gap opened : List ℕ) → rest ≡ gap ++ opened → IsGap gap → IsOpenComment opened
+      → defect ≡ OpenComment → span ≡ record { start = at + length gap; end = at + length gap + 2 } → IsFault limits language at rest defect span
+  token : (gap text : List ℕ) (from to : ℕ) → rest ≡ gap ++ text → IsGap gap → is_blank (first text) ≡ false → BeginsNoComment text → IsDefect limits language text defect from to
+      → span ≡ record { start = at + length gap + from; end = at + length gap + to } → IsFault limits language at rest defect span
+
+-- a token that is read before the fault is sound, and a string among them ends whole
+pub record IsSoundNext (limits : Limits) (language : Language) (at : ℕ) (rest : List ℕ) (token : Token) (gap after : List ℕ) : Type 0 where
+  pub next : IsNext language at rest token gap after
+  pub whole : EndsWhole token.kind token.text after
+  pub sound : IsSound limits.token limits.value token.kind token.text
+
+-- the first fault of a text of a language with a greatest length
+pub data IsFirstFault (limits : Limits) (language : Language) (text_limit : ℕ) (text : List ℕ) (defect : Defect) (span : Span) : Type 0 where
+  text_too_long : text_limit < length text → defect ≡ TextTooLong → span ≡ record { start = 0; end = 0 } → IsFirstFault limits language text_limit text defect span
+  not_utf8 : (good : ℕ) → length text ≤ text_limit → IsValidUpTo text good → defect ≡ NotUtf8 → span ≡ record { start = good; end = good + 1 }
+      → IsFirstFault limits language text_limit text defect span
+  after_tokens : (tokens : List Token) → length text ≤ text_limit → IsUtf8 text
+      → StandIn (IsSoundNext limits language) (λ at rest. IsFault limits language at rest defect span) 0 text tokens
+      → IsFirstFault limits language text_limit text defect span
+
+-- the tokens stand in the text, each sound, and Ends holds behind them
+abbrev pub StandSound : Limits → Language → (ℕ → List ℕ → Type 0) → ℕ → List ℕ → List Token → Type 0
+StandSound limits language Ends at rest tokens = StandIn (IsSoundNext limits language) Ends at rest tokens
+
+-- what is wrong behind tokens that are sound
+abbrev pub IsFaultBehind : Limits → Language → List ℕ → LexFault → Type 0
+IsFaultBehind limits language text OutOfMemory = Unit {0}
+IsFaultBehind limits language text (At defect span) = (tokens : List Token) × StandSound limits language (λ at rest. IsFault limits language at rest defect span) 0 text tokens
+
+-- the first fault of the text, or want of memory
+abbrev pub IsRefusal : Limits → Language → (text_limit : ℕ) → List ℕ → LexFault → Type 0
+IsRefusal limits language text_limit text OutOfMemory = Unit {0}
+IsRefusal limits language text_limit text (At defect span) = IsFirstFault limits language text_limit text defect span
+
+-- a fault's place is in the text
+abbrev pub HasPlace : List ℕ → LexFault → Type 0
+HasPlace text OutOfMemory = Unit {0}
+HasPlace text (At defect span) = (span.start ≤ span.end) × (span.end ≤ length text)

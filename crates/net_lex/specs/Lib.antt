@@ -1,0 +1,17 @@
+pub mod Bytes
+pub mod Numerals
+pub mod Places
+pub mod formers
+pub mod NumeralFront
+pub mod NumeralViews
+pub mod Significands
+pub mod Saturation
+pub mod Characters
+pub mod Words
+pub mod GapFront
+pub mod Shapes
+pub mod Gaps
+pub mod Tokens
+pub mod Reading
+pub mod Faults
+pub mod Scanning

@@ -1,0 +1,60 @@
+-- What it is for tokens to read a text (AMPL book, section A.1): a condition on the finished list.
+use Rattle.std.specs.Prelude.{◌≡◌, ℕ, ◌+◌, ◌≤◌, false, ◌||◌, List, [], ◌∷◌, ◌++◌, length, slice_range, ℤ}
+use Rattle.std.specs.List.{AllByRecursion}
+use Rattle.net_lex.specs.declared.language.Language.{Language}
+use Rattle.net_lex.specs.declared.token.Kind.{Kind}
+use Rattle.net_lex.specs.declared.token.Kind.TheVariants.{Num}
+use Rattle.net_lex.specs.declared.token.Token.{Token}
+use Rattle.net_lex.specs.Characters.{begins_line_comment, begins_comment}
+use Rattle.net_lex.specs.Gaps.{IsGap, IsLastGap}
+use Rattle.net_lex.specs.Numerals.{IsValue}
+use Rattle.net_lex.specs.Tokens.{Allows}
+
+-- the text is of the kind, and where it stands no kind allows a longer one
+pub record IsLongest (language : Language) (kind : Kind) (text after : List ℕ) : Type 0 where
+  pub allowed : Allows language kind text
+  pub longest : (other : Kind) (more rest : List ℕ) → text ++ after ≡ more ++ rest → Allows language other more → length more ≤ length text
+
+-- no comment begins the text
+abbrev pub BeginsNoComment : List ℕ → Type 0
+BeginsNoComment text = (begins_line_comment text || begins_comment text) ≡ false
+
+-- From the byte `at` of a text on, after blanks and comments, the token's text stands at the token's span; no comment
+-- begins there, and the token is the longest there.
+pub record IsNext (language : Language) (at : ℕ) (rest : List ℕ) (token : Token) (gap after : List ℕ) : Type 0 where
+  pub joined : rest ≡ gap ++ (token.text ++ after)
+  pub blank : IsGap gap
+  pub start : token.span.start ≡ at + length gap
+  pub end : token.span.end ≡ at + length gap + length token.text
+  pub no_comment : BeginsNoComment (token.text ++ after)
+  pub longest : IsLongest language token.kind token.text after
+
+-- how a token stands to the rest of a text, to the gap before it and to what follows it
+abbrev pub Standing : Type 1
+Standing = ℕ → List ℕ → Token → List ℕ → List ℕ → Type 0
+
+-- the tokens stand one after the other from the byte `at` on, and Ends holds behind them
+abbrev pub StandIn : Standing → (ℕ → List ℕ → Type 0) → ℕ → List ℕ → List Token → Type 0
+StandIn Stands Ends at rest [] = Ends at rest
+StandIn Stands Ends at rest (token ∷ tokens) = (gap : List ℕ) × (after : List ℕ) × Stands at rest token gap after × StandIn Stands Ends token.span.end after tokens
+
+abbrev pub EndsInGap : ℕ → List ℕ → Type 0
+EndsInGap at rest = IsLastGap rest
+
+-- the tokens are the whole text, but for blanks and comments
+abbrev pub Reads : Language → List ℕ → List Token → Type 0
+Reads language text tokens = StandIn (IsNext language) EndsInGap 0 text tokens
+
+-- a token is short enough, and the value of a numeral is a whole number that is small enough
+pub record IsSound (length_limit value_limit : ℕ) (kind : Kind) (text : List ℕ) : Type 0 where
+  pub short : length text ≤ length_limit
+  pub value : kind ≡ Num → (v : ℤ) × IsValue value_limit text v
+
+abbrev pub AreSound : ℕ → ℕ → List Token → Type 0
+AreSound length_limit value_limit tokens = AllByRecursion (λ token. IsSound length_limit value_limit token.kind token.text) tokens
+
+-- the token's text is the slice of the text at its span
+pub record IsSliceOf (text : List ℕ) (token : Token) : Type 0 where
+  pub order : token.span.start ≤ token.span.end
+  pub within : token.span.end ≤ length text
+  pub slice : token.text ≡ slice_range text token.span.start token.span.end

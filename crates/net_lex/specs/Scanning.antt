@@ -1,0 +1,57 @@
+-- What each step of the scanner gives (AMPL book, section A.1, for the forms).
+use Rattle.std.specs.Prelude.{◌≡◌, ℕ, ◌+◌, ◌<◌, ◌⊎◌, List, ◌++◌, length, None, Result, Ok, Err, ℤ}
+use Rattle.std.specs.Str.{IsUtf8}
+use Rattle.net_lex.specs.declared.fault.Defect.{Defect}
+use Rattle.net_lex.specs.declared.fault.Defect.TheVariants.{NotWhole, TooLarge}
+use Rattle.net_lex.specs.declared.gap.Place.TheVariants.{Between}
+use Rattle.net_lex.specs.declared.language.Language.{Language}
+use Rattle.net_lex.specs.declared.numeral.NumFault.TheVariants as num
+use Rattle.net_lex.specs.declared.span.Span.{Span}
+use Rattle.net_lex.specs.declared.token.Kind.{Kind}
+use Rattle.net_lex.specs.declared.token.Kind.TheVariants.{Num}
+use Rattle.net_lex.specs.declared.token.Token.{Token}
+use Rattle.net_lex.specs.Bytes.{first, second}
+use Rattle.net_lex.specs.GapFront.{place_after}
+use Rattle.net_lex.specs.Numerals.{IsValue, IsNumFault}
+use Rattle.net_lex.specs.Tokens.{Allows}
+use Rattle.net_lex.specs.Reading.{IsLongest, IsSound}
+use Rattle.net_lex.specs.Faults.{Limits, EndsWhole, IsDefect, IsSoundNext}
+
+abbrev pub limits : Limits
+limits = record { token = 255; value = 1000000000000 }
+
+-- neither a blank nor a comment begins the text
+abbrev pub BeginsNoGap : List ℕ → Type 0
+BeginsNoGap text = place_after Between (first text) (second text) ≡ None
+
+-- a numeral with a value that is small enough, or one without, or no numeral
+abbrev pub IsNumeralKind : List ℕ → Result Kind Defect → Result Kind Defect → Type 0
+IsNumeralKind word otherwise found =
+    ((found ≡ Ok Num) × ((v : ℤ) × IsValue limits.value word v))
+    ⊎ ((found ≡ Err NotWhole) × IsNumFault limits.value word num.NotWhole)
+    ⊎ ((found ≡ Err TooLarge) × IsNumFault limits.value word num.TooLarge)
+    ⊎ ((found ≡ otherwise) × IsNumFault limits.value word num.NotNumeral)
+
+-- the kind of a word with the value of its numeral, or what is wrong with the numeral
+abbrev pub IsKindOf : Language → List ℕ → Result Kind Defect → Type 0
+IsKindOf language word (Ok kind) = Allows language kind word × (kind ≡ Num → (v : ℤ) × IsValue limits.value word v)
+IsKindOf language word (Err NotWhole) = Allows language Num word × IsNumFault limits.value word num.NotWhole
+IsKindOf language word (Err TooLarge) = Allows language Num word × IsNumFault limits.value word num.TooLarge
+IsKindOf language word (Err _) = ⊥
+
+-- the token stands at the front of a text, which goes on after it
+pub record IsTokenAt (language : Language) (at : ℕ) (text : List ℕ) (token : Token) (after : List ℕ) : Type 0 where
+  pub some : 0 < length token.text
+  pub joined : text ≡ token.text ++ after
+  pub span : token.span ≡ record { start = at; end = at + length token.text }
+  pub longest : IsLongest language token.kind token.text after
+  pub whole : EndsWhole token.kind token.text after
+  pub sound : IsSound limits.token limits.value token.kind token.text
+  pub text_after : IsUtf8 after
+
+abbrev pub IsDefectAt : Language → ℕ → List ℕ → Defect → Span → Type 0
+IsDefectAt language at text defect span = (from : ℕ) × (to : ℕ) × IsDefect limits language text defect from to × (span ≡ record { start = at + from; end = at + to })
+
+-- the next token, behind a gap
+abbrev pub IsStep : Language → ℕ → List ℕ → Token → List ℕ → Type 0
+IsStep language at rest token after = (gap : List ℕ) × IsSoundNext limits language at rest token gap after × (length after < length rest) × IsUtf8 after

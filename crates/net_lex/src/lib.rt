@@ -1,0 +1,38 @@
+//! Tokens of model and data texts.
+#![tactic(auto)]
+
+mod bare_word;
+mod boxed;
+mod cursor;
+mod data_text;
+mod excerpt;
+mod fault;
+mod gap;
+mod items;
+mod language;
+mod model_text;
+mod numeral;
+mod places;
+mod reading;
+mod scan;
+mod shape;
+mod span;
+mod string;
+#[cfg(test)]
+mod tests;
+mod token;
+mod tokens;
+mod words;
+
+pub use boxed::Boxed;
+pub use data_text::{DATA_LIMIT, lex_data};
+pub use excerpt::Excerpt;
+pub use fault::{Defect, LexFault};
+pub use items::Items;
+pub use language::Language;
+pub use model_text::{MODEL_LIMIT, lex_model};
+pub use numeral::{NumFault, whole_of};
+pub use places::line_column;
+pub use reading::one_reading;
+pub use span::Span;
+pub use token::{Kind, Token};

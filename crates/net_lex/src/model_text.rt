@@ -1,0 +1,86 @@
+//! Tokens of model text.
+ghost use Rattle.std.specs.Prelude.{◌≡◌, ◌+◌, ◌<◌, ◌^◌, ◌≤◌, length, None, List, MatchResult, IfOk, IfErr, OnOk};
+ghost use Rattle.std.specs.List.{prefix_len};
+ghost use Rattle.std.specs.Str.{IsUtf8};
+ghost use Rattle.std.specs.List.{AllByRecursion};
+ghost use Rattle.net_lex.specs.declared.token.Token.{Token};
+ghost use Rattle.net_lex.specs.declared.language.Language.TheVariants.{Model};
+ghost use Rattle.net_lex.specs.declared.numeral.TheConstants.{LIMIT};
+ghost use Rattle.net_lex.specs.Reading.{Reads, AreSound, IsSliceOf};
+ghost use Rattle.net_lex.specs.Faults.{IsRefusal, HasPlace};
+ghost use Rattle.net_lex.specs.Scanning.{limits};
+ghost use Rattle.net_lex.specs.Characters.{starts_name, continues_name};
+ghost use Rattle.net_lex.specs.Shapes.{unnamed_front, model_front};
+
+use crate::cursor::first;
+use crate::fault::LexFault;
+use crate::language::Language;
+use crate::numeral::numeral_at;
+use crate::shape::{Shape, Stop, mark_front};
+use crate::string::{is_quote, string_at};
+use crate::token::Token;
+use crate::tokens::lex;
+use crate::words::model_mark_len;
+use std::alloc::Global;
+
+fn starts_name(byte: u8) -> bool
+    ensures { result ≡ starts_name byte }
+{
+    byte.is_ascii_alphabetic() || byte == b'_'
+}
+
+fn name_len(bytes: &[u8]) -> usize
+    ensures value { result ≡ prefix_len continues_name bytes.now }
+    ensures within { result ≤ length bytes.now }
+{
+    bytes
+        .iter()
+        .take_while(|b| b.is_ascii_alphanumeric() || **b == b'_')
+        .count()
+}
+
+/// A string or a mark.
+fn unnamed_front(text: &str) -> Result<(Shape, usize), Stop>
+    requires { length text.now + 2 < 2 ^ 64 }
+    ensures { result ≡ unnamed_front text.now None }
+{
+    let bytes = text.as_bytes();
+    if is_quote(first(bytes)) {
+        string_at(bytes)
+    } else {
+        mark_front(text, model_mark_len(bytes))
+    }
+}
+
+/// What stands at the front, where neither a blank nor a comment begins.
+#[tactic(auto, unfolding(crate::specs::Shapes::model_front))]
+pub(crate) fn model_front(text: &str) -> Result<(Shape, usize), Stop>
+    requires { length text.now + 2 < 2 ^ 64 }
+    ensures { result ≡ model_front text.now }
+{
+    let bytes = text.as_bytes();
+    if starts_name(first(bytes)) {
+        return Ok((Shape::Word, name_len(bytes)));
+    }
+    match numeral_at(bytes) {
+        Some((_, after)) => Ok((Shape::Numeral, bytes.len() - after.len())),
+        None => unnamed_front(text),
+    }
+}
+
+/// The greatest length of a model text: 1 MiB.
+pub const MODEL_LIMIT: usize = 0x10_0000;
+
+/// The tokens of a model text.
+pub fn lex_model<'s>(alloc: Global, text: &'s [u8]) -> Result<Vec<Token<'s>>, LexFault>
+    ensures ok { IfOk result (λ v. Reads Model text.entry.now v.items) }
+    ensures sound { IfOk result (λ v. AreSound 255 LIMIT v.items) }
+    ensures text { OnOk result ((length text.entry.now ≤ MODEL_LIMIT) × IsUtf8 text.entry.now) }
+    ensures refused { IfErr result (IsRefusal limits Model MODEL_LIMIT text.entry.now) }
+    ensures place { MatchResult result (λ v. AllByRecursion (IsSliceOf text.entry.now) v.items) (HasPlace text.entry.now) }
+    ensures complete { (tokens : List Token) → length text.entry.now ≤ MODEL_LIMIT → IsUtf8 text.entry.now
+        → Reads Model text.entry.now tokens → AreSound 255 LIMIT tokens
+        → MatchResult result (λ v. v.items ≡ tokens) (λ e. e ≡ LexFault.OutOfMemory) }
+{
+    lex(alloc, Language::Model, MODEL_LIMIT, text)
+}

@@ -1,0 +1,152 @@
+//! Tokens one by one, for both languages.
+ghost use Rattle.std.specs.Prelude.{◌≡◌, ◌+◌, ◌<◌, ◌^◌, MatchResult, MatchOption, length};
+ghost use Rattle.net_lex.specs.Shapes.{front};
+ghost use Rattle.net_lex.specs.Tokens.{HasShape};
+ghost use Rattle.net_lex.specs.Gaps.{IsLastGap};
+ghost use Rattle.net_lex.specs.Faults.{IsFault};
+ghost use Rattle.net_lex.specs.Scanning.{limits, BeginsNoGap, IsNumeralKind, IsKindOf, IsTokenAt, IsDefectAt, IsStep};
+ghost use Rattle.net_lex.specs.declared.shape.Shape.TheVariants.{Word};
+
+use crate::data_text::data_front;
+use crate::excerpt::Excerpt;
+use crate::fault::Defect;
+use crate::gap::gap_len;
+use crate::language::Language;
+use crate::model_text::model_front;
+use crate::numeral::{NumFault, whole_of};
+use crate::shape::{Shape, Stop};
+use crate::span::Span;
+use crate::token::{Kind, Token};
+use crate::words::is_reserved;
+
+/// The greatest length of a token, in bytes.
+const TOKEN_LIMIT: usize = 255;
+
+#[tactic(auto, unfolding(crate::specs::Shapes::front))]
+fn front(language: Language, text: &str) -> Result<(Shape, usize), Stop>
+    requires { length text.now + 2 < 2 ^ 64 }
+    ensures { result ≡ front language text.now }
+{
+    match language {
+        Language::Model => model_front(text),
+        Language::Data => data_front(text),
+    }
+}
+
+/// The kind of a numeral that is taken for one, or of another word.
+fn numeral_kind(word: &str, otherwise: Result<Kind, Defect>) -> Result<Kind, Defect>
+    ensures { IsNumeralKind word.now otherwise result }
+{
+    match whole_of(word) {
+        Ok(_) => Ok(Kind::Num),
+        Err(NumFault::NotWhole) => Err(Defect::NotWhole),
+        Err(NumFault::TooLarge) => Err(Defect::TooLarge),
+        Err(NumFault::NotNumeral) => otherwise,
+    }
+}
+
+/// The kind of a text of this form, whose numeral is read.
+fn kind_of(language: Language, shape: Shape, word: &str) -> Result<Kind, Defect>
+    requires { HasShape language shape word.now }
+    ensures { IsKindOf language word.now result }
+{
+    match shape {
+        Shape::Quoted => Ok(Kind::Str),
+        Shape::Mark => Ok(Kind::Mark),
+        Shape::Numeral => numeral_kind(word, Ok(Kind::Num)),
+        Shape::Word => word_kind(language, word),
+    }
+}
+
+fn word_kind(language: Language, word: &str) -> Result<Kind, Defect>
+    requires { HasShape language Word word.now }
+    ensures { IsKindOf language word.now result }
+{
+    match language {
+        Language::Model if is_reserved(word.as_bytes()) => Ok(Kind::Key),
+        Language::Model => Ok(Kind::Name),
+        Language::Data if word.as_bytes() == b".".as_slice() => Ok(Kind::Dot),
+        Language::Data => numeral_kind(word, Ok(Kind::Name)),
+    }
+}
+
+/// The token that begins here, and what follows it.
+fn token_at<'s>(
+    language: Language,
+    text: &'s str,
+    at: usize,
+) -> Result<(Token<'s>, &'s str), (Defect, Span)>
+    requires room { at + length text.now + 4 < 2 ^ 64 }
+    requires some { 0 < length text.now }
+    requires here { BeginsNoGap text.now }
+    ensures { MatchResult result
+        (λ x. IsTokenAt language at text.entry.now x.0 x.1.now)
+        (λ e. IsDefectAt language at text.entry.now e.0 e.1) }
+{
+    match front(language, text) {
+        Err(stop) => Err((
+            stop.defect,
+            Span {
+                start: at + stop.from,
+                end: at + stop.to,
+            },
+        )),
+        Ok((_, len)) if len > TOKEN_LIMIT => {
+            Err((
+                Defect::TextTooLong,
+                Span {
+                    start: at,
+                    end: at + len,
+                },
+            ))
+        }
+        Ok((shape, len)) => {
+            let (word, after) = text.split_at(len);
+            let span = Span {
+                start: at,
+                end: at + len,
+            };
+            match kind_of(language, shape, word) {
+                Ok(kind) => Ok((
+                    Token {
+                        kind,
+                        text: Excerpt::new(word),
+                        span,
+                    },
+                    after,
+                )),
+                Err(defect) => Err((defect, span)),
+            }
+        }
+    }
+}
+
+/// The next token and what follows it, or nothing behind the last one.
+pub(crate) fn step<'s>(
+    language: Language,
+    rest: &'s str,
+    at: usize,
+) -> Result<Option<(Token<'s>, &'s str)>, (Defect, Span)>
+    requires room { at + length rest.now + 4 < 2 ^ 64 }
+    ensures { MatchResult result
+        (λ o. MatchOption o (IsLastGap rest.entry.now) (λ x. IsStep language at rest.entry.now x.0 x.1.now))
+        (λ e. IsFault limits language at rest.entry.now e.0 e.1) }
+{
+    match gap_len(rest) {
+        Err(n) => Err((
+            Defect::OpenComment,
+            Span {
+                start: at + n,
+                end: at + n + 2,
+            },
+        )),
+        Ok(n) if n == rest.len() => Ok(None),
+        Ok(n) => {
+            let (_, text) = rest.split_at(n);
+            match token_at(language, text, at + n) {
+                Ok(found) => Ok(Some(found)),
+                Err(fault) => Err(fault),
+            }
+        }
+    }
+}

@@ -1,0 +1,85 @@
+//! Strings in quotation marks.
+ghost use Rattle.std.specs.Prelude.{◌≡◌, ◌+◌, ◌<◌, ◌^◌, false, length};
+ghost use Rattle.net_lex.specs.Shapes.{delimited_after, string_end, IsEndWithin, string_at};
+ghost use Rattle.net_lex.specs.Characters.{is_control, is_quote};
+
+use crate::cursor::{first, rest};
+use crate::fault::Defect;
+use crate::shape::{Shape, Stop};
+
+/// Where a string ends, counted from after its first quotation mark.
+#[derive(Clone, Copy)]
+pub(crate) enum StringEnd {
+    /// After the last quotation mark.
+    Closed(usize),
+    /// At a character that no string holds.
+    Control(usize),
+    /// Nowhere.
+    Open,
+}
+
+/// No string holds one of these.
+fn is_control(byte: u8) -> bool
+    ensures { result ≡ is_control byte }
+{
+    byte < 0x20 || byte == 0x7F
+}
+
+pub(crate) fn is_quote(byte: u8) -> bool
+    ensures { result ≡ is_quote byte }
+{
+    byte == b'\'' || byte == b'"'
+}
+
+fn delimited_after(delimiter: u8, delimited: bool, byte: u8) -> Option<bool>
+    ensures { result ≡ delimited_after delimiter delimited byte }
+{
+    if delimited {
+        if byte == delimiter { Some(false) } else { None }
+    } else if byte == delimiter {
+        Some(true)
+    } else if is_control(byte) {
+        None
+    } else {
+        Some(false)
+    }
+}
+
+fn string_end(delimiter: u8, inside: &[u8]) -> StringEnd
+    ensures value { result ≡ string_end delimiter false 0 inside.now }
+    ensures within { IsEndWithin (length inside.now) result }
+{
+    let mut delimited = false;
+    for at in 0..inside.len() {
+        match delimited_after(delimiter, delimited, inside[at]) {
+            Some(next) => delimited = next,
+            None if delimited => return StringEnd::Closed(at),
+            None => return StringEnd::Control(at),
+        }
+    }
+    if delimited {
+        StringEnd::Closed(inside.len())
+    } else {
+        StringEnd::Open
+    }
+}
+
+/// The string that begins here.
+pub(crate) fn string_at(bytes: &[u8]) -> Result<(Shape, usize), Stop>
+    requires { length bytes.now + 2 < 2 ^ 64 }
+    ensures { result ≡ string_at bytes.now }
+{
+    match string_end(first(bytes), rest(bytes)) {
+        StringEnd::Closed(n) => Ok((Shape::Quoted, n + 1)),
+        StringEnd::Control(n) => Err(Stop {
+            defect: Defect::BadCharacter,
+            from: n + 1,
+            to: n + 2,
+        }),
+        StringEnd::Open => Err(Stop {
+            defect: Defect::OpenString,
+            from: 0,
+            to: 1,
+        }),
+    }
+}
