@@ -159,7 +159,17 @@ fn fault_of(alloc: Global, language: Language, text: &[u8]) -> Option<(Defect, S
 fn first_faults(rt: HostRuntime) {
     use Defect::{BadCharacter, NotUtf8, NotWhole, OpenComment, OpenString, TooLarge};
     use Language::{Data, Model};
-    let table: [(Language, &[u8], Defect, usize, usize); 16] = [
+    let table: [(Language, &[u8], Defect, usize, usize); 20] = [
+        (Model, b"minimize A$;", BadCharacter, 10, 11),
+        (
+            Model,
+            b"minimize Cost; node A: net_in = \"x",
+            OpenString,
+            32,
+            33,
+        ),
+        (Model, b"/*", OpenComment, 0, 2),
+        (Data, b"PITT NE 2.5 250", NotWhole, 8, 11),
         (Model, b"param a @ 3;", BadCharacter, 8, 9),
         (Model, "a é".as_bytes(), BadCharacter, 2, 4),
         (Model, b"a | b", BadCharacter, 2, 3),
@@ -188,7 +198,16 @@ fn first_faults(rt: HostRuntime) {
 
 #[test]
 fn whole_values(rt: HostRuntime) {
-    let table: [(&str, Result<i64, NumFault>); 19] = [
+    let table: [(&str, Result<i64, NumFault>); 28] = [
+        ("450.0", Ok(450)),
+        ("250e-1", Ok(25)),
+        ("0e99", Ok(0)),
+        ("1e3", Ok(1000)),
+        ("1500.0", Ok(1500)),
+        ("2.5", Err(NumFault::NotWhole)),
+        ("1e13", Err(NumFault::TooLarge)),
+        ("0.5e13", Err(NumFault::TooLarge)),
+        ("1e999999999999", Err(NumFault::TooLarge)),
         ("0", Ok(0)),
         ("007", Ok(7)),
         ("-12", Ok(-12)),
