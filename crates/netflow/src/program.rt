@@ -1,0 +1,102 @@
+//! The program: words in, a status out.
+
+use crate::fault::{Fault, TextName};
+use crate::run::run_compile;
+use crate::words::{Words, WordsFault, words_of};
+use net_dimacs::{OfRead, OfWrite};
+use std::process::ExitCode;
+use std::rt::Runtime;
+use std::{env, fs, io};
+
+/// How the program ends.
+#[derive(Clone, Copy, Debug, PartialEq, Eq)]
+enum Status {
+    Done,
+    /// A text was refused.
+    Refused,
+    /// A file could not be read, or the output not written.
+    EndFailed,
+    OutOfMemory,
+    /// The command line was refused.
+    Usage,
+}
+
+impl Status {
+    fn code(self) -> u8 {
+        match self {
+            Status::Done => 0,
+            Status::Refused => 3,
+            Status::EndFailed => 4,
+            Status::OutOfMemory => 5,
+            Status::Usage => 64,
+        }
+    }
+}
+
+fn status_of(fault: &Fault) -> Status {
+    match fault {
+        Fault::OutOfMemory => Status::OutOfMemory,
+        Fault::Refused(_) => Status::Refused,
+        Fault::Unread(_) => Status::EndFailed,
+        Fault::Unwritten => Status::EndFailed,
+    }
+}
+
+fn compile_files<R: Runtime + AllocGlobal>(rt: &R, model: &str, data: &str) -> Result<(), Fault> {
+    let Ok(model) = fs::open(rt, model) else {
+        return Err(Fault::Unread(TextName::Model));
+    };
+    let Ok(data) = fs::open(rt, data) else {
+        return Err(Fault::Unread(TextName::Data));
+    };
+    let mut model = OfRead::new(model);
+    let mut data = OfRead::new(data);
+    let mut output = OfWrite::new(io::writer(rt));
+    run_compile(rt.alloc(), &mut model, &mut data, &mut output)
+}
+
+fn run_words<R: Runtime + AllocGlobal>(rt: &R, words: &Words) -> Result<(), Fault> {
+    match words.paths.as_slice() {
+        [model, data] => compile_files(rt, model.as_str(), data.as_str()),
+        _ => Ok(()),
+    }
+}
+
+/// Runs the program on its words.
+fn run_program<R: Runtime + AllocGlobal>(rt: &R, words: &[String]) -> Status {
+    let words = match words_of(rt.alloc(), words) {
+        Ok(words) => words,
+        Err(WordsFault::OutOfMemory) => return tell(rt, &Fault::OutOfMemory),
+        Err(WordsFault::Usage(error)) => {
+            let shown = error.print(rt).is_ok();
+            return if error.use_stderr() {
+                Status::Usage
+            } else if shown {
+                Status::Done
+            } else {
+                Status::EndFailed
+            };
+        }
+    };
+    match run_words(rt, &words) {
+        Ok(()) => Status::Done,
+        Err(fault) => tell(rt, &fault),
+    }
+}
+
+/// Prints a fault's line on standard error.
+fn tell<R: Eprint>(rt: &R, fault: &Fault) -> Status {
+    // Where standard error is closed, the status alone tells.
+    let _ = eprintln!(rt; "{fault}");
+    status_of(fault)
+}
+
+/// Runs the program on the words that it was called with.
+pub fn run_called<R: Runtime + AllocGlobal>(rt: &R) -> io::Result<ExitCode> {
+    let args = env::args(rt)?;
+    let status = match args.collect::<Vec<String>>(rt.alloc()) {
+        Ok(words) => run_program(rt, &words),
+        Err(_) => tell(rt, &Fault::OutOfMemory),
+    };
+    Ok(ExitCode::from(status.code()))
+}

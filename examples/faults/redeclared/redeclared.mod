@@ -1,0 +1,2 @@
+minimize A;
+node A;

@@ -1,0 +1,2 @@
+minimize Cost;
+node A: net_out

@@ -1,0 +1,2 @@
+minimize A;
+minimize B;

@@ -1,0 +1,3 @@
+minimize Cost;
+node A;
+arc L >= 0, <= 5, from A, to A, obj Cost -2;
