@@ -7,14 +7,25 @@ use Rattle.std.specs.Str.{all_ascii_digits}
 use Rattle.std.specs.Fmt.{decimal, signed_decimal}
 use Rattle.std.specs.List.{AllByRecursion}
 use Rattle.std.proofs.lemmas.Bool.Decides.{nat_tests}
-use Rattle.std.proofs.lemmas.Fmt.{digits_decimal, digits_value-decimal, decimal_nonempty}
+use Rattle.std.proofs.lemmas.Fmt.{decimal_is_IsNumeral_wide}
 use Rattle.std.proofs.lemmas.Str.Parse.{IsNumeralModel, numerals_by_fold}
 use Rattle.net_dimacs.specs.declared.word.Word.TheVariants as words
 use Rattle.net_dimacs.proofs.Words.{word_by}
-use Rattle.net_dimacs.specs.Lines.{is_blank, has_byte, value_after, natural_of, number_or_other, word_of}
+use Rattle.net_dimacs.specs.Lines.{is_blank, has_byte, value_after, natural_of, number_of, number_or_other, word_of}
 
 own : IsNumeralModel (λ ds. all_ascii_digits ds ≡ true) (value_after 0)
 own = numerals_by_fold _ (search rules) value_after (search rules)
+
+-- ---- a number of 128 bits
+
+are_digits : (n : ℕ) → n < 2 ^ 128 → all_ascii_digits (decimal n) ≡ true
+are_digits n small = own.from (decimal n) (decimal_is_IsNumeral_wide n (omega arith)).0.1
+
+digits_value : (n : ℕ) → n < 2 ^ 128 → value_after 0 (decimal n) ≡ n
+digits_value n small = own.same (decimal n) (decimal_is_IsNumeral_wide n (omega arith)).0.1 ∙ (decimal_is_IsNumeral_wide n (omega arith)).1
+
+some_digit : (n : ℕ) → n < 2 ^ 128 → 0 < length (decimal n)
+some_digit n small = (decimal_is_IsNumeral_wide n (omega arith)).0.0
 
 both_true : (s t : Bool) → (s && t) ≡ true → (s ≡ true) × (t ≡ true)
 both_true true true e = (refl, refl)
@@ -25,8 +36,8 @@ natural_by : (ds : List ℕ) → all_ascii_digits ds ≡ true → 0 < length ds 
 natural_by [] all some = absurd (omega arith)
 natural_by (b ∷ bs) all some = ap (λ (t : Bool). cond t (Some (value_after 0 (b ∷ bs))) None) all
 
-natural_decimal : (n : ℕ) → n < 2 ^ 64 → natural_of (decimal n) ≡ Some n
-natural_decimal n small = natural_by (decimal n) (digits_decimal own n small) (decimal_nonempty n small) ∙ ap Some (digits_value-decimal own n small)
+natural_decimal : (n : ℕ) → n < 2 ^ 128 → natural_of (decimal n) ≡ Some n
+natural_decimal n small = natural_by (decimal n) (are_digits n small) (some_digit n small) ∙ ap Some (digits_value n small)
 
 -- a field that begins with a digit is a number
 number_by : (c p n a m plus minus : Bool) (b : ℕ) (bs : List ℕ) → c ≡ false → p ≡ false → n ≡ false → a ≡ false → m ≡ false → plus ≡ false → minus ≡ false
@@ -63,14 +74,31 @@ digits_word [] n all some e = absurd (omega arith)
 digits_word (b ∷ bs) n all some e =
     digit_word b bs (both_true (is_ascii_digit b) (all_ascii_digits bs) all).0 ∙ ap (λ (o : Option ℕ). number_or_other (option_map pos o)) e
 
--- a number that fits 64 bits
+-- a number whose size fits 128 bits
 abbrev pub IsPrintable : ℤ → Type 0
-IsPrintable (pos n) = n < 2 ^ 64
-IsPrintable (negsuc n) = suc n < 2 ^ 64
+IsPrintable (pos n) = n < 2 ^ 128
+IsPrintable (negsuc n) = suc n < 2 ^ 128
 
 pub word_decimal : (z : ℤ) → IsPrintable z → word_of (signed_decimal z) ≡ words.Number z
-word_decimal (pos n) small = digits_word (decimal n) n (digits_decimal own n small) (decimal_nonempty n small) (natural_decimal n small)
+word_decimal (pos n) small = digits_word (decimal n) n (are_digits n small) (some_digit n small) (natural_decimal n small)
 word_decimal (negsuc n) small = ap (λ (o : Option ℕ). number_or_other (option_map (λ m. neg_ℤ (pos m)) o)) (natural_decimal (suc n) small)
+
+number_from_tests : (plus minus : Bool) (b : ℕ) (bs : List ℕ) → plus ≡ false → minus ≡ false
+    → cond plus (option_map pos (natural_of bs)) (cond minus (option_map (λ n. neg_ℤ (pos n)) (natural_of bs)) (option_map pos (natural_of (b ∷ bs)))) ≡ option_map pos (natural_of (b ∷ bs))
+number_from_tests true minus b bs p q = absurd cc
+number_from_tests false true b bs p q = absurd cc
+number_from_tests false false b bs p q = refl
+
+digits_number : (ds : List ℕ) (n : ℕ) → all_ascii_digits ds ≡ true → 0 < length ds → natural_of ds ≡ Some n → number_of ds ≡ Some (pos n)
+digits_number [] n all some e = absurd (omega arith)
+digits_number (b ∷ bs) n all some e =
+    let r = digit_range b (both_true (is_ascii_digit b) (all_ascii_digits bs) all).0 in
+    let low = r.low in
+    number_from_tests (b == 43) (b == 45) b bs (other_byte b 43 (omega arith)) (other_byte b 45 (omega arith)) ∙ ap (λ (o : Option ℕ). option_map pos o) e
+
+pub number_decimal : (z : ℤ) → IsPrintable z → number_of (signed_decimal z) ≡ Some z
+number_decimal (pos n) small = digits_number (decimal n) n (are_digits n small) (some_digit n small) (natural_decimal n small)
+number_decimal (negsuc n) small = ap (λ (o : Option ℕ). option_map (λ m. neg_ℤ (pos m)) o) (natural_decimal (suc n) small)
 
 -- ---- the bytes of a number
 
@@ -99,13 +127,13 @@ solid_digits [] all = tt
 solid_digits (b ∷ bs) all = let p = both_true (is_ascii_digit b) (all_ascii_digits bs) all in (solid_digit b p.0, solid_digits bs p.1)
 
 pub solid_decimal : (z : ℤ) → IsPrintable z → AllByRecursion IsSolid (signed_decimal z)
-solid_decimal (pos n) small = solid_digits (decimal n) (digits_decimal own n small)
-solid_decimal (negsuc n) small = (record { no_blank = refl; no_feed = refl; no_return = refl }, solid_digits (decimal (suc n)) (digits_decimal own (suc n) small))
+solid_decimal (pos n) small = solid_digits (decimal n) (are_digits n small)
+solid_decimal (negsuc n) small = (record { no_blank = refl; no_feed = refl; no_return = refl }, solid_digits (decimal (suc n)) (are_digits (suc n) small))
 
 some_byte : (ds : List ℕ) → 0 < length ds → has_byte ds ≡ true
 some_byte [] some = absurd (omega arith)
 some_byte (b ∷ bs) some = refl
 
 pub byte_decimal : (z : ℤ) → IsPrintable z → has_byte (signed_decimal z) ≡ true
-byte_decimal (pos n) small = some_byte (decimal n) (decimal_nonempty n small)
+byte_decimal (pos n) small = some_byte (decimal n) (some_digit n small)
 byte_decimal (negsuc n) small = refl

@@ -5,11 +5,12 @@ mod Saying
 mod Returns
 mod Cutting
 mod LineSteps
-mod Lists
+pub mod Lists
 mod Steps
 mod Sound
 mod Complete
 mod ReadLaws
-mod Decimals
-mod WrittenLines
+pub mod Decimals
+pub mod WrittenLines
 mod WriteLaws
+pub mod Comments

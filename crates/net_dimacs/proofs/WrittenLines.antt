@@ -25,25 +25,25 @@ use Rattle.net_dimacs.proofs.LineSteps.{split_parts}
 
 -- ---- the fields of a line
 
-abbrev Printable : List ℤ → Type 0
+abbrev pub Printable : List ℤ → Type 0
 Printable zs = AllByRecursion IsPrintable zs
 
-abbrev Solid : List ℕ → Type 0
+abbrev pub Solid : List ℕ → Type 0
 Solid bs = AllByRecursion IsSolid bs
 
 no_blanks : (bs : List ℕ) → Solid bs → All (λ b. is_blank b ≡ false) bs
 no_blanks bs solid = All-from_recursion (λ b. is_blank b ≡ false) bs (all_map IsSolid (λ b. is_blank b ≡ false) bs (λ b s. s.no_blank) solid)
 
-split_row : (field : List ℕ) (zs : List ℤ) → Solid field → Printable zs → slice_split is_blank (field ++ row zs) ≡ field ∷ map signed_decimal zs
+pub split_row : (field : List ℕ) (zs : List ℤ) → Solid field → Printable zs → slice_split is_blank (field ++ row zs) ≡ field ∷ map signed_decimal zs
 split_row field [] solid fit = ap (slice_split is_blank) (append-nil field) ∙ slice_split_none is_blank field (no_blanks field solid)
 split_row field (z ∷ zs) solid fit =
     slice_split_at is_blank field 32 (signed_decimal z ++ row zs) (no_blanks field solid) refl
     ∙ ap (λ (fs : List (List ℕ)). field ∷ fs) (split_row (signed_decimal z) zs (solid_decimal z fit.0) fit.1)
 
-kept_field : (field : List ℕ) (fs : List (List ℕ)) → has_byte field ≡ true → filter has_byte (field ∷ fs) ≡ field ∷ filter has_byte fs
+pub kept_field : (field : List ℕ) (fs : List (List ℕ)) → has_byte field ≡ true → filter has_byte (field ∷ fs) ≡ field ∷ filter has_byte fs
 kept_field field fs e = ap (λ (t : Bool). cond t (field ∷ filter has_byte fs) (filter has_byte fs)) e
 
-kept_row : (zs : List ℤ) → Printable zs → filter has_byte (map signed_decimal zs) ≡ map signed_decimal zs
+pub kept_row : (zs : List ℤ) → Printable zs → filter has_byte (map signed_decimal zs) ≡ map signed_decimal zs
 kept_row [] fit = refl
 kept_row (z ∷ zs) fit = kept_field (signed_decimal z) (map signed_decimal zs) (byte_decimal z fit.0) ∙ ap (λ (fs : List (List ℕ)). signed_decimal z ∷ fs) (kept_row zs fit.1)
 
@@ -59,7 +59,7 @@ line_words field zs solid some fit =
     ∙ ap (map word_of) (kept_field field (map signed_decimal zs) some ∙ ap (λ (fs : List (List ℕ)). field ∷ fs) (kept_row zs fit))
     ∙ ap (λ (ws : List Word). word_of field ∷ ws) (words_row zs fit)
 
-abbrev solid_byte : (b : ℕ) → is_blank b ≡ false → (b == 10) ≡ false → (b == 13) ≡ false → IsSolid b
+abbrev pub solid_byte : (b : ℕ) → is_blank b ≡ false → (b == 10) ≡ false → (b == 13) ≡ false → IsSolid b
 solid_byte b p q r = record { no_blank = p; no_feed = q; no_return = r }
 
 node_says : (z f : ℤ) → Printable (z ∷ f ∷ []) → said (codes "n" ++ row (z ∷ f ∷ [])) ≡ Some (statements.Node z f)
@@ -78,17 +78,17 @@ head_says n m fit =
 -- ---- the lines of a text
 
 -- a byte of a line
-record IsPlain (b : ℕ) : Type 0 where
-  no_feed : (b == 10) ≡ false
-  no_return : (b == 13) ≡ false
+pub record IsPlain (b : ℕ) : Type 0 where
+  pub no_feed : (b == 10) ≡ false
+  pub no_return : (b == 13) ≡ false
 
-abbrev Plain : List ℕ → Type 0
+abbrev pub Plain : List ℕ → Type 0
 Plain bs = AllByRecursion IsPlain bs
 
-plain_solid : (bs : List ℕ) → Solid bs → Plain bs
+pub plain_solid : (bs : List ℕ) → Solid bs → Plain bs
 plain_solid bs solid = all_map IsSolid IsPlain bs (λ b s. record { no_feed = s.no_feed; no_return = s.no_return }) solid
 
-plain_row : (zs : List ℤ) → Printable zs → Plain (row zs)
+pub plain_row : (zs : List ℤ) → Printable zs → Plain (row zs)
 plain_row [] fit = tt
 plain_row (z ∷ zs) fit = (record { no_feed = refl; no_return = refl }, all_append IsPlain (signed_decimal z) (row zs) (plain_solid (signed_decimal z) (solid_decimal z fit.0)) (plain_row zs fit.1))
 
@@ -109,7 +109,7 @@ lines_by body parts x xs e plain =
     ∙ ap (λ (l : List ℕ). l ∷ lines_of_parts (x ∷ xs)) (not_stripped body plain)
     ∙ ap (λ (ps : List (List ℕ)). body ∷ lines_of_parts ps) (sym e)
 
-lines_then : (body rest : List ℕ) → Plain body → lines (body ++ 10 ∷ rest) ≡ body ∷ lines rest
+pub lines_then : (body rest : List ℕ) → Plain body → lines (body ++ 10 ∷ rest) ≡ body ∷ lines rest
 lines_then body rest plain =
     let p = split_parts rest in
     ap lines_of_parts (slice_split_at (λ b. b == 10) body 10 rest (no_feeds body plain) refl)
@@ -127,7 +127,7 @@ line_then kind zs rest statement plain fit says =
 
 -- ---- the three kinds
 
-plain_byte : (b : ℕ) → (b == 10) ≡ false → (b == 13) ≡ false → IsPlain b
+pub plain_byte : (b : ℕ) → (b == 10) ≡ false → (b == 13) ≡ false → IsPlain b
 plain_byte b p q = record { no_feed = p; no_return = q }
 
 node_then : (v : ℕ) (z : ℤ) (rest : List ℕ) → IsPrintable (node_number v) → IsPrintable z → statements_of (line (codes "n") (node_number v ∷ z ∷ []) ++ rest) ≡ node_statement (v, z) ∷ statements_of rest

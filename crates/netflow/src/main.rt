@@ -1,15 +1,7 @@
 //! Network models in AMPL's words, compiled to minimum-cost flow problems in the DIMACS format.
 #![tactic(auto)]
 
-mod compile;
-mod declaration;
-mod fault;
-mod forms;
-mod instance;
-mod links;
-mod names;
 mod program;
-mod run;
 mod words;
 
 use std::io;

@@ -1,7 +1,6 @@
 //! The program: words in, a status out.
 
-use crate::fault::{Fault, TextName};
-use crate::run::run_compile;
+use net_calls::{Fault, TextName, run_compile};
 use crate::words::{Words, WordsFault, words_of};
 use net_dimacs::{OfRead, OfWrite};
 use std::process::ExitCode;

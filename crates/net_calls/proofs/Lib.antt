@@ -1,0 +1,11 @@
+pub mod Sizes
+pub mod Spelling
+pub mod Meanings
+pub mod Stops
+pub mod Passes
+pub mod Ends
+pub mod Plans
+pub mod Distinct
+pub mod ByName
+pub mod LinkLines
+pub mod Promise

@@ -1,0 +1,215 @@
+-- The link lines say nothing of a problem, so a compiled text is its problem's.
+use Rattle.std.proofs.Common.{◌≡◌, ◌≢◌, ℕ, suc, ◌+◌, ◌^◌, ◌<◌, ◌≤◌, ◌==◌, Bool, true, false, ◌&&◌, ◌||◌, List, [], ◌∷◌, ◌++◌, length, map, Option, Some, None, ℤ, pos, negsuc, refl, sym, ap, subst, ◌∙◌, codes, decimal, arith, append_assoc, All, inl, inr}
+use Rattle.std.specs.List.{AllByRecursion, list_all}
+use Rattle.std.specs.Char.{is_ascii_alphanumeric}
+use Rattle.std.specs.Fmt.{signed_decimal}
+use Rattle.std.proofs.lemmas.Bool.{cases_Bool}
+use Rattle.std.proofs.lemmas.Bool.Decides.{nat_tests}
+use Rattle.std.proofs.lemmas.Int.{ints}
+use Rattle.std.proofs.lemmas.List.Elements.{recursion_from_All}
+use Rattle.net_lex.specs.declared.language.Language.TheVariants as languages
+use Rattle.net_lex.specs.declared.token.Token.{Token}
+use Rattle.net_lex.specs.declared.token.Kind.{Kind}
+use Rattle.net_lex.specs.declared.token.Kind.TheVariants as kinds
+use Rattle.net_lex.specs.Characters.{continues_name}
+use Rattle.net_lex.specs.Reading.{Reads, StandIn, IsNext, EndsInGap}
+use Rattle.net_lex.specs.Tokens.{Allows}
+use Rattle.net_normal.specs.Limits.{IsSized, value_limit, constant_limit}
+use Rattle.net_normal.specs.declared.instance.Sense.{Sense}
+use Rattle.net_normal.specs.declared.instance.Sense.TheVariants.{Minimise, Maximise}
+use Rattle.net_normal.specs.declared.link.Link.{Link}
+use Rattle.net_normal.specs.declared.problem.FlowArc.{FlowArc}
+use Rattle.net_dimacs.specs.Problems.{statements_of, IsProblemText, IsOnlyProblem}
+use Rattle.net_dimacs.proofs.Comments.{comment_skipped}
+use Rattle.net_dimacs.proofs.Decimals.{IsPrintable, IsSolid, solid_decimal}
+use Rattle.net_dimacs.proofs.Lists.{all_map, all_append}
+use Rattle.net_dimacs.proofs.WrittenLines.{IsPlain}
+use Rattle.net_calls.specs.Declarations.{Form, ArcParts, objective, node, arc, Sign, word, name, number, Tokens, is_name, Spell, signs_of_all}
+use Rattle.net_calls.specs.Links.{constant_line, sign_line, node_line, node_lines, arc_line, arc_lines, link_lines}
+use Rattle.net_calls.specs.Models.{Name, nodes_in, arcs_in}
+
+abbrev pub Plain : List ℕ → Type 0
+Plain bytes = AllByRecursion IsPlain bytes
+
+-- ---- numbers and names have no line ends
+
+plain_number : (z : ℤ) → IsPrintable z → Plain (signed_decimal z)
+plain_number z fit = all_map IsSolid IsPlain (signed_decimal z) (λ b s. record { no_feed = s.no_feed; no_return = s.no_return }) (solid_decimal z fit)
+
+printable_sized : (l : ℕ) (z : ℤ) → l < 2 ^ 127 → IsSized l z → IsPrintable z
+printable_sized l (pos n) small h = let b = h.below in omega (arith, ints)
+printable_sized l (negsuc n) small h = let b = h.above in omega (arith, ints)
+
+goes_on_other : (b k : ℕ) → continues_name k ≡ false → continues_name b ≡ true → (b == k) ≡ false
+goes_on_other b k not_k is_b =
+    elim (cases_Bool (b == k)) [
+      | inl e ↦ let same : b ≡ k = grind (arith, nat_tests) in absurd (let h = sym is_b ∙ ap continues_name same ∙ not_k in cc)
+      | inr e ↦ e
+    ]
+
+both_true : (s t : Bool) → (s && t) ≡ true → (s ≡ true) × (t ≡ true)
+both_true true true e = (refl, refl)
+both_true true false e = absurd (let h = e in cc)
+both_true false t e = absurd (let h = e in cc)
+
+plain_name : (bytes : List ℕ) → list_all continues_name bytes ≡ true → Plain bytes
+plain_name [] e = tt
+plain_name (b ∷ bytes) e =
+    let both = both_true (continues_name b) (list_all continues_name bytes) e in
+    (record { no_feed = goes_on_other b 10 refl both.0; no_return = goes_on_other b 13 refl both.0 }, plain_name bytes both.1)
+
+-- a name among tokens is plain
+abbrev IsPlainName : Token → Type 0
+IsPlainName t = is_name t.kind ≡ true → Plain t.text
+
+allowed_plain : (kind : Kind) (text : List ℕ) → Allows languages.Model kind text → is_name kind ≡ true → Plain text
+allowed_plain kinds.Name text a e = plain_name text a.0.goes_on
+allowed_plain kinds.Key text a e = absurd (let h = e in cc)
+allowed_plain kinds.Num text a e = absurd (let h = e in cc)
+allowed_plain kinds.Str text a e = absurd (let h = e in cc)
+allowed_plain kinds.Mark text a e = absurd (let h = e in cc)
+allowed_plain kinds.Dot text a e = absurd (let h = e in cc)
+
+read_plain : (at : ℕ) (rest : List ℕ) (tokens : Tokens) → StandIn (IsNext languages.Model) EndsInGap at rest tokens → AllByRecursion IsPlainName tokens
+read_plain at rest [] h = tt
+read_plain at rest (t ∷ tokens) h = (allowed_plain t.kind t.text h.2.longest.allowed, read_plain t.span.end h.1 tokens h.3)
+
+-- ---- and so are the names of declarations
+
+abbrev PlainSign : Sign → Type 0
+PlainSign (word w) = Unit {0}
+PlainSign (name n) = Plain n.text
+PlainSign (number x) = Unit {0}
+
+after_plain : (sign : Sign) (tokens rest : Tokens) → Spell (sign ∷ []) tokens rest → AllByRecursion IsPlainName tokens → PlainSign sign × AllByRecursion IsPlainName rest
+after_plain (word w) tokens rest h all =
+    let e : tokens ≡ h.1.token ∷ rest = h.1.first ∙ ap (λ (t : Tokens). h.1.token ∷ t) h.2 in
+    (tt, (subst (AllByRecursion IsPlainName) e all).1)
+after_plain (name n) tokens rest h all =
+    let e : tokens ≡ n ∷ rest = h.1.0 ∙ ap (λ (t : Tokens). n ∷ t) h.2 in
+    let both = subst (AllByRecursion IsPlainName) e all in
+    (both.0 h.1.1, both.1)
+after_plain (number x) tokens rest (after, inl s, e) all =
+    let whole : tokens ≡ s.token ∷ rest = s.first ∙ ap (λ (t : Tokens). s.token ∷ t) e in
+    (tt, (subst (AllByRecursion IsPlainName) whole all).1)
+after_plain (number x) tokens rest (after, inr s, e) all =
+    let whole : tokens ≡ s.minus.token ∷ s.digits.token ∷ rest = s.minus.first ∙ ap (λ (t : Tokens). s.minus.token ∷ t) (s.digits.first ∙ ap (λ (t : Tokens). s.digits.token ∷ t) e) in
+    (tt, (subst (AllByRecursion IsPlainName) whole all).1.1)
+
+signs_plain : (signs : List Sign) (tokens rest : Tokens) → Spell signs tokens rest → AllByRecursion IsPlainName tokens → AllByRecursion PlainSign signs
+signs_plain [] tokens rest h all = tt
+signs_plain (sign ∷ signs) tokens rest h all =
+    let one = after_plain sign tokens h.0 (h.0, h.1, refl) all in
+    (one.0, signs_plain signs h.0 rest h.2 one.1)
+
+nodes_plain : (forms : List Form) → AllByRecursion PlainSign (signs_of_all forms) → AllByRecursion Plain (map (λ n. n.name) (nodes_in forms))
+nodes_plain [] h = tt
+nodes_plain (objective n ∷ forms) h = nodes_plain forms h.1.1.1
+nodes_plain (node n None ∷ forms) h = (h.1.0, nodes_plain forms h.1.1.1)
+nodes_plain (node n (Some c) ∷ forms) h = (h.1.0, nodes_plain forms h.1.1.1.1.1.1.1)
+nodes_plain (arc a ∷ forms) h = nodes_plain forms h.1.1.1.1.1.1.1.1.1.1.1.1.1.1.1.1.1.1
+
+arcs_plain : (forms : List Form) → AllByRecursion PlainSign (signs_of_all forms) → AllByRecursion Plain (map (λ a. a.name) (arcs_in forms))
+arcs_plain [] h = tt
+arcs_plain (objective n ∷ forms) h = arcs_plain forms h.1.1.1
+arcs_plain (node n None ∷ forms) h = arcs_plain forms h.1.1.1
+arcs_plain (node n (Some c) ∷ forms) h = arcs_plain forms h.1.1.1.1.1.1.1
+arcs_plain (arc a ∷ forms) h = (h.1.0, arcs_plain forms h.1.1.1.1.1.1.1.1.1.1.1.1.1.1.1.1.1.1)
+
+pub names_plain : (text : List ℕ) (tokens : Tokens) (forms : List Form) → Reads languages.Model text tokens → Spell (signs_of_all forms) tokens []
+    → AllByRecursion Plain (map (λ n. n.name) (nodes_in forms)) × AllByRecursion Plain (map (λ a. a.name) (arcs_in forms))
+names_plain text tokens forms reads spelled =
+    let signs = signs_plain (signs_of_all forms) tokens [] spelled (read_plain 0 text tokens reads) in
+    (nodes_plain forms signs, arcs_plain forms signs)
+
+-- ---- the lines
+
+plain_byte : (b : ℕ) → (b == 10) ≡ false → (b == 13) ≡ false → IsPlain b
+plain_byte b p q = record { no_feed = p; no_return = q }
+
+abbrev in_line : ℕ → Bool
+in_line b = continues_name b || b == 32
+
+other_than : (b k : ℕ) → in_line k ≡ false → in_line b ≡ true → (b == k) ≡ false
+other_than b k not_k is_b =
+    elim (cases_Bool (b == k)) [
+      | inl e ↦ let same : b ≡ k = grind (arith, nat_tests) in absurd (let h = sym is_b ∙ ap in_line same ∙ not_k in cc)
+      | inr e ↦ e
+    ]
+
+all_plain : (bytes : List ℕ) → list_all in_line bytes ≡ true → Plain bytes
+all_plain [] e = tt
+all_plain (b ∷ bytes) e =
+    let both = both_true (in_line b) (list_all in_line bytes) e in
+    (plain_byte b (other_than b 10 refl both.0) (other_than b 13 refl both.0), all_plain bytes both.1)
+
+constant_skipped : (k : ℤ) (rest : List ℕ) → IsPrintable k → statements_of (constant_line k ++ rest) ≡ statements_of rest
+constant_skipped k rest fit =
+    comment_skipped (constant_line k) (codes "constant " ++ signed_decimal k) rest refl
+    (all_append IsPlain (codes "constant ") (signed_decimal k) (all_plain (codes "constant ") refl) (plain_number k fit))
+
+sign_skipped : (sense : Sense) (rest : List ℕ) → statements_of (sign_line sense ++ rest) ≡ statements_of rest
+sign_skipped Minimise rest = comment_skipped (sign_line Minimise) (codes "sign 1") rest refl (all_plain (codes "sign 1") refl)
+sign_skipped Maximise rest = comment_skipped (sign_line Maximise) (codes "sign -1") rest refl
+    (all_append IsPlain (codes "sign ") (codes "-1") (all_plain (codes "sign ") refl) (plain_byte 45 refl refl, all_plain (codes "1") refl))
+
+abbrev spaced : List ℕ → List ℕ → List ℕ
+spaced front back = front ++ (32 ∷ back)
+
+spaced_plain : (front back : List ℕ) → Plain front → Plain back → Plain (spaced front back)
+spaced_plain front back f b = all_append IsPlain front (32 ∷ back) f (plain_byte 32 refl refl, b)
+
+node_skipped : (n : ℕ) (node_name rest : List ℕ) → n < 2 ^ 128 → Plain node_name → statements_of (node_line n node_name ++ rest) ≡ statements_of rest
+node_skipped n node_name rest fit plain =
+    comment_skipped (node_line n node_name) (codes "node " ++ spaced (decimal n) node_name) rest
+    (ap (λ (l : List ℕ). codes "c node " ++ l) (sym (append_assoc (decimal n) (32 ∷ node_name) (10 ∷ []))))
+    (all_append IsPlain (codes "node ") (spaced (decimal n) node_name) (all_plain (codes "node ") refl) (spaced_plain (decimal n) node_name (plain_number (pos n) fit) plain))
+
+nodes_skipped : (n : ℕ) (names : List Name) (rest : List ℕ) → n + length names < 2 ^ 128 → AllByRecursion Plain names → statements_of (node_lines n names ++ rest) ≡ statements_of rest
+nodes_skipped n [] rest few plain = refl
+nodes_skipped n (m ∷ names) rest few plain =
+    ap statements_of (append_assoc (node_line (n + 1) m) (node_lines (n + 1) names) rest)
+    ∙ node_skipped (n + 1) m (node_lines (n + 1) names ++ rest) (omega (arith, few)) plain.0
+    ∙ nodes_skipped (n + 1) names rest (omega (arith, few)) plain.1
+
+arc_skipped : (n : ℕ) (offset : ℤ) (arc_name rest : List ℕ) → n < 2 ^ 128 → IsPrintable offset → Plain arc_name → statements_of (arc_line n offset arc_name ++ rest) ≡ statements_of rest
+arc_skipped n offset arc_name rest fit fit_offset plain =
+    let back = spaced (signed_decimal offset) arc_name in
+    comment_skipped (arc_line n offset arc_name) (codes "arc " ++ spaced (decimal n) back) rest
+    (ap (λ (l : List ℕ). codes "c arc " ++ l)
+      (ap (λ (l : List ℕ). decimal n ++ (32 ∷ l)) (sym (append_assoc (signed_decimal offset) (32 ∷ arc_name) (10 ∷ []))) ∙ sym (append_assoc (decimal n) (32 ∷ back) (10 ∷ []))))
+    (all_append IsPlain (codes "arc ") (spaced (decimal n) back) (all_plain (codes "arc ") refl)
+      (spaced_plain (decimal n) back (plain_number (pos n) fit) (spaced_plain (signed_decimal offset) arc_name (plain_number offset fit_offset) plain)))
+
+arcs_skipped : (numbers : List ℕ) (offsets : List ℤ) (names : List Name) (rest : List ℕ) → AllByRecursion (λ n. n < 2 ^ 128) numbers → AllByRecursion IsPrintable offsets → AllByRecursion Plain names
+    → statements_of (arc_lines numbers offsets names ++ rest) ≡ statements_of rest
+arcs_skipped numbers offsets [] rest f o plain = refl
+arcs_skipped [] offsets (m ∷ names) rest f o plain = refl
+arcs_skipped (n ∷ numbers) [] (m ∷ names) rest f o plain = refl
+arcs_skipped (n ∷ numbers) (offset ∷ offsets) (m ∷ names) rest f o plain =
+    ap statements_of (append_assoc (arc_line n offset m) (arc_lines numbers offsets names) rest)
+    ∙ arc_skipped n offset m (arc_lines numbers offsets names ++ rest) f.0 o.0 plain.0
+    ∙ arcs_skipped numbers offsets names rest f.1 o.1 plain.1
+
+pub links_skipped : (link : Link) (nodes arcs : List Name) (rest : List ℕ) → length nodes < 2 ^ 127 → AllByRecursion (λ n. n < 2 ^ 128) link.numbers.items → AllByRecursion Plain nodes → AllByRecursion Plain arcs
+    → statements_of (link_lines link nodes arcs ++ rest) ≡ statements_of rest
+links_skipped link nodes arcs rest few numbers node_names arc_names =
+    let constant = constant_line link.constant in
+    let sign = sign_line link.sense in
+    let names = node_lines 0 nodes in
+    let last = arc_lines link.numbers.items link.offsets.items arcs in
+    let offsets = all_map (IsSized value_limit) IsPrintable link.offsets.items (λ z h. printable_sized value_limit z (omega arith) h) (recursion_from_All (IsSized value_limit) link.offsets.items link.offsets_fit) in
+    ap statements_of (append_assoc constant (sign ++ (names ++ last)) rest)
+    ∙ constant_skipped link.constant ((sign ++ (names ++ last)) ++ rest) (printable_sized constant_limit link.constant (omega arith) link.constant_fits)
+    ∙ ap statements_of (append_assoc sign (names ++ last) rest)
+    ∙ sign_skipped link.sense ((names ++ last) ++ rest)
+    ∙ ap statements_of (append_assoc names last rest)
+    ∙ nodes_skipped 0 nodes (last ++ rest) (omega (arith, few)) node_names
+    ∙ arcs_skipped link.numbers.items link.offsets.items arcs rest numbers offsets arc_names
+
+-- what says the same is the same problem's text
+pub same_problem : (text other : List ℕ) (supplies : List ℤ) (arcs : List FlowArc) → statements_of text ≡ statements_of other → IsProblemText other supplies arcs → IsProblemText text supplies arcs
+same_problem text other supplies arcs e h = record { named = h.named; says = e ∙ h.says; nodes = h.nodes; distinct = h.distinct; supply = h.supply }
+
+pub same_only : (text other : List ℕ) (supplies : List ℤ) (arcs : List FlowArc) → statements_of text ≡ statements_of other → IsOnlyProblem other supplies arcs → IsOnlyProblem text supplies arcs
+same_only text other supplies arcs e h = λ s a fit t. h s a fit (same_problem other text s a (sym e) t)

@@ -1,0 +1,11 @@
+pub mod Declarations
+pub mod Forms
+pub mod Models
+pub mod Assignments
+pub mod NameRules
+pub mod Instances
+pub mod Drafts
+pub mod Links
+pub mod Accepted
+pub mod Headline
+pub mod Runs

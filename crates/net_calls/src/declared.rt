@@ -1,0 +1,100 @@
+//! What the two texts declare.
+
+ghost use Rattle.std.specs.Prelude.{◌≡◌, [], IfOk, IfErr, OnOk};
+ghost use Rattle.net_lex.specs.Reading.{Reads};
+ghost use Rattle.net_lex.specs.declared.language.Language.TheVariants as languages;
+ghost use Rattle.net_calls.specs.Accepted.{end_of, place_of, kind_of, bare, Declares, IsModelStop, IsDataStop, IsLexStop};
+ghost use Rattle.net_calls.specs.Forms.{first_place};
+
+use crate::declaration::Declaration;
+use crate::fault::{FaultKind, Finding};
+use crate::forms::{FormFault, declarations_of};
+use crate::names::{Index, NameFault, index_of};
+use net_lex::{Excerpt, LexFault, Span, Token, lex_data, lex_model};
+use std::alloc::Global;
+
+/// The declarations of a model text, and what their names stand for.
+#[derive(Drop)]
+pub struct Declared<'s> {
+    pub declarations: Vec<Declaration<'s>>,
+    pub index: Index<'s>,
+    /// The end of the text, as a place.
+    pub end: Span,
+}
+
+/// The declarations of a model text, or its first fault.
+pub fn declared_of<'s>(alloc: Global, model: &'s [u8]) -> Result<Declared<'s>, NameFault<'s>>
+    ensures ok { IfOk result (Declares model.entry.now) }
+    ensures err { IfErr result (IsModelStop model.entry.now) }
+{
+    let tokens = match lex_model(alloc, model) {
+        Ok(tokens) => tokens,
+        Err(fault) => return Err(stop_of(fault)),
+    };
+    let end = end_of(&tokens);
+    let declarations = match declarations_of(alloc, &tokens) {
+        Ok(declarations) => declarations,
+        Err(FormFault::OutOfMemory) => return Err(NameFault::OutOfMemory),
+        Err(FormFault::At(place)) => {
+            let span = place.unwrap_or(end);
+            return Err(NameFault::At(bare(FaultKind::Syntax, span)));
+        }
+    };
+    let index = match index_of(alloc, &declarations) {
+        Ok(index) => index,
+        Err(fault) => return Err(fault),
+    };
+    Ok(Declared {
+        declarations,
+        index,
+        end,
+    })
+}
+
+/// Refuses a data text that has a token.
+pub fn no_statement(alloc: Global, data: &[u8]) -> Result<(), NameFault<'static>>
+    ensures ok { OnOk result (Reads languages.Data «data».now []) }
+    ensures err { IfErr result (IsDataStop «data».now) }
+{
+    let tokens = match lex_data(alloc, data) {
+        Ok(tokens) => tokens,
+        Err(fault) => return Err(stop_of(fault)),
+    };
+    match tokens.first() {
+        None => Ok(()),
+        Some(token) => Err(NameFault::At(bare(FaultKind::DataSyntax, token.span))),
+    }
+}
+
+/// A fault that names nothing.
+fn bare(kind: FaultKind, span: Span) -> Finding<'static>
+    ensures { result ≡ bare kind span }
+{
+    Finding {
+        kind,
+        span,
+        detail: Excerpt::new(""),
+    }
+}
+
+fn stop_of(fault: LexFault) -> NameFault<'static>
+    ensures { IsLexStop fault result }
+{
+    match fault {
+        LexFault::OutOfMemory => NameFault::OutOfMemory,
+        LexFault::At(defect, span) => NameFault::At(bare(FaultKind::from(defect), span)),
+    }
+}
+
+/// The end of a text, as a place: the end of its last token, and its beginning where it has none.
+fn end_of(tokens: &[Token<'_>]) -> Span
+    ensures { result ≡ end_of tokens.now }
+{
+    match tokens.last() {
+        None => Span { start: 0, end: 0 },
+        Some(token) => Span {
+            start: token.span.end,
+            end: token.span.end,
+        },
+    }
+}

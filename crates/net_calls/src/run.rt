@@ -1,0 +1,67 @@
+//! Runs from end to end: texts are read whole, then the answer is computed whole, then it is written.
+
+ghost use Rattle.std.specs.Prelude.{◌≡◌, ◌+◌, ◌^◌, ◌<◌, ◌⊎◌, ◌↔◌, true, false, OnOk, IfOk, IfErr, IsErrOf};
+ghost use Rattle.net_dimacs.specs.Ends.{ReadsToLimit};
+ghost use Rattle.net_calls.specs.Runs.{Course, WritesAnswer, WritesFrontOfAnswer};
+
+use crate::compiled::compile;
+use crate::fault::{Fault, TextName};
+use net_dimacs::{ReadFault, Sink, Source, read_to_limit, write_whole};
+use net_lex::{DATA_LIMIT, MODEL_LIMIT};
+use std::alloc::Global;
+
+/// Compiles what the two sources give, and writes the text of the answer.
+pub fn run_compile<M: Source, D: Source, W: Sink>(
+    alloc: Global,
+    model: &mut M,
+    data: &mut D,
+    output: &mut W,
+) -> Result<(), Fault>
+    requires model_unread { M.failed model.old ≡ false }
+    requires data_unread { D.failed «data».old ≡ false }
+    requires unwritten { W.failed output.old ≡ false }
+    ensures ok { OnOk result (WritesAnswer MODEL_LIMIT DATA_LIMIT
+        (record { old = M.remaining model.old; new = M.remaining model.new })
+        (record { old = D.remaining «data».old; new = D.remaining «data».new })
+        (record { old = W.taken output.old; new = W.taken output.new })) }
+
+    // A refused call has written nothing; a failed write leaves a front of the answer.
+    ensures refused { IfErr result (λ fault. (fault ≡ Fault.Unwritten) ⊎ (output.new ≡ output.old)) }
+    ensures front { IsErrOf result Fault.Unwritten → WritesFrontOfAnswer MODEL_LIMIT DATA_LIMIT
+        (record { old = M.remaining model.old; new = M.remaining model.new })
+        (record { old = D.remaining «data».old; new = D.remaining «data».new })
+        (record { old = W.taken output.old; new = W.taken output.new }) }
+
+    // An end is blamed exactly where it failed, and the model is read first.
+    ensures model { IsErrOf result (Fault.Unread TextName.Model) ↔ (M.failed model.new ≡ true) }
+    ensures data { IsErrOf result (Fault.Unread TextName.Data) ↔ (D.failed «data».new ≡ true) }
+    ensures output { IsErrOf result Fault.Unwritten ↔ (W.failed output.new ≡ true) }
+    ensures first { M.failed model.new ≡ true → «data».new ≡ «data».old }
+{
+    let model_text = read_text(alloc, model, MODEL_LIMIT, TextName::Model)?;
+    let data_text = read_text(alloc, data, DATA_LIMIT, TextName::Data)?;
+    let compiled = compile(alloc, &model_text, &data_text)?;
+    match write_whole(output, &compiled.text) {
+        Ok(()) => Ok(()),
+        Err(_) => Err(Fault::Unwritten),
+    }
+}
+
+fn read_text<S: Source>(
+    alloc: Global,
+    source: &mut S,
+    limit: usize,
+    name: TextName,
+) -> Result<Vec<u8>, Fault>
+    requires { limit + 2 < 2 ^ 64 }
+    ensures value { IfOk result (λ text. ReadsToLimit limit (S.remaining source.old) (S.remaining source.new) text.items) }
+    ensures err { IfErr result (λ fault. (fault ≡ Fault.OutOfMemory)
+        ⊎ ((fault ≡ Fault.Unread name) × (S.failed source.new ≡ true))) }
+    ensures flag { S.failed source.new ≡ true → (S.failed source.old ≡ true) ⊎ (result ≡ Err (Fault.Unread name)) }
+{
+    match read_to_limit(alloc, source, limit) {
+        Ok(text) => Ok(text),
+        Err(ReadFault::OutOfMemory) => Err(Fault::OutOfMemory),
+        Err(ReadFault::Failed) => Err(Fault::Unread(name)),
+    }
+}

@@ -1,6 +1,0 @@
-pub mod Inflows
-pub mod Forms
-pub mod Links
-pub mod Faults
-pub mod Compiled
-pub mod Runs
