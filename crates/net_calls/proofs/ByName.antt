@@ -107,21 +107,25 @@ bounds_numbered : (names : List Name) (arcs : List ArcOf) (is : List InstArc) (x
 bounds_numbered names [] [] x h all = tt
 bounds_numbered names [] (i ∷ is) x h all = absurd h
 bounds_numbered names (a ∷ arcs) [] x h all = absurd h
-bounds_numbered names (a ∷ arcs) (i ∷ is) x h all =
-    (record {
-      lower = subst (λ (z : ℤ). z ≤ℤ x a.name) (sym h.0.lower) all.0.lower;
-      upper = subst (λ (z : ℤ). x a.name ≤ℤ z) (sym h.0.upper) all.0.upper;
-    }, bounds_numbered names arcs is x h.1 all.1)
+bounds_numbered names (a ∷ arcs) (i ∷ is) x h all = (
+  record {
+    lower = subst (λ (z : ℤ). z ≤ℤ x a.name) (sym h.0.lower) all.0.lower;
+    upper = subst (λ (z : ℤ). x a.name ≤ℤ z) (sym h.0.upper) all.0.upper;
+  },
+  bounds_numbered names arcs is x h.1 all.1,
+)
 
 bounds_named : (names : List Name) (arcs : List ArcOf) (is : List InstArc) (x : Assignment) → AllZip (IsArcAs names) arcs is → AllZip IsWithinBounds is (map x (map (λ a. a.name) arcs)) → AllByRecursion (IsWithin x) arcs
 bounds_named names [] [] x h all = tt
 bounds_named names [] (i ∷ is) x h all = absurd h
 bounds_named names (a ∷ arcs) [] x h all = absurd h
-bounds_named names (a ∷ arcs) (i ∷ is) x h all =
-    (record {
-      lower = subst (λ (z : ℤ). z ≤ℤ x a.name) h.0.lower all.0.lower;
-      upper = subst (λ (z : ℤ). x a.name ≤ℤ z) h.0.upper all.0.upper;
-    }, bounds_named names arcs is x h.1 all.1)
+bounds_named names (a ∷ arcs) (i ∷ is) x h all = (
+  record {
+    lower = subst (λ (z : ℤ). z ≤ℤ x a.name) h.0.lower all.0.lower;
+    upper = subst (λ (z : ℤ). x a.name ≤ℤ z) h.0.upper all.0.upper;
+  },
+  bounds_named names arcs is x h.1 all.1,
+)
 
 -- ---- conditions
 
@@ -177,11 +181,11 @@ feasible_numbered model instance x k f =
     record {
       bounds = bounds_numbered (node_names model) model.arcs instance.arcs.items x k.network.arcs f.bounds;
       ranges = λ v range e.
-        let m = matched sides_of wanted instance.nodes.items model.nodes v range k.network.nodes e in
-        let true_there = all_get (λ n. IsTrueOf n.condition (net_inflow model x n.name)) model.nodes v m.0 f.conditions m.1 in
-        let named = get_map (λ n. n.name) model.nodes v m.0 m.1 in
-        in_range range (asked m.0.condition) (by_number.net_inflow instance.arcs.items (numbers_of model x) v) m.2
-        (sym (inflow_same model instance x v m.0.name k named) ∙ true_asked m.0.condition (net_inflow model x m.0.name) true_there);
+          let m = matched sides_of wanted instance.nodes.items model.nodes v range k.network.nodes e in
+          let true_there = all_get (λ n. IsTrueOf n.condition (net_inflow model x n.name)) model.nodes v m.0 f.conditions m.1 in
+          let named = get_map (λ n. n.name) model.nodes v m.0 m.1 in
+          in_range range (asked m.0.condition) (by_number.net_inflow instance.arcs.items (numbers_of model x) v) m.2
+          (sym (inflow_same model instance x v m.0.name k named) ∙ true_asked m.0.condition (net_inflow model x m.0.name) true_there);
     }
 
 pub feasible_named : (model : NamedModel) (instance : Instance) (x : Assignment) → IsKnown model instance → IsFeasibleAssignment instance (numbers_of model x) → IsFeasible model x
@@ -189,10 +193,10 @@ feasible_named model instance x k f =
     record {
       bounds = bounds_named (node_names model) model.arcs instance.arcs.items x k.network.arcs f.bounds;
       conditions = all_from (λ n. IsTrueOf n.condition (net_inflow model x n.name)) model.nodes (λ v n e.
-        let m = matched wanted sides_of model.nodes instance.nodes.items v n (sym k.network.nodes) e in
-        let named = get_map (λ n. n.name) model.nodes v n e in
-        asked_true n.condition (net_inflow model x n.name)
-        (inflow_same model instance x v n.name k named ∙ of_range m.0 (asked n.condition) (by_number.net_inflow instance.arcs.items (numbers_of model x) v) (sym m.2) (f.ranges v m.0 m.1)));
+          let m = matched wanted sides_of model.nodes instance.nodes.items v n (sym k.network.nodes) e in
+          let named = get_map (λ n. n.name) model.nodes v n e in
+          asked_true n.condition (net_inflow model x n.name)
+          (inflow_same model instance x v n.name k named ∙ of_range m.0 (asked n.condition) (by_number.net_inflow instance.arcs.items (numbers_of model x) v) (sym m.2) (f.ranges v m.0 m.1)));
     }
 
 pub value_numbered : (model : NamedModel) (instance : Instance) (x : Assignment) → IsKnown model instance → value_of model x ≡ by_number.value_of instance (numbers_of model x)
@@ -228,14 +232,14 @@ pub by_names : (model : NamedModel) (instance : Instance) (problem : Problem) (l
 by_names model instance problem link k c =
     record {
       forward = λ flows f.
-        feasible_named model instance (up_of model link flows) k (subst (IsFeasibleAssignment instance) (sym (up_numbers model instance problem link flows k c f)) (c.forward flows f));
+          feasible_named model instance (up_of model link flows) k (subst (IsFeasibleAssignment instance) (sym (up_numbers model instance problem link flows k c f)) (c.forward flows f));
       onto = λ x f.
-        let y = c.onto (numbers_of model x) (feasible_numbered model instance x k f) in
-        (y.0, y.1, up_numbers model instance problem link y.0 k c y.1 ∙ y.2);
+          let y = c.onto (numbers_of model x) (feasible_numbered model instance x k f) in
+          (y.0, y.1, up_numbers model instance problem link y.0 k c y.1 ∙ y.2);
       injective = λ flows others f g agree.
-        c.injective flows others f g (sym (up_numbers model instance problem link flows k c f) ∙ agree ∙ up_numbers model instance problem link others k c g);
+          c.injective flows others f g (sym (up_numbers model instance problem link flows k c f) ∙ agree ∙ up_numbers model instance problem link others k c g);
       value = λ flows f.
-        value_numbered model instance (up_of model link flows) k
-        ∙ ap (by_number.value_of instance) (up_numbers model instance problem link flows k c f)
-        ∙ c.value flows f;
+          value_numbered model instance (up_of model link flows) k
+          ∙ ap (by_number.value_of instance) (up_numbers model instance problem link flows k c f)
+          ∙ c.value flows f;
     }

@@ -62,10 +62,11 @@ IsThere forms name = (m : Meaning) × (meaning_in forms name ≡ Some m)
 
 declared : (done : List Form) (form : Form) → name_fault done form ≡ None → IsThere (done ++ form ∷ []) (name_of form)
 unfolding IsThere
-declared done form fine =
-    (meaning_of (0 + length (nodes_in done)) form,
-    meaning_more 0 done form (name_of form) (is_new (meaning_in done) form fine)
-    ∙ ap (λ (t : Bool). cond t (Some (meaning_of (0 + length (nodes_in done)) form)) None) ((bytes_eq-Decides (name_of form) (name_of form)).1 refl))
+declared done form fine = (
+  meaning_of (0 + length (nodes_in done)) form,
+  meaning_more 0 done form (name_of form) (is_new (meaning_in done) form fine)
+      ∙ ap (λ (t : Bool). cond t (Some (meaning_of (0 + length (nodes_in done)) form)) None) ((bytes_eq-Decides (name_of form) (name_of form)).1 refl),
+)
 
 stays : (done more : List Form) (name : Name) → IsThere done name → IsThere (done ++ more) name
 unfolding IsThere

@@ -58,9 +58,9 @@ node_named k (objective n ∷ forms) name v e =
 node_named k (node n condition ∷ forms) name v e =
     elim (some_of (bytes_eq n.text name) (meanings.Node k) (meanings.Node v) (meaning_from (suc k) forms name) e) [
       | inl h ↦
-        let same : k ≡ v = let i = h.1 in cc in
-        let here : v - k ≡ 0 = omega (arith, same) in
-        ap (slice_get (n.text ∷ names_of forms)) here ∙ ap (λ (x : Name). Some x) ((bytes_eq-Decides n.text name).0 h.0)
+          let same : k ≡ v = let i = h.1 in cc in
+          let here : v - k ≡ 0 = omega (arith, same) in
+          ap (slice_get (n.text ∷ names_of forms)) here ∙ ap (λ (x : Name). Some x) ((bytes_eq-Decides n.text name).0 h.0)
       | inr h ↦ sym (get_later n.text (names_of forms) k v (node_below (suc k) forms name v h.1).0) ∙ node_named (suc k) forms name v h.1
     ]
 node_named k (arc a ∷ forms) name v e =
@@ -102,9 +102,10 @@ ends_known done (node n condition ∷ forms) all e fine =
     ends_known (done ++ node n condition ∷ []) forms all (append_assoc done (node n condition ∷ []) forms ∙ e) (or_none (name_fault done (node n condition)) _ fine).1
 ends_known done (arc a ∷ forms) all e fine =
     let two = or_none (name_fault done (arc a)) _ fine in
-    let ends = has_ends (meaning_in done) a two.0 in
-    (record { from = node_stays done (arc a ∷ forms) all a.from.text e ends.0; to = node_stays done (arc a ∷ forms) all a.to.text e ends.1 },
-    ends_known (done ++ arc a ∷ []) forms all (append_assoc done (arc a ∷ []) forms ∙ e) two.1)
+    let ends = has_ends (meaning_in done) a two.0 in (
+      record { from = node_stays done (arc a ∷ forms) all a.from.text e ends.0; to = node_stays done (arc a ∷ forms) all a.to.text e ends.1 },
+      ends_known (done ++ arc a ∷ []) forms all (append_assoc done (arc a ∷ []) forms ∙ e) two.1,
+    )
 
 numbered : (all : List Form) (tell : Name → Option Meaning) (name : Name) → ((n : Name) → tell n ≡ meaning_in all n) → IsNode all name → IsNodeNumber (names_of all) (number_of (tell name)) name
 numbered all tell name same h =
@@ -113,9 +114,10 @@ numbered all tell name same h =
 arcs_made : (all : List Form) (tell : Name → Option Meaning) (parts : List ArcParts) → ((n : Name) → tell n ≡ meaning_in all n) → AllByRecursion (EndsKnown all) parts
     → AllZip (IsArcAs (names_of all)) (map arc_of parts) (map (made_of tell) parts)
 arcs_made all tell [] same ends = tt
-arcs_made all tell (a ∷ parts) same ends =
-    (record { lower = refl; upper = refl; coefficient = refl; tail = numbered all tell a.from.text same ends.0.from; head = numbered all tell a.to.text same ends.0.to },
-    arcs_made all tell parts same ends.1)
+arcs_made all tell (a ∷ parts) same ends = (
+  record { lower = refl; upper = refl; coefficient = refl; tail = numbered all tell a.from.text same ends.0.from; head = numbered all tell a.to.text same ends.0.to },
+  arcs_made all tell parts same ends.1,
+)
 
 pub network_arcs : (forms : List Form) (tell : Name → Option Meaning) → ((n : Name) → tell n ≡ meaning_in forms n) → first_fault name_fault [] forms ≡ None
     → AllZip (IsArcAs (names_of forms)) (arcs_in forms) (map (made_of tell) (parts_in forms))

@@ -177,9 +177,9 @@ arc_skipped n offset arc_name rest fit fit_offset plain =
     let back = spaced (signed_decimal offset) arc_name in
     comment_skipped (arc_line n offset arc_name) (codes "arc " ++ spaced (decimal n) back) rest
     (ap (λ (l : List ℕ). codes "c arc " ++ l)
-      (ap (λ (l : List ℕ). decimal n ++ (32 ∷ l)) (sym (append_assoc (signed_decimal offset) (32 ∷ arc_name) (10 ∷ []))) ∙ sym (append_assoc (decimal n) (32 ∷ back) (10 ∷ []))))
+    (ap (λ (l : List ℕ). decimal n ++ (32 ∷ l)) (sym (append_assoc (signed_decimal offset) (32 ∷ arc_name) (10 ∷ []))) ∙ sym (append_assoc (decimal n) (32 ∷ back) (10 ∷ []))))
     (all_append IsPlain (codes "arc ") (spaced (decimal n) back) (all_plain (codes "arc ") refl)
-      (spaced_plain (decimal n) back (plain_number (pos n) fit) (spaced_plain (signed_decimal offset) arc_name (plain_number offset fit_offset) plain)))
+    (spaced_plain (decimal n) back (plain_number (pos n) fit) (spaced_plain (signed_decimal offset) arc_name (plain_number offset fit_offset) plain)))
 
 arcs_skipped : (numbers : List ℕ) (offsets : List ℤ) (names : List Name) (rest : List ℕ) → AllByRecursion (λ n. n < 2 ^ 128) numbers → AllByRecursion IsPrintable offsets → AllByRecursion Plain names
     → statements_of (arc_lines numbers offsets names ++ rest) ≡ statements_of rest

@@ -123,14 +123,14 @@ knows_more done form old new knows fine tells count =
     record {
       tells = λ name. elim (cases_Bool (bytes_eq (name_of form) name)) [
         | inl h ↦
-          let same : name_of form ≡ name = (bytes_eq-Decides (name_of form) name).0 h in
-          let fresh : meaning_in done name ≡ None = subst (λ n. meaning_in done n ≡ None) same (is_new (meaning_in done) form fine) in
-          tells name ∙ ap (λ (t : Bool). cond t (Some (meaning_of old.node_count form)) (told old name)) h
-          ∙ ap (λ (k : ℕ). Some (meaning_of k form)) (let s : old.node_count ≡ 0 + length (nodes_in done) = omega (arith, knows.count) in s)
-          ∙ sym (meaning_more 0 done form name fresh ∙ ap (λ (t : Bool). cond t (Some (meaning_of (0 + length (nodes_in done)) form)) None) h)
+            let same : name_of form ≡ name = (bytes_eq-Decides (name_of form) name).0 h in
+            let fresh : meaning_in done name ≡ None = subst (λ n. meaning_in done n ≡ None) same (is_new (meaning_in done) form fine) in
+            tells name ∙ ap (λ (t : Bool). cond t (Some (meaning_of old.node_count form)) (told old name)) h
+            ∙ ap (λ (k : ℕ). Some (meaning_of k form)) (let s : old.node_count ≡ 0 + length (nodes_in done) = omega (arith, knows.count) in s)
+            ∙ sym (meaning_more 0 done form name fresh ∙ ap (λ (t : Bool). cond t (Some (meaning_of (0 + length (nodes_in done)) form)) None) h)
         | inr h ↦
-          tells name ∙ ap (λ (t : Bool). cond t (Some (meaning_of old.node_count form)) (told old name)) h
-          ∙ knows.tells name ∙ told_other done form name (meaning_in done name) refl h
+            tells name ∙ ap (λ (t : Bool). cond t (Some (meaning_of old.node_count form)) (told old name)) h
+            ∙ knows.tells name ∙ told_other done form name (meaning_in done name) refl h
       ];
       count = count ∙ omega (arith, knows.count, nodes_more done form);
     }

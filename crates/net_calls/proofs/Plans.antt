@@ -138,9 +138,11 @@ nodes_counted tell done d planned = node_fits d ∙ ap length planned.sides ∙ 
 
 node_told : (all done more : List Form) (index : Index) (name : Name) → done ++ more ≡ all → Knows all index → (v : ℕ) → meaning_in done name ≡ Some (meanings.Node v)
     → IsNodeBelow (length (nodes_in done)) (told index name)
-node_told all done more index name e knows v is =
-    (v, knows.tells name ∙ sym (ap (λ (l : List Form). meaning_in l name) e) ∙ meaning_stays 0 done more name (meanings.Node v) is,
-    (let b = (node_below 0 done name v is).1 in omega (arith, b)))
+node_told all done more index name e knows v is = (
+  v,
+  knows.tells name ∙ sym (ap (λ (l : List Form). meaning_in l name) e) ∙ meaning_stays 0 done more name (meanings.Node v) is,
+  (let b = (node_below 0 done name v is).1 in omega (arith, b)),
+)
 
 pub ends_told : (all done more : List Form) (form : Form) (index : Index) → done ++ form ∷ more ≡ all → Knows all index → first_fault name_fault [] all ≡ None
     → HasEnds (told index) (length (nodes_in done)) form

@@ -58,8 +58,8 @@ headline_of m d named c n objective nodes arcs normal corresponds text problem o
     let lines = problem_text c.problem.supplies.items c.problem.arcs.items in
     let arc_list : c.names.arcs.items ≡ arc_names model = arcs ∙ n.drafted.arcs in
     let whole : c.text.items ≡ link_lines c.link (node_names model) (arc_names model) ++ lines =
-        text ∙ ap (λ (l : List Name). link_lines c.link l named.names.arcs.items ++ lines) n.drafted.nodes
-        ∙ ap (λ (l : List Name). link_lines c.link (node_names model) l ++ lines) n.drafted.arcs in
+    text ∙ ap (λ (l : List Name). link_lines c.link l named.names.arcs.items ++ lines) n.drafted.nodes
+    ∙ ap (λ (l : List Name). link_lines c.link (node_names model) l ++ lines) n.drafted.arcs in
     let same : statements_of c.text.items ≡ statements_of lines = ap statements_of whole ∙ says m d named c n normal in
     let by = by_names model named.instance c.problem c.link (known m d named n) corresponds in
     let ups : (flows : List ℤ) → up_of model c.link flows ≡ up c flows = λ flows. ap (λ (l : List Name). by_name l (lifted c.link flows)) (sym arc_list) in
@@ -75,6 +75,6 @@ headline_of m d named c n objective nodes arcs normal corresponds text problem o
       forward = λ flows f. subst (IsFeasible model) (ups flows) (by.forward flows f);
       onto = λ x f. let y = by.onto x f in (y.0, y.1, subst (λ u. Agree model u x) (ups y.0) y.2);
       injective = λ flows others f g agree.
-        by.injective flows others f g (subst (λ u. Agree model u (up_of model c.link others)) (sym (ups flows)) (subst (λ u. Agree model (up c flows) u) (sym (ups others)) agree));
+          by.injective flows others f g (subst (λ u. Agree model u (up_of model c.link others)) (sym (ups flows)) (subst (λ u. Agree model (up c flows) u) (sym (ups others)) agree));
       value = λ flows f. subst (λ u. value_of model u ≡ value_at c.link (cost_of c.problem flows)) (ups flows) (by.value flows f);
     }

@@ -84,7 +84,7 @@ number_ok : (tokens : Tokens) → Good (IsNumbered tokens) (number_at tokens)
 number_ok tokens =
     or_then (IsWordThen (codes "-") tokens) (IsNumbered tokens) (after_word (codes "-") tokens) _ (size_at tokens) (word_ok (codes "-") tokens)
     (λ after minus. then (IsSized after) (IsNumbered tokens) (size_at after) _ (size_ok after)
-      (λ x digits. done (IsNumbered tokens) (neg_ℤ x.0, x.1) (inr (record { after = after; minus = minus; size = x.0; digits = digits; negated = refl }))))
+    (λ x digits. done (IsNumbered tokens) (neg_ℤ x.0, x.1) (inr (record { after = after; minus = minus; size = x.0; digits = digits; negated = refl }))))
     (size_is_number tokens (size_at tokens) (size_ok tokens))
 
 abbrev IsNet : Tokens → Net × Tokens → Type 0
@@ -111,8 +111,8 @@ condition_ok : (tokens : Tokens) → Good (IsCondition tokens) (condition_at tok
 condition_ok tokens =
     then (IsNet tokens) (IsCondition tokens) (net_at tokens) _ (net_ok tokens)
     (λ net n. then (IsWordThen (codes "=") net.1) (IsCondition tokens) (after_word (codes "=") net.1) _ (word_ok (codes "=") net.1)
-      (λ after eq. then (IsNumbered after) (IsCondition tokens) (number_at after) _ (number_ok after)
-        (λ x amount. done (IsCondition tokens) ((net.0, x.0), x.1) (net.1, n, (after, eq, (x.1, amount, refl))))))
+    (λ after eq. then (IsNumbered after) (IsCondition tokens) (number_at after) _ (number_ok after)
+    (λ x amount. done (IsCondition tokens) ((net.0, x.0), x.1) (net.1, n, (after, eq, (x.1, amount, refl))))))
 
 abbrev end_signs : List ℕ → Token → List Sign
 end_signs w n = word (codes ",") ∷ word w ∷ name n ∷ []
@@ -140,10 +140,10 @@ bounds_ok : (tokens : Tokens) → Good (AreBounds tokens) (bounds_at tokens)
 bounds_ok tokens =
     then (IsWordThen (codes ">=") tokens) (AreBounds tokens) (after_word (codes ">=") tokens) _ (word_ok (codes ">=") tokens)
     (λ a h. then (IsNumbered a) (AreBounds tokens) (number_at a) _ (number_ok a)
-      (λ low l. then (IsWordThen (codes ",") low.1) (AreBounds tokens) (after_word (codes ",") low.1) _ (word_ok (codes ",") low.1)
-        (λ b k. then (IsWordThen (codes "<=") b) (AreBounds tokens) (after_word (codes "<=") b) _ (word_ok (codes "<=") b)
-          (λ c m. then (IsNumbered c) (AreBounds tokens) (number_at c) _ (number_ok c)
-            (λ high u. done (AreBounds tokens) ((low.0, high.0), high.1) (a, h, (low.1, l, (b, k, (c, m, (high.1, u, refl))))))))))
+    (λ low l. then (IsWordThen (codes ",") low.1) (AreBounds tokens) (after_word (codes ",") low.1) _ (word_ok (codes ",") low.1)
+    (λ b k. then (IsWordThen (codes "<=") b) (AreBounds tokens) (after_word (codes "<=") b) _ (word_ok (codes "<=") b)
+    (λ c m. then (IsNumbered c) (AreBounds tokens) (number_at c) _ (number_ok c)
+    (λ high u. done (AreBounds tokens) ((low.0, high.0), high.1) (a, h, (low.1, l, (b, k, (c, m, (high.1, u, refl))))))))))
 
 abbrev IsForm : Tokens → Form × Tokens → Type 0
 IsForm tokens x = Spell (signs_of x.0) tokens x.1
@@ -152,18 +152,18 @@ objective_ok : (start tokens : Tokens) → IsWordThen (codes "minimize") start t
 objective_ok start tokens first =
     then (IsNamed tokens) (IsForm start) (name_at tokens) _ (name_ok tokens)
     (λ n h. then (IsWordThen (codes ";") n.1) (IsForm start) (after_word (codes ";") n.1) _ (word_ok (codes ";") n.1)
-      (λ rest k. done (IsForm start) (objective n.0, rest) (tokens, first, (n.1, h, (rest, k, refl)))))
+    (λ rest k. done (IsForm start) (objective n.0, rest) (tokens, first, (n.1, h, (rest, k, refl)))))
 
 node_ok : (start tokens : Tokens) → IsWordThen (codes "node") start tokens → Good (IsForm start) (node_at tokens)
 node_ok start tokens first =
     then (IsNamed tokens) (IsForm start) (name_at tokens) _ (name_ok tokens)
     (λ n h. or_then (IsWordThen (codes ":") n.1) (IsForm start) (after_word (codes ":") n.1) _ _ (word_ok (codes ":") n.1)
-      (λ after colon. then (IsCondition after) (IsForm start) (condition_at after) _ (condition_ok after)
-        (λ c k. then (IsWordThen (codes ";") c.1) (IsForm start) (after_word (codes ";") c.1) _ (word_ok (codes ";") c.1)
-          (λ rest e. done (IsForm start) (node n.0 (Some c.0), rest)
-            (tokens, first, (n.1, h, (after, colon, spell_append (condition_signs c.0) (word (codes ";") ∷ []) after c.1 rest k (rest, e, refl)))))))
-      (then (IsWordThen (codes ";") n.1) (IsForm start) (after_word (codes ";") n.1) _ (word_ok (codes ";") n.1)
-        (λ rest e. done (IsForm start) (node n.0 None, rest) (tokens, first, (n.1, h, (rest, e, refl))))))
+    (λ after colon. then (IsCondition after) (IsForm start) (condition_at after) _ (condition_ok after)
+    (λ c k. then (IsWordThen (codes ";") c.1) (IsForm start) (after_word (codes ";") c.1) _ (word_ok (codes ";") c.1)
+    (λ rest e. done (IsForm start) (node n.0 (Some c.0), rest)
+    (tokens, first, (n.1, h, (after, colon, spell_append (condition_signs c.0) (word (codes ";") ∷ []) after c.1 rest k (rest, e, refl)))))))
+    (then (IsWordThen (codes ";") n.1) (IsForm start) (after_word (codes ";") n.1) _ (word_ok (codes ";") n.1)
+    (λ rest e. done (IsForm start) (node n.0 None, rest) (tokens, first, (n.1, h, (rest, e, refl))))))
 
 abbrev parts : Token → ℤ × ℤ → Token → Token → Token → ℤ → ArcParts
 parts n b tail head goal price = record { name = n; lower = b.0; upper = b.1; from = tail; to = head; objective = goal; coefficient = price }
@@ -175,25 +175,31 @@ arc_spelled start tokens t1 t2 t3 t4 t5 t6 rest n tail head goal b price first h
     let last = number price ∷ word (codes ";") ∷ [] in
     let behind_to = end_signs (codes "obj") goal ++ last in
     let behind_from = end_signs (codes "to") head ++ behind_to in
-    let behind_bounds = end_signs (codes "from") tail ++ behind_from in
-    (tokens, first, (t1, h,
-    spell_append (bound_signs b) behind_bounds t1 t2 rest bounds
-    (spell_append (end_signs (codes "from") tail) behind_from t2 t3 rest from
-    (spell_append (end_signs (codes "to") head) behind_to t3 t4 rest to
-    (spell_append (end_signs (codes "obj") goal) last t4 t5 rest obj
-    (t6, amount, (rest, end, refl)))))))
+    let behind_bounds = end_signs (codes "from") tail ++ behind_from in (
+      tokens,
+      first,
+      (
+        t1,
+        h,
+        spell_append (bound_signs b) behind_bounds t1 t2 rest bounds
+            (spell_append (end_signs (codes "from") tail) behind_from t2 t3 rest from
+            (spell_append (end_signs (codes "to") head) behind_to t3 t4 rest to
+            (spell_append (end_signs (codes "obj") goal) last t4 t5 rest obj
+            (t6, amount, (rest, end, refl))))),
+      ),
+    )
 
 arc_ok : (start tokens : Tokens) → IsWordThen (codes "arc") start tokens → Good (IsForm start) (arc_at tokens)
 arc_ok start tokens first =
     then (IsNamed tokens) (IsForm start) (name_at tokens) _ (name_ok tokens)
     (λ n h. then (AreBounds n.1) (IsForm start) (bounds_at n.1) _ (bounds_ok n.1)
-      (λ b bounds. then (IsEnd (codes "from") b.1) (IsForm start) (end_at (codes "from") b.1) _ (end_ok (codes "from") b.1)
-        (λ tail from. then (IsEnd (codes "to") tail.1) (IsForm start) (end_at (codes "to") tail.1) _ (end_ok (codes "to") tail.1)
-          (λ head to. then (IsEnd (codes "obj") head.1) (IsForm start) (end_at (codes "obj") head.1) _ (end_ok (codes "obj") head.1)
-            (λ goal obj. then (IsNumbered goal.1) (IsForm start) (number_at goal.1) _ (number_ok goal.1)
-              (λ price amount. then (IsWordThen (codes ";") price.1) (IsForm start) (after_word (codes ";") price.1) _ (word_ok (codes ";") price.1)
-                (λ rest end. done (IsForm start) (arc (parts n.0 b.0 tail.0 head.0 goal.0 price.0), rest)
-                  (arc_spelled start tokens n.1 b.1 tail.1 head.1 goal.1 price.1 rest n.0 tail.0 head.0 goal.0 b.0 price.0 first h bounds from to obj amount end))))))))
+    (λ b bounds. then (IsEnd (codes "from") b.1) (IsForm start) (end_at (codes "from") b.1) _ (end_ok (codes "from") b.1)
+    (λ tail from. then (IsEnd (codes "to") tail.1) (IsForm start) (end_at (codes "to") tail.1) _ (end_ok (codes "to") tail.1)
+    (λ head to. then (IsEnd (codes "obj") head.1) (IsForm start) (end_at (codes "obj") head.1) _ (end_ok (codes "obj") head.1)
+    (λ goal obj. then (IsNumbered goal.1) (IsForm start) (number_at goal.1) _ (number_ok goal.1)
+    (λ price amount. then (IsWordThen (codes ";") price.1) (IsForm start) (after_word (codes ";") price.1) _ (word_ok (codes ";") price.1)
+    (λ rest end. done (IsForm start) (arc (parts n.0 b.0 tail.0 head.0 goal.0 price.0), rest)
+    (arc_spelled start tokens n.1 b.1 tail.1 head.1 goal.1 price.1 rest n.0 tail.0 head.0 goal.0 b.0 price.0 first h bounds from to obj amount end))))))))
 
 form_ok : (tokens : Tokens) → Good (IsForm tokens) (declaration_at tokens)
 form_ok tokens =

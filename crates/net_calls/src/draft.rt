@@ -56,7 +56,12 @@ fn inst_arc(arc: &ArcForm<'_>, tail: usize, head: usize) -> InstArc
     requires head { head < node_limit }
     ensures fits { (n : ℕ) → tail < n → head < n → IsArcOf n result }
     ensures value { result ≡ record {
-        lower = arc.now.lower.value; upper = arc.now.upper.value; coefficient = arc.now.coefficient.value; tail = Some tail; head = Some head } }
+      lower = arc.now.lower.value;
+      upper = arc.now.upper.value;
+      coefficient = arc.now.coefficient.value;
+      tail = Some tail;
+      head = Some head;
+    } }
 {
     InstArc {
         lower: arc.lower.value,

@@ -2,7 +2,7 @@
 
 ghost use Rattle.std.specs.Prelude.{◌≡◌, ◌+◌, ◌^◌, ◌<◌, ◌⊎◌, ◌↔◌, true, false, OnOk, IfOk, IfErr, IsErrOf};
 ghost use Rattle.net_dimacs.specs.Ends.{ReadsToLimit};
-ghost use Rattle.net_calls.specs.Runs.{Course, WritesAnswer, WritesFrontOfAnswer};
+ghost use Rattle.net_calls.specs.Runs.{WritesAnswer, WritesFrontOfAnswer, Refuses, IfRefused};
 
 use crate::compiled::compile;
 use crate::fault::{Fault, TextName};
@@ -27,6 +27,9 @@ pub fn run_compile<M: Source, D: Source, W: Sink>(
 
     // A refused call has written nothing; a failed write leaves a front of the answer.
     ensures refused { IfErr result (λ fault. (fault ≡ Fault.Unwritten) ⊎ (output.new ≡ output.old)) }
+    ensures told { IfErr result (λ fault. IfRefused fault (Refuses MODEL_LIMIT DATA_LIMIT
+        (record { old = M.remaining model.old; new = M.remaining model.new })
+        (record { old = D.remaining «data».old; new = D.remaining «data».new }) fault)) }
     ensures front { IsErrOf result Fault.Unwritten → WritesFrontOfAnswer MODEL_LIMIT DATA_LIMIT
         (record { old = M.remaining model.old; new = M.remaining model.new })
         (record { old = D.remaining «data».old; new = D.remaining «data».new })

@@ -1,6 +1,5 @@
 use Rattle.std.proofs.Common.{◌≡◌, List, ◌∷◌, ◌++◌, [], length, drop, map, ◌-◌, Ok, ap, sym, subst, ◌∙◌, arith}
 use Rattle.std.proofs.lemmas.List.{length-drop, map-append, take_all}
-
 use Rattle.net_calls.specs.Declarations.{Tokens, form_of, Spell, signs_of_all}
 use Rattle.net_calls.specs.Forms.{declaration_at}
 use Rattle.net_calls.proofs.Spelling.{one_more, left_over}
@@ -22,9 +21,10 @@ loop-left-preserved c =
     let reads = subst (λ (t : Tokens). declaration_at t ≡ Ok (form, read.rest)) whole read.read in
     let more = one_more before form tokens at read.rest c.loop-left.invariant.1 reads in
     let forms : before ++ form ∷ [] ≡ map form_of c.read_declaration.new.declarations.items =
-        sym (ap (map form_of) read.added ∙ map-append form_of c.loop-left.declarations.items (read.declaration ∷ [])) in
+    sym (ap (map form_of) read.added ∙ map-append form_of c.loop-left.declarations.items (read.declaration ∷ [])) in
     let back : read.rest ≡ drop (length tokens - c.in_ok-left.left) tokens =
-        sym (ap (λ k. drop (length tokens - k) tokens) read.count ∙ left_over (signs_of_all (before ++ form ∷ [])) tokens read.rest more) in
-    (omega (arith, c.in_ok-left.ensures.shorter, c.loop-left.invariant.0, length-drop (length tokens - c.loop-left.left) tokens),
-    subst (λ r. Spell (signs_of_all (map form_of c.read_declaration.new.declarations.items)) tokens r) back
-    (subst (λ f. Spell (signs_of_all f) tokens read.rest) forms more))
+    sym (ap (λ k. drop (length tokens - k) tokens) read.count ∙ left_over (signs_of_all (before ++ form ∷ [])) tokens read.rest more) in (
+      omega (arith, c.in_ok-left.ensures.shorter, c.loop-left.invariant.0, length-drop (length tokens - c.loop-left.left) tokens),
+      subst (λ r. Spell (signs_of_all (map form_of c.read_declaration.new.declarations.items)) tokens r) back
+          (subst (λ f. Spell (signs_of_all f) tokens read.rest) forms more),
+    )

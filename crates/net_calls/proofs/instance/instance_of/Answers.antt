@@ -29,10 +29,11 @@ loop-declaration-preserved c =
     let form = form_of c.declaration-item.result in
     let step = left_step ds at c.declaration-item.result c.loop-declaration-test.true c.declaration-item.is in
     let right = sym c.fault_of.ensures ∙ c.in_default.is in
-    let fine = sym (same_fault tell i.0 (plan_of old) form (vec_len old.nodes) (vec_len old.arcs) i.1 (node_fits old) (arc_fits old)) ∙ right in
-    (i.0 ++ form ∷ [],
-    subst (Planned tell (i.0 ++ form ∷ [])) (sym c.in_ok-draft.ensures) (planned_more tell i.0 (plan_of old) form (vec_len old.nodes) (vec_len old.arcs) i.1 right),
-    behind_more network_fault (map form_of ds) i.0 (left_from ds at) _ form i.2 step fine)
+    let fine = sym (same_fault tell i.0 (plan_of old) form (vec_len old.nodes) (vec_len old.arcs) i.1 (node_fits old) (arc_fits old)) ∙ right in (
+      i.0 ++ form ∷ [],
+      subst (Planned tell (i.0 ++ form ∷ [])) (sym c.in_ok-draft.ensures) (planned_more tell i.0 (plan_of old) form (vec_len old.nodes) (vec_len old.arcs) i.1 right),
+      behind_more network_fault (map form_of ds) i.0 (left_from ds at) _ form i.2 step fine,
+    )
 
 pub returns-clause-ok : goal.returns-clause-ok
 returns-clause-ok c =

@@ -20,8 +20,9 @@ loop-declaration-preserved c =
     let at = c.loop-declaration.declaration-index in
     let d = c.declaration-item.result in
     let form = form_of d in
-    let fine = fault_ext (meaning_in i.0) (told c.loop-declaration.index) form (λ n. sym (i.2.tells n)) ∙ sym c.fault_of.ensures ∙ c.in_default.is in
-    (i.0 ++ form ∷ [],
-    omega (arith, length-append i.0 (form ∷ []), i.1),
-    knows_more i.0 form c.loop-declaration.index c.add.new.self i.2 fine c.in_ok-add.ensures.ok c.in_ok-add.ensures.count,
-    behind_more name_fault (map form_of ds) i.0 (left_from ds at) _ form i.3 (left_step ds at d c.loop-declaration-test.true c.declaration-item.is) fine)
+    let fine = fault_ext (meaning_in i.0) (told c.loop-declaration.index) form (λ n. sym (i.2.tells n)) ∙ sym c.fault_of.ensures ∙ c.in_default.is in (
+      i.0 ++ form ∷ [],
+      omega (arith, length-append i.0 (form ∷ []), i.1),
+      knows_more i.0 form c.loop-declaration.index c.add.new.self i.2 fine c.in_ok-add.ensures.ok c.in_ok-add.ensures.count,
+      behind_more name_fault (map form_of ds) i.0 (left_from ds at) _ form i.3 (left_step ds at d c.loop-declaration-test.true c.declaration-item.is) fine,
+    )
