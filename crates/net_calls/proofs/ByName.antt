@@ -50,7 +50,7 @@ matched f g (a ∷ xs) [] v x e h = absurd (let k = e in cc)
 matched f g (a ∷ xs) (b ∷ ys) zero x e h = let k = h in let same : a ≡ x = cc in (b, refl, sym (ap f same) ∙ (let l = e in cc))
 matched f g (a ∷ xs) (b ∷ ys) (suc v) x e h = matched f g xs ys v x (let l = e in cc) h
 
-zip_length : {A B : Type 0} (R : A → B → Type 0) (xs : List A) (ys : List B) → AllZip R xs ys → length xs ≡ length ys
+pub zip_length : {A B : Type 0} (R : A → B → Type 0) (xs : List A) (ys : List B) → AllZip R xs ys → length xs ≡ length ys
 zip_length R [] [] h = refl
 zip_length R [] (y ∷ ys) h = absurd h
 zip_length R (x ∷ xs) [] h = absurd h

@@ -9,3 +9,4 @@ pub mod Distinct
 pub mod ByName
 pub mod LinkLines
 pub mod Promise
+pub mod Answering

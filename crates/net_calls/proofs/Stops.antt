@@ -68,6 +68,7 @@ told_refusal m d name finding faults.OutOfMemory first told = tt
 told_refusal m d name finding (faults.Refused r) first told =
     let both = subst (λ n. IsFirstFault m d n finding × IsTold (text_of m d n) finding r) (sym told.0) (first, told.1) in
     (finding, both.0, both.1)
+told_refusal m d name finding (faults.RefusedLine r) first told = absurd told
 told_refusal m d name finding (faults.Unread other) first told = absurd told
 told_refusal m d name finding faults.Unwritten first told = absurd told
 

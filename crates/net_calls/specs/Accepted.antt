@@ -21,7 +21,7 @@ use Rattle.net_calls.specs.declared.fault.FaultKind.TheVariants.{BadCharacter, O
 use Rattle.net_calls.specs.declared.fault.Finding.{Finding}
 use Rattle.net_calls.specs.declared.fault.Refusal.{Refusal}
 use Rattle.net_calls.specs.declared.fault.TextName.{TextName}
-use Rattle.net_calls.specs.declared.fault.TextName.TheVariants.{Model, Data}
+use Rattle.net_calls.specs.declared.fault.TextName.TheVariants.{Model, Data, Problem, Certificate}
 use Rattle.net_calls.specs.declared.declared.Declared.{Declared}
 use Rattle.net_calls.specs.declared.named.Named.{Named}
 use Rattle.net_calls.specs.declared.names.NameFault.{NameFault}
@@ -106,12 +106,15 @@ pub record IsTold (text : List ℕ) (finding : Finding) (r : Refusal) : Type 0 w
 abbrev pub text_of : (model_text data_text : List ℕ) → TextName → List ℕ
 text_of model_text data_text Model = model_text
 text_of model_text data_text Data = data_text
+text_of model_text data_text Problem = []
+text_of model_text data_text Certificate = []
 
 -- the first fault, told with its place, or want of memory
 abbrev pub IsRefusal : (model_text data_text : List ℕ) → Fault → Type 0
 IsRefusal model_text data_text faults.OutOfMemory = Unit {0}
 IsRefusal model_text data_text (faults.Refused r) =
     (finding : Finding) × IsFirstFault model_text data_text r.text finding × IsTold (text_of model_text data_text r.text) finding r
+IsRefusal model_text data_text (faults.RefusedLine r) = ⊥
 IsRefusal model_text data_text (faults.Unread text) = ⊥
 IsRefusal model_text data_text faults.Unwritten = ⊥
 
@@ -149,6 +152,7 @@ IsLexStop (lexes.At defect span) stop = stop ≡ stops.At (bare (kind_of defect)
 abbrev pub IsToldAs : TextName → List ℕ → Finding → Fault → Type 0
 IsToldAs name text finding faults.OutOfMemory = Unit {0}
 IsToldAs name text finding (faults.Refused r) = (r.text ≡ name) × IsTold text finding r
+IsToldAs name text finding (faults.RefusedLine r) = ⊥
 IsToldAs name text finding (faults.Unread other) = ⊥
 IsToldAs name text finding faults.Unwritten = ⊥
 

@@ -8,4 +8,6 @@ pub mod Drafts
 pub mod Links
 pub mod Accepted
 pub mod Headline
+pub mod Checked
+pub mod Settled
 pub mod Runs

@@ -4,6 +4,7 @@ ghost use Rattle.std.specs.Prelude.{◌≡◌};
 ghost use Rattle.net_calls.specs.Accepted.{kind_of, IsToldAs, IsToldOf};
 
 use crate::names::NameFault;
+use net_dimacs::LineFault;
 use net_lex::{Defect, Excerpt, Span, line_column};
 use std::alloc::{AllocError, AllocFailed, Global};
 use std::fmt;
@@ -103,6 +104,8 @@ impl fmt::Display for FaultKind {
 pub enum TextName {
     Model,
     Data,
+    Problem,
+    Certificate,
 }
 
 impl fmt::Display for TextName {
@@ -110,6 +113,8 @@ impl fmt::Display for TextName {
         match self {
             TextName::Model => f.write_str("model"),
             TextName::Data => f.write_str("data"),
+            TextName::Problem => f.write_str("problem"),
+            TextName::Certificate => f.write_str("certificate"),
         }
     }
 }
@@ -142,6 +147,25 @@ impl fmt::Display for Refusal {
     }
 }
 
+/// A fault of a text of lines, with its line.
+#[derive(Clone, Copy, Debug, PartialEq, Eq)]
+pub struct LineRefusal {
+    pub text: TextName,
+    pub fault: LineFault,
+    /// The number of the line, from 1; one past the last where something is missing at the end.
+    pub line: usize,
+}
+
+impl fmt::Display for LineRefusal {
+    fn fmt<W: fmt::Write>(&self, f: &mut fmt::Formatter<W>) -> fmt::Result {
+        let number = self.fault.number();
+        let name = self.fault.name();
+        let text = self.text;
+        let line = self.line;
+        write!(f, "E{number} {name} {text} {line}")
+    }
+}
+
 /// Why a call is refused. It borrows nothing.
 #[derive(Debug, Drop, Error)]
 pub enum Fault {
@@ -150,6 +174,9 @@ pub enum Fault {
     /// `E10 Syntax model 2:16`
     #[error(transparent)]
     Refused(Refusal),
+    /// `E75 Count problem 3`
+    #[error(transparent)]
+    RefusedLine(LineRefusal),
     /// `E90 ReadFault model`
     #[error("{} {}", FaultKind::ReadFault, .0)]
     Unread(TextName),

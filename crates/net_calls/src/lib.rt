@@ -1,19 +1,27 @@
 //! The calls from end to end: texts in, an answer's text out.
 #![tactic(auto)]
 
+mod checking;
 mod compiled;
 mod declaration;
 mod declared;
 mod draft;
+mod ending;
 mod fault;
 mod forms;
 mod instance;
+mod line_runs;
 mod links;
 mod named;
 mod names;
 mod run;
+mod settling;
 
+pub use checking::check_bytes;
 pub use compiled::{Compiled, compile};
-pub use fault::{Fault, FaultKind, Refusal, TextName};
+pub use ending::Ending;
+pub use fault::{Fault, FaultKind, LineRefusal, Refusal, TextName};
+pub use line_runs::{LINES_LIMIT, run_check, run_min};
 pub use named::Names;
 pub use run::run_compile;
+pub use settling::solve_min;

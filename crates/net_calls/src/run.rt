@@ -50,7 +50,8 @@ pub fn run_compile<M: Source, D: Source, W: Sink>(
     }
 }
 
-fn read_text<S: Source>(
+/// The whole of a source, or one byte past the limit.
+pub(crate) fn read_text<S: Source>(
     alloc: Global,
     source: &mut S,
     limit: usize,

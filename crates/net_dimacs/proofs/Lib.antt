@@ -5,6 +5,11 @@ mod Saying
 mod Returns
 mod Cutting
 mod LineSteps
+mod Fronts
+mod Sizes
+mod CertificateSound
+mod CertificateComplete
+mod CertificateReadLaws
 pub mod Lists
 mod Steps
 mod Sound
@@ -13,4 +18,7 @@ mod ReadLaws
 pub mod Decimals
 pub mod WrittenLines
 mod WriteLaws
+mod CertificateLines
+mod CertificateWriteLaws
+mod Examples
 pub mod Comments

@@ -3,7 +3,7 @@ use Rattle.std.specs.Prelude.{ℕ, List, ◌++◌, codes}
 use Rattle.std.specs.Fmt.{decimal}
 use Rattle.net_dimacs.specs.declared.problem_fault.LineFault.{LineFault}
 use Rattle.net_dimacs.specs.declared.problem_fault.Refusal.{Refusal}
-use Rattle.net_dimacs.specs.declared.problem_fault.LineFault.TheVariants.{BadLine, NoProblemLine, LineOrder, NodeNumber, DoubleNode, Count, Bounds, TooLarge}
+use Rattle.net_dimacs.specs.declared.problem_fault.LineFault.TheVariants.{BadLine, NoProblemLine, LineOrder, NodeNumber, DoubleNode, Count, Bounds, TooLarge, Certificate}
 
 abbrev pub number_of : LineFault → ℕ
 number_of BadLine = 70
@@ -14,6 +14,7 @@ number_of DoubleNode = 74
 number_of Count = 75
 number_of Bounds = 76
 number_of TooLarge = 77
+number_of Certificate = 78
 
 abbrev pub name_of : LineFault → List ℕ
 name_of BadLine = codes "BadLine"
@@ -24,6 +25,7 @@ name_of DoubleNode = codes "DoubleNode"
 name_of Count = codes "Count"
 name_of Bounds = codes "Bounds"
 name_of TooLarge = codes "TooLarge"
+name_of Certificate = codes "Certificate"
 
 -- number, name, the word problem, line
 abbrev pub refusal_text : Refusal → List ℕ

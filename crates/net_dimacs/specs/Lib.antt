@@ -6,3 +6,9 @@ pub mod Faults
 pub mod Reading
 pub mod Drafts
 pub mod Problems
+pub mod Claims
+pub mod Certificates
+pub mod CertificateWritten
+pub mod CertificateReading
+pub mod Numerals
+pub mod CertificateDrafts

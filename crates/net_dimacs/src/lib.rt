@@ -1,9 +1,15 @@
-//! Texts of minimum-cost flow problems in the DIMACS format, and the ends that bytes come from and go to.
+//! Texts of minimum-cost flow problems in the DIMACS format and of their certificates, and the ends that bytes come from and go to.
 #![tactic(auto)]
 
+mod certificate_draft;
+mod certificate_reader;
+mod certificate_writer;
+mod claim;
 mod draft;
 mod failed;
 mod field;
+mod fields;
+mod integer;
 mod line;
 mod memory_ends;
 mod partial_line;
@@ -19,6 +25,8 @@ mod standard_ends;
 mod statement;
 mod word;
 
+pub use certificate_reader::read_certificate;
+pub use certificate_writer::write_certificate;
 pub use failed::{Failed, ReadFault};
 pub use memory_ends::{MemorySink, MemorySource};
 pub use problem_fault::{LineFault, ProblemFault, Refusal};

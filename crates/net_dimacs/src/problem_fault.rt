@@ -26,10 +26,12 @@ pub enum LineFault {
     Bounds,
     /// A number past its limit, as `p min 20001 0`, or a text past its own.
     TooLarge,
+    /// No line of a certificate of the problem, or none where one is missing, as `v 2 0` first.
+    Certificate,
 }
 
 impl LineFault {
-    /// The number of the fault, from 70 to 77.
+    /// The number of the fault, from 70 to 78.
     pub fn number(self) -> u8
         ensures { result ≡ number_of self }
     {
@@ -42,6 +44,7 @@ impl LineFault {
             LineFault::Count => 75,
             LineFault::Bounds => 76,
             LineFault::TooLarge => 77,
+            LineFault::Certificate => 78,
         }
     }
 
@@ -58,6 +61,7 @@ impl LineFault {
             LineFault::Count => "Count",
             LineFault::Bounds => "Bounds",
             LineFault::TooLarge => "TooLarge",
+            LineFault::Certificate => "Certificate",
         }
     }
 }
@@ -76,7 +80,7 @@ impl fmt::Display for Refusal {
 
     ghost output = { λ refusal. Some (refusal_text refusal) };
 
-    /// As `E76 Bounds problem 2`.
+    /// As `E76 Bounds problem 2`. The fault of another text than a problem's is named by its caller.
     fn fmt<W: fmt::Write>(&self, f: &mut fmt::Formatter<W>) -> fmt::Result {
         let number = self.fault.number();
         let name = self.fault.name();

@@ -67,7 +67,7 @@ fn push_arc(text: &mut Vec<u8>, arc: FlowArc) -> Result<(), AllocError>
 }
 
 /// Writes one line: its kind, and its numbers, each behind a blank.
-fn push_line(text: &mut Vec<u8>, kind: &[u8], numbers: &[i64]) -> Result<(), AllocError>
+pub fn push_line(text: &mut Vec<u8>, kind: &[u8], numbers: &[i64]) -> Result<(), AllocError>
     ensures ok { OnOk result (text.new.items ≡ text.old.items ++ line kind.now numbers.now) }
 {
     text.extend_from_slice(kind)?;

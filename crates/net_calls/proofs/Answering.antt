@@ -1,0 +1,53 @@
+-- From what is read and settled to what is answered.
+use Rattle.std.proofs.Common.{◌≡◌, ℕ, List, length, Option, Some, None, Ok, refl, sym, ap, subst, ◌∙◌, arith}
+use Rattle.net_normal.specs.Flows.{IsWithinCapacity}
+use Rattle.net_normal.specs.declared.problem.Problem.{Problem}
+use Rattle.net_check.specs.declared.certificate.Certificate.{Certificate}
+use Rattle.net_check.specs.declared.certificate.Certificate.TheVariants as certificates
+use Rattle.net_check.specs.Certificates.{IsCertificate, HasShape}
+use Rattle.net_dimacs.specs.Problems.{IsProblemText}
+use Rattle.net_dimacs.specs.Reading as problems
+use Rattle.net_solve.specs.Settling.{IsSettledBy, BoundsEachFlow, LeavesNoFlow, certificate_of}
+use Rattle.net_solve.specs.declared.settled.Settled.{Settled}
+use Rattle.net_solve.specs.declared.settled.Settled.TheVariants.{Optimal, Cut, Unsettled}
+use Rattle.net_calls.specs.declared.fault.Fault.{Fault}
+use Rattle.net_calls.specs.declared.fault.Fault.TheVariants as faults
+use Rattle.net_calls.specs.declared.fault.TextName.{TextName}
+use Rattle.net_calls.specs.declared.fault.TextName.TheVariants as texts
+use Rattle.net_calls.specs.Checked.{IsFirstLineFault, IsLineRefusal, IsProblemRefusal, IsCertificateStop}
+use Rattle.net_calls.specs.Settled.{Settles, IsAnswerText}
+use Rattle.net_calls.proofs.ByName.{zip_length}
+
+-- a certificate has its problem's size
+certificate_shape : (problem : Problem) (certificate : Certificate) → IsCertificate problem certificate → HasShape problem certificate
+certificate_shape problem (certificates.Optimal value flows potentials) h =
+    record {
+      one_an_arc = sym (zip_length IsWithinCapacity problem.arcs.items flows.items h.feasible.capacity) ∙ sym problem.arcs.ok.0;
+      one_a_node = h.one_a_node;
+    }
+certificate_shape problem (certificates.Cut flags side) h = h.one_a_node
+
+same_certificate : (x y : Certificate) → Some x ≡ Some y → x ≡ y
+same_certificate x y e = let k = e in cc
+
+settled_certificate : (problem : Problem) (settled : Settled) (certificate : Certificate) → IsSettledBy problem settled → certificate_of settled ≡ Some certificate → IsCertificate problem certificate
+settled_certificate problem (Optimal value flows potentials) certificate h e =
+    subst (IsCertificate problem) (same_certificate (certificates.Optimal value flows potentials) certificate e) h
+settled_certificate problem (Cut flags side) certificate h e = subst (IsCertificate problem) (same_certificate (certificates.Cut flags side) certificate e) h
+settled_certificate problem Unsettled certificate h e = absurd (let k = e in cc)
+
+pub settled_shape : (problem : Problem) (settled : Settled) (certificate : Certificate) → IsSettledBy problem settled → certificate_of settled ≡ Some certificate → HasShape problem certificate
+settled_shape problem settled certificate h e = certificate_shape problem certificate (settled_certificate problem settled certificate h e)
+
+pub certificate_refusal : (problem_text certificate_text : List ℕ) (problem : Problem) (fault : Fault) → problems.read_text problem_text ≡ Ok (problem.supplies.items, problem.arcs.items)
+    → IsCertificateStop problem certificate_text fault → IsLineRefusal problem_text certificate_text fault
+certificate_refusal p c problem faults.OutOfMemory read stop = tt
+certificate_refusal p c problem (faults.Refused r) read stop = absurd stop
+certificate_refusal p c problem (faults.RefusedLine r) read stop = subst (λ name. IsFirstLineFault p c name r.fault r.line) (sym stop.0) (problem, read, stop.1)
+certificate_refusal p c problem (faults.Unread name) read stop = absurd stop
+certificate_refusal p c problem faults.Unwritten read stop = absurd stop
+
+pub settles : (problem_text : List ℕ) (problem : Problem) (found told : Settled) (text : List ℕ) → IsProblemText problem_text problem.supplies.items problem.arcs.items
+    → IsSettledBy problem found → BoundsEachFlow problem found → LeavesNoFlow problem found → told ≡ found → IsAnswerText problem (certificate_of found) text → Settles problem_text told text
+settles problem_text problem found told text is by bounds leaves same answer =
+    subst (λ s. Settles problem_text s text) (sym same) (record { problem = problem; is_problem = is; certificate = by; optimal = bounds; cut = leaves; answer = answer })

@@ -1,0 +1,113 @@
+//! Runs over texts of lines: texts are read whole, then the answer is computed whole, then it is written.
+
+ghost use Rattle.std.specs.Prelude.{◌≡◌, ◌⊎◌, ◌↔◌, true, false, IfOk, IfErr, IsErrOf};
+ghost use Rattle.net_calls.specs.Checked.{ending_of};
+ghost use Rattle.net_calls.specs.Settled.{settled_ending};
+ghost use Rattle.net_calls.specs.Runs.{IfRefused, WritesVerdict, WritesFrontOfVerdict, RefusesLines, WritesCertificate, WritesFrontOfCertificate, RefusesProblem};
+
+use crate::checking::{check_bytes, verdict_line};
+use crate::ending::Ending;
+use crate::fault::{Fault, TextName};
+use crate::run::read_text;
+use crate::settling::solve_min;
+use net_check::Verdict;
+use net_dimacs::{Sink, Source, write_whole};
+use net_solve::Settled;
+use std::alloc::Global;
+
+/// The most bytes of a problem's or a certificate's text: 64 MiB.
+pub const LINES_LIMIT: usize = 64 * 1024 * 1024;
+
+fn ending_of(verdict: &Verdict) -> Ending
+    ensures { result ≡ ending_of verdict.now }
+{
+    match verdict {
+        Verdict::Yes => Ending::Done,
+        Verdict::No(..) => Ending::Refuted,
+    }
+}
+
+fn settled_ending(settled: &Settled) -> Ending
+    ensures { result ≡ settled_ending settled.now }
+{
+    match settled {
+        Settled::Optimal { .. } => Ending::Done,
+        Settled::Cut { .. } => Ending::Refuted,
+        Settled::Unsettled => Ending::Open,
+    }
+}
+
+/// Checks the certificate that the second source gives of the problem that the first gives, and writes the verdict's line.
+pub fn run_check<P: Source, C: Source, W: Sink>(
+    alloc: Global,
+    problem: &mut P,
+    certificate: &mut C,
+    output: &mut W,
+) -> Result<Ending, Fault>
+    requires problem_unread { P.failed problem.old ≡ false }
+    requires certificate_unread { C.failed certificate.old ≡ false }
+    requires unwritten { W.failed output.old ≡ false }
+    ensures ok { IfOk result (WritesVerdict LINES_LIMIT
+        (record { old = P.remaining problem.old; new = P.remaining problem.new })
+        (record { old = C.remaining certificate.old; new = C.remaining certificate.new })
+        (record { old = W.taken output.old; new = W.taken output.new })) }
+
+    // A refused call has written nothing; a failed write leaves a front of the answer.
+    ensures refused { IfErr result (λ fault. (fault ≡ Fault.Unwritten) ⊎ (output.new ≡ output.old)) }
+    ensures told { IfErr result (λ fault. IfRefused fault (RefusesLines LINES_LIMIT
+        (record { old = P.remaining problem.old; new = P.remaining problem.new })
+        (record { old = C.remaining certificate.old; new = C.remaining certificate.new }) fault)) }
+    ensures front { IsErrOf result Fault.Unwritten → WritesFrontOfVerdict LINES_LIMIT
+        (record { old = P.remaining problem.old; new = P.remaining problem.new })
+        (record { old = C.remaining certificate.old; new = C.remaining certificate.new })
+        (record { old = W.taken output.old; new = W.taken output.new }) }
+
+    // An end is blamed exactly where it failed, and the problem is read first.
+    ensures problem { IsErrOf result (Fault.Unread TextName.Problem) ↔ (P.failed problem.new ≡ true) }
+    ensures certificate { IsErrOf result (Fault.Unread TextName.Certificate) ↔ (C.failed certificate.new ≡ true) }
+    ensures output { IsErrOf result Fault.Unwritten ↔ (W.failed output.new ≡ true) }
+    ensures first { P.failed problem.new ≡ true → certificate.new ≡ certificate.old }
+{
+    let problem_text = read_text(alloc, problem, LINES_LIMIT, TextName::Problem)?;
+    let certificate_text = read_text(alloc, certificate, LINES_LIMIT, TextName::Certificate)?;
+    let verdict = check_bytes(alloc, &problem_text, &certificate_text)?;
+    let ending = ending_of(&verdict);
+    let line = verdict_line(alloc, verdict)?;
+    match write_whole(output, &line) {
+        Ok(()) => Ok(ending),
+        Err(_) => Err(Fault::Unwritten),
+    }
+}
+
+/// Settles the problem that the source gives, and writes its certificate's text, or `unsettled`.
+pub fn run_min<P: Source, W: Sink>(
+    alloc: Global,
+    problem: &mut P,
+    output: &mut W,
+) -> Result<Ending, Fault>
+    requires problem_unread { P.failed problem.old ≡ false }
+    requires unwritten { W.failed output.old ≡ false }
+    ensures ok { IfOk result (WritesCertificate LINES_LIMIT
+        (record { old = P.remaining problem.old; new = P.remaining problem.new })
+        (record { old = W.taken output.old; new = W.taken output.new })) }
+
+    // A refused call has written nothing; a failed write leaves a front of the answer.
+    ensures refused { IfErr result (λ fault. (fault ≡ Fault.Unwritten) ⊎ (output.new ≡ output.old)) }
+    ensures told { IfErr result (λ fault. IfRefused fault (RefusesProblem LINES_LIMIT
+        (record { old = P.remaining problem.old; new = P.remaining problem.new }) fault)) }
+    ensures front { IsErrOf result Fault.Unwritten → WritesFrontOfCertificate LINES_LIMIT
+        (record { old = P.remaining problem.old; new = P.remaining problem.new })
+        (record { old = W.taken output.old; new = W.taken output.new }) }
+
+    // An end is blamed exactly where it failed.
+    ensures problem { IsErrOf result (Fault.Unread TextName.Problem) ↔ (P.failed problem.new ≡ true) }
+    ensures output { IsErrOf result Fault.Unwritten ↔ (W.failed output.new ≡ true) }
+{
+    let problem_text = read_text(alloc, problem, LINES_LIMIT, TextName::Problem)?;
+    let (settled, text) = solve_min(alloc, &problem_text)?;
+    let ending = settled_ending(&settled);
+    match write_whole(output, &text) {
+        Ok(()) => Ok(ending),
+        Err(_) => Err(Fault::Unwritten),
+    }
+}

@@ -1,0 +1,47 @@
+//! Problems, from text to certificate.
+
+ghost use Rattle.std.specs.Prelude.{◌≡◌, IfOk, IfErr, Some};
+ghost use Rattle.net_check.specs.Certificates.{IsCertificate};
+ghost use Rattle.net_solve.specs.Settling.{IsSettledBy, certificate_of};
+ghost use Rattle.net_calls.specs.Checked.{IsProblemRefusal};
+ghost use Rattle.net_calls.specs.Settled.{Settles, IsAnswerText};
+
+use crate::checking::problem_of;
+use crate::fault::Fault;
+use net_dimacs::write_certificate;
+use net_normal::Problem;
+use net_solve::{Plain, Settled, solve};
+use std::alloc::{AllocError, Global};
+
+/// Settles the problem of a text. The second part is the text of its certificate, or `unsettled`.
+pub fn solve_min(alloc: Global, problem: &[u8]) -> Result<(Settled, Vec<u8>), Fault>
+    ensures value { IfOk result (λ answer. Settles problem.now answer.0 answer.1.items) }
+    ensures refused { IfErr result (IsProblemRefusal problem.now) }
+{
+    let network = match problem_of(alloc, problem) {
+        Ok(network) => network,
+        Err(fault) => return Err(fault),
+    };
+    let settled = solve(alloc, &Plain, &network)?;
+    let (settled, text) = with_text(alloc, &network, settled)?;
+    Ok((settled, text))
+}
+
+/// What is settled, with the text of its certificate.
+fn with_text(
+    alloc: Global,
+    problem: &Problem,
+    settled: Settled,
+) -> Result<(Settled, Vec<u8>), AllocError>
+    requires { IsSettledBy problem.now settled }
+    ensures same { IfOk result (λ answer. answer.0 ≡ settled) }
+    ensures text { IfOk result (λ answer. IsAnswerText problem.now (certificate_of settled) answer.1.items) }
+{
+    let Some(certificate) = settled.certificate() else {
+        let mut text = Vec::new(alloc);
+        text.extend_from_slice(b"unsettled\n")?;
+        return Ok((Settled::Unsettled, text));
+    };
+    let text = write_certificate(alloc, problem, &certificate)?;
+    Ok((Settled::by(certificate), text))
+}

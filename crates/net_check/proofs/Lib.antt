@@ -1,0 +1,10 @@
+pub mod Pairs
+pub mod Sums
+pub mod Balances
+pub mod Cuts
+pub mod Verdicts
+pub mod Products
+pub mod Weights
+pub mod LeastCost
+pub mod NoFlow
+pub mod Examples

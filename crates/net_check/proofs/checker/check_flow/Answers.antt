@@ -1,0 +1,24 @@
+use Rattle.std.proofs.Common.{◌≡◌, ◌-◌, List, subst, arith, rules}
+use Rattle.std.specs.List.{AllZip}
+use Rattle.net_normal.specs.Flows.{IsFeasibleFlow, IsWithinCapacity, cost_of}
+use Rattle.net_normal.specs.declared.problem.FlowArc.{FlowArc}
+use Rattle.net_check.specs.Certificates.{HasFlowShape, IsComplementary}
+use Rattle.net_check.specs.FirstFaults.{ArcKeeps, IsFirstFailing, IsSlack}
+use Rattle.net_check.proofs.Verdicts.{slack-is_fault}
+use Rattle.net_check.proofs.checker.check_flow.Goals as goal
+
+pub returns-clause-no : goal.returns-clause-no
+returns-clause-no c = λ reason number e.
+    let problem = c.args.problem.now in
+    let flows = c.args.flows.now in
+    let potentials = c.args.potentials.now in
+    let arcs : c.deref-2.result.now ≡ problem.arcs.items = c.deref-2.ensures.value in
+    let shape : HasFlowShape problem flows potentials = record { one_an_arc = omega (arith, c.if-flows-len.false, c.len.ensures); one_a_node = omega (arith, c.if-potentials-len.false, c.len-else-flows-len.ensures) } in
+    let feasible : IsFeasibleFlow problem flows = record {
+      capacity = subst (λ (bs : List FlowArc). AllZip IsWithinCapacity bs flows) c.deref.ensures.value c.in_default.ensures.none;
+      balance = c.in_default-first_unbalanced.ensures.none;
+    } in
+    let cost : c.args.value.now ≡ cost_of problem flows = search rules in
+    slack-is_fault problem c.args.value.now flows potentials reason number shape feasible cost
+    (subst (λ (bs : List FlowArc). IsFirstFailing (ArcKeeps (IsComplementary potentials) bs flows) number) arcs (c.check_slackness.ensures.no reason number e))
+    (subst (λ (bs : List FlowArc). ArcKeeps (λ arc flow. IsSlack potentials arc flow reason) bs flows (number - 1)) arcs (c.check_slackness.ensures.reason reason number e))

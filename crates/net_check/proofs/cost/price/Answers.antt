@@ -1,0 +1,10 @@
+use Rattle.std.proofs.Common.{◌≡◌, ◌*ℤ◌, ◌^◌, rules, subst, sym, to_z, of_z}
+use mir.Syntax.{w128}
+use Rattle.net_normal.specs.Limits.{IsSized, cost_limit, flow_limit}
+use Rattle.net_normal.proofs.WholeNumbers.{sized-mul}
+use Rattle.net_check.proofs.cost.price.Goals as goal
+
+pub returns-clause-size : goal.returns-clause-size
+returns-clause-size c =
+    let plain : to_z w128 (of_z w128 (to_z w128 (of_z w128 c.from.result) *ℤ to_z w128 (of_z w128 c.from-2.result))) ≡ c.args.cost.now *ℤ c.args.flow.now = search rules in
+    subst (IsSized (10 ^ 30)) (sym plain) (sized-mul cost_limit flow_limit c.args.cost.now c.args.flow.now c.requires.cost c.requires.flow)

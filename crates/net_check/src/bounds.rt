@@ -1,0 +1,31 @@
+//! Whether each flow is from LOW to CAP.
+
+ghost use Rattle.std.specs.Prelude.{◌≡◌, ◌≤◌, ◌↔◌, IsTrue, IfSome, IfNone, length};
+ghost use Rattle.std.specs.List.{AllZip};
+ghost use Rattle.net_normal.specs.Flows.{IsWithinCapacity};
+ghost use Rattle.net_normal.specs.Limits.{flow_arc_limit};
+ghost use Rattle.net_check.specs.FirstFaults.{IsFirstFailing, ArcKeeps};
+
+use net_normal::FlowArc;
+
+/// Whether an arc may carry this flow.
+fn is_within(arc: &FlowArc, flow: &i64) -> bool
+    ensures { IsTrue result ↔ IsWithinCapacity arc.now flow.now }
+{
+    arc.low <= *flow && *flow <= arc.cap
+}
+
+/// The number of the first arc whose flow is out of its bounds, counted from 1.
+pub fn first_out_of_bounds(arcs: &[FlowArc], flows: &[i64]) -> Option<u32>
+    requires few { length arcs.now ≤ flow_arc_limit }
+    requires one_each { length flows.now ≡ length arcs.now }
+    ensures none { IfNone result (AllZip IsWithinCapacity arcs.now flows.now) }
+    ensures some { IfSome result (IsFirstFailing (ArcKeeps IsWithinCapacity arcs.now flows.now)) }
+{
+    for (index, arc) in arcs.iter().enumerate() {
+        if !is_within(arc, &flows[index]) {
+            return Some(index as u32 + 1);
+        }
+    }
+    None
+}

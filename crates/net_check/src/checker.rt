@@ -1,0 +1,70 @@
+//! The check of a certificate.
+
+ghost use Rattle.std.specs.Prelude.{◌≡◌, ℕ, ◌↔◌};
+ghost use Rattle.net_check.specs.Certificates.{IsCertificate, IsOptimal, IsViolatedCut};
+ghost use Rattle.net_check.specs.FirstFaults.{IsFirstFault, IsFirstFaultOfFlow, IsFirstFaultOfCut};
+
+use crate::balance::first_unbalanced;
+use crate::bounds::first_out_of_bounds;
+use crate::certificate::{Certificate, Side};
+use crate::cost::cost;
+use crate::cut::is_violated;
+use crate::slackness::check_slackness;
+use crate::verdict::{Reason, Verdict};
+use net_normal::{FLOW_NODE_LIMIT, Problem};
+
+/// Checks a flow with potentials.
+fn check_flow(problem: &Problem, value: &i128, flows: &[i64], potentials: &[i64]) -> Verdict
+    ensures yes { result ≡ Verdict.Yes → IsOptimal problem.now value.now flows.now potentials.now }
+    ensures no { (reason : Reason) (number : ℕ) → result ≡ Verdict.No reason number
+        → IsFirstFaultOfFlow problem.now value.now flows.now potentials.now reason number }
+{
+    if flows.len() != problem.arcs.len() || potentials.len() != problem.supplies.len() {
+        return Verdict::No(Reason::Shape, 0);
+    }
+    if let Some(number) = first_out_of_bounds(&problem.arcs, flows) {
+        return Verdict::No(Reason::Bounds, number);
+    }
+    if let Some(number) = first_unbalanced::<FLOW_NODE_LIMIT>(problem, flows) {
+        return Verdict::No(Reason::Balance, number);
+    }
+    if *value != cost(problem, flows) {
+        return Verdict::No(Reason::Value, 0);
+    }
+    check_slackness(&problem.arcs, flows, potentials)
+}
+
+/// Checks a set of nodes.
+fn check_cut(problem: &Problem, flags: &[bool], side: Side) -> Verdict
+    ensures yes { result ≡ Verdict.Yes → IsViolatedCut problem.now flags.now side }
+    ensures no { (reason : Reason) (number : ℕ) → result ≡ Verdict.No reason number
+        → IsFirstFaultOfCut problem.now flags.now side reason number }
+{
+    if flags.len() != problem.supplies.len() {
+        return Verdict::No(Reason::Shape, 0);
+    }
+    if !is_violated(problem, flags, side) {
+        return Verdict::No(Reason::NotViolated, 0);
+    }
+    Verdict::Yes
+}
+
+/// Tells whether a certificate settles its problem, in one pass over the nodes and a few over the arcs.
+///
+/// Any certificate may be given. `No` has the first condition that fails, in the order of `Reason`, and the number of the
+/// first arc or node where it fails, counted from 1; an arc's `Positive` and `Negative` come in the order of the arcs.
+/// No memory is asked for: the nodes' balances stand on the stack, 16 bytes for each of `FLOW_NODE_LIMIT` nodes.
+pub fn check(problem: &Problem, certificate: &Certificate) -> Verdict
+    ensures yes { (result ≡ Verdict.Yes) ↔ IsCertificate problem.now certificate.now }
+    ensures no { (reason : Reason) (number : ℕ) → result ≡ Verdict.No reason number
+        → IsFirstFault problem.now certificate.now reason number }
+{
+    match certificate {
+        Certificate::Optimal {
+            value,
+            flows,
+            potentials,
+        } => check_flow(problem, value, flows, potentials),
+        Certificate::Cut { flags, side } => check_cut(problem, flags, *side),
+    }
+}

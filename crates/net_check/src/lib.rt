@@ -1,0 +1,21 @@
+//! Certificates of minimum-cost flow problems, and the check that decides them.
+#![tactic(auto)]
+
+mod balance;
+mod bounds;
+mod certificate;
+mod checker;
+mod cost;
+mod cut;
+mod laws;
+mod slackness;
+mod verdict;
+mod wide;
+
+pub use certificate::{Certificate, Side};
+pub use checker::check;
+pub use laws::{least_cost, never_both, no_flow};
+pub use verdict::{Reason, Verdict};
+
+#[cfg(test)]
+mod tests;

@@ -1,0 +1,38 @@
+-- What a reader keeps of a certificate text.
+use Rattle.std.specs.Prelude.{◌≡◌, Option, Some, None, List, Result, Ok, Err}
+use Rattle.std.specs.Global.{Vec}
+use Rattle.net_check.specs.declared.certificate.Certificate.{Certificate}
+use Rattle.net_dimacs.specs.declared.problem_fault.LineFault.{LineFault}
+use Rattle.net_dimacs.specs.declared.problem_fault.ProblemFault.{ProblemFault}
+use Rattle.net_dimacs.specs.declared.problem_fault.ProblemFault.TheVariants as faults
+use Rattle.net_dimacs.specs.declared.draft.DraftFault.{DraftFault}
+use Rattle.net_dimacs.specs.declared.draft.DraftFault.TheVariants as draft_faults
+use Rattle.net_dimacs.specs.Certificates.{Account, account_of}
+use Rattle.net_dimacs.specs.CertificateReading.{Progress, Start, Open, Refused}
+
+abbrev pub FailsLine : {A : Type 0} → Result A LineFault → DraftFault → Type 0
+FailsLine read draft_faults.OutOfMemory = Unit {0}
+FailsLine read (draft_faults.Line fault) = read ≡ Err fault
+
+-- a list or a fault is what reading gives, unless memory ran out
+abbrev pub GivesList : {A : Type 0} → Result (List A) LineFault → Result (Vec A) DraftFault → Type 0
+GivesList read (Ok list) = read ≡ Ok list.items
+GivesList read (Err e) = FailsLine read e
+
+-- the same for a certificate so far
+abbrev pub GivesPart : Result Account LineFault → Result Certificate DraftFault → Type 0
+GivesPart read (Ok certificate) = read ≡ Ok (account_of certificate)
+GivesPart read (Err e) = FailsLine read e
+
+abbrev pub progress_of : Option Certificate → Progress
+progress_of None = Start
+progress_of (Some certificate) = Open (account_of certificate)
+
+abbrev pub Stops : Progress → ProblemFault → Type 0
+Stops progress faults.OutOfMemory = Unit {0}
+Stops progress (faults.Refused refusal) = progress ≡ Refused refusal
+
+-- a certificate so far or a refusal is what has come of the lines, unless memory ran out
+abbrev pub Comes : Progress → Result Certificate ProblemFault → Type 0
+Comes progress (Ok certificate) = progress ≡ Open (account_of certificate)
+Comes progress (Err e) = Stops progress e

@@ -1,0 +1,72 @@
+//! Certificates from their texts.
+
+ghost use Rattle.std.specs.Prelude.{◌≡◌, ◌+◌, ◌<◌, ◌≤◌, ◌⊎◌, length, IfOk};
+ghost use Rattle.std.specs.Str.Lines.{lines};
+ghost use Rattle.net_check.specs.Certificates.{HasShape};
+ghost use Rattle.net_dimacs.specs.Reading.{text_limit};
+ghost use Rattle.net_dimacs.specs.Certificates.{account_of, IsCertificateText, IsOnlyCertificate, IsNoCertificateText};
+ghost use Rattle.net_dimacs.specs.CertificateReading.{read_text, Gives, IfRefused};
+
+use crate::certificate_draft::{completed, refused, with_claim};
+use crate::claim::claim_of;
+use crate::fields::split_line;
+use crate::problem_fault::{LineFault, ProblemFault};
+use net_check::Certificate;
+use net_normal::Problem;
+use std::alloc::Global;
+
+/// The most bytes of a certificate text: 64 MiB.
+const TEXT_LIMIT: usize = 64 * 1024 * 1024;
+
+/// The certificate of a text for this problem, or its first fault: `TooLarge` or `Certificate`.
+pub fn read_certificate(
+    alloc: Global,
+    problem: &Problem,
+    text: &[u8],
+) -> Result<Certificate, ProblemFault>
+    // The certificate, or the first fault.
+    ensures value { Gives (read_text (length problem.now.supplies.items) problem.now.arcs.items text.now) result }
+
+    // What is read is what the text is, and it is no other certificate of the problem.
+    ensures ok { IfOk result (λ certificate.
+        IsCertificateText text.now (length problem.now.supplies.items) problem.now.arcs.items (account_of certificate)) }
+    ensures only { IfOk result (λ certificate.
+        IsOnlyCertificate text.now (length problem.now.supplies.items) problem.now.arcs.items (account_of certificate)) }
+    ensures shape { IfOk result (λ certificate. HasShape problem.now certificate) }
+
+    // A text is refused only where it is no certificate of the problem, or past the limit.
+    ensures refused { IfRefused result (λ _.
+        (text_limit < length text.now) ⊎ IsNoCertificateText text.now (length problem.now.supplies.items) problem.now.arcs.items) }
+    ensures place { IfRefused result (λ refusal. (1 ≤ refusal.line) × (refusal.line ≤ length (lines text.now) + 1)) }
+{
+    read_whole_certificate(alloc, problem, text)
+}
+
+fn read_whole_certificate(
+    alloc: Global,
+    problem: &Problem,
+    text: &[u8],
+) -> Result<Certificate, ProblemFault>
+    ensures { Gives (read_text (length problem.now.supplies.items) problem.now.arcs.items text.now) result }
+{
+    if text.len() > TEXT_LIMIT {
+        return Err(refused(LineFault::TooLarge, 1));
+    }
+    let mut certificate = None;
+    let mut number = 1usize;
+    let mut rest = text;
+    while let Some((line, after)) = split_line(rest) {
+        if let Some(claim) = claim_of(line) {
+            match with_claim(alloc, problem, number, certificate, claim) {
+                Ok(next) => certificate = Some(next),
+                Err(fault) => return Err(fault),
+            }
+        }
+        number += 1;
+        rest = after;
+    }
+    match certificate {
+        None => Err(refused(LineFault::Certificate, number)),
+        Some(certificate) => completed(problem, number, certificate),
+    }
+}

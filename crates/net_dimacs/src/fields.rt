@@ -1,0 +1,77 @@
+//! The front of a text, line by line, and of a line, field by field.
+
+ghost use Rattle.std.specs.Prelude.{◌≡◌, ◌==◌, not, ◌<◌, ◌∷◌, [], length, IfSome, MatchOption};
+ghost use Rattle.std.specs.List.{position};
+ghost use Rattle.std.specs.Str.Lines.{lines, strip_carriage_return};
+ghost use Rattle.net_dimacs.specs.Lines.{is_blank, fields_of};
+
+/// The first line of a text and the text after it, if a line is left.
+///
+/// The line lacks its LF and a CR before that. A CR that ends a text stays.
+pub fn split_line(text: &[u8]) -> Option<(&[u8], &[u8])>
+    ensures parts { MatchOption result (lines text.now ≡ []) (λ p. lines text.now ≡ p.0.now ∷ lines p.1.now) }
+    ensures shorter { IfSome result (λ p. length p.1.now < length text.now) }
+{
+    if text.is_empty() {
+        return None;
+    }
+    let end = first_feed(text).unwrap_or(text.len());
+    let (line, rest) = text.split_at(end);
+    if rest.is_empty() {
+        return Some((line, rest));
+    }
+    Some((without_return(line), &rest[1..]))
+}
+
+/// Where the first LF stands.
+fn first_feed(text: &[u8]) -> Option<usize>
+    ensures { result ≡ position (λ b. b == 10) text.now }
+{
+    text.iter().position(|byte| *byte == b'\n')
+}
+
+/// A line without the CR at its end, where there is one.
+fn without_return(line: &[u8]) -> &[u8]
+    ensures { result.now ≡ strip_carriage_return line.now }
+{
+    if line.is_empty() || line[line.len() - 1] != b'\r' {
+        return line;
+    }
+    &line[..line.len() - 1]
+}
+
+/// The first field of some bytes and the bytes after it, if a field is left.
+pub fn split_field(bytes: &[u8]) -> Option<(&[u8], &[u8])>
+    ensures parts { MatchOption result (fields_of bytes.now ≡ []) (λ p. fields_of bytes.now ≡ p.0.now ∷ fields_of p.1.now) }
+    ensures shorter { IfSome result (λ p. length p.1.now < length bytes.now) }
+{
+    let start = first_other(bytes).unwrap_or(bytes.len());
+    let (_, rest) = bytes.split_at(start);
+    if rest.is_empty() {
+        return None;
+    }
+    let end = first_blank(rest).unwrap_or(rest.len());
+    Some(rest.split_at(end))
+}
+
+/// Where the first byte stands that is no blank.
+fn first_other(bytes: &[u8]) -> Option<usize>
+    ensures { result ≡ position (λ b. not (is_blank b)) bytes.now }
+{
+    bytes.iter().position(|byte| !is_blank(*byte))
+}
+
+/// Where the first blank stands.
+fn first_blank(bytes: &[u8]) -> Option<usize>
+    ensures { result ≡ position is_blank bytes.now }
+{
+    bytes.iter().position(|byte| is_blank(*byte))
+}
+
+/// Whether a byte separates fields: a blank or a tab.
+#[inline(always)]
+fn is_blank(byte: u8) -> bool
+    ensures { result ≡ is_blank byte }
+{
+    byte == b' ' || byte == b'\t'
+}

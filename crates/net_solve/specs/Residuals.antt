@@ -1,0 +1,8 @@
+-- The residual network of a flow (Ahuja, Magnanti, Orlin: Network Flows, chapter 2), as index arrays.
+use Rattle.std.specs.Prelude.{ℕ, ◌+◌, ◌<◌}
+use Rattle.net_solve.specs.declared.residual_arc.ResidualArc.{ResidualArc}
+
+-- of a network with so many rows, one more than its nodes, and so many residual arcs
+pub record IsResidualArcOf (rows : ℕ) (arcs : ℕ) (arc : ResidualArc) : Type 0 where
+  pub head : arc.head + 1 < rows
+  pub reverse : arc.reverse < arcs

@@ -1,0 +1,24 @@
+//! A solver of minimum-cost flow problems, whose answers are checked before they are given.
+#![tactic(auto)]
+
+mod candidate;
+mod cutting;
+mod excess;
+mod frontier;
+mod halt;
+mod residual;
+mod residual_arc;
+mod residual_rows;
+mod search;
+mod sending;
+mod settled;
+mod settling;
+mod solver;
+mod tree;
+
+pub use settled::Settled;
+pub use settling::solve;
+pub use solver::{Plain, Solver};
+
+#[cfg(test)]
+mod tests;

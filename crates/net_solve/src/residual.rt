@@ -1,0 +1,131 @@
+//! The residual network of a flow.
+
+ghost use Rattle.std.specs.Prelude.{◌≡◌, ℕ, ◌+◌, ◌*◌, ◌<◌, ◌≤◌, All, IfOk, vec_len, pos, ◌≤ℤ◌, neg_ℤ};
+ghost use Rattle.net_normal.specs.Limits.{IsSized, IsFlowArcOf, flow_limit, cost_limit};
+ghost use Rattle.net_solve.specs.Residuals.{IsResidualArcOf};
+
+use crate::halt::Halt;
+use crate::residual_arc::ResidualArc;
+use crate::residual_rows::row_ends;
+use net_normal::{FlowArc, Problem};
+use std::alloc::Global;
+
+/// The residual arcs of a problem's flow, those out of one node beside each other.
+#[derive(Drop)]
+pub struct Residual {
+    /// Where the residual arcs out of each node start, and where those of all end.
+    pub starts: Vec<u32>,
+    /// The residual arcs.
+    pub arcs: Vec<ResidualArc>,
+    /// For each arc of the problem, its residual arc forwards.
+    pub forwards: Vec<u32>,
+    pub ghost rows: { All (λ start. start ≤ vec_len arcs) starts.items },
+    pub ghost arcs_fit: { All (IsResidualArcOf (vec_len starts) (vec_len arcs)) arcs.items },
+}
+
+/// The flow that a search starts from: CAP where a unit saves something, else LOW.
+pub fn first_flow(arc: &FlowArc) -> i64
+    ensures low { arc.now.low ≤ℤ arc.now.cap → arc.now.low ≤ℤ result }
+    ensures cap { arc.now.low ≤ℤ arc.now.cap → result ≤ℤ arc.now.cap }
+{
+    if arc.cost < 0 { arc.cap } else { arc.low }
+}
+
+impl Residual {
+    /// The residual network of the flow that a search starts from.
+    pub fn of(alloc: Global, problem: &Problem) -> Result<Residual, Halt>
+        ensures { IfOk result (λ network. vec_len network.starts ≡ vec_len problem.now.supplies + 1) }
+    {
+        let arc_count = problem.arcs.len();
+        let none = ResidualArc {
+            head: 0,
+            reverse: 0,
+            room: 0,
+            cost: 0,
+        };
+        let mut network = Residual {
+            starts: row_ends(alloc, problem)?,
+            arcs: vec![in alloc; none; 2 * arc_count]?,
+            forwards: Vec::with_capacity(alloc, arc_count)?,
+        };
+        for arc in &problem.arcs {
+            network.add(arc)?;
+        }
+        Ok(network)
+    }
+
+    /// Takes the next arc of the problem.
+    fn add(&mut self, arc: &FlowArc) -> Result<(), Halt>
+        requires { (nodes : ℕ) × (vec_len self.old.starts ≡ nodes + 1) × IsFlowArcOf nodes arc.now }
+        ensures { vec_len self.new.starts ≡ vec_len self.old.starts }
+    {
+        let forward = self.take_place(arc.src)?;
+        let back = self.take_place(arc.dst)?;
+        let flow = first_flow(arc);
+        let ahead = ResidualArc {
+            head: arc.dst,
+            reverse: back,
+            room: arc.cap - flow,
+            cost: arc.cost,
+        };
+        let behind = ResidualArc {
+            head: arc.src,
+            reverse: forward,
+            room: flow - arc.low,
+            cost: -arc.cost,
+        };
+        self.put(forward, ahead);
+        self.put(back, behind);
+        self.forwards.push(forward)?;
+        Ok(())
+    }
+
+    /// Sets one residual arc.
+    fn put(&mut self, place: u32, arc: ResidualArc)
+        requires place { place < vec_len self.old.arcs }
+        requires arc { IsResidualArcOf (vec_len self.old.starts) (vec_len self.old.arcs) arc }
+        ensures rows { vec_len self.new.starts ≡ vec_len self.old.starts }
+        ensures arcs { vec_len self.new.arcs ≡ vec_len self.old.arcs }
+    {
+        self.arcs[place as usize] = arc;
+    }
+
+    /// The last free place of a node's residual arcs.
+    fn take_place(&mut self, node: u32) -> Result<u32, Halt>
+        requires { node < vec_len self.old.starts }
+        ensures rows { vec_len self.new.starts ≡ vec_len self.old.starts }
+        ensures arcs { vec_len self.new.arcs ≡ vec_len self.old.arcs }
+        ensures within { IfOk result (λ place. place < vec_len self.new.arcs) }
+    {
+        let end = self.starts[node as usize];
+        if end == 0 {
+            return Err(Halt::OutOfRange);
+        }
+        self.starts[node as usize] = end - 1;
+        Ok(end - 1)
+    }
+
+    /// Widens the room of a residual arc, or narrows it. Answers the room that it then has.
+    fn add_room(&mut self, place: u32, change: i64) -> Result<i64, Halt>
+        requires { place < vec_len self.old.arcs }
+        ensures rows { vec_len self.new.starts ≡ vec_len self.old.starts }
+        ensures arcs { vec_len self.new.arcs ≡ vec_len self.old.arcs }
+    {
+        let arc = self.arcs[place as usize];
+        let room = arc.room.checked_add(change).ok_or(Halt::OutOfRange)?;
+        self.put(place, arc.with_room(room));
+        Ok(room)
+    }
+
+    /// Sends flow over a residual arc. Answers the room that is left on it.
+    pub fn send(&mut self, arc: u32, amount: i64) -> Result<i64, Halt>
+        requires arc { arc < vec_len self.old.arcs }
+        requires amount { pos 0 ≤ℤ amount }
+        ensures rows { vec_len self.new.starts ≡ vec_len self.old.starts }
+        ensures arcs { vec_len self.new.arcs ≡ vec_len self.old.arcs }
+    {
+        let reverse = self.arcs[arc as usize].reverse;
+        self.add_room(reverse, amount)?;
+        self.add_room(arc, -amount)
+    }
+}

@@ -1,0 +1,41 @@
+//! A problem, settled.
+
+ghost use Rattle.std.specs.Prelude.{◌≡◌, IfOk};
+ghost use Rattle.net_check.specs.Certificates.{IsCertificate};
+ghost use Rattle.net_solve.specs.Settling.{IsSettledBy, BoundsEachFlow, LeavesNoFlow, settled_by};
+
+use crate::settled::Settled;
+use crate::solver::{Plain, Solver};
+use net_check::{Certificate, least_cost, no_flow};
+use net_normal::Problem;
+use std::alloc::{AllocError, Global};
+
+/// What a certificate of a problem settles, and what that means.
+fn settled(problem: &Problem, certificate: Certificate) -> Settled
+    requires { IsCertificate problem.now certificate }
+    ensures value { result ≡ settled_by certificate }
+    ensures certificate { IsSettledBy problem.now result }
+    ensures optimal { BoundsEachFlow problem.now result }
+    ensures cut { LeavesNoFlow problem.now result }
+{
+    least_cost();
+    no_flow();
+    Settled::by(certificate)
+}
+
+/// Settles a problem by the solver that is given, and by `Plain` where that answers none.
+///
+/// `Unsettled` says nothing of the problem. The one error is want of memory.
+pub fn solve<S: Solver>(alloc: Global, solver: &S, problem: &Problem) -> Result<Settled, AllocError>
+    ensures certificate { IfOk result (IsSettledBy problem.now) }
+    ensures optimal { IfOk result (BoundsEachFlow problem.now) }
+    ensures cut { IfOk result (LeavesNoFlow problem.now) }
+{
+    if let Some(certificate) = solver.answer(alloc, problem)? {
+        return Ok(settled(problem, certificate));
+    }
+    if let Some(certificate) = Plain.answer(alloc, problem)? {
+        return Ok(settled(problem, certificate));
+    }
+    Ok(Settled::Unsettled)
+}

@@ -1,0 +1,36 @@
+//! Solvers of minimum-cost flow problems.
+
+ghost use Rattle.std.specs.Prelude.{◌≡◌, IfOk};
+ghost use Rattle.std.specs.Option.{ForSome};
+ghost use Rattle.net_check.specs.Certificates.{IsCertificate};
+
+use crate::candidate::find_candidate;
+use crate::halt::Halt;
+use net_check::{Certificate, Verdict, check};
+use net_normal::Problem;
+use std::alloc::{AllocError, Global};
+
+/// What may settle problems.
+pub trait Solver {
+    /// A certificate of the problem, or `None` where none was found.
+    fn answer(&self, alloc: Global, problem: &Problem) -> Result<Option<Certificate>, AllocError>
+        ensures { IfOk result (λ answer. ForSome answer (IsCertificate problem.now)) };
+}
+
+/// The primal-dual search by trees. What it finds is checked before it is given.
+#[derive(Clone, Copy, Debug, PartialEq, Eq)]
+pub struct Plain;
+
+impl Solver for Plain {
+    fn answer(&self, alloc: Global, problem: &Problem) -> Result<Option<Certificate>, AllocError> {
+        let found = match find_candidate(alloc, problem) {
+            Ok(found) => found,
+            Err(Halt::OutOfRange) => return Ok(None),
+            Err(Halt::OutOfMemory) => return Err(AllocError),
+        };
+        match check(problem, &found) {
+            Verdict::Yes => Ok(Some(found)),
+            Verdict::No(..) => Ok(None),
+        }
+    }
+}
