@@ -1,4 +1,4 @@
-//! Network models in AMPL's words, compiled to minimum-cost flow problems in the DIMACS format.
+//! Minimum-cost flow from texts to texts: models compiled, problems solved, certificates checked.
 #![tactic(auto)]
 
 mod program;

@@ -9,6 +9,10 @@ use std::alloc::{AllocError, Global};
 pub enum Action {
     /// `netflow compile MODEL DATA`
     Compile,
+    /// `netflow min PROBLEM`
+    Min,
+    /// `netflow check PROBLEM CERTIFICATE`
+    Check,
 }
 
 /// What the words of a command line ask for.
@@ -33,17 +37,22 @@ impl From<AllocError> for WordsFault {
     }
 }
 
-const ABOUT: &str = "Compiles network models in AMPL's words to DIMACS minimum-cost flow texts";
+const ABOUT: &str = "Minimum-cost flow: models in AMPL's words compiled, DIMACS problems
+solved, certificates checked";
 
 const STATUSES: &str = "Exit status:
-  0   done
+  0   done; of check: yes
+  2   no feasible flow; of check: no
   3   refused: the line on standard error says what and where
   4   a file could not be read, or the output not written
   5   out of memory
+  6   unsettled: the search was given up
   64  wrong words on the command line
 
 Example:
-  netflow compile transport.mod transport.dat > transport.min";
+  netflow compile transport.mod transport.dat > transport.min
+  netflow min transport.min > transport.sol
+  netflow check transport.min transport.sol";
 
 const COMPILE_ABOUT: &str = "Writes a model's DIMACS text to standard output";
 
@@ -53,30 +62,104 @@ Example:
   netflow compile transport.mod transport.dat > transport.min
   netflow compile transport.mod /dev/null";
 
-fn command<'a>(alloc: Global) -> Result<Command<'a>, AllocError> {
-    let model = Arg::new(alloc, "MODEL")
+const MIN_ABOUT: &str = "Solves a DIMACS problem and writes a certificate";
+
+const MIN_HELP: &str = "The certificate is a flow of least cost with potentials, or a set of nodes
+that shows that no flow is feasible (status 2).
+
+Example:
+  netflow min transport.min > transport.sol
+  netflow compile transport.mod /dev/null | netflow min /dev/stdin";
+
+const CHECK_ABOUT: &str = "Checks a certificate of a DIMACS problem";
+
+const CHECK_HELP: &str = "Prints yes, or no with the first condition that fails and its arc or node.
+
+Example:
+  netflow check transport.min transport.sol";
+
+fn path<'a>(alloc: Global, name: &'a str, help: &'a str) -> Arg<'a> {
+    Arg::new(alloc, name)
         .required(true)
         .action(ArgAction::Set)
-        .help("The model: its objective, nodes and arcs");
-    let data = Arg::new(alloc, "DATA")
-        .required(true)
-        .action(ArgAction::Set)
-        .help("The model's data; /dev/null where it has none");
-    let compile = Command::new(alloc, "compile")
+        .help(help)
+}
+
+fn compile_command<'a>(alloc: Global) -> Result<Command<'a>, AllocError> {
+    Command::new(alloc, "compile")
         .about(COMPILE_ABOUT)
         .after_help(COMPILE_HELP)
-        .arg(model)?
-        .arg(data)?;
+        .arg(path(alloc, "MODEL", "The model: its objective, nodes and arcs"))?
+        .arg(path(
+            alloc,
+            "DATA",
+            "The model's data; /dev/null where it has none",
+        ))
+}
+
+fn min_command<'a>(alloc: Global) -> Result<Command<'a>, AllocError> {
+    Command::new(alloc, "min")
+        .about(MIN_ABOUT)
+        .after_help(MIN_HELP)
+        .arg(path(
+            alloc,
+            "PROBLEM",
+            "A minimum-cost flow problem in the DIMACS format",
+        ))
+}
+
+fn check_command<'a>(alloc: Global) -> Result<Command<'a>, AllocError> {
+    Command::new(alloc, "check")
+        .about(CHECK_ABOUT)
+        .after_help(CHECK_HELP)
+        .arg(path(
+            alloc,
+            "PROBLEM",
+            "A minimum-cost flow problem in the DIMACS format",
+        ))?
+        .arg(path(alloc, "CERTIFICATE", "What is said to settle it"))
+}
+
+fn command<'a>(alloc: Global) -> Result<Command<'a>, AllocError> {
     Command::new(alloc, "netflow")
         .about(ABOUT)
         .after_help(STATUSES)
         .subcommand_required(true)
         .arg_required_else_help(false)
-        .subcommand(compile)
+        .subcommand(compile_command(alloc)?)?
+        .subcommand(min_command(alloc)?)?
+        .subcommand(check_command(alloc)?)
 }
 
-fn path_of(alloc: Global, matches: &ArgMatches<'_>, id: &str) -> Result<String, AllocError> {
-    String::from_str(alloc, matches.get_str(id).unwrap_or(""))
+fn action_of(name: &str) -> Action {
+    match name {
+        "min" => Action::Min,
+        "check" => Action::Check,
+        _ => Action::Compile,
+    }
+}
+
+fn path_names(action: Action) -> &'static [&'static str] {
+    match action {
+        Action::Compile => &["MODEL", "DATA"],
+        Action::Min => &["PROBLEM"],
+        Action::Check => &["PROBLEM", "CERTIFICATE"],
+    }
+}
+
+fn paths_of(
+    alloc: Global,
+    action: Action,
+    matches: &ArgMatches<'_>,
+) -> Result<Vec<String>, WordsFault> {
+    let mut paths = Vec::new(alloc);
+    for name in path_names(action) {
+        let path = String::from_str(alloc, matches.get_str(name).unwrap_or(""))?;
+        if paths.push(path).is_err() {
+            return Err(WordsFault::OutOfMemory);
+        }
+    }
+    Ok(paths)
 }
 
 /// What these words ask for; the first is the program's name.
@@ -89,16 +172,11 @@ pub fn words_of(alloc: Global, words: &[String]) -> Result<Words, WordsFault> {
         }
         Err(error) => return Err(WordsFault::Usage(error)),
     };
-    let Some((_, found)) = matches.subcommand() else {
+    // clap has refused words without a subcommand.
+    let Some((name, found)) = matches.subcommand() else {
         return Err(WordsFault::OutOfMemory);
     };
-    let model = path_of(alloc, found, "MODEL")?;
-    let data = path_of(alloc, found, "DATA")?;
-    let mut paths = Vec::with_capacity(alloc, 2)?;
-    paths.push(model).unwrap();
-    paths.push(data).unwrap();
-    Ok(Words {
-        command: Action::Compile,
-        paths,
-    })
+    let command = action_of(name);
+    let paths = paths_of(alloc, command, found)?;
+    Ok(Words { command, paths })
 }

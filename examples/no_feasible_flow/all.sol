@@ -1,0 +1,4 @@
+x under
+m 1
+m 2
+m 3
