@@ -1,7 +1,5 @@
 //! What a search has found, as a certificate that is still to be checked.
 
-ghost use Rattle.std.specs.Prelude.{◌≡◌, ◌<◌, vec_len};
-
 use crate::halt::Halt;
 use crate::search::{Ending, Search};
 use net_check::{Certificate, Side};

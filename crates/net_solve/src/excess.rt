@@ -1,6 +1,6 @@
 //! What each node has too much of, or too little.
 
-ghost use Rattle.std.specs.Prelude.{◌≡◌, ◌<◌, ◌≤◌, IfOk, vec_len};
+ghost use Rattle.std.specs.Prelude.{◌≡◌, ◌<◌, IfOk, vec_len};
 
 use crate::halt::Halt;
 use crate::residual::first_flow;

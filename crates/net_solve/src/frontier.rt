@@ -4,8 +4,7 @@ ghost use Rattle.std.specs.Prelude.{◌≡◌, ◌+◌, ◌<◌, IfSome, vec_len
 
 use crate::halt::Halt;
 use crate::residual::Residual;
-use crate::residual_arc::ResidualArc;
-use crate::tree::{Tree, TreeNode};
+use crate::tree::{FAR, NO_ARC, Tree};
 use std::alloc::Global;
 use std::cmp::Reverse;
 use std::collections::{BinaryHeap, VecDeque};
@@ -89,7 +88,7 @@ impl Frontier {
         Ok(())
     }
 
-    /// Offers a node outside the tree by each residual arc that leads from the tree to it.
+    /// Offers a node outside the tree by the best residual arc that leads from the tree to it.
     pub fn offer_to(&mut self, network: &Residual, tree: &mut Tree, node: u32) -> Result<(), Halt>
         requires node { node < vec_len tree.old.nodes }
         requires rows { vec_len network.now.starts ≡ vec_len tree.old.nodes + 1 }
@@ -98,6 +97,8 @@ impl Frontier {
         let potential = tree.nodes[node as usize].potential;
         let start = network.starts[node as usize];
         let end = network.starts[node as usize + 1];
+        let mut least = FAR;
+        let mut best = NO_ARC;
         for place in start..end {
             let back = network.arcs[place as usize];
             let tail = tree.nodes[back.head as usize];
@@ -105,11 +106,14 @@ impl Frontier {
                 let arc = network.arcs[back.reverse as usize];
                 if arc.room > 0 {
                     let depth = depth_of(arc.cost, tail.level()?, potential)?;
-                    self.offer(tree, node, back.reverse, depth)?;
+                    if depth < least {
+                        least = depth;
+                        best = back.reverse;
+                    }
                 }
             }
         }
-        Ok(())
+        self.offer(tree, node, best, least)
     }
 
     /// The next node that the tree reaches as far as it has sunk.

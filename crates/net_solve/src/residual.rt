@@ -1,7 +1,7 @@
 //! The residual network of a flow.
 
-ghost use Rattle.std.specs.Prelude.{◌≡◌, ℕ, ◌+◌, ◌*◌, ◌<◌, ◌≤◌, All, IfOk, vec_len, pos, ◌≤ℤ◌, neg_ℤ};
-ghost use Rattle.net_normal.specs.Limits.{IsSized, IsFlowArcOf, flow_limit, cost_limit};
+ghost use Rattle.std.specs.Prelude.{◌≡◌, ℕ, ◌+◌, ◌<◌, ◌≤◌, All, IfOk, vec_len, pos, ◌≤ℤ◌};
+ghost use Rattle.net_normal.specs.Limits.{IsFlowArcOf};
 ghost use Rattle.net_solve.specs.Residuals.{IsResidualArcOf};
 
 use crate::halt::Halt;

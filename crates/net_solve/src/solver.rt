@@ -1,6 +1,6 @@
 //! Solvers of minimum-cost flow problems.
 
-ghost use Rattle.std.specs.Prelude.{◌≡◌, IfOk};
+ghost use Rattle.std.specs.Prelude.{IfOk};
 ghost use Rattle.std.specs.Option.{ForSome};
 ghost use Rattle.net_check.specs.Certificates.{IsCertificate};
 

@@ -1,7 +1,7 @@
 //! Problems for tests, which stop where they pass a limit.
 
-ghost use Rattle.std.specs.Prelude.{◌≡◌, ◌<◌, ◌≤◌, All, IsTrue, vec_len};
-ghost use Rattle.net_normal.specs.Limits.{IsFlowArcOf, IsSized, flow_arc_limit, flow_limit};
+ghost use Rattle.std.specs.Prelude.{◌<◌, IsTrue, vec_len};
+ghost use Rattle.net_normal.specs.Limits.{IsFlowArcOf, flow_arc_limit};
 
 use net_normal::{COST_LIMIT, FLOW_ARC_LIMIT, FLOW_LIMIT, FLOW_NODE_LIMIT, FlowArc, Problem};
 use std::alloc::AllocError;
