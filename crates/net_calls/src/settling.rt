@@ -10,7 +10,7 @@ use crate::checking::problem_of;
 use crate::fault::Fault;
 use net_dimacs::write_certificate;
 use net_normal::Problem;
-use net_solve::{Plain, Settled, solve};
+use net_solve::{Settled, Silent, solve};
 use std::alloc::{AllocError, Global};
 
 /// Settles the problem of a text. The second part is the text of its certificate, or `unsettled`.
@@ -22,7 +22,7 @@ pub fn solve_min(alloc: Global, problem: &[u8]) -> Result<(Settled, Vec<u8>), Fa
         Ok(network) => network,
         Err(fault) => return Err(fault),
     };
-    let settled = solve(alloc, &Plain, &network)?;
+    let settled = solve(alloc, &Silent, &network)?;
     let (settled, text) = with_text(alloc, &network, settled)?;
     Ok((settled, text))
 }

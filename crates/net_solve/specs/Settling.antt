@@ -1,5 +1,5 @@
 -- What it means that a problem is settled.
-use Rattle.std.specs.Prelude.{ℤ, ◌≤ℤ◌, List, Option, Some, None}
+use Rattle.std.specs.Prelude.{◌≡◌, ◌⊎◌, ℤ, ◌≤ℤ◌, List, Option, Some, None}
 use Rattle.net_normal.specs.Flows.{IsFeasibleFlow, cost_of}
 use Rattle.net_normal.specs.declared.problem.Problem.{Problem}
 use Rattle.net_check.specs.Certificates.{IsOptimal, IsViolatedCut}
@@ -36,3 +36,7 @@ certificate_of Unsettled = None
 abbrev pub settled_by : Certificate → Settled
 settled_by (certificates.Optimal value flows potentials) = Optimal value flows potentials
 settled_by (certificates.Cut flags side) = Cut flags side
+
+-- of a solver that may answer this: what is settled is its answer, or it had none to give
+abbrev pub IsOwnAnswer : (Option Certificate → Type 0) → Settled → Type 0
+IsOwnAnswer MayAnswer settled = ((certificate : Certificate) × MayAnswer (Some certificate) × (settled ≡ settled_by certificate)) ⊎ MayAnswer None

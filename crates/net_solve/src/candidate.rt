@@ -43,7 +43,7 @@ fn optimal(alloc: Global, problem: &Problem, search: &Search) -> Result<Certific
             .ok_or(Halt::OutOfRange)?;
     }
     let mut potentials = Vec::with_capacity(alloc, problem.supplies.len())?;
-    for node in &search.tree.nodes {
+    for node in &search.forest.nodes {
         potentials.push(node.potential)?;
     }
     Ok(Certificate::Optimal {
@@ -53,10 +53,10 @@ fn optimal(alloc: Global, problem: &Problem, search: &Search) -> Result<Certific
     })
 }
 
-/// The nodes of a tree that cannot grow: they have excess, and nothing more can leave them.
+/// The nodes of a forest that cannot grow: they have excess, and nothing more can leave them.
 fn cut(alloc: Global, search: &Search) -> Result<Certificate, Halt> {
-    let mut flags = Vec::with_capacity(alloc, search.tree.nodes.len())?;
-    for node in &search.tree.nodes {
+    let mut flags = Vec::with_capacity(alloc, search.forest.nodes.len())?;
+    for node in &search.forest.nodes {
         flags.push(node.is_inside)?;
     }
     Ok(Certificate::Cut {

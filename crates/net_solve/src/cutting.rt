@@ -1,98 +1,87 @@
-//! What leaves a tree with an arc that was filled.
+//! What leaves a forest with an arc that was filled, or with a root that has no excess any more.
 
 ghost use Rattle.std.specs.Prelude.{◌≡◌, ◌+◌, ◌<◌, vec_len};
 
+use crate::forest::Forest;
 use crate::frontier::Frontier;
 use crate::halt::Halt;
 use crate::residual::Residual;
-use crate::tree::{Tree, TreeNode};
 use std::alloc::Global;
 
-/// The part of a tree behind an arc that was filled.
+/// The part of a tree from one node on.
 #[derive(Drop)]
 pub struct Cutting {
-    /// The nodes that left the tree, each after the one by which it had come in.
+    /// The nodes that left the forest, each after the one by which it had come in.
     left: Vec<u32>,
-    /// The nodes outside that the tree reached by one of these.
-    bereft: Vec<u32>,
 }
 
 impl Cutting {
     pub fn new(alloc: Global) -> Cutting {
         Cutting {
             left: Vec::new(alloc),
-            bereft: Vec::new(alloc),
         }
     }
 
-    /// Lets the part of the tree from this node on out, and offers the nodes that are no longer reached by it anew.
+    /// Lets the part of a tree from this node on out, and offers its nodes to what is left of the forest.
+    ///
+    /// What was offered by these nodes stays as it is: it is looked at again when its turn comes.
     pub fn cut(
         &mut self,
         network: &Residual,
-        tree: &mut Tree,
+        forest: &mut Forest,
         frontier: &mut Frontier,
         node: u32,
     ) -> Result<(), Halt>
-        requires node { node < vec_len tree.old.nodes }
-        requires rows { vec_len network.now.starts ≡ vec_len tree.old.nodes + 1 }
-        ensures { vec_len tree.new.nodes ≡ vec_len tree.old.nodes }
+        requires node { node < vec_len forest.old.nodes }
+        requires rows { vec_len network.now.starts ≡ vec_len forest.old.nodes + 1 }
+        ensures { vec_len forest.new.nodes ≡ vec_len forest.old.nodes }
     {
         self.left.clear();
-        self.bereft.clear();
-        tree.leave(node)?;
+        forest.part(network, node);
+        forest.leave(node)?;
         self.left.push(node)?;
-        for place in 0..tree.nodes.len() {
+        for place in 0..forest.nodes.len() {
             match self.left.get(place).copied() {
-                Some(parent) => self.cut_children(network, tree, parent)?,
+                Some(parent) => self.cut_children(forest, parent)?,
                 None => break,
             }
         }
-        offer_each(&self.left, network, tree, frontier)?;
-        offer_each(&self.bereft, network, tree, frontier)
+        offer_each(&self.left, network, forest, frontier)
     }
 
-    /// Lets the nodes out that had come in by a node that left, and has those forgotten that were reached by it.
-    fn cut_children(&mut self, network: &Residual, tree: &mut Tree, parent: u32) -> Result<(), Halt>
-        requires { vec_len network.now.starts ≡ vec_len tree.old.nodes + 1 }
-        ensures { vec_len tree.new.nodes ≡ vec_len tree.old.nodes }
+    /// Lets the children of a node that left out.
+    fn cut_children(&mut self, forest: &mut Forest, parent: u32) -> Result<(), Halt>
+        ensures { vec_len forest.new.nodes ≡ vec_len forest.old.nodes }
     {
-        if parent as usize >= tree.nodes.len() {
-            return Err(Halt::OutOfRange);
-        }
-        let start = network.starts[parent as usize];
-        let end = network.starts[parent as usize + 1];
-        for place in start..end {
-            let node = network.arcs[place as usize].head;
-            let child = tree.nodes[node as usize];
-            if child.arc == place {
-                if child.is_inside {
-                    tree.leave(node)?;
-                    self.left.push(node)?;
-                } else {
-                    tree.nodes[node as usize] = TreeNode::apart(child.potential);
-                    self.bereft.push(node)?;
-                }
+        let mut child = forest.children.first(parent);
+        forest.children.clear(parent);
+        for _ in 0..forest.nodes.len() {
+            if child as usize >= forest.nodes.len() {
+                return Ok(());
             }
+            forest.leave(child)?;
+            self.left.push(child)?;
+            child = forest.children.next(child);
         }
-        Ok(())
+        Err(Halt::OutOfRange)
     }
 }
 
-/// Offers each of these nodes by the residual arcs that lead to it from the tree.
+/// Offers each of these nodes by the residual arcs that lead to it from the forest.
 fn offer_each(
-    lost: &Vec<u32>,
+    left: &Vec<u32>,
     network: &Residual,
-    tree: &mut Tree,
+    forest: &mut Forest,
     frontier: &mut Frontier,
 ) -> Result<(), Halt>
-    requires { vec_len network.now.starts ≡ vec_len tree.old.nodes + 1 }
-    ensures { vec_len tree.new.nodes ≡ vec_len tree.old.nodes }
+    requires { vec_len network.now.starts ≡ vec_len forest.old.nodes + 1 }
+    ensures { vec_len forest.new.nodes ≡ vec_len forest.old.nodes }
 {
-    for node in lost {
-        if *node as usize >= tree.nodes.len() {
+    for node in left {
+        if *node as usize >= forest.nodes.len() {
             return Err(Halt::OutOfRange);
         }
-        frontier.offer_to(network, tree, *node)?;
+        frontier.offer_to(network, forest, *node)?;
     }
     Ok(())
 }

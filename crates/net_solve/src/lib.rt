@@ -2,8 +2,10 @@
 #![tactic(auto)]
 
 mod candidate;
+mod children;
 mod cutting;
 mod excess;
+mod forest;
 mod frontier;
 mod halt;
 mod residual;
@@ -14,11 +16,10 @@ mod sending;
 mod settled;
 mod settling;
 mod solver;
-mod tree;
 
 pub use settled::Settled;
 pub use settling::solve;
-pub use solver::{Plain, Solver};
+pub use solver::{Plain, Silent, Solver};
 
 #[cfg(test)]
 mod tests;

@@ -41,6 +41,7 @@ impl Residual {
             head: 0,
             reverse: 0,
             room: 0,
+            reverse_room: 0,
             cost: 0,
         };
         let mut network = Residual {
@@ -62,18 +63,8 @@ impl Residual {
         let forward = self.take_place(arc.src)?;
         let back = self.take_place(arc.dst)?;
         let flow = first_flow(arc);
-        let ahead = ResidualArc {
-            head: arc.dst,
-            reverse: back,
-            room: arc.cap - flow,
-            cost: arc.cost,
-        };
-        let behind = ResidualArc {
-            head: arc.src,
-            reverse: forward,
-            room: flow - arc.low,
-            cost: -arc.cost,
-        };
+        let ahead = ResidualArc::ahead(arc, flow, back);
+        let behind = ResidualArc::behind(arc, flow, forward);
         self.put(forward, ahead);
         self.put(back, behind);
         self.forwards.push(forward)?;
@@ -105,16 +96,21 @@ impl Residual {
         Ok(end - 1)
     }
 
-    /// Widens the room of a residual arc, or narrows it. Answers the room that it then has.
-    fn add_room(&mut self, place: u32, change: i64) -> Result<i64, Halt>
+    /// Changes one residual arc as an amount on it does. Answers the room that it then has.
+    fn shift(&mut self, place: u32, amount: i64) -> Result<i64, Halt>
         requires { place < vec_len self.old.arcs }
         ensures rows { vec_len self.new.starts ≡ vec_len self.old.starts }
         ensures arcs { vec_len self.new.arcs ≡ vec_len self.old.arcs }
     {
-        let arc = self.arcs[place as usize];
-        let room = arc.room.checked_add(change).ok_or(Halt::OutOfRange)?;
-        self.put(place, arc.with_room(room));
-        Ok(room)
+        let arc = self.arcs[place as usize].after(amount)?;
+        self.put(place, arc);
+        Ok(arc.room)
+    }
+
+    /// The node that a residual arc leaves.
+    pub fn tail(&self, arc: u32) -> Option<u32> {
+        let arc = self.arcs.get(arc as usize)?;
+        Some(self.arcs[arc.reverse as usize].head)
     }
 
     /// Sends flow over a residual arc. Answers the room that is left on it.
@@ -125,7 +121,7 @@ impl Residual {
         ensures arcs { vec_len self.new.arcs ≡ vec_len self.old.arcs }
     {
         let reverse = self.arcs[arc as usize].reverse;
-        self.add_room(reverse, amount)?;
-        self.add_room(arc, -amount)
+        self.shift(reverse, -amount)?;
+        self.shift(arc, amount)
     }
 }

@@ -2,7 +2,7 @@
 
 ghost use Rattle.std.specs.Prelude.{◌≡◌, IfOk};
 ghost use Rattle.net_check.specs.Certificates.{IsCertificate};
-ghost use Rattle.net_solve.specs.Settling.{IsSettledBy, BoundsEachFlow, LeavesNoFlow, settled_by};
+ghost use Rattle.net_solve.specs.Settling.{IsSettledBy, BoundsEachFlow, LeavesNoFlow, IsOwnAnswer, settled_by};
 
 use crate::settled::Settled;
 use crate::solver::{Plain, Solver};
@@ -30,6 +30,7 @@ pub fn solve<S: Solver>(alloc: Global, solver: &S, problem: &Problem) -> Result<
     ensures certificate { IfOk result (IsSettledBy problem.now) }
     ensures optimal { IfOk result (BoundsEachFlow problem.now) }
     ensures cut { IfOk result (LeavesNoFlow problem.now) }
+    ensures asked { IfOk result (IsOwnAnswer (S.may_answer solver.now problem.now)) }
 {
     if let Some(certificate) = solver.answer(alloc, problem)? {
         return Ok(settled(problem, certificate));

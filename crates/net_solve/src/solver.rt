@@ -1,8 +1,10 @@
 //! Solvers of minimum-cost flow problems.
 
-ghost use Rattle.std.specs.Prelude.{IfOk};
+ghost use Rattle.std.specs.Prelude.{IfOk, Option};
 ghost use Rattle.std.specs.Option.{ForSome};
 ghost use Rattle.net_check.specs.Certificates.{IsCertificate};
+ghost use Rattle.net_check.specs.declared.certificate.Certificate.{Certificate};
+ghost use Rattle.net_normal.specs.declared.problem.Problem.{Problem};
 
 use crate::candidate::find_candidate;
 use crate::halt::Halt;
@@ -12,9 +14,13 @@ use std::alloc::{AllocError, Global};
 
 /// What may settle problems.
 pub trait Solver {
+    // What it may answer to a problem: anything, where an implementation says no more.
+    ghost may_answer: { Self → Problem → Option Certificate → Type 0 } = { λ _ _ _. Unit {0} };
+
     /// A certificate of the problem, or `None` where none was found.
     fn answer(&self, alloc: Global, problem: &Problem) -> Result<Option<Certificate>, AllocError>
-        ensures { IfOk result (λ answer. ForSome answer (IsCertificate problem.now)) };
+        ensures certificate { IfOk result (λ answer. ForSome answer (IsCertificate problem.now)) }
+        ensures own { IfOk result (may_answer self.now problem.now) };
 }
 
 /// The primal-dual search by trees. What it finds is checked before it is given.
@@ -32,5 +38,15 @@ impl Solver for Plain {
             Verdict::Yes => Ok(Some(found)),
             Verdict::No(..) => Ok(None),
         }
+    }
+}
+
+/// A solver that never answers: `solve`, given this one, asks `Plain` alone.
+#[derive(Clone, Copy, Debug, PartialEq, Eq)]
+pub struct Silent;
+
+impl Solver for Silent {
+    fn answer(&self, _alloc: Global, _problem: &Problem) -> Result<Option<Certificate>, AllocError> {
+        Ok(None)
     }
 }

@@ -28,20 +28,6 @@ impl Solver for Known {
     }
 }
 
-/// A solver that never answers.
-#[derive(Drop)]
-struct Silent;
-
-impl Solver for Silent {
-    fn answer(
-        &self,
-        _alloc: Global,
-        _problem: &Problem,
-    ) -> Result<Option<Certificate>, AllocError> {
-        Ok(None)
-    }
-}
-
 /// `n 1 5`, `n 2 -5`, and twice `a 1 2 0 3 1`.
 fn parallel_arcs(rt: &(impl Abort + AllocGlobal)) -> Result<Problem, AllocError> {
     let mut problem = blank(rt, 3)?;

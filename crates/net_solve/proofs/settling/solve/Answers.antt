@@ -1,0 +1,8 @@
+use Rattle.std.proofs.Common.{subst, inl}
+use Rattle.net_solve.proofs.settling.solve.Goals as goal
+
+-- the certificate that the solver gave is what is settled
+pub returns-in-Some-clause-asked : goal.returns-in-Some-clause-asked
+returns-in-Some-clause-asked g c =
+    let own = subst (g.S.Solver.may_answer c.args.solver.now c.args.problem.now) c.in-Some.is c.in_ok-certificate.ensures.own in
+    inl (c.in-Some.certificate , own , c.settled.ensures.value)
