@@ -149,11 +149,7 @@ impl Frontier {
             }
         }
         mem::swap(&mut self.waiting, &mut self.kept);
-        self.most = self
-            .waiting
-            .len()
-            .max(forest.nodes.len())
-            .saturating_mul(2);
+        self.most = self.waiting.len().max(forest.nodes.len()).saturating_mul(2);
         Ok(())
     }
 }

@@ -46,7 +46,11 @@ impl Solver for Plain {
 pub struct Silent;
 
 impl Solver for Silent {
-    fn answer(&self, _alloc: Global, _problem: &Problem) -> Result<Option<Certificate>, AllocError> {
+    fn answer(
+        &self,
+        _alloc: Global,
+        _problem: &Problem,
+    ) -> Result<Option<Certificate>, AllocError> {
         Ok(None)
     }
 }

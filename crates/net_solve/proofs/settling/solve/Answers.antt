@@ -5,4 +5,4 @@ use Rattle.net_solve.proofs.settling.solve.Goals as goal
 pub returns-in-Some-clause-asked : goal.returns-in-Some-clause-asked
 returns-in-Some-clause-asked g c =
     let own = subst (g.S.Solver.may_answer c.args.solver.now c.args.problem.now) c.in-Some.is c.in_ok-certificate.ensures.own in
-    inl (c.in-Some.certificate , own , c.settled.ensures.value)
+    inl (c.in-Some.certificate, own, c.settled.ensures.value)
