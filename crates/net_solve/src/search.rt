@@ -160,12 +160,12 @@ impl Search {
         let filled = send_along(&mut self.network, &self.forest, target, amount)?;
         add_excess(&mut self.excess, path.root, -i128::from(amount))?;
         add_excess(&mut self.excess, target, i128::from(amount))?;
-        let left = if self.excess[path.root as usize] == 0 {
+        let parted = if self.excess[path.root as usize] == 0 {
             Some(path.root)
         } else {
             filled
         };
-        if let Some(node) = left {
+        if let Some(node) = parted {
             self.cutting
                 .cut(&self.network, &mut self.forest, &mut self.frontier, node)?;
         }
