@@ -1,13 +1,17 @@
 -- Blanks and comments are skipped, whatever follows them.
-use Rattle.std.proofs.Common.{◌≡◌, ℕ, true, false, not, ◌&&◌, ◌==◌, List, [], ◌∷◌, ◌++◌, Ok, Err, refl, ap, ◌∙◌, append_assoc}
-use Rattle.std.proofs.lemmas.Bool.{and_parts, and_right, or_parts, not-true}
-use Rattle.std.specs.List.{list_all}
+use Rattle.std.proofs.Common.{◌≡◌, ℕ, ◌≤◌, true, false, not, ◌&&◌, ◌==◌, List, [], ◌∷◌, ◌++◌, length, take, drop, get_or, IsUtf8, None, Ok, Err, refl, sym, ap, ◌∙◌, inl, inr, subst, arith, one-add, append_assoc, length-take, take-append-drop}
+use Rattle.std.proofs.lemmas.Bool.{cases_Bool, ne_eqb, and_parts, and_right, or_parts, not-true}
+use Rattle.std.proofs.lemmas.Bool.Decides.{nat_tests}
+use Rattle.std.specs.List.{list_all, prefix_len}
+use Rattle.std.specs.Str.{IsCharBoundary}
 use Rattle.net_lex.specs.declared.gap.Place.TheVariants.{Between, Line, Block}
 use Rattle.net_lex.specs.Bytes.{first}
 use Rattle.net_lex.specs.Characters.{is_blank, line_feed, hash, slash, star}
-use Rattle.net_lex.specs.GapFront.{after_gap}
+use Rattle.net_lex.specs.GapFront.{place_after, after_gap}
 use Rattle.net_lex.specs.Gaps.{IsOneLine, has_close, IsGap, nothing, blank, line, block, IsOpenLine, none, comment, IsLastGap, IsOpenComment}
 use Rattle.net_lex.specs.Scanning.{BeginsNoGap}
+use Rattle.net_lex.proofs.FormLemmas.{is_small, all_weaker, ascii_cut}
+use Rattle.net_lex.proofs.NumeralLemmas.{run_all}
 
 between_any : (o p rest : List ℕ) → after_gap Between o rest ≡ after_gap Between p rest
 unfolding after_gap
@@ -92,3 +96,25 @@ last_passes text last = ap (after_gap Between text) last.joined ∙ (gap_passes 
 -- a comment that is not closed is found
 pub open_passes : (opened : List ℕ) → IsOpenComment opened → after_gap Between opened opened ≡ Err opened
 open_passes opened o = rw (o.is) (begin_block (slash ∷ star ∷ o.body) o.body ∙ block_ends (slash ∷ star ∷ o.body) o.body o.unclosed)
+
+no_gap : (c next : ℕ) → is_blank c ≡ false → (c ≡ hash → ⊥) → (c ≡ slash → ⊥) → place_after Between c next ≡ None
+no_gap c next other no_line no_block = rw (other, ne_eqb c hash no_line, ne_eqb c slash no_block) refl
+
+-- blanks alone are skipped, where no comment begins behind them
+pub blanks_pass : (o text : List ℕ) → let n = prefix_len is_blank text in (get_or text n 0 ≡ hash → ⊥) → (get_or text n 0 ≡ slash → ⊥) → after_gap Between o text ≡ Ok (drop n text)
+blanks_pass o [] no_line no_block = between_any o [] [] ∙ nil_end
+blanks_pass o (c ∷ cs) no_line no_block = elim (cases_Bool (is_blank c)) [
+  | inl passes ↦ rw (passes, one-add) (begin_blank c o cs passes ∙ blanks_pass (c ∷ cs) cs (rw (passes, one-add) at no_line) (rw (passes, one-add) at no_block))
+  | inr fails ↦ rw fails (gap_stops o (c ∷ cs) (no_gap c (first cs) fails (rw fails at no_line) (rw fails at no_block)))
+]
+
+blank_small : (c : ℕ) → is_blank c ≡ true → is_small c ≡ true
+blank_small c h = grind (arith, nat_tests)
+
+-- the text may be cut behind its blanks
+pub blanks_cut : (text : List ℕ) → IsUtf8 text → let n = prefix_len is_blank text in n ≤ length text → IsCharBoundary text n
+blanks_cut text utf8 within =
+    let n = prefix_len is_blank text in
+    let small = all_weaker is_blank is_small (take n text) blank_small (run_all is_blank text) in
+    let len : length (take n text) ≡ n = omega (arith, length-take n text) in
+    subst (IsCharBoundary text) len (ascii_cut text (take n text) (drop n text) utf8 (sym (take-append-drop n text)) small)

@@ -1,12 +1,12 @@
 -- The numeral that is read at the front of a text is spelled there, and what is spelled there is read.
-use Rattle.std.proofs.Common.{◌≡◌, ℕ, ◌+◌, ◌<◌, ◌≤◌, Bool, true, false, cond, ◌&&◌, ◌==◌, List, [], ◌∷◌, ◌++◌, length, take, drop, nat_lt, Option, Some, None, refl, sym, ap, ◌∙◌, arith, subst, inl, inr, append_assoc, take_at, drop_at, length-drop, length-take, length-append, take-append-drop, one-add}
-use Rattle.std.proofs.lemmas.Bool.{cases_Bool, and_parts, lt-ltb, cond_both}
+use Rattle.std.proofs.Common.{◌≡◌, ℕ, ◌+◌, ◌<◌, ◌≤◌, Bool, true, false, cond, ◌&&◌, ◌||◌, ◌==◌, List, [], ◌∷◌, ◌++◌, length, take, drop, nat_lt, Option, Some, None, refl, sym, ap, ◌∙◌, arith, subst, inl, inr, append_assoc, take_at, drop_at, length-drop, length-take, length-append, take-append-drop, one-add}
+use Rattle.std.proofs.lemmas.Bool.{cases_Bool, and_parts, or_parts, lt-ltb, cond_both}
 use Rattle.std.proofs.lemmas.Bool.Decides.{nat_tests}
 use Rattle.std.specs.List.{prefix_len, list_all}
 use Rattle.std.specs.Char.{is_ascii_digit}
 use Rattle.net_lex.specs.Bytes.{first, point, minus, marks_power, is_sign, after_sign, digits_at}
 use Rattle.net_lex.specs.Numerals.{AllDigits, AreDigits, SpellsMantissa, plain, pointed, IsSign, unsigned, with_plus, with_minus}
-use Rattle.net_lex.specs.NumeralFront.{Mantissa, Power, starts_fraction, mantissa_at, power_at}
+use Rattle.net_lex.specs.NumeralFront.{Mantissa, Power, starts_fraction, mantissa_at, power_at, numeral_at}
 
 -- the digits at the front are digits, and a byte that is none follows
 pub run_all : (p : ℕ → Bool) (text : List ℕ) → list_all p (take (prefix_len p text) text) ≡ true
@@ -32,6 +32,14 @@ digits_more (c ∷ cs) rest all =
 pub none_at : (p : ℕ → Bool) (text : List ℕ) → p (first text) ≡ false → prefix_len p text ≡ 0
 none_at p [] stop = refl
 none_at p (c ∷ cs) stop = rw stop refl
+
+-- no numeral begins with a byte that is neither a digit nor a point
+pub unread_at : (text : List ℕ) → (is_ascii_digit (first text) || first text == point) ≡ false → numeral_at text ≡ None
+unfolding numeral_at mantissa_at
+unread_at text stop =
+    let (digit, dot) = or_parts (is_ascii_digit (first text)) (first text == point) stop in
+    let none : prefix_len is_ascii_digit text ≡ 0 = none_at is_ascii_digit text digit in
+    rw (none, dot) refl
 
 pub digits_run : (ds rest : List ℕ) → AllDigits ds → is_ascii_digit (first rest) ≡ false → digits_at (ds ++ rest) ≡ (ds, rest)
 digits_run ds rest all stop =

@@ -12,6 +12,7 @@ use Rattle.net_lex.specs.declared.language.Language.{Language}
 use Rattle.net_lex.specs.declared.language.Language.TheVariants.{Model, Data}
 use Rattle.net_lex.specs.declared.shape.Shape.{Shape}
 use Rattle.net_lex.specs.declared.shape.Shape.TheVariants.{Word, Numeral, Quoted, Mark}
+use Rattle.net_lex.specs.declared.shape.Stop.{Stop}
 use Rattle.net_lex.specs.declared.span.Span.{Span}
 use Rattle.net_lex.specs.declared.token.Kind.{Kind}
 use Rattle.net_lex.specs.declared.token.Kind.TheVariants as kinds
@@ -23,13 +24,14 @@ use Rattle.net_lex.specs.GapFront.{place_after, after_gap}
 use Rattle.net_lex.specs.Numerals.{Parts, SpellsNumeral, SpellsSigned, unsigned}
 use Rattle.net_lex.specs.NumeralFront.{numeral_at}
 use Rattle.net_lex.specs.Words.{is_reserved}
+use Rattle.net_lex.specs.Shapes.{front}
 use Rattle.net_lex.specs.Tokens.{IsString, HasShape, Allows}
 use Rattle.net_lex.specs.Reading.{IsLongest, BeginsNoComment}
 use Rattle.net_lex.specs.Faults.{EndsWhole, IsDefect, too_long, not_whole, too_large, IsFault, comment, token}
 use Rattle.net_lex.specs.Scanning.{limits, BeginsNoGap, IsNumeralKind, IsKindOf, IsTokenAt, IsDefectAt, IsStep}
 use Rattle.net_lex.proofs.GapReading.{Skipped, skipped_is}
 use Rattle.net_lex.proofs.NumeralSigned.{signed_spelled, unread_none, unread_rest}
-use Rattle.net_lex.proofs.FrontTold.{FrontIs, first_take}
+use Rattle.net_lex.proofs.FrontTold.{FrontIs, Refuses, FrontTold, told_front, first_take}
 
 -- a numeral without a sign is one with an optional sign
 pub unsigned_spelled : (text : List ℕ) (p : Parts) → SpellsNumeral text p → SpellsSigned text false p
@@ -64,6 +66,13 @@ shape_kind Data Word word w = word_kind (numeral_at (after_sign word)) refl
     word_kind None e = named (unread_none word e)
     word_kind (Some (p, [])) e = (kinds.Num, (first word == 45, p, signed_spelled word p e))
     word_kind (Some (p, c ∷ cs)) e = named (unread_rest word (c ∷ cs) p e (ne_eqb (suc (length cs)) 0 (λ e. omega arith)))
+
+-- what the front of a text is found to be stands there, and what is wrong there is wrong
+pub front_found : (language : Language) (text : List ℕ) (shape : Shape) (n : ℕ) → IsUtf8 text → 0 < length text → front language text ≡ Ok (shape, n) → FrontIs language text shape n
+front_found language text shape n utf8 some e = subst (FrontTold language text) e (told_front language text utf8 some)
+
+pub front_refused : (language : Language) (text : List ℕ) (stop : Stop) → IsUtf8 text → 0 < length text → front language text ≡ Err stop → Refuses language text stop
+front_refused language text stop utf8 some e = subst (FrontTold language text) e (told_front language text utf8 some)
 
 -- what is found at the front is the longest of its kind
 pub found_longest : (language : Language) (text : List ℕ) (shape : Shape) (n : ℕ) (kind : Kind) → FrontIs language text shape n → Allows language kind (take n text)

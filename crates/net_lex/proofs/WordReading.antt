@@ -1,6 +1,6 @@
 -- Bare words of data at the front of a text.
-use Rattle.std.proofs.Common.{◌≡◌, ℕ, ◌<◌, ◌≤◌, Bool, true, false, ◌&&◌, ◌||◌, ◌==◌, List, [], ◌∷◌, ◌++◌, length, take, drop, IsUtf8, refl, sym, ap, ◌∙◌, arith, inl, inr, append_assoc, length-append, take-append-drop, take_at, one-add}
-use Rattle.std.proofs.lemmas.Bool.{cases_Bool, and_parts, and_from, true≢false}
+use Rattle.std.proofs.Common.{◌≡◌, ℕ, ◌<◌, ◌≤◌, Bool, true, false, ◌&&◌, ◌||◌, ◌==◌, List, [], ◌∷◌, ◌++◌, length, take, drop, nat_lt, IsUtf8, refl, sym, ap, ◌∙◌, arith, inl, inr, append_assoc, length-append, take-append-drop, take_at, one-add}
+use Rattle.std.proofs.lemmas.Bool.{cases_Bool, cases_lt, lt-ltb, le-ltb, and_parts, and_from, true≢false}
 use Rattle.std.proofs.lemmas.Bool.Decides.{nat_tests}
 use Rattle.std.proofs.lemmas.Str.{char_from_byte, chars-encodes, chars-append, encodes-chars, scalars-chars, encodes-append, encodes-IsAscii, IsCharBoundary-from_take}
 use lib.Utf8.{scalar}
@@ -22,6 +22,15 @@ in_ascii_word c = (((is_ascii_alphanumeric c || c == 95) || c == point) || c == 
 
 pub word_char_ascii : (c : ℕ) → c < 128 → is_word_char c ≡ in_ascii_word c
 word_char_ascii c small = rw (is_xid_continue-ascii c small) refl
+
+pub ascii_word_char : (c : ℕ) → (nat_lt c 128 && is_word_char c) ≡ in_ascii_word c
+ascii_word_char c = elim (cases_lt c 128) [ inl small ↦ rw (lt-ltb c 128 small) (word_char_ascii c small) | inr far ↦ rw (le-ltb c 128 far) (sym (none_far c far)) ]
+  where
+    none_far : (c : ℕ) → 128 ≤ c → in_ascii_word c ≡ false
+    none_far c far = grind (arith, nat_tests)
+
+-- what the code's test of a byte needs
+pub ruleset word_tests = (ascii_word_char, nat_tests)
 
 all_run : (p : ℕ → Bool) (cs ys : List ℕ) → list_all p cs ≡ true → take_while p (cs ++ ys) ≡ cs ++ take_while p ys
 all_run p [] ys all = refl

@@ -1,9 +1,12 @@
 //! Bare words of data text.
-ghost use Rattle.std.specs.Prelude.{◌≡◌};
+ghost use Rattle.std.specs.Prelude.{◌≡◌, ◌≤◌, ◌&&◌, nat_lt, length};
+ghost use Rattle.std.specs.List.{prefix_len};
 ghost use Rattle.std.specs.Str.{IsCharBoundary};
 ghost use Rattle.unicode_ident.specs.Ident.{is_xid_continue};
 ghost use Rattle.net_lex.specs.Characters.{is_word_char};
 ghost use Rattle.net_lex.specs.Shapes.{char_len, word_len};
+
+use crate::cursor::byte_at;
 
 /// Unicode's table is asked for characters past ASCII alone.
 #[inline]
@@ -35,8 +38,25 @@ pub(crate) fn char_len(text: &str) -> usize
     }
 }
 
+/// A character of a bare word, among those of ASCII.
+#[inline]
+#[tactic(auto, using(crate::proofs::WordReading::word_tests))]
+fn is_ascii_word_char(byte: u8) -> bool
+    ensures { result ≡ (nat_lt byte 128 && is_word_char byte) }
+{
+    byte.is_ascii_alphanumeric() || matches!(byte, b'_' | b'.' | b'+' | b'-')
+}
+
+/// The length of the ASCII characters with which a bare word begins.
+fn ascii_len(bytes: &[u8]) -> usize
+    ensures value { result ≡ prefix_len (λ c. nat_lt c 128 && is_word_char c) bytes.now }
+    ensures within { result ≤ length bytes.now }
+{
+    bytes.iter().take_while(|b| is_ascii_word_char(**b)).count()
+}
+
 /// The length of the bare word at the front, in bytes.
-pub(crate) fn word_len(text: &str) -> usize
+fn unicode_len(text: &str) -> usize
     ensures value { result ≡ word_len text.now }
     ensures cut { IsCharBoundary text.now result }
 {
@@ -48,4 +68,18 @@ pub(crate) fn word_len(text: &str) -> usize
         len += c.len_utf8();
     }
     len
+}
+
+/// The same; a word of ASCII alone is read by its bytes.
+pub(crate) fn word_len(text: &str) -> usize
+    ensures value { result ≡ word_len text.now }
+    ensures cut { IsCharBoundary text.now result }
+{
+    let bytes = text.as_bytes();
+    let ascii = ascii_len(bytes);
+    if byte_at(bytes, ascii).is_ascii() {
+        ascii
+    } else {
+        unicode_len(text)
+    }
 }

@@ -1,5 +1,6 @@
 //! Blanks and comments between tokens.
 ghost use Rattle.std.specs.Prelude.{◌≡◌, ◌≤◌, ℕ, List, Ok, Err, length, drop, MatchResult};
+ghost use Rattle.std.specs.List.{prefix_len};
 ghost use Rattle.std.specs.Str.{IsCharBoundary};
 ghost use Rattle.net_lex.specs.GapFront.{place_after, opened_at, after_gap};
 ghost use Rattle.net_lex.specs.Characters.{is_blank};
@@ -54,8 +55,15 @@ fn opened_at(place: Place, here: usize, opened: usize) -> usize
     }
 }
 
+fn blank_len(bytes: &[u8]) -> usize
+    ensures value { result ≡ prefix_len is_blank bytes.now }
+    ensures within { result ≤ length bytes.now }
+{
+    bytes.iter().take_while(|b| is_blank(**b)).count()
+}
+
 /// The length of the blanks and comments at the front, or the place of a comment that is not closed.
-pub(crate) fn gap_len(text: &str) -> Result<usize, usize>
+fn commented_len(text: &str) -> Result<usize, usize>
     ensures value { MatchResult result
         (λ n. after_gap Between text.now text.now ≡ Ok (drop n text.now))
         (λ n. after_gap Between text.now text.now ≡ Err (drop n text.now)) }
@@ -74,5 +82,22 @@ pub(crate) fn gap_len(text: &str) -> Result<usize, usize>
     match place {
         Place::Between | Place::Line => Ok(bytes.len()),
         Place::Opening | Place::Block | Place::Closing => Err(opened),
+    }
+}
+
+/// The same; where no comment can follow, the blanks alone are counted.
+pub(crate) fn gap_len(text: &str) -> Result<usize, usize>
+    ensures value { MatchResult result
+        (λ n. after_gap Between text.now text.now ≡ Ok (drop n text.now))
+        (λ n. after_gap Between text.now text.now ≡ Err (drop n text.now)) }
+    ensures cut { MatchResult result (IsCharBoundary text.now) (λ n. n ≤ length text.now) }
+{
+    let bytes = text.as_bytes();
+    let blanks = blank_len(bytes);
+    let next = byte_at(bytes, blanks);
+    if next == b'#' || next == b'/' {
+        commented_len(text)
+    } else {
+        Ok(blanks)
     }
 }

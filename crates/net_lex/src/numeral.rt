@@ -1,5 +1,6 @@
-ghost use Rattle.std.specs.Prelude.{◌≡◌, ◌+◌, ◌*◌, ◌^◌, ◌<◌, ◌≤◌, length, min, option_map, MatchResult};
-ghost use Rattle.net_lex.specs.Bytes.{after_sign, marks_power};
+ghost use Rattle.std.specs.Prelude.{◌≡◌, ◌+◌, ◌*◌, ◌^◌, ◌<◌, ◌≤◌, ◌==◌, ◌||◌, length, min, option_map, MatchResult};
+ghost use Rattle.std.specs.Char.{is_ascii_digit};
+ghost use Rattle.net_lex.specs.Bytes.{after_sign, marks_power, point};
 ghost use Rattle.net_lex.specs.NumeralFront.{mantissa_at, power_at, numeral_at};
 ghost use Rattle.net_lex.specs.NumeralViews.{mantissa_view, power_view, parts_view};
 ghost use Rattle.net_lex.specs.Numerals.{AllDigits, digits_value, mantissa, up, down, IsSized, signed, IsValue, IsNumFault};
@@ -104,8 +105,9 @@ fn power_at(bytes: &[u8]) -> Power<'_>
 }
 
 /// The numeral at the front, without a sign, and what follows it.
+#[inline(never)]
 #[tactic(auto, unfolding(crate::specs::NumeralFront::numeral_at))]
-pub(crate) fn numeral_at(bytes: &[u8]) -> Option<(Parts<'_>, &[u8])>
+fn parts_at(bytes: &[u8]) -> Option<(Parts<'_>, &[u8])>
     ensures { option_map (λ x. (parts_view x.0, x.1.now)) result ≡ numeral_at bytes.now }
 {
     let mantissa = mantissa_at(bytes)?;
@@ -117,6 +119,24 @@ pub(crate) fn numeral_at(bytes: &[u8]) -> Option<(Parts<'_>, &[u8])>
         power: power.power,
     };
     Some((parts, power.rest))
+}
+
+fn starts_numeral(byte: u8) -> bool
+    ensures { result ≡ (is_ascii_digit byte || byte == point) }
+{
+    byte.is_ascii_digit() || byte == b'.'
+}
+
+/// The same; what begins no numeral is seen by its first byte, with no call.
+#[inline]
+pub(crate) fn numeral_at(bytes: &[u8]) -> Option<(Parts<'_>, &[u8])>
+    ensures { option_map (λ x. (parts_view x.0, x.1.now)) result ≡ numeral_at bytes.now }
+{
+    if starts_numeral(first(bytes)) {
+        parts_at(bytes)
+    } else {
+        None
+    }
 }
 
 /// The greatest size of a value.
@@ -141,7 +161,9 @@ fn grown(digits: u64, places: u128, digit: u8) -> u64
     requires { digits ≤ PAST_LIMIT }
     ensures { result ≡ min (digits * 10 ^ places + digit) PAST_LIMIT }
 {
-    if digits == 0 {
+    if places == 1 {
+        (10 * digits + u64::from(digit)).min(PAST_LIMIT)
+    } else if digits == 0 {
         u64::from(digit)
     } else if places > 12 {
         PAST_LIMIT

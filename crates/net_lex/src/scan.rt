@@ -1,5 +1,5 @@
 //! Tokens one by one, for both languages.
-ghost use Rattle.std.specs.Prelude.{◌≡◌, ◌+◌, ◌<◌, ◌^◌, MatchResult, MatchOption, length};
+ghost use Rattle.std.specs.Prelude.{◌≡◌, ◌+◌, ◌<◌, ◌≤◌, ◌^◌, MatchResult, MatchOption, length};
 ghost use Rattle.net_lex.specs.Shapes.{front};
 ghost use Rattle.net_lex.specs.Tokens.{HasShape};
 ghost use Rattle.net_lex.specs.Gaps.{IsLastGap};
@@ -70,6 +70,50 @@ fn word_kind(language: Language, word: &str) -> Result<Kind, Defect>
     }
 }
 
+/// The token of this form and length, with which the text begins, and what follows it.
+fn token_of<'s>(
+    language: Language,
+    shape: Shape,
+    len: usize,
+    text: &'s str,
+    at: usize,
+) -> Result<(Token<'s>, &'s str), (Defect, Span)>
+    requires room { at + length text.now + 4 < 2 ^ 64 }
+    requires some { 0 < length text.now }
+    requires found { front language text.now ≡ Ok (shape, len) }
+    requires short { len ≤ TOKEN_LIMIT }
+    ensures { MatchResult result
+        (λ x. IsTokenAt language at text.entry.now x.0 x.1.now)
+        (λ e. IsDefectAt language at text.entry.now e.0 e.1) }
+{
+    let (word, after) = text.split_at(len);
+    let span = Span {
+        start: at,
+        end: at + len,
+    };
+    match kind_of(language, shape, word) {
+        Ok(kind) => {
+            let text = Excerpt::new(word);
+            Ok((Token { kind, text, span }, after))
+        }
+        Err(defect) => Err((defect, span)),
+    }
+}
+
+/// What is wrong with a text that begins at `at`.
+fn fault_at(stop: Stop, at: usize) -> (Defect, Span)
+    requires from { at + stop.from < 2 ^ 64 }
+    requires to { at + stop.to < 2 ^ 64 }
+    ensures defect { result.0 ≡ stop.defect }
+    ensures span { result.1 ≡ record { start = at + stop.from; end = at + stop.to } }
+{
+    let span = Span {
+        start: at + stop.from,
+        end: at + stop.to,
+    };
+    (stop.defect, span)
+}
+
 /// The token that begins here, and what follows it.
 fn token_at<'s>(
     language: Language,
@@ -84,40 +128,16 @@ fn token_at<'s>(
         (λ e. IsDefectAt language at text.entry.now e.0 e.1) }
 {
     match front(language, text) {
-        Err(stop) => Err((
-            stop.defect,
-            Span {
-                start: at + stop.from,
-                end: at + stop.to,
-            },
-        )),
+        Err(stop) => Err(fault_at(stop, at)),
         Ok((_, len)) if len > TOKEN_LIMIT => {
-            Err((
-                Defect::TextTooLong,
-                Span {
-                    start: at,
-                    end: at + len,
-                },
-            ))
-        }
-        Ok((shape, len)) => {
-            let (word, after) = text.split_at(len);
-            let span = Span {
-                start: at,
-                end: at + len,
+            let stop = Stop {
+                defect: Defect::TextTooLong,
+                from: 0,
+                to: len,
             };
-            match kind_of(language, shape, word) {
-                Ok(kind) => Ok((
-                    Token {
-                        kind,
-                        text: Excerpt::new(word),
-                        span,
-                    },
-                    after,
-                )),
-                Err(defect) => Err((defect, span)),
-            }
+            Err(fault_at(stop, at))
         }
+        Ok((shape, len)) => token_of(language, shape, len, text, at),
     }
 }
 

@@ -1,101 +1,72 @@
-ghost use Rattle.std.specs.Prelude.{◌≡◌, ◌≤◌, length, map};
-ghost use Rattle.net_lex.specs.Words.{is_reserved, model_mark_len, data_mark_len, is_among, longest_among};
+ghost use Rattle.std.specs.Prelude.{◌≡◌, ◌==◌, map};
+ghost use Rattle.std.specs.List.{filter};
+ghost use Rattle.net_lex.specs.Bytes.{first};
+ghost use Rattle.net_lex.specs.Words.{reserved, is_reserved, model_mark_len, data_mark_len};
 
-/// The reserved words of model text.
-const RESERVED: [&[u8]; 41] = [
-    b"and",
-    b"arc",
-    b"by",
-    b"check",
-    b"cross",
-    b"default",
-    b"diff",
-    b"dimen",
-    b"div",
-    b"else",
-    b"exists",
-    b"forall",
-    b"from",
-    b"if",
-    b"in",
-    b"Infinity",
-    b"integer",
-    b"inter",
-    b"less",
-    b"max",
-    b"maximize",
-    b"min",
-    b"minimize",
-    b"mod",
-    b"net_in",
-    b"net_out",
-    b"node",
-    b"not",
-    b"obj",
-    b"or",
-    b"param",
-    b"prod",
-    b"set",
-    b"setof",
-    b"sum",
-    b"symbolic",
-    b"symdiff",
-    b"then",
-    b"to",
-    b"union",
-    b"within",
-];
+use crate::cursor::first;
 
-/// The marks of model text.
-const MODEL_MARKS: [&[u8]; 30] = [
-    b";", b":", b",", b"(", b")", b"{", b"}", b"[", b"]", b":=", b"..", b".", b"+", b"-", b"*",
-    b"**", b"/", b"^", b"&", b"&&", b"||", b"!", b"<", b"<=", b">", b">=", b"=", b"==", b"<>",
-    b"!=",
-];
-
-/// The marks of data text.
-const DATA_MARKS: [&[u8]; 9] = [b";", b":", b":=", b",", b"(", b")", b"[", b"]", b"*"];
-
-#[tactic(auto, unfolding(crate::specs::Words::data_mark_len))]
-pub(crate) fn data_mark_len(text: &[u8]) -> usize
-    ensures { result ≡ data_mark_len text.now }
+/// The reserved words of model text that begin with this letter.
+fn reserved_with(letter: u8) -> &'static [&'static [u8]]
+    ensures { map (λ word. word.now) result.now ≡ filter (λ word. first word == letter) reserved }
 {
-    longest_among(&DATA_MARKS, text)
+    match letter {
+        b'a' => &[b"and", b"arc"],
+        b'b' => &[b"by"],
+        b'c' => &[b"check", b"cross"],
+        b'd' => &[b"default", b"diff", b"dimen", b"div"],
+        b'e' => &[b"else", b"exists"],
+        b'f' => &[b"forall", b"from"],
+        b'i' => &[b"if", b"in", b"integer", b"inter"],
+        b'I' => &[b"Infinity"],
+        b'l' => &[b"less"],
+        b'm' => &[b"max", b"maximize", b"min", b"minimize", b"mod"],
+        b'n' => &[b"net_in", b"net_out", b"node", b"not"],
+        b'o' => &[b"obj", b"or"],
+        b'p' => &[b"param", b"prod"],
+        b's' => &[b"set", b"setof", b"sum", b"symbolic", b"symdiff"],
+        b't' => &[b"then", b"to"],
+        b'u' => &[b"union"],
+        b'w' => &[b"within"],
+        _ => &[],
+    }
 }
 
-#[tactic(auto, unfolding(crate::specs::Words::model_mark_len))]
-pub(crate) fn model_mark_len(text: &[u8]) -> usize
-    ensures { result ≡ model_mark_len text.now }
-{
-    longest_among(&MODEL_MARKS, text)
-}
-
+/// Whether the text is a reserved word of model text.
 #[tactic(auto, unfolding(crate::specs::Words::is_reserved))]
 pub(crate) fn is_reserved(text: &[u8]) -> bool
     ensures { result ≡ is_reserved text.now }
 {
-    is_among(&RESERVED, text)
+    reserved_with(first(text)).contains(&text)
 }
 
-fn is_among(table: &[&[u8]], text: &[u8]) -> bool
-    ensures { result ≡ is_among (map (λ entry. entry.now) table.now) text.now }
+/// The length of the mark of data text at the front, or 0.
+#[tactic(auto, unfolding(crate::specs::Words::data_mark_len))]
+pub(crate) fn data_mark_len(text: &[u8]) -> usize
+    ensures { result ≡ data_mark_len text.now }
 {
-    for entry in table {
-        if *entry == text {
-            return true;
-        }
+    match text {
+        [b':', b'=', ..] => 2,
+        [b';' | b':' | b',' | b'(' | b')' | b'[' | b']' | b'*', ..] => 1,
+        _ => 0,
     }
-    false
 }
 
-fn longest_among(table: &[&[u8]], text: &[u8]) -> usize
-    ensures { result ≡ longest_among (map (λ entry. entry.now) table.now) text.now }
+/// The length of the mark of model text at the front, or 0.
+#[tactic(auto, unfolding(crate::specs::Words::model_mark_len))]
+pub(crate) fn model_mark_len(text: &[u8]) -> usize
+    ensures { result ≡ model_mark_len text.now }
 {
-    let mut longest = 0;
-    for entry in table {
-        if text.starts_with(entry) && entry.len() > longest {
-            longest = entry.len();
-        }
+    match text {
+        [b':' | b'<' | b'>' | b'=' | b'!', b'=', ..] | [b'<', b'>', ..] => 2,
+        [b'.', b'.', ..] | [b'*', b'*', ..] | [b'&', b'&', ..] | [b'|', b'|', ..] => 2,
+        [
+            b';' | b':' | b',' | b'.' | b'(' | b')' | b'{' | b'}' | b'[' | b']',
+            ..
+        ] => 1,
+        [
+            b'+' | b'-' | b'*' | b'/' | b'^' | b'&' | b'!' | b'<' | b'>' | b'=',
+            ..
+        ] => 1,
+        _ => 0,
     }
-    longest
 }

@@ -2,7 +2,7 @@ use Rattle.std.proofs.Common.{◌≡◌, ◌≤◌, drop, length, get_or}
 use Rattle.std.specs.Str.{IsCharBoundary}
 use Rattle.net_lex.specs.declared.gap.Place.TheVariants.{Between, Closing}
 use Rattle.net_lex.specs.GapFront.{after_gap}
-use Rattle.net_lex.proofs.gap.gap_len.Given as goal
+use Rattle.net_lex.proofs.gap.commented_len.Given as goal
 
 abbrev pub invariant-loop-at : goal.invariant-loop-at
 invariant-loop-at l = record {
