@@ -16,7 +16,7 @@ use Rattle.net_dimacs.specs.declared.problem_fault.ProblemFault.{ProblemFault}
 use Rattle.net_dimacs.specs.declared.problem_fault.ProblemFault.TheVariants as faults
 use Rattle.net_dimacs.specs.Reading.{text_limit}
 use Rattle.net_dimacs.specs.Claims.{claimed}
-use Rattle.net_dimacs.specs.Certificates.{Account, Optimal, Cut, account_of, IsOfSize, IsCertificateText, IsNoCertificateText, IsOnlyCertificate}
+use Rattle.net_dimacs.specs.Certificates.{Account, Optimal, Cut, account_of, BeginsCertificate, IsOfSize, IsCertificateText, IsNoCertificateText, IsOnlyCertificate}
 use Rattle.net_dimacs.specs.CertificateReading.{first_claim, next_claim, Progress, Start, Open, Refused, kept, with_claim, with_claimed, missing, finished, read_lines, read_text, Fails, Gives, IfRefused}
 use Rattle.net_dimacs.specs.CertificateDrafts.{Stops}
 use Rattle.net_dimacs.proofs.CertificateSound.{refused_stays, is_certificate_text}
@@ -84,6 +84,13 @@ is_stopped nodes arcs text number progress ls more line claim fault short same p
     ∙ same
     ∙ sym (short_text text (read_lines nodes arcs 1 Start (lines text)) short) in
     subst (λ (x : Result Account Refusal). Fails x fault) read (stops_there nodes arcs (number + 1) (with_claim nodes arcs number progress claim) more fault stops)
+
+-- ---- where memory runs out
+
+-- all claims are still left, or the first of them began a certificate
+abbrev pub IsBegun : List Claim → List Claim → Option Certificate → Type 0
+IsBegun all left None = all ≡ left
+IsBegun all left (Some certificate) = BeginsCertificate all
 
 -- ---- the line of a refusal
 

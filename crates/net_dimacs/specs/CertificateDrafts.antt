@@ -1,5 +1,5 @@
 -- What a reader keeps of a certificate text.
-use Rattle.std.specs.Prelude.{◌≡◌, Option, Some, None, List, Result, Ok, Err}
+use Rattle.std.specs.Prelude.{◌≡◌, Bool, true, false, IsTrue, IsOk, Option, Some, None, List, Result, Ok, Err}
 use Rattle.std.specs.Global.{Vec}
 use Rattle.net_check.specs.declared.certificate.Certificate.{Certificate}
 use Rattle.net_dimacs.specs.declared.problem_fault.LineFault.{LineFault}
@@ -10,8 +10,9 @@ use Rattle.net_dimacs.specs.declared.draft.DraftFault.TheVariants as draft_fault
 use Rattle.net_dimacs.specs.Certificates.{Account, account_of}
 use Rattle.net_dimacs.specs.CertificateReading.{Progress, Start, Open, Refused}
 
+-- memory runs out only over a line that has no fault
 abbrev pub FailsLine : {A : Type 0} → Result A LineFault → DraftFault → Type 0
-FailsLine read draft_faults.OutOfMemory = Unit {0}
+FailsLine read draft_faults.OutOfMemory = IsOk read
 FailsLine read (draft_faults.Line fault) = read ≡ Err fault
 
 -- a list or a fault is what reading gives, unless memory ran out
@@ -28,8 +29,14 @@ abbrev pub progress_of : Option Certificate → Progress
 progress_of None = Start
 progress_of (Some certificate) = Open (account_of certificate)
 
+abbrev pub is_open : Progress → Bool
+is_open Start = false
+is_open (Open account) = true
+is_open (Refused refusal) = false
+
+-- memory runs out only over a line that is not refused
 abbrev pub Stops : Progress → ProblemFault → Type 0
-Stops progress faults.OutOfMemory = Unit {0}
+Stops progress faults.OutOfMemory = IsTrue (is_open progress)
 Stops progress (faults.Refused refusal) = progress ≡ Refused refusal
 
 -- a certificate so far or a refusal is what has come of the lines, unless memory ran out

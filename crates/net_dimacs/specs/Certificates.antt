@@ -22,6 +22,12 @@ account_of (certificates.Cut flags side) = Cut flags.items side
 abbrev pub claims_of : List ℕ → List Claim
 claims_of text = filter_map claimed (lines text)
 
+-- a certificate may begin with the first of these claims: its value, or its side
+abbrev pub BeginsCertificate : List Claim → Type 0
+BeginsCertificate (claims.Value (Some value) ∷ more) = Unit {0}
+BeginsCertificate (claims.Side side ∷ more) = Unit {0}
+BeginsCertificate says = ⊥
+
 abbrev pub flow_claim : FlowArc → ℤ → Claim
 flow_claim arc flow = claims.Flow (Some arc.src) (Some arc.dst) (Some flow)
 

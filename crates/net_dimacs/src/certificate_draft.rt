@@ -1,6 +1,6 @@
 //! A certificate that is being read: its lists so far.
 
-ghost use Rattle.std.specs.Prelude.{◌≡◌, ◌+◌, ◌-◌, ◌≤◌, ◌==◌, ◌++◌, length, replicate, false, vec_len, Some, IfOk};
+ghost use Rattle.std.specs.Prelude.{◌≡◌, ◌+◌, ◌-◌, ◌≤◌, ◌==◌, ◌++◌, length, replicate, false, vec_len, Some, IfOk, IsOk, IsErrOf};
 ghost use Rattle.net_dimacs.specs.Certificates.{Cut, account_of};
 ghost use Rattle.net_dimacs.specs.CertificateReading.{is_node, are_ends, first_claim, next_claim, with_number, with_flow, with_potential, with_member, with_claim, completed, Gives};
 ghost use Rattle.net_dimacs.specs.CertificateDrafts.{GivesList, GivesPart, progress_of, Comes};
@@ -39,7 +39,9 @@ pub fn completed(
     line: usize,
     certificate: Certificate,
 ) -> Result<Certificate, ProblemFault>
-    ensures { Gives (completed (length problem.now.supplies.items) problem.now.arcs.items line (account_of certificate)) result }
+    ensures value { Gives (completed (length problem.now.supplies.items) problem.now.arcs.items line (account_of certificate)) result }
+    ensures memory { IsErrOf result ProblemFault.OutOfMemory →
+        IsOk (completed (length problem.now.supplies.items) problem.now.arcs.items line (account_of certificate)) }
 {
     match certificate {
         Certificate::Optimal {

@@ -1,10 +1,10 @@
 //! Certificates from their texts.
 
-ghost use Rattle.std.specs.Prelude.{◌≡◌, ◌+◌, ◌<◌, ◌≤◌, ◌⊎◌, length, IfOk};
+ghost use Rattle.std.specs.Prelude.{◌≡◌, ◌+◌, ◌<◌, ◌≤◌, ◌⊎◌, length, IfOk, IsErrOf};
 ghost use Rattle.std.specs.Str.Lines.{lines};
 ghost use Rattle.net_check.specs.Certificates.{HasShape};
 ghost use Rattle.net_dimacs.specs.Reading.{text_limit};
-ghost use Rattle.net_dimacs.specs.Certificates.{account_of, IsCertificateText, IsOnlyCertificate, IsNoCertificateText};
+ghost use Rattle.net_dimacs.specs.Certificates.{account_of, claims_of, BeginsCertificate, IsCertificateText, IsOnlyCertificate, IsNoCertificateText};
 ghost use Rattle.net_dimacs.specs.CertificateReading.{read_text, Gives, IfRefused};
 
 use crate::certificate_draft::{completed, refused, with_claim};
@@ -18,7 +18,13 @@ use std::alloc::Global;
 /// The most bytes of a certificate text: 64 MiB.
 const TEXT_LIMIT: usize = 64 * 1024 * 1024;
 
-/// The certificate of a text for this problem, or its first fault: `TooLarge` or `Certificate`.
+/// The certificate of a text for this problem, or the text's first fault and its line, from 1.
+///
+/// The text numbers the problem's nodes from 1; the certificate's lists have a place for each arc
+/// or node in the problem's order. `Certificate` is a line that may not stand there, or a missing
+/// one, which is one past the last; `TooLarge` is a line that may, but for a number outside
+/// its type. A text past 64 MiB is `TooLarge` at line 1, whatever stands in it. Whether the
+/// certificate settles the problem is not asked.
 pub fn read_certificate(
     alloc: Global,
     problem: &Problem,
@@ -38,6 +44,10 @@ pub fn read_certificate(
     ensures refused { IfRefused result (λ _.
         (text_limit < length text.now) ⊎ IsNoCertificateText text.now (length problem.now.supplies.items) problem.now.arcs.items) }
     ensures place { IfRefused result (λ refusal. (1 ≤ refusal.line) × (refusal.line ≤ length (lines text.now) + 1)) }
+
+    // Memory is asked for only behind a first line that a certificate may have.
+    ensures memory { IsErrOf result ProblemFault.OutOfMemory →
+        (length text.now ≤ text_limit) × BeginsCertificate (claims_of text.now) }
 {
     read_whole_certificate(alloc, problem, text)
 }
@@ -47,7 +57,9 @@ fn read_whole_certificate(
     problem: &Problem,
     text: &[u8],
 ) -> Result<Certificate, ProblemFault>
-    ensures { Gives (read_text (length problem.now.supplies.items) problem.now.arcs.items text.now) result }
+    ensures value { Gives (read_text (length problem.now.supplies.items) problem.now.arcs.items text.now) result }
+    ensures memory { IsErrOf result ProblemFault.OutOfMemory →
+        (length text.now ≤ text_limit) × BeginsCertificate (claims_of text.now) }
 {
     if text.len() > TEXT_LIMIT {
         return Err(refused(LineFault::TooLarge, 1));

@@ -14,6 +14,9 @@ use std::alloc::{AllocError, Global};
 
 /// The text of a certificate of a problem: its value, a line for each arc with its flow and for
 /// each node with its potential; or the side of a cut, a line for each node of its set.
+///
+/// Nodes are numbered from 1, and an arc is named by its two nodes; both come in the problem's
+/// order. Whether the certificate settles the problem is not asked.
 pub fn write_certificate(
     alloc: Global,
     problem: &Problem,

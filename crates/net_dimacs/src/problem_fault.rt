@@ -1,4 +1,4 @@
-//! Why a problem text was not read.
+//! Why a problem text or a certificate text was not read.
 
 ghost use Rattle.std.specs.Prelude.{◌≡◌};
 ghost use Rattle.net_dimacs.specs.declared.problem_fault.ProblemFault.TheVariants as faults;
@@ -26,7 +26,7 @@ pub enum LineFault {
     Bounds,
     /// A number past its limit, as `p min 20001 0`, or a text past its own.
     TooLarge,
-    /// No line of a certificate of the problem, or none where one is missing, as `v 2 0` first.
+    /// Not the line that a certificate of the problem has there, as `v 2 0` first, or a missing one.
     Certificate,
 }
 
@@ -89,12 +89,12 @@ impl fmt::Display for Refusal {
     }
 }
 
-/// Why a problem text was not read.
+/// Why a problem text or a certificate text was not read.
 #[derive(Clone, Copy, Debug, PartialEq, Eq)]
 pub enum ProblemFault {
-    /// There was no memory for the problem.
+    /// There was no memory for the problem or the certificate.
     OutOfMemory,
-    /// The text is no problem text: its first fault.
+    /// The text is no problem text, or no certificate text of its problem: its first fault.
     Refused(Refusal),
 }
 
