@@ -25,6 +25,3 @@ pub use line_runs::{LINES_LIMIT, run_check, run_min};
 pub use named::Names;
 pub use run::run_compile;
 pub use settling::solve_min;
-
-#[cfg(test)]
-mod tests;

@@ -18,8 +18,6 @@ mod scan;
 mod shape;
 mod span;
 mod string;
-#[cfg(test)]
-mod tests;
 mod token;
 mod tokens;
 mod words;

@@ -20,6 +20,3 @@ mod solver;
 pub use settled::Settled;
 pub use settling::solve;
 pub use solver::{Plain, Silent, Solver};
-
-#[cfg(test)]
-mod tests;

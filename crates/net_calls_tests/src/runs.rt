@@ -1,4 +1,5 @@
-use super::*;
+//! Whole runs and calls.
+use net_calls::{Ending, Fault, compile, run_check, run_compile, run_min};
 use net_dimacs::{MemorySink, MemorySource, OfRead};
 use std::alloc::{AllocError, Global};
 use std::io;

@@ -1,0 +1,5 @@
+//! Tests of net_calls: texts and what they are answered, over ends that fail.
+#![tactic(auto)]
+
+#[cfg(test)]
+mod runs;
