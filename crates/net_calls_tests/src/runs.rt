@@ -113,34 +113,28 @@ fn checked(
     written(alloc, given, &output.taken)
 }
 
+// Certificates, the calls after which reading and writing fail, and what is written or told.
+const CHECKS: [(&str, Option<u64>, Option<u64>, &str); 7] = [
+    (SOLVED, None, None, "yes\n"),
+    ("x over\nm 1\n", None, None, "no cut 0\n"),
+    (
+        "s 8\nf 1 3 0\n",
+        None,
+        None,
+        "E78 Certificate certificate 2 0",
+    ),
+    (SOLVED, Some(0), None, "E90 ReadFault certificate 0"),
+    (SOLVED, Some(1), None, "E90 ReadFault certificate 0"),
+    (SOLVED, None, Some(0), "E91 WriteFault 0"),
+    (SOLVED, None, Some(3), "E91 WriteFault 3"),
+];
+
 #[test]
 fn certificates_are_checked(rt: HostRuntime) -> Result<(), Fail> {
-    let alloc = rt.alloc();
-    assert_eq!(rt; checked(alloc, SOLVED, None, None)?.as_str(), "yes\n");
-    assert_eq!(rt;
-        checked(alloc, "x over\nm 1\n", None, None)?.as_str(),
-        "no cut 0\n"
-    );
-    assert_eq!(rt;
-        checked(alloc, "s 8\nf 1 3 0\n", None, None)?.as_str(),
-        "E78 Certificate certificate 2 0"
-    );
-    assert_eq!(rt;
-        checked(alloc, SOLVED, Some(0), None)?.as_str(),
-        "E90 ReadFault certificate 0"
-    );
-    assert_eq!(rt;
-        checked(alloc, SOLVED, Some(1), None)?.as_str(),
-        "E90 ReadFault certificate 0"
-    );
-    assert_eq!(rt;
-        checked(alloc, SOLVED, None, Some(0))?.as_str(),
-        "E91 WriteFault 0"
-    );
-    assert_eq!(rt;
-        checked(alloc, SOLVED, None, Some(3))?.as_str(),
-        "E91 WriteFault 3"
-    );
+    for (certificate, reads, writes, answer) in CHECKS {
+        let given = checked(rt.alloc(), certificate, reads, writes)?;
+        assert_eq!(rt; given.as_str(), answer);
+    }
     Ok(())
 }
 
