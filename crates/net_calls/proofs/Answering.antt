@@ -1,5 +1,5 @@
 -- From what is read and settled to what is answered.
-use Rattle.std.proofs.Common.{◌≡◌, ℕ, List, length, Option, Some, None, Ok, refl, sym, ap, subst, ◌∙◌, arith}
+use Rattle.std.proofs.Common.{◌≡◌, ℕ, List, Some, Ok, sym, subst, ◌∙◌}
 use Rattle.net_normal.specs.Flows.{IsWithinCapacity}
 use Rattle.net_normal.specs.declared.problem.Problem.{Problem}
 use Rattle.net_check.specs.declared.certificate.Certificate.{Certificate}
@@ -12,9 +12,7 @@ use Rattle.net_solve.specs.declared.settled.Settled.{Settled}
 use Rattle.net_solve.specs.declared.settled.Settled.TheVariants.{Optimal, Cut, Unsettled}
 use Rattle.net_calls.specs.declared.fault.Fault.{Fault}
 use Rattle.net_calls.specs.declared.fault.Fault.TheVariants as faults
-use Rattle.net_calls.specs.declared.fault.TextName.{TextName}
-use Rattle.net_calls.specs.declared.fault.TextName.TheVariants as texts
-use Rattle.net_calls.specs.Checked.{IsFirstLineFault, IsLineRefusal, IsProblemRefusal, IsCertificateStop}
+use Rattle.net_calls.specs.Checked.{IsFirstLineFault, IsLineRefusal, IsCertificateStop}
 use Rattle.net_calls.specs.Settled.{Settles, IsAnswerText}
 use Rattle.net_calls.proofs.ByName.{zip_length}
 

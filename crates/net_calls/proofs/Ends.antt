@@ -1,19 +1,18 @@
 -- What names without a fault tell: each arc's ends are nodes, and no name is there twice.
-use Rattle.std.proofs.Common.{◌≡◌, ℕ, suc, ◌+◌, ◌-◌, ◌<◌, ◌≤◌, Bool, true, false, cond, List, [], ◌∷◌, ◌++◌, length, map, Option, Some, None, refl, sym, ap, subst, ◌∙◌, inl, inr, arith, append_assoc, append-nil}
-use Rattle.std.specs.Prelude.{◌⊎◌, slice_get}
+use Rattle.std.proofs.Common.{◌≡◌, ℕ, suc, ◌+◌, ◌-◌, ◌<◌, ◌≤◌, List, [], ◌∷◌, ◌++◌, length, map, Option, Some, None, refl, sym, ap, subst, ◌∙◌, inl, inr, arith, append_assoc, append-nil}
+use Rattle.std.specs.Prelude.{slice_get}
 use Rattle.std.specs.List.{AllByRecursion, AllZip}
 use Rattle.std.specs.Str.{bytes_eq}
 use Rattle.std.proofs.lemmas.Slice.Eq.{bytes_eq-Decides}
-use Rattle.net_normal.specs.declared.instance.InstArc.{InstArc}
 use Rattle.net_calls.specs.declared.fault.Finding.{Finding}
 use Rattle.net_calls.specs.declared.names.Meaning.{Meaning}
 use Rattle.net_calls.specs.declared.names.Meaning.TheVariants as meanings
 use Rattle.net_calls.specs.Declarations.{Form, ArcParts, objective, node, arc}
-use Rattle.net_calls.specs.Drafts.{name_of, made_of, number_of}
+use Rattle.net_calls.specs.Drafts.{made_of, number_of}
 use Rattle.net_calls.specs.Instances.{IsArcAs, IsNodeNumber}
-use Rattle.net_calls.specs.Models.{Name, NodeOf, ArcOf, arc_of, nodes_in, arcs_in}
-use Rattle.net_calls.specs.NameRules.{meaning_from, meaning_in, or_else, name_fault, first_fault}
-use Rattle.net_calls.proofs.Meanings.{some_of, or_none, is_new, has_ends, meaning_stays}
+use Rattle.net_calls.specs.Models.{Name, ArcOf, arc_of, nodes_in, arcs_in}
+use Rattle.net_calls.specs.NameRules.{meaning_from, meaning_in, name_fault, first_fault}
+use Rattle.net_calls.proofs.Meanings.{some_of, or_none, has_ends, meaning_stays}
 
 -- ---- a rule without a fault holds of each declaration
 

@@ -1,7 +1,6 @@
 -- The link lines say nothing of a problem, so a compiled text is its problem's.
-use Rattle.std.proofs.Common.{◌≡◌, ◌≢◌, ℕ, suc, ◌+◌, ◌^◌, ◌<◌, ◌≤◌, ◌==◌, Bool, true, false, ◌&&◌, ◌||◌, List, [], ◌∷◌, ◌++◌, length, map, Option, Some, None, ℤ, pos, negsuc, refl, sym, ap, subst, ◌∙◌, codes, decimal, arith, append_assoc, All, inl, inr}
+use Rattle.std.proofs.Common.{◌≡◌, ℕ, ◌+◌, ◌^◌, ◌<◌, ◌==◌, Bool, true, false, ◌&&◌, ◌||◌, List, [], ◌∷◌, ◌++◌, length, map, Some, None, ℤ, pos, negsuc, refl, sym, ap, subst, ◌∙◌, codes, decimal, arith, append_assoc, inl, inr}
 use Rattle.std.specs.List.{AllByRecursion, list_all}
-use Rattle.std.specs.Char.{is_ascii_alphanumeric}
 use Rattle.std.specs.Fmt.{signed_decimal}
 use Rattle.std.proofs.lemmas.Bool.{cases_Bool}
 use Rattle.std.proofs.lemmas.Bool.Decides.{nat_tests}
@@ -24,7 +23,7 @@ use Rattle.net_dimacs.proofs.Comments.{comment_skipped}
 use Rattle.net_dimacs.proofs.Decimals.{IsPrintable, IsSolid, solid_decimal}
 use Rattle.net_dimacs.proofs.Lists.{all_map, all_append}
 use Rattle.net_dimacs.proofs.WrittenLines.{IsPlain}
-use Rattle.net_calls.specs.Declarations.{Form, ArcParts, objective, node, arc, Sign, word, name, number, Tokens, is_name, Spell, signs_of_all}
+use Rattle.net_calls.specs.Declarations.{Form, objective, node, arc, Sign, word, name, number, Tokens, is_name, Spell, signs_of_all}
 use Rattle.net_calls.specs.Links.{constant_line, sign_line, node_line, node_lines, arc_line, arc_lines, link_lines}
 use Rattle.net_calls.specs.Models.{Name, nodes_in, arcs_in}
 

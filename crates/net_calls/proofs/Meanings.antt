@@ -12,7 +12,7 @@ use Rattle.net_calls.specs.declared.names.Meaning.TheVariants as meanings
 use Rattle.net_calls.specs.Declarations.{Form, ArcParts, objective, node, arc}
 use Rattle.net_calls.specs.Drafts.{told, name_of, meaning_of, nodes_of, Knows}
 use Rattle.net_calls.specs.Models.{Name, nodes_in}
-use Rattle.net_calls.specs.NameRules.{meaning_from, meaning_in, or_else, redeclared, no_node, no_objective, fault_by, name_fault, first_fault}
+use Rattle.net_calls.specs.NameRules.{meaning_from, meaning_in, or_else, redeclared, no_node, fault_by, name_fault}
 
 -- names that are told the same have the same faults
 pub fault_ext : (f g : Name → Option Meaning) (form : Form) → ((n : Name) → f n ≡ g n) → fault_by f form ≡ fault_by g form

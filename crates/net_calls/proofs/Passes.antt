@@ -1,12 +1,12 @@
 -- One pass over declarations, which stops at the first fault of a rule.
-use Rattle.std.proofs.Common.{◌≡◌, ℕ, suc, ◌+◌, ◌<◌, ◌≤◌, ◌^◌, List, [], ◌∷◌, ◌++◌, length, drop, get_or, map, Option, Some, None, refl, sym, ap, subst, ◌∙◌, arith, append_assoc, append-nil}
+use Rattle.std.proofs.Common.{◌≡◌, ℕ, suc, ◌+◌, ◌<◌, ◌≤◌, ◌^◌, List, [], ◌∷◌, ◌++◌, length, drop, get_or, map, Option, Some, None, sym, ap, ◌∙◌, arith, append_assoc, append-nil}
 use Rattle.std.proofs.Math.Seq.{drop-cons}
 use Rattle.std.proofs.Math.ListN.{drop_of_length-le}
 use Rattle.net_calls.specs.declared.declaration.Declaration.{Declaration}
 use Rattle.net_calls.specs.declared.fault.Finding.{Finding}
 use Rattle.net_calls.specs.Declarations.{Form, form_of, objective, node, arc}
 use Rattle.net_calls.specs.Models.{nodes_in}
-use Rattle.net_calls.specs.NameRules.{or_else, first_fault}
+use Rattle.net_calls.specs.NameRules.{first_fault}
 use Rattle.net_calls.proofs.Meanings.{or_some, or_other}
 
 abbrev pub Rule : Type 0

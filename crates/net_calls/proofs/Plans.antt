@@ -1,5 +1,5 @@
 -- What a draft holds of the declarations so far.
-use Rattle.std.proofs.Common.{◌≡◌, ℕ, suc, ◌+◌, ◌<◌, ◌≤◌, Bool, true, false, cond, List, [], ◌∷◌, ◌++◌, length, map, vec_len, Option, Some, None, refl, sym, ap, subst, ◌∙◌, arith, append-nil, pos}
+use Rattle.std.proofs.Common.{◌≡◌, ℕ, cond, List, [], ◌∷◌, ◌++◌, length, map, vec_len, Option, Some, None, refl, sym, ap, subst, ◌∙◌, arith, append-nil, pos}
 use Rattle.std.specs.Prelude.{nat_le, int_lt}
 use Rattle.std.specs.List.{AllZip}
 use Rattle.net_lex.specs.declared.token.Token.{Token}
@@ -9,19 +9,18 @@ use Rattle.net_normal.specs.declared.instance.InstArc.{InstArc}
 use Rattle.net_normal.specs.declared.instance.Sense.TheVariants.{Minimise}
 use Rattle.net_normal.specs.Limits.{node_limit, arc_limit}
 use Rattle.net_calls.specs.declared.draft.Draft.{Draft}
-use Rattle.net_calls.specs.declared.fault.FaultKind.TheVariants.{ArcCrossed, TwoObjectives, TooManyNodes, TooManyArcs, NoObjective}
-use Rattle.net_calls.specs.declared.fault.Finding.{Finding}
+use Rattle.net_calls.specs.declared.fault.FaultKind.TheVariants.{ArcCrossed, TooManyNodes, TooManyArcs, NoObjective}
 use Rattle.net_calls.specs.declared.named.Named.{Named}
 use Rattle.net_calls.specs.declared.names.Index.{Index}
 use Rattle.net_calls.specs.declared.names.Meaning.{Meaning}
 use Rattle.net_calls.specs.declared.names.Meaning.TheVariants as meanings
 use Rattle.net_calls.specs.Declarations.{Form, ArcParts, objective, node, arc}
 use Rattle.net_calls.specs.Drafts.{Plan, plan_of, plan_of_named, plan_with, plan_fault, made_of, told, HasEnds, IsNodeBelow, Knows, IsDrafted}
-use Rattle.net_calls.specs.Instances.{Sides, sides_of, fixed_at, asked, network_fault, second_objective, missing_objective, first_network_fault, IsArcAs}
-use Rattle.net_calls.specs.Models.{Name, NodeOf, ArcOf, NamedModel, Say, arc_of, objectives_in, nodes_in, arcs_in}
-use Rattle.net_calls.specs.NameRules.{meaning_in, meaning_from, fault_at, or_else, name_fault, first_fault}
+use Rattle.net_calls.specs.Instances.{sides_of, fixed_at, asked, network_fault, second_objective, missing_objective, first_network_fault, IsArcAs}
+use Rattle.net_calls.specs.Models.{Name, NodeOf, ArcOf, arc_of, objectives_in, nodes_in, arcs_in}
+use Rattle.net_calls.specs.NameRules.{meaning_in, fault_at, name_fault, first_fault}
 use Rattle.net_calls.proofs.Ends.{names_of, parts_in, arcs_of_parts, network_arcs, fault_free, node_below}
-use Rattle.net_calls.proofs.Meanings.{or_other, or_some, has_ends, meaning_stays}
+use Rattle.net_calls.proofs.Meanings.{or_other, has_ends, meaning_stays}
 
 abbrev listed : Option Name → List Name
 listed None = []

@@ -1,21 +1,20 @@
 -- The promise of a compiled model, from what its parts promise.
-use Rattle.std.proofs.Common.{◌≡◌, ℕ, suc, ◌+◌, ◌^◌, ◌<◌, List, [], ◌∷◌, ◌++◌, length, map, ℤ, vec_len, refl, sym, ap, subst, ◌∙◌, arith}
+use Rattle.std.proofs.Common.{◌≡◌, ℕ, suc, ◌+◌, ◌^◌, ◌<◌, List, [], ◌∷◌, ◌++◌, length, map, ℤ, sym, ap, subst, ◌∙◌, arith}
 use Rattle.std.specs.List.{AllByRecursion}
 use Rattle.net_normal.specs.Flows.{cost_of}
 use Rattle.net_normal.specs.Links.{lifted, value_at}
 use Rattle.net_normal.specs.Correspondence.{CorrespondsOneToOne}
-use Rattle.net_normal.specs.Limits.{node_limit, arc_limit}
 use Rattle.net_normal.specs.NormalForm.{IsNormalForm, numbers_from}
 use Rattle.net_normal.specs.declared.instance.InstArc.{InstArc}
 use Rattle.net_dimacs.specs.Problems.{statements_of, IsProblemText, IsOnlyProblem}
 use Rattle.net_dimacs.specs.Written.{problem_text}
 use Rattle.net_calls.specs.declared.compiled.Compiled.{Compiled}
 use Rattle.net_calls.specs.declared.named.Named.{Named}
-use Rattle.net_calls.specs.Accepted.{IsNamed, IsModelOf}
+use Rattle.net_calls.specs.Accepted.{IsNamed}
 use Rattle.net_calls.specs.Assignments.{IsFeasible, Agree, value_of, by_name}
 use Rattle.net_calls.specs.Headline.{Headline, up}
 use Rattle.net_calls.specs.Links.{link_lines}
-use Rattle.net_calls.specs.Models.{Name, NodeOf, ArcOf, NamedModel, node_names, arc_names}
+use Rattle.net_calls.specs.Models.{Name, NodeOf, ArcOf, node_names, arc_names}
 use Rattle.net_calls.proofs.ByName.{IsKnown, up_of, by_names}
 use Rattle.net_calls.proofs.Distinct.{AreDistinct, distinct_nodes, distinct_arcs}
 use Rattle.net_calls.proofs.LinkLines.{Plain, names_plain, links_skipped, same_problem, same_only}
@@ -37,7 +36,7 @@ says : (m d : List ℕ) (named : Named) (c : Compiled) (n : IsNamed m d named) �
     → statements_of (link_lines c.link (node_names n.drafted.model) (arc_names n.drafted.model) ++ problem_text c.problem.supplies.items c.problem.arcs.items) ≡ statements_of (problem_text c.problem.supplies.items c.problem.arcs.items)
 says m d named c n normal =
     let model = n.drafted.model in
-    let plain = names_plain m n.tokens n.forms n.declared.read n.declared.written in
+    let plain = names_plain m n.tokens n.forms n.declared.read.read n.declared.written in
     let instance = named.instance in
     let few_nodes = instance.few_nodes in
     let few_arcs = instance.few_arcs in
@@ -69,6 +68,9 @@ headline_of m d named c n objective nodes arcs normal corresponds text problem o
       objective = objective ∙ n.drafted.objective;
       nodes = nodes ∙ n.drafted.nodes;
       arcs = arc_list;
+      instance = named.instance;
+      network = n.drafted.network;
+      normal = normal;
       text = whole;
       problem = same_problem c.text.items lines c.problem.supplies.items c.problem.arcs.items same problem;
       only = same_only c.text.items lines c.problem.supplies.items c.problem.arcs.items same only;

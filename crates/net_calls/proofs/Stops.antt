@@ -1,16 +1,13 @@
 -- What is wrong first with a text, from what its readers tell.
-use Rattle.std.proofs.Common.{◌≡◌, ℕ, List, [], ◌∷◌, Option, Some, None, Result, Ok, Err, refl, sym, ap, subst, ◌∙◌, take, map}
+use Rattle.std.proofs.Common.{◌≡◌, ℕ, List, [], ◌∷◌, Option, Some, Result, Ok, Err, sym, ap, subst, ◌∙◌}
 use Rattle.std.specs.Prelude.{IfOk, slice_get, unwrap_or}
 use Rattle.net_lex.specs.declared.span.Span.{Span}
 use Rattle.net_lex.specs.declared.fault.LexFault.{LexFault}
 use Rattle.net_lex.specs.declared.fault.LexFault.TheVariants as lexes
 use Rattle.net_lex.specs.declared.language.Language.TheVariants as languages
-use Rattle.net_lex.specs.declared.model_text.TheConstants.{MODEL_LIMIT}
-use Rattle.net_lex.specs.declared.data_text.TheConstants.{DATA_LIMIT}
 use Rattle.net_lex.specs.declared.token.Token.{Token}
-use Rattle.net_lex.specs.Faults as lex
-use Rattle.net_lex.specs.Reading.{Reads}
-use Rattle.net_lex.specs.Scanning.{limits}
+use Rattle.net_lex.specs.Lexing as lex
+use Rattle.net_lex.specs.Lexing.{AreTokensOf}
 use Rattle.net_calls.specs.declared.fault.Fault.{Fault}
 use Rattle.net_calls.specs.declared.fault.Fault.TheVariants as faults
 use Rattle.net_calls.specs.declared.fault.TextName.{TextName}
@@ -26,15 +23,15 @@ use Rattle.net_calls.specs.Forms.{first_place, IsStuckIn}
 use Rattle.net_calls.specs.NameRules.{name_fault, first_fault, IsFoundBy}
 use Rattle.net_calls.specs.Accepted.{IsLexStop, IsModelStop, IsDataStop, IsModelFault, IsDataFault, model_token, form, naming, data_token, statement, IsFirstFault, model, statements, network, IsDeclared, IsTold, IsToldAs, IsToldOf, IsRefusal, text_of, bare, end_of, place_of}
 
-pub data_stop : (text : List ℕ) (fault : LexFault) (stop : NameFault) → lex.IsRefusal limits languages.Data DATA_LIMIT text fault → IsLexStop fault stop → IsDataStop text stop
+pub data_stop : (text : List ℕ) (fault : LexFault) (stop : NameFault) → lex.IsRefusal languages.Data text fault → IsLexStop fault stop → IsDataStop text stop
 data_stop text lexes.OutOfMemory stop r e = subst (IsDataStop text) (sym e) tt
 data_stop text (lexes.At defect span) stop r e = subst (IsDataStop text) (sym e) (data_token defect span r)
 
-pub model_stop : (text : List ℕ) (fault : LexFault) (stop : NameFault) → lex.IsRefusal limits languages.Model MODEL_LIMIT text fault → IsLexStop fault stop → IsModelStop text stop
+pub model_stop : (text : List ℕ) (fault : LexFault) (stop : NameFault) → lex.IsRefusal languages.Model text fault → IsLexStop fault stop → IsModelStop text stop
 model_stop text lexes.OutOfMemory stop r e = subst (IsModelStop text) (sym e) tt
 model_stop text (lexes.At defect span) stop r e = subst (IsModelStop text) (sym e) (model_token defect span r)
 
-pub first_token : (text : List ℕ) (tokens : Tokens) (token : Token) (finding : Finding) → Reads languages.Data text tokens → Some token ≡ slice_get tokens 0 → finding ≡ bare DataSyntax token.span
+pub first_token : (text : List ℕ) (tokens : Tokens) (token : Token) (finding : Finding) → AreTokensOf languages.Data text tokens → Some token ≡ slice_get tokens 0 → finding ≡ bare DataSyntax token.span
     → IsDataFault text finding
 first_token text [] token finding reads e is = absurd (let h = e in cc)
 first_token text (t ∷ ts) token finding reads e is =
@@ -49,14 +46,14 @@ placed : (tokens stuck : Tokens) (place : Option Span) (end : Span) → place �
 placed tokens [] place end p e = ap (λ (o : Option Span). unwrap_or o end) p ∙ e
 placed tokens (t ∷ stuck) place end p e = ap (λ (o : Option Span). unwrap_or o end) p
 
-pub form_stop : (text : List ℕ) (tokens : Tokens) (place : Option Span) (end : Span) (finding : Finding) → Reads languages.Model text tokens → IsStuckIn tokens (forms.At place)
+pub form_stop : (text : List ℕ) (tokens : Tokens) (place : Option Span) (end : Span) (finding : Finding) → AreTokensOf languages.Model text tokens → IsStuckIn tokens (forms.At place)
     → end ≡ end_of tokens → finding ≡ bare Syntax (unwrap_or place end) → IsModelFault text finding
 form_stop text tokens place end finding reads stuck at is =
-    let s = stuck.3 in
+    let s = stuck.4 in
     let same : unwrap_or place end ≡ place_of tokens s.0 = placed tokens s.0 place end s.2 at in
-    subst (IsModelFault text) (sym (is ∙ ap (bare Syntax) same)) (form tokens stuck.1 s.0 stuck.0 reads stuck.2 s.1)
+    subst (IsModelFault text) (sym (is ∙ ap (bare Syntax) same)) (form tokens stuck.1 s.0 stuck.0 reads stuck.2 stuck.3 s.1)
 
-pub name_stop : (text : List ℕ) (tokens : Tokens) (all : List Form) (fault : NameFault) → Reads languages.Model text tokens → AreDeclarations tokens all
+pub name_stop : (text : List ℕ) (tokens : Tokens) (all : List Form) (fault : NameFault) → AreTokensOf languages.Model text tokens → AreDeclarations tokens all
     → IsFoundBy (first_fault name_fault [] all) fault → IsModelStop text fault
 name_stop text tokens all stops.OutOfMemory reads written e = tt
 name_stop text tokens all (stops.At finding) reads written e = naming tokens all finding reads written e
@@ -80,7 +77,7 @@ pub data_refusal : (m d : List ℕ) (tokens : Tokens) (forms : List Form) (stop 
 data_refusal m d tokens forms stops.OutOfMemory fault declared first told = subst (IsRefusal m d) (sym told) tt
 data_refusal m d tokens forms (stops.At finding) fault declared first told = told_refusal m d Data finding fault (statements tokens forms finding declared first) told
 
-pub network_refusal : (m d : List ℕ) (tokens : Tokens) (forms : List Form) (end : Span) (stop : NameFault) (fault : Fault) → IsDeclared m tokens forms → Reads languages.Data d []
+pub network_refusal : (m d : List ℕ) (tokens : Tokens) (forms : List Form) (end : Span) (stop : NameFault) (fault : Fault) → IsDeclared m tokens forms → AreTokensOf languages.Data d []
     → end ≡ end_of tokens → IsFoundBy (first_network_fault end forms) stop → IsToldOf Model m stop fault → IsRefusal m d fault
 network_refusal m d tokens forms end stops.OutOfMemory fault declared empty at found told = subst (IsRefusal m d) (sym told) tt
 network_refusal m d tokens forms end (stops.At finding) fault declared empty at found told =

@@ -1,19 +1,15 @@
 -- Which texts are a model, and what is wrong first with texts that are none.
-use Rattle.std.specs.Prelude.{◌≡◌, ℕ, ◌-◌, List, [], ◌∷◌, length, map, slice_get, Option, Some, None, Err, take, string_bytes}
-use Rattle.net_lex.specs.declared.language.Language.{Language}
+use Rattle.std.specs.Prelude.{◌≡◌, ℕ, ◌-◌, ◌<◌, List, [], ◌∷◌, length, map, slice_get, Option, Some, None, Err, take, string_bytes}
 use Rattle.net_lex.specs.declared.language.Language.TheVariants as languages
 use Rattle.net_lex.specs.declared.fault.Defect.{Defect}
 use Rattle.net_lex.specs.declared.fault.Defect.TheVariants as defects
-use Rattle.net_lex.specs.declared.model_text.TheConstants.{MODEL_LIMIT}
-use Rattle.net_lex.specs.declared.data_text.TheConstants.{DATA_LIMIT}
 use Rattle.net_lex.specs.declared.fault.LexFault.{LexFault}
 use Rattle.net_lex.specs.declared.fault.LexFault.TheVariants as lexes
 use Rattle.net_lex.specs.declared.span.Span.{Span}
 use Rattle.net_lex.specs.declared.token.Token.{Token}
-use Rattle.net_lex.specs.Faults as lex
+use Rattle.net_lex.specs.Lexing as lex
+use Rattle.net_lex.specs.Lexing.{AreTokensOf}
 use Rattle.net_lex.specs.Places.{line_of, column_of}
-use Rattle.net_lex.specs.Reading.{Reads}
-use Rattle.net_lex.specs.Scanning.{limits}
 use Rattle.net_calls.specs.declared.fault.Fault.{Fault}
 use Rattle.net_calls.specs.declared.fault.Fault.TheVariants as faults
 use Rattle.net_calls.specs.declared.fault.FaultKind.{FaultKind}
@@ -43,7 +39,7 @@ end_of tokens = end_after (slice_get tokens (length tokens - 1))
 
 -- a model text that is these declarations, with no fault in their names
 pub record IsDeclared (model_text : List ℕ) (tokens : Tokens) (forms : List Form) : Type 0 where
-  pub read : Reads languages.Model model_text tokens
+  pub read : AreTokensOf languages.Model model_text tokens
   pub written : AreDeclarations tokens forms
   pub named : first_fault name_fault [] forms ≡ None
 
@@ -52,7 +48,7 @@ pub record IsModelOf (model_text data_text : List ℕ) (model : NamedModel) : Ty
   pub tokens : Tokens
   pub forms : List Form
   pub declared : IsDeclared model_text tokens forms
-  pub no_data : Reads languages.Data data_text []
+  pub no_data : AreTokensOf languages.Data data_text []
   pub network : first_network_fault (end_of tokens) forms ≡ None
   pub says : Say forms model
 
@@ -76,23 +72,23 @@ place_of tokens (stuck ∷ rest) = stuck.span
 
 -- What is wrong first with a model text: its tokens, then its declarations, then their names.
 pub data IsModelFault (model_text : List ℕ) : Finding → Type 0 where
-  model_token : (defect : Defect) (span : Span) → lex.IsFirstFault limits languages.Model MODEL_LIMIT model_text defect span → IsModelFault model_text (bare (kind_of defect) span)
-  form : (tokens rest stuck : Tokens) (forms : List Form) → Reads languages.Model model_text tokens → Spell (signs_of_all forms) tokens rest
+  model_token : (defect : Defect) (span : Span) → lex.IsFirstFault languages.Model model_text defect span → IsModelFault model_text (bare (kind_of defect) span)
+  form : (tokens rest stuck : Tokens) (forms : List Form) → AreTokensOf languages.Model model_text tokens → Spell (signs_of_all forms) tokens rest → 0 < length rest
       → declaration_at rest ≡ Err stuck → IsModelFault model_text (bare Syntax (place_of tokens stuck))
-  naming : (tokens : Tokens) (forms : List Form) (finding : Finding) → Reads languages.Model model_text tokens → AreDeclarations tokens forms
+  naming : (tokens : Tokens) (forms : List Form) (finding : Finding) → AreTokensOf languages.Model model_text tokens → AreDeclarations tokens forms
       → first_fault name_fault [] forms ≡ Some finding → IsModelFault model_text finding
 
 -- with a data text: its tokens, and the first of them, as no data statement is read
 pub data IsDataFault (data_text : List ℕ) : Finding → Type 0 where
-  data_token : (defect : Defect) (span : Span) → lex.IsFirstFault limits languages.Data DATA_LIMIT data_text defect span → IsDataFault data_text (bare (kind_of defect) span)
-  statement : (token : Token) (rest : Tokens) → Reads languages.Data data_text (token ∷ rest) → IsDataFault data_text (bare DataSyntax token.span)
+  data_token : (defect : Defect) (span : Span) → lex.IsFirstFault languages.Data data_text defect span → IsDataFault data_text (bare (kind_of defect) span)
+  statement : (token : Token) (rest : Tokens) → AreTokensOf languages.Data data_text (token ∷ rest) → IsDataFault data_text (bare DataSyntax token.span)
 
 -- with both: the model text, the data text, then the network
 pub data IsFirstFault (model_text data_text : List ℕ) : TextName → Finding → Type 0 where
   model : (finding : Finding) → IsModelFault model_text finding → IsFirstFault model_text data_text Model finding
   statements : (tokens : Tokens) (forms : List Form) (finding : Finding) → IsDeclared model_text tokens forms → IsDataFault data_text finding
       → IsFirstFault model_text data_text Data finding
-  network : (tokens : Tokens) (forms : List Form) (finding : Finding) → IsDeclared model_text tokens forms → Reads languages.Data data_text []
+  network : (tokens : Tokens) (forms : List Form) (finding : Finding) → IsDeclared model_text tokens forms → AreTokensOf languages.Data data_text []
       → first_network_fault (end_of tokens) forms ≡ Some finding → IsFirstFault model_text data_text Model finding
 
 -- a finding, with its line and its column
@@ -132,7 +128,7 @@ pub record IsNamed (model_text data_text : List ℕ) (made : Named) : Type 0 whe
   pub tokens : Tokens
   pub forms : List Form
   pub declared : IsDeclared model_text tokens forms
-  pub no_data : Reads languages.Data data_text []
+  pub no_data : AreTokensOf languages.Data data_text []
   pub network : first_network_fault (end_of tokens) forms ≡ None
   pub drafted : IsDrafted forms made
 

@@ -1,10 +1,10 @@
 -- Assignments of a model, by name (AMPL book, chapter 15): one whole number for each arc name.
-use Rattle.std.specs.Prelude.{◌≡◌, ℕ, List, [], ◌∷◌, map, Option, Some, None, ℤ, pos, neg_ℤ, ◌+ℤ◌, ◌-ℤ◌, ◌*ℤ◌, ◌≤ℤ◌, if◌then◌else◌}
+use Rattle.std.specs.Prelude.{◌≡◌, List, [], ◌∷◌, map, Option, Some, None, ℤ, pos, neg_ℤ, ◌+ℤ◌, ◌-ℤ◌, ◌*ℤ◌, ◌≤ℤ◌, if◌then◌else◌}
 use Rattle.std.specs.List.{AllByRecursion}
 use Rattle.std.specs.Str.{bytes_eq}
 use Rattle.net_calls.specs.declared.declaration.Net.{Net}
 use Rattle.net_calls.specs.declared.declaration.Net.TheVariants.{In, Out}
-use Rattle.net_calls.specs.Models.{Name, NodeOf, ArcOf, NamedModel, arc_names}
+use Rattle.net_calls.specs.Models.{Name, ArcOf, NamedModel, arc_names}
 
 abbrev pub Assignment : Type 0
 Assignment = Name → ℤ

@@ -1,6 +1,6 @@
 -- The plain declarations of a model, read from its tokens (AMPL book, chapter 15; the order of an arc's phrases is this profile's).
 -- Each reader gives what it reads off the front and what follows, or the tokens from the first on that is not allowed.
-use Rattle.std.specs.Prelude.{◌≡◌, ℕ, List, [], ◌∷◌, ◌++◌, length, if◌then◌else◌, Option, Some, None, Result, Ok, Err, ℤ, neg_ℤ, codes}
+use Rattle.std.specs.Prelude.{◌≡◌, ℕ, ◌<◌, List, [], ◌∷◌, ◌++◌, length, if◌then◌else◌, Option, Some, None, Result, Ok, Err, ℤ, neg_ℤ, codes}
 use Rattle.std.specs.Str.{bytes_eq}
 use Rattle.net_lex.specs.declared.token.Token.{Token}
 use Rattle.net_lex.specs.declared.span.Span.{Span}
@@ -104,4 +104,4 @@ IsStuckAt tokens (At place) = (stuck : Tokens) × (declaration_at tokens ≡ Err
 
 -- none begins what follows on some declarations
 abbrev pub IsStuckIn : Tokens → FormFault → Type 0
-IsStuckIn tokens fault = (forms : List Form) × (rest : Tokens) × Spell (signs_of_all forms) tokens rest × IsStuckAt rest fault
+IsStuckIn tokens fault = (forms : List Form) × (rest : Tokens) × Spell (signs_of_all forms) tokens rest × (0 < length rest) × IsStuckAt rest fault

@@ -10,6 +10,9 @@ use Rattle.net_calls.specs.Models.{NamedModel, node_names, arc_names}
 use Rattle.net_calls.specs.Accepted.{IsModelOf}
 use Rattle.net_calls.specs.Assignments.{Assignment, IsFeasible, Agree, value_of, by_name}
 use Rattle.net_calls.specs.Links.{link_lines}
+use Rattle.net_calls.specs.Instances.{IsNetworkOf}
+use Rattle.net_normal.specs.NormalForm.{IsNormalForm}
+use Rattle.net_normal.specs.declared.instance.Instance.{Instance}
 
 -- the assignment that a flow stands for
 abbrev pub up : Compiled → List ℤ → Assignment
@@ -22,6 +25,10 @@ pub record Headline (model_text data_text : List ℕ) (c : Compiled) : Type 0 wh
   pub objective : c.names.objective ≡ model.objective
   pub nodes : c.names.nodes.items ≡ node_names model
   pub arcs : c.names.arcs.items ≡ arc_names model
+  -- node by node and arc by arc the problem is the model's normal form, so the printed numbers are those of these names
+  pub instance : Instance
+  pub network : IsNetworkOf model instance
+  pub normal : IsNormalForm instance c.problem c.link
   -- the text is the link lines and the problem's lines, and it is this problem and no other
   pub text : c.text.items ≡ link_lines c.link (node_names model) (arc_names model) ++ problem_text c.problem.supplies.items c.problem.arcs.items
   pub problem : IsProblemText c.text.items c.problem.supplies.items c.problem.arcs.items

@@ -12,8 +12,8 @@ use Rattle.net_calls.specs.declared.declaration.Net.{Net}
 use Rattle.net_calls.specs.declared.declaration.Net.TheVariants.{In, Out}
 use Rattle.net_calls.specs.declared.fault.FaultKind.TheVariants.{ArcCrossed, NoObjective, TwoObjectives, TooManyNodes, TooManyArcs}
 use Rattle.net_calls.specs.declared.fault.Finding.{Finding}
-use Rattle.net_calls.specs.Declarations.{Form, ArcParts, objective, node, arc}
-use Rattle.net_calls.specs.Models.{Name, NodeOf, ArcOf, NamedModel, objectives_in, nodes_in, arcs_in, node_names}
+use Rattle.net_calls.specs.Declarations.{Form, objective, node, arc}
+use Rattle.net_calls.specs.Models.{Name, ArcOf, NamedModel, objectives_in, nodes_in, arcs_in, node_names}
 use Rattle.net_calls.specs.NameRules.{fault_at, or_else, first_fault}
 
 -- the net inflow that a condition asks for: `net_out` is its opposite, and without a condition it is 0

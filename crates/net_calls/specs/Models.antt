@@ -1,6 +1,5 @@
 -- What a plain model says, by name (AMPL book, chapter 15).
 use Rattle.std.specs.Prelude.{◌≡◌, ℕ, List, [], ◌∷◌, map, Option, ℤ}
-use Rattle.net_lex.specs.declared.token.Token.{Token}
 use Rattle.net_calls.specs.declared.declaration.Net.{Net}
 use Rattle.net_calls.specs.Declarations.{Form, ArcParts, objective, node, arc}
 

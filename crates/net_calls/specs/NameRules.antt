@@ -10,7 +10,7 @@ use Rattle.net_calls.specs.declared.names.Meaning.{Meaning}
 use Rattle.net_calls.specs.declared.names.NameFault.{NameFault}
 use Rattle.net_calls.specs.declared.names.NameFault.TheVariants.{OutOfMemory, At}
 use Rattle.net_calls.specs.declared.names.Meaning.TheVariants as meanings
-use Rattle.net_calls.specs.Declarations.{Form, ArcParts, objective, node, arc}
+use Rattle.net_calls.specs.Declarations.{Form, objective, node, arc}
 use Rattle.net_calls.specs.Models.{Name}
 
 -- what a name stands for in these declarations, where nodes are counted from v

@@ -1,9 +1,10 @@
 -- What a run reads and writes (the words of Rust's std::io, Read and Write).
-use Rattle.std.specs.Prelude.{◌≡◌, ℕ, List, ◌++◌, Option}
+use Rattle.std.specs.Prelude.{◌≡◌, ℕ, List, Option}
 use Rattle.std.specs.Io.KnownBytes.{Appends}
 use Rattle.net_dimacs.specs.Ends.{ReadsToLimit, WritesFront}
 use Rattle.net_calls.specs.declared.compiled.Compiled.{Compiled}
 use Rattle.net_calls.specs.declared.fault.Fault.{Fault}
+use Rattle.net_calls.specs.declared.fault.TextName.{TextName}
 use Rattle.net_calls.specs.declared.fault.Fault.TheVariants.{OutOfMemory, Refused, RefusedLine, Unread, Unwritten}
 use Rattle.net_calls.specs.Accepted.{IsRefusal}
 use Rattle.net_check.specs.declared.verdict.Verdict.{Verdict}
@@ -53,6 +54,14 @@ IfRefused (Refused r) P = P
 IfRefused (RefusedLine r) P = P
 IfRefused (Unread text) P = Unit {0}
 IfRefused Unwritten P = Unit {0}
+
+-- of an end that could not be read, this
+abbrev pub IfUnread : Fault → (TextName → Type 0) → Type 0
+IfUnread OutOfMemory P = Unit {0}
+IfUnread (Refused r) P = Unit {0}
+IfUnread (RefusedLine r) P = Unit {0}
+IfUnread (Unread text) P = P text
+IfUnread Unwritten P = Unit {0}
 
 -- the two texts were read so, and this is the verdict's line
 pub record WritesVerdict (limit : ℕ) (problem certificate output : Course) (ending : Ending) : Type 0 where

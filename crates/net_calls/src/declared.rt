@@ -1,8 +1,8 @@
 //! What the two texts declare.
 
 ghost use Rattle.std.specs.Prelude.{◌≡◌, [], IfOk, IfErr, OnOk};
-ghost use Rattle.net_lex.specs.Reading.{Reads};
 ghost use Rattle.net_lex.specs.declared.language.Language.TheVariants as languages;
+ghost use Rattle.net_lex.specs.Lexing.{AreTokensOf};
 ghost use Rattle.net_calls.specs.Accepted.{end_of, place_of, kind_of, bare, Declares, IsModelStop, IsDataStop, IsLexStop};
 ghost use Rattle.net_calls.specs.Forms.{first_place};
 
@@ -53,7 +53,7 @@ pub fn declared_of<'s>(alloc: Global, model: &'s [u8]) -> Result<Declared<'s>, N
 
 /// Refuses a data text that has a token.
 pub fn no_statement(alloc: Global, data: &[u8]) -> Result<(), NameFault<'static>>
-    ensures ok { OnOk result (Reads languages.Data «data».now []) }
+    ensures ok { OnOk result (AreTokensOf languages.Data «data».now []) }
     ensures err { IfErr result (IsDataStop «data».now) }
 {
     let tokens = match lex_data(alloc, data) {

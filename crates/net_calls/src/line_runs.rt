@@ -1,9 +1,10 @@
 //! Runs over texts of lines: texts are read whole, then the answer is computed whole, then it is written.
 
 ghost use Rattle.std.specs.Prelude.{◌≡◌, ◌⊎◌, ◌↔◌, true, false, IfOk, IfErr, IsErrOf};
+ghost use Rattle.net_dimacs.specs.Reading.{text_limit};
 ghost use Rattle.net_calls.specs.Checked.{ending_of};
 ghost use Rattle.net_calls.specs.Settled.{settled_ending};
-ghost use Rattle.net_calls.specs.Runs.{IfRefused, WritesVerdict, WritesFrontOfVerdict, RefusesLines, WritesCertificate, WritesFrontOfCertificate, RefusesProblem};
+ghost use Rattle.net_calls.specs.Runs.{IfRefused, IfUnread, WritesVerdict, WritesFrontOfVerdict, RefusesLines, WritesCertificate, WritesFrontOfCertificate, RefusesProblem};
 
 use crate::checking::{check_bytes, verdict_line};
 use crate::ending::Ending;
@@ -47,17 +48,17 @@ pub fn run_check<P: Source, C: Source, W: Sink>(
     requires problem_unread { P.failed problem.old ≡ false }
     requires certificate_unread { C.failed certificate.old ≡ false }
     requires unwritten { W.failed output.old ≡ false }
-    ensures ok { IfOk result (WritesVerdict LINES_LIMIT
+    ensures ok { IfOk result (WritesVerdict text_limit
         (record { old = P.remaining problem.old; new = P.remaining problem.new })
         (record { old = C.remaining certificate.old; new = C.remaining certificate.new })
         (record { old = W.taken output.old; new = W.taken output.new })) }
 
     // A refused call has written nothing; a failed write leaves a front of the answer.
     ensures refused { IfErr result (λ fault. (fault ≡ Fault.Unwritten) ⊎ (output.new ≡ output.old)) }
-    ensures told { IfErr result (λ fault. IfRefused fault (RefusesLines LINES_LIMIT
+    ensures told { IfErr result (λ fault. IfRefused fault (RefusesLines text_limit
         (record { old = P.remaining problem.old; new = P.remaining problem.new })
         (record { old = C.remaining certificate.old; new = C.remaining certificate.new }) fault)) }
-    ensures front { IsErrOf result Fault.Unwritten → WritesFrontOfVerdict LINES_LIMIT
+    ensures front { IsErrOf result Fault.Unwritten → WritesFrontOfVerdict text_limit
         (record { old = P.remaining problem.old; new = P.remaining problem.new })
         (record { old = C.remaining certificate.old; new = C.remaining certificate.new })
         (record { old = W.taken output.old; new = W.taken output.new }) }
@@ -66,6 +67,7 @@ pub fn run_check<P: Source, C: Source, W: Sink>(
     ensures problem { IsErrOf result (Fault.Unread TextName.Problem) ↔ (P.failed problem.new ≡ true) }
     ensures certificate { IsErrOf result (Fault.Unread TextName.Certificate) ↔ (C.failed certificate.new ≡ true) }
     ensures output { IsErrOf result Fault.Unwritten ↔ (W.failed output.new ≡ true) }
+    ensures ends { IfErr result (λ fault. IfUnread fault (λ text. (text ≡ TextName.Problem) ⊎ (text ≡ TextName.Certificate))) }
     ensures first { P.failed problem.new ≡ true → certificate.new ≡ certificate.old }
 {
     let problem_text = read_text(alloc, problem, LINES_LIMIT, TextName::Problem)?;
@@ -87,20 +89,21 @@ pub fn run_min<P: Source, W: Sink>(
 ) -> Result<Ending, Fault>
     requires problem_unread { P.failed problem.old ≡ false }
     requires unwritten { W.failed output.old ≡ false }
-    ensures ok { IfOk result (WritesCertificate LINES_LIMIT
+    ensures ok { IfOk result (WritesCertificate text_limit
         (record { old = P.remaining problem.old; new = P.remaining problem.new })
         (record { old = W.taken output.old; new = W.taken output.new })) }
 
     // A refused call has written nothing; a failed write leaves a front of the answer.
     ensures refused { IfErr result (λ fault. (fault ≡ Fault.Unwritten) ⊎ (output.new ≡ output.old)) }
-    ensures told { IfErr result (λ fault. IfRefused fault (RefusesProblem LINES_LIMIT
+    ensures told { IfErr result (λ fault. IfRefused fault (RefusesProblem text_limit
         (record { old = P.remaining problem.old; new = P.remaining problem.new }) fault)) }
-    ensures front { IsErrOf result Fault.Unwritten → WritesFrontOfCertificate LINES_LIMIT
+    ensures front { IsErrOf result Fault.Unwritten → WritesFrontOfCertificate text_limit
         (record { old = P.remaining problem.old; new = P.remaining problem.new })
         (record { old = W.taken output.old; new = W.taken output.new }) }
 
     // An end is blamed exactly where it failed.
     ensures problem { IsErrOf result (Fault.Unread TextName.Problem) ↔ (P.failed problem.new ≡ true) }
+    ensures ends { IfErr result (λ fault. IfUnread fault (λ text. text ≡ TextName.Problem)) }
     ensures output { IsErrOf result Fault.Unwritten ↔ (W.failed output.new ≡ true) }
 {
     let problem_text = read_text(alloc, problem, LINES_LIMIT, TextName::Problem)?;

@@ -2,7 +2,7 @@
 
 ghost use Rattle.std.specs.Prelude.{◌≡◌, ◌+◌, ◌^◌, ◌<◌, ◌⊎◌, ◌↔◌, true, false, OnOk, IfOk, IfErr, IsErrOf};
 ghost use Rattle.net_dimacs.specs.Ends.{ReadsToLimit};
-ghost use Rattle.net_calls.specs.Runs.{WritesAnswer, WritesFrontOfAnswer, Refuses, IfRefused};
+ghost use Rattle.net_calls.specs.Runs.{WritesAnswer, WritesFrontOfAnswer, Refuses, IfRefused, IfUnread};
 
 use crate::compiled::compile;
 use crate::fault::{Fault, TextName};
@@ -39,6 +39,7 @@ pub fn run_compile<M: Source, D: Source, W: Sink>(
     ensures model { IsErrOf result (Fault.Unread TextName.Model) ↔ (M.failed model.new ≡ true) }
     ensures data { IsErrOf result (Fault.Unread TextName.Data) ↔ (D.failed «data».new ≡ true) }
     ensures output { IsErrOf result Fault.Unwritten ↔ (W.failed output.new ≡ true) }
+    ensures ends { IfErr result (λ fault. IfUnread fault (λ text. (text ≡ TextName.Model) ⊎ (text ≡ TextName.Data))) }
     ensures first { M.failed model.new ≡ true → «data».new ≡ «data».old }
 {
     let model_text = read_text(alloc, model, MODEL_LIMIT, TextName::Model)?;

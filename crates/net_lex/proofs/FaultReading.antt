@@ -20,7 +20,7 @@ use Rattle.net_lex.specs.Numerals.{Parts, SpellsSigned, IsWhole, HasWhole, manti
 use Rattle.net_lex.specs.Tokens.{Allows, IsString, IsInside, plain, doubled, nothing}
 use Rattle.net_lex.specs.Reading.{IsLongest, IsNext, StandIn, EndsInGap, IsSound, AreSound}
 use Rattle.net_lex.specs.Faults.{EndsWhole, IsDefect, no_token, control, open_string, too_long, not_whole, too_large, IsFault, comment, token, StandSound}
-use Rattle.net_lex.specs.Scanning.{limits}
+use Rattle.net_lex.specs.Limits.{limits}
 use Rattle.net_lex.specs.Shapes.{string_end}
 use Rattle.net_lex.proofs.FrontTold.{model_strings, data_strings}
 use Rattle.std.proofs.lemmas.Str.{length-encode, len_utf8_bounds}
@@ -62,7 +62,7 @@ value_no_fault limit text v value = (
 )
 
 -- strings alone begin with a quotation mark
-strings_only : (language : Language) (text : List ℕ) → is_quote (first text) ≡ true → (kind : Kind) (more rest : List ℕ) → text ≡ more ++ rest → Allows language kind more → IsString more
+pub strings_only : (language : Language) (text : List ℕ) → is_quote (first text) ≡ true → (kind : Kind) (more rest : List ℕ) → text ≡ more ++ rest → Allows language kind more → IsString more
 strings_only Model text quote kind more rest e allowed = model_strings text quote kind more rest e allowed
 strings_only Data text quote kind more rest e allowed = data_strings text (omega (arith, ap length e, length-append more rest, allowed_some Data kind more allowed)) quote kind more rest e allowed
 
@@ -129,7 +129,7 @@ reads_whole language at rest t gap after us next stand is same = follows us stan
         omega (arith, most, length-append t.text u.text, allowed_some language u.kind u.text other.longest.allowed)
 
 -- the string at the front closes behind its token
-closes_here : (text behind : List ℕ) (word : List ℕ) (q : ℕ) (cs : List ℕ) (quote : is_quote q ≡ true) → text ≡ q ∷ cs → text ≡ word ++ behind → IsString word
+pub closes_here : (text behind : List ℕ) (word : List ℕ) (q : ℕ) (cs : List ℕ) (quote : is_quote q ≡ true) → text ≡ q ∷ cs → text ≡ word ++ behind → IsString word
     → (first behind ≡ q → ⊥) → (n : ℕ) × (string_end q false 0 cs ≡ Closed n)
 closes_here text behind word q cs quote is e s single =
     let split : q ∷ cs ≡ s.delimiter ∷ (s.inside ++ s.delimiter ∷ behind) =
@@ -139,7 +139,7 @@ closes_here text behind word q cs quote is e s single =
     let body : IsInside q s.inside = subst (λ d. IsInside d s.inside) same s.body in
     (0 + length s.inside + 1, ap (string_end q false 0) rest ∙ (inside_passes q quote 0 s.inside behind body ∙ closes q quote (0 + length s.inside + 1) behind single))
 
-ends_single : (language : Language) (u : Token) (behind text : List ℕ) (q : ℕ) → is_quote (first text) ≡ true → first text ≡ q → text ≡ u.text ++ behind → IsLongest language u.kind u.text behind
+pub ends_single : (language : Language) (u : Token) (behind text : List ℕ) (q : ℕ) → is_quote (first text) ≡ true → first text ≡ q → text ≡ u.text ++ behind → IsLongest language u.kind u.text behind
     → EndsWhole u.kind u.text behind → first behind ≡ q → ⊥
 ends_single language u behind text q quote begins e longest whole same =
     let s = strings_only language text quote u.kind u.text behind e longest.allowed in
@@ -147,9 +147,9 @@ ends_single language u behind text q quote begins e longest whole same =
     whole is (same ∙ (sym begins ∙ same_first text u.text behind e (allowed_some language u.kind u.text longest.allowed)))
 
 -- where a sound token stands nothing is wrong
-no_defect : (language : Language) (text : List ℕ) (d : Defect) (from to : ℕ) → IsDefect limits language text d from to → (u : Token) (behind : List ℕ) → text ≡ u.text ++ behind
+pub no_defect : (language : Language) (text : List ℕ) (d : Defect) (from to : ℕ) → IsDefect limits language text d from to → (u : Token) (behind : List ℕ) → text ≡ u.text ++ behind
     → IsLongest language u.kind u.text behind → EndsWhole u.kind u.text behind → IsSound 255 1000000000000 u.kind u.text → ⊥
-no_defect language text _ _ _ (no_token c after split other none) u behind e longest whole sound = none u.kind u.text behind e longest.allowed
+no_defect language text _ _ _ (no_token c after utf8 split other none) u behind e longest whole sound = none u.kind u.text behind e longest.allowed
 no_defect language text _ _ _ (control q c inside after quote body bad split) u behind e longest whole sound =
     let begins : first text ≡ q = ap first split in
     let quoted = ap is_quote begins ∙ quote in
@@ -176,7 +176,7 @@ no_defect language text _ _ _ (too_large word after split other short fault) u b
     (value_no_fault 1000000000000 u.text v value).1 (subst (λ w. IsNumFault 1000000000000 w num.TooLarge) same.0 fault)
 
 defect_some : (language : Language) (text : List ℕ) (d : Defect) (from to : ℕ) → IsDefect limits language text d from to → 0 < length text
-defect_some language text _ _ _ (no_token c after split other none) = omega (arith, ap length split, length-append (encode_utf8 c) after, length-encode c, (len_utf8_bounds c).0)
+defect_some language text _ _ _ (no_token c after utf8 split other none) = omega (arith, ap length split, length-append (encode_utf8 c) after, length-encode c, (len_utf8_bounds c).0)
 defect_some language text _ _ _ (control q c inside after quote body bad split) = omega (arith, ap length split)
 defect_some language text _ _ _ (open_string q inside quote body split) = omega (arith, ap length split)
 defect_some language text _ _ _ (too_long kind word after split other whole_word long) = omega (arith, ap length split, length-append word after, long)

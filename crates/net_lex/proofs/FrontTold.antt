@@ -26,7 +26,7 @@ use Rattle.net_lex.specs.Words.{model_marks, data_marks, is_among, model_mark_le
 use Rattle.net_lex.specs.Tokens.{IsName, IsString, IsInside, IsWord, HasShape, Allows}
 use Rattle.net_lex.specs.Shapes.{Front, string_end, quoted_front, string_at, char_len, mark_front, unnamed_front, model_front, data_front, word_len, front}
 use Rattle.net_lex.specs.Faults.{IsDefect, no_token, control, open_string}
-use Rattle.net_lex.specs.Scanning.{limits}
+use Rattle.net_lex.specs.Limits.{limits}
 use Rattle.net_lex.proofs.FormLemmas.{BeginsNumeral, numeral_begins, numeral_some, numeral_no_name, numeral_no_quote, name_no_quote, same_first, run_covers, ascii_cut, name_all_small, numeral_in, numeral_small, is_small}
 use Rattle.net_lex.proofs.NumeralLemmas.{run_all}
 use Rattle.net_lex.proofs.NumeralSpelled.{NumeralLeaves, numeral_leaves, numeral_spelled}
@@ -256,7 +256,7 @@ told_mark language text table zero utf8 some no_quote (found, longest) formed ma
     let len : char_len text ≡ length (encode_utf8 c) = char_len-char text after c utf8 split in
     record {
       defect = subst (IsDefect limits language text BadCharacter 0) (sym len)
-          (no_token c after split no_quote (λ kind more rest joined allowed. let (has, among) = marks kind more rest joined allowed in omega (arith, longest more rest among joined)));
+          (no_token c after utf8 split no_quote (λ kind more rest joined allowed. let (has, among) = marks kind more rest joined allowed in omega (arith, longest more rest among joined)));
       within = omega (arith, len, ap length split, length-append (encode_utf8 c) after);
       order = omega arith;
     }

@@ -20,3 +20,5 @@ pub mod Unique
 pub mod UniqueReading
 pub mod FaultReading
 pub mod SpanLemmas
+pub mod Telling
+pub mod FirstFaults

@@ -28,7 +28,8 @@ use Rattle.net_lex.specs.Shapes.{front}
 use Rattle.net_lex.specs.Tokens.{IsString, HasShape, Allows}
 use Rattle.net_lex.specs.Reading.{IsLongest, BeginsNoComment}
 use Rattle.net_lex.specs.Faults.{EndsWhole, IsDefect, too_long, not_whole, too_large, IsFault, comment, token}
-use Rattle.net_lex.specs.Scanning.{limits, BeginsNoGap, IsNumeralKind, IsKindOf, IsTokenAt, IsDefectAt, IsStep}
+use Rattle.net_lex.specs.Limits.{limits}
+use Rattle.net_lex.specs.Scanning.{BeginsNoGap, IsNumeralKind, IsKindOf, IsTokenAt, IsDefectAt, IsStep}
 use Rattle.net_lex.proofs.GapReading.{Skipped, skipped_is}
 use Rattle.net_lex.proofs.NumeralSigned.{signed_spelled, unread_none, unread_rest}
 use Rattle.net_lex.proofs.FrontTold.{FrontIs, Refuses, FrontTold, told_front, first_take}

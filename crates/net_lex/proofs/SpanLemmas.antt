@@ -1,16 +1,15 @@
 -- The spans of tokens and faults lie in the text.
-use Rattle.std.proofs.Common.{◌≡◌, ℕ, ◌+◌, ◌-◌, ◌≤◌, List, [], ◌∷◌, ◌++◌, length, take, drop, Result, Ok, Err, MatchResult, refl, sym, ap, ◌∙◌, arith, append_assoc, length-append, take_at, drop_at}
+use Rattle.std.proofs.Common.{◌≡◌, ℕ, ◌+◌, ◌-◌, ◌≤◌, List, [], ◌∷◌, ◌++◌, length, take, drop, sym, ap, ◌∙◌, arith, append_assoc, length-append, take_at, drop_at}
 use Rattle.std.specs.Char.{encode_utf8}
 use Rattle.std.specs.List.{AllByRecursion}
 use Rattle.net_lex.specs.declared.fault.Defect.{Defect}
-use Rattle.net_lex.specs.declared.fault.LexFault.{LexFault}
-use Rattle.net_lex.specs.declared.fault.LexFault.TheVariants.{OutOfMemory, At}
 use Rattle.net_lex.specs.declared.language.Language.{Language}
 use Rattle.net_lex.specs.declared.span.Span.{Span}
 use Rattle.net_lex.specs.declared.token.Token.{Token}
+use Rattle.net_lex.specs.Limits.{Limits}
 use Rattle.net_lex.specs.Reading.{IsNext, StandIn, EndsInGap, IsSliceOf}
-use Rattle.net_lex.specs.Faults.{Limits, IsDefect, no_token, control, open_string, too_long, not_whole, too_large, IsFault, comment, token, StandSound, HasPlace, IsFaultBehind}
-use Rattle.net_lex.proofs.StandLemmas.{sound_reads, next_room}
+use Rattle.net_lex.specs.Faults.{IsDefect, no_token, control, open_string, too_long, not_whole, too_large, IsFault, comment, token, StandSound}
+use Rattle.net_lex.proofs.StandLemmas.{next_room}
 
 pub slices : (language : Language) (text front rest : List ℕ) (at : ℕ) (ts : List Token) → text ≡ front ++ rest → length front ≡ at
     → StandIn (IsNext language) EndsInGap at rest ts → AllByRecursion (IsSliceOf text) ts
@@ -31,7 +30,7 @@ slices language text front rest at (t ∷ ts) e len (gap, after, next, tail) =
     )
 
 defect_within : (limits : Limits) (language : Language) (text : List ℕ) (d : Defect) (from to : ℕ) → IsDefect limits language text d from to → (from ≤ to) × (to ≤ length text)
-defect_within limits language text _ _ _ (no_token c after split other none) = (omega arith, omega (arith, ap length split, length-append (encode_utf8 c) after))
+defect_within limits language text _ _ _ (no_token c after utf8 split other none) = (omega arith, omega (arith, ap length split, length-append (encode_utf8 c) after))
 defect_within limits language text _ _ _ (control q c inside after quote body bad split) = (omega arith, omega (arith, ap length split, length-append inside (c ∷ after)))
 defect_within limits language text _ _ _ (open_string q inside quote body split) = (omega arith, omega (arith, ap length split))
 defect_within limits language text _ _ _ (too_long kind word after split other whole_word long) = (omega arith, omega (arith, ap length split, length-append word after))
@@ -45,18 +44,9 @@ fault_within limits language at rest d span (token gap text from to e g bare no_
     let (order, within) = defect_within limits language text d from to defect in
     (omega (arith, ap (λ s. s.start) place, ap (λ s. s.end) place), omega (arith, ap (λ s. s.end) place, ap length e, length-append gap text))
 
-behind_within : (limits : Limits) (language : Language) (at : ℕ) (rest : List ℕ) (d : Defect) (span : Span) (ts : List Token)
+pub behind_within : (limits : Limits) (language : Language) (at : ℕ) (rest : List ℕ) (d : Defect) (span : Span) (ts : List Token)
     → StandSound limits language (λ at rest. IsFault limits language at rest d span) at rest ts → (span.start ≤ span.end) × (span.end ≤ at + length rest)
 behind_within limits language at rest d span [] fault = fault_within limits language at rest d span fault
 behind_within limits language at rest d span (t ∷ ts) (gap, after, next, tail) =
     let (order, within) = behind_within limits language t.span.end after d span ts tail in
     (order, omega (arith, within, next_room language at rest t gap after next.next))
-
-module _ {V : Type 0} (items : V → List Token) (limits : Limits) (language : Language) (text : List ℕ) where
-  abbrev pub Told : Result V LexFault → Type 0
-  Told r = MatchResult r (λ v. StandSound limits language EndsInGap 0 text (items v)) (IsFaultBehind limits language text)
-
-  pub told_place : (r : Result V LexFault) → Told r → MatchResult r (λ v. AllByRecursion (IsSliceOf text) (items v)) (HasPlace text)
-  told_place (Ok v) stand = slices language text [] text 0 (items v) refl refl (sound_reads limits language 0 text (items v) stand)
-  told_place (Err OutOfMemory) fault = tt
-  told_place (Err (At defect span)) (ts, fault) = let (order, within) = behind_within limits language 0 text defect span ts fault in (order, omega (arith, within))

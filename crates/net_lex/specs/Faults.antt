@@ -1,5 +1,5 @@
 -- The first fault of a text (AMPL book, section A.1, for the forms; the limits and the order are this profile's).
-use Rattle.std.specs.Prelude.{◌≡◌, ℕ, ◌+◌, ◌≤◌, ◌<◌, true, false, List, ◌∷◌, ◌++◌, length}
+use Rattle.std.specs.Prelude.{◌≡◌, ℕ, ◌+◌, ◌≤◌, ◌<◌, true, false, List, ◌∷◌, ◌++◌, length, codes}
 use Rattle.std.specs.Char.{encode_utf8}
 use Rattle.std.specs.Str.{IsUtf8, IsValidUpTo}
 use Rattle.net_lex.specs.declared.fault.Defect.{Defect}
@@ -15,6 +15,7 @@ use Rattle.net_lex.specs.declared.token.Token.{Token}
 use Rattle.net_lex.specs.Bytes.{first}
 use Rattle.net_lex.specs.Characters.{is_blank, is_quote, is_control}
 use Rattle.net_lex.specs.Gaps.{IsGap, IsOpenComment}
+use Rattle.net_lex.specs.Limits.{Limits}
 use Rattle.net_lex.specs.Numerals.{IsNumFault}
 use Rattle.net_lex.specs.Tokens.{IsInside, Allows}
 use Rattle.net_lex.specs.Reading.{IsLongest, IsNext, BeginsNoComment, StandIn, IsSound}
@@ -23,15 +24,10 @@ use Rattle.net_lex.specs.Reading.{IsLongest, IsNext, BeginsNoComment, StandIn, I
 abbrev pub EndsWhole : Kind → (text after : List ℕ) → Type 0
 EndsWhole kind text after = kind ≡ Str → first after ≡ first text → ⊥
 
--- the greatest length of a token, and of a value in size
-pub record Limits : Type 0 where
-  pub token : ℕ
-  pub value : ℕ
-
 -- what is wrong where a token should begin, from one byte up to another, counted from there
 pub data IsDefect (limits : Limits) (language : Language) (text : List ℕ) : Defect → ℕ → ℕ → Type 0 where
   -- a character with which no token begins
-  no_token : (c : ℕ) (after : List ℕ) → text ≡ encode_utf8 c ++ after → is_quote (first text) ≡ false
+  no_token : (c : ℕ) (after : List ℕ) → IsUtf8 text → text ≡ encode_utf8 c ++ after → is_quote (first text) ≡ false
       → ((kind : Kind) (more rest : List ℕ) → text ≡ more ++ rest → ¬ Allows language kind more)
       → IsDefect limits language text BadCharacter 0 (length (encode_utf8 c))
   -- a control character in a string
@@ -73,17 +69,35 @@ pub data IsFirstFault (limits : Limits) (language : Language) (text_limit : ℕ)
 abbrev pub StandSound : Limits → Language → (ℕ → List ℕ → Type 0) → ℕ → List ℕ → List Token → Type 0
 StandSound limits language Ends at rest tokens = StandIn (IsSoundNext limits language) Ends at rest tokens
 
--- what is wrong behind tokens that are sound
-abbrev pub IsFaultBehind : Limits → Language → List ℕ → LexFault → Type 0
-IsFaultBehind limits language text OutOfMemory = Unit {0}
-IsFaultBehind limits language text (At defect span) = (tokens : List Token) × StandSound limits language (λ at rest. IsFault limits language at rest defect span) 0 text tokens
+-- a sound token begins the text
+abbrev pub BeginsWithToken : Limits → Language → List ℕ → Type 0
+BeginsWithToken limits language text = (token : Token) × (gap : List ℕ) × (after : List ℕ) × IsSoundNext limits language 0 text token gap after
 
--- the first fault of the text, or want of memory
-abbrev pub IsRefusal : Limits → Language → (text_limit : ℕ) → List ℕ → LexFault → Type 0
-IsRefusal limits language text_limit text OutOfMemory = Unit {0}
-IsRefusal limits language text_limit text (At defect span) = IsFirstFault limits language text_limit text defect span
+-- what is wrong behind tokens that are sound; memory is wanted for a first token, and not before
+abbrev pub IsFaultBehind : Limits → Language → List ℕ → LexFault → Type 0
+IsFaultBehind limits language text OutOfMemory = BeginsWithToken limits language text
+IsFaultBehind limits language text (At defect span) = (tokens : List Token) × StandSound limits language (λ at rest. IsFault limits language at rest defect span) 0 text tokens
 
 -- a fault's place is in the text
 abbrev pub HasPlace : List ℕ → LexFault → Type 0
 HasPlace text OutOfMemory = Unit {0}
 HasPlace text (At defect span) = (span.start ≤ span.end) × (span.end ≤ length text)
+
+-- the numbers and names of the faults, as they are printed
+abbrev pub number_of : Defect → ℕ
+number_of BadCharacter = 1
+number_of OpenString = 2
+number_of OpenComment = 3
+number_of NotWhole = 4
+number_of TooLarge = 5
+number_of NotUtf8 = 6
+number_of TextTooLong = 7
+
+abbrev pub name_of : Defect → List ℕ
+name_of BadCharacter = codes "BadCharacter"
+name_of OpenString = codes "OpenString"
+name_of OpenComment = codes "OpenComment"
+name_of NotWhole = codes "NotWhole"
+name_of TooLarge = codes "TooLarge"
+name_of NotUtf8 = codes "NotUtf8"
+name_of TextTooLong = codes "TextTooLong"

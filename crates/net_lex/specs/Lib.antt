@@ -1,5 +1,6 @@
 pub mod Bytes
 pub mod Numerals
+pub mod Limits
 pub mod Places
 pub mod formers
 pub mod NumeralFront
@@ -15,3 +16,4 @@ pub mod Tokens
 pub mod Reading
 pub mod Faults
 pub mod Scanning
+pub mod Lexing

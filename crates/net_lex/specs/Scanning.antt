@@ -15,10 +15,8 @@ use Rattle.net_lex.specs.GapFront.{place_after}
 use Rattle.net_lex.specs.Numerals.{IsValue, IsNumFault}
 use Rattle.net_lex.specs.Tokens.{Allows}
 use Rattle.net_lex.specs.Reading.{IsLongest, IsSound}
-use Rattle.net_lex.specs.Faults.{Limits, EndsWhole, IsDefect, IsSoundNext}
-
-abbrev pub limits : Limits
-limits = record { token = 255; value = 1000000000000 }
+use Rattle.net_lex.specs.Limits.{limits}
+use Rattle.net_lex.specs.Faults.{EndsWhole, IsDefect, IsSoundNext}
 
 -- neither a blank nor a comment begins the text
 abbrev pub BeginsNoGap : List ℕ → Type 0

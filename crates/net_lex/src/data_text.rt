@@ -1,13 +1,7 @@
 //! Tokens of data text.
-ghost use Rattle.std.specs.Prelude.{◌≡◌, ◌+◌, ◌<◌, ◌^◌, ◌≤◌, length, List, MatchResult, IfOk, IfErr, OnOk};
-ghost use Rattle.std.specs.Str.{IsUtf8};
-ghost use Rattle.std.specs.List.{AllByRecursion};
-ghost use Rattle.net_lex.specs.declared.token.Token.{Token};
+ghost use Rattle.std.specs.Prelude.{◌≡◌, ◌+◌, ◌<◌, ◌^◌, length};
 ghost use Rattle.net_lex.specs.declared.language.Language.TheVariants.{Data};
-ghost use Rattle.net_lex.specs.declared.numeral.TheConstants.{LIMIT};
-ghost use Rattle.net_lex.specs.Reading.{Reads, AreSound, IsSliceOf};
-ghost use Rattle.net_lex.specs.Faults.{IsRefusal, HasPlace};
-ghost use Rattle.net_lex.specs.Scanning.{limits};
+ghost use Rattle.net_lex.specs.Lexing.{Lexes};
 ghost use Rattle.net_lex.specs.Shapes.{data_front};
 
 use crate::bare_word::word_len;
@@ -40,16 +34,10 @@ pub(crate) fn data_front(text: &str) -> Result<(Shape, usize), Stop>
 /// The greatest length of a data text: 16 MiB.
 pub const DATA_LIMIT: usize = 0x100_0000;
 
-/// The tokens of a data text.
+/// The tokens of a data text, in order, or its first fault with its span: a text past its limit, then one that
+/// is not UTF-8, then what stands first. Spans count bytes from 0.
 pub fn lex_data<'s>(alloc: Global, text: &'s [u8]) -> Result<Vec<Token<'s>>, LexFault>
-    ensures ok { IfOk result (λ v. Reads Data text.entry.now v.items) }
-    ensures sound { IfOk result (λ v. AreSound 255 LIMIT v.items) }
-    ensures text { OnOk result ((length text.entry.now ≤ DATA_LIMIT) × IsUtf8 text.entry.now) }
-    ensures refused { IfErr result (IsRefusal limits Data DATA_LIMIT text.entry.now) }
-    ensures place { MatchResult result (λ v. AllByRecursion (IsSliceOf text.entry.now) v.items) (HasPlace text.entry.now) }
-    ensures complete { (tokens : List Token) → length text.entry.now ≤ DATA_LIMIT → IsUtf8 text.entry.now
-        → Reads Data text.entry.now tokens → AreSound 255 LIMIT tokens
-        → MatchResult result (λ v. v.items ≡ tokens) (λ e. e ≡ LexFault.OutOfMemory) }
+    ensures value { Lexes (λ v. v.items) Data text.entry.now result }
 {
-    lex(alloc, Language::Data, DATA_LIMIT, text)
+    lex(alloc, Language::Data, text)
 }

@@ -1,5 +1,5 @@
 /// The two languages of a problem's texts.
-#[derive(Clone, Copy, Debug, PartialEq, Eq)]
+#[derive(Clone, Copy)]
 pub enum Language {
     Model,
     Data,

@@ -31,6 +31,6 @@ pub use language::Language;
 pub use model_text::{MODEL_LIMIT, lex_model};
 pub use numeral::{NumFault, whole_of};
 pub use places::line_column;
-pub use reading::one_reading;
+pub use reading::{one_first_fault, one_reading, read_or_refused};
 pub use span::Span;
 pub use token::{Kind, Token};

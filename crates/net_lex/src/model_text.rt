@@ -1,14 +1,8 @@
 //! Tokens of model text.
-ghost use Rattle.std.specs.Prelude.{◌≡◌, ◌+◌, ◌<◌, ◌^◌, ◌≤◌, length, None, List, MatchResult, IfOk, IfErr, OnOk};
+ghost use Rattle.std.specs.Prelude.{◌≡◌, ◌+◌, ◌<◌, ◌^◌, ◌≤◌, length, None};
 ghost use Rattle.std.specs.List.{prefix_len};
-ghost use Rattle.std.specs.Str.{IsUtf8};
-ghost use Rattle.std.specs.List.{AllByRecursion};
-ghost use Rattle.net_lex.specs.declared.token.Token.{Token};
 ghost use Rattle.net_lex.specs.declared.language.Language.TheVariants.{Model};
-ghost use Rattle.net_lex.specs.declared.numeral.TheConstants.{LIMIT};
-ghost use Rattle.net_lex.specs.Reading.{Reads, AreSound, IsSliceOf};
-ghost use Rattle.net_lex.specs.Faults.{IsRefusal, HasPlace};
-ghost use Rattle.net_lex.specs.Scanning.{limits};
+ghost use Rattle.net_lex.specs.Lexing.{Lexes};
 ghost use Rattle.net_lex.specs.Characters.{starts_name, continues_name};
 ghost use Rattle.net_lex.specs.Shapes.{unnamed_front, model_front};
 
@@ -71,16 +65,10 @@ pub(crate) fn model_front(text: &str) -> Result<(Shape, usize), Stop>
 /// The greatest length of a model text: 1 MiB.
 pub const MODEL_LIMIT: usize = 0x10_0000;
 
-/// The tokens of a model text.
+/// The tokens of a model text, in order, or its first fault with its span: a text past its limit, then one that
+/// is not UTF-8, then what stands first. Spans count bytes from 0.
 pub fn lex_model<'s>(alloc: Global, text: &'s [u8]) -> Result<Vec<Token<'s>>, LexFault>
-    ensures ok { IfOk result (λ v. Reads Model text.entry.now v.items) }
-    ensures sound { IfOk result (λ v. AreSound 255 LIMIT v.items) }
-    ensures text { OnOk result ((length text.entry.now ≤ MODEL_LIMIT) × IsUtf8 text.entry.now) }
-    ensures refused { IfErr result (IsRefusal limits Model MODEL_LIMIT text.entry.now) }
-    ensures place { MatchResult result (λ v. AllByRecursion (IsSliceOf text.entry.now) v.items) (HasPlace text.entry.now) }
-    ensures complete { (tokens : List Token) → length text.entry.now ≤ MODEL_LIMIT → IsUtf8 text.entry.now
-        → Reads Model text.entry.now tokens → AreSound 255 LIMIT tokens
-        → MatchResult result (λ v. v.items ≡ tokens) (λ e. e ≡ LexFault.OutOfMemory) }
+    ensures value { Lexes (λ v. v.items) Model text.entry.now result }
 {
-    lex(alloc, Language::Model, MODEL_LIMIT, text)
+    lex(alloc, Language::Model, text)
 }

@@ -4,7 +4,8 @@ ghost use Rattle.net_lex.specs.Shapes.{front};
 ghost use Rattle.net_lex.specs.Tokens.{HasShape};
 ghost use Rattle.net_lex.specs.Gaps.{IsLastGap};
 ghost use Rattle.net_lex.specs.Faults.{IsFault};
-ghost use Rattle.net_lex.specs.Scanning.{limits, BeginsNoGap, IsNumeralKind, IsKindOf, IsTokenAt, IsDefectAt, IsStep};
+ghost use Rattle.net_lex.specs.Limits.{limits};
+ghost use Rattle.net_lex.specs.Scanning.{BeginsNoGap, IsNumeralKind, IsKindOf, IsTokenAt, IsDefectAt, IsStep};
 ghost use Rattle.net_lex.specs.declared.shape.Shape.TheVariants.{Word};
 
 use crate::data_text::data_front;

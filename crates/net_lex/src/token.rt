@@ -21,7 +21,7 @@ pub enum Kind {
 }
 
 /// A token, with its place in the text that it is a slice of.
-#[derive(Debug, Drop)]
+#[derive(Drop)]
 pub struct Token<'s> {
     pub kind: Kind,
     pub text: Excerpt<'s>,

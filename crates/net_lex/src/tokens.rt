@@ -1,15 +1,14 @@
 //! All tokens of a text.
-ghost use Rattle.std.specs.Prelude.{◌≡◌, ◌≤◌, ◌^◌, length, List, MatchResult, IfOk, IfErr, OnOk};
-ghost use Rattle.std.specs.Str.{IsUtf8};
-ghost use Rattle.std.specs.List.{AllByRecursion};
-ghost use Rattle.net_lex.specs.Reading.{EndsInGap, Reads, AreSound, IsSliceOf};
-ghost use Rattle.net_lex.specs.Faults.{StandSound, IsFaultBehind, IsRefusal, HasPlace};
-ghost use Rattle.net_lex.specs.declared.token.Token.{Token};
-ghost use Rattle.net_lex.specs.Scanning.{limits};
-ghost use Rattle.net_lex.specs.declared.numeral.TheConstants.{LIMIT};
+ghost use Rattle.std.specs.Prelude.{◌≡◌, ◌≤◌, ◌^◌, length, MatchResult};
+ghost use Rattle.net_lex.specs.Limits.{limits, text_limit};
+ghost use Rattle.net_lex.specs.Reading.{EndsInGap};
+ghost use Rattle.net_lex.specs.Faults.{StandSound, IsFaultBehind};
+ghost use Rattle.net_lex.specs.Lexing.{Lexes};
 
+use crate::data_text::DATA_LIMIT;
 use crate::fault::{Defect, LexFault};
 use crate::language::Language;
+use crate::model_text::MODEL_LIMIT;
 use crate::scan::step;
 use crate::span::Span;
 use crate::token::Token;
@@ -34,31 +33,34 @@ fn tokens_of<'s>(
             Ok(None) => return Ok(tokens),
             Ok(Some((token, after))) => {
                 at = token.span.end;
-                tokens.push(token)?;
+                let Ok(()) = tokens.push(token) else {
+                    return Err(LexFault::OutOfMemory);
+                };
                 rest = after;
             }
         }
     }
 }
 
-/// The tokens of a text of at most `text_limit` bytes.
+/// The greatest length of a text.
+fn text_limit(language: Language) -> usize
+    ensures { result ≡ text_limit language }
+{
+    match language {
+        Language::Model => MODEL_LIMIT,
+        Language::Data => DATA_LIMIT,
+    }
+}
+
+/// The tokens of a text.
 pub(crate) fn lex<'s>(
     alloc: Global,
     language: Language,
-    text_limit: usize,
     text: &'s [u8],
 ) -> Result<Vec<Token<'s>>, LexFault>
-    requires { text_limit ≤ 2 ^ 24 }
-    ensures ok { IfOk result (λ v. Reads language text.entry.now v.items) }
-    ensures sound { IfOk result (λ v. AreSound 255 LIMIT v.items) }
-    ensures text { OnOk result ((length text.entry.now ≤ text_limit) × IsUtf8 text.entry.now) }
-    ensures refused { IfErr result (IsRefusal limits language text_limit text.entry.now) }
-    ensures place { MatchResult result (λ v. AllByRecursion (IsSliceOf text.entry.now) v.items) (HasPlace text.entry.now) }
-    ensures complete { (tokens : List Token) → length text.entry.now ≤ text_limit → IsUtf8 text.entry.now
-        → Reads language text.entry.now tokens → AreSound 255 LIMIT tokens
-        → MatchResult result (λ v. v.items ≡ tokens) (λ e. e ≡ LexFault.OutOfMemory) }
+    ensures value { Lexes (λ v. v.items) language text.entry.now result }
 {
-    if text.len() > text_limit {
+    if text.len() > text_limit(language) {
         return Err(LexFault::At(Defect::TextTooLong, Span { start: 0, end: 0 }));
     }
     match str::from_utf8(text) {

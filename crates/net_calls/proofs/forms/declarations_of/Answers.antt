@@ -1,4 +1,4 @@
-use Rattle.std.proofs.Common.{◌≡◌, List, ◌∷◌, ◌++◌, [], length, drop, map, ◌-◌, Ok, ap, sym, subst, ◌∙◌, arith}
+use Rattle.std.proofs.Common.{◌≡◌, ◌∷◌, ◌++◌, [], length, drop, map, ◌-◌, Ok, ap, sym, subst, ◌∙◌, arith}
 use Rattle.std.proofs.lemmas.List.{length-drop, map-append, take_all}
 use Rattle.net_calls.specs.Declarations.{Tokens, form_of, Spell, signs_of_all}
 use Rattle.net_calls.specs.Forms.{declaration_at}

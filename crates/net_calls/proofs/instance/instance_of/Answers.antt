@@ -1,10 +1,8 @@
-use Rattle.std.proofs.Common.{◌≡◌, ◌∷◌, ◌++◌, [], None, ap, sym, subst, ◌∙◌, arith, length, map, vec_len}
-use Rattle.std.proofs.lemmas.List.{length-map}
+use Rattle.std.proofs.Common.{◌∷◌, ◌++◌, [], ap, sym, subst, ◌∙◌, arith, map, vec_len}
 use Rattle.net_calls.specs.Declarations.{form_of}
-use Rattle.net_calls.specs.Drafts.{told, plan_of, HasEnds, IsDrafted}
-use Rattle.net_calls.specs.Instances.{network_fault, sides_of}
-use Rattle.net_calls.specs.NameRules.{first_fault}
-use Rattle.net_calls.proofs.Passes.{left_from, left_step, behind_more, behind_stops, behind_all}
+use Rattle.net_calls.specs.Drafts.{told, plan_of, HasEnds}
+use Rattle.net_calls.specs.Instances.{network_fault}
+use Rattle.net_calls.proofs.Passes.{left_from, left_step, behind_more, behind_all}
 use Rattle.net_calls.proofs.Plans.{Planned, nodes_counted, node_fits, arc_fits, planned_more, same_fault, ends_told, drafted}
 use Rattle.net_calls.proofs.Stops.{if_both}
 use Rattle.net_calls.proofs.instance.instance_of.Goals as goal

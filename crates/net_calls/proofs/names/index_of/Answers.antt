@@ -1,4 +1,4 @@
-use Rattle.std.proofs.Common.{◌≡◌, ◌++◌, ◌∷◌, [], ap, sym, ◌∙◌, arith, length, map, length-append, rules}
+use Rattle.std.proofs.Common.{◌++◌, ◌∷◌, [], sym, ◌∙◌, arith, length, map, length-append, rules}
 use Rattle.net_calls.specs.Declarations.{form_of}
 use Rattle.net_calls.specs.Drafts.{told}
 use Rattle.net_calls.specs.NameRules.{meaning_in, name_fault}

@@ -1,8 +1,9 @@
 use Rattle.std.proofs.Common.{◌++◌, ◌∷◌, [], ℕ, List, sym, subst, refl, arith}
 use Rattle.net_lex.specs.Reading.{EndsInGap}
 use Rattle.net_lex.specs.Faults.{IsFault, StandSound}
-use Rattle.net_lex.specs.Scanning.{limits, IsStep}
-use Rattle.net_lex.proofs.StandLemmas.{LeadsTo, stand_on, stand_ends, next_room}
+use Rattle.net_lex.specs.Limits.{limits}
+use Rattle.net_lex.specs.Scanning.{IsStep}
+use Rattle.net_lex.proofs.StandLemmas.{LeadsTo, stand_on, stand_ends, begins, next_room}
 use Rattle.net_lex.proofs.tokens.tokens_of.Goals as goal
 
 pub returns-in-Err : goal.returns-in-Err
@@ -23,7 +24,14 @@ tokens-preserved c =
     let more : StandSound limits c.args.language ends 0 c.args.text.now (c.tokens.tokens.items ++ token ∷ []) =
     stand_on limits c.args.language ends 0 c.tokens.at c.args.text.now c.tokens.rest.now c.tokens.tokens.items (token ∷ []) c.tokens.invariant.value (step.0, after, step.1, (refl, refl)) in
     record {
-      value = subst (StandSound limits c.args.language ends 0 c.args.text.now) (sym c.in_ok-push-in-Ok-Some.ensures.items) more;
+      value = subst (StandSound limits c.args.language ends 0 c.args.text.now) (sym c.in-Ok.ensures.items) more;
       text = step.3;
       room = omega (arith, next_room c.args.language c.tokens.at c.tokens.rest.now token step.0 after step.1.next, c.tokens.invariant.room);
     }
+
+pub returns-in_default : goal.returns-in_default
+returns-in_default c =
+    let token = c.in-Ok-Some.token in
+    let after = c.in-Ok-Some.after.now in
+    let step : IsStep c.args.language c.tokens.at c.tokens.rest.now token after = rw c.in-Ok-Some.field-0-is at c.in-Ok-Some.ensures in
+    begins c.args.language c.args.text.now c.tokens.at c.tokens.rest.now c.tokens.tokens.items token step.0 after c.tokens.invariant.value step.1

@@ -1,6 +1,6 @@
 use Rattle.std.proofs.Common.{◌≡◌, ◌+◌, length, IsUtf8}
 use Rattle.net_lex.specs.Faults.{StandSound}
-use Rattle.net_lex.specs.Scanning.{limits}
+use Rattle.net_lex.specs.Limits.{limits}
 use Rattle.net_lex.proofs.tokens.tokens_of.Given as goal
 
 abbrev pub invariant-tokens : goal.invariant-tokens

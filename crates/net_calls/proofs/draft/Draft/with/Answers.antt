@@ -1,4 +1,4 @@
-use Rattle.std.proofs.Common.{◌≡◌, ap, sym, ◌∙◌}
+use Rattle.std.proofs.Common.{ap, sym, ◌∙◌}
 use Rattle.net_calls.specs.Declarations.{form_of}
 use Rattle.net_calls.specs.Drafts.{told, plan_of, plan_with}
 use Rattle.net_calls.proofs.Stops.{if_ok}

@@ -1,4 +1,4 @@
-use Rattle.std.proofs.Common.{◌≡◌, List, ℕ, Bool, cond, Some, ap, ◌∙◌}
+use Rattle.std.proofs.Common.{List, ℕ, cond, Some, ap, ◌∙◌}
 use Rattle.std.specs.Str.{bytes_eq}
 use Rattle.net_calls.specs.Drafts.{told}
 use Rattle.net_calls.proofs.names.Index.insert.Goals as goal
