@@ -1,7 +1,7 @@
 -- What a run reads and writes (the words of Rust's std::io, Read and Write).
 use Rattle.std.specs.Prelude.{◌≡◌, ℕ, List, Option}
 use Rattle.std.specs.Io.KnownBytes.{Appends}
-use Rattle.net_dimacs.specs.Ends.{ReadsToLimit, WritesFront}
+use Rattle.net_ends.specs.Ends.{ReadsToLimit, WritesFront}
 use Rattle.net_calls.specs.declared.compiled.Compiled.{Compiled}
 use Rattle.net_calls.specs.declared.fault.Fault.{Fault}
 use Rattle.net_calls.specs.declared.fault.TextName.{TextName}

@@ -12,7 +12,7 @@ use crate::fault::{Fault, TextName};
 use crate::run::read_text;
 use crate::settling::solve_min;
 use net_check::Verdict;
-use net_dimacs::{Sink, Source, write_whole};
+use net_ends::{Sink, Source, write_whole};
 use net_solve::Settled;
 use std::alloc::Global;
 

@@ -1,12 +1,12 @@
 //! Runs from end to end: texts are read whole, then the answer is computed whole, then it is written.
 
 ghost use Rattle.std.specs.Prelude.{◌≡◌, ◌+◌, ◌^◌, ◌<◌, ◌⊎◌, ◌↔◌, true, false, OnOk, IfOk, IfErr, IsErrOf};
-ghost use Rattle.net_dimacs.specs.Ends.{ReadsToLimit};
+ghost use Rattle.net_ends.specs.Ends.{ReadsToLimit};
 ghost use Rattle.net_calls.specs.Runs.{WritesAnswer, WritesFrontOfAnswer, Refuses, IfRefused, IfUnread};
 
 use crate::compiled::compile;
 use crate::fault::{Fault, TextName};
-use net_dimacs::{ReadFault, Sink, Source, read_to_limit, write_whole};
+use net_ends::{ReadFault, Sink, Source, read_to_limit, write_whole};
 use net_lex::{DATA_LIMIT, MODEL_LIMIT};
 use std::alloc::Global;
 

@@ -1,6 +1,6 @@
 //! Whole runs and calls.
 use net_calls::{Ending, Fault, compile, run_check, run_compile, run_min};
-use net_dimacs::{MemorySink, MemorySource, OfRead};
+use net_ends::{MemorySink, MemorySource, OfRead};
 use std::alloc::{AllocError, Global};
 use std::io;
 use std::test::Fail;

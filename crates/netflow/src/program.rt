@@ -2,7 +2,7 @@
 
 use crate::words::{Action, Words, WordsFault, words_of};
 use net_calls::{Ending, Fault, TextName, run_check, run_compile, run_min};
-use net_dimacs::{OfRead, OfWrite};
+use net_ends::{OfRead, OfWrite};
 use std::process::ExitCode;
 use std::rt::Runtime;
 use std::{env, fs, io};

@@ -1,16 +1,16 @@
 //! Sources and sinks in memory, which can be told to fail.
 
-ghost use Rattle.std.specs.Prelude.{◌≡◌, ℕ, ◌+◌, ◌-◌, ◌<◌, ◌≤◌, ◌||◌, ◌&&◌, ◌==◌, min, false, not, is_err, length, IfOk, Some, vec_len, vec_capacity};
+ghost use Rattle.std.specs.Prelude.{◌≡◌, ℕ, ◌+◌, ◌-◌, ◌^◌, ◌<◌, ◌≤◌, ◌||◌, ◌&&◌, ◌==◌, min, false, not, is_err, length, IfOk, OnErr, Some, vec_len, vec_capacity};
 ghost use Rattle.std.specs.Io.{ReadsAtMost, WritesAtMost};
 ghost use Rattle.std.specs.Io.KnownBytes.{ReadConsumes, WriteAppends};
-ghost use Rattle.net_dimacs.specs.Ends.{is_due, counted};
+ghost use Rattle.net_ends.specs.Ends.{is_due, counted};
 
 use crate::failed::Failed;
 use crate::sink::Sink;
 use crate::source::Source;
 
 /// A source of known bytes.
-#[derive(Debug, Drop)]
+#[derive(Drop)]
 pub struct MemorySource<'b> {
     /// The bytes to come.
     pub rest: &'b [u8],
@@ -20,6 +20,8 @@ pub struct MemorySource<'b> {
     pub calls_before_failure: Option<u64>,
     /// Whether a read has failed.
     pub failed: bool,
+    /// How many reads there were, or `u64::MAX`.
+    pub reads: u64,
     pub ghost some_bytes: { 1 ≤ bytes_per_call },
 }
 
@@ -35,12 +37,14 @@ impl<'b> MemorySource<'b> {
         ensures pace { result.bytes_per_call ≡ bytes_per_call }
         ensures calls { result.calls_before_failure ≡ calls_before_failure }
         ensures flag { result.failed ≡ false }
+        ensures reads { result.reads ≡ 0 }
     {
         MemorySource {
             rest,
             bytes_per_call,
             calls_before_failure,
             failed: false,
+            reads: 0,
         }
     }
 }
@@ -50,10 +54,13 @@ impl Source for MemorySource<'_> {
 
     ghost failed = { λ s. s.failed };
 
+    ghost reads = { λ s. s.reads };
+
     fn read(&mut self, buf: &mut [u8]) -> Result<usize, Failed>
         ensures bound { ReadsAtMost result buf.new }
         ensures bytes { ReadConsumes (Some self.old.rest.now) (Some self.new.rest.now) result buf.new }
         ensures flag { self.new.failed ≡ (self.old.failed || is_err result) }
+        ensures reads { self.new.reads ≡ min (self.old.reads + 1) (2 ^ 64 - 1) }
 
         ensures fails { is_err result ≡ is_due self.old.calls_before_failure }
         ensures calls { self.new.calls_before_failure ≡ counted self.old.calls_before_failure }
@@ -61,6 +68,7 @@ impl Source for MemorySource<'_> {
             n ≡ min (min self.old.bytes_per_call (length buf.old)) (length self.old.rest.now)) }
         ensures pace { self.new.bytes_per_call ≡ self.old.bytes_per_call }
     {
+        self.reads = self.reads.saturating_add(1);
         if !counts_down(&mut self.calls_before_failure) {
             self.failed = true;
             return Err(Failed);
@@ -89,7 +97,7 @@ fn counts_down(calls: &mut Option<u64>) -> bool
 }
 
 /// A sink that fills the room of a vector, and takes no memory.
-#[derive(Debug, Drop)]
+#[derive(Drop)]
 pub struct MemorySink {
     /// The vector with the bytes taken so far.
     pub taken: Vec<u8>,
@@ -147,6 +155,7 @@ impl Sink for MemorySink {
         ensures count { IfOk result (λ n.
             n ≡ min (min self.old.bytes_per_call (length bytes.now)) self.old.room) }
         ensures room { IfOk result (λ n. self.new.room + n ≡ self.old.room) }
+        ensures left { OnErr result ((self.new.taken ≡ self.old.taken) × (self.new.room ≡ self.old.room)) }
         ensures pace { self.new.bytes_per_call ≡ self.old.bytes_per_call }
     {
         let is_full = self.room == 0 && !bytes.is_empty();

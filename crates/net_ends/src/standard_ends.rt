@@ -8,22 +8,26 @@ use crate::source::Source;
 use std::io::{Read, Write};
 
 /// A reader as a source. Each error of the reader, an interruption too, is `Failed`.
-#[derive(Debug, Drop)]
+#[derive(Drop)]
 pub struct OfRead<R> {
     pub reader: R,
     /// Whether a read has failed.
     pub failed: bool,
+    /// How many reads there were, or `u64::MAX`.
+    pub reads: u64,
 }
 
 impl<R> OfRead<R> {
-    /// No read has failed yet.
+    /// Nothing was read yet.
     pub fn new(reader: R) -> OfRead<R>
         ensures reader { result.reader ≡ reader }
         ensures flag { result.failed ≡ false }
+        ensures reads { result.reads ≡ 0 }
     {
         OfRead {
             reader,
             failed: false,
+            reads: 0,
         }
     }
 }
@@ -33,7 +37,10 @@ impl<R: Read> Source for OfRead<R> {
 
     ghost failed = { λ s. s.failed };
 
+    ghost reads = { λ s. s.reads };
+
     fn read(&mut self, buf: &mut [u8]) -> Result<usize, Failed> {
+        self.reads = self.reads.saturating_add(1);
         match self.reader.read(buf) {
             Ok(count) => Ok(count),
             Err(_) => {
@@ -45,7 +52,7 @@ impl<R: Read> Source for OfRead<R> {
 }
 
 /// A writer as a sink. Each error of the writer is `Failed`, and so is a write that takes no byte.
-#[derive(Debug, Drop)]
+#[derive(Drop)]
 pub struct OfWrite<W> {
     pub writer: W,
     /// Whether a write has failed.

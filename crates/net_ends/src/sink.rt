@@ -3,7 +3,7 @@
 ghost use Rattle.std.specs.Prelude.{◌≡◌, ℕ, ◌<◌, Bool, ◌||◌, List, Option, None, is_err, IfOk, OnOk, OnErr, length};
 ghost use Rattle.std.specs.Io.{WritesAtMost};
 ghost use Rattle.std.specs.Io.KnownBytes.{Appends, WriteAppends};
-ghost use Rattle.net_dimacs.specs.Ends.{WritesFront};
+ghost use Rattle.net_ends.specs.Ends.{WritesFront};
 
 use crate::failed::Failed;
 

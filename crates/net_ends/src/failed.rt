@@ -1,16 +1,16 @@
 //! Why bytes did not come or go.
 
 ghost use Rattle.std.specs.Prelude.{◌≡◌};
-ghost use Rattle.net_dimacs.specs.declared.failed.ReadFault.TheVariants as read_faults;
+ghost use Rattle.net_ends.specs.declared.failed.ReadFault.TheVariants as read_faults;
 
 use std::alloc::AllocError;
 
 /// A read or a write failed.
-#[derive(Clone, Copy, Debug, PartialEq, Eq)]
+#[derive(Clone, Copy, Debug)]
 pub struct Failed;
 
 /// Why a source could not be read.
-#[derive(Clone, Copy, Debug, PartialEq, Eq)]
+#[derive(Clone, Copy, Debug)]
 pub enum ReadFault {
     /// There was no memory for the text.
     OutOfMemory,

@@ -7,6 +7,12 @@ pub record ReadsToLimit (limit : ℕ) (old new : Option (List ℕ)) (text : List
   pub bytes : Consumes old new text
   pub stop : ((length text ≤ limit) × IsAtEnd new) ⊎ (length text ≡ limit + 1)
 
+-- a front of the bytes was read, at most one byte past the limit, and nothing else
+pub record ReadsFront (limit : ℕ) (old new : Option (List ℕ)) : Type 0 where
+  pub front : List ℕ
+  pub bytes : Consumes old new front
+  pub few : length front ≤ limit + 1
+
 -- a front of the text went out
 abbrev pub WritesFront : Option (List ℕ) → Option (List ℕ) → List ℕ → Type 0
 WritesFront old new text = (front rest : List ℕ) × (text ≡ front ++ rest) × Appends old new front

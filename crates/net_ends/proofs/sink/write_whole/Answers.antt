@@ -1,6 +1,6 @@
 use Rattle.std.proofs.Common.{◌≡◌, Bool, true, false, ◌||◌, ◌++◌, take, refl, sym, ap, ◌∙◌, append_assoc, take-append-drop}
 use Rattle.std.proofs.KnownBytes.{Appends-trans}
-use Rattle.net_dimacs.proofs.sink.write_whole.Goals as goal
+use Rattle.net_ends.proofs.sink.write_whole.Goals as goal
 
 or_false : (b : Bool) → (b || false) ≡ b
 or_false true = refl

@@ -1,0 +1,14 @@
+//! The ends that bytes come from and go to: sources and sinks, in memory and of std's readers and writers.
+#![tactic(auto)]
+
+mod failed;
+mod memory_ends;
+mod sink;
+mod source;
+mod standard_ends;
+
+pub use failed::{Failed, ReadFault};
+pub use memory_ends::{MemorySink, MemorySource};
+pub use sink::{Sink, write_whole};
+pub use source::{Source, read_to_limit};
+pub use standard_ends::{OfRead, OfWrite};
