@@ -15,3 +15,4 @@ pub mod NodePasses
 pub mod Fits
 pub mod Constants
 pub mod Examples
+pub mod AllTaken

@@ -1,5 +1,5 @@
 -- The limits of a network and of its minimum-cost flow problem (First DIMACS Implementation Challenge), as netflow sets them.
-use Rattle.std.specs.Prelude.{ℕ, ◌*◌, ◌^◌, ◌<◌, ◌||◌, ℤ, pos, ◌≤ℤ◌, neg_ℤ, IsTrue, is_some}
+use Rattle.std.specs.Prelude.{ℕ, ◌*◌, ◌^◌, ◌<◌, ◌≤◌, ◌||◌, ℤ, pos, ◌≤ℤ◌, neg_ℤ, IsTrue, is_some, List, length, All}
 use Rattle.std.specs.Option.{ForSome}
 use Rattle.net_normal.specs.declared.instance.InstArc.{InstArc}
 use Rattle.net_normal.specs.declared.problem.FlowArc.{FlowArc}
@@ -67,3 +67,18 @@ pub record IsFlowArcOf (nodes : ℕ) (arc : FlowArc) : Type 0 where
   pub room : arc.low ≤ℤ arc.cap
   pub cap : arc.cap ≤ℤ pos flow_limit
   pub cost : IsSized cost_limit arc.cost
+
+-- a network within the limits, with this number of nodes
+pub record IsNetworkWithinLimits (nodes : ℕ) (arcs : List InstArc) (constant : ℤ) : Type 0 where
+  pub few_nodes : nodes ≤ node_limit
+  pub few_arcs : length arcs ≤ arc_limit
+  pub arcs_fit : All (IsArcOf nodes) arcs
+  pub constant_fits : IsSized value_limit constant
+
+-- a problem within the limits
+pub record IsWithinLimits (supplies : List ℤ) (arcs : List FlowArc) : Type 0 where
+  pub some_node : 1 ≤ length supplies
+  pub few_nodes : length supplies ≤ flow_node_limit
+  pub few_arcs : length arcs ≤ flow_arc_limit
+  pub supplies_fit : All (IsSized flow_limit) supplies
+  pub arcs_fit : All (IsFlowArcOf (length supplies)) arcs

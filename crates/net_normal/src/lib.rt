@@ -20,6 +20,3 @@ pub use limits::{
 pub use link::Link;
 pub use normal_form::normalise;
 pub use problem::{FlowArc, Problem};
-
-#[cfg(test)]
-mod tests;

@@ -1,5 +1,8 @@
 //! The limits of networks and of problems, which their types keep.
 
+ghost use Rattle.std.specs.Prelude.{◌≡◌, ℕ, ◌↔◌, pos, ◌≤ℤ◌, IsTrue};
+ghost use Rattle.net_normal.specs.Limits.{IsSized};
+
 /// The most nodes of a network.
 pub const NODE_LIMIT: usize = 10_000;
 
@@ -23,3 +26,11 @@ pub const FLOW_LIMIT: i64 = 1_000_000_000_000_000_000;
 
 /// The greatest cost of an arc, of either sign.
 pub const COST_LIMIT: i64 = 1_000_000_000_000;
+
+/// Whether a number is within a limit, of either sign.
+pub(crate) fn is_sized(limit: i64, number: &i64) -> bool
+    requires { pos 0 ≤ℤ limit }
+    ensures { (n : ℕ) → limit ≡ pos n → (IsTrue result ↔ IsSized n number.now) }
+{
+    -limit <= *number && *number <= limit
+}

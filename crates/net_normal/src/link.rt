@@ -6,7 +6,7 @@ ghost use Rattle.net_normal.specs.Limits.{IsSized, value_limit, constant_limit, 
 use crate::instance::Sense;
 
 /// What leads from a flow to an assignment, and from its cost to the objective's value.
-#[derive(Debug, Drop)]
+#[derive(Drop)]
 pub struct Link {
     /// For each arc of the network, the number of its arc in the problem, counted from 1.
     pub numbers: Vec<u32>,

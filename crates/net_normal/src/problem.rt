@@ -1,7 +1,9 @@
 //! A minimum-cost flow problem, as the First DIMACS Implementation Challenge has it.
 
-ghost use Rattle.std.specs.Prelude.{◌≤◌, All, vec_len};
-ghost use Rattle.net_normal.specs.Limits.{IsSized, IsFlowArcOf, flow_node_limit, flow_arc_limit, flow_limit};
+ghost use Rattle.std.specs.Prelude.{◌≡◌, ◌≤◌, ◌↔◌, All, IsTrue, IsSome, IfSome, length, vec_len};
+ghost use Rattle.net_normal.specs.Limits.{IsSized, IsFlowArcOf, IsWithinLimits, flow_node_limit, flow_arc_limit, flow_limit};
+
+use crate::limits::{COST_LIMIT, FLOW_ARC_LIMIT, FLOW_LIMIT, FLOW_NODE_LIMIT, is_sized};
 
 /// An arc of a problem.
 #[derive(Clone, Copy, Debug, PartialEq, Eq)]
@@ -22,7 +24,7 @@ pub struct FlowArc {
 ///
 /// A node is an index into `supplies`, counted from 0; its number in a DIMACS text is one more.
 /// Parallel arcs and loops are allowed, and supplies need not sum to 0.
-#[derive(Debug, Drop)]
+#[derive(Drop)]
 pub struct Problem {
     /// The supply of each node; a negative one is a demand.
     pub supplies: Vec<i64>,
@@ -33,4 +35,57 @@ pub struct Problem {
     pub ghost few_arcs: { vec_len arcs ≤ flow_arc_limit },
     pub ghost supplies_fit: { All (IsSized flow_limit) supplies.items },
     pub ghost arcs_fit: { All (IsFlowArcOf (vec_len supplies)) arcs.items },
+}
+
+impl Problem {
+    /// The problem of these supplies and arcs, exactly where it is within the limits.
+    pub fn checked(supplies: Vec<i64>, arcs: Vec<FlowArc>) -> Option<Problem>
+        ensures some { IsSome result ↔ IsWithinLimits supplies.items arcs.items }
+        ensures value { IfSome result (λ problem. (problem.supplies ≡ supplies) × (problem.arcs ≡ arcs)) }
+    {
+        if supplies.is_empty() || supplies.len() > FLOW_NODE_LIMIT || arcs.len() > FLOW_ARC_LIMIT {
+            return None;
+        }
+        if !are_supplies(&supplies) || !are_arcs(&arcs, supplies.len()) {
+            return None;
+        }
+        Some(Problem { supplies, arcs })
+    }
+}
+
+/// Whether all numbers may be supplies.
+fn are_supplies(numbers: &[i64]) -> bool
+    ensures { IsTrue result ↔ All (IsSized flow_limit) numbers.now }
+{
+    for number in numbers {
+        if !is_sized(FLOW_LIMIT, number) {
+            return false;
+        }
+    }
+    true
+}
+
+/// Whether all arcs may be those of a problem with this number of nodes.
+fn are_arcs(arcs: &[FlowArc], nodes: usize) -> bool
+    ensures { IsTrue result ↔ All (IsFlowArcOf nodes) arcs.now }
+{
+    for arc in arcs {
+        if !is_arc(arc, nodes) {
+            return false;
+        }
+    }
+    true
+}
+
+/// Whether an arc may be one of a problem with this number of nodes.
+fn is_arc(arc: &FlowArc, nodes: usize) -> bool
+    ensures { IsTrue result ↔ IsFlowArcOf nodes arc.now }
+{
+    if arc.src as usize >= nodes || arc.dst as usize >= nodes {
+        return false;
+    }
+    if arc.low < 0 || arc.low > arc.cap || arc.cap > FLOW_LIMIT {
+        return false;
+    }
+    is_sized(COST_LIMIT, &arc.cost)
 }

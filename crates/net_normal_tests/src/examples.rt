@@ -1,7 +1,7 @@
 //! The worked examples: instances in, problems and links out.
 
-use super::networks::{arc, at_least, at_most, between, exactly, network};
-use crate::{FlowArc, Instance, Sense, normalise};
+use crate::networks::{arc, at_least, at_most, between, exactly, network};
+use net_normal::{FlowArc, Instance, Sense, normalise};
 use std::process::Abort;
 use std::test::Fail;
 
@@ -34,7 +34,11 @@ fn expect(
         assert_eq!(rt; *number as usize, index + 1);
     }
     assert_eq!(rt; link.constant, constant);
-    assert_eq!(rt; link.sense, instance.sense);
+    let of_one = match instance.sense {
+        Sense::Minimise => 1,
+        Sense::Maximise => -1,
+    };
+    assert_eq!(rt; link.value(1), constant + of_one);
     Ok(())
 }
 

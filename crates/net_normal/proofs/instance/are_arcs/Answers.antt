@@ -1,0 +1,18 @@
+use Rattle.std.proofs.Common.{IsTrue, arith, rules, pos, refl, None}
+use Rattle.std.proofs.lemmas.List.Elements.{All-more}
+use Rattle.net_normal.specs.Limits.{IsArcOf}
+use Rattle.net_normal.specs.declared.instance.InstArc.{InstArc}
+use Rattle.net_normal.proofs.AllTaken.{all_taken}
+use Rattle.net_normal.proofs.instance.are_arcs.Goals as goal
+
+-- what a read past the end would give
+abbrev no_arc : InstArc
+no_arc = record { lower = pos 0; upper = pos 0; coefficient = pos 0; tail = None; head = None }
+
+pub loop-arc-preserved : goal.loop-arc-preserved
+loop-arc-preserved c =
+    let passed : IsTrue c.is_arc.result = search rules in
+    All-more (IsArcOf c.args.nodes) c.args.arcs.now c.loop-arc.arc-index no_arc c.loop-arc-test.true c.loop-arc.invariant ((c.is_arc.ensures).0 passed)
+
+pub returns : goal.returns
+returns c = (λ _. all_taken (IsArcOf c.args.nodes) c.args.arcs.now c.loop-arc.arc-index (omega arith) c.loop-arc.invariant, λ _. search rules)

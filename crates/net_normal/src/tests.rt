@@ -1,4 +1,0 @@
-//! Networks whose problems were worked out by hand.
-
-mod examples;
-mod networks;
