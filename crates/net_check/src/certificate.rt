@@ -12,7 +12,7 @@ pub enum Side {
 /// What is said to settle a problem; `check` tells whether it does.
 ///
 /// Flows are indexed as the problem's arcs, potentials and flags as its nodes, all from 0.
-#[derive(Debug, Drop)]
+#[derive(Drop)]
 pub enum Certificate {
     /// A flow of least cost, and potentials that show it.
     Optimal {

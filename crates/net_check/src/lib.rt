@@ -16,6 +16,3 @@ pub use certificate::{Certificate, Side};
 pub use checker::check;
 pub use laws::{least_cost, never_both, no_flow};
 pub use verdict::{Reason, Verdict};
-
-#[cfg(test)]
-mod tests;

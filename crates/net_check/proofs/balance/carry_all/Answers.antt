@@ -1,5 +1,4 @@
 use Rattle.std.proofs.Common.{◌≡◌, ◌<◌, ◌≤◌, List, length, get_or, vec_len, pos, ap, subst, sym, arith}
-use Rattle.net_normal.specs.Limits.{IsFlowArcOf}
 use Rattle.net_normal.specs.Flows.{IsWithinCapacity}
 use Rattle.net_normal.specs.declared.problem.FlowArc.{FlowArc}
 use Rattle.net_check.proofs.Pairs.{no_arc, zipped-lengths, flow-sized}
@@ -19,20 +18,7 @@ carry-requires g c =
     let i = c.loop-index.index in
     let inside : i < length arcs = omega (arith, c.loop-index-test.true, ap length c.deref-arc-items.ensures.value) in
     let few : i ≤ 200000 = omega (arith, inside, problem.few_arcs, problem.arcs.ok.0) in
-    let read : get_or arcs i no_arc ≡ get_or c.deref-arc-items.result.now i no_arc = ap (λ (bs : List FlowArc). get_or bs i no_arc) (sym c.deref-arc-items.ensures.value) in
-    let fits : IsFlowArcOf (vec_len problem.supplies) (get_or c.deref-arc-items.result.now i no_arc) = subst (IsFlowArcOf (vec_len problem.supplies)) read (problem.arcs_fit i no_arc inside) in (
-      omega (arith, c.requires.few),
-      (
-        omega (arith, fits.src, c.requires.nodes),
-        (
-          omega (arith, fits.dst, c.requires.nodes),
-          (
-            flow-sized (vec_len problem.supplies) arcs flows problem.arcs_fit c.requires.flows i no_arc (pos 0) inside,
-            carried-small g.row.N arcs flows i c.loop-index.balances few c.loop-index.invariant,
-          ),
-        ),
-      ),
-    )
+    (omega (arith, c.requires.few), (flow-sized (vec_len problem.supplies) arcs flows problem.arcs_fit c.requires.flows i no_arc (pos 0) inside, carried-small g.row.N c.args.first arcs flows i c.loop-index.balances few c.loop-index.invariant))
 
 pub loop-index-preserved : goal.loop-index-preserved
 loop-index-preserved g c =
@@ -43,13 +29,13 @@ loop-index-preserved g c =
     let inside : i < length arcs = omega (arith, c.loop-index-test.true, ap length c.deref-arc-items.ensures.value) in
     let inside' : i < length flows = omega (arith, inside, zipped-lengths IsWithinCapacity arcs flows c.requires.flows) in
     let read : get_or c.deref-arc-items.result.now i no_arc ≡ get_or arcs i no_arc = ap (λ (bs : List FlowArc). get_or bs i no_arc) c.deref-arc-items.ensures.value in
-    carried-next g.row.N arcs flows i no_arc (pos 0) c.loop-index.balances c.carry.new.balances inside inside'
+    carried-next g.row.N c.args.first arcs flows i no_arc (pos 0) c.loop-index.balances c.carry.new.balances inside inside'
     (flow-sized (vec_len problem.supplies) arcs flows problem.arcs_fit c.requires.flows i no_arc (pos 0) inside)
     c.loop-index.invariant c.carry.ensures.len
-    (subst (λ (a : FlowArc). Carries g.row.N a (get_or flows i (pos 0)) c.loop-index.balances c.carry.new.balances) read c.carry.ensures.value)
+    (subst (λ (a : FlowArc). Carries g.row.N c.args.first a (get_or flows i (pos 0)) c.loop-index.balances c.carry.new.balances) read c.carry.ensures.value)
 
 pub returns-clause-sizes : goal.returns-clause-sizes
 returns-clause-sizes g c =
     let problem = c.args.problem.now in
     let few : c.loop-index.index ≤ 200000 = omega (arith, c.loop-index.auto.index-end, c.deref-arc-items.ensures.len, problem.few_arcs) in
-    carried-small g.row.N problem.arcs.items c.args.flows.now c.loop-index.index c.loop-index.balances few c.loop-index.invariant
+    carried-small g.row.N c.args.first problem.arcs.items c.args.flows.now c.loop-index.index c.loop-index.balances few c.loop-index.invariant

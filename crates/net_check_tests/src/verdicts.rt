@@ -1,9 +1,7 @@
 //! Certificates that were worked out by hand, and what is wrong with them where one thing is changed.
 
-mod problems;
-
-use self::problems::{arc, problem};
-use super::*;
+use crate::problems::{arc, problem};
+use net_check::{Certificate, Reason, Side, Verdict, check};
 use net_normal::Problem;
 use std::alloc::{AllocError, Global};
 use std::process::Abort;
