@@ -4,7 +4,7 @@ use Rattle.std.specs.Prelude.{slice_get}
 use Rattle.std.specs.List.{AllByRecursion, AllZip}
 use Rattle.std.specs.Str.{bytes_eq}
 use Rattle.std.proofs.lemmas.Slice.Eq.{bytes_eq-Decides}
-use Rattle.net_calls.specs.declared.fault.Finding.{Finding}
+use Rattle.net_calls.specs.declared.finding.Finding.{Finding}
 use Rattle.net_calls.specs.declared.names.Meaning.{Meaning}
 use Rattle.net_calls.specs.declared.names.Meaning.TheVariants as meanings
 use Rattle.net_calls.specs.Declarations.{Form, ArcParts, objective, node, arc}

@@ -5,7 +5,7 @@ use Rattle.std.specs.Str.{bytes_eq}
 use Rattle.std.proofs.lemmas.Bool.{cases_Bool}
 use Rattle.std.proofs.lemmas.Slice.Eq.{bytes_eq-Decides}
 use Rattle.net_lex.specs.declared.token.Token.{Token}
-use Rattle.net_calls.specs.declared.fault.Finding.{Finding}
+use Rattle.net_calls.specs.declared.finding.Finding.{Finding}
 use Rattle.net_calls.specs.declared.names.Index.{Index}
 use Rattle.net_calls.specs.declared.names.Meaning.{Meaning}
 use Rattle.net_calls.specs.declared.names.Meaning.TheVariants as meanings

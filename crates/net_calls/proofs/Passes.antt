@@ -3,7 +3,7 @@ use Rattle.std.proofs.Common.{◌≡◌, ℕ, suc, ◌+◌, ◌<◌, ◌≤◌, 
 use Rattle.std.proofs.Math.Seq.{drop-cons}
 use Rattle.std.proofs.Math.ListN.{drop_of_length-le}
 use Rattle.net_calls.specs.declared.declaration.Declaration.{Declaration}
-use Rattle.net_calls.specs.declared.fault.Finding.{Finding}
+use Rattle.net_calls.specs.declared.finding.Finding.{Finding}
 use Rattle.net_calls.specs.Declarations.{Form, form_of, objective, node, arc}
 use Rattle.net_calls.specs.Models.{nodes_in}
 use Rattle.net_calls.specs.NameRules.{first_fault}

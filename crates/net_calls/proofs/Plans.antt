@@ -9,7 +9,8 @@ use Rattle.net_normal.specs.declared.instance.InstArc.{InstArc}
 use Rattle.net_normal.specs.declared.instance.Sense.TheVariants.{Minimise}
 use Rattle.net_normal.specs.Limits.{node_limit, arc_limit}
 use Rattle.net_calls.specs.declared.draft.Draft.{Draft}
-use Rattle.net_calls.specs.declared.fault.FaultKind.TheVariants.{ArcCrossed, TooManyNodes, TooManyArcs, NoObjective}
+use Rattle.net_calls.specs.declared.fault_kinds.FaultKind.TheVariants.{Network}
+use Rattle.net_calls.specs.declared.fault_kinds.NetworkFault.TheVariants.{ArcCrossed, TooManyNodes, TooManyArcs, NoObjective}
 use Rattle.net_calls.specs.declared.named.Named.{Named}
 use Rattle.net_calls.specs.declared.names.Index.{Index}
 use Rattle.net_calls.specs.declared.names.Meaning.{Meaning}
@@ -117,9 +118,9 @@ pub same_fault : (tell : Tell) (done : List Form) (p : Plan) (form : Form) (node
     → plan_fault p.objective nodes arcs form ≡ network_fault done form
 same_fault tell done p (objective n) nodes arcs planned en ea = objective_fault n p.objective nodes arcs ∙ ap (second_objective n) (sym planned.objective)
 same_fault tell done p (node n condition) nodes arcs planned en ea =
-    ap (λ (k : ℕ). cond (nat_le node_limit k) (fault_at TooManyNodes n) None) (en ∙ ap length planned.sides ∙ length-map (nodes_in done) (λ n. fixed_at (asked n.condition)))
+    ap (λ (k : ℕ). cond (nat_le node_limit k) (fault_at (Network TooManyNodes) n) None) (en ∙ ap length planned.sides ∙ length-map (nodes_in done) (λ n. fixed_at (asked n.condition)))
 same_fault tell done p (arc a) nodes arcs planned en ea =
-    ap (λ (k : ℕ). cond (nat_le arc_limit k) (fault_at TooManyArcs a.name) (cond (int_lt a.upper a.lower) (fault_at ArcCrossed a.name) None))
+    ap (λ (k : ℕ). cond (nat_le arc_limit k) (fault_at (Network TooManyArcs) a.name) (cond (int_lt a.upper a.lower) (fault_at (Network ArcCrossed) a.name) None))
     (ea ∙ ap length planned.arcs ∙ length-map (parts_in done) (made_of tell) ∙ sym (ap length (arcs_of_parts done) ∙ length-map (parts_in done) arc_of))
 
 -- ---- what a draft counts
@@ -159,7 +160,7 @@ pub none_missing : (end : Span) (forms : List Form) (o : Option Name) (name : Na
 none_missing end forms o name is some fine = or_other (first_fault network_fault [] forms) _ fine ∙ ap (missing_objective end) (is ∙ ap listed some)
 
 pub objective_missing : (end : Span) (forms : List Form) (o : Option Name) → objectives_in forms ≡ listed o → o ≡ None → first_fault network_fault [] forms ≡ None
-    → first_network_fault end forms ≡ Some (record { kind = NoObjective; span = end; detail = [] })
+    → first_network_fault end forms ≡ Some (record { kind = Network NoObjective; span = end; detail = [] })
 objective_missing end forms o is none fine = or_other (first_fault network_fault [] forms) _ fine ∙ ap (missing_objective end) (is ∙ ap listed none)
 
 pub drafted : (forms : List Form) (index : Index) (p : Plan) (made : Named) → Planned (told index) forms p → p ≡ plan_of_named made → made.instance.sense ≡ Minimise → made.instance.constant ≡ pos 0

@@ -10,7 +10,7 @@ use Rattle.net_dimacs.specs.Problems.{statements_of, IsProblemText, IsOnlyProble
 use Rattle.net_dimacs.specs.Written.{problem_text}
 use Rattle.net_calls.specs.declared.compiled.Compiled.{Compiled}
 use Rattle.net_calls.specs.declared.named.Named.{Named}
-use Rattle.net_calls.specs.Accepted.{IsNamed}
+use Rattle.net_calls.specs.Steps.{IsNamed}
 use Rattle.net_calls.specs.Assignments.{IsFeasible, Agree, value_of, by_name}
 use Rattle.net_calls.specs.Headline.{Headline, up}
 use Rattle.net_calls.specs.Links.{link_lines}
@@ -36,7 +36,7 @@ says : (m d : List ℕ) (named : Named) (c : Compiled) (n : IsNamed m d named) �
     → statements_of (link_lines c.link (node_names n.drafted.model) (arc_names n.drafted.model) ++ problem_text c.problem.supplies.items c.problem.arcs.items) ≡ statements_of (problem_text c.problem.supplies.items c.problem.arcs.items)
 says m d named c n normal =
     let model = n.drafted.model in
-    let plain = names_plain m n.tokens n.forms n.declared.read.read n.declared.written in
+    let plain = names_plain m n.tokens n.forms n.declared.read.read n.declared.written.spelled in
     let instance = named.instance in
     let few_nodes = instance.few_nodes in
     let few_arcs = instance.few_arcs in

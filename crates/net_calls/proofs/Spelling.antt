@@ -7,7 +7,7 @@ use Rattle.net_lex.specs.declared.token.Token.{Token}
 use Rattle.net_calls.specs.declared.declaration.Net.{Net}
 use Rattle.net_calls.specs.declared.declaration.Net.TheVariants.{In, Out}
 use Rattle.net_calls.specs.Declarations.{ArcParts, Form, objective, node, arc, Sign, word, name, number, Tokens, is_name, is_number, size_of, net_word, IsWordThen, IsSizeThen, IsThen, Spell, signs_of, signs_of_all}
-use Rattle.net_calls.specs.Forms.{next, choose, after_word, name_at, sized, size_at, number_at, net_at, condition_at, objective_at, node_at, bounds_at, end_at, arc_at, declaration_at}
+use Rattle.net_calls.specs.Forms.{next, choose, after_word, name_at, sized, size_at, number_at, net_at, condition_at, objective_at, node_at, bounds_at, end_at, arc_at, declaration_at, ReadsForms, AreDeclarations}
 
 -- P of what was read, if it was read
 Good : {A : Type 0} → (A → Type 0) → Result A Tokens → Type 0
@@ -211,13 +211,20 @@ declaration_ok tokens rest form e = good_of (IsForm tokens) (declaration_at toke
 
 -- ---- all of them
 
-signs_of_more : (forms : List Form) (form : Form) → signs_of_all (forms ++ form ∷ []) ≡ signs_of_all forms ++ signs_of form
-signs_of_more [] form = append-nil (signs_of form)
-signs_of_more (f ∷ fs) form = ap (λ (x : List Sign). signs_of f ++ x) (signs_of_more fs form) ∙ sym (append_assoc (signs_of f) (signs_of_all fs) (signs_of form))
+spelled_more : (forms : List Form) (form : Form) (tokens after rest : Tokens) → Spell (signs_of form) tokens after → Spell (signs_of_all forms) after rest → Spell (signs_of_all (form ∷ forms)) tokens rest
+spelled_more forms form tokens after rest one more = spell_append (signs_of form) (signs_of_all forms) tokens after rest one more
 
-pub one_more : (forms : List Form) (form : Form) (tokens after rest : Tokens) → Spell (signs_of_all forms) tokens after → declaration_at after ≡ Ok (form, rest) → Spell (signs_of_all (forms ++ form ∷ [])) tokens rest
-one_more forms form tokens after rest before read =
-    subst (λ s. Spell s tokens rest) (sym (signs_of_more forms form)) (spell_append (signs_of_all forms) (signs_of form) tokens after rest before (declaration_ok after rest form read))
+-- what is read is spelled
+pub reads_spelled : (forms : List Form) (tokens rest : Tokens) → ReadsForms tokens forms rest → Spell (signs_of_all forms) tokens rest
+reads_spelled [] tokens rest e = e
+reads_spelled (form ∷ forms) tokens rest (after, read, more) = spelled_more forms form tokens after rest (declaration_ok tokens after form read) (reads_spelled forms after rest more)
+
+pub reads_all : (forms : List Form) (tokens : Tokens) → ReadsForms tokens forms [] → AreDeclarations tokens forms
+reads_all forms tokens reads = record { spelled = reads_spelled forms tokens [] reads; read = reads }
+
+pub one_more : (forms : List Form) (form : Form) (tokens after rest : Tokens) → ReadsForms tokens forms after → declaration_at after ≡ Ok (form, rest) → ReadsForms tokens (forms ++ form ∷ []) rest
+one_more [] form tokens after rest e read = (rest, subst (λ t. declaration_at t ≡ Ok (form, rest)) (sym e) read, refl)
+one_more (f ∷ fs) form tokens after rest (next, first, more) read = (next, first, one_more fs form next after rest more read)
 
 -- what follows on signs is a back of the tokens
 IsBack : Tokens → Tokens → Type 0
@@ -249,3 +256,6 @@ left_over signs tokens rest h =
     let b = back_of signs tokens rest h in
     let size : length tokens - length rest ≡ length b.0 = omega (arith, ap length b.1, length-append b.0 rest) in
     ap (λ (n : ℕ). drop n tokens) size ∙ ap (drop (length b.0)) b.1 ∙ drop_front b.0 rest
+
+pub forms_left : (forms : List Form) (tokens rest : Tokens) → ReadsForms tokens forms rest → drop (length tokens - length rest) tokens ≡ rest
+forms_left forms tokens rest reads = left_over (signs_of_all forms) tokens rest (reads_spelled forms tokens rest reads)

@@ -128,7 +128,3 @@ Spell (sign ∷ signs) tokens rest = (after : Tokens) × IsThen sign tokens afte
 abbrev pub signs_of_all : List Form → List Sign
 signs_of_all [] = []
 signs_of_all (form ∷ forms) = signs_of form ++ signs_of_all forms
-
--- the tokens are these declarations, and no more
-abbrev pub AreDeclarations : Tokens → List Form → Type 0
-AreDeclarations tokens forms = Spell (signs_of_all forms) tokens []

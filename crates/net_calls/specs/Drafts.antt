@@ -5,8 +5,9 @@ use Rattle.indexmap.specs.IndexMap.{get_by}
 use Rattle.net_normal.specs.declared.instance.InstArc.{InstArc}
 use Rattle.net_calls.specs.declared.draft.Draft.{Draft}
 use Rattle.net_normal.specs.Limits.{node_limit, arc_limit}
-use Rattle.net_calls.specs.declared.fault.FaultKind.TheVariants.{ArcCrossed, TwoObjectives, TooManyNodes, TooManyArcs}
-use Rattle.net_calls.specs.declared.fault.Finding.{Finding}
+use Rattle.net_calls.specs.declared.fault_kinds.FaultKind.TheVariants.{Network}
+use Rattle.net_calls.specs.declared.fault_kinds.NetworkFault.TheVariants.{ArcCrossed, TwoObjectives, TooManyNodes, TooManyArcs}
+use Rattle.net_calls.specs.declared.finding.Finding.{Finding}
 use Rattle.net_calls.specs.declared.names.Index.{Index}
 use Rattle.net_calls.specs.declared.names.Meaning.{Meaning}
 use Rattle.net_calls.specs.declared.names.Meaning.TheVariants as meanings
@@ -87,12 +88,12 @@ IsOrdered (arc a) = a.lower ≤ℤ a.upper
 
 -- what is wrong with the network of a declaration behind a draft
 abbrev pub plan_fault : Option Name → (nodes arcs : ℕ) → Form → Option Finding
-plan_fault (Some other) nodes arcs (objective n) = fault_at TwoObjectives n
+plan_fault (Some other) nodes arcs (objective n) = fault_at (Network TwoObjectives) n
 plan_fault None nodes arcs (objective n) = None
-plan_fault first nodes arcs (node n condition) = if nat_le node_limit nodes then fault_at TooManyNodes n else None
+plan_fault first nodes arcs (node n condition) = if nat_le node_limit nodes then fault_at (Network TooManyNodes) n else None
 plan_fault first nodes arcs (arc a) =
-    if nat_le arc_limit arcs then fault_at TooManyArcs a.name
-    else if int_lt a.upper a.lower then fault_at ArcCrossed a.name
+    if nat_le arc_limit arcs then fault_at (Network TooManyArcs) a.name
+    else if int_lt a.upper a.lower then fault_at (Network ArcCrossed) a.name
     else None
 
 abbrev pub plan_of_named : Named → Plan

@@ -102,6 +102,16 @@ abbrev pub IsStuckAt : Tokens → FormFault → Type 0
 IsStuckAt tokens OutOfMemory = Unit {0}
 IsStuckAt tokens (At place) = (stuck : Tokens) × (declaration_at tokens ≡ Err stuck) × (place ≡ first_place stuck)
 
+-- the declarations are read off the tokens, one after the other, and these tokens are left
+abbrev pub ReadsForms : (tokens : Tokens) → List Form → (rest : Tokens) → Type 0
+ReadsForms tokens [] rest = tokens ≡ rest
+ReadsForms tokens (form ∷ forms) rest = (after : Tokens) × (declaration_at tokens ≡ Ok (form, after)) × ReadsForms after forms rest
+
+-- the tokens are these declarations, and no more: they are spelled by them, and read as them
+pub record AreDeclarations (tokens : Tokens) (forms : List Form) : Type 0 where
+  pub spelled : Spell (signs_of_all forms) tokens []
+  pub read : ReadsForms tokens forms []
+
 -- none begins what follows on some declarations
 abbrev pub IsStuckIn : Tokens → FormFault → Type 0
-IsStuckIn tokens fault = (forms : List Form) × (rest : Tokens) × Spell (signs_of_all forms) tokens rest × (0 < length rest) × IsStuckAt rest fault
+IsStuckIn tokens fault = (forms : List Form) × (rest : Tokens) × ReadsForms tokens forms rest × (0 < length rest) × IsStuckAt rest fault

@@ -10,8 +10,9 @@ use Rattle.net_normal.specs.declared.instance.NodeRange.{NodeRange}
 use Rattle.net_normal.specs.declared.instance.Instance.{Instance}
 use Rattle.net_calls.specs.declared.declaration.Net.{Net}
 use Rattle.net_calls.specs.declared.declaration.Net.TheVariants.{In, Out}
-use Rattle.net_calls.specs.declared.fault.FaultKind.TheVariants.{ArcCrossed, NoObjective, TwoObjectives, TooManyNodes, TooManyArcs}
-use Rattle.net_calls.specs.declared.fault.Finding.{Finding}
+use Rattle.net_calls.specs.declared.fault_kinds.FaultKind.TheVariants.{Network}
+use Rattle.net_calls.specs.declared.fault_kinds.NetworkFault.TheVariants.{ArcCrossed, NoObjective, TwoObjectives, TooManyNodes, TooManyArcs}
+use Rattle.net_calls.specs.declared.finding.Finding.{Finding}
 use Rattle.net_calls.specs.Declarations.{Form, objective, node, arc}
 use Rattle.net_calls.specs.Models.{Name, ArcOf, NamedModel, objectives_in, nodes_in, arcs_in, node_names}
 use Rattle.net_calls.specs.NameRules.{fault_at, or_else, first_fault}
@@ -53,20 +54,20 @@ pub record IsNetworkOf (model : NamedModel) (instance : Instance) : Type 0 where
 
 abbrev pub second_objective : Token → List Name → Option Finding
 second_objective n [] = None
-second_objective n (other ∷ names) = fault_at TwoObjectives n
+second_objective n (other ∷ names) = fault_at (Network TwoObjectives) n
 
 -- what is wrong with a declaration behind these others
 abbrev pub network_fault : List Form → Form → Option Finding
 network_fault before (objective n) = second_objective n (objectives_in before)
-network_fault before (node n condition) = if nat_le node_limit (length (nodes_in before)) then fault_at TooManyNodes n else None
+network_fault before (node n condition) = if nat_le node_limit (length (nodes_in before)) then fault_at (Network TooManyNodes) n else None
 network_fault before (arc a) =
-    if nat_le arc_limit (length (arcs_in before)) then fault_at TooManyArcs a.name
-    else if int_lt a.upper a.lower then fault_at ArcCrossed a.name
+    if nat_le arc_limit (length (arcs_in before)) then fault_at (Network TooManyArcs) a.name
+    else if int_lt a.upper a.lower then fault_at (Network ArcCrossed) a.name
     else None
 
 -- without an objective the fault is at the end of the text
 abbrev pub missing_objective : Span → List Name → Option Finding
-missing_objective end [] = Some (record { kind = NoObjective; span = end; detail = [] })
+missing_objective end [] = Some (record { kind = Network NoObjective; span = end; detail = [] })
 missing_objective end (name ∷ names) = None
 
 -- what is wrong first with the network of these declarations, in a text with this end

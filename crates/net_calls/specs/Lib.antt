@@ -7,6 +7,10 @@ pub mod Instances
 pub mod Drafts
 pub mod Links
 pub mod Accepted
+pub mod FaultLines
+pub mod FirstFaults
+pub mod Telling
+pub mod Steps
 pub mod Headline
 pub mod Checked
 pub mod Settled

@@ -3,12 +3,13 @@
 use Rattle.std.specs.Prelude.{◌≡◌, ℕ, suc, List, [], ◌∷◌, ◌++◌, Option, Some, None, if◌then◌else◌}
 use Rattle.std.specs.Str.{bytes_eq}
 use Rattle.net_lex.specs.declared.token.Token.{Token}
-use Rattle.net_calls.specs.declared.fault.FaultKind.{FaultKind}
-use Rattle.net_calls.specs.declared.fault.FaultKind.TheVariants.{Redeclared, Undeclared}
-use Rattle.net_calls.specs.declared.fault.Finding.{Finding}
+use Rattle.net_calls.specs.declared.fault_kinds.FaultKind.{FaultKind}
+use Rattle.net_calls.specs.declared.fault_kinds.FaultKind.TheVariants.{Grammar}
+use Rattle.net_calls.specs.declared.fault_kinds.GrammarFault.TheVariants.{Redeclared, Undeclared}
+use Rattle.net_calls.specs.declared.finding.Finding.{Finding}
 use Rattle.net_calls.specs.declared.names.Meaning.{Meaning}
-use Rattle.net_calls.specs.declared.names.NameFault.{NameFault}
-use Rattle.net_calls.specs.declared.names.NameFault.TheVariants.{OutOfMemory, At}
+use Rattle.net_calls.specs.declared.finding.Stop.{Stop}
+use Rattle.net_calls.specs.declared.finding.Stop.TheVariants.{OutOfMemory, At}
 use Rattle.net_calls.specs.declared.names.Meaning.TheVariants as meanings
 use Rattle.net_calls.specs.Declarations.{Form, objective, node, arc}
 use Rattle.net_calls.specs.Models.{Name}
@@ -34,19 +35,19 @@ or_else (Some finding) other = Some finding
 
 abbrev pub redeclared : Token → Option Meaning → Option Finding
 redeclared n None = None
-redeclared n (Some meaning) = fault_at Redeclared n
+redeclared n (Some meaning) = fault_at (Grammar Redeclared) n
 
 abbrev pub no_node : Token → Option Meaning → Option Finding
 no_node n (Some (meanings.Node v)) = None
-no_node n (Some meanings.Objective) = fault_at Undeclared n
-no_node n (Some meanings.Arc) = fault_at Undeclared n
-no_node n None = fault_at Undeclared n
+no_node n (Some meanings.Objective) = fault_at (Grammar Undeclared) n
+no_node n (Some meanings.Arc) = fault_at (Grammar Undeclared) n
+no_node n None = fault_at (Grammar Undeclared) n
 
 abbrev pub no_objective : Token → Option Meaning → Option Finding
 no_objective n (Some meanings.Objective) = None
-no_objective n (Some (meanings.Node v)) = fault_at Undeclared n
-no_objective n (Some meanings.Arc) = fault_at Undeclared n
-no_objective n None = fault_at Undeclared n
+no_objective n (Some (meanings.Node v)) = fault_at (Grammar Undeclared) n
+no_objective n (Some meanings.Arc) = fault_at (Grammar Undeclared) n
+no_objective n None = fault_at (Grammar Undeclared) n
 
 -- what is wrong with the names of a declaration, where names are told so
 abbrev pub fault_by : (Name → Option Meaning) → Form → Option Finding
@@ -68,6 +69,6 @@ first_fault rule before [] = None
 first_fault rule before (form ∷ forms) = or_else (rule before form) (first_fault rule (before ++ form ∷ []) forms)
 
 -- this is the finding, or want of memory
-abbrev pub IsFoundBy : Option Finding → NameFault → Type 0
+abbrev pub IsFoundBy : Option Finding → Stop → Type 0
 IsFoundBy found OutOfMemory = Unit {0}
 IsFoundBy found (At finding) = found ≡ Some finding

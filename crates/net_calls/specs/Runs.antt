@@ -6,7 +6,7 @@ use Rattle.net_calls.specs.declared.compiled.Compiled.{Compiled}
 use Rattle.net_calls.specs.declared.fault.Fault.{Fault}
 use Rattle.net_calls.specs.declared.fault.TextName.{TextName}
 use Rattle.net_calls.specs.declared.fault.Fault.TheVariants.{OutOfMemory, Refused, RefusedLine, Unread, Unwritten}
-use Rattle.net_calls.specs.Accepted.{IsRefusal}
+use Rattle.net_calls.specs.Telling.{IsRefusal}
 use Rattle.net_check.specs.declared.verdict.Verdict.{Verdict}
 use Rattle.net_solve.specs.declared.settled.Settled.{Settled}
 use Rattle.net_calls.specs.declared.ending.Ending.{Ending}

@@ -1,11 +1,13 @@
 //! From a model text and a data text to a problem text.
 
 ghost use Rattle.std.specs.Prelude.{IfOk, IfErr};
-ghost use Rattle.net_calls.specs.Accepted.{IsRefusal, IsNamed};
+ghost use Rattle.net_calls.specs.Steps.{IsNamed};
+ghost use Rattle.net_calls.specs.Telling.{IsRefusal};
 ghost use Rattle.net_calls.specs.Headline.{Headline};
 
 use crate::declared::{declared_of, no_statement};
-use crate::fault::{Fault, TextName, told};
+use crate::fault::{Fault, TextName};
+use crate::finding::told;
 use crate::instance::instance_of;
 use crate::links::write_links;
 use crate::named::{Named, Names};

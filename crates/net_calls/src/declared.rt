@@ -3,14 +3,15 @@
 ghost use Rattle.std.specs.Prelude.{◌≡◌, [], IfOk, IfErr, OnOk};
 ghost use Rattle.net_lex.specs.declared.language.Language.TheVariants as languages;
 ghost use Rattle.net_lex.specs.Lexing.{AreTokensOf};
-ghost use Rattle.net_calls.specs.Accepted.{end_of, place_of, kind_of, bare, Declares, IsModelStop, IsDataStop, IsLexStop};
-ghost use Rattle.net_calls.specs.Forms.{first_place};
+ghost use Rattle.net_calls.specs.Accepted.{end_of};
+ghost use Rattle.net_calls.specs.Steps.{Declares, IsModelStop, IsDataStop, IsLexStop};
 
 use crate::declaration::Declaration;
-use crate::fault::{FaultKind, Finding};
+use crate::fault_kinds::{FaultKind, GrammarFault, TableFault};
+use crate::finding::{Stop, bare};
 use crate::forms::{FormFault, declarations_of};
-use crate::names::{Index, NameFault, index_of};
-use net_lex::{Excerpt, LexFault, Span, Token, lex_data, lex_model};
+use crate::names::{Index, index_of};
+use net_lex::{LexFault, Span, Token, lex_data, lex_model};
 use std::alloc::Global;
 
 /// The declarations of a model text, and what their names stand for.
@@ -23,7 +24,7 @@ pub struct Declared<'s> {
 }
 
 /// The declarations of a model text, or its first fault.
-pub fn declared_of<'s>(alloc: Global, model: &'s [u8]) -> Result<Declared<'s>, NameFault<'s>>
+pub fn declared_of<'s>(alloc: Global, model: &'s [u8]) -> Result<Declared<'s>, Stop<'s>>
     ensures ok { IfOk result (Declares model.entry.now) }
     ensures err { IfErr result (IsModelStop model.entry.now) }
 {
@@ -34,10 +35,10 @@ pub fn declared_of<'s>(alloc: Global, model: &'s [u8]) -> Result<Declared<'s>, N
     let end = end_of(&tokens);
     let declarations = match declarations_of(alloc, &tokens) {
         Ok(declarations) => declarations,
-        Err(FormFault::OutOfMemory) => return Err(NameFault::OutOfMemory),
+        Err(FormFault::OutOfMemory) => return Err(Stop::OutOfMemory),
         Err(FormFault::At(place)) => {
             let span = place.unwrap_or(end);
-            return Err(NameFault::At(bare(FaultKind::Syntax, span)));
+            return Err(Stop::At(bare(FaultKind::Grammar(GrammarFault::Syntax), span)));
         }
     };
     let index = match index_of(alloc, &declarations) {
@@ -52,7 +53,7 @@ pub fn declared_of<'s>(alloc: Global, model: &'s [u8]) -> Result<Declared<'s>, N
 }
 
 /// Refuses a data text that has a token.
-pub fn no_statement(alloc: Global, data: &[u8]) -> Result<(), NameFault<'static>>
+pub fn no_statement(alloc: Global, data: &[u8]) -> Result<(), Stop<'static>>
     ensures ok { OnOk result (AreTokensOf languages.Data «data».now []) }
     ensures err { IfErr result (IsDataStop «data».now) }
 {
@@ -62,27 +63,16 @@ pub fn no_statement(alloc: Global, data: &[u8]) -> Result<(), NameFault<'static>
     };
     match tokens.first() {
         None => Ok(()),
-        Some(token) => Err(NameFault::At(bare(FaultKind::DataSyntax, token.span))),
+        Some(token) => Err(Stop::At(bare(FaultKind::Table(TableFault::Syntax), token.span))),
     }
 }
 
-/// A fault that names nothing.
-fn bare(kind: FaultKind, span: Span) -> Finding<'static>
-    ensures { result ≡ bare kind span }
-{
-    Finding {
-        kind,
-        span,
-        detail: Excerpt::new(""),
-    }
-}
-
-fn stop_of(fault: LexFault) -> NameFault<'static>
+fn stop_of(fault: LexFault) -> Stop<'static>
     ensures { IsLexStop fault result }
 {
     match fault {
-        LexFault::OutOfMemory => NameFault::OutOfMemory,
-        LexFault::At(defect, span) => NameFault::At(bare(FaultKind::from(defect), span)),
+        LexFault::OutOfMemory => Stop::OutOfMemory,
+        LexFault::At(defect, span) => Stop::At(bare(FaultKind::Token(defect), span)),
     }
 }
 

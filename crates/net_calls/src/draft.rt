@@ -6,8 +6,9 @@ ghost use Rattle.net_calls.specs.Declarations.{condition_of};
 ghost use Rattle.net_calls.specs.Instances.{asked};
 
 use crate::declaration::{ArcForm, Condition, Declaration, Net};
-use crate::fault::{FaultKind, Finding};
-use crate::names::{Index, NameFault, fault_at};
+use crate::fault_kinds::{FaultKind, NetworkFault};
+use crate::finding::{Finding, Stop, fault_at};
+use crate::names::Index;
 use net_lex::{Excerpt, Token};
 use net_normal::{ARC_LIMIT, InstArc, NODE_LIMIT, NodeRange};
 use std::alloc::{AllocError, Global};
@@ -95,10 +96,10 @@ impl<'s> Draft<'s> {
         ensures { result ≡ plan_fault self.now.objective (vec_len self.now.nodes) (vec_len self.now.arcs) (forms.arc (parts_of arc.now)) }
     {
         if self.arcs.len() >= ARC_LIMIT {
-            return Some(fault_at(FaultKind::TooManyArcs, &arc.name));
+            return Some(fault_at(FaultKind::Network(NetworkFault::TooManyArcs), &arc.name));
         }
         if arc.upper.value < arc.lower.value {
-            return Some(fault_at(FaultKind::ArcCrossed, &arc.name));
+            return Some(fault_at(FaultKind::Network(NetworkFault::ArcCrossed), &arc.name));
         }
         None
     }
@@ -109,11 +110,11 @@ impl<'s> Draft<'s> {
     {
         match declaration {
             Declaration::Objective(name) if self.objective.is_some() => {
-                Some(fault_at(FaultKind::TwoObjectives, name))
+                Some(fault_at(FaultKind::Network(NetworkFault::TwoObjectives), name))
             }
             Declaration::Objective(_) => None,
             Declaration::Node(name, _) if self.nodes.len() >= NODE_LIMIT => {
-                Some(fault_at(FaultKind::TooManyNodes, name))
+                Some(fault_at(FaultKind::Network(NetworkFault::TooManyNodes), name))
             }
             Declaration::Node(_, _) => None,
             Declaration::Arc(arc) => self.arc_fault(arc),

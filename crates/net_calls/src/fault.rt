@@ -1,103 +1,14 @@
 //! Why a call is refused, as it is told to the user.
 
 ghost use Rattle.std.specs.Prelude.{◌≡◌};
-ghost use Rattle.net_calls.specs.Accepted.{kind_of, IsToldAs, IsToldOf};
+ghost use Rattle.net_calls.specs.FaultLines.{detail_gap, text_word};
 
-use crate::names::NameFault;
+use crate::fault_kinds::FaultKind;
 use net_dimacs::LineFault;
-use net_lex::{Defect, Excerpt, Span, line_column};
-use std::alloc::{AllocError, AllocFailed, Global};
+use net_lex::Span;
+use std::alloc::{AllocError, AllocFailed};
+use std::error::Error;
 use std::fmt;
-use thiserror::Error;
-
-/// What is wrong.
-#[derive(Clone, Copy, Debug, PartialEq, Eq)]
-pub enum FaultKind {
-    /// `minimize A$;`
-    BadCharacter,
-    /// `node A: net_in = "x`
-    OpenString,
-    /// `/*`
-    OpenComment,
-    /// `node A: net_in = 2.5;`
-    NotWhole,
-    /// `node A: net_in = 1000000000001;`
-    TooLarge,
-    /// A byte that is part of no character.
-    NotUtf8,
-    /// A text or a token past its limit.
-    TextTooLong,
-    /// `node A: net_out;`
-    Syntax,
-    /// `obj Cost 4` before `minimize Cost;`
-    Undeclared,
-    /// `node A; node A;`
-    Redeclared,
-    /// A token in a data text, where no data statement is read.
-    DataSyntax,
-    /// `arc X >= 5, <= 3, ..`
-    ArcCrossed,
-    /// A model without `minimize`.
-    NoObjective,
-    /// `minimize A; minimize B;`
-    TwoObjectives,
-    /// The node past the limit.
-    TooManyNodes,
-    /// The arc past the limit.
-    TooManyArcs,
-    /// A text that could not be read.
-    ReadFault,
-    /// An output that could not be written.
-    WriteFault,
-}
-
-impl FaultKind {
-    /// The number and the name that a fault line begins with.
-    fn label(self) -> &'static str {
-        match self {
-            FaultKind::BadCharacter => "E01 BadCharacter",
-            FaultKind::OpenString => "E02 OpenString",
-            FaultKind::OpenComment => "E03 OpenComment",
-            FaultKind::NotWhole => "E04 NotWhole",
-            FaultKind::TooLarge => "E05 TooLarge",
-            FaultKind::NotUtf8 => "E06 NotUtf8",
-            FaultKind::TextTooLong => "E07 TextTooLong",
-            FaultKind::Syntax => "E10 Syntax",
-            FaultKind::Undeclared => "E12 Undeclared",
-            FaultKind::Redeclared => "E13 Redeclared",
-            FaultKind::DataSyntax => "E20 Syntax",
-            FaultKind::ArcCrossed => "E53 ArcCrossed",
-            FaultKind::NoObjective => "E56 NoObjective",
-            FaultKind::TwoObjectives => "E57 TwoObjectives",
-            FaultKind::TooManyNodes => "E59 TooManyNodes",
-            FaultKind::TooManyArcs => "E60 TooManyArcs",
-            FaultKind::ReadFault => "E90 ReadFault",
-            FaultKind::WriteFault => "E91 WriteFault",
-        }
-    }
-}
-
-impl From<Defect> for FaultKind {
-    ghost from_gives = { λ defect kind. kind ≡ kind_of defect };
-
-    fn from(defect: Defect) -> FaultKind {
-        match defect {
-            Defect::BadCharacter => FaultKind::BadCharacter,
-            Defect::OpenString => FaultKind::OpenString,
-            Defect::OpenComment => FaultKind::OpenComment,
-            Defect::NotWhole => FaultKind::NotWhole,
-            Defect::TooLarge => FaultKind::TooLarge,
-            Defect::NotUtf8 => FaultKind::NotUtf8,
-            Defect::TextTooLong => FaultKind::TextTooLong,
-        }
-    }
-}
-
-impl fmt::Display for FaultKind {
-    fn fmt<W: fmt::Write>(&self, f: &mut fmt::Formatter<W>) -> fmt::Result {
-        f.write_str(self.label())
-    }
-}
 
 /// Which text a fault speaks of.
 #[derive(Clone, Copy, Debug, PartialEq, Eq)]
@@ -108,14 +19,40 @@ pub enum TextName {
     Certificate,
 }
 
-impl fmt::Display for TextName {
-    fn fmt<W: fmt::Write>(&self, f: &mut fmt::Formatter<W>) -> fmt::Result {
+impl TextName {
+    /// The word by which a fault's line names the text.
+    pub fn word(self) -> &'static str
+        ensures { result.now ≡ text_word self }
+    {
         match self {
-            TextName::Model => f.write_str("model"),
-            TextName::Data => f.write_str("data"),
-            TextName::Problem => f.write_str("problem"),
-            TextName::Certificate => f.write_str("certificate"),
+            TextName::Model => "model",
+            TextName::Data => "data",
+            TextName::Problem => "problem",
+            TextName::Certificate => "certificate",
         }
+    }
+}
+
+/// How a fault's line begins: `E04 NotWhole data`.
+#[derive(Clone, Copy)]
+struct Head {
+    number: u8,
+    name: &'static str,
+    text: TextName,
+}
+
+impl fmt::Display for Head {
+    ghost use Rattle.std.specs.Prelude.{Some};
+    ghost use Rattle.net_calls.specs.FaultLines.{head_of};
+
+    ghost output = { λ head. Some (head_of head.number head.name.now head.text) };
+
+    fn fmt<W: fmt::Write>(&self, f: &mut fmt::Formatter<W>) -> fmt::Result {
+        let tens = self.number / 10;
+        let ones = self.number % 10;
+        let name = self.name;
+        let text = self.text.word();
+        write!(f, "E{tens}{ones} {name} {text}")
     }
 }
 
@@ -132,23 +69,35 @@ pub struct Refusal {
     pub detail: String,
 }
 
+fn detail_gap(detail: &str) -> &'static str
+    ensures { result.now ≡ detail_gap detail.now }
+{
+    if detail.is_empty() { "" } else { " " }
+}
+
 impl fmt::Display for Refusal {
+    ghost use Rattle.std.specs.Prelude.{Some};
+    ghost use Rattle.net_calls.specs.FaultLines.{refusal_line};
+
+    ghost output = { λ refusal. Some (refusal_line refusal) };
+
+    /// As `E12 Undeclared model 3:34 B`.
     fn fmt<W: fmt::Write>(&self, f: &mut fmt::Formatter<W>) -> fmt::Result {
-        let kind = self.kind;
-        let text = self.text;
+        let head = Head {
+            number: self.kind.number(),
+            name: self.kind.name(),
+            text: self.text,
+        };
         let line = self.line;
         let column = self.column;
-        write!(f, "{kind} {text} {line}:{column}")?;
-        if self.detail.is_empty() {
-            return Ok(());
-        }
         let detail = self.detail.as_str();
-        write!(f, " {detail}")
+        let gap = detail_gap(detail);
+        write!(f, "{head} {line}:{column}{gap}{detail}")
     }
 }
 
 /// A fault of a text of lines, with its line.
-#[derive(Clone, Copy, Debug, PartialEq, Eq)]
+#[derive(Clone, Copy, Debug)]
 pub struct LineRefusal {
     pub text: TextName,
     pub fault: LineFault,
@@ -157,33 +106,59 @@ pub struct LineRefusal {
 }
 
 impl fmt::Display for LineRefusal {
+    ghost use Rattle.std.specs.Prelude.{Some};
+    ghost use Rattle.net_calls.specs.FaultLines.{line_refusal_line};
+
+    ghost output = { λ refusal. Some (line_refusal_line refusal) };
+
+    /// As `E75 Count problem 3`.
     fn fmt<W: fmt::Write>(&self, f: &mut fmt::Formatter<W>) -> fmt::Result {
-        let number = self.fault.number();
-        let name = self.fault.name();
-        let text = self.text;
+        let head = Head {
+            number: self.fault.number(),
+            name: self.fault.name(),
+            text: self.text,
+        };
         let line = self.line;
-        write!(f, "E{number} {name} {text} {line}")
+        write!(f, "{head} {line}")
     }
 }
 
-/// Why a call is refused. It borrows nothing.
-#[derive(Debug, Drop, Error)]
+/// Why a call is refused. It borrows nothing, and shown it is the one line that tells it.
+#[derive(Debug, Drop)]
 pub enum Fault {
-    #[error("out of memory")]
+    /// `out of memory`
     OutOfMemory,
     /// `E10 Syntax model 2:16`
-    #[error(transparent)]
     Refused(Refusal),
     /// `E75 Count problem 3`
-    #[error(transparent)]
     RefusedLine(LineRefusal),
     /// `E90 ReadFault model`
-    #[error("{} {}", FaultKind::ReadFault, .0)]
     Unread(TextName),
     /// `E91 WriteFault`
-    #[error("{}", FaultKind::WriteFault)]
     Unwritten,
 }
+
+impl fmt::Display for Fault {
+    ghost use Rattle.std.specs.Prelude.{Some};
+    ghost use Rattle.net_calls.specs.FaultLines.{fault_line};
+
+    ghost output = { λ fault. Some (fault_line fault) };
+
+    fn fmt<W: fmt::Write>(&self, f: &mut fmt::Formatter<W>) -> fmt::Result {
+        match self {
+            Fault::OutOfMemory => f.write_str("out of memory"),
+            Fault::Refused(refusal) => write!(f, "{refusal}"),
+            Fault::RefusedLine(refusal) => write!(f, "{refusal}"),
+            Fault::Unread(text) => {
+                let text = text.word();
+                write!(f, "E90 ReadFault {text}")
+            }
+            Fault::Unwritten => f.write_str("E91 WriteFault"),
+        }
+    }
+}
+
+impl Error for Fault {}
 
 impl From<AllocError> for Fault {
     ghost use Rattle.net_calls.specs.declared.fault.Fault.TheVariants.{OutOfMemory};
@@ -202,41 +177,5 @@ impl<T: Drop> From<AllocFailed<T>> for Fault {
 
     fn from(_fault: AllocFailed<T>) -> Fault {
         Fault::OutOfMemory
-    }
-}
-
-/// A fault's kind, place and detail, before its text is at hand.
-#[derive(Drop)]
-pub struct Finding<'s> {
-    pub kind: FaultKind,
-    pub span: Span,
-    pub detail: Excerpt<'s>,
-}
-
-/// The fault that a finding in a text is.
-fn refused_at(alloc: Global, name: TextName, text: &[u8], finding: &Finding<'_>) -> Fault
-    ensures { IsToldAs name text.now finding.now result }
-{
-    let (line, column) = line_column(text, finding.span.start.min(text.len()));
-    match String::from_str(alloc, finding.detail.as_str()) {
-        Err(_) => Fault::OutOfMemory,
-        Ok(detail) => Fault::Refused(Refusal {
-            kind: finding.kind,
-            text: name,
-            span: finding.span,
-            line,
-            column,
-            detail,
-        }),
-    }
-}
-
-/// The fault that is told of a text.
-pub fn told(alloc: Global, name: TextName, text: &[u8], fault: &NameFault<'_>) -> Fault
-    ensures { IsToldOf name text.now fault.now result }
-{
-    match fault {
-        NameFault::OutOfMemory => Fault::OutOfMemory,
-        NameFault::At(finding) => refused_at(alloc, name, text, finding),
     }
 }

@@ -5,7 +5,8 @@ ghost use Rattle.std.specs.Prelude.{◌≡◌, ◌<◌, ◌≤◌, length, map, 
 ghost use Rattle.std.specs.Char.{is_ascii_digit};
 ghost use Rattle.std.specs.List.{list_all};
 ghost use Rattle.std.specs.Str.{bytes_eq};
-ghost use Rattle.net_calls.specs.Declarations.{form_of, is_name, is_number, digits_value, sized_digits, size_of, AreDeclarations};
+ghost use Rattle.net_calls.specs.Forms.{AreDeclarations};
+ghost use Rattle.net_calls.specs.Declarations.{form_of, is_name, is_number, digits_value, sized_digits, size_of};
 ghost use Rattle.net_calls.specs.Forms.{first_place, ReadsOne, IsStuckAt, IsStuckIn, after_word, name_at, size_at, number_at, net_at, condition_at, objective_at, node_at, bounds_at, end_at, arc_at, declaration_at};
 ghost use Rattle.net_normal.specs.Limits.{value_limit};
 

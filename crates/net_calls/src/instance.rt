@@ -3,23 +3,25 @@
 ghost use Rattle.std.specs.Prelude.{◌≡◌, [], None, map, pos, IfOk, IfErr, OnOk};
 ghost use Rattle.net_calls.specs.Declarations.{form_of};
 ghost use Rattle.net_calls.specs.Drafts.{Knows, plan_of, plan_of_named, IsDrafted};
+ghost use Rattle.net_calls.specs.FirstFaults.{bare};
 ghost use Rattle.net_calls.specs.Instances.{first_network_fault};
 ghost use Rattle.net_calls.specs.NameRules.{first_fault, name_fault, IsFoundBy};
 
 use crate::declaration::Declaration;
 use crate::draft::Draft;
-use crate::fault::{FaultKind, Finding};
+use crate::fault_kinds::{FaultKind, NetworkFault};
+use crate::finding::{Stop, bare};
 use crate::named::{Named, Names};
-use crate::names::{Index, NameFault};
-use net_lex::{Excerpt, Span};
+use crate::names::Index;
+use net_lex::Span;
 use net_normal::{Instance, Sense};
 use std::alloc::Global;
 
 /// The network of a draft of all declarations; `end` is the end of their text.
-fn finished<'s>(draft: Draft<'s>, end: Span) -> Result<Named<'s>, NameFault<'s>>
+fn finished<'s>(draft: Draft<'s>, end: Span) -> Result<Named<'s>, Stop<'s>>
     ensures ok { IfOk result (λ made. plan_of draft.entry ≡ plan_of_named made) }
     ensures least { IfOk result (λ made. (made.instance.sense ≡ Sense.Minimise) × (made.instance.constant ≡ pos 0)) }
-    ensures err { IfErr result (λ fault. (draft.entry.objective ≡ None) × (fault ≡ NameFault.At (record { kind = FaultKind.NoObjective; span = end; detail = [] }))) }
+    ensures err { IfErr result (λ fault. (draft.entry.objective ≡ None) × (fault ≡ Stop.At (bare (FaultKind.Network NetworkFault.NoObjective) end))) }
 {
     let Draft {
         objective,
@@ -29,11 +31,7 @@ fn finished<'s>(draft: Draft<'s>, end: Span) -> Result<Named<'s>, NameFault<'s>>
         arc_names,
     } = draft;
     let Some(objective) = objective else {
-        return Err(NameFault::At(Finding {
-            kind: FaultKind::NoObjective,
-            span: end,
-            detail: Excerpt::new(""),
-        }));
+        return Err(Stop::At(bare(FaultKind::Network(NetworkFault::NoObjective), end)));
     };
     let instance = Instance {
         nodes,
@@ -55,7 +53,7 @@ pub fn instance_of<'s>(
     declarations: &[Declaration<'s>],
     index: &Index<'s>,
     end: Span,
-) -> Result<Named<'s>, NameFault<'s>>
+) -> Result<Named<'s>, Stop<'s>>
     requires named { first_fault name_fault [] (map form_of declarations.now) ≡ None }
     requires known { Knows (map form_of declarations.now) index.now }
     ensures fine { OnOk result (first_network_fault end (map form_of declarations.now) ≡ None) }
@@ -65,7 +63,7 @@ pub fn instance_of<'s>(
     let mut draft = Draft::new(alloc);
     for declaration in declarations {
         if let Some(finding) = draft.fault_of(declaration) {
-            return Err(NameFault::At(finding));
+            return Err(Stop::At(finding));
         }
         draft = draft.with(index, declaration)?;
     }

@@ -9,10 +9,11 @@ ghost use Rattle.net_calls.specs.Drafts.{told, name_of, meaning_of, nodes_of, Kn
 ghost use Rattle.net_calls.specs.NameRules.{redeclared, no_node, no_objective, fault_by, first_fault, name_fault, IsFoundBy};
 
 use crate::declaration::{ArcForm, Declaration};
-use crate::fault::{FaultKind, Finding};
+use crate::fault_kinds::{FaultKind, GrammarFault};
+use crate::finding::{Finding, Stop, fault_at};
 use indexmap::IndexMap;
 use net_lex::Token;
-use std::alloc::{AllocError, AllocFailed, Global};
+use std::alloc::Global;
 
 /// What a name stands for.
 #[derive(Clone, Copy, Debug, PartialEq, Eq)]
@@ -30,50 +31,12 @@ pub struct Index<'s> {
     node_count: usize,
 }
 
-/// Why declarations are refused.
-#[derive(Drop)]
-pub enum NameFault<'s> {
-    OutOfMemory,
-    At(Finding<'s>),
-}
-
-impl<'s> From<AllocError> for NameFault<'s> {
-    ghost use Rattle.net_calls.specs.declared.names.NameFault.TheVariants.{OutOfMemory};
-
-    ghost from_gives = { λ _ e. e ≡ OutOfMemory };
-
-    fn from(_fault: AllocError) -> NameFault<'s> {
-        NameFault::OutOfMemory
-    }
-}
-
-impl<'s, T: Drop> From<AllocFailed<T>> for NameFault<'s> {
-    ghost use Rattle.net_calls.specs.declared.names.NameFault.TheVariants.{OutOfMemory};
-
-    ghost from_gives = { λ _ e. e ≡ OutOfMemory };
-
-    fn from(_fault: AllocFailed<T>) -> NameFault<'s> {
-        NameFault::OutOfMemory
-    }
-}
-
-/// A fault at a token, which names it.
-pub fn fault_at<'s>(kind: FaultKind, token: &Token<'s>) -> Finding<'s>
-    ensures { result ≡ record { kind = kind; span = token.now.span; detail = token.now.text } }
-{
-    Finding {
-        kind,
-        span: token.span,
-        detail: token.text.again(),
-    }
-}
-
 fn redeclared<'s>(name: &Token<'s>, meaning: Option<Meaning>) -> Option<Finding<'s>>
     ensures { result ≡ redeclared name.now meaning }
 {
     match meaning {
         None => None,
-        Some(_) => Some(fault_at(FaultKind::Redeclared, name)),
+        Some(_) => Some(fault_at(FaultKind::Grammar(GrammarFault::Redeclared), name)),
     }
 }
 
@@ -82,7 +45,7 @@ fn no_node<'s>(name: &Token<'s>, meaning: Option<Meaning>) -> Option<Finding<'s>
 {
     match meaning {
         Some(Meaning::Node(_)) => None,
-        _ => Some(fault_at(FaultKind::Undeclared, name)),
+        _ => Some(fault_at(FaultKind::Grammar(GrammarFault::Undeclared), name)),
     }
 }
 
@@ -91,7 +54,7 @@ fn no_objective<'s>(name: &Token<'s>, meaning: Option<Meaning>) -> Option<Findin
 {
     match meaning {
         Some(Meaning::Objective) => None,
-        _ => Some(fault_at(FaultKind::Undeclared, name)),
+        _ => Some(fault_at(FaultKind::Grammar(GrammarFault::Undeclared), name)),
     }
 }
 
@@ -149,24 +112,24 @@ impl<'s> Index<'s> {
         }
     }
 
-    fn insert(&mut self, name: &Token<'s>, meaning: Meaning) -> Result<(), NameFault<'s>>
+    fn insert(&mut self, name: &Token<'s>, meaning: Meaning) -> Result<(), Stop<'s>>
         ensures ok { OnOk result ((other : List ℕ) → told self.new other ≡ if bytes_eq name.now.text other then Some meaning else told self.old other) }
         ensures count { self.new.node_count ≡ self.old.node_count }
-        ensures err { IfErr result (λ fault. fault ≡ NameFault.OutOfMemory) }
+        ensures err { IfErr result (λ fault. fault ≡ Stop.OutOfMemory) }
     {
         match self.meanings.insert(name.text.as_str(), meaning) {
             Ok(_) => Ok(()),
-            Err(_) => Err(NameFault::OutOfMemory),
+            Err(_) => Err(Stop::OutOfMemory),
         }
     }
 
     /// Adds what a declaration declares.
-    fn add(&mut self, declaration: &Declaration<'s>) -> Result<(), NameFault<'s>>
+    fn add(&mut self, declaration: &Declaration<'s>) -> Result<(), Stop<'s>>
         requires { self.old.node_count + 1 < 2 ^ 64 }
         ensures ok { OnOk result ((other : List ℕ) → told self.new other ≡
             if bytes_eq (name_of (form_of declaration.now)) other then Some (meaning_of self.old.node_count (form_of declaration.now)) else told self.old other) }
         ensures count { OnOk result (self.new.node_count ≡ self.old.node_count + nodes_of (form_of declaration.now)) }
-        ensures err { IfErr result (λ fault. fault ≡ NameFault.OutOfMemory) }
+        ensures err { IfErr result (λ fault. fault ≡ Stop.OutOfMemory) }
     {
         match declaration {
             Declaration::Objective(name) => self.insert(name, Meaning::Objective),
@@ -181,10 +144,7 @@ impl<'s> Index<'s> {
 }
 
 /// What the names of these declarations stand for, or the first name that is declared twice or not before its use.
-pub fn index_of<'s>(
-    alloc: Global,
-    declarations: &[Declaration<'s>],
-) -> Result<Index<'s>, NameFault<'s>>
+pub fn index_of<'s>(alloc: Global, declarations: &[Declaration<'s>]) -> Result<Index<'s>, Stop<'s>>
     ensures ok { OnOk result (first_fault name_fault [] (map form_of declarations.now) ≡ None) }
     ensures knows { IfOk result (Knows (map form_of declarations.now)) }
     ensures err { IfErr result (IsFoundBy (first_fault name_fault [] (map form_of declarations.now))) }
@@ -192,7 +152,7 @@ pub fn index_of<'s>(
     let mut index = Index::new(alloc);
     for declaration in declarations {
         if let Some(finding) = index.fault_of(declaration) {
-            return Err(NameFault::At(finding));
+            return Err(Stop::At(finding));
         }
         index.add(declaration)?;
     }

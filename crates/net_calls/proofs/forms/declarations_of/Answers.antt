@@ -1,8 +1,8 @@
 use Rattle.std.proofs.Common.{◌≡◌, ◌∷◌, ◌++◌, [], length, drop, map, ◌-◌, Ok, ap, sym, subst, ◌∙◌, arith}
-use Rattle.std.proofs.lemmas.List.{length-drop, map-append, take_all}
-use Rattle.net_calls.specs.Declarations.{Tokens, form_of, Spell, signs_of_all}
-use Rattle.net_calls.specs.Forms.{declaration_at}
-use Rattle.net_calls.proofs.Spelling.{one_more, left_over}
+use Rattle.std.proofs.lemmas.List.{length-drop, drop_all, map-append, take_all}
+use Rattle.net_calls.specs.Declarations.{Tokens, form_of}
+use Rattle.net_calls.specs.Forms.{declaration_at, ReadsForms}
+use Rattle.net_calls.proofs.Spelling.{one_more, forms_left, reads_all}
 use Rattle.net_calls.proofs.forms.declarations_of.Goals as goal
 
 pub loop-left-smaller : goal.loop-left-smaller
@@ -23,8 +23,15 @@ loop-left-preserved c =
     let forms : before ++ form ∷ [] ≡ map form_of c.read_declaration.new.declarations.items =
     sym (ap (map form_of) read.added ∙ map-append form_of c.loop-left.declarations.items (read.declaration ∷ [])) in
     let back : read.rest ≡ drop (length tokens - c.in_ok-left.left) tokens =
-    sym (ap (λ k. drop (length tokens - k) tokens) read.count ∙ left_over (signs_of_all (before ++ form ∷ [])) tokens read.rest more) in (
+    sym (ap (λ k. drop (length tokens - k) tokens) read.count ∙ forms_left (before ++ form ∷ []) tokens read.rest more) in (
       omega (arith, c.in_ok-left.ensures.shorter, c.loop-left.invariant.0, length-drop (length tokens - c.loop-left.left) tokens),
-      subst (λ r. Spell (signs_of_all (map form_of c.read_declaration.new.declarations.items)) tokens r) back
-          (subst (λ f. Spell (signs_of_all f) tokens read.rest) forms more),
+      subst (λ r. ReadsForms tokens (map form_of c.read_declaration.new.declarations.items) r) back
+          (subst (λ f. ReadsForms tokens f read.rest) forms more),
     )
+
+pub returns-clause-ok : goal.returns-clause-ok
+returns-clause-ok c =
+    let tokens = c.args.tokens.now in
+    let over = c.loop-left-test.false in
+    let none : drop (length tokens - c.loop-left.left) tokens ≡ [] = drop_all (length tokens - c.loop-left.left) tokens (omega (arith, over)) in
+    reads_all (map form_of c.loop-left.declarations.items) tokens (subst (ReadsForms tokens (map form_of c.loop-left.declarations.items)) none c.loop-left.invariant.1)
