@@ -10,3 +10,4 @@ pub mod ByName
 pub mod LinkLines
 pub mod Promise
 pub mod Answering
+pub mod OneFault
