@@ -5,8 +5,7 @@ use Rattle.net_normal.specs.declared.problem.Problem.{Problem}
 use Rattle.net_check.specs.declared.certificate.Certificate.{Certificate}
 use Rattle.net_check.specs.declared.certificate.Certificate.TheVariants as certificates
 use Rattle.net_check.specs.Certificates.{IsCertificate, HasShape}
-use Rattle.net_dimacs.specs.Problems.{IsProblemText}
-use Rattle.net_dimacs.specs.Reading as problems
+use Rattle.net_calls.specs.LineTexts.{IsProblemOf}
 use Rattle.net_solve.specs.Settling.{IsSettledBy, BoundsEachFlow, LeavesNoFlow, certificate_of}
 use Rattle.net_solve.specs.declared.settled.Settled.{Settled}
 use Rattle.net_solve.specs.declared.settled.Settled.TheVariants.{Optimal, Cut, Unsettled}
@@ -37,7 +36,7 @@ settled_certificate problem Unsettled certificate h e = absurd (let k = e in cc)
 pub settled_shape : (problem : Problem) (settled : Settled) (certificate : Certificate) → IsSettledBy problem settled → certificate_of settled ≡ Some certificate → HasShape problem certificate
 settled_shape problem settled certificate h e = certificate_shape problem certificate (settled_certificate problem settled certificate h e)
 
-pub certificate_refusal : (problem_text certificate_text : List ℕ) (problem : Problem) (fault : Fault) → problems.read_text problem_text ≡ Ok (problem.supplies.items, problem.arcs.items)
+pub certificate_refusal : (problem_text certificate_text : List ℕ) (problem : Problem) (fault : Fault) → IsProblemOf problem_text problem
     → IsCertificateStop problem certificate_text fault → IsLineRefusal problem_text certificate_text fault
 certificate_refusal p c problem faults.OutOfMemory read stop = tt
 certificate_refusal p c problem (faults.Refused r) read stop = absurd stop
@@ -45,7 +44,7 @@ certificate_refusal p c problem (faults.RefusedLine r) read stop = subst (λ nam
 certificate_refusal p c problem (faults.Unread name) read stop = absurd stop
 certificate_refusal p c problem faults.Unwritten read stop = absurd stop
 
-pub settles : (problem_text : List ℕ) (problem : Problem) (found told : Settled) (text : List ℕ) → IsProblemText problem_text problem.supplies.items problem.arcs.items
+pub settles : (problem_text : List ℕ) (problem : Problem) (found told : Settled) (text : List ℕ) → IsProblemOf problem_text problem
     → IsSettledBy problem found → BoundsEachFlow problem found → LeavesNoFlow problem found → told ≡ found → IsAnswerText problem (certificate_of found) text → Settles problem_text told text
 settles problem_text problem found told text is by bounds leaves same answer =
     subst (λ s. Settles problem_text s text) (sym same) (record { problem = problem; is_problem = is; certificate = by; optimal = bounds; cut = leaves; answer = answer })

@@ -11,3 +11,4 @@ pub mod LinkLines
 pub mod Promise
 pub mod Answering
 pub mod OneFault
+pub mod Reading

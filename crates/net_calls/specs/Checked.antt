@@ -1,5 +1,5 @@
 -- What is answered of a problem's text and a certificate's (First DIMACS Implementation Challenge, minimum-cost flow).
-use Rattle.std.specs.Prelude.{◌≡◌, ◌↔◌, ℕ, List, [], ◌∷◌, ◌++◌, length, Ok, Err, codes, decimal}
+use Rattle.std.specs.Prelude.{◌≡◌, ◌↔◌, ℕ, List, [], ◌∷◌, ◌++◌, codes, decimal}
 use Rattle.net_normal.specs.declared.problem.Problem.{Problem}
 use Rattle.net_check.specs.declared.certificate.Certificate.{Certificate}
 use Rattle.net_check.specs.declared.verdict.Reason.{Reason}
@@ -11,10 +11,7 @@ use Rattle.net_check.specs.FirstFaults.{IsFirstFault}
 use Rattle.net_dimacs.specs.declared.problem_fault.LineFault.{LineFault}
 use Rattle.net_dimacs.specs.declared.problem_fault.ProblemFault.{ProblemFault}
 use Rattle.net_dimacs.specs.declared.problem_fault.ProblemFault.TheVariants as reading
-use Rattle.net_dimacs.specs.Certificates.{account_of, IsCertificateText}
-use Rattle.net_dimacs.specs.CertificateReading as certificates
-use Rattle.net_dimacs.specs.Problems.{IsProblemText}
-use Rattle.net_dimacs.specs.Reading as problems
+use Rattle.net_calls.specs.LineTexts.{IsProblemOf, IsCertificateOf, IsProblemFault, IsCertificateFault}
 use Rattle.net_calls.specs.declared.ending.Ending.{Ending}
 use Rattle.net_calls.specs.declared.ending.Ending.TheVariants.{Done, Refuted}
 use Rattle.net_calls.specs.declared.fault.Fault.{Fault}
@@ -30,9 +27,9 @@ fault_of name (reading.Refused refusal) = RefusedLine (record { text = name; fau
 -- the verdict on the problem and the certificate that the texts are
 pub record Judges (problem_text certificate_text : List ℕ) (verdict : Verdict) : Type 0 where
   pub problem : Problem
-  pub is_problem : IsProblemText problem_text problem.supplies.items problem.arcs.items
+  pub is_problem : IsProblemOf problem_text problem
   pub certificate : Certificate
-  pub is_certificate : IsCertificateText certificate_text (length problem.supplies.items) problem.arcs.items (account_of certificate)
+  pub is_certificate : IsCertificateOf problem certificate_text certificate
   pub yes : (verdict ≡ Yes) ↔ IsCertificate problem certificate
   pub no : (reason : Reason) (number : ℕ) → verdict ≡ No reason number → IsFirstFault problem certificate reason number
 
@@ -40,10 +37,9 @@ pub record Judges (problem_text certificate_text : List ℕ) (verdict : Verdict)
 abbrev pub IsFirstLineFault : (problem_text certificate_text : List ℕ) → TextName → LineFault → ℕ → Type 0
 IsFirstLineFault problem_text certificate_text texts.Model fault line = ⊥
 IsFirstLineFault problem_text certificate_text texts.Data fault line = ⊥
-IsFirstLineFault problem_text certificate_text texts.Problem fault line = problems.read_text problem_text ≡ Err (record { fault = fault; line = line })
+IsFirstLineFault problem_text certificate_text texts.Problem fault line = IsProblemFault problem_text fault line
 IsFirstLineFault problem_text certificate_text texts.Certificate fault line =
-    (problem : Problem) × (problems.read_text problem_text ≡ Ok (problem.supplies.items, problem.arcs.items))
-    × (certificates.read_text (length problem.supplies.items) problem.arcs.items certificate_text ≡ Err (record { fault = fault; line = line }))
+    (problem : Problem) × IsProblemOf problem_text problem × IsCertificateFault problem certificate_text fault line
 
 abbrev pub IsLineRefusal : (problem_text certificate_text : List ℕ) → Fault → Type 0
 IsLineRefusal problem_text certificate_text OutOfMemory = Unit {0}
@@ -56,7 +52,7 @@ IsLineRefusal problem_text certificate_text Unwritten = ⊥
 abbrev pub IsProblemRefusal : List ℕ → Fault → Type 0
 IsProblemRefusal problem_text OutOfMemory = Unit {0}
 IsProblemRefusal problem_text (Refused r) = ⊥
-IsProblemRefusal problem_text (RefusedLine r) = (r.text ≡ texts.Problem) × (problems.read_text problem_text ≡ Err (record { fault = r.fault; line = r.line }))
+IsProblemRefusal problem_text (RefusedLine r) = (r.text ≡ texts.Problem) × IsProblemFault problem_text r.fault r.line
 IsProblemRefusal problem_text (Unread text) = ⊥
 IsProblemRefusal problem_text Unwritten = ⊥
 
@@ -64,8 +60,7 @@ IsProblemRefusal problem_text Unwritten = ⊥
 abbrev pub IsCertificateStop : Problem → List ℕ → Fault → Type 0
 IsCertificateStop problem text OutOfMemory = Unit {0}
 IsCertificateStop problem text (Refused r) = ⊥
-IsCertificateStop problem text (RefusedLine r) =
-    (r.text ≡ texts.Certificate) × (certificates.read_text (length problem.supplies.items) problem.arcs.items text ≡ Err (record { fault = r.fault; line = r.line }))
+IsCertificateStop problem text (RefusedLine r) = (r.text ≡ texts.Certificate) × IsCertificateFault problem text r.fault r.line
 IsCertificateStop problem text (Unread name) = ⊥
 IsCertificateStop problem text Unwritten = ⊥
 

@@ -12,6 +12,7 @@ pub mod FirstFaults
 pub mod Telling
 pub mod Steps
 pub mod Headline
+pub mod LineTexts
 pub mod Checked
 pub mod Settled
 pub mod Runs

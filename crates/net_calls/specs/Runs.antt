@@ -1,6 +1,9 @@
 -- What a run reads and writes (the words of Rust's std::io, Read and Write).
 use Rattle.std.specs.Prelude.{◌≡◌, ℕ, List, Option}
-use Rattle.std.specs.Io.KnownBytes.{Appends}
+use Rattle.std.specs.Io.KnownBytes.{Appends, Consumes, IsAtEnd}
+use Rattle.net_lex.specs.declared.language.Language.TheVariants as languages
+use Rattle.net_lex.specs.Limits.{text_limit}
+use Rattle.net_dimacs.specs.Reading as dimacs
 use Rattle.net_ends.specs.Ends.{ReadsToLimit, WritesFront}
 use Rattle.net_calls.specs.declared.compiled.Compiled.{Compiled}
 use Rattle.net_calls.specs.declared.fault.Fault.{Fault}
@@ -14,37 +17,50 @@ use Rattle.net_calls.specs.Checked.{Judges, IsLineRefusal, IsProblemRefusal, end
 use Rattle.net_calls.specs.Settled.{Settles, settled_ending}
 use Rattle.net_calls.specs.Headline.{Headline}
 
+-- the most bytes of a problem text and of a certificate text
+abbrev lines_limit : ℕ
+lines_limit = dimacs.text_limit
+
 -- what a source had, and has left
 pub record Course : Type 0 where
   pub old : Option (List ℕ)
   pub new : Option (List ℕ)
 
--- the two texts were read to their ends or to one byte past their limits, and the answer keeps the promise for them
-pub record Compiles (model_limit data_limit : ℕ) (model data' : Course) (answer : Compiled) : Type 0 where
+-- a source was read to its end, and this is what it gave
+pub record ReadsWhole (source : Course) (text : List ℕ) : Type 0 where
+  pub bytes : Consumes source.old source.new text
+  pub at_end : IsAtEnd source.new
+
+-- a source was read to its end or to one byte past the limit
+abbrev pub ReadsUpTo : ℕ → Course → List ℕ → Type 0
+ReadsUpTo limit source text = ReadsToLimit limit source.old source.new text
+
+-- the two texts were read to their ends, and the answer keeps the promise for them
+pub record Compiles (model data' : Course) (answer : Compiled) : Type 0 where
   pub model_text : List ℕ
   pub data_text : List ℕ
-  pub model_read : ReadsToLimit model_limit model.old model.new model_text
-  pub data_read : ReadsToLimit data_limit data'.old data'.new data_text
+  pub model_read : ReadsWhole model model_text
+  pub data_read : ReadsWhole data' data_text
   pub compiled : Headline model_text data_text answer
 
 -- the answer's text was written, and nothing else
-pub record WritesAnswer (model_limit data_limit : ℕ) (model data' output : Course) : Type 0 where
+pub record WritesAnswer (model data' output : Course) : Type 0 where
   pub answer : Compiled
-  pub made : Compiles model_limit data_limit model data' answer
+  pub made : Compiles model data' answer
   pub written : Appends output.old output.new answer.text.items
 
 -- a front of the answer's text was written, and nothing else
-pub record WritesFrontOfAnswer (model_limit data_limit : ℕ) (model data' output : Course) : Type 0 where
+pub record WritesFrontOfAnswer (model data' output : Course) : Type 0 where
   pub answer : Compiled
-  pub made : Compiles model_limit data_limit model data' answer
+  pub made : Compiles model data' answer
   pub written : WritesFront output.old output.new answer.text.items
 
--- the two texts were read so, and this is what is wrong with them
-pub record Refuses (model_limit data_limit : ℕ) (model data' : Course) (fault : Fault) : Type 0 where
+-- the two texts were read up to their limits, and this is what is wrong with them
+pub record Refuses (model data' : Course) (fault : Fault) : Type 0 where
   pub model_text : List ℕ
   pub data_text : List ℕ
-  pub model_read : ReadsToLimit model_limit model.old model.new model_text
-  pub data_read : ReadsToLimit data_limit data'.old data'.new data_text
+  pub model_read : ReadsUpTo (text_limit languages.Model) model model_text
+  pub data_read : ReadsUpTo (text_limit languages.Data) data' data_text
   pub refused : IsRefusal model_text data_text fault
 
 -- of a refused text, this
@@ -63,52 +79,52 @@ IfUnread (RefusedLine r) P = Unit {0}
 IfUnread (Unread text) P = P text
 IfUnread Unwritten P = Unit {0}
 
--- the two texts were read so, and this is the verdict's line
-pub record WritesVerdict (limit : ℕ) (problem certificate output : Course) (ending : Ending) : Type 0 where
+-- the two texts were read to their ends, and this is the verdict's line
+pub record WritesVerdict (problem certificate output : Course) (ending : Ending) : Type 0 where
   pub problem_text : List ℕ
   pub certificate_text : List ℕ
-  pub problem_read : ReadsToLimit limit problem.old problem.new problem_text
-  pub certificate_read : ReadsToLimit limit certificate.old certificate.new certificate_text
+  pub problem_read : ReadsWhole problem problem_text
+  pub certificate_read : ReadsWhole certificate certificate_text
   pub verdict : Verdict
   pub judged : Judges problem_text certificate_text verdict
   pub ends : ending ≡ ending_of verdict
   pub written : Appends output.old output.new (verdict_line verdict)
 
-pub record WritesFrontOfVerdict (limit : ℕ) (problem certificate output : Course) : Type 0 where
+pub record WritesFrontOfVerdict (problem certificate output : Course) : Type 0 where
   pub problem_text : List ℕ
   pub certificate_text : List ℕ
-  pub problem_read : ReadsToLimit limit problem.old problem.new problem_text
-  pub certificate_read : ReadsToLimit limit certificate.old certificate.new certificate_text
+  pub problem_read : ReadsWhole problem problem_text
+  pub certificate_read : ReadsWhole certificate certificate_text
   pub verdict : Verdict
   pub judged : Judges problem_text certificate_text verdict
   pub written : WritesFront output.old output.new (verdict_line verdict)
 
-pub record RefusesLines (limit : ℕ) (problem certificate : Course) (fault : Fault) : Type 0 where
+pub record RefusesLines (problem certificate : Course) (fault : Fault) : Type 0 where
   pub problem_text : List ℕ
   pub certificate_text : List ℕ
-  pub problem_read : ReadsToLimit limit problem.old problem.new problem_text
-  pub certificate_read : ReadsToLimit limit certificate.old certificate.new certificate_text
+  pub problem_read : ReadsUpTo lines_limit problem problem_text
+  pub certificate_read : ReadsUpTo lines_limit certificate certificate_text
   pub refused : IsLineRefusal problem_text certificate_text fault
 
--- the text was read so, and this is its certificate's text
-pub record WritesCertificate (limit : ℕ) (problem output : Course) (ending : Ending) : Type 0 where
+-- the text was read to its end, and this is its certificate's text
+pub record WritesCertificate (problem output : Course) (ending : Ending) : Type 0 where
   pub problem_text : List ℕ
-  pub problem_read : ReadsToLimit limit problem.old problem.new problem_text
+  pub problem_read : ReadsWhole problem problem_text
   pub settled : Settled
   pub text : List ℕ
   pub settles : Settles problem_text settled text
   pub ends : ending ≡ settled_ending settled
   pub written : Appends output.old output.new text
 
-pub record WritesFrontOfCertificate (limit : ℕ) (problem output : Course) : Type 0 where
+pub record WritesFrontOfCertificate (problem output : Course) : Type 0 where
   pub problem_text : List ℕ
-  pub problem_read : ReadsToLimit limit problem.old problem.new problem_text
+  pub problem_read : ReadsWhole problem problem_text
   pub settled : Settled
   pub text : List ℕ
   pub settles : Settles problem_text settled text
   pub written : WritesFront output.old output.new text
 
-pub record RefusesProblem (limit : ℕ) (problem : Course) (fault : Fault) : Type 0 where
+pub record RefusesProblem (problem : Course) (fault : Fault) : Type 0 where
   pub problem_text : List ℕ
-  pub problem_read : ReadsToLimit limit problem.old problem.new problem_text
+  pub problem_read : ReadsUpTo lines_limit problem problem_text
   pub refused : IsProblemRefusal problem_text fault

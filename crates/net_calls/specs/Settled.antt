@@ -4,7 +4,7 @@ use Rattle.net_normal.specs.declared.problem.Problem.{Problem}
 use Rattle.net_check.specs.declared.certificate.Certificate.{Certificate}
 use Rattle.net_dimacs.specs.Certificates.{account_of, IsCertificateText}
 use Rattle.net_dimacs.specs.CertificateWritten.{certificate_text}
-use Rattle.net_dimacs.specs.Problems.{IsProblemText}
+use Rattle.net_calls.specs.LineTexts.{IsProblemOf}
 use Rattle.net_solve.specs.Settling.{IsSettledBy, BoundsEachFlow, LeavesNoFlow, certificate_of}
 use Rattle.net_solve.specs.declared.settled.Settled.{Settled}
 use Rattle.net_solve.specs.declared.settled.Settled.TheVariants.{Optimal, Cut, Unsettled}
@@ -21,7 +21,7 @@ IsAnswerText problem (Some certificate) text =
 -- the problem that the text is, settled by a certificate, and that certificate's text
 pub record Settles (problem_text : List ℕ) (settled : Settled) (text : List ℕ) : Type 0 where
   pub problem : Problem
-  pub is_problem : IsProblemText problem_text problem.supplies.items problem.arcs.items
+  pub is_problem : IsProblemOf problem_text problem
   pub certificate : IsSettledBy problem settled
   -- no feasible flow costs less than an optimal value, and where there is a cut there is none
   pub optimal : BoundsEachFlow problem settled

@@ -1,10 +1,7 @@
 //! Certificates of problems, from text to verdict.
 
-ghost use Rattle.std.specs.Prelude.{◌≡◌, ◌++◌, length, Ok, IfOk, IfErr, OnOk};
-ghost use Rattle.net_dimacs.specs.Certificates.{account_of, IsCertificateText};
-ghost use Rattle.net_dimacs.specs.CertificateReading as certificates;
-ghost use Rattle.net_dimacs.specs.Problems.{IsProblemText};
-ghost use Rattle.net_dimacs.specs.Reading as problems;
+ghost use Rattle.std.specs.Prelude.{◌≡◌, ◌++◌, IfOk, IfErr, OnOk};
+ghost use Rattle.net_calls.specs.LineTexts.{IsProblemOf, IsCertificateOf};
 ghost use Rattle.net_calls.specs.Checked.{Judges, IsLineRefusal, IsProblemRefusal, IsCertificateStop, fault_of, reason_word, verdict_line};
 
 use crate::fault::{Fault, LineRefusal, TextName};
@@ -31,9 +28,9 @@ pub fn check_bytes(alloc: Global, problem: &[u8], certificate: &[u8]) -> Result<
 }
 
 /// The problem of a text.
+#[tactic(auto, using(crate::proofs::Reading::short_problem))]
 pub(crate) fn problem_of(alloc: Global, text: &[u8]) -> Result<Problem, Fault>
-    ensures ok { IfOk result (λ problem. IsProblemText text.now problem.supplies.items problem.arcs.items) }
-    ensures read { IfOk result (λ problem. problems.read_text text.now ≡ Ok (problem.supplies.items, problem.arcs.items)) }
+    ensures ok { IfOk result (IsProblemOf text.now) }
     ensures refused { IfErr result (IsProblemRefusal text.now) }
 {
     match read_problem(alloc, text) {
@@ -43,9 +40,9 @@ pub(crate) fn problem_of(alloc: Global, text: &[u8]) -> Result<Problem, Fault>
 }
 
 /// The certificate of a text for this problem.
+#[tactic(auto, using(crate::proofs::Reading::short_certificate))]
 fn certificate_of(alloc: Global, problem: &Problem, text: &[u8]) -> Result<Certificate, Fault>
-    ensures ok { IfOk result (λ certificate.
-        IsCertificateText text.now (length problem.now.supplies.items) problem.now.arcs.items (account_of certificate)) }
+    ensures ok { IfOk result (IsCertificateOf problem.now text.now) }
     ensures refused { IfErr result (IsCertificateStop problem.now text.now) }
 {
     match read_certificate(alloc, problem, text) {

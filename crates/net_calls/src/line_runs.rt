@@ -1,7 +1,6 @@
 //! Runs over texts of lines: texts are read whole, then the answer is computed whole, then it is written.
 
 ghost use Rattle.std.specs.Prelude.{◌≡◌, ◌⊎◌, ◌↔◌, true, false, IfOk, IfErr, IsErrOf};
-ghost use Rattle.net_dimacs.specs.Reading.{text_limit};
 ghost use Rattle.net_calls.specs.Checked.{ending_of};
 ghost use Rattle.net_calls.specs.Settled.{settled_ending};
 ghost use Rattle.net_calls.specs.Runs.{IfRefused, IfUnread, WritesVerdict, WritesFrontOfVerdict, RefusesLines, WritesCertificate, WritesFrontOfCertificate, RefusesProblem};
@@ -48,17 +47,17 @@ pub fn run_check<P: Source, C: Source, W: Sink>(
     requires problem_unread { P.failed problem.old ≡ false }
     requires certificate_unread { C.failed certificate.old ≡ false }
     requires unwritten { W.failed output.old ≡ false }
-    ensures ok { IfOk result (WritesVerdict text_limit
+    ensures ok { IfOk result (WritesVerdict
         (record { old = P.remaining problem.old; new = P.remaining problem.new })
         (record { old = C.remaining certificate.old; new = C.remaining certificate.new })
         (record { old = W.taken output.old; new = W.taken output.new })) }
 
     // A refused call has written nothing; a failed write leaves a front of the answer.
     ensures refused { IfErr result (λ fault. (fault ≡ Fault.Unwritten) ⊎ (output.new ≡ output.old)) }
-    ensures told { IfErr result (λ fault. IfRefused fault (RefusesLines text_limit
+    ensures told { IfErr result (λ fault. IfRefused fault (RefusesLines
         (record { old = P.remaining problem.old; new = P.remaining problem.new })
         (record { old = C.remaining certificate.old; new = C.remaining certificate.new }) fault)) }
-    ensures front { IsErrOf result Fault.Unwritten → WritesFrontOfVerdict text_limit
+    ensures front { IsErrOf result Fault.Unwritten → WritesFrontOfVerdict
         (record { old = P.remaining problem.old; new = P.remaining problem.new })
         (record { old = C.remaining certificate.old; new = C.remaining certificate.new })
         (record { old = W.taken output.old; new = W.taken output.new }) }
@@ -89,15 +88,15 @@ pub fn run_min<P: Source, W: Sink>(
 ) -> Result<Ending, Fault>
     requires problem_unread { P.failed problem.old ≡ false }
     requires unwritten { W.failed output.old ≡ false }
-    ensures ok { IfOk result (WritesCertificate text_limit
+    ensures ok { IfOk result (WritesCertificate
         (record { old = P.remaining problem.old; new = P.remaining problem.new })
         (record { old = W.taken output.old; new = W.taken output.new })) }
 
     // A refused call has written nothing; a failed write leaves a front of the answer.
     ensures refused { IfErr result (λ fault. (fault ≡ Fault.Unwritten) ⊎ (output.new ≡ output.old)) }
-    ensures told { IfErr result (λ fault. IfRefused fault (RefusesProblem text_limit
+    ensures told { IfErr result (λ fault. IfRefused fault (RefusesProblem
         (record { old = P.remaining problem.old; new = P.remaining problem.new }) fault)) }
-    ensures front { IsErrOf result Fault.Unwritten → WritesFrontOfCertificate text_limit
+    ensures front { IsErrOf result Fault.Unwritten → WritesFrontOfCertificate
         (record { old = P.remaining problem.old; new = P.remaining problem.new })
         (record { old = W.taken output.old; new = W.taken output.new }) }
 

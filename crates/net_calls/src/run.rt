@@ -20,17 +20,17 @@ pub fn run_compile<M: Source, D: Source, W: Sink>(
     requires model_unread { M.failed model.old ≡ false }
     requires data_unread { D.failed «data».old ≡ false }
     requires unwritten { W.failed output.old ≡ false }
-    ensures ok { OnOk result (WritesAnswer MODEL_LIMIT DATA_LIMIT
+    ensures ok { OnOk result (WritesAnswer
         (record { old = M.remaining model.old; new = M.remaining model.new })
         (record { old = D.remaining «data».old; new = D.remaining «data».new })
         (record { old = W.taken output.old; new = W.taken output.new })) }
 
     // A refused call has written nothing; a failed write leaves a front of the answer.
     ensures refused { IfErr result (λ fault. (fault ≡ Fault.Unwritten) ⊎ (output.new ≡ output.old)) }
-    ensures told { IfErr result (λ fault. IfRefused fault (Refuses MODEL_LIMIT DATA_LIMIT
+    ensures told { IfErr result (λ fault. IfRefused fault (Refuses
         (record { old = M.remaining model.old; new = M.remaining model.new })
         (record { old = D.remaining «data».old; new = D.remaining «data».new }) fault)) }
-    ensures front { IsErrOf result Fault.Unwritten → WritesFrontOfAnswer MODEL_LIMIT DATA_LIMIT
+    ensures front { IsErrOf result Fault.Unwritten → WritesFrontOfAnswer
         (record { old = M.remaining model.old; new = M.remaining model.new })
         (record { old = D.remaining «data».old; new = D.remaining «data».new })
         (record { old = W.taken output.old; new = W.taken output.new }) }
