@@ -1,5 +1,5 @@
 -- From what is read and settled to what is answered.
-use Rattle.std.proofs.Common.{◌≡◌, ℕ, List, Some, Ok, sym, subst, ◌∙◌}
+use Rattle.std.proofs.Common.{◌≡◌, ℕ, List, Some, sym, subst, ◌∙◌}
 use Rattle.net_normal.specs.Flows.{IsWithinCapacity}
 use Rattle.net_normal.specs.declared.problem.Problem.{Problem}
 use Rattle.net_check.specs.declared.certificate.Certificate.{Certificate}

@@ -1,16 +1,14 @@
 -- Two texts are either a model or have a first fault, and they have at most one.
-use Rattle.std.proofs.Common.{◌≡◌, ℕ, ◌<◌, List, [], ◌∷◌, length, Option, Some, None, Result, Ok, Err, refl, sym, ap, ◌∙◌, subst, arith}
+use Rattle.std.proofs.Common.{◌≡◌, ℕ, List, [], ◌∷◌, length, Option, Some, None, Result, Ok, Err, refl, sym, ap, ◌∙◌, subst, arith}
 use Rattle.net_lex.specs.declared.fault.Defect.{Defect}
 use Rattle.net_lex.specs.declared.language.Language.{Language}
 use Rattle.net_lex.specs.declared.language.Language.TheVariants as languages
 use Rattle.net_lex.specs.declared.span.Span.{Span}
 use Rattle.net_lex.specs.declared.token.Token.{Token}
 use Rattle.net_lex.specs.Lexing.{AreTokensOf}
-use Rattle.net_lex.specs.Lexing as lex
 use Rattle.net_lex.proofs.FirstFaults as lexer
 use Rattle.net_lex.proofs.UniqueReading.{reads_same}
 use Rattle.net_calls.specs.declared.fault.TextName.{TextName}
-use Rattle.net_calls.specs.declared.fault.TextName.TheVariants.{Model, Data}
 use Rattle.net_calls.specs.declared.fault_kinds.FaultKind.{FaultKind}
 use Rattle.net_calls.specs.declared.fault_kinds.FaultKind.TheVariants as kinds
 use Rattle.net_calls.specs.declared.fault_kinds.GrammarFault.TheVariants as grammar

@@ -1,7 +1,8 @@
 -- A network under construction, and what each declaration adds to it.
 use Rattle.std.specs.Prelude.{◌≡◌, ℕ, ◌<◌, List, [], ◌∷◌, ◌++◌, length, map, Option, Some, None, nat_le, int_lt, ◌≤ℤ◌, if◌then◌else◌}
-use Rattle.std.specs.Str.{bytes_eq}
-use Rattle.indexmap.specs.IndexMap.{get_by}
+use Rattle.std.specs.BTreeMap.{get_by}
+use Rattle.std.specs.Cmp.Lexicographic.{slice_cmp}
+use Rattle.std.specs.Ordering.{nat_cmp}
 use Rattle.net_normal.specs.declared.instance.InstArc.{InstArc}
 use Rattle.net_calls.specs.declared.draft.Draft.{Draft}
 use Rattle.net_normal.specs.Limits.{node_limit, arc_limit}
@@ -19,7 +20,7 @@ use Rattle.net_calls.specs.NameRules.{meaning_in, fault_at}
 
 -- what an index tells of a name
 abbrev pub told : Index → Name → Option Meaning
-told index name = get_by (λ key. bytes_eq name key.now) index.meanings
+told index name = get_by (λ key. slice_cmp nat_cmp name key.now) index.meanings
 
 abbrev pub name_of : Form → Name
 name_of (objective n) = n.text

@@ -26,7 +26,7 @@ pub struct Compiled<'s> {
 }
 
 /// Compiles a model with its data.
-pub fn compile<'s>(alloc: Global, model: &'s [u8], data: &[u8]) -> Result<Compiled<'s>, Fault>
+pub fn compile<'s>(alloc: Global, model: &'s [u8], data: &'s [u8]) -> Result<Compiled<'s>, Fault>
     ensures value { IfOk result (Headline model.entry.now «data».now) }
     ensures refused { IfErr result (IsRefusal model.entry.now «data».now) }
 {

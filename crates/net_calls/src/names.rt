@@ -11,9 +11,9 @@ ghost use Rattle.net_calls.specs.NameRules.{redeclared, no_node, no_objective, f
 use crate::declaration::{ArcForm, Declaration};
 use crate::fault_kinds::{FaultKind, GrammarFault};
 use crate::finding::{Finding, Stop, fault_at};
-use indexmap::IndexMap;
 use net_lex::Token;
 use std::alloc::Global;
+use std::collections::BTreeMap;
 
 /// What a name stands for.
 #[derive(Clone, Copy, Debug, PartialEq, Eq)]
@@ -24,10 +24,10 @@ pub enum Meaning {
     Arc,
 }
 
-/// The names that are declared so far.
+/// The names that are declared so far. An ordered map: no text can make it slow, as it could a hash that it knows.
 #[derive(Drop)]
 pub struct Index<'s> {
-    meanings: IndexMap<&'s str, Meaning>,
+    meanings: BTreeMap<&'s str, Meaning>,
     node_count: usize,
 }
 
@@ -64,7 +64,7 @@ impl<'s> Index<'s> {
         ensures none { result.node_count ≡ 0 }
     {
         Index {
-            meanings: IndexMap::new(alloc),
+            meanings: BTreeMap::new(alloc),
             node_count: 0,
         }
     }
