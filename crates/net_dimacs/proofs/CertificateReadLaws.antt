@@ -14,7 +14,7 @@ use Rattle.net_dimacs.specs.declared.problem_fault.LineFault.TheVariants as line
 use Rattle.net_dimacs.specs.declared.problem_fault.Refusal.{Refusal}
 use Rattle.net_dimacs.specs.declared.problem_fault.ProblemFault.{ProblemFault}
 use Rattle.net_dimacs.specs.declared.problem_fault.ProblemFault.TheVariants as faults
-use Rattle.net_dimacs.specs.Reading.{text_limit}
+use Rattle.net_dimacs.specs.Limits.{text_limit}
 use Rattle.net_dimacs.specs.Claims.{claimed}
 use Rattle.net_dimacs.specs.Certificates.{Account, Optimal, Cut, account_of, BeginsCertificate, IsOfSize, IsCertificateText, IsNoCertificateText, IsOnlyCertificate}
 use Rattle.net_dimacs.specs.CertificateReading.{first_claim, next_claim, Progress, Start, Open, Refused, kept, with_claim, with_claimed, missing, finished, read_lines, read_text, Fails, Gives, IfRefused}

@@ -15,7 +15,8 @@ use Rattle.net_dimacs.specs.declared.problem_fault.Refusal.{Refusal}
 use Rattle.net_dimacs.specs.declared.problem_fault.LineFault.{LineFault}
 use Rattle.net_dimacs.specs.declared.problem_fault.LineFault.TheVariants.{LineOrder, Count}
 use Rattle.net_dimacs.specs.Reading.{Sketch, place_of, is_past, new_sketch, with_node, with_node_at, with_arc, with_arc_at, with_arc_or, bounds_fault, State, Start, Open, kept, with_statement, with_said, said, Numbers, finished, read_lines}
-use Rattle.net_dimacs.specs.Problems.{Named, node_statement, arc_statement, AreDistinct, supply_after, IsProblemText, IsWithinLimits}
+use Rattle.net_dimacs.specs.Problems.{Named, node_statement, arc_statement, AreDistinct, supply_after, IsProblemText}
+use Rattle.net_normal.specs.Limits.{IsWithinLimits}
 use Rattle.net_dimacs.proofs.Lists.{all_map, all_both}
 use Rattle.net_dimacs.proofs.Steps.{marked, with_one, first_sketch, set_supply}
 use Rattle.net_dimacs.proofs.Cutting.{sketch_by, node_by, bounds_by}

@@ -8,10 +8,8 @@ use Rattle.net_dimacs.specs.declared.statement.Statement.{Statement}
 use Rattle.net_dimacs.specs.declared.statement.Statement.TheVariants as statements
 use Rattle.net_dimacs.specs.declared.problem_fault.LineFault.{LineFault}
 use Rattle.net_dimacs.specs.declared.problem_fault.LineFault.TheVariants.{LineOrder, DoubleNode, Count, Bounds, TooLarge}
-use Rattle.net_dimacs.specs.Scanning.{greatest_signed}
+use Rattle.net_dimacs.specs.Numbers.{greatest_signed, cut, cut_statement}
 use Rattle.net_dimacs.specs.Reading.{Sketch, place_of, new_sketch, is_past, with_node, with_node_at, bounds_fault, with_arc, with_arc_at, with_arc_or, State, Start, Open, Refused, kept, with_said}
-use Rattle.net_dimacs.proofs.Words.{cut}
-use Rattle.net_dimacs.proofs.Saying.{cut_statement}
 
 -- a negative number, cut off
 cut_negative : (n : ℕ) → cut (negsuc n) ≡ negsuc (min n (greatest_signed - 1))
@@ -87,7 +85,7 @@ sketch_same false false false true nodes' nodes arcs' arcs e f = refl
 sketch_same false false false false nodes' nodes arcs' arcs e f =
     ap (λ (z : ℤ). sketch_by false false false false z arcs') (e refl refl) ∙ ap (λ (z : ℤ). sketch_by false false false false nodes z) (f refl refl)
 
-new_cut : (nodes arcs : ℤ) → new_sketch (cut nodes) (cut arcs) ≡ new_sketch nodes arcs
+pub new_cut : (nodes arcs : ℤ) → new_sketch (cut nodes) (cut arcs) ≡ new_sketch nodes arcs
 new_cut nodes arcs =
     let s = int_lt nodes (pos 1) in
     let t = int_lt arcs (pos 0) in

@@ -9,7 +9,7 @@ use Rattle.std.specs.List.{AllByRecursion}
 use Rattle.std.proofs.lemmas.Bool.Decides.{nat_tests}
 use Rattle.std.proofs.lemmas.Fmt.{decimal_is_IsNumeral_wide}
 use Rattle.std.proofs.lemmas.Str.Parse.{IsNumeralModel, numerals_by_fold}
-use Rattle.net_dimacs.specs.declared.word.Word.TheVariants as words
+use Rattle.net_dimacs.specs.Words as words
 use Rattle.net_dimacs.proofs.Words.{word_by}
 use Rattle.net_dimacs.specs.Lines.{is_blank, has_byte, value_after, natural_of, number_of, number_or_other, word_of}
 

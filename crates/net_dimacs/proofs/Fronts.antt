@@ -106,7 +106,7 @@ some_field : (xs : List ℕ) (fs : List (List ℕ)) → 0 < length xs → filter
 some_field [] fs h = absurd (omega arith)
 some_field (x ∷ xs) fs h = refl
 
-after_blank : (y : ℕ) (ys : List ℕ) → is_blank y ≡ true → fields_of (y ∷ ys) ≡ fields_of ys
+pub after_blank : (y : ℕ) (ys : List ℕ) → is_blank y ≡ true → fields_of (y ∷ ys) ≡ fields_of ys
 after_blank y ys e = ap (λ (t : Bool). filter has_byte (cond t ([] ∷ slice_split is_blank ys) (onto_first y (slice_split is_blank ys)))) e
 
 inner_field : (xs : List ℕ) → 0 < position_or_len is_blank xs → position_or_len is_blank xs < length xs

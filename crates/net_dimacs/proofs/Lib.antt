@@ -1,8 +1,8 @@
 mod DraftSteps
+mod DigitFronts
+mod Scanning
 mod Words
-mod Splitting
 mod Saying
-mod Returns
 mod Cutting
 mod LineSteps
 mod Fronts

@@ -1,10 +1,9 @@
--- A text byte by byte is read as its lines, one after the other.
-use Rattle.std.proofs.Common.{◌≡◌, ◌≤◌, ℕ, ◌+◌, ◌==◌, Bool, true, false, cond, List, [], ◌∷◌, ◌++◌, ℤ, pos, negsuc, Some, None, Ok, Err, refl, sym, ap, ◌∙◌, fold, length, arith, append-nil}
+-- Reading a text line by line: what a reader keeps small, and where a text may be cut.
+use Rattle.std.proofs.Common.{◌≡◌, ◌≤◌, ℕ, ◌==◌, Bool, true, false, cond, List, [], ◌∷◌, ◌++◌, ℤ, pos, negsuc, Some, None, Ok, Err, refl, sym, ap, subst, ◌∙◌, length, map, arith}
 use Rattle.std.specs.Prelude.{Option, Result, int_lt, unsigned_abs, slice_index_or, nat_le}
 use Rattle.std.specs.List.{slice_split, onto_first}
 use Rattle.std.specs.Str.Lines.{lines, lines_of_parts, strip_carriage_return}
 use Rattle.std.proofs.lemmas.Bool.Decides.{nat_tests}
-use Rattle.std.proofs.lemmas.Grind.{fold-append}
 use Rattle.std.proofs.Math.ListN.{length-set, length-replicate}
 use Rattle.net_normal.specs.Limits.{flow_node_limit, flow_arc_limit, flow_limit}
 use Rattle.net_normal.specs.declared.problem.FlowArc.{FlowArc}
@@ -12,13 +11,8 @@ use Rattle.net_dimacs.specs.declared.statement.Statement.{Statement}
 use Rattle.net_dimacs.specs.declared.statement.Statement.TheVariants as statements
 use Rattle.net_dimacs.specs.declared.problem_fault.LineFault.{LineFault}
 use Rattle.net_dimacs.specs.declared.problem_fault.LineFault.TheVariants.{LineOrder, Count}
-use Rattle.net_dimacs.specs.declared.partial_line.PartialLine.{PartialLine}
-use Rattle.net_dimacs.specs.Scanning.{no_line, taken, said_before_feed, said_at_end}
-use Rattle.net_dimacs.specs.Reading.{Sketch, place_of, new_sketch, is_past, with_node, with_node_at, bounds_fault, with_arc, with_arc_at, with_arc_or, State, Start, Open, Refused, kept, with_said, said, finished, read_lines}
-use Rattle.net_dimacs.specs.Drafts.{Place, start, eaten, ended}
-use Rattle.net_dimacs.proofs.Splitting.{onto_front, onto_front-first}
-use Rattle.net_dimacs.proofs.Returns.{said_line_feed, said_line_end, begun_line}
-use Rattle.net_dimacs.proofs.Cutting.{sketch_by, node_by, IsSmall, said_cut}
+use Rattle.net_dimacs.specs.Reading.{Sketch, place_of, new_sketch, is_past, with_node, with_node_at, bounds_fault, with_arc, with_arc_at, with_arc_or, State, Start, Open, Refused, kept, with_said}
+use Rattle.net_dimacs.proofs.Cutting.{sketch_by, node_by, IsSmall}
 
 -- ---- a draft keeps its nodes
 
@@ -78,29 +72,10 @@ small_said line (Open d) (Some (statements.Arc src dst low cap cost)) few =
 small_said line (Open d) (Some statements.Other) few = tt
 small_said line (Refused r) (Some statement) few = tt
 
--- ---- a text, from a line that has begun
-
-abbrev here : ℕ → State → List ℕ → Place
-here line state begun = record { line = line; state = state; partial = fold taken no_line begun }
+-- ---- where a text may be cut
 
 abbrev is_feed : ℕ → Bool
 is_feed b = b == 10
-
-abbrev rest_of : List ℕ → List ℕ → List (List ℕ)
-rest_of begun bs = lines_of_parts (onto_front begun (slice_split is_feed bs))
-
-not_empty : (b : ℕ) (bs : List ℕ) → (length (b ∷ bs) == 0) ≡ false
-not_empty b bs = grind (arith, nat_tests)
-
-end_step : (line : ℕ) (state : State) (begun : List ℕ) → IsSmall state → ended (here line state begun) ≡ read_lines line state (lines_of_parts ((begun ++ []) ∷ []))
-end_step line state [] few = refl
-end_step line state (b ∷ bs) few =
-    let p = fold taken no_line (b ∷ bs) in
-    ap (λ (t : Bool). cond t (finished (line + 1) (with_said line state (said_at_end p))) (finished line state)) (begun_line (b ∷ bs))
-    ∙ ap (λ (x : Option Statement). finished (line + 1) (with_said line state x)) (said_line_end (b ∷ bs))
-    ∙ ap (λ (x : State). finished (line + 1) x) (said_cut line state (said (b ∷ bs)) few)
-    ∙ ap (λ (l : List ℕ). finished (line + 1) (with_said line state (said (b ∷ l)))) (sym (append-nil bs))
-    ∙ ap (λ (t : Bool). read_lines line state (cond t [] ((b ∷ (bs ++ [])) ∷ []))) (sym (not_empty b (bs ++ [])))
 
 -- there is a part, at least
 parts_step : (b : ℕ) (t : Bool) (parts : List (List ℕ)) → (x : List ℕ) × (xs : List (List ℕ)) × (cond t ([] ∷ parts) (onto_first b parts) ≡ x ∷ xs)
@@ -112,43 +87,49 @@ pub split_parts : (bs : List ℕ) → (x : List ℕ) × (xs : List (List ℕ)) �
 split_parts [] = ([], [], refl)
 split_parts (b ∷ bs) = parts_step b (is_feed b) (slice_split is_feed bs)
 
-front_nothing : (bs : List ℕ) → onto_front [] (slice_split is_feed bs) ≡ slice_split is_feed bs
-front_nothing bs = let p = split_parts bs in ap (onto_front []) p.2 ∙ sym p.2
+-- the parts up to an LF, whatever follows it
+record Whole (front : List ℕ) : Type 0 where
+  first : List ℕ
+  others : List (List ℕ)
+  parts : (more : List ℕ) → slice_split is_feed (front ++ 10 ∷ more) ≡ first ∷ (others ++ slice_split is_feed more)
 
--- LF ends the line
-feed_step : (line : ℕ) (state : State) (begun : List ℕ) (parts : List (List ℕ)) (x : List ℕ) (xs : List (List ℕ)) → parts ≡ x ∷ xs
-    → read_lines (line + 1) (with_said line state (said (strip_carriage_return begun))) (lines_of_parts parts) ≡ read_lines line state (lines_of_parts ((begun ++ []) ∷ parts))
-feed_step line state begun parts x xs e =
-    ap (λ (ys : List (List ℕ)). read_lines (line + 1) (with_said line state (said (strip_carriage_return begun))) (lines_of_parts ys)) e
-    ∙ ap (λ (l : List ℕ). read_lines (line + 1) (with_said line state (said (strip_carriage_return l))) (lines_of_parts (x ∷ xs))) (sym (append-nil begun))
-    ∙ ap (λ (ys : List (List ℕ)). read_lines line state (lines_of_parts ((begun ++ []) ∷ ys))) (sym e)
+whole_step : (b : ℕ) (front : List ℕ) (t : Bool) → is_feed b ≡ t → Whole front → Whole (b ∷ front)
+whole_step b front true e h = record {
+  first = [];
+  others = h.first ∷ h.others;
+  parts = λ more. ap (λ (t : Bool). cond t ([] ∷ slice_split is_feed (front ++ 10 ∷ more)) (onto_first b (slice_split is_feed (front ++ 10 ∷ more)))) e
+      ∙ ap (λ (ps : List (List ℕ)). [] ∷ ps) (h.parts more);
+}
+whole_step b front false e h = record {
+  first = b ∷ h.first;
+  others = h.others;
+  parts = λ more. ap (λ (t : Bool). cond t ([] ∷ slice_split is_feed (front ++ 10 ∷ more)) (onto_first b (slice_split is_feed (front ++ 10 ∷ more)))) e
+      ∙ ap (onto_first b) (h.parts more);
+}
 
-byte_step : (line : ℕ) (state : State) (begun : List ℕ) (b : ℕ) (bs : List ℕ) (t : Bool) → IsSmall state
-    → ended (fold eaten (here (line + 1) (with_said line state (said (strip_carriage_return begun))) []) bs) ≡ read_lines (line + 1) (with_said line state (said (strip_carriage_return begun))) (rest_of [] bs)
-    → ended (fold eaten (here line state (begun ++ b ∷ [])) bs) ≡ read_lines line state (rest_of (begun ++ b ∷ []) bs)
-    → ended (fold eaten (cond t (record { line = line + 1; state = with_said line state (said_before_feed (fold taken no_line begun)); partial = no_line }) (record { line = line; state = state; partial = taken (fold taken no_line begun) b })) bs)
-    ≡ read_lines line state (lines_of_parts (onto_front begun (cond t ([] ∷ slice_split is_feed bs) (onto_first b (slice_split is_feed bs)))))
-byte_step line state begun b bs true few feed more =
-    let p = split_parts bs in
-    let said_so : with_said line state (said_before_feed (fold taken no_line begun)) ≡ with_said line state (said (strip_carriage_return begun)) =
-    ap (with_said line state) (said_line_feed begun) ∙ said_cut line state (said (strip_carriage_return begun)) few in
-    ap (λ (x : State). ended (fold eaten (record { line = line + 1; state = x; partial = no_line }) bs)) said_so
-    ∙ feed
-    ∙ ap (λ (ys : List (List ℕ)). read_lines (line + 1) (with_said line state (said (strip_carriage_return begun))) (lines_of_parts ys)) (front_nothing bs)
-    ∙ feed_step line state begun (slice_split is_feed bs) p.0 p.1 p.2
-byte_step line state begun b bs false few feed more =
-    ap (λ (x : PartialLine). ended (fold eaten (record { line = line; state = state; partial = x }) bs)) (sym (fold-append taken no_line begun (b ∷ [])))
-    ∙ more
-    ∙ ap (λ (ys : List (List ℕ)). read_lines line state (lines_of_parts ys)) (sym (onto_front-first begun b (slice_split is_feed bs)))
+whole_front : (front : List ℕ) → Whole front
+whole_front [] = record { first = []; others = []; parts = λ more. refl }
+whole_front (b ∷ front) = whole_step b front (is_feed b) refl (whole_front front)
 
-text_run : (line : ℕ) (state : State) (begun bs : List ℕ) → IsSmall state → ended (fold eaten (here line state begun) bs) ≡ read_lines line state (rest_of begun bs)
-text_run line state begun [] few = end_step line state begun few
-text_run line state begun (b ∷ bs) few =
-    let next = with_said line state (said (strip_carriage_return begun)) in
-    byte_step line state begun b bs (is_feed b) few
-    (text_run (line + 1) next [] bs (small_said line state (said (strip_carriage_return begun)) few))
-    (text_run line state (begun ++ b ∷ []) bs few)
+parts_joined : (ps : List (List ℕ)) (x : List ℕ) (xs : List (List ℕ)) → lines_of_parts (ps ++ x ∷ xs) ≡ map strip_carriage_return ps ++ lines_of_parts (x ∷ xs)
+parts_joined [] x xs = refl
+parts_joined (p ∷ []) x xs = refl
+parts_joined (p ∷ q ∷ ps) x xs = ap (λ (ls : List (List ℕ)). strip_carriage_return p ∷ ls) (parts_joined (q ∷ ps) x xs)
 
--- byte by byte, and line by line
-pub text_lines : (text : List ℕ) → ended (fold eaten start text) ≡ read_lines 1 Start (lines text)
-text_lines text = text_run 1 Start [] text tt ∙ ap (λ (ys : List (List ℕ)). read_lines 1 Start (lines_of_parts ys)) (front_nothing text)
+parts_then : (ps qs : List (List ℕ)) (x : List ℕ) (xs : List (List ℕ)) → qs ≡ x ∷ xs → lines_of_parts (ps ++ qs) ≡ map strip_carriage_return ps ++ lines_of_parts qs
+parts_then ps qs x xs e = subst (λ (rs : List (List ℕ)). lines_of_parts (ps ++ rs) ≡ map strip_carriage_return ps ++ lines_of_parts rs) (sym e) (parts_joined ps x xs)
+
+lines_by : (front more : List ℕ) → let w = whole_front front in lines (front ++ 10 ∷ more) ≡ map strip_carriage_return (w.first ∷ w.others) ++ lines more
+lines_by front more =
+    let w = whole_front front in
+    let p = split_parts more in
+    ap lines_of_parts (w.parts more) ∙ parts_then (w.first ∷ w.others) (slice_split is_feed more) p.0 p.1 p.2
+
+nothing_more : (ls : List (List ℕ)) → ls ++ [] ≡ ls
+nothing_more [] = refl
+nothing_more (l ∷ ls) = ap (λ (ms : List (List ℕ)). l ∷ ms) (nothing_more ls)
+
+-- behind an LF other lines begin
+pub lines_joined : (front more : List ℕ) → lines (front ++ 10 ∷ more) ≡ lines (front ++ 10 ∷ []) ++ lines more
+lines_joined front more =
+    lines_by front more ∙ ap (λ (ls : List (List ℕ)). ls ++ lines more) (sym (lines_by front [] ∙ nothing_more (map strip_carriage_return ((whole_front front).first ∷ (whole_front front).others))))

@@ -13,8 +13,10 @@ use Rattle.net_dimacs.specs.declared.problem_fault.LineFault.TheVariants.{TooLar
 use Rattle.net_dimacs.specs.declared.problem_fault.Refusal.{Refusal}
 use Rattle.net_dimacs.specs.declared.problem_fault.ProblemFault.{ProblemFault}
 use Rattle.net_dimacs.specs.declared.problem_fault.ProblemFault.TheVariants as faults
-use Rattle.net_dimacs.specs.Reading.{Sketch, new_sketch, with_node, with_arc, State, Start, Open, Refused, kept, with_said, said, Numbers, finished, read_lines, read_text, text_limit, Gives, IfRefused}
-use Rattle.net_dimacs.specs.Problems.{IsProblemText, IsWithinLimits, IsNoProblemText, IsOnlyProblem}
+use Rattle.net_dimacs.specs.Limits.{text_limit}
+use Rattle.net_dimacs.specs.Reading.{Sketch, new_sketch, with_node, with_arc, State, Start, Open, Refused, kept, with_said, said, Numbers, finished, read_lines, read_text, Gives, IfRefused}
+use Rattle.net_dimacs.specs.Problems.{IsProblemText, IsNoProblemText, IsOnlyProblem}
+use Rattle.net_normal.specs.Limits.{IsWithinLimits}
 use Rattle.net_dimacs.proofs.Sound.{is_problem_text}
 use Rattle.net_dimacs.proofs.Complete.{text_is_read, one_problem}
 

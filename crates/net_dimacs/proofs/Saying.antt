@@ -1,240 +1,124 @@
--- What a line says field by field is what its words say, its numbers cut off.
-use Rattle.std.proofs.Common.{◌≡◌, List, [], ◌∷◌, ℤ, Some, refl, ap, fold, map}
+-- What a line says by its kind and its numbers is what its words say, cut off.
+use Rattle.std.proofs.Common.{◌≡◌, ℕ, ◌==◌, Bool, true, false, cond, ◌&&◌, List, [], ◌∷◌, ℤ, Some, None, refl, sym, ap, ◌∙◌, map, codes}
+use Rattle.std.specs.Prelude.{Option}
 use Rattle.std.specs.Option.{option_map}
-use Rattle.net_dimacs.specs.declared.word.Word.{Word}
-use Rattle.net_dimacs.specs.declared.word.Word.TheVariants.{Comment, Problem, Node, Arc, Min, Number, Other}
-use Rattle.net_dimacs.specs.declared.line.Kind.TheVariants as kinds
-use Rattle.net_dimacs.specs.declared.line.Numbers.TheVariants.{Zero, One, Two, Three, Four, Five}
-use Rattle.net_dimacs.specs.declared.line.Line.{Line}
-use Rattle.net_dimacs.specs.declared.line.Line.TheVariants as lines
-use Rattle.net_dimacs.specs.declared.statement.Statement.{Statement}
+use Rattle.std.proofs.lemmas.Bool.{eqb-true}
+use Rattle.net_dimacs.specs.Words.{Word}
+use Rattle.net_dimacs.specs.Words as words
+use Rattle.net_dimacs.specs.Lines.{fields_of, begins_with, is_text, number_of, number_or_other, word_of}
 use Rattle.net_dimacs.specs.declared.statement.Statement.TheVariants as statements
-use Rattle.net_dimacs.specs.Scanning.{with_word, said_of}
-use Rattle.net_dimacs.specs.Reading.{said_by}
-use Rattle.net_dimacs.proofs.Words.{cut, cut_word}
+use Rattle.net_dimacs.specs.declared.statement.Kind.TheVariants as kinds
+use Rattle.net_dimacs.specs.Numbers.{cut, cut_statement, Numerals, cut_number, two_in, arc_in, node_in, problem_in, kind_of, or_other, said_by_kind}
+use Rattle.net_dimacs.specs.Reading.{said_by, said}
 
-abbrev pub cut_statement : Statement → Statement
-cut_statement (statements.Problem nodes arcs) = statements.Problem (cut nodes) (cut arcs)
-cut_statement (statements.Node node supply) = statements.Node (cut node) (cut supply)
-cut_statement (statements.Arc src dst low cap cost) = statements.Arc (cut src) (cut dst) (cut low) (cut cap) (cut cost)
-cut_statement statements.Other = statements.Other
+abbrev cut_in : Word → Option ℤ
+cut_in (words.Number z) = Some (cut z)
+cut_in word = None
 
-abbrev cuts : List Word → List Word
-cuts words = map cut_word words
+abbrev cuts : List Word → Numerals
+cuts ws = map cut_in ws
 
-wrong : (words : List Word) → fold with_word lines.Wrong words ≡ lines.Wrong
-wrong [] = refl
-wrong (w ∷ ws) = wrong ws
+-- ---- the five numbers of an arc, and the two of a node or a problem
 
-comment : (words : List Word) → fold with_word lines.Comment words ≡ lines.Comment
-comment [] = refl
-comment (w ∷ ws) = comment ws
+arc_says : (ws : List Word) → option_map cut_statement (said_by (words.Arc ∷ ws)) ≡ Some (or_other (arc_in (cuts ws)))
+arc_says (words.Number a ∷ words.Number b ∷ words.Number c ∷ words.Number d ∷ words.Number e ∷ []) = refl
+arc_says ws = refl
 
-abbrev SaysOther : Line → List Word → Type 0
-SaysOther line words = said_of (fold with_word line words) ≡ Some statements.Other
+node_says : (ws : List Word) → option_map cut_statement (said_by (words.Node ∷ ws)) ≡ Some (or_other (node_in (cuts ws)))
+node_says (words.Number a ∷ words.Number b ∷ []) = refl
+node_says ws = refl
 
-wrong_says : (words : List Word) → SaysOther lines.Wrong words
-wrong_says words = ap said_of (wrong words)
+min_says : (ws : List Word) → option_map cut_statement (said_by (words.Problem ∷ words.Min ∷ ws)) ≡ Some (or_other (option_map (λ p. statements.Problem p.0 p.1) (two_in (cuts ws))))
+min_says (words.Number a ∷ words.Number b ∷ []) = refl
+min_says ws = refl
 
--- a line of this kind, with its numbers so far
-problem5 : (a b c d e : ℤ) (ws : List Word) → said_of (fold with_word (lines.Numbers kinds.Problem (Five (cut a) (cut b) (cut c) (cut d) (cut e))) (cuts ws)) ≡ option_map cut_statement (said_by (Problem ∷ Min ∷ Number a ∷ Number b ∷ Number c ∷ Number d ∷ Number e ∷ ws))
-problem5 a b c d e [] = refl
-problem5 a b c d e (Comment ∷ ws) = wrong_says (cuts ws)
-problem5 a b c d e (Problem ∷ ws) = wrong_says (cuts ws)
-problem5 a b c d e (Node ∷ ws) = wrong_says (cuts ws)
-problem5 a b c d e (Arc ∷ ws) = wrong_says (cuts ws)
-problem5 a b c d e (Min ∷ ws) = wrong_says (cuts ws)
-problem5 a b c d e (Other ∷ ws) = wrong_says (cuts ws)
-problem5 a b c d e (Number z ∷ ws) = wrong_says (cuts ws)
+-- ---- fields
 
-problem4 : (a b c d : ℤ) (ws : List Word) → said_of (fold with_word (lines.Numbers kinds.Problem (Four (cut a) (cut b) (cut c) (cut d))) (cuts ws)) ≡ option_map cut_statement (said_by (Problem ∷ Min ∷ Number a ∷ Number b ∷ Number c ∷ Number d ∷ ws))
-problem4 a b c d [] = refl
-problem4 a b c d (Comment ∷ ws) = wrong_says (cuts ws)
-problem4 a b c d (Problem ∷ ws) = wrong_says (cuts ws)
-problem4 a b c d (Node ∷ ws) = wrong_says (cuts ws)
-problem4 a b c d (Arc ∷ ws) = wrong_says (cuts ws)
-problem4 a b c d (Min ∷ ws) = wrong_says (cuts ws)
-problem4 a b c d (Other ∷ ws) = wrong_says (cuts ws)
-problem4 a b c d (Number z ∷ ws) = problem5 a b c d z ws
+both : (s t : Bool) → (s && t) ≡ true → (s ≡ true) × (t ≡ true)
+both true true e = (refl, refl)
+both true false e = absurd cc
+both false t e = absurd cc
 
-problem3 : (a b c : ℤ) (ws : List Word) → said_of (fold with_word (lines.Numbers kinds.Problem (Three (cut a) (cut b) (cut c))) (cuts ws)) ≡ option_map cut_statement (said_by (Problem ∷ Min ∷ Number a ∷ Number b ∷ Number c ∷ ws))
-problem3 a b c [] = refl
-problem3 a b c (Comment ∷ ws) = wrong_says (cuts ws)
-problem3 a b c (Problem ∷ ws) = wrong_says (cuts ws)
-problem3 a b c (Node ∷ ws) = wrong_says (cuts ws)
-problem3 a b c (Arc ∷ ws) = wrong_says (cuts ws)
-problem3 a b c (Min ∷ ws) = wrong_says (cuts ws)
-problem3 a b c (Other ∷ ws) = wrong_says (cuts ws)
-problem3 a b c (Number z ∷ ws) = problem4 a b c z ws
+is_the_text : (t field : List ℕ) → is_text t field ≡ true → field ≡ t
+is_the_text [] [] e = refl
+is_the_text [] (b ∷ bs) e = absurd cc
+is_the_text (a ∷ t) [] e = absurd cc
+is_the_text (a ∷ t) (b ∷ bs) e =
+    let p = both (b == a) (is_text t bs) e in
+    let first : b ≡ a = eqb-true b a p.0 in
+    let more : bs ≡ t = is_the_text t bs p.1 in
+    cc
 
-problem2 : (a b : ℤ) (ws : List Word) → said_of (fold with_word (lines.Numbers kinds.Problem (Two (cut a) (cut b))) (cuts ws)) ≡ option_map cut_statement (said_by (Problem ∷ Min ∷ Number a ∷ Number b ∷ ws))
-problem2 a b [] = refl
-problem2 a b (Comment ∷ ws) = wrong_says (cuts ws)
-problem2 a b (Problem ∷ ws) = wrong_says (cuts ws)
-problem2 a b (Node ∷ ws) = wrong_says (cuts ws)
-problem2 a b (Arc ∷ ws) = wrong_says (cuts ws)
-problem2 a b (Min ∷ ws) = wrong_says (cuts ws)
-problem2 a b (Other ∷ ws) = wrong_says (cuts ws)
-problem2 a b (Number z ∷ ws) = problem3 a b z ws
+-- a field is a number exactly where its word is one
+word_by : (c p n a m : Bool) (o : Option ℤ) → (c ≡ true → o ≡ None) → (p ≡ true → o ≡ None) → (n ≡ true → o ≡ None) → (a ≡ true → o ≡ None) → (m ≡ true → o ≡ None)
+    → cut_in (cond c words.Comment (cond p words.Problem (cond n words.Node (cond a words.Arc (cond m words.Min (number_or_other o)))))) ≡ option_map cut o
+word_by true p n a m o e1 e2 e3 e4 e5 = ap (option_map cut) (sym (e1 refl))
+word_by false true n a m o e1 e2 e3 e4 e5 = ap (option_map cut) (sym (e2 refl))
+word_by false false true a m o e1 e2 e3 e4 e5 = ap (option_map cut) (sym (e3 refl))
+word_by false false false true m o e1 e2 e3 e4 e5 = ap (option_map cut) (sym (e4 refl))
+word_by false false false false true o e1 e2 e3 e4 e5 = ap (option_map cut) (sym (e5 refl))
+word_by false false false false false None e1 e2 e3 e4 e5 = refl
+word_by false false false false false (Some z) e1 e2 e3 e4 e5 = refl
 
-problem1 : (a : ℤ) (ws : List Word) → said_of (fold with_word (lines.Numbers kinds.Problem (One (cut a))) (cuts ws)) ≡ option_map cut_statement (said_by (Problem ∷ Min ∷ Number a ∷ ws))
-problem1 a [] = refl
-problem1 a (Comment ∷ ws) = wrong_says (cuts ws)
-problem1 a (Problem ∷ ws) = wrong_says (cuts ws)
-problem1 a (Node ∷ ws) = wrong_says (cuts ws)
-problem1 a (Arc ∷ ws) = wrong_says (cuts ws)
-problem1 a (Min ∷ ws) = wrong_says (cuts ws)
-problem1 a (Other ∷ ws) = wrong_says (cuts ws)
-problem1 a (Number z ∷ ws) = problem2 a z ws
+text_no_number : (t field : List ℕ) → number_of t ≡ None → is_text t field ≡ true → number_of field ≡ None
+text_no_number t field none e = ap number_of (is_the_text t field e) ∙ none
 
-problem0 : (ws : List Word) → said_of (fold with_word (lines.Numbers kinds.Problem Zero) (cuts ws)) ≡ option_map cut_statement (said_by (Problem ∷ Min ∷ ws))
-problem0 [] = refl
-problem0 (Comment ∷ ws) = wrong_says (cuts ws)
-problem0 (Problem ∷ ws) = wrong_says (cuts ws)
-problem0 (Node ∷ ws) = wrong_says (cuts ws)
-problem0 (Arc ∷ ws) = wrong_says (cuts ws)
-problem0 (Min ∷ ws) = wrong_says (cuts ws)
-problem0 (Other ∷ ws) = wrong_says (cuts ws)
-problem0 (Number z ∷ ws) = problem1 z ws
+c_no_number : (field : List ℕ) → begins_with 99 field ≡ true → number_of field ≡ None
+c_no_number [] e = refl
+c_no_number (b ∷ bs) e = ap (λ (x : ℕ). number_of (x ∷ bs)) (eqb-true b 99 e)
 
--- a line of this kind, with its numbers so far
-node5 : (a b c d e : ℤ) (ws : List Word) → said_of (fold with_word (lines.Numbers kinds.Node (Five (cut a) (cut b) (cut c) (cut d) (cut e))) (cuts ws)) ≡ option_map cut_statement (said_by (Node ∷ Number a ∷ Number b ∷ Number c ∷ Number d ∷ Number e ∷ ws))
-node5 a b c d e [] = refl
-node5 a b c d e (Comment ∷ ws) = wrong_says (cuts ws)
-node5 a b c d e (Problem ∷ ws) = wrong_says (cuts ws)
-node5 a b c d e (Node ∷ ws) = wrong_says (cuts ws)
-node5 a b c d e (Arc ∷ ws) = wrong_says (cuts ws)
-node5 a b c d e (Min ∷ ws) = wrong_says (cuts ws)
-node5 a b c d e (Other ∷ ws) = wrong_says (cuts ws)
-node5 a b c d e (Number z ∷ ws) = wrong_says (cuts ws)
+number_of_word : (field : List ℕ) → cut_in (word_of field) ≡ cut_number field
+number_of_word field =
+    word_by (begins_with 99 field) (is_text (codes "p") field) (is_text (codes "n") field) (is_text (codes "a") field) (is_text (codes "min") field) (number_of field)
+    (c_no_number field) (text_no_number (codes "p") field refl) (text_no_number (codes "n") field refl) (text_no_number (codes "a") field refl) (text_no_number (codes "min") field refl)
 
-node4 : (a b c d : ℤ) (ws : List Word) → said_of (fold with_word (lines.Numbers kinds.Node (Four (cut a) (cut b) (cut c) (cut d))) (cuts ws)) ≡ option_map cut_statement (said_by (Node ∷ Number a ∷ Number b ∷ Number c ∷ Number d ∷ ws))
-node4 a b c d [] = refl
-node4 a b c d (Comment ∷ ws) = wrong_says (cuts ws)
-node4 a b c d (Problem ∷ ws) = wrong_says (cuts ws)
-node4 a b c d (Node ∷ ws) = wrong_says (cuts ws)
-node4 a b c d (Arc ∷ ws) = wrong_says (cuts ws)
-node4 a b c d (Min ∷ ws) = wrong_says (cuts ws)
-node4 a b c d (Other ∷ ws) = wrong_says (cuts ws)
-node4 a b c d (Number z ∷ ws) = node5 a b c d z ws
+numbers_of_words : (fields : List (List ℕ)) → cuts (map word_of fields) ≡ map cut_number fields
+numbers_of_words [] = refl
+numbers_of_words (f ∷ fs) = ap (λ (o : Option ℤ). o ∷ cuts (map word_of fs)) (number_of_word f) ∙ ap (λ (os : Numerals). cut_number f ∷ os) (numbers_of_words fs)
 
-node3 : (a b c : ℤ) (ws : List Word) → said_of (fold with_word (lines.Numbers kinds.Node (Three (cut a) (cut b) (cut c))) (cuts ws)) ≡ option_map cut_statement (said_by (Node ∷ Number a ∷ Number b ∷ Number c ∷ ws))
-node3 a b c [] = refl
-node3 a b c (Comment ∷ ws) = wrong_says (cuts ws)
-node3 a b c (Problem ∷ ws) = wrong_says (cuts ws)
-node3 a b c (Node ∷ ws) = wrong_says (cuts ws)
-node3 a b c (Arc ∷ ws) = wrong_says (cuts ws)
-node3 a b c (Min ∷ ws) = wrong_says (cuts ws)
-node3 a b c (Other ∷ ws) = wrong_says (cuts ws)
-node3 a b c (Number z ∷ ws) = node4 a b c z ws
+-- ---- a line by its first field
 
-node2 : (a b : ℤ) (ws : List Word) → said_of (fold with_word (lines.Numbers kinds.Node (Two (cut a) (cut b))) (cuts ws)) ≡ option_map cut_statement (said_by (Node ∷ Number a ∷ Number b ∷ ws))
-node2 a b [] = refl
-node2 a b (Comment ∷ ws) = wrong_says (cuts ws)
-node2 a b (Problem ∷ ws) = wrong_says (cuts ws)
-node2 a b (Node ∷ ws) = wrong_says (cuts ws)
-node2 a b (Arc ∷ ws) = wrong_says (cuts ws)
-node2 a b (Min ∷ ws) = wrong_says (cuts ws)
-node2 a b (Other ∷ ws) = wrong_says (cuts ws)
-node2 a b (Number z ∷ ws) = node3 a b z ws
+no_min : (c p n a : Bool) (o : Option ℤ) (ws : List Word) → said_by (words.Problem ∷ cond c words.Comment (cond p words.Problem (cond n words.Node (cond a words.Arc (number_or_other o)))) ∷ ws) ≡ Some statements.Other
+no_min true p n a o ws = refl
+no_min false true n a o ws = refl
+no_min false false true a o ws = refl
+no_min false false false true o ws = refl
+no_min false false false false None ws = refl
+no_min false false false false (Some z) ws = refl
 
-node1 : (a : ℤ) (ws : List Word) → said_of (fold with_word (lines.Numbers kinds.Node (One (cut a))) (cuts ws)) ≡ option_map cut_statement (said_by (Node ∷ Number a ∷ ws))
-node1 a [] = refl
-node1 a (Comment ∷ ws) = wrong_says (cuts ws)
-node1 a (Problem ∷ ws) = wrong_says (cuts ws)
-node1 a (Node ∷ ws) = wrong_says (cuts ws)
-node1 a (Arc ∷ ws) = wrong_says (cuts ws)
-node1 a (Min ∷ ws) = wrong_says (cuts ws)
-node1 a (Other ∷ ws) = wrong_says (cuts ws)
-node1 a (Number z ∷ ws) = node2 a z ws
+problem_by : (field : List ℕ) (fields : List (List ℕ)) (t : Bool) → is_text (codes "min") field ≡ t
+    → option_map cut_statement (said_by (words.Problem ∷ word_of field ∷ map word_of fields)) ≡ Some (or_other (cond t (option_map (λ p. statements.Problem p.0 p.1) (two_in (map cut_number fields))) None))
+problem_by field fields true e =
+    ap (λ (f : List ℕ). option_map cut_statement (said_by (words.Problem ∷ word_of f ∷ map word_of fields))) (is_the_text (codes "min") field e)
+    ∙ min_says (map word_of fields)
+    ∙ ap (λ (os : Numerals). Some (or_other (option_map (λ p. statements.Problem p.0 p.1) (two_in os)))) (numbers_of_words fields)
+problem_by field fields false e =
+    ap (option_map cut_statement)
+    (ap (λ (t : Bool). said_by (words.Problem ∷ cond (begins_with 99 field) words.Comment (cond (is_text (codes "p") field) words.Problem (cond (is_text (codes "n") field) words.Node (cond (is_text (codes "a") field) words.Arc (cond t words.Min (number_or_other (number_of field)))))) ∷ map word_of fields)) e
+    ∙ no_min (begins_with 99 field) (is_text (codes "p") field) (is_text (codes "n") field) (is_text (codes "a") field) (number_of field) (map word_of fields))
 
-node0 : (ws : List Word) → said_of (fold with_word (lines.Numbers kinds.Node Zero) (cuts ws)) ≡ option_map cut_statement (said_by (Node ∷ ws))
-node0 [] = refl
-node0 (Comment ∷ ws) = wrong_says (cuts ws)
-node0 (Problem ∷ ws) = wrong_says (cuts ws)
-node0 (Node ∷ ws) = wrong_says (cuts ws)
-node0 (Arc ∷ ws) = wrong_says (cuts ws)
-node0 (Min ∷ ws) = wrong_says (cuts ws)
-node0 (Other ∷ ws) = wrong_says (cuts ws)
-node0 (Number z ∷ ws) = node1 z ws
+problem_says : (fields : List (List ℕ)) → option_map cut_statement (said_by (words.Problem ∷ map word_of fields)) ≡ Some (or_other (problem_in fields))
+problem_says [] = refl
+problem_says (f ∷ fs) = problem_by f fs (is_text (codes "min") f) refl
 
--- a line of this kind, with its numbers so far
-arc5 : (a b c d e : ℤ) (ws : List Word) → said_of (fold with_word (lines.Numbers kinds.Arc (Five (cut a) (cut b) (cut c) (cut d) (cut e))) (cuts ws)) ≡ option_map cut_statement (said_by (Arc ∷ Number a ∷ Number b ∷ Number c ∷ Number d ∷ Number e ∷ ws))
-arc5 a b c d e [] = refl
-arc5 a b c d e (Comment ∷ ws) = wrong_says (cuts ws)
-arc5 a b c d e (Problem ∷ ws) = wrong_says (cuts ws)
-arc5 a b c d e (Node ∷ ws) = wrong_says (cuts ws)
-arc5 a b c d e (Arc ∷ ws) = wrong_says (cuts ws)
-arc5 a b c d e (Min ∷ ws) = wrong_says (cuts ws)
-arc5 a b c d e (Other ∷ ws) = wrong_says (cuts ws)
-arc5 a b c d e (Number z ∷ ws) = wrong_says (cuts ws)
+other_says : (m : Bool) (o : Option ℤ) (ws : List Word) → option_map cut_statement (said_by (cond m words.Min (number_or_other o) ∷ ws)) ≡ Some statements.Other
+other_says true o ws = refl
+other_says false None ws = refl
+other_says false (Some z) ws = refl
 
-arc4 : (a b c d : ℤ) (ws : List Word) → said_of (fold with_word (lines.Numbers kinds.Arc (Four (cut a) (cut b) (cut c) (cut d))) (cuts ws)) ≡ option_map cut_statement (said_by (Arc ∷ Number a ∷ Number b ∷ Number c ∷ Number d ∷ ws))
-arc4 a b c d [] = refl
-arc4 a b c d (Comment ∷ ws) = wrong_says (cuts ws)
-arc4 a b c d (Problem ∷ ws) = wrong_says (cuts ws)
-arc4 a b c d (Node ∷ ws) = wrong_says (cuts ws)
-arc4 a b c d (Arc ∷ ws) = wrong_says (cuts ws)
-arc4 a b c d (Min ∷ ws) = wrong_says (cuts ws)
-arc4 a b c d (Other ∷ ws) = wrong_says (cuts ws)
-arc4 a b c d (Number z ∷ ws) = arc5 a b c d z ws
+by_kind : (c p n a m : Bool) (o : Option ℤ) (fields : List (List ℕ))
+    → option_map cut_statement (said_by (cond c words.Comment (cond p words.Problem (cond n words.Node (cond a words.Arc (cond m words.Min (number_or_other o))))) ∷ map word_of fields))
+    ≡ said_by_kind (cond c kinds.Comment (cond p kinds.Problem (cond n kinds.Node (cond a kinds.Arc kinds.Other)))) fields
+by_kind true p n a m o fields = refl
+by_kind false true n a m o fields = problem_says fields
+by_kind false false true a m o fields = node_says (map word_of fields) ∙ ap (λ (os : Numerals). Some (or_other (node_in os))) (numbers_of_words fields)
+by_kind false false false true m o fields = arc_says (map word_of fields) ∙ ap (λ (os : Numerals). Some (or_other (arc_in os))) (numbers_of_words fields)
+by_kind false false false false m o fields = other_says m o (map word_of fields)
 
-arc3 : (a b c : ℤ) (ws : List Word) → said_of (fold with_word (lines.Numbers kinds.Arc (Three (cut a) (cut b) (cut c))) (cuts ws)) ≡ option_map cut_statement (said_by (Arc ∷ Number a ∷ Number b ∷ Number c ∷ ws))
-arc3 a b c [] = refl
-arc3 a b c (Comment ∷ ws) = wrong_says (cuts ws)
-arc3 a b c (Problem ∷ ws) = wrong_says (cuts ws)
-arc3 a b c (Node ∷ ws) = wrong_says (cuts ws)
-arc3 a b c (Arc ∷ ws) = wrong_says (cuts ws)
-arc3 a b c (Min ∷ ws) = wrong_says (cuts ws)
-arc3 a b c (Other ∷ ws) = wrong_says (cuts ws)
-arc3 a b c (Number z ∷ ws) = arc4 a b c z ws
+pub line_says : (line : List ℕ) (field : List ℕ) (more : List (List ℕ)) → fields_of line ≡ field ∷ more → said_by_kind (kind_of field) more ≡ option_map cut_statement (said line)
+line_says line field more e =
+    sym (ap (λ (fs : List (List ℕ)). option_map cut_statement (said_by (map word_of fs))) e
+    ∙ by_kind (begins_with 99 field) (is_text (codes "p") field) (is_text (codes "n") field) (is_text (codes "a") field) (is_text (codes "min") field) (number_of field) more)
 
-arc2 : (a b : ℤ) (ws : List Word) → said_of (fold with_word (lines.Numbers kinds.Arc (Two (cut a) (cut b))) (cuts ws)) ≡ option_map cut_statement (said_by (Arc ∷ Number a ∷ Number b ∷ ws))
-arc2 a b [] = refl
-arc2 a b (Comment ∷ ws) = wrong_says (cuts ws)
-arc2 a b (Problem ∷ ws) = wrong_says (cuts ws)
-arc2 a b (Node ∷ ws) = wrong_says (cuts ws)
-arc2 a b (Arc ∷ ws) = wrong_says (cuts ws)
-arc2 a b (Min ∷ ws) = wrong_says (cuts ws)
-arc2 a b (Other ∷ ws) = wrong_says (cuts ws)
-arc2 a b (Number z ∷ ws) = arc3 a b z ws
-
-arc1 : (a : ℤ) (ws : List Word) → said_of (fold with_word (lines.Numbers kinds.Arc (One (cut a))) (cuts ws)) ≡ option_map cut_statement (said_by (Arc ∷ Number a ∷ ws))
-arc1 a [] = refl
-arc1 a (Comment ∷ ws) = wrong_says (cuts ws)
-arc1 a (Problem ∷ ws) = wrong_says (cuts ws)
-arc1 a (Node ∷ ws) = wrong_says (cuts ws)
-arc1 a (Arc ∷ ws) = wrong_says (cuts ws)
-arc1 a (Min ∷ ws) = wrong_says (cuts ws)
-arc1 a (Other ∷ ws) = wrong_says (cuts ws)
-arc1 a (Number z ∷ ws) = arc2 a z ws
-
-arc0 : (ws : List Word) → said_of (fold with_word (lines.Numbers kinds.Arc Zero) (cuts ws)) ≡ option_map cut_statement (said_by (Arc ∷ ws))
-arc0 [] = refl
-arc0 (Comment ∷ ws) = wrong_says (cuts ws)
-arc0 (Problem ∷ ws) = wrong_says (cuts ws)
-arc0 (Node ∷ ws) = wrong_says (cuts ws)
-arc0 (Arc ∷ ws) = wrong_says (cuts ws)
-arc0 (Min ∷ ws) = wrong_says (cuts ws)
-arc0 (Other ∷ ws) = wrong_says (cuts ws)
-arc0 (Number z ∷ ws) = arc1 z ws
-
-awaits : (ws : List Word) → said_of (fold with_word lines.AwaitsMin (cuts ws)) ≡ option_map cut_statement (said_by (Problem ∷ ws))
-awaits [] = refl
-awaits (Min ∷ ws) = problem0 ws
-awaits (Comment ∷ ws) = wrong_says (cuts ws)
-awaits (Problem ∷ ws) = wrong_says (cuts ws)
-awaits (Node ∷ ws) = wrong_says (cuts ws)
-awaits (Arc ∷ ws) = wrong_says (cuts ws)
-awaits (Other ∷ ws) = wrong_says (cuts ws)
-awaits (Number z ∷ ws) = wrong_says (cuts ws)
-
-pub line_says : (ws : List Word) → said_of (fold with_word lines.Blank (cuts ws)) ≡ option_map cut_statement (said_by ws)
-line_says [] = refl
-line_says (Comment ∷ ws) = ap said_of (comment (cuts ws))
-line_says (Problem ∷ ws) = awaits ws
-line_says (Node ∷ ws) = node0 ws
-line_says (Arc ∷ ws) = arc0 ws
-line_says (Min ∷ ws) = wrong_says (cuts ws)
-line_says (Number z ∷ ws) = wrong_says (cuts ws)
-line_says (Other ∷ ws) = wrong_says (cuts ws)
+pub blank_says : (line : List ℕ) → fields_of line ≡ [] → None ≡ option_map cut_statement (said line)
+blank_says line e = sym (ap (λ (fs : List (List ℕ)). option_map cut_statement (said_by (map word_of fs))) e)

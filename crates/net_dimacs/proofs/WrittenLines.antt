@@ -10,14 +10,15 @@ use Rattle.std.proofs.lemmas.List.Elements.{All-from_recursion, recursion_from_A
 use Rattle.std.proofs.lemmas.List.Splits.{slice_split_none, slice_split_at}
 use Rattle.net_normal.specs.Limits.{IsSized, IsFlowArcOf, flow_node_limit, flow_limit, cost_limit}
 use Rattle.net_normal.specs.declared.problem.FlowArc.{FlowArc}
-use Rattle.net_dimacs.specs.declared.word.Word.{Word}
-use Rattle.net_dimacs.specs.declared.word.Word.TheVariants as words
+use Rattle.net_dimacs.specs.Words.{Word}
+use Rattle.net_dimacs.specs.Words as words
 use Rattle.net_dimacs.specs.declared.statement.Statement.{Statement}
 use Rattle.net_dimacs.specs.declared.statement.Statement.TheVariants as statements
 use Rattle.net_dimacs.specs.Lines.{is_blank, has_byte, fields_of, word_of}
 use Rattle.net_dimacs.specs.Written.{row, line, node_number, node_line, node_lines, arc_line, problem_text}
 use Rattle.net_dimacs.specs.Reading.{said_by, said}
-use Rattle.net_dimacs.specs.Problems.{Named, node_statement, arc_statement, AreDistinct, supply_after, statements_of, IsProblemText, IsWithinLimits}
+use Rattle.net_dimacs.specs.Problems.{Named, node_statement, arc_statement, AreDistinct, supply_after, statements_of, IsProblemText}
+use Rattle.net_normal.specs.Limits.{IsWithinLimits}
 use Rattle.net_dimacs.proofs.Decimals.{IsPrintable, IsSolid, word_decimal, solid_decimal, byte_decimal}
 use Rattle.net_dimacs.proofs.Lists.{all_map, all_append}
 use Rattle.net_dimacs.proofs.Complete.{absent}

@@ -1,27 +1,22 @@
 -- What a reader keeps of a certificate text.
-use Rattle.std.specs.Prelude.{◌≡◌, Bool, true, false, IsTrue, IsOk, Option, Some, None, List, Result, Ok, Err}
+use Rattle.std.specs.Prelude.{◌≡◌, Bool, true, false, IsTrue, Option, Some, None, List, Result, Ok, Err}
 use Rattle.std.specs.Global.{Vec}
 use Rattle.net_check.specs.declared.certificate.Certificate.{Certificate}
 use Rattle.net_dimacs.specs.declared.problem_fault.LineFault.{LineFault}
 use Rattle.net_dimacs.specs.declared.problem_fault.ProblemFault.{ProblemFault}
 use Rattle.net_dimacs.specs.declared.problem_fault.ProblemFault.TheVariants as faults
-use Rattle.net_dimacs.specs.declared.draft.DraftFault.{DraftFault}
-use Rattle.net_dimacs.specs.declared.draft.DraftFault.TheVariants as draft_faults
+use Rattle.net_dimacs.specs.declared.line_stop.LineStop.{LineStop}
+use Rattle.net_dimacs.specs.Drafts.{FailsLine}
 use Rattle.net_dimacs.specs.Certificates.{Account, account_of}
 use Rattle.net_dimacs.specs.CertificateReading.{Progress, Start, Open, Refused}
 
--- memory runs out only over a line that has no fault
-abbrev pub FailsLine : {A : Type 0} → Result A LineFault → DraftFault → Type 0
-FailsLine read draft_faults.OutOfMemory = IsOk read
-FailsLine read (draft_faults.Line fault) = read ≡ Err fault
-
 -- a list or a fault is what reading gives, unless memory ran out
-abbrev pub GivesList : {A : Type 0} → Result (List A) LineFault → Result (Vec A) DraftFault → Type 0
+abbrev pub GivesList : {A : Type 0} → Result (List A) LineFault → Result (Vec A) LineStop → Type 0
 GivesList read (Ok list) = read ≡ Ok list.items
 GivesList read (Err e) = FailsLine read e
 
 -- the same for a certificate so far
-abbrev pub GivesPart : Result Account LineFault → Result Certificate DraftFault → Type 0
+abbrev pub GivesPart : Result Account LineFault → Result Certificate LineStop → Type 0
 GivesPart read (Ok certificate) = read ≡ Ok (account_of certificate)
 GivesPart read (Err e) = FailsLine read e
 

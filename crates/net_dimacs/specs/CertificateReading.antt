@@ -11,7 +11,8 @@ use Rattle.net_dimacs.specs.declared.problem_fault.LineFault.TheVariants as line
 use Rattle.net_dimacs.specs.declared.problem_fault.Refusal.{Refusal}
 use Rattle.net_dimacs.specs.declared.problem_fault.ProblemFault.{ProblemFault}
 use Rattle.net_dimacs.specs.declared.problem_fault.ProblemFault.TheVariants as faults
-use Rattle.net_dimacs.specs.Reading.{text_limit, OnRefused}
+use Rattle.net_dimacs.specs.Limits.{text_limit}
+use Rattle.net_dimacs.specs.Reading.{OnRefused}
 use Rattle.net_dimacs.specs.Claims.{claimed}
 use Rattle.net_dimacs.specs.Certificates.{Account, Optimal, Cut, account_of}
 

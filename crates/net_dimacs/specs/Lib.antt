@@ -1,10 +1,13 @@
+pub mod Limits
+pub mod Words
 pub mod Lines
 pub mod Written
-pub mod Scanning
 pub mod Faults
 pub mod Reading
-pub mod Drafts
+pub mod Numbers
 pub mod Problems
+pub mod Drafts
+pub mod Scans
 pub mod Claims
 pub mod Certificates
 pub mod CertificateWritten

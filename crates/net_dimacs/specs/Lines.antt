@@ -1,14 +1,18 @@
 -- Lines, fields and numbers of a DIMACS text (First DIMACS Implementation Challenge, minimum-cost flow).
-use Rattle.std.specs.Prelude.{ℕ, ◌+◌, ◌-◌, ◌*◌, Bool, true, false, ◌||◌, ◌&&◌, ◌==◌, if◌then◌else◌, List, [], ◌∷◌, codes, filter, ℤ, pos, neg_ℤ, Option, Some, None}
+use Rattle.std.specs.Prelude.{◌≡◌, ◌<◌, length, slice_index, ℕ, ◌+◌, ◌-◌, ◌*◌, Bool, true, false, ◌||◌, ◌&&◌, ◌==◌, if◌then◌else◌, List, [], ◌∷◌, codes, filter, ℤ, pos, neg_ℤ, Option, Some, None}
 use Rattle.std.specs.List.{slice_split}
 use Rattle.std.specs.Option.{option_map}
 use Rattle.std.specs.Str.{all_ascii_digits}
-use Rattle.net_dimacs.specs.declared.word.Word.{Word}
-use Rattle.net_dimacs.specs.declared.word.Word.TheVariants as words
+use Rattle.net_dimacs.specs.Words.{Word}
+use Rattle.net_dimacs.specs.Words as words
 
 -- blanks and tabs separate fields
 abbrev pub is_blank : ℕ → Bool
 is_blank b = b == 32 || b == 9
+
+-- the last byte is LF, if there is one
+abbrev pub EndsLine : List ℕ → Type 0
+EndsLine bytes = 0 < length bytes → slice_index bytes (length bytes - 1) ≡ 10
 
 abbrev pub has_byte : List ℕ → Bool
 has_byte [] = false

@@ -1,16 +1,21 @@
 -- Which problem a DIMACS text is (First DIMACS Implementation Challenge, minimum-cost flow).
-use Rattle.std.specs.Prelude.{◌≡◌, ◌≢◌, ℕ, ◌+◌, ◌<◌, ◌≤◌, ◌==◌, if◌then◌else◌, List, [], ◌∷◌, ◌++◌, length, map, filter_map, slice_index_or, All, ℤ, pos}
+use Rattle.std.specs.Prelude.{◌≡◌, ◌≢◌, ℕ, ◌+◌, ◌<◌, ◌==◌, if◌then◌else◌, List, [], ◌∷◌, ◌++◌, length, map, filter_map, slice_index_or, ℤ, pos, IsOk}
 use Rattle.std.specs.List.{AllByRecursion}
 use Rattle.std.specs.Str.Lines.{lines}
-use Rattle.net_normal.specs.Limits.{IsSized, IsFlowArcOf, flow_node_limit, flow_arc_limit, flow_limit}
+use Rattle.net_normal.specs.Limits.{IsWithinLimits}
 use Rattle.net_normal.specs.declared.problem.FlowArc.{FlowArc}
 use Rattle.net_dimacs.specs.declared.statement.Statement.{Statement}
 use Rattle.net_dimacs.specs.declared.statement.Statement.TheVariants.{Problem, Node, Arc}
-use Rattle.net_dimacs.specs.Reading.{said}
+use Rattle.net_dimacs.specs.Reading.{said, new_sketch}
 
 -- what the lines say that are not skipped
 abbrev pub statements_of : List ℕ → List Statement
 statements_of text = filter_map said (lines text)
+
+-- a problem may begin with the first of these statements: a `p` line of counts within the limits
+abbrev pub BeginsProblem : List Statement → Type 0
+BeginsProblem (Problem nodes arcs ∷ more) = IsOk (new_sketch nodes arcs)
+BeginsProblem says = ⊥
 
 -- a node, counted from 0, and its supply
 abbrev pub Named : Type 0
@@ -39,14 +44,6 @@ pub record IsProblemText (text : List ℕ) (supplies : List ℤ) (arcs : List Fl
   pub nodes : AllByRecursion (λ n. n.0 < length supplies) named
   pub distinct : AreDistinct named
   pub supply : (node : ℕ) → node < length supplies → slice_index_or supplies node (pos 0) ≡ supply_after named node (pos 0)
-
--- a problem within the limits
-pub record IsWithinLimits (supplies : List ℤ) (arcs : List FlowArc) : Type 0 where
-  pub some_node : 1 ≤ length supplies
-  pub few_nodes : length supplies ≤ flow_node_limit
-  pub few_arcs : length arcs ≤ flow_arc_limit
-  pub supplies_fit : All (IsSized flow_limit) supplies
-  pub arcs_fit : All (IsFlowArcOf (length supplies)) arcs
 
 -- no problem within the limits
 abbrev pub IsNoProblemText : List ℕ → Type 0

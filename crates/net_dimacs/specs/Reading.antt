@@ -1,12 +1,13 @@
 -- Reading a DIMACS text line by line, with the first fault (First DIMACS Implementation Challenge, minimum-cost flow).
-use Rattle.std.specs.Prelude.{◌≡◌, ℕ, ◌+◌, ◌-◌, ◌*◌, Bool, true, false, ◌||◌, ◌&&◌, ◌==◌, nat_le, nat_lt, if◌then◌else◌, List, [], ◌∷◌, ◌++◌, length, replicate, map, slice_index_or, slice_set, ℤ, pos, neg_ℤ, unsigned_abs, int_lt, int_le, Option, Some, None, Result, Ok, Err}
+use Rattle.std.specs.Prelude.{◌≡◌, ℕ, ◌+◌, ◌-◌, Bool, true, false, ◌||◌, ◌&&◌, ◌==◌, nat_le, nat_lt, if◌then◌else◌, List, [], ◌∷◌, ◌++◌, length, replicate, map, slice_index_or, slice_set, ℤ, pos, neg_ℤ, unsigned_abs, int_lt, int_le, Option, Some, None, Result, Ok, Err}
 use Rattle.std.specs.Str.Lines.{lines}
 use Rattle.net_normal.specs.Limits.{flow_node_limit, flow_arc_limit, flow_limit, cost_limit}
 use Rattle.net_normal.specs.declared.problem.FlowArc.{FlowArc}
 use Rattle.net_normal.specs.declared.problem.Problem as problems
+use Rattle.net_dimacs.specs.Limits.{text_limit}
 use Rattle.net_dimacs.specs.Lines.{fields_of, word_of}
-use Rattle.net_dimacs.specs.declared.word.Word.{Word}
-use Rattle.net_dimacs.specs.declared.word.Word.TheVariants.{Comment, Problem, Node, Arc, Min, Number}
+use Rattle.net_dimacs.specs.Words.{Word}
+use Rattle.net_dimacs.specs.Words.{Comment, Problem, Node, Arc, Min, Number}
 use Rattle.net_dimacs.specs.declared.statement.Statement.{Statement}
 use Rattle.net_dimacs.specs.declared.statement.Statement.TheVariants as statements
 use Rattle.net_dimacs.specs.declared.problem_fault.LineFault.{LineFault}
@@ -99,15 +100,23 @@ abbrev pub kept : ℕ → Result Sketch LineFault → State
 kept line (Ok d) = Open d
 kept line (Err fault) = refused line fault
 
+-- the first line that says something
+abbrev pub new_state : ℕ → Statement → State
+new_state line (statements.Problem nodes arcs) = kept line (new_sketch nodes arcs)
+new_state line (statements.Node node supply) = refused line NoProblemLine
+new_state line (statements.Arc src dst low cap cost) = refused line NoProblemLine
+new_state line statements.Other = refused line BadLine
+
+-- a line behind the `p` line
+abbrev pub next_sketch : Sketch → Statement → Result Sketch LineFault
+next_sketch d (statements.Problem nodes arcs) = Err LineOrder
+next_sketch d (statements.Node node supply) = with_node d node supply
+next_sketch d (statements.Arc src dst low cap cost) = with_arc d src dst low cap cost
+next_sketch d statements.Other = Err BadLine
+
 abbrev pub with_statement : ℕ → State → Statement → State
-with_statement line Start (statements.Problem nodes arcs) = kept line (new_sketch nodes arcs)
-with_statement line Start (statements.Node node supply) = refused line NoProblemLine
-with_statement line Start (statements.Arc src dst low cap cost) = refused line NoProblemLine
-with_statement line Start statements.Other = refused line BadLine
-with_statement line (Open d) (statements.Problem nodes arcs) = refused line LineOrder
-with_statement line (Open d) (statements.Node node supply) = kept line (with_node d node supply)
-with_statement line (Open d) (statements.Arc src dst low cap cost) = kept line (with_arc d src dst low cap cost)
-with_statement line (Open d) statements.Other = refused line BadLine
+with_statement line Start statement = new_state line statement
+with_statement line (Open d) statement = kept line (next_sketch d statement)
 with_statement line (Refused r) statement = Refused r
 
 abbrev pub with_said : ℕ → State → Option Statement → State
@@ -129,10 +138,6 @@ finished line (Refused r) = Err r
 abbrev pub read_lines : ℕ → State → List (List ℕ) → Result Numbers Refusal
 read_lines number state [] = finished number state
 read_lines number state (line ∷ more) = read_lines (number + 1) (with_said number state (said line)) more
-
--- 64 MiB
-abbrev pub text_limit : ℕ
-text_limit = 64 * 1024 * 1024
 
 -- the problem of a text, or its first fault
 abbrev pub read_text : List ℕ → Result Numbers Refusal

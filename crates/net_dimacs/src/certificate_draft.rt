@@ -6,8 +6,8 @@ ghost use Rattle.net_dimacs.specs.CertificateReading.{is_node, are_ends, first_c
 ghost use Rattle.net_dimacs.specs.CertificateDrafts.{GivesList, GivesPart, progress_of, Comes};
 
 use crate::claim::Claim;
-use crate::draft::DraftFault;
-use crate::problem_fault::{LineFault, ProblemFault, Refusal};
+use crate::line_stop::LineStop;
+use crate::problem_fault::{LineFault, ProblemFault};
 use net_check::{Certificate, Side};
 use net_normal::{FlowArc, Problem};
 use std::alloc::{AllocError, Global};
@@ -28,8 +28,8 @@ pub fn with_claim(
     };
     match next {
         Ok(certificate) => Ok(certificate),
-        Err(DraftFault::Line(fault)) => Err(refused(fault, line)),
-        Err(DraftFault::OutOfMemory) => Err(ProblemFault::OutOfMemory),
+        Err(LineStop::Line(fault)) => Err(ProblemFault::refused(fault, line)),
+        Err(LineStop::OutOfMemory) => Err(ProblemFault::OutOfMemory),
     }
 }
 
@@ -50,7 +50,7 @@ pub fn completed(
             potentials,
         } => {
             if flows.len() != problem.arcs.len() || potentials.len() != problem.supplies.len() {
-                return Err(refused(LineFault::Certificate, line));
+                return Err(ProblemFault::refused(LineFault::Certificate, line));
             }
             Ok(Certificate::Optimal {
                 value,
@@ -65,17 +65,11 @@ pub fn completed(
     }
 }
 
-pub fn refused(fault: LineFault, line: usize) -> ProblemFault
-    ensures { result ≡ ProblemFault.Refused (record { fault = fault; line = line }) }
-{
-    ProblemFault::Refused(Refusal { fault, line })
-}
-
-fn first_claim(alloc: Global, problem: &Problem, claim: Claim) -> Result<Certificate, DraftFault>
+fn first_claim(alloc: Global, problem: &Problem, claim: Claim) -> Result<Certificate, LineStop>
     ensures { GivesPart (first_claim claim) result }
 {
     match claim {
-        Claim::Value(None) => Err(DraftFault::Line(LineFault::TooLarge)),
+        Claim::Value(None) => Err(LineStop::Line(LineFault::TooLarge)),
         Claim::Value(Some(value)) => Ok(Certificate::Optimal {
             value,
             flows: Vec::with_capacity(alloc, problem.arcs.len())?,
@@ -85,7 +79,7 @@ fn first_claim(alloc: Global, problem: &Problem, claim: Claim) -> Result<Certifi
             flags: Vec::with_capacity(alloc, problem.supplies.len())?,
             side,
         }),
-        _ => Err(DraftFault::Line(LineFault::Certificate)),
+        _ => Err(LineStop::Line(LineFault::Certificate)),
     }
 }
 
@@ -93,7 +87,7 @@ fn next_claim(
     problem: &Problem,
     certificate: Certificate,
     claim: Claim,
-) -> Result<Certificate, DraftFault>
+) -> Result<Certificate, LineStop>
     ensures { GivesPart (next_claim (length problem.now.supplies.items) problem.now.arcs.items (account_of certificate) claim) result }
 {
     match certificate {
@@ -117,7 +111,7 @@ fn next_claim(
                     potentials: with_potential(nodes, have_flows, potentials, node, potential)?,
                 })
             }
-            _ => Err(DraftFault::Line(LineFault::Certificate)),
+            _ => Err(LineStop::Line(LineFault::Certificate)),
         },
     }
 }
@@ -128,11 +122,11 @@ fn next_member(
     flags: Vec<bool>,
     side: Side,
     claim: Claim,
-) -> Result<Certificate, DraftFault>
+) -> Result<Certificate, LineStop>
     ensures { GivesPart (next_claim (length problem.now.supplies.items) problem.now.arcs.items (Cut flags.items side) claim) result }
 {
     let Claim::Member(node) = claim else {
-        return Err(DraftFault::Line(LineFault::Certificate));
+        return Err(LineStop::Line(LineFault::Certificate));
     };
     Ok(Certificate::Cut {
         flags: with_member(problem.supplies.len(), flags, node)?,
@@ -146,12 +140,12 @@ fn with_flow(
     src: Option<u32>,
     dst: Option<u32>,
     flow: Option<i64>,
-) -> Result<Vec<i64>, DraftFault>
+) -> Result<Vec<i64>, LineStop>
     ensures { GivesList (with_flow arcs.now flows.items src dst flow) result }
 {
     let place = flows.len();
     if place >= arcs.len() || !are_ends(&arcs[place], src, dst) {
-        return Err(DraftFault::Line(LineFault::Certificate));
+        return Err(LineStop::Line(LineFault::Certificate));
     }
     with_number(flows, flow)
 }
@@ -162,21 +156,21 @@ fn with_potential(
     potentials: Vec<i64>,
     node: Option<u32>,
     potential: Option<i64>,
-) -> Result<Vec<i64>, DraftFault>
+) -> Result<Vec<i64>, LineStop>
     ensures { GivesList (with_potential nodes have_flows potentials.items node potential) result }
 {
     let place = potentials.len();
     if have_flows && place < nodes && is_node(node, place) {
         return with_number(potentials, potential);
     }
-    Err(DraftFault::Line(LineFault::Certificate))
+    Err(LineStop::Line(LineFault::Certificate))
 }
 
-fn with_member(nodes: usize, flags: Vec<bool>, node: Option<u32>) -> Result<Vec<bool>, DraftFault>
+fn with_member(nodes: usize, flags: Vec<bool>, node: Option<u32>) -> Result<Vec<bool>, LineStop>
     ensures { GivesList (with_member nodes flags.items node) result }
 {
     let Some(node) = node else {
-        return Err(DraftFault::Line(LineFault::Certificate));
+        return Err(LineStop::Line(LineFault::Certificate));
     };
     let place = node as usize;
     if flags.len() <= place && place < nodes {
@@ -184,15 +178,15 @@ fn with_member(nodes: usize, flags: Vec<bool>, node: Option<u32>) -> Result<Vec<
         flags.push(true)?;
         return Ok(flags);
     }
-    Err(DraftFault::Line(LineFault::Certificate))
+    Err(LineStop::Line(LineFault::Certificate))
 }
 
 /// With one more number, if it is in its type.
-fn with_number(mut numbers: Vec<i64>, number: Option<i64>) -> Result<Vec<i64>, DraftFault>
+fn with_number(mut numbers: Vec<i64>, number: Option<i64>) -> Result<Vec<i64>, LineStop>
     ensures { GivesList (with_number numbers.items number) result }
 {
     let Some(number) = number else {
-        return Err(DraftFault::Line(LineFault::TooLarge));
+        return Err(LineStop::Line(LineFault::TooLarge));
     };
     numbers.push(number)?;
     Ok(numbers)

@@ -3,20 +3,18 @@
 ghost use Rattle.std.specs.Prelude.{◌≡◌, ◌+◌, ◌<◌, ◌≤◌, ◌⊎◌, length, IfOk, IsErrOf};
 ghost use Rattle.std.specs.Str.Lines.{lines};
 ghost use Rattle.net_check.specs.Certificates.{HasShape};
-ghost use Rattle.net_dimacs.specs.Reading.{text_limit};
+ghost use Rattle.net_dimacs.specs.Limits.{text_limit};
 ghost use Rattle.net_dimacs.specs.Certificates.{account_of, claims_of, BeginsCertificate, IsCertificateText, IsOnlyCertificate, IsNoCertificateText};
 ghost use Rattle.net_dimacs.specs.CertificateReading.{read_text, Gives, IfRefused};
 
-use crate::certificate_draft::{completed, refused, with_claim};
+use crate::certificate_draft::{completed, with_claim};
 use crate::claim::claim_of;
 use crate::fields::split_line;
+use crate::limits::TEXT_LIMIT;
 use crate::problem_fault::{LineFault, ProblemFault};
 use net_check::Certificate;
 use net_normal::Problem;
 use std::alloc::Global;
-
-/// The most bytes of a certificate text: 64 MiB.
-const TEXT_LIMIT: usize = 64 * 1024 * 1024;
 
 /// The certificate of a text for this problem, or the text's first fault and its line, from 1.
 ///
@@ -62,7 +60,7 @@ fn read_whole_certificate(
         (length text.now ≤ text_limit) × BeginsCertificate (claims_of text.now) }
 {
     if text.len() > TEXT_LIMIT {
-        return Err(refused(LineFault::TooLarge, 1));
+        return Err(ProblemFault::refused(LineFault::TooLarge, 1));
     }
     let mut certificate = None;
     let mut number = 1usize;
@@ -78,7 +76,7 @@ fn read_whole_certificate(
         rest = after;
     }
     match certificate {
-        None => Err(refused(LineFault::Certificate, number)),
+        None => Err(ProblemFault::refused(LineFault::Certificate, number)),
         Some(certificate) => completed(problem, number, certificate),
     }
 }

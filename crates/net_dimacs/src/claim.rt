@@ -10,7 +10,7 @@ use net_check::Side;
 
 /// What a line claims that is not skipped. Nodes are counted from 0. A number outside its type
 /// is `None`.
-#[derive(Clone, Copy, Debug, PartialEq, Eq)]
+#[derive(Clone, Copy)]
 pub enum Claim {
     /// The value, as `s 8`.
     Value(Option<i128>),
@@ -27,7 +27,7 @@ pub enum Claim {
 }
 
 /// What a first field says of its line.
-#[derive(Clone, Copy, Debug, PartialEq, Eq)]
+#[derive(Clone, Copy)]
 pub enum Mark {
     /// It begins with `c`.
     Comment,

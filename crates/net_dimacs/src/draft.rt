@@ -1,16 +1,17 @@
 //! A problem that is being read.
 
-ghost use Rattle.std.specs.Prelude.{◌≡◌, ◌<◌, ◌≤◌, true, All, vec_len, slice_set, pos, ◌≤ℤ◌, IfSome, IsNone, None};
+ghost use Rattle.std.specs.Prelude.{◌≡◌, ◌<◌, ◌≤◌, true, All, ◌++◌, ◌∷◌, [], vec_len, vec_capacity, slice_set, pos, ◌≤ℤ◌, IfSome, IsNone};
 ghost use Rattle.net_normal.specs.Limits.{IsSized, IsFlowArcOf, flow_node_limit, flow_arc_limit, flow_limit, cost_limit};
 ghost use Rattle.net_dimacs.specs.Reading.{is_past, bounds_fault};
-ghost use Rattle.net_dimacs.specs.declared.draft.DraftFault.TheVariants as draft_faults;
 
+use crate::line_stop::LineStop;
 use crate::problem_fault::LineFault;
+use crate::statement::Statement;
 use net_normal::{COST_LIMIT, FLOW_ARC_LIMIT, FLOW_LIMIT, FLOW_NODE_LIMIT, FlowArc, Problem};
-use std::alloc::{AllocError, AllocFailed, Global};
+use std::alloc::Global;
 
 /// What the lines from the `p` line on said so far.
-#[derive(Debug, Drop)]
+#[derive(Drop)]
 pub struct Draft {
     /// The supply of each node, 0 where no line named it.
     pub supplies: Vec<i64>,
@@ -25,54 +26,24 @@ pub struct Draft {
     pub ghost marks: { vec_len named ≡ vec_len supplies },
     pub ghost few_arcs: { arc_count ≤ flow_arc_limit },
     pub ghost arcs_so_far: { vec_len arcs ≤ arc_count },
+    pub ghost room: { arc_count ≤ vec_capacity arcs },
     pub ghost supplies_fit: { All (IsSized flow_limit) supplies.items },
     pub ghost arcs_fit: { All (IsFlowArcOf (vec_len supplies)) arcs.items },
 }
 
-/// Why a line was not taken.
-#[derive(Clone, Copy, Debug, PartialEq, Eq)]
-pub enum DraftFault {
-    OutOfMemory,
-    Line(LineFault),
-}
-
-impl From<LineFault> for DraftFault {
-    ghost from_gives = { λ fault e. e ≡ draft_faults.Line fault };
-
-    fn from(fault: LineFault) -> DraftFault {
-        DraftFault::Line(fault)
-    }
-}
-
-impl From<AllocError> for DraftFault {
-    ghost from_gives = { λ _ e. e ≡ draft_faults.OutOfMemory };
-
-    fn from(_fault: AllocError) -> DraftFault {
-        DraftFault::OutOfMemory
-    }
-}
-
-impl<T: Drop> From<AllocFailed<T>> for DraftFault {
-    ghost from_gives = { λ _ e. e ≡ draft_faults.OutOfMemory };
-
-    fn from(_fault: AllocFailed<T>) -> DraftFault {
-        DraftFault::OutOfMemory
-    }
-}
-
 impl Draft {
-    ghost use Rattle.net_dimacs.specs.Reading.{place_of, new_sketch, with_node, with_arc, with_arc_or};
-    ghost use Rattle.net_dimacs.specs.Drafts.{sketch_of, GivesDraft};
+    ghost use Rattle.net_dimacs.specs.Reading.{place_of, new_sketch, with_node, with_arc, next_sketch};
+    ghost use Rattle.net_dimacs.specs.Drafts.{sketch_of, GivesDraft, GivesSketch};
 
     /// What a `p` line announces. Its counts are tested before memory is asked for.
-    pub fn new(alloc: Global, nodes: i64, arcs: i64) -> Result<Draft, DraftFault>
+    pub fn new(alloc: Global, nodes: i64, arcs: i64) -> Result<Draft, LineStop>
         ensures { GivesDraft (new_sketch nodes arcs) result }
     {
         if nodes < 1 || arcs < 0 {
-            return Err(DraftFault::Line(LineFault::Count));
+            return Err(LineStop::Line(LineFault::Count));
         }
         if nodes > FLOW_NODE_LIMIT as i64 || arcs > FLOW_ARC_LIMIT as i64 {
-            return Err(DraftFault::Line(LineFault::TooLarge));
+            return Err(LineStop::Line(LineFault::TooLarge));
         }
         let node_count = nodes as usize;
         let arc_count = arcs as usize;
@@ -84,55 +55,69 @@ impl Draft {
         })
     }
 
-    /// With the supply of a node.
-    pub fn with_node(self, node: i64, supply: i64) -> Result<Draft, DraftFault>
-        ensures { GivesDraft (with_node (sketch_of self) node supply) result }
+    /// Takes what the next line says. It needs no memory.
+    pub fn take(&mut self, statement: Statement) -> Result<(), LineFault>
+        ensures { GivesSketch (next_sketch (sketch_of self.old) statement) result (sketch_of self.new) }
     {
-        if !self.arcs.is_empty() {
-            return Err(DraftFault::Line(LineFault::LineOrder));
+        match statement {
+            Statement::Problem(..) => Err(LineFault::LineOrder),
+            Statement::Node(node, supply) => self.take_node(node, supply),
+            Statement::Arc(src, dst, low, cap, cost) => self.take_arc(src, dst, low, cap, cost),
+            Statement::Other => Err(LineFault::BadLine),
         }
-        let Some(place) = self.place_of(node) else {
-            return Err(DraftFault::Line(LineFault::NodeNumber));
-        };
-        if self.named[place as usize] {
-            return Err(DraftFault::Line(LineFault::DoubleNode));
-        }
-        if is_past(FLOW_LIMIT, supply) {
-            return Err(DraftFault::Line(LineFault::TooLarge));
-        }
-        Ok(self.with_supply(place as usize, supply))
     }
 
-    /// With one more arc.
-    pub fn with_arc(
-        self,
+    /// Takes the supply of a node.
+    fn take_node(&mut self, node: i64, supply: i64) -> Result<(), LineFault>
+        ensures { GivesSketch (with_node (sketch_of self.old) node supply) result (sketch_of self.new) }
+    {
+        if !self.arcs.is_empty() {
+            return Err(LineFault::LineOrder);
+        }
+        let Some(place) = self.place_of(node) else {
+            return Err(LineFault::NodeNumber);
+        };
+        if self.named[place as usize] {
+            return Err(LineFault::DoubleNode);
+        }
+        if is_past(FLOW_LIMIT, supply) {
+            return Err(LineFault::TooLarge);
+        }
+        self.set_supply(place as usize, supply);
+        Ok(())
+    }
+
+    /// Takes one more arc.
+    fn take_arc(
+        &mut self,
         src: i64,
         dst: i64,
         low: i64,
         cap: i64,
         cost: i64,
-    ) -> Result<Draft, DraftFault>
-        ensures { GivesDraft (with_arc (sketch_of self) src dst low cap cost) result }
+    ) -> Result<(), LineFault>
+        ensures { GivesSketch (with_arc (sketch_of self.old) src dst low cap cost) result (sketch_of self.new) }
     {
         if self.arcs.len() >= self.arc_count {
-            return Err(DraftFault::Line(LineFault::Count));
+            return Err(LineFault::Count);
         }
         let Some(src) = self.place_of(src) else {
-            return Err(DraftFault::Line(LineFault::NodeNumber));
+            return Err(LineFault::NodeNumber);
         };
         let Some(dst) = self.place_of(dst) else {
-            return Err(DraftFault::Line(LineFault::NodeNumber));
+            return Err(LineFault::NodeNumber);
         };
         if let Some(fault) = bounds_fault(low, cap, cost) {
-            return Err(DraftFault::Line(fault));
+            return Err(fault);
         }
-        self.with_flow_arc(FlowArc {
+        self.push_arc(FlowArc {
             src,
             dst,
             low,
             cap,
             cost,
-        })
+        });
+        Ok(())
     }
 
     /// The problem that the lines said.
@@ -158,26 +143,24 @@ impl Draft {
         }
     }
 
-    fn with_supply(mut self, place: usize, supply: i64) -> Draft
-        requires within { place < vec_len self.supplies }
+    fn set_supply(&mut self, place: usize, supply: i64)
+        requires within { place < vec_len self.old.supplies }
         requires sized { IsSized flow_limit supply }
-        ensures supplies { result.supplies.items ≡ slice_set self.supplies.items place supply }
-        ensures named { result.named.items ≡ slice_set self.named.items place true }
-        ensures arcs { result.arcs.items ≡ self.arcs.items }
-        ensures arc_count { result.arc_count ≡ self.arc_count }
+        ensures supplies { self.new.supplies.items ≡ slice_set self.old.supplies.items place supply }
+        ensures named { self.new.named.items ≡ slice_set self.old.named.items place true }
+        ensures arcs { self.new.arcs.items ≡ self.old.arcs.items }
+        ensures arc_count { self.new.arc_count ≡ self.old.arc_count }
     {
         self.supplies[place] = supply;
         self.named[place] = true;
-        self
     }
 
-    fn with_flow_arc(mut self, arc: FlowArc) -> Result<Draft, DraftFault>
-        requires room { vec_len self.arcs < self.arc_count }
-        requires arc { IsFlowArcOf (vec_len self.supplies) arc }
-        ensures { GivesDraft (with_arc_or (sketch_of self) None arc) result }
+    fn push_arc(&mut self, arc: FlowArc)
+        requires room { vec_len self.old.arcs < self.old.arc_count }
+        requires arc { IsFlowArcOf (vec_len self.old.supplies) arc }
+        ensures { sketch_of self.new ≡ record (sketch_of self.old) { arcs = self.old.arcs.items ++ arc ∷ [] } }
     {
-        self.arcs.push(arc)?;
-        Ok(self)
+        self.arcs.push_reserved(arc);
     }
 }
 

@@ -1,6 +1,6 @@
 //! The front of a text, line by line, and of a line, field by field.
 
-ghost use Rattle.std.specs.Prelude.{◌≡◌, ◌==◌, not, ◌<◌, ◌∷◌, [], length, IfSome, MatchOption};
+ghost use Rattle.std.specs.Prelude.{◌≡◌, ◌==◌, not, ◌-◌, ◌<◌, ◌≤◌, slice_index, ◌∷◌, [], length, IfSome, MatchOption};
 ghost use Rattle.std.specs.List.{position};
 ghost use Rattle.std.specs.Str.Lines.{lines, strip_carriage_return};
 ghost use Rattle.net_dimacs.specs.Lines.{is_blank, fields_of};
@@ -21,6 +21,18 @@ pub fn split_line(text: &[u8]) -> Option<(&[u8], &[u8])>
         return Some((line, rest));
     }
     Some((without_return(line), &rest[1..]))
+}
+
+/// Where the bytes end that end with the last LF, or the front, where there is none.
+pub fn after_last_feed(bytes: &[u8]) -> usize
+    ensures within { result ≤ length bytes.now }
+    ensures feed { 0 < result → slice_index bytes.now (result - 1) ≡ 10 }
+{
+    let mut end = bytes.len();
+    while end > 0 && bytes[end - 1] != b'\n' {
+        end -= 1;
+    }
+    end
 }
 
 /// Where the first LF stands.
@@ -70,7 +82,7 @@ fn first_blank(bytes: &[u8]) -> Option<usize>
 
 /// Whether a byte separates fields: a blank or a tab.
 #[inline(always)]
-fn is_blank(byte: u8) -> bool
+pub fn is_blank(byte: u8) -> bool
     ensures { result ≡ is_blank byte }
 {
     byte == b' ' || byte == b'\t'

@@ -9,7 +9,7 @@ ghost use Rattle.net_dimacs.specs.Numerals.{with_digit, size_after, size_of, wit
 use crate::fields::split_field;
 
 /// A number of any length, as far as it matters.
-#[derive(Clone, Copy, Debug, PartialEq, Eq)]
+#[derive(Clone, Copy)]
 pub enum Integer {
     Of(i128),
     /// It is outside `i128`.
@@ -17,7 +17,7 @@ pub enum Integer {
 }
 
 /// Numbers that stand on a line behind its first field.
-#[derive(Clone, Copy, Debug, PartialEq, Eq)]
+#[derive(Clone, Copy)]
 pub enum Numbers {
     Zero,
     One(Integer),
@@ -134,7 +134,7 @@ fn size_of(digits: &[u8]) -> Option<u128>
 }
 
 /// The number that digits are, cut off at the end of `u64`, if they are digits.
-fn short_size_of(digits: &[u8]) -> Option<u64>
+pub fn short_size_of(digits: &[u8]) -> Option<u64>
     ensures { result ≡ size_of (2 ^ 64 - 1) digits.now }
 {
     let mut size = 0u64;

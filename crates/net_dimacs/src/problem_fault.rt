@@ -98,6 +98,15 @@ pub enum ProblemFault {
     Refused(Refusal),
 }
 
+impl ProblemFault {
+    /// A fault and its line.
+    pub(crate) fn refused(fault: LineFault, line: usize) -> ProblemFault
+        ensures { result ≡ ProblemFault.Refused (record { fault = fault; line = line }) }
+    {
+        ProblemFault::Refused(Refusal { fault, line })
+    }
+}
+
 impl From<AllocError> for ProblemFault {
     ghost from_gives = { λ _ e. e ≡ faults.OutOfMemory };
 

@@ -1,15 +1,16 @@
-//! What the whole lines so far said.
+//! What the lines so far said.
 
-ghost use Rattle.std.specs.Prelude.{◌≡◌, IfOk};
+ghost use Rattle.std.specs.Prelude.{◌≡◌, OnOk, OnErr, IsErrOf, option_to_list};
 
-use crate::draft::{Draft, DraftFault};
+use crate::draft::Draft;
+use crate::line_stop::LineStop;
 use crate::problem_fault::{LineFault, ProblemFault, Refusal};
 use crate::statement::Statement;
 use net_normal::Problem;
 use std::alloc::{AllocError, Global};
 
-/// What the whole lines so far said.
-#[derive(Debug, Drop)]
+/// What the lines so far said.
+#[derive(Drop)]
 pub enum Progress {
     /// Nothing yet.
     Start,
@@ -20,60 +21,65 @@ pub enum Progress {
 }
 
 impl Progress {
-    ghost use Rattle.net_dimacs.specs.Reading.{with_said, with_statement, finished, kept, Gives};
-    ghost use Rattle.net_dimacs.specs.Drafts.{state_of, GivesDraft};
+    ghost use Rattle.net_dimacs.specs.Reading.{with_said, new_state, finished, Start, Gives};
+    ghost use Rattle.net_dimacs.specs.Problems.{BeginsProblem};
+    ghost use Rattle.net_dimacs.specs.Drafts.{state_of, GivesState};
 
-    /// With what the line of this number says.
-    pub fn with_said(
-        self,
+    /// Takes what the line of this number says. Only a `p` line that is taken needs memory.
+    pub fn take(
+        &mut self,
         alloc: Global,
         line: usize,
         said: Option<Statement>,
-    ) -> Result<Progress, AllocError>
-        ensures { IfOk result (λ p. state_of p ≡ with_said line (state_of self) said) }
+    ) -> Result<(), AllocError>
+        ensures ok { OnOk result (state_of self.new ≡ with_said line (state_of self.old) said) }
+        ensures err { OnErr result ((state_of self.old ≡ Start) × BeginsProblem (option_to_list said)) }
     {
         let Some(statement) = said else {
-            return Ok(self);
+            return Ok(());
         };
-        let draft = match (self, statement) {
-            (Progress::Refused(refusal), _) => return Ok(Progress::Refused(refusal)),
-            (_, Statement::Other) => Err(DraftFault::Line(LineFault::BadLine)),
-            (Progress::Start, Statement::Problem(nodes, arcs)) => Draft::new(alloc, nodes, arcs),
-            (Progress::Start, _) => Err(DraftFault::Line(LineFault::NoProblemLine)),
-            (Progress::Open(_), Statement::Problem(..)) => {
-                Err(DraftFault::Line(LineFault::LineOrder))
+        match self {
+            Progress::Refused(_) => {}
+            Progress::Start => *self = Progress::begun(alloc, line, statement)?,
+            Progress::Open(draft) => {
+                if let Err(fault) = draft.take(statement) {
+                    *self = Progress::Refused(Refusal { fault, line });
+                }
             }
-            (Progress::Open(draft), Statement::Node(node, supply)) => draft.with_node(node, supply),
-            (Progress::Open(draft), Statement::Arc(src, dst, low, cap, cost)) => {
-                draft.with_arc(src, dst, low, cap, cost)
-            }
+        }
+        Ok(())
+    }
+
+    /// What the first line that says something begins.
+    fn begun(alloc: Global, line: usize, statement: Statement) -> Result<Progress, AllocError>
+        ensures { GivesState (new_state line statement) statement result }
+    {
+        let draft = match statement {
+            Statement::Problem(nodes, arcs) => Draft::new(alloc, nodes, arcs),
+            Statement::Other => Err(LineStop::Line(LineFault::BadLine)),
+            _ => Err(LineStop::Line(LineFault::NoProblemLine)),
         };
         match draft {
             Ok(draft) => Ok(Progress::Open(draft)),
-            Err(DraftFault::Line(fault)) => Ok(Progress::Refused(Refusal { fault, line })),
-            Err(DraftFault::OutOfMemory) => Err(AllocError),
+            Err(LineStop::Line(fault)) => Ok(Progress::Refused(Refusal { fault, line })),
+            Err(LineStop::OutOfMemory) => Err(AllocError),
         }
     }
 
     /// The problem, at the end of a text where one more line would have this number.
     pub fn finished(self, line: usize) -> Result<Problem, ProblemFault>
-        ensures { Gives (finished line (state_of self)) result }
+        ensures value { Gives (finished line (state_of self)) result }
+        ensures memory { IsErrOf result ProblemFault.OutOfMemory → ⊥ }
     {
         match self {
-            Progress::Start => Err(refused(LineFault::NoProblemLine, line)),
+            Progress::Start => Err(ProblemFault::refused(LineFault::NoProblemLine, line)),
             Progress::Refused(refusal) => Err(ProblemFault::Refused(refusal)),
             Progress::Open(draft) => {
                 if draft.arcs.len() < draft.arc_count {
-                    return Err(refused(LineFault::Count, line));
+                    return Err(ProblemFault::refused(LineFault::Count, line));
                 }
                 Ok(draft.problem())
             }
         }
     }
-}
-
-fn refused(fault: LineFault, line: usize) -> ProblemFault
-    ensures { result ≡ ProblemFault.Refused (record { fault = fault; line = line }) }
-{
-    ProblemFault::Refused(Refusal { fault, line })
 }

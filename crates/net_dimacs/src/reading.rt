@@ -1,29 +1,30 @@
 //! Reading a problem text in pieces.
 
-ghost use Rattle.std.specs.Prelude.{◌≡◌, ℕ, ◌+◌, ◌≤◌, List, [], ◌++◌, IfOk};
+ghost use Rattle.std.specs.Prelude.{◌≡◌, ℕ, ◌+◌, ◌≤◌, List, [], ◌++◌, IfOk, vec_len};
 
-use crate::problem_fault::{LineFault, ProblemFault, Refusal};
+use crate::fields::after_last_feed;
+use crate::limits::TEXT_LIMIT;
+use crate::problem_fault::{LineFault, ProblemFault};
 use crate::scan::Scan;
 use net_normal::Problem;
 use std::alloc::{AllocError, Global};
 
-/// The most bytes of a problem text: 64 MiB.
-const TEXT_LIMIT: usize = 64 * 1024 * 1024;
-
-/// A problem text that is being read. None of its text is kept.
-#[derive(Debug, Drop)]
+/// A problem text that is being read. Of the text, only a line that is not whole yet is kept.
+#[derive(Drop)]
 pub struct Reading {
     pub alloc: Global,
     /// How many bytes came.
     pub length: usize,
-    /// What they said, unless they pass the limit.
+    /// What the whole lines said, unless the text passes the limit.
     pub scan: Scan,
-    pub ghost few_lines: { scan.line ≤ length + 1 },
+    /// The bytes behind the last LF.
+    pub pending: Vec<u8>,
+    pub ghost few_lines: { scan.line + vec_len pending ≤ length + 1 },
 }
 
 impl Reading {
     ghost use Rattle.net_dimacs.specs.Reading.{read_text, Gives};
-    ghost use Rattle.net_dimacs.specs.Drafts.{Stands};
+    ghost use Rattle.net_dimacs.specs.Scans.{Stands};
 
     /// Before the first byte. It takes no memory.
     pub fn new(alloc: Global) -> Reading
@@ -33,6 +34,7 @@ impl Reading {
             alloc,
             length: 0,
             scan: Scan::new(),
+            pending: Vec::new(alloc),
         }
     }
 
@@ -44,15 +46,19 @@ impl Reading {
             alloc,
             length,
             mut scan,
+            mut pending,
         } = self;
         let length = length.saturating_add(piece.len());
         if length <= TEXT_LIMIT {
-            scan.eat_all(alloc, piece)?;
+            let (whole, rest) = piece.split_at(after_last_feed(piece));
+            scan.take_whole(alloc, &mut pending, whole)?;
+            pending.extend_from_slice(rest)?;
         }
         Ok(Reading {
             alloc,
             length,
             scan,
+            pending,
         })
     }
 
@@ -61,12 +67,8 @@ impl Reading {
         ensures { (text : List ℕ) → Stands self text → Gives (read_text text) result }
     {
         if self.length > TEXT_LIMIT {
-            let refusal = Refusal {
-                fault: LineFault::TooLarge,
-                line: 1,
-            };
-            return Err(ProblemFault::Refused(refusal));
+            return Err(ProblemFault::refused(LineFault::TooLarge, 1));
         }
-        self.scan.ended(self.alloc)
+        self.scan.ended(self.alloc, &self.pending)
     }
 }

@@ -1,90 +1,85 @@
-//! A text up to some byte, of which nothing is kept but what it said.
+//! The lines of a text, one after the other.
 
-ghost use Rattle.std.specs.Prelude.{◌≡◌, ◌+◌, ◌-◌, ◌<◌, ◌≤◌, ◌^◌, length, fold, OnOk};
+ghost use Rattle.std.specs.Prelude.{◌≡◌, ◌+◌, ◌-◌, ◌<◌, ◌≤◌, ◌^◌, ◌++◌, ℕ, List, length, vec_len, OnOk, OnErr, IsErrOf};
+ghost use Rattle.std.specs.Str.Lines.{lines};
 
-use crate::partial_line::PartialLine;
+use crate::fields::split_line;
 use crate::problem_fault::ProblemFault;
 use crate::progress::Progress;
+use crate::statement::statement_of;
 use net_normal::Problem;
 use std::alloc::{AllocError, Global};
-use std::mem;
 
-/// A text up to some byte.
-#[derive(Debug, Drop)]
+/// A text up to the end of some line.
+#[derive(Drop)]
 pub struct Scan {
-    /// The number of the line that is being read, from 1.
+    /// The number of the next line, from 1.
     pub line: usize,
     /// What the lines before it said.
     pub progress: Progress,
-    /// What has come of it.
-    pub partial: PartialLine,
 }
 
 impl Scan {
-    ghost use Rattle.net_dimacs.specs.Drafts.{place_of, start, eaten, ended};
-    ghost use Rattle.net_dimacs.specs.Reading.{Gives};
+    ghost use Rattle.net_dimacs.specs.Lines.{EndsLine};
+    ghost use Rattle.net_dimacs.specs.Drafts.{state_of};
+    ghost use Rattle.net_dimacs.specs.Scans.{reads};
+    ghost use Rattle.net_dimacs.specs.Reading.{Start, Gives};
+    ghost use Rattle.net_dimacs.specs.Problems.{BeginsProblem, statements_of};
 
     pub fn new() -> Scan
-        ensures { place_of result ≡ start }
+        ensures { result ≡ record { line = 1; progress = Progress.Start } }
     {
         Scan {
             line: 1,
             progress: Progress::Start,
-            partial: PartialLine::new(),
         }
     }
 
-    /// Takes the next bytes.
-    pub fn eat_all(&mut self, alloc: Global, piece: &[u8]) -> Result<(), AllocError>
-        requires { self.old.line + length piece.now < 2 ^ 64 - 1 }
-        ensures ok { OnOk result (place_of self.new ≡ fold eaten (place_of self.old) piece.now) }
-        ensures line { OnOk result (self.new.line ≤ self.old.line + length piece.now) }
+    /// Takes the lines of the next bytes.
+    pub fn take_lines(&mut self, alloc: Global, text: &[u8]) -> Result<(), AllocError>
+        requires { self.old.line + length text.now < 2 ^ 64 - 1 }
+        ensures lines { OnOk result ((more : List (List ℕ)) → reads self.new more ≡ reads self.old (lines text.now ++ more)) }
+        ensures count { OnOk result (self.new.line ≤ self.old.line + length text.now) }
+        ensures memory { OnErr result ((state_of self.old.progress ≡ Start) × BeginsProblem (statements_of text.now)) }
     {
-        for byte in piece {
-            self.eat(alloc, *byte)?;
+        let mut rest = text;
+        while let Some((line, after)) = split_line(rest) {
+            self.progress.take(alloc, self.line, statement_of(line))?;
+            self.line += 1;
+            rest = after;
         }
         Ok(())
     }
 
-    /// Takes the next byte.
-    #[inline(always)]
-    fn eat(&mut self, alloc: Global, byte: u8) -> Result<(), AllocError>
-        requires { self.old.line < 2 ^ 64 - 1 }
-        ensures ok { OnOk result (place_of self.new ≡ eaten (place_of self.old) byte) }
-        ensures line { OnOk result (self.new.line ≤ self.old.line + 1) }
+    /// Takes the lines of some bytes that end with an LF, behind a line that had begun, of which nothing is pending then.
+    pub fn take_whole(
+        &mut self,
+        alloc: Global,
+        pending: &mut Vec<u8>,
+        whole: &[u8],
+    ) -> Result<(), AllocError>
+        requires lines { EndsLine whole.now }
+        requires few { self.old.line + vec_len pending.old + length whole.now < 2 ^ 64 - 1 }
+        ensures ok { OnOk result ((more : List ℕ) →
+            reads self.new (lines (pending.new.items ++ more)) ≡ reads self.old (lines (pending.old.items ++ (whole.now ++ more)))) }
+        ensures count { OnOk result (self.new.line + vec_len pending.new ≤ self.old.line + vec_len pending.old + length whole.now) }
     {
-        if byte == b'\n' {
-            return self.end_line(alloc);
+        if whole.is_empty() {
+            return Ok(());
         }
-        self.partial.take(byte);
+        pending.extend_from_slice(whole)?;
+        self.take_lines(alloc, pending)?;
+        pending.clear();
         Ok(())
     }
 
-    /// Takes an LF.
-    #[inline(never)]
-    fn end_line(&mut self, alloc: Global) -> Result<(), AllocError>
-        requires { self.old.line < 2 ^ 64 - 1 }
-        ensures ok { OnOk result (place_of self.new ≡ eaten (place_of self.old) 10) }
-        ensures line { OnOk result (self.new.line ≡ self.old.line + 1) }
+    /// The problem of the text whose last bytes these are.
+    pub fn ended(mut self, alloc: Global, rest: &[u8]) -> Result<Problem, ProblemFault>
+        requires { self.line + length rest.now < 2 ^ 64 - 1 }
+        ensures value { Gives (reads self (lines rest.now)) result }
+        ensures memory { IsErrOf result ProblemFault.OutOfMemory → (state_of self.progress ≡ Start) × BeginsProblem (statements_of rest.now) }
     {
-        let progress = mem::replace(&mut self.progress, Progress::Start);
-        let said = self.partial.said_before_feed();
-        self.progress = progress.with_said(alloc, self.line, said)?;
-        self.partial = PartialLine::new();
-        self.line += 1;
-        Ok(())
-    }
-
-    /// The problem of the whole text.
-    pub fn ended(self, alloc: Global) -> Result<Problem, ProblemFault>
-        requires { self.line < 2 ^ 64 - 1 }
-        ensures { Gives (ended (place_of self)) result }
-    {
-        if !self.partial.is_begun {
-            return self.progress.finished(self.line);
-        }
-        let said = self.partial.said_at_end();
-        let progress = self.progress.with_said(alloc, self.line, said)?;
-        progress.finished(self.line + 1)
+        self.take_lines(alloc, rest)?;
+        self.progress.finished(self.line)
     }
 }

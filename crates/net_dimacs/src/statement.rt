@@ -1,8 +1,17 @@
 //! What a line of a problem text says.
 
+ghost use Rattle.std.specs.Prelude.{◌≡◌};
+ghost use Rattle.std.specs.Option.{option_map};
+ghost use Rattle.net_dimacs.specs.Lines.{fields_of};
+ghost use Rattle.net_dimacs.specs.Reading.{said};
+ghost use Rattle.net_dimacs.specs.Numbers.{cut_statement, cut_numbers, two_in, arc_in, node_in, problem_in, kind_of, said_by_kind};
+
+use crate::fields::split_field;
+use crate::number::split_number;
+
 /// What a line says that is not skipped. The numbers are as they are written, but that the
 /// reader cuts those past `i64` off at its ends.
-#[derive(Clone, Copy, Debug, PartialEq, Eq)]
+#[derive(Clone, Copy)]
 pub enum Statement {
     /// The number of nodes and the number of arcs, as `p min 3 2`.
     Problem(i64, i64),
@@ -12,4 +21,97 @@ pub enum Statement {
     Arc(i64, i64, i64, i64, i64),
     /// Anything else, as `q` or `a 1 2`.
     Other,
+}
+
+/// The kind of line that a first field begins.
+#[derive(Clone, Copy)]
+pub enum Kind {
+    /// It begins with `c`.
+    Comment,
+    /// `p`
+    Problem,
+    /// `n`
+    Node,
+    /// `a`
+    Arc,
+    /// Anything else.
+    Other,
+}
+
+/// What a line says. A blank line and a comment say nothing.
+pub fn statement_of(line: &[u8]) -> Option<Statement>
+    ensures { result ≡ option_map cut_statement (said line.now) }
+{
+    let (field, rest) = split_field(line)?;
+    said_by_kind(kind_of(field), rest)
+}
+
+fn said_by_kind(kind: Kind, rest: &[u8]) -> Option<Statement>
+    ensures { result ≡ said_by_kind kind (fields_of rest.now) }
+{
+    let said = match kind {
+        Kind::Comment => return None,
+        Kind::Problem => problem_in(rest),
+        Kind::Node => node_in(rest),
+        Kind::Arc => arc_in(rest),
+        Kind::Other => None,
+    };
+    Some(said.unwrap_or(Statement::Other))
+}
+
+fn kind_of(field: &[u8]) -> Kind
+    ensures { result ≡ kind_of field.now }
+{
+    match field {
+        [b'c', ..] => Kind::Comment,
+        [b'p'] => Kind::Problem,
+        [b'n'] => Kind::Node,
+        [b'a'] => Kind::Arc,
+        _ => Kind::Other,
+    }
+}
+
+fn problem_in(bytes: &[u8]) -> Option<Statement>
+    ensures { result ≡ problem_in (fields_of bytes.now) }
+{
+    let (field, rest) = split_field(bytes)?;
+    match field {
+        b"min" => {
+            let (nodes, arcs) = two_in(rest)?;
+            Some(Statement::Problem(nodes, arcs))
+        }
+        _ => None,
+    }
+}
+
+fn node_in(bytes: &[u8]) -> Option<Statement>
+    ensures { result ≡ node_in (cut_numbers bytes.now) }
+{
+    let (node, supply) = two_in(bytes)?;
+    Some(Statement::Node(node, supply))
+}
+
+fn two_in(bytes: &[u8]) -> Option<(i64, i64)>
+    ensures { result ≡ two_in (cut_numbers bytes.now) }
+{
+    let (first, rest) = split_number(bytes)?;
+    let (second, rest) = split_number(rest)?;
+    match split_field(rest) {
+        None => Some((first, second)),
+        Some(_) => None,
+    }
+}
+
+fn arc_in(bytes: &[u8]) -> Option<Statement>
+    ensures { result ≡ arc_in (cut_numbers bytes.now) }
+{
+    let (src, rest) = split_number(bytes)?;
+    let (dst, rest) = split_number(rest)?;
+    let (low, rest) = split_number(rest)?;
+    let (cap, rest) = split_number(rest)?;
+    let (cost, rest) = split_number(rest)?;
+    match split_field(rest) {
+        None => Some(Statement::Arc(src, dst, low, cap, cost)),
+        Some(_) => None,
+    }
 }

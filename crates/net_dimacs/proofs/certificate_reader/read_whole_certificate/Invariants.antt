@@ -1,7 +1,7 @@
 use Rattle.std.proofs.Common.{◌≡◌, ◌+◌, ◌≤◌, length}
 use Rattle.std.specs.Prelude.{filter_map}
 use Rattle.std.specs.Str.Lines.{lines}
-use Rattle.net_dimacs.specs.Reading.{text_limit}
+use Rattle.net_dimacs.specs.Limits.{text_limit}
 use Rattle.net_dimacs.specs.Claims.{claimed}
 use Rattle.net_dimacs.specs.Certificates.{claims_of}
 use Rattle.net_dimacs.specs.CertificateReading.{Start, read_lines}

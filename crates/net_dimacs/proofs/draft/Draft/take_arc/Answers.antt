@@ -1,20 +1,20 @@
-use Rattle.std.proofs.Common.{◌≡◌, false, length, refl, subst, sym, arith, Some, None, w64}
+use Rattle.std.proofs.Common.{◌≡◌, false, length, refl, sym, ap, ◌∙◌, arith, Some, None, Ok, w64}
 use Rattle.std.proofs.lemmas.Int.{to_z-of_z}
 use Rattle.std.specs.Prelude.{nat_le}
 use Rattle.std.proofs.lemmas.Bool.Decides.{nat_tests}
-use Rattle.net_dimacs.specs.Drafts.{sketch_of, GivesDraft}
+use Rattle.net_dimacs.specs.Drafts.{sketch_of}
 use Rattle.net_dimacs.proofs.DraftSteps.{with_arc_is}
-use Rattle.net_dimacs.proofs.draft.Draft.with_arc.Goals as goal
+use Rattle.net_dimacs.proofs.draft.Draft.take_arc.Goals as goal
 
 pub returns-in-Some-bounds_fault : goal.returns-in-Some-bounds_fault
 returns-in-Some-bounds_fault c =
-    let room : nat_le c.args.self.arc_count (length c.args.self.arcs.items) ≡ false = grind (arith, nat_tests) in
-    with_arc_is (sketch_of c.args.self) c.args.src c.args.dst c.args.low c.args.cap c.args.cost _ _ _ _ _ c.in-Some.src c.in-Some-place_of.dst (Some c.in-Some-bounds_fault.fault)
+    let room : nat_le c.args.self.now.arc_count (length c.args.self.now.arcs.items) ≡ false = grind (arith, nat_tests) in
+    with_arc_is (sketch_of c.args.self.now) c.args.src c.args.dst c.args.low c.args.cap c.args.cost _ _ _ _ _ c.in-Some.src c.in-Some-place_of.dst (Some c.in-Some-bounds_fault.fault)
     (to_z-of_z w64 c.args.src c.ranges.src) (to_z-of_z w64 c.args.dst c.ranges.dst) (to_z-of_z w64 c.args.low c.ranges.low) (to_z-of_z w64 c.args.cap c.ranges.cap) (to_z-of_z w64 c.args.cost c.ranges.cost)
     room c.in-Some.ensures.value c.in-Some-place_of.ensures.value c.in-Some-bounds_fault.ensures.value
 
-pub with_flow_arc-requires-clause-arc : goal.with_flow_arc-requires-clause-arc
-with_flow_arc-requires-clause-arc c = record {
+pub push_arc-requires-clause-arc : goal.push_arc-requires-clause-arc
+push_arc-requires-clause-arc c = record {
   src = c.in-Some.ensures.within;
   dst = c.in-Some-place_of.ensures.within;
   low = c.in_default-bounds_fault.ensures.low refl;
@@ -25,9 +25,8 @@ with_flow_arc-requires-clause-arc c = record {
 
 pub returns : goal.returns
 returns c =
-    let room : nat_le c.args.self.arc_count (length c.args.self.arcs.items) ≡ false = grind (arith, nat_tests) in
-    subst (λ read. GivesDraft read c.with_flow_arc.result)
-    (sym (with_arc_is (sketch_of c.args.self) c.args.src c.args.dst c.args.low c.args.cap c.args.cost _ _ _ _ _ c.in-Some.src c.in-Some-place_of.dst None
+    let room : nat_le c.args.self.now.arc_count (length c.args.self.now.arcs.items) ≡ false = grind (arith, nat_tests) in
+    with_arc_is (sketch_of c.args.self.now) c.args.src c.args.dst c.args.low c.args.cap c.args.cost _ _ _ _ _ c.in-Some.src c.in-Some-place_of.dst None
     (to_z-of_z w64 c.args.src c.ranges.src) (to_z-of_z w64 c.args.dst c.ranges.dst) (to_z-of_z w64 c.args.low c.ranges.low) (to_z-of_z w64 c.args.cap c.ranges.cap) (to_z-of_z w64 c.args.cost c.ranges.cost)
-    room c.in-Some.ensures.value c.in-Some-place_of.ensures.value c.in_default-bounds_fault.ensures.value))
-    c.with_flow_arc.ensures
+    room c.in-Some.ensures.value c.in-Some-place_of.ensures.value c.in_default-bounds_fault.ensures.value
+    ∙ ap Ok (sym c.push_arc.ensures)
