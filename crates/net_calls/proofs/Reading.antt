@@ -5,7 +5,7 @@ use Rattle.net_normal.specs.declared.problem.FlowArc.{FlowArc}
 use Rattle.net_dimacs.specs.CertificateReading as certificates
 use Rattle.net_dimacs.specs.Certificates.{Account}
 use Rattle.net_dimacs.specs.Reading as problems
-use Rattle.net_dimacs.specs.Reading.{text_limit}
+use Rattle.net_dimacs.specs.Limits.{text_limit}
 use Rattle.net_ends.specs.Ends.{ReadsToLimit}
 use Rattle.net_calls.specs.Runs.{Course, ReadsWhole}
 

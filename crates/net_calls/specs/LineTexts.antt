@@ -9,7 +9,7 @@ use Rattle.net_dimacs.specs.Certificates.{account_of, IsCertificateText, IsOnlyC
 use Rattle.net_dimacs.specs.CertificateReading as certificates
 use Rattle.net_dimacs.specs.Problems.{IsProblemText, IsOnlyProblem, IsNoProblemText}
 use Rattle.net_dimacs.specs.Reading as problems
-use Rattle.net_dimacs.specs.Reading.{text_limit}
+use Rattle.net_dimacs.specs.Limits.{text_limit}
 
 -- the text is short enough, and is this problem and no other
 pub record IsProblemOf (text : List ℕ) (problem : Problem) : Type 0 where

@@ -3,7 +3,7 @@ use Rattle.std.specs.Prelude.{◌≡◌, ℕ, List, Option}
 use Rattle.std.specs.Io.KnownBytes.{Appends, Consumes, IsAtEnd}
 use Rattle.net_lex.specs.declared.language.Language.TheVariants as languages
 use Rattle.net_lex.specs.Limits.{text_limit}
-use Rattle.net_dimacs.specs.Reading as dimacs
+use Rattle.net_dimacs.specs.Limits as dimacs
 use Rattle.net_ends.specs.Ends.{ReadsToLimit, WritesFront}
 use Rattle.net_calls.specs.declared.compiled.Compiled.{Compiled}
 use Rattle.net_calls.specs.declared.fault.Fault.{Fault}

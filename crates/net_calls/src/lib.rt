@@ -26,7 +26,7 @@ pub use ending::Ending;
 pub use fault::{Fault, LineRefusal, Refusal, TextName};
 pub use fault_kinds::{FaultKind, GrammarFault, NetworkFault, TableFault};
 pub use laws::{accepted_or_refused, one_first_fault};
-pub use line_runs::{LINES_LIMIT, run_check, run_min};
+pub use line_runs::{run_check, run_min};
 pub use named::Names;
 pub use run::run_compile;
 pub use settling::solve_min;

@@ -11,12 +11,10 @@ use crate::fault::{Fault, TextName};
 use crate::run::read_text;
 use crate::settling::solve_min;
 use net_check::Verdict;
+use net_dimacs::TEXT_LIMIT;
 use net_ends::{Sink, Source, write_whole};
 use net_solve::Settled;
 use std::alloc::Global;
-
-/// The most bytes of a problem's or a certificate's text: 64 MiB.
-pub const LINES_LIMIT: usize = 64 * 1024 * 1024;
 
 fn ending_of(verdict: &Verdict) -> Ending
     ensures { result ≡ ending_of verdict.now }
@@ -69,8 +67,8 @@ pub fn run_check<P: Source, C: Source, W: Sink>(
     ensures ends { IfErr result (λ fault. IfUnread fault (λ text. (text ≡ TextName.Problem) ⊎ (text ≡ TextName.Certificate))) }
     ensures first { P.failed problem.new ≡ true → certificate.new ≡ certificate.old }
 {
-    let problem_text = read_text(alloc, problem, LINES_LIMIT, TextName::Problem)?;
-    let certificate_text = read_text(alloc, certificate, LINES_LIMIT, TextName::Certificate)?;
+    let problem_text = read_text(alloc, problem, TEXT_LIMIT, TextName::Problem)?;
+    let certificate_text = read_text(alloc, certificate, TEXT_LIMIT, TextName::Certificate)?;
     let verdict = check_bytes(alloc, &problem_text, &certificate_text)?;
     let ending = ending_of(&verdict);
     let line = verdict_line(alloc, verdict)?;
@@ -105,7 +103,7 @@ pub fn run_min<P: Source, W: Sink>(
     ensures ends { IfErr result (λ fault. IfUnread fault (λ text. text ≡ TextName.Problem)) }
     ensures output { IsErrOf result Fault.Unwritten ↔ (W.failed output.new ≡ true) }
 {
-    let problem_text = read_text(alloc, problem, LINES_LIMIT, TextName::Problem)?;
+    let problem_text = read_text(alloc, problem, TEXT_LIMIT, TextName::Problem)?;
     let (settled, text) = solve_min(alloc, &problem_text)?;
     let ending = settled_ending(&settled);
     match write_whole(output, &text) {

@@ -1,12 +1,15 @@
 //! Problem texts: what is read of them, and what is written again.
 
-use net_dimacs::{ProblemFault, read_problem, write_problem};
+ghost use Rattle.std.specs.Prelude.{◌<◌};
+
+use net_dimacs::{ProblemFault, Reading, read_problem, write_problem};
+use net_normal::Problem;
 use std::alloc::{AllocError, Global};
 use std::test::Fail;
 
-// The text that is written of the problem that a text is, or the line that its fault prints.
-fn answer(alloc: Global, text: &str) -> Result<String, AllocError> {
-    match read_problem(alloc, text.as_bytes()) {
+// The text that is written of a problem, or the line that its fault prints.
+fn told(alloc: Global, read: Result<Problem, ProblemFault>) -> Result<String, AllocError> {
+    match read {
         Ok(problem) => {
             let written = write_problem(alloc, &problem)?;
             String::from_utf8_lossy(alloc, &written)
@@ -14,6 +17,22 @@ fn answer(alloc: Global, text: &str) -> Result<String, AllocError> {
         Err(ProblemFault::Refused(refusal)) => format!(in alloc; "{refusal}"),
         Err(ProblemFault::OutOfMemory) => Err(AllocError),
     }
+}
+
+// What is read of a text.
+fn answer(alloc: Global, text: &str) -> Result<String, AllocError> {
+    told(alloc, read_problem(alloc, text.as_bytes()))
+}
+
+// The same of its pieces of this size.
+fn answer_in_pieces(alloc: Global, text: &str, size: usize) -> Result<String, AllocError>
+    requires { 0 < size }
+{
+    let mut reading = Reading::new(alloc);
+    for piece in text.as_bytes().chunks(size) {
+        reading = reading.feed(piece)?;
+    }
+    told(alloc, reading.finish())
 }
 
 // Texts as they are written.
@@ -145,6 +164,21 @@ fn foreign_texts_are_judged(rt: HostRuntime) -> Result<(), Fail> {
     for (text, want) in WRONG {
         let answered = answer(rt.alloc(), text)?;
         assert_eq!(rt; answered.as_str(), want);
+    }
+    Ok(())
+}
+
+#[test]
+fn texts_may_be_cut_anywhere(rt: HostRuntime) -> Result<(), Fail> {
+    for size in [1, 2, 7] {
+        for (text, want) in FOREIGN {
+            let answered = answer_in_pieces(rt.alloc(), text, size)?;
+            assert_eq!(rt; answered.as_str(), want);
+        }
+        for (text, want) in WRONG {
+            let answered = answer_in_pieces(rt.alloc(), text, size)?;
+            assert_eq!(rt; answered.as_str(), want);
+        }
     }
     Ok(())
 }
