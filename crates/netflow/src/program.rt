@@ -1,60 +1,13 @@
 //! The program: words in, a status out.
 
-use crate::words::{Action, Words, WordsFault, words_of};
+use crate::call::{Call, call_of};
+use crate::status::Status;
+use crate::words::{WordsFault, words_of};
 use net_calls::{Ending, Fault, TextName, run_check, run_compile, run_min};
 use net_ends::{OfRead, OfWrite};
 use std::process::ExitCode;
 use std::rt::Runtime;
 use std::{env, fs, io};
-
-/// How the program ends.
-#[derive(Clone, Copy, Debug, PartialEq, Eq)]
-enum Status {
-    Done,
-    /// No feasible flow, or a certificate that does not hold.
-    Refuted,
-    /// A text was refused.
-    Refused,
-    /// A file could not be read, or the output not written.
-    EndFailed,
-    OutOfMemory,
-    /// A problem was not settled.
-    Unsettled,
-    /// The command line was refused.
-    Usage,
-}
-
-impl Status {
-    fn code(self) -> u8 {
-        match self {
-            Status::Done => 0,
-            Status::Refuted => 2,
-            Status::Refused => 3,
-            Status::EndFailed => 4,
-            Status::OutOfMemory => 5,
-            Status::Unsettled => 6,
-            Status::Usage => 64,
-        }
-    }
-}
-
-fn status_of(fault: &Fault) -> Status {
-    match fault {
-        Fault::OutOfMemory => Status::OutOfMemory,
-        Fault::Refused(_) => Status::Refused,
-        Fault::RefusedLine(_) => Status::Refused,
-        Fault::Unread(_) => Status::EndFailed,
-        Fault::Unwritten => Status::EndFailed,
-    }
-}
-
-fn ended(ending: Ending) -> Status {
-    match ending {
-        Ending::Done => Status::Done,
-        Ending::Refuted => Status::Refuted,
-        Ending::Open => Status::Unsettled,
-    }
-}
 
 fn compile_files<R: Runtime + AllocGlobal>(
     rt: &R,
@@ -100,14 +53,12 @@ fn check_files<R: Runtime + AllocGlobal>(
     run_check(rt.alloc(), &mut problem, &mut certificate, &mut output)
 }
 
-/// Runs the call of the words' name; a path that is missing is the empty one.
-fn run_words<R: Runtime + AllocGlobal>(rt: &R, words: &Words) -> Result<Ending, Fault> {
-    let first = words.paths.first().map_or("", |path| path.as_str());
-    let second = words.paths.get(1).map_or("", |path| path.as_str());
-    match words.command {
-        Action::Compile => compile_files(rt, first, second),
-        Action::Min => min_file(rt, first),
-        Action::Check => check_files(rt, first, second),
+/// Runs a call on its files.
+fn run_call<R: Runtime + AllocGlobal>(rt: &R, call: Call<'_>) -> Result<Ending, Fault> {
+    match call {
+        Call::Compile(model, data) => compile_files(rt, model, data),
+        Call::Min(problem) => min_file(rt, problem),
+        Call::Check(problem, certificate) => check_files(rt, problem, certificate),
     }
 }
 
@@ -116,6 +67,10 @@ fn run_program<R: Runtime + AllocGlobal>(rt: &R, words: &[String]) -> Status {
     let words = match words_of(rt.alloc(), words) {
         Ok(words) => words,
         Err(WordsFault::OutOfMemory) => return tell(rt, &Fault::OutOfMemory),
+        Err(WordsFault::NoCommand) => {
+            let _ = eprintln!(rt; "netflow: no such command");
+            return Status::Usage;
+        }
         Err(WordsFault::Usage(error)) => {
             let shown = error.print(rt).is_ok();
             return if error.use_stderr() {
@@ -127,8 +82,8 @@ fn run_program<R: Runtime + AllocGlobal>(rt: &R, words: &[String]) -> Status {
             };
         }
     };
-    match run_words(rt, &words) {
-        Ok(ending) => ended(ending),
+    match run_call(rt, call_of(&words)) {
+        Ok(ending) => Status::of_ending(ending),
         Err(fault) => tell(rt, &fault),
     }
 }
@@ -137,15 +92,32 @@ fn run_program<R: Runtime + AllocGlobal>(rt: &R, words: &[String]) -> Status {
 fn tell<R: Eprint>(rt: &R, fault: &Fault) -> Status {
     // Where standard error is closed, the status alone tells.
     let _ = eprintln!(rt; "{fault}");
-    status_of(fault)
+    Status::of_fault(fault)
+}
+
+/// The words that the program was called with, or how it ends without them.
+fn called_words<R: Runtime + AllocGlobal>(rt: &R) -> Result<Vec<String>, Status> {
+    let args = match env::args(rt) {
+        Ok(args) => args,
+        Err(error) if error.kind() == io::ErrorKind::OutOfMemory => {
+            return Err(tell(rt, &Fault::OutOfMemory));
+        }
+        Err(_) => {
+            let _ = eprintln!(rt; "netflow: a word of the command line is not UTF-8");
+            return Err(Status::Usage);
+        }
+    };
+    match args.collect::<Vec<String>>(rt.alloc()) {
+        Ok(words) => Ok(words),
+        Err(_) => Err(tell(rt, &Fault::OutOfMemory)),
+    }
 }
 
 /// Runs the program on the words that it was called with.
-pub fn run_called<R: Runtime + AllocGlobal>(rt: &R) -> io::Result<ExitCode> {
-    let args = env::args(rt)?;
-    let status = match args.collect::<Vec<String>>(rt.alloc()) {
+pub fn run_called<R: Runtime + AllocGlobal>(rt: &R) -> ExitCode {
+    let status = match called_words(rt) {
         Ok(words) => run_program(rt, &words),
-        Err(_) => tell(rt, &Fault::OutOfMemory),
+        Err(status) => status,
     };
-    Ok(ExitCode::from(status.code()))
+    ExitCode::from(status.code())
 }

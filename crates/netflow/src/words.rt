@@ -1,11 +1,17 @@
 //! The command line. This file alone knows clap.
 
+ghost use Rattle.std.specs.Prelude.{◌≡◌, false, [], ◌∷◌, map, string_bytes, codes, IfOk, IfSome};
+ghost use Rattle.clap.specs.Words.{rule_of};
+ghost use Rattle.clap.specs.Matches.{found_of};
+ghost use Rattle.clap.specs.Walk.{rows_of};
+ghost use Rattle.netflow.specs.CommandLine.{path_rule, compile_app, min_app, check_app, netflow_app, action_word, path_names, given, IsApp, IsAskedBy};
+
 use clap::error::ErrorKind;
 use clap::{Arg, ArgAction, ArgMatches, Command, Error};
 use std::alloc::{AllocError, Global};
 
 /// What the program is to do.
-#[derive(Clone, Copy, Debug, PartialEq, Eq)]
+#[derive(Clone, Copy)]
 pub enum Action {
     /// `netflow compile MODEL DATA`
     Compile,
@@ -29,6 +35,8 @@ pub enum WordsFault {
     OutOfMemory,
     /// Wrong words, or help that was asked for.
     Usage(Error),
+    /// No subcommand that this program has.
+    NoCommand,
 }
 
 impl From<AllocError> for WordsFault {
@@ -78,14 +86,19 @@ const CHECK_HELP: &str = "Prints yes, or no with the first condition that fails 
 Example:
   netflow check transport.min transport.sol";
 
-fn path<'a>(alloc: Global, name: &'a str, help: &'a str) -> Arg<'a> {
+fn path<'a>(alloc: Global, name: &'a str, help: &'a str) -> Arg<'a>
+    ensures rule { rule_of result ≡ path_rule name.entry.now }
+    ensures local { result.global ≡ false }
+{
     Arg::new(alloc, name)
         .required(true)
         .action(ArgAction::Set)
         .help(help)
 }
 
-fn compile_command<'a>(alloc: Global) -> Result<Command<'a>, AllocError> {
+fn compile_command<'a>(alloc: Global) -> Result<Command<'a>, AllocError>
+    ensures { IfOk result (IsApp compile_app) }
+{
     Command::new(alloc, "compile")
         .about(COMPILE_ABOUT)
         .after_help(COMPILE_HELP)
@@ -97,7 +110,9 @@ fn compile_command<'a>(alloc: Global) -> Result<Command<'a>, AllocError> {
         ))
 }
 
-fn min_command<'a>(alloc: Global) -> Result<Command<'a>, AllocError> {
+fn min_command<'a>(alloc: Global) -> Result<Command<'a>, AllocError>
+    ensures { IfOk result (IsApp min_app) }
+{
     Command::new(alloc, "min")
         .about(MIN_ABOUT)
         .after_help(MIN_HELP)
@@ -108,7 +123,9 @@ fn min_command<'a>(alloc: Global) -> Result<Command<'a>, AllocError> {
         ))
 }
 
-fn check_command<'a>(alloc: Global) -> Result<Command<'a>, AllocError> {
+fn check_command<'a>(alloc: Global) -> Result<Command<'a>, AllocError>
+    ensures { IfOk result (IsApp check_app) }
+{
     Command::new(alloc, "check")
         .about(CHECK_ABOUT)
         .after_help(CHECK_HELP)
@@ -120,7 +137,9 @@ fn check_command<'a>(alloc: Global) -> Result<Command<'a>, AllocError> {
         .arg(path(alloc, "CERTIFICATE", "What is said to settle it"))
 }
 
-fn command<'a>(alloc: Global) -> Result<Command<'a>, AllocError> {
+fn command<'a>(alloc: Global) -> Result<Command<'a>, AllocError>
+    ensures { IfOk result (IsApp netflow_app) }
+{
     Command::new(alloc, "netflow")
         .about(ABOUT)
         .after_help(STATUSES)
@@ -131,39 +150,69 @@ fn command<'a>(alloc: Global) -> Result<Command<'a>, AllocError> {
         .subcommand(check_command(alloc)?)
 }
 
-fn action_of(name: &str) -> Action {
+fn action_of(name: &str) -> Option<Action>
+    ensures { IfSome result (λ action. action_word action ≡ name.now) }
+{
     match name {
-        "min" => Action::Min,
-        "check" => Action::Check,
-        _ => Action::Compile,
+        "compile" => Some(Action::Compile),
+        "min" => Some(Action::Min),
+        "check" => Some(Action::Check),
+        _ => None,
     }
 }
 
-fn path_names(action: Action) -> &'static [&'static str] {
-    match action {
-        Action::Compile => &["MODEL", "DATA"],
-        Action::Min => &["PROBLEM"],
-        Action::Check => &["PROBLEM", "CERTIFICATE"],
-    }
+/// The value of a path.
+#[tactic(auto, using(crate::proofs::Rows::first_given))]
+fn path_of(alloc: Global, matches: &ArgMatches<'_>, name: &str) -> Result<String, AllocError>
+    ensures { IfOk result (λ path. string_bytes path ≡ given (rows_of (found_of matches.now)) name.now) }
+{
+    String::from_str(alloc, matches.get_str(name).unwrap_or(""))
 }
 
+fn one_path(alloc: Global, matches: &ArgMatches<'_>, name: &str) -> Result<Vec<String>, AllocError>
+    ensures { IfOk result (λ paths. map string_bytes paths.items ≡ given (rows_of (found_of matches.now)) name.now ∷ []) }
+{
+    let mut paths = Vec::new(alloc);
+    paths.push(path_of(alloc, matches, name)?)?;
+    Ok(paths)
+}
+
+fn two_paths(
+    alloc: Global,
+    matches: &ArgMatches<'_>,
+    first: &str,
+    second: &str,
+) -> Result<Vec<String>, AllocError>
+    ensures { IfOk result (λ paths. map string_bytes paths.items
+        ≡ given (rows_of (found_of matches.now)) first.now ∷ given (rows_of (found_of matches.now)) second.now ∷ []) }
+{
+    let mut paths = Vec::new(alloc);
+    paths.push(path_of(alloc, matches, first)?)?;
+    paths.push(path_of(alloc, matches, second)?)?;
+    Ok(paths)
+}
+
+/// The values of the paths of an action, in order.
 fn paths_of(
     alloc: Global,
     action: Action,
     matches: &ArgMatches<'_>,
-) -> Result<Vec<String>, WordsFault> {
-    let mut paths = Vec::new(alloc);
-    for name in path_names(action) {
-        let path = String::from_str(alloc, matches.get_str(name).unwrap_or(""))?;
-        if paths.push(path).is_err() {
-            return Err(WordsFault::OutOfMemory);
-        }
+) -> Result<Vec<String>, AllocError>
+    ensures { IfOk result (λ paths.
+        map string_bytes paths.items ≡ map (given (rows_of (found_of matches.now))) (path_names action)) }
+{
+    match action {
+        Action::Compile => two_paths(alloc, matches, "MODEL", "DATA"),
+        Action::Min => one_path(alloc, matches, "PROBLEM"),
+        Action::Check => two_paths(alloc, matches, "PROBLEM", "CERTIFICATE"),
     }
-    Ok(paths)
 }
 
-/// What these words ask for; the first is the program's name.
-pub fn words_of(alloc: Global, words: &[String]) -> Result<Words, WordsFault> {
+/// What these words ask for; the first is the program's name. `Usage` is what clap says of words that ask for nothing
+/// that is there, or for help; `NoCommand` is a subcommand of clap's own.
+pub fn words_of(alloc: Global, words: &[String]) -> Result<Words, WordsFault>
+    ensures value { IfOk result (IsAskedBy (map string_bytes words.now)) }
+{
     let command = command(alloc)?;
     let matches = match command.try_get_matches_from(words) {
         Ok(matches) => matches,
@@ -172,11 +221,12 @@ pub fn words_of(alloc: Global, words: &[String]) -> Result<Words, WordsFault> {
         }
         Err(error) => return Err(WordsFault::Usage(error)),
     };
-    // clap has refused words without a subcommand.
     let Some((name, found)) = matches.subcommand() else {
-        return Err(WordsFault::OutOfMemory);
+        return Err(WordsFault::NoCommand);
     };
-    let command = action_of(name);
+    let Some(command) = action_of(name) else {
+        return Err(WordsFault::NoCommand);
+    };
     let paths = paths_of(alloc, command, found)?;
     Ok(Words { command, paths })
 }
