@@ -1,0 +1,2 @@
+x under
+m 2

@@ -1,0 +1,12 @@
+# Completion of netflow's words for bash: source this file, or put it into bash-completion's folder.
+_netflow() {
+    local word=${COMP_WORDS[COMP_CWORD]}
+    if [ "$COMP_CWORD" -eq 1 ]; then
+        COMPREPLY=($(compgen -W "compile min check help --help" -- "$word"))
+    elif [ "${COMP_WORDS[1]}" = help ]; then
+        COMPREPLY=($(compgen -W "compile min check" -- "$word"))
+    else
+        COMPREPLY=($(compgen -W "--help" -- "$word") $(compgen -f -- "$word"))
+    fi
+}
+complete -o filenames -F _netflow netflow
