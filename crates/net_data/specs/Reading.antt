@@ -1,0 +1,339 @@
+-- The statements that tokens are read as, or the first fault.
+use Rattle.std.specs.Prelude.{◌≡◌, slice_get, ◌-◌, ℕ, suc, zero, ◌+◌, ◌%◌, ◌==◌, Bool, ◌||◌, List, [], ◌∷◌, length, take, drop, if◌then◌else◌, codes, Option, Some, None, Result, Ok, Err}
+use Rattle.std.specs.List.{prefix_len}
+use Rattle.std.specs.Borrow.{Bor}
+use Rattle.std.specs.Option.{option_map}
+use Rattle.net_lex.specs.declared.span.Span.{Span}
+use Rattle.net_lex.specs.declared.token.Token.{Token}
+use Rattle.net_data.specs.declared.fault.DataDefect.{DataDefect}
+use Rattle.net_data.specs.declared.fault.DataDefect.TheVariants.{Syntax, RowWidth, TableWidth}
+use Rattle.net_data.specs.declared.fault.DataFault.{DataFault}
+use Rattle.net_data.specs.declared.fault.DataFault.TheVariants.{OutOfMemory, At}
+use Rattle.net_data.specs.declared.stop.Stop.{Stop}
+use Rattle.net_data.specs.declared.statement.DefaultValue.{DefaultValue}
+use Rattle.net_data.specs.declared.statement.Given.{Given}
+use Rattle.net_data.specs.declared.statement.Transposed.{Transposed}
+use Rattle.net_data.specs.declared.statement.NamedSet.{NamedSet}
+use Rattle.net_data.specs.declared.statement.Statement.{Statement}
+use Rattle.net_data.specs.declared.statement.Statement.TheVariants as kinds
+use Rattle.net_data.specs.declared.tables.Lone.{Lone}
+use Rattle.net_data.specs.declared.tables.Tables.{Tables}
+use Rattle.net_data.specs.Tests.{is_name, is_member, is_cell, is_word, is_mark, is_comma}
+use Rattle.net_data.specs.Commas.{in_set, bare, uncommaed}
+use Rattle.net_data.specs.declared.spot.Spot.{Spot}
+use Rattle.net_data.specs.Spots.{outside, spot_after, rests}
+
+infixl 10 ◌>>=◌
+abbrev pub ◌>>=◌ : {A B : Type 0} → Result A Stop → (A → Result B Stop) → Result B Stop
+(Ok x) >>= f = f x
+(Err e) >>= f = Err e
+
+-- what is read at the front, and what follows it, or the first fault
+abbrev pub Read : Type 0 → Type 0
+Read A = Result (A × List Token) Stop
+
+abbrev pub stop : DataDefect → Option Span → Stop
+stop defect at = record { defect = defect; at = at }
+
+-- the next token that is no comma, and what follows it
+abbrev pub front : List Token → Option (Token × List Token)
+front [] = None
+front (token ∷ tokens) = if is_comma token then front tokens else Some (token, tokens)
+
+-- what a function returned, where what it returned stands before the tokens that follow
+abbrev pub Reads : {A : Type 0} → Read A → Result (A × Bor (List Token)) Stop → Type 0
+Reads read (Ok x) = read ≡ Ok (x.0, x.1.now)
+Reads read (Err e) = read ≡ Err e
+
+abbrev pub ReadsPair : {A B : Type 0} → Read (A × B) → Result (A × B × Bor (List Token)) Stop → Type 0
+ReadsPair read (Ok x) = read ≡ Ok ((x.0, x.1), x.2.now)
+ReadsPair read (Err e) = read ≡ Err e
+
+abbrev pub ReadsOption : {A : Type 0} → Result (Option (A × List Token)) Stop → Result (Option (A × Bor (List Token))) Stop → Type 0
+ReadsOption read (Ok None) = read ≡ Ok None
+ReadsOption read (Ok (Some x)) = read ≡ Ok (Some (x.0, x.1.now))
+ReadsOption read (Err e) = read ≡ Err e
+
+abbrev pub ReadsOn : {A : Type 0} → Result (Option (A × List Token)) Stop → List Token → Result (Option A) Stop → Type 0
+ReadsOn read rest (Ok None) = read ≡ Ok None
+ReadsOn read rest (Ok (Some x)) = read ≡ Ok (Some (x, rest))
+ReadsOn read rest (Err e) = read ≡ Err e
+
+-- the end of the last token
+abbrev pub end_at : Option Token → ℕ
+end_at None = 0
+end_at (Some token) = token.span.end
+
+abbrev pub end_of : List Token → ℕ
+end_of tokens = end_at (slice_get tokens (length tokens - 1))
+
+-- the fault that a stop is, in a text that ends there
+abbrev pub span_or_end : ℕ → Option Span → Span
+span_or_end end None = record { start = end; end = end }
+span_or_end end (Some span) = span
+
+abbrev pub fault_of : ℕ → Stop → DataFault
+fault_of end stop = At stop.defect (span_or_end end stop.at)
+
+-- what a function returned is what is read, or the fault that stops it, unless memory ran out
+abbrev pub Fails : ℕ → {A : Type 0} → Result A Stop → DataFault → Type 0
+Fails end read OutOfMemory = Unit {0}
+Fails end read (At defect span) = (e : Stop) × (read ≡ Err e) × (At defect span ≡ fault_of end e)
+
+abbrev pub Answers : ℕ → {A : Type 0} → Result A Stop → Result A DataFault → Type 0
+Answers end read (Ok x) = read ≡ Ok x
+Answers end read (Err fault) = Fails end read fault
+
+abbrev pub AnswersRest : ℕ → {A : Type 0} → Read A → Result (A × Bor (List Token)) DataFault → Type 0
+AnswersRest end read (Ok x) = read ≡ Ok (x.0, x.1.now)
+AnswersRest end read (Err fault) = Fails end read fault
+
+-- how many tokens are read
+abbrev pub CountsItems : List Token → Read (List Token) → Result ℕ Stop → Type 0
+CountsItems tokens read (Ok n) = read ≡ Ok (take n tokens, drop n tokens)
+CountsItems tokens read (Err e) = read ≡ Err e
+
+abbrev pub Finds : Option (Token × List Token) → Option (Bor Token × Bor (List Token)) → Type 0
+Finds next None = next ≡ None
+Finds next (Some x) = next ≡ Some (x.0.now, x.1.now)
+
+-- the next token, if it passes a test
+abbrev pub met_by : (Token → Bool) → Option (Token × List Token) → Option (Token × List Token)
+met_by test None = None
+met_by test (Some x) = if test x.0 then Some x else None
+
+unfoldable pub met : (Token → Bool) → List Token → Option (Token × List Token)
+met test tokens = met_by test (front tokens)
+
+abbrev pub span_of : Option Token → Option Span
+span_of None = None
+span_of (Some token) = Some token.span
+
+-- the stop at the next token, which is not allowed
+unfoldable pub refused : List Token → Stop
+refused tokens = stop Syntax (span_of (option_map (λ x. x.0) (front tokens)))
+
+-- the next token, which has to pass a test
+abbrev pub wanted_by : List Token → Option (Token × List Token) → Read Token
+wanted_by tokens None = Err (refused tokens)
+wanted_by tokens (Some x) = Ok x
+
+unfoldable pub wanted : (Token → Bool) → List Token → Read Token
+wanted test tokens = wanted_by tokens (met test tokens)
+
+-- the tokens at the front that pass a test, with commas among them
+abbrev pub run_len : (Token → Bool) → List Token → ℕ
+run_len test tokens = prefix_len (λ token. test token || is_comma token) tokens
+
+unfoldable pub run : (Token → Bool) → List Token → List Token × List Token
+run test tokens = (uncommaed (take (run_len test tokens) tokens), drop (run_len test tokens) tokens)
+
+-- the members and tuples at the front, from a spot on
+abbrev pub with_token : Token → Read (List Token) → Read (List Token)
+with_token token (Ok x) = Ok (token ∷ x.0, x.1)
+with_token token (Err e) = Err e
+
+abbrev pub items_behind : Token → List Token → Option Spot → Spot → Read (List Token) → Read (List Token)
+items_behind token tokens (Some next) spot more = with_token token more
+items_behind token tokens None spot more = if rests spot then Ok ([], token ∷ tokens) else Err (stop Syntax (Some token.span))
+
+abbrev pub spot_or : Spot → Option Spot → Spot
+spot_or spot (Some next) = next
+spot_or spot None = spot
+
+unfoldable pub items_from : Spot → List Token → Read (List Token)
+items_from spot [] = if rests spot then Ok ([], []) else Err (stop Syntax None)
+items_from spot (token ∷ tokens) = items_behind token tokens (spot_after spot token) spot (items_from (spot_or spot (spot_after spot token)) tokens)
+
+abbrev pub items_of : List Token × List Token → List Token × List Token
+items_of x = (bare in_set x.0, x.1)
+
+unfoldable pub items : List Token → Read (List Token)
+items tokens = do
+  x ← items_from outside tokens
+  Ok (items_of x)
+
+abbrev pub semicolon : Token → Bool
+semicolon = is_mark (codes ";")
+
+abbrev pub colon : Token → Bool
+colon = is_mark (codes ":")
+
+abbrev pub assign : Token → Bool
+assign = is_mark (codes ":=")
+
+-- what follows the word `set`
+unfoldable pub set : Token → List Token → Read Statement
+set keyword tokens = do
+  name ← wanted is_name tokens
+  assign ← wanted assign name.1
+  items ← items assign.1
+  end ← wanted semicolon items.1
+  Ok (kinds.Set (record { keyword = keyword; name = name.0; assign = assign.0; items = items.0; end = end.0 }), end.1)
+
+-- a heading up to its `:=`, with one column at least
+abbrev pub headed : List Token → Token → List Token → Read (List Token × Token)
+headed [] assign tokens = Err (stop TableWidth (Some assign.span))
+headed (column ∷ columns) assign tokens = Ok ((column ∷ columns, assign), tokens)
+
+unfoldable pub heading : (Token → Bool) → List Token → Read (List Token × Token)
+heading test tokens = do
+  assign ← wanted assign (run test tokens).1
+  headed (run test tokens).0 assign.0 assign.1
+
+-- cells up to the semicolon
+unfoldable pub cells : List Token → Read (List Token × Token)
+cells tokens = do
+  end ← wanted semicolon (run is_cell tokens).1
+  Ok (((run is_cell tokens).0, end.0), end.1)
+
+-- the cells are rows of a member and a value for each column
+abbrev pub fills : List Token → List Token → Bool
+fills columns cells = length cells % (length columns + 1) == 0
+
+-- where the last token stands
+abbrev pub last_span_or : Option Span → List Token → Option Span
+last_span_or found [] = found
+last_span_or found (token ∷ tokens) = last_span_or (Some token.span) tokens
+
+abbrev pub last_span : List Token → Option Span
+last_span tokens = last_span_or None tokens
+
+unfoldable pub filled : List Token → List Token → Result (Unit {0}) Stop
+filled columns cells = if fills columns cells then Ok tt else Err (stop RowWidth (last_span cells))
+
+-- what follows the colon of a table
+unfoldable pub table : Token → Token → Option DefaultValue → Option Transposed → Token → List Token → Read Statement
+table keyword name default transposed colon tokens = do
+  head ← heading is_member tokens
+  cells ← cells head.1
+  full ← filled head.0.0 cells.0.0
+  Ok (kinds.Table (record { keyword = keyword; name = name; default = default; transposed = transposed; colon = colon; columns = head.0.0; assign = head.0.1; cells = cells.0.0; end = cells.0.1 }), cells.1)
+
+-- what follows the `(` of `(tr)`
+unfoldable pub turned : Token → Token → Option DefaultValue → Token → List Token → Read Statement
+turned keyword name default opening tokens = do
+  word ← wanted (is_word (codes "tr")) tokens
+  closing ← wanted (is_mark (codes ")")) word.1
+  colon ← wanted colon closing.1
+  table keyword name default (Some (record { opening = opening; word = word.0; closing = closing.0 })) colon.0 colon.1
+
+abbrev pub given_by : List Token → Option (Token × List Token) → Option Given × List Token
+given_by tokens None = (None, tokens)
+given_by tokens (Some assign) = (Some (record { assign = assign.0; cells = (run is_cell assign.1).0 }), (run is_cell assign.1).1)
+
+unfoldable pub given : List Token → Option Given × List Token
+given tokens = given_by tokens (met assign tokens)
+
+-- a list of cells, if there is one
+unfoldable pub list : Token → Token → Option DefaultValue → List Token → Read Statement
+list keyword name default tokens = do
+  end ← wanted semicolon (given tokens).1
+  Ok (kinds.List (record { keyword = keyword; name = name; default = default; given = (given tokens).0; end = end.0 }), end.1)
+
+abbrev pub body_by : Token → Token → Option DefaultValue → List Token → Option (Token × List Token) → Option (Token × List Token) → Read Statement
+body_by keyword name default tokens (Some opening) colon = turned keyword name default opening.0 opening.1
+body_by keyword name default tokens None (Some colon) = table keyword name default None colon.0 colon.1
+body_by keyword name default tokens None None = list keyword name default tokens
+
+-- what follows the name and the default of a parameter
+unfoldable pub body : Token → Token → Option DefaultValue → List Token → Read Statement
+body keyword name default tokens = body_by keyword name default tokens (met (is_mark (codes "(")) tokens) (met colon tokens)
+
+abbrev pub default_by : List Token → Option (Token × List Token) → Read (Option DefaultValue)
+default_by tokens None = Ok (None, tokens)
+default_by tokens (Some word) = do
+  value ← wanted is_member word.1
+  Ok (Some (record { keyword = word.0; value = value.0 }), value.1)
+
+unfoldable pub default : List Token → Read (Option DefaultValue)
+default tokens = default_by tokens (met (is_word (codes "default")) tokens)
+
+-- what follows the word `param` where no colon does
+unfoldable pub named : Token → List Token → Read Statement
+named keyword tokens = do
+  name ← wanted is_name tokens
+  default ← default name.1
+  body keyword name.0 default.0 default.1
+
+abbrev pub named_set_by : List Token → Option (Token × List Token) → Option (Token × List Token) → Option NamedSet × List Token
+named_set_by tokens (Some name) (Some colon) = (Some (record { name = name.0; colon = colon.0 }), colon.1)
+named_set_by tokens (Some name) None = (None, tokens)
+named_set_by tokens None next = (None, tokens)
+
+abbrev pub met_behind : (Token → Bool) → Option (Token × List Token) → Option (Token × List Token)
+met_behind test None = None
+met_behind test (Some x) = met test x.1
+
+-- a name and a colon, if they come next
+unfoldable pub named_set : List Token → Option NamedSet × List Token
+named_set tokens = named_set_by tokens (met is_name tokens) (met_behind colon (met is_name tokens))
+
+-- what follows the word `param` and a colon
+unfoldable pub columns : Token → Token → List Token → Read Statement
+columns keyword colon tokens = do
+  head ← heading is_name (named_set tokens).1
+  cells ← cells head.1
+  Ok (kinds.Columns (record { keyword = keyword; colon = colon; set = (named_set tokens).0; names = head.0.0; assign = head.0.1; cells = cells.0.0; end = cells.0.1 }), cells.1)
+
+abbrev pub param_by : Token → List Token → Option (Token × List Token) → Read Statement
+param_by keyword tokens (Some colon) = columns keyword colon.0 colon.1
+param_by keyword tokens None = named keyword tokens
+
+-- what follows the word `param`
+unfoldable pub param : Token → List Token → Read Statement
+param keyword tokens = param_by keyword tokens (met colon tokens)
+
+abbrev pub found : Read Statement → Result (Option (Statement × List Token)) Stop
+found (Ok x) = Ok (Some x)
+found (Err e) = Err e
+
+abbrev pub statement_by : Option (Token × List Token) → Option (Token × List Token) → Result (Option (Statement × List Token)) Stop
+statement_by (Some keyword) param_word = found (set keyword.0 keyword.1)
+statement_by None (Some keyword) = found (param keyword.0 keyword.1)
+statement_by None None = Ok None
+
+-- the statement that comes next, if one does
+unfoldable pub statement : List Token → Result (Option (Statement × List Token)) Stop
+statement tokens = statement_by (met (is_word (codes "set")) tokens) (met (is_word (codes "param")) tokens)
+
+abbrev pub with_statement : Statement → Read (List Statement) → Read (List Statement)
+with_statement x (Ok y) = Ok (x ∷ y.0, y.1)
+with_statement x (Err e) = Err e
+
+abbrev pub statements_by : (List Token → Read (List Statement)) → List Token → Result (Option (Statement × List Token)) Stop → Read (List Statement)
+statements_by more tokens (Ok (Some x)) = with_statement x.0 (more x.1)
+statements_by more tokens (Ok None) = Ok ([], tokens)
+statements_by more tokens (Err e) = Err e
+
+-- the statements that come next, of which there are no more than so many
+unfoldable pub statements : ℕ → List Token → Read (List Statement)
+statements zero tokens = Ok ([], tokens)
+statements (suc turns) tokens = statements_by (statements turns) tokens (statement tokens)
+
+abbrev pub lone_by : List Token → Option (Token × List Token) → Read (Option Lone)
+lone_by tokens None = Ok (None, tokens)
+lone_by tokens (Some word) = do
+  end ← wanted semicolon word.1
+  Ok (Some (record { word = word.0; end = end.0 }), end.1)
+
+-- a word with its semicolon, if it comes next
+unfoldable pub lone : List ℕ → List Token → Read (Option Lone)
+lone word tokens = lone_by tokens (met (is_word word) tokens)
+
+abbrev pub finished_by : Option (Token × List Token) → Result (Unit {0}) Stop
+finished_by None = Ok tt
+finished_by (Some x) = Err (stop Syntax (Some x.0.span))
+
+-- nothing but commas follows
+unfoldable pub finished : List Token → Result (Unit {0}) Stop
+finished tokens = finished_by (front tokens)
+
+-- the statements of a data text
+unfoldable pub tables : List Token → Result Tables Stop
+tables tokens = do
+  opening ← lone (codes "data") tokens
+  statements ← statements (suc (length opening.1)) opening.1
+  ending ← lone (codes "end") statements.1
+  over ← finished ending.1
+  Ok (record { opening = opening.0; statements = statements.0; ending = ending.0 })

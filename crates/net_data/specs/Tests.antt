@@ -1,0 +1,49 @@
+-- What a token is for the grammar of data statements (AMPL book, chapter 9, whose words these are; the profile's forms are its own).
+use Rattle.std.specs.Prelude.{ℕ, Bool, true, false, ◌&&◌, List, codes}
+use Rattle.std.specs.Str.{bytes_eq}
+use Rattle.net_lex.specs.declared.token.Kind.{Kind}
+use Rattle.net_lex.specs.declared.token.Kind.TheVariants.{Name, Num, Str, Mark, Dot}
+use Rattle.net_lex.specs.declared.token.Token.{Token}
+
+abbrev pub names : Kind → Bool
+names Name = true
+names _ = false
+
+-- a name, a number or a string
+abbrev pub stands_for_member : Kind → Bool
+stands_for_member Name = true
+stands_for_member Num = true
+stands_for_member Str = true
+stands_for_member _ = false
+
+-- a member, or the point, which gives no value
+abbrev pub fills_cell : Kind → Bool
+fills_cell Name = true
+fills_cell Num = true
+fills_cell Str = true
+fills_cell Dot = true
+fills_cell _ = false
+
+abbrev pub marks : Kind → Bool
+marks Mark = true
+marks _ = false
+
+abbrev pub is_name : Token → Bool
+is_name token = names token.kind
+
+abbrev pub is_member : Token → Bool
+is_member token = stands_for_member token.kind
+
+abbrev pub is_cell : Token → Bool
+is_cell token = fills_cell token.kind
+
+-- the name that is spelled so
+abbrev pub is_word : List ℕ → Token → Bool
+is_word text token = names token.kind && bytes_eq text token.text
+
+-- the mark that is spelled so
+abbrev pub is_mark : List ℕ → Token → Bool
+is_mark text token = marks token.kind && bytes_eq text token.text
+
+abbrev pub is_comma : Token → Bool
+is_comma = is_mark (codes ",")

@@ -1,0 +1,182 @@
+//! The next token, with commas skipped.
+ghost use Rattle.std.specs.Prelude.{◌≡◌, ◌<◌, ◌≤◌, length, MatchOption, IfSome, IfOk};
+ghost use Rattle.std.specs.List.{prefix_len};
+ghost use Rattle.net_data.specs.Tests.{is_comma, is_name, is_member, is_word, is_mark};
+ghost use Rattle.net_data.specs.Reading.{front, met, wanted, refused, Reads, Finds};
+
+use crate::fault::DataDefect;
+use crate::stop::Stop;
+use crate::test::{is_comma, is_mark, is_member, is_name, is_word};
+use crate::word::Word;
+use net_lex::Token;
+
+/// A token, and what follows it.
+pub(crate) type Next<'t, 's> = (&'t Token<'s>, &'t [Token<'s>]);
+
+/// A token that is kept, and what follows it.
+pub(crate) type Kept<'t, 's> = (Word<'t, 's>, &'t [Token<'s>]);
+
+/// The next token that is no comma, and what follows it.
+
+pub(crate) fn front<'t, 's>(tokens: &'t [Token<'s>]) -> Option<Next<'t, 's>>
+    ensures value { MatchOption result (front tokens.entry.now ≡ None) (λ x. front tokens.entry.now ≡ Some (x.0.now, x.1.now)) }
+    ensures shorter { IfSome result (λ x. length x.1.now < length tokens.entry.now) }
+{
+    let (_, rest) = tokens.split_at(commas_len(tokens));
+    rest.split_first()
+}
+
+fn commas_len(tokens: &[Token<'_>]) -> usize
+    ensures value { result ≡ prefix_len is_comma tokens.now }
+    ensures within { result ≤ length tokens.now }
+{
+    tokens.iter().take_while(|token| is_comma(token)).count()
+}
+
+/// The next token, if it is this mark.
+#[tactic(auto, unfolding(crate::specs::Reading::met))]
+pub(crate) fn mark_met<'t, 's>(text: &[u8], tokens: &'t [Token<'s>]) -> Option<Next<'t, 's>>
+    ensures value { Finds (met (is_mark text.now) tokens.entry.now) result }
+    ensures shorter { IfSome result (λ x. length x.1.now < length tokens.entry.now) }
+{
+    match front(tokens) {
+        None => None,
+        Some((token, after)) => {
+            if is_mark(text, token) {
+                Some((token, after))
+            } else {
+                None
+            }
+        }
+    }
+}
+
+/// The next token, if it is this word.
+#[tactic(auto, unfolding(crate::specs::Reading::met))]
+pub(crate) fn word_met<'t, 's>(text: &[u8], tokens: &'t [Token<'s>]) -> Option<Next<'t, 's>>
+    ensures value { Finds (met (is_word text.now) tokens.entry.now) result }
+    ensures shorter { IfSome result (λ x. length x.1.now < length tokens.entry.now) }
+{
+    match front(tokens) {
+        None => None,
+        Some((token, after)) => {
+            if is_word(text, token) {
+                Some((token, after))
+            } else {
+                None
+            }
+        }
+    }
+}
+
+/// The next token, if it is a name.
+#[tactic(auto, unfolding(crate::specs::Reading::met))]
+pub(crate) fn name_met<'t, 's>(tokens: &'t [Token<'s>]) -> Option<Next<'t, 's>>
+    ensures value { Finds (met is_name tokens.entry.now) result }
+    ensures shorter { IfSome result (λ x. length x.1.now < length tokens.entry.now) }
+{
+    match front(tokens) {
+        None => None,
+        Some((token, after)) => {
+            if is_name(token) {
+                Some((token, after))
+            } else {
+                None
+            }
+        }
+    }
+}
+
+/// The next token, if it is a member.
+#[tactic(auto, unfolding(crate::specs::Reading::met))]
+pub(crate) fn member_met<'t, 's>(tokens: &'t [Token<'s>]) -> Option<Next<'t, 's>>
+    ensures value { Finds (met is_member tokens.entry.now) result }
+    ensures shorter { IfSome result (λ x. length x.1.now < length tokens.entry.now) }
+{
+    match front(tokens) {
+        None => None,
+        Some((token, after)) => {
+            if is_member(token) {
+                Some((token, after))
+            } else {
+                None
+            }
+        }
+    }
+}
+
+/// The stop at the next token, which is not allowed.
+#[tactic(auto, unfolding(crate::specs::Reading::refused))]
+pub(crate) fn refused(tokens: &[Token<'_>]) -> Stop
+    ensures { result ≡ refused tokens.now }
+{
+    let at = match front(tokens) {
+        None => None,
+        Some((token, _)) => Some(token.span),
+    };
+    Stop {
+        defect: DataDefect::Syntax,
+        at,
+    }
+}
+
+/// The next token, which has to be this mark.
+#[tactic(auto, unfolding(crate::specs::Reading::wanted))]
+pub(crate) fn mark_wanted<'t, 's>(
+    text: &[u8],
+    tokens: &'t [Token<'s>],
+) -> Result<Kept<'t, 's>, Stop>
+    ensures value { Reads (wanted (is_mark text.now) tokens.entry.now) result }
+    ensures shorter { IfOk result (λ x. length x.1.now < length tokens.entry.now) }
+{
+    match mark_met(text, tokens) {
+        Some((token, after)) => Ok((Word::new(token), after)),
+        None => Err(refused(tokens)),
+    }
+}
+
+/// The next token, which has to be this word.
+#[tactic(auto, unfolding(crate::specs::Reading::wanted))]
+pub(crate) fn word_wanted<'t, 's>(
+    text: &[u8],
+    tokens: &'t [Token<'s>],
+) -> Result<Kept<'t, 's>, Stop>
+    ensures value { Reads (wanted (is_word text.now) tokens.entry.now) result }
+    ensures shorter { IfOk result (λ x. length x.1.now < length tokens.entry.now) }
+{
+    match word_met(text, tokens) {
+        Some((token, after)) => Ok((Word::new(token), after)),
+        None => Err(refused(tokens)),
+    }
+}
+
+/// The next token, which has to be a name.
+#[tactic(auto, unfolding(crate::specs::Reading::wanted))]
+pub(crate) fn name_wanted<'t, 's>(tokens: &'t [Token<'s>]) -> Result<Kept<'t, 's>, Stop>
+    ensures value { Reads (wanted is_name tokens.entry.now) result }
+    ensures shorter { IfOk result (λ x. length x.1.now < length tokens.entry.now) }
+{
+    match name_met(tokens) {
+        Some((token, after)) => Ok((Word::new(token), after)),
+        None => Err(refused(tokens)),
+    }
+}
+
+/// The next token, which has to be a member.
+#[tactic(auto, unfolding(crate::specs::Reading::wanted))]
+pub(crate) fn member_wanted<'t, 's>(tokens: &'t [Token<'s>]) -> Result<Kept<'t, 's>, Stop>
+    ensures value { Reads (wanted is_member tokens.entry.now) result }
+    ensures shorter { IfOk result (λ x. length x.1.now < length tokens.entry.now) }
+{
+    match member_met(tokens) {
+        Some((token, after)) => Ok((Word::new(token), after)),
+        None => Err(refused(tokens)),
+    }
+}
+
+/// The same tokens, where a pattern's slice is to be kept at its own lifetime.
+pub(crate) fn same<'t, 's>(tokens: &'t [Token<'s>]) -> &'t [Token<'s>]
+    ensures { result.now ≡ tokens.entry.now }
+{
+    tokens
+}

@@ -1,0 +1,80 @@
+//! The heading and the cells of a table.
+ghost use Rattle.std.specs.Prelude.{◌≡◌, ◌<◌, ◌≤◌, ◌+◌, ◌^◌, length, IfOk, Result, Ok, Err};
+ghost use Rattle.net_data.specs.Tests.{is_name, is_member};
+ghost use Rattle.net_data.specs.Reading.{cells, heading, headed, filled, Reads, ReadsPair};
+
+use crate::cells::Cells;
+use crate::cursor::mark_wanted;
+use crate::fault::DataDefect;
+use crate::runs::{cells_at, members_at, names_at};
+use crate::stop::Stop;
+use crate::word::Word;
+use net_lex::Token;
+
+/// Cells and the mark behind them, and what follows.
+pub(crate) type Row<'t, 's> = (Cells<'t, 's>, Word<'t, 's>, &'t [Token<'s>]);
+
+/// A heading up to its `:=`, with one column at least.
+fn headed<'t, 's>(
+    columns: Cells<'t, 's>,
+    assign: Word<'t, 's>,
+    tokens: &'t [Token<'s>],
+) -> Result<Row<'t, 's>, Stop>
+    ensures value { ReadsPair (headed columns.entry assign.entry tokens.entry.now) result }
+    ensures same { IfOk result (λ x. x.2.now ≡ tokens.entry.now) }
+{
+    if columns.len() == 0 {
+        return Err(Stop {
+            defect: DataDefect::TableWidth,
+            at: Some(assign.token().span),
+        });
+    }
+    Ok((columns, assign, tokens))
+}
+
+/// A heading of members.
+#[tactic(auto, unfolding(crate::specs::Reading::heading))]
+pub(crate) fn member_heading<'t, 's>(tokens: &'t [Token<'s>]) -> Result<Row<'t, 's>, Stop>
+    ensures value { ReadsPair (heading is_member tokens.entry.now) result }
+    ensures shorter { IfOk result (λ x. length x.2.now < length tokens.entry.now) }
+{
+    let (columns, rest) = members_at(tokens);
+    let (assign, rest) = mark_wanted(b":=", rest)?;
+    headed(columns, assign, rest)
+}
+
+/// A heading of names.
+#[tactic(auto, unfolding(crate::specs::Reading::heading))]
+pub(crate) fn name_heading<'t, 's>(tokens: &'t [Token<'s>]) -> Result<Row<'t, 's>, Stop>
+    ensures value { ReadsPair (heading is_name tokens.entry.now) result }
+    ensures shorter { IfOk result (λ x. length x.2.now < length tokens.entry.now) }
+{
+    let (names, rest) = names_at(tokens);
+    let (assign, rest) = mark_wanted(b":=", rest)?;
+    headed(names, assign, rest)
+}
+
+/// Cells up to the semicolon.
+#[tactic(auto, unfolding(crate::specs::Reading::cells))]
+pub(crate) fn cells<'t, 's>(tokens: &'t [Token<'s>]) -> Result<Row<'t, 's>, Stop>
+    ensures value { ReadsPair (cells tokens.entry.now) result }
+    ensures shorter { IfOk result (λ x. length x.2.now < length tokens.entry.now) }
+{
+    let (cells, rest) = cells_at(tokens);
+    let (end, rest) = mark_wanted(b";", rest)?;
+    Ok((cells, end, rest))
+}
+
+/// Nothing, if the cells are rows of a member and a value for each column.
+#[tactic(auto, unfolding(crate::specs::Reading::filled))]
+pub(crate) fn filled(columns: &Cells<'_, '_>, cells: &Cells<'_, '_>) -> Result<(), Stop>
+    ensures { result ≡ filled columns.now cells.now }
+{
+    if cells.len() % (columns.len() + 1) == 0 {
+        return Ok(());
+    }
+    Err(Stop {
+        defect: DataDefect::RowWidth,
+        at: cells.last_span(),
+    })
+}

@@ -1,0 +1,29 @@
+//! Data statements: what the tables of a data text say.
+#![tactic(auto)]
+
+mod cells;
+mod cursor;
+mod fault;
+mod heading;
+mod members;
+mod param;
+mod parse;
+mod runs;
+mod set;
+mod spot;
+mod statement;
+mod stop;
+mod tables;
+mod test;
+mod word;
+
+pub use cells::Cells;
+pub use fault::{DataDefect, DataFault};
+pub use members::Members;
+pub use parse::parse_data;
+pub use statement::{
+    ColumnsStatement, DefaultValue, Given, ListStatement, NamedSet, SetStatement, Statement,
+    TableStatement, Transposed,
+};
+pub use tables::{Lone, Tables};
+pub use word::Word;

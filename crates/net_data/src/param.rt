@@ -1,0 +1,235 @@
+//! `param` statements: lists, tables and columns.
+ghost use Rattle.std.specs.Prelude.{◌≡◌, ◌<◌, ◌≤◌, length, IfOk, IfSome};
+ghost use Rattle.net_data.specs.Tests.{is_name, is_member};
+ghost use Rattle.net_data.specs.Reading.{table, turned, given, list, body, default, named, named_set, columns, param, Reads};
+
+use crate::cursor::{
+    mark_met, mark_wanted, member_wanted, name_met, name_wanted, word_met, word_wanted,
+};
+use crate::heading::{cells, filled, member_heading, name_heading};
+use crate::runs::cells_at;
+use crate::statement::{
+    ColumnsStatement, DefaultValue, Given, ListStatement, NamedSet, Statement, TableStatement,
+    Transposed,
+};
+use crate::stop::Stop;
+use crate::word::Word;
+use net_lex::Token;
+
+/// A statement, and what follows it.
+pub(crate) type Stated<'t, 's> = (Statement<'t, 's>, &'t [Token<'s>]);
+
+/// What stands before the cells of a parameter.
+#[derive(Drop)]
+struct Parameter<'t, 's> {
+    keyword: Word<'t, 's>,
+    name: Word<'t, 's>,
+    default: Option<DefaultValue<'t, 's>>,
+}
+
+/// What follows the colon of a table.
+#[tactic(auto, unfolding(crate::specs::Reading::table))]
+fn table<'t, 's>(
+    parameter: Parameter<'t, 's>,
+    transposed: Option<Transposed<'t, 's>>,
+    colon: Word<'t, 's>,
+    tokens: &'t [Token<'s>],
+) -> Result<Stated<'t, 's>, Stop>
+    ensures value { Reads (table parameter.entry.keyword parameter.entry.name parameter.entry.default transposed.entry colon.entry tokens.entry.now) result }
+    ensures shorter { IfOk result (λ x. length x.1.now < length tokens.entry.now) }
+{
+    let (columns, assign, rest) = member_heading(tokens)?;
+    let (cells, end, rest) = cells(rest)?;
+    filled(&columns, &cells)?;
+    let Parameter {
+        keyword,
+        name,
+        default,
+    } = parameter;
+    let statement = TableStatement {
+        keyword,
+        name,
+        default,
+        transposed,
+        colon,
+        columns,
+        assign,
+        cells,
+        end,
+    };
+    Ok((Statement::Table(statement), rest))
+}
+
+/// What follows the `(` of `(tr)`.
+#[tactic(auto, unfolding(crate::specs::Reading::turned))]
+fn turned<'t, 's>(
+    parameter: Parameter<'t, 's>,
+    opening: Word<'t, 's>,
+    tokens: &'t [Token<'s>],
+) -> Result<Stated<'t, 's>, Stop>
+    ensures value { Reads (turned parameter.entry.keyword parameter.entry.name parameter.entry.default opening.entry tokens.entry.now) result }
+    ensures shorter { IfOk result (λ x. length x.1.now < length tokens.entry.now) }
+{
+    let (word, rest) = word_wanted(b"tr", tokens)?;
+    let (closing, rest) = mark_wanted(b")", rest)?;
+    let (colon, rest) = mark_wanted(b":", rest)?;
+    let transposed = Transposed {
+        opening,
+        word,
+        closing,
+    };
+    table(parameter, Some(transposed), colon, rest)
+}
+
+/// The cells of a list, if there are any, and what follows them.
+#[tactic(auto, unfolding(crate::specs::Reading::given))]
+fn given<'t, 's>(tokens: &'t [Token<'s>]) -> (Option<Given<'t, 's>>, &'t [Token<'s>])
+    ensures value { (result.0, result.1.now) ≡ given tokens.entry.now }
+    ensures within { length result.1.now ≤ length tokens.entry.now }
+{
+    match mark_met(b":=", tokens) {
+        None => (None, tokens),
+        Some((assign, rest)) => {
+            let (cells, rest) = cells_at(rest);
+            let assign = Word::new(assign);
+            (Some(Given { assign, cells }), rest)
+        }
+    }
+}
+
+/// What follows the name and the default of a list.
+#[tactic(auto, unfolding(crate::specs::Reading::list))]
+fn list<'t, 's>(
+    parameter: Parameter<'t, 's>,
+    tokens: &'t [Token<'s>],
+) -> Result<Stated<'t, 's>, Stop>
+    ensures value { Reads (list parameter.entry.keyword parameter.entry.name parameter.entry.default tokens.entry.now) result }
+    ensures shorter { IfOk result (λ x. length x.1.now < length tokens.entry.now) }
+{
+    let (given, rest) = given(tokens);
+    let (end, rest) = mark_wanted(b";", rest)?;
+    let Parameter {
+        keyword,
+        name,
+        default,
+    } = parameter;
+    let statement = ListStatement {
+        keyword,
+        name,
+        default,
+        given,
+        end,
+    };
+    Ok((Statement::List(statement), rest))
+}
+
+/// What follows the name and the default of a parameter.
+#[tactic(auto, unfolding(crate::specs::Reading::body))]
+fn body<'t, 's>(
+    parameter: Parameter<'t, 's>,
+    tokens: &'t [Token<'s>],
+) -> Result<Stated<'t, 's>, Stop>
+    ensures value { Reads (body parameter.entry.keyword parameter.entry.name parameter.entry.default tokens.entry.now) result }
+    ensures shorter { IfOk result (λ x. length x.1.now < length tokens.entry.now) }
+{
+    if let Some((opening, rest)) = mark_met(b"(", tokens) {
+        return turned(parameter, Word::new(opening), rest);
+    }
+    match mark_met(b":", tokens) {
+        Some((colon, rest)) => table(parameter, None, Word::new(colon), rest),
+        None => list(parameter, tokens),
+    }
+}
+
+/// The default of a parameter, if there is one, and what follows it.
+#[tactic(auto, unfolding(crate::specs::Reading::default))]
+fn default<'t, 's>(
+    tokens: &'t [Token<'s>],
+) -> Result<(Option<DefaultValue<'t, 's>>, &'t [Token<'s>]), Stop>
+    ensures value { Reads (default tokens.entry.now) result }
+    ensures within { IfOk result (λ x. length x.1.now ≤ length tokens.entry.now) }
+{
+    match word_met(b"default", tokens) {
+        None => Ok((None, tokens)),
+        Some((keyword, rest)) => {
+            let (value, rest) = member_wanted(rest)?;
+            let keyword = Word::new(keyword);
+            Ok((Some(DefaultValue { keyword, value }), rest))
+        }
+    }
+}
+
+/// What follows the word `param` where no colon does.
+#[tactic(auto, unfolding(crate::specs::Reading::named))]
+fn named<'t, 's>(keyword: Word<'t, 's>, tokens: &'t [Token<'s>]) -> Result<Stated<'t, 's>, Stop>
+    ensures value { Reads (named keyword.entry tokens.entry.now) result }
+    ensures shorter { IfOk result (λ x. length x.1.now < length tokens.entry.now) }
+{
+    let (name, rest) = name_wanted(tokens)?;
+    let (default, rest) = default(rest)?;
+    let parameter = Parameter {
+        keyword,
+        name,
+        default,
+    };
+    body(parameter, rest)
+}
+
+/// The name of a set and a colon, if they come next, and what follows them.
+#[tactic(auto, unfolding(crate::specs::Reading::named_set))]
+fn named_set<'t, 's>(tokens: &'t [Token<'s>]) -> (Option<NamedSet<'t, 's>>, &'t [Token<'s>])
+    ensures value { (result.0, result.1.now) ≡ named_set tokens.entry.now }
+    ensures within { length result.1.now ≤ length tokens.entry.now }
+{
+    match name_met(tokens) {
+        None => (None, tokens),
+        Some((name, rest)) => match mark_met(b":", rest) {
+            None => (None, tokens),
+            Some((colon, rest)) => {
+                let name = Word::new(name);
+                let colon = Word::new(colon);
+                (Some(NamedSet { name, colon }), rest)
+            }
+        },
+    }
+}
+
+/// What follows the word `param` and a colon.
+#[tactic(auto, unfolding(crate::specs::Reading::columns))]
+fn columns<'t, 's>(
+    keyword: Word<'t, 's>,
+    colon: Word<'t, 's>,
+    tokens: &'t [Token<'s>],
+) -> Result<Stated<'t, 's>, Stop>
+    ensures value { Reads (columns keyword.entry colon.entry tokens.entry.now) result }
+    ensures shorter { IfOk result (λ x. length x.1.now < length tokens.entry.now) }
+{
+    let (set, rest) = named_set(tokens);
+    let (names, assign, rest) = name_heading(rest)?;
+    let (cells, end, rest) = cells(rest)?;
+    let statement = ColumnsStatement {
+        keyword,
+        colon,
+        set,
+        names,
+        assign,
+        cells,
+        end,
+    };
+    Ok((Statement::Columns(statement), rest))
+}
+
+/// What follows the word `param`.
+#[tactic(auto, unfolding(crate::specs::Reading::param))]
+pub(crate) fn param<'t, 's>(
+    keyword: Word<'t, 's>,
+    tokens: &'t [Token<'s>],
+) -> Result<Stated<'t, 's>, Stop>
+    ensures value { Reads (param keyword.entry tokens.entry.now) result }
+    ensures shorter { IfOk result (λ x. length x.1.now < length tokens.entry.now) }
+{
+    match mark_met(b":", tokens) {
+        Some((colon, rest)) => columns(keyword, Word::new(colon), rest),
+        None => named(keyword, tokens),
+    }
+}

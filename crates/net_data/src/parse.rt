@@ -1,0 +1,153 @@
+//! The statements of a data text.
+ghost use Rattle.std.specs.Prelude.{◌≡◌, ◌<◌, ◌≤◌, length, suc, IfOk, IfSome, IfNone, codes};
+ghost use Rattle.net_data.specs.Reading.{statement, statements, lone, finished, tables, end_of, fault_of, Reads, ReadsOption, ReadsOn, Answers, AnswersRest};
+
+use crate::cursor::{front, mark_wanted, same, word_met};
+use crate::fault::{DataDefect, DataFault};
+use crate::param::param;
+use crate::set::set;
+use crate::statement::Statement;
+use crate::stop::Stop;
+use crate::tables::{Lone, Tables};
+use crate::word::Word;
+use net_lex::{Items, Span, Token};
+use std::alloc::Global;
+
+/// The end of the last token.
+fn end_of(tokens: &[Token<'_>]) -> usize
+    ensures { result ≡ end_of tokens.now }
+{
+    match tokens.last() {
+        None => 0,
+        Some(token) => token.span.end,
+    }
+}
+
+/// The fault that a stop is, in a text that ends there.
+fn fault_of(stop: Stop, end: usize) -> DataFault
+    ensures { result ≡ fault_of end stop }
+{
+    match stop.at {
+        None => DataFault::At(stop.defect, Span { start: end, end }),
+        Some(span) => DataFault::At(stop.defect, span),
+    }
+}
+
+/// The tokens that are not yet read.
+#[derive(Drop)]
+struct Unread<'t, 's> {
+    tokens: &'t [Token<'s>],
+}
+
+impl<'t, 's> Unread<'t, 's> {
+    /// Reads the statement that comes next, if one does.
+    #[tactic(auto, unfolding(crate::specs::Reading::statement))]
+    fn statement(&mut self) -> Result<Option<Statement<'t, 's>>, Stop>
+        ensures value { ReadsOn (statement self.old.tokens.now) self.new.tokens.now result }
+        ensures left { IfOk result (λ o. IfNone o (self.new.tokens.now ≡ self.old.tokens.now)) }
+        ensures shorter { IfOk result (λ o. IfSome o (λ x. length self.new.tokens.now < length self.old.tokens.now)) }
+    {
+        if let Some((keyword, rest)) = word_met(b"set", self.tokens) {
+            let (found, rest) = set(Word::new(keyword), rest)?;
+            self.tokens = same(rest);
+            return Ok(Some(found));
+        }
+        match word_met(b"param", self.tokens) {
+            None => Ok(None),
+            Some((keyword, rest)) => {
+                let (found, rest) = param(Word::new(keyword), rest)?;
+                self.tokens = same(rest);
+                Ok(Some(found))
+            }
+        }
+    }
+}
+
+/// The statements that come next, and what follows them.
+fn statements<'t, 's>(
+    alloc: Global,
+    end: usize,
+    tokens: &'t [Token<'s>],
+) -> Result<(Items<Statement<'t, 's>>, &'t [Token<'s>]), DataFault>
+    ensures { AnswersRest end (statements (suc (length tokens.entry.now)) tokens.entry.now) result }
+{
+    let mut statements = Vec::new(alloc);
+    let mut unread = Unread { tokens };
+    'statements: loop {
+        match unread.statement() {
+            Err(stop) => return Err(fault_of(stop, end)),
+            Ok(None) => return Ok((Items::new(statements), unread.tokens)),
+            Ok(Some(found)) => statements.push(found)?,
+        }
+    }
+}
+
+/// A word with its semicolon, if it comes next, and what follows them.
+#[tactic(auto, unfolding(crate::specs::Reading::lone))]
+fn lone<'t, 's>(
+    text: &[u8],
+    tokens: &'t [Token<'s>],
+) -> Result<(Option<Lone<'t, 's>>, &'t [Token<'s>]), Stop>
+    ensures { Reads (lone text.now tokens.entry.now) result }
+{
+    match word_met(text, tokens) {
+        None => Ok((None, tokens)),
+        Some((word, rest)) => {
+            let (end, rest) = mark_wanted(b";", rest)?;
+            let word = Word::new(word);
+            Ok((Some(Lone { word, end }), rest))
+        }
+    }
+}
+
+/// Nothing, if nothing but commas follows.
+#[tactic(auto, unfolding(crate::specs::Reading::finished))]
+fn finished(tokens: &[Token<'_>]) -> Result<(), Stop>
+    ensures { result ≡ finished tokens.now }
+{
+    match front(tokens) {
+        None => Ok(()),
+        Some((token, _)) => Err(Stop {
+            defect: DataDefect::Syntax,
+            at: Some(token.span),
+        }),
+    }
+}
+
+/// The statements of a data text whose end is given.
+#[tactic(auto, unfolding(crate::specs::Reading::tables))]
+fn tables<'t, 's>(
+    alloc: Global,
+    end: usize,
+    tokens: &'t [Token<'s>],
+) -> Result<Tables<'t, 's>, DataFault>
+    ensures { Answers end (tables tokens.entry.now) result }
+{
+    let (opening, rest) = match lone(b"data", tokens) {
+        Ok(found) => found,
+        Err(stop) => return Err(fault_of(stop, end)),
+    };
+    let (statements, rest) = statements(alloc, end, rest)?;
+    let (ending, rest) = match lone(b"end", rest) {
+        Ok(found) => found,
+        Err(stop) => return Err(fault_of(stop, end)),
+    };
+    match finished(rest) {
+        Err(stop) => Err(fault_of(stop, end)),
+        Ok(()) => Ok(Tables {
+            opening,
+            statements,
+            ending,
+        }),
+    }
+}
+
+/// The statements of a data text.
+pub fn parse_data<'t, 's>(
+    alloc: Global,
+    tokens: &'t [Token<'s>],
+) -> Result<Tables<'t, 's>, DataFault>
+    ensures { Answers (end_of tokens.entry.now) (tables tokens.entry.now) result }
+{
+    tables(alloc, end_of(tokens), tokens)
+}

@@ -1,0 +1,79 @@
+//! `set NAME := items ;`
+ghost use Rattle.std.specs.Prelude.{◌≡◌, ◌+◌, ◌<◌, ◌≤◌, length, Result, Ok, Err, IfOk};
+ghost use Rattle.net_data.specs.Spots.{outside};
+ghost use Rattle.net_data.specs.Reading.{items, items_from, set, Reads, CountsItems};
+
+use crate::cursor::{mark_wanted, name_wanted};
+use crate::fault::DataDefect;
+use crate::members::Members;
+use crate::spot::Spot;
+use crate::statement::{SetStatement, Statement};
+use crate::stop::Stop;
+use crate::word::Word;
+use net_lex::Token;
+
+/// How many tokens the members and tuples at the front have, with the commas among them.
+fn items_len(tokens: &[Token<'_>]) -> Result<usize, Stop>
+    ensures value { CountsItems tokens.now (items_from outside tokens.now) result }
+    ensures within { IfOk result (λ n. n ≤ length tokens.now) }
+{
+    let mut spot = Spot::Outside;
+    let mut len = 0;
+    'tokens: for token in tokens {
+        match spot.after(token) {
+            Some(next) => spot = next,
+            None if spot.rests() => return Ok(len),
+            None => {
+                return Err(Stop {
+                    defect: DataDefect::Syntax,
+                    at: Some(token.span),
+                });
+            }
+        }
+        len += 1;
+    }
+    if spot.rests() {
+        return Ok(len);
+    }
+    Err(Stop {
+        defect: DataDefect::Syntax,
+        at: None,
+    })
+}
+
+/// The members and tuples at the front, and what follows them.
+fn items_at<'t, 's>(tokens: &'t [Token<'s>]) -> Result<(Members<'t, 's>, &'t [Token<'s>]), Stop>
+    ensures value { Reads (items tokens.entry.now) result }
+    ensures within { IfOk result (λ x. length x.1.now ≤ length tokens.entry.now) }
+{
+    match items_len(tokens) {
+        Err(stop) => Err(stop),
+        Ok(len) => {
+            let (items, rest) = tokens.split_at(len);
+            Ok((Members::new(items), rest))
+        }
+    }
+}
+
+/// What follows the word `set`.
+#[tactic(auto, unfolding(crate::specs::Reading::set))]
+pub(crate) fn set<'t, 's>(
+    keyword: Word<'t, 's>,
+    tokens: &'t [Token<'s>],
+) -> Result<(Statement<'t, 's>, &'t [Token<'s>]), Stop>
+    ensures value { Reads (set keyword.entry tokens.entry.now) result }
+    ensures shorter { IfOk result (λ x. length x.1.now < length tokens.entry.now) }
+{
+    let (name, rest) = name_wanted(tokens)?;
+    let (assign, rest) = mark_wanted(b":=", rest)?;
+    let (items, rest) = items_at(rest)?;
+    let (end, rest) = mark_wanted(b";", rest)?;
+    let statement = SetStatement {
+        keyword,
+        name,
+        assign,
+        items,
+        end,
+    };
+    Ok((Statement::Set(statement), rest))
+}

@@ -1,0 +1,92 @@
+//! The statements, each with all its tokens but for the commas outside tuples.
+use crate::cells::Cells;
+use crate::members::Members;
+use crate::word::Word;
+
+/// `set NAME := items ;`
+#[derive(Drop)]
+pub struct SetStatement<'t, 's> {
+    pub keyword: Word<'t, 's>,
+    pub name: Word<'t, 's>,
+    pub assign: Word<'t, 's>,
+    pub items: Members<'t, 's>,
+    pub end: Word<'t, 's>,
+}
+
+/// `default 0`
+#[derive(Drop)]
+pub struct DefaultValue<'t, 's> {
+    pub keyword: Word<'t, 's>,
+    pub value: Word<'t, 's>,
+}
+
+/// `:= PITT 450`
+#[derive(Drop)]
+pub struct Given<'t, 's> {
+    pub assign: Word<'t, 's>,
+    pub cells: Cells<'t, 's>,
+}
+
+/// `param supply default 0 := PITT 450;`
+#[derive(Drop)]
+pub struct ListStatement<'t, 's> {
+    pub keyword: Word<'t, 's>,
+    pub name: Word<'t, 's>,
+    pub default: Option<DefaultValue<'t, 's>>,
+    pub given: Option<Given<'t, 's>>,
+    pub end: Word<'t, 's>,
+}
+
+/// `(tr)`
+#[derive(Drop)]
+pub struct Transposed<'t, 's> {
+    pub opening: Word<'t, 's>,
+    pub word: Word<'t, 's>,
+    pub closing: Word<'t, 's>,
+}
+
+/// `param cost (tr) : PITT NE := BOS 25 17;`
+#[derive(Drop)]
+pub struct TableStatement<'t, 's> {
+    pub keyword: Word<'t, 's>,
+    pub name: Word<'t, 's>,
+    pub default: Option<DefaultValue<'t, 's>>,
+    pub transposed: Option<Transposed<'t, 's>>,
+    pub colon: Word<'t, 's>,
+    pub columns: Cells<'t, 's>,
+    pub assign: Word<'t, 's>,
+    pub cells: Cells<'t, 's>,
+    pub end: Word<'t, 's>,
+}
+
+/// `LINKS :` in the heading of several parameters.
+#[derive(Drop)]
+pub struct NamedSet<'t, 's> {
+    pub name: Word<'t, 's>,
+    pub colon: Word<'t, 's>,
+}
+
+/// `param : LINKS : cost capacity := PITT NE 25 250;`
+#[derive(Drop)]
+pub struct ColumnsStatement<'t, 's> {
+    pub keyword: Word<'t, 's>,
+    pub colon: Word<'t, 's>,
+    pub set: Option<NamedSet<'t, 's>>,
+    pub names: Cells<'t, 's>,
+    pub assign: Word<'t, 's>,
+    pub cells: Cells<'t, 's>,
+    pub end: Word<'t, 's>,
+}
+
+/// One statement of a data text.
+#[derive(Drop)]
+pub enum Statement<'t, 's> {
+    /// `set CITIES := PITT NE;`
+    Set(SetStatement<'t, 's>),
+    /// `param supply default 0 := PITT 450;`
+    List(ListStatement<'t, 's>),
+    /// `param cost : BOS EWR := PITT 25 30;`
+    Table(TableStatement<'t, 's>),
+    /// `param : cost capacity := PITT NE 25 250;`
+    Columns(ColumnsStatement<'t, 's>),
+}

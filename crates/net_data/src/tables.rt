@@ -1,0 +1,20 @@
+use crate::statement::Statement;
+use crate::word::Word;
+use net_lex::Items;
+
+/// `data;` or `end;`
+#[derive(Drop)]
+pub struct Lone<'t, 's> {
+    pub word: Word<'t, 's>,
+    pub end: Word<'t, 's>,
+}
+
+/// What a data text says: its statements in order.
+#[derive(Drop)]
+pub struct Tables<'t, 's> {
+    /// `data;`
+    pub opening: Option<Lone<'t, 's>>,
+    pub statements: Items<Statement<'t, 's>>,
+    /// `end;`
+    pub ending: Option<Lone<'t, 's>>,
+}
