@@ -1,3 +1,14 @@
 pub mod Fronts
 pub mod Items
 pub mod Turns
+pub mod Apart
+pub mod Bare
+pub mod RunLemmas
+pub mod Places
+pub mod SetRuns
+pub mod Steps
+pub mod SetSound
+pub mod TableSound
+pub mod ParamSound
+pub mod ParamComplete
+pub mod StatementComplete

@@ -3,3 +3,5 @@ pub mod Commas
 pub mod Faults
 pub mod Spots
 pub mod Reading
+pub mod Printing
+pub mod Meaning
