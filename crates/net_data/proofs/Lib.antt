@@ -12,3 +12,7 @@ pub mod TableSound
 pub mod ParamSound
 pub mod ParamComplete
 pub mod StatementComplete
+pub mod TablesMean
+pub mod Blames
+pub mod Promise
+pub mod Examples

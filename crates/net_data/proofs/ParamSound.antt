@@ -34,9 +34,9 @@ unfolding body
 body-sound keyword name default tokens x key named defaults h =
     body_of keyword name default tokens (met (is_mark (codes "(")) tokens) (met colon tokens) x key named defaults refl refl h
 
-record DefaultRead (tokens : List Token) (x : Option DefaultValue × List Token) : Type 0 where
-  printed : bare elsewhere tokens ≡ put_default x.0 (bare elsewhere x.1)
-  are : IfSome x.0 IsDefault
+pub record DefaultRead (tokens : List Token) (x : Option DefaultValue × List Token) : Type 0 where
+  pub printed : bare elsewhere tokens ≡ put_default x.0 (bare elsewhere x.1)
+  pub are : IfSome x.0 IsDefault
 
 default_of : (tokens : List Token) (next : Option (Token × List Token)) (x : Option DefaultValue × List Token) → met (is_word (codes "default")) tokens ≡ next → default_by tokens next ≡ Ok x → DefaultRead tokens x
 default_of tokens None x is h =
@@ -48,7 +48,7 @@ default_of tokens (Some word) x is h =
     let P : Option DefaultValue × List Token → Type 0 = λ z. DefaultRead tokens z in
     subst P (ok_is _ x a.then) (record { printed = rw (key.printed, value.printed) refl; are = record { keyword = key.passes; value = value.passes } })
 
-default-sound : (tokens : List Token) (x : Option DefaultValue × List Token) → default tokens ≡ Ok x → DefaultRead tokens x
+pub default-sound : (tokens : List Token) (x : Option DefaultValue × List Token) → default tokens ≡ Ok x → DefaultRead tokens x
 unfolding default
 default-sound tokens x h = default_of tokens (met (is_word (codes "default")) tokens) x refl h
 
@@ -61,9 +61,9 @@ named-sound keyword tokens x key h =
     let d = default-sound a.value.1 b.value b.first in
     rw (name.printed, d.printed) (body-sound keyword a.value.0 b.value.0 b.value.1 x key name.passes d.are b.then)
 
-record SetRead (tokens : List Token) (x : Option NamedSet × List Token) : Type 0 where
-  printed : bare elsewhere tokens ≡ put_set x.0 (bare elsewhere x.1)
-  are : IfSome x.0 IsNamedSet
+pub record SetRead (tokens : List Token) (x : Option NamedSet × List Token) : Type 0 where
+  pub printed : bare elsewhere tokens ≡ put_set x.0 (bare elsewhere x.1)
+  pub are : IfSome x.0 IsNamedSet
 
 named_set_of : (tokens : List Token) (name : Option (Token × List Token)) (mark : Option (Token × List Token)) → met is_name tokens ≡ name → met_behind colon name ≡ mark → SetRead tokens (named_set_by tokens name mark)
 named_set_of tokens None mark is colons = record { printed = refl; are = tt }
@@ -73,7 +73,7 @@ named_set_of tokens (Some name) (Some mark) is colons =
     let m = got_met elsewhere elsewhere colon name.1 mark (in_mark (codes ":") refl) colons in
     record { printed = rw (n.printed, m.printed) refl; are = record { name = n.passes; colon = m.passes } }
 
-named_set-sound : (tokens : List Token) → SetRead tokens (named_set tokens)
+pub named_set-sound : (tokens : List Token) → SetRead tokens (named_set tokens)
 unfolding named_set
 named_set-sound tokens = named_set_of tokens (met is_name tokens) (met_behind colon (met is_name tokens)) refl refl
 

@@ -5,3 +5,4 @@ pub mod Spots
 pub mod Reading
 pub mod Printing
 pub mod Meaning
+pub mod Refusals

@@ -132,3 +132,11 @@ judged (Columns columns) = heading_judged columns.names columns.assign
 abbrev pub all_judged : List Statement → Result (Unit {0}) Stop
 all_judged [] = Ok tt
 all_judged (statement ∷ statements) = and_then (judged statement) (all_judged statements)
+
+abbrev pub unless_faulty : Result (Unit {0}) Stop → Tables → Result Tables Stop
+unless_faulty (Ok full) tables = Ok tables
+unless_faulty (Err e) tables = Err e
+
+-- the tables, or the first fault that one of them has
+abbrev pub checked : Tables → Result Tables Stop
+checked tables = unless_faulty (all_judged tables.statements) tables

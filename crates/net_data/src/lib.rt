@@ -5,6 +5,7 @@ mod cells;
 mod cursor;
 mod fault;
 mod heading;
+mod laws;
 mod members;
 mod param;
 mod parse;
@@ -19,6 +20,7 @@ mod word;
 
 pub use cells::Cells;
 pub use fault::{DataDefect, DataFault};
+pub use laws::one_meaning;
 pub use members::Members;
 pub use parse::parse_data;
 pub use statement::{

@@ -1,6 +1,9 @@
 //! The statements of a data text.
-ghost use Rattle.std.specs.Prelude.{◌≡◌, ◌<◌, ◌≤◌, length, suc, IfOk, IfSome, IfNone, codes};
+ghost use Rattle.std.specs.Prelude.{◌≡◌, ◌<◌, ◌≤◌, length, suc, IfOk, IfErr, IfSome, IfNone, codes};
 ghost use Rattle.net_data.specs.Reading.{statement, statements, lone, finished, tables, end_of, fault_of, Reads, ReadsOption, ReadsOn, Answers, AnswersRest};
+ghost use Rattle.net_data.specs.Meaning.{Mean, all_judged, checked};
+ghost use Rattle.net_data.specs.Refusals.{IsRefusal};
+ghost use Rattle.net_data.specs.declared.tables.Tables.{Tables};
 
 use crate::cursor::{front, mark_wanted, same, word_met};
 use crate::fault::{DataDefect, DataFault};
@@ -142,12 +145,23 @@ fn tables<'t, 's>(
     }
 }
 
-/// The statements of a data text.
+/// The statements of a data text, from its tokens in order. Commas may stand anywhere, and say
+/// something in tuples only. The first fault is `Syntax` at the first token that is not allowed, or
+/// at the end of the last one; `TableWidth` at the `:=` of a heading without a column or a name; or
+/// `RowWidth` at the last cell of a table that does not fill its rows.
 pub fn parse_data<'t, 's>(
     alloc: Global,
     tokens: &'t [Token<'s>],
 ) -> Result<Tables<'t, 's>, DataFault>
-    ensures { Answers (end_of tokens.entry.now) (tables tokens.entry.now) result }
+    ensures ok { IfOk result (λ x. Mean tokens.entry.now x) }
+    // The tables of an answer have no fault.
+    ensures full { IfOk result (λ x. all_judged x.statements ≡ Ok tt) }
+    ensures refused { IfErr result (IsRefusal tokens.entry.now) }
+    // What the tokens mean is the answer, or the first fault of its tables is.
+    ensures complete { (x : Tables) → Mean tokens.entry.now x
+        → Answers (end_of tokens.entry.now) (checked x) result }
+    // Which fault is the first, and where.
+    ensures place { Answers (end_of tokens.entry.now) (tables tokens.entry.now) result }
 {
     tables(alloc, end_of(tokens), tokens)
 }

@@ -1,0 +1,14 @@
+use Rattle.net_data.proofs.Promise.{answer_means, answer_full, answer_complete, answer_refused}
+use Rattle.net_data.proofs.parse.parse_data.Goals as goal
+
+pub returns-clause-ok : goal.returns-clause-ok
+returns-clause-ok c = answer_means c.end_of.result c.args.tokens.now c.tables.result c.tables.ensures
+
+pub returns-clause-full : goal.returns-clause-full
+returns-clause-full c = answer_full c.end_of.result c.args.tokens.now c.tables.result c.tables.ensures
+
+pub returns-clause-refused : goal.returns-clause-refused
+returns-clause-refused c = answer_refused c.end_of.result c.args.tokens.now c.tables.result c.tables.ensures
+
+pub returns-clause-complete : goal.returns-clause-complete
+returns-clause-complete c = rw c.end_of.ensures at (answer_complete c.end_of.result c.args.tokens.now c.tables.result c.tables.ensures)
