@@ -1,13 +1,15 @@
 -- Worked examples of the definitions.
 use Rattle.std.proofs.Common.{◌≡◌, ℕ, List, [], ◌∷◌, Option, Some, None, Result, Ok, Err, refl, codes}
 use Rattle.net_lex.specs.declared.token.Kind.{Kind}
-use Rattle.net_lex.specs.declared.token.Kind.TheVariants.{Name, Num, Mark}
+use Rattle.net_lex.specs.declared.token.Kind.TheVariants.{Name, Num, Mark, Dot}
 use Rattle.net_lex.specs.declared.token.Token.{Token}
 use Rattle.net_lex.specs.declared.span.Span.{Span}
 use Rattle.net_data.specs.declared.fault.DataDefect.TheVariants.{Syntax, RowWidth, TableWidth}
 use Rattle.net_data.specs.declared.statement.Statement.TheVariants as kinds
 use Rattle.net_data.specs.declared.stop.Stop.{Stop}
 use Rattle.net_data.specs.declared.tables.Tables.{Tables}
+use Rattle.net_data.specs.declared.statement.Transposed.{Transposed}
+use Rattle.net_data.specs.Rows.{list_rows, row_across, first_item, more_items}
 use Rattle.net_data.specs.Commas.{before, bare}
 use Rattle.net_data.specs.Reading.{tables, stop, met, wanted, refused, run, items, items_from, set, heading, cells, filled, table, given, list, body, default, named, named_set, columns, param, statement, statements, lone, finished}
 
@@ -89,3 +91,25 @@ open_end = refl
 nothing : outcome (tables (mark 1 (codes ",") ∷ [])) ≡ Ok 1
 unfolding tables lone met statements statement finished
 nothing = refl
+
+-- two keys and two values, of which the second is wanted; a point gives no row
+two_values : list_rows 2 2 1 (name 1 (codes "a") ∷ name 2 (codes "b") ∷ at 3 Num (codes "5") ∷ at 4 Num (codes "6") ∷ name 5 (codes "c") ∷ name 6 (codes "d") ∷ at 7 Num (codes "7") ∷ at 8 Dot (codes ".") ∷ [])
+    ≡ record { keys = name 1 (codes "a") ∷ name 2 (codes "b") ∷ []; value = at 4 Num (codes "6") } ∷ []
+two_values = refl
+
+-- a row of a table, and the same with `(tr)`
+across : row_across None (name 1 (codes "x") ∷ name 2 (codes "y") ∷ []) (name 3 (codes "a") ∷ at 4 Dot (codes ".") ∷ at 5 Num (codes "5") ∷ [])
+    ≡ record { keys = name 3 (codes "a") ∷ name 2 (codes "y") ∷ []; value = at 5 Num (codes "5") } ∷ []
+across = refl
+
+turned_across : (turn : Transposed) → row_across (Some turn) (name 1 (codes "x") ∷ []) (name 3 (codes "a") ∷ at 5 Num (codes "5") ∷ [])
+    ≡ record { keys = name 1 (codes "x") ∷ name 3 (codes "a") ∷ []; value = at 5 Num (codes "5") } ∷ []
+turned_across turn = refl
+
+-- ( b , c ) d
+tuple_first : first_item (mark 7 (codes "(") ∷ name 8 (codes "b") ∷ mark 9 (codes ",") ∷ name 10 (codes "c") ∷ mark 11 (codes ")") ∷ name 12 (codes "d") ∷ [])
+    ≡ Some (name 8 (codes "b") ∷ name 10 (codes "c") ∷ [])
+tuple_first = refl
+
+tuple_more : more_items (mark 7 (codes "(") ∷ name 8 (codes "b") ∷ mark 9 (codes ",") ∷ name 10 (codes "c") ∷ mark 11 (codes ")") ∷ name 12 (codes "d") ∷ []) ≡ name 12 (codes "d") ∷ []
+tuple_more = refl

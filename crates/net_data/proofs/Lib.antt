@@ -16,3 +16,5 @@ pub mod TablesMean
 pub mod Blames
 pub mod Promise
 pub mod Examples
+pub mod CellLemmas
+pub mod ItemLemmas

@@ -6,3 +6,4 @@ pub mod Reading
 pub mod Printing
 pub mod Meaning
 pub mod Refusals
+pub mod Rows

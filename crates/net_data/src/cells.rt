@@ -1,7 +1,9 @@
-ghost use Rattle.std.specs.Prelude.{◌≡◌, ◌+◌, ◌<◌, ◌^◌, length};
+ghost use Rattle.std.specs.Prelude.{◌≡◌, ◌+◌, ◌<◌, ◌≤◌, ◌^◌, length, take, drop, slice_get};
+ghost use Rattle.std.specs.Option.{option_copied};
 ghost use Rattle.net_data.specs.Reading.{last_span};
 ghost use Rattle.net_data.specs.Commas.{uncommaed};
 
+use crate::cursor::front;
 use crate::test::is_comma;
 use net_lex::{Span, Token};
 use std::marker::Model;
@@ -37,6 +39,21 @@ impl<'t, 's> Cells<'t, 's> {
         cell_count(self.tokens)
     }
 
+    /// The first one.
+    pub fn first(&self) -> Option<&'t Token<'s>>
+        ensures { option_copied result ≡ slice_get self.now 0 }
+    {
+        first_cell(self.tokens)
+    }
+
+    /// The first `count` of them, and the others; no token is copied.
+    pub fn split_at(&self, count: usize) -> (Cells<'t, 's>, Cells<'t, 's>)
+        ensures front { result.0 ≡ take count self.now }
+        ensures back { result.1 ≡ drop count self.now }
+    {
+        split_cells(self.tokens, count)
+    }
+
     /// Where the last one stands.
     pub fn last_span(&self) -> Option<Span>
         ensures { result ≡ last_span self.now }
@@ -62,4 +79,39 @@ fn last_span(tokens: &[Token<'_>]) -> Option<Span>
         }
     }
     found
+}
+
+fn first_cell<'t, 's>(tokens: &'t [Token<'s>]) -> Option<&'t Token<'s>>
+    ensures { option_copied result ≡ slice_get (uncommaed tokens.entry.now) 0 }
+{
+    match front(tokens) {
+        None => None,
+        Some((token, _)) => Some(token),
+    }
+}
+
+/// How many tokens the first cells have, with the commas among and behind them.
+fn cells_len(tokens: &[Token<'_>], count: usize) -> usize
+    ensures front { uncommaed (take result tokens.now) ≡ take count (uncommaed tokens.now) }
+    ensures back { uncommaed (drop result tokens.now) ≡ drop count (uncommaed tokens.now) }
+    ensures within { result ≤ length tokens.now }
+{
+    let mut left = count;
+    'tokens: for (at, token) in tokens.iter().enumerate() {
+        if !is_comma(token) {
+            if left == 0 {
+                return at;
+            }
+            left -= 1;
+        }
+    }
+    tokens.len()
+}
+
+fn split_cells<'t, 's>(tokens: &'t [Token<'s>], count: usize) -> (Cells<'t, 's>, Cells<'t, 's>)
+    ensures front { result.0 ≡ take count (uncommaed tokens.entry.now) }
+    ensures back { result.1 ≡ drop count (uncommaed tokens.entry.now) }
+{
+    let (front, back) = tokens.split_at(cells_len(tokens, count));
+    (Cells::new(front), Cells::new(back))
 }

@@ -1,6 +1,11 @@
-ghost use Rattle.std.specs.Prelude.{◌≡◌};
+ghost use Rattle.std.specs.Prelude.{◌≡◌, ◌≤◌, length, drop};
+ghost use Rattle.net_data.specs.Meaning.{AreItems};
+ghost use Rattle.net_data.specs.Rows.{first_item, begins_tuple, more_items, inside_len};
 ghost use Rattle.net_data.specs.Commas.{in_set, bare};
 
+use crate::cells::Cells;
+use crate::cursor::front;
+use crate::test::is_mark;
 use net_lex::Token;
 use std::marker::Model;
 
@@ -26,4 +31,86 @@ impl<'t, 's> Members<'t, 's> {
     {
         Members { tokens }
     }
+}
+
+impl<'t, 's> Members<'t, 's> {
+    /// The members of the first item: of a tuple, or the one that stands alone.
+    pub fn first(&self) -> Option<Cells<'t, 's>>
+        ensures { result ≡ first_item self.now }
+    {
+        first_item(self.tokens)
+    }
+
+    /// Whether the first item is a tuple.
+    pub fn begins_tuple(&self) -> bool
+        ensures { result ≡ begins_tuple self.now }
+    {
+        begins_tuple(self.tokens)
+    }
+
+    /// The items behind the first one.
+    pub fn rest(&self) -> Members<'t, 's>
+        requires { AreItems self.now }
+        ensures value { result ≡ more_items self.now }
+        ensures items { AreItems result }
+    {
+        more_items(self.tokens)
+    }
+}
+
+fn begins_tuple(tokens: &[Token<'_>]) -> bool
+    ensures { result ≡ begins_tuple (bare in_set tokens.now) }
+{
+    match front(tokens) {
+        None => false,
+        Some((token, _)) => is_mark(b"(", token),
+    }
+}
+
+/// How many tokens of a tuple stand before its `)`.
+fn inside_len(tokens: &[Token<'_>]) -> usize
+    ensures value { result ≡ inside_len tokens.now }
+    ensures within { result ≤ length tokens.now }
+{
+    tokens
+        .iter()
+        .take_while(|token| !is_mark(b")", token))
+        .count()
+}
+
+fn first_item<'t, 's>(tokens: &'t [Token<'s>]) -> Option<Cells<'t, 's>>
+    ensures { result ≡ first_item (bare in_set tokens.entry.now) }
+{
+    match front(tokens) {
+        None => None,
+        Some((token, rest)) => {
+            if is_mark(b"(", token) {
+                let (inside, _) = rest.split_at(inside_len(rest));
+                return Some(Cells::new(inside));
+            }
+            Some(Cells::new(std::slice::from_ref(token)))
+        }
+    }
+}
+
+fn more_items<'t, 's>(tokens: &'t [Token<'s>]) -> Members<'t, 's>
+    requires { AreItems (bare in_set tokens.now) }
+    ensures { result ≡ more_items (bare in_set tokens.entry.now) }
+{
+    match front(tokens) {
+        None => Members::new(tokens),
+        Some((token, rest)) => {
+            if is_mark(b"(", token) {
+                let (_, closed) = rest.split_at(inside_len(rest));
+                return Members::new(behind_first(closed));
+            }
+            Members::new(rest)
+        }
+    }
+}
+
+fn behind_first<'t, 's>(tokens: &'t [Token<'s>]) -> &'t [Token<'s>]
+    ensures { result.now ≡ drop 1 tokens.entry.now }
+{
+    tokens.get(1..).unwrap_or(tokens)
 }

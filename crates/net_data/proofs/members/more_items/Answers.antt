@@ -1,0 +1,17 @@
+use Rattle.std.proofs.Common.{◌∙◌, ap, sym}
+use Rattle.net_data.specs.Rows.{more_items}
+use Rattle.net_data.proofs.ItemLemmas.{first_none, more_tuple, more_alone}
+use Rattle.net_data.proofs.members.more_items.Goals as goal
+
+pub returns-in-None : goal.returns-in-None
+returns-in-None c = let none = first_none c.args.tokens.now c.in-None.ensures.value in c.new.ensures ∙ none ∙ sym (ap more_items none)
+
+pub returns-then-is_mark : goal.returns-then-is_mark
+returns-then-is_mark c =
+    let told = more_tuple c.args.tokens.now c.in-Some.rest.now c.in-Some.token.now c.in-Some.ensures.value (sym c.is_mark.ensures ∙ c.if-is_mark.true) in
+    cc (told, c.new-then-is_mark.ensures, c.behind_first.ensures, c.split_at.ensures.back, c.inside_len.ensures.value)
+
+pub returns-else-is_mark : goal.returns-else-is_mark
+returns-else-is_mark c =
+    let told = more_alone c.args.tokens.now c.in-Some.rest.now c.in-Some.token.now c.in-Some.ensures.value (sym c.is_mark.ensures ∙ c.if-is_mark.false) c.requires in
+    cc (told, c.new-in-Some.ensures)

@@ -1,0 +1,88 @@
+-- The rows of a statement for a number of keys: each its keys and its value. A point gives no row.
+use Rattle.std.specs.Prelude.{ℕ, zero, suc, ◌+◌, Bool, true, false, not, List, [], ◌∷◌, length, take, drop, map, slice_get, if◌then◌else◌, Option, Some, None, codes}
+use Rattle.std.specs.List.{flat_map, zip, prefix_len}
+use Rattle.net_lex.specs.declared.token.Kind.{Kind}
+use Rattle.net_lex.specs.declared.token.Kind.TheVariants.{Dot}
+use Rattle.net_lex.specs.declared.token.Token.{Token}
+use Rattle.net_data.specs.declared.statement.Given.{Given}
+use Rattle.net_data.specs.declared.statement.Transposed.{Transposed}
+use Rattle.net_data.specs.declared.statement.TableStatement.{TableStatement}
+use Rattle.net_data.specs.declared.statement.Statement.{Statement}
+use Rattle.net_data.specs.declared.statement.Statement.TheVariants.{Set, List as Listed, Table, Columns}
+use Rattle.net_data.specs.Tests.{is_mark}
+use Rattle.net_data.specs.Commas.{uncommaed}
+
+pub record Row : Type 0 where
+  pub keys : List Token
+  pub value : Token
+
+abbrev pub points : Kind → Bool
+points Dot = true
+points _ = false
+
+-- a row with this value, or none at a point and where the group is too short
+abbrev pub row_of : List Token → Option Token → List Row
+row_of keys None = []
+row_of keys (Some value) = if points value.kind then [] else record { keys = keys; value = value } ∷ []
+
+abbrev pub groups_from : ℕ → ℕ → List Token → List (List Token)
+groups_from size zero tokens = []
+groups_from size (suc turns) [] = []
+groups_from size (suc turns) (token ∷ tokens) = take size (token ∷ tokens) ∷ groups_from size turns (drop size (token ∷ tokens))
+
+-- cut into groups of a size that is not 0; the last one may be short
+abbrev pub groups : ℕ → List Token → List (List Token)
+groups size tokens = groups_from size (length tokens) tokens
+
+-- keys, and so many values behind them, of which the one at this place is the rows'
+abbrev pub list_rows : (keys values place : ℕ) → List Token → List Row
+list_rows keys values place cells = flat_map (λ group. row_of (take keys group) (slice_get group (keys + place))) (groups (keys + values) cells)
+
+-- the row member and the column's, or the other way round with `(tr)`
+abbrev pub table_keys : Option Transposed → Token → Token → List Token
+table_keys None row column = row ∷ column ∷ []
+table_keys (Some transposed) row column = column ∷ row ∷ []
+
+abbrev pub row_across : Option Transposed → List Token → List Token → List Row
+row_across transposed columns [] = []
+row_across transposed columns (row ∷ values) = flat_map (λ pair. row_of (table_keys transposed row pair.0) (Some pair.1)) (zip columns values)
+
+abbrev pub table_rows : TableStatement → List Row
+table_rows table = flat_map (row_across table.transposed table.columns) (groups (length table.columns + 1) table.cells)
+
+abbrev pub given_rows : ℕ → Option Given → List Row
+given_rows keys None = []
+given_rows keys (Some given) = list_rows keys 1 0 given.cells
+
+-- the rows of a statement: with this number of keys, of the parameter at this place of its heading, counted from 0
+abbrev pub rows : (keys place : ℕ) → Statement → List Row
+rows keys place (Set set) = []
+rows keys place (Listed list) = given_rows keys list.given
+rows keys place (Table table) = table_rows table
+rows keys place (Columns columns) = list_rows keys (length columns.names) place columns.cells
+
+-- the keys of a statement of several parameters, which are the members of its set too
+abbrev pub key_rows : ℕ → Statement → List (List Token)
+key_rows keys (Set set) = []
+key_rows keys (Listed list) = []
+key_rows keys (Table table) = []
+key_rows keys (Columns columns) = map (λ group. take keys group) (groups (keys + length columns.names) columns.cells)
+
+-- how many tokens of a tuple stand before its `)`
+abbrev pub inside_len : List Token → ℕ
+inside_len tokens = prefix_len (λ token. not (is_mark (codes ")") token)) tokens
+
+-- the members of the first item of a set: of a tuple, or one that stands alone
+abbrev pub first_item : List Token → Option (List Token)
+first_item [] = None
+first_item (token ∷ tokens) = if is_mark (codes "(") token then Some (uncommaed (take (inside_len tokens) tokens)) else Some (token ∷ [])
+
+-- whether the first item is a tuple
+abbrev pub begins_tuple : List Token → Bool
+begins_tuple [] = false
+begins_tuple (token ∷ tokens) = is_mark (codes "(") token
+
+-- the items behind the first one
+abbrev pub more_items : List Token → List Token
+more_items [] = []
+more_items (token ∷ tokens) = if is_mark (codes "(") token then drop (suc (inside_len tokens)) tokens else tokens
