@@ -1,7 +1,7 @@
 -- The first item of a set, and those behind it.
-use Rattle.std.proofs.Common.{◌≡◌, ℕ, zero, suc, ◌+◌, Bool, true, false, cond, List, [], ◌∷◌, take, drop, Option, Some, None, refl, ap, sym, ◌∙◌, arith, codes, subst}
+use Rattle.std.proofs.Common.{◌≡◌, ℕ, zero, suc, ◌+◌, Bool, true, false, cond, List, [], ◌∷◌, take, drop, Option, Some, None, refl, ap, sym, ◌∙◌, arith, codes}
 use Rattle.net_lex.specs.declared.token.Token.{Token}
-use Rattle.net_data.specs.Tests.{is_member, is_mark, is_comma}
+use Rattle.net_data.specs.Tests.{is_mark, is_comma}
 use Rattle.net_data.specs.Commas.{in_set, in_tuple, place_after, bare, uncommaed}
 use Rattle.net_data.specs.Meaning.{AreItems, IsTupleRest}
 use Rattle.net_data.specs.Reading.{front}
@@ -73,18 +73,13 @@ pub more_tuple : (tokens rest : List Token) (token : Token) → front tokens ≡
 more_tuple tokens rest token h opens =
     let i = inside rest in rw (open_bare tokens rest token h opens, opens, i.count) (i.behind ∙ ap (bare in_set) (drop_one (inside_len rest) rest))
 
--- an item that stands alone is a member
-alone_member : {token : Token} {tokens : List Token} → AreItems (token ∷ tokens) → is_mark (codes "(") token ≡ false → is_member token ≡ true
-alone_member (AreItems.member m a) alone = m
-alone_member (AreItems.tuple o m r a) alone = absurd (cc)
+pub more_alone : (tokens rest : List Token) (token : Token) → front tokens ≡ Some (token, rest) → is_mark (codes "(") token ≡ false → is_mark (codes ";") token ≡ false → more_items (bare in_set tokens) ≡ bare in_set rest
+more_alone tokens rest token h alone goes_on =
+    let here = front-bare in_set tokens rest token refl h in rw (here, goes_on, alone) refl
 
-pub more_alone : (tokens rest : List Token) (token : Token) → front tokens ≡ Some (token, rest) → is_mark (codes "(") token ≡ false → AreItems (bare in_set tokens) → more_items (bare in_set tokens) ≡ bare in_set rest
-more_alone tokens rest token h alone are =
-    let here = front-bare in_set tokens rest token refl h in
-    let P : List Token → Type 0 = λ ts. AreItems ts in
-    let m = alone_member (subst P here are) alone in
-    let end = member-mark (codes ";") token m in
-    rw (here, end, alone) refl
+pub more_over : (tokens rest : List Token) (token : Token) → front tokens ≡ Some (token, rest) → is_mark (codes "(") token ≡ false → is_mark (codes ";") token ≡ true → more_items (bare in_set tokens) ≡ []
+more_over tokens rest token h alone over =
+    let here = front-bare in_set tokens rest token refl h in rw (here, over, alone) refl
 
 rest_behind : {tokens rest : List Token} → IsTupleRest tokens rest → drop (suc (inside_len tokens)) tokens ≡ rest
 rest_behind (IsTupleRest.last {comma} {member} {closing} {rest} c m k) =
@@ -96,7 +91,7 @@ rest_behind (IsTupleRest.more {comma} {member} {tokens} {rest} c m r) =
 
 pub more_are : (tokens : List Token) → AreItems tokens → AreItems (more_items tokens)
 more_are [] AreItems.nothing = AreItems.nothing
-more_are (token ∷ tokens) (AreItems.member m a) = let alone = member-mark (codes "(") token m in rw alone a
+more_are (token ∷ tokens) (AreItems.member m a) = let alone = member-mark (codes "(") token m in let goes_on = member-mark (codes ";") token m in rw (alone, goes_on) a
 more_are (token ∷ first ∷ tokens) (AreItems.tuple o m r a) =
     let b = member-mark (codes ")") first m in
     let n = inside_len tokens in

@@ -82,7 +82,10 @@ abbrev pub begins_tuple : List Token → Bool
 begins_tuple [] = false
 begins_tuple (token ∷ tokens) = is_mark (codes "(") token
 
--- the items behind the first one
+-- the items behind the first one; a semicolon is none, and ends them
 abbrev pub more_items : List Token → List Token
 more_items [] = []
-more_items (token ∷ tokens) = if is_mark (codes "(") token then drop (suc (inside_len tokens)) tokens else tokens
+more_items (token ∷ tokens) =
+    if is_mark (codes "(") token then drop (suc (inside_len tokens)) tokens
+    else if is_mark (codes ";") token then []
+    else tokens

@@ -54,6 +54,22 @@ impl<'t, 's> Cells<'t, 's> {
         split_cells(self.tokens, count)
     }
 
+    /// Those behind the first `count`; no token is copied.
+    pub fn behind(&self, count: usize) -> Cells<'t, 's>
+        ensures { result ≡ drop count self.now }
+    {
+        cells_behind(self.tokens, count)
+    }
+
+    /// The same ones once more; no token is copied.
+    pub fn again(&self) -> Cells<'t, 's>
+        ensures { result ≡ self.now }
+    {
+        Cells {
+            tokens: self.tokens,
+        }
+    }
+
     /// Where the last one stands.
     pub fn last_span(&self) -> Option<Span>
         ensures { result ≡ last_span self.now }
@@ -114,4 +130,11 @@ fn split_cells<'t, 's>(tokens: &'t [Token<'s>], count: usize) -> (Cells<'t, 's>,
 {
     let (front, back) = tokens.split_at(cells_len(tokens, count));
     (Cells::new(front), Cells::new(back))
+}
+
+fn cells_behind<'t, 's>(tokens: &'t [Token<'s>], count: usize) -> Cells<'t, 's>
+    ensures { result ≡ drop count (uncommaed tokens.entry.now) }
+{
+    let (_, back) = tokens.split_at(cells_len(tokens, count));
+    Cells::new(back)
 }

@@ -34,6 +34,15 @@ impl<'t, 's> Members<'t, 's> {
 }
 
 impl<'t, 's> Members<'t, 's> {
+    /// The same ones once more; no token is copied.
+    pub fn again(&self) -> Members<'t, 's>
+        ensures { result ≡ self.now }
+    {
+        Members {
+            tokens: self.tokens,
+        }
+    }
+
     /// The members of the first item: of a tuple, or the one that stands alone.
     pub fn first(&self) -> Option<Cells<'t, 's>>
         ensures { result ≡ first_item self.now }
@@ -50,9 +59,8 @@ impl<'t, 's> Members<'t, 's> {
 
     /// The items behind the first one.
     pub fn rest(&self) -> Members<'t, 's>
-        requires { AreItems self.now }
         ensures value { result ≡ more_items self.now }
-        ensures items { AreItems result }
+        ensures items { AreItems self.now → AreItems result }
     {
         more_items(self.tokens)
     }
@@ -94,7 +102,6 @@ fn first_item<'t, 's>(tokens: &'t [Token<'s>]) -> Option<Cells<'t, 's>>
 }
 
 fn more_items<'t, 's>(tokens: &'t [Token<'s>]) -> Members<'t, 's>
-    requires { AreItems (bare in_set tokens.now) }
     ensures { result ≡ more_items (bare in_set tokens.entry.now) }
 {
     match front(tokens) {
@@ -103,6 +110,10 @@ fn more_items<'t, 's>(tokens: &'t [Token<'s>]) -> Members<'t, 's>
             if is_mark(b"(", token) {
                 let (_, closed) = rest.split_at(inside_len(rest));
                 return Members::new(behind_first(closed));
+            }
+            if is_mark(b";", token) {
+                let (_, none) = rest.split_at(rest.len());
+                return Members::new(none);
             }
             Members::new(rest)
         }

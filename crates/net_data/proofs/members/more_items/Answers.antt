@@ -1,6 +1,8 @@
 use Rattle.std.proofs.Common.{◌∙◌, ap, sym}
+use Rattle.std.proofs.Math.Seq.{drop-length}
+use Rattle.net_data.specs.Commas.{in_set, bare}
 use Rattle.net_data.specs.Rows.{more_items}
-use Rattle.net_data.proofs.ItemLemmas.{first_none, more_tuple, more_alone}
+use Rattle.net_data.proofs.ItemLemmas.{first_none, more_tuple, more_alone, more_over}
 use Rattle.net_data.proofs.members.more_items.Goals as goal
 
 pub returns-in-None : goal.returns-in-None
@@ -11,7 +13,13 @@ returns-then-is_mark c =
     let told = more_tuple c.args.tokens.now c.in-Some.rest.now c.in-Some.token.now c.in-Some.ensures.value (sym c.is_mark.ensures ∙ c.if-is_mark.true) in
     cc (told, c.new-then-is_mark.ensures, c.behind_first.ensures, c.split_at.ensures.back, c.inside_len.ensures.value)
 
-pub returns-else-is_mark : goal.returns-else-is_mark
-returns-else-is_mark c =
-    let told = more_alone c.args.tokens.now c.in-Some.rest.now c.in-Some.token.now c.in-Some.ensures.value (sym c.is_mark.ensures ∙ c.if-is_mark.false) c.requires in
+pub returns-then-is_mark-2 : goal.returns-then-is_mark-2
+returns-then-is_mark-2 c =
+    let told = more_over c.args.tokens.now c.in-Some.rest.now c.in-Some.token.now c.in-Some.ensures.value (sym c.is_mark.ensures ∙ c.if-is_mark.false) (sym c.is_mark-in-Some.ensures ∙ c.if-is_mark-2.true) in
+    let none = c.split_at-then-is_mark-2.ensures.back ∙ drop-length c.in-Some.rest.now in
+    c.new-then-is_mark-2.ensures ∙ ap (bare in_set) none ∙ sym told
+
+pub returns-else-is_mark-2 : goal.returns-else-is_mark-2
+returns-else-is_mark-2 c =
+    let told = more_alone c.args.tokens.now c.in-Some.rest.now c.in-Some.token.now c.in-Some.ensures.value (sym c.is_mark.ensures ∙ c.if-is_mark.false) (sym c.is_mark-in-Some.ensures ∙ c.if-is_mark-2.false) in
     cc (told, c.new-in-Some.ensures)
