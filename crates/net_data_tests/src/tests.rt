@@ -1,0 +1,120 @@
+use crate::told::told;
+use net_data::{DataFault, parse_data};
+use net_lex::lex_data;
+use std::alloc::{AllocError, Global};
+use std::process::Abort;
+use std::test::Fail;
+
+/// What a text says, or its fault: the number and the place of its first byte and behind its last.
+fn answer(alloc: Global, text: &str) -> Result<String, AllocError> {
+    let mut out = String::new(alloc);
+    let Ok(tokens) = lex_data(alloc, text.as_bytes()) else {
+        return Ok(out);
+    };
+    match parse_data(alloc, &tokens) {
+        Ok(tables) => told(&mut out, &tables)?,
+        Err(DataFault::OutOfMemory) => out.push_str("memory")?,
+        Err(DataFault::At(defect, span)) => {
+            return format!(in alloc;
+                "E{} {} {} {}",
+                defect.number(),
+                defect.name(),
+                span.start,
+                span.end
+            );
+        }
+    }
+    Ok(out)
+}
+
+fn all_say(rt: &impl Abort, alloc: Global, table: &[(&str, &str)]) -> Result<(), AllocError> {
+    for (text, wanted) in table {
+        let got = answer(alloc, text)?;
+        assert_eq!(rt; got.as_str(), *wanted, "{text}");
+    }
+    Ok(())
+}
+
+#[test]
+fn statements(rt: HostRuntime) -> Result<(), Fail> {
+    let table = [
+        ("", ""),
+        (",,", ""),
+        ("data; end;", "data\nend\n"),
+        (",data,;,set S:=;,end,;,", "data\nset S \nend\n"),
+        ("set S := a , b, 3 'x y';", "set S a b 3 'x y' \n"),
+        ("set L := (a,b),(c,d,e) f;", "set L <a b ><c d e >f \n"),
+        ("set S := end set default;", "set S end set default \n"),
+        ("param p;", "list p \n"),
+        ("param p := ;", "list p = \n"),
+        (
+            "param p default 0 := PITT 450;",
+            "list p default 0 = PITT 450 \n",
+        ),
+        ("param default default -1;", "list default default -1 \n"),
+        ("param p := a . b 3;", "list p = a . b 3 \n"),
+        (
+            "param c : x y := a 1 2 b 3 .;",
+            "table c : x y = a 1 2 b 3 . \n",
+        ),
+        (
+            "param c default 7 (,tr,) : x, y := a 1 2,;",
+            "table c default 7 turned : x y = a 1 2 \n",
+        ),
+        (
+            "param: cost capacity := a b 1 2;",
+            "columns cost capacity = a b 1 2 \n",
+        ),
+        (
+            "param : L : cost := a b 1,\nc d .;",
+            "columns L : cost = a b 1 c d . \n",
+        ),
+        (
+            "param miles : 'New York' \"O'Hare\" :=\n'Rio \"B\"' 1 2\n'a''b' 3 4;",
+            "table miles : 'New York' \"O'Hare\" = 'Rio \"B\"' 1 2 'a''b' 3 4 \n",
+        ),
+    ];
+    all_say(&rt, rt.alloc(), &table)?;
+    Ok(())
+}
+
+#[test]
+fn faults(rt: HostRuntime) -> Result<(), Fail> {
+    let table = [
+        ("x", "E20 Syntax 0 1"),
+        ("set", "E20 Syntax 3 3"),
+        ("set ,  # more", "E20 Syntax 5 5"),
+        ("set S a;", "E20 Syntax 6 7"),
+        ("set 's' := a;", "E20 Syntax 4 7"),
+        ("set S := (a);", "E20 Syntax 11 12"),
+        ("set S := ();", "E20 Syntax 10 11"),
+        ("set S := (a,,b);", "E20 Syntax 12 13"),
+        ("set S := (,a,b);", "E20 Syntax 10 11"),
+        ("set S := (a b);", "E20 Syntax 12 13"),
+        ("set S := (a,b;", "E20 Syntax 13 14"),
+        ("set S := a .;", "E20 Syntax 11 12"),
+        ("set S := a", "E20 Syntax 10 10"),
+        ("end; x", "E20 Syntax 5 6"),
+        ("data; data;", "E20 Syntax 6 10"),
+        ("set S := a; data;", "E20 Syntax 12 16"),
+        ("end; end;", "E20 Syntax 5 8"),
+        ("param cost 3;", "E20 Syntax 11 12"),
+        ("param: p default 0 := a 1;", "E20 Syntax 17 18"),
+        ("param : a b : c := 1;", "E20 Syntax 12 13"),
+        ("param p (tr) := 1;", "E20 Syntax 13 15"),
+        ("param p : . := 1;", "E20 Syntax 10 11"),
+        ("param p := (a, 1);", "E20 Syntax 11 12"),
+        ("param p default . ;", "E20 Syntax 16 17"),
+        ("param c : x y := a 1 2 b 3;", "E21 RowWidth 25 26"),
+        ("param c : x y := a 1 2 b 3 ,, ;", "E21 RowWidth 25 26"),
+        ("param c : x y := a 1 (;", "E20 Syntax 21 22"),
+        ("param c : x y := ;", "table c : x y = \n"),
+        ("param c : := ;", "E22 TableWidth 10 12"),
+        ("param: S: := a b;", "E22 TableWidth 10 12"),
+        ("param : := ) ;", "E22 TableWidth 8 10"),
+        ("param c : := ; x", "E22 TableWidth 10 12"),
+        ("param c : x := a 1 2; set", "E21 RowWidth 19 20"),
+    ];
+    all_say(&rt, rt.alloc(), &table)?;
+    Ok(())
+}
