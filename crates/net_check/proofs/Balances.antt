@@ -1,6 +1,11 @@
 -- The balances of the nodes: what the arcs so far send out, with what those to come send, is what all send.
-use Rattle.std.proofs.Common.{◌≡◌, ℕ, suc, ◌+◌, ◌*◌, ◌^◌, ◌<◌, ◌≤◌, Bool, true, false, cond, List, ◌∷◌, length, get_or, drop, nat_eq, ℤ, pos, ◌+ℤ◌, ◌-ℤ◌, ◌∙◌, ap, subst, arith}
+use Rattle.std.proofs.Common.{◌≡◌, ◌≢◌, ◌-◌, ◌%◌, set, sym, inl, inr, w64, to_z, of_z, ℕ, suc, ◌+◌, ◌*◌, ◌^◌, ◌<◌, ◌≤◌, Bool, true, false, cond, List, ◌∷◌, length, get_or, drop, nat_eq, ℤ, pos, ◌+ℤ◌, ◌-ℤ◌, ◌∙◌, ap, subst, arith}
+use Rattle.std.specs.Int.{w128}
 use Rattle.std.proofs.lemmas.Int.{ints}
+use Rattle.std.proofs.lemmas.Bool.{cases_Bool}
+use Rattle.std.proofs.lemmas.Bool.Decides.{nat_tests}
+use Rattle.std.proofs.lemmas.Grind.{get_or-set_at}
+use Rattle.std.proofs.lemmas.List.{get_or-set_other}
 use Rattle.net_normal.specs.Limits.{IsSized, flow_limit}
 use Rattle.net_normal.specs.Flows.{net_outflow}
 use Rattle.net_normal.specs.Sums.{flow_on}
@@ -15,6 +20,34 @@ pub record HasCarried (n first : ℕ) (arcs : List FlowArc) (flows : List ℤ) (
 -- what `carry` says of the nodes of a block
 abbrev pub Carries : ℕ → ℕ → FlowArc → ℤ → List ℤ → List ℤ → Type 0
 Carries n first arc flow old new = (v : ℕ) → v < n → get_or new v (pos 0) ≡ (get_or old v (pos 0) +ℤ cond (nat_eq arc.src (first + v)) flow (pos 0)) -ℤ cond (nat_eq arc.dst (first + v)) flow (pos 0)
+
+-- one number added at one place
+pub added_at : (xs : List ℤ) (n first node place : ℕ) (amount new : ℤ) → length xs ≡ n → place < n → node ≡ first + place → new ≡ get_or xs place (pos 0) +ℤ amount
+    → (v : ℕ) → v < n → get_or (set xs place new) v (pos 0) ≡ get_or xs v (pos 0) +ℤ cond (nat_eq node (first + v)) amount (pos 0)
+added_at xs n first node place amount new count inside at is v within =
+    elim (cases_Bool (nat_eq place v)) [
+      | inl e ↦
+          let same : place ≡ v = grind (arith, nat_tests) in
+          let test : nat_eq node (first + v) ≡ true = grind (arith, nat_tests) in
+          get_or-set_at xs place v new (pos 0) (sym same) (omega (arith, count, inside))
+          ∙ is ∙ ap (λ (k : ℕ). get_or xs k (pos 0) +ℤ amount) same
+          ∙ ap (λ (t : Bool). get_or xs v (pos 0) +ℤ cond t amount (pos 0)) (sym test)
+      | inr e ↦
+          let other : v ≢ place = grind (arith, nat_tests) in
+          let test : nat_eq node (first + v) ≡ false = grind (arith, nat_tests) in
+          let nothing : get_or xs v (pos 0) ≡ get_or xs v (pos 0) +ℤ pos 0 = omega (arith, ints) in
+          get_or-set_other xs place v new (pos 0) other
+          ∙ nothing
+          ∙ ap (λ (t : Bool). get_or xs v (pos 0) +ℤ cond t amount (pos 0)) (sym test)
+    ]
+
+-- the place of a node in a block, as the code finds it
+pub place_found : (node first n : ℕ) → node < 2 ^ 32 → first ≤ 20000 → n ≤ 20000 → (node + (18446744073709551616 - first)) % 18446744073709551616 < n → node ≡ first + (node + (18446744073709551616 - first)) % 18446744073709551616
+place_found node first n small few block inside = omega arith
+
+-- what the code makes of the sum
+pub sum_fits : (x y amount : ℤ) → IsSized (10 ^ 25) x → IsSized flow_limit amount → y ≡ to_z w64 (of_z w64 amount) → to_z w128 (of_z w128 (to_z w128 (of_z w128 x) +ℤ to_z w128 (of_z w128 y))) ≡ x +ℤ amount
+sum_fits x y amount h k e = omega (arith, ints, h.above, h.below, k.above, k.below, e)
 
 changed-sized : (m : ℕ) (p q : Bool) (x y flow : ℤ) → IsSized (10 ^ 18) flow → IsSized m x → y ≡ (x +ℤ cond p flow (pos 0)) -ℤ cond q flow (pos 0) → IsSized (m + 2 * 10 ^ 18) y
 changed-sized m true true x y flow k h e = record { above = omega (arith, ints, h.above, k.above, k.below, e); below = omega (arith, ints, h.below, k.above, k.below, e) }

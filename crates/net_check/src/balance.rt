@@ -10,32 +10,38 @@ use crate::wide::wide;
 use net_normal::{FlowArc, Problem};
 
 /// How many nodes' balances stand on the stack at once, 16 bytes each.
-const BLOCK: usize = 3_000;
+const BLOCK: usize = 3_500;
 
 /// Adds to one node's balance, where it is one of the `N` nodes from `first` on.
-fn add_at<const N: usize>(balances: &mut [i128; N], first: usize, node: u32, amount: &i128)
-    requires amount { IsSized flow_limit amount.now }
+#[inline(always)]
+fn add_at<const N: usize>(balances: &mut [i128; N], first: usize, node: u32, amount: i64)
+    requires few { N ≤ flow_node_limit }
+    requires first { first ≤ flow_node_limit }
+    requires amount { IsSized flow_limit amount }
     requires size { (v : ℕ) → v < N → IsSized (10 ^ 25) (slice_index_or balances.old v (pos 0)) }
     ensures len { length balances.new ≡ N }
-    ensures value { (v : ℕ) → v < N → slice_index_or balances.new v (pos 0) ≡ slice_index_or balances.old v (pos 0) +ℤ (if node == first + v then amount.now else pos 0) }
+    ensures value { (v : ℕ) → v < N → slice_index_or balances.new v (pos 0) ≡ slice_index_or balances.old v (pos 0) +ℤ (if node == first + v then amount else pos 0) }
 {
-    let node = node as usize;
-    if first <= node && node - first < N {
-        balances[node - first] += *amount;
+    // A node before the first is far behind the last, so that one test serves.
+    let place = (node as usize).wrapping_sub(first);
+    if place < N {
+        balances[place] += wide(&amount);
     }
 }
 
 /// Counts an arc's flow at the node that it leaves and at the one where it arrives.
+#[inline(always)]
 fn carry<const N: usize>(balances: &mut [i128; N], first: usize, arc: &FlowArc, flow: &i64)
+    requires few { N ≤ flow_node_limit }
+    requires first { first ≤ flow_node_limit }
     requires flow { IsSized flow_limit flow.now }
     requires sizes { (v : ℕ) → v < N → IsSized (10 ^ 24) (slice_index_or balances.old v (pos 0)) }
     ensures len { length balances.new ≡ N }
     ensures value { (v : ℕ) → v < N → slice_index_or balances.new v (pos 0) ≡
         (slice_index_or balances.old v (pos 0) +ℤ (if arc.now.src == first + v then flow.now else pos 0)) -ℤ (if arc.now.dst == first + v then flow.now else pos 0) }
 {
-    let amount = wide(flow);
-    add_at(balances, first, arc.src, &amount);
-    add_at(balances, first, arc.dst, &-amount);
+    add_at(balances, first, arc.src, *flow);
+    add_at(balances, first, arc.dst, -*flow);
 }
 
 /// Counts the flows of all arcs at the `N` nodes from `first` on, where nothing has been counted before.
@@ -46,6 +52,7 @@ fn carry_all<const N: usize>(
     flows: &[i64],
 )
     requires few { N ≤ flow_node_limit }
+    requires first { first ≤ flow_node_limit }
     requires flows { AllZip IsWithinCapacity problem.now.arcs.items flows.now }
     requires none { (v : ℕ) → v < N → slice_index_or balances.old v (pos 0) ≡ pos 0 }
     ensures value { (v : ℕ) → v < N → slice_index_or balances.new v (pos 0) ≡ net_outflow problem.now.arcs.items flows.now (first + v) }

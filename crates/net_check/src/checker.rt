@@ -50,11 +50,11 @@ fn check_cut(problem: &Problem, flags: &[bool], side: Side) -> Verdict
 }
 
 /// Tells whether a certificate settles its problem, in one pass over the nodes and a few over the arcs: one of these for every
-/// 3,000 nodes.
+/// 3,500 nodes.
 ///
 /// Any certificate may be given. `No` has the first condition that fails, in the order of `Reason`, and the number of the
 /// first arc or node where it fails, counted from 1; an arc's `Positive` and `Negative` come in the order of the arcs.
-/// No memory is asked for: the balances of 3,000 nodes stand on the stack, 48,000 bytes.
+/// No memory is asked for: the balances of 3,500 nodes stand on the stack, 56,000 bytes.
 pub fn check(problem: &Problem, certificate: &Certificate) -> Verdict
     ensures yes { (result ≡ Verdict.Yes) ↔ IsCertificate problem.now certificate.now }
     ensures no { (reason : Reason) (number : ℕ) → result ≡ Verdict.No reason number

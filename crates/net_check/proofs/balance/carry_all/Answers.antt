@@ -18,7 +18,7 @@ carry-requires g c =
     let i = c.loop-index.index in
     let inside : i < length arcs = omega (arith, c.loop-index-test.true, ap length c.deref-arc-items.ensures.value) in
     let few : i ≤ 200000 = omega (arith, inside, problem.few_arcs, problem.arcs.ok.0) in
-    (omega (arith, c.requires.few), (flow-sized (vec_len problem.supplies) arcs flows problem.arcs_fit c.requires.flows i no_arc (pos 0) inside, carried-small g.row.N c.args.first arcs flows i c.loop-index.balances few c.loop-index.invariant))
+    (omega (arith, c.requires.few), (omega (arith, c.requires.few), (omega (arith, c.requires.first), (flow-sized (vec_len problem.supplies) arcs flows problem.arcs_fit c.requires.flows i no_arc (pos 0) inside, carried-small g.row.N c.args.first arcs flows i c.loop-index.balances few c.loop-index.invariant))))
 
 pub loop-index-preserved : goal.loop-index-preserved
 loop-index-preserved g c =
