@@ -1,14 +1,18 @@
 -- The pass over the arcs of a network: what is made so far, with what the arcs to come will make, is what all arcs make.
-use Rattle.std.proofs.Common.{◌≡◌, ℕ, suc, ◌+◌, ◌*◌, ◌^◌, ◌<◌, ◌≤◌, Bool, true, false, cond, List, [], ◌∷◌, ◌++◌, length, map, drop, get_or, ℤ, pos, ◌+ℤ◌, ◌-ℤ◌, ◌*ℤ◌, vec_len, All, refl, sym, ◌∙◌, ap, subst, arith, append_assoc, length-append}
+use Rattle.std.proofs.Common.{◌≡◌, ℕ, suc, ◌+◌, ◌*◌, ◌^◌, ◌<◌, ◌≤◌, Bool, true, false, cond, List, [], ◌∷◌, ◌++◌, length, map, drop, get_or, ℤ, pos, ◌+ℤ◌, ◌-ℤ◌, ◌*ℤ◌, vec_len, All, refl, sym, ◌∙◌, ap, subst, arith, append_assoc, append-nil, length-append, replicate}
 use Rattle.std.proofs.lemmas.Int.{ints, clamps}
 use Rattle.std.proofs.Math.Seq.{drop-cons}
+use Rattle.std.proofs.Math.ListN.{length-replicate}
+use Rattle.std.proofs.lemmas.List.{get_or-replicate}
+use Rattle.std.proofs.lemmas.Grind.{common_steps}
 use Rattle.net_normal.specs.Limits.{IsSized, IsArcOf, value_limit, constant_limit}
 use Rattle.net_normal.specs.Sums.{price_of}
 use Rattle.net_normal.specs.Assignments.{enters, leaves}
 use Rattle.net_normal.specs.NormalForm.{offset_of, offsets_of, numbers_from, flow_arc_of, least_inflow, most_inflow, shift_of, constant_of}
-use Rattle.net_normal.specs.NodeSums.{AreSized, entered, left, counted_head, counted_tail, CountsArc}
+use Rattle.net_normal.specs.NodeSums.{AreSized, AreSumsOf, no_sums, entered, left, counted_head, counted_tail, CountsArc}
 use Rattle.net_normal.specs.declared.instance.Instance.{Instance}
 use Rattle.net_normal.specs.declared.instance.InstArc.{InstArc}
+use Rattle.net_normal.specs.declared.problem.FlowArc.{FlowArc}
 use Rattle.net_normal.specs.declared.node_sums.NodeSums.{NodeSums}
 use Rattle.net_normal.specs.declared.arc_part.ArcPart.{ArcPart}
 use Rattle.net_normal.proofs.WholeNumbers.{sized-mul}
@@ -143,3 +147,64 @@ sums-small i sums l h =
 
 pub constant_small : (instance : Instance) (i : ℕ) (part : ArcPart) → i ≤ 100000 → HasRead instance i part → IsSized constant_limit part.constant
 constant_small instance i part few h = smaller (10 ^ 12 + 10 ^ 24 * i) constant_limit part.constant (omega arith) h.size
+
+-- ---- before the first arc, and behind the last
+
+none_lack : (arcs : List InstArc) (v : ℕ) → LackOnly arcs arcs v no_sums
+none_lack arcs v = record { least = omega (arith, ints); most = omega (arith, ints); shift = omega (arith, ints) }
+
+none_sized : AreSized 0 no_sums
+none_sized = record {
+  least = record { above = omega (arith, ints); below = omega (arith, ints) };
+  most = record { above = omega (arith, ints); below = omega (arith, ints) };
+  shift = record { above = omega (arith, ints); below = omega (arith, ints) };
+}
+
+pub none_read : (instance : Instance) (part : ArcPart) → part.arcs.items ≡ [] → part.numbers.items ≡ [] → part.offsets.items ≡ [] → part.constant ≡ instance.constant → part.sums.items ≡ replicate (vec_len instance.nodes) no_sums → HasRead instance 0 part
+none_read instance part arcs numbers offsets constant sums =
+    let all = instance.arcs.items in
+    let count : length part.sums.items ≡ vec_len instance.nodes = ap length sums ∙ length-replicate (vec_len instance.nodes) no_sums in
+    let here : (v : ℕ) (d : NodeSums) → v < length part.sums.items → no_sums ≡ get_or part.sums.items v d = λ v d l.
+    sym (ap (λ (xs : List NodeSums). get_or xs v d) sums ∙ get_or-replicate (vec_len instance.nodes) v no_sums d (omega (arith, l, count))) in
+    let fits = instance.constant_fits in
+    record {
+      arcs = ap (λ (xs : List FlowArc). xs ++ map (flow_arc_of instance.sense (vec_len instance.nodes)) all) arcs;
+      numbers = ap (λ (xs : List ℕ). xs ++ numbers_from 1 all) numbers;
+      count = part.numbers.ok.0 ∙ ap length numbers;
+      offsets = ap (λ (xs : List ℤ). xs ++ offsets_of all) offsets;
+      constant = ap (λ (z : ℤ). z +ℤ price_of (λ (a : InstArc). a.coefficient) all (offsets_of all)) constant;
+      size = record { above = omega (arith, ints, fits.above, constant); below = omega (arith, ints, fits.below, constant) };
+      nodes = part.sums.ok.0 ∙ count;
+      sums = λ v d l. subst (LackOnly all all v) (here v d l) (none_lack all v);
+      sizes = λ v d l. subst (AreSized 0) (here v d l) none_sized;
+    }
+
+-- what the pass has made of all arcs
+pub record AllRead (instance : Instance) (part : ArcPart) : Type 0 where
+  pub arcs : part.arcs.items ≡ map (flow_arc_of instance.sense (vec_len instance.nodes)) instance.arcs.items
+  pub numbers : part.numbers.items ≡ numbers_from 1 instance.arcs.items
+  pub offsets : part.offsets.items ≡ offsets_of instance.arcs.items
+  pub constant : part.constant ≡ constant_of instance
+  pub nodes : vec_len part.sums ≡ vec_len instance.nodes
+  pub sums : AreSumsOf instance.arcs.items part.sums.items
+
+all_dropped : (xs : List InstArc) (i : ℕ) → length xs ≤ i → drop i xs ≡ []
+all_dropped xs i h = grind (arith, common_steps)
+
+pub all_read : (instance : Instance) (i : ℕ) (part : ArcPart) → length instance.arcs.items ≤ i → HasRead instance i part → AllRead instance part
+all_read instance i part past h =
+    let all = instance.arcs.items in
+    let none : drop i all ≡ [] = all_dropped all i past in
+    let make = flow_arc_of instance.sense (vec_len instance.nodes) in
+    let paid : part.constant +ℤ pos 0 ≡ constant_of instance =
+    ap (λ (bs : List InstArc). part.constant +ℤ price_of (λ (a : InstArc). a.coefficient) bs (offsets_of bs)) (sym none) ∙ h.constant in
+    record {
+      arcs = sym (append-nil part.arcs.items) ∙ ap (λ (bs : List InstArc). part.arcs.items ++ map make bs) (sym none) ∙ h.arcs;
+      numbers = sym (append-nil part.numbers.items) ∙ ap (λ (bs : List InstArc). part.numbers.items ++ numbers_from (suc i) bs) (sym none) ∙ h.numbers;
+      offsets = sym (append-nil part.offsets.items) ∙ ap (λ (bs : List InstArc). part.offsets.items ++ offsets_of bs) (sym none) ∙ h.offsets;
+      constant = omega (arith, ints, paid);
+      nodes = h.nodes;
+      sums = λ v d l.
+          let here : LackOnly [] all v (get_or part.sums.items v d) = subst (λ (bs : List InstArc). LackOnly bs all v (get_or part.sums.items v d)) none (h.sums v d l) in
+          record { least = omega (arith, ints, here.least); most = omega (arith, ints, here.most); shift = omega (arith, ints, here.shift) };
+    }
