@@ -5,6 +5,10 @@ use Rattle.net_check.specs.declared.certificate.Side.TheVariants.{Over, Under}
 use Rattle.net_dimacs.specs.declared.problem_fault.LineFault.TheVariants.{TooLarge, Certificate}
 use Rattle.net_dimacs.specs.declared.claim.Claim.TheVariants as claims
 use Rattle.net_dimacs.specs.Claims.{claimed}
+use Rattle.net_dimacs.specs.declared.statement.Statement.TheVariants as statements
+use Rattle.net_dimacs.specs.Lines.{fields_of}
+use Rattle.net_dimacs.specs.Numbers.{cut_numbers, kind_of, said_by_kind}
+use Rattle.net_dimacs.specs.Problems.{BeginsProblem, statements_of}
 use Rattle.net_dimacs.specs.Certificates.{Account, Optimal, Cut, IsCertificateText}
 use Rattle.net_dimacs.specs.CertificateReading.{Start, read_lines}
 
@@ -84,3 +88,37 @@ falling_nodes = refl
 
 nothing : read_lines 3 arcs 1 Start [] ≡ Err (record { fault = Certificate; line = 1 })
 nothing = refl
+
+-- ---- lines of a problem text by their kind
+
+arc_by_kind : said_by_kind (kind_of (codes "a")) (fields_of (codes " 1\t+2 0 5  -3 ")) ≡ Some (statements.Arc (pos 1) (pos 2) (pos 0) (pos 5) (negsuc 2))
+arc_by_kind = refl
+
+short_arc : said_by_kind (kind_of (codes "a")) (fields_of (codes " 1 2 0 5")) ≡ Some statements.Other
+short_arc = refl
+
+node_by_kind : said_by_kind (kind_of (codes "n")) (fields_of (codes " 2 -7")) ≡ Some (statements.Node (pos 2) (negsuc 6))
+node_by_kind = refl
+
+problem_by_kind : said_by_kind (kind_of (codes "p")) (fields_of (codes " min 3 2")) ≡ Some (statements.Problem (pos 3) (pos 2))
+problem_by_kind = refl
+
+most : said_by_kind (kind_of (codes "p")) (fields_of (codes " max 3 2")) ≡ Some statements.Other
+most = refl
+
+comment_by_kind : said_by_kind (kind_of (codes "cat")) (fields_of (codes " 1 2")) ≡ None
+comment_by_kind = refl
+
+-- a number past 64 bits, of either sign
+cut_numeral : cut_numbers (codes "99999999999999999999 -99999999999999999999 x") ≡ Some (pos 9223372036854775807) ∷ Some (negsuc 9223372036854775806) ∷ None ∷ []
+cut_numeral = refl
+
+-- memory may be wanted over the first text, and not over the others
+announced : BeginsProblem (statements_of (codes "c x" ++ feed ++ codes "p min 2 1" ++ feed ++ codes "q"))
+announced = refl
+
+too_many_nodes : BeginsProblem (statements_of (codes "p min 20001 1")) → ⊥
+too_many_nodes h = cc
+
+no_problem_first : BeginsProblem (statements_of (codes "q" ++ feed ++ codes "p min 2 1")) → ⊥
+no_problem_first h = h

@@ -1,4 +1,4 @@
-use Rattle.std.proofs.Common.{◌≡◌, ◌+◌, ◌-◌, ◌%◌, ℕ, ℤ, List, length, get_or, pos, arith}
+use Rattle.std.proofs.Common.{◌≡◌, ◌+◌, ◌-◌, ◌%◌, ℕ, ℤ, List, get_or, pos, arith}
 use Rattle.net_check.proofs.Balances.{added_at, place_found, sum_fits}
 use Rattle.net_check.proofs.balance.add_at.Goals as goal
 

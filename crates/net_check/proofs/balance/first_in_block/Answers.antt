@@ -1,4 +1,4 @@
-use Rattle.std.proofs.Common.{◌≡◌, ◌<◌, ◌≤◌, ◌+◌, ◌-◌, ◌^◌, ℕ, length, get_or, ℤ, pos, of_z, ap, sym, ◌∙◌, arith, refl, below_more, vec_len}
+use Rattle.std.proofs.Common.{◌≡◌, ◌<◌, ◌+◌, ◌-◌, ◌^◌, length, get_or, ℤ, pos, of_z, ap, sym, ◌∙◌, arith, refl, below_more, vec_len}
 use mir.Syntax.{w128}
 use Rattle.net_normal.specs.Limits.{IsSized}
 use Rattle.net_normal.specs.Flows.{net_outflow}

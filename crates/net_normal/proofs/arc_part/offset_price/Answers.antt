@@ -1,4 +1,4 @@
-use Rattle.std.proofs.Common.{◌≡◌, ℤ, ◌*ℤ◌, ◌^◌, rules, subst, sym, to_z, of_z}
+use Rattle.std.proofs.Common.{◌≡◌, ◌*ℤ◌, ◌^◌, rules, subst, sym, to_z, of_z}
 use mir.Syntax.{w128}
 use Rattle.net_normal.specs.Limits.{IsSized, value_limit}
 use Rattle.net_normal.proofs.WholeNumbers.{sized-mul}

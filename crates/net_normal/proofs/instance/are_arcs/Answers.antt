@@ -1,4 +1,4 @@
-use Rattle.std.proofs.Common.{IsTrue, arith, rules, pos, refl, None}
+use Rattle.std.proofs.Common.{IsTrue, arith, rules, pos, None}
 use Rattle.std.proofs.lemmas.List.Elements.{All-more}
 use Rattle.net_normal.specs.Limits.{IsArcOf}
 use Rattle.net_normal.specs.declared.instance.InstArc.{InstArc}

@@ -1,15 +1,17 @@
-use Rattle.std.proofs.Common.{arith, rules, refl}
-use Rattle.std.proofs.lemmas.Grind.{common_steps}
+use Rattle.std.proofs.Common.{rules, refl}
 use Rattle.net_normal.specs.Limits.{value_limit}
 use Rattle.net_normal.proofs.instance.is_arc.Goals as goal
 
 pub returns : goal.returns
-returns c = (λ within. record {
-  lower = (c.is_sized.ensures value_limit refl).0 (search rules);
-  upper = (c.is_sized-else-not-is_sized.ensures value_limit refl).0 (search rules);
-  ordered = search rules;
-  coefficient = (c.is_sized-2.ensures value_limit refl).0 (search rules);
-  tail = search rules;
-  head = c.is_among-2.ensures.0 within;
-  an_end = search rules;
-}, λ fits. c.is_among-2.ensures.1 fits.head)
+returns c = (
+  λ within. record {
+    lower = (c.is_sized.ensures value_limit refl).0 (search rules);
+    upper = (c.is_sized-else-not-is_sized.ensures value_limit refl).0 (search rules);
+    ordered = search rules;
+    coefficient = (c.is_sized-2.ensures value_limit refl).0 (search rules);
+    tail = search rules;
+    head = c.is_among-2.ensures.0 within;
+    an_end = search rules;
+  },
+  λ fits. c.is_among-2.ensures.1 fits.head,
+)

@@ -1,4 +1,4 @@
-use Rattle.std.proofs.Common.{IsTrue, arith, rules, pos, refl}
+use Rattle.std.proofs.Common.{IsTrue, arith, rules, pos}
 use Rattle.std.proofs.lemmas.List.Elements.{All-more}
 use Rattle.net_normal.specs.Limits.{IsFlowArcOf}
 use Rattle.net_normal.specs.declared.problem.FlowArc.{FlowArc}

@@ -1,4 +1,4 @@
-use Rattle.std.proofs.Common.{◌≡◌, IsTrue, All, List, arith, rules, refl, subst, ℕ, vec_len}
+use Rattle.std.proofs.Common.{IsTrue, All, List, arith, rules, refl, subst, ℕ, vec_len}
 use Rattle.net_normal.specs.Limits.{IsArcOf, value_limit}
 use Rattle.net_normal.specs.declared.instance.InstArc.{InstArc}
 use Rattle.net_normal.proofs.instance.Instance.checked.Goals as goal
