@@ -22,3 +22,18 @@ returns-clause-no c = λ reason number e.
     slack-is_fault problem c.args.value.now flows potentials reason number shape feasible cost
     (subst (λ (bs : List FlowArc). IsFirstFailing (ArcKeeps (IsComplementary potentials) bs flows) number) arcs (c.check_slackness.ensures.no reason number e))
     (subst (λ (bs : List FlowArc). ArcKeeps (λ arc flow. IsSlack potentials arc flow reason) bs flows (number - 1)) arcs (c.check_slackness.ensures.reason reason number e))
+
+pub returns-clause-yes : goal.returns-clause-yes
+returns-clause-yes c = λ e.
+    let problem = c.args.problem.now in
+    let flows = c.args.flows.now in
+    let potentials = c.args.potentials.now in
+    record {
+      one_a_node = omega (arith, c.if-potentials-len.false, c.len-else-flows-len.ensures);
+      feasible = record {
+        capacity = subst (λ (bs : List FlowArc). AllZip IsWithinCapacity bs flows) c.deref.ensures.value c.in_default.ensures.none;
+        balance = c.in_default-first_unbalanced.ensures.none;
+      };
+      cost = search rules;
+      slackness = subst (λ (bs : List FlowArc). AllZip (IsComplementary potentials) bs flows) c.deref-2.ensures.value (c.check_slackness.ensures.yes e);
+    }
