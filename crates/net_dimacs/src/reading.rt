@@ -12,14 +12,14 @@ use std::alloc::{AllocError, Global};
 /// A problem text that is being read. Of the text, only a line that is not whole yet is kept.
 #[derive(Drop)]
 pub struct Reading {
-    pub alloc: Global,
+    alloc: Global,
     /// How many bytes came.
-    pub length: usize,
+    length: usize,
     /// What the whole lines said, unless the text passes the limit.
-    pub scan: Scan,
+    scan: Scan,
     /// The bytes behind the last LF.
-    pub pending: Vec<u8>,
-    pub ghost few_lines: { scan.line + vec_len pending ≤ length + 1 },
+    pending: Vec<u8>,
+    ghost few_lines: { scan.line + vec_len pending ≤ length + 1 },
 }
 
 impl Reading {
