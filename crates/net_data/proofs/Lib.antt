@@ -18,3 +18,4 @@ pub mod Promise
 pub mod Examples
 pub mod CellLemmas
 pub mod ItemLemmas
+pub mod GroupLemmas

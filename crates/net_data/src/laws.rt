@@ -1,4 +1,5 @@
-ghost use Rattle.std.specs.Prelude.{◌≡◌, List, Ok};
+ghost use Rattle.std.specs.Prelude.{◌≡◌, ◌<◌, ℕ, List, [], ◌∷◌, Ok, length, take, drop};
+ghost use Rattle.net_data.specs.Rows.{groups};
 ghost use Rattle.net_lex.specs.declared.token.Token.{Token};
 ghost use Rattle.net_data.specs.declared.tables.Tables.{Tables};
 ghost use Rattle.net_data.specs.Meaning.{Mean, all_judged};
@@ -6,4 +7,11 @@ ghost use Rattle.net_data.specs.Meaning.{Mean, all_judged};
 /// A law alone: tokens that mean tables without a fault mean no others.
 pub fn one_meaning()
     ensures value { (tokens : List Token) (x y : Tables) → Mean tokens x → Mean tokens y → all_judged x.statements ≡ Ok tt → x ≡ y }
+{}
+
+/// A law alone: the groups of cells are the first one and those of the cells behind it, so that
+/// `Cells::split_at` walks them.
+pub fn group_by_group()
+    ensures none { (size : ℕ) → groups size [] ≡ [] }
+    ensures next { (size : ℕ) (cells : List Token) → 0 < size → 0 < length cells → groups size cells ≡ take size cells ∷ groups size (drop size cells) }
 {}
