@@ -9,7 +9,7 @@ use Rattle.net_data.specs.declared.statement.Statement.TheVariants as kinds
 use Rattle.net_data.specs.declared.stop.Stop.{Stop}
 use Rattle.net_data.specs.declared.tables.Tables.{Tables}
 use Rattle.net_data.specs.declared.statement.Transposed.{Transposed}
-use Rattle.net_data.specs.Rows.{list_rows, row_across, first_item, more_items}
+use Rattle.net_data.specs.Rows.{list_rows, row_across, first_item, more_items, set_rows}
 use Rattle.net_data.specs.Commas.{before, bare}
 use Rattle.net_data.specs.Reading.{tables, stop, met, wanted, refused, run, items, items_from, set, heading, cells, filled, table, given, list, body, default, named, named_set, columns, param, statement, statements, lone, finished}
 
@@ -113,3 +113,8 @@ tuple_first = refl
 
 tuple_more : more_items (mark 7 (codes "(") ∷ name 8 (codes "b") ∷ mark 9 (codes ",") ∷ name 10 (codes "c") ∷ mark 11 (codes ")") ∷ name 12 (codes "d") ∷ []) ≡ name 12 (codes "d") ∷ []
 tuple_more = refl
+
+-- a , ( b , c ) d e in a set of pairs: `a` is a row cut short
+pairs : set_rows 2 (name 1 (codes "a") ∷ mark 7 (codes "(") ∷ name 8 (codes "b") ∷ mark 9 (codes ",") ∷ name 10 (codes "c") ∷ mark 11 (codes ")") ∷ name 12 (codes "d") ∷ name 13 (codes "e") ∷ [])
+    ≡ (name 1 (codes "a") ∷ []) ∷ (name 8 (codes "b") ∷ name 10 (codes "c") ∷ []) ∷ (name 12 (codes "d") ∷ name 13 (codes "e") ∷ []) ∷ []
+pairs = refl

@@ -1,5 +1,5 @@
 -- The rows of a statement for a number of keys: each its keys and its value. A point gives no row.
-use Rattle.std.specs.Prelude.{ℕ, zero, suc, ◌+◌, Bool, true, false, not, List, [], ◌∷◌, length, take, drop, map, slice_get, if◌then◌else◌, Option, Some, None, codes}
+use Rattle.std.specs.Prelude.{ℕ, zero, suc, ◌+◌, Bool, true, false, not, List, [], ◌∷◌, length, take, drop, map, slice_get, if◌then◌else◌, unwrap_or, Option, Some, None, codes}
 use Rattle.std.specs.List.{flat_map, zip, prefix_len}
 use Rattle.net_lex.specs.declared.token.Kind.{Kind}
 use Rattle.net_lex.specs.declared.token.Kind.TheVariants.{Dot}
@@ -89,3 +89,24 @@ more_items (token ∷ tokens) =
     if is_mark (codes "(") token then drop (suc (inside_len tokens)) tokens
     else if is_mark (codes ";") token then []
     else tokens
+
+-- how many members stand alone before the next tuple
+abbrev pub alone_len : List Token → ℕ
+alone_len tokens = prefix_len (λ token. not (is_mark (codes "(") token)) tokens
+
+-- the first row of a set of this dimension: a tuple, or members that stand alone, no more than the dimension and up to
+-- the next tuple
+abbrev pub first_row : ℕ → List Token → List Token
+first_row dimension tokens = if begins_tuple tokens then unwrap_or (first_item tokens) [] else take dimension (take (alone_len tokens) tokens)
+
+abbrev pub more_rows : ℕ → List Token → List Token
+more_rows dimension tokens = if begins_tuple tokens then more_items tokens else drop (length (take dimension (take (alone_len tokens) tokens))) tokens
+
+abbrev pub set_rows_from : ℕ → ℕ → List Token → List (List Token)
+set_rows_from dimension zero tokens = []
+set_rows_from dimension (suc turns) [] = []
+set_rows_from dimension (suc turns) (token ∷ tokens) = first_row dimension (token ∷ tokens) ∷ set_rows_from dimension turns (more_rows dimension (token ∷ tokens))
+
+-- the rows of a set of a dimension that is not 0; a row of another length is no member of it
+abbrev pub set_rows : ℕ → List Token → List (List Token)
+set_rows dimension tokens = set_rows_from dimension (length tokens) tokens

@@ -1,5 +1,5 @@
 ghost use Rattle.std.specs.Prelude.{◌≡◌, ◌<◌, ℕ, List, [], ◌∷◌, Ok, length, take, drop};
-ghost use Rattle.net_data.specs.Rows.{groups};
+ghost use Rattle.net_data.specs.Rows.{groups, set_rows, first_row, more_rows};
 ghost use Rattle.net_lex.specs.declared.token.Token.{Token};
 ghost use Rattle.net_data.specs.declared.tables.Tables.{Tables};
 ghost use Rattle.net_data.specs.Meaning.{Mean, all_judged};
@@ -14,4 +14,11 @@ pub fn one_meaning()
 pub fn group_by_group()
     ensures none { (size : ℕ) → groups size [] ≡ [] }
     ensures next { (size : ℕ) (cells : List Token) → 0 < size → 0 < length cells → groups size cells ≡ take size cells ∷ groups size (drop size cells) }
+{}
+
+/// A law alone: the rows of a set are the first one and those of the items behind it.
+pub fn set_row_by_row()
+    ensures none { (dimension : ℕ) → set_rows dimension [] ≡ [] }
+    ensures next { (dimension : ℕ) (items : List Token) → 0 < dimension → 0 < length items
+        → set_rows dimension items ≡ first_row dimension items ∷ set_rows dimension (more_rows dimension items) }
 {}
