@@ -1,0 +1,70 @@
+-- Where a tree stands: from its first token to its last.
+use Rattle.std.specs.Prelude.{Option, None, Some}
+use Rattle.net_lex.specs.declared.token.Token.{Token}
+use Rattle.net_lex.specs.declared.span.Span.{Span}
+use Rattle.net_tree.specs.Tree.{Tree, Links, Part, Braces, leaf, indexed, parens, tuple, negated, braced, signed, reduced, chain, choice, net, none, link, absent, part, empty, filled, Condition, unsaid, one, between}
+
+abbrev pub opening : Braces → Token
+opening (empty o p c) = o
+opening (filled o x l p c) = o
+
+abbrev pub closing : Braces → Token
+closing (empty o p c) = c
+closing (filled o x l p c) = c
+
+abbrev pub first_or : Option Token → Token → Token
+first_or None w = w
+first_or (Some s) w = s
+
+-- the first token
+abbrev pub first : Tree → Token
+first (leaf t) = t
+first (indexed n o x l c) = n
+first (parens o x c) = o
+first (tuple o x l c) = o
+first (negated n o x c) = n
+first (braced b) = opening b
+first (signed s x) = s
+first (reduced w b x) = w
+first (chain n x l) = first x
+first (choice i x t y e) = i
+first (net s w) = first_or s w
+
+-- the last token; of links and of a part that of what stands last in them, else the one given
+abbrev mutual
+  pub final : Tree → Token
+  final (leaf t) = t
+  final (indexed n o x l c) = c
+  final (parens o x c) = c
+  final (tuple o x l c) = c
+  final (negated n o x c) = c
+  final (braced b) = closing b
+  final (signed s x) = final x
+  final (reduced w b x) = final x
+  final (chain n x l) = final_of (final x) l
+  final (choice i x t y e) = final_part (final y) e
+  final (net s w) = w
+
+  pub final_of : Token → Links → Token
+  final_of t none = t
+  final_of t (link o x l) = final_of (final x) l
+
+  pub final_part : Token → Part → Token
+  final_part t absent = t
+  final_part t (part m x) = final x
+
+-- from one token to another
+unfoldable pub span_between : Token → Token → Span
+span_between a b = record { start = a.span.start; end = b.span.end }
+
+unfoldable pub span_of : Tree → Span
+span_of x = record { start = (first x).span.start; end = (final x).span.end }
+
+unfoldable pub braces_span : Braces → Span
+braces_span b = record { start = (opening b).span.start; end = (closing b).span.end }
+
+-- a node's condition, from the first token behind the colon
+abbrev pub condition_span : Condition → Option Span
+condition_span unsaid = None
+condition_span (one m x o y) = Some (record { start = (first x).span.start; end = (final y).span.end })
+condition_span (between m x o y p z) = Some (record { start = (first x).span.start; end = (final z).span.end })

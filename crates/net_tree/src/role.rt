@@ -1,0 +1,208 @@
+ghost use Rattle.std.specs.Prelude.{◌≡◌, map};
+ghost use Rattle.net_tree.specs.Role.{marks, keys, found_in, role_of};
+
+use net_lex::{Kind, Token};
+
+/// The word that begins a declaration.
+#[derive(Clone, Copy)]
+pub enum Declares {
+    Set,
+    Param,
+    Check,
+    Node,
+    Arc,
+    /// `minimize`, `maximize`
+    Objective,
+}
+
+/// A word that begins a phrase and stands nowhere else.
+#[derive(Clone, Copy)]
+pub enum Begins {
+    Dimen,
+    Symbolic,
+    Integer,
+    Default,
+    From,
+    To,
+    Obj,
+}
+
+/// What an operator of the level of relations says.
+#[derive(Clone, Copy)]
+pub enum Relates {
+    /// `=`, `==`
+    Equal,
+    /// `<=`
+    AtMost,
+    /// `>=`
+    AtLeast,
+    /// `<`, `>`, `<>`, `!=`
+    Other,
+    In,
+    Within,
+}
+
+/// What a token may be in a model text.
+#[derive(Clone, Copy)]
+pub enum Role {
+    Name,
+    Number,
+    Text,
+    /// `(`
+    Open,
+    /// `)`
+    Close,
+    /// `{`
+    OpenBrace,
+    /// `}`
+    CloseBrace,
+    /// `[`
+    OpenSquare,
+    /// `]`
+    CloseSquare,
+    Comma,
+    Colon,
+    Semicolon,
+    /// `:=`
+    Becomes,
+    /// `+`, `-`
+    Sign,
+    /// `..`
+    Range,
+    By,
+    /// An operator that joins any number of operands, with its level (see `joins`): `*`, `div`, `mod`, `cross`, `inter`,
+    /// `union`, `diff`, `symdiff`, `and`, `or`.
+    Joining(u8),
+    Relation(Relates),
+    Not,
+    If,
+    Then,
+    Else,
+    /// `sum`, `min`, `max`
+    Reduction,
+    /// `net_in`, `net_out`
+    Net,
+    Declaration(Declares),
+    Phrase(Begins),
+    /// A mark or word of AMPL that this profile leaves out: `/`, `^`, `**`, `&`, `&&`, `||`, `!`, `.`, `prod`, `exists`,
+    /// `forall`, `setof`, `Infinity`, `less`.
+    LeftOut,
+    /// What no model text has.
+    Unknown,
+}
+
+/// The marks with their roles, the most frequent first.
+#[tactic(auto, unfolding(crate::specs::Role::marks))]
+fn marks() -> &'static [(&'static [u8], Role)]
+    ensures { map (λ word. (word.0.now, word.1)) result.now ≡ marks }
+{
+    &[
+        (b",", Role::Comma),
+        (b";", Role::Semicolon),
+        (b"[", Role::OpenSquare),
+        (b"]", Role::CloseSquare),
+        (b"(", Role::Open),
+        (b")", Role::Close),
+        (b"{", Role::OpenBrace),
+        (b"}", Role::CloseBrace),
+        (b":", Role::Colon),
+        (b"+", Role::Sign),
+        (b"-", Role::Sign),
+        (b"*", Role::Joining(1)),
+        (b"=", Role::Relation(Relates::Equal)),
+        (b"<=", Role::Relation(Relates::AtMost)),
+        (b">=", Role::Relation(Relates::AtLeast)),
+        (b"<", Role::Relation(Relates::Other)),
+        (b">", Role::Relation(Relates::Other)),
+        (b"..", Role::Range),
+        (b":=", Role::Becomes),
+        (b"<>", Role::Relation(Relates::Other)),
+        (b"==", Role::Relation(Relates::Equal)),
+        (b"!=", Role::Relation(Relates::Other)),
+        (b".", Role::LeftOut),
+        (b"/", Role::LeftOut),
+        (b"**", Role::LeftOut),
+        (b"^", Role::LeftOut),
+        (b"&", Role::LeftOut),
+        (b"&&", Role::LeftOut),
+        (b"||", Role::LeftOut),
+        (b"!", Role::LeftOut),
+    ]
+}
+
+/// The reserved words with their roles, the most frequent first.
+#[tactic(auto, unfolding(crate::specs::Role::keys))]
+fn keys() -> &'static [(&'static [u8], Role)]
+    ensures { map (λ word. (word.0.now, word.1)) result.now ≡ keys }
+{
+    &[
+        (b"in", Role::Relation(Relates::In)),
+        (b"sum", Role::Reduction),
+        (b"param", Role::Declaration(Declares::Param)),
+        (b"set", Role::Declaration(Declares::Set)),
+        (b"cross", Role::Joining(4)),
+        (b"within", Role::Relation(Relates::Within)),
+        (b"and", Role::Joining(8)),
+        (b"obj", Role::Phrase(Begins::Obj)),
+        (b"from", Role::Phrase(Begins::From)),
+        (b"to", Role::Phrase(Begins::To)),
+        (b"if", Role::If),
+        (b"then", Role::Then),
+        (b"else", Role::Else),
+        (b"or", Role::Joining(9)),
+        (b"not", Role::Not),
+        (b"arc", Role::Declaration(Declares::Arc)),
+        (b"node", Role::Declaration(Declares::Node)),
+        (b"net_in", Role::Net),
+        (b"net_out", Role::Net),
+        (b"by", Role::By),
+        (b"check", Role::Declaration(Declares::Check)),
+        (b"div", Role::Joining(1)),
+        (b"mod", Role::Joining(1)),
+        (b"min", Role::Reduction),
+        (b"max", Role::Reduction),
+        (b"union", Role::Joining(6)),
+        (b"diff", Role::Joining(6)),
+        (b"symdiff", Role::Joining(6)),
+        (b"inter", Role::Joining(5)),
+        (b"minimize", Role::Declaration(Declares::Objective)),
+        (b"maximize", Role::Declaration(Declares::Objective)),
+        (b"default", Role::Phrase(Begins::Default)),
+        (b"dimen", Role::Phrase(Begins::Dimen)),
+        (b"symbolic", Role::Phrase(Begins::Symbolic)),
+        (b"integer", Role::Phrase(Begins::Integer)),
+        (b"exists", Role::LeftOut),
+        (b"forall", Role::LeftOut),
+        (b"Infinity", Role::LeftOut),
+        (b"less", Role::LeftOut),
+        (b"prod", Role::LeftOut),
+        (b"setof", Role::LeftOut),
+    ]
+}
+
+/// The role that the table gives the text.
+fn found_in(table: &[(&'static [u8], Role)], text: &[u8]) -> Role
+    ensures { result ≡ found_in (map (λ word. (word.0.now, word.1)) table.now) text.now }
+{
+    for (word, role) in table {
+        if *word == text {
+            return *role;
+        }
+    }
+    Role::Unknown
+}
+
+/// What the token may be in a model text.
+#[tactic(auto, unfolding(crate::specs::Role::role_of))]
+pub fn role_of(token: &Token<'_>) -> Role
+    ensures { result ≡ role_of token.now }
+{
+    match token.kind {
+        Kind::Name => Role::Name,
+        Kind::Num => Role::Number,
+        Kind::Str => Role::Text,
+        Kind::Key => found_in(keys(), token.text.as_str().as_bytes()),
+        Kind::Mark => found_in(marks(), token.text.as_str().as_bytes()),
+        Kind::Dot => Role::Unknown,
+    }
+}
