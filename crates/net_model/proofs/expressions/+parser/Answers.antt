@@ -1,0 +1,70 @@
+use Rattle.std.proofs.Common.{◌≡◌, ◌+◌, ◌-◌, sym, ap, ◌∙◌, arith, length, length-append, [], ◌∷◌}
+use Rattle.std.proofs.lemmas.Result.{err_from_is_err_and}
+use Rattle.net_tree.specs.Level.{joins}
+use Rattle.net_tree.specs.declared.expr.Link.{roll-Link}
+use Rattle.net_model.proofs.Making.{link_made}
+use Rattle.net_tree.specs.View.{tree, braces_of, links_of}
+use Rattle.net_model.specs.Expressions.{inside, climb, unary, if_at, braces, links}
+use Rattle.net_model.specs.Reading.{Gives, next_is, read_as}
+use Rattle.net_model.proofs.Steps.{inside-none, inside-some, climb-low, climb-high}
+use Rattle.net_model.proofs.Turning.{all_read, one_read, no_operator, no_operand}
+use Rattle.net_model.proofs.expressions.+parser.Goals as goal
+
+pub braces_of-returns-then-depth-eq0-clause-value : goal.braces_of-returns-then-depth-eq0-clause-value
+braces_of-returns-then-depth-eq0-clause-value t c = rw (inside-none c.args.depth c.if-depth-eq0.true) c.shut_braces.ensures.value
+
+pub braces_of-returns-else-depth-eq0-clause-value : goal.braces_of-returns-else-depth-eq0-clause-value
+braces_of-returns-else-depth-eq0-clause-value t c = rw (inside-some c.args.depth c.if-depth-eq0.false) c.braces_opened.ensures.value
+
+pub if_of-returns-then-depth-eq0-clause-value : goal.if_of-returns-then-depth-eq0-clause-value
+if_of-returns-then-depth-eq0-clause-value t c = rw (inside-none c.args.depth c.if-depth-eq0.true) c.shut_if.ensures.value
+
+pub if_of-returns-else-depth-eq0-clause-value : goal.if_of-returns-else-depth-eq0-clause-value
+if_of-returns-else-depth-eq0-clause-value t c = rw (inside-some c.args.depth c.if-depth-eq0.false) c.if_inside.ensures.value
+
+pub unary_of-returns-then-depth-eq0-clause-value : goal.unary_of-returns-then-depth-eq0-clause-value
+unary_of-returns-then-depth-eq0-clause-value t c = rw (inside-none c.args.depth c.if-depth-eq0.true) c.shut.ensures.value
+
+pub unary_of-returns-else-depth-eq0-clause-value : goal.unary_of-returns-else-depth-eq0-clause-value
+unary_of-returns-else-depth-eq0-clause-value t c = rw (inside-some c.args.depth c.if-depth-eq0.false) c.unary_inside.ensures.value
+
+pub climb_to-returns-then-place-lt2-clause-value : goal.climb_to-returns-then-place-lt2-clause-value
+climb_to-returns-then-place-lt2-clause-value t c = rw (climb-low c.args.place (unary (inside c.args.depth)) c.if-place-lt2.true) c.unary_of.ensures.value
+
+pub climb_to-returns-else-place-lt2-clause-value : goal.climb_to-returns-else-place-lt2-clause-value
+climb_to-returns-else-place-lt2-clause-value t c = rw (climb-high c.args.place (unary (inside c.args.depth)) c.if-place-lt2.false) c.chain_of.ensures.value
+
+pub links_from-returns-in_err-operator-clause-value : goal.links_from-returns-in_err-operator-clause-value
+links_from-returns-in_err-operator-clause-value t c =
+    let same : c.len.result ≡ length c.loop-alloc.found.items = omega (arith, c.len.ensures, c.loop-alloc.found.ok) in
+    let y = err_from_is_err_and c.from_residual.result c.from_residual.ensures.1 in
+    rw y.1 (rw y.2 (no_operator c.loop-alloc.found.items (length c.args.tokens.now) c.args.level c.len.result (climb c.args.place (unary (inside c.args.depth))) c.loop-alloc.tokens (links (length c.args.tokens.now) c.args.level 0 (climb c.args.place (unary (inside c.args.depth))) c.args.tokens.now) c.in_err-operator.field-0.0
+        same c.loop-alloc.invariant.room (sym c.next_joins.ensures ∙ c.loop-alloc-test.true) c.loop-alloc.invariant.read c.in_err-operator.ensures.value))
+
+pub links_from-returns-in_err-operand-clause-value : goal.links_from-returns-in_err-operand-clause-value
+links_from-returns-in_err-operand-clause-value t c =
+    let same : c.len.result ≡ length c.loop-alloc.found.items = omega (arith, c.len.ensures, c.loop-alloc.found.ok) in
+    let y = err_from_is_err_and c.from_residual-in_err-operand.result c.from_residual-in_err-operand.ensures.1 in
+    rw y.1 (rw y.2 (no_operand c.loop-alloc.found.items (length c.args.tokens.now) c.args.level c.len.result (climb c.args.place (unary (inside c.args.depth))) c.loop-alloc.tokens c.in_ok-operator.operator c.operator_at.new.tokens (links (length c.args.tokens.now) c.args.level 0 (climb c.args.place (unary (inside c.args.depth))) c.args.tokens.now) c.in_err-operand.field-0.0
+        same c.loop-alloc.invariant.room (sym c.next_joins.ensures ∙ c.loop-alloc-test.true) c.in_ok-operator.ensures.value c.loop-alloc.invariant.read c.in_err-operand.ensures.value))
+
+pub links_from-returns-clause-value : goal.links_from-returns-clause-value
+links_from-returns-clause-value t c =
+    let same : c.len.result ≡ length c.loop-alloc.found.items = omega (arith, c.len.ensures, c.loop-alloc.found.ok) in
+    all_read c.loop-alloc.found.items (length c.args.tokens.now - length c.loop-alloc.found.items) c.args.level (length c.loop-alloc.found.items) (climb c.args.place (unary (inside c.args.depth))) c.loop-alloc.tokens (links (length c.args.tokens.now) c.args.level 0 (climb c.args.place (unary (inside c.args.depth))) c.args.tokens.now)
+      (sym (ap (λ n. next_is (joins c.args.level n) c.loop-alloc.tokens) same) ∙ (sym c.next_joins.ensures ∙ c.loop-alloc-test.false)) c.loop-alloc.invariant.read
+    ∙ ap (λ l. read_as (links_of l) c.loop-alloc.tokens) (sym c.new.ensures)
+
+pub links_from-loop-alloc-preserved : goal.links_from-loop-alloc-preserved
+links_from-loop-alloc-preserved t c =
+    let same : c.len.result ≡ length c.loop-alloc.found.items = omega (arith, c.len.ensures, c.loop-alloc.found.ok) in
+    let more : length c.push.new.self.items ≡ length c.loop-alloc.found.items + 1 = omega (arith, ap length c.in_ok-push.ensures.items, length-append c.loop-alloc.found.items (roll-Link (record { operator = c.in_ok-operator.operator; operand = c.in_ok-operand.operand }) ∷ [])) in
+    record {
+      read =
+        one_read c.loop-alloc.found.items c.push.new.self.items (roll-Link (record { operator = c.in_ok-operator.operator; operand = c.in_ok-operand.operand }))
+          (length c.args.tokens.now) c.args.level c.len.result (climb c.args.place (unary (inside c.args.depth))) c.loop-alloc.tokens
+          c.in_ok-operator.operator (tree c.in_ok-operand.operand) c.operator_at.new.tokens c.climb_to.new.tokens (links (length c.args.tokens.now) c.args.level 0 (climb c.args.place (unary (inside c.args.depth))) c.args.tokens.now)
+          same c.loop-alloc.invariant.room (sym c.next_joins.ensures ∙ c.loop-alloc-test.true) c.in_ok-operator.ensures.value c.in_ok-operand.ensures.value
+          (link_made c.in_ok-operator.operator c.in_ok-operand.operand) c.in_ok-push.ensures.items c.loop-alloc.invariant.read;
+      room = omega (arith, more, c.in_ok-operator.ensures.shorter, c.in_ok-operand.ensures.shorter, c.loop-alloc.invariant.room);
+    }

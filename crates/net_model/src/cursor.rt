@@ -1,0 +1,122 @@
+ghost use Rattle.std.specs.Prelude.{◌≡◌, ◌<◌, ◌∷◌, [], length, IfOk, MatchOption};
+ghost use Rattle.net_tree.specs.Level.{joins};
+ghost use Rattle.net_model.specs.Expressions.{operator_at, is_hollow};
+ghost use Rattle.net_model.specs.Reading.{Gives, next_is, is_sort, expect};
+
+use crate::sort::{Sort, is_hollow, is_not, is_sort, joins};
+use crate::stop::{Awaiting, Stop};
+use net_lex::{Boxed, Token};
+use net_tree::{Operator, role_of};
+use std::alloc::Global;
+use std::marker::Model;
+
+/// The tokens that are still to be read.
+pub(crate) struct Cursor<'t, 's> {
+    tokens: &'t [Token<'s>],
+    at: usize,
+}
+
+impl<'t, 's> Model for Cursor<'t, 's> {
+    ghost use Rattle.std.specs.Prelude.{◌≤◌, List, drop, length};
+    ghost use Rattle.net_lex.specs.declared.token.Token.{Token};
+
+    ghost Value = { List Token };
+
+    ghost view = { λ c. drop c.at c.tokens.now };
+
+    ghost invariant = { λ c. c.at ≤ length c.tokens.now };
+}
+
+impl<'t, 's> Cursor<'t, 's> {
+    pub(crate) fn new(tokens: &'t [Token<'s>]) -> Cursor<'t, 's>
+        ensures { result ≡ tokens.now }
+    {
+        Cursor { tokens, at: 0 }
+    }
+
+    /// How many tokens are left.
+    pub(crate) fn len(&self) -> usize
+        ensures { result ≡ length self.now }
+    {
+        self.tokens.len() - self.at
+    }
+
+    /// Takes the first token.
+    pub(crate) fn next(&mut self) -> Option<Token<'s>>
+        ensures { MatchOption result ((self.old ≡ []) × (self.new ≡ [])) (λ t. self.old ≡ t ∷ self.new) }
+    {
+        if self.at < self.tokens.len() {
+            let token = self.tokens[self.at].again();
+            self.at += 1;
+            Some(token)
+        } else {
+            None
+        }
+    }
+
+    /// Whether the first token is of this sort.
+    pub(crate) fn next_is(&self, sort: Sort) -> bool
+        ensures { result ≡ next_is (is_sort sort) self.now }
+    {
+        if self.at < self.tokens.len() {
+            is_sort(sort, role_of(&self.tokens[self.at]))
+        } else {
+            false
+        }
+    }
+
+    /// Whether the first token joins operands of this rank, behind so many links.
+    pub(crate) fn next_joins(&self, level: u8, count: usize) -> bool
+        ensures { result ≡ next_is (joins level count) self.now }
+    {
+        if self.at < self.tokens.len() {
+            joins(level, count, role_of(&self.tokens[self.at]))
+        } else {
+            false
+        }
+    }
+
+    /// Whether braces of which these are the next tokens have no items.
+    pub(crate) fn next_is_hollow(&self) -> bool
+        ensures { result ≡ next_is is_hollow self.now }
+    {
+        if self.at < self.tokens.len() {
+            is_hollow(role_of(&self.tokens[self.at]))
+        } else {
+            false
+        }
+    }
+}
+
+/// A token of this sort.
+#[tactic(auto, unfolding(crate::specs::Reading::expect))]
+pub(crate) fn expect<'t, 's>(sort: Sort, awaiting: Awaiting, tokens: &mut Cursor<'t, 's>) -> Result<Token<'s>, Stop>
+    ensures value { Gives (λ t. t) result tokens.new (expect sort awaiting tokens.old) }
+    ensures shorter { IfOk result (λ x. length tokens.new < length tokens.old) }
+{
+    let left = tokens.len();
+    match tokens.next() {
+        Some(token) if is_sort(sort, role_of(&token)) => Ok(token),
+        _ => Err(Stop::Refused(left, awaiting)),
+    }
+}
+
+/// An operator; `not` comes with `in` or `within`.
+#[tactic(auto, unfolding(crate::specs::Expressions::operator_at))]
+pub(crate) fn operator_at<'t, 's>(alloc: Global, tokens: &mut Cursor<'t, 's>) -> Result<Operator<'s>, Stop>
+    ensures value { Gives (λ o. o) result tokens.new (operator_at tokens.old) }
+    ensures shorter { IfOk result (λ x. length tokens.new < length tokens.old) }
+{
+    match tokens.next() {
+        None => Err(Stop::Refused(0, Awaiting::Other)),
+        Some(token) => {
+            if is_not(role_of(&token)) {
+                let second = expect(Sort::Membership, Awaiting::Other, tokens)?;
+                let second = Boxed::new(Box::new(alloc, second)?);
+                Ok(Operator::Two(token, second))
+            } else {
+                Ok(Operator::One(token))
+            }
+        }
+    }
+}
