@@ -1,3 +1,4 @@
 pub mod Making
 pub mod Steps
 pub mod Turning
+pub mod RowLemmas

@@ -95,7 +95,7 @@ one_read found more l whole j k p ts o x a r all same room h e f is made before 
     let turn = links-turn (whole - length found) j (length found) p ts o a x r some joins_here e f in
     let tail = links (whole - length found - 1) j (suc (length found)) p r in
     let left : links_of more ≡ joined (links_of found) (link o x none) =
-        ap links_of made ∙ links_of-append found l o x is in
+    ap links_of made ∙ links_of-append found l o x is in
     ap (λ (n : ℕ). with_links (links_of more) (links n j (length more) p r)) fewer
     ∙ ap (λ (n : ℕ). with_links (links_of more) (links (whole - length found - 1) j n p r)) long
     ∙ ap (λ (k : Links). with_links k tail) left
@@ -115,9 +115,9 @@ pub no_operator : (found : List Link) (whole j k : ℕ) (p : Reader) (ts : Token
 no_operator found whole j k p ts all s same room h before stopped =
     fails s (operator_at ts) all stopped
     (λ t e.
-      let some : 1 ≤ whole - length found = omega (arith, some_left (joins j k) ts h) in
-      let joins_here : next_is (joins j (length found)) ts ≡ true = sym (ap (λ n. next_is (joins j n) ts) same) ∙ h in
-      sym before ∙ ap (with_links (links_of found)) (links-no_operator (whole - length found) j (length found) p ts t some joins_here e))
+    let some : 1 ≤ whole - length found = omega (arith, some_left (joins j k) ts h) in
+    let joins_here : next_is (joins j (length found)) ts ≡ true = sym (ap (λ n. next_is (joins j n) ts) same) ∙ h in
+    sym before ∙ ap (with_links (links_of found)) (links-no_operator (whole - length found) j (length found) p ts t some joins_here e))
 
 pub no_operand : (found : List Link) (whole j k : ℕ) (p : Reader) (ts : Tokens) (o : Operator) (a : Tokens) (all : Read Links) (s : Stop)
     → k ≡ length found → length found + length ts ≤ whole → next_is (joins j k) ts ≡ true → operator_at ts ≡ Ok (o, a)
@@ -125,6 +125,6 @@ pub no_operand : (found : List Link) (whole j k : ℕ) (p : Reader) (ts : Tokens
 no_operand found whole j k p ts o a all s same room h e before stopped =
     fails s (p a) all stopped
     (λ t f.
-      let some : 1 ≤ whole - length found = omega (arith, some_left (joins j k) ts h) in
-      let joins_here : next_is (joins j (length found)) ts ≡ true = sym (ap (λ n. next_is (joins j n) ts) same) ∙ h in
-      sym before ∙ ap (with_links (links_of found)) (links-no_operand (whole - length found) j (length found) p ts o a t some joins_here e f))
+    let some : 1 ≤ whole - length found = omega (arith, some_left (joins j k) ts h) in
+    let joins_here : next_is (joins j (length found)) ts ≡ true = sym (ap (λ n. next_is (joins j n) ts) same) ∙ h in
+    sym before ∙ ap (with_links (links_of found)) (links-no_operand (whole - length found) j (length found) p ts o a t some joins_here e f))

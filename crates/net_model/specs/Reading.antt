@@ -32,6 +32,9 @@ refused a ts = Err (stops.Refused (length ts) a)
 abbrev pub too_deep : {A : Type 0} → Tokens → Read A
 too_deep ts = Err (stops.TooDeep (length ts))
 
+abbrev pub IsFirst : Token → Tokens → Type 0
+IsFirst t ts = (rest : Tokens) × (ts ≡ t ∷ rest)
+
 abbrev pub next_is : (Role → Bool) → Tokens → Bool
 next_is test [] = false
 next_is test (t ∷ ts) = test (role_of t)

@@ -1,7 +1,9 @@
 ghost use Rattle.std.specs.Prelude.{◌≡◌, ◌<◌, ◌∷◌, [], length, IfOk, MatchOption};
 ghost use Rattle.net_tree.specs.Level.{joins};
+ghost use Rattle.net_model.specs.Conditions.{signed_net_next};
+ghost use Rattle.net_model.specs.Declarations.{any_left};
 ghost use Rattle.net_model.specs.Expressions.{operator_at, is_hollow};
-ghost use Rattle.net_model.specs.Reading.{Gives, next_is, is_sort, expect};
+ghost use Rattle.net_model.specs.Reading.{Gives, IsFirst, next_is, is_sort, expect};
 
 use crate::sort::{Sort, is_hollow, is_not, is_sort, joins};
 use crate::stop::{Awaiting, Stop};
@@ -11,6 +13,7 @@ use std::alloc::Global;
 use std::marker::Model;
 
 /// The tokens that are still to be read.
+#[derive(Drop)]
 pub(crate) struct Cursor<'t, 's> {
     tokens: &'t [Token<'s>],
     at: usize,
@@ -41,6 +44,12 @@ impl<'t, 's> Cursor<'t, 's> {
         self.tokens.len() - self.at
     }
 
+    pub(crate) fn has_more(&self) -> bool
+        ensures { result ≡ any_left self.now }
+    {
+        self.first().is_some()
+    }
+
     /// Takes the first token.
     pub(crate) fn next(&mut self) -> Option<Token<'s>>
         ensures { MatchOption result ((self.old ≡ []) × (self.new ≡ [])) (λ t. self.old ≡ t ∷ self.new) }
@@ -54,12 +63,38 @@ impl<'t, 's> Cursor<'t, 's> {
         }
     }
 
+    /// The first token, which stays.
+    pub(crate) fn first(&self) -> Option<&Token<'s>>
+        ensures { MatchOption result (self.now ≡ []) (λ t. IsFirst t.now self.now) }
+    {
+        if self.at < self.tokens.len() {
+            Some(&self.tokens[self.at])
+        } else {
+            None
+        }
+    }
+
     /// Whether the first token is of this sort.
     pub(crate) fn next_is(&self, sort: Sort) -> bool
         ensures { result ≡ next_is (is_sort sort) self.now }
     {
         if self.at < self.tokens.len() {
             is_sort(sort, role_of(&self.tokens[self.at]))
+        } else {
+            false
+        }
+    }
+
+    /// Whether a sign and a net term come.
+    pub(crate) fn next_is_signed_net(&self) -> bool
+        ensures { result ≡ signed_net_next self.now }
+    {
+        if self.at < self.tokens.len() {
+            let behind = Cursor {
+                tokens: self.tokens,
+                at: self.at + 1,
+            };
+            is_sort(Sort::Sign, role_of(&self.tokens[self.at])) && behind.next_is(Sort::Net)
         } else {
             false
         }
@@ -90,7 +125,11 @@ impl<'t, 's> Cursor<'t, 's> {
 
 /// A token of this sort.
 #[tactic(auto, unfolding(crate::specs::Reading::expect))]
-pub(crate) fn expect<'t, 's>(sort: Sort, awaiting: Awaiting, tokens: &mut Cursor<'t, 's>) -> Result<Token<'s>, Stop>
+pub(crate) fn expect<'t, 's>(
+    sort: Sort,
+    awaiting: Awaiting,
+    tokens: &mut Cursor<'t, 's>,
+) -> Result<Token<'s>, Stop>
     ensures value { Gives (λ t. t) result tokens.new (expect sort awaiting tokens.old) }
     ensures shorter { IfOk result (λ x. length tokens.new < length tokens.old) }
 {
@@ -103,7 +142,10 @@ pub(crate) fn expect<'t, 's>(sort: Sort, awaiting: Awaiting, tokens: &mut Cursor
 
 /// An operator; `not` comes with `in` or `within`.
 #[tactic(auto, unfolding(crate::specs::Expressions::operator_at))]
-pub(crate) fn operator_at<'t, 's>(alloc: Global, tokens: &mut Cursor<'t, 's>) -> Result<Operator<'s>, Stop>
+pub(crate) fn operator_at<'t, 's>(
+    alloc: Global,
+    tokens: &mut Cursor<'t, 's>,
+) -> Result<Operator<'s>, Stop>
     ensures value { Gives (λ o. o) result tokens.new (operator_at tokens.old) }
     ensures shorter { IfOk result (λ x. length tokens.new < length tokens.old) }
 {

@@ -75,7 +75,11 @@ fn not_shut<'t, 's>(tokens: &mut Cursor<'t, 's>) -> Result<Expr<'s>, Stop>
 /// The same where so many nestings may be opened further in.
 #[cycle(parser)]
 #[tactic(auto, using(net_tree::proofs::Views::views, crate::proofs::Making::makings), unfolding(crate::specs::Expressions::unary, crate::specs::Expressions::unary_at, crate::specs::Expressions::inner_of))]
-fn unary_inside<'t, 's>(alloc: Global, depth: u8, tokens: &mut Cursor<'t, 's>) -> Result<Expr<'s>, Stop>
+fn unary_inside<'t, 's>(
+    alloc: Global,
+    depth: u8,
+    tokens: &mut Cursor<'t, 's>,
+) -> Result<Expr<'s>, Stop>
     ensures value { Gives tree result tokens.new (unary (Some (inner_of (inside depth))) tokens.old) }
     ensures shorter { IfOk result (λ x. length tokens.new < length tokens.old) }
 {
@@ -104,9 +108,31 @@ fn unary_inside<'t, 's>(alloc: Global, depth: u8, tokens: &mut Cursor<'t, 's>) -
 }
 
 /// What a name begins.
+pub(crate) fn named_of<'t, 's>(
+    alloc: Global,
+    depth: u8,
+    name: Token<'s>,
+    tokens: &mut Cursor<'t, 's>,
+) -> Result<Expr<'s>, Stop>
+    ensures value { Gives tree result tokens.new (grammar.named_at (inside depth) name.entry tokens.old) }
+    ensures shorter { IfOk result (λ x. length tokens.new ≤ length tokens.old) }
+{
+    if depth == 0 {
+        name_shut(name, tokens)
+    } else {
+        named_inside(alloc, depth - 1, name, tokens)
+    }
+}
+
+/// What a name begins where so many nestings may be opened further in.
 #[cycle(parser)]
 #[tactic(auto, using(net_tree::proofs::Views::views, crate::proofs::Making::makings), unfolding(crate::specs::Expressions::named_at))]
-fn named_inside<'t, 's>(alloc: Global, depth: u8, name: Token<'s>, tokens: &mut Cursor<'t, 's>) -> Result<Expr<'s>, Stop>
+fn named_inside<'t, 's>(
+    alloc: Global,
+    depth: u8,
+    name: Token<'s>,
+    tokens: &mut Cursor<'t, 's>,
+) -> Result<Expr<'s>, Stop>
     ensures value { Gives tree result tokens.new (grammar.named_at (Some (inner_of (inside depth))) name.entry tokens.old) }
     ensures shorter { IfOk result (λ x. length tokens.new ≤ length tokens.old) }
 {
@@ -120,7 +146,12 @@ fn named_inside<'t, 's>(alloc: Global, depth: u8, name: Token<'s>, tokens: &mut 
 /// A name with the subscripts behind it.
 #[cycle(parser)]
 #[tactic(auto, using(net_tree::proofs::Views::views, crate::proofs::Making::makings), unfolding(crate::specs::Expressions::subscripts_at, crate::specs::Expressions::inner_of))]
-fn subscripts_inside<'t, 's>(alloc: Global, depth: u8, name: Token<'s>, tokens: &mut Cursor<'t, 's>) -> Result<Expr<'s>, Stop>
+fn subscripts_inside<'t, 's>(
+    alloc: Global,
+    depth: u8,
+    name: Token<'s>,
+    tokens: &mut Cursor<'t, 's>,
+) -> Result<Expr<'s>, Stop>
     ensures value { Gives tree result tokens.new (grammar.subscripts_at (inner_of (inside depth)) name.entry tokens.old) }
     ensures shorter { IfOk result (λ x. length tokens.new ≤ length tokens.old) }
 {
@@ -137,7 +168,12 @@ fn subscripts_inside<'t, 's>(alloc: Global, depth: u8, name: Token<'s>, tokens: 
 /// What `(` begins.
 #[cycle(parser)]
 #[tactic(auto, using(net_tree::proofs::Views::views, crate::proofs::Making::makings), unfolding(crate::specs::Expressions::parens_at, crate::specs::Expressions::inner_of))]
-fn parens_inside<'t, 's>(alloc: Global, depth: u8, opening: Token<'s>, tokens: &mut Cursor<'t, 's>) -> Result<Expr<'s>, Stop>
+fn parens_inside<'t, 's>(
+    alloc: Global,
+    depth: u8,
+    opening: Token<'s>,
+    tokens: &mut Cursor<'t, 's>,
+) -> Result<Expr<'s>, Stop>
     ensures value { Gives tree result tokens.new (grammar.parens_at (inner_of (inside depth)) opening.entry tokens.old) }
     ensures shorter { IfOk result (λ x. length tokens.new < length tokens.old) }
 {
@@ -148,7 +184,13 @@ fn parens_inside<'t, 's>(alloc: Global, depth: u8, opening: Token<'s>, tokens: &
 /// Behind what stands first in parentheses.
 #[cycle(parser)]
 #[tactic(auto, using(net_tree::proofs::Views::views, crate::proofs::Making::makings), unfolding(crate::specs::Expressions::parens_from, crate::specs::Expressions::inner_of))]
-fn parens_from<'t, 's>(alloc: Global, depth: u8, opening: Token<'s>, first: Expr<'s>, tokens: &mut Cursor<'t, 's>) -> Result<Expr<'s>, Stop>
+fn parens_from<'t, 's>(
+    alloc: Global,
+    depth: u8,
+    opening: Token<'s>,
+    first: Expr<'s>,
+    tokens: &mut Cursor<'t, 's>,
+) -> Result<Expr<'s>, Stop>
     ensures value { Gives tree result tokens.new (grammar.parens_from (inner_of (inside depth)) opening.entry (tree first.entry) tokens.old) }
     ensures shorter { IfOk result (λ x. length tokens.new < length tokens.old) }
 {
@@ -162,7 +204,12 @@ fn parens_from<'t, 's>(alloc: Global, depth: u8, opening: Token<'s>, first: Expr
 
 /// The end of parentheses around one tree.
 #[tactic(auto, using(net_tree::proofs::Views::views, crate::proofs::Making::makings))]
-fn closed<'t, 's>(alloc: Global, opening: Token<'s>, inner: Expr<'s>, tokens: &mut Cursor<'t, 's>) -> Result<Expr<'s>, Stop>
+fn closed<'t, 's>(
+    alloc: Global,
+    opening: Token<'s>,
+    inner: Expr<'s>,
+    tokens: &mut Cursor<'t, 's>,
+) -> Result<Expr<'s>, Stop>
     ensures value { Gives tree result tokens.new (grammar.closed opening.entry (tree inner.entry) tokens.old) }
     ensures shorter { IfOk result (λ x. length tokens.new < length tokens.old) }
 {
@@ -173,7 +220,13 @@ fn closed<'t, 's>(alloc: Global, opening: Token<'s>, inner: Expr<'s>, tokens: &m
 
 /// The end of parentheses around one tree or around a tuple.
 #[tactic(auto, using(net_tree::proofs::Views::views, crate::proofs::Making::makings))]
-fn listed<'t, 's>(alloc: Global, opening: Token<'s>, first: Expr<'s>, more: Items<Link<'s>>, tokens: &mut Cursor<'t, 's>) -> Result<Expr<'s>, Stop>
+fn listed<'t, 's>(
+    alloc: Global,
+    opening: Token<'s>,
+    first: Expr<'s>,
+    more: Items<Link<'s>>,
+    tokens: &mut Cursor<'t, 's>,
+) -> Result<Expr<'s>, Stop>
     ensures value { Gives tree result tokens.new (grammar.listed opening.entry (tree first.entry) (links_of more.entry) tokens.old) }
     ensures shorter { IfOk result (λ x. length tokens.new < length tokens.old) }
 {
@@ -188,7 +241,12 @@ fn listed<'t, 's>(alloc: Global, opening: Token<'s>, first: Expr<'s>, more: Item
 /// What `not` begins.
 #[cycle(parser)]
 #[tactic(auto, using(net_tree::proofs::Views::views, crate::proofs::Making::makings), unfolding(crate::specs::Expressions::negated_at, crate::specs::Expressions::inner_of))]
-fn negated_inside<'t, 's>(alloc: Global, depth: u8, word: Token<'s>, tokens: &mut Cursor<'t, 's>) -> Result<Expr<'s>, Stop>
+fn negated_inside<'t, 's>(
+    alloc: Global,
+    depth: u8,
+    word: Token<'s>,
+    tokens: &mut Cursor<'t, 's>,
+) -> Result<Expr<'s>, Stop>
     ensures value { Gives tree result tokens.new (grammar.negated_at (Some (inner_of (inside depth))) word.entry tokens.old) }
     ensures shorter { IfOk result (λ x. length tokens.new < length tokens.old) }
 {
@@ -201,7 +259,11 @@ fn negated_inside<'t, 's>(alloc: Global, depth: u8, word: Token<'s>, tokens: &mu
 
 /// Braces.
 #[cycle(parser)]
-pub(crate) fn braces_of<'t, 's>(alloc: Global, depth: u8, tokens: &mut Cursor<'t, 's>) -> Result<Braces<'s>, Stop>
+pub(crate) fn braces_of<'t, 's>(
+    alloc: Global,
+    depth: u8,
+    tokens: &mut Cursor<'t, 's>,
+) -> Result<Braces<'s>, Stop>
     ensures value { Gives braces_of result tokens.new (grammar.braces (inside depth) tokens.old) }
     ensures shorter { IfOk result (λ x. length tokens.new < length tokens.old) }
 {
@@ -226,7 +288,11 @@ fn shut_braces<'t, 's>(tokens: &mut Cursor<'t, 's>) -> Result<Braces<'s>, Stop>
 
 #[cycle(parser)]
 #[tactic(auto, unfolding(crate::specs::Expressions::braces))]
-fn braces_opened<'t, 's>(alloc: Global, depth: u8, tokens: &mut Cursor<'t, 's>) -> Result<Braces<'s>, Stop>
+fn braces_opened<'t, 's>(
+    alloc: Global,
+    depth: u8,
+    tokens: &mut Cursor<'t, 's>,
+) -> Result<Braces<'s>, Stop>
     ensures value { Gives braces_of result tokens.new (grammar.braces (Some (inner_of (inside depth))) tokens.old) }
     ensures shorter { IfOk result (λ x. length tokens.new < length tokens.old) }
 {
@@ -237,7 +303,12 @@ fn braces_opened<'t, 's>(alloc: Global, depth: u8, tokens: &mut Cursor<'t, 's>) 
 /// What `{` begins.
 #[cycle(parser)]
 #[tactic(auto, unfolding(crate::specs::Expressions::braces_at))]
-fn braces_inside<'t, 's>(alloc: Global, depth: u8, opening: Token<'s>, tokens: &mut Cursor<'t, 's>) -> Result<Braces<'s>, Stop>
+fn braces_inside<'t, 's>(
+    alloc: Global,
+    depth: u8,
+    opening: Token<'s>,
+    tokens: &mut Cursor<'t, 's>,
+) -> Result<Braces<'s>, Stop>
     ensures value { Gives braces_of result tokens.new (grammar.braces_at (inner_of (inside depth)) opening.entry tokens.old) }
     ensures shorter { IfOk result (λ x. length tokens.new < length tokens.old) }
 {
@@ -251,7 +322,12 @@ fn braces_inside<'t, 's>(alloc: Global, depth: u8, opening: Token<'s>, tokens: &
 /// Braces without items.
 #[cycle(parser)]
 #[tactic(auto, using(net_tree::proofs::Views::views, crate::proofs::Making::makings), unfolding(crate::specs::Expressions::hollow_at))]
-fn hollow_inside<'t, 's>(alloc: Global, depth: u8, opening: Token<'s>, tokens: &mut Cursor<'t, 's>) -> Result<Braces<'s>, Stop>
+fn hollow_inside<'t, 's>(
+    alloc: Global,
+    depth: u8,
+    opening: Token<'s>,
+    tokens: &mut Cursor<'t, 's>,
+) -> Result<Braces<'s>, Stop>
     ensures value { Gives braces_of result tokens.new (grammar.hollow_at (inner_of (inside depth)) opening.entry tokens.old) }
     ensures shorter { IfOk result (λ x. length tokens.new < length tokens.old) }
 {
@@ -263,7 +339,12 @@ fn hollow_inside<'t, 's>(alloc: Global, depth: u8, opening: Token<'s>, tokens: &
 /// Braces with items.
 #[cycle(parser)]
 #[tactic(auto, using(net_tree::proofs::Views::views, crate::proofs::Making::makings), unfolding(crate::specs::Expressions::items_at, crate::specs::Expressions::inner_of))]
-fn items_inside<'t, 's>(alloc: Global, depth: u8, opening: Token<'s>, tokens: &mut Cursor<'t, 's>) -> Result<Braces<'s>, Stop>
+fn items_inside<'t, 's>(
+    alloc: Global,
+    depth: u8,
+    opening: Token<'s>,
+    tokens: &mut Cursor<'t, 's>,
+) -> Result<Braces<'s>, Stop>
     ensures value { Gives braces_of result tokens.new (grammar.items_at (inner_of (inside depth)) opening.entry tokens.old) }
     ensures shorter { IfOk result (λ x. length tokens.new < length tokens.old) }
 {
@@ -277,7 +358,11 @@ fn items_inside<'t, 's>(alloc: Global, depth: u8, opening: Token<'s>, tokens: &m
 /// The condition of braces, if there is one.
 #[cycle(parser)]
 #[tactic(auto, using(net_tree::proofs::Views::views, crate::proofs::Making::makings), unfolding(crate::specs::Expressions::part_at, crate::specs::Expressions::present_at, crate::specs::Expressions::inner_of))]
-fn filter_of<'t, 's>(alloc: Global, depth: u8, tokens: &mut Cursor<'t, 's>) -> Result<Option<Boxed<Part<'s>>>, Stop>
+fn filter_of<'t, 's>(
+    alloc: Global,
+    depth: u8,
+    tokens: &mut Cursor<'t, 's>,
+) -> Result<Option<Boxed<Part<'s>>>, Stop>
     ensures value { Gives option_part result tokens.new (grammar.filter_at (inner_of (inside depth)) tokens.old) }
     ensures shorter { IfOk result (λ x. length tokens.new ≤ length tokens.old) }
 {
@@ -294,7 +379,12 @@ fn filter_of<'t, 's>(alloc: Global, depth: u8, tokens: &mut Cursor<'t, 's>) -> R
 /// What `sum`, `min` or `max` begins.
 #[cycle(parser)]
 #[tactic(auto, using(net_tree::proofs::Views::views, crate::proofs::Making::makings), unfolding(crate::specs::Expressions::reduced_at, crate::specs::Expressions::inner_of))]
-fn reduced_inside<'t, 's>(alloc: Global, depth: u8, word: Token<'s>, tokens: &mut Cursor<'t, 's>) -> Result<Expr<'s>, Stop>
+fn reduced_inside<'t, 's>(
+    alloc: Global,
+    depth: u8,
+    word: Token<'s>,
+    tokens: &mut Cursor<'t, 's>,
+) -> Result<Expr<'s>, Stop>
     ensures value { Gives tree result tokens.new (grammar.reduced_at (inner_of (inside depth)) word.entry tokens.old) }
     ensures shorter { IfOk result (λ x. length tokens.new < length tokens.old) }
 {
@@ -307,7 +397,12 @@ fn reduced_inside<'t, 's>(alloc: Global, depth: u8, word: Token<'s>, tokens: &mu
 /// An `if`, or a tree for this place.
 #[cycle(parser)]
 #[tactic(auto, unfolding(crate::specs::Expressions::wide))]
-pub(crate) fn wide_of<'t, 's>(alloc: Global, depth: u8, place: u8, tokens: &mut Cursor<'t, 's>) -> Result<Expr<'s>, Stop>
+pub(crate) fn wide_of<'t, 's>(
+    alloc: Global,
+    depth: u8,
+    place: u8,
+    tokens: &mut Cursor<'t, 's>,
+) -> Result<Expr<'s>, Stop>
     ensures value { Gives tree result tokens.new (grammar.wide (inside depth) place tokens.old) }
     ensures shorter { IfOk result (λ x. length tokens.new < length tokens.old) }
 {
@@ -340,7 +435,11 @@ fn shut_if<'t, 's>(tokens: &mut Cursor<'t, 's>) -> Result<Expr<'s>, Stop>
 
 #[cycle(parser)]
 #[tactic(auto, unfolding(crate::specs::Expressions::if_at))]
-fn if_inside<'t, 's>(alloc: Global, depth: u8, tokens: &mut Cursor<'t, 's>) -> Result<Expr<'s>, Stop>
+fn if_inside<'t, 's>(
+    alloc: Global,
+    depth: u8,
+    tokens: &mut Cursor<'t, 's>,
+) -> Result<Expr<'s>, Stop>
     ensures value { Gives tree result tokens.new (grammar.if_at (Some (inner_of (inside depth))) tokens.old) }
     ensures shorter { IfOk result (λ x. length tokens.new < length tokens.old) }
 {
@@ -353,7 +452,12 @@ fn if_inside<'t, 's>(alloc: Global, depth: u8, tokens: &mut Cursor<'t, 's>) -> R
 /// What `if` begins.
 #[cycle(parser)]
 #[tactic(auto, using(net_tree::proofs::Views::views, crate::proofs::Making::makings), unfolding(crate::specs::Expressions::choice_at, crate::specs::Expressions::inner_of))]
-fn choice_inside<'t, 's>(alloc: Global, depth: u8, word: Token<'s>, tokens: &mut Cursor<'t, 's>) -> Result<Expr<'s>, Stop>
+fn choice_inside<'t, 's>(
+    alloc: Global,
+    depth: u8,
+    word: Token<'s>,
+    tokens: &mut Cursor<'t, 's>,
+) -> Result<Expr<'s>, Stop>
     ensures value { Gives tree result tokens.new (grammar.choice_at (inner_of (inside depth)) word.entry tokens.old) }
     ensures shorter { IfOk result (λ x. length tokens.new < length tokens.old) }
 {
@@ -361,16 +465,29 @@ fn choice_inside<'t, 's>(alloc: Global, depth: u8, word: Token<'s>, tokens: &mut
     let then = expect(Sort::Then, Awaiting::Other, tokens)?;
     let branch = climb_to(alloc, depth, 7, tokens)?;
     let otherwise = otherwise_of(alloc, depth, tokens)?;
-    let condition = Part { mark: word, value: condition };
+    let condition = Part {
+        mark: word,
+        value: condition,
+    };
     let condition = Boxed::new(Box::new(alloc, condition)?);
-    let branch = Boxed::new(Box::new(alloc, Part { mark: then, value: branch })?);
+    let branch = Boxed::new(Box::new(
+        alloc,
+        Part {
+            mark: then,
+            value: branch,
+        },
+    )?);
     Ok(Expr::Choice(condition, branch, otherwise))
 }
 
 /// The part of `else`, if there is one.
 #[cycle(parser)]
 #[tactic(auto, using(net_tree::proofs::Views::views, crate::proofs::Making::makings), unfolding(crate::specs::Expressions::part_at, crate::specs::Expressions::present_at, crate::specs::Expressions::inner_of))]
-fn otherwise_of<'t, 's>(alloc: Global, depth: u8, tokens: &mut Cursor<'t, 's>) -> Result<Option<Boxed<Part<'s>>>, Stop>
+fn otherwise_of<'t, 's>(
+    alloc: Global,
+    depth: u8,
+    tokens: &mut Cursor<'t, 's>,
+) -> Result<Option<Boxed<Part<'s>>>, Stop>
     ensures value { Gives option_part result tokens.new (grammar.part_at sorts.Else ((inner_of (inside depth)).wide 7) tokens.old) }
     ensures shorter { IfOk result (λ x. length tokens.new ≤ length tokens.old) }
 {
@@ -386,7 +503,12 @@ fn otherwise_of<'t, 's>(alloc: Global, depth: u8, tokens: &mut Cursor<'t, 's>) -
 
 /// A tree for this place, up to 10.
 #[cycle(parser)]
-pub(crate) fn climb_to<'t, 's>(alloc: Global, depth: u8, place: u8, tokens: &mut Cursor<'t, 's>) -> Result<Expr<'s>, Stop>
+pub(crate) fn climb_to<'t, 's>(
+    alloc: Global,
+    depth: u8,
+    place: u8,
+    tokens: &mut Cursor<'t, 's>,
+) -> Result<Expr<'s>, Stop>
     ensures value { Gives tree result tokens.new (grammar.climb place (unary (inside depth)) tokens.old) }
     ensures shorter { IfOk result (λ x. length tokens.new < length tokens.old) }
 {
@@ -400,7 +522,12 @@ pub(crate) fn climb_to<'t, 's>(alloc: Global, depth: u8, place: u8, tokens: &mut
 /// A chain of operands of this rank, or one alone.
 #[cycle(parser)]
 #[tactic(auto, using(net_tree::proofs::Views::views, crate::proofs::Making::makings), unfolding(crate::specs::Expressions::chain_at))]
-fn chain_of<'t, 's>(alloc: Global, depth: u8, place: u8, tokens: &mut Cursor<'t, 's>) -> Result<Expr<'s>, Stop>
+fn chain_of<'t, 's>(
+    alloc: Global,
+    depth: u8,
+    place: u8,
+    tokens: &mut Cursor<'t, 's>,
+) -> Result<Expr<'s>, Stop>
     ensures value { Gives tree result tokens.new (grammar.chain_at place (grammar.climb place (unary (inside depth))) tokens.old) }
     ensures shorter { IfOk result (λ x. length tokens.new < length tokens.old) }
 {
@@ -411,7 +538,13 @@ fn chain_of<'t, 's>(alloc: Global, depth: u8, place: u8, tokens: &mut Cursor<'t,
 
 /// The links that tokens of this level join, with operands for this place.
 #[cycle(parser)]
-fn links_from<'t, 's>(alloc: Global, depth: u8, level: u8, place: u8, tokens: &mut Cursor<'t, 's>) -> Result<Items<Link<'s>>, Stop>
+fn links_from<'t, 's>(
+    alloc: Global,
+    depth: u8,
+    level: u8,
+    place: u8,
+    tokens: &mut Cursor<'t, 's>,
+) -> Result<Items<Link<'s>>, Stop>
     ensures value { Gives links_of result tokens.new (grammar.all_links level (grammar.climb place (unary (inside depth))) tokens.old) }
     ensures shorter { IfOk result (λ x. length tokens.new ≤ length tokens.old) }
 {

@@ -1,9 +1,17 @@
 //! From the tokens of a model text to its declarations.
 #![tactic(auto)]
 
+mod conditions;
 mod cursor;
+mod declarations;
 mod expressions;
+mod fault;
+mod parse;
+mod phrase;
+mod phrases;
 mod sort;
 mod stop;
-
 mod trees;
+
+pub use fault::{ModelDefect, ModelFault};
+pub use parse::parse_declarations;

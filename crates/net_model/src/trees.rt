@@ -35,7 +35,12 @@ pub(crate) fn is_none(links: &Items<Link<'_>>) -> bool
 
 /// A chain, or its first operand where that is alone.
 #[tactic(auto, using(net_tree::proofs::Views::views, crate::proofs::Making::makings))]
-pub(crate) fn chained<'s>(alloc: Global, place: u8, first: Expr<'s>, more: Items<Link<'s>>) -> Result<Expr<'s>, Stop>
+pub(crate) fn chained<'s>(
+    alloc: Global,
+    place: u8,
+    first: Expr<'s>,
+    more: Items<Link<'s>>,
+) -> Result<Expr<'s>, Stop>
     ensures value { IfOk result (λ x. tree x ≡ chained place (tree first.entry) (links_of more.entry)) }
     ensures memory { IfErr result (λ e. e ≡ OutOfMemory) }
 {

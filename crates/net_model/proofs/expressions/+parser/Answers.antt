@@ -39,20 +39,20 @@ links_from-returns-in_err-operator-clause-value t c =
     let same : c.len.result ≡ length c.loop-alloc.found.items = omega (arith, c.len.ensures, c.loop-alloc.found.ok) in
     let y = err_from_is_err_and c.from_residual.result c.from_residual.ensures.1 in
     rw y.1 (rw y.2 (no_operator c.loop-alloc.found.items (length c.args.tokens.now) c.args.level c.len.result (climb c.args.place (unary (inside c.args.depth))) c.loop-alloc.tokens (links (length c.args.tokens.now) c.args.level 0 (climb c.args.place (unary (inside c.args.depth))) c.args.tokens.now) c.in_err-operator.field-0.0
-        same c.loop-alloc.invariant.room (sym c.next_joins.ensures ∙ c.loop-alloc-test.true) c.loop-alloc.invariant.read c.in_err-operator.ensures.value))
+    same c.loop-alloc.invariant.room (sym c.next_joins.ensures ∙ c.loop-alloc-test.true) c.loop-alloc.invariant.read c.in_err-operator.ensures.value))
 
 pub links_from-returns-in_err-operand-clause-value : goal.links_from-returns-in_err-operand-clause-value
 links_from-returns-in_err-operand-clause-value t c =
     let same : c.len.result ≡ length c.loop-alloc.found.items = omega (arith, c.len.ensures, c.loop-alloc.found.ok) in
     let y = err_from_is_err_and c.from_residual-in_err-operand.result c.from_residual-in_err-operand.ensures.1 in
     rw y.1 (rw y.2 (no_operand c.loop-alloc.found.items (length c.args.tokens.now) c.args.level c.len.result (climb c.args.place (unary (inside c.args.depth))) c.loop-alloc.tokens c.in_ok-operator.operator c.operator_at.new.tokens (links (length c.args.tokens.now) c.args.level 0 (climb c.args.place (unary (inside c.args.depth))) c.args.tokens.now) c.in_err-operand.field-0.0
-        same c.loop-alloc.invariant.room (sym c.next_joins.ensures ∙ c.loop-alloc-test.true) c.in_ok-operator.ensures.value c.loop-alloc.invariant.read c.in_err-operand.ensures.value))
+    same c.loop-alloc.invariant.room (sym c.next_joins.ensures ∙ c.loop-alloc-test.true) c.in_ok-operator.ensures.value c.loop-alloc.invariant.read c.in_err-operand.ensures.value))
 
 pub links_from-returns-clause-value : goal.links_from-returns-clause-value
 links_from-returns-clause-value t c =
     let same : c.len.result ≡ length c.loop-alloc.found.items = omega (arith, c.len.ensures, c.loop-alloc.found.ok) in
     all_read c.loop-alloc.found.items (length c.args.tokens.now - length c.loop-alloc.found.items) c.args.level (length c.loop-alloc.found.items) (climb c.args.place (unary (inside c.args.depth))) c.loop-alloc.tokens (links (length c.args.tokens.now) c.args.level 0 (climb c.args.place (unary (inside c.args.depth))) c.args.tokens.now)
-      (sym (ap (λ n. next_is (joins c.args.level n) c.loop-alloc.tokens) same) ∙ (sym c.next_joins.ensures ∙ c.loop-alloc-test.false)) c.loop-alloc.invariant.read
+    (sym (ap (λ n. next_is (joins c.args.level n) c.loop-alloc.tokens) same) ∙ (sym c.next_joins.ensures ∙ c.loop-alloc-test.false)) c.loop-alloc.invariant.read
     ∙ ap (λ l. read_as (links_of l) c.loop-alloc.tokens) (sym c.new.ensures)
 
 pub links_from-loop-alloc-preserved : goal.links_from-loop-alloc-preserved
@@ -61,7 +61,7 @@ links_from-loop-alloc-preserved t c =
     let more : length c.push.new.self.items ≡ length c.loop-alloc.found.items + 1 = omega (arith, ap length c.in_ok-push.ensures.items, length-append c.loop-alloc.found.items (roll-Link (record { operator = c.in_ok-operator.operator; operand = c.in_ok-operand.operand }) ∷ [])) in
     record {
       read =
-        one_read c.loop-alloc.found.items c.push.new.self.items (roll-Link (record { operator = c.in_ok-operator.operator; operand = c.in_ok-operand.operand }))
+          one_read c.loop-alloc.found.items c.push.new.self.items (roll-Link (record { operator = c.in_ok-operator.operator; operand = c.in_ok-operand.operand }))
           (length c.args.tokens.now) c.args.level c.len.result (climb c.args.place (unary (inside c.args.depth))) c.loop-alloc.tokens
           c.in_ok-operator.operator (tree c.in_ok-operand.operand) c.operator_at.new.tokens c.climb_to.new.tokens (links (length c.args.tokens.now) c.args.level 0 (climb c.args.place (unary (inside c.args.depth))) c.args.tokens.now)
           same c.loop-alloc.invariant.room (sym c.next_joins.ensures ∙ c.loop-alloc-test.true) c.in_ok-operator.ensures.value c.in_ok-operand.ensures.value

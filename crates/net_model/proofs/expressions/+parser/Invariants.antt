@@ -73,8 +73,8 @@ decreases-links_from l = 100 * l.depth + 4 * l.place + 3
 abbrev pub invariant-links_from-loop-alloc : goal.invariant-links_from-loop-alloc
 invariant-links_from-loop-alloc l = record {
   read :
-    with_links (links_of l.found.items) (links (length l.fn.tokens - length l.found.items) l.level (length l.found.items) (climb l.place (unary (inside l.depth))) l.tokens)
-    ≡ links (length l.fn.tokens) l.level 0 (climb l.place (unary (inside l.depth))) l.fn.tokens;
+      with_links (links_of l.found.items) (links (length l.fn.tokens - length l.found.items) l.level (length l.found.items) (climb l.place (unary (inside l.depth))) l.tokens)
+      ≡ links (length l.fn.tokens) l.level 0 (climb l.place (unary (inside l.depth))) l.fn.tokens;
   room : length l.found.items + length l.tokens ≤ length l.fn.tokens;
 }
 

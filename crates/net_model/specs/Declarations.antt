@@ -1,0 +1,87 @@
+-- Declarations and whole models.
+use Rattle.std.specs.Prelude.{◌≡◌, ℕ, Bool, true, false, List, [], ◌∷◌, length, Option, None, Some, Result, Ok, Err, if◌then◌else◌}
+use Rattle.net_lex.specs.declared.token.Token.{Token}
+use Rattle.net_tree.specs.declared.role.Role.{Role}
+use Rattle.net_tree.specs.declared.role.Role.TheVariants as roles
+use Rattle.net_tree.specs.declared.role.Declares.{Declares}
+use Rattle.net_tree.specs.declared.role.Declares.TheVariants as declares
+use Rattle.net_tree.specs.Role.{role_of, is_open_brace}
+use Rattle.net_tree.specs.Tree.{Tree, Part, absent, part, Braces, Declaration, set, param, check, node, arc, objective}
+use Rattle.net_model.specs.declared.phrase.Owner.TheVariants as owners
+use Rattle.net_model.specs.declared.stop.Awaiting.{Awaiting}
+use Rattle.net_model.specs.declared.stop.Awaiting.TheVariants as awaiting
+use Rattle.net_model.specs.declared.stop.Stop.{Stop}
+use Rattle.net_model.specs.declared.sort.Sort.TheVariants as sorts
+use Rattle.net_model.specs.Reading.{Tokens, Read, ◌>>=◌, read_as, refused, next_is, expect}
+use Rattle.net_model.specs.Expressions.{Inner, inside, unary, climb, wide, braces, part_at}
+use Rattle.net_model.specs.Rows.{row}
+use Rattle.net_model.specs.Phrases.{phrases, phrases_end}
+use Rattle.net_model.specs.Conditions.{condition_at}
+
+unfoldable pub indexing_at : Option Inner → Tokens → Read (Option Braces)
+indexing_at o ts = if next_is is_open_brace ts then (braces o ts >>= λ b. read_as (Some b.0) b.1) else read_as None ts
+
+unfoldable pub set_at : Option Inner → Token → Tokens → Read Declaration
+set_at o w ts =
+    expect sorts.Name awaiting.Other ts >>= λ n. phrases o owners.Set n.1 >>= λ p. phrases_end owners.Set p.0.1 p.1 >>= λ e. read_as (set w n.0 p.0.0 e.0) e.1
+
+unfoldable pub param_at : Option Inner → Token → Tokens → Read Declaration
+param_at o w ts =
+    expect sorts.Name awaiting.Other ts >>= λ n. indexing_at o n.1 >>= λ b. phrases o owners.Param b.1 >>= λ p. phrases_end owners.Param p.0.1 p.1 >>= λ e.
+    read_as (param w n.0 b.0 p.0.0 e.0) e.1
+
+unfoldable pub arc_at : Option Inner → Token → Tokens → Read Declaration
+arc_at o w ts =
+    expect sorts.Name awaiting.Other ts >>= λ n. indexing_at o n.1 >>= λ b. phrases o owners.Arc b.1 >>= λ p. phrases_end owners.Arc p.0.1 p.1 >>= λ e.
+    read_as (arc w n.0 b.0 p.0.0 e.0) e.1
+
+unfoldable pub check_at : Option Inner → Token → Tokens → Read Declaration
+check_at o w ts =
+    indexing_at o ts >>= λ b. expect sorts.Colon awaiting.Other b.1 >>= λ m. climb 10 (unary o) m.1 >>= λ x. expect sorts.Semicolon awaiting.Other x.1 >>= λ e.
+    read_as (check w b.0 m.0 x.0 e.0) e.1
+
+unfoldable pub node_at : Option Inner → Token → Tokens → Read Declaration
+node_at o w ts =
+    expect sorts.Name awaiting.Other ts >>= λ n. indexing_at o n.1 >>= λ b. condition_at o b.1 >>= λ c. expect sorts.Semicolon awaiting.Other c.1 >>= λ e.
+    read_as (node w n.0 b.0 c.0 e.0) e.1
+
+-- behind an objective without an expression
+abbrev pub behind_objective : Part → Awaiting
+behind_objective absent = awaiting.Objective
+behind_objective (part m x) = awaiting.Other
+
+unfoldable pub objective_at : Option Inner → Token → Tokens → Read Declaration
+objective_at o w ts =
+    expect sorts.Name awaiting.Other ts >>= λ n. part_at sorts.Colon (wide o 7) n.1 >>= λ p. expect sorts.Semicolon (behind_objective p.0) p.1 >>= λ e.
+    read_as (objective w n.0 p.0 e.0) e.1
+
+unfoldable pub declared_at : Option Inner → Declares → Token → Tokens → Read Declaration
+declared_at o declares.Set w ts = set_at o w ts
+declared_at o declares.Param w ts = param_at o w ts
+declared_at o declares.Check w ts = check_at o w ts
+declared_at o declares.Node w ts = node_at o w ts
+declared_at o declares.Arc w ts = arc_at o w ts
+declared_at o declares.Objective w ts = objective_at o w ts
+
+abbrev pub declaration_of_role : Option Inner → Role → Token → Tokens → Read Declaration
+declaration_of_role o (roles.Declaration d) w ts = declared_at o d w ts
+declaration_of_role o _ w ts = refused awaiting.Declaration (w ∷ ts)
+
+unfoldable pub declaration_at : Option Inner → Tokens → Read Declaration
+declaration_at o [] = refused awaiting.Declaration []
+declaration_at o (w ∷ ts) = declaration_of_role o (role_of w) w ts
+
+abbrev pub any_left : Tokens → Bool
+any_left [] = false
+any_left (t ∷ ts) = true
+
+unfoldable pub declaration_step : Option Inner → Unit {0} → Tokens → Read (Declaration × Unit {0})
+declaration_step o s ts = declaration_at o ts >>= λ d. read_as (d.0, s) d.1
+
+-- how deep a model may be nested
+abbrev pub nesting_limit : ℕ
+nesting_limit = 64
+
+-- the declarations that the tokens are, up to their end
+unfoldable pub model_at : ℕ → Tokens → Read (List Declaration × Unit {0})
+model_at depth ts = row (length ts) (declaration_step (inside depth)) (λ s. any_left) tt ts

@@ -1,0 +1,240 @@
+ghost use Rattle.std.specs.Prelude.{◌≡◌, ◌<◌, ◌≤◌, Some, None, length, map, IfOk};
+ghost use Rattle.net_tree.specs.View.{tree, link_of, links_of, condition_of};
+ghost use Rattle.net_model.specs.Conditions as grammar;
+ghost use Rattle.net_model.specs.Expressions.{inside};
+ghost use Rattle.net_model.specs.Reading.{Gives};
+
+use crate::cursor::{Cursor, expect, operator_at};
+use crate::expressions::climb_to;
+use crate::sort::Sort;
+use crate::stop::{Awaiting, Stop};
+use crate::trees::chained;
+use net_lex::{Boxed, Items, Token};
+use net_tree::{Expr, Link, NetCond, Relates, Role, role_of};
+use std::alloc::Global;
+
+/// `net_in`, `net_out`.
+#[tactic(auto, using(net_tree::proofs::Views::views), unfolding(crate::specs::Conditions::net_at))]
+fn net_at<'t, 's>(alloc: Global, tokens: &mut Cursor<'t, 's>) -> Result<Expr<'s>, Stop>
+    ensures value { Gives tree result tokens.new (grammar.net_at tokens.old) }
+    ensures shorter { IfOk result (λ x. length tokens.new < length tokens.old) }
+{
+    let word = expect(Sort::Net, Awaiting::Other, tokens)?;
+    Ok(Expr::Net(Boxed::new(Box::new(alloc, (None, word))?)))
+}
+
+/// `- net_in`
+#[tactic(auto, using(net_tree::proofs::Views::views), unfolding(crate::specs::Conditions::signed_net_at))]
+fn signed_net_at<'t, 's>(alloc: Global, tokens: &mut Cursor<'t, 's>) -> Result<Expr<'s>, Stop>
+    ensures value { Gives tree result tokens.new (grammar.signed_net_at tokens.old) }
+    ensures shorter { IfOk result (λ x. length tokens.new < length tokens.old) }
+{
+    let sign = expect(Sort::Sign, Awaiting::Other, tokens)?;
+    let word = expect(Sort::Net, Awaiting::Other, tokens)?;
+    Ok(Expr::Net(Boxed::new(Box::new(alloc, (Some(sign), word))?)))
+}
+
+/// A term, and whether a net term may still come.
+#[tactic(auto, unfolding(crate::specs::Conditions::term_at))]
+fn term_at<'t, 's>(
+    alloc: Global,
+    depth: u8,
+    free: bool,
+    tokens: &mut Cursor<'t, 's>,
+) -> Result<(Expr<'s>, bool), Stop>
+    ensures value { Gives (λ x. (tree x.0, x.1)) result tokens.new (grammar.term_at (inside depth) free tokens.old) }
+    ensures shorter { IfOk result (λ x. length tokens.new < length tokens.old) }
+{
+    if free && tokens.next_is(Sort::Net) {
+        Ok((net_at(alloc, tokens)?, false))
+    } else {
+        Ok((climb_to(alloc, depth, 2, tokens)?, free))
+    }
+}
+
+/// The first term, which may be a net term with a sign.
+#[tactic(auto, unfolding(crate::specs::Conditions::first_term_at))]
+fn first_term_at<'t, 's>(
+    alloc: Global,
+    depth: u8,
+    free: bool,
+    tokens: &mut Cursor<'t, 's>,
+) -> Result<(Expr<'s>, bool), Stop>
+    ensures value { Gives (λ x. (tree x.0, x.1)) result tokens.new (grammar.first_term_at (inside depth) free tokens.old) }
+    ensures shorter { IfOk result (λ x. length tokens.new < length tokens.old) }
+{
+    if free && tokens.next_is_signed_net() {
+        Ok((signed_net_at(alloc, tokens)?, false))
+    } else {
+        term_at(alloc, depth, free, tokens)
+    }
+}
+
+/// A sign and the term behind it.
+#[tactic(auto, using(net_tree::proofs::Views::views, crate::proofs::Making::link_made), unfolding(crate::specs::Conditions::further_term_at))]
+fn further_term_at<'t, 's>(
+    alloc: Global,
+    depth: u8,
+    free: bool,
+    tokens: &mut Cursor<'t, 's>,
+) -> Result<(Link<'s>, bool), Stop>
+    ensures value { Gives (λ x. (link_of x.0, x.1)) result tokens.new (grammar.further_term_at (inside depth) free tokens.old) }
+    ensures shorter { IfOk result (λ x. length tokens.new < length tokens.old) }
+{
+    let operator = operator_at(alloc, tokens)?;
+    let (operand, free) = term_at(alloc, depth, free, tokens)?;
+    Ok((Link { operator, operand }, free))
+}
+
+/// The terms behind the first one.
+#[tactic(auto, unfolding(crate::specs::Conditions::further_terms))]
+fn further_terms<'t, 's>(
+    alloc: Global,
+    depth: u8,
+    first: bool,
+    tokens: &mut Cursor<'t, 's>,
+) -> Result<(Items<Link<'s>>, bool), Stop>
+    ensures value { Gives (λ x. (map link_of x.0, x.1)) result tokens.new (grammar.further_terms (inside depth) first tokens.old) }
+    ensures shorter { IfOk result (λ x. length tokens.new ≤ length tokens.old) }
+{
+    let mut found = Vec::new(alloc);
+    let mut free = first;
+    while tokens.next_is(Sort::Sign) {
+        let (link, now) = further_term_at(alloc, depth, free, tokens)?;
+        found.push(link)?;
+        free = now;
+    }
+    Ok((Items::new(found), free))
+}
+
+/// A sum, and whether no net term stood in it, where one may.
+#[tactic(auto, using(net_tree::proofs::Views::views), unfolding(crate::specs::Conditions::sum_at))]
+fn sum_at<'t, 's>(
+    alloc: Global,
+    depth: u8,
+    free: bool,
+    tokens: &mut Cursor<'t, 's>,
+) -> Result<(Expr<'s>, bool), Stop>
+    ensures value { Gives (λ x. (tree x.0, x.1)) result tokens.new (grammar.sum_at (inside depth) free tokens.old) }
+    ensures shorter { IfOk result (λ x. length tokens.new < length tokens.old) }
+{
+    let (first, free) = first_term_at(alloc, depth, free, tokens)?;
+    let (more, free) = further_terms(alloc, depth, free, tokens)?;
+    Ok((chained(alloc, 2, first, more)?, free))
+}
+
+/// Whether a bound may go on with this one.
+fn chains(first: Role, second: Role) -> bool
+    ensures { result ≡ grammar.chains first second }
+{
+    match first {
+        Role::Relation(Relates::AtMost) => matches!(second, Role::Relation(Relates::AtMost)),
+        Role::Relation(Relates::AtLeast) => matches!(second, Role::Relation(Relates::AtLeast)),
+        _ => false,
+    }
+}
+
+fn chain_next(bound: Role, tokens: &Cursor<'_, '_>) -> bool
+    ensures { result ≡ grammar.chain_next bound tokens.now }
+{
+    match tokens.first() {
+        Some(token) => chains(bound, role_of(token)),
+        None => false,
+    }
+}
+
+/// Behind the second sum, where the first had no net term.
+#[tactic(auto, unfolding(crate::specs::Conditions::high_at))]
+fn high_at<'t, 's>(
+    alloc: Global,
+    depth: u8,
+    colon: Token<'s>,
+    low: Expr<'s>,
+    bound: Token<'s>,
+    middle: Expr<'s>,
+    tokens: &mut Cursor<'t, 's>,
+) -> Result<NetCond<'s>, Stop>
+    ensures value { Gives condition_of result tokens.new (grammar.high_at (inside depth) colon.entry (tree low.entry) bound.entry (tree middle.entry) tokens.old) }
+    ensures shorter { IfOk result (λ x. length tokens.new ≤ length tokens.old) }
+{
+    if chain_next(role_of(&bound), tokens) {
+        let second = expect(Sort::Bound, Awaiting::Other, tokens)?;
+        let high = climb_to(alloc, depth, 3, tokens)?;
+        Ok(NetCond::Between(colon, low, bound, middle, second, high))
+    } else {
+        Ok(NetCond::One(colon, low, bound, middle))
+    }
+}
+
+#[tactic(auto, unfolding(crate::specs::Conditions::middle_at))]
+fn middle_at<'t, 's>(
+    alloc: Global,
+    depth: u8,
+    colon: Token<'s>,
+    low: Expr<'s>,
+    bound: Token<'s>,
+    tokens: &mut Cursor<'t, 's>,
+) -> Result<NetCond<'s>, Stop>
+    ensures value { Gives condition_of result tokens.new (grammar.middle_at (inside depth) colon.entry (tree low.entry) bound.entry tokens.old) }
+    ensures shorter { IfOk result (λ x. length tokens.new ≤ length tokens.old) }
+{
+    let (middle, free) = sum_at(alloc, depth, true, tokens)?;
+    if free {
+        return Err(Stop::Refused(tokens.len(), Awaiting::Other));
+    }
+    high_at(alloc, depth, colon, low, bound, middle, tokens)
+}
+
+/// Behind the first sum and the bound.
+#[tactic(auto, unfolding(crate::specs::Conditions::bounded_at))]
+fn bounded_at<'t, 's>(
+    alloc: Global,
+    depth: u8,
+    colon: Token<'s>,
+    left: Expr<'s>,
+    free: bool,
+    bound: Token<'s>,
+    tokens: &mut Cursor<'t, 's>,
+) -> Result<NetCond<'s>, Stop>
+    ensures value { Gives condition_of result tokens.new (grammar.bounded_at (inside depth) colon.entry (tree left.entry) free bound.entry tokens.old) }
+    ensures shorter { IfOk result (λ x. length tokens.new ≤ length tokens.old) }
+{
+    if free {
+        middle_at(alloc, depth, colon, left, bound, tokens)
+    } else {
+        let right = climb_to(alloc, depth, 3, tokens)?;
+        Ok(NetCond::One(colon, left, bound, right))
+    }
+}
+
+#[tactic(auto, unfolding(crate::specs::Conditions::said_at))]
+fn said_at<'t, 's>(
+    alloc: Global,
+    depth: u8,
+    tokens: &mut Cursor<'t, 's>,
+) -> Result<NetCond<'s>, Stop>
+    ensures value { Gives condition_of result tokens.new (grammar.said_at (inside depth) tokens.old) }
+    ensures shorter { IfOk result (λ x. length tokens.new ≤ length tokens.old) }
+{
+    let colon = expect(Sort::Colon, Awaiting::Other, tokens)?;
+    let (left, free) = sum_at(alloc, depth, true, tokens)?;
+    let bound = expect(Sort::Bound, Awaiting::Other, tokens)?;
+    bounded_at(alloc, depth, colon, left, free, bound, tokens)
+}
+
+/// What is said of a node's net flow.
+#[tactic(auto, unfolding(crate::specs::Conditions::condition_at))]
+pub(crate) fn condition_at<'t, 's>(
+    alloc: Global,
+    depth: u8,
+    tokens: &mut Cursor<'t, 's>,
+) -> Result<NetCond<'s>, Stop>
+    ensures value { Gives condition_of result tokens.new (grammar.condition_at (inside depth) tokens.old) }
+    ensures shorter { IfOk result (λ x. length tokens.new ≤ length tokens.old) }
+{
+    if tokens.next_is(Sort::Colon) {
+        said_at(alloc, depth, tokens)
+    } else {
+        Ok(NetCond::Absent)
+    }
+}

@@ -1,0 +1,24 @@
+ghost use Rattle.net_model.specs.Declarations.{model_at, nesting_limit};
+ghost use Rattle.net_model.specs.Faults.{Tells};
+
+use crate::cursor::Cursor;
+use crate::declarations::declarations;
+use crate::fault::{ModelFault, told};
+use net_lex::Token;
+use net_tree::Model;
+use std::alloc::Global;
+
+/// The declarations that the tokens of a model text are, without a look at their names.
+pub fn parse_declarations<'s>(
+    alloc: Global,
+    tokens: &[Token<'s>],
+) -> Result<Model<'s>, ModelFault<'s>>
+    // The tree that the grammar reads, or the fault at the first token that it does not allow.
+    ensures value { Tells tokens.now result (model_at nesting_limit tokens.now) }
+{
+    let mut cursor = Cursor::new(tokens);
+    match declarations(alloc, 64, &mut cursor) {
+        Ok(declarations) => Ok(Model { declarations }),
+        Err(stop) => Err(told(stop, tokens)),
+    }
+}

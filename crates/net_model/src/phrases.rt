@@ -1,0 +1,290 @@
+ghost use Rattle.std.specs.Prelude.{◌≡◌, ◌<◌, ◌≤◌, Some, None, length, map, IfOk};
+ghost use Rattle.net_tree.specs.View as view;
+ghost use Rattle.net_model.specs.Expressions.{inside};
+ghost use Rattle.net_model.specs.Phrases as grammar;
+ghost use Rattle.net_model.specs.Reading.{Gives};
+
+use crate::cursor::{Cursor, expect};
+use crate::expressions::{climb_to, named_of, wide_of};
+use crate::phrase::{Owner, Slot, Stood};
+use crate::sort::Sort;
+use crate::stop::{Awaiting, Stop};
+use net_lex::{Items, Token};
+use net_tree::{Begins, Body, Expr, Phrase, Relates, Role, role_of};
+use std::alloc::Global;
+
+/// What a phrase that this word begins takes, if the declaration has such a phrase.
+fn slot_of(owner: Owner, role: Role) -> Option<Slot>
+    ensures { result ≡ grammar.slot_of owner role }
+{
+    match owner {
+        Owner::Set => set_slot(role),
+        Owner::Param => param_slot(role),
+        Owner::Arc => arc_slot(role),
+    }
+}
+
+fn set_slot(role: Role) -> Option<Slot>
+    ensures { result ≡ grammar.set_slot role }
+{
+    match role {
+        Role::Phrase(Begins::Dimen) => Some(Slot::Number),
+        Role::Relation(Relates::Within) => Some(Slot::Set),
+        Role::Becomes => Some(Slot::Value),
+        _ => None,
+    }
+}
+
+fn param_slot(role: Role) -> Option<Slot>
+    ensures { result ≡ grammar.param_slot role }
+{
+    match role {
+        Role::Phrase(Begins::Symbolic | Begins::Integer) => Some(Slot::Nothing),
+        Role::Relation(Relates::AtMost | Relates::AtLeast | Relates::Other) => Some(Slot::Sum),
+        Role::Relation(Relates::In) => Some(Slot::Set),
+        Role::Phrase(Begins::Default) | Role::Becomes => Some(Slot::Value),
+        _ => None,
+    }
+}
+
+fn arc_slot(role: Role) -> Option<Slot>
+    ensures { result ≡ grammar.arc_slot role }
+{
+    match role {
+        Role::Relation(Relates::AtMost | Relates::AtLeast) => Some(Slot::Sum),
+        Role::Phrase(Begins::Integer) => Some(Slot::Nothing),
+        Role::Phrase(Begins::From | Begins::To) => Some(Slot::Node),
+        Role::Phrase(Begins::Obj) => Some(Slot::Price),
+        _ => None,
+    }
+}
+
+/// Whether this word began a phrase that may stand once only, and stood.
+fn stood_before(owner: Owner, stood: Stood, role: Role) -> bool
+    ensures { result ≡ grammar.stood_before owner stood role }
+{
+    match role {
+        Role::Phrase(Begins::Dimen) => stood.dimen,
+        Role::Phrase(Begins::Default) => stood.default,
+        Role::Phrase(Begins::From) => stood.from,
+        Role::Phrase(Begins::To) => stood.to,
+        Role::Becomes => stood.becomes,
+        Role::Relation(Relates::AtLeast) => is_arc(owner) && stood.at_least,
+        Role::Relation(Relates::AtMost) => is_arc(owner) && stood.at_most,
+        _ => false,
+    }
+}
+
+fn is_arc(owner: Owner) -> bool
+    ensures { result ≡ grammar.is_arc owner }
+{
+    match owner {
+        Owner::Arc => true,
+        Owner::Set | Owner::Param => false,
+    }
+}
+
+/// What stood, with the phrase that this word begins.
+fn and_then_stood(stood: Stood, role: Role) -> Stood
+    ensures { result ≡ grammar.and_then_stood stood role }
+{
+    let mut stood = stood;
+    stood.behind_node = false;
+    match role {
+        Role::Phrase(Begins::Dimen) => stood.dimen = true,
+        Role::Phrase(Begins::Default) => stood.default = true,
+        Role::Phrase(Begins::From) => {
+            stood.from = true;
+            stood.behind_node = true;
+        }
+        Role::Phrase(Begins::To) => {
+            stood.to = true;
+            stood.behind_node = true;
+        }
+        Role::Becomes => stood.becomes = true,
+        Role::Relation(Relates::AtLeast) => stood.at_least = true,
+        Role::Relation(Relates::AtMost) => stood.at_most = true,
+        _ => {}
+    }
+    stood
+}
+
+fn goes_on(owner: Owner, stood: Stood, role: Role) -> bool
+    ensures { result ≡ grammar.goes_on owner stood role }
+{
+    if matches!(role, Role::Comma) {
+        return true;
+    }
+    if stood_before(owner, stood, role) {
+        return false;
+    }
+    slot_of(owner, role).is_some()
+}
+
+/// What is awaited where this token is none of it.
+fn awaited(owner: Owner, stood: Stood, role: Role) -> Awaiting
+    ensures { result ≡ grammar.awaited owner stood role }
+{
+    if stood_before(owner, stood, role) {
+        Awaiting::FurtherPhrase
+    } else if stood.behind_node {
+        Awaiting::PhraseBehindNode
+    } else {
+        Awaiting::Phrase
+    }
+}
+
+/// Whether a phrase comes, or the comma before one.
+fn phrase_next(owner: Owner, stood: Stood, tokens: &Cursor<'_, '_>) -> bool
+    ensures { result ≡ grammar.phrase_next owner stood tokens.now }
+{
+    match tokens.first() {
+        Some(token) => goes_on(owner, stood, role_of(token)),
+        None => false,
+    }
+}
+
+/// What follows the word.
+#[tactic(auto, using(net_tree::proofs::Views::views))]
+fn body_of<'t, 's>(
+    alloc: Global,
+    depth: u8,
+    slot: Slot,
+    tokens: &mut Cursor<'t, 's>,
+) -> Result<Body<'s>, Stop>
+    ensures value { Gives view.body_of result tokens.new (grammar.body_of (inside depth) slot tokens.old) }
+    ensures shorter { IfOk result (λ x. length tokens.new ≤ length tokens.old) }
+{
+    match slot {
+        Slot::Nothing => Ok(Body::Plain),
+        Slot::Number => {
+            let number = expect(Sort::Number, Awaiting::Other, tokens)?;
+            Ok(Body::Valued(Expr::Leaf(number)))
+        }
+        Slot::Set => Ok(Body::Valued(climb_to(alloc, depth, 7, tokens)?)),
+        Slot::Sum => Ok(Body::Valued(climb_to(alloc, depth, 3, tokens)?)),
+        Slot::Value => Ok(Body::Valued(wide_of(alloc, depth, 7, tokens)?)),
+        Slot::Node => {
+            let name = expect(Sort::Name, Awaiting::Other, tokens)?;
+            Ok(Body::Valued(named_of(alloc, depth, name, tokens)?))
+        }
+        Slot::Price => {
+            let name = expect(Sort::Name, Awaiting::Objective, tokens)?;
+            let price = climb_to(alloc, depth, 3, tokens)?;
+            Ok(Body::Priced(name, price))
+        }
+    }
+}
+
+/// The comma before a phrase.
+#[tactic(auto, unfolding(crate::specs::Phrases::comma_at))]
+fn comma_at<'t, 's>(tokens: &mut Cursor<'t, 's>) -> Result<Option<Token<'s>>, Stop>
+    ensures value { Gives (λ c. c) result tokens.new (grammar.comma_at tokens.old) }
+    ensures shorter { IfOk result (λ x. length tokens.new ≤ length tokens.old) }
+{
+    if tokens.next_is(Sort::Comma) {
+        Ok(tokens.next())
+    } else {
+        Ok(None)
+    }
+}
+
+/// A phrase behind its comma, and what stood with it.
+#[tactic(auto, unfolding(crate::specs::Phrases::worded))]
+fn worded<'t, 's>(
+    alloc: Global,
+    depth: u8,
+    owner: Owner,
+    stood: Stood,
+    comma: Option<Token<'s>>,
+    tokens: &mut Cursor<'t, 's>,
+) -> Result<(Phrase<'s>, Stood), Stop>
+    ensures value { Gives (λ p. (view.phrase_of p.0, p.1)) result tokens.new (grammar.worded (inside depth) owner stood comma.entry tokens.old) }
+    ensures shorter { IfOk result (λ x. length tokens.new < length tokens.old) }
+{
+    let left = tokens.len();
+    let Some(word) = tokens.next() else {
+        return Err(Stop::Refused(0, Awaiting::Phrase));
+    };
+    let role = role_of(&word);
+    if stood_before(owner, stood, role) {
+        return Err(Stop::Refused(left, Awaiting::FurtherPhrase));
+    }
+    match slot_of(owner, role) {
+        None => Err(Stop::Refused(left, Awaiting::Phrase)),
+        Some(slot) => {
+            let body = body_of(alloc, depth, slot, tokens)?;
+            Ok((Phrase { comma, word, body }, and_then_stood(stood, role)))
+        }
+    }
+}
+
+/// A phrase, and what stood with it.
+#[tactic(auto, unfolding(crate::specs::Phrases::phrase_at))]
+fn phrase_at<'t, 's>(
+    alloc: Global,
+    depth: u8,
+    owner: Owner,
+    stood: Stood,
+    tokens: &mut Cursor<'t, 's>,
+) -> Result<(Phrase<'s>, Stood), Stop>
+    ensures value { Gives (λ p. (view.phrase_of p.0, p.1)) result tokens.new (grammar.phrase_at (inside depth) owner stood tokens.old) }
+    ensures shorter { IfOk result (λ x. length tokens.new < length tokens.old) }
+{
+    let comma = comma_at(tokens)?;
+    worded(alloc, depth, owner, stood, comma, tokens)
+}
+
+/// The phrases, and what stood in the end.
+#[tactic(auto, unfolding(crate::specs::Phrases::phrases))]
+pub(crate) fn phrases<'t, 's>(
+    alloc: Global,
+    depth: u8,
+    owner: Owner,
+    tokens: &mut Cursor<'t, 's>,
+) -> Result<(Items<Phrase<'s>>, Stood), Stop>
+    ensures value { Gives (λ p. (map view.phrase_of p.0, p.1)) result tokens.new (grammar.phrases (inside depth) owner tokens.old) }
+    ensures shorter { IfOk result (λ x. length tokens.new ≤ length tokens.old) }
+{
+    let mut found = Vec::new(alloc);
+    let mut stood = Stood {
+        dimen: false,
+        default: false,
+        becomes: false,
+        at_least: false,
+        at_most: false,
+        from: false,
+        to: false,
+        behind_node: false,
+    };
+    while phrase_next(owner, stood, tokens) {
+        let (phrase, now) = phrase_at(alloc, depth, owner, stood, tokens)?;
+        found.push(phrase)?;
+        stood = now;
+    }
+    Ok((Items::new(found), stood))
+}
+
+/// The semicolon behind phrases.
+#[tactic(auto, unfolding(crate::specs::Phrases::phrases_end))]
+pub(crate) fn phrases_end<'t, 's>(
+    owner: Owner,
+    stood: Stood,
+    tokens: &mut Cursor<'t, 's>,
+) -> Result<Token<'s>, Stop>
+    ensures value { Gives (λ t. t) result tokens.new (grammar.phrases_end owner stood tokens.old) }
+    ensures shorter { IfOk result (λ x. length tokens.new < length tokens.old) }
+{
+    let left = tokens.len();
+    match tokens.next() {
+        None => Err(Stop::Refused(0, Awaiting::Phrase)),
+        Some(token) => {
+            let role = role_of(&token);
+            if matches!(role, Role::Semicolon) {
+                Ok(token)
+            } else {
+                Err(Stop::Refused(left, awaited(owner, stood, role)))
+            }
+        }
+    }
+}
