@@ -58,7 +58,7 @@ impl ModelDefect {
 }
 
 /// Why there is no model.
-#[derive(Debug, Drop)]
+#[derive(Drop)]
 pub enum ModelFault<'s> {
     OutOfMemory,
     /// The first defect, its place, and the word that it is about: of a name or of something left out that word.
