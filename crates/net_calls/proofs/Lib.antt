@@ -12,3 +12,4 @@ pub mod Promise
 pub mod Answering
 pub mod OneFault
 pub mod Reading
+pub mod InText

@@ -26,7 +26,8 @@ use Rattle.net_calls.specs.NameRules.{name_fault, first_fault, IsFoundBy}
 use Rattle.net_calls.specs.Accepted.{IsDeclared, end_of}
 use Rattle.net_calls.specs.FirstFaults.{IsModelFault, IsDataFault, model_token, form, naming, data_token, statement, IsFirstFault, model, statements, network, bare, place_of}
 use Rattle.net_calls.specs.Steps.{IsLexStop, IsModelStop, IsDataStop, IsToldAs, IsToldOf}
-use Rattle.net_calls.specs.Telling.{IsTold, IsRefusal, text_of}
+use Rattle.net_calls.specs.Telling.{IsTold, IsInText, IsRefusal, text_of}
+use Rattle.net_calls.proofs.InText.{first_fault_in}
 
 pub data_stop : (text : List ℕ) (fault : LexFault) (stop : Stop) → lex.IsRefusal languages.Data text fault → IsLexStop fault stop → IsDataStop text stop
 data_stop text lexes.OutOfMemory stop r e = subst (IsDataStop text) (sym e) tt
@@ -69,7 +70,8 @@ told_refusal : (m d : List ℕ) (name : TextName) (finding : Finding) (fault : F
 told_refusal m d name finding faults.OutOfMemory first told = tt
 told_refusal m d name finding (faults.Refused r) first told =
     let both = subst (λ n. IsFirstFault m d n finding × IsTold (text_of m d n) finding r) (sym told.0) (first, told.1) in
-    (finding, both.0, both.1)
+    let place = subst (IsInText (text_of m d r.text)) (sym both.1.span) (first_fault_in m d r.text finding both.0) in
+    (finding, both.0, both.1, place)
 told_refusal m d name finding (faults.RefusedLine r) first told = absurd told
 told_refusal m d name finding (faults.Unread other) first told = absurd told
 told_refusal m d name finding faults.Unwritten first told = absurd told

@@ -1,5 +1,6 @@
 -- How the first fault of two texts is told.
-use Rattle.std.specs.Prelude.{◌≡◌, ℕ, List, [], take, string_bytes}
+use Rattle.std.specs.Prelude.{◌≡◌, ℕ, ◌≤◌, List, [], length, take, string_bytes}
+use Rattle.net_lex.specs.declared.span.Span.{Span}
 use Rattle.net_lex.specs.Places.{line_of, column_of}
 use Rattle.net_calls.specs.declared.fault.Fault.{Fault}
 use Rattle.net_calls.specs.declared.fault.Fault.TheVariants as faults
@@ -23,11 +24,16 @@ text_of model_text data_text Data = data_text
 text_of model_text data_text Problem = []
 text_of model_text data_text Certificate = []
 
--- the first fault, told with its place, or want of memory
+-- the span lies in the text
+abbrev pub IsInText : List ℕ → Span → Type 0
+IsInText text span = (span.start ≤ span.end) × (span.end ≤ length text)
+
+-- the first fault, told with its place in its text, or want of memory
 abbrev pub IsRefusal : (model_text data_text : List ℕ) → Fault → Type 0
 IsRefusal model_text data_text faults.OutOfMemory = Unit {0}
 IsRefusal model_text data_text (faults.Refused r) =
     (finding : Finding) × IsFirstFault model_text data_text r.text finding × IsTold (text_of model_text data_text r.text) finding r
+    × IsInText (text_of model_text data_text r.text) r.span
 IsRefusal model_text data_text (faults.RefusedLine r) = ⊥
 IsRefusal model_text data_text (faults.Unread text) = ⊥
 IsRefusal model_text data_text faults.Unwritten = ⊥
