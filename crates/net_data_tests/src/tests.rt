@@ -78,6 +78,55 @@ fn statements(rt: HostRuntime) -> Result<(), Fail> {
     Ok(())
 }
 
+const EIGHT_CITIES: &str = "set CITIES := PITT NE SE BOS EWR BWI ATL MCO;
+set LINKS := (PITT,NE) (PITT,SE) (NE,BOS) (NE,EWR) (NE,BWI)
+             (SE,EWR) (SE,BWI) (SE,ATL) (SE,MCO);
+param supply default 0 := PITT 450;
+param demand default 0 := BOS 90, EWR 120, BWI 120, ATL 70, MCO 50;
+param: cost capacity :=
+PITT NE 25 250
+PITT SE 35 250
+NE BOS 17 100
+NE EWR 7 100
+NE BWI 13 100
+SE EWR 13 100
+SE BWI 8 100
+SE ATL 2 100
+SE MCO 21 100;
+";
+
+const EIGHT_CITIES_SAY: &str =
+    "set CITIES PITT NE SE BOS EWR BWI ATL MCO \nset LINKS <PITT NE ><PITT SE ><NE BOS ><NE EWR ><NE BWI ><SE EWR ><SE BWI ><SE ATL ><SE MCO >\nlist supply default 0 = PITT 450 \nlist demand default 0 = BOS 90 EWR 120 BWI 120 ATL 70 MCO 50 \ncolumns cost capacity = PITT NE 25 250 PITT SE 35 250 NE BOS 17 100 NE EWR 7 100 NE BWI 13 100 SE EWR 13 100 SE BWI 8 100 SE ATL 2 100 SE MCO 21 100 \n";
+
+/// The data of models of each kind: transshipment, maximum flow, assignment, an empty set, links without some of their
+/// costs, a key given twice.
+const DATA: [(&str, &str); 6] = [
+    (EIGHT_CITIES, EIGHT_CITIES_SAY),
+    (
+        "set INTER := a b c d; param entr := a; param exit := d; param: ROADS: cap := a b 50 a c 100 b d 40 c d 110 b c 20;",
+        "set INTER a b c d \nlist entr = a \nlist exit = d \ncolumns ROADS : cap = a b 50 a c 100 b d 40 c d 110 b c 20 \n",
+    ),
+    (
+        "set P := ann bob cy; set J := x y z; param cost: x y z := ann 1 2 9 bob 2 3 9 cy 9 9 1;",
+        "set P ann bob cy \nset J x y z \ntable cost : x y z = ann 1 2 9 bob 2 3 9 cy 9 9 1 \n",
+    ),
+    ("set S := ;", "set S \n"),
+    (
+        "set S := a b; set L := (a,b) (b,a); param cost := a b 1 b a 0;",
+        "set S a b \nset L <a b ><b a >\nlist cost = a b 1 b a 0 \n",
+    ),
+    (
+        "param supply default 0 := PITT 450 PITT 400;",
+        "list supply default 0 = PITT 450 PITT 400 \n",
+    ),
+];
+
+#[test]
+fn data_of_models(rt: HostRuntime) -> Result<(), Fail> {
+    all_say(&rt, rt.alloc(), &DATA)?;
+    Ok(())
+}
+
 #[test]
 fn faults(rt: HostRuntime) -> Result<(), Fail> {
     let table = [
@@ -85,6 +134,10 @@ fn faults(rt: HostRuntime) -> Result<(), Fail> {
         ("set", "E20 Syntax 3 3"),
         ("set ,  # more", "E20 Syntax 5 5"),
         ("set S a;", "E20 Syntax 6 7"),
+        ("set S 1;", "E20 Syntax 6 7"),
+        ("param cost: x y := ann 1 2 bob 3;", "E21 RowWidth 31 32"),
+        ("param cost: := ann 1;", "E22 TableWidth 12 14"),
+        ("param: := ;", "E22 TableWidth 7 9"),
         ("set 's' := a;", "E20 Syntax 4 7"),
         ("set S := (a);", "E20 Syntax 11 12"),
         ("set S := ();", "E20 Syntax 10 11"),
