@@ -6,7 +6,13 @@ use std::process::Abort;
 use std::test::Fail;
 
 /// Whether the text is refused with this number, at this offset, with this word.
-fn is_refused(rt: &(impl Abort + AllocGlobal), text: &str, number: u8, start: usize, word: Option<&str>) {
+fn is_refused(
+    rt: &(impl Abort + AllocGlobal),
+    text: &str,
+    number: u8,
+    start: usize,
+    word: Option<&str>,
+) {
     let Ok(tokens) = lex_model(rt.alloc(), text.as_bytes()) else {
         panic!(rt; "no tokens: {text}")
     };
@@ -45,18 +51,54 @@ fn count(rt: &(impl Abort + AllocGlobal), text: &str) -> usize {
 fn models(rt: HostRuntime) -> Result<(), Fail> {
     let table = [
         ("", 0),
-        ("set CITIES; set LINKS within (CITIES cross CITIES); param supply {CITIES} >= 0;", 3),
-        ("check: sum {i in CITIES} supply[i] = sum {j in CITIES} demand[j];", 1),
-        ("minimize Total_Cost; node Balance {k in CITIES}: net_in = demand[k] - supply[k];", 2),
-        ("arc Ship {(i,j) in LINKS} >= 0, <= capacity[i,j], from Balance[i], to Balance[j], obj Total_Cost cost[i,j];", 1),
-        ("param entr symbolic in INTER; param exit symbolic in INTER, <> entr;", 2),
-        ("maximize Total: Traff_In; node D: 3 >= 5 - net_out >= 1; node E: - net_in + 2 == 4;", 3),
-        ("arc F {i in S, (i,j) in L: cost[i,j] > 0} >= 0, <= 1, from N[i], to N[j], obj Total cost[i,j];", 1),
-        ("set A := {1 .. 9 by 2, 'x'} union {} diff {: 1 = 2}; set B dimen 2 within A;", 2),
-        ("param p := if a = 1 and not (b in S) or c not in S then 3 else if d within E then 4 else 5;", 1),
-        ("param q default (if a > 0 then 1); param r >= 0, >= 1, <= 2 < 3 integer;", 2),
-        ("check {(i,j) in L, k in S}: -i * 2 div 3 + sum {l in S} l * 2 + min {l in S} l <> j mod 2;", 1),
-        ("node A: 1 <= net_in <= 4; node B: net_out >= 2; node C: 2 = net_in;", 3),
+        (
+            "set CITIES; set LINKS within (CITIES cross CITIES); param supply {CITIES} >= 0;",
+            3,
+        ),
+        (
+            "check: sum {i in CITIES} supply[i] = sum {j in CITIES} demand[j];",
+            1,
+        ),
+        (
+            "minimize Total_Cost; node Balance {k in CITIES}: net_in = demand[k] - supply[k];",
+            2,
+        ),
+        (
+            "arc Ship {(i,j) in LINKS} >= 0, <= capacity[i,j], from Balance[i], to Balance[j], obj Total_Cost cost[i,j];",
+            1,
+        ),
+        (
+            "param entr symbolic in INTER; param exit symbolic in INTER, <> entr;",
+            2,
+        ),
+        (
+            "maximize Total: Traff_In; node D: 3 >= 5 - net_out >= 1; node E: - net_in + 2 == 4;",
+            3,
+        ),
+        (
+            "arc F {i in S, (i,j) in L: cost[i,j] > 0} >= 0, <= 1, from N[i], to N[j], obj Total cost[i,j];",
+            1,
+        ),
+        (
+            "set A := {1 .. 9 by 2, 'x'} union {} diff {: 1 = 2}; set B dimen 2 within A;",
+            2,
+        ),
+        (
+            "param p := if a = 1 and not (b in S) or c not in S then 3 else if d within E then 4 else 5;",
+            1,
+        ),
+        (
+            "param q default (if a > 0 then 1); param r >= 0, >= 1, <= 2 < 3 integer;",
+            2,
+        ),
+        (
+            "check {(i,j) in L, k in S}: -i * 2 div 3 + sum {l in S} l * 2 + min {l in S} l <> j mod 2;",
+            1,
+        ),
+        (
+            "node A: 1 <= net_in <= 4; node B: net_out >= 2; node C: 2 = net_in;",
+            3,
+        ),
     ];
     for (text, expected) in table {
         assert_eq!(rt; count(&rt, text), expected, "{text}");
@@ -127,7 +169,13 @@ fn refusals(rt: HostRuntime) -> Result<(), Fail> {
 }
 
 /// A text with an opening that stands so often.
-fn nested(rt: &(impl Abort + AllocGlobal), front: &str, opening: &str, times: usize, back: &str) -> String {
+fn nested(
+    rt: &(impl Abort + AllocGlobal),
+    front: &str,
+    opening: &str,
+    times: usize,
+    back: &str,
+) -> String {
     let mut text = String::from_str(rt.alloc(), front).expect(rt, "memory");
     for _ in 0..times {
         text.push_str(opening).expect(rt, "memory");
