@@ -5,10 +5,27 @@ use std::alloc::{AllocError, Global};
 use std::fmt::Write;
 use std::test::Fail;
 
-/// The tokens as `KIND TEXT START`, each in a line of its own.
-fn listed(alloc: Global, tokens: &[Token<'_>]) -> Result<String, AllocError> {
+/// The tokens of a text.
+fn tokens_of<'s>(
+    alloc: Global,
+    language: Language,
+    text: &'s str,
+) -> Result<Vec<Token<'s>>, AllocError> {
+    let read = match language {
+        Model => lex_model(alloc, text.as_bytes()),
+        Data => lex_data(alloc, text.as_bytes()),
+    };
+    match read {
+        Ok(tokens) => Ok(tokens),
+        Err(_) => Err(AllocError),
+    }
+}
+
+/// The tokens of a text as `KIND TEXT START`, each in a line of its own.
+fn listed(alloc: Global, language: Language, text: &str) -> Result<String, AllocError> {
     let mut lines = String::new(alloc);
-    for token in tokens {
+    let tokens = tokens_of(alloc, language, text)?;
+    for token in &tokens {
         let kind = token.kind;
         let text = token.text.as_str();
         let start = token.span.start;
@@ -76,11 +93,8 @@ const TEXTS: [(Language, &str, &str); 15] = [
 #[test]
 fn tokens(rt: HostRuntime) -> Result<(), Fail> {
     for (language, text, expected) in TEXTS {
-        let tokens = match language {
-            Model => lex_model(rt.alloc(), text.as_bytes())?,
-            Data => lex_data(rt.alloc(), text.as_bytes())?,
-        };
-        assert_eq!(rt; listed(rt.alloc(), &tokens)?.as_str(), expected);
+        let given = listed(rt.alloc(), language, text)?;
+        assert_eq!(rt; given.as_str(), expected);
     }
     Ok(())
 }
