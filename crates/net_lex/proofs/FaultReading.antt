@@ -12,7 +12,7 @@ use Rattle.net_lex.specs.declared.string.StringEnd.TheVariants.{Closed, Control,
 use Rattle.net_lex.specs.declared.token.Kind.{Kind}
 use Rattle.net_lex.specs.declared.token.Kind.TheVariants as kinds
 use Rattle.net_lex.specs.declared.token.Token.{Token}
-use Rattle.net_lex.specs.declared.numeral.NumFault.TheVariants as num
+use Rattle.net_lex.specs.declared.whole.NumFault.TheVariants as num
 use Rattle.net_lex.specs.Bytes.{first, second}
 use Rattle.net_lex.specs.Characters.{is_quote}
 use Rattle.net_lex.specs.GapFront.{place_after, after_gap}

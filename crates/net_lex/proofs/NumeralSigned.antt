@@ -5,8 +5,8 @@ use Rattle.std.proofs.lemmas.Bool.Decides.{nat_tests}
 use Rattle.std.specs.Char.{is_ascii_digit}
 use Rattle.net_lex.specs.Bytes.{first, minus, is_sign, after_sign}
 use Rattle.net_lex.specs.Numerals.{Parts, AllDigits, SpellsMantissa, plain, pointed, IsSign, unsigned, with_plus, with_minus, SpellsNumeral, SpellsSigned, IsSized, IsValue, IsNumFault, mantissa, up, down, signed}
-use Rattle.net_lex.specs.declared.numeral.NumFault.{NumFault}
-use Rattle.net_lex.specs.declared.numeral.NumFault.TheVariants.{NotNumeral, NotWhole, TooLarge}
+use Rattle.net_lex.specs.declared.whole.NumFault.{NumFault}
+use Rattle.net_lex.specs.declared.whole.NumFault.TheVariants.{NotNumeral, NotWhole, TooLarge}
 use Rattle.net_lex.specs.NumeralFront.{numeral_at}
 use Rattle.net_lex.proofs.NumeralLemmas.{first_digit}
 use Rattle.net_lex.proofs.NumeralSpelled.{numeral_read, numeral_spelled, sign_before}

@@ -3,7 +3,7 @@ use Rattle.std.proofs.Common.{◌≡◌, ℕ, ◌+◌, ◌-◌, ◌*◌, ◌^◌
 use Rattle.std.proofs.lemmas.Bool.{lt-ltb, le-ltb, ne_eqb, cases_lt, cases_eq}
 use Rattle.std.proofs.lemmas.Nat.{pow-add}
 use Rattle.std.proofs.Math.Nat.{mul-le-mul_left, le_of_mul-le-mul_right, mul_assoc}
-use Rattle.net_lex.specs.declared.numeral.NumFault.TheVariants.{NotWhole, TooLarge}
+use Rattle.net_lex.specs.declared.whole.NumFault.TheVariants.{NotWhole, TooLarge}
 use Rattle.net_lex.specs.Numerals.{IsWhole, IsSized}
 use Rattle.net_lex.specs.Significands.{whole_value}
 use Rattle.net_lex.proofs.Tens.{ten_pos, ten_more, ten_large}

@@ -7,7 +7,7 @@ use Rattle.net_lex.specs.declared.fault.Defect.TheVariants.{BadCharacter, OpenSt
 use Rattle.net_lex.specs.declared.fault.LexFault.{LexFault}
 use Rattle.net_lex.specs.declared.fault.LexFault.TheVariants.{OutOfMemory, At}
 use Rattle.net_lex.specs.declared.language.Language.{Language}
-use Rattle.net_lex.specs.declared.numeral.NumFault.TheVariants as num
+use Rattle.net_lex.specs.declared.whole.NumFault.TheVariants as num
 use Rattle.net_lex.specs.declared.span.Span.{Span}
 use Rattle.net_lex.specs.declared.token.Kind.{Kind}
 use Rattle.net_lex.specs.declared.token.Kind.TheVariants.{Num, Str}

@@ -4,8 +4,8 @@ use Rattle.std.specs.Prelude.{◌≡◌, ℕ, ◌+◌, ◌-◌, ◌*◌, ◌^◌
 use Rattle.std.specs.List.{list_all}
 use Rattle.std.specs.Char.{is_ascii_digit}
 use Rattle.net_lex.specs.Bytes.{point, plus, minus, marks_power}
-use Rattle.net_lex.specs.declared.numeral.NumFault.{NumFault}
-use Rattle.net_lex.specs.declared.numeral.NumFault.TheVariants.{NotNumeral, NotWhole, TooLarge}
+use Rattle.net_lex.specs.declared.whole.NumFault.{NumFault}
+use Rattle.net_lex.specs.declared.whole.NumFault.TheVariants.{NotNumeral, NotWhole, TooLarge}
 
 -- what a numeral says: the digits before the point, those after it, and the power of ten with its sign
 pub record Parts : Type 0 where

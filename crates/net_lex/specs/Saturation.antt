@@ -1,7 +1,7 @@
 -- Numbers that the code keeps only up to a bound, beside the numbers that they stand for.
 use Rattle.std.specs.Prelude.{◌≡◌, ℕ, min}
 use Rattle.net_lex.specs.Significands.{Significand}
-use Rattle.net_lex.specs.declared.numeral.Significand as code
+use Rattle.net_lex.specs.declared.significand.Significand as code
 
 -- the code's number is the other's, up to the bound
 pub record StandsFor (bound : ℕ) (kept : code.Significand) (g : Significand) : Type 0 where

@@ -5,7 +5,7 @@ use Rattle.net_lex.specs.declared.fault.Defect.{Defect}
 use Rattle.net_lex.specs.declared.fault.Defect.TheVariants.{NotWhole, TooLarge}
 use Rattle.net_lex.specs.declared.gap.Place.TheVariants.{Between}
 use Rattle.net_lex.specs.declared.language.Language.{Language}
-use Rattle.net_lex.specs.declared.numeral.NumFault.TheVariants as num
+use Rattle.net_lex.specs.declared.whole.NumFault.TheVariants as num
 use Rattle.net_lex.specs.declared.span.Span.{Span}
 use Rattle.net_lex.specs.declared.token.Kind.{Kind}
 use Rattle.net_lex.specs.declared.token.Kind.TheVariants.{Num}

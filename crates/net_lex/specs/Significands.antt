@@ -1,7 +1,7 @@
 -- A number as its significant digits and the zeros after them (AMPL book, section A.1, gives the numerals that are read so).
 use Rattle.std.specs.Prelude.{ℕ, ◌+◌, ◌-◌, ◌*◌, ◌^◌, ◌==◌, nat_lt, List, fold, if◌then◌else◌, Result, Ok, Err}
-use Rattle.net_lex.specs.declared.numeral.NumFault.{NumFault}
-use Rattle.net_lex.specs.declared.numeral.NumFault.TheVariants.{NotWhole, TooLarge}
+use Rattle.net_lex.specs.declared.whole.NumFault.{NumFault}
+use Rattle.net_lex.specs.declared.whole.NumFault.TheVariants.{NotWhole, TooLarge}
 
 -- the number is digits times ten to the power zeros
 pub record Significand : Type 0 where

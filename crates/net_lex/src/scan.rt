@@ -14,10 +14,10 @@ use crate::fault::Defect;
 use crate::gap::gap_len;
 use crate::language::Language;
 use crate::model_text::model_front;
-use crate::numeral::{NumFault, whole_of};
 use crate::shape::{Shape, Stop};
 use crate::span::Span;
 use crate::token::{Kind, Token};
+use crate::whole::{NumFault, whole_of};
 use crate::words::is_reserved;
 
 /// The greatest length of a token, in bytes.

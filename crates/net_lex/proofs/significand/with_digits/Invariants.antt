@@ -1,7 +1,7 @@
 use Rattle.std.proofs.Common.{◌+◌, ◌≤◌, take}
 use Rattle.net_lex.specs.Significands.{with_digits}
 use Rattle.net_lex.specs.Saturation.{Follows}
-use Rattle.net_lex.proofs.numeral.with_digits.Given as goal
+use Rattle.net_lex.proofs.significand.with_digits.Given as goal
 
 abbrev pub invariant-loop-byte : goal.invariant-loop-byte
 invariant-loop-byte l = record {

@@ -8,7 +8,7 @@ use Rattle.net_lex.specs.Numerals.{IsValue, signed}
 use Rattle.net_lex.specs.NumeralFront.{numeral_at}
 use Rattle.net_lex.specs.NumeralViews.{parts_view}
 use Rattle.net_lex.proofs.NumeralSigned.{read_digits, unread_none, unread_rest, sized_fault, sized_value}
-use Rattle.net_lex.proofs.numeral.whole_of.Goals as goal
+use Rattle.net_lex.proofs.whole.whole_of.Goals as goal
 
 pub returns-in_default : goal.returns-in_default
 returns-in_default c =

@@ -1,7 +1,7 @@
 use Rattle.std.proofs.Common.{◌-◌, ◌<◌, sym, arith}
 use Rattle.net_lex.proofs.Tens.{ten_large}
 use Rattle.net_lex.proofs.WholeValues.{value_too_large}
-use Rattle.net_lex.proofs.numeral.scaled.Goals as goal
+use Rattle.net_lex.proofs.whole.scaled.Goals as goal
 
 pub returns-then-places-gt12 : goal.returns-then-places-gt12
 returns-then-places-gt12 c =

@@ -1,6 +1,6 @@
 use Rattle.std.proofs.Common.{◌<◌, arith}
 use Rattle.net_lex.proofs.Tens.{ten_large}
-use Rattle.net_lex.proofs.numeral.grown.Goals as goal
+use Rattle.net_lex.proofs.significand.grown.Goals as goal
 
 pub returns-then-places-gt12 : goal.returns-then-places-gt12
 returns-then-places-gt12 c =

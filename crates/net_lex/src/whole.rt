@@ -1,0 +1,108 @@
+ghost use Rattle.std.specs.Prelude.{◌≡◌, ◌≤◌, min, MatchResult};
+ghost use Rattle.net_lex.specs.Limits.{limits};
+ghost use Rattle.net_lex.specs.NumeralViews.{parts_view};
+ghost use Rattle.net_lex.specs.Numerals.{AllDigits, digits_value, mantissa, up, down, IsSized, signed, IsValue, IsNumFault};
+ghost use Rattle.net_lex.specs.Significands.{whole_value};
+
+use crate::cursor::first;
+use crate::numeral::{Parts, numeral_at, skip_sign};
+use crate::significand::{PAST_LIMIT, Significand, ten_to, with_digits};
+
+/// Why a text has no whole value.
+#[derive(Clone, Copy, Debug, PartialEq, Eq)]
+pub enum NumFault {
+    /// `1e`
+    NotNumeral,
+    /// `0.5`
+    NotWhole,
+    /// `1e13`
+    TooLarge,
+}
+
+/// The greatest size of a value.
+pub(crate) const LIMIT: u64 = 1_000_000_000_000;
+
+/// Stands for every power of ten that is greater than any count of digits.
+const FAR: u128 = 0x1_0000_0000_0000_0000_0000;
+
+/// The number that digits stand for, up to `FAR`.
+fn power_of(digits: &[u8]) -> u128
+    ensures { result ≡ min (digits_value digits.now) FAR }
+{
+    let mut power: u128 = 0;
+    for byte in digits {
+        power = (10 * power + u128::from(byte.saturating_sub(b'0'))).min(FAR);
+    }
+    power
+}
+
+/// The whole value of digits times ten to the power `up - down`.
+#[tactic(auto, unfolding(crate::specs::Significands::whole_value))]
+fn scaled(digits: u64, up: u128, down: u128) -> Result<u64, NumFault>
+    requires { digits ≤ PAST_LIMIT }
+    ensures { result ≡ whole_value limits.value digits up down }
+{
+    if digits == 0 {
+        return Ok(0);
+    }
+    if up < down {
+        return Err(NumFault::NotWhole);
+    }
+    let places = up - down;
+    if places > 12 {
+        return Err(NumFault::TooLarge);
+    }
+    let value = u128::from(digits) * u128::from(ten_to(places as u32));
+    if value > u128::from(LIMIT) {
+        return Err(NumFault::TooLarge);
+    }
+    Ok(value as u64)
+}
+
+/// The whole value of a numeral's parts.
+fn size_of(parts: &Parts<'_>) -> Result<u64, NumFault>
+    requires whole { AllDigits parts.now.whole.now }
+    requires fraction { AllDigits parts.now.fraction.now }
+    ensures { let p = parts_view parts.now in IsSized limits.value (mantissa p) (up p) (down p) result }
+{
+    let none = Significand {
+        digits: 0,
+        zeros: 0,
+    };
+    let number = with_digits(with_digits(none, parts.whole), parts.fraction);
+    let power = power_of(parts.power);
+    let places = parts.fraction.len() as u128;
+    if parts.negative {
+        scaled(number.digits, number.zeros, places + power)
+    } else {
+        scaled(number.digits, number.zeros + power, places)
+    }
+}
+
+fn with_sign(negative: bool, size: u64) -> i64
+    requires { size ≤ limits.value }
+    ensures { result ≡ signed negative size }
+{
+    if negative {
+        -(size as i64)
+    } else {
+        size as i64
+    }
+}
+
+/// The exact value of a numeral with an optional sign.
+pub fn whole_of(numeral: &str) -> Result<i64, NumFault>
+    ensures value { MatchResult result (λ v. IsValue limits.value numeral.now v) (λ why. IsNumFault limits.value numeral.now why) }
+{
+    let bytes = numeral.as_bytes();
+    let Some((parts, after)) = numeral_at(skip_sign(bytes)) else {
+        return Err(NumFault::NotNumeral);
+    };
+    if !after.is_empty() {
+        return Err(NumFault::NotNumeral);
+    }
+    match size_of(&parts) {
+        Err(why) => Err(why),
+        Ok(size) => Ok(with_sign(first(bytes) == b'-', size)),
+    }
+}
