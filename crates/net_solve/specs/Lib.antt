@@ -1,2 +1,1 @@
-pub mod Residuals
 pub mod Settling

@@ -6,9 +6,8 @@ ghost use Rattle.net_check.specs.Certificates.{IsCertificate};
 ghost use Rattle.net_check.specs.declared.certificate.Certificate.{Certificate};
 ghost use Rattle.net_normal.specs.declared.problem.Problem.{Problem};
 
-use crate::candidate::find_candidate;
-use crate::halt::Halt;
 use net_check::{Certificate, Verdict, check};
+use net_guess::{Halt, guess};
 use net_normal::Problem;
 use std::alloc::{AllocError, Global};
 
@@ -23,13 +22,13 @@ pub trait Solver {
         ensures own { IfOk result (may_answer self.now problem.now) };
 }
 
-/// The primal-dual search by trees. What it finds is checked before it is given.
+/// The guesses of net_guess. What they find is checked before it is given.
 #[derive(Clone, Copy, Debug, PartialEq, Eq)]
 pub struct Plain;
 
 impl Solver for Plain {
     fn answer(&self, alloc: Global, problem: &Problem) -> Result<Option<Certificate>, AllocError> {
-        let found = match find_candidate(alloc, problem) {
+        let found = match guess(alloc, problem) {
             Ok(found) => found,
             Err(Halt::OutOfRange) => return Ok(None),
             Err(Halt::OutOfMemory) => return Err(AllocError),

@@ -1,0 +1,205 @@
+//! A part of a spanning tree that is hung up anew, at another of its nodes and below another node. The cyclic order of nodes that
+//! makes it cheap is from Barr, Glover and Klingman (1979); see also Ahuja, Magnanti, Orlin: Network Flows, section 11.3.
+
+use crate::halt::Halt;
+use crate::tree::{NO_NODE, Tree, TreeArc};
+
+/// How a subtree is hung up anew.
+#[derive(Clone, Copy)]
+pub struct Attachment {
+    /// The root of the subtree, which leaves its parent.
+    pub leaving: u32,
+    /// The node of the subtree that becomes its root.
+    pub stem: u32,
+    /// The node, outside the subtree, below which it comes.
+    pub parent: u32,
+    /// The arc to that node.
+    pub arc: TreeArc,
+    /// The nearest node above both parents.
+    pub join: u32,
+}
+
+/// What is remembered of the subtree's root before the change.
+#[derive(Clone, Copy)]
+struct Before {
+    previous: u32,
+    size: u32,
+    last: u32,
+    parent: u32,
+}
+
+impl Tree {
+    /// Hangs a subtree up anew. `turned` is room to work in.
+    pub fn attach(&mut self, attachment: &Attachment, turned: &mut Vec<u32>) -> Result<(), Halt> {
+        let leaving = self.node(attachment.leaving)?;
+        let before = Before {
+            previous: self.thread(attachment.leaving)?.previous,
+            size: leaving.size,
+            last: leaving.last,
+            parent: leaving.parent,
+        };
+        if attachment.stem == attachment.leaving {
+            self.move_whole(attachment, before)?;
+        } else {
+            self.turn_order(attachment, before, turned)?;
+            self.turn_arcs(attachment, before)?;
+        }
+        self.mend_lasts(attachment, before)?;
+        self.grow(attachment.parent, attachment.join, before.size)?;
+        self.grow(
+            before.parent,
+            attachment.join,
+            0u32.wrapping_sub(before.size),
+        )
+    }
+
+    /// Moves a subtree that keeps its root.
+    fn move_whole(&mut self, attachment: &Attachment, before: Before) -> Result<(), Halt> {
+        let root = attachment.leaving;
+        let mut node = self.node(root)?;
+        node.parent = attachment.parent;
+        node.arc = attachment.arc;
+        self.put_node(root, node)?;
+        if self.thread(attachment.parent)?.next == root {
+            return Ok(());
+        }
+        let behind = self.thread(before.last)?.next;
+        self.follow(before.previous, behind)?;
+        let behind = self.thread(attachment.parent)?.next;
+        self.follow(attachment.parent, root)?;
+        self.follow(before.last, behind)
+    }
+
+    /// Turns the cyclic order of a subtree that gets a new root: each node on the way to the old root takes what is left of its
+    /// own subtree behind it.
+    fn turn_order(
+        &mut self,
+        attachment: &Attachment,
+        before: Before,
+        turned: &mut Vec<u32>,
+    ) -> Result<(), Halt> {
+        let parent = attachment.parent;
+        let behind_all = if before.previous == parent {
+            self.thread(before.last)?.next
+        } else {
+            self.thread(parent)?.next
+        };
+        let (mut node, mut above) = (attachment.stem, parent);
+        let mut last = self.node(node)?.last;
+        let mut behind = self.thread(last)?.next;
+        self.set_next(parent, node)?;
+        turned.clear();
+        turned.push(parent)?;
+        for _ in 0..self.nodes.len() {
+            if node == attachment.leaving {
+                break;
+            }
+            let old_parent = self.node(node)?.parent;
+            self.set_next(last, old_parent)?;
+            turned.push(last)?;
+            let ahead = self.thread(node)?.previous;
+            self.follow(ahead, behind)?;
+            self.set_parent(node, above)?;
+            above = node;
+            node = old_parent;
+            last = self.node(node)?.last;
+            if last == self.node(above)?.last {
+                last = self.thread(above)?.previous;
+            }
+            behind = self.thread(last)?.next;
+        }
+        self.set_parent(attachment.leaving, above)?;
+        self.follow(last, behind_all)?;
+        self.set_last(attachment.leaving, last)?;
+        if before.previous != parent {
+            self.follow(before.previous, behind)?;
+        }
+        for node in turned.iter() {
+            let next = self.thread(*node)?.next;
+            self.set_previous(next, *node)?;
+        }
+        Ok(())
+    }
+
+    /// Turns the arcs on the way from a subtree's old root to its new one, and gives each of its nodes its new size.
+    fn turn_arcs(&mut self, attachment: &Attachment, before: Before) -> Result<(), Halt> {
+        let last = self.node(attachment.leaving)?.last;
+        let mut place = attachment.leaving;
+        let mut size = 0u32;
+        for _ in 0..self.nodes.len() {
+            if place == attachment.stem {
+                break;
+            }
+            let mut node = self.node(place)?;
+            let mut below = self.node(node.parent)?;
+            size = size.wrapping_add(node.size).wrapping_sub(below.size);
+            node.size = size;
+            node.arc = below.arc.turned();
+            self.put_node(place, node)?;
+            below.last = last;
+            self.put_node(node.parent, below)?;
+            place = node.parent;
+        }
+        let mut stem = self.node(attachment.stem)?;
+        stem.arc = attachment.arc;
+        stem.size = before.size;
+        self.put_node(attachment.stem, stem)
+    }
+
+    /// Gives the nodes above both places their new last nodes.
+    fn mend_lasts(&mut self, attachment: &Attachment, before: Before) -> Result<(), Halt> {
+        let parent = attachment.parent;
+        let limit = if self.node(attachment.join)?.last == parent {
+            attachment.join
+        } else {
+            NO_NODE
+        };
+        let last = self.node(attachment.leaving)?.last;
+        self.change_lasts(parent, NO_NODE, parent, last)?;
+        let ahead = before.previous;
+        let new_last = if attachment.join != ahead && parent != ahead {
+            ahead
+        } else {
+            last
+        };
+        if new_last == before.last {
+            return Ok(());
+        }
+        self.change_lasts(before.parent, limit, before.last, new_last)
+    }
+
+    /// Changes the last node of a node and of those above it, as long as it is this one, and up to a limit.
+    fn change_lasts(&mut self, from: u32, limit: u32, old: u32, new: u32) -> Result<(), Halt> {
+        let mut place = from;
+        for _ in 0..=self.nodes.len() {
+            if place == limit || place == NO_NODE {
+                return Ok(());
+            }
+            let node = self.node(place)?;
+            if node.last != old {
+                return Ok(());
+            }
+            self.set_last(place, new)?;
+            place = node.parent;
+        }
+        Err(Halt::OutOfRange)
+    }
+
+    /// Adds to the sizes of a node and of those above it, below an ancestor.
+    fn grow(&mut self, from: u32, ancestor: u32, count: u32) -> Result<(), Halt> {
+        let mut place = from;
+        for _ in 0..=self.nodes.len() {
+            if place == ancestor {
+                return Ok(());
+            }
+            match self.nodes.get_mut(place as usize) {
+                Some(node) => {
+                    node.size = node.size.wrapping_add(count);
+                    place = node.parent;
+                }
+                None => return Err(Halt::OutOfRange),
+            }
+        }
+        Err(Halt::OutOfRange)
+    }
+}

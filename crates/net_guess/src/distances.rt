@@ -1,0 +1,105 @@
+//! How far the nodes of a scaling run are from deficits, in steps of epsilon, and potentials that are lowered by as much.
+
+use crate::halt::Halt;
+use crate::places::{at, index, put};
+use crate::scaling::Scaling;
+use std::alloc::Global;
+use std::cmp::Reverse;
+use std::collections::BinaryHeap;
+
+/// The distance of a node from which no deficit is reached.
+const FAR: u32 = 1 << 28;
+
+/// The longest step, which stands for all that are longer.
+const LONGEST: u32 = 200;
+
+/// How many steps of epsilon take a reduced cost below 0.
+fn steps_of(reduced: i64, epsilon: i64) -> u32 {
+    if reduced < 0 {
+        return 0;
+    }
+    match reduced.checked_div(epsilon) {
+        Some(whole) => u32::try_from(whole)
+            .unwrap_or(LONGEST)
+            .saturating_add(1)
+            .min(LONGEST),
+        None => LONGEST,
+    }
+}
+
+impl Scaling {
+    /// Lowers each node's potential by its distance, so that residual arcs of negative reduced cost lead to deficits.
+    pub fn lower_by_distance(&mut self, alloc: Global, epsilon: i64) -> Result<(), Halt> {
+        let distances = self.distances(alloc, epsilon)?;
+        let mut greatest = 0u32;
+        for distance in &distances {
+            if *distance < FAR {
+                greatest = greatest.max(*distance);
+            }
+        }
+        for node in 0..index(distances.len()) {
+            let distance = at(&distances, node)?;
+            if distance >= FAR && at(&self.excess, node)? > 0 {
+                return Err(Halt::OutOfRange);
+            }
+            let steps = i64::from(distance.min(greatest.wrapping_add(1)));
+            let potential = at(&self.potentials, node)?;
+            let lower = potential.wrapping_sub(steps.wrapping_mul(epsilon));
+            put(&mut self.potentials, node, lower)?;
+            self.rewind(node)?;
+        }
+        Ok(())
+    }
+
+    /// The steps from each node to a deficit.
+    fn distances(&mut self, alloc: Global, epsilon: i64) -> Result<Vec<u32>, Halt> {
+        let count = self.potentials.len();
+        let mut distances = vec![in alloc; FAR; count]?;
+        let mut waiting = BinaryHeap::new(alloc);
+        for node in 0..index(count) {
+            if at(&self.excess, node)? < 0 {
+                put(&mut distances, node, 0)?;
+                waiting.push(Reverse((0u32, node)))?;
+            }
+        }
+        for _ in 0..self.network.arcs.len().saturating_add(count) {
+            let Some(Reverse((distance, node))) = waiting.pop() else {
+                break;
+            };
+            if at(&distances, node)? == distance {
+                self.reach_back(&mut distances, &mut waiting, node, distance, epsilon)?;
+            }
+        }
+        self.work = self.work.wrapping_add(self.network.arcs.len() as u64);
+        Ok(distances)
+    }
+
+    /// Brings the nodes from which a residual arc leads to this one nearer.
+    fn reach_back(
+        &self,
+        distances: &mut Vec<u32>,
+        waiting: &mut BinaryHeap<Reverse<(u32, u32)>>,
+        node: u32,
+        distance: u32,
+        epsilon: i64,
+    ) -> Result<(), Halt> {
+        let potential = at(&self.potentials, node)?;
+        for place in self.network.row(node)? {
+            let arc = at(&self.network.arcs, place)?;
+            let known = at(distances, arc.head)?;
+            if arc.reverse_room <= 0 || known <= distance {
+                continue;
+            }
+            let tail = at(&self.potentials, arc.head)?;
+            let reduced = tail
+                .wrapping_sub(arc.cost.wrapping_mul(self.factor))
+                .wrapping_sub(potential);
+            let farther = distance.wrapping_add(steps_of(reduced, epsilon));
+            if farther < known {
+                put(distances, arc.head, farther)?;
+                waiting.push(Reverse((farther, arc.head)))?;
+            }
+        }
+        Ok(())
+    }
+}

@@ -1,0 +1,150 @@
+//! What is guessed of a problem: a certificate, which is to be checked before it is believed.
+
+use crate::halt::Halt;
+use crate::places::at;
+use crate::probe::{Probe, Seen};
+use crate::residual::Residual;
+use crate::scaling::scaled_start;
+use crate::search::{Ending, Search};
+use crate::simplex::{Ended, Simplex};
+use crate::start::Start;
+use net_check::{Certificate, Side};
+use net_normal::Problem;
+use std::alloc::Global;
+
+/// How much a probe looks at, for each node and arc.
+const PROBE_LOOKS: u64 = 40;
+
+/// How much a network simplex looks at, for each node and arc, where many nodes have supplies, and where few have.
+const SIMPLEX_LOOKS: u64 = 600;
+
+const SPARSE_LOOKS: u64 = 4000;
+
+/// The most turns of a search: growths, changes of potentials and sendings.
+const SEARCH_TURNS: u32 = 1_000_000;
+
+/// A certificate of the problem, as far as a guess can tell, each way with a bound on its work: the supplies' sum; a probe; a network
+/// simplex; cost scaling, and from where that ends the search by trees. A halt says nothing of the problem.
+pub fn guess(alloc: Global, problem: &Problem) -> Result<Certificate, Halt> {
+    let mut total = 0i128;
+    for supply in &problem.supplies {
+        total = total
+            .checked_add(i128::from(*supply))
+            .ok_or(Halt::OutOfRange)?;
+    }
+    if total != 0 {
+        let side = if total > 0 { Side::Over } else { Side::Under };
+        let flags = vec![in alloc; true; problem.supplies.len()]?;
+        return Ok(Certificate::Cut { flags, side });
+    }
+    if let Some(certificate) = probed(alloc, problem)? {
+        return Ok(certificate);
+    }
+    match by_simplex(alloc, problem) {
+        Ok(Some(certificate)) => Ok(certificate),
+        Ok(None) | Err(Halt::OutOfRange) => by_search(alloc, problem),
+        Err(Halt::OutOfMemory) => Err(Halt::OutOfMemory),
+    }
+}
+
+/// Nodes and arcs together.
+fn size_of(problem: &Problem) -> u64 {
+    (problem.supplies.len() as u64).saturating_add(problem.arcs.len() as u64)
+}
+
+/// What a probe says: a cut, or where nothing costs anything, the flow.
+fn probed(alloc: Global, problem: &Problem) -> Result<Option<Certificate>, Halt> {
+    let limit = PROBE_LOOKS.saturating_mul(size_of(problem));
+    let mut probe = Probe::new(alloc, problem, limit)?;
+    match probe.run(alloc)? {
+        Seen::Cut(flags) => Ok(Some(Certificate::Cut {
+            flags,
+            side: Side::Over,
+        })),
+        Seen::Flow if problem.arcs.iter().all(|arc| arc.cost == 0) => {
+            let flows = flows_of(alloc, problem, &probe.network)?;
+            let potentials = vec![in alloc; 0i64; problem.supplies.len()]?;
+            Ok(Some(optimal(problem, flows, potentials)?))
+        }
+        Seen::Flow | Seen::Unknown => Ok(None),
+    }
+}
+
+/// What a network simplex says, where it ends at a flow.
+fn by_simplex(alloc: Global, problem: &Problem) -> Result<Option<Certificate>, Halt> {
+    let busy = problem
+        .supplies
+        .iter()
+        .filter(|supply| **supply != 0)
+        .count();
+    let looks = if busy > problem.supplies.len() / 10 {
+        SIMPLEX_LOOKS
+    } else {
+        SPARSE_LOOKS
+    };
+    let mut simplex = Simplex::new(alloc, problem)?;
+    match simplex.run(looks.saturating_mul(size_of(problem)))? {
+        Ended::Optimal => {
+            let flows = simplex.flows(alloc, problem)?;
+            let potentials = simplex.potentials(alloc, problem)?;
+            Ok(Some(optimal(problem, flows, potentials)?))
+        }
+        Ended::Infeasible => Ok(None),
+    }
+}
+
+/// What the search by trees says, from where cost scaling ends.
+fn by_search(alloc: Global, problem: &Problem) -> Result<Certificate, Halt> {
+    let start = match scaled_start(alloc, problem) {
+        Ok(start) => start,
+        Err(Halt::OutOfRange) => Start::plain(alloc, problem)?,
+        Err(Halt::OutOfMemory) => return Err(Halt::OutOfMemory),
+    };
+    let start = start.settled(problem)?;
+    let mut search = Search::new(alloc, problem, &start)?;
+    match search.run(SEARCH_TURNS)? {
+        Ending::Balanced => {
+            let flows = flows_of(alloc, problem, &search.network)?;
+            let mut potentials = Vec::with_capacity(alloc, problem.supplies.len())?;
+            for node in &search.forest.nodes {
+                potentials.push(node.potential)?;
+            }
+            optimal(problem, flows, potentials)
+        }
+        Ending::Stuck => {
+            let mut flags = Vec::with_capacity(alloc, search.forest.nodes.len())?;
+            for node in &search.forest.nodes {
+                flags.push(node.is_inside)?;
+            }
+            Ok(Certificate::Cut {
+                flags,
+                side: Side::Over,
+            })
+        }
+    }
+}
+
+/// The flows of a residual network.
+fn flows_of(alloc: Global, problem: &Problem, network: &Residual) -> Result<Vec<i64>, Halt> {
+    let mut flows = Vec::with_capacity(alloc, problem.arcs.len())?;
+    for (arc, forward) in problem.arcs.iter().zip(&network.forwards) {
+        let room = at(&network.arcs, *forward)?.room;
+        flows.push(arc.cap.wrapping_sub(room))?;
+    }
+    Ok(flows)
+}
+
+/// A flow and potentials, with what the flow costs.
+fn optimal(problem: &Problem, flows: Vec<i64>, potentials: Vec<i64>) -> Result<Certificate, Halt> {
+    let mut value = 0i128;
+    for (arc, flow) in problem.arcs.iter().zip(&flows) {
+        value = value
+            .checked_add(i128::from(arc.cost) * i128::from(*flow))
+            .ok_or(Halt::OutOfRange)?;
+    }
+    Ok(Certificate::Optimal {
+        value,
+        flows,
+        potentials,
+    })
+}

@@ -1,0 +1,31 @@
+//! Why a search ends before it has an answer.
+
+ghost use Rattle.std.specs.Prelude.{◌≡◌};
+ghost use Rattle.net_guess.specs.declared.halt.Halt.TheVariants as halts;
+
+use std::alloc::{AllocError, AllocFailed};
+
+/// Why a search ends before it has an answer.
+#[derive(Clone, Copy, Debug, PartialEq, Eq)]
+pub enum Halt {
+    /// There was no memory.
+    OutOfMemory,
+    /// A number would leave its range.
+    OutOfRange,
+}
+
+impl From<AllocError> for Halt {
+    ghost from_gives = { λ _ halt. halt ≡ halts.OutOfMemory };
+
+    fn from(_fault: AllocError) -> Halt {
+        Halt::OutOfMemory
+    }
+}
+
+impl<T: Drop> From<AllocFailed<T>> for Halt {
+    ghost from_gives = { λ _ halt. halt ≡ halts.OutOfMemory };
+
+    fn from(_fault: AllocFailed<T>) -> Halt {
+        Halt::OutOfMemory
+    }
+}

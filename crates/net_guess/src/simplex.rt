@@ -1,0 +1,174 @@
+//! A network simplex, as a guess: what it ends with is tested by those who ask.
+//!
+//! A spanning tree of arcs holds the flow that is not at a bound; potentials make the reduced costs of its arcs 0. An arc whose
+//! reduced cost says that flow on it should change comes in, and the first arc of the cycle that it closes whose room is used up
+//! goes. Of several such arcs the last on the way around from the cycle's top goes, so that no basis comes again (Cunningham 1976;
+//! Ahuja, Magnanti, Orlin: Network Flows, chapter 11).
+
+use crate::halt::Halt;
+use crate::places::{at, index, put};
+use crate::simplex_arc::{ArcRoom, SimplexArc, priced_arcs, root_of};
+use crate::starting::first_tree;
+use crate::tree::Tree;
+use net_normal::Problem;
+use std::alloc::Global;
+
+/// A network simplex under way.
+#[derive(Drop)]
+pub struct Simplex {
+    pub arcs: Vec<SimplexArc>,
+    pub rooms: Vec<ArcRoom>,
+    pub tree: Tree,
+    /// Where the next block of arcs to be priced begins.
+    pub next: usize,
+    /// How many arcs are priced together.
+    pub block: usize,
+    /// How many arcs and nodes were looked at.
+    pub work: u64,
+    /// Room to work in.
+    pub turned: Vec<u32>,
+    /// Whether an arc to the root has gone with flow on it.
+    pub is_short: bool,
+}
+
+/// How a network simplex ends.
+#[derive(Clone, Copy)]
+pub enum Ended {
+    /// At a flow of least cost, as far as its numbers can be trusted.
+    Optimal,
+    /// At one that leaves excess.
+    Infeasible,
+}
+
+impl Simplex {
+    /// Before its first change of the tree, where each node hangs below the root, but for those that want flow: they hang by
+    /// the cheapest arc into them.
+    pub fn new(alloc: Global, problem: &Problem) -> Result<Simplex, Halt> {
+        let (arcs, rooms) = priced_arcs(alloc, problem)?;
+        let root = root_of(arcs.len());
+        let block = if is_bipartite(alloc, problem)? {
+            root.saturating_mul(12) / 5
+        } else {
+            root.saturating_mul(3) / 2
+        };
+        let mut simplex = Simplex {
+            arcs,
+            rooms,
+            tree: first_tree(alloc, problem)?,
+            next: 0,
+            block: block.max(10),
+            work: 0,
+            turned: Vec::new(alloc),
+            is_short: false,
+        };
+        simplex.enter_cheapest(alloc, problem)?;
+        Ok(simplex)
+    }
+
+    /// The reduced cost of an arc, with the sign with which flow on it would change.
+    #[inline]
+    pub fn price(&self, arc: &SimplexArc) -> Result<i64, Halt> {
+        let src = self.tree.thread(arc.src)?.potential;
+        let dst = self.tree.thread(arc.dst)?.potential;
+        Ok(
+            arc.sign
+                .wrapping_mul(arc.cost.wrapping_add(src).wrapping_sub(dst)),
+        )
+    }
+
+    /// Lets the cheapest arc into each node that wants flow come in, where that saves something.
+    fn enter_cheapest(&mut self, alloc: Global, problem: &Problem) -> Result<(), Halt> {
+        let mut best = vec![in alloc; None; problem.supplies.len()]?;
+        for (place, arc) in self.arcs.iter().enumerate() {
+            if at(&problem.supplies, arc.dst)? >= 0 {
+                continue;
+            }
+            let cheaper = match at(&best, arc.dst)? {
+                None => true,
+                Some(other) => arc.cost < at(&self.arcs, other)?.cost,
+            };
+            if cheaper {
+                put(&mut best, arc.dst, Some(index(place)))?;
+            }
+        }
+        for place in best.iter().flatten() {
+            let arc = at(&self.arcs, *place)?;
+            if self.price(&arc)? < 0 {
+                self.enter(*place)?;
+            }
+        }
+        Ok(())
+    }
+
+    /// Changes the tree until no arc's price is negative, with at most so much work.
+    pub fn run(&mut self, limit: u64) -> Result<Ended, Halt> {
+        for _ in 0..limit {
+            match self.dearest()? {
+                Some(place) => self.enter(place)?,
+                None => return self.ended(),
+            }
+            if self.work > limit {
+                return Err(Halt::OutOfRange);
+            }
+        }
+        Err(Halt::OutOfRange)
+    }
+
+    /// Whether flow is left on arcs to the root.
+    fn ended(&self) -> Result<Ended, Halt> {
+        let count = self.arcs.len();
+        let left = self.tree.nodes.iter().any(|node| node.arc.number as usize >= count
+            && node.arc.flow() != 0);
+        if left || self.is_short {
+            Ok(Ended::Infeasible)
+        } else {
+            Ok(Ended::Optimal)
+        }
+    }
+
+    /// The flow on each arc of the problem.
+    pub fn flows(&self, alloc: Global, problem: &Problem) -> Result<Vec<i64>, Halt> {
+        let mut flows = Vec::with_capacity(alloc, problem.arcs.len())?;
+        for arc in &problem.arcs {
+            flows.push(arc.low)?;
+        }
+        for (arc, room) in self.arcs.iter().zip(&self.rooms) {
+            if arc.sign < 0 {
+                let low = at(&flows, room.number)?;
+                put(&mut flows, room.number, low.wrapping_add(room.room))?;
+            }
+        }
+        for node in &self.tree.nodes {
+            if let Some(room) = self.rooms.get(node.arc.number as usize) {
+                let low = at(&flows, room.number)?;
+                put(&mut flows, room.number, low.wrapping_add(node.arc.flow()))?;
+            }
+        }
+        Ok(flows)
+    }
+
+    /// The potential of each node of the problem.
+    pub fn potentials(&self, alloc: Global, problem: &Problem) -> Result<Vec<i64>, Halt> {
+        let count = problem.supplies.len();
+        let mut potentials = Vec::with_capacity(alloc, count)?;
+        for thread in self.tree.threads.iter().take(count) {
+            potentials.push(thread.potential)?;
+        }
+        Ok(potentials)
+    }
+}
+
+/// Whether no node has arcs both in and out.
+fn is_bipartite(alloc: Global, problem: &Problem) -> Result<bool, Halt> {
+    let count = problem.supplies.len();
+    let mut leaves = vec![in alloc; false; count]?;
+    for arc in &problem.arcs {
+        put(&mut leaves, arc.src, true)?;
+    }
+    for arc in &problem.arcs {
+        if at(&leaves, arc.dst)? {
+            return Ok(false);
+        }
+    }
+    Ok(true)
+}

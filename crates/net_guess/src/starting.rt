@@ -1,0 +1,92 @@
+//! The tree that a network simplex begins with.
+
+use crate::excess::excess_of;
+use crate::halt::Halt;
+use crate::tree::{NO_NODE, Thread, Tree, TreeArc, TreeNode};
+use net_normal::Problem;
+use std::alloc::Global;
+
+/// The room of an arc to the root. Greater numbers than half of it are not taken on.
+pub const ROOT_ROOM: i64 = 1 << 61;
+
+/// The greatest cost that an arc from the root may have.
+const ROOT_COST_LIMIT: i64 = 1 << 58;
+
+/// What a unit from the root costs: more than any way through the problem.
+fn root_cost(problem: &Problem) -> Result<i64, Halt> {
+    let mut greatest = 0i64;
+    for arc in &problem.arcs {
+        greatest = greatest.max(arc.cost.wrapping_abs());
+    }
+    let nodes = problem.supplies.len() as i64;
+    match greatest.wrapping_add(1).checked_mul(nodes) {
+        Some(cost) if cost <= ROOT_COST_LIMIT => Ok(cost),
+        _ => Err(Halt::OutOfRange),
+    }
+}
+
+/// The arc between a node with this excess and the root.
+fn root_arc(number: u32, excess: i64) -> TreeArc {
+    if excess >= 0 {
+        TreeArc {
+            number,
+            is_up: true,
+            room_up: ROOT_ROOM.wrapping_sub(excess),
+            room_down: excess,
+        }
+    } else {
+        TreeArc {
+            number,
+            is_up: false,
+            room_up: excess.wrapping_neg(),
+            room_down: ROOT_ROOM.wrapping_add(excess),
+        }
+    }
+}
+
+/// Each node below the root: what it has too much of goes up, what it lacks comes down at a cost past all others.
+pub fn first_tree(alloc: Global, problem: &Problem) -> Result<Tree, Halt> {
+    let mut lows = Vec::with_capacity(alloc, problem.arcs.len())?;
+    for arc in &problem.arcs {
+        lows.push(arc.low)?;
+    }
+    let excess = excess_of(alloc, problem, &lows)?;
+    let cost = root_cost(problem)?;
+    let count = problem.supplies.len();
+    let root = count as u32;
+    let mut tree = Tree::with_room(alloc, count)?;
+    for (place, excess) in excess.iter().enumerate() {
+        let node = place as u32;
+        let amount = match i64::try_from(*excess) {
+            Ok(amount) if amount.wrapping_abs() <= ROOT_ROOM => amount,
+            _ => return Err(Halt::OutOfRange),
+        };
+        tree.nodes.push(TreeNode {
+            parent: root,
+            size: 1,
+            last: node,
+            arc: root_arc((problem.arcs.len() as u32).wrapping_add(node), amount),
+        })?;
+        tree.threads.push(Thread {
+            potential: if amount >= 0 { 0 } else { cost },
+            next: node.wrapping_add(1),
+            previous: if node == 0 {
+                root
+            } else {
+                node.wrapping_sub(1)
+            },
+        })?;
+    }
+    tree.nodes.push(TreeNode {
+        parent: NO_NODE,
+        size: root.wrapping_add(1),
+        last: root.wrapping_sub(1),
+        arc: root_arc(u32::MAX, 0),
+    })?;
+    tree.threads.push(Thread {
+        potential: 0,
+        next: 0,
+        previous: root.wrapping_sub(1),
+    })?;
+    Ok(tree)
+}

@@ -1,0 +1,171 @@
+//! The spanning tree of a network simplex, with its nodes in a cyclic order in which each subtree stands together.
+
+use crate::halt::Halt;
+use crate::places::{at, put};
+use std::alloc::{AllocError, Global};
+
+/// No node.
+pub const NO_NODE: u32 = u32::MAX;
+
+/// The arc between a node and its parent, seen from the node.
+#[derive(Clone, Copy)]
+pub struct TreeArc {
+    /// Its number; that of an arc to the root that no problem has is past those of the problem's.
+    pub number: u32,
+    /// Whether it leads to the parent.
+    pub is_up: bool,
+    /// How much more flow it takes to the parent.
+    pub room_up: i64,
+    /// How much more flow it takes from the parent.
+    pub room_down: i64,
+}
+
+impl TreeArc {
+    /// The same arc, seen from the other end.
+    pub fn turned(self) -> TreeArc {
+        TreeArc {
+            number: self.number,
+            is_up: !self.is_up,
+            room_up: self.room_down,
+            room_down: self.room_up,
+        }
+    }
+
+    /// The flow on it above its lower bound.
+    pub fn flow(&self) -> i64 {
+        if self.is_up {
+            self.room_down
+        } else {
+            self.room_up
+        }
+    }
+}
+
+/// A node of the tree.
+#[derive(Clone, Copy)]
+pub struct TreeNode {
+    pub parent: u32,
+    /// How many nodes its subtree has.
+    pub size: u32,
+    /// The last node of its subtree in the cyclic order.
+    pub last: u32,
+    pub arc: TreeArc,
+}
+
+/// A node's potential, and its neighbours in the cyclic order.
+#[derive(Clone, Copy)]
+pub struct Thread {
+    pub potential: i64,
+    pub next: u32,
+    pub previous: u32,
+}
+
+/// The nodes of a problem and a root above them, whose number is that of the problem's nodes.
+#[derive(Drop)]
+pub struct Tree {
+    pub nodes: Vec<TreeNode>,
+    pub threads: Vec<Thread>,
+}
+
+impl Tree {
+    /// The root alone would be the parent of each node: room for so many, and the root.
+    pub fn with_room(alloc: Global, node_count: usize) -> Result<Tree, AllocError> {
+        let room = node_count.saturating_add(1);
+        Ok(Tree {
+            nodes: Vec::with_capacity(alloc, room)?,
+            threads: Vec::with_capacity(alloc, room)?,
+        })
+    }
+
+    #[inline]
+    pub fn node(&self, node: u32) -> Result<TreeNode, Halt> {
+        at(&self.nodes, node)
+    }
+
+    #[inline]
+    pub fn thread(&self, node: u32) -> Result<Thread, Halt> {
+        at(&self.threads, node)
+    }
+
+    #[inline]
+    pub fn put_node(&mut self, place: u32, node: TreeNode) -> Result<(), Halt> {
+        put(&mut self.nodes, place, node)
+    }
+
+    /// Lets one node follow another in the cyclic order.
+    #[inline]
+    pub fn follow(&mut self, node: u32, next: u32) -> Result<(), Halt> {
+        self.set_next(node, next)?;
+        self.set_previous(next, node)
+    }
+
+    #[inline]
+    pub fn set_next(&mut self, node: u32, next: u32) -> Result<(), Halt> {
+        match self.threads.get_mut(node as usize) {
+            Some(thread) => thread.next = next,
+            None => return Err(Halt::OutOfRange),
+        }
+        Ok(())
+    }
+
+    #[inline]
+    pub fn set_previous(&mut self, node: u32, previous: u32) -> Result<(), Halt> {
+        match self.threads.get_mut(node as usize) {
+            Some(thread) => thread.previous = previous,
+            None => return Err(Halt::OutOfRange),
+        }
+        Ok(())
+    }
+
+    #[inline]
+    pub fn set_parent(&mut self, node: u32, parent: u32) -> Result<(), Halt> {
+        match self.nodes.get_mut(node as usize) {
+            Some(node) => node.parent = parent,
+            None => return Err(Halt::OutOfRange),
+        }
+        Ok(())
+    }
+
+    #[inline]
+    pub fn set_last(&mut self, node: u32, last: u32) -> Result<(), Halt> {
+        match self.nodes.get_mut(node as usize) {
+            Some(node) => node.last = last,
+            None => return Err(Halt::OutOfRange),
+        }
+        Ok(())
+    }
+
+    /// Sends an amount down from a node's ancestor to it, or where it is negative, up.
+    pub fn send_down(&mut self, ancestor: u32, from: u32, amount: i64) -> Result<(), Halt> {
+        let mut place = from;
+        for _ in 0..=self.nodes.len() {
+            if place == ancestor {
+                return Ok(());
+            }
+            match self.nodes.get_mut(place as usize) {
+                Some(node) => {
+                    node.arc.room_down = node.arc.room_down.wrapping_sub(amount);
+                    node.arc.room_up = node.arc.room_up.wrapping_add(amount);
+                    place = node.parent;
+                }
+                None => return Err(Halt::OutOfRange),
+            }
+        }
+        Err(Halt::OutOfRange)
+    }
+
+    /// Adds to the potentials of so many nodes, from one on in the cyclic order.
+    pub fn raise(&mut self, from: u32, count: u32, amount: i64) -> Result<(), Halt> {
+        let mut place = from;
+        for _ in 0..count {
+            match self.threads.get_mut(place as usize) {
+                Some(thread) => {
+                    thread.potential = thread.potential.wrapping_add(amount);
+                    place = thread.next;
+                }
+                None => return Err(Halt::OutOfRange),
+            }
+        }
+        Ok(())
+    }
+}
