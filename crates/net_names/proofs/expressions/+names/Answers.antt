@@ -1,0 +1,123 @@
+use Rattle.std.proofs.Common.{◌≡◌, false, rules, sym, ap, ◌∙◌, ◌+◌, drop, arith}
+use Rattle.std.proofs.lemmas.Result.{err_from_is_err_and}
+use Rattle.net_tree.specs.View.{tree, links_of, braces_of}
+use Rattle.net_tree.proofs.Views.{next_link, views}
+use Rattle.net_names.specs.Dummies.{with_item, with_items, with_component, with_components}
+use Rattle.net_names.specs.Items.{item_fault, component_fault, left_fault}
+use Rattle.net_names.specs.Names.{tree_fault, links_fault, items_fault, further_fault, is_tuple}
+use Rattle.net_names.proofs.Cases.{in_indexed, in_parens, in_tuple, in_negated, in_signed, in_reduced, in_choice}
+use Rattle.net_names.proofs.Walking.{tells_by, left_other, forgotten_braces, forgotten_components, link_lighter, links_left, items_left, components_left, behind_none, stops_first}
+use Rattle.net_names.proofs.expressions.+names.Goals as goal
+
+pub check-returns-in-Indexed-clause-value : goal.check-returns-in-Indexed-clause-value
+check-returns-in-Indexed-clause-value t c =
+    tells_by _ _ _ (ap (tree_fault c.args.need c.args.scope.now) (in_indexed c.args.expr.now c.in-Indexed.parts c.get.result.now c.as_slice.result.now c.in-Indexed.is c.get.ensures c.as_slice.ensures)) c.check_subscripts.ensures.value
+
+pub check-returns-in-Parens-clause-value : goal.check-returns-in-Parens-clause-value
+check-returns-in-Parens-clause-value t c =
+    tells_by _ _ _ (ap (tree_fault c.args.need c.args.scope.now) (in_parens c.args.expr.now c.in-Parens.parts c.get-in-Parens.result.now c.in-Parens.is c.get-in-Parens.ensures)) c.check.ensures.value
+
+pub check-returns-in-Tuple-clause-value : goal.check-returns-in-Tuple-clause-value
+check-returns-in-Tuple-clause-value t c =
+    tells_by _ _ _ (ap (tree_fault c.args.need c.args.scope.now) (in_tuple c.args.expr.now c.in-Tuple.parts c.get-in-Tuple.result.now c.as_slice-in-Tuple.result.now c.in-Tuple.is c.get-in-Tuple.ensures c.as_slice-in-Tuple.ensures)) c.check_series.ensures.value
+
+pub check-returns-in-Negated-clause-value : goal.check-returns-in-Negated-clause-value
+check-returns-in-Negated-clause-value t c =
+    tells_by _ _ _ (ap (tree_fault c.args.need c.args.scope.now) (in_negated c.args.expr.now c.in-Negated.parts c.get-in-Negated.result.now c.in-Negated.is c.get-in-Negated.ensures)) c.check-in-Negated.ensures.value
+
+pub check-returns-in-Signed-clause-value : goal.check-returns-in-Signed-clause-value
+check-returns-in-Signed-clause-value t c =
+    tells_by _ _ _ (ap (tree_fault c.args.need c.args.scope.now) (in_signed c.args.expr.now c.in-Signed.parts c.get-in-Signed.result.now c.in-Signed.is c.get-in-Signed.ensures)) c.check-in-Signed.ensures.value
+
+pub check-returns-in-Reduced-clause-value : goal.check-returns-in-Reduced-clause-value
+check-returns-in-Reduced-clause-value t c =
+    tells_by _ _ _ (ap (tree_fault c.args.need c.args.scope.now) (in_reduced c.args.expr.now c.in-Reduced.parts c.get-in-Reduced.result.now c.in-Reduced.body c.get-in-Reduced-2.result.now c.in-Reduced.is c.get-in-Reduced.ensures c.get-in-Reduced-2.ensures)) c.check_reduced.ensures.value
+
+pub check-returns-in-Choice-clause-value : goal.check-returns-in-Choice-clause-value
+check-returns-in-Choice-clause-value t c =
+    tells_by _ _ _ (ap (tree_fault c.args.need c.args.scope.now) (in_choice c.args.expr.now c.in-Choice.condition c.in-Choice.branch c.get-in-Choice.result.now c.get-in-Choice-2.result.now c.in-Choice.otherwise c.in-Choice.is c.get-in-Choice.ensures c.get-in-Choice-2.ensures)) c.check_choice.ensures.value
+
+pub check_braced-returns-clause-kept : goal.check_braced-returns-clause-kept
+check_braced-returns-clause-kept t c = c.forget_behind.ensures ∙ forgotten_braces c.args.scope.now c.read_braces.new.scope (braces_of c.args.braces.now) c.len-known.result c.len-known.ensures c.in_ok-read_braces.ensures.grown
+
+pub check_links-check-requires : goal.check_links-check-requires
+check_links-check-requires t c = omega (arith, link_lighter c.args.links.now c.loop-link.link-index c.link-item.result c.loop-link-test.true c.link-item.is)
+
+pub check_links-returns-in_err-check-clause-value : goal.check_links-returns-in_err-check-clause-value
+check_links-returns-in_err-check-clause-value t c =
+    let y = err_from_is_err_and c.from_residual.result c.from_residual.ensures.1 in
+    rw y.1 (rw y.2
+    (stops_first _ _ (links_fault c.args.need c.args.scope.now (links_of c.args.links.now)) c.in_err-check.field-0.0
+    (links_left c.args.need c.args.scope.now c.loop-link.scope c.args.links.now c.loop-link.link-index c.link-item.result _ c.loop-link-test.true c.link-item.is c.loop-link.invariant.kept c.loop-link.invariant.fault)
+    c.in_err-check.ensures.value))
+
+pub check_links-loop-link-preserved : goal.check_links-loop-link-preserved
+check_links-loop-link-preserved t c = record {
+  fault =
+      behind_none _ _ (links_fault c.args.need c.args.scope.now (links_of c.args.links.now))
+      (links_left c.args.need c.args.scope.now c.loop-link.scope c.args.links.now c.loop-link.link-index c.link-item.result _ c.loop-link-test.true c.link-item.is c.loop-link.invariant.kept c.loop-link.invariant.fault)
+      c.in_ok-check.ensures.value;
+  kept = c.in_ok-check.ensures.kept ∙ c.loop-link.invariant.kept;
+}
+
+pub check_left-returns-in-Tuple-clause-value : goal.check_left-returns-in-Tuple-clause-value
+check_left-returns-in-Tuple-clause-value t c =
+    tells_by _ _ _ (ap (left_fault c.args.need c.args.scope.now) (in_tuple c.args.left.now c.in-Tuple.parts c.get.result.now c.as_slice.result.now c.in-Tuple.is c.get.ensures c.as_slice.ensures)) c.check_components.ensures.value
+
+pub check_left-returns-in-Leaf-clause-value : goal.check_left-returns-in-Leaf-clause-value
+check_left-returns-in-Leaf-clause-value t c =
+    let other : is_tuple (tree c.args.left.now) ≡ false = search (rules, views) in
+    tells_by _ _ _ (left_other c.args.need c.args.scope.now (tree c.args.left.now) other) c.check_component-in-Leaf.ensures.value
+
+pub check_left-returns-in-Braced-clause-value : goal.check_left-returns-in-Braced-clause-value
+check_left-returns-in-Braced-clause-value t c =
+    let other : is_tuple (tree c.args.left.now) ≡ false = search (rules, views) in
+    tells_by _ _ _ (left_other c.args.need c.args.scope.now (tree c.args.left.now) other) c.check_component-in-Braced.ensures.value
+
+pub read_more-read_item-requires : goal.read_more-read_item-requires
+read_more-read_item-requires t c = omega (arith, link_lighter c.args.links.now c.loop-link.link-index c.link-item.result c.loop-link-test.true c.link-item.is)
+
+pub read_more-returns-in_err-read_item-clause-value : goal.read_more-returns-in_err-read_item-clause-value
+read_more-returns-in_err-read_item-clause-value t c =
+    let y = err_from_is_err_and c.from_residual.result c.from_residual.ensures.1 in
+    rw y.1 (rw y.2
+    (stops_first _ _ (items_fault c.args.need c.args.scope.now (links_of c.args.links.now)) c.in_err-read_item.field-0.0
+    (items_left c.args.need c.loop-link.scope c.args.links.now c.loop-link.link-index c.link-item.result _ c.loop-link-test.true c.link-item.is c.loop-link.invariant.fault)
+    c.in_err-read_item.ensures.value))
+
+pub read_more-loop-link-preserved : goal.read_more-loop-link-preserved
+read_more-loop-link-preserved t c = record {
+  fault =
+      ap (λ s. items_fault c.args.need s (links_of (drop (c.loop-link.link-index + 1) c.args.links.now))) c.in_ok-read_item.ensures.grown
+      ∙ behind_none _ _ (items_fault c.args.need c.args.scope.now (links_of c.args.links.now))
+      (items_left c.args.need c.loop-link.scope c.args.links.now c.loop-link.link-index c.link-item.result _ c.loop-link-test.true c.link-item.is c.loop-link.invariant.fault)
+      c.in_ok-read_item.ensures.value;
+  grown =
+      ap (λ s. with_items s (links_of (drop (c.loop-link.link-index + 1) c.args.links.now))) c.in_ok-read_item.ensures.grown
+      ∙ sym (ap (with_items c.loop-link.scope) (next_link c.args.links.now c.loop-link.link-index c.link-item.result c.loop-link-test.true c.link-item.is))
+      ∙ c.loop-link.invariant.grown;
+}
+
+pub read_components-read_component-requires : goal.read_components-read_component-requires
+read_components-read_component-requires t c = omega (arith, link_lighter c.args.links.now c.loop-link.link-index c.link-item.result c.loop-link-test.true c.link-item.is)
+
+pub read_components-returns-in_err-read_component-clause-value : goal.read_components-returns-in_err-read_component-clause-value
+read_components-returns-in_err-read_component-clause-value t c =
+    let y = err_from_is_err_and c.from_residual.result c.from_residual.ensures.1 in
+    rw y.1 (rw y.2
+    (stops_first _ _ (further_fault c.args.need c.args.scope.now (links_of c.args.links.now)) c.in_err-read_component.field-0.0
+    (components_left c.args.need c.loop-link.scope c.args.links.now c.loop-link.link-index c.link-item.result _ c.loop-link-test.true c.link-item.is c.loop-link.invariant.fault)
+    c.in_err-read_component.ensures.value))
+
+pub read_components-loop-link-preserved : goal.read_components-loop-link-preserved
+read_components-loop-link-preserved t c = record {
+  fault =
+      ap (λ s. further_fault c.args.need s (links_of (drop (c.loop-link.link-index + 1) c.args.links.now))) c.in_ok-read_component.ensures.grown
+      ∙ behind_none _ _ (further_fault c.args.need c.args.scope.now (links_of c.args.links.now))
+      (components_left c.args.need c.loop-link.scope c.args.links.now c.loop-link.link-index c.link-item.result _ c.loop-link-test.true c.link-item.is c.loop-link.invariant.fault)
+      c.in_ok-read_component.ensures.value;
+  grown =
+      ap (λ s. with_components s (links_of (drop (c.loop-link.link-index + 1) c.args.links.now))) c.in_ok-read_component.ensures.grown
+      ∙ sym (ap (with_components c.loop-link.scope) (next_link c.args.links.now c.loop-link.link-index c.link-item.result c.loop-link-test.true c.link-item.is))
+      ∙ c.loop-link.invariant.grown;
+}

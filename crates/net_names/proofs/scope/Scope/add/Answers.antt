@@ -1,0 +1,10 @@
+use Rattle.std.proofs.Common.{sym, ap, ◌∙◌}
+use Rattle.net_names.specs.Kept.{IsKept}
+use Rattle.net_names.specs.Scopes.{meaning_in}
+use Rattle.net_names.proofs.Keeping.{kept_more}
+use Rattle.net_names.proofs.scope.Scope.add.Goals as goal
+
+pub invariant_of-self-in-Ok : goal.invariant_of-self-in-Ok
+invariant_of-self-in-Ok c =
+    rw (c.in_ok-push.ensures.items, c.again.ensures)
+    (kept_more c.self.inside.names.items c.args.name.now c.args.meaning c.self.inside.meanings c.insert.new.meanings c.self.invariant (ap (meaning_in c.args.name.now) c.self.view_is ∙ c.requires) c.in-Ok.ensures.ok)

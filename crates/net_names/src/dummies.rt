@@ -1,0 +1,141 @@
+ghost use Rattle.std.specs.Prelude.{◌≡◌, OnOk};
+ghost use Rattle.std.specs.Option.{option_map};
+ghost use Rattle.net_tree.specs.Tree.{leaf};
+ghost use Rattle.net_tree.specs.View.{tree, links_of};
+ghost use Rattle.net_names.specs.Dummies as dummies;
+
+use crate::meaning::Meaning;
+use crate::scope::Scope;
+use net_lex::Token;
+use net_tree::{Expr, Link, Operator, Relates, Role, role_of};
+use std::alloc::AllocError;
+
+fn is_in(operator: &Operator<'_>) -> bool
+    ensures { result ≡ dummies.is_in operator.now }
+{
+    match operator {
+        Operator::One(token) => matches!(role_of(token), Role::Relation(Relates::In)),
+        Operator::Two(_, _) => false,
+    }
+}
+
+/// What stands behind a lone `in`.
+fn set_behind<'a, 's>(links: &'a [Link<'s>]) -> Option<&'a Expr<'s>>
+    ensures { option_map (λ x. tree x.now) result ≡ dummies.set_behind (links_of links.entry.now) }
+{
+    match links {
+        [] => None,
+        [link] => {
+            if is_in(&link.operator) {
+                Some(&link.operand)
+            } else {
+                None
+            }
+        }
+        [_, _, ..] => None,
+    }
+}
+
+/// The two sides of an item with `in` at its top.
+#[tactic(auto, using(net_tree::proofs::Views::views))]
+pub(crate) fn sides_of<'a, 's>(item: &'a Expr<'s>) -> Option<(&'a Expr<'s>, &'a Expr<'s>)>
+    ensures { option_map (λ p. (tree p.0.now, tree p.1.now)) result ≡ dummies.sides (tree item.entry.now) }
+{
+    match item {
+        Expr::Chain(_, operands) => {
+            let series = operands.get();
+            match set_behind(series.more.as_slice()) {
+                None => None,
+                Some(set) => Some((&series.first, set)),
+            }
+        }
+        Expr::Leaf(_) | Expr::Indexed(_) | Expr::Parens(_) | Expr::Tuple(_) => None,
+        Expr::Negated(_) | Expr::Braced(_) | Expr::Signed(_) | Expr::Reduced(_, _) => None,
+        Expr::Choice(_, _, _) | Expr::Net(_) => None,
+    }
+}
+
+fn is_new_name<'s>(scope: &Scope<'s>, token: &Token<'s>) -> bool
+    ensures { result ≡ dummies.is_new scope.now (leaf token.now) }
+{
+    match role_of(token) {
+        Role::Name => scope.meaning(&token.text).is_none(),
+        _ => false,
+    }
+}
+
+/// Whether this is a bare name that means nothing yet.
+#[tactic(auto, using(net_tree::proofs::Views::views))]
+pub(crate) fn is_new<'s>(scope: &Scope<'s>, component: &Expr<'s>) -> bool
+    ensures { result ≡ dummies.is_new scope.now (tree component.now) }
+{
+    match component {
+        Expr::Leaf(token) => is_new_name(scope, token),
+        Expr::Indexed(_) | Expr::Parens(_) | Expr::Tuple(_) | Expr::Negated(_) => false,
+        Expr::Braced(_) | Expr::Signed(_) | Expr::Reduced(_, _) | Expr::Chain(_, _) => false,
+        Expr::Choice(_, _, _) | Expr::Net(_) => false,
+    }
+}
+
+fn add_name<'s>(scope: &mut Scope<'s>, token: &Token<'s>) -> Result<(), AllocError>
+    ensures { OnOk result (scope.new ≡ dummies.with_component scope.old (leaf token.now)) }
+{
+    if is_new_name(scope, token) {
+        scope.add(&token.text, Meaning::Dummy)
+    } else {
+        Ok(())
+    }
+}
+
+/// Adds a component that is a new dummy.
+#[tactic(auto, using(net_tree::proofs::Views::views))]
+pub(crate) fn add_component<'s>(
+    scope: &mut Scope<'s>,
+    component: &Expr<'s>,
+) -> Result<(), AllocError>
+    ensures { OnOk result (scope.new ≡ dummies.with_component scope.old (tree component.now)) }
+{
+    match component {
+        Expr::Leaf(token) => add_name(scope, token),
+        Expr::Indexed(_) | Expr::Parens(_) | Expr::Tuple(_) | Expr::Negated(_) => Ok(()),
+        Expr::Braced(_) | Expr::Signed(_) | Expr::Reduced(_, _) | Expr::Chain(_, _) => Ok(()),
+        Expr::Choice(_, _, _) | Expr::Net(_) => Ok(()),
+    }
+}
+
+fn add_components<'s>(scope: &mut Scope<'s>, links: &[Link<'s>]) -> Result<(), AllocError>
+    ensures { OnOk result (scope.new ≡ dummies.with_components scope.old (links_of links.now)) }
+{
+    for link in links {
+        add_component(scope, &link.operand)?;
+    }
+    Ok(())
+}
+
+fn add_tuple<'s>(
+    scope: &mut Scope<'s>,
+    first: &Expr<'s>,
+    more: &[Link<'s>],
+) -> Result<(), AllocError>
+    ensures { OnOk result (scope.new ≡ dummies.with_components (dummies.with_component scope.old (tree first.now)) (links_of more.now)) }
+{
+    add_component(scope, first)?;
+    add_components(scope, more)
+}
+
+/// Adds the new dummies at the left of an item's `in`.
+#[tactic(auto, using(net_tree::proofs::Views::views))]
+pub(crate) fn add_left<'s>(scope: &mut Scope<'s>, left: &Expr<'s>) -> Result<(), AllocError>
+    ensures { OnOk result (scope.new ≡ dummies.with_left scope.old (tree left.now)) }
+{
+    match left {
+        Expr::Tuple(parts) => {
+            let series = &parts.get().1;
+            add_tuple(scope, &series.first, series.more.as_slice())
+        }
+        Expr::Leaf(token) => add_name(scope, token),
+        Expr::Indexed(_) | Expr::Parens(_) | Expr::Negated(_) | Expr::Braced(_) => Ok(()),
+        Expr::Signed(_) | Expr::Reduced(_, _) | Expr::Chain(_, _) => Ok(()),
+        Expr::Choice(_, _, _) | Expr::Net(_) => Ok(()),
+    }
+}

@@ -1,0 +1,13 @@
+//! The names of a model: what each means, and the first that is not as it should be.
+#![tactic(auto)]
+
+mod declarations;
+mod dummies;
+mod expressions;
+mod fault;
+mod meaning;
+mod scope;
+
+pub use declarations::check_names;
+pub use fault::{NameDefect, NameFault};
+pub use meaning::{Meaning, Need};
