@@ -71,7 +71,7 @@ kept_more s n k old new i h e = record {
 
 -- the map as it was
 pub kept_same : (s : Scope) (old new : BTreeMap (Bor Name) Meaning) → IsKept s old → ((q : Name) → told new q ≡ told old q) → IsKept s new
-kept_same s old new i e = record { tells = λ q. e q ∙ i.tells q; distinct = i.distinct; }
+kept_same s old new i e = record { tells = λ q. e q ∙ i.tells q; distinct = i.distinct }
 
 take_whole : {A : Type 0} (s : List A) → take (length s) s ≡ s
 take_whole [] = refl

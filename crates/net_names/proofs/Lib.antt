@@ -1,3 +1,4 @@
 pub mod Keeping
 pub mod Cases
 pub mod Walking
+pub mod Declaring

@@ -59,10 +59,10 @@ pub braces-items : (n : Need) (s : Scope) (o : Token) (x : Tree) (l : Links) (p 
 braces-items n s o x l p c = ap (λ f. first f (first (items_fault n (with_item s x) l) (part_fault n (with_items (with_item s x) l) p))) (item_is n s x)
 
 -- the scope behind braces begins with the scope before them
-abbrev Begins : Scope → Scope → Type 0
+abbrev pub Begins : Scope → Scope → Type 0
 Begins s t = (r : Scope) × (t ≡ s ++ r)
 
-begins_same : (s : Scope) → Begins s s
+pub begins_same : (s : Scope) → Begins s s
 begins_same s = ([], sym (append-nil s))
 
 begins_trans : (s t u : Scope) → Begins s t → Begins t u → Begins s u
@@ -96,11 +96,11 @@ items_begin : (s : Scope) (l : Links) → Begins s (with_items s l)
 items_begin s none = begins_same s
 items_begin s (link o x l) = begins_trans s (with_item s x) (with_items (with_item s x) l) (item_begins s x) (items_begin (with_item s x) l)
 
-braces_begin : (s : Scope) (b : Braces) → Begins s (with_braces s b)
+pub braces_begin : (s : Scope) (b : Braces) → Begins s (with_braces s b)
 braces_begin s (empty o p c) = begins_same s
 braces_begin s (filled o x l p c) = begins_trans s (with_item s x) (with_items (with_item s x) l) (item_begins s x) (items_begin (with_item s x) l)
 
-taken_back : (s t : Scope) → Begins s t → take (length s) t ≡ s
+pub taken_back : (s t : Scope) → Begins s t → take (length s) t ≡ s
 taken_back s t b = ap (take (length s)) b.1 ∙ take_at s b.0 _ refl
 
 -- the dummies forgotten

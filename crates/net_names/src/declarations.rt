@@ -52,11 +52,7 @@ fn need_behind(role: Role) -> Need
     }
 }
 
-fn check_body<'s>(
-    need: Need,
-    scope: &mut Scope<'s>,
-    body: &Body<'s>,
-) -> Result<(), NameFault<'s>>
+fn check_body<'s>(need: Need, scope: &mut Scope<'s>, body: &Body<'s>) -> Result<(), NameFault<'s>>
     ensures value { Tells (names.body_fault need scope.old (body_of body.now)) result }
     ensures kept { OnOk result (scope.new ≡ scope.old) }
 {
@@ -70,10 +66,7 @@ fn check_body<'s>(
     }
 }
 
-fn check_phrases<'s>(
-    scope: &mut Scope<'s>,
-    phrases: &[Phrase<'s>],
-) -> Result<(), NameFault<'s>>
+fn check_phrases<'s>(scope: &mut Scope<'s>, phrases: &[Phrase<'s>]) -> Result<(), NameFault<'s>>
     ensures value { Tells (names.phrases_fault scope.old (map phrase_of phrases.now)) result }
     ensures kept { OnOk result (scope.new ≡ scope.old) }
 {
@@ -84,10 +77,7 @@ fn check_phrases<'s>(
 }
 
 /// What is said of a node's net flow.
-fn check_condition<'s>(
-    scope: &mut Scope<'s>,
-    condition: &NetCond<'s>,
-) -> Result<(), NameFault<'s>>
+fn check_condition<'s>(scope: &mut Scope<'s>, condition: &NetCond<'s>) -> Result<(), NameFault<'s>>
     ensures value { Tells (names.condition_fault scope.old (condition_of condition.now)) result }
     ensures kept { OnOk result (scope.new ≡ scope.old) }
 {
@@ -160,6 +150,18 @@ fn check_set<'s>(
     check_phrases(scope, phrases)
 }
 
+/// The expression of an objective.
+#[tactic(auto, using(net_tree::proofs::Views::views, crate::proofs::Walking::walking))]
+fn check_stated<'s>(scope: &mut Scope<'s>, value: &Option<Part<'s>>) -> Result<(), NameFault<'s>>
+    ensures value { Tells (names.part_fault needs.Total scope.old (option_part value.now)) result }
+    ensures kept { OnOk result (scope.new ≡ scope.old) }
+{
+    match value {
+        None => Ok(()),
+        Some(part) => check(Need::Total, scope, &part.value),
+    }
+}
+
 fn check_objective<'s>(
     scope: &mut Scope<'s>,
     name: &Token<'s>,
@@ -169,17 +171,11 @@ fn check_objective<'s>(
     ensures kept { OnOk result (scope.new ≡ scope.old) }
 {
     check_declared(scope, name)?;
-    match value {
-        None => Ok(()),
-        Some(part) => check(Need::Total, scope, &part.value),
-    }
+    check_stated(scope, value)
 }
 
 /// A declaration, whose dummies come into scope.
-fn read_declaration<'s>(
-    scope: &mut Scope<'s>,
-    declaration: &Decl<'s>,
-) -> Result<(), NameFault<'s>>
+fn read_declaration<'s>(scope: &mut Scope<'s>, declaration: &Decl<'s>) -> Result<(), NameFault<'s>>
     ensures value { Tells (names.declaration_fault scope.old (declaration_of declaration.now)) result }
     ensures grown { OnOk result (scope.new ≡ items.with_dummies scope.old (declaration_of declaration.now)) }
 {
@@ -217,10 +213,7 @@ fn declared<'a, 's>(declaration: &'a Decl<'s>) -> Option<(&'a Token<'s>, Meaning
 }
 
 /// A declaration, and what it declares for those behind it.
-fn check_declaration<'s>(
-    scope: &mut Scope<'s>,
-    declaration: &Decl<'s>,
-) -> Result<(), NameFault<'s>>
+fn check_declaration<'s>(scope: &mut Scope<'s>, declaration: &Decl<'s>) -> Result<(), NameFault<'s>>
     ensures value { Tells (names.declaration_fault scope.old (declaration_of declaration.now)) result }
     ensures grown { OnOk result (scope.new ≡ names.with_declaration scope.old (declaration_of declaration.now)) }
 {
@@ -236,16 +229,25 @@ fn check_declaration<'s>(
     }
 }
 
+fn check_declarations<'s>(
+    scope: &mut Scope<'s>,
+    declarations: &[Decl<'s>],
+) -> Result<(), NameFault<'s>>
+    ensures { Tells (names.names_fault scope.old (map declaration_of declarations.now)) result }
+{
+    for declaration in declarations {
+        check_declaration(scope, declaration)?;
+    }
+    Ok(())
+}
+
 /// Whether the names of a model are as they should be, or the first that is not.
 ///
 /// A declaration sees the names of those before it. The time grows with the number of names, and with the logarithm of the
-/// number of names that are declared; the stack that is used grows with the depth of the trees alone.
+/// number of those that mean something at a place; the stack that is used grows with the depth of the trees alone.
 pub fn check_names<'s>(alloc: Global, model: &Model<'s>) -> Result<(), NameFault<'s>>
-    ensures value { Tells (names.names_fault [] (view.model model.now)) result }
+    ensures { Tells (names.names_fault [] (view.model model.now)) result }
 {
     let mut scope = Scope::new(alloc);
-    for declaration in model.declarations.as_slice() {
-        check_declaration(&mut scope, declaration)?;
-    }
-    Ok(())
+    check_declarations(&mut scope, model.declarations.as_slice())
 }

@@ -233,11 +233,7 @@ fn read_items<'s>(
 }
 
 #[cycle(names)]
-fn read_more<'s>(
-    need: Need,
-    scope: &mut Scope<'s>,
-    links: &[Link<'s>],
-) -> Result<(), NameFault<'s>>
+fn read_more<'s>(need: Need, scope: &mut Scope<'s>, links: &[Link<'s>]) -> Result<(), NameFault<'s>>
     ensures value { Tells (names.items_fault need scope.old (links_of links.now)) result }
     ensures grown { OnOk result (scope.new ≡ dummies.with_items scope.old (links_of links.now)) }
 {
@@ -250,11 +246,7 @@ fn read_more<'s>(
 /// An item of braces, whose dummies come into scope.
 #[cycle(names)]
 #[tactic(auto, using(crate::proofs::Walking::walking))]
-fn read_item<'s>(
-    need: Need,
-    scope: &mut Scope<'s>,
-    item: &Expr<'s>,
-) -> Result<(), NameFault<'s>>
+fn read_item<'s>(need: Need, scope: &mut Scope<'s>, item: &Expr<'s>) -> Result<(), NameFault<'s>>
     ensures value { Tells (items.item_fault need scope.old (tree item.now)) result }
     ensures grown { OnOk result (scope.new ≡ dummies.with_item scope.old (tree item.now)) }
 {
@@ -284,11 +276,7 @@ fn read_sides<'s>(
 /// What stands at the left of `in`.
 #[cycle(names)]
 #[tactic(auto, using(net_tree::proofs::Views::views, crate::proofs::Walking::walking))]
-fn check_left<'s>(
-    need: Need,
-    scope: &mut Scope<'s>,
-    left: &Expr<'s>,
-) -> Result<(), NameFault<'s>>
+fn check_left<'s>(need: Need, scope: &mut Scope<'s>, left: &Expr<'s>) -> Result<(), NameFault<'s>>
     ensures value { Tells (items.left_fault need scope.old (tree left.now)) result }
     ensures kept { OnOk result (scope.new ≡ scope.old) }
 {

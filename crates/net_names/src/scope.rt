@@ -51,10 +51,7 @@ fn remove<'s>(meanings: &mut BTreeMap<&'s str, Meaning>, name: &Excerpt<'s>)
 }
 
 /// Takes these names out.
-fn remove_all<'s>(
-    meanings: &mut BTreeMap<&'s str, Meaning>,
-    names: &[(Excerpt<'s>, Meaning)],
-)
+fn remove_all<'s>(meanings: &mut BTreeMap<&'s str, Meaning>, names: &[(Excerpt<'s>, Meaning)])
     ensures { (q : List ℕ) → told meanings.new q ≡ if is_some (meaning_in q names.now) then None else told meanings.old q }
 {
     for (name, _) in names {
