@@ -6,3 +6,4 @@ pub mod Phrases
 pub mod Conditions
 pub mod Declarations
 pub mod Faults
+pub mod Models

@@ -6,6 +6,7 @@ mod cursor;
 mod declarations;
 mod expressions;
 mod fault;
+mod model;
 mod parse;
 mod phrase;
 mod phrases;
@@ -14,4 +15,5 @@ mod stop;
 mod trees;
 
 pub use fault::{ModelDefect, ModelFault};
+pub use model::parse_model;
 pub use parse::parse_declarations;

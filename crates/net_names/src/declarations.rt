@@ -113,14 +113,14 @@ fn read_phrased<'s>(
 /// A node, whose dummies come into scope.
 fn read_node<'s>(
     scope: &mut Scope<'s>,
-    name: &Token<'s>,
+    node: &Token<'s>,
     indexing: &Option<Braces<'s>>,
     condition: &NetCond<'s>,
 ) -> Result<(), NameFault<'s>>
-    ensures value { Tells (told.first (declared_before (scopes.meaning_in name.now.text scope.old) name.now) (told.first (names.indexing_fault scope.old (indexing_of indexing.now)) (names.condition_fault (with_indexing scope.old (indexing_of indexing.now)) (condition_of condition.now)))) result }
+    ensures value { Tells (told.first (declared_before (scopes.meaning_in node.now.text scope.old) node.now) (told.first (names.indexing_fault scope.old (indexing_of indexing.now)) (names.condition_fault (with_indexing scope.old (indexing_of indexing.now)) (condition_of condition.now)))) result }
     ensures grown { OnOk result (scope.new ≡ with_indexing scope.old (indexing_of indexing.now)) }
 {
-    check_declared(scope, name)?;
+    check_declared(scope, node)?;
     read_indexing(scope, indexing)?;
     check_condition(scope, condition)
 }
@@ -140,13 +140,13 @@ fn read_check<'s>(
 
 fn check_set<'s>(
     scope: &mut Scope<'s>,
-    name: &Token<'s>,
+    set: &Token<'s>,
     phrases: &[Phrase<'s>],
 ) -> Result<(), NameFault<'s>>
-    ensures value { Tells (told.first (declared_before (scopes.meaning_in name.now.text scope.old) name.now) (names.phrases_fault scope.old (map phrase_of phrases.now))) result }
+    ensures value { Tells (told.first (declared_before (scopes.meaning_in set.now.text scope.old) set.now) (names.phrases_fault scope.old (map phrase_of phrases.now))) result }
     ensures kept { OnOk result (scope.new ≡ scope.old) }
 {
-    check_declared(scope, name)?;
+    check_declared(scope, set)?;
     check_phrases(scope, phrases)
 }
 
@@ -164,13 +164,13 @@ fn check_stated<'s>(scope: &mut Scope<'s>, value: &Option<Part<'s>>) -> Result<(
 
 fn check_objective<'s>(
     scope: &mut Scope<'s>,
-    name: &Token<'s>,
+    objective: &Token<'s>,
     value: &Option<Part<'s>>,
 ) -> Result<(), NameFault<'s>>
-    ensures value { Tells (told.first (declared_before (scopes.meaning_in name.now.text scope.old) name.now) (names.part_fault needs.Total scope.old (option_part value.now))) result }
+    ensures value { Tells (told.first (declared_before (scopes.meaning_in objective.now.text scope.old) objective.now) (names.part_fault needs.Total scope.old (option_part value.now))) result }
     ensures kept { OnOk result (scope.new ≡ scope.old) }
 {
-    check_declared(scope, name)?;
+    check_declared(scope, objective)?;
     check_stated(scope, value)
 }
 

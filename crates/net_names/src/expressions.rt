@@ -189,10 +189,10 @@ fn check_reduced<'s>(
     ensures value { Tells (told.first (names.braces_fault need scope.old (braces_of braces.now)) (names.tree_fault need (dummies.with_braces scope.old (braces_of braces.now)) (tree body.now))) result }
     ensures kept { OnOk result (scope.new ≡ scope.old) }
 {
-    let known = scope.len();
+    let outside = scope.len();
     read_braces(need, scope, braces)?;
     check(need, scope, body)?;
-    scope.forget_behind(known);
+    scope.forget_behind(outside);
     Ok(())
 }
 
@@ -307,10 +307,10 @@ fn check_components<'s>(
     ensures value { Tells (told.first (items.component_fault need scope.old (tree component.now)) (names.further_fault need (dummies.with_component scope.old (tree component.now)) (links_of more.now))) result }
     ensures kept { OnOk result (scope.new ≡ scope.old) }
 {
-    let known = scope.len();
+    let before = scope.len();
     read_component(need, scope, component)?;
     read_components(need, scope, more)?;
-    scope.forget_behind(known);
+    scope.forget_behind(before);
     Ok(())
 }
 

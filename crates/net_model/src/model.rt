@@ -1,0 +1,64 @@
+ghost use Rattle.std.specs.Prelude.{◌≡◌, [], Ok};
+ghost use Rattle.net_tree.specs.View as view;
+ghost use Rattle.net_model.specs.Declarations.{model_at, nesting_limit};
+ghost use Rattle.net_model.specs.Models.{Parses, meant};
+ghost use Rattle.net_model.specs.Models as models;
+
+use crate::fault::{ModelDefect, ModelFault};
+use crate::parse::parse_declarations;
+use net_lex::Token;
+use net_names::{NameDefect, NameFault, check_names};
+use net_tree::Model;
+use std::alloc::Global;
+
+fn defect_of_name(defect: NameDefect) -> ModelDefect
+    ensures { result ≡ models.defect_of_name defect }
+{
+    match defect {
+        NameDefect::Undeclared => ModelDefect::Undeclared,
+        NameDefect::Redeclared => ModelDefect::Redeclared,
+        NameDefect::LeftOut => ModelDefect::LeftOut,
+    }
+}
+
+/// A fault of a name, told with its place and the name.
+fn name_told<'s>(fault: NameFault<'s>) -> ModelFault<'s>
+    ensures { result ≡ models.name_told fault.entry }
+{
+    match fault {
+        NameFault::OutOfMemory => ModelFault::OutOfMemory,
+        NameFault::At(defect, name) => ModelFault::At(
+            defect_of_name(defect),
+            name.span,
+            Some(name.text.again()),
+        ),
+    }
+}
+
+fn named<'s>(
+    alloc: Global,
+    tokens: &[Token<'s>],
+    model: Model<'s>,
+) -> Result<Model<'s>, ModelFault<'s>>
+    requires read { model_at nesting_limit tokens.now ≡ Ok ((view.model model, tt), []) }
+    ensures value { Parses result (meant tokens.now) }
+{
+    match check_names(alloc, &model) {
+        Ok(()) => Ok(model),
+        Err(fault) => Err(name_told(fault)),
+    }
+}
+
+/// The model that the tokens of a model text are, with names that are as they should be.
+///
+/// A text that the grammar does not allow is refused with the fault of the grammar, whatever its names are: E10, E11, E14, E15
+/// or E16 at the first token that is not allowed. Then the first name, from the left, that is not as it should be is
+/// refused: E12, E13, or E14 of an `obj` phrase, at the name and with it.
+pub fn parse_model<'s>(alloc: Global, tokens: &[Token<'s>]) -> Result<Model<'s>, ModelFault<'s>>
+    ensures value { Parses result (meant tokens.now) }
+{
+    match parse_declarations(alloc, tokens) {
+        Ok(model) => named(alloc, tokens, model),
+        Err(fault) => Err(fault),
+    }
+}
