@@ -6,3 +6,7 @@ pub mod Tools
 pub mod Longer
 pub mod LinksSound
 pub mod TreesSound
+pub mod Grips
+pub mod LinksComplete
+pub mod Starts
+pub mod TreesComplete

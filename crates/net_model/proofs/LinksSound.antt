@@ -95,8 +95,8 @@ links-sound d j n p sound own (suc turns) k ts a enough h =
           let so = operator-sound ts o.value o.first in
           let x = bind_ok _ _ _ o.after in
           let sx = sound o.value.1 x.value x.first in
-          let l = bind_ok _ _ _ x.after in
           let fewer : length x.value.1 ≤ turns = omega (arith, ap length so.text, ap length sx.text, put_operator-longer o.value.0 o.value.1, put-longer x.value.0 x.value.1) in
+          let l = bind_ok _ _ _ x.after in
           let sl = links-sound d j n p sound own turns (suc k) x.value.1 l.value fewer l.first in
           more o.value.0 o.value.1 x.value l.value b so sx sl l.after
       | off b e ↦ given (λ y. SoundLinks d j n k ts y) (none, ts) a e (record { text = refl; level = tt; within = omega arith; count = k; done = b })
