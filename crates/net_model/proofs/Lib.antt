@@ -10,3 +10,4 @@ pub mod Grips
 pub mod LinksComplete
 pub mod Starts
 pub mod TreesComplete
+pub mod RowLaws

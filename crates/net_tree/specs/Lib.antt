@@ -6,3 +6,6 @@ pub mod Depth
 pub mod View
 pub mod Spans
 pub mod Level
+pub mod Conditions
+pub mod Phrases
+pub mod Declarations

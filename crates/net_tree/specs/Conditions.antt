@@ -1,0 +1,56 @@
+-- Which conditions of nodes are written as the grammar wants: sums and bounds, where one sum has one net term.
+use Rattle.std.specs.Prelude.{◌≡◌, ◌≤◌, ◌⊎◌, ℕ, ◌+◌, Bool, true, false, Option, None, Some}
+use Rattle.net_lex.specs.declared.token.Token.{Token}
+use Rattle.net_tree.specs.declared.expr.Operator.{Operator}
+use Rattle.net_tree.specs.declared.expr.Operator.TheVariants.{One, Two}
+use Rattle.net_tree.specs.declared.role.Relates.TheVariants as relates
+use Rattle.net_tree.specs.declared.role.Role.{Role}
+use Rattle.net_tree.specs.declared.role.Role.TheVariants as roles
+use Rattle.net_tree.specs.Tree.{Tree, Links, chain, net, none, link, Condition, unsaid, one, between}
+use Rattle.net_tree.specs.Role.{role_of, is_sign, is_net, is_colon, is_bound}
+use Rattle.net_tree.specs.Level.{rank, IsLevel, IsLinked}
+
+-- a sum without a net term
+abbrev pub IsSum : Tree → Type 0
+IsSum x = IsLevel x × (rank x ≤ 3)
+
+-- a term is a product or a net term, and the first term may be a net term with a sign
+abbrev pub IsFirstTerm : Tree → Type 0
+IsFirstTerm (net s w) = IsLevel (net s w)
+IsFirstTerm x = IsLevel x × (rank x ≤ 2)
+
+abbrev pub IsFurtherTerm : Tree → Type 0
+IsFurtherTerm (net s w) = (s ≡ None) × (is_net (role_of w) ≡ true)
+IsFurtherTerm x = IsLevel x × (rank x ≤ 2)
+
+-- terms with `+` and `-` before them
+abbrev pub AreTerms : Links → Type 0
+AreTerms none = Unit {0}
+AreTerms (link (One t) x l) = (is_sign (role_of t) ≡ true) × IsFurtherTerm x × AreTerms l
+AreTerms (link (Two t u) x l) = ⊥
+
+-- how many of the terms are net terms
+abbrev pub nets : Tree → ℕ
+nets (net s w) = 1
+nets _ = 0
+
+abbrev pub nets_in : Links → ℕ
+nets_in none = 0
+nets_in (link o x l) = nets x + nets_in l
+
+-- a sum in which exactly one term is a net term
+abbrev pub IsNetSum : Tree → Type 0
+IsNetSum (net s w) = IsLevel (net s w)
+IsNetSum (chain n x l) = (n ≡ 2) × IsFirstTerm x × IsLinked l × AreTerms l × (nets x + nets_in l ≡ 1)
+IsNetSum _ = ⊥
+
+-- `<=` and `<=`, or `>=` and `>=`
+abbrev pub same_order : Role → Role → Bool
+same_order (roles.Relation relates.AtMost) (roles.Relation relates.AtMost) = true
+same_order (roles.Relation relates.AtLeast) (roles.Relation relates.AtLeast) = true
+same_order _ _ = false
+
+abbrev pub IsCondition : Condition → Type 0
+IsCondition unsaid = Unit {0}
+IsCondition (one m x o y) = (is_colon (role_of m) ≡ true) × (is_bound (role_of o) ≡ true) × ((IsNetSum x × IsSum y) ⊎ (IsSum x × IsNetSum y))
+IsCondition (between m x o y p z) = (is_colon (role_of m) ≡ true) × (same_order (role_of o) (role_of p) ≡ true) × IsSum x × IsNetSum y × IsSum z
