@@ -11,3 +11,5 @@ pub mod LinksComplete
 pub mod Starts
 pub mod TreesComplete
 pub mod RowLaws
+pub mod TermsSound
+pub mod Unjoined
