@@ -13,3 +13,4 @@ pub mod TreesComplete
 pub mod RowLaws
 pub mod TermsSound
 pub mod Unjoined
+pub mod TermsComplete

@@ -130,7 +130,7 @@ further_term-sound d o inner free ts a next h =
     given (λ z. SoundStep put_further (IsFurther d) free ts z) (((p.value.0, x.value.0.0), x.value.0.1), x.value.1) a x.after
     (record { text = sp.text ∙ ap (put_operator p.value.0) sx.text; holds = record { sign = s.0; one = s.1; signs = s.2; term = sx.term; within = sx.within; nets = sx.nets } })
 
-put_further-links : (l : List (Operator × Tree)) (r : Tokens) → put_all put_further l r ≡ put_links (linked l) r
+pub put_further-links : (l : List (Operator × Tree)) (r : Tokens) → put_all put_further l r ≡ put_links (linked l) r
 put_further-links [] r = refl
 put_further-links (p ∷ l) r = ap (λ k. put_operator p.0 (put p.1 k)) (put_further-links l r)
 
@@ -199,7 +199,7 @@ sum_of x (link o y l) true first terms total =
     ((omega arith, omega arith, p.0, p.1, tt, plain_links 0 (link o y l) terms (omega (arith, total))), omega arith)
 sum_of x (link o y l) false first terms total = (refl, first, tt, terms, omega (arith, total))
 
-chained-text : (x : Tree) (l : Links) (r : Tokens) → put (chained 2 x l) r ≡ put x (put_links l r)
+pub chained-text : (x : Tree) (l : Links) (r : Tokens) → put (chained 2 x l) r ≡ put x (put_links l r)
 chained-text x none r = refl
 chained-text x (link o y l) r = refl
 
