@@ -14,3 +14,4 @@ pub mod RowLaws
 pub mod TermsSound
 pub mod Unjoined
 pub mod TermsComplete
+pub mod ConditionLaws
