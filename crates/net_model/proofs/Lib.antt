@@ -15,3 +15,4 @@ pub mod TermsSound
 pub mod Unjoined
 pub mod TermsComplete
 pub mod ConditionLaws
+pub mod BodyLaws

@@ -68,7 +68,7 @@ pub part_filter : (p : Part) → IsPart sorts.Colon (UpTo 10) p → IsFilter p
 part_filter absent h = tt
 part_filter (part m x) h = h
 
-wide_value : (r : ℕ) → Wide 7 r → is_value r ≡ true
+pub wide_value : (r : ℕ) → Wide 7 r → is_value r ≡ true
 wide_value r (inl h) = rw (le-leb r 7 h) refl
 wide_value r (inr h) = rw h refl
 
