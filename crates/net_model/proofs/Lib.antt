@@ -16,3 +16,4 @@ pub mod Unjoined
 pub mod TermsComplete
 pub mod ConditionLaws
 pub mod BodyLaws
+pub mod PhraseWords
