@@ -17,3 +17,4 @@ pub mod TermsComplete
 pub mod ConditionLaws
 pub mod BodyLaws
 pub mod PhraseWords
+pub mod PhraseLaws
