@@ -18,3 +18,4 @@ pub mod ConditionLaws
 pub mod BodyLaws
 pub mod PhraseWords
 pub mod PhraseLaws
+pub mod DeclarationLaws
