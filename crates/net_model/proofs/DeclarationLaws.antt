@@ -7,7 +7,7 @@ use Rattle.net_tree.specs.declared.role.Role.TheVariants as roles
 use Rattle.net_tree.specs.declared.role.Declares.{Declares}
 use Rattle.net_tree.specs.declared.role.Declares.TheVariants as declares
 use Rattle.net_tree.specs.Role.{role_of, is_name, is_comma, is_colon, is_semicolon, is_open_brace, is_else}
-use Rattle.net_tree.specs.Tree.{Tree, Part, absent, part, Braces, empty, filled, Condition, unsaid, one, between, Phrase, Declaration, set, param, check, node, arc, objective}
+use Rattle.net_tree.specs.Tree.{Tree, Part, absent, part, Braces, empty, filled, Body, Condition, unsaid, one, between, Phrase, Declaration, set, param, check, node, arc, objective}
 use Rattle.net_tree.specs.Print.{put, put_part, put_braces, put_optional, put_body, put_indexing, put_phrases, put_condition, put_declaration}
 use Rattle.net_tree.specs.Depth.{depth, part_depth, braces_depth, indexing_depth, phrases_depth, condition_depth, declaration_depth}
 use Rattle.net_tree.specs.Level.{rank, is_value, IsLevel, AreBraces}
@@ -200,3 +200,125 @@ pub declaration-sound : (d : ℕ) (o : Option Inner) → IsInside d o → (ts : 
 unfolding declaration_at
 declaration-sound d o inner [] a h = absurd (let k = h in cc)
 declaration-sound d o inner (w ∷ ts) a h = role-sound d o inner w ts a (role_of w) refl h
+
+-- the other way round
+indexing-some : (d : ℕ) (b : Braces) (ts : Tokens) → AreBraces b → braces_depth b ≤ d → indexing_at (inside d) (put_braces b ts) ≡ Ok (Some b, ts)
+unfolding indexing_at
+indexing-some d (empty o p c) ts level deep = rw (level.0, braces-complete (empty o p c) d level deep ts) refl
+indexing-some d (filled o x l p c) ts level deep = rw (level.0, braces-complete (filled o x l p c) d level deep ts) refl
+
+indexing-complete : (d : ℕ) (b : Option Braces) (ts : Tokens) → IsIndexing b → indexing_depth b ≤ d → next_is is_open_brace ts ≡ false → indexing_at (inside d) (put_indexing b ts) ≡ Ok (b, ts)
+unfolding indexing_at
+indexing-complete d None ts level deep no_brace = rw no_brace refl
+indexing-complete d (Some b) ts level deep no_brace = indexing-some d b ts level deep
+
+-- no brace begins what may follow
+semicolon-no_brace : (r : Role) → is_semicolon r ≡ true → is_open_brace r ≡ false
+semicolon-no_brace roles.Semicolon h = refl
+semicolon-no_brace _ h = absurd (cc)
+
+colon-no_brace : (r : Role) → is_colon r ≡ true → is_open_brace r ≡ false
+colon-no_brace roles.Colon h = refl
+colon-no_brace _ h = absurd (cc)
+
+comma-no_brace : (r : Role) → is_comma r ≡ true → is_open_brace r ≡ false
+comma-no_brace roles.Comma h = refl
+comma-no_brace _ h = absurd (cc)
+
+param-no_brace : (r : Role) (b : Body) → Of owners.Param r b → is_open_brace r ≡ false
+param-no_brace roles.OpenBrace b h = absurd h
+param-no_brace _ b h = refl
+
+arc-no_brace : (r : Role) (b : Body) → Of owners.Arc r b → is_open_brace r ≡ false
+arc-no_brace roles.OpenBrace b h = absurd h
+arc-no_brace _ b h = refl
+
+phrases-no_brace : (o : Owner) → ((r : Role) (b : Body) → Of o r b → is_open_brace r ≡ false) → (ps : List Phrase) (e : Token) (ts : Tokens) → ArePhrases (Of o) ps → is_semicolon (role_of e) ≡ true
+    → next_is is_open_brace (put_phrases ps (e ∷ ts)) ≡ false
+phrases-no_brace o none [] e ts are ends = semicolon-no_brace (role_of e) ends
+phrases-no_brace o none (p ∷ ps) e ts are ends = first p.comma p.word p.body are.0 are.1
+  where
+    first : (c : Option Token) (w : Token) (b : Body) → IsOptionalComma c → Of o (role_of w) b → next_is is_open_brace (put_optional c (w ∷ put_body b (put_phrases ps (e ∷ ts)))) ≡ false
+    first None w b comma of = none (role_of w) b of
+    first (Some c) w b comma of = comma-no_brace (role_of c) comma
+
+condition-no_brace : (c : Condition) (e : Token) (ts : Tokens) → IsCondition c → is_semicolon (role_of e) ≡ true → next_is is_open_brace (put_condition c (e ∷ ts)) ≡ false
+condition-no_brace unsaid e ts level ends = semicolon-no_brace (role_of e) ends
+condition-no_brace (one m x o y) e ts level ends = colon-no_brace (role_of m) level.0
+condition-no_brace (between m x o y p z) e ts level ends = colon-no_brace (role_of m) level.0
+
+semicolon-no_colon : (r : Role) → is_semicolon r ≡ true → is_colon r ≡ false
+semicolon-no_colon roles.Semicolon h = refl
+semicolon-no_colon _ h = absurd (cc)
+
+semicolon-no_else : (r : Role) → is_semicolon r ≡ true → is_else r ≡ false
+semicolon-no_else roles.Semicolon h = refl
+semicolon-no_else _ h = absurd (cc)
+
+semicolon-stops : (p : ℕ) (e : Token) (ts : Tokens) → p < 20 → is_semicolon (role_of e) ≡ true → Stops p (e ∷ ts)
+semicolon-stops p e ts h ends = let s = semicolon-shuts (role_of e) ends in omega (arith, s.grips)
+
+objective-part : (d : ℕ) (p : Part) (e : Token) (ts : Tokens) → IsObjective p → part_depth p ≤ d → is_semicolon (role_of e) ≡ true → part_at sorts.Colon (wide (inside d) 7) (put_part p (e ∷ ts)) ≡ Ok (p, e ∷ ts)
+unfolding part_at present_at
+objective-part d absent e ts level deep ends = rw (semicolon-no_colon (role_of e) ends) refl
+objective-part d (part m x) e ts level deep ends =
+    rw (level.0, value-read d x (e ∷ ts) (trees-complete x d) level.1 deep level.2 (semicolon-stops 6 e ts (omega arith) ends) (semicolon-no_else (role_of e) ends)) refl
+
+set-complete : (d : ℕ) (w n : Token) (ps : List Phrase) (e : Token) (ts : Tokens) → IsDeclaration (set w n ps e) → phrases_depth ps ≤ d
+    → set_at (inside d) w (n ∷ put_phrases ps (e ∷ ts)) ≡ Ok (set w n ps e, ts)
+unfolding set_at
+set-complete d w n ps e ts level deep =
+    let p = phrases-complete d owners.Set ps e ts level.2.0 (set_singly ps level.2) deep level.3 in
+    rw (expect-complete sorts.Name awaiting.Other n (put_phrases ps (e ∷ ts)) level.1, p.read, end-complete owners.Set p.stands e ts level.3) refl
+
+param-complete : (d : ℕ) (w n : Token) (b : Option Braces) (ps : List Phrase) (e : Token) (ts : Tokens) → IsDeclaration (param w n b ps e) → declaration_depth (param w n b ps e) ≤ d
+    → param_at (inside d) w (n ∷ put_indexing b (put_phrases ps (e ∷ ts))) ≡ Ok (param w n b ps e, ts)
+unfolding param_at
+param-complete d w n b ps e ts level deep =
+    let p = phrases-complete d owners.Param ps e ts level.3.0 (param_singly ps level.3) (omega (arith, deep)) level.4 in
+    let indexed = indexing-complete d b (put_phrases ps (e ∷ ts)) level.2 (omega (arith, deep)) (phrases-no_brace owners.Param param-no_brace ps e ts level.3.0 level.4) in
+    rw (expect-complete sorts.Name awaiting.Other n (put_indexing b (put_phrases ps (e ∷ ts))) level.1, indexed, p.read, end-complete owners.Param p.stands e ts level.4) refl
+
+arc-complete : (d : ℕ) (w n : Token) (b : Option Braces) (ps : List Phrase) (e : Token) (ts : Tokens) → IsDeclaration (arc w n b ps e) → declaration_depth (arc w n b ps e) ≤ d
+    → arc_at (inside d) w (n ∷ put_indexing b (put_phrases ps (e ∷ ts))) ≡ Ok (arc w n b ps e, ts)
+unfolding arc_at
+arc-complete d w n b ps e ts level deep =
+    let p = phrases-complete d owners.Arc ps e ts level.3.0 (arc_singly ps level.3) (omega (arith, deep)) level.4 in
+    let indexed = indexing-complete d b (put_phrases ps (e ∷ ts)) level.2 (omega (arith, deep)) (phrases-no_brace owners.Arc arc-no_brace ps e ts level.3.0 level.4) in
+    rw (expect-complete sorts.Name awaiting.Other n (put_indexing b (put_phrases ps (e ∷ ts))) level.1, indexed, p.read, end-complete owners.Arc p.stands e ts level.4) refl
+
+check-complete : (d : ℕ) (w : Token) (b : Option Braces) (m : Token) (x : Tree) (e : Token) (ts : Tokens) → IsDeclaration (check w b m x e) → declaration_depth (check w b m x e) ≤ d
+    → check_at (inside d) w (put_indexing b (m ∷ put x (e ∷ ts))) ≡ Ok (check w b m x e, ts)
+unfolding check_at
+check-complete d w b m x e ts level deep =
+    let indexed = indexing-complete d b (m ∷ put x (e ∷ ts)) level.1 (omega (arith, deep)) (colon-no_brace (role_of m) level.2) in
+    let inner = in_place d 10 10 x (e ∷ ts) (trees-complete x d) level.3 (omega (arith, deep)) level.4 (omega arith) (omega arith) (omega (arith, reach-le (rank x), level.4)) (semicolon-stops 10 e ts (omega arith) level.5) in
+    rw (indexed, expect-complete sorts.Colon awaiting.Other m (put x (e ∷ ts)) level.2, inner, expect-complete sorts.Semicolon awaiting.Other e ts level.5) refl
+
+node-complete : (d : ℕ) (w n : Token) (b : Option Braces) (c : Condition) (e : Token) (ts : Tokens) → IsDeclaration (node w n b c e) → declaration_depth (node w n b c e) ≤ d
+    → node_at (inside d) w (n ∷ put_indexing b (put_condition c (e ∷ ts))) ≡ Ok (node w n b c e, ts)
+unfolding node_at
+node-complete d w n b c e ts level deep =
+    let indexed = indexing-complete d b (put_condition c (e ∷ ts)) level.2 (omega (arith, deep)) (condition-no_brace c e ts level.3 level.4) in
+    rw (expect-complete sorts.Name awaiting.Other n (put_indexing b (put_condition c (e ∷ ts))) level.1, indexed, condition-complete d c e ts level.3 (omega (arith, deep)) level.4,
+      expect-complete sorts.Semicolon awaiting.Other e ts level.4)
+    refl
+
+objective-complete : (d : ℕ) (w n : Token) (p : Part) (e : Token) (ts : Tokens) → IsDeclaration (objective w n p e) → part_depth p ≤ d
+    → objective_at (inside d) w (n ∷ put_part p (e ∷ ts)) ≡ Ok (objective w n p e, ts)
+unfolding objective_at
+objective-complete d w n p e ts level deep =
+    rw (expect-complete sorts.Name awaiting.Other n (put_part p (e ∷ ts)) level.1, objective-part d p e ts level.2 deep level.3, expect-complete sorts.Semicolon (behind_objective p) e ts level.3) refl
+
+worded_as : (d : ℕ) (k : Declares) (w : Token) (ts : Tokens) (a : Declaration × Tokens) → role_of w ≡ roles.Declaration k → declared_at (inside d) k w ts ≡ Ok a → declaration_at (inside d) (w ∷ ts) ≡ Ok a
+unfolding declaration_at
+worded_as d k w ts a is h = rw is h
+
+pub declaration-complete : (d : ℕ) (x : Declaration) (ts : Tokens) → IsDeclaration x → declaration_depth x ≤ d → declaration_at (inside d) (put_declaration x ts) ≡ Ok (x, ts)
+unfolding declared_at
+declaration-complete d (set w n ps e) ts level deep = worded_as d declares.Set w _ (set w n ps e, ts) level.0 (set-complete d w n ps e ts level deep)
+declaration-complete d (param w n b ps e) ts level deep = worded_as d declares.Param w _ (param w n b ps e, ts) level.0 (param-complete d w n b ps e ts level deep)
+declaration-complete d (check w b m x e) ts level deep = worded_as d declares.Check w _ (check w b m x e, ts) level.0 (check-complete d w b m x e ts level deep)
+declaration-complete d (node w n b c e) ts level deep = worded_as d declares.Node w _ (node w n b c e, ts) level.0 (node-complete d w n b c e ts level deep)
+declaration-complete d (arc w n b ps e) ts level deep = worded_as d declares.Arc w _ (arc w n b ps e, ts) level.0 (arc-complete d w n b ps e ts level deep)
+declaration-complete d (objective w n p e) ts level deep = worded_as d declares.Objective w _ (objective w n p e, ts) level.0 (objective-complete d w n p e ts level deep)

@@ -19,3 +19,4 @@ pub mod BodyLaws
 pub mod PhraseWords
 pub mod PhraseLaws
 pub mod DeclarationLaws
+pub mod ModelLaws

@@ -4,8 +4,8 @@ use Rattle.std.proofs.Common.{refl, arith}
 use Rattle.net_lex.specs.declared.token.Token.{Token}
 use Rattle.net_tree.specs.declared.expr.Operator.{Operator}
 use Rattle.net_tree.specs.declared.expr.Operator.TheVariants.{One, Two}
-use Rattle.net_tree.specs.Tree.{Tree, Links, Part, Braces, leaf, indexed, parens, tuple, negated, braced, signed, reduced, chain, choice, net, none, link, absent, part, empty, filled}
-use Rattle.net_tree.specs.Print.{put, put_links, put_part, put_braces, put_operator, put_optional}
+use Rattle.net_tree.specs.Tree.{Tree, Links, Part, Braces, leaf, indexed, parens, tuple, negated, braced, signed, reduced, chain, choice, net, none, link, absent, part, empty, filled, Body, plain, valued, priced, Phrase, Condition, unsaid, one, between, Declaration, set, param, check, node, arc, objective}
+use Rattle.net_tree.specs.Print.{put, put_links, put_part, put_braces, put_operator, put_optional, put_indexing, put_body, put_phrases, put_condition, put_declaration}
 
 pub put_operator-longer : (o : Operator) (r : List Token) → length r < length (put_operator o r)
 put_operator-longer (One t) r = omega arith
@@ -40,3 +40,30 @@ mutual
   pub put_braces-longer : (b : Braces) (r : List Token) → length r < length (put_braces b r)
   put_braces-longer (empty o p c) r = omega (arith, put_part-longer p (c ∷ r))
   put_braces-longer (filled o x l p c) r = omega (arith, put-longer x (put_links l (put_part p (c ∷ r))), put_links-longer l (put_part p (c ∷ r)), put_part-longer p (c ∷ r))
+
+put_indexing-longer : (b : Option Braces) (r : List Token) → length r ≤ length (put_indexing b r)
+put_indexing-longer None r = omega arith
+put_indexing-longer (Some b) r = omega (arith, put_braces-longer b r)
+
+pub put_body-longer : (b : Body) (r : List Token) → length r ≤ length (put_body b r)
+put_body-longer plain r = omega arith
+put_body-longer (valued x) r = omega (arith, put-longer x r)
+put_body-longer (priced n x) r = omega (arith, put-longer x r)
+
+put_phrases-longer : (ps : List Phrase) (r : List Token) → length r ≤ length (put_phrases ps r)
+put_phrases-longer [] r = omega arith
+put_phrases-longer (p ∷ ps) r =
+    omega (arith, put_optional-longer p.comma (p.word ∷ put_body p.body (put_phrases ps r)), put_body-longer p.body (put_phrases ps r), put_phrases-longer ps r)
+
+put_condition-longer : (c : Condition) (r : List Token) → length r ≤ length (put_condition c r)
+put_condition-longer unsaid r = omega arith
+put_condition-longer (one m x o y) r = omega (arith, put-longer x (o ∷ put y r), put-longer y r)
+put_condition-longer (between m x o y p z) r = omega (arith, put-longer x (o ∷ put y (p ∷ put z r)), put-longer y (p ∷ put z r), put-longer z r)
+
+pub put_declaration-longer : (d : Declaration) (r : List Token) → length r < length (put_declaration d r)
+put_declaration-longer (set w n ps e) r = omega (arith, put_phrases-longer ps (e ∷ r))
+put_declaration-longer (param w n b ps e) r = omega (arith, put_indexing-longer b (put_phrases ps (e ∷ r)), put_phrases-longer ps (e ∷ r))
+put_declaration-longer (check w b m x e) r = omega (arith, put_indexing-longer b (m ∷ put x (e ∷ r)), put-longer x (e ∷ r))
+put_declaration-longer (node w n b c e) r = omega (arith, put_indexing-longer b (put_condition c (e ∷ r)), put_condition-longer c (e ∷ r))
+put_declaration-longer (arc w n b ps e) r = omega (arith, put_indexing-longer b (put_phrases ps (e ∷ r)), put_phrases-longer ps (e ∷ r))
+put_declaration-longer (objective w n p e) r = omega (arith, put_part-longer p (e ∷ r))

@@ -5,7 +5,7 @@ use Rattle.net_lex.specs.declared.token.Token.{Token}
 use Rattle.net_tree.specs.declared.role.Role.{Role}
 use Rattle.net_tree.specs.declared.role.Role.TheVariants as roles
 use Rattle.net_tree.specs.Role.{role_of, is_comma, is_else, is_semicolon}
-use Rattle.net_tree.specs.Tree.{Body, plain, valued, priced, Phrase}
+use Rattle.net_tree.specs.Tree.{Body, Phrase}
 use Rattle.net_tree.specs.Print.{put_optional, put_body, put_phrases}
 use Rattle.net_tree.specs.Depth.{body_depth, phrases_depth}
 use Rattle.net_tree.specs.Phrases.{IsOptionalComma, ArePhrases, count}
@@ -18,7 +18,7 @@ use Rattle.net_model.specs.Expressions.{Inner, inside}
 use Rattle.net_model.specs.Phrases.{slot_of, stood_before, and_then_stood, nothing_stood, begins_phrase, goes_on, phrase_next, awaited, body_of, phrase_of_slot, worded, comma_taken, comma_at, phrase_at, phrases, phrases_end}
 use Rattle.net_model.proofs.Tools.{bind_ok, given, chosen, on, off, next}
 use Rattle.net_model.proofs.TreesSound.{IsInside}
-use Rattle.net_model.proofs.Longer.{put-longer, put_optional-longer}
+use Rattle.net_model.proofs.Longer.{put_optional-longer, put_body-longer}
 use Rattle.net_model.proofs.Grips.{grip, semicolon-shuts}
 use Rattle.net_model.proofs.RowLaws.{Chain, put_all, SoundStep, row-sound, CompleteStep, row-complete}
 use Rattle.net_model.proofs.BodyLaws.{BodyOf, body-sound, Ends, body-complete}
@@ -174,14 +174,9 @@ phrase-ends : (c : Option Token) (w : Token) (r : Tokens) → IsOptionalComma c 
 phrase-ends None w r comma word = record { stops = word.loose; no_else = word.no_else }
 phrase-ends (Some c) w r comma word = let k = comma-ends (role_of c) comma in record { stops = k.0; no_else = k.1 }
 
-body-longer : (b : Body) (r : Tokens) → length r ≤ length (put_body b r)
-body-longer plain r = omega arith
-body-longer (valued x) r = omega (arith, put-longer x r)
-body-longer (priced n x) r = omega (arith, put-longer x r)
-
 phrase_step : (d : ℕ) (o : Owner) → CompleteStep put_phrase (IsPhraseOf d o) Ends (phrase_at (inside d) o) (phrase_next o)
 phrase_step d o = record {
-  longer = λ p r. omega (arith, put_optional-longer p.comma (p.word ∷ put_body p.body r), body-longer p.body r);
+  longer = λ p r. omega (arith, put_optional-longer p.comma (p.word ∷ put_body p.body r), put_body-longer p.body r);
   goes = λ s p m r q. goes-on d o s p.comma p.word q.slot (put_body p.body r) q.comma q.fresh q.has;
   lets = λ s p m r q. phrase-ends p.comma p.word (put_body p.body r) q.comma (slot-word o (role_of p.word) q.slot q.has);
   reads = λ s p m r q ends. phrase-complete d o s p m r q ends;
