@@ -20,3 +20,4 @@ pub mod PhraseWords
 pub mod PhraseLaws
 pub mod DeclarationLaws
 pub mod ModelLaws
+pub mod Limits
