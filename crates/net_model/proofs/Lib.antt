@@ -21,3 +21,5 @@ pub mod PhraseLaws
 pub mod DeclarationLaws
 pub mod ModelLaws
 pub mod Limits
+pub mod ModelLimits
+pub mod Promise

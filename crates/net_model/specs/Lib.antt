@@ -1,9 +1,10 @@
-pub mod Reading
-pub mod Expressions
 pub mod Chains
-pub mod Rows
-pub mod Phrases
 pub mod Conditions
 pub mod Declarations
+pub mod Expressions
 pub mod Faults
+pub mod Meaning
 pub mod Models
+pub mod Phrases
+pub mod Reading
+pub mod Rows

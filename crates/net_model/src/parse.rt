@@ -1,5 +1,8 @@
+ghost use Rattle.std.specs.Prelude.{IfOk, IfErr};
+ghost use Rattle.net_tree.specs.View.{model};
 ghost use Rattle.net_model.specs.Declarations.{model_at, nesting_limit};
 ghost use Rattle.net_model.specs.Faults.{Tells};
+ghost use Rattle.net_model.specs.Meaning.{Means, IsRefused};
 
 use crate::cursor::Cursor;
 use crate::declarations::declarations;
@@ -15,6 +18,10 @@ pub fn parse_declarations<'s>(
 ) -> Result<Model<'s>, ModelFault<'s>>
     // The tree that the grammar reads, or the fault at the first token that it does not allow.
     ensures value { Tells tokens.now result (model_at nesting_limit tokens.now) }
+    // The tokens are the printing of the model, which is written as the grammar wants and not nested too deep.
+    ensures means { IfOk result (λ m. Means tokens.now (model m)) }
+    // A token is refused only where no model has these tokens, and a nesting only where each is nested too deep.
+    ensures refused { IfErr result (IsRefused tokens.now) }
 {
     let mut cursor = Cursor::new(tokens);
     match declarations(alloc, 64, &mut cursor) {
