@@ -23,3 +23,5 @@ pub mod ModelLaws
 pub mod Limits
 pub mod ModelLimits
 pub mod Promise
+pub mod Readers
+pub mod LocalTrees

@@ -1,0 +1,166 @@
+-- A reader looks at no token behind the one at which it stops: two texts that begin alike, up to that token, are refused alike.
+use Rattle.std.specs.Prelude.{◌≡◌, ◌≤◌, ◌<◌, ◌+◌, ℕ, zero, suc, Bool, true, false, cond, List, [], ◌∷◌, length, Option, None, Some, Result, Ok, Err, if◌then◌else◌}
+use Rattle.std.proofs.Common.{refl, sym, ap, ◌∙◌, arith, subst}
+use Rattle.net_lex.specs.declared.token.Token.{Token}
+use Rattle.net_tree.specs.declared.role.Role.{Role}
+use Rattle.net_tree.specs.Role.{role_of}
+use Rattle.net_model.specs.declared.sort.Sort.{Sort}
+use Rattle.net_model.specs.declared.stop.Awaiting.{Awaiting}
+use Rattle.net_model.specs.declared.stop.Stop.{Stop}
+use Rattle.net_model.specs.declared.stop.Stop.TheVariants as stops
+use Rattle.net_model.specs.Reading.{Tokens, Read, ◌>>=◌, read_as, refused, too_deep, next_is, is_sort, expect}
+
+-- a token, and two ways to go on behind it
+pub record Fork : Type 0 where
+  pub token : Token
+  pub rest : Tokens
+  pub other : Tokens
+
+abbrev pub put_before : Tokens → Tokens → Tokens
+put_before [] l = l
+put_before (t ∷ v) l = t ∷ put_before v l
+
+-- the two texts, with the same tokens before the fork
+abbrev pub left : Fork → Tokens → Tokens
+left f v = put_before v (f.token ∷ f.rest)
+
+abbrev pub right : Fork → Tokens → Tokens
+right f v = put_before v (f.token ∷ f.other)
+
+length-before : (v l : Tokens) → length (put_before v l) ≡ length v + length l
+length-before [] l = omega arith
+length-before (t ∷ v) l = omega (arith, length-before v l)
+
+pub lengths : (f : Fork) (v w : Tokens) → length (left f w) ≤ length (left f v) → length (right f w) ≤ length (right f v)
+lengths f v w h =
+    omega (arith, length-before v (f.token ∷ f.rest), length-before w (f.token ∷ f.rest), length-before v (f.token ∷ f.other), length-before w (f.token ∷ f.other))
+
+pub lengths-strict : (f : Fork) (v w : Tokens) → length (left f w) < length (left f v) → length (right f w) < length (right f v)
+lengths-strict f v w h =
+    omega (arith, length-before v (f.token ∷ f.rest), length-before w (f.token ∷ f.rest), length-before v (f.token ∷ f.other), length-before w (f.token ∷ f.other))
+
+pub left-some : (f : Fork) (v : Tokens) → length f.rest < length (left f v)
+left-some f v = omega (arith, length-before v (f.token ∷ f.rest))
+
+pub right-some : (f : Fork) (v : Tokens) → 0 < length (right f v)
+right-some f v = omega (arith, length-before v (f.token ∷ f.other))
+
+-- what is left, or the place of the stop, is among the last so many tokens
+abbrev pub Within : {A : Type 0} → ℕ → Read A → Type 0
+Within m (Ok x) = length x.1 ≤ m
+Within m (Err stops.OutOfMemory) = Unit {0}
+Within m (Err (stops.Refused n a)) = n ≤ m
+Within m (Err (stops.TooDeep n)) = n ≤ m
+
+pub within-le : {A : Type 0} (m n : ℕ) (p : Read A) → m ≤ n → Within m p → Within n p
+within-le m n (Ok x) less h = omega (arith, less, h)
+within-le m n (Err stops.OutOfMemory) less h = tt
+within-le m n (Err (stops.Refused k a)) less h = omega (arith, less, h)
+within-le m n (Err (stops.TooDeep k)) less h = omega (arith, less, h)
+
+pub bind-within : {A B : Type 0} (m : ℕ) (p : Read A) (g : A × Tokens → Read B) → Within m p → ((x : A × Tokens) → length x.1 ≤ m → Within m (g x)) → Within m (p >>= g)
+bind-within m (Ok x) g h more = more x h
+bind-within m (Err stops.OutOfMemory) g h more = tt
+bind-within m (Err (stops.Refused k a)) g h more = h
+bind-within m (Err (stops.TooDeep k)) g h more = h
+
+-- what comes of the two texts: the same before the fork, or on the left the fork's token was passed
+pub data Out {A : Type 0} (f : Fork) (p q : Read A) : Type 0 where
+  reads : (x : A) (w : Tokens) → p ≡ Ok (x, left f w) → q ≡ Ok (x, right f w) → Out f p q
+  refuses : (a : Awaiting) (w : Tokens) → p ≡ Err (stops.Refused (length (left f w)) a) → q ≡ Err (stops.Refused (length (right f w)) a) → Out f p q
+  deepens : (w : Tokens) → p ≡ Err (stops.TooDeep (length (left f w))) → q ≡ Err (stops.TooDeep (length (right f w))) → Out f p q
+  passed : Within (length f.rest) p → Out f p q
+
+moved : {A : Type 0} (f : Fork) (p p' q q' : Read A) → p ≡ p' → q ≡ q' → Out f p' q' → Out f p q
+moved f p p' q q' e e' (reads x w h h') = reads x w (e ∙ h) (e' ∙ h')
+moved f p p' q q' e e' (refuses a w h h') = refuses a w (e ∙ h) (e' ∙ h')
+moved f p p' q q' e e' (deepens w h h') = deepens w (e ∙ h) (e' ∙ h')
+moved f p p' q q' e e' (passed h) = passed (rw e h)
+
+pub bind-out : {A B : Type 0} (f : Fork) (p q : Read A) (g k : A × Tokens → Read B) → Out f p q
+    → ((x : A) (w : Tokens) → p ≡ Ok (x, left f w) → Out f (g (x, left f w)) (k (x, right f w)))
+    → ((x : A × Tokens) → Within (length x.1) (g x)) → Out f (p >>= g) (q >>= k)
+bind-out f p q g k (reads x w e e') more over = moved f (p >>= g) (g (x, left f w)) (q >>= k) (k (x, right f w)) (ap (λ z. z >>= g) e) (ap (λ z. z >>= k) e') (more x w e)
+bind-out f p q g k (refuses a w e e') more over = refuses a w (ap (λ z. z >>= g) e) (ap (λ z. z >>= k) e')
+bind-out f p q g k (deepens w e e') more over = deepens w (ap (λ z. z >>= g) e) (ap (λ z. z >>= k) e')
+bind-out f p q g k (passed h) more over = passed (bind-within (length f.rest) p g h (λ x less. within-le (length x.1) (length f.rest) (g x) less (over x)))
+
+pub choose-out : {A : Type 0} (f : Fork) (b c : Bool) (p q p' q' : Read A) → b ≡ c → Out f p p' → Out f q q' → Out f (cond b p q) (cond c p' q')
+choose-out f true true p q p' q' e on' off' = on'
+choose-out f false false p q p' q' e on' off' = off'
+choose-out f true false p q p' q' e on' off' = absurd (cc)
+choose-out f false true p q p' q' e on' off' = absurd (cc)
+
+pub choose-within : {A : Type 0} (m : ℕ) (b : Bool) (p q : Read A) → Within m p → Within m q → Within m (cond b p q)
+choose-within m true p q h k = h
+choose-within m false p q h k = k
+
+pub next-same : (test : Role → Bool) (f : Fork) (v : Tokens) → next_is test (left f v) ≡ next_is test (right f v)
+next-same test f [] = refl
+next-same test f (t ∷ v) = refl
+
+pub record IsReader {A : Type 0} (p : Tokens → Read A) : Type 0 where
+  pub within : (ts : Tokens) → Within (length ts) (p ts)
+  pub local : (f : Fork) (v : Tokens) → Out f (p (left f v)) (p (right f v))
+
+pub reading : {A : Type 0} (x : A) → IsReader (λ ts. read_as x ts)
+reading x = record { within = λ ts. omega arith; local = λ f v. reads x v refl refl }
+
+pub refusing : {A : Type 0} (a : Awaiting) → IsReader {A = A} (λ ts. refused a ts)
+refusing a = record { within = λ ts. omega arith; local = λ f v. refuses a v refl refl }
+
+pub deepening : {A : Type 0} → IsReader {A = A} (λ ts. too_deep ts)
+deepening = record { within = λ ts. omega arith; local = λ f v. deepens v refl refl }
+
+pub binding : {A B : Type 0} (p : Tokens → Read A) (g : A × Tokens → Read B) → IsReader p → ((x : A) → IsReader (λ ts. g (x, ts))) → IsReader (λ ts. p ts >>= g)
+binding p g first after = record {
+  within = λ ts. bind-within (length ts) (p ts) g (first.within ts) (λ x less. within-le (length x.1) (length ts) (g x) less ((after x.0).within x.1));
+  local = λ f v. bind-out f (p (left f v)) (p (right f v)) g g (first.local f v) (λ x w e. (after x).local f w) (λ x. (after x.0).within x.1);
+}
+
+pub testing : {A : Type 0} (test : Tokens → Bool) (p q : Tokens → Read A) → ((f : Fork) (v : Tokens) → test (left f v) ≡ test (right f v)) → IsReader p → IsReader q
+    → IsReader (λ ts. cond (test ts) (p ts) (q ts))
+testing test p q same on' off' = record {
+  within = λ ts. choose-within (length ts) (test ts) (p ts) (q ts) (on'.within ts) (off'.within ts);
+  local = λ f v. choose-out f (test (left f v)) (test (right f v)) (p (left f v)) (q (left f v)) (p (right f v)) (q (right f v)) (same f v) (on'.local f v) (off'.local f v);
+}
+
+pub nexting : {A : Type 0} (test : Role → Bool) (p q : Tokens → Read A) → IsReader p → IsReader q → IsReader (λ ts. cond (next_is test ts) (p ts) (q ts))
+nexting test p q on' off' = testing (next_is test) p q (next-same test) on' off'
+
+-- a reader that takes the first token, or stops at it
+pub data Head {A : Type 0} (t : Token) (p : Tokens → Read A) : Type 0 where
+  takes : IsReader p → Head t p
+  refuses_it : (a : Awaiting) → ((ts : Tokens) → p ts ≡ refused a (t ∷ ts)) → Head t p
+  deepens_it : ((ts : Tokens) → p ts ≡ too_deep (t ∷ ts)) → Head t p
+
+pub heading : {A : Type 0} (a : Awaiting) (p : Tokens → Read A) → p [] ≡ refused a [] → ((t : Token) → Head t (λ ts. p (t ∷ ts))) → IsReader p
+heading a p none head = record { within = all; local = forks }
+  where
+    one : (t : Token) (ts : Tokens) → Head t (λ ts. p (t ∷ ts)) → Within (length (t ∷ ts)) (p (t ∷ ts))
+    one t ts (takes h) = within-le (length ts) (length (t ∷ ts)) (p (t ∷ ts)) (omega arith) (h.within ts)
+    one t ts (refuses_it b e) = rw (e ts) (omega arith)
+    one t ts (deepens_it e) = rw (e ts) (omega arith)
+    all : (ts : Tokens) → Within (length ts) (p ts)
+    all [] = rw none (omega arith)
+    all (t ∷ ts) = one t ts (head t)
+    here : (f : Fork) → Head f.token (λ ts. p (f.token ∷ ts)) → Out f (p (f.token ∷ f.rest)) (p (f.token ∷ f.other))
+    here f (takes h) = passed (h.within f.rest)
+    here f (refuses_it b e) = refuses b [] (e f.rest) (e f.other)
+    here f (deepens_it e) = deepens [] (e f.rest) (e f.other)
+    before : (f : Fork) (t : Token) (v : Tokens) → Head t (λ ts. p (t ∷ ts)) → Out f (p (t ∷ left f v)) (p (t ∷ right f v))
+    before f t v (takes h) = h.local f v
+    before f t v (refuses_it b e) = refuses b (t ∷ v) (e (left f v)) (e (right f v))
+    before f t v (deepens_it e) = deepens (t ∷ v) (e (left f v)) (e (right f v))
+    forks : (f : Fork) (v : Tokens) → Out f (p (left f v)) (p (right f v))
+    forks f [] = here f (head f.token)
+    forks f (t ∷ v) = before f t v (head t)
+
+expect-head : (s : Sort) (a : Awaiting) (t : Token) (b : Bool) → is_sort s (role_of t) ≡ b → Head t (λ ts. expect s a (t ∷ ts))
+unfolding expect
+expect-head s a t true e = takes (record { within = λ ts. rw e (omega arith); local = λ f v. rw e (reads t v refl refl) })
+expect-head s a t false e = refuses_it a (λ ts. rw e refl)
+
+pub expecting : (s : Sort) (a : Awaiting) → IsReader (expect s a)
+unfolding expect
+expecting s a = heading a (expect s a) refl (λ t. expect-head s a t (is_sort s (role_of t)) refl)
