@@ -15,7 +15,7 @@ use Rattle.net_check.proofs.Products.{chosen-mul}
 use Rattle.net_check.proofs.Weights.{sum_over-shift, weighted-outflows}
 
 -- 1 for a node in the set
-abbrev weight : List Bool → ℕ → ℤ
+abbrev pub weight : List Bool → ℕ → ℤ
 weight flags v = cond (is_in flags v) (pos 1) (pos 0)
 
 -- what the nodes of the set send out is their supply
@@ -35,7 +35,7 @@ across true false x = omega (arith, ints, chosen-mul true x, chosen-mul false x)
 across false true x = omega (arith, ints, chosen-mul true x, chosen-mul false x)
 across false false x = omega (arith, ints)
 
-weighted-arcs : (flags : List Bool) (arcs : List FlowArc) (xs : List ℤ) → price_of (λ a. weight flags a.src) arcs xs -ℤ price_of (λ a. weight flags a.dst) arcs xs ≡ flow_on (goes_out flags) arcs xs -ℤ flow_on (comes_in flags) arcs xs
+pub weighted-arcs : (flags : List Bool) (arcs : List FlowArc) (xs : List ℤ) → price_of (λ a. weight flags a.src) arcs xs -ℤ price_of (λ a. weight flags a.dst) arcs xs ≡ flow_on (goes_out flags) arcs xs -ℤ flow_on (comes_in flags) arcs xs
 weighted-arcs flags [] xs = refl
 weighted-arcs flags (a ∷ arcs) [] = refl
 weighted-arcs flags (a ∷ arcs) (x ∷ xs) = omega (arith, ints, across (is_in flags a.src) (is_in flags a.dst) x, weighted-arcs flags arcs xs)

@@ -5,14 +5,15 @@ mod balance;
 mod bounds;
 mod certificate;
 mod checker;
-mod cost;
+pub mod cost;
 mod cut;
 mod laws;
 mod slackness;
 mod verdict;
-mod wide;
+pub mod wide;
 
 pub use certificate::{Certificate, Side};
 pub use checker::check;
 pub use laws::{least_cost, never_both, no_flow};
+pub use slackness::reduced_cost;
 pub use verdict::{Reason, Verdict};

@@ -11,9 +11,10 @@ use crate::wide::wide;
 use net_normal::FlowArc;
 
 /// What a unit of flow costs, with the potential of the node that it leaves and less that of the node where it arrives.
-fn reduced_cost(arc: &FlowArc, potentials: &[i64]) -> i128
+pub fn reduced_cost(arc: &FlowArc, potentials: &[i64]) -> i128
     requires { IsFlowArcOf (length potentials.now) arc.now }
-    ensures { result ≡ reduced_cost potentials.now arc.now }
+    ensures value { result ≡ reduced_cost potentials.now arc.now }
+    ensures size { IsSized (2 ^ 66) result }
 {
     let src = wide(&potentials[arc.src as usize]);
     let dst = wide(&potentials[arc.dst as usize]);

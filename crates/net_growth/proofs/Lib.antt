@@ -1,0 +1,12 @@
+pub mod Changes
+pub mod Closing
+pub mod Costs
+pub mod Grown
+pub mod Measures
+pub mod Pushing
+pub mod Scanning
+pub mod Amounts
+pub mod Sinking
+pub mod Stopping
+pub mod Stuck
+pub mod Walking

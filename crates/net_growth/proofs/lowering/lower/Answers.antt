@@ -1,0 +1,11 @@
+use Rattle.std.proofs.Common.{◌≡◌, ℤ, to_z, of_z, w64, vec_len, subst, arith}
+use Rattle.std.proofs.lemmas.Int.{ints}
+use Rattle.net_growth.proofs.Sinking.{sunk-all, Sinks}
+use Rattle.net_growth.proofs.lowering.lower.Goals as goal
+
+pub returns-clause-slackness : goal.returns-clause-slackness
+returns-clause-slackness c =
+    let amount = c.requires.amount in
+    let plain : to_z w64 (of_z w64 c.args.amount) ≡ c.args.amount = omega (arith, ints, amount.above, amount.below) in
+    let sinks = subst (λ (a : ℤ). Sinks (vec_len c.args.potentials.now) c.args.flags.now a c.args.potentials.now.items c.lower_each.new.potentials.items) plain c.lower_each.ensures.value in
+    sunk-all (vec_len c.args.potentials.now) c.args.flags.now c.args.amount c.args.potentials.now.items c.lower_each.new.potentials.items c.args.arcs.now c.args.flows.now c.requires.arcs c.requires.positive sinks c.requires.clear c.requires.slackness

@@ -1,0 +1,93 @@
+use Rattle.std.proofs.Common.{◌≡◌, ◌<◌, ◌-◌, ℕ, Bool, true, false, List, length, get_or, set, replicate, ℤ, pos, ◌≤ℤ◌, ◌<ℤ◌, vec_len, refl, sym, ◌∙◌, ap, subst, arith}
+use Rattle.std.specs.List.{AllZip}
+use Rattle.std.proofs.lemmas.List.{get_or_read}
+use Rattle.net_normal.specs.Flows.{IsWithinCapacity}
+use Rattle.net_normal.specs.declared.problem.FlowArc.{FlowArc}
+use Rattle.net_check.proofs.Pairs.{zipped-lengths}
+use Rattle.net_growth.specs.Pseudoflows.{IsFull}
+use Rattle.net_growth.specs.Forests.{HasNoDeficit, joined_at, no_join}
+use Rattle.net_growth.specs.declared.forest.Joined.{Joined}
+use Rattle.net_growth.proofs.Amounts.{is-deficit, no-deficit}
+use Rattle.net_growth.proofs.Changes.{excess-sized}
+use Rattle.net_growth.proofs.Grown.{grown-first}
+use Rattle.net_growth.proofs.Stopping.{stuck-cut, none-first, none-more, outside-less, last-is}
+use Rattle.net_growth.proofs.pseudoflow.Pseudoflow.grow.Goals as goal
+
+pub joins-init : goal.joins-init
+joins-init c =
+    let problem = c.args.problem.now in
+    let n = vec_len problem.supplies in
+    let root = c.args.root in
+    let flows = c.args.self.now.flows.items in
+    let potentials = c.args.self.now.potentials.items in
+    let excess = c.args.self.now.excess.items in
+    let flags : c.in_ok-forest.forest.flags.items ≡ set (replicate n false) root true = c.in_ok-forest.ensures.flags ∙ ap (λ (m : ℕ). set (replicate m false) root true) c.len.ensures in
+    let places : c.in_ok-forest.forest.places.items ≡ replicate n 0 = c.in_ok-forest.ensures.places ∙ ap (λ (m : ℕ). replicate m 0) c.len.ensures in
+    let first = grown-first problem flows potentials excess root c.requires.node c.requires.potentials c.requires.under_way.potentials_count c.requires.root in
+    record {
+      under_way = c.requires.under_way;
+      same_excess = refl;
+      grown = rw flags (rw places (rw c.in_ok-forest.ensures.joined first));
+      no_deficit = subst (HasNoDeficit excess) (sym flags) (none-first excess n root c.requires.node c.requires.root);
+    }
+
+pub first_way_out-requires-clause-one_each : goal.first_way_out-requires-clause-one_each
+first_way_out-requires-clause-one_each c =
+    ap length c.deref-in-joins.ensures.value ∙ zipped-lengths IsWithinCapacity c.args.problem.now.arcs.items c.joins.self.flows.items c.joins.invariant.under_way.capacity ∙ sym (ap length c.deref.ensures.value)
+
+pub returns-in-None-clause-stuck : goal.returns-in-None-clause-stuck
+returns-in-None-clause-stuck c =
+    let problem = c.args.problem.now in
+    let h = c.joins.invariant in
+    let full = subst (λ (f : List Bool). AllZip (IsFull f) problem.arcs.items c.joins.self.flows.items) c.deref-in-joins-3.ensures.value
+    (subst (λ (arcs : List FlowArc). AllZip (IsFull c.deref-in-joins-3.result.now) arcs c.joins.self.flows.items) c.deref.ensures.value
+    (subst (λ (flows : List ℤ). AllZip (IsFull c.deref-in-joins-3.result.now) c.deref.result.now flows) c.deref-in-joins.ensures.value c.in-None.ensures.none)) in
+    stuck-cut problem c.joins.self.flows.items c.joins.self.potentials.items c.joins.self.excess.items c.joins.forest.flags.items c.joins.forest.joined.items c.joins.forest.places.items h.under_way h.grown h.no_deficit full
+
+pub pull-requires-clause-deficit : goal.pull-requires-clause-deficit
+pull-requires-clause-deficit c =
+    let problem = c.args.problem.now in
+    let under = c.in_ok-reach-in-Some.ensures.under_way in
+    let grown = c.in_ok-reach-in-Some.ensures.grown in
+    let all = c.reach.new.forest.joined.items in
+    let excess = c.reach.new.self.excess.items in
+    let place : ℕ = c.len-place.result - 1 in
+    let inside : place < length all = omega (arith, c.len-place.ensures, c.reach.new.forest.joined.ok.0, grown.some) in
+    let joined : c.index.result.now ≡ joined_at all place = get_or_read all _ _ inside c.index.ensures no_join in
+    let same : c.index.result.now.node ≡ (joined_at all place).node = ap (λ (x : Joined). x.node) joined in
+    let node = grown.forest.node place inside in
+    let at : c.index.result.now.node < length excess = omega (arith, same, node, under.excess_count) in
+    let read : c.index-in-joins.result.now ≡ get_or excess (joined_at all place).node (pos 0) = get_or_read excess _ _ at c.index-in-joins.ensures (pos 0) ∙ ap (λ (v : ℕ). get_or excess v (pos 0)) same in
+    let size = excess-sized problem _ _ excess under (joined_at all place).node node in
+    subst (λ (xs : List Joined). get_or excess (joined_at xs place).node (pos 0) <ℤ pos 0) (sym c.deref-then-index-lt0.ensures.value)
+    (is-deficit c.index-in-joins.result.now (get_or excess (joined_at all place).node (pos 0)) size read c.if-index-lt0.true)
+
+pub joins-preserved : goal.joins-preserved
+joins-preserved c =
+    let problem = c.args.problem.now in
+    let h = c.joins.invariant in
+    let under = c.in_ok-reach-in-Some.ensures.under_way in
+    let grown = c.in_ok-reach-in-Some.ensures.grown in
+    let one = c.in_ok-reach-in-Some.ensures.one in
+    let kept = c.in_ok-reach-in-Some.ensures.same_excess in
+    let all = c.reach.new.forest.joined.items in
+    let excess = c.reach.new.self.excess.items in
+    let place : ℕ = c.len-place.result - 1 in
+    let inside : place < length all = omega (arith, c.len-place.ensures, c.reach.new.forest.joined.ok.0, grown.some) in
+    let joined : c.index.result.now ≡ joined_at all place = get_or_read all _ _ inside c.index.ensures no_join in
+    let same : c.index.result.now.node ≡ (joined_at all place).node = ap (λ (x : Joined). x.node) joined in
+    let node = grown.forest.node place inside in
+    let at : c.index.result.now.node < length excess = omega (arith, same, node, under.excess_count) in
+    let read : c.index-in-joins.result.now ≡ get_or excess (joined_at all place).node (pos 0) = get_or_read excess _ _ at c.index-in-joins.ensures (pos 0) ∙ ap (λ (v : ℕ). get_or excess v (pos 0)) same in
+    let size = excess-sized problem _ _ excess under (joined_at all place).node node in
+    let last = last-is _ _ _ all place one (omega (arith, inside, c.len-place.ensures, c.reach.new.forest.joined.ok.0)) in
+    let here = subst (λ (x : Joined). pos 0 ≤ℤ get_or excess x.node (pos 0)) last (no-deficit c.index-in-joins.result.now (get_or excess (joined_at all place).node (pos 0)) size read c.if-index-lt0.false) in
+    record {
+      under_way = under;
+      same_excess = kept ∙ h.same_excess;
+      grown = grown;
+      no_deficit = none-more excess _ _ _ _ (subst (λ (e : List ℤ). HasNoDeficit e c.joins.forest.flags.items) (sym kept) h.no_deficit) one here;
+    }
+
+pub joins-smaller : goal.joins-smaller
+joins-smaller c = outside-less _ _ _ _ c.in_ok-reach-in-Some.ensures.one

@@ -1,0 +1,21 @@
+use Rattle.std.proofs.Common.{◌≡◌, List, All, sym, subst}
+use Rattle.net_normal.specs.Limits.{IsSized, cost_limit}
+use Rattle.net_normal.specs.declared.problem.FlowArc.{FlowArc}
+use Rattle.net_normal.specs.declared.problem.Problem.{Problem}
+use Rattle.net_growth.proofs.Costs.{small-certificate}
+use Rattle.net_growth.proofs.settling.settle.Goals as goal
+
+-- each cost is within the limit
+costs : (problem : Problem) (arcs : List FlowArc) → arcs ≡ problem.arcs.items → All (λ arc. IsSized cost_limit arc.cost) arcs
+costs problem arcs e = subst (All (λ arc. IsSized cost_limit arc.cost)) (sym e) (λ k d l. (problem.arcs_fit k d l).cost)
+
+pub balance-requires-clause-most : goal.balance-requires-clause-most
+balance-requires-clause-most c = c.greatest_cost-most.ensures.least cost_limit (costs c.args.problem.now c.deref.result.now c.deref.ensures.value)
+
+pub close_gaps-requires-clause-most : goal.close_gaps-requires-clause-most
+close_gaps-requires-clause-most c = c.greatest_cost-most.ensures.least cost_limit (costs c.args.problem.now c.deref.result.now c.deref.ensures.value)
+
+pub returns-clause-bounded : goal.returns-clause-bounded
+returns-clause-bounded c =
+    small-certificate c.args.problem.now c.in_ok-settled.field-0 c.close_gaps.new.self.potentials.items c.greatest_cost-most.result c.in_ok-settled.ensures.same c.in_ok-close_gaps.ensures.potentials
+    (λ most all. c.greatest_cost-most.ensures.least most (subst (All (λ arc. IsSized most arc.cost)) (sym c.deref.ensures.value) all))

@@ -1,0 +1,24 @@
+use Rattle.std.proofs.Common.{◌≡◌, ◌<◌, List, ℤ, length, get_or, pos, ◌-ℤ◌, ◌∙◌, ap, arith}
+use Rattle.std.proofs.lemmas.Int.{ints}
+use Rattle.std.proofs.lemmas.List.{get_or_read}
+use Rattle.net_growth.proofs.Pushing.{pushed}
+use Rattle.net_growth.proofs.start.excess_of.Goals as goal
+
+pub loop-node-preserved : goal.loop-node-preserved
+loop-node-preserved c =
+    let h = c.loop-node.invariant in
+    let problem = c.args.problem.now in
+    let supplies = problem.supplies.items in
+    let i = c.loop-node.node in
+    let xs = c.loop-node.excess.items in
+    let sent = c.in_ok-sent.sent.items in
+    let inside : i < length supplies = omega (arith, c.loop-node-test.true, ap length c.deref-supply-items.ensures.value) in
+    let supply : c.wide.result ≡ get_or supplies i (pos 0) = c.wide.ensures.value ∙ ap (λ (ys : List ℤ). get_or ys i (pos 0)) c.deref-supply-items.ensures.value in
+    let at : i < length sent = omega (arith, inside, c.in_ok-sent.ensures.len, c.in_ok-sent.sent.ok.0, problem.supplies.ok.0) in
+    let out : c.index.result.now ≡ get_or sent i (pos 0) = get_or_read sent _ _ at c.index.ensures (pos 0) in
+    let small = c.in_ok-sent.ensures.size i (omega (arith, inside, problem.supplies.ok.0)) in
+    let size = c.wide.ensures.size in
+    rw c.in_ok-push.ensures.items (record {
+      count = omega (arith, c.in_ok-push.ensures.len, h.count);
+      value = pushed (λ k z. z ≡ get_or supplies k (pos 0) -ℤ get_or c.in_ok-sent.sent.items k (pos 0)) xs _ (pos 0) i (omega (arith, h.count, c.loop-node.excess.ok.0)) h.value (omega (arith, ints, supply, out, small.above, small.below, size.above, size.below));
+    })

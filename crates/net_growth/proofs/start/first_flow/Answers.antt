@@ -1,0 +1,11 @@
+use Rattle.std.proofs.Common.{arith}
+use Rattle.std.proofs.lemmas.Int.{ints, clamps}
+use Rattle.net_growth.proofs.start.first_flow.Goals as goal
+
+pub returns-else-reduced-lt0-clause-capacity : goal.returns-else-reduced-lt0-clause-capacity
+returns-else-reduced-lt0-clause-capacity c =
+    let fits = c.requires in
+    record {
+      low = omega (arith, ints, clamps, c.min.ensures.value, c.max.ensures.value, fits.low, fits.room, fits.cap);
+      cap = omega (arith, ints, clamps, c.min.ensures.value, c.max.ensures.value, fits.low, fits.room, fits.cap);
+    }

@@ -1,0 +1,41 @@
+use Rattle.std.proofs.Common.{◌≡◌, ◌<◌, List, length, get_or, vec_len, pos, ap, subst, arith}
+use Rattle.net_normal.specs.Flows.{IsWithinCapacity}
+use Rattle.net_normal.specs.declared.problem.FlowArc.{FlowArc}
+use Rattle.net_check.proofs.Pairs.{no_arc, zipped-lengths, flow-sized}
+use Rattle.net_check.proofs.Balances.{Carries, carried-next, carried-small}
+use Rattle.net_growth.proofs.Pushing.{carries-all}
+use Rattle.net_growth.proofs.start.outflows.Goals as goal
+
+pub bounds-flows-index : goal.bounds-flows-index
+bounds-flows-index c =
+    let arcs = c.args.problem.now.arcs.items in
+    omega (arith, c.loop-index-test.true, ap length c.deref-arc-items.ensures.value, zipped-lengths IsWithinCapacity arcs c.args.flows.now c.requires)
+
+pub carry-requires-clause-flow : goal.carry-requires-clause-flow
+carry-requires-clause-flow c =
+    let problem = c.args.problem.now in
+    let inside : c.loop-index.index < length problem.arcs.items = omega (arith, c.loop-index-test.true, ap length c.deref-arc-items.ensures.value) in
+    flow-sized (vec_len problem.supplies) problem.arcs.items c.args.flows.now problem.arcs_fit c.requires c.loop-index.index no_arc (pos 0) inside
+
+pub carry-requires-clause-sizes : goal.carry-requires-clause-sizes
+carry-requires-clause-sizes c = λ v l.
+    let problem = c.args.problem.now in
+    let h = c.loop-index.invariant in
+    let inside : c.loop-index.index < length problem.arcs.items = omega (arith, c.loop-index-test.true, ap length c.deref-arc-items.ensures.value) in
+    carried-small (vec_len problem.supplies) 0 problem.arcs.items c.args.flows.now c.loop-index.index c.loop-index.sent.items (omega (arith, inside, problem.few_arcs, problem.arcs.ok.0)) h v (omega (arith, l, h.count, c.loop-index.sent.ok.0))
+
+pub loop-index-preserved : goal.loop-index-preserved
+loop-index-preserved c =
+    let problem = c.args.problem.now in
+    let arcs = problem.arcs.items in
+    let flows = c.args.flows.now in
+    let i = c.loop-index.index in
+    let h = c.loop-index.invariant in
+    let inside : i < length arcs = omega (arith, c.loop-index-test.true, ap length c.deref-arc-items.ensures.value) in
+    let inside' : i < length flows = omega (arith, inside, zipped-lengths IsWithinCapacity arcs flows c.requires) in
+    let read : get_or c.deref-arc-items.result.now i no_arc ≡ get_or arcs i no_arc = ap (λ (bs : List FlowArc). get_or bs i no_arc) c.deref-arc-items.ensures.value in
+    carried-next (vec_len problem.supplies) 0 arcs flows i no_arc (pos 0) c.loop-index.sent.items c.carry.new.sent.items inside inside'
+    (flow-sized (vec_len problem.supplies) arcs flows problem.arcs_fit c.requires i no_arc (pos 0) inside)
+    h (omega (arith, c.carry.ensures.len, h.count, c.loop-index.sent.ok.0, c.carry.new.sent.ok.0))
+    (subst (λ (a : FlowArc). Carries (vec_len problem.supplies) 0 a (get_or flows i (pos 0)) c.loop-index.sent.items c.carry.new.sent.items) read
+    (carries-all (vec_len problem.supplies) (get_or c.deref-arc-items.result.now i no_arc) (get_or flows i (pos 0)) c.loop-index.sent.items c.carry.new.sent.items (λ w l. c.carry.ensures.value w (omega (arith, l, h.count, c.loop-index.sent.ok.0)))))

@@ -1,0 +1,3 @@
+pub mod Bounds
+pub mod Forests
+pub mod Pseudoflows

@@ -1,0 +1,76 @@
+//! The growth of a forest from a node with excess, to one with a deficit or to a set that no flow can leave.
+
+ghost use Rattle.std.specs.Prelude.{◌≡◌, ◌<◌, pos, ◌<ℤ◌, IfOk, OnOk, IfSome, IfNone, vec_len, slice_index_or};
+ghost use Rattle.std.specs.List.{AllZip};
+ghost use Rattle.net_check.specs.Certificates.{IsViolatedCut};
+ghost use Rattle.net_check.specs.declared.certificate.Side.TheVariants.{Over};
+ghost use Rattle.net_growth.specs.Pseudoflows.{AreFromTo, IsUnderWay, IsClear, IsWayOut, arc_at, too_much};
+ghost use Rattle.net_growth.specs.Forests.{IsGrown, HasNoDeficit, JoinsOne, level_limit};
+
+use crate::forest::Forest;
+use crate::lowering::lower;
+use crate::pseudoflow::Pseudoflow;
+use crate::way_out::{WayOut, first_way_out};
+use net_normal::Problem;
+use std::alloc::{AllocError, Global};
+
+impl Pseudoflow {
+    /// Lowers the nodes of a forest until the reduced cost of the first way out is 0, and takes in the node to which it leads.
+    fn reach(
+        &mut self,
+        problem: &Problem,
+        forest: &mut Forest,
+        way: WayOut,
+    ) -> Result<(), AllocError>
+        requires under_way { IsUnderWay problem.now self.old.flows.items self.old.potentials.items self.old.excess.items }
+        requires grown { IsGrown problem.now self.old.flows.items self.old.potentials.items self.old.excess.items forest.old.flags.items forest.old.joined.items forest.old.places.items }
+        requires inside { way.index < vec_len problem.now.arcs }
+        requires clear { AllZip (IsClear self.old.potentials.items forest.old.flags.items way.depth) problem.now.arcs.items self.old.flows.items }
+        requires is { IsWayOut self.old.potentials.items forest.old.flags.items way.depth (arc_at problem.now way.index) (slice_index_or self.old.flows.items way.index (pos 0)) }
+        ensures under_way { IsUnderWay problem.now self.new.flows.items self.new.potentials.items self.new.excess.items }
+        ensures same_excess { self.new.excess.items ≡ self.old.excess.items }
+        ensures grown { OnOk result (IsGrown problem.now self.new.flows.items self.new.potentials.items self.new.excess.items forest.new.flags.items forest.new.joined.items forest.new.places.items) }
+        ensures one { OnOk result (JoinsOne forest.old.flags.items forest.old.joined.items forest.new.flags.items forest.new.joined.items) }
+    {
+        lower(
+            &problem.arcs,
+            &self.flows,
+            &mut self.potentials,
+            &forest.flags,
+            way.depth as i64,
+        );
+        let joined = forest.link(&problem.arcs[way.index as usize], way.index);
+        forest.join(joined)?;
+        Ok(())
+    }
+
+    /// Grows a forest from a node with excess. Where it reaches a node with a deficit, flow is sent there and less is too much; else the
+    /// answer is a set of nodes that supplies more than can leave it.
+    pub fn grow(
+        &mut self,
+        alloc: Global,
+        problem: &Problem,
+        root: u32,
+    ) -> Result<Option<Vec<bool>>, AllocError>
+        requires under_way { IsUnderWay problem.now self.old.flows.items self.old.potentials.items self.old.excess.items }
+        requires potentials { AreFromTo level_limit self.old.potentials.items }
+        requires node { root < vec_len problem.now.supplies }
+        requires root { pos 0 <ℤ slice_index_or self.old.excess.items root (pos 0) }
+        ensures under_way { IsUnderWay problem.now self.new.flows.items self.new.potentials.items self.new.excess.items }
+        ensures sent { IfOk result (λ stuck. IfNone stuck (too_much self.new.excess.items < too_much self.old.excess.items)) }
+        ensures stuck { IfOk result (λ stuck. IfSome stuck (λ flags. IsViolatedCut problem.now flags.items Over)) }
+    {
+        let mut forest = Forest::new(alloc, problem.supplies.len(), root)?;
+        'joins: loop {
+            match first_way_out(&problem.arcs, &self.flows, &self.potentials, &forest.flags) {
+                None => return Ok(Some(forest.flags)),
+                Some(way) => self.reach(problem, &mut forest, way)?,
+            }
+            let place = forest.joined.len() - 1;
+            if self.excess[forest.joined[place].node as usize] < 0 {
+                self.pull(problem, &forest.joined, place as u32);
+                return Ok(None);
+            }
+        }
+    }
+}

@@ -1,0 +1,16 @@
+//! A growth that settles every problem, from any flow and potentials that it is given.
+#![tactic(auto)]
+
+mod balancing;
+mod forest;
+mod gaps;
+mod growing;
+mod lowering;
+mod pseudoflow;
+mod pulling;
+mod sending;
+mod settling;
+mod start;
+mod way_out;
+
+pub use settling::settle;
