@@ -142,6 +142,15 @@ impl Forest {
         Ok(())
     }
 
+    /// The potential that a node has now.
+    pub fn potential(&self, node: &ForestNode) -> i64 {
+        if node.is_inside {
+            node.level().wrapping_sub(self.depth)
+        } else {
+            node.potential
+        }
+    }
+
     /// Whether a node is in the forest.
     pub fn contains(&self, node: u32) -> bool
         requires { node < vec_len self.now.nodes }

@@ -1,5 +1,6 @@
-//! What is guessed of a problem: a certificate, which is to be checked before it is believed.
+//! The ways in which a problem's answer is guessed.
 
+use crate::guess::Guess;
 use crate::halt::Halt;
 use crate::places::at;
 use crate::probe::{Probe, Seen};
@@ -8,9 +9,9 @@ use crate::scaling::scaled_start;
 use crate::search::{Ending, Search};
 use crate::simplex::{Ended, Simplex};
 use crate::start::Start;
-use net_check::{Certificate, Side};
+use net_check::Side;
 use net_normal::Problem;
-use std::alloc::Global;
+use std::alloc::{AllocError, Global};
 
 /// How much a probe looks at, for each node and arc.
 const PROBE_LOOKS: u64 = 40;
@@ -23,9 +24,21 @@ const SPARSE_LOOKS: u64 = 4000;
 /// The most turns of a search: growths, changes of potentials and sendings.
 const SEARCH_TURNS: u32 = 1_000_000;
 
-/// A certificate of the problem, as far as a guess can tell, each way with a bound on its work: the supplies' sum; a probe; a network
-/// simplex; cost scaling, and from where that ends the search by trees. A halt says nothing of the problem.
-pub fn guess(alloc: Global, problem: &Problem) -> Result<Certificate, Halt> {
+/// What is guessed of a problem, each way with a bound on its work: the supplies' sum; a probe; a network simplex; cost scaling, and from
+/// where that ends the search by trees. The one error is want of memory.
+pub fn find_guess(alloc: Global, problem: &Problem) -> Result<Guess, AllocError> {
+    match guessed(alloc, problem) {
+        Ok(guess) => Ok(guess),
+        Err(Halt::OutOfRange) => Ok(Guess::Flow {
+            flows: Vec::new(alloc),
+            potentials: Vec::new(alloc),
+        }),
+        Err(Halt::OutOfMemory) => Err(AllocError),
+    }
+}
+
+/// The first guess that comes to something.
+fn guessed(alloc: Global, problem: &Problem) -> Result<Guess, Halt> {
     let mut total = 0i128;
     for supply in &problem.supplies {
         total = total
@@ -35,13 +48,13 @@ pub fn guess(alloc: Global, problem: &Problem) -> Result<Certificate, Halt> {
     if total != 0 {
         let side = if total > 0 { Side::Over } else { Side::Under };
         let flags = vec![in alloc; true; problem.supplies.len()]?;
-        return Ok(Certificate::Cut { flags, side });
+        return Ok(Guess::Cut { flags, side });
     }
-    if let Some(certificate) = probed(alloc, problem)? {
-        return Ok(certificate);
+    if let Some(guess) = probed(alloc, problem)? {
+        return Ok(guess);
     }
     match by_simplex(alloc, problem) {
-        Ok(Some(certificate)) => Ok(certificate),
+        Ok(Some(guess)) => Ok(guess),
         Ok(None) | Err(Halt::OutOfRange) => by_search(alloc, problem),
         Err(Halt::OutOfMemory) => Err(Halt::OutOfMemory),
     }
@@ -53,25 +66,25 @@ fn size_of(problem: &Problem) -> u64 {
 }
 
 /// What a probe says: a cut, or where nothing costs anything, the flow.
-fn probed(alloc: Global, problem: &Problem) -> Result<Option<Certificate>, Halt> {
+fn probed(alloc: Global, problem: &Problem) -> Result<Option<Guess>, Halt> {
     let limit = PROBE_LOOKS.saturating_mul(size_of(problem));
     let mut probe = Probe::new(alloc, problem, limit)?;
     match probe.run(alloc)? {
-        Seen::Cut(flags) => Ok(Some(Certificate::Cut {
+        Seen::Cut(flags) => Ok(Some(Guess::Cut {
             flags,
             side: Side::Over,
         })),
         Seen::Flow if problem.arcs.iter().all(|arc| arc.cost == 0) => {
             let flows = flows_of(alloc, problem, &probe.network)?;
             let potentials = vec![in alloc; 0i64; problem.supplies.len()]?;
-            Ok(Some(optimal(problem, flows, potentials)?))
+            Ok(Some(Guess::Flow { flows, potentials }))
         }
         Seen::Flow | Seen::Unknown => Ok(None),
     }
 }
 
 /// What a network simplex says, where it ends at a flow.
-fn by_simplex(alloc: Global, problem: &Problem) -> Result<Option<Certificate>, Halt> {
+fn by_simplex(alloc: Global, problem: &Problem) -> Result<Option<Guess>, Halt> {
     let busy = problem
         .supplies
         .iter()
@@ -87,14 +100,14 @@ fn by_simplex(alloc: Global, problem: &Problem) -> Result<Option<Certificate>, H
         Ended::Optimal => {
             let flows = simplex.flows(alloc, problem)?;
             let potentials = simplex.potentials(alloc, problem)?;
-            Ok(Some(optimal(problem, flows, potentials)?))
+            Ok(Some(Guess::Flow { flows, potentials }))
         }
         Ended::Infeasible => Ok(None),
     }
 }
 
 /// What the search by trees says, from where cost scaling ends.
-fn by_search(alloc: Global, problem: &Problem) -> Result<Certificate, Halt> {
+fn by_search(alloc: Global, problem: &Problem) -> Result<Guess, Halt> {
     let start = match scaled_start(alloc, problem) {
         Ok(start) => start,
         Err(Halt::OutOfRange) => Start::plain(alloc, problem)?,
@@ -102,25 +115,26 @@ fn by_search(alloc: Global, problem: &Problem) -> Result<Certificate, Halt> {
     };
     let start = start.settled(problem)?;
     let mut search = Search::new(alloc, problem, &start)?;
-    match search.run(SEARCH_TURNS)? {
-        Ending::Balanced => {
+    match search.run(SEARCH_TURNS) {
+        Ok(Ending::Balanced) | Err(Halt::OutOfRange) => {
             let flows = flows_of(alloc, problem, &search.network)?;
             let mut potentials = Vec::with_capacity(alloc, problem.supplies.len())?;
             for node in &search.forest.nodes {
-                potentials.push(node.potential)?;
+                potentials.push(search.forest.potential(node))?;
             }
-            optimal(problem, flows, potentials)
+            Ok(Guess::Flow { flows, potentials })
         }
-        Ending::Stuck => {
+        Ok(Ending::Stuck) => {
             let mut flags = Vec::with_capacity(alloc, search.forest.nodes.len())?;
             for node in &search.forest.nodes {
                 flags.push(node.is_inside)?;
             }
-            Ok(Certificate::Cut {
+            Ok(Guess::Cut {
                 flags,
                 side: Side::Over,
             })
         }
+        Err(Halt::OutOfMemory) => Err(Halt::OutOfMemory),
     }
 }
 
@@ -132,19 +146,4 @@ fn flows_of(alloc: Global, problem: &Problem, network: &Residual) -> Result<Vec<
         flows.push(arc.cap.wrapping_sub(room))?;
     }
     Ok(flows)
-}
-
-/// A flow and potentials, with what the flow costs.
-fn optimal(problem: &Problem, flows: Vec<i64>, potentials: Vec<i64>) -> Result<Certificate, Halt> {
-    let mut value = 0i128;
-    for (arc, flow) in problem.arcs.iter().zip(&flows) {
-        value = value
-            .checked_add(i128::from(arc.cost) * i128::from(*flow))
-            .ok_or(Halt::OutOfRange)?;
-    }
-    Ok(Certificate::Optimal {
-        value,
-        flows,
-        potentials,
-    })
 }

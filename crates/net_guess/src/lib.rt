@@ -9,6 +9,7 @@ mod distances;
 mod excess;
 mod forest;
 mod frontier;
+mod guess;
 mod guessing;
 mod halt;
 mod pivoting;
@@ -27,5 +28,5 @@ mod start;
 mod starting;
 mod tree;
 
-pub use guessing::guess;
-pub use halt::Halt;
+pub use guess::Guess;
+pub use guessing::find_guess;

@@ -1,4 +1,4 @@
-//! A solver of minimum-cost flow problems, whose answers are checked before they are given.
+//! A solver of minimum-cost flow problems that always has an answer, with proof.
 #![tactic(auto)]
 
 mod settled;

@@ -23,8 +23,6 @@ pub enum Settled {
         /// On which side the set's supply is wrong.
         side: Side,
     },
-    /// Neither was found: the search took too many turns, or a number would have left its range.
-    Unsettled,
 }
 
 impl Settled {
@@ -49,8 +47,8 @@ impl Settled {
         }
     }
 
-    /// The certificate of a problem that is settled, as it may be written and checked.
-    pub fn certificate(self) -> Option<Certificate>
+    /// The certificate, as it may be written and checked.
+    pub fn certificate(self) -> Certificate
         ensures { result ≡ certificate_of self }
     {
         match self {
@@ -58,13 +56,12 @@ impl Settled {
                 value,
                 flows,
                 potentials,
-            } => Some(Certificate::Optimal {
+            } => Certificate::Optimal {
                 value,
                 flows,
                 potentials,
-            }),
-            Settled::Cut { flags, side } => Some(Certificate::Cut { flags, side }),
-            Settled::Unsettled => None,
+            },
+            Settled::Cut { flags, side } => Certificate::Cut { flags, side },
         }
     }
 }

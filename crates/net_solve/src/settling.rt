@@ -23,20 +23,16 @@ fn settled(problem: &Problem, certificate: Certificate) -> Settled
     Settled::by(certificate)
 }
 
-/// Settles a problem by the solver that is given, and by `Plain` where that answers none.
-///
-/// `Unsettled` says nothing of the problem. The one error is want of memory.
+/// Settles a problem by the solver that is given, and by `Plain` where that answers none. The one error is want of memory.
 pub fn solve<S: Solver>(alloc: Global, solver: &S, problem: &Problem) -> Result<Settled, AllocError>
     ensures certificate { IfOk result (IsSettledBy problem.now) }
     ensures optimal { IfOk result (BoundsEachFlow problem.now) }
     ensures cut { IfOk result (LeavesNoFlow problem.now) }
-    ensures asked { IfOk result (IsOwnAnswer (S.may_answer solver.now problem.now)) }
+    ensures asked { IfOk result (IsOwnAnswer problem.now (S.may_answer solver.now problem.now)) }
 {
     if let Some(certificate) = solver.answer(alloc, problem)? {
         return Ok(settled(problem, certificate));
     }
-    if let Some(certificate) = Plain.answer(alloc, problem)? {
-        return Ok(settled(problem, certificate));
-    }
-    Ok(Settled::Unsettled)
+    let certificate = Plain.certificate(alloc, problem)?;
+    Ok(settled(problem, certificate))
 }

@@ -1,13 +1,16 @@
 //! Solvers of minimum-cost flow problems.
 
-ghost use Rattle.std.specs.Prelude.{IfOk, Option};
+ghost use Rattle.std.specs.Prelude.{◌≡◌, IfOk, Option, None};
 ghost use Rattle.std.specs.Option.{ForSome};
 ghost use Rattle.net_check.specs.Certificates.{IsCertificate};
 ghost use Rattle.net_check.specs.declared.certificate.Certificate.{Certificate};
 ghost use Rattle.net_normal.specs.declared.problem.Problem.{Problem};
+ghost use Rattle.net_growth.specs.Bounds.{HasSmallPotentials};
+ghost use Rattle.net_solve.specs.Settling.{IsSmallAnswer};
 
 use net_check::{Certificate, Verdict, check};
-use net_guess::{Halt, guess};
+use net_growth::settle;
+use net_guess::{Guess, find_guess};
 use net_normal::Problem;
 use std::alloc::{AllocError, Global};
 
@@ -22,21 +25,35 @@ pub trait Solver {
         ensures own { IfOk result (may_answer self.now problem.now) };
 }
 
-/// The guesses of net_guess. What they find is checked before it is given.
+/// The growth of forests, from what is guessed. It answers every problem.
 #[derive(Clone, Copy, Debug, PartialEq, Eq)]
 pub struct Plain;
 
-impl Solver for Plain {
-    fn answer(&self, alloc: Global, problem: &Problem) -> Result<Option<Certificate>, AllocError> {
-        let found = match guess(alloc, problem) {
-            Ok(found) => found,
-            Err(Halt::OutOfRange) => return Ok(None),
-            Err(Halt::OutOfMemory) => return Err(AllocError),
-        };
-        match check(problem, &found) {
-            Verdict::Yes => Ok(Some(found)),
-            Verdict::No(..) => Ok(None),
+impl Plain {
+    /// A certificate of the problem. It comes soon where the guess is right, or nearly so.
+    pub fn certificate(&self, alloc: Global, problem: &Problem) -> Result<Certificate, AllocError>
+        ensures certificate { IfOk result (IsCertificate problem.now) }
+        ensures bounded { IfOk result (HasSmallPotentials problem.now) }
+    {
+        match find_guess(alloc, problem)? {
+            Guess::Flow { flows, potentials } => settle(alloc, problem, &flows, &potentials),
+            Guess::Cut { flags, side } => {
+                let cut = Certificate::Cut { flags, side };
+                match check(problem, &cut) {
+                    Verdict::Yes => Ok(cut),
+                    Verdict::No(..) => settle(alloc, problem, &[], &[]),
+                }
+            }
         }
+    }
+}
+
+impl Solver for Plain {
+    // An answer is there, and its potentials are small.
+    ghost may_answer = { λ _ problem answer. IsSmallAnswer problem answer };
+
+    fn answer(&self, alloc: Global, problem: &Problem) -> Result<Option<Certificate>, AllocError> {
+        Ok(Some(self.certificate(alloc, problem)?))
     }
 }
 
@@ -45,6 +62,8 @@ impl Solver for Plain {
 pub struct Silent;
 
 impl Solver for Silent {
+    ghost may_answer = { λ _ _ answer. answer ≡ None };
+
     fn answer(
         &self,
         _alloc: Global,

@@ -1,4 +1,4 @@
-use Rattle.std.proofs.Common.{subst, inl}
+use Rattle.std.proofs.Common.{subst, inl, inr}
 use Rattle.net_solve.proofs.settling.solve.Goals as goal
 
 -- the certificate that the solver gave is what is settled
@@ -6,3 +6,9 @@ pub returns-in-Some-clause-asked : goal.returns-in-Some-clause-asked
 returns-in-Some-clause-asked g c =
     let own = subst (g.S.Solver.may_answer c.args.solver.now c.args.problem.now) c.in-Some.is c.in_ok-certificate.ensures.own in
     inl (c.in-Some.certificate, own, c.settled.ensures.value)
+
+-- or the plain one's
+pub returns-clause-asked : goal.returns-clause-asked
+returns-clause-asked g c =
+    let own = subst (g.S.Solver.may_answer c.args.solver.now c.args.problem.now) c.in_default.is c.in_ok-certificate.ensures.own in
+    inr (own, c.in_ok-certificate-2.certificate, c.in_ok-certificate-2.ensures.bounded, c.settled-2.ensures.value)
