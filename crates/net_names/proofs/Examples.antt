@@ -4,10 +4,9 @@ use Rattle.std.proofs.Common.{refl}
 use Rattle.net_lex.specs.declared.token.Token.{Token}
 use Rattle.net_lex.specs.declared.token.Kind.{Kind}
 use Rattle.net_lex.specs.declared.token.Kind.TheVariants as kinds
-use Rattle.net_tree.specs.declared.expr.Operator.{Operator}
 use Rattle.net_tree.specs.declared.expr.Operator.TheVariants.{One, Two}
 use Rattle.net_tree.specs.Role.{role_of, marks, keys}
-use Rattle.net_tree.specs.Tree.{Tree, Links, Part, Braces, leaf, indexed, parens, tuple, braced, reduced, chain, none, link, absent, part, filled, Body, valued, priced, Phrase, unsaid, Declaration, set, param, check, node, arc, objective}
+use Rattle.net_tree.specs.Tree.{Tree, Braces, leaf, indexed, parens, tuple, braced, reduced, chain, none, link, absent, part, filled, valued, priced, Phrase, unsaid, Declaration, set, check, node, arc, objective}
 use Rattle.net_names.specs.declared.fault.NameDefect.TheVariants as defects
 use Rattle.net_names.specs.Told.{Fault}
 use Rattle.net_names.specs.Names.{names_fault}

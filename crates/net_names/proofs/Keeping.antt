@@ -1,8 +1,8 @@
 -- Names that are added and forgotten.
-use Rattle.std.specs.Prelude.{◌≡◌, ◌≤◌, ◌<◌, ◌+◌, ◌-◌, ℕ, suc, List, [], ◌∷◌, ◌++◌, Option, None, Some, Bool, true, false, cond, if◌then◌else◌, is_some, take, drop, length, get_or}
+use Rattle.std.specs.Prelude.{◌≡◌, ◌<◌, ◌+◌, ◌-◌, ℕ, suc, List, [], ◌∷◌, ◌++◌, Option, None, Some, Bool, true, false, if◌then◌else◌, is_some, take, drop, length, get_or}
 use Rattle.std.specs.Str.{bytes_eq}
 use Rattle.std.specs.BTreeMap.{BTreeMap}
-use Rattle.std.proofs.Common.{refl, sym, ap, subst, ◌∙◌, arith, add-one, length-drop}
+use Rattle.std.proofs.Common.{refl, sym, ap, subst, ◌∙◌, add-one, length-drop}
 use Rattle.std.proofs.Math.Seq.{drop-cons}
 use Rattle.std.proofs.lemmas.List.{take-append-drop}
 use Rattle.std.proofs.lemmas.Slice.Eq.{bytes_eq-Decides}
@@ -12,7 +12,7 @@ use Rattle.net_names.specs.Scopes.{Name, Scope, meaning_in}
 use Rattle.net_names.specs.Kept.{told, AreDistinct, IsKept}
 
 -- behind a scope come other names
-abbrev else_in : Name → Scope → Option Meaning → Option Meaning
+abbrev pub else_in : Name → Scope → Option Meaning → Option Meaning
 else_in name s None = meaning_in name s
 else_in name s (Some m) = Some m
 

@@ -2,4 +2,5 @@ pub mod Keeping
 pub mod Cases
 pub mod Walking
 pub mod Declaring
+pub mod Fronts
 mod Examples

@@ -1,9 +1,8 @@
 -- The parts of items, and how much they weigh.
-use Rattle.std.specs.Prelude.{◌≡◌, ◌+◌, ◌<◌, ◌≤◌, ℕ, zero, suc, List, [], ◌∷◌, ◌++◌, length, get_or, drop, take, Option, None, Some, is_some, Bool, true, false, cond, if◌then◌else◌, Result, Ok, Err}
+use Rattle.std.specs.Prelude.{◌≡◌, ◌+◌, ◌<◌, ◌≤◌, ℕ, zero, suc, List, [], ◌∷◌, ◌++◌, length, get_or, drop, take, Option, None, Some, is_some, Bool, true, false, if◌then◌else◌, Result, Err}
 use Rattle.std.proofs.Common.{refl, sym, ap, subst, ◌∙◌, arith, append_assoc}
 use Rattle.std.proofs.lemmas.List.{append-nil, take_at}
 use Rattle.net_lex.specs.declared.token.Token.{Token}
-use Rattle.net_lex.specs.declared.token.Kind.TheVariants as kinds
 use Rattle.net_tree.specs.declared.expr.Operator.{Operator}
 use Rattle.net_tree.specs.declared.expr.Link.{Link, out-Link}
 use Rattle.net_tree.specs.Tree.{Tree, Links, Part, Braces, leaf, tuple, chain, none, link, empty, filled}
@@ -65,7 +64,7 @@ Begins s t = (r : Scope) × (t ≡ s ++ r)
 pub begins_same : (s : Scope) → Begins s s
 begins_same s = ([], sym (append-nil s))
 
-begins_trans : (s t u : Scope) → Begins s t → Begins t u → Begins s u
+pub begins_trans : (s t u : Scope) → Begins s t → Begins t u → Begins s u
 begins_trans s t u a b = (a.0 ++ b.0, b.1 ∙ ap (λ k. k ++ b.0) a.1 ∙ append_assoc s a.0 b.0)
 
 component_begins : (s : Scope) (x : Tree) → Begins s (with_component s x)

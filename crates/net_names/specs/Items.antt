@@ -1,5 +1,5 @@
 -- The fault of an item of braces, by its two sides.
-use Rattle.std.specs.Prelude.{◌≡◌, Bool, Option, None, Some, if◌then◌else◌}
+use Rattle.std.specs.Prelude.{Option, None, Some, if◌then◌else◌}
 use Rattle.net_tree.specs.Tree.{Tree, Links, Part, Declaration, set, param, check, node, arc, objective}
 use Rattle.net_names.specs.declared.meaning.Need.{Need}
 use Rattle.net_names.specs.Scopes.{Scope}

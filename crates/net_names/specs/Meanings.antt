@@ -1,5 +1,5 @@
 -- What a name must mean at its place.
-use Rattle.std.specs.Prelude.{◌≡◌, Option, None, Some}
+use Rattle.std.specs.Prelude.{Option, None, Some}
 use Rattle.net_names.specs.declared.meaning.Meaning.{Meaning}
 use Rattle.net_names.specs.declared.meaning.Meaning.TheVariants as meanings
 use Rattle.net_names.specs.declared.meaning.Need.{Need}

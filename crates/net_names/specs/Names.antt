@@ -125,6 +125,11 @@ with_declared s (Some p) = with_name s p.0 p.1
 abbrev pub with_declaration : Scope → Declaration → Scope
 with_declaration s d = with_declared s (declared d)
 
+-- the names that mean something behind some declarations more
+abbrev pub declared_by : Scope → List Declaration → Scope
+declared_by s [] = s
+declared_by s (d ∷ ds) = declared_by (with_declaration s d) ds
+
 -- the first fault of declarations behind those that make this scope
 abbrev pub names_fault : Scope → List Declaration → Option Fault
 names_fault s [] = None

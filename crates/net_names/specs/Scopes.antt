@@ -1,5 +1,5 @@
 -- The names that mean something at a place of a model, in the order in which they came.
-use Rattle.std.specs.Prelude.{◌≡◌, ℕ, List, [], ◌∷◌, ◌++◌, Option, None, Some, if◌then◌else◌}
+use Rattle.std.specs.Prelude.{ℕ, List, [], ◌∷◌, ◌++◌, Option, None, Some, if◌then◌else◌}
 use Rattle.std.specs.Str.{bytes_eq}
 use Rattle.net_lex.specs.declared.token.Token.{Token}
 use Rattle.net_names.specs.declared.meaning.Meaning.{Meaning}

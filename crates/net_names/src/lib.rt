@@ -5,9 +5,11 @@ mod declarations;
 mod dummies;
 mod expressions;
 mod fault;
+mod laws;
 mod meaning;
 mod scope;
 
 pub use declarations::check_names;
 pub use fault::{NameDefect, NameFault};
+pub use laws::{front_of_names, new_dummy, well_named_each};
 pub use meaning::{Meaning, Need};

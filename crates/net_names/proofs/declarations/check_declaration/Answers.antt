@@ -1,4 +1,4 @@
-use Rattle.std.proofs.Common.{◌≡◌, ◌++◌, ◌∷◌, [], sym, ap, ◌∙◌}
+use Rattle.std.proofs.Common.{◌++◌, ◌∷◌, [], sym, ap, ◌∙◌}
 use Rattle.net_tree.specs.View.{declaration_of}
 use Rattle.net_names.specs.Names.{with_declared}
 use Rattle.net_names.specs.Scopes.{Scope, meaning_in}

@@ -2,11 +2,11 @@ use Rattle.std.proofs.Common.{◌≡◌, false, rules, sym, ap, ◌∙◌, ◌+�
 use Rattle.std.proofs.lemmas.Result.{err_from_is_err_and}
 use Rattle.net_tree.specs.View.{tree, links_of, braces_of}
 use Rattle.net_tree.proofs.Views.{next_link, views}
-use Rattle.net_names.specs.Dummies.{with_item, with_items, with_component, with_components}
-use Rattle.net_names.specs.Items.{item_fault, component_fault, left_fault}
+use Rattle.net_names.specs.Dummies.{with_items, with_components}
+use Rattle.net_names.specs.Items.{left_fault}
 use Rattle.net_names.specs.Names.{tree_fault, links_fault, items_fault, further_fault, is_tuple}
 use Rattle.net_names.proofs.Cases.{in_indexed, in_parens, in_tuple, in_negated, in_signed, in_reduced, in_choice}
-use Rattle.net_names.proofs.Walking.{tells_by, left_other, forgotten_braces, forgotten_components, link_lighter, links_left, items_left, components_left, behind_none, stops_first}
+use Rattle.net_names.proofs.Walking.{tells_by, left_other, forgotten_braces, link_lighter, links_left, items_left, components_left, behind_none, stops_first}
 use Rattle.net_names.proofs.expressions.+names.Goals as goal
 
 pub check-returns-in-Indexed-clause-value : goal.check-returns-in-Indexed-clause-value

@@ -1,5 +1,4 @@
-use Rattle.std.proofs.Common.{sym, ap, ◌∙◌}
-use Rattle.net_names.specs.Kept.{IsKept}
+use Rattle.std.proofs.Common.{ap, ◌∙◌}
 use Rattle.net_names.specs.Scopes.{meaning_in}
 use Rattle.net_names.proofs.Keeping.{kept_more}
 use Rattle.net_names.proofs.scope.Scope.add.Goals as goal
