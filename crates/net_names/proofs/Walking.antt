@@ -1,5 +1,5 @@
 -- The parts of items, and how much they weigh.
-use Rattle.std.specs.Prelude.{◌≡◌, ◌+◌, ◌<◌, ◌≤◌, ℕ, zero, suc, List, [], ◌∷◌, ◌++◌, length, get_or, drop, take, Option, None, Some, is_some, Bool, true, false, if◌then◌else◌, Result, Err}
+use Rattle.std.specs.Prelude.{◌≡◌, ◌+◌, ◌<◌, ◌≤◌, ℕ, zero, suc, List, [], ◌∷◌, ◌++◌, length, get_or, drop, take, Option, None, Some, is_some, Bool, true, false, if◌then◌else◌, Result, Err, is_none}
 use Rattle.std.proofs.Common.{refl, sym, ap, subst, ◌∙◌, arith, append_assoc}
 use Rattle.std.proofs.lemmas.List.{append-nil, take_at}
 use Rattle.net_lex.specs.declared.token.Token.{Token}
@@ -13,9 +13,9 @@ use Rattle.net_names.specs.declared.meaning.Meaning.TheVariants as meanings
 use Rattle.net_names.specs.declared.meaning.Need.{Need}
 use Rattle.net_names.specs.declared.fault.NameFault.{NameFault}
 use Rattle.net_names.specs.declared.fault.NameFault.TheVariants as faults
-use Rattle.net_names.specs.Scopes.{Scope, with_name}
+use Rattle.net_names.specs.Scopes.{Scope, meaning_in, with_name}
 use Rattle.net_names.specs.Told.{Fault, first, Tells}
-use Rattle.net_names.specs.Dummies.{is_in, set_behind, both, sides, is_new, with_component, with_components, with_left, with_sides, with_item, with_items, with_braces}
+use Rattle.net_names.specs.Dummies.{is_in, set_behind, both, sides, with_component, with_components, with_left, with_sides, with_item, with_items, with_braces, with_bare, bare}
 use Rattle.net_names.specs.Names.{tree_fault, links_fault, items_fault, further_fault, part_fault, placed_fault, components_fault, braces_fault, is_tuple}
 use Rattle.net_names.specs.Items.{by_sides, component_fault, left_fault, item_fault, items_and_part}
 
@@ -67,13 +67,16 @@ begins_same s = ([], sym (append-nil s))
 pub begins_trans : (s t u : Scope) → Begins s t → Begins t u → Begins s u
 begins_trans s t u a b = (a.0 ++ b.0, b.1 ∙ ap (λ k. k ++ b.0) a.1 ∙ append_assoc s a.0 b.0)
 
-component_begins : (s : Scope) (x : Tree) → Begins s (with_component s x)
-component_begins s (leaf t) = go (is_new s (leaf t))
+bare_begins : (s : Scope) (n : Option Token) → Begins s (with_bare s n)
+bare_begins s None = begins_same s
+bare_begins s (Some t) = go (is_none (meaning_in t.text s))
   where
     go : (b : Bool) → Begins s (if b then with_name s t meanings.Dummy else s)
     go true = ((t.text, meanings.Dummy) ∷ [], refl)
     go false = begins_same s
-component_begins s _ = begins_same s
+
+component_begins : (s : Scope) (x : Tree) → Begins s (with_component s x)
+component_begins s x = bare_begins s (bare x)
 
 components_begin : (s : Scope) (l : Links) → Begins s (with_components s l)
 components_begin s none = begins_same s

@@ -1,5 +1,6 @@
 -- Which dummies braces bring into scope.
-use Rattle.std.specs.Prelude.{Bool, true, false, ◌&&◌, Option, None, Some, is_none, if◌then◌else◌}
+use Rattle.std.specs.Prelude.{Bool, true, false, Option, None, Some, is_none, if◌then◌else◌}
+use Rattle.net_lex.specs.declared.token.Token.{Token}
 use Rattle.net_tree.specs.declared.expr.Operator.{Operator}
 use Rattle.net_tree.specs.declared.expr.Operator.TheVariants.{One, Two}
 use Rattle.net_tree.specs.declared.role.Role.{Role}
@@ -33,15 +34,26 @@ abbrev pub sides : Tree → Option (Tree × Tree)
 sides (chain n x l) = both x (set_behind l)
 sides _ = None
 
+-- a bare name
+abbrev pub bare : Tree → Option Token
+bare (leaf t) = if is_name (role_of t) then Some t else None
+bare _ = None
+
+abbrev pub means_nothing : Scope → Option Token → Bool
+means_nothing s None = false
+means_nothing s (Some t) = is_none (meaning_in t.text s)
+
 -- a bare name that means nothing yet
 abbrev pub is_new : Scope → Tree → Bool
-is_new s (leaf t) = is_name (role_of t) && is_none (meaning_in t.text s)
-is_new s _ = false
+is_new s x = means_nothing s (bare x)
+
+abbrev pub with_bare : Scope → Option Token → Scope
+with_bare s None = s
+with_bare s (Some t) = if is_none (meaning_in t.text s) then with_name s t meanings.Dummy else s
 
 -- what stands alone at the left of `in`, or is a component there, is a dummy from now on, if it is new
 abbrev pub with_component : Scope → Tree → Scope
-with_component s (leaf t) = if is_new s (leaf t) then with_name s t meanings.Dummy else s
-with_component s _ = s
+with_component s x = with_bare s (bare x)
 
 abbrev pub with_components : Scope → Links → Scope
 with_components s none = s

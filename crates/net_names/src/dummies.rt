@@ -55,51 +55,54 @@ pub(crate) fn sides_of<'a, 's>(item: &'a Expr<'s>) -> Option<(&'a Expr<'s>, &'a 
     }
 }
 
-fn is_new_name<'s>(scope: &Scope<'s>, token: &Token<'s>) -> bool
-    ensures { result ≡ dummies.is_new scope.now (leaf token.now) }
+fn if_name<'a, 's>(token: &'a Token<'s>) -> Option<&'a Token<'s>>
+    ensures { option_map (λ t. t.now) result ≡ dummies.bare (leaf token.entry.now) }
 {
     match role_of(token) {
-        Role::Name => scope.meaning(&token.text).is_none(),
-        _ => false,
+        Role::Name => Some(token),
+        _ => None,
+    }
+}
+
+/// A bare name.
+#[tactic(auto, using(net_tree::proofs::Views::views))]
+fn bare<'a, 's>(component: &'a Expr<'s>) -> Option<&'a Token<'s>>
+    ensures { option_map (λ t. t.now) result ≡ dummies.bare (tree component.entry.now) }
+{
+    match component {
+        Expr::Leaf(token) => if_name(token),
+        Expr::Indexed(_) | Expr::Parens(_) | Expr::Tuple(_) | Expr::Negated(_) => None,
+        Expr::Braced(_) | Expr::Signed(_) | Expr::Reduced(_, _) | Expr::Chain(_, _) => None,
+        Expr::Choice(_, _, _) | Expr::Net(_) => None,
     }
 }
 
 /// Whether this is a bare name that means nothing yet.
-#[tactic(auto, using(net_tree::proofs::Views::views))]
 pub(crate) fn is_new<'s>(scope: &Scope<'s>, component: &Expr<'s>) -> bool
     ensures { result ≡ dummies.is_new scope.now (tree component.now) }
 {
-    match component {
-        Expr::Leaf(token) => is_new_name(scope, token),
-        Expr::Indexed(_) | Expr::Parens(_) | Expr::Tuple(_) | Expr::Negated(_) => false,
-        Expr::Braced(_) | Expr::Signed(_) | Expr::Reduced(_, _) | Expr::Chain(_, _) => false,
-        Expr::Choice(_, _, _) | Expr::Net(_) => false,
-    }
-}
-
-fn add_name<'s>(scope: &mut Scope<'s>, token: &Token<'s>) -> Result<(), AllocError>
-    ensures { OnOk result (scope.new ≡ dummies.with_component scope.old (leaf token.now)) }
-{
-    if is_new_name(scope, token) {
-        scope.add(&token.text, Meaning::Dummy)
-    } else {
-        Ok(())
+    match bare(component) {
+        None => false,
+        Some(name) => scope.meaning(&name.text).is_none(),
     }
 }
 
 /// Adds a component that is a new dummy.
-#[tactic(auto, using(net_tree::proofs::Views::views))]
 pub(crate) fn add_component<'s>(
     scope: &mut Scope<'s>,
     component: &Expr<'s>,
 ) -> Result<(), AllocError>
     ensures { OnOk result (scope.new ≡ dummies.with_component scope.old (tree component.now)) }
 {
-    match component {
-        Expr::Leaf(token) => add_name(scope, token),
-        Expr::Indexed(_) | Expr::Parens(_) | Expr::Tuple(_) | Expr::Negated(_) => Ok(()),
-        Expr::Braced(_) | Expr::Signed(_) | Expr::Reduced(_, _) | Expr::Chain(_, _) => Ok(()),
-        Expr::Choice(_, _, _) | Expr::Net(_) => Ok(()),
+    match bare(component) {
+        None => Ok(()),
+        Some(name) => {
+            if scope.meaning(&name.text).is_none() {
+                scope.add(&name.text, Meaning::Dummy)
+            } else {
+                Ok(())
+            }
+        }
     }
 }
 
@@ -133,7 +136,7 @@ pub(crate) fn add_left<'s>(scope: &mut Scope<'s>, left: &Expr<'s>) -> Result<(),
             let series = &parts.get().1;
             add_tuple(scope, &series.first, series.more.as_slice())
         }
-        Expr::Leaf(token) => add_name(scope, token),
+        Expr::Leaf(_) => add_component(scope, left),
         Expr::Indexed(_) | Expr::Parens(_) | Expr::Negated(_) | Expr::Braced(_) => Ok(()),
         Expr::Signed(_) | Expr::Reduced(_, _) | Expr::Chain(_, _) => Ok(()),
         Expr::Choice(_, _, _) | Expr::Net(_) => Ok(()),
