@@ -25,3 +25,4 @@ pub mod ModelLimits
 pub mod Promise
 pub mod Readers
 pub mod LocalTrees
+pub mod LocalModels

@@ -40,7 +40,7 @@ links-within p operand j (suc turns) k ts =
     least)
     (omega arith)
 
-is_less : (A : Type 0) (m : ℕ) (p : Read A) (x : A × Tokens) → Within m p → p ≡ Ok x → length x.1 ≤ m
+pub is_less : (A : Type 0) (m : ℕ) (p : Read A) (x : A × Tokens) → Within m p → p ≡ Ok x → length x.1 ≤ m
 is_less A m (Ok y) x h e = let k : length y.1 ≡ length x.1 = ap (λ (z : A × Tokens). length z.1) (ok_is y x e) in omega (arith, h, k)
 is_less A m (Err s) x h e = absurd (cc)
 

@@ -91,7 +91,7 @@ unfolding unary_at
 at_not o n ts roles.Not h = refl
 at_not o n ts _ h = absurd (cc)
 
-at_sign : (i : Inner) (s : Token) (ts : Tokens) (r : Role) → is_sign r ≡ true → unary_at (Some i) r s ts ≡ (i.at 1 ts >>= λ x. read_as (signed s x.0) x.1)
+pub at_sign : (i : Inner) (s : Token) (ts : Tokens) (r : Role) → is_sign r ≡ true → unary_at (Some i) r s ts ≡ (i.at 1 ts >>= λ x. read_as (signed s x.0) x.1)
 unfolding unary_at
 at_sign i s ts roles.Sign h = refl
 at_sign i s ts _ h = absurd (cc)
