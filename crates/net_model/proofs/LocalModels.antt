@@ -27,20 +27,20 @@ use Rattle.net_model.proofs.Tools.{bind_ok, ok_is}
 use Rattle.net_model.proofs.Longer.{put_operator-longer}
 use Rattle.net_model.proofs.LinksSound.{operator-sound}
 use Rattle.net_model.proofs.TreesComplete.{at_sign}
-use Rattle.net_model.proofs.Readers.{Fork, left, right, lengths, lengths-strict, left-some, right-some, Within, within-le, bind-within, Out, reads, refuses, passed, bind-out, choose-out, choose-within, next-same, IsReader, reading, refusing, binding, testing, nexting, Head, takes, refuses_it, deepens_it, heading, expecting}
-use Rattle.net_model.proofs.LocalTrees.{operating, linking, climbing, parting, AreReaders, MayRead, naming, bracing, unarying, widening, inside-reads, is_less}
+use Rattle.net_model.proofs.Readers.{IsTail, tail-self, tail-next, tail-length, Fork, left, right, lengths, lengths-strict, left-some, right-some, Within, within-le, bind-within, Out, reads, refuses, passed, bind-out, choose-out, choose-within, next-same, IsReader, reading, refusing, binding, testing, nexting, Head, takes, refuses_it, deepens_it, heading, expecting}
+use Rattle.net_model.proofs.LocalTrees.{operating, linking, climbing, parting, AreReaders, MayRead, naming, bracing, unarying, widening, inside-reads, is_tail}
 
 -- things in a row, each of which takes a token at least
 abbrev Takes : {A S : Type 0} → Step A S → Type 0
 Takes {A} {S} step = (s : S) (ts : Tokens) (x : (A × S) × Tokens) → step s ts ≡ Ok x → length x.1 < length ts
 
-row-within : {A S : Type 0} (step : Step A S) (more : S → Tokens → Bool) → ((s : S) → IsReader (step s)) → (turns : ℕ) (s : S) (ts : Tokens) → Within (length ts) (row turns step more s ts)
-row-within step more each zero s ts = omega arith
+row-within : {A S : Type 0} (step : Step A S) (more : S → Tokens → Bool) → ((s : S) → IsReader (step s)) → (turns : ℕ) (s : S) (ts : Tokens) → Within ts (row turns step more s ts)
+row-within step more each zero s ts = tail-self ts
 row-within step more each (suc turns) s ts =
-    choose-within (length ts) (more s ts) _ _
-    (bind-within (length ts) (step s ts) _ ((each s).within ts) λ x less.
-    bind-within (length ts) (row turns step more x.0.1 x.1) _ (within-le (length x.1) (length ts) (row turns step more x.0.1 x.1) less (row-within step more each turns x.0.1 x.1)) λ l least. least)
-    (omega arith)
+    choose-within ts (more s ts) _ _
+    (bind-within ts (step s ts) _ ((each s).within ts) λ x less.
+    bind-within ts (row turns step more x.0.1 x.1) _ (within-le x.1 ts (row turns step more x.0.1 x.1) less (row-within step more each turns x.0.1 x.1)) λ l least. least)
+    (tail-self ts)
 
 row-local : {A S : Type 0} (step : Step A S) (more : S → Tokens → Bool) → ((s : S) → IsReader (step s)) → Takes step → ((s : S) (f : Fork) (v : Tokens) → more s (left f v) ≡ more s (right f v))
     → (turns turns' : ℕ) (s : S) (f : Fork) (v : Tokens) → length (left f v) ≤ turns → length (right f v) ≤ turns' → Out f (row turns step more s (left f v)) (row turns' step more s (right f v))
@@ -55,8 +55,8 @@ row-local step more each strict same (suc turns) (suc turns') s f v enough enoug
     bind-out f (row turns step more x.1 (left f w)) (row turns' step more x.1 (right f w)) _ _
     (row-local step more each strict same turns turns' x.1 f w (omega (arith, shorter, enough)) (omega (arith, shorter', enough')))
     (λ l u e'. (reading (x.0 ∷ l.0, l.1)).local f u)
-    (λ l. omega arith))
-    (λ x. bind-within (length x.1) (row turns step more x.0.1 x.1) _ (row-within step more each turns x.0.1 x.1) (λ l less. less)))
+    (λ l. tail-self l.1))
+    (λ x. bind-within x.1 (row turns step more x.0.1 x.1) _ (row-within step more each turns x.0.1 x.1) (λ l less. less)))
     ((reading ([], s)).local f v)
 
 rowing : {A S : Type 0} (step : Step A S) (more : S → Tokens → Bool) → ((s : S) → IsReader (step s)) → Takes step → ((s : S) (f : Fork) (v : Tokens) → more s (left f v) ≡ more s (right f v))
@@ -68,9 +68,9 @@ rowing step more each strict same s = record {
 
 -- a reader that takes a first token takes one
 head-strict : {A : Type 0} (t : Token) (p : Tokens → Read A) → Head t p → (ts : Tokens) (x : A × Tokens) → p ts ≡ Ok x → length x.1 ≤ length ts
-head-strict {A} t p (takes r) ts x e = is_less A (length ts) (p ts) x (r.within ts) e
+head-strict {A} t p (takes r) ts x e = tail-length x.1 ts (is_tail A ts (p ts) x (r.within ts) e)
 head-strict t p (refuses_it a h) ts x e = absurd (let k = sym (h ts) ∙ e in cc)
-head-strict t p (deepens_it h) ts x e = absurd (let k = sym (h ts) ∙ e in cc)
+head-strict t p (deepens_it o h) ts x e = absurd (let k = sym (h ts) ∙ e in cc)
 
 -- terms
 free_same : (free : Bool) (f : Fork) (v : Tokens) → cond free (net_next (left f v)) false ≡ cond free (net_next (right f v)) false
@@ -97,31 +97,31 @@ sign_no_net : (r : Role) → is_sign r ≡ true → is_net r ≡ false
 sign_no_net roles.Sign h = refl
 sign_no_net _ h = absurd (cc)
 
-unary-passes : (i : Inner) → AreReaders i → (t : Token) (ts : Tokens) → is_sign (role_of t) ≡ true → Within (length ts) (unary (Some i) (t ∷ ts))
+unary-passes : (i : Inner) → AreReaders i → (t : Token) (ts : Tokens) → is_sign (role_of t) ≡ true → Within ts (unary (Some i) (t ∷ ts))
 unfolding unary
 unary-passes i inner t ts signs =
     let r = binding (i.at 1) (λ x. let a : Read Tree = read_as (signed t x.0) x.1 in a) (inner.at 1) λ x. reading (signed t x) in
     rw (at_sign i t ts (role_of t) signs) (r.within ts)
 
-product-passes : (i : Inner) → AreReaders i → (t : Token) (ts : Tokens) → is_sign (role_of t) ≡ true → Within (length ts) (climb 2 (unary (Some i)) (t ∷ ts))
+product-passes : (i : Inner) → AreReaders i → (t : Token) (ts : Tokens) → is_sign (role_of t) ≡ true → Within ts (climb 2 (unary (Some i)) (t ∷ ts))
 unfolding climb chain_at
 product-passes i inner t ts signs =
-    bind-within (length ts) (unary (Some i) (t ∷ ts)) _ (unary-passes i inner t ts signs) λ x less.
-    within-le (length x.1) (length ts) _ less ((binding (all_links 1 (unary (Some i))) (λ l. let a : Read Tree = read_as (chained 1 x.0 l.0) l.1 in a) (linking (unary (Some i)) (unarying (Some i) inner) 1) λ l. reading (chained 1 x.0 l)).within x.1)
+    bind-within ts (unary (Some i) (t ∷ ts)) _ (unary-passes i inner t ts signs) λ x less.
+    within-le x.1 ts _ less ((binding (all_links 1 (unary (Some i))) (λ l. let a : Read Tree = read_as (chained 1 x.0 l.0) l.1 in a) (linking (unary (Some i)) (unarying (Some i) inner) 1) λ l. reading (chained 1 x.0 l)).within x.1)
 
-term-passes : (i : Inner) → AreReaders i → (t : Token) (ts : Tokens) → is_sign (role_of t) ≡ true → Within (length ts) (term_at (Some i) true (t ∷ ts))
+term-passes : (i : Inner) → AreReaders i → (t : Token) (ts : Tokens) → is_sign (role_of t) ≡ true → Within ts (term_at (Some i) true (t ∷ ts))
 unfolding term_at
 term-passes i inner t ts signs =
-    rw (sign_no_net (role_of t) signs) (bind-within (length ts) (climb 2 (unary (Some i)) (t ∷ ts)) _ (product-passes i inner t ts signs) λ x less. less)
+    rw (sign_no_net (role_of t) signs) (bind-within ts (climb 2 (unary (Some i)) (t ∷ ts)) _ (product-passes i inner t ts signs) λ x less. less)
 
-signed_net-passes : (t : Token) (ts : Tokens) → is_sign (role_of t) ≡ true → Within (length ts) (signed_net_at (t ∷ ts))
+signed_net-passes : (t : Token) (ts : Tokens) → is_sign (role_of t) ≡ true → Within ts (signed_net_at (t ∷ ts))
 unfolding signed_net_at expect
 signed_net-passes t ts signs =
     rw signs ((binding (expect sorts.Net awaiting.Other) (λ w. let a : Read Tree = read_as (net (Some t) w.0) w.1 in a) (expecting sorts.Net awaiting.Other) λ w. reading (net (Some t) w)).within ts)
 
 first-passes : (i : Inner) → AreReaders i → (t : Token) (ts : Tokens) → is_sign (role_of t) ≡ true → (b : Bool)
-    → Within (length ts) (cond b (signed_net_at (t ∷ ts) >>= λ x. read_as (x.0, false) x.1) (term_at (Some i) true (t ∷ ts)))
-first-passes i inner t ts signs true = bind-within (length ts) (signed_net_at (t ∷ ts)) _ (signed_net-passes t ts signs) λ x less. less
+    → Within ts (cond b (signed_net_at (t ∷ ts) >>= λ x. read_as (x.0, false) x.1) (term_at (Some i) true (t ∷ ts)))
+first-passes i inner t ts signs true = bind-within ts (signed_net_at (t ∷ ts)) _ (signed_net-passes t ts signs) λ x less. less
 first-passes i inner t ts signs false = term-passes i inner t ts signs
 
 signed_first : Tokens → Read (Tree × Bool)
@@ -148,7 +148,7 @@ first-local i inner f (t ∷ v) =
 first_terming : (i : Inner) → AreReaders i → IsReader (first_term_at (Some i) true)
 unfolding first_term_at signed_first
 first_terming i inner = record {
-  within = λ ts. choose-within (length ts) (signed_net_next ts) _ _ (signed_first_reading.within ts) ((terming (Some i) inner true).within ts);
+  within = λ ts. choose-within ts (signed_net_next ts) _ _ (signed_first_reading.within ts) ((terming (Some i) inner true).within ts);
   local = first-local i inner;
 }
 
@@ -161,9 +161,9 @@ unfolding further_term_at
 further-takes i inner free ts x e =
     let p = bind_ok _ _ _ e in
     let sp = operator-sound ts p.value p.first in
-    let after : Within (length p.value.1) (term_at (Some i) free p.value.1 >>= λ x. let a : Read ((Operator × Tree) × Bool) = read_as ((p.value.0, x.0.0), x.0.1) x.1 in a) =
-    bind-within (length p.value.1) (term_at (Some i) free p.value.1) _ ((terming (Some i) inner free).within p.value.1) (λ y less. less) in
-    let less = is_less ((Operator × Tree) × Bool) (length p.value.1) _ x after p.after in
+    let after : Within p.value.1 (term_at (Some i) free p.value.1 >>= λ x. let a : Read ((Operator × Tree) × Bool) = read_as ((p.value.0, x.0.0), x.0.1) x.1 in a) =
+    bind-within p.value.1 (term_at (Some i) free p.value.1) _ ((terming (Some i) inner free).within p.value.1) (λ y less. less) in
+    let less = tail-length x.1 p.value.1 (is_tail ((Operator × Tree) × Bool) p.value.1 _ x after p.after) in
     omega (arith, less, ap length sp.text, put_operator-longer p.value.0 p.value.1)
 
 summing : (i : Inner) → AreReaders i → IsReader (sum_at (Some i) true)
@@ -235,14 +235,14 @@ unfolding worded
 worded-takes o inner owner s c [] x e = absurd (cc)
 worded-takes o inner owner s c (w ∷ ts) x e = let h = head-strict w (λ ts. worded o owner s c (w ∷ ts)) (word-head o inner owner s c w) ts x e in omega (arith, h)
 
-comma-within : (ts : Tokens) → Within (length ts) (comma_at ts)
+comma-within : (ts : Tokens) → Within ts (comma_at ts)
 unfolding comma_at
-comma-within [] = omega arith
-comma-within (t ∷ ts) = choose-within (length (t ∷ ts)) (is_comma (role_of t)) (read_as (Some t) ts) (read_as None (t ∷ ts)) (omega arith) (omega arith)
+comma-within [] = tail-self []
+comma-within (t ∷ ts) = choose-within (t ∷ ts) (is_comma (role_of t)) (read_as (Some t) ts) (read_as None (t ∷ ts)) (tail-next t ts) (tail-self (t ∷ ts))
 
 comma-here : (f : Fork) (b : Bool) → is_comma (role_of f.token) ≡ b → Out f (comma_at (left f [])) (comma_at (right f []))
 unfolding comma_at
-comma-here f true e = passed (rw e (omega arith))
+comma-here f true e = passed (rw e (tail-self f.rest))
 comma-here f false e = rw e (reads None [] refl refl)
 
 comma-before : (f : Fork) (t : Token) (v : Tokens) (b : Bool) → is_comma (role_of t) ≡ b → Out f (comma_at (left f (t ∷ v))) (comma_at (right f (t ∷ v)))
@@ -263,7 +263,7 @@ unfolding phrase_at
 phrase-takes o inner owner s ts x e =
     let c = bind_ok (comma_at ts) _ x e in
     let h = worded-takes o inner owner s c.value.0 c.value.1 x c.after in
-    let k = is_less (Option Token) (length ts) (comma_at ts) c.value (comma-within ts) c.first in
+    let k = tail-length c.value.1 ts (is_tail (Option Token) ts (comma_at ts) c.value (comma-within ts) c.first) in
     omega (arith, h, k)
 
 phrases_reading : (o : Option Inner) → MayRead o → (owner : Owner) → IsReader (phrases o owner)

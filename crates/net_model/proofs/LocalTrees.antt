@@ -1,6 +1,6 @@
 -- The readers of expressions look at no token behind the one at which they stop.
 use Rattle.std.specs.Prelude.{◌≡◌, ◌≤◌, ◌<◌, ℕ, zero, suc, Bool, true, false, cond, nat_le, List, [], ◌∷◌, length, Option, None, Some, Result, Ok, Err, if◌then◌else◌}
-use Rattle.std.proofs.Common.{refl, sym, ap, ◌∙◌, arith}
+use Rattle.std.proofs.Common.{refl, sym, ap, ◌∙◌, arith, subst}
 use Rattle.net_lex.specs.declared.token.Token.{Token}
 use Rattle.net_tree.specs.declared.expr.Operator.{Operator}
 use Rattle.net_tree.specs.declared.expr.Operator.TheVariants.{One, Two}
@@ -12,12 +12,13 @@ use Rattle.net_tree.specs.Level.{rank, joins}
 use Rattle.net_model.specs.declared.sort.Sort.{Sort}
 use Rattle.net_model.specs.declared.sort.Sort.TheVariants as sorts
 use Rattle.net_model.specs.declared.stop.Awaiting.TheVariants as awaiting
+use Rattle.net_model.specs.Meaning.{opens}
 use Rattle.net_model.specs.Reading.{Tokens, Read, ◌>>=◌, read_as, refused, too_deep, next_is, is_sort, expect}
 use Rattle.net_model.specs.Expressions.{Reader, Inner, operator_at, links, all_links, chained, chain_at, climb, present_at, part_at, is_subscripted, subscripts_at, named_at, is_none, closed, listed, parens_from, parens_at, not_shut, negated_at, is_hollow, hollow_at, items_at, braces_at, braces, reduced_at, choice_at, unary_at, unary, if_at, wide, inner_of, inside}
 use Rattle.net_model.proofs.Tools.{ok_is}
 use Rattle.net_model.proofs.Longer.{put_operator-longer}
 use Rattle.net_model.proofs.LinksSound.{operator-sound}
-use Rattle.net_model.proofs.Readers.{Fork, left, right, lengths, lengths-strict, left-some, right-some, Within, within-le, bind-within, Out, passed, bind-out, choose-out, choose-within, next-same, IsReader, reading, refusing, deepening, binding, testing, nexting, Head, takes, refuses_it, deepens_it, heading, expecting}
+use Rattle.net_model.proofs.Readers.{IsTail, tail-self, tail-length, Fork, left, right, lengths, lengths-strict, left-some, right-some, Within, within-le, bind-within, Out, passed, bind-out, choose-out, choose-within, next-same, IsReader, reading, refusing, binding, testing, nexting, opening, Head, takes, refuses_it, deepens_it, heading, expecting}
 
 operator-head : (t : Token) (b : Bool) → is_not (role_of t) ≡ b → Head t (λ ts. operator_at (t ∷ ts))
 unfolding operator_at
@@ -30,19 +31,19 @@ pub operating : IsReader operator_at
 unfolding operator_at
 operating = heading awaiting.Other operator_at refl (λ t. operator-head t (is_not (role_of t)) refl)
 
-links-within : (p : Reader) → IsReader p → (j turns k : ℕ) (ts : Tokens) → Within (length ts) (links turns j k p ts)
-links-within p operand j zero k ts = omega arith
+links-within : (p : Reader) → IsReader p → (j turns k : ℕ) (ts : Tokens) → Within ts (links turns j k p ts)
+links-within p operand j zero k ts = tail-self ts
 links-within p operand j (suc turns) k ts =
-    choose-within (length ts) (next_is (joins j k) ts) _ _
-    (bind-within (length ts) (operator_at ts) _ (operating.within ts) λ o less.
-    bind-within (length ts) (p o.1) _ (within-le (length o.1) (length ts) (p o.1) less (operand.within o.1)) λ x fewer.
-    bind-within (length ts) (links turns j (suc k) p x.1) _ (within-le (length x.1) (length ts) (links turns j (suc k) p x.1) fewer (links-within p operand j turns (suc k) x.1)) λ l least.
+    choose-within ts (next_is (joins j k) ts) _ _
+    (bind-within ts (operator_at ts) _ (operating.within ts) λ o less.
+    bind-within ts (p o.1) _ (within-le o.1 ts (p o.1) less (operand.within o.1)) λ x fewer.
+    bind-within ts (links turns j (suc k) p x.1) _ (within-le x.1 ts (links turns j (suc k) p x.1) fewer (links-within p operand j turns (suc k) x.1)) λ l least.
     least)
-    (omega arith)
+    (tail-self ts)
 
-pub is_less : (A : Type 0) (m : ℕ) (p : Read A) (x : A × Tokens) → Within m p → p ≡ Ok x → length x.1 ≤ m
-is_less A m (Ok y) x h e = let k : length y.1 ≡ length x.1 = ap (λ (z : A × Tokens). length z.1) (ok_is y x e) in omega (arith, h, k)
-is_less A m (Err s) x h e = absurd (cc)
+pub is_tail : (A : Type 0) (ts : Tokens) (p : Read A) (x : A × Tokens) → Within ts p → p ≡ Ok x → IsTail x.1 ts
+is_tail A ts (Ok y) x h e = let P : A × Tokens → Type 0 = λ z. IsTail z.1 ts in subst P (ok_is y x e) h
+is_tail A ts (Err s) x h e = absurd (cc)
 
 links-local : (p : Reader) → IsReader p → (j turns turns' k : ℕ) (f : Fork) (v : Tokens) → length (left f v) ≤ turns → length (right f v) ≤ turns'
     → Out f (links turns j k p (left f v)) (links turns' j k p (right f v))
@@ -57,17 +58,17 @@ links-local p operand j (suc turns) (suc turns') k f v enough enough' =
     let shorter' = lengths-strict f v w shorter in
     bind-out f (p (left f w)) (p (right f w)) _ _ (operand.local f w)
     (λ x u e'.
-    let fewer : length (left f u) ≤ length (left f w) = is_less Tree (length (left f w)) (p (left f w)) (x, left f u) (operand.within (left f w)) e' in
+    let fewer : length (left f u) ≤ length (left f w) = tail-length (left f u) (left f w) (is_tail Tree (left f w) (p (left f w)) (x, left f u) (operand.within (left f w)) e') in
     let fewer' = lengths f w u fewer in
     bind-out f (links turns j (suc k) p (left f u)) (links turns' j (suc k) p (right f u)) _ _
     (links-local p operand j turns turns' (suc k) f u (omega (arith, shorter, fewer, enough)) (omega (arith, shorter', fewer', enough')))
     (λ l z e''. (reading (link o x l)).local f z)
-    (λ l. omega arith))
+    (λ l. tail-self l.1))
     (λ x.
-    bind-within (length x.1) (links turns j (suc k) p x.1) _ (links-within p operand j turns (suc k) x.1) (λ l less. less)))
+    bind-within x.1 (links turns j (suc k) p x.1) _ (links-within p operand j turns (suc k) x.1) (λ l less. less)))
     (λ o.
-    bind-within (length o.1) (p o.1) _ (operand.within o.1) (λ x less.
-    bind-within (length o.1) (links turns j (suc k) p x.1) _ (within-le (length x.1) (length o.1) (links turns j (suc k) p x.1) less (links-within p operand j turns (suc k) x.1)) (λ l least. least))))
+    bind-within o.1 (p o.1) _ (operand.within o.1) (λ x less.
+    bind-within o.1 (links turns j (suc k) p x.1) _ (within-le x.1 o.1 (links turns j (suc k) p x.1) less (links-within p operand j turns (suc k) x.1)) (λ l least. least))))
     ((reading none).local f v)
 
 pub linking : (p : Reader) → IsReader p → (j : ℕ) → IsReader (all_links j p)
@@ -94,6 +95,22 @@ pub parting : (s : Sort) (p : Reader) → IsReader p → IsReader (part_at s p)
 unfolding part_at
 parting s p value = nexting (is_sort s) (present_at p) (read_as absent) (presenting p value) (reading absent)
 
+square-opens : (r : Role) → is_open_square r ≡ true → opens r ≡ true
+square-opens roles.OpenSquare h = refl
+square-opens _ h = absurd (cc)
+
+open-opens : (r : Role) → is_open r ≡ true → opens r ≡ true
+open-opens roles.Open h = refl
+open-opens _ h = absurd (cc)
+
+brace-opens : (r : Role) → is_open_brace r ≡ true → opens r ≡ true
+brace-opens roles.OpenBrace h = refl
+brace-opens _ h = absurd (cc)
+
+if-opens : (r : Role) → is_if r ≡ true → opens r ≡ true
+if-opens roles.If h = refl
+if-opens _ h = absurd (cc)
+
 -- the readers one nesting further in
 pub record AreReaders (i : Inner) : Type 0 where
   pub at : (n : ℕ) → IsReader (i.at n)
@@ -114,7 +131,7 @@ subscripting i inner n =
 
 pub naming : (o : Option Inner) → MayRead o → (n : Token) → IsReader (named_at o n)
 unfolding named_at
-naming None inner n = nexting is_open_square too_deep (read_as (leaf n)) deepening (reading (leaf n))
+naming None inner n = opening is_open_square (read_as (leaf n)) square-opens (reading (leaf n))
 naming (Some i) inner n = nexting is_open_square (subscripts_at i n) (read_as (leaf n)) (subscripting i inner n) (reading (leaf n))
 
 closing : (o : Token) (x : Tree) → IsReader (closed o x)
@@ -123,9 +140,6 @@ closing o x = binding (expect sorts.Close awaiting.Other) _ (expecting sorts.Clo
 listing : (o : Token) (x : Tree) (l : Links) → IsReader (listed o x l)
 listing o x none = closing o x
 listing o x (link p y l) = binding (expect sorts.Close awaiting.Other) _ (expecting sorts.Close awaiting.Other) λ c. reading (tuple o x (link p y l) c)
-
-same_test : (b : Bool) (f : Fork) (v : Tokens) → b ≡ b
-same_test b f v = refl
 
 parenthesizing : (i : Inner) → AreReaders i → (o : Token) → IsReader (parens_at i o)
 unfolding parens_at parens_from
@@ -136,7 +150,7 @@ parenthesizing i inner o =
 
 negating : (o : Option Inner) → MayRead o → (n : Token) → IsReader (negated_at o n)
 unfolding negated_at not_shut
-negating None inner n = nexting (is_sort sorts.Open) too_deep (refused awaiting.Other) deepening (refusing awaiting.Other)
+negating None inner n = opening is_open (refused awaiting.Other) open-opens (refusing awaiting.Other)
 negating (Some i) inner n =
     binding (expect sorts.Open awaiting.Other) _ (expecting sorts.Open awaiting.Other) λ o. binding (i.at 10) _ (inner.at 10) λ x.
     binding (expect sorts.Close awaiting.Other) _ (expecting sorts.Close awaiting.Other) λ c. reading (negated n o x c)
@@ -160,7 +174,7 @@ bracing_at i inner o = nexting is_hollow (hollow_at i o) (items_at i o) (hollowi
 
 pub bracing : (o : Option Inner) → MayRead o → IsReader (braces o)
 unfolding braces
-bracing None inner = nexting is_open_brace too_deep (refused awaiting.Other) deepening (refusing awaiting.Other)
+bracing None inner = opening is_open_brace (refused awaiting.Other) brace-opens (refusing awaiting.Other)
 bracing (Some i) inner = binding (expect sorts.OpenBrace awaiting.Other) _ (expecting sorts.OpenBrace awaiting.Other) λ o. bracing_at i inner o
 
 reducing : (i : Inner) → AreReaders i → (w : Token) → IsReader (reduced_at i w)
@@ -173,34 +187,31 @@ choosing i inner w =
     binding (i.at 10) _ (inner.at 10) λ x. binding (expect sorts.Then awaiting.Other) _ (expecting sorts.Then awaiting.Other) λ t.
     binding (i.at 7) _ (inner.at 7) λ y. binding (part_at sorts.Else (i.wide 7)) _ (parting sorts.Else (i.wide 7) (inner.wide 7)) λ e. reading (choice w x t y e)
 
-unary-head : (o : Option Inner) → MayRead o → (r : Role) (t : Token) → Head t (unary_at o r t)
+unary-head : (o : Option Inner) → MayRead o → (r : Role) (t : Token) → role_of t ≡ r → Head t (unary_at o r t)
 unfolding unary_at
-unary-head o inner roles.Name t = takes (naming o inner t)
-unary-head o inner roles.Number t = takes (reading (leaf t))
-unary-head o inner roles.Text t = takes (reading (leaf t))
-unary-head o inner roles.Not t = takes (negating o inner t)
-unary-head None inner roles.Open t = deepens_it (λ ts. refl)
-unary-head None inner roles.OpenBrace t = deepens_it (λ ts. refl)
-unary-head None inner roles.Sign t = deepens_it (λ ts. refl)
-unary-head None inner roles.Reduction t = deepens_it (λ ts. refl)
-unary-head (Some i) inner roles.Open t = takes (parenthesizing i inner t)
-unary-head (Some i) inner roles.OpenBrace t = takes (binding (braces_at i t) (λ b. read_as (braced b.0) b.1) (bracing_at i inner t) λ b. reading (braced b))
-unary-head (Some i) inner roles.Sign t = takes (binding (i.at 1) (λ x. read_as (signed t x.0) x.1) (inner.at 1) λ x. reading (signed t x))
-unary-head (Some i) inner roles.Reduction t = takes (reducing i inner t)
-unary-head o inner r t = refuses_it awaiting.Other (λ ts. refl)
+unary-head o inner roles.Name t is = takes (naming o inner t)
+unary-head o inner roles.Number t is = takes (reading (leaf t))
+unary-head o inner roles.Text t is = takes (reading (leaf t))
+unary-head o inner roles.Not t is = takes (negating o inner t)
+unary-head None inner roles.Open t is = deepens_it (rw is refl) (λ ts. refl)
+unary-head None inner roles.OpenBrace t is = deepens_it (rw is refl) (λ ts. refl)
+unary-head None inner roles.Sign t is = deepens_it (rw is refl) (λ ts. refl)
+unary-head None inner roles.Reduction t is = deepens_it (rw is refl) (λ ts. refl)
+unary-head (Some i) inner roles.Open t is = takes (parenthesizing i inner t)
+unary-head (Some i) inner roles.OpenBrace t is = takes (binding (braces_at i t) (λ b. read_as (braced b.0) b.1) (bracing_at i inner t) λ b. reading (braced b))
+unary-head (Some i) inner roles.Sign t is = takes (binding (i.at 1) (λ x. read_as (signed t x.0) x.1) (inner.at 1) λ x. reading (signed t x))
+unary-head (Some i) inner roles.Reduction t is = takes (reducing i inner t)
+unary-head o inner r t is = refuses_it awaiting.Other (λ ts. refl)
 
 pub unarying : (o : Option Inner) → MayRead o → IsReader (unary o)
 unfolding unary
-unarying o inner = heading awaiting.Other (unary o) refl (λ t. unary-head o inner (role_of t) t)
-
-if_reading : (o : Option Inner) → MayRead o → IsReader (if_at o)
-unfolding if_at
-if_reading None inner = deepening
-if_reading (Some i) inner = heading awaiting.Other (if_at (Some i)) refl (λ t. takes (choosing i inner t))
+unarying o inner = heading awaiting.Other (unary o) refl (λ t. unary-head o inner (role_of t) t refl)
 
 pub widening : (o : Option Inner) → MayRead o → (n : ℕ) → IsReader (wide o n)
-unfolding wide
-widening o inner n = nexting is_if (if_at o) (climb n (unary o)) (if_reading o inner) (climbing (unary o) (unarying o inner) n)
+unfolding wide if_at
+widening None inner n = opening is_if (climb n (unary None)) if-opens (climbing (unary None) (unarying None inner) n)
+widening (Some i) inner n =
+    nexting is_if (if_at (Some i)) (climb n (unary (Some i))) (heading awaiting.Other (if_at (Some i)) refl (λ t. takes (choosing i inner t))) (climbing (unary (Some i)) (unarying (Some i) inner) n)
 
 pub inside-reads : (d : ℕ) → MayRead (inside d)
 unfolding inside inner_of

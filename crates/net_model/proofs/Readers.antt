@@ -8,6 +8,7 @@ use Rattle.net_model.specs.declared.sort.Sort.{Sort}
 use Rattle.net_model.specs.declared.stop.Awaiting.{Awaiting}
 use Rattle.net_model.specs.declared.stop.Stop.{Stop}
 use Rattle.net_model.specs.declared.stop.Stop.TheVariants as stops
+use Rattle.net_model.specs.Meaning.{opens}
 use Rattle.net_model.specs.Reading.{Tokens, Read, ◌>>=◌, read_as, refused, too_deep, next_is, is_sort, expect}
 
 -- a token, and two ways to go on behind it
@@ -45,31 +46,51 @@ left-some f v = omega (arith, length-before v (f.token ∷ f.rest))
 pub right-some : (f : Fork) (v : Tokens) → 0 < length (right f v)
 right-some f v = omega (arith, length-before v (f.token ∷ f.other))
 
--- what is left, or the place of the stop, is among the last so many tokens
-abbrev pub Within : {A : Type 0} → ℕ → Read A → Type 0
-Within m (Ok x) = length x.1 ≤ m
-Within m (Err stops.OutOfMemory) = Unit {0}
-Within m (Err (stops.Refused n a)) = n ≤ m
-Within m (Err (stops.TooDeep n)) = n ≤ m
+-- the last of these tokens, so many
+abbrev pub IsTail : Tokens → Tokens → Type 0
+IsTail r ts = (before : Tokens) × (put_before before r ≡ ts)
 
-pub within-le : {A : Type 0} (m n : ℕ) (p : Read A) → m ≤ n → Within m p → Within n p
-within-le m n (Ok x) less h = omega (arith, less, h)
-within-le m n (Err stops.OutOfMemory) less h = tt
-within-le m n (Err (stops.Refused k a)) less h = omega (arith, less, h)
-within-le m n (Err (stops.TooDeep k)) less h = omega (arith, less, h)
+pub tail-self : (ts : Tokens) → IsTail ts ts
+tail-self ts = ([], refl)
 
-pub bind-within : {A B : Type 0} (m : ℕ) (p : Read A) (g : A × Tokens → Read B) → Within m p → ((x : A × Tokens) → length x.1 ≤ m → Within m (g x)) → Within m (p >>= g)
-bind-within m (Ok x) g h more = more x h
-bind-within m (Err stops.OutOfMemory) g h more = tt
-bind-within m (Err (stops.Refused k a)) g h more = h
-bind-within m (Err (stops.TooDeep k)) g h more = h
+pub tail-next : (t : Token) (ts : Tokens) → IsTail ts (t ∷ ts)
+tail-next t ts = (t ∷ [], refl)
+
+twice-before : (b c r : Tokens) → put_before (put_before b c) r ≡ put_before b (put_before c r)
+twice-before [] c r = refl
+twice-before (t ∷ b) c r = ap (λ k. t ∷ k) (twice-before b c r)
+
+tail-tail : (q r ts : Tokens) → IsTail q r → IsTail r ts → IsTail q ts
+tail-tail q r ts h k = (put_before k.0 h.0, twice-before k.0 h.0 q ∙ ap (put_before k.0) h.1 ∙ k.1)
+
+pub tail-length : (r ts : Tokens) → IsTail r ts → length r ≤ length ts
+tail-length r ts h = omega (arith, length-before h.0 r, ap length h.1)
+
+-- what is left, or the place of the stop, is among these tokens; a nesting too many is opened by a token that opens one
+abbrev pub Within : {A : Type 0} → Tokens → Read A → Type 0
+Within ts (Ok x) = IsTail x.1 ts
+Within ts (Err stops.OutOfMemory) = Unit {0}
+Within ts (Err (stops.Refused n a)) = n ≤ length ts
+Within ts (Err (stops.TooDeep n)) = (rest : Tokens) × IsTail rest ts × (length rest ≡ n) × (next_is opens rest ≡ true)
+
+pub within-le : {A : Type 0} (r ts : Tokens) (p : Read A) → IsTail r ts → Within r p → Within ts p
+within-le r ts (Ok x) less h = tail-tail x.1 r ts h less
+within-le r ts (Err stops.OutOfMemory) less h = tt
+within-le r ts (Err (stops.Refused k a)) less h = omega (arith, tail-length r ts less, h)
+within-le r ts (Err (stops.TooDeep k)) less h = (h.0, tail-tail h.0 r ts h.1 less, h.2, h.3)
+
+pub bind-within : {A B : Type 0} (ts : Tokens) (p : Read A) (g : A × Tokens → Read B) → Within ts p → ((x : A × Tokens) → IsTail x.1 ts → Within ts (g x)) → Within ts (p >>= g)
+bind-within ts (Ok x) g h more = more x h
+bind-within ts (Err stops.OutOfMemory) g h more = tt
+bind-within ts (Err (stops.Refused k a)) g h more = h
+bind-within ts (Err (stops.TooDeep k)) g h more = h
 
 -- what comes of the two texts: the same before the fork, or on the left the fork's token was passed
 pub data Out {A : Type 0} (f : Fork) (p q : Read A) : Type 0 where
   reads : (x : A) (w : Tokens) → p ≡ Ok (x, left f w) → q ≡ Ok (x, right f w) → Out f p q
   refuses : (a : Awaiting) (w : Tokens) → p ≡ Err (stops.Refused (length (left f w)) a) → q ≡ Err (stops.Refused (length (right f w)) a) → Out f p q
   deepens : (w : Tokens) → p ≡ Err (stops.TooDeep (length (left f w))) → q ≡ Err (stops.TooDeep (length (right f w))) → Out f p q
-  passed : Within (length f.rest) p → Out f p q
+  passed : Within f.rest p → Out f p q
 
 moved : {A : Type 0} (f : Fork) (p p' q q' : Read A) → p ≡ p' → q ≡ q' → Out f p' q' → Out f p q
 moved f p p' q q' e e' (reads x w h h') = reads x w (e ∙ h) (e' ∙ h')
@@ -79,11 +100,11 @@ moved f p p' q q' e e' (passed h) = passed (rw e h)
 
 pub bind-out : {A B : Type 0} (f : Fork) (p q : Read A) (g k : A × Tokens → Read B) → Out f p q
     → ((x : A) (w : Tokens) → p ≡ Ok (x, left f w) → Out f (g (x, left f w)) (k (x, right f w)))
-    → ((x : A × Tokens) → Within (length x.1) (g x)) → Out f (p >>= g) (q >>= k)
+    → ((x : A × Tokens) → Within x.1 (g x)) → Out f (p >>= g) (q >>= k)
 bind-out f p q g k (reads x w e e') more over = moved f (p >>= g) (g (x, left f w)) (q >>= k) (k (x, right f w)) (ap (λ z. z >>= g) e) (ap (λ z. z >>= k) e') (more x w e)
 bind-out f p q g k (refuses a w e e') more over = refuses a w (ap (λ z. z >>= g) e) (ap (λ z. z >>= k) e')
 bind-out f p q g k (deepens w e e') more over = deepens w (ap (λ z. z >>= g) e) (ap (λ z. z >>= k) e')
-bind-out f p q g k (passed h) more over = passed (bind-within (length f.rest) p g h (λ x less. within-le (length x.1) (length f.rest) (g x) less (over x)))
+bind-out f p q g k (passed h) more over = passed (bind-within f.rest p g h (λ x less. within-le x.1 f.rest (g x) less (over x)))
 
 pub choose-out : {A : Type 0} (f : Fork) (b c : Bool) (p q p' q' : Read A) → b ≡ c → Out f p p' → Out f q q' → Out f (cond b p q) (cond c p' q')
 choose-out f true true p q p' q' e on' off' = on'
@@ -91,7 +112,7 @@ choose-out f false false p q p' q' e on' off' = off'
 choose-out f true false p q p' q' e on' off' = absurd (cc)
 choose-out f false true p q p' q' e on' off' = absurd (cc)
 
-pub choose-within : {A : Type 0} (m : ℕ) (b : Bool) (p q : Read A) → Within m p → Within m q → Within m (cond b p q)
+pub choose-within : {A : Type 0} (m : Tokens) (b : Bool) (p q : Read A) → Within m p → Within m q → Within m (cond b p q)
 choose-within m true p q h k = h
 choose-within m false p q h k = k
 
@@ -100,65 +121,76 @@ next-same test f [] = refl
 next-same test f (t ∷ v) = refl
 
 pub record IsReader {A : Type 0} (p : Tokens → Read A) : Type 0 where
-  pub within : (ts : Tokens) → Within (length ts) (p ts)
+  pub within : (ts : Tokens) → Within ts (p ts)
   pub local : (f : Fork) (v : Tokens) → Out f (p (left f v)) (p (right f v))
 
 pub reading : {A : Type 0} (x : A) → IsReader (λ ts. read_as x ts)
-reading x = record { within = λ ts. omega arith; local = λ f v. reads x v refl refl }
+reading x = record { within = tail-self; local = λ f v. reads x v refl refl }
 
 pub refusing : {A : Type 0} (a : Awaiting) → IsReader {A = A} (λ ts. refused a ts)
 refusing a = record { within = λ ts. omega arith; local = λ f v. refuses a v refl refl }
 
-pub deepening : {A : Type 0} → IsReader {A = A} (λ ts. too_deep ts)
-deepening = record { within = λ ts. omega arith; local = λ f v. deepens v refl refl }
-
 pub binding : {A B : Type 0} (p : Tokens → Read A) (g : A × Tokens → Read B) → IsReader p → ((x : A) → IsReader (λ ts. g (x, ts))) → IsReader (λ ts. p ts >>= g)
 binding p g first after = record {
-  within = λ ts. bind-within (length ts) (p ts) g (first.within ts) (λ x less. within-le (length x.1) (length ts) (g x) less ((after x.0).within x.1));
+  within = λ ts. bind-within ts (p ts) g (first.within ts) (λ x less. within-le x.1 ts (g x) less ((after x.0).within x.1));
   local = λ f v. bind-out f (p (left f v)) (p (right f v)) g g (first.local f v) (λ x w e. (after x).local f w) (λ x. (after x.0).within x.1);
 }
 
 pub testing : {A : Type 0} (test : Tokens → Bool) (p q : Tokens → Read A) → ((f : Fork) (v : Tokens) → test (left f v) ≡ test (right f v)) → IsReader p → IsReader q
     → IsReader (λ ts. cond (test ts) (p ts) (q ts))
 testing test p q same on' off' = record {
-  within = λ ts. choose-within (length ts) (test ts) (p ts) (q ts) (on'.within ts) (off'.within ts);
+  within = λ ts. choose-within ts (test ts) (p ts) (q ts) (on'.within ts) (off'.within ts);
   local = λ f v. choose-out f (test (left f v)) (test (right f v)) (p (left f v)) (q (left f v)) (p (right f v)) (q (right f v)) (same f v) (on'.local f v) (off'.local f v);
 }
 
 pub nexting : {A : Type 0} (test : Role → Bool) (p q : Tokens → Read A) → IsReader p → IsReader q → IsReader (λ ts. cond (next_is test ts) (p ts) (q ts))
 nexting test p q on' off' = testing (next_is test) p q (next-same test) on' off'
 
+-- a nesting too many, where the next token opens one
+pub opening : {A : Type 0} (test : Role → Bool) (q : Tokens → Read A) → ((r : Role) → test r ≡ true → opens r ≡ true) → IsReader q → IsReader (λ ts. cond (next_is test ts) (too_deep ts) (q ts))
+opening test q only other = record {
+  within = λ ts. by ts (next_is test ts) refl;
+  local = λ f v. choose-out f (next_is test (left f v)) (next_is test (right f v)) (too_deep (left f v)) (q (left f v)) (too_deep (right f v)) (q (right f v)) (next-same test f v) (deepens v refl refl) (other.local f v);
+}
+  where
+    opened : (ts : Tokens) → next_is test ts ≡ true → next_is opens ts ≡ true
+    opened [] h = absurd (cc)
+    opened (t ∷ ts) h = only (role_of t) h
+    by : (ts : Tokens) (b : Bool) → next_is test ts ≡ b → Within ts (cond b (too_deep ts) (q ts))
+    by ts true h = (ts, tail-self ts, refl, opened ts h)
+    by ts false h = other.within ts
+
 -- a reader that takes the first token, or stops at it
 pub data Head {A : Type 0} (t : Token) (p : Tokens → Read A) : Type 0 where
   takes : IsReader p → Head t p
   refuses_it : (a : Awaiting) → ((ts : Tokens) → p ts ≡ refused a (t ∷ ts)) → Head t p
-  deepens_it : ((ts : Tokens) → p ts ≡ too_deep (t ∷ ts)) → Head t p
+  deepens_it : opens (role_of t) ≡ true → ((ts : Tokens) → p ts ≡ too_deep (t ∷ ts)) → Head t p
 
 pub heading : {A : Type 0} (a : Awaiting) (p : Tokens → Read A) → p [] ≡ refused a [] → ((t : Token) → Head t (λ ts. p (t ∷ ts))) → IsReader p
 heading a p none head = record { within = all; local = forks }
   where
-    one : (t : Token) (ts : Tokens) → Head t (λ ts. p (t ∷ ts)) → Within (length (t ∷ ts)) (p (t ∷ ts))
-    one t ts (takes h) = within-le (length ts) (length (t ∷ ts)) (p (t ∷ ts)) (omega arith) (h.within ts)
+    one : (t : Token) (ts : Tokens) → Head t (λ ts. p (t ∷ ts)) → Within (t ∷ ts) (p (t ∷ ts))
+    one t ts (takes h) = within-le ts (t ∷ ts) (p (t ∷ ts)) (tail-next t ts) (h.within ts)
     one t ts (refuses_it b e) = rw (e ts) (omega arith)
-    one t ts (deepens_it e) = rw (e ts) (omega arith)
-    all : (ts : Tokens) → Within (length ts) (p ts)
+    one t ts (deepens_it o e) = rw (e ts) (t ∷ ts, tail-self (t ∷ ts), refl, o)
+    all : (ts : Tokens) → Within ts (p ts)
     all [] = rw none (omega arith)
     all (t ∷ ts) = one t ts (head t)
     here : (f : Fork) → Head f.token (λ ts. p (f.token ∷ ts)) → Out f (p (f.token ∷ f.rest)) (p (f.token ∷ f.other))
     here f (takes h) = passed (h.within f.rest)
     here f (refuses_it b e) = refuses b [] (e f.rest) (e f.other)
-    here f (deepens_it e) = deepens [] (e f.rest) (e f.other)
+    here f (deepens_it o e) = deepens [] (e f.rest) (e f.other)
     before : (f : Fork) (t : Token) (v : Tokens) → Head t (λ ts. p (t ∷ ts)) → Out f (p (t ∷ left f v)) (p (t ∷ right f v))
     before f t v (takes h) = h.local f v
     before f t v (refuses_it b e) = refuses b (t ∷ v) (e (left f v)) (e (right f v))
-    before f t v (deepens_it e) = deepens (t ∷ v) (e (left f v)) (e (right f v))
+    before f t v (deepens_it o e) = deepens (t ∷ v) (e (left f v)) (e (right f v))
     forks : (f : Fork) (v : Tokens) → Out f (p (left f v)) (p (right f v))
     forks f [] = here f (head f.token)
     forks f (t ∷ v) = before f t v (head t)
 
 expect-head : (s : Sort) (a : Awaiting) (t : Token) (b : Bool) → is_sort s (role_of t) ≡ b → Head t (λ ts. expect s a (t ∷ ts))
 unfolding expect
-expect-head s a t true e = takes (record { within = λ ts. rw e (omega arith); local = λ f v. rw e (reads t v refl refl) })
+expect-head s a t true e = takes (record { within = λ ts. rw e (tail-self ts); local = λ f v. rw e (reads t v refl refl) })
 expect-head s a t false e = refuses_it a (λ ts. rw e refl)
 
 pub expecting : (s : Sort) (a : Awaiting) → IsReader (expect s a)

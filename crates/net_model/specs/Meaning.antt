@@ -1,5 +1,7 @@
 -- What the tokens of a model text mean, and when they mean nothing.
-use Rattle.std.specs.Prelude.{◌≡◌, ◌≤◌, ◌<◌, List}
+use Rattle.std.specs.Prelude.{◌≡◌, ◌≤◌, ◌<◌, Bool, true, false, List}
+use Rattle.net_tree.specs.declared.role.Role.{Role}
+use Rattle.net_tree.specs.declared.role.Role.TheVariants as roles
 use Rattle.net_tree.specs.Tree.{Declaration}
 use Rattle.net_tree.specs.Print.{print}
 use Rattle.net_tree.specs.Depth.{model_depth}
@@ -16,6 +18,16 @@ pub record Means (tokens : Tokens) (model : List Declaration) : Type 0 where
   pub printed : print model ≡ tokens
   pub level : AreDeclarations model
   pub shallow : model_depth model ≤ nesting_limit
+
+-- whether a token of this role opens a nesting
+abbrev pub opens : Role → Bool
+opens roles.Open = true
+opens roles.OpenBrace = true
+opens roles.OpenSquare = true
+opens roles.Sign = true
+opens roles.If = true
+opens roles.Reduction = true
+opens _ = false
 
 -- no model that is written as the grammar wants has these tokens
 abbrev pub NoModel : Tokens → Type 0
