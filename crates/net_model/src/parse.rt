@@ -20,7 +20,8 @@ pub fn parse_declarations<'s>(
     ensures value { Tells tokens.now result (model_at nesting_limit tokens.now) }
     // The tokens are the printing of the model, which is written as the grammar wants and not nested too deep.
     ensures means { IfOk result (λ m. Means tokens.now (model m)) }
-    // A token is refused only where no model has these tokens, and a nesting only where each is nested too deep.
+    // The place of a fault is a token with which, after those before it, no model goes on, or for a nesting too many none that is nested
+    // no deeper than allowed; or it is the end.
     ensures refused { IfErr result (IsRefused tokens.now) }
 {
     let mut cursor = Cursor::new(tokens);
