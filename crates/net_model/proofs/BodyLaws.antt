@@ -1,26 +1,25 @@
 -- What is read behind the word of a phrase is printed so, and the other way round.
-use Rattle.std.specs.Prelude.{◌≡◌, ◌≤◌, ◌<◌, ℕ, suc, Bool, true, false, cond, max, List, [], ◌∷◌, Option, None, Some, Result, Ok, Err, if◌then◌else◌}
-use Rattle.std.proofs.Common.{refl, sym, ap, ◌∙◌, arith, subst, inl, inr}
-use Rattle.std.proofs.lemmas.Bool.{le-leb}
+use Rattle.std.specs.Prelude.{◌≡◌, ◌≤◌, ◌<◌, ℕ, suc, true, false, [], ◌∷◌, Option, None, Some, Ok}
+use Rattle.std.proofs.Common.{refl, sym, ap, ◌∙◌, arith}
 use Rattle.net_lex.specs.declared.token.Token.{Token}
 use Rattle.net_tree.specs.declared.role.Role.{Role}
 use Rattle.net_tree.specs.declared.role.Role.TheVariants as roles
-use Rattle.net_tree.specs.Role.{role_of, is_name, is_leaf, is_else}
+use Rattle.net_tree.specs.Role.{role_of, is_name, is_else}
 use Rattle.net_tree.specs.Tree.{Tree, Links, leaf, indexed, Body, plain, valued, priced}
 use Rattle.net_tree.specs.Print.{put, put_links, put_body}
 use Rattle.net_tree.specs.Depth.{depth, body_depth}
-use Rattle.net_tree.specs.Level.{rank, is_value, IsLevel}
+use Rattle.net_tree.specs.Level.{rank, IsLevel}
 use Rattle.net_tree.specs.Phrases.{IsNothing, IsNumeral, IsBound, IsOperand, IsValue, IsReference, IsPrice}
 use Rattle.net_model.specs.declared.phrase.Slot.{Slot}
 use Rattle.net_model.specs.declared.phrase.Slot.TheVariants as slots
 use Rattle.net_model.specs.declared.sort.Sort.TheVariants as sorts
 use Rattle.net_model.specs.declared.stop.Awaiting.TheVariants as awaiting
-use Rattle.net_model.specs.Reading.{Tokens, Read, ◌>>=◌, read_as, next_is, expect}
-use Rattle.net_model.specs.Expressions.{Reader, Inner, all_links, climb, unary_at, unary, wide, inside, is_subscripted, subscripts_at, named_at}
+use Rattle.net_model.specs.Reading.{Tokens, next_is}
+use Rattle.net_model.specs.Expressions.{Inner, all_links, climb, unary_at, unary, inside, is_subscripted, subscripts_at, named_at}
 use Rattle.net_model.specs.Phrases.{body_of}
 use Rattle.net_model.proofs.Tools.{bind_ok, given, chosen, on, off, expect-sound, expect-complete}
-use Rattle.net_model.proofs.LinksSound.{UpTo, Sound, climb-sound}
-use Rattle.net_model.proofs.TreesSound.{Wide, IsInside, unary-sound, wide-sound, wide_value, named-sound}
+use Rattle.net_model.proofs.LinksSound.{climb-sound}
+use Rattle.net_model.proofs.TreesSound.{IsInside, unary-sound, wide-sound, wide_value, named-sound}
 use Rattle.net_model.proofs.Grips.{Stops, stops-square, reach-below}
 use Rattle.net_model.proofs.LinksComplete.{in_place}
 use Rattle.net_model.proofs.TreesComplete.{trees-complete, value-read}

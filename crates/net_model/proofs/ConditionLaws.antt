@@ -1,6 +1,6 @@
 -- What is read as a node's condition is printed so, and the other way round.
-use Rattle.std.specs.Prelude.{◌≡◌, ◌≤◌, ◌<◌, ◌⊎◌, ℕ, Bool, true, false, cond, max, List, [], ◌∷◌, Option, Result, Ok, Err, if◌then◌else◌}
-use Rattle.std.proofs.Common.{refl, sym, ap, ◌∙◌, arith, subst, inl, inr}
+use Rattle.std.specs.Prelude.{◌≡◌, ◌≤◌, ℕ, Bool, true, false, cond, ◌∷◌, Option, Ok}
+use Rattle.std.proofs.Common.{refl, ap, ◌∙◌, arith, inl, inr}
 use Rattle.net_lex.specs.declared.token.Token.{Token}
 use Rattle.net_tree.specs.declared.role.Relates.TheVariants as relates
 use Rattle.net_tree.specs.declared.role.Role.{Role}
@@ -9,15 +9,15 @@ use Rattle.net_tree.specs.Role.{role_of, is_colon, is_bound, is_semicolon}
 use Rattle.net_tree.specs.Tree.{Tree, Condition, unsaid, one, between}
 use Rattle.net_tree.specs.Print.{put, put_condition}
 use Rattle.net_tree.specs.Depth.{depth, condition_depth}
-use Rattle.net_tree.specs.Level.{rank, IsLevel}
+use Rattle.net_tree.specs.Level.{rank}
 use Rattle.net_tree.specs.Conditions.{IsSum, IsNetSum, same_order, IsCondition}
 use Rattle.net_model.specs.declared.sort.Sort.TheVariants as sorts
 use Rattle.net_model.specs.declared.stop.Awaiting.TheVariants as awaiting
-use Rattle.net_model.specs.Reading.{Tokens, Read, ◌>>=◌, read_as, refused, next_is, expect}
+use Rattle.net_model.specs.Reading.{Tokens, refused, next_is}
 use Rattle.net_model.specs.Expressions.{Inner, climb, unary, inside}
-use Rattle.net_model.specs.Conditions.{sum_at, is_at_most, is_at_least, chains, chain_next, high_at, middle_at, bounded_at, said_at, condition_at}
+use Rattle.net_model.specs.Conditions.{is_at_most, is_at_least, chains, chain_next, high_at, middle_at, bounded_at, said_at, condition_at}
 use Rattle.net_model.proofs.Tools.{bind_ok, given, chosen, on, off, expect-sound, expect-complete}
-use Rattle.net_model.proofs.LinksSound.{UpTo, Sound, climb-sound}
+use Rattle.net_model.proofs.LinksSound.{climb-sound}
 use Rattle.net_model.proofs.TreesSound.{IsInside, unary-sound}
 use Rattle.net_model.proofs.Grips.{Stops, grip, semicolon-shuts, reach-below}
 use Rattle.net_model.proofs.LinksComplete.{in_place}
@@ -154,20 +154,37 @@ condition-complete d (one m x p y) e ts level deep ends =
     let rest = p ∷ put y (e ∷ ts) in
     elim level.2 [
       | inl k ↦
-          rw (level.0, expect-complete sorts.Colon awaiting.Other m (put x rest) level.0, sum-complete d false x rest k.0 (omega (arith, deep)) (bound-stops p (put y (e ∷ ts)) level.1),
-            expect-complete sorts.Bound awaiting.Other p (put y (e ∷ ts)) level.1, sum-read d y (e ∷ ts) k.1 (omega (arith, deep)) (semicolon-stops e ts ends))
+          rw (
+            level.0,
+            expect-complete sorts.Colon awaiting.Other m (put x rest) level.0,
+            sum-complete d false x rest k.0 (omega (arith, deep)) (bound-stops p (put y (e ∷ ts)) level.1),
+            expect-complete sorts.Bound awaiting.Other p (put y (e ∷ ts)) level.1,
+            sum-read d y (e ∷ ts) k.1 (omega (arith, deep)) (semicolon-stops e ts ends),
+          )
           refl
       | inr k ↦
-          rw (level.0, expect-complete sorts.Colon awaiting.Other m (put x rest) level.0, sum-complete d true x rest k.0 (omega (arith, deep)) (bound-stops p (put y (e ∷ ts)) level.1),
-            expect-complete sorts.Bound awaiting.Other p (put y (e ∷ ts)) level.1, sum-complete d false y (e ∷ ts) k.1 (omega (arith, deep)) (semicolon-stops e ts ends),
-            semicolon-no_chain (role_of p) (role_of e) ends)
+          rw (
+            level.0,
+            expect-complete sorts.Colon awaiting.Other m (put x rest) level.0,
+            sum-complete d true x rest k.0 (omega (arith, deep)) (bound-stops p (put y (e ∷ ts)) level.1),
+            expect-complete sorts.Bound awaiting.Other p (put y (e ∷ ts)) level.1,
+            sum-complete d false y (e ∷ ts) k.1 (omega (arith, deep)) (semicolon-stops e ts ends),
+            semicolon-no_chain (role_of p) (role_of e) ends,
+          )
           refl
     ]
 condition-complete d (between m x p y q z) e ts level deep ends =
     let bounds = order-bounds (role_of p) (role_of q) level.1 in
     let last = q ∷ put z (e ∷ ts) in
     let rest = p ∷ put y last in
-    rw (level.0, expect-complete sorts.Colon awaiting.Other m (put x rest) level.0, sum-complete d true x rest level.2 (omega (arith, deep)) (bound-stops p (put y last) bounds.0),
-      expect-complete sorts.Bound awaiting.Other p (put y last) bounds.0, sum-complete d false y last level.3 (omega (arith, deep)) (bound-stops q (put z (e ∷ ts)) bounds.1),
-      order-chains (role_of p) (role_of q) level.1, expect-complete sorts.Bound awaiting.Other q (put z (e ∷ ts)) bounds.1, sum-read d z (e ∷ ts) level.4 (omega (arith, deep)) (semicolon-stops e ts ends))
+    rw (
+      level.0,
+      expect-complete sorts.Colon awaiting.Other m (put x rest) level.0,
+      sum-complete d true x rest level.2 (omega (arith, deep)) (bound-stops p (put y last) bounds.0),
+      expect-complete sorts.Bound awaiting.Other p (put y last) bounds.0,
+      sum-complete d false y last level.3 (omega (arith, deep)) (bound-stops q (put z (e ∷ ts)) bounds.1),
+      order-chains (role_of p) (role_of q) level.1,
+      expect-complete sorts.Bound awaiting.Other q (put z (e ∷ ts)) bounds.1,
+      sum-read d z (e ∷ ts) level.4 (omega (arith, deep)) (semicolon-stops e ts ends),
+    )
     refl

@@ -1,36 +1,36 @@
 -- What is read as a declaration is printed so, and the other way round.
-use Rattle.std.specs.Prelude.{◌≡◌, ◌≤◌, ◌<◌, ◌+◌, ◌⊎◌, ℕ, zero, suc, Bool, true, false, cond, max, List, [], ◌∷◌, length, Option, None, Some, Result, Ok, Err, if◌then◌else◌}
-use Rattle.std.proofs.Common.{refl, sym, ap, ◌∙◌, arith, subst}
+use Rattle.std.specs.Prelude.{◌≡◌, ◌≤◌, ◌<◌, ℕ, true, false, List, [], ◌∷◌, Option, None, Some, Ok}
+use Rattle.std.proofs.Common.{refl, ap, ◌∙◌, arith}
 use Rattle.net_lex.specs.declared.token.Token.{Token}
 use Rattle.net_tree.specs.declared.role.Role.{Role}
 use Rattle.net_tree.specs.declared.role.Role.TheVariants as roles
 use Rattle.net_tree.specs.declared.role.Declares.{Declares}
 use Rattle.net_tree.specs.declared.role.Declares.TheVariants as declares
-use Rattle.net_tree.specs.Role.{role_of, is_name, is_comma, is_colon, is_semicolon, is_open_brace, is_else}
+use Rattle.net_tree.specs.Role.{role_of, is_comma, is_colon, is_semicolon, is_open_brace, is_else}
 use Rattle.net_tree.specs.Tree.{Tree, Part, absent, part, Braces, empty, filled, Body, Condition, unsaid, one, between, Phrase, Declaration, set, param, check, node, arc, objective}
 use Rattle.net_tree.specs.Print.{put, put_part, put_braces, put_optional, put_body, put_indexing, put_phrases, put_condition, put_declaration}
-use Rattle.net_tree.specs.Depth.{depth, part_depth, braces_depth, indexing_depth, phrases_depth, condition_depth, declaration_depth}
-use Rattle.net_tree.specs.Level.{rank, is_value, IsLevel, AreBraces}
+use Rattle.net_tree.specs.Depth.{part_depth, braces_depth, indexing_depth, phrases_depth, declaration_depth}
+use Rattle.net_tree.specs.Level.{rank, AreBraces}
 use Rattle.net_tree.specs.Conditions.{IsCondition}
-use Rattle.net_tree.specs.Phrases.{ArePhrases, IsOptionalComma, count, AreSetPhrases, AreParamPhrases, AreArcPhrases}
+use Rattle.net_tree.specs.Phrases.{ArePhrases, IsOptionalComma, AreSetPhrases, AreParamPhrases, AreArcPhrases}
 use Rattle.net_tree.specs.Declarations.{IsIndexing, IsObjective, IsDeclaration}
 use Rattle.net_model.specs.declared.phrase.Owner.{Owner}
 use Rattle.net_model.specs.declared.phrase.Owner.TheVariants as owners
 use Rattle.net_model.specs.declared.sort.Sort.TheVariants as sorts
 use Rattle.net_model.specs.declared.stop.Awaiting.TheVariants as awaiting
-use Rattle.net_model.specs.Reading.{Tokens, Read, ◌>>=◌, read_as, next_is, expect}
-use Rattle.net_model.specs.Expressions.{Inner, inside, unary, climb, wide, braces, part_at, present_at}
+use Rattle.net_model.specs.Reading.{Tokens, next_is}
+use Rattle.net_model.specs.Expressions.{Inner, inside, unary, wide, part_at, present_at}
 use Rattle.net_model.specs.Phrases.{nothing_stood}
 use Rattle.net_model.specs.Declarations.{indexing_at, set_at, param_at, check_at, node_at, arc_at, behind_objective, objective_at, declared_at, declaration_of_role, declaration_at}
 use Rattle.net_model.proofs.Tools.{bind_ok, given, chosen, on, off, expect-sound, expect-complete}
-use Rattle.net_model.proofs.LinksSound.{UpTo, climb-sound}
+use Rattle.net_model.proofs.LinksSound.{climb-sound}
 use Rattle.net_model.proofs.TreesSound.{Wide, wide_value, IsInside, IsPart, part-sound, unary-sound, wide-sound, braces-sound}
-use Rattle.net_model.proofs.Grips.{Stops, grip, semicolon-shuts, reach-le}
+use Rattle.net_model.proofs.Grips.{Stops, semicolon-shuts, reach-le}
 use Rattle.net_model.proofs.LinksComplete.{in_place}
 use Rattle.net_model.proofs.TreesComplete.{trees-complete, braces-complete, value-read}
 use Rattle.net_model.proofs.ConditionLaws.{condition-sound, condition-complete}
-use Rattle.net_model.proofs.PhraseWords.{Of, has-slot, Single, dimen, default, becomes, at_least, at_most, from, to, is_single, is_word, stood}
-use Rattle.net_model.proofs.PhraseLaws.{Singly, SoundPhrases, phrases-sound, end-sound, PhrasesBack, phrases-complete, end-complete}
+use Rattle.net_model.proofs.PhraseWords.{Of, dimen, default, becomes, at_least, at_most, from, to}
+use Rattle.net_model.proofs.PhraseLaws.{Singly, phrases-sound, end-sound, phrases-complete, end-complete}
 
 pub record SoundIndexing (d : ℕ) (ts : Tokens) (a : Option Braces × Tokens) : Type 0 where
   pub text : ts ≡ put_indexing a.0 a.1
@@ -300,8 +300,12 @@ node-complete : (d : ℕ) (w n : Token) (b : Option Braces) (c : Condition) (e :
 unfolding node_at
 node-complete d w n b c e ts level deep =
     let indexed = indexing-complete d b (put_condition c (e ∷ ts)) level.2 (omega (arith, deep)) (condition-no_brace c e ts level.3 level.4) in
-    rw (expect-complete sorts.Name awaiting.Other n (put_indexing b (put_condition c (e ∷ ts))) level.1, indexed, condition-complete d c e ts level.3 (omega (arith, deep)) level.4,
-      expect-complete sorts.Semicolon awaiting.Other e ts level.4)
+    rw (
+      expect-complete sorts.Name awaiting.Other n (put_indexing b (put_condition c (e ∷ ts))) level.1,
+      indexed,
+      condition-complete d c e ts level.3 (omega (arith, deep)) level.4,
+      expect-complete sorts.Semicolon awaiting.Other e ts level.4,
+    )
     refl
 
 objective-complete : (d : ℕ) (w n : Token) (p : Part) (e : Token) (ts : Tokens) → IsDeclaration (objective w n p e) → part_depth p ≤ d

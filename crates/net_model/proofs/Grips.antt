@@ -1,14 +1,13 @@
 -- Which tokens go on with an expression that was read.
-use Rattle.std.specs.Prelude.{◌≡◌, ◌≤◌, ◌<◌, ◌-◌, ◌&&◌, ℕ, zero, suc, Bool, true, false, cond, nat_eq, nat_le, List, [], ◌∷◌}
-use Rattle.std.proofs.Common.{refl, sym, ap, ◌∙◌, arith}
+use Rattle.std.specs.Prelude.{◌≡◌, ◌≤◌, ◌<◌, ◌&&◌, ℕ, zero, suc, Bool, true, false, nat_eq, [], ◌∷◌}
+use Rattle.std.proofs.Common.{refl, sym, ap, arith}
 use Rattle.std.proofs.lemmas.Bool.{eqb-true}
 use Rattle.std.proofs.lemmas.Bool.Decides.{nat_tests}
-use Rattle.net_lex.specs.declared.token.Token.{Token}
 use Rattle.net_tree.specs.declared.expr.Operator.{Operator}
 use Rattle.net_tree.specs.declared.expr.Operator.TheVariants.{One, Two}
 use Rattle.net_tree.specs.declared.role.Role.{Role}
 use Rattle.net_tree.specs.declared.role.Role.TheVariants as roles
-use Rattle.net_tree.specs.Role.{role_of, is_open_square, is_close, is_close_square, is_close_brace, is_colon, is_then, is_else, is_comma, is_semicolon, is_if, is_net}
+use Rattle.net_tree.specs.Role.{role_of, is_open_square, is_close, is_close_square, is_close_brace, is_colon, is_then, is_else, is_semicolon}
 use Rattle.net_tree.specs.Print.{put_operator}
 use Rattle.net_tree.specs.Level.{joins, head_of}
 use Rattle.net_model.specs.Reading.{Tokens, next_is}

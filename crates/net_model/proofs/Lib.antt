@@ -26,3 +26,4 @@ pub mod Promise
 pub mod Readers
 pub mod LocalTrees
 pub mod LocalModels
+pub mod TreeLaws

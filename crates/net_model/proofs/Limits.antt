@@ -1,23 +1,14 @@
 -- Where more nestings may be opened, the same is read, unless a nesting too many was opened.
-use Rattle.std.specs.Prelude.{◌≡◌, ◌≤◌, ◌<◌, ℕ, zero, suc, Bool, true, false, cond, nat_le, List, [], ◌∷◌, length, Option, None, Some, Result, Ok, Err, if◌then◌else◌}
-use Rattle.std.proofs.Common.{refl, sym, ap, ◌∙◌, arith}
+use Rattle.std.specs.Prelude.{◌≡◌, ◌≤◌, ℕ, zero, suc, Bool, true, false, cond, nat_le, [], ◌∷◌, length, Option, None, Some, Result, Ok, Err}
+use Rattle.std.proofs.Common.{refl, ap, arith}
 use Rattle.net_lex.specs.declared.token.Token.{Token}
-use Rattle.net_tree.specs.declared.expr.Operator.{Operator}
-use Rattle.net_tree.specs.declared.role.Declares.{Declares}
-use Rattle.net_tree.specs.declared.role.Declares.TheVariants as declares
 use Rattle.net_tree.specs.declared.role.Role.{Role}
 use Rattle.net_tree.specs.declared.role.Role.TheVariants as roles
-use Rattle.net_tree.specs.Role.{role_of, is_open, is_open_brace, is_if, is_colon}
-use Rattle.net_tree.specs.Tree.{Tree, Links, Part, Braces, leaf, indexed, parens, tuple, negated, braced, signed, reduced, choice, none, link, absent, part, empty, filled, Body, valued, priced, Phrase, Condition, one, between, Declaration, set, param, check, node, arc, objective}
+use Rattle.net_tree.specs.Role.{role_of, is_open, is_open_brace, is_if}
+use Rattle.net_tree.specs.Tree.{leaf, indexed, negated, braced, signed, reduced, choice, none, link, absent, part, empty, filled}
 use Rattle.net_tree.specs.Level.{rank, joins}
-use Rattle.net_model.specs.declared.phrase.Owner.{Owner}
-use Rattle.net_model.specs.declared.phrase.Owner.TheVariants as owners
-use Rattle.net_model.specs.declared.phrase.Slot.{Slot}
-use Rattle.net_model.specs.declared.phrase.Slot.TheVariants as slots
-use Rattle.net_model.specs.declared.phrase.Stood.{Stood}
 use Rattle.net_model.specs.declared.sort.Sort.{Sort}
 use Rattle.net_model.specs.declared.sort.Sort.TheVariants as sorts
-use Rattle.net_model.specs.declared.stop.Awaiting.{Awaiting}
 use Rattle.net_model.specs.declared.stop.Awaiting.TheVariants as awaiting
 use Rattle.net_model.specs.declared.stop.Stop.{Stop}
 use Rattle.net_model.specs.declared.stop.Stop.TheVariants as stops

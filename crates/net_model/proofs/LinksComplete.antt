@@ -1,24 +1,22 @@
 -- What is printed as a chain is read as that chain.
-use Rattle.std.specs.Prelude.{◌≡◌, ◌≤◌, ◌<◌, ◌⊎◌, ◌-◌, ◌||◌, ℕ, zero, suc, Bool, true, false, cond, max, nat_eq, nat_le, List, [], ◌∷◌, length, Option, None, Some, Result, Ok, Err, if◌then◌else◌}
-use Rattle.std.proofs.Common.{refl, sym, ap, ◌∙◌, arith, subst}
+use Rattle.std.specs.Prelude.{◌≡◌, ◌≤◌, ◌<◌, ℕ, zero, suc, Bool, true, false, cond, nat_eq, length, Ok}
+use Rattle.std.proofs.Common.{refl, arith, subst}
 use Rattle.std.proofs.lemmas.Bool.{eqb-true, eq-eqb}
-use Rattle.net_lex.specs.declared.token.Token.{Token}
 use Rattle.net_tree.specs.declared.expr.Operator.{Operator}
 use Rattle.net_tree.specs.declared.expr.Operator.TheVariants.{One, Two}
 use Rattle.net_tree.specs.declared.role.Role.{Role}
-use Rattle.net_tree.specs.declared.role.Role.TheVariants as roles
-use Rattle.net_tree.specs.Role.{role_of, is_not, is_membership, is_if, is_else}
-use Rattle.net_tree.specs.Tree.{Tree, Links, leaf, chain, none, link}
+use Rattle.net_tree.specs.Role.{role_of, is_else}
+use Rattle.net_tree.specs.Tree.{Tree, Links, none, link}
 use Rattle.net_tree.specs.Print.{put, put_links, put_operator}
 use Rattle.net_tree.specs.Depth.{depth, links_depth}
-use Rattle.net_tree.specs.Level.{rank, room, joins, head_of, IsOperator, IsLinked, IsLevel, AreLevel}
+use Rattle.net_tree.specs.Level.{rank, room, joins, head_of, IsOperator, IsLevel, AreLevel}
 use Rattle.net_model.specs.declared.sort.Sort.TheVariants as sorts
 use Rattle.net_model.specs.declared.stop.Awaiting.TheVariants as awaiting
-use Rattle.net_model.specs.Reading.{Tokens, Read, ◌>>=◌, read_as, next_is, expect}
-use Rattle.net_model.specs.Expressions.{Reader, Inner, operator_at, links, all_links, is_none, chained, chain_at, climb, named_at, negated_at, not_shut, unary_at, unary, wide, if_at, inside, is_hollow}
-use Rattle.net_model.proofs.Tools.{bind_ok, expect-complete}
+use Rattle.net_model.specs.Reading.{Tokens, next_is}
+use Rattle.net_model.specs.Expressions.{Reader, operator_at, links, all_links, chain_at, climb, unary, if_at, inside}
+use Rattle.net_model.proofs.Tools.{expect-complete}
 use Rattle.net_model.proofs.Longer.{put-longer, put_operator-longer}
-use Rattle.net_model.proofs.Grips.{grip, next_grip, Stops, stops-joins, joins-grip, list-grip, next_grip-operator, reach, reach-le, reach-below}
+use Rattle.net_model.proofs.Grips.{grip, Stops, stops-joins, joins-grip, list-grip, next_grip-operator, reach, reach-le, reach-below}
 
 pub operator-complete : (o : Operator) (ts : Tokens) → IsOperator o → operator_at (put_operator o ts) ≡ Ok (o, ts)
 unfolding operator_at
@@ -117,9 +115,12 @@ pub links-are_read : (d j n p k : ℕ) (l : Links) (ts : Tokens) → AllComplete
     → AreLevel j n k l → links_depth l ≤ d → Stops n ts → ((k : ℕ) → next_is (joins j k) ts ≡ false)
     → AreRead j (climb n (unary (inside d))) k l ts
 links-are_read d j n p k none ts complete high near under joint reaches are deep stops over = over k
-links-are_read d j n p k (link o x l) ts complete high near under joint reaches are deep stops over =
-    (are.0, are.1, operand-read d j n p (suc k) x l ts complete.0 high near under joint reaches are.2 (omega arith) are.3 are.4 stops,
-      links-are_read d j n p (suc k) l ts complete.1 high near under joint reaches are.4 (omega arith) stops over)
+links-are_read d j n p k (link o x l) ts complete high near under joint reaches are deep stops over = (
+  are.0,
+  are.1,
+  operand-read d j n p (suc k) x l ts complete.0 high near under joint reaches are.2 (omega arith) are.3 are.4 stops,
+  links-are_read d j n p (suc k) l ts complete.1 high near under joint reaches are.4 (omega arith) stops over,
+)
 
 -- the parts of a list
 pub list-joint : (p : ℕ) → p < 20 → (k : ℕ) (r : Role) → joins 0 k r ≡ true → p < grip r

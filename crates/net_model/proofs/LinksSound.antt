@@ -1,21 +1,20 @@
 -- What is read as a chain is printed so, and is level.
-use Rattle.std.specs.Prelude.{◌≡◌, ◌≤◌, ◌<◌, ◌⊎◌, ℕ, zero, suc, Bool, true, false, cond, max, nat_eq, nat_le, List, [], ◌∷◌, length, Result, Ok, Err, if◌then◌else◌}
-use Rattle.std.proofs.Common.{refl, sym, ap, ◌∙◌, arith, subst}
+use Rattle.std.specs.Prelude.{◌≡◌, ◌≤◌, ◌<◌, ℕ, zero, suc, Bool, true, false, cond, nat_eq, [], ◌∷◌, length, Ok}
+use Rattle.std.proofs.Common.{refl, ap, ◌∙◌, arith, subst}
 use Rattle.std.proofs.lemmas.Bool.{eqb-true}
-use Rattle.net_lex.specs.declared.token.Token.{Token}
 use Rattle.net_tree.specs.declared.expr.Operator.{Operator}
 use Rattle.net_tree.specs.declared.expr.Operator.TheVariants.{One, Two}
 use Rattle.net_tree.specs.declared.role.Role.{Role}
 use Rattle.net_tree.specs.declared.role.Role.TheVariants as roles
-use Rattle.net_tree.specs.Role.{role_of, is_not, is_membership}
-use Rattle.net_tree.specs.Tree.{Tree, Links, leaf, chain, none, link}
+use Rattle.net_tree.specs.Role.{role_of, is_not}
+use Rattle.net_tree.specs.Tree.{Tree, Links, none, link}
 use Rattle.net_tree.specs.Print.{put, put_links, put_operator}
 use Rattle.net_tree.specs.Depth.{depth, links_depth}
-use Rattle.net_tree.specs.Level.{rank, room, joins, head_of, IsOperator, IsLinked, IsLevel, AreLevel}
+use Rattle.net_tree.specs.Level.{rank, room, joins, head_of, IsOperator, IsLevel, AreLevel}
 use Rattle.net_model.specs.declared.sort.Sort.TheVariants as sorts
 use Rattle.net_model.specs.declared.stop.Awaiting.TheVariants as awaiting
-use Rattle.net_model.specs.Reading.{Tokens, Read, ◌>>=◌, read_as, next_is, expect}
-use Rattle.net_model.specs.Expressions.{Reader, operator_at, links, all_links, is_none, chained, chain_at, climb}
+use Rattle.net_model.specs.Reading.{Tokens, Read, read_as, next_is}
+use Rattle.net_model.specs.Expressions.{Reader, operator_at, links, chained, chain_at, climb}
 use Rattle.net_model.proofs.Tools.{bind_ok, given, chosen, on, off, expect-sound}
 use Rattle.net_model.proofs.Longer.{put-longer, put_operator-longer}
 
@@ -68,6 +67,7 @@ room-fits j n k (link o y l) x r own fits ended level = by (nat_eq n 1) refl
     closed e f =
         let J : ℕ → Type 0 = λ m. joins m k (role_of (head_of o)) ≡ true in
         next_product k o (put y (put_links l r)) (ended f) (subst J (own e) level.0)
+
     by : (b : Bool) → nat_eq n 1 ≡ b → rank x ≤ cond b 0 n
     by true e = let same : n ≡ 1 = eqb-true n 1 e in let not_one : rank x ≡ 1 → ⊥ = closed same in omega (arith, not_one)
     by false e = fits
@@ -105,6 +105,7 @@ links-sound d j n p sound own (suc turns) k ts a enough h =
     head_joins : (o : Operator) (r : Tokens) → next_is (joins j k) (put_operator o r) ≡ true → joins j k (role_of (head_of o)) ≡ true
     head_joins (One t) r q = q
     head_joins (Two t u) r q = q
+
     more : (o : Operator) (r : Tokens) (x : Tree × Tokens) (l : Links × Tokens) → next_is (joins j k) ts ≡ true → SoundOperator ts (o, r) → Sound d (UpTo n) r x
         → SoundLinks d j n (suc k) x.1 l → (let w : Read Links = read_as (link o x.0 l.0) l.1 in w ≡ Ok a) → SoundLinks d j n k ts a
     more o r x l b so sx sl e =

@@ -1,5 +1,5 @@
 -- The reader of models looks at no token behind the one at which it stops.
-use Rattle.std.specs.Prelude.{◌≡◌, ◌≤◌, ◌<◌, ℕ, zero, suc, Bool, true, false, cond, List, [], ◌∷◌, length, Option, None, Some, Result, Ok, Err, if◌then◌else◌}
+use Rattle.std.specs.Prelude.{◌≡◌, ◌≤◌, ◌<◌, ℕ, zero, suc, Bool, true, false, cond, [], ◌∷◌, length, Option, None, Some, Ok}
 use Rattle.std.proofs.Common.{refl, sym, ap, ◌∙◌, arith}
 use Rattle.net_lex.specs.declared.token.Token.{Token}
 use Rattle.net_tree.specs.declared.expr.Operator.{Operator}
@@ -8,7 +8,7 @@ use Rattle.net_tree.specs.declared.role.Declares.TheVariants as declares
 use Rattle.net_tree.specs.declared.role.Role.{Role}
 use Rattle.net_tree.specs.declared.role.Role.TheVariants as roles
 use Rattle.net_tree.specs.Role.{role_of, is_open_brace, is_colon, is_comma, is_semicolon, is_sign, is_net}
-use Rattle.net_tree.specs.Tree.{Tree, signed, net, leaf, Body, plain, valued, priced, Phrase, Condition, unsaid, one, between, Declaration, set, param, check, node, arc, objective}
+use Rattle.net_tree.specs.Tree.{Tree, signed, net, leaf, plain, valued, priced, Phrase, unsaid, one, between, Declaration, set, param, check, node, arc, objective}
 use Rattle.net_tree.specs.View.{linked}
 use Rattle.net_model.specs.declared.phrase.Owner.{Owner}
 use Rattle.net_model.specs.declared.phrase.Owner.TheVariants as owners
@@ -19,15 +19,15 @@ use Rattle.net_model.specs.declared.sort.Sort.TheVariants as sorts
 use Rattle.net_model.specs.declared.stop.Awaiting.TheVariants as awaiting
 use Rattle.net_model.specs.Reading.{Tokens, Read, ◌>>=◌, read_as, refused, next_is, expect}
 use Rattle.net_model.specs.Rows.{Step, row}
-use Rattle.net_model.specs.Expressions.{Reader, Inner, operator_at, all_links, chained, chain_at, climb, part_at, unary_at, unary, wide, named_at, braces, inner_of, inside}
-use Rattle.net_model.specs.Conditions.{net_next, signed_net_next, net_at, signed_net_at, term_at, first_term_at, further_term_at, sign_next, further_terms, sum_at, chains, chain_next, high_at, middle_at, bounded_at, said_at, condition_at}
-use Rattle.net_model.specs.Phrases.{slot_of, stood_before, and_then_stood, nothing_stood, goes_on, phrase_next, awaited, body_of, phrase_of_slot, worded, comma_taken, comma_at, phrase_at, phrases, phrases_end}
+use Rattle.net_model.specs.Expressions.{Inner, operator_at, all_links, chained, chain_at, climb, part_at, unary, wide, named_at, braces, inner_of, inside}
+use Rattle.net_model.specs.Conditions.{net_next, signed_net_next, net_at, signed_net_at, term_at, first_term_at, further_term_at, sign_next, further_terms, sum_at, chains, high_at, middle_at, bounded_at, said_at, condition_at}
+use Rattle.net_model.specs.Phrases.{slot_of, stood_before, and_then_stood, nothing_stood, goes_on, phrase_next, awaited, body_of, phrase_of_slot, worded, comma_at, phrase_at, phrases, phrases_end}
 use Rattle.net_model.specs.Declarations.{indexing_at, set_at, param_at, check_at, node_at, arc_at, behind_objective, objective_at, declared_at, declaration_of_role, declaration_at, any_left, declaration_step, model_at}
 use Rattle.net_model.proofs.Tools.{bind_ok, ok_is}
 use Rattle.net_model.proofs.Longer.{put_operator-longer}
 use Rattle.net_model.proofs.LinksSound.{operator-sound}
 use Rattle.net_model.proofs.TreesComplete.{at_sign}
-use Rattle.net_model.proofs.Readers.{IsTail, tail-self, tail-next, tail-length, Fork, left, right, lengths, lengths-strict, left-some, right-some, Within, within-le, bind-within, Out, reads, refuses, passed, bind-out, choose-out, choose-within, next-same, IsReader, reading, refusing, binding, testing, nexting, Head, takes, refuses_it, deepens_it, heading, expecting}
+use Rattle.net_model.proofs.Readers.{tail-self, tail-next, tail-length, Fork, left, right, lengths-strict, left-some, right-some, Within, within-le, bind-within, Out, reads, passed, bind-out, choose-out, choose-within, next-same, IsReader, reading, refusing, binding, testing, nexting, Head, takes, refuses_it, deepens_it, heading, expecting}
 use Rattle.net_model.proofs.LocalTrees.{operating, linking, climbing, parting, AreReaders, MayRead, naming, bracing, unarying, widening, inside-reads, is_tail}
 
 -- things in a row, each of which takes a token at least
@@ -347,5 +347,6 @@ model_reading d =
   where
     stepping_of : (d : ℕ) (s : Unit {0}) → IsReader (declaration_step (inside (suc d)) s)
     stepping_of d s = stepping (inner_of (inside d)) (inside-reads (suc d)) s
+
     takes_of : (d : ℕ) → Takes (declaration_step (inside (suc d)))
     takes_of d = step-takes (inner_of (inside d)) (inside-reads (suc d))

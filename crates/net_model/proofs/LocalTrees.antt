@@ -1,24 +1,24 @@
 -- The readers of expressions look at no token behind the one at which they stop.
-use Rattle.std.specs.Prelude.{◌≡◌, ◌≤◌, ◌<◌, ℕ, zero, suc, Bool, true, false, cond, nat_le, List, [], ◌∷◌, length, Option, None, Some, Result, Ok, Err, if◌then◌else◌}
-use Rattle.std.proofs.Common.{refl, sym, ap, ◌∙◌, arith, subst}
+use Rattle.std.specs.Prelude.{◌≡◌, ◌≤◌, ◌<◌, ℕ, zero, suc, Bool, true, false, nat_le, ◌∷◌, length, Option, None, Some, Ok, Err}
+use Rattle.std.proofs.Common.{refl, ap, arith, subst}
 use Rattle.net_lex.specs.declared.token.Token.{Token}
 use Rattle.net_tree.specs.declared.expr.Operator.{Operator}
 use Rattle.net_tree.specs.declared.expr.Operator.TheVariants.{One, Two}
 use Rattle.net_tree.specs.declared.role.Role.{Role}
 use Rattle.net_tree.specs.declared.role.Role.TheVariants as roles
-use Rattle.net_tree.specs.Role.{role_of, is_not, is_open, is_open_brace, is_open_square, is_if, is_colon, is_else}
-use Rattle.net_tree.specs.Tree.{Tree, Links, Part, Braces, leaf, indexed, parens, tuple, negated, braced, signed, reduced, choice, none, link, absent, part, empty, filled}
+use Rattle.net_tree.specs.Role.{role_of, is_not, is_open, is_open_brace, is_open_square, is_if}
+use Rattle.net_tree.specs.Tree.{Tree, Links, leaf, indexed, parens, tuple, negated, braced, signed, reduced, choice, none, link, absent, part, empty, filled}
 use Rattle.net_tree.specs.Level.{rank, joins}
 use Rattle.net_model.specs.declared.sort.Sort.{Sort}
 use Rattle.net_model.specs.declared.sort.Sort.TheVariants as sorts
 use Rattle.net_model.specs.declared.stop.Awaiting.TheVariants as awaiting
 use Rattle.net_model.specs.Meaning.{opens}
-use Rattle.net_model.specs.Reading.{Tokens, Read, ◌>>=◌, read_as, refused, too_deep, next_is, is_sort, expect}
-use Rattle.net_model.specs.Expressions.{Reader, Inner, operator_at, links, all_links, chained, chain_at, climb, present_at, part_at, is_subscripted, subscripts_at, named_at, is_none, closed, listed, parens_from, parens_at, not_shut, negated_at, is_hollow, hollow_at, items_at, braces_at, braces, reduced_at, choice_at, unary_at, unary, if_at, wide, inner_of, inside}
+use Rattle.net_model.specs.Reading.{Tokens, Read, ◌>>=◌, read_as, refused, next_is, is_sort, expect}
+use Rattle.net_model.specs.Expressions.{Reader, Inner, operator_at, links, all_links, chained, chain_at, climb, present_at, part_at, subscripts_at, named_at, closed, listed, parens_from, parens_at, not_shut, negated_at, is_hollow, hollow_at, items_at, braces_at, braces, reduced_at, choice_at, unary_at, unary, if_at, wide, inner_of, inside}
 use Rattle.net_model.proofs.Tools.{ok_is}
 use Rattle.net_model.proofs.Longer.{put_operator-longer}
 use Rattle.net_model.proofs.LinksSound.{operator-sound}
-use Rattle.net_model.proofs.Readers.{IsTail, tail-self, tail-length, Fork, left, right, lengths, lengths-strict, left-some, right-some, Within, within-le, bind-within, Out, passed, bind-out, choose-out, choose-within, next-same, IsReader, reading, refusing, binding, testing, nexting, opening, Head, takes, refuses_it, deepens_it, heading, expecting}
+use Rattle.net_model.proofs.Readers.{IsTail, tail-self, tail-length, Fork, left, right, lengths, lengths-strict, left-some, right-some, Within, within-le, bind-within, Out, bind-out, choose-out, choose-within, next-same, IsReader, reading, refusing, binding, testing, nexting, opening, Head, takes, refuses_it, deepens_it, heading, expecting}
 
 operator-head : (t : Token) (b : Bool) → is_not (role_of t) ≡ b → Head t (λ ts. operator_at (t ∷ ts))
 unfolding operator_at

@@ -1,6 +1,6 @@
 -- What is printed before some tokens makes them no fewer.
-use Rattle.std.specs.Prelude.{◌≡◌, ◌≤◌, ◌<◌, ℕ, suc, List, [], ◌∷◌, length, Option, None, Some}
-use Rattle.std.proofs.Common.{refl, arith}
+use Rattle.std.specs.Prelude.{◌≤◌, ◌<◌, List, [], ◌∷◌, length, Option, None, Some}
+use Rattle.std.proofs.Common.{arith}
 use Rattle.net_lex.specs.declared.token.Token.{Token}
 use Rattle.net_tree.specs.declared.expr.Operator.{Operator}
 use Rattle.net_tree.specs.declared.expr.Operator.TheVariants.{One, Two}

@@ -1,14 +1,13 @@
 -- What tokens mean: what is read is printed so, and the other way round.
-use Rattle.std.specs.Prelude.{◌≡◌, ◌≤◌, ◌<◌, ℕ, zero, suc, Bool, true, false, cond, max, List, [], ◌∷◌, length, Result, Ok, Err, if◌then◌else◌}
-use Rattle.std.proofs.Common.{refl, sym, ap, ◌∙◌, arith, subst}
-use Rattle.net_lex.specs.declared.token.Token.{Token}
+use Rattle.std.specs.Prelude.{◌≡◌, ◌≤◌, ◌<◌, ℕ, true, max, List, [], ◌∷◌, length, Ok}
+use Rattle.std.proofs.Common.{refl, sym, ap, ◌∙◌, arith}
 use Rattle.net_tree.specs.Tree.{Declaration}
 use Rattle.net_tree.specs.Print.{put_declaration, print}
 use Rattle.net_tree.specs.Depth.{declaration_depth, model_depth}
 use Rattle.net_tree.specs.Declarations.{IsDeclaration, AreDeclarations}
-use Rattle.net_model.specs.Reading.{Tokens, Read, ◌>>=◌, read_as}
-use Rattle.net_model.specs.Expressions.{Inner, inside}
-use Rattle.net_model.specs.Declarations.{declaration_at, any_left, declaration_step, model_at}
+use Rattle.net_model.specs.Reading.{Tokens, Read}
+use Rattle.net_model.specs.Expressions.{inside}
+use Rattle.net_model.specs.Declarations.{any_left, declaration_step, model_at}
 use Rattle.net_model.proofs.Tools.{bind_ok, ok_is, given}
 use Rattle.net_model.proofs.Longer.{put_declaration-longer}
 use Rattle.net_model.proofs.TreesSound.{inside-sound}

@@ -1,14 +1,13 @@
 -- Where more nestings may be opened, the same model is read, unless a nesting too many was opened.
-use Rattle.std.specs.Prelude.{◌≡◌, ◌≤◌, ◌<◌, ℕ, zero, suc, Bool, true, false, cond, max, List, [], ◌∷◌, length, Option, None, Some, Result, Ok, Err, if◌then◌else◌}
+use Rattle.std.specs.Prelude.{◌≡◌, ◌≤◌, ◌<◌, ℕ, zero, suc, Bool, true, false, cond, max, List, [], ◌∷◌, length, Option, None, Some, Result, Ok, Err}
 use Rattle.std.proofs.Common.{refl, sym, ap, ◌∙◌, arith}
 use Rattle.net_lex.specs.declared.token.Token.{Token}
-use Rattle.net_tree.specs.declared.expr.Operator.{Operator}
 use Rattle.net_tree.specs.declared.role.Declares.{Declares}
 use Rattle.net_tree.specs.declared.role.Declares.TheVariants as declares
 use Rattle.net_tree.specs.declared.role.Role.{Role}
 use Rattle.net_tree.specs.declared.role.Role.TheVariants as roles
 use Rattle.net_tree.specs.Role.{role_of, is_open_brace, is_colon}
-use Rattle.net_tree.specs.Tree.{Tree, leaf, Body, plain, valued, priced, Phrase, Condition, unsaid, one, between, Declaration, set, param, check, node, arc, objective}
+use Rattle.net_tree.specs.Tree.{Tree, valued, priced, unsaid, one, between, Declaration, set, param, check, node, arc, objective}
 use Rattle.net_tree.specs.Print.{print}
 use Rattle.net_tree.specs.Depth.{model_depth}
 use Rattle.net_tree.specs.Declarations.{AreDeclarations}
@@ -23,9 +22,9 @@ use Rattle.net_model.specs.declared.stop.Awaiting.{Awaiting}
 use Rattle.net_model.specs.declared.stop.Awaiting.TheVariants as awaiting
 use Rattle.net_model.specs.declared.stop.Stop.{Stop}
 use Rattle.net_model.specs.declared.stop.Stop.TheVariants as stops
-use Rattle.net_model.specs.Reading.{Tokens, Read, ◌>>=◌, read_as, refused, next_is, expect}
+use Rattle.net_model.specs.Reading.{Tokens, ◌>>=◌, read_as, refused, next_is, expect}
 use Rattle.net_model.specs.Rows.{Step, row}
-use Rattle.net_model.specs.Expressions.{Reader, Inner, operator_at, chained, climb, part_at, unary, wide, named_at, braces, inside}
+use Rattle.net_model.specs.Expressions.{Inner, operator_at, chained, climb, part_at, unary, wide, named_at, braces, inside}
 use Rattle.net_model.specs.Conditions.{net_next, signed_net_next, net_at, signed_net_at, term_at, first_term_at, further_term_at, sign_next, further_terms, sum_at, chain_next, high_at, middle_at, bounded_at, said_at, condition_at}
 use Rattle.net_model.specs.Phrases.{slot_of, stood_before, and_then_stood, nothing_stood, phrase_next, body_of, phrase_of_slot, worded, comma_at, phrase_at, phrases, phrases_end}
 use Rattle.net_model.specs.Declarations.{indexing_at, set_at, param_at, check_at, node_at, arc_at, behind_objective, objective_at, declared_at, declaration_of_role, declaration_at, any_left, declaration_step, model_at}

@@ -1,21 +1,20 @@
 -- What is read as phrases is printed so, and the other way round.
-use Rattle.std.specs.Prelude.{◌≡◌, ◌≤◌, ◌<◌, ◌+◌, ℕ, zero, suc, Bool, true, false, cond, max, List, [], ◌∷◌, length, Option, None, Some, is_some, Result, Ok, Err, if◌then◌else◌}
-use Rattle.std.proofs.Common.{refl, sym, ap, ◌∙◌, arith, subst}
+use Rattle.std.specs.Prelude.{◌≡◌, ◌≤◌, ◌<◌, ◌+◌, ℕ, suc, Bool, true, false, cond, List, [], ◌∷◌, length, Option, None, Some, is_some, Ok}
+use Rattle.std.proofs.Common.{refl, sym, ap, ◌∙◌, arith}
 use Rattle.net_lex.specs.declared.token.Token.{Token}
 use Rattle.net_tree.specs.declared.role.Role.{Role}
 use Rattle.net_tree.specs.declared.role.Role.TheVariants as roles
 use Rattle.net_tree.specs.Role.{role_of, is_comma, is_else, is_semicolon}
-use Rattle.net_tree.specs.Tree.{Body, Phrase}
+use Rattle.net_tree.specs.Tree.{Phrase}
 use Rattle.net_tree.specs.Print.{put_optional, put_body, put_phrases}
 use Rattle.net_tree.specs.Depth.{body_depth, phrases_depth}
 use Rattle.net_tree.specs.Phrases.{IsOptionalComma, ArePhrases, count}
 use Rattle.net_model.specs.declared.phrase.Owner.{Owner}
 use Rattle.net_model.specs.declared.phrase.Slot.{Slot}
 use Rattle.net_model.specs.declared.phrase.Stood.{Stood}
-use Rattle.net_model.specs.declared.stop.Awaiting.TheVariants as awaiting
-use Rattle.net_model.specs.Reading.{Tokens, Read, ◌>>=◌, read_as, refused, next_is}
+use Rattle.net_model.specs.Reading.{Tokens}
 use Rattle.net_model.specs.Expressions.{Inner, inside}
-use Rattle.net_model.specs.Phrases.{slot_of, stood_before, and_then_stood, nothing_stood, begins_phrase, goes_on, phrase_next, awaited, body_of, phrase_of_slot, worded, comma_taken, comma_at, phrase_at, phrases, phrases_end}
+use Rattle.net_model.specs.Phrases.{slot_of, stood_before, and_then_stood, nothing_stood, begins_phrase, phrase_next, phrase_of_slot, worded, comma_at, phrase_at, phrases, phrases_end}
 use Rattle.net_model.proofs.Tools.{bind_ok, given, chosen, on, off, next}
 use Rattle.net_model.proofs.TreesSound.{IsInside}
 use Rattle.net_model.proofs.Longer.{put_optional-longer, put_body-longer}

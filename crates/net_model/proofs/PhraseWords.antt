@@ -1,20 +1,19 @@
 -- Which words begin phrases, and which of them once only.
-use Rattle.std.specs.Prelude.{◌≡◌, ◌≤◌, ◌<◌, ◌+◌, ◌&&◌, ℕ, zero, suc, Bool, true, false, cond, List, [], ◌∷◌, Option, None, Some, is_some, if◌then◌else◌}
-use Rattle.std.proofs.Common.{refl, sym, ap, ◌∙◌, arith, subst}
-use Rattle.net_lex.specs.declared.token.Token.{Token}
+use Rattle.std.specs.Prelude.{◌≡◌, ◌<◌, Bool, true, false, cond, Option, Some, is_some}
+use Rattle.std.proofs.Common.{refl, ap, arith, subst}
 use Rattle.net_tree.specs.declared.role.Begins.TheVariants as begins
 use Rattle.net_tree.specs.declared.role.Relates.TheVariants as relates
 use Rattle.net_tree.specs.declared.role.Role.{Role}
 use Rattle.net_tree.specs.declared.role.Role.TheVariants as roles
-use Rattle.net_tree.specs.Role.{role_of, is_comma, is_else, is_semicolon}
-use Rattle.net_tree.specs.Tree.{Body, Phrase}
-use Rattle.net_tree.specs.Phrases.{OfSet, OfParam, OfArc, count, is_dimen, is_default, is_becomes, is_at_least, is_at_most, is_from, is_to}
+use Rattle.net_tree.specs.Role.{is_comma, is_else, is_semicolon}
+use Rattle.net_tree.specs.Tree.{Body}
+use Rattle.net_tree.specs.Phrases.{OfSet, OfParam, OfArc, is_dimen, is_default, is_becomes, is_at_least, is_at_most, is_from, is_to}
 use Rattle.net_model.specs.declared.phrase.Owner.{Owner}
 use Rattle.net_model.specs.declared.phrase.Owner.TheVariants as owners
 use Rattle.net_model.specs.declared.phrase.Slot.{Slot}
 use Rattle.net_model.specs.declared.phrase.Slot.TheVariants as slots
 use Rattle.net_model.specs.declared.phrase.Stood.{Stood}
-use Rattle.net_model.specs.Phrases.{set_slot, param_slot, arc_slot, slot_of, stood_before, and_then_stood, nothing_stood, begins_phrase, goes_on}
+use Rattle.net_model.specs.Phrases.{set_slot, param_slot, arc_slot, slot_of, stood_before, and_then_stood, goes_on}
 use Rattle.net_model.proofs.Grips.{grip}
 use Rattle.net_model.proofs.BodyLaws.{BodyOf}
 

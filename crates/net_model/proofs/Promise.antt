@@ -18,7 +18,7 @@ use Rattle.net_model.specs.declared.stop.Stop.TheVariants as stops
 use Rattle.net_model.specs.Reading.{Tokens, Read, Fails, next_is}
 use Rattle.net_model.specs.Declarations.{model_at, nesting_limit}
 use Rattle.net_model.specs.Faults.{begins_gain, foreign_defect, foreign_for, misplaced, is_behind_node, defect_of, detail_of, left_of, refused_fault, deep_fault, told}
-use Rattle.net_model.specs.Meaning.{Means, opens, NoModel, TooDeep, WrongAt, at_token, at_end, DeepAt, IsRefused}
+use Rattle.net_model.specs.Meaning.{Means, opens, NoModel, TooDeep, WrongAt, at_token, at_end, IsRefused}
 use Rattle.net_model.proofs.ModelLaws.{model-sound}
 use Rattle.net_model.proofs.ModelLimits.{refused-none, deep-deeper}
 use Rattle.net_model.proofs.Readers.{Fork, put_before, left, right, IsTail, tail-length, Within, Out, reads, refuses, deepens, passed}
@@ -112,7 +112,12 @@ deep_left ts n h (t ∷ r) tail size opening =
     let far : length ts - n ≡ length tail.0 = omega (arith, ap length text, length-append tail.0 (t ∷ r), size) in
     let is : left_of n ts ≡ t ∷ r = ap (λ k. drop k ts) far ∙ ap (drop (length tail.0)) (sym text) ∙ drop-append_seam tail.0 (t ∷ r) in
     rw is (record {
-      before = tail.0; token = t; after = r; text = text; stands = refl; opens = opening;
+      before = tail.0;
+      token = t;
+      after = r;
+      text = text;
+      stands = refl;
+      opens = opening;
       deeper = λ others. deep_alike tail.0 t r others n (omega (arith, size)) (ap (model_at nesting_limit) text ∙ h);
     })
 

@@ -1,12 +1,11 @@
 -- A reader looks at no token behind the one at which it stops: two texts that begin alike, up to that token, are refused alike.
-use Rattle.std.specs.Prelude.{◌≡◌, ◌≤◌, ◌<◌, ◌+◌, ℕ, zero, suc, Bool, true, false, cond, List, [], ◌∷◌, length, Option, None, Some, Result, Ok, Err, if◌then◌else◌}
-use Rattle.std.proofs.Common.{refl, sym, ap, ◌∙◌, arith, subst}
+use Rattle.std.specs.Prelude.{◌≡◌, ◌≤◌, ◌<◌, ◌+◌, Bool, true, false, cond, [], ◌∷◌, length, Ok, Err}
+use Rattle.std.proofs.Common.{refl, ap, ◌∙◌, arith}
 use Rattle.net_lex.specs.declared.token.Token.{Token}
 use Rattle.net_tree.specs.declared.role.Role.{Role}
 use Rattle.net_tree.specs.Role.{role_of}
 use Rattle.net_model.specs.declared.sort.Sort.{Sort}
 use Rattle.net_model.specs.declared.stop.Awaiting.{Awaiting}
-use Rattle.net_model.specs.declared.stop.Stop.{Stop}
 use Rattle.net_model.specs.declared.stop.Stop.TheVariants as stops
 use Rattle.net_model.specs.Meaning.{opens}
 use Rattle.net_model.specs.Reading.{Tokens, Read, ◌>>=◌, read_as, refused, too_deep, next_is, is_sort, expect}
@@ -156,6 +155,7 @@ opening test q only other = record {
     opened : (ts : Tokens) → next_is test ts ≡ true → next_is opens ts ≡ true
     opened [] h = absurd (cc)
     opened (t ∷ ts) h = only (role_of t) h
+
     by : (ts : Tokens) (b : Bool) → next_is test ts ≡ b → Within ts (cond b (too_deep ts) (q ts))
     by ts true h = (ts, tail-self ts, refl, opened ts h)
     by ts false h = other.within ts
@@ -173,17 +173,21 @@ heading a p none head = record { within = all; local = forks }
     one t ts (takes h) = within-le ts (t ∷ ts) (p (t ∷ ts)) (tail-next t ts) (h.within ts)
     one t ts (refuses_it b e) = rw (e ts) (omega arith)
     one t ts (deepens_it o e) = rw (e ts) (t ∷ ts, tail-self (t ∷ ts), refl, o)
+
     all : (ts : Tokens) → Within ts (p ts)
     all [] = rw none (omega arith)
     all (t ∷ ts) = one t ts (head t)
+
     here : (f : Fork) → Head f.token (λ ts. p (f.token ∷ ts)) → Out f (p (f.token ∷ f.rest)) (p (f.token ∷ f.other))
     here f (takes h) = passed (h.within f.rest)
     here f (refuses_it b e) = refuses b [] (e f.rest) (e f.other)
     here f (deepens_it o e) = deepens [] (e f.rest) (e f.other)
+
     before : (f : Fork) (t : Token) (v : Tokens) → Head t (λ ts. p (t ∷ ts)) → Out f (p (t ∷ left f v)) (p (t ∷ right f v))
     before f t v (takes h) = h.local f v
     before f t v (refuses_it b e) = refuses b (t ∷ v) (e (left f v)) (e (right f v))
     before f t v (deepens_it o e) = deepens (t ∷ v) (e (left f v)) (e (right f v))
+
     forks : (f : Fork) (v : Tokens) → Out f (p (left f v)) (p (right f v))
     forks f [] = here f (head f.token)
     forks f (t ∷ v) = before f t v (head t)

@@ -1,7 +1,7 @@
 -- What is read in a row is printed one after the other, and the other way round.
-use Rattle.std.specs.Prelude.{◌≡◌, ◌≤◌, ◌<◌, ℕ, zero, suc, Bool, true, false, cond, List, [], ◌∷◌, length, Result, Ok, Err, if◌then◌else◌}
-use Rattle.std.proofs.Common.{refl, sym, ap, ◌∙◌, arith, subst}
-use Rattle.net_model.specs.Reading.{Tokens, Read, ◌>>=◌, read_as}
+use Rattle.std.specs.Prelude.{◌≡◌, ◌≤◌, ◌<◌, ℕ, zero, suc, Bool, true, false, List, [], ◌∷◌, length, Ok}
+use Rattle.std.proofs.Common.{refl, ap, ◌∙◌, arith}
+use Rattle.net_model.specs.Reading.{Tokens}
 use Rattle.net_model.specs.Rows.{Step, row}
 use Rattle.net_model.proofs.Tools.{bind_ok, given, chosen, on, off}
 

@@ -1,13 +1,13 @@
 -- With which tokens an expression begins.
-use Rattle.std.specs.Prelude.{◌≡◌, ◌≤◌, ◌<◌, ◌||◌, ℕ, zero, suc, Bool, true, false, cond, List, [], ◌∷◌, Option, None, Some, Result, Ok, Err, if◌then◌else◌}
-use Rattle.std.proofs.Common.{refl, sym, ap, ◌∙◌, arith}
+use Rattle.std.specs.Prelude.{◌≡◌, ℕ, zero, suc, Bool, true, false, [], ◌∷◌, Option, Ok}
+use Rattle.std.proofs.Common.{refl}
 use Rattle.net_lex.specs.declared.token.Token.{Token}
 use Rattle.net_tree.specs.declared.role.Role.{Role}
 use Rattle.net_tree.specs.declared.role.Role.TheVariants as roles
-use Rattle.net_tree.specs.Role.{role_of, is_if, is_net, is_sign, is_colon, is_close_brace, is_semicolon}
+use Rattle.net_tree.specs.Role.{role_of, is_if, is_net}
 use Rattle.net_tree.specs.Tree.{Tree}
-use Rattle.net_model.specs.Reading.{Tokens, Read, ◌>>=◌, read_as, next_is}
-use Rattle.net_model.specs.Expressions.{Reader, Inner, chain_at, climb, unary_at, unary, is_hollow, inside, inner_of}
+use Rattle.net_model.specs.Reading.{Tokens, next_is}
+use Rattle.net_model.specs.Expressions.{Inner, chain_at, climb, unary_at, unary, is_hollow}
 use Rattle.net_model.proofs.Tools.{bind_ok}
 
 abbrev pub starts : Role → Bool

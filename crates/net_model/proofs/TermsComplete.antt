@@ -1,6 +1,6 @@
 -- What is printed as a sum with a net term, or without one, is read as that sum.
-use Rattle.std.specs.Prelude.{◌≡◌, ◌≤◌, ◌<◌, ◌⊎◌, ◌+◌, ℕ, zero, suc, Bool, true, false, cond, max, nat_eq, List, [], ◌∷◌, length, Option, None, Some, Result, Ok, Err, if◌then◌else◌}
-use Rattle.std.proofs.Common.{refl, sym, ap, ◌∙◌, arith, subst, inl, inr}
+use Rattle.std.specs.Prelude.{◌≡◌, ◌≤◌, ◌<◌, ◌+◌, ℕ, zero, suc, Bool, true, false, cond, nat_eq, List, [], ◌∷◌, length, Option, None, Some, Ok}
+use Rattle.std.proofs.Common.{refl, sym, ap, ◌∙◌, arith, subst}
 use Rattle.std.proofs.lemmas.Bool.{eqb-true}
 use Rattle.std.proofs.lemmas.Bool.Decides.{nat_tests}
 use Rattle.net_lex.specs.declared.token.Token.{Token}
@@ -11,15 +11,15 @@ use Rattle.net_tree.specs.declared.role.Role.TheVariants as roles
 use Rattle.net_tree.specs.Role.{role_of, is_not, is_sign, is_net}
 use Rattle.net_tree.specs.Tree.{Tree, Links, leaf, indexed, parens, tuple, negated, braced, signed, reduced, chain, choice, net, none, link}
 use Rattle.net_tree.specs.View.{linked}
-use Rattle.net_tree.specs.Print.{put, put_links, put_operator}
+use Rattle.net_tree.specs.Print.{put, put_links}
 use Rattle.net_tree.specs.Depth.{depth, links_depth}
-use Rattle.net_tree.specs.Level.{rank, room, joins, head_of, IsOperator, IsLinked, IsLevel, AreLevel}
-use Rattle.net_tree.specs.Conditions.{IsSum, IsFirstTerm, IsFurtherTerm, AreTerms, nets, nets_in, IsNetSum}
+use Rattle.net_tree.specs.Level.{rank, room, IsOperator, IsLevel, AreLevel}
+use Rattle.net_tree.specs.Conditions.{IsFirstTerm, IsFurtherTerm, AreTerms, nets, nets_in, IsNetSum}
 use Rattle.net_model.specs.declared.sort.Sort.TheVariants as sorts
 use Rattle.net_model.specs.declared.stop.Awaiting.TheVariants as awaiting
-use Rattle.net_model.specs.Reading.{Tokens, Read, ◌>>=◌, read_as, next_is, expect}
-use Rattle.net_model.specs.Expressions.{Inner, operator_at, is_none, chained, chain_at, climb, unary_at, unary, inside, inner_of}
-use Rattle.net_model.specs.Conditions.{net_next, signed_net_next, net_at, signed_net_at, term_at, first_term_at, further_term_at, sign_next, further_terms, sum_at}
+use Rattle.net_model.specs.Reading.{Tokens, next_is}
+use Rattle.net_model.specs.Expressions.{Inner, chained, chain_at, climb, unary_at, unary, inside, inner_of}
+use Rattle.net_model.specs.Conditions.{signed_net_next, net_at, signed_net_at, term_at, first_term_at, further_term_at, sign_next, further_terms, sum_at}
 use Rattle.net_model.proofs.Tools.{bind_ok, expect-complete}
 use Rattle.net_model.proofs.Longer.{put-longer, put_operator-longer}
 use Rattle.net_model.proofs.Grips.{Stops, grip, reach-below}
@@ -99,7 +99,7 @@ unary-no_signed_net d (t ∷ ts) a h = by (is_sign (role_of t)) refl
     by true e = behind_sign d t ts a e h
     by false e = refl
 
-climb-no_signed_net : (n d : ℕ) (ts : Tokens) (a : Tree × Tokens) → climb n (unary (inside d)) ts ≡ Ok a → signed_net_next ts ≡ false
+pub climb-no_signed_net : (n d : ℕ) (ts : Tokens) (a : Tree × Tokens) → climb n (unary (inside d)) ts ≡ Ok a → signed_net_next ts ≡ false
 unfolding climb chain_at
 climb-no_signed_net zero d ts a h = unary-no_signed_net d ts a h
 climb-no_signed_net (suc zero) d ts a h = unary-no_signed_net d ts a h

@@ -1,25 +1,25 @@
 -- What is read as a sum with a net term, or without one, is printed so.
-use Rattle.std.specs.Prelude.{◌≡◌, ◌≤◌, ◌<◌, ◌⊎◌, ◌+◌, ℕ, zero, suc, Bool, true, false, cond, max, nat_eq, List, [], ◌∷◌, length, Option, None, Some, Result, Ok, Err, if◌then◌else◌}
-use Rattle.std.proofs.Common.{refl, sym, ap, ◌∙◌, arith, subst, inl, inr}
+use Rattle.std.specs.Prelude.{◌≡◌, ◌≤◌, ◌+◌, ℕ, suc, Bool, true, false, cond, List, [], ◌∷◌, length, Option, None, Some, Ok}
+use Rattle.std.proofs.Common.{refl, sym, ap, ◌∙◌, arith}
 use Rattle.net_lex.specs.declared.token.Token.{Token}
 use Rattle.net_tree.specs.declared.expr.Operator.{Operator}
 use Rattle.net_tree.specs.declared.expr.Operator.TheVariants.{One, Two}
 use Rattle.net_tree.specs.declared.role.Role.{Role}
 use Rattle.net_tree.specs.declared.role.Role.TheVariants as roles
-use Rattle.net_tree.specs.Role.{role_of, is_not, is_sign, is_net}
-use Rattle.net_tree.specs.Tree.{Tree, Links, leaf, indexed, parens, tuple, negated, braced, signed, reduced, chain, choice, net, none, link}
+use Rattle.net_tree.specs.Role.{role_of, is_not, is_sign}
+use Rattle.net_tree.specs.Tree.{Tree, Links, net, none, link}
 use Rattle.net_tree.specs.View.{linked}
 use Rattle.net_tree.specs.Print.{put, put_links, put_operator}
 use Rattle.net_tree.specs.Depth.{depth, links_depth}
-use Rattle.net_tree.specs.Level.{rank, room, joins, head_of, IsOperator, IsLinked, IsLevel, AreLevel}
+use Rattle.net_tree.specs.Level.{rank, room, joins, IsOperator, IsLevel, AreLevel}
 use Rattle.net_tree.specs.Conditions.{IsSum, IsFirstTerm, IsFurtherTerm, AreTerms, nets, nets_in, IsNetSum}
 use Rattle.net_model.specs.declared.sort.Sort.TheVariants as sorts
 use Rattle.net_model.specs.declared.stop.Awaiting.TheVariants as awaiting
-use Rattle.net_model.specs.Reading.{Tokens, Read, ◌>>=◌, read_as, next_is, expect}
-use Rattle.net_model.specs.Expressions.{Inner, operator_at, is_none, chained, climb, unary}
+use Rattle.net_model.specs.Reading.{Tokens, next_is}
+use Rattle.net_model.specs.Expressions.{Inner, chained, unary}
 use Rattle.net_model.specs.Conditions.{net_next, signed_net_next, net_at, signed_net_at, term_at, first_term_at, further_term_at, sign_next, further_terms, sum_at}
 use Rattle.net_model.proofs.Tools.{bind_ok, given, chosen, on, off, expect-sound}
-use Rattle.net_model.proofs.LinksSound.{Sound, UpTo, climb-sound, operator-sound}
+use Rattle.net_model.proofs.LinksSound.{climb-sound, operator-sound}
 use Rattle.net_model.proofs.TreesSound.{IsInside, unary-sound}
 use Rattle.net_model.proofs.RowLaws.{Chain, put_all, SoundStep, row-sound}
 

@@ -1,13 +1,13 @@
 -- Reading in steps, taken apart and put together.
-use Rattle.std.specs.Prelude.{◌≡◌, ◌≤◌, ℕ, Bool, true, false, cond, List, [], ◌∷◌, length, Result, Ok, Err, if◌then◌else◌}
-use Rattle.std.proofs.Common.{refl, sym, ap, ◌∙◌, arith, subst}
+use Rattle.std.specs.Prelude.{◌≡◌, Bool, true, false, cond, [], ◌∷◌, Result, Ok, Err}
+use Rattle.std.proofs.Common.{refl, subst}
 use Rattle.net_lex.specs.declared.token.Token.{Token}
 use Rattle.net_tree.specs.declared.role.Role.{Role}
 use Rattle.net_tree.specs.Role.{role_of}
 use Rattle.net_model.specs.declared.sort.Sort.{Sort}
 use Rattle.net_model.specs.declared.stop.Awaiting.{Awaiting}
 use Rattle.net_model.specs.declared.stop.Stop.{Stop}
-use Rattle.net_model.specs.Reading.{Tokens, Read, ◌>>=◌, read_as, next_is, is_sort, expect}
+use Rattle.net_model.specs.Reading.{Tokens, ◌>>=◌, next_is, is_sort, expect}
 
 -- the parts of what is read in two steps
 pub record Bound {A B : Type 0} (read : Result A Stop) (f : A → Result B Stop) (y : B) : Type 0 where

@@ -1,24 +1,23 @@
 -- What is printed as a level expression is read as that expression.
-use Rattle.std.specs.Prelude.{◌≡◌, ◌≤◌, ◌<◌, ◌⊎◌, ◌||◌, ℕ, zero, suc, Bool, true, false, cond, max, nat_eq, nat_le, List, [], ◌∷◌, length, Option, None, Some, Result, Ok, Err, if◌then◌else◌}
-use Rattle.std.proofs.Common.{refl, sym, ap, ◌∙◌, arith, subst, inl, inr}
-use Rattle.std.proofs.lemmas.Bool.{eqb-true, leb-true, le-leb}
+use Rattle.std.specs.Prelude.{◌≡◌, ◌≤◌, ◌<◌, ◌⊎◌, ℕ, zero, suc, Bool, true, false, cond, nat_le, ◌∷◌, length, Option, None, Some, Ok}
+use Rattle.std.proofs.Common.{refl, sym, ap, ◌∙◌, arith, inl, inr}
+use Rattle.std.proofs.lemmas.Bool.{le-leb}
 use Rattle.std.proofs.lemmas.Bool.Decides.{nat_tests}
 use Rattle.net_lex.specs.declared.token.Token.{Token}
 use Rattle.net_tree.specs.declared.role.Role.{Role}
 use Rattle.net_tree.specs.declared.role.Role.TheVariants as roles
-use Rattle.net_tree.specs.Role.{role_of, is_name, is_leaf, is_not, is_open_square, is_if, is_open, is_open_brace, is_sign, is_reduction, is_else, is_colon, is_membership, is_close, is_close_brace, is_close_square}
+use Rattle.net_tree.specs.Role.{role_of, is_name, is_leaf, is_not, is_open_square, is_if, is_open, is_open_brace, is_sign, is_reduction, is_else, is_close, is_close_brace}
 use Rattle.net_tree.specs.Tree.{Tree, Links, Part, Braces, leaf, indexed, parens, tuple, negated, braced, signed, reduced, chain, choice, net, none, link, absent, part, empty, filled}
 use Rattle.net_tree.specs.Print.{put, put_links, put_part, put_braces}
 use Rattle.net_tree.specs.Depth.{depth, links_depth, part_depth, braces_depth}
-use Rattle.net_tree.specs.Level.{rank, room, joins, head_of, is_value, IsOperator, IsLinked, IsLevel, AreLevel, IsElse, IsFilter, AreBraces}
-use Rattle.net_model.specs.declared.sort.Sort.{Sort}
+use Rattle.net_tree.specs.Level.{rank, joins, is_value, IsLinked, IsLevel, AreLevel, IsElse, IsFilter, AreBraces}
 use Rattle.net_model.specs.declared.sort.Sort.TheVariants as sorts
 use Rattle.net_model.specs.declared.stop.Awaiting.TheVariants as awaiting
-use Rattle.net_model.specs.Reading.{Tokens, Read, ◌>>=◌, read_as, next_is, is_sort, expect}
-use Rattle.net_model.specs.Expressions.{Reader, Inner, links, all_links, is_none, chained, chain_at, climb, present_at, part_at, is_subscripted, subscripts_at, named_at, closed, listed, parens_from, parens_at, not_shut, negated_at, is_hollow, filter_at, hollow_at, items_at, braces_at, braces, reduced_at, choice_at, unary_at, unary, if_at, wide, inner_of, inside}
-use Rattle.net_model.proofs.Tools.{bind_ok, expect-complete}
-use Rattle.net_model.proofs.Grips.{grip, next_grip, Stops, stops-joins, stops-square, Shuts, close-shuts, close_square-shuts, close_brace-shuts, colon-shuts, then-shuts, else-shuts, close-no_else, close_brace-no_colon, colon-hollow, close_brace-hollow, reach, reach-le, reach-below}
-use Rattle.net_model.proofs.LinksComplete.{AreRead, links-complete, IsReadBack, Complete, AllComplete, in_place, stops-links, operand-read, links-are_read, list-joint, list-reaches, chain-joint, chain-reaches}
+use Rattle.net_model.specs.Reading.{Tokens, ◌>>=◌, read_as, next_is}
+use Rattle.net_model.specs.Expressions.{Reader, Inner, all_links, chain_at, climb, present_at, part_at, subscripts_at, named_at, closed, listed, parens_from, parens_at, negated_at, is_hollow, filter_at, hollow_at, items_at, braces_at, braces, reduced_at, choice_at, unary_at, unary, if_at, wide, inner_of, inside}
+use Rattle.net_model.proofs.Tools.{expect-complete}
+use Rattle.net_model.proofs.Grips.{Stops, stops-joins, stops-square, Shuts, close-shuts, close_square-shuts, close_brace-shuts, colon-shuts, then-shuts, else-shuts, close-no_else, close_brace-no_colon, colon-hollow, close_brace-hollow, reach, reach-le, reach-below}
+use Rattle.net_model.proofs.LinksComplete.{links-complete, IsReadBack, Complete, AllComplete, in_place, stops-links, operand-read, links-are_read, list-joint, list-reaches, chain-joint, chain-reaches}
 use Rattle.net_model.proofs.Starts.{climb-no_if, climb-no_hollow}
 
 climb_unary : (r : ℕ) (u : Reader) → r ≤ 1 → climb r u ≡ u
@@ -107,7 +106,7 @@ at_brace i o ts roles.OpenBrace h = refl
 at_brace i o ts _ h = absurd (cc)
 
 -- an `if` begins with that word
-begins_if : (x : Tree) (ts : Tokens) → IsLevel x → rank x ≡ 11 → next_is is_if (put x ts) ≡ true
+pub begins_if : (x : Tree) (ts : Tokens) → IsLevel x → rank x ≡ 11 → next_is is_if (put x ts) ≡ true
 begins_if (choice i x t y e) ts level h = level.0
 begins_if (chain n x l) ts level h = absurd (omega (arith, level.1, h))
 begins_if (signed s x) ts level h = absurd (omega (arith, level.2, h))
@@ -136,7 +135,7 @@ closed_parens : (d : ℕ) (o : Token) (x : Tree) (c : Token) (ts : Tokens) → i
 closed_parens d o x c ts closes true = rw (no_list (climb 3 (unary (inside d))) c ts (close-shuts (role_of c) closes), expect-complete sorts.Close awaiting.Other c ts closes) refl
 closed_parens d o x c ts closes false = rw (expect-complete sorts.Close awaiting.Other c ts closes) refl
 
-ten_or_if : (r : ℕ) → r ≤ 11 → (r ≤ 10) ⊎ (r ≡ 11)
+pub ten_or_if : (r : ℕ) → r ≤ 11 → (r ≤ 10) ⊎ (r ≡ 11)
 ten_or_if r h = grind (arith)
 
 parens_wide : (d : ℕ) (x : Tree) (c : Token) (ts : Tokens) → Complete d x → IsLevel x → depth x ≤ d → is_close (role_of c) ≡ true → (rank x ≤ 10) ⊎ (rank x ≡ 11)
@@ -226,8 +225,12 @@ begins_hollow (part m x) c ts level closes = colon-hollow (role_of m) level.0
 empty_rule : (d : ℕ) (o : Token) (p : Part) (c : Token) → CompletePart d p → CompleteBraces (suc d) (empty o p c)
 unfolding braces inside braces_at hollow_at
 empty_rule d o p c complete level deep ts =
-    rw (expect-complete sorts.OpenBrace awaiting.Other o (put_part p (c ∷ ts)) level.0, begins_hollow p c ts level.1 level.2,
-      filter-read d p c ts complete level.1 (omega arith) level.2, expect-complete sorts.CloseBrace awaiting.Other c ts level.2)
+    rw (
+      expect-complete sorts.OpenBrace awaiting.Other o (put_part p (c ∷ ts)) level.0,
+      begins_hollow p c ts level.1 level.2,
+      filter-read d p c ts complete level.1 (omega arith) level.2,
+      expect-complete sorts.CloseBrace awaiting.Other c ts level.2,
+    )
     refl
 
 -- what follows the items
@@ -243,8 +246,12 @@ filled_rule d o x l p c cx cl cp level deep ts =
     let first : climb 8 (unary (inside d)) (put x (put_links l (put_part p (c ∷ ts)))) ≡ Ok (x, put_links l (put_part p (c ∷ ts))) = rw b.2 first' in
     let rest' = list_rest d 8 l b.0 b.1 (omega arith) (omega arith) cl level.3 (omega arith) b.3 in
     let rest : all_links 0 (climb 8 (unary (inside d))) (put_links l (put_part p (c ∷ ts))) ≡ Ok (l, put_part p (c ∷ ts)) = rw b.2 rest' in
-    rw (expect-complete sorts.OpenBrace awaiting.Other o (put x (put_links l (put_part p (c ∷ ts)))) level.0,
-      climb-no_hollow 8 (inside d) (put x (put_links l (put_part p (c ∷ ts)))) (x, put_links l (put_part p (c ∷ ts))) first, first, rest)
+    rw (
+      expect-complete sorts.OpenBrace awaiting.Other o (put x (put_links l (put_part p (c ∷ ts)))) level.0,
+      climb-no_hollow 8 (inside d) (put x (put_links l (put_part p (c ∷ ts)))) (x, put_links l (put_part p (c ∷ ts))) first,
+      first,
+      rest,
+    )
     (rw (filter-read d p c ts cp level.4 (omega arith) level.5, expect-complete sorts.CloseBrace awaiting.Other c ts level.5) refl)
 
 -- braces as an expression

@@ -1,21 +1,21 @@
 -- What is read as an expression is printed so, is level, and is no deeper than nestings may be opened.
-use Rattle.std.specs.Prelude.{◌≡◌, ◌≤◌, ◌<◌, ◌⊎◌, ◌||◌, ℕ, zero, suc, Bool, true, false, cond, max, nat_eq, nat_le, List, [], ◌∷◌, length, Option, None, Some, Result, Ok, Err, if◌then◌else◌}
+use Rattle.std.specs.Prelude.{◌≡◌, ◌≤◌, ◌<◌, ◌⊎◌, ℕ, zero, suc, true, false, nat_le, [], ◌∷◌, length, Option, None, Some, Ok}
 use Rattle.std.proofs.Common.{refl, sym, ap, ◌∙◌, arith, subst, inl, inr}
-use Rattle.std.proofs.lemmas.Bool.{eqb-true, leb-true, le-leb}
+use Rattle.std.proofs.lemmas.Bool.{leb-true, le-leb}
 use Rattle.net_lex.specs.declared.token.Token.{Token}
 use Rattle.net_tree.specs.declared.role.Role.{Role}
 use Rattle.net_tree.specs.declared.role.Role.TheVariants as roles
-use Rattle.net_tree.specs.Role.{role_of, is_name, is_leaf, is_not, is_open_square, is_if, is_open, is_open_brace, is_sign, is_reduction, is_else, is_colon, is_membership}
-use Rattle.net_tree.specs.Tree.{Tree, Links, Part, Braces, leaf, indexed, parens, tuple, negated, braced, signed, reduced, chain, choice, net, none, link, absent, part, empty, filled}
+use Rattle.net_tree.specs.Role.{role_of, is_name, is_leaf, is_not, is_if, is_open, is_open_brace, is_sign, is_reduction}
+use Rattle.net_tree.specs.Tree.{Tree, Links, Part, Braces, leaf, indexed, parens, tuple, negated, braced, signed, reduced, choice, none, link, absent, part, empty, filled}
 use Rattle.net_tree.specs.Print.{put, put_links, put_part, put_braces}
-use Rattle.net_tree.specs.Depth.{depth, links_depth, part_depth, braces_depth}
-use Rattle.net_tree.specs.Level.{rank, room, joins, head_of, is_value, IsOperator, IsLinked, IsLevel, AreLevel, IsElse, IsFilter, AreBraces}
+use Rattle.net_tree.specs.Depth.{part_depth, braces_depth}
+use Rattle.net_tree.specs.Level.{rank, joins, is_value, IsLevel, IsElse, IsFilter, AreBraces}
 use Rattle.net_model.specs.declared.sort.Sort.{Sort}
 use Rattle.net_model.specs.declared.sort.Sort.TheVariants as sorts
 use Rattle.net_model.specs.declared.stop.Awaiting.TheVariants as awaiting
-use Rattle.net_model.specs.Reading.{Tokens, Read, ◌>>=◌, read_as, next_is, is_sort, expect}
-use Rattle.net_model.specs.Expressions.{Reader, Inner, links, all_links, is_none, chain_at, climb, present_at, part_at, is_subscripted, subscripts_at, named_at, closed, listed, parens_from, parens_at, not_shut, negated_at, is_hollow, filter_at, hollow_at, items_at, braces_at, braces, reduced_at, choice_at, unary_at, unary, if_at, wide, inner_of, inside}
-use Rattle.net_model.proofs.Tools.{bind_ok, given, chosen, on, off, expect-sound, next}
+use Rattle.net_model.specs.Reading.{Tokens, Read, ◌>>=◌, read_as, next_is, is_sort}
+use Rattle.net_model.specs.Expressions.{Reader, Inner, climb, present_at, part_at, is_subscripted, subscripts_at, named_at, closed, listed, parens_from, parens_at, not_shut, negated_at, is_hollow, hollow_at, items_at, braces_at, braces, reduced_at, choice_at, unary_at, unary, if_at, wide, inner_of, inside}
+use Rattle.net_model.proofs.Tools.{bind_ok, given, chosen, on, off, expect-sound}
 use Rattle.net_model.proofs.LinksSound.{Sound, IsSound, UpTo, SoundLinks, links-sound, SoundChain, chain-sound, climb-sound, joins_product}
 
 -- a rank up to n, or that of an `if`
@@ -285,7 +285,11 @@ braced-sound d i o ts a inner opens h =
     let b = bind_ok _ _ _ h in
     let sb = braces_at-sound d i o ts b.value inner opens b.first in
     given (λ y. Sound (suc d) (UpTo 0) (o ∷ ts) y) (braced b.value.0, b.value.1) a b.after (record {
-      text = sb.text; level = sb.level; within = sb.within; fits = omega arith; ended = λ e. absurd (omega arith);
+      text = sb.text;
+      level = sb.level;
+      within = sb.within;
+      fits = omega arith;
+      ended = λ e. absurd (omega arith);
     })
 
 up_one : (r : ℕ) → UpTo 0 r → UpTo 1 r

@@ -9,7 +9,6 @@ use Rattle.net_tree.specs.Tree.{Declaration}
 use Rattle.net_tree.specs.Print.{print}
 use Rattle.net_tree.specs.Depth.{model_depth}
 use Rattle.net_tree.specs.Declarations.{AreDeclarations}
-use Rattle.net_model.specs.declared.fault.ModelDefect.{ModelDefect}
 use Rattle.net_model.specs.declared.fault.ModelDefect.TheVariants as defects
 use Rattle.net_model.specs.declared.fault.ModelFault.{ModelFault}
 use Rattle.net_model.specs.declared.fault.ModelFault.TheVariants as faults

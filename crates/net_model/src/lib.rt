@@ -6,6 +6,7 @@ mod cursor;
 mod declarations;
 mod expressions;
 mod fault;
+mod laws;
 mod model;
 mod parse;
 mod phrase;
@@ -15,5 +16,6 @@ mod stop;
 mod trees;
 
 pub use fault::{ModelDefect, ModelFault};
+pub use laws::{one_tree, read_back};
 pub use model::parse_model;
 pub use parse::parse_declarations;

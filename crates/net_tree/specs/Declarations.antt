@@ -2,7 +2,7 @@
 use Rattle.std.specs.Prelude.{◌≡◌, ◌≤◌, true, List, [], ◌∷◌, Option, None, Some}
 use Rattle.net_tree.specs.declared.role.Declares.TheVariants as declares
 use Rattle.net_tree.specs.declared.role.Role.TheVariants as roles
-use Rattle.net_tree.specs.Tree.{Tree, Part, absent, part, Braces, Declaration, set, param, check, node, arc, objective}
+use Rattle.net_tree.specs.Tree.{Part, absent, part, Braces, Declaration, set, param, check, node, arc, objective}
 use Rattle.net_tree.specs.Role.{role_of, is_name, is_colon, is_semicolon}
 use Rattle.net_tree.specs.Level.{rank, is_value, IsLevel, AreBraces}
 use Rattle.net_tree.specs.Conditions.{IsCondition}

@@ -5,7 +5,7 @@ use Rattle.net_tree.specs.declared.role.Begins.TheVariants as begins
 use Rattle.net_tree.specs.declared.role.Relates.TheVariants as relates
 use Rattle.net_tree.specs.declared.role.Role.{Role}
 use Rattle.net_tree.specs.declared.role.Role.TheVariants as roles
-use Rattle.net_tree.specs.Tree.{Tree, leaf, indexed, Body, plain, valued, priced, Phrase}
+use Rattle.net_tree.specs.Tree.{leaf, indexed, Body, plain, valued, priced, Phrase}
 use Rattle.net_tree.specs.Role.{role_of, is_name, is_number, is_comma}
 use Rattle.net_tree.specs.Level.{rank, is_value, IsLevel}
 
