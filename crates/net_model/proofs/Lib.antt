@@ -27,3 +27,4 @@ pub mod Readers
 pub mod LocalTrees
 pub mod LocalModels
 pub mod TreeLaws
+pub mod Examples
