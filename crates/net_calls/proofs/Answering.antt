@@ -1,5 +1,5 @@
 -- From what is read and settled to what is answered.
-use Rattle.std.proofs.Common.{◌≡◌, ℕ, List, Some, sym, subst, ◌∙◌}
+use Rattle.std.proofs.Common.{◌≡◌, ℕ, List, sym, subst, ◌∙◌}
 use Rattle.net_normal.specs.Flows.{IsWithinCapacity}
 use Rattle.net_normal.specs.declared.problem.Problem.{Problem}
 use Rattle.net_check.specs.declared.certificate.Certificate.{Certificate}
@@ -8,7 +8,7 @@ use Rattle.net_check.specs.Certificates.{IsCertificate, HasShape}
 use Rattle.net_calls.specs.LineTexts.{IsProblemOf}
 use Rattle.net_solve.specs.Settling.{IsSettledBy, BoundsEachFlow, LeavesNoFlow, certificate_of}
 use Rattle.net_solve.specs.declared.settled.Settled.{Settled}
-use Rattle.net_solve.specs.declared.settled.Settled.TheVariants.{Optimal, Cut, Unsettled}
+use Rattle.net_solve.specs.declared.settled.Settled.TheVariants.{Optimal, Cut}
 use Rattle.net_calls.specs.declared.fault.Fault.{Fault}
 use Rattle.net_calls.specs.declared.fault.Fault.TheVariants as faults
 use Rattle.net_calls.specs.Checked.{IsFirstLineFault, IsLineRefusal, IsCertificateStop}
@@ -24,17 +24,12 @@ certificate_shape problem (certificates.Optimal value flows potentials) h =
     }
 certificate_shape problem (certificates.Cut flags side) h = h.one_a_node
 
-same_certificate : (x y : Certificate) → Some x ≡ Some y → x ≡ y
-same_certificate x y e = let k = e in cc
+settled_certificate : (problem : Problem) (settled : Settled) → IsSettledBy problem settled → IsCertificate problem (certificate_of settled)
+settled_certificate problem (Optimal value flows potentials) h = h
+settled_certificate problem (Cut flags side) h = h
 
-settled_certificate : (problem : Problem) (settled : Settled) (certificate : Certificate) → IsSettledBy problem settled → certificate_of settled ≡ Some certificate → IsCertificate problem certificate
-settled_certificate problem (Optimal value flows potentials) certificate h e =
-    subst (IsCertificate problem) (same_certificate (certificates.Optimal value flows potentials) certificate e) h
-settled_certificate problem (Cut flags side) certificate h e = subst (IsCertificate problem) (same_certificate (certificates.Cut flags side) certificate e) h
-settled_certificate problem Unsettled certificate h e = absurd (let k = e in cc)
-
-pub settled_shape : (problem : Problem) (settled : Settled) (certificate : Certificate) → IsSettledBy problem settled → certificate_of settled ≡ Some certificate → HasShape problem certificate
-settled_shape problem settled certificate h e = certificate_shape problem certificate (settled_certificate problem settled certificate h e)
+pub settled_shape : (problem : Problem) (settled : Settled) (certificate : Certificate) → IsSettledBy problem settled → certificate ≡ certificate_of settled → HasShape problem certificate
+settled_shape problem settled certificate h e = subst (HasShape problem) (sym e) (certificate_shape problem (certificate_of settled) (settled_certificate problem settled h))
 
 pub certificate_refusal : (problem_text certificate_text : List ℕ) (problem : Problem) (fault : Fault) → IsProblemOf problem_text problem
     → IsCertificateStop problem certificate_text fault → IsLineRefusal problem_text certificate_text fault

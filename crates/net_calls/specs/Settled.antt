@@ -1,5 +1,5 @@
 -- What is answered of a problem's text alone (First DIMACS Implementation Challenge, minimum-cost flow).
-use Rattle.std.specs.Prelude.{◌≡◌, ℕ, List, length, codes, Option, Some, None}
+use Rattle.std.specs.Prelude.{◌≡◌, ℕ, List, length}
 use Rattle.net_normal.specs.declared.problem.Problem.{Problem}
 use Rattle.net_check.specs.declared.certificate.Certificate.{Certificate}
 use Rattle.net_dimacs.specs.Certificates.{account_of, IsCertificateText}
@@ -7,14 +7,13 @@ use Rattle.net_dimacs.specs.CertificateWritten.{certificate_text}
 use Rattle.net_calls.specs.LineTexts.{IsProblemOf}
 use Rattle.net_solve.specs.Settling.{IsSettledBy, BoundsEachFlow, LeavesNoFlow, certificate_of}
 use Rattle.net_solve.specs.declared.settled.Settled.{Settled}
-use Rattle.net_solve.specs.declared.settled.Settled.TheVariants.{Optimal, Cut, Unsettled}
+use Rattle.net_solve.specs.declared.settled.Settled.TheVariants.{Optimal, Cut}
 use Rattle.net_calls.specs.declared.ending.Ending.{Ending}
-use Rattle.net_calls.specs.declared.ending.Ending.TheVariants.{Done, Refuted, Open}
+use Rattle.net_calls.specs.declared.ending.Ending.TheVariants.{Done, Refuted}
 
--- the text of a certificate of this problem, which it is, or the word that there is none
-abbrev pub IsAnswerText : Problem → Option Certificate → List ℕ → Type 0
-IsAnswerText problem None text = text ≡ codes "unsettled\n"
-IsAnswerText problem (Some certificate) text =
+-- the text of a certificate of this problem, which it is
+abbrev pub IsAnswerText : Problem → Certificate → List ℕ → Type 0
+IsAnswerText problem certificate text =
     (text ≡ certificate_text problem.arcs.items (account_of certificate))
     × IsCertificateText text (length problem.supplies.items) problem.arcs.items (account_of certificate)
 
@@ -31,4 +30,3 @@ pub record Settles (problem_text : List ℕ) (settled : Settled) (text : List �
 abbrev pub settled_ending : Settled → Ending
 settled_ending (Optimal value flows potentials) = Done
 settled_ending (Cut flags side) = Refuted
-settled_ending Unsettled = Open

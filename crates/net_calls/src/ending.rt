@@ -7,6 +7,4 @@ pub enum Ending {
     Done,
     /// The answer is no: a certificate that does not hold, or a problem without a feasible flow.
     Refuted,
-    /// The problem was not settled.
-    Open,
 }

@@ -31,7 +31,6 @@ fn settled_ending(settled: &Settled) -> Ending
     match settled {
         Settled::Optimal { .. } => Ending::Done,
         Settled::Cut { .. } => Ending::Refuted,
-        Settled::Unsettled => Ending::Open,
     }
 }
 
@@ -78,7 +77,7 @@ pub fn run_check<P: Source, C: Source, W: Sink>(
     }
 }
 
-/// Settles the problem that the source gives, and writes its certificate's text, or `unsettled`.
+/// Settles the problem that the source gives, and writes its certificate's text.
 pub fn run_min<P: Source, W: Sink>(
     alloc: Global,
     problem: &mut P,

@@ -1,6 +1,6 @@
 //! Problems, from text to certificate.
 
-ghost use Rattle.std.specs.Prelude.{◌≡◌, IfOk, IfErr, Some};
+ghost use Rattle.std.specs.Prelude.{◌≡◌, IfOk, IfErr};
 ghost use Rattle.net_check.specs.Certificates.{IsCertificate};
 ghost use Rattle.net_solve.specs.Settling.{IsSettledBy, certificate_of};
 ghost use Rattle.net_calls.specs.Checked.{IsProblemRefusal};
@@ -13,7 +13,7 @@ use net_normal::Problem;
 use net_solve::{Settled, Silent, solve};
 use std::alloc::{AllocError, Global};
 
-/// Settles the problem of a text. The second part is the text of its certificate, or `unsettled`.
+/// Settles the problem of a text. The second part is the text of its certificate.
 pub fn solve_min(alloc: Global, problem: &[u8]) -> Result<(Settled, Vec<u8>), Fault>
     ensures value { IfOk result (λ answer. Settles problem.now answer.0 answer.1.items) }
     ensures refused { IfErr result (IsProblemRefusal problem.now) }
@@ -37,11 +37,7 @@ fn with_text(
     ensures same { IfOk result (λ answer. answer.0 ≡ settled) }
     ensures text { IfOk result (λ answer. IsAnswerText problem.now (certificate_of settled) answer.1.items) }
 {
-    let Some(certificate) = settled.certificate() else {
-        let mut text = Vec::new(alloc);
-        text.extend_from_slice(b"unsettled\n")?;
-        return Ok((Settled::Unsettled, text));
-    };
+    let certificate = settled.certificate();
     let text = write_certificate(alloc, problem, &certificate)?;
     Ok((Settled::by(certificate), text))
 }

@@ -29,7 +29,6 @@ fn told(alloc: Global, settled: &Settled) -> Result<String, AllocError> {
     match settled {
         Settled::Optimal { value, flows, .. } => format!(in alloc; "{value} {flows:?}"),
         Settled::Cut { flags, side } => format!(in alloc; "{side:?} {flags:?}"),
-        Settled::Unsettled => String::from_str(alloc, "unsettled"),
     }
 }
 
@@ -41,9 +40,7 @@ fn settled<S: Solver>(alloc: Global, solver: &S, text: &str) -> Result<String, A
     };
     let settled = solve(alloc, solver, &problem)?;
     let answer = told(alloc, &settled)?;
-    let Some(certificate) = settled.certificate() else {
-        return Ok(answer);
-    };
+    let certificate = settled.certificate();
     match check(&problem, &certificate) {
         Verdict::Yes => Ok(answer),
         Verdict::No(..) => String::from_str(alloc, "no certificate"),

@@ -5,7 +5,7 @@ use Rattle.net_calls.specs.declared.ending.Ending.TheVariants as endings
 use Rattle.net_calls.specs.declared.fault.Fault.{Fault}
 use Rattle.net_calls.specs.declared.fault.Fault.TheVariants as faults
 use Rattle.netflow.specs.declared.status.Status.{Status}
-use Rattle.netflow.specs.declared.status.Status.TheVariants.{Done, Refuted, Refused, EndFailed, OutOfMemory, Unsettled, Usage}
+use Rattle.netflow.specs.declared.status.Status.TheVariants.{Done, Refuted, Refused, EndFailed, OutOfMemory, Usage}
 
 abbrev pub code_of : Status → ℕ
 code_of Done = 0
@@ -13,7 +13,6 @@ code_of Refuted = 2
 code_of Refused = 3
 code_of EndFailed = 4
 code_of OutOfMemory = 5
-code_of Unsettled = 6
 code_of Usage = 64
 
 abbrev pub status_of_fault : Fault → Status
@@ -26,4 +25,3 @@ status_of_fault faults.Unwritten = EndFailed
 abbrev pub status_of_ending : Ending → Status
 status_of_ending endings.Done = Done
 status_of_ending endings.Refuted = Refuted
-status_of_ending endings.Open = Unsettled

@@ -16,8 +16,6 @@ pub enum Status {
     /// A file could not be read, or the output not written.
     EndFailed,
     OutOfMemory,
-    /// A problem was not settled.
-    Unsettled,
     /// The command line was refused.
     Usage,
 }
@@ -33,7 +31,6 @@ impl Status {
             Status::Refused => 3,
             Status::EndFailed => 4,
             Status::OutOfMemory => 5,
-            Status::Unsettled => 6,
             Status::Usage => 64,
         }
     }
@@ -58,7 +55,6 @@ impl Status {
         match ending {
             Ending::Done => Status::Done,
             Ending::Refuted => Status::Refuted,
-            Ending::Open => Status::Unsettled,
         }
     }
 }

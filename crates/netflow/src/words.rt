@@ -54,7 +54,6 @@ const STATUSES: &str = "Exit status:
   3   refused: the line on standard error says what and where
   4   a file could not be read, or the output not written
   5   out of memory
-  6   unsettled: the search was given up
   64  wrong words on the command line
 
 Example:
