@@ -50,7 +50,7 @@ fn settled<S: Solver>(alloc: Global, solver: &S, text: &str) -> Result<String, A
 const PARALLEL: &str = "p min 3 2\nn 1 5\nn 2 -5\na 1 2 0 3 1\na 1 2 0 3 1\n";
 
 /// Problems, and how what settles them begins.
-const PROBLEMS: [(&str, &str); 6] = [
+const PROBLEMS: [(&str, &str); 7] = [
     // The triangle.
     (
         "p min 3 3\nn 1 4\nn 3 -4\na 1 2 2 5 1\na 1 3 0 5 3\na 2 3 0 5 1\n",
@@ -77,6 +77,11 @@ const PROBLEMS: [(&str, &str); 6] = [
     (
         "p min 4 5\nn 1 2\nn 4 -2\na 1 2 0 2 0\na 2 3 0 2 0\na 3 2 0 2 0\na 3 4 0 1 0\na 1 4 0 1 7\n",
         "7 [1, ",
+    ),
+    // The same with a unit more: the first three nodes supply 3, and 2 can leave them.
+    (
+        "p min 4 5\nn 1 3\nn 4 -3\na 1 2 0 2 0\na 2 3 0 2 0\na 3 2 0 2 0\na 3 4 0 1 0\na 1 4 0 1 7\n",
+        "Over [true, true, true, false]",
     ),
 ];
 
