@@ -47,6 +47,7 @@ fn models(rt: HostRuntime) -> Result<(), Fail> {
         "param p symbolic := 'q'; check: p = 'q';",
         "set A; param p := sum {i in A} i + sum {i in A} i;",
         "set A; param p := max {i in A, j in A: i < j} i * j;",
+        "set A; param weight {A}; check {i in A, j in A: i < j}: weight[i] < weight[j]; param total := sum {i in A} weight[i];",
         "minimize C; maximize D: 1; node N; arc X to N, obj C 1, obj C 2;",
     ];
     for text in table {
@@ -87,6 +88,7 @@ fn refusals(rt: HostRuntime) -> Result<(), Fail> {
         ("set A; arc X {C in A} obj C 1;", (12, 26, "C")),
         ("minimize C: 1; arc X obj C d;", (14, 25, "C")),
         ("minimize C: 1; arc X from M, obj C 1;", (12, 26, "M")),
+        ("minimize Cost: 3; arc X obj Cost 1;", (14, 28, "Cost")),
         // dummies
         ("check {i in 1 .. i}: 1 = 1;", (12, 17, "i")),
         ("set S; check {(i) in S}: 1 = 1;", (12, 15, "i")),
