@@ -2,9 +2,11 @@
 #![tactic(auto)]
 
 use net_check::Certificate;
+use net_data::parse_data;
 use net_dimacs::{read_problem, write_problem};
 use net_growth::settle;
-use net_lex::lex_data;
+use net_lex::{lex_data, lex_model};
+use net_model::parse_model;
 use net_solve::{Plain, Settled, solve};
 use std::alloc::{AllocError, Global};
 use std::process::ExitCode;
@@ -50,6 +52,53 @@ fn data<R: Files + AllocGlobal + Print + Eprint + CpuClock>(
     rt.println(format_args!("{count} tokens"))?;
     let lexing = lexed.saturating_sub(start).as_micros();
     rt.eprintln(format_args!("lex {lexing} us, room for {room} tokens"))?;
+    Ok(true)
+}
+
+/// A data text, cut into its tokens and those read as statements.
+fn tables<R: Files + AllocGlobal + Print + Eprint + CpuClock>(
+    rt: &R,
+    path: &str,
+) -> io::Result<bool> {
+    let text = fs::read(rt, path)?;
+    let start = rt.thread_cpu_time()?;
+    let Ok(tokens) = lex_data(rt.alloc(), text.as_slice()) else {
+        return Ok(false);
+    };
+    let lexed = rt.thread_cpu_time()?;
+    let Ok(tables) = parse_data(rt.alloc(), &tokens) else {
+        return Ok(false);
+    };
+    let parsed = rt.thread_cpu_time()?;
+    let (count, statements) = (tokens.len(), tables.statements.as_slice().len());
+    rt.println(format_args!("{count} tokens, {statements} statements"))?;
+    let lexing = lexed.saturating_sub(start).as_micros();
+    let parsing = parsed.saturating_sub(lexed).as_micros();
+    rt.eprintln(format_args!("lex {lexing} us, parse {parsing} us"))?;
+    Ok(true)
+}
+
+/// A model text, cut into its tokens and those read as declarations.
+fn model<R: Files + AllocGlobal + Print + Eprint + CpuClock>(
+    rt: &R,
+    path: &str,
+) -> io::Result<bool> {
+    let text = fs::read(rt, path)?;
+    let start = rt.thread_cpu_time()?;
+    let Ok(tokens) = lex_model(rt.alloc(), text.as_slice()) else {
+        return Ok(false);
+    };
+    let lexed = rt.thread_cpu_time()?;
+    let Ok(model) = parse_model(rt.alloc(), &tokens) else {
+        return Ok(false);
+    };
+    let parsed = rt.thread_cpu_time()?;
+    let (count, room) = (tokens.len(), tokens.capacity());
+    let declarations = model.declarations.as_slice().len();
+    rt.println(format_args!("{count} tokens, {declarations} declarations"))?;
+    let lexing = lexed.saturating_sub(start).as_micros();
+    let parsing = parsed.saturating_sub(lexed).as_micros();
+    rt.eprintln(format_args!("lex {lexing} us, parse {parsing} us, room for {room} tokens"))?;
     Ok(true)
 }
 
@@ -123,7 +172,7 @@ fn main(rt: HostRuntime) -> io::Result<ExitCode> {
     let mut words = env::args(&rt)?;
     let _program = words.next();
     let (Some(what), Some(path)) = (words.next(), words.next()) else {
-        rt.eprintln("usage: measure problem|data|solve|grow PATH [SEED]")?;
+        rt.eprintln("usage: measure problem|data|tables|model|solve|grow PATH [SEED]")?;
         return Ok(ExitCode::from(64));
     };
     let is_done = match what.as_str() {
@@ -137,6 +186,8 @@ fn main(rt: HostRuntime) -> io::Result<ExitCode> {
             grow(&rt, path.as_str(), seed)?
         }
         "data" => data(&rt, path.as_str())?,
+        "tables" => tables(&rt, path.as_str())?,
+        "model" => model(&rt, path.as_str())?,
         _ => false,
     };
     if is_done {

@@ -16,10 +16,8 @@ use std::alloc::{AllocError, Global};
 /// How much a probe looks at, for each node and arc.
 const PROBE_LOOKS: u64 = 40;
 
-/// How much a network simplex looks at, for each node and arc, where many nodes have supplies, and where few have.
-const SIMPLEX_LOOKS: u64 = 600;
-
-const SPARSE_LOOKS: u64 = 4000;
+/// How much a network simplex looks at, for each node and arc.
+const SIMPLEX_LOOKS: u64 = 4000;
 
 /// The most turns of a search: growths, changes of potentials and sendings.
 const SEARCH_TURNS: u32 = 1_000_000;
@@ -75,7 +73,7 @@ fn probed(alloc: Global, problem: &Problem) -> Result<Option<Guess>, Halt> {
             side: Side::Over,
         })),
         Seen::Flow if problem.arcs.iter().all(|arc| arc.cost == 0) => {
-            let flows = flows_of(alloc, problem, &probe.network)?;
+            let flows = probe.incidence.flows(alloc, problem)?;
             let potentials = vec![in alloc; 0i64; problem.supplies.len()]?;
             Ok(Some(Guess::Flow { flows, potentials }))
         }
@@ -85,18 +83,8 @@ fn probed(alloc: Global, problem: &Problem) -> Result<Option<Guess>, Halt> {
 
 /// What a network simplex says, where it ends at a flow.
 fn by_simplex(alloc: Global, problem: &Problem) -> Result<Option<Guess>, Halt> {
-    let busy = problem
-        .supplies
-        .iter()
-        .filter(|supply| **supply != 0)
-        .count();
-    let looks = if busy > problem.supplies.len() / 10 {
-        SIMPLEX_LOOKS
-    } else {
-        SPARSE_LOOKS
-    };
     let mut simplex = Simplex::new(alloc, problem)?;
-    match simplex.run(looks.saturating_mul(size_of(problem)))? {
+    match simplex.run(problem, SIMPLEX_LOOKS.saturating_mul(size_of(problem)))? {
         Ended::Optimal => {
             let flows = simplex.flows(alloc, problem)?;
             let potentials = simplex.potentials(alloc, problem)?;

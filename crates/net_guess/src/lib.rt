@@ -12,6 +12,7 @@ mod frontier;
 mod guess;
 mod guessing;
 mod halt;
+mod incidence;
 mod pivoting;
 mod places;
 mod pricing;

@@ -4,8 +4,9 @@ use crate::attaching::Attachment;
 use crate::halt::Halt;
 use crate::places::{at, index, put};
 use crate::simplex::Simplex;
-use crate::simplex_arc::SimplexArc;
+use crate::simplex_arc::{PricedArc, Status};
 use crate::tree::TreeArc;
+use net_normal::{FlowArc, Problem};
 
 /// Which arc of a cycle goes.
 #[derive(Clone, Copy)]
@@ -40,29 +41,28 @@ struct Narrow {
 
 impl Simplex {
     /// Lets the arc at this place come in.
-    pub fn enter(&mut self, place: u32) -> Result<(), Halt> {
+    pub fn enter(&mut self, problem: &Problem, place: u32) -> Result<(), Halt> {
         let arc = at(&self.arcs, place)?;
-        let room = at(&self.rooms, place)?.room;
-        let cycle = if arc.sign > 0 {
-            self.cycle(arc.src, arc.dst, room)?
-        } else {
-            self.cycle(arc.dst, arc.src, room)?
-        };
+        let known = at(&problem.arcs, at(&self.numbers, place)?)?;
+        let cycle = self.cycle(arc.src, arc.dst, known.cap.wrapping_sub(known.low))?;
         if cycle.amount > 0 {
             self.tree.send_down(cycle.join, cycle.first, cycle.amount)?;
             self.tree
                 .send_down(cycle.join, cycle.second, cycle.amount.wrapping_neg())?;
         }
+        let status = at(&self.statuses, place)?;
         match cycle.going {
-            Going::Itself => self.set_sign(place, arc.sign.wrapping_neg()),
-            Going::Before(node) => self.exchange(place, &cycle, node, cycle.first, cycle.second),
-            Going::Behind(node) => self.exchange(place, &cycle, node, cycle.second, cycle.first),
+            Going::Itself => self.set_status(problem, place, other(status)),
+            Going::Before(node) => self.exchange(problem, place, &cycle, node),
+            Going::Behind(node) => self.exchange(problem, place, &cycle, node),
         }
     }
 
-    fn set_sign(&mut self, place: u32, sign: i64) -> Result<(), Halt> {
-        let arc = at(&self.arcs, place)?;
-        put(&mut self.arcs, place, SimplexArc { sign, ..arc })
+    /// Gives an arc a status, and what it is priced by.
+    fn set_status(&mut self, problem: &Problem, place: u32, status: Status) -> Result<(), Halt> {
+        let arc = at(&problem.arcs, at(&self.numbers, place)?)?;
+        put(&mut self.arcs, place, PricedArc::of(&arc, status))?;
+        put(&mut self.statuses, place, status)
     }
 
     /// The cycle that an arc between these nodes closes, with this room.
@@ -102,57 +102,58 @@ impl Simplex {
         Err(Halt::OutOfRange)
     }
 
-    /// Exchanges the arc above a node for the one that comes: the part of the tree below that node is hung up at `stem`, below
-    /// `parent`.
+    /// Exchanges the arc above a node for the one that comes: the part of the tree below that node is hung up at its end of that arc,
+    /// below the other end.
     fn exchange(
         &mut self,
+        problem: &Problem,
         place: u32,
         cycle: &Cycle,
         leaving: u32,
-        stem: u32,
-        parent: u32,
     ) -> Result<(), Halt> {
-        self.leave(leaving)?;
-        let arc = at(&self.arcs, place)?;
-        let room = at(&self.rooms, place)?.room;
-        let ahead = if arc.sign > 0 {
-            room.wrapping_sub(cycle.amount)
-        } else {
-            cycle.amount
+        let (stem, parent) = match cycle.going {
+            Going::Behind(_node) => (cycle.second, cycle.first),
+            Going::Before(_) | Going::Itself => (cycle.first, cycle.second),
         };
-        let back = room.wrapping_sub(ahead);
-        let is_up = arc.src == stem;
-        let (room_up, room_down) = if is_up { (ahead, back) } else { (back, ahead) };
-        self.set_sign(place, 0)?;
+        self.leave(problem, leaving)?;
+        let known = at(&problem.arcs, at(&self.numbers, place)?)?;
+        let arc = tree_arc(
+            &known,
+            at(&self.statuses, place)?,
+            place,
+            cycle.amount,
+            stem,
+        );
+        self.set_status(problem, place, Status::Basic)?;
         let attachment = Attachment {
             leaving,
             stem,
             parent,
-            arc: TreeArc {
-                number: place,
-                is_up,
-                room_up,
-                room_down,
-            },
+            arc,
             join: cycle.join,
         };
         self.tree.attach(&attachment, &mut self.turned)?;
-        let cost = if is_up {
-            arc.cost.wrapping_neg()
+        let cost = if arc.is_up {
+            known.cost.wrapping_neg()
         } else {
-            arc.cost
+            known.cost
         };
-        let above = self.tree.thread(parent)?.potential;
-        let below = self.tree.thread(stem)?.potential;
+        let above = at(&self.tree.potentials, parent)?;
+        let below = at(&self.tree.potentials, stem)?;
         self.lift(stem, above.wrapping_add(cost).wrapping_sub(below))
     }
 
     /// Puts the arc above a node at the bound that it has reached.
-    fn leave(&mut self, node: u32) -> Result<(), Halt> {
+    fn leave(&mut self, problem: &Problem, node: u32) -> Result<(), Halt> {
         let arc = self.tree.node(node)?.arc;
         let at_low = arc.flow() == 0;
         if (arc.number as usize) < self.arcs.len() {
-            return self.set_sign(arc.number, if at_low { 1 } else { -1 });
+            let status = if at_low {
+                Status::AtLower
+            } else {
+                Status::AtUpper
+            };
+            return self.set_status(problem, arc.number, status);
         }
         if !at_low {
             self.is_short = true;
@@ -166,12 +167,39 @@ impl Simplex {
         self.work = self.work.wrapping_add(u64::from(node.size));
         let all = index(self.tree.nodes.len());
         let others = all.saturating_sub(node.size);
-        let root = self.tree.thread(all.wrapping_sub(1))?.potential;
+        let root = at(&self.tree.potentials, all.wrapping_sub(1))?;
         if others < node.size && root.wrapping_abs() < crate::starting::ROOT_ROOM / 4 {
             let first = self.tree.thread(node.last)?.next;
             return self.tree.raise(first, others, amount.wrapping_neg());
         }
         self.tree.raise(top, node.size, amount)
+    }
+}
+
+/// The bound opposite to this one.
+fn other(status: Status) -> Status {
+    match status {
+        Status::AtLower => Status::AtUpper,
+        Status::AtUpper => Status::AtLower,
+        Status::Basic => Status::Basic,
+    }
+}
+
+/// An arc that comes into the tree with this change of its flow, seen from the end that is below.
+fn tree_arc(arc: &FlowArc, status: Status, number: u32, amount: i64, stem: u32) -> TreeArc {
+    let room = arc.cap.wrapping_sub(arc.low);
+    let ahead = match status {
+        Status::AtUpper => amount,
+        Status::AtLower | Status::Basic => room.wrapping_sub(amount),
+    };
+    let back = room.wrapping_sub(ahead);
+    let is_up = arc.src == stem;
+    let (room_up, room_down) = if is_up { (ahead, back) } else { (back, ahead) };
+    TreeArc {
+        number,
+        is_up,
+        room_up,
+        room_down,
     }
 }
 

@@ -1,11 +1,11 @@
 //! A look at whether a problem has a flow at all, whatever it costs: blocking flows (Dinic 1970) towards the nodes with deficits.
 //!
-//! A set of nodes from which no deficit can be reached, with excess left in it, is the guess at a cut.
+//! Where no excess that is left can reach a deficit, the nodes that it can reach are the guess at a cut.
 
 use crate::excess::{add_excess, excess_of};
 use crate::halt::Halt;
+use crate::incidence::{Incidence, back_of};
 use crate::places::{at, index, put};
-use crate::residual::Residual;
 use net_normal::Problem;
 use std::alloc::Global;
 
@@ -14,6 +14,13 @@ const NO_LEVEL: u32 = u32::MAX;
 
 /// So many rounds end their levels early.
 const SHORT_ROUNDS: u64 = 6;
+
+/// One step of a way: from a node over the arc at it that stands at this place.
+#[derive(Clone, Copy)]
+struct Step {
+    tail: u32,
+    place: u32,
+}
 
 /// What a probe says.
 #[derive(Drop)]
@@ -29,15 +36,15 @@ pub enum Seen {
 /// A probe under way.
 #[derive(Drop)]
 pub struct Probe {
-    pub network: Residual,
+    pub incidence: Incidence,
     excess: Vec<i128>,
     /// How many residual arcs it is from each node to the next deficit.
     levels: Vec<u32>,
     /// The residual arc out of each node at which the search for a way goes on.
     current: Vec<u32>,
     queue: Vec<u32>,
-    /// The residual arcs from a node with excess on.
-    path: Vec<u32>,
+    /// The way from a node with excess on.
+    path: Vec<Step>,
     work: u64,
     limit: u64,
 }
@@ -51,7 +58,7 @@ impl Probe {
         }
         let count = problem.supplies.len();
         Ok(Probe {
-            network: Residual::of(alloc, problem, &lows)?,
+            incidence: Incidence::at_lows(alloc, problem)?,
             excess: excess_of(alloc, problem, &lows)?,
             levels: vec![in alloc; NO_LEVEL; count]?,
             current: vec![in alloc; 0u32; count]?,
@@ -69,7 +76,7 @@ impl Probe {
                 return Ok(Seen::Flow);
             }
             if !self.set_levels(round < SHORT_ROUNDS)? {
-                return Ok(Seen::Cut(self.apart(alloc)?));
+                return Ok(Seen::Cut(self.reached(alloc)?));
             }
             for place in 0..index(self.levels.len()) {
                 self.send_from(place)?;
@@ -81,13 +88,36 @@ impl Probe {
         Ok(Seen::Unknown)
     }
 
-    /// The nodes without a level.
-    fn apart(&self, alloc: Global) -> Result<Vec<bool>, Halt> {
-        let mut flags = Vec::with_capacity(alloc, self.levels.len())?;
-        for level in &self.levels {
-            flags.push(*level == NO_LEVEL)?;
+    /// The nodes that excess can still be sent to, those where it is among them. Where no excess reaches a deficit, nothing leaves them.
+    fn reached(&mut self, alloc: Global) -> Result<Vec<bool>, Halt> {
+        let count = index(self.levels.len());
+        let mut flags = vec![in alloc; false; self.levels.len()]?;
+        self.queue.clear();
+        for node in 0..count {
+            if at(&self.excess, node)? > 0 {
+                put(&mut flags, node, true)?;
+                self.queue.push(node)?;
+            }
+        }
+        for place in 0..count {
+            let Some(node) = self.queue.get(place as usize).copied() else {
+                break;
+            };
+            self.reach_on(node, &mut flags)?;
         }
         Ok(flags)
+    }
+
+    /// Takes in the nodes to which an arc with room leads from this one.
+    fn reach_on(&mut self, node: u32, flags: &mut Vec<bool>) -> Result<(), Halt> {
+        for place in self.incidence.row(node)? {
+            let arc = at(&self.incidence.ends, place)?;
+            if !at(flags, arc.head)? && at(&self.incidence.rooms, arc.place)? > 0 {
+                put(flags, arc.head, true)?;
+                self.queue.push(arc.head)?;
+            }
+        }
+        Ok(())
     }
 
     /// Gives nodes their levels, from the deficits back; a short round ends one level behind the first node with excess.
@@ -124,7 +154,7 @@ impl Probe {
                 place,
                 if has_deficit { 0 } else { NO_LEVEL },
             )?;
-            put(&mut self.current, place, at(&self.network.starts, place)?)?;
+            put(&mut self.current, place, at(&self.incidence.starts, place)?)?;
             if has_deficit {
                 self.queue.push(place)?;
             }
@@ -137,9 +167,11 @@ impl Probe {
     /// Gives this level to the nodes from which a residual arc leads to this one. Answers whether one of them has excess.
     fn reach_back(&mut self, node: u32, level: u32) -> Result<bool, Halt> {
         let mut is_met = false;
-        for place in self.network.row(node)? {
-            let arc = at(&self.network.arcs, place)?;
-            if arc.reverse_room > 0 && at(&self.levels, arc.head)? == NO_LEVEL {
+        for place in self.incidence.row(node)? {
+            let arc = at(&self.incidence.ends, place)?;
+            if at(&self.levels, arc.head)? == NO_LEVEL
+                && at(&self.incidence.rooms, back_of(arc.place))? > 0
+            {
                 put(&mut self.levels, arc.head, level)?;
                 self.queue.push(arc.head)?;
                 is_met = is_met || at(&self.excess, arc.head)? > 0;
@@ -175,17 +207,16 @@ impl Probe {
             }
             match self.next_down(node)? {
                 Some(place) => {
-                    self.path.push(place)?;
-                    node = at(&self.network.arcs, place)?.head;
+                    self.path.push(Step { tail: node, place })?;
+                    node = at(&self.incidence.ends, place)?.head;
                 }
                 None => {
                     put(&mut self.levels, node, NO_LEVEL)?;
-                    let Some(place) = self.path.pop() else {
+                    let Some(step) = self.path.pop() else {
                         return Ok(None);
                     };
-                    let arc = at(&self.network.arcs, place)?;
-                    node = at(&self.network.arcs, arc.reverse)?.head;
-                    put(&mut self.current, node, place.wrapping_add(1))?;
+                    node = step.tail;
+                    put(&mut self.current, node, step.place.wrapping_add(1))?;
                 }
             }
         }
@@ -199,11 +230,13 @@ impl Probe {
             return Ok(None);
         }
         let from = at(&self.current, node)?;
-        let to = at(&self.network.starts, node.wrapping_add(1))?;
+        let to = at(&self.incidence.starts, node.wrapping_add(1))?;
         let mut found = None;
         for place in from..to {
-            let arc = at(&self.network.arcs, place)?;
-            if arc.room > 0 && at(&self.levels, arc.head)? == level - 1 {
+            let arc = at(&self.incidence.ends, place)?;
+            if at(&self.levels, arc.head)? == level - 1
+                && at(&self.incidence.rooms, arc.place)? > 0
+            {
                 found = Some(place);
                 break;
             }
@@ -221,14 +254,16 @@ impl Probe {
     fn send_along(&mut self, from: u32, to: u32) -> Result<(), Halt> {
         let wanted = at(&self.excess, to)?.wrapping_neg();
         let mut amount = at(&self.excess, from)?.min(wanted);
-        for place in &self.path {
-            amount = amount.min(i128::from(at(&self.network.arcs, *place)?.room));
+        for step in &self.path {
+            let place = at(&self.incidence.ends, step.place)?.place;
+            amount = amount.min(i128::from(at(&self.incidence.rooms, place)?));
         }
         let Ok(sent) = i64::try_from(amount) else {
             return Err(Halt::OutOfRange);
         };
-        for place in &self.path {
-            self.network.try_send(*place, sent)?;
+        for step in &self.path {
+            let place = at(&self.incidence.ends, step.place)?.place;
+            self.incidence.send(place, sent)?;
         }
         self.work = self.work.wrapping_add(self.path.len() as u64);
         self.add_to(from, amount.wrapping_neg())?;

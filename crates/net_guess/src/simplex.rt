@@ -7,7 +7,7 @@
 
 use crate::halt::Halt;
 use crate::places::{at, index, put};
-use crate::simplex_arc::{ArcRoom, SimplexArc, priced_arcs, root_of};
+use crate::simplex_arc::{PricedArc, Status, priced_arcs, priced_order, root_of};
 use crate::starting::first_tree;
 use crate::tree::Tree;
 use net_normal::Problem;
@@ -16,8 +16,11 @@ use std::alloc::Global;
 /// A network simplex under way.
 #[derive(Drop)]
 pub struct Simplex {
-    pub arcs: Vec<SimplexArc>,
-    pub rooms: Vec<ArcRoom>,
+    /// The problem's arcs, in an order of their own.
+    pub arcs: Vec<PricedArc>,
+    /// The index in the problem of each.
+    pub numbers: Vec<u32>,
+    pub statuses: Vec<Status>,
     pub tree: Tree,
     /// Where the next block of arcs to be priced begins.
     pub next: usize,
@@ -44,16 +47,19 @@ impl Simplex {
     /// Before its first change of the tree, where each node hangs below the root, but for those that want flow: they hang by
     /// the cheapest arc into them.
     pub fn new(alloc: Global, problem: &Problem) -> Result<Simplex, Halt> {
-        let (arcs, rooms) = priced_arcs(alloc, problem)?;
+        let numbers = priced_order(alloc, problem)?;
+        let arcs = priced_arcs(alloc, problem, &numbers)?;
+        let statuses = vec![in alloc; Status::AtLower; arcs.len()]?;
         let root = root_of(arcs.len());
         let block = if is_bipartite(alloc, problem)? {
-            root.saturating_mul(12) / 5
+            root.saturating_mul(2)
         } else {
-            root.saturating_mul(3) / 2
+            root.saturating_mul(6) / 5
         };
         let mut simplex = Simplex {
             arcs,
-            rooms,
+            numbers,
+            statuses,
             tree: first_tree(alloc, problem)?,
             next: 0,
             block: block.max(10),
@@ -65,15 +71,12 @@ impl Simplex {
         Ok(simplex)
     }
 
-    /// The reduced cost of an arc, with the sign with which flow on it would change.
+    /// What a unit of flow over an arc, and through the tree back, costs.
     #[inline]
-    pub fn price(&self, arc: &SimplexArc) -> Result<i64, Halt> {
-        let src = self.tree.thread(arc.src)?.potential;
-        let dst = self.tree.thread(arc.dst)?.potential;
-        Ok(
-            arc.sign
-                .wrapping_mul(arc.cost.wrapping_add(src).wrapping_sub(dst)),
-        )
+    pub fn price(&self, arc: &PricedArc) -> Result<i64, Halt> {
+        let src = at(&self.tree.potentials, arc.src)?;
+        let dst = at(&self.tree.potentials, arc.dst)?;
+        Ok(arc.cost.wrapping_add(src).wrapping_sub(dst))
     }
 
     /// Lets the cheapest arc into each node that wants flow come in, where that saves something.
@@ -94,17 +97,17 @@ impl Simplex {
         for place in best.iter().flatten() {
             let arc = at(&self.arcs, *place)?;
             if self.price(&arc)? < 0 {
-                self.enter(*place)?;
+                self.enter(problem, *place)?;
             }
         }
         Ok(())
     }
 
     /// Changes the tree until no arc's price is negative, with at most so much work.
-    pub fn run(&mut self, limit: u64) -> Result<Ended, Halt> {
+    pub fn run(&mut self, problem: &Problem, limit: u64) -> Result<Ended, Halt> {
         for _ in 0..limit {
             match self.dearest()? {
-                Some(place) => self.enter(place)?,
+                Some(place) => self.enter(problem, place)?,
                 None => return self.ended(),
             }
             if self.work > limit {
@@ -132,16 +135,16 @@ impl Simplex {
         for arc in &problem.arcs {
             flows.push(arc.low)?;
         }
-        for (arc, room) in self.arcs.iter().zip(&self.rooms) {
-            if arc.sign < 0 {
-                let low = at(&flows, room.number)?;
-                put(&mut flows, room.number, low.wrapping_add(room.room))?;
+        for (number, status) in self.numbers.iter().zip(&self.statuses) {
+            if let Status::AtUpper = status {
+                let cap = at(&problem.arcs, *number)?.cap;
+                put(&mut flows, *number, cap)?;
             }
         }
         for node in &self.tree.nodes {
-            if let Some(room) = self.rooms.get(node.arc.number as usize) {
-                let low = at(&flows, room.number)?;
-                put(&mut flows, room.number, low.wrapping_add(node.arc.flow()))?;
+            if let Some(number) = self.numbers.get(node.arc.number as usize) {
+                let low = at(&flows, *number)?;
+                put(&mut flows, *number, low.wrapping_add(node.arc.flow()))?;
             }
         }
         Ok(flows)
@@ -151,8 +154,8 @@ impl Simplex {
     pub fn potentials(&self, alloc: Global, problem: &Problem) -> Result<Vec<i64>, Halt> {
         let count = problem.supplies.len();
         let mut potentials = Vec::with_capacity(alloc, count)?;
-        for thread in self.tree.threads.iter().take(count) {
-            potentials.push(thread.potential)?;
+        for potential in self.tree.potentials.iter().take(count) {
+            potentials.push(*potential)?;
         }
         Ok(potentials)
     }

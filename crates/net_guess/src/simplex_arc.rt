@@ -1,26 +1,48 @@
 //! The arcs of a problem as a network simplex prices them.
 
 use crate::halt::Halt;
+use crate::places::{at, index};
 use net_normal::{FlowArc, Problem};
 use std::alloc::Global;
 
-/// An arc with what its price depends on. One whose sign is 0 is in the tree.
+/// Where the flow on an arc is.
 #[derive(Clone, Copy)]
-pub struct SimplexArc {
+pub enum Status {
+    AtLower,
+    AtUpper,
+    /// The arc is in the tree.
+    Basic,
+}
+
+/// An arc as it is priced: flow on it changes from its source to its target. One at its capacity is turned, and one in the tree is
+/// nothing, so that whatever has a negative price saves something.
+#[derive(Clone, Copy)]
+pub struct PricedArc {
     pub src: u32,
     pub dst: u32,
     pub cost: i64,
-    /// 1 at the lower bound, -1 at the capacity, 0 in the tree.
-    pub sign: i64,
 }
 
-/// What a network simplex knows of an arc beside its price.
-#[derive(Clone, Copy)]
-pub struct ArcRoom {
-    /// The arc's index in the problem.
-    pub number: u32,
-    /// Its capacity above its lower bound.
-    pub room: i64,
+impl PricedArc {
+    pub fn of(arc: &FlowArc, status: Status) -> PricedArc {
+        match status {
+            Status::AtLower => PricedArc {
+                src: arc.src,
+                dst: arc.dst,
+                cost: arc.cost,
+            },
+            Status::AtUpper => PricedArc {
+                src: arc.dst,
+                dst: arc.src,
+                cost: arc.cost.wrapping_neg(),
+            },
+            Status::Basic => PricedArc {
+                src: 0,
+                dst: 0,
+                cost: 0,
+            },
+        }
+    }
 }
 
 /// The whole number next below the square root.
@@ -35,40 +57,34 @@ pub fn root_of(number: usize) -> usize {
     root
 }
 
-impl SimplexArc {
-    fn of(arc: &FlowArc) -> SimplexArc {
-        SimplexArc {
-            src: arc.src,
-            dst: arc.dst,
-            cost: arc.cost,
-            sign: 1,
+/// The indices of a problem's arcs in the order in which they are priced: the list, from its end, is cut into as many parts as a node has
+/// arcs, about, and one of each part comes in turn, as files often list all arcs out of one node together.
+pub fn priced_order(alloc: Global, problem: &Problem) -> Result<Vec<u32>, Halt> {
+    let count = problem.arcs.len();
+    let parts = (count / problem.supplies.len().max(1)).max(3);
+    let length = count / parts + 1;
+    let mut numbers = Vec::with_capacity(alloc, count)?;
+    for place in 0..length {
+        let mut behind = place;
+        for _ in 0..parts {
+            if behind < count {
+                numbers.push(index(count - 1 - behind))?;
+            }
+            behind = behind.saturating_add(length);
         }
     }
+    Ok(numbers)
 }
 
-/// The arcs in the order in which they are priced: those far from each other in the problem stand beside each other, as files
-/// often list all arcs out of one node together.
+/// Arcs at their lower bounds, in this order.
 pub fn priced_arcs(
     alloc: Global,
     problem: &Problem,
-) -> Result<(Vec<SimplexArc>, Vec<ArcRoom>), Halt> {
-    let count = problem.arcs.len();
-    let stride = root_of(count).max(10);
-    let mut arcs = Vec::with_capacity(alloc, count)?;
-    let mut rooms = Vec::with_capacity(alloc, count)?;
-    for first in 0..stride {
-        let mut number = first;
-        for _ in 0..count {
-            let Some(arc) = problem.arcs.get(number) else {
-                break;
-            };
-            arcs.push(SimplexArc::of(arc))?;
-            rooms.push(ArcRoom {
-                number: number as u32,
-                room: arc.cap.wrapping_sub(arc.low),
-            })?;
-            number = number.saturating_add(stride);
-        }
+    numbers: &[u32],
+) -> Result<Vec<PricedArc>, Halt> {
+    let mut arcs = Vec::with_capacity(alloc, numbers.len())?;
+    for number in numbers {
+        arcs.push(PricedArc::of(&at(&problem.arcs, *number)?, Status::AtLower))?;
     }
-    Ok((arcs, rooms))
+    Ok(arcs)
 }

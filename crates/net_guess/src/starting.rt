@@ -67,8 +67,8 @@ pub fn first_tree(alloc: Global, problem: &Problem) -> Result<Tree, Halt> {
             last: node,
             arc: root_arc((problem.arcs.len() as u32).wrapping_add(node), amount),
         })?;
+        tree.potentials.push(if amount >= 0 { 0 } else { cost })?;
         tree.threads.push(Thread {
-            potential: if amount >= 0 { 0 } else { cost },
             next: node.wrapping_add(1),
             previous: if node == 0 {
                 root
@@ -83,8 +83,8 @@ pub fn first_tree(alloc: Global, problem: &Problem) -> Result<Tree, Halt> {
         last: root.wrapping_sub(1),
         arc: root_arc(u32::MAX, 0),
     })?;
+    tree.potentials.push(0)?;
     tree.threads.push(Thread {
-        potential: 0,
         next: 0,
         previous: root.wrapping_sub(1),
     })?;

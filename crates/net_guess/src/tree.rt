@@ -52,10 +52,9 @@ pub struct TreeNode {
     pub arc: TreeArc,
 }
 
-/// A node's potential, and its neighbours in the cyclic order.
+/// A node's neighbours in the cyclic order.
 #[derive(Clone, Copy)]
 pub struct Thread {
-    pub potential: i64,
     pub next: u32,
     pub previous: u32,
 }
@@ -65,6 +64,7 @@ pub struct Thread {
 pub struct Tree {
     pub nodes: Vec<TreeNode>,
     pub threads: Vec<Thread>,
+    pub potentials: Vec<i64>,
 }
 
 impl Tree {
@@ -74,6 +74,7 @@ impl Tree {
         Ok(Tree {
             nodes: Vec::with_capacity(alloc, room)?,
             threads: Vec::with_capacity(alloc, room)?,
+            potentials: Vec::with_capacity(alloc, room)?,
         })
     }
 
@@ -158,13 +159,11 @@ impl Tree {
     pub fn raise(&mut self, from: u32, count: u32, amount: i64) -> Result<(), Halt> {
         let mut place = from;
         for _ in 0..count {
-            match self.threads.get_mut(place as usize) {
-                Some(thread) => {
-                    thread.potential = thread.potential.wrapping_add(amount);
-                    place = thread.next;
-                }
+            match self.potentials.get_mut(place as usize) {
+                Some(potential) => *potential = potential.wrapping_add(amount),
                 None => return Err(Halt::OutOfRange),
             }
+            place = self.thread(place)?.next;
         }
         Ok(())
     }

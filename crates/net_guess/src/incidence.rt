@@ -1,0 +1,102 @@
+//! The arcs at each node, those out of it and those into it, with the room for flow on them both ways.
+
+use crate::halt::Halt;
+use crate::places::{at, index, put};
+use crate::residual_rows::row_ends;
+use net_normal::Problem;
+use std::alloc::Global;
+use std::ops::Range;
+
+/// An arc at a node, seen from there.
+#[derive(Clone, Copy)]
+pub struct Incident {
+    /// The other end.
+    pub head: u32,
+    /// Where the room for flow to the other end stands; at `back_of` it stands for flow from there.
+    pub place: u32,
+}
+
+/// The place of the room for flow the other way.
+#[inline]
+pub fn back_of(place: u32) -> u32 {
+    place ^ 1
+}
+
+/// The arcs at all nodes, those of one node beside each other.
+#[derive(Drop)]
+pub struct Incidence {
+    /// Where the arcs at each node start, and where those of all end.
+    pub starts: Vec<u32>,
+    pub ends: Vec<Incident>,
+    /// The room ahead and the room back of each arc of the problem.
+    pub rooms: Vec<i64>,
+}
+
+impl Incidence {
+    /// Of the flow at all lower bounds.
+    pub fn at_lows(alloc: Global, problem: &Problem) -> Result<Incidence, Halt> {
+        let count = problem.arcs.len().saturating_mul(2);
+        let none = Incident { head: 0, place: 0 };
+        let mut incidence = Incidence {
+            starts: row_ends(alloc, problem)?,
+            ends: vec![in alloc; none; count]?,
+            rooms: Vec::with_capacity(alloc, count)?,
+        };
+        for arc in &problem.arcs {
+            let place = index(incidence.rooms.len());
+            incidence.rooms.push(arc.cap.wrapping_sub(arc.low))?;
+            incidence.rooms.push(0)?;
+            incidence.add(
+                arc.src,
+                Incident {
+                    head: arc.dst,
+                    place,
+                },
+            )?;
+            incidence.add(
+                arc.dst,
+                Incident {
+                    head: arc.src,
+                    place: back_of(place),
+                },
+            )?;
+        }
+        Ok(incidence)
+    }
+
+    /// Takes the last free place at a node.
+    fn add(&mut self, node: u32, incident: Incident) -> Result<(), Halt> {
+        let Some(free) = at(&self.starts, node)?.checked_sub(1) else {
+            return Err(Halt::OutOfRange);
+        };
+        put(&mut self.starts, node, free)?;
+        put(&mut self.ends, free, incident)
+    }
+
+    /// The places of the arcs at a node.
+    pub fn row(&self, node: u32) -> Result<Range<u32>, Halt> {
+        let from = at(&self.starts, node)?;
+        let to = at(&self.starts, node.wrapping_add(1))?;
+        Ok(from..to)
+    }
+
+    /// Sends flow over an arc, seen as this one is.
+    pub fn send(&mut self, place: u32, amount: i64) -> Result<(), Halt> {
+        let ahead = at(&self.rooms, place)?;
+        put(&mut self.rooms, place, ahead.wrapping_sub(amount))?;
+        let back = at(&self.rooms, back_of(place))?;
+        put(&mut self.rooms, back_of(place), back.wrapping_add(amount))
+    }
+
+    /// The flow on each arc of the problem.
+    pub fn flows(&self, alloc: Global, problem: &Problem) -> Result<Vec<i64>, Halt> {
+        let mut flows = Vec::with_capacity(alloc, problem.arcs.len())?;
+        let mut place = 0u32;
+        for arc in &problem.arcs {
+            let sent = at(&self.rooms, back_of(place))?;
+            flows.push(arc.low.wrapping_add(sent))?;
+            place = place.wrapping_add(2);
+        }
+        Ok(flows)
+    }
+}
