@@ -1,2 +1,3 @@
-x under
-m 2
+x over
+m 1
+m 3

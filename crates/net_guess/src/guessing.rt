@@ -1,5 +1,6 @@
 //! The ways in which a problem's answer is guessed.
 
+use crate::bottleneck::bottleneck;
 use crate::guess::Guess;
 use crate::halt::Halt;
 use crate::places::at;
@@ -22,7 +23,7 @@ const SIMPLEX_LOOKS: u64 = 4000;
 /// The most turns of a search: growths, changes of potentials and sendings.
 const SEARCH_TURNS: u32 = 1_000_000;
 
-/// What is guessed of a problem, each way with a bound on its work: the supplies' sum; a probe; a network simplex; cost scaling, and from
+/// What is guessed of a problem, each way with a bound on its work: the supplies' sum; a node that is a cut by itself; a probe; a network simplex; cost scaling, and from
 /// where that ends the search by trees. The one error is want of memory.
 pub fn find_guess(alloc: Global, problem: &Problem) -> Result<Guess, AllocError> {
     match guessed(alloc, problem) {
@@ -47,6 +48,9 @@ fn guessed(alloc: Global, problem: &Problem) -> Result<Guess, Halt> {
         let side = if total > 0 { Side::Over } else { Side::Under };
         let flags = vec![in alloc; true; problem.supplies.len()]?;
         return Ok(Guess::Cut { flags, side });
+    }
+    if let Some(guess) = bottleneck(alloc, problem)? {
+        return Ok(guess);
     }
     if let Some(guess) = probed(alloc, problem)? {
         return Ok(guess);

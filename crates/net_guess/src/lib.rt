@@ -3,6 +3,7 @@
 #![tactic(auto)]
 
 mod attaching;
+mod bottleneck;
 mod children;
 mod cutting;
 mod distances;

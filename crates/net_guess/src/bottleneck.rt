@@ -1,0 +1,64 @@
+//! A node that is a cut by itself: it supplies more than its arcs take away, or wants more than they bring.
+
+use crate::excess::excess_of;
+use crate::guess::Guess;
+use crate::halt::Halt;
+use crate::places::{at, put};
+use net_check::Side;
+use net_normal::Problem;
+use std::alloc::Global;
+
+/// How much more than its lower bounds the arcs out of each node, and those into it, can carry.
+#[derive(Drop)]
+struct Rooms {
+    out: Vec<i128>,
+    into: Vec<i128>,
+}
+
+fn add_room(rooms: &mut Vec<i128>, node: u32, room: i128) -> Result<(), Halt> {
+    let sum = at(rooms, node)?.wrapping_add(room);
+    put(rooms, node, sum)
+}
+
+fn rooms_of(alloc: Global, problem: &Problem) -> Result<Rooms, Halt> {
+    let count = problem.supplies.len();
+    let mut rooms = Rooms {
+        out: vec![in alloc; 0i128; count]?,
+        into: vec![in alloc; 0i128; count]?,
+    };
+    for arc in &problem.arcs {
+        if arc.src != arc.dst {
+            let room = i128::from(arc.cap) - i128::from(arc.low);
+            add_room(&mut rooms.out, arc.src, room)?;
+            add_room(&mut rooms.into, arc.dst, room)?;
+        }
+    }
+    Ok(rooms)
+}
+
+/// The first node whose supply its own arcs cannot take away, or whose want they cannot bring, as a cut.
+pub fn bottleneck(alloc: Global, problem: &Problem) -> Result<Option<Guess>, Halt> {
+    let mut lows = Vec::with_capacity(alloc, problem.arcs.len())?;
+    for arc in &problem.arcs {
+        lows.push(arc.low)?;
+    }
+    let excess = excess_of(alloc, problem, &lows)?;
+    let rooms = rooms_of(alloc, problem)?;
+    let mut node = 0u32;
+    for ((excess, out), into) in excess.iter().zip(&rooms.out).zip(&rooms.into) {
+        let side = if excess > out {
+            Some(Side::Over)
+        } else if excess.saturating_add(*into) < 0 {
+            Some(Side::Under)
+        } else {
+            None
+        };
+        if let Some(side) = side {
+            let mut flags = vec![in alloc; false; problem.supplies.len()]?;
+            put(&mut flags, node, true)?;
+            return Ok(Some(Guess::Cut { flags, side }));
+        }
+        node = node.wrapping_add(1);
+    }
+    Ok(None)
+}
