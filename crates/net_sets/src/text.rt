@@ -1,0 +1,165 @@
+ghost use Rattle.std.specs.Prelude.{◌≡◌, ◌<◌, ◌+◌, ◌-◌, ◌∷◌, [], length, take, MatchOption};
+ghost use Rattle.net_lex.specs.Characters.{is_quote};
+ghost use Rattle.net_sets.specs.Texts.{text_of, spelled, single, same_text};
+
+use net_lex::Excerpt;
+use std::hash::{Hash, Hasher};
+use std::marker::Model;
+
+/// The text of a name or a string, which contracts see as its bytes, a doubled delimiter as one. A name is the same as a
+/// string with its bytes.
+#[derive(Drop)]
+pub struct Text<'s> {
+    bytes: &'s [u8],
+    /// The delimiter, where it may stand doubled between these bytes.
+    doubled: Option<u8>,
+}
+
+impl<'s> Model for Text<'s> {
+    ghost use Rattle.std.specs.Prelude.{ℕ, List};
+    ghost use Rattle.std.specs.Coded.{coded_list, coded_ℕ};
+    ghost use Rattle.net_sets.specs.Texts.{spelled};
+
+    ghost Value = { List ℕ };
+
+    ghost coded = { coded_list coded_ℕ };
+
+    ghost view = { λ t. spelled t.doubled t.bytes.now };
+}
+
+/// What is left behind the first byte, and behind the second of a doubled delimiter.
+fn behind_first(first: u8, behind: &[u8], doubled: Option<u8>) -> &[u8]
+    ensures value { spelled doubled (first ∷ behind.now) ≡ first ∷ spelled doubled result.now }
+    ensures shorter { length result.now < length behind.now + 1 }
+{
+    match (doubled, behind) {
+        (Some(delimiter), [second, rest @ ..]) if first == delimiter && *second == delimiter =>
+            rest,
+        _ => behind,
+    }
+}
+
+/// The first byte of the text, and what is left.
+fn first(bytes: &[u8], doubled: Option<u8>) -> Option<(u8, &[u8])>
+    ensures { MatchOption result (bytes.now ≡ []) (λ r. (spelled doubled bytes.now ≡ r.0 ∷ spelled doubled r.1.now) × (length r.1.now < length bytes.now)) }
+{
+    match bytes {
+        [] => None,
+        [first, behind @ ..] => Some((*first, behind_first(*first, behind, doubled))),
+    }
+}
+
+fn is_quote(byte: u8) -> bool
+    ensures { result ≡ is_quote byte }
+{
+    byte == b'\'' || byte == b'"'
+}
+
+fn without_last(bytes: &[u8]) -> &[u8]
+    ensures { result.now ≡ take (length bytes.now - 1) bytes.now }
+{
+    match bytes {
+        [] => bytes,
+        [front @ .., _] => front,
+    }
+}
+
+impl<'s> Text<'s> {
+    /// The text of a token that is a name or a string.
+    pub fn new(token: &Excerpt<'s>) -> Text<'s>
+        ensures { result ≡ text_of token.now }
+    {
+        let bytes = token.as_str().as_bytes();
+        match bytes {
+            [quote, behind @ ..] if is_quote(*quote) => Text::between(*quote, without_last(behind)),
+            _ => Text {
+                bytes,
+                doubled: None,
+            },
+        }
+    }
+
+    /// The text between two delimiters.
+    fn between(delimiter: u8, bytes: &'s [u8]) -> Text<'s>
+        ensures { result ≡ single delimiter bytes.now }
+    {
+        let doubled = if bytes.contains(&delimiter) {
+            Some(delimiter)
+        } else {
+            None
+        };
+        Text { bytes, doubled }
+    }
+
+    /// The same text once more; no byte is copied.
+    pub fn again(&self) -> Text<'s>
+        ensures { result ≡ self.now }
+    {
+        Text {
+            bytes: self.bytes,
+            doubled: self.doubled,
+        }
+    }
+}
+
+/// Whether two spellings are of the same text.
+fn is_same(a: &[u8], a_doubled: Option<u8>, b: &[u8], b_doubled: Option<u8>) -> bool
+    ensures { result ≡ same_text (spelled a_doubled a.now) (spelled b_doubled b.now) }
+{
+    let mut left = a;
+    let mut right = b;
+    while let Some((x, left_behind)) = first(left, a_doubled) {
+        match first(right, b_doubled) {
+            Some((y, right_behind)) if x == y => {
+                left = left_behind;
+                right = right_behind;
+            }
+            _ => return false,
+        }
+    }
+    right.is_empty()
+}
+
+impl<'s> PartialEq for Text<'s> {
+    ghost use Rattle.std.specs.Prelude.{nat_eq};
+    ghost use Rattle.std.specs.Cmp.Lexicographic.{pointwise};
+    ghost use Rattle.std.specs.Cmp.Rules.{comparing};
+    ghost use Rattle.std.proofs.Common.{rules};
+
+    ghost eq = { pointwise nat_eq };
+
+    ghost laws = { Prim.search (comparing, rules) };
+
+    fn eq(&self, other: &Text<'s>) -> bool {
+        match (self.doubled, other.doubled) {
+            (None, None) => self.bytes == other.bytes,
+            _ => is_same(self.bytes, self.doubled, other.bytes, other.doubled),
+        }
+    }
+}
+
+impl<'s> Eq for Text<'s> {
+    ghost use Rattle.std.specs.Cmp.Rules.{comparing};
+    ghost use Rattle.std.proofs.Common.{rules};
+
+    ghost laws = { Prim.search (comparing, rules) };
+}
+
+impl<'s> Hash for Text<'s> {
+    ghost use Rattle.std.specs.Cmp.Rules.{hashing};
+    ghost use Rattle.std.proofs.Common.{rules};
+    ghost use Rattle.net_sets.specs.Texts.{writes_of};
+
+    ghost hash_input = { writes_of };
+
+    ghost respects_eq = { Prim.search (hashing, rules) };
+
+    fn hash<H: Hasher>(&self, state: &mut H) {
+        let mut bytes = self.bytes;
+        while let Some((byte, behind)) = first(bytes, self.doubled) {
+            state.write_u8(byte);
+            bytes = behind;
+        }
+        state.write_u8(0xFF);
+    }
+}

@@ -1,0 +1,82 @@
+ghost use Rattle.std.specs.Prelude.{◌≡◌, ◌<◌, ◌≤◌, ◌↔◌, IsTrue, [], ◌∷◌, ◌++◌, length};
+ghost use Rattle.net_sets.specs.Limits.{arity_limit};
+
+use crate::member::Member;
+use arrayvec::ArrayVec;
+use std::marker::Model;
+
+/// Up to four members, which contracts see as their list.
+#[derive(PartialEq, Eq, Hash, Drop)]
+pub struct Tuple<'s> {
+    members: ArrayVec<Member<'s>, 4>,
+}
+
+impl<'s> Model for Tuple<'s> {
+    ghost use Rattle.std.specs.Prelude.{List};
+    ghost use Rattle.net_sets.specs.declared.member.Member.{Member};
+
+    ghost Value = { List Member };
+
+    ghost view = { λ t. t.members.items };
+
+    ghost inverse = { λ xs. record { members = record { items = xs } } };
+}
+
+impl<'s> Tuple<'s> {
+    /// The tuple without members.
+    pub fn new() -> Tuple<'s>
+        ensures { result ≡ [] }
+    {
+        Tuple {
+            members: ArrayVec::new(),
+        }
+    }
+
+    pub fn single(member: Member<'s>) -> Tuple<'s>
+        ensures { result ≡ member.entry ∷ [] }
+    {
+        let mut tuple = Tuple::new();
+        tuple.add(member);
+        tuple
+    }
+
+    pub fn len(&self) -> usize
+        ensures value { result ≡ length self.now }
+        ensures fits { result ≤ arity_limit }
+    {
+        self.members.len()
+    }
+
+    /// Whether one more member has a place.
+    pub fn has_room(&self) -> bool
+        ensures { IsTrue result ↔ (length self.now < arity_limit) }
+    {
+        !self.members.is_full()
+    }
+
+    pub fn add(&mut self, member: Member<'s>)
+        requires { length self.old < arity_limit }
+        ensures { self.new ≡ self.old ++ member.entry ∷ [] }
+    {
+        self.members.push(member);
+    }
+
+    pub fn as_slice(&self) -> &[Member<'s>]
+        ensures members { result.now ≡ self.now }
+        ensures fits { length result.now ≤ arity_limit }
+    {
+        self.members.as_slice()
+    }
+
+    /// The same tuple once more.
+    pub fn again(&self) -> Tuple<'s>
+        ensures { result ≡ self.now }
+    {
+        let mut copy = Tuple::new();
+        let members = self.as_slice();
+        for member in members {
+            copy.add(member.again());
+        }
+        copy
+    }
+}
