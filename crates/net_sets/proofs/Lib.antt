@@ -1,3 +1,6 @@
 pub mod Spelling
+pub mod Sames
+pub mod Places
+pub mod Reading
 pub mod Rows
 mod Examples

@@ -1,7 +1,6 @@
 -- The text that a name or a string of the source stands for.
 use Rattle.std.specs.Prelude.{ℕ, ◌-◌, Bool, List, [], ◌∷◌, ◌&&◌, nat_eq, length, take, Option, None, Some, if◌then◌else◌}
 use Rattle.std.specs.Cmp.Lexicographic.{pointwise}
-use Rattle.std.specs.Hash.{HashWrites, u8}
 use Rattle.net_lex.specs.Characters.{is_quote}
 
 -- each doubled delimiter once
@@ -22,8 +21,3 @@ spelled (Some d) bytes = single d bytes
 
 abbrev pub same_text : List ℕ → List ℕ → Bool
 same_text = pointwise nat_eq
-
--- what a hasher is fed: the bytes one by one, and then one that no text has
-abbrev pub writes_of : List ℕ → HashWrites
-writes_of [] = u8 255
-writes_of (c ∷ cs) = (c ∷ []) ∷ writes_of cs

@@ -1,6 +1,7 @@
 //! Members, tuples, sets of tuples and tables.
 #![tactic(auto)]
 
+mod held;
 mod member;
 mod range;
 mod table;
@@ -8,6 +9,7 @@ mod text;
 mod tuple;
 mod tuple_set;
 
+pub use held::Held;
 pub use member::Member;
 pub use range::Range;
 pub use table::Table;

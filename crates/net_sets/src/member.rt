@@ -3,7 +3,7 @@ ghost use Rattle.std.specs.Prelude.{◌≡◌};
 use crate::text::Text;
 
 /// A whole number or a text. `5` and `'5'` differ.
-#[derive(PartialEq, Eq, Hash, Drop)]
+#[derive(PartialEq, Eq, PartialOrd, Ord, Drop)]
 pub enum Member<'s> {
     Number(i64),
     Name(Text<'s>),

@@ -1,9 +1,11 @@
 ghost use Rattle.std.specs.Prelude.{◌≡◌, ◌<◌, ◌+◌, ◌-◌, ◌∷◌, [], length, take, MatchOption};
+ghost use Rattle.std.specs.Ordering.{nat_cmp};
+ghost use Rattle.std.specs.Cmp.Lexicographic.{slice_cmp};
 ghost use Rattle.net_lex.specs.Characters.{is_quote};
 ghost use Rattle.net_sets.specs.Texts.{text_of, spelled, single, same_text};
 
 use net_lex::Excerpt;
-use std::hash::{Hash, Hasher};
+use std::cmp::Ordering;
 use std::marker::Model;
 
 /// The text of a name or a string, which contracts see as its bytes, a doubled delimiter as one. A name is the same as a
@@ -120,6 +122,30 @@ fn is_same(a: &[u8], a_doubled: Option<u8>, b: &[u8], b_doubled: Option<u8>) -> 
     right.is_empty()
 }
 
+/// How two spellings compare, byte by byte of their texts.
+fn compare(a: &[u8], a_doubled: Option<u8>, b: &[u8], b_doubled: Option<u8>) -> Ordering
+    ensures { result ≡ slice_cmp nat_cmp (spelled a_doubled a.now) (spelled b_doubled b.now) }
+{
+    let mut left = a;
+    let mut right = b;
+    while let Some((x, left_behind)) = first(left, a_doubled) {
+        match first(right, b_doubled) {
+            None => return Ordering::Greater,
+            Some((y, right_behind)) => match x.cmp(&y) {
+                Ordering::Equal => {
+                    left = left_behind;
+                    right = right_behind;
+                }
+                unequal => return unequal,
+            },
+        }
+    }
+    match first(right, b_doubled) {
+        None => Ordering::Equal,
+        Some(_) => Ordering::Less,
+    }
+}
+
 impl<'s> PartialEq for Text<'s> {
     ghost use Rattle.std.specs.Prelude.{nat_eq};
     ghost use Rattle.std.specs.Cmp.Lexicographic.{pointwise};
@@ -145,21 +171,40 @@ impl<'s> Eq for Text<'s> {
     ghost laws = { Prim.search (comparing, rules) };
 }
 
-impl<'s> Hash for Text<'s> {
-    ghost use Rattle.std.specs.Cmp.Rules.{hashing};
+impl<'s> PartialOrd for Text<'s> {
+    ghost use Rattle.std.specs.Prelude.{Some};
+    ghost use Rattle.std.specs.Ordering.{nat_cmp};
+    ghost use Rattle.std.specs.Cmp.Lexicographic.{slice_cmp};
+    ghost use Rattle.std.specs.Cmp.Rules.{comparing};
     ghost use Rattle.std.proofs.Common.{rules};
-    ghost use Rattle.net_sets.specs.Texts.{writes_of};
 
-    ghost hash_input = { writes_of };
+    ghost partial_cmp = { λ x y. Some (slice_cmp nat_cmp x y) };
 
-    ghost respects_eq = { Prim.search (hashing, rules) };
+    ghost laws = { Prim.search (comparing, rules) };
 
-    fn hash<H: Hasher>(&self, state: &mut H) {
-        let mut bytes = self.bytes;
-        while let Some((byte, behind)) = first(bytes, self.doubled) {
-            state.write_u8(byte);
-            bytes = behind;
+    fn partial_cmp(&self, other: &Text<'s>) -> Option<Ordering> {
+        Some(self.cmp(other))
+    }
+}
+
+impl<'s> Ord for Text<'s> {
+    ghost use Rattle.std.specs.Ordering.{nat_cmp};
+    ghost use Rattle.std.specs.Cmp.Lexicographic.{slice_cmp};
+    ghost use Rattle.std.specs.Cmp.Rules.{comparing};
+    ghost use Rattle.std.proofs.Common.{rules};
+
+    ghost cmp = { slice_cmp nat_cmp };
+
+    ghost total = { Prim.search (comparing, rules) };
+
+    ghost matches_partial_cmp = { Prim.search (comparing, rules) };
+
+    ghost matches_eq = { Prim.search (comparing, rules) };
+
+    fn cmp(&self, other: &Text<'s>) -> Ordering {
+        match (self.doubled, other.doubled) {
+            (None, None) => self.bytes.cmp(other.bytes),
+            _ => compare(self.bytes, self.doubled, other.bytes, other.doubled),
         }
-        state.write_u8(0xFF);
     }
 }

@@ -1,25 +1,49 @@
-ghost use Rattle.std.specs.Prelude.{◌≡◌, [], length, slice_get, OnOk, OnErr};
-ghost use Rattle.std.specs.Option.{option_copied};
-ghost use Rattle.net_sets.specs.Sets.{has, added, place_of, AreDistinct};
+ghost use Rattle.std.specs.Prelude.{◌≡◌, ◌++◌, ◌∷◌, [], List, Some, false, if◌then◌else◌, length, OnOk, OnErr};
+ghost use Rattle.std.specs.Ordering.{is_eq};
+ghost use Rattle.std.specs.List.{IsDistinct};
+ghost use Rattle.net_sets.specs.declared.member.Member.{Member};
+ghost use Rattle.net_sets.specs.Kept.{told};
+ghost use Rattle.net_sets.specs.Orders.{tuple_order};
+ghost use Rattle.net_sets.specs.Sets.{has, added, place_of, same_tuple};
 
 use crate::tuple::Tuple;
-use indexmap::IndexSet;
 use std::alloc::{AllocError, Global};
+use std::collections::BTreeMap;
 use std::marker::Model;
 
-/// Distinct tuples in the order of their first appearance, which contracts see as their list.
+/// Distinct tuples in the order of their first appearance, which contracts see as their list. They are found in an ordered
+/// map, which no text can make slow.
 #[derive(Drop)]
 pub struct TupleSet<'s> {
-    tuples: IndexSet<Tuple<'s>>,
+    tuples: Vec<Tuple<'s>>,
+    places: BTreeMap<Tuple<'s>, usize>,
 }
 
 impl<'s> Model for TupleSet<'s> {
     ghost use Rattle.std.specs.Prelude.{List};
     ghost use Rattle.net_sets.specs.declared.member.Member.{Member};
+    ghost use Rattle.net_sets.specs.Kept.{IsKept};
 
     ghost Value = { List (List Member) };
 
-    ghost view = { λ s. s.tuples.keys };
+    ghost view = { λ s. s.tuples.items };
+
+    ghost invariant = { λ s. IsKept s.tuples.items s.places };
+}
+
+/// Tells the place of a tuple.
+fn insert<'s>(
+    places: &mut BTreeMap<Tuple<'s>, usize>,
+    tuple: Tuple<'s>,
+    place: usize,
+) -> Result<(), AllocError>
+    ensures ok { OnOk result ((t : List Member) → told places.new t ≡ if is_eq (tuple_order tuple.entry t) then Some place else told places.old t) }
+    ensures err { OnErr result ((t : List Member) → told places.new t ≡ told places.old t) }
+{
+    match places.insert(tuple, place) {
+        Ok(_) => Ok(()),
+        Err(_) => Err(AllocError),
+    }
 }
 
 impl<'s> TupleSet<'s> {
@@ -28,23 +52,9 @@ impl<'s> TupleSet<'s> {
         ensures { result ≡ [] }
     {
         TupleSet {
-            tuples: IndexSet::new(alloc),
+            tuples: Vec::new(alloc),
+            places: BTreeMap::new(alloc),
         }
-    }
-
-    pub fn contains(&self, tuple: &Tuple<'s>) -> bool
-        ensures { result ≡ has self.now tuple.now }
-    {
-        self.tuples.contains(tuple)
-    }
-
-    /// Puts a tuple at the end, or leaves the set as it is where it has the tuple.
-    pub fn add(&mut self, tuple: Tuple<'s>) -> Result<(), AllocError>
-        ensures ok { OnOk result (self.new ≡ added self.old tuple.entry) }
-        ensures err { OnErr result (self.new ≡ self.old) }
-    {
-        self.tuples.insert(tuple)?;
-        Ok(())
     }
 
     pub fn len(&self) -> usize
@@ -53,22 +63,52 @@ impl<'s> TupleSet<'s> {
         self.tuples.len()
     }
 
+    pub fn as_slice(&self) -> &[Tuple<'s>]
+        ensures value { result.now ≡ self.now }
+        ensures distinct { IsDistinct same_tuple result.now }
+    {
+        self.tuples.as_slice()
+    }
+
     /// The place of a tuple, counted from 0.
     pub fn position(&self, tuple: &Tuple<'s>) -> Option<usize>
         ensures { result ≡ place_of self.now tuple.now }
     {
-        self.tuples.get_index_of(tuple)
+        self.places.get(tuple).copied()
     }
 
-    pub fn get(&self, index: usize) -> Option<&Tuple<'s>>
-        ensures { option_copied result ≡ slice_get self.now index }
+    pub fn contains(&self, tuple: &Tuple<'s>) -> bool
+        ensures { result ≡ has self.now tuple.now }
     {
-        self.tuples.get_index(index)
+        self.position(tuple).is_some()
     }
 
-    pub fn as_slice(&self) -> &[Tuple<'s>]
-        ensures { result.now ≡ self.now }
+    /// Puts a tuple at the end that the set does not have.
+    fn push(&mut self, tuple: Tuple<'s>) -> Result<(), AllocError>
+        requires { has self.old tuple ≡ false }
+        ensures ok { OnOk result (self.new ≡ self.old ++ tuple.entry ∷ []) }
+        ensures err { OnErr result (self.new ≡ self.old) }
     {
-        self.tuples.as_slice()
+        let place = self.tuples.len();
+        self.tuples.push(tuple.again())?;
+        match insert(&mut self.places, tuple, place) {
+            Ok(()) => Ok(()),
+            Err(refused) => {
+                self.tuples.truncate(place);
+                Err(refused)
+            }
+        }
+    }
+
+    /// Puts a tuple at the end, or leaves the set as it is where it has the tuple.
+    pub fn add(&mut self, tuple: Tuple<'s>) -> Result<(), AllocError>
+        ensures ok { OnOk result (self.new ≡ added self.old tuple.entry) }
+        ensures err { OnErr result (self.new ≡ self.old) }
+    {
+        if self.contains(&tuple) {
+            Ok(())
+        } else {
+            self.push(tuple)
+        }
     }
 }

@@ -1,0 +1,14 @@
+-- How a set of tuples is kept: a map beside the list tells each tuple's place.
+use Rattle.std.specs.Prelude.{◌≡◌, ℕ, List, Option}
+use Rattle.std.specs.List.{IsDistinct}
+use Rattle.std.specs.BTreeMap.{BTreeMap, get_by}
+use Rattle.net_sets.specs.Sets.{Tuple, same_tuple, place_of}
+use Rattle.net_sets.specs.Orders.{tuple_order}
+
+-- what a map tells of a tuple
+abbrev pub told : BTreeMap Tuple ℕ → Tuple → Option ℕ
+told places t = get_by (tuple_order t) places
+
+pub record IsKept (ts : List Tuple) (places : BTreeMap Tuple ℕ) : Type 0 where
+  pub tells : (t : Tuple) → told places t ≡ place_of ts t
+  pub distinct : IsDistinct same_tuple ts
