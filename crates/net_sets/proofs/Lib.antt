@@ -2,5 +2,8 @@ pub mod Spelling
 pub mod Sames
 pub mod Places
 pub mod Reading
+pub mod Distinct
+pub mod Choosing
+pub mod Unions
 pub mod Rows
 mod Examples

@@ -1,5 +1,5 @@
 -- A tuple more at the end, and the map that tells the places.
-use Rattle.std.specs.Prelude.{◌≡◌, ℕ, ◌+◌, Bool, true, false, cond, List, [], ◌∷◌, ◌++◌, ◌||◌, length, is_some, Option, None, Some}
+use Rattle.std.specs.Prelude.{◌≡◌, ℕ, ◌+◌, ◌<◌, Bool, true, false, cond, List, [], ◌∷◌, ◌++◌, ◌||◌, length, is_some, Option, None, Some}
 use Rattle.std.specs.List.{position_from, IsDistinct}
 use Rattle.std.specs.BTreeMap.{BTreeMap, Updates, is_at}
 use Rattle.std.specs.Map.{lookup}
@@ -7,8 +7,10 @@ use Rattle.std.specs.declared.cmp.Ordering.{Ordering}
 use Rattle.std.specs.Ordering.{is_eq}
 use Rattle.std.specs.Cmp.{IsEquivalence}
 use Rattle.std.proofs.Common.{refl, ap, sym, ◌∙◌, arith}
+use Rattle.std.proofs.lemmas.List.{length-append}
 use Rattle.std.proofs.lemmas.Map.Keys.{IsDistinct-push}
 use Rattle.net_sets.specs.Sets.{Tuple, same_tuple, has, place_of}
+use Rattle.net_sets.specs.Limits.{tuples_limit}
 use Rattle.net_sets.specs.Orders.{tuple_order}
 use Rattle.net_sets.specs.Kept.{told, IsKept}
 use Rattle.net_sets.proofs.Sames.{tuple_decides, same_itself, same_turned, order_equal}
@@ -55,14 +57,16 @@ unfolding IsDistinct
 kept_none ts places none empty = rw none (record {
   tells = λ t. rw empty;
   distinct = tt;
+  few = omega arith;
 })
 
 -- the map is told the place of one tuple more
-pub kept_more : (ts : List Tuple) (t : Tuple) (old new : BTreeMap Tuple ℕ) → IsKept ts old → has ts t ≡ false
+pub kept_more : (ts : List Tuple) (t : Tuple) (old new : BTreeMap Tuple ℕ) → IsKept ts old → has ts t ≡ false → length ts < tuples_limit
     → ((q : Tuple) → told new q ≡ cond (is_eq (tuple_order t q)) (Some (length ts)) (told old q)) → IsKept (ts ++ t ∷ []) new
-kept_more ts t old new kept fresh update = record {
+kept_more ts t old new kept fresh room update = record {
   tells = λ q. update q ∙ step q (same_tuple t q) refl;
   distinct = IsDistinct-push same_equiv ts t kept.distinct fresh;
+  few = simp length-append (omega arith);
 }
   where
     step : (q : Tuple) (b : Bool) → same_tuple t q ≡ b → cond (is_eq (tuple_order t q)) (Some (length ts)) (told old q) ≡ place_of (ts ++ t ∷ []) q

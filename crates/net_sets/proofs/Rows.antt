@@ -3,7 +3,7 @@ use Rattle.std.specs.Prelude.{◌≡◌, ◌||◌, ℕ, suc, ◌+◌, Bool, true
 use Rattle.std.specs.List.{position_from, zip}
 use Rattle.std.proofs.Common.{refl, ap, sym, ◌∙◌, arith, add-one}
 use Rattle.net_sets.specs.declared.member.Member.{Member}
-use Rattle.net_sets.specs.Sets.{Tuple, same_tuple, at_key, place_of, has, added}
+use Rattle.net_sets.specs.Sets.{Tuple, same_tuple, at_key, place_of, has}
 
 -- the member at a place, where there is one
 abbrev pub member_at : List Member → Option ℕ → Option Member
@@ -69,6 +69,3 @@ no_row key (k ∷ keys) (m ∷ members) h e = step (same_tuple key k) e (no_row 
     step : (b : Bool) → cond b (Some m) (at_key (zip keys members) key) ≡ None → (at_key (zip keys members) key ≡ None → has keys key ≡ false) → (b || has keys key) ≡ false
     step true e more = cc
     step false e more = more e
-
-pub put_last : (keys : List Tuple) (key : Tuple) → has keys key ≡ false → added keys key ≡ keys ++ key ∷ []
-put_last keys key h = rw h

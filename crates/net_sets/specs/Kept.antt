@@ -1,7 +1,8 @@
 -- How a set of tuples is kept: a map beside the list tells each tuple's place.
-use Rattle.std.specs.Prelude.{◌≡◌, ℕ, List, Option}
+use Rattle.std.specs.Prelude.{◌≡◌, ℕ, ◌≤◌, List, length, Option}
 use Rattle.std.specs.List.{IsDistinct}
 use Rattle.std.specs.BTreeMap.{BTreeMap, get_by}
+use Rattle.net_sets.specs.Limits.{tuples_limit}
 use Rattle.net_sets.specs.Sets.{Tuple, same_tuple, place_of}
 use Rattle.net_sets.specs.Orders.{tuple_order}
 
@@ -12,3 +13,4 @@ told places t = get_by (tuple_order t) places
 pub record IsKept (ts : List Tuple) (places : BTreeMap Tuple ℕ) : Type 0 where
   pub tells : (t : Tuple) → told places t ≡ place_of ts t
   pub distinct : IsDistinct same_tuple ts
+  pub few : length ts ≤ tuples_limit

@@ -1,16 +1,20 @@
 //! Members, tuples, sets of tuples and tables.
 #![tactic(auto)]
 
+mod fault;
 mod held;
 mod member;
+mod operations;
 mod range;
 mod table;
 mod text;
 mod tuple;
 mod tuple_set;
 
+pub use fault::SetFault;
 pub use held::Held;
 pub use member::Member;
+pub use operations::{difference, intersection, is_within, symmetric_difference, union, widest};
 pub use range::Range;
 pub use table::Table;
 pub use text::Text;

@@ -1,11 +1,13 @@
-ghost use Rattle.std.specs.Prelude.{◌≡◌, ◌++◌, ◌∷◌, [], None, length, map, OnOk, OnErr};
+ghost use Rattle.std.specs.Prelude.{◌≡◌, ◌++◌, ◌∷◌, [], None, Err, length, map, OnOk, OnErr};
 ghost use Rattle.std.specs.Option.{option_copied};
+ghost use Rattle.net_sets.specs.Limits.{tuples_limit};
 ghost use Rattle.net_sets.specs.Sets.{at_key};
 
+use crate::fault::SetFault;
 use crate::member::Member;
 use crate::tuple::Tuple;
 use crate::tuple_set::TupleSet;
-use std::alloc::{AllocError, Global};
+use std::alloc::Global;
 use std::marker::Model;
 
 /// The members that keys have, which contracts see as the list of the rows, each a key with its member.
@@ -68,13 +70,14 @@ impl<'s> Table<'s> {
         }
     }
 
-    /// Puts a row at the end, of a key that has none.
-    pub fn insert(&mut self, key: Tuple<'s>, member: Member<'s>) -> Result<(), AllocError>
+    /// Puts a row at the end, of a key that has none. `TooMany` is answered where a table has as many rows as it may have.
+    pub fn insert(&mut self, key: Tuple<'s>, member: Member<'s>) -> Result<(), SetFault>
         requires { at_key self.old key ≡ None }
         ensures ok { OnOk result (self.new ≡ self.old ++ (key.entry, member.entry) ∷ []) }
         ensures err { OnErr result (self.new ≡ self.old) }
+        ensures many { result ≡ Err SetFault.TooMany → length self.old ≡ tuples_limit }
     {
-        let rows = self.members.len();
+        let rows = self.keys.len();
         self.members.push(member)?;
         match self.keys.add(key) {
             Ok(()) => Ok(()),

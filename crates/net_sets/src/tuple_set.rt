@@ -1,15 +1,22 @@
-ghost use Rattle.std.specs.Prelude.{◌≡◌, ◌++◌, ◌∷◌, [], List, Some, false, if◌then◌else◌, length, OnOk, OnErr};
+ghost use Rattle.std.specs.Prelude.{◌≡◌, ◌<◌, ◌≤◌, ◌++◌, ◌∷◌, [], List, Some, false, if◌then◌else◌, length, slice_get, IfOk, OnOk, OnErr};
+ghost use Rattle.std.specs.Option.{option_copied};
 ghost use Rattle.std.specs.Ordering.{is_eq};
 ghost use Rattle.std.specs.List.{IsDistinct};
 ghost use Rattle.net_sets.specs.declared.member.Member.{Member};
 ghost use Rattle.net_sets.specs.Kept.{told};
+ghost use Rattle.net_sets.specs.Limits.{tuples_limit};
+ghost use Rattle.net_sets.specs.Made.{IsMade, with_set};
 ghost use Rattle.net_sets.specs.Orders.{tuple_order};
 ghost use Rattle.net_sets.specs.Sets.{has, added, place_of, same_tuple};
 
+use crate::fault::SetFault;
 use crate::tuple::Tuple;
 use std::alloc::{AllocError, Global};
 use std::collections::BTreeMap;
 use std::marker::Model;
+
+/// How many tuples a set may have.
+pub(crate) const TUPLES_LIMIT: usize = 1_000_000;
 
 /// Distinct tuples in the order of their first appearance, which contracts see as their list. They are found in an ordered
 /// map, which no text can make slow.
@@ -58,7 +65,8 @@ impl<'s> TupleSet<'s> {
     }
 
     pub fn len(&self) -> usize
-        ensures { result ≡ length self.now }
+        ensures value { result ≡ length self.now }
+        ensures few { result ≤ tuples_limit }
     {
         self.tuples.len()
     }
@@ -66,6 +74,7 @@ impl<'s> TupleSet<'s> {
     pub fn as_slice(&self) -> &[Tuple<'s>]
         ensures value { result.now ≡ self.now }
         ensures distinct { IsDistinct same_tuple result.now }
+        ensures few { length result.now ≤ tuples_limit }
     {
         self.tuples.as_slice()
     }
@@ -83,9 +92,16 @@ impl<'s> TupleSet<'s> {
         self.position(tuple).is_some()
     }
 
+    pub fn get(&self, place: usize) -> Option<&Tuple<'s>>
+        ensures { option_copied result ≡ slice_get self.now place }
+    {
+        self.tuples.get(place)
+    }
+
     /// Puts a tuple at the end that the set does not have.
-    fn push(&mut self, tuple: Tuple<'s>) -> Result<(), AllocError>
-        requires { has self.old tuple ≡ false }
+    pub(crate) fn push(&mut self, tuple: Tuple<'s>) -> Result<(), AllocError>
+        requires fresh { has self.old tuple ≡ false }
+        requires room { length self.old < tuples_limit }
         ensures ok { OnOk result (self.new ≡ self.old ++ tuple.entry ∷ []) }
         ensures err { OnErr result (self.new ≡ self.old) }
     {
@@ -100,15 +116,32 @@ impl<'s> TupleSet<'s> {
         }
     }
 
-    /// Puts a tuple at the end, or leaves the set as it is where it has the tuple.
-    pub fn add(&mut self, tuple: Tuple<'s>) -> Result<(), AllocError>
+    /// Puts a tuple at the end, or leaves the set as it is where it has the tuple. `TooMany` is answered where the set has as
+    /// many tuples as it may have, and not this one.
+    pub fn add(&mut self, tuple: Tuple<'s>) -> Result<(), SetFault>
         ensures ok { OnOk result (self.new ≡ added self.old tuple.entry) }
         ensures err { OnErr result (self.new ≡ self.old) }
+        ensures made { IsMade (added self.old tuple.entry) (with_set result self.new) }
     {
+        let has_room = self.len() < TUPLES_LIMIT;
         if self.contains(&tuple) {
             Ok(())
+        } else if has_room {
+            self.push(tuple)?;
+            Ok(())
         } else {
-            self.push(tuple)
+            Err(SetFault::TooMany)
         }
+    }
+
+    /// The same set once more.
+    pub fn again(&self, alloc: Global) -> Result<TupleSet<'s>, AllocError>
+        ensures { IfOk result (λ copy. copy ≡ self.now) }
+    {
+        let mut copy = TupleSet::new(alloc);
+        for tuple in self.as_slice() {
+            copy.push(tuple.again())?;
+        }
+        Ok(copy)
     }
 }

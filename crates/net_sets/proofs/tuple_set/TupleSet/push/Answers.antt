@@ -1,7 +1,8 @@
-use Rattle.std.specs.Prelude.{cond, Some, length}
+use Rattle.std.specs.Prelude.{cond, Some, length, ◌<◌}
 use Rattle.std.specs.Ordering.{is_eq}
-use Rattle.std.proofs.Common.{◌≡◌, ap, ◌∙◌, rules}
+use Rattle.std.proofs.Common.{◌≡◌, ap, sym, subst, ◌∙◌, rules}
 use Rattle.net_sets.specs.Sets.{has}
+use Rattle.net_sets.specs.Limits.{tuples_limit}
 use Rattle.net_sets.specs.Kept.{told}
 use Rattle.net_sets.specs.Orders.{tuple_order}
 use Rattle.net_sets.proofs.Places.{kept_more}
@@ -11,4 +12,4 @@ pub invariant_of-self-in-Ok : goal.invariant_of-self-in-Ok
 invariant_of-self-in-Ok c =
     let end : c.len-place.result ≡ length c.self.inside.tuples.items = search rules in
     rw (c.in_ok-push.ensures.items, c.again.ensures)
-    (kept_more c.self.inside.tuples.items c.args.tuple c.self.inside.places c.insert.new.places c.self.invariant (ap (λ ts. has ts c.args.tuple) c.self.view_is ∙ c.requires) (λ q. c.in-Ok.ensures.ok q ∙ ap (λ k. cond (is_eq (tuple_order c.args.tuple q)) (Some k) (told c.self.inside.places q)) end))
+    (kept_more c.self.inside.tuples.items c.args.tuple c.self.inside.places c.insert.new.places c.self.invariant (ap (λ ts. has ts c.args.tuple) c.self.view_is ∙ c.requires.fresh) (subst (λ ts. length ts < tuples_limit) (sym c.self.view_is) c.requires.room) (λ q. c.in-Ok.ensures.ok q ∙ ap (λ k. cond (is_eq (tuple_order c.args.tuple q)) (Some k) (told c.self.inside.places q)) end))
