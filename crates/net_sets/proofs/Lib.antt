@@ -5,5 +5,6 @@ pub mod Reading
 pub mod Distinct
 pub mod Choosing
 pub mod Unions
+pub mod Crossing
 pub mod Rows
 mod Examples

@@ -4,6 +4,6 @@ pub mod Sets
 pub mod Orders
 pub mod Kept
 pub mod Held
-pub mod Made
 pub mod Operations
+pub mod Made
 pub mod Ranges

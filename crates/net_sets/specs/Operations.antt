@@ -29,9 +29,13 @@ intersection xs ys = filter (has ys) xs
 abbrev pub symmetric_difference : List Tuple → List Tuple → List Tuple
 symmetric_difference xs ys = difference xs ys ++ difference ys xs
 
+-- a tuple with each of the set behind it
+abbrev pub behind : Tuple → List Tuple → List Tuple
+behind x ys = map (λ y. x ++ y) ys
+
 -- each tuple of the first with each of the second behind it, the second's changing faster
 abbrev pub product : List Tuple → List Tuple → List Tuple
-product xs ys = flat_map (λ x. map (λ y. x ++ y) ys) xs
+product xs ys = flat_map (λ x. behind x ys) xs
 
 -- how many members the longest has
 abbrev pub widest : List Tuple → ℕ

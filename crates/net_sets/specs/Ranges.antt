@@ -1,24 +1,36 @@
 -- The whole numbers from one to another, by steps of one size.
-use Rattle.std.specs.Prelude.{◌≡◌, ℕ, zero, suc, ◌+◌, ◌/◌, ◌%◌, ◌≤◌, Bool, ◌&&◌, nat_eq, List, [], ◌∷◌, map, ℤ, pos, ◌+ℤ◌, ◌-ℤ◌, ◌*ℤ◌, unsigned_abs, int_lt, int_le, if◌then◌else◌}
+use Rattle.std.specs.Prelude.{◌≡◌, ℕ, suc, zero, ◌+◌, ◌/◌, ◌%◌, ◌≤◌, Bool, false, ◌&&◌, nat_eq, nat_le, List, [], ◌∷◌, map, ℤ, pos, ◌+ℤ◌, ◌-ℤ◌, ◌*ℤ◌, unsigned_abs, int_lt, Option, None, Some, if◌then◌else◌}
 use Rattle.net_sets.specs.Limits.{number_limit}
 use Rattle.net_sets.specs.declared.member.Member.TheVariants.{Number}
 use Rattle.net_sets.specs.Sets.{Tuple}
 
--- how far it is from one number to another in the direction of the steps
-abbrev pub way : ℤ → ℤ → ℤ → ℤ
-way by from to = if int_lt by (pos 0) then from -ℤ to else to -ℤ from
+-- how far it is from one number up to another
+abbrev pub way_up : ℤ → ℤ → Option ℕ
+way_up low high = if int_lt high low then None else Some (unsigned_abs (high -ℤ low))
+
+-- how far it is in the direction of the steps, where they lead there
+abbrev pub way_on : ℤ → ℤ → ℤ → Option ℕ
+way_on by from to = if int_lt by (pos 0) then way_up to from else way_up from to
+
+abbrev size_by : ℤ → Option ℕ → ℕ
+size_by by None = 0
+size_by by (Some way) = way / unsigned_abs by + 1
 
 -- how many numbers there are from the first to the last
 abbrev pub range_size : ℤ → ℤ → ℤ → ℕ
-range_size first last by = if int_lt (way by first last) (pos 0) then 0 else unsigned_abs (way by first last) / unsigned_abs by + 1
+range_size first last by = size_by by (way_on by first last)
+
+abbrev met_by : ℤ → Option ℕ → Option ℕ → Bool
+met_by by (Some way) (Some whole) = nat_le way whole && nat_eq (way % unsigned_abs by) 0
+met_by by _ _ = false
+
+-- a number is in the range where it lies between the ends, and whole steps lead to it
+abbrev pub in_range : ℤ → ℤ → ℤ → ℤ → Bool
+in_range first last by x = met_by by (way_on by first x) (way_on by first last)
 
 -- the number behind so many steps
 abbrev pub number_at : ℤ → ℤ → ℕ → ℤ
 number_at first by k = first +ℤ pos k *ℤ by
-
--- a number is in the range where it lies between the ends, and whole steps lead to it
-abbrev pub in_range : ℤ → ℤ → ℤ → ℤ → Bool
-in_range first last by x = (int_le (pos 0) (way by first x) && int_le (way by first x) (way by first last)) && nat_eq (unsigned_abs (way by first x) % unsigned_abs by) 0
 
 -- so many numbers, one step after the other
 abbrev pub numbers_by : ℤ → ℤ → ℕ → List ℤ

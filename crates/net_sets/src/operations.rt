@@ -1,8 +1,8 @@
 //! What is made of two sets of tuples.
-ghost use Rattle.std.specs.Prelude.{◌≡◌, ◌<◌, ◌≤◌, ◌++◌, ◌∷◌, [], false, if◌then◌else◌, length, IfOk, OnOk};
+ghost use Rattle.std.specs.Prelude.{◌≡◌, ◌<◌, ◌+◌, ◌≤◌, ◌++◌, ◌∷◌, [], false, if◌then◌else◌, length, IfOk, OnOk};
 ghost use Rattle.net_sets.specs.Limits.{arity_limit, tuples_limit};
-ghost use Rattle.net_sets.specs.Made.{IsMade};
-ghost use Rattle.net_sets.specs.Operations.{union, difference, intersection, symmetric_difference, is_within, is_chosen, chosen, widest};
+ghost use Rattle.net_sets.specs.Made.{IsMade, IsCrossed, with_set};
+ghost use Rattle.net_sets.specs.Operations.{union, difference, intersection, symmetric_difference, is_within, is_chosen, chosen, behind, widest};
 ghost use Rattle.net_sets.specs.Sets.{has};
 
 use crate::fault::SetFault;
@@ -118,4 +118,40 @@ pub fn widest<'s>(set: &TupleSet<'s>) -> usize
         width = width.max(tuple.len());
     }
     width
+}
+
+/// Adds the tuples that begin with one and go on with one of a set, in its order.
+fn add_beside<'s>(
+    all: &mut TupleSet<'s>,
+    front: &Tuple<'s>,
+    second: &TupleSet<'s>,
+) -> Result<(), SetFault>
+    requires { length front.now + widest second.now ≤ arity_limit }
+    ensures { IsMade (union all.old (behind front.now second.now)) (with_set result all.new) }
+{
+    let _few = all.len();
+    for tuple in second.as_slice() {
+        all.add(front.beside(tuple))?;
+    }
+    Ok(())
+}
+
+/// Each tuple of the first set with each of the second behind it, in the order of the first and then of the second. `TooMany`
+/// comes before a tuple is made.
+pub fn cross<'s>(
+    alloc: Global,
+    first: &TupleSet<'s>,
+    second: &TupleSet<'s>,
+) -> Result<TupleSet<'s>, SetFault>
+    requires { widest first.now + widest second.now ≤ arity_limit }
+    ensures { IsCrossed first.now second.now result }
+{
+    if first.len() * second.len() > TUPLES_LIMIT {
+        return Err(SetFault::TooMany);
+    }
+    let mut all = TupleSet::new(alloc);
+    for tuple in first.as_slice() {
+        add_beside(&mut all, tuple, second)?;
+    }
+    Ok(all)
 }

@@ -1,4 +1,4 @@
-ghost use Rattle.std.specs.Prelude.{◌≡◌, ◌<◌, ◌≤◌, ◌↔◌, IsTrue, [], ◌∷◌, ◌++◌, length};
+ghost use Rattle.std.specs.Prelude.{◌≡◌, ◌<◌, ◌+◌, ◌≤◌, ◌↔◌, IsTrue, [], ◌∷◌, ◌++◌, length};
 ghost use Rattle.net_sets.specs.Limits.{arity_limit};
 
 use crate::member::Member;
@@ -66,6 +66,18 @@ impl<'s> Tuple<'s> {
         ensures fits { length result.now ≤ arity_limit }
     {
         self.members.as_slice()
+    }
+
+    /// The members of this tuple, and those of another behind them.
+    pub fn beside(&self, other: &Tuple<'s>) -> Tuple<'s>
+        requires { length self.now + length other.now ≤ arity_limit }
+        ensures { result ≡ self.now ++ other.now }
+    {
+        let mut both = self.again();
+        for member in other.as_slice() {
+            both.add(member.again());
+        }
+        both
     }
 
     /// The same tuple once more.
