@@ -6,5 +6,7 @@ pub mod Distinct
 pub mod Choosing
 pub mod Unions
 pub mod Crossing
+pub mod Steps
+pub mod Listing
 pub mod Rows
 mod Examples

@@ -1,5 +1,12 @@
 ghost use Rattle.std.specs.Prelude.{◌≡◌, ◌<◌};
-ghost use Rattle.net_sets.specs.Ranges.{IsRange, in_range, range_size, way_on};
+ghost use Rattle.net_sets.specs.Made.{IsMade};
+ghost use Rattle.net_sets.specs.Ranges.{IsRange, in_range, number_at, range, range_size, singles, way_on};
+
+use crate::fault::SetFault;
+use crate::member::Member;
+use crate::tuple::Tuple;
+use crate::tuple_set::{TUPLES_LIMIT, TupleSet};
+use std::alloc::Global;
 
 /// The whole numbers `first`, `first + by`, and so on up to `last`, or down to it where `by` is negative. Where the steps lead
 /// away from `last` there is none. Nothing is listed.
@@ -45,5 +52,28 @@ impl Range {
             (Some(way), Some(whole)) => way <= whole && way % self.by.unsigned_abs() == 0,
             _ => false,
         }
+    }
+
+    /// The number at a place, counted from 0.
+    pub fn at(&self, place: u64) -> i64
+        requires { place < range_size self.now.first self.now.last self.now.by }
+        ensures { result ≡ number_at self.now.first self.now.by place }
+    {
+        self.first + place as i64 * self.by
+    }
+
+    /// The numbers as a set, each alone in a tuple. `TooMany` comes before one is made.
+    pub fn listed<'s>(&self, alloc: Global) -> Result<TupleSet<'s>, SetFault>
+        ensures { IsMade (singles (range self.now.first self.now.last self.now.by)) result }
+    {
+        let size = self.len();
+        if size > TUPLES_LIMIT as u64 {
+            return Err(SetFault::TooMany);
+        }
+        let mut all = TupleSet::new(alloc);
+        for place in 0..size {
+            all.push(Tuple::single(Member::Number(self.at(place))))?;
+        }
+        Ok(all)
     }
 }
