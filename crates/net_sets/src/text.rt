@@ -1,10 +1,11 @@
-ghost use Rattle.std.specs.Prelude.{◌≡◌, ◌<◌, ◌+◌, ◌-◌, ◌∷◌, [], length, take, MatchOption};
+ghost use Rattle.std.specs.Prelude.{◌≡◌, ◌<◌, ◌+◌, ◌-◌, ◌∷◌, [], ◌++◌, length, take, MatchOption, OnOk};
 ghost use Rattle.std.specs.Ordering.{nat_cmp};
 ghost use Rattle.std.specs.Cmp.Lexicographic.{slice_cmp};
 ghost use Rattle.net_lex.specs.Characters.{is_quote};
 ghost use Rattle.net_sets.specs.Texts.{text_of, spelled, single, same_text};
 
 use net_lex::Excerpt;
+use std::alloc::AllocError;
 use std::cmp::Ordering;
 use std::marker::Model;
 
@@ -91,6 +92,18 @@ impl<'s> Text<'s> {
             None
         };
         Text { bytes, doubled }
+    }
+
+    /// Appends the bytes of the text. Where memory is short the first of them may have been appended.
+    pub fn append_to(&self, out: &mut Vec<u8>) -> Result<(), AllocError>
+        ensures { OnOk result (out.new.items ≡ out.old.items ++ self.now) }
+    {
+        let mut left = self.bytes;
+        while let Some((byte, behind)) = first(left, self.doubled) {
+            out.push(byte)?;
+            left = behind;
+        }
+        Ok(())
     }
 
     /// The same text once more; no byte is copied.
