@@ -14,7 +14,9 @@ mod tuple_set;
 pub use fault::SetFault;
 pub use held::Held;
 pub use member::Member;
-pub use operations::{difference, intersection, is_within, symmetric_difference, union, widest};
+pub use operations::{
+    cross, difference, intersection, is_within, symmetric_difference, union, widest,
+};
 pub use range::Range;
 pub use table::Table;
 pub use text::Text;
