@@ -15,11 +15,11 @@ use Rattle.net_sets.proofs.Distinct.{put_last, stays}
 use Rattle.net_sets.proofs.Unions.{grows}
 
 -- no tuple is longer than the widest
-least : (most : ℕ) (ts : List Tuple) → most ≤ fold (λ m t. max m (length t)) most ts
+pub least : (most : ℕ) (ts : List Tuple) → most ≤ fold (λ m t. max m (length t)) most ts
 least most [] = omega arith
 least most (t ∷ ts) = let more = least (max most (length t)) ts in omega arith
 
-wide_from : (most : ℕ) (ts : List Tuple) (i : ℕ) (d : Tuple) → i < length ts → length (get_or ts i d) ≤ fold (λ m t. max m (length t)) most ts
+pub wide_from : (most : ℕ) (ts : List Tuple) (i : ℕ) (d : Tuple) → i < length ts → length (get_or ts i d) ≤ fold (λ m t. max m (length t)) most ts
 wide_from most [] i d h = absurd (omega arith)
 wide_from most (t ∷ ts) zero d h = let more = least (max most (length t)) ts in omega arith
 wide_from most (t ∷ ts) (suc i) d h = wide_from (max most (length t)) ts i d (omega arith)

@@ -8,5 +8,7 @@ pub mod Unions
 pub mod Crossing
 pub mod Steps
 pub mod Listing
+pub mod Chaining
+pub mod Indexed
 pub mod Rows
 mod Examples

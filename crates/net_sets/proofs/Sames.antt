@@ -50,7 +50,7 @@ nat_equal x y = grind (arith, nat_tests)
 int_equal : (x y : ℤ) → is_eq (int_cmp x y) ≡ int_eq x y
 int_equal x y = grind (arith, ints, nat_tests)
 
-member_equal : (x y : Member) → is_eq (member_order x y) ≡ same_member x y
+pub member_equal : (x y : Member) → is_eq (member_order x y) ≡ same_member x y
 member_equal (Number a) (Number b) = int_equal a b
 member_equal (Number a) (Name b) = refl
 member_equal (Name a) (Number b) = refl
@@ -58,3 +58,6 @@ member_equal (Name a) (Name b) = lists_equal nat_cmp nat_eq nat_equal a b
 
 pub order_equal : (s t : Tuple) → is_eq (tuple_order s t) ≡ same_tuple s t
 order_equal = lists_equal member_order same_member member_equal
+
+pub member_turned : (x y : Member) → same_member x y ≡ same_member y x
+member_turned x y = same_from_decides (same_member x y) (same_member y x) (member_decides x y) (Decides-like (same_member y x) (λ e. sym e) (λ e. sym e) (member_decides y x))

@@ -5,5 +5,6 @@ pub mod Orders
 pub mod Kept
 pub mod Held
 pub mod Operations
+pub mod Components
 pub mod Made
 pub mod Ranges

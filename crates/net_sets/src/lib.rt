@@ -1,8 +1,10 @@
 //! Members, tuples, sets of tuples and tables.
 #![tactic(auto)]
 
+mod component_index;
 mod fault;
 mod held;
+mod indexed_set;
 mod member;
 mod operations;
 mod range;
@@ -13,6 +15,7 @@ mod tuple_set;
 
 pub use fault::SetFault;
 pub use held::Held;
+pub use indexed_set::IndexedSet;
 pub use member::Member;
 pub use operations::{
     cross, difference, intersection, is_within, symmetric_difference, union, widest,
