@@ -10,5 +10,6 @@ pub mod Steps
 pub mod Listing
 pub mod Chaining
 pub mod Indexed
+pub mod Walking
 pub mod Rows
 mod Examples

@@ -8,3 +8,4 @@ pub mod Operations
 pub mod Components
 pub mod Made
 pub mod Ranges
+pub mod Laws

@@ -5,6 +5,7 @@ mod component_index;
 mod fault;
 mod held;
 mod indexed_set;
+mod laws;
 mod member;
 mod operations;
 mod range;
@@ -16,6 +17,7 @@ mod tuple_set;
 pub use fault::SetFault;
 pub use held::Held;
 pub use indexed_set::IndexedSet;
+pub use laws::walks_those_that_agree;
 pub use member::Member;
 pub use operations::{
     cross, difference, intersection, is_within, symmetric_difference, union, widest,

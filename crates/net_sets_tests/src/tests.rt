@@ -1,7 +1,7 @@
 use net_lex::Excerpt;
 use net_sets::{
-    Member, Range, SetFault, Table, Text, Tuple, TupleSet, cross, difference, intersection,
-    is_within, symmetric_difference, union, widest,
+    IndexedSet, Member, Range, SetFault, Table, Text, Tuple, TupleSet, cross, difference,
+    intersection, is_within, symmetric_difference, union, widest,
 };
 use std::alloc::{AllocError, Global};
 use std::process::Abort;
@@ -136,7 +136,10 @@ fn ranges(rt: HostRuntime) -> Result<(), Fail> {
         match range.listed(alloc) {
             Ok(all) => {
                 let right = same(alloc, &all, wanted)?;
-                assert!(rt; right && range.len() == all.len() as u64, "{first} {last} {by}");
+                assert!(rt;
+                    right && range.len() == all.len() as u64,
+                    "{first} {last} {by}"
+                );
             }
             Err(_) => assert!(rt; false, "{first} {last} {by}"),
         }
@@ -195,6 +198,48 @@ fn too_many(rt: HostRuntime) -> Result<(), Fail> {
     };
     if widest(&first) + widest(&second) <= 4 {
         assert!(rt; matches!(cross(alloc, &first, &second), Err(SetFault::TooMany)));
+    }
+    Ok(())
+}
+
+/// The places of the tuples that have the member at the component, as a walk finds them.
+fn walked(
+    alloc: Global,
+    set: &IndexedSet<'_>,
+    component: usize,
+    wanted: &Member<'_>,
+) -> Result<Vec<usize>, AllocError> {
+    let mut places = Vec::new(alloc);
+    let mut next = set.first_with(component, wanted);
+    for _ in 0..set.set().len() {
+        if let Some(place) = next {
+            places.push(place)?;
+            next = if place < set.set().len() {
+                set.next_with(component, place)
+            } else {
+                None
+            };
+        }
+    }
+    Ok(places)
+}
+
+#[test]
+fn components(rt: HostRuntime) -> Result<(), Fail> {
+    let alloc = rt.alloc();
+    let links = set(alloc, "a,b a,c b,a 1,b c,b a,a")?;
+    let indexed = IndexedSet::new(alloc, links)?;
+    let table: [(usize, &str, &[usize]); 6] = [
+        (0, "a", &[0, 1, 5]),
+        (0, "'b'", &[2]),
+        (1, "b", &[0, 3, 4]),
+        (0, "1", &[3]),
+        (0, "'1'", &[]),
+        (2, "a", &[]),
+    ];
+    for (component, wanted, places) in table {
+        let found = walked(alloc, &indexed, component, &member(wanted))?;
+        assert!(rt; found.as_slice() == places, "{component} {wanted}");
     }
     Ok(())
 }
