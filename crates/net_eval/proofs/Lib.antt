@@ -1,0 +1,8 @@
+mod Trees
+mod NumberExamples
+mod KindExamples
+mod ConditionExamples
+mod NameExamples
+mod SetExamples
+mod ListExamples
+mod IndexExamples

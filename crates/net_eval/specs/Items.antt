@@ -1,0 +1,97 @@
+-- Items of braces, by their form.
+use Rattle.std.specs.Prelude.{ℕ, ◌+◌, Bool, true, false, ◌&&◌, ◌||◌, List, nat_le, Option, None, Some, if◌then◌else◌, Ok}
+use Rattle.net_lex.specs.declared.span.Span.{Span}
+use Rattle.net_sets.specs.Limits.{arity_limit}
+use Rattle.net_sets.specs.Sets.{Tuple}
+use Rattle.net_tree.specs.Role.{role_of, is_name}
+use Rattle.net_tree.specs.Tree.{Tree, Links, Part, leaf, tuple, chain, none, link, absent, part}
+use Rattle.net_eval.specs.declared.fault.EvalDefect.TheVariants.{KindMismatch, Arity}
+use Rattle.net_eval.specs.declared.operation.Operation.{Operation}
+use Rattle.net_eval.specs.declared.operation.Operation.TheVariants as op
+use Rattle.net_eval.specs.declared.value.Value.{Value}
+use Rattle.net_eval.specs.declared.value.Value.TheVariants.{Many}
+use Rattle.net_eval.specs.Outcomes.{Outcome, and_then, refused}
+use Rattle.net_eval.specs.Operations.{operation, is_range}
+use Rattle.net_eval.specs.Sets.{fits}
+use Rattle.net_eval.specs.Worlds.{Text, World, Scope, is_known}
+
+abbrev pub is_in : Operation → Bool
+is_in op.In = true
+is_in _ = false
+
+-- `in` alone, between two operands
+abbrev pub is_lone_in : Links → Bool
+is_lone_in (link o y none) = is_in (operation o)
+is_lone_in _ = false
+
+-- an item with `in` at its top
+abbrev pub has_in : Tree → Bool
+has_in (chain n x l) = is_lone_in l
+has_in _ = false
+
+abbrev pub any_in : Links → Bool
+any_in none = false
+any_in (link o x l) = has_in x || any_in l
+
+-- a chain that is a range begins with `..`
+abbrev pub begins_range : Links → Bool
+begins_range none = false
+begins_range (link o y l) = is_range (operation o)
+
+abbrev pub has_part : Part → Bool
+has_part absent = false
+has_part (part m x) = true
+
+-- a name that stands alone
+abbrev pub bare : Tree → Option Text
+bare (leaf t) = if is_name (role_of t) then Some t.text else None
+bare _ = None
+
+abbrev pub unless_known : World → Scope → Option Text → Option Text
+unless_known w s None = None
+unless_known w s (Some name) = if is_known w s name then None else Some name
+
+-- the name of a new dummy: it stands alone, and means nothing so far
+abbrev pub new_dummy : World → Scope → Tree → Option Text
+new_dummy w s x = unless_known w s (bare x)
+
+abbrev pub size : Links → ℕ
+size none = 0
+size (link o x l) = 1 + size l
+
+-- how many members the tuples of an item's set must have, where its left tells that by its form
+abbrev pub needed : Tree → Option ℕ
+needed (tuple o x l c) = Some (1 + size l)
+needed (leaf t) = Some 1
+needed _ = None
+
+abbrev pub fits_needed : Option ℕ → Option ℕ → Bool
+fits_needed d None = true
+fits_needed d (Some n) = fits d n && nat_le n arity_limit
+
+-- the tuples of the set behind `in`
+abbrev pub chosen : Span → Option ℕ → Value → Outcome (List Tuple)
+chosen at n (Many d ts) = if fits_needed d n then Ok ts else refused Arity at
+chosen at n _ = refused KindMismatch at
+
+-- the tuples of an item that is a set
+abbrev pub tuples_of : Span → Value → Outcome (List Tuple)
+tuples_of at (Many d ts) = Ok ts
+tuples_of at _ = refused KindMismatch at
+
+abbrev pub is_set : Value → Bool
+is_set (Many d ts) = true
+is_set _ = false
+
+-- what the first item of braces opens: a walk over tuples, or a list of values
+pub data Opening : Type 0 where
+  walking : List Tuple → Opening
+  listing : Value → Opening
+
+-- braces without `in` index where their first item is a set
+abbrev pub opened : Span → Bool → Value → Outcome Opening
+opened at indexing v = if indexing || is_set v then and_then (tuples_of at v) (λ ts. Ok (walking ts)) else Ok (listing v)
+
+abbrev pub open_with : {A : Type 0} → (List Tuple → Outcome A) → (Value → Outcome A) → Opening → Outcome A
+open_with walk list (walking ts) = walk ts
+open_with walk list (listing v) = list v

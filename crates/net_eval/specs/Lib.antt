@@ -1,0 +1,12 @@
+pub mod Held
+pub mod Outcomes
+pub mod Limits
+pub mod Worlds
+pub mod Operations
+pub mod Numbers
+pub mod Sets
+pub mod Operators
+pub mod Items
+pub mod Widths
+pub mod Rows
+pub mod Values

@@ -1,0 +1,164 @@
+-- Walks over braces: where they stand, and the keys that they find.
+use Rattle.std.specs.Prelude.{ℕ, ◌+◌, Bool, true, false, List, [], ◌∷◌, ◌++◌, length, map, nat_eq, nat_le, nat_lt, Option, None, Some, if◌then◌else◌, Ok, ℤ, pos}
+use Rattle.net_lex.specs.declared.span.Span.{Span}
+use Rattle.net_sets.specs.declared.member.Member.{Member}
+use Rattle.net_sets.specs.declared.member.Member.TheVariants.{Number}
+use Rattle.net_sets.specs.Limits.{arity_limit, tuples_limit}
+use Rattle.net_sets.specs.Sets.{Tuple, same_member, same_tuple}
+use Rattle.net_sets.specs.Operations.{union}
+use Rattle.net_eval.specs.declared.fault.EvalDefect.TheVariants.{NoValue, KindMismatch, Arity, TooMany}
+use Rattle.net_eval.specs.declared.operation.Reduction.{Reduction}
+use Rattle.net_eval.specs.declared.operation.Reduction.TheVariants.{Sum, Min, Max}
+use Rattle.net_eval.specs.declared.value.Value.{Value}
+use Rattle.net_eval.specs.declared.value.Value.TheVariants.{One, Several, Many}
+use Rattle.net_eval.specs.declared.row.Place.{Place}
+use Rattle.net_eval.specs.declared.row.Row.{Row}
+use Rattle.net_eval.specs.declared.row.Keys.{Keys}
+use Rattle.net_eval.specs.Outcomes.{Outcome, and_then, refused}
+use Rattle.net_eval.specs.Worlds.{Text, Scope, with_dummy}
+use Rattle.net_eval.specs.Numbers.{number, sized, gathered}
+
+abbrev pub start : Scope → Place
+start s = record { scope = s; key = Some [] }
+
+-- a key with more members, as long as it has at most four
+abbrev pub longer : Tuple → Option Tuple → Option Tuple
+longer t None = None
+longer t (Some key) = if nat_le (length key + length t) arity_limit then Some (key ++ t) else None
+
+-- a tuple behind the key
+abbrev pub with_key : Tuple → Place → Place
+with_key t p = record { scope = p.scope; key = longer t p.key }
+
+-- a new dummy takes a member, which is one of the key
+abbrev pub bind : Text → Member → Place → Place
+bind name m p = record { scope = with_dummy name m p.scope; key = longer (m ∷ []) p.key }
+
+-- the place stays where the value of a component is the member
+abbrev pub agrees : Span → Member → Place → Value → Outcome (Option Place)
+agrees at m p (One v) = Ok (if same_member v m then Some p else None)
+agrees at m p _ = refused KindMismatch at
+
+abbrev pub agrees_whole : Span → Tuple → Place → Tuple → Outcome (Option Place)
+agrees_whole at t p v = if nat_eq (length v) (length t) then Ok (if same_tuple v t then Some p else None) else refused Arity at
+
+-- the same of what is no tuple by its form
+abbrev pub agrees_as : Span → Tuple → Place → Value → Outcome (Option Place)
+agrees_as at t p (One v) = agrees_whole at t p (v ∷ [])
+agrees_as at t p (Several v) = agrees_whole at t p v
+agrees_as at t p _ = refused KindMismatch at
+
+-- a new dummy takes the member; any other component must have it for its value
+abbrev pub fitted : Span → Option Text → Outcome Value → Member → Place → Outcome (Option Place)
+fitted at (Some name) own m p = Ok (Some (bind name m p))
+fitted at None own m p = and_then own (agrees at m p)
+
+-- the same of what stands alone at the left of `in`
+abbrev pub fitted_alone : Span → Option Text → Outcome Value → Tuple → Place → Outcome (Option Place)
+fitted_alone at (Some name) own (m ∷ ms) p = Ok (Some (bind name m p))
+fitted_alone at (Some name) own [] p = Ok (Some p)
+fitted_alone at None own t p = and_then own (agrees_as at t p)
+
+abbrev pub if_fits : (Place → Outcome (Option Place)) → Option Place → Outcome (Option Place)
+if_fits next None = Ok None
+if_fits next (Some p) = next p
+
+abbrev pub go_on : (Place → List Row → Outcome (List Row)) → List Row → Option Place → Outcome (List Row)
+go_on next found None = Ok found
+go_on next found (Some p) = next p found
+
+-- the rest of a walk from where a tuple leads to
+abbrev pub onward : (Tuple → Place → Outcome (Option Place)) → (Place → List Row → Outcome (List Row)) → Place → Tuple → List Row → Outcome (List Row)
+onward place next p t found = and_then (place t p) (go_on next found)
+
+-- keys have the same number of members
+abbrev pub is_alike : Tuple → List Row → Bool
+is_alike key [] = true
+is_alike key (r ∷ rows) = nat_eq (length r.key) (length key)
+
+abbrev pub add_row : Span → Scope → Tuple → List Row → Outcome (List Row)
+add_row at s key found =
+    if is_alike key found
+    then if nat_lt (length found) tuples_limit then Ok (found ++ (record { key = key; scope = s }) ∷ []) else refused TooMany at
+    else refused Arity at
+
+-- a key that is complete: of at most four members, of as many as those before, and at most a million of them
+abbrev pub finished_key : Span → Scope → Option Tuple → List Row → Outcome (List Row)
+finished_key at s None found = refused Arity at
+finished_key at s (Some key) found = add_row at s key found
+
+abbrev pub finished : Span → Place → List Row → Outcome (List Row)
+finished at p found = finished_key at p.scope p.key found
+
+abbrev pub keep : Row → List Row → Bool → List Row
+keep r found true = found ++ r ∷ []
+keep r found false = found
+
+-- the rows at which the condition holds
+abbrev pub kept : (Scope → Outcome Bool) → List Row → List Row → Outcome (List Row)
+kept holds [] found = Ok found
+kept holds (r ∷ rows) found = and_then (holds r.scope) (λ b. kept holds rows (keep r found b))
+
+-- the number of members of the keys; where there is none, that which their form gives
+abbrev pub width_of : List Row → Outcome ℕ → Outcome ℕ
+width_of [] by_form = by_form
+width_of (r ∷ rows) by_form = Ok (length r.key)
+
+abbrev pub keys : ℕ → List Row → Keys
+keys n rows = record { width = Some n; rows = rows }
+
+-- the rows that items lead to, and then those at which the condition holds
+abbrev pub selected : Outcome ℕ → (Scope → Outcome Bool) → List Row → Outcome Keys
+selected by_form holds rows = and_then (width_of rows by_form) (λ n. and_then (kept holds rows []) (λ left. Ok (keys n left)))
+
+-- `{}`
+abbrev pub no_keys : Keys
+no_keys = record { width = None; rows = [] }
+
+-- the keys as a set
+abbrev pub as_set : Keys → Value
+as_set k = Many k.width (union [] (map (λ r. r.key) k.rows))
+
+abbrev pub rows_of : Scope → List Tuple → List Row
+rows_of s ts = map (λ t. record { key = t; scope = s }) ts
+
+-- what braces list: members and tuples
+abbrev pub tuple_in : Span → Value → Outcome (Tuple)
+tuple_in at (One m) = Ok (m ∷ [])
+tuple_in at (Several t) = Ok t
+tuple_in at _ = refused KindMismatch at
+
+abbrev pub tuples_in : Span → List Value → List Tuple → Outcome (List Tuple)
+tuples_in at [] found = Ok found
+tuples_in at (v ∷ vs) found = and_then (tuple_in at v) (λ t. tuples_in at vs (found ++ t ∷ []))
+
+-- all tuples have n members
+abbrev pub all_of : ℕ → List Tuple → Bool
+all_of n [] = true
+all_of n (t ∷ ts) = if nat_eq (length t) n then all_of n ts else false
+
+abbrev pub listed_as : Span → Scope → List Tuple → List Tuple → Outcome Keys
+listed_as at s [] each_once = Ok no_keys
+listed_as at s (t ∷ ts) each_once =
+    if all_of (length t) ts
+    then if nat_le (length each_once) tuples_limit then Ok (keys (length t) (rows_of s each_once)) else refused TooMany at
+    else refused Arity at
+
+-- braces without a condition list tuples of the same length, each once
+abbrev pub listed : Span → Scope → Bool → List Value → Outcome Keys
+listed at s conditioned vs = and_then (if conditioned then refused KindMismatch at else tuples_in at vs []) (λ ts. listed_as at s ts (union [] ts))
+
+-- the numbers that a reduction comes to, one after the other
+abbrev pub gathered_over : Span → Reduction → (Scope → Outcome Value) → List Row → Option ℤ → Outcome (Option ℤ)
+gathered_over at r body [] so_far = Ok so_far
+gathered_over at r body (row ∷ rows) so_far =
+    and_then (body row.scope) (λ v. and_then (number at v) (λ n. gathered_over at r body rows (Some (gathered r so_far n))))
+
+abbrev pub reduced_to : Span → Reduction → Option ℤ → Outcome Value
+reduced_to at Sum None = Ok (One (Number (pos 0)))
+reduced_to at Min None = refused NoValue at
+reduced_to at Max None = refused NoValue at
+reduced_to at r (Some n) = sized at n
+
+abbrev pub reduce : Span → Reduction → (Scope → Outcome Value) → Keys → Outcome Value
+reduce at r body k = and_then (gathered_over at r body k.rows None) (reduced_to at r)

@@ -1,0 +1,47 @@
+-- What the operators on sets give.
+use Rattle.std.specs.Prelude.{ℕ, ◌+◌, Bool, true, List, length, nat_eq, nat_le, Option, None, Some, if◌then◌else◌, Ok}
+use Rattle.net_lex.specs.declared.span.Span.{Span}
+use Rattle.net_sets.specs.Limits.{arity_limit, tuples_limit}
+use Rattle.net_sets.specs.Sets.{Tuple, has}
+use Rattle.net_sets.specs.Operations.{product, is_within}
+use Rattle.net_eval.specs.declared.fault.EvalDefect.TheVariants.{Arity, TooMany}
+use Rattle.net_eval.specs.declared.value.Value.{Value}
+use Rattle.net_eval.specs.declared.value.Value.TheVariants.{Many}
+use Rattle.net_eval.specs.Outcomes.{Outcome, refused}
+
+-- `{}` counts as of one component
+abbrev pub counted : Option ℕ → ℕ
+counted None = 1
+counted (Some d) = d
+
+-- `{}` fits every dimension
+abbrev pub fits : Option ℕ → ℕ → Bool
+fits None n = true
+fits (Some d) n = nat_eq d n
+
+-- the dimension that two sets share, if they do: `{}` takes that of the other
+abbrev pub shared : Option ℕ → Option ℕ → Option ℕ
+shared None e = Some (counted e)
+shared (Some m) e = if fits e m then Some m else None
+
+-- a set of this dimension, if it is not too large
+abbrev pub within_size : Span → ℕ → List Tuple → Outcome Value
+within_size at d ts = if nat_le (length ts) tuples_limit then Ok (Many (Some d) ts) else refused TooMany at
+
+-- a set made of two of the same dimension
+abbrev pub set_of : Span → Option ℕ → List Tuple → Outcome Value
+set_of at None ts = refused Arity at
+set_of at (Some d) ts = within_size at d ts
+
+abbrev pub cross : Span → Option ℕ → List Tuple → Option ℕ → List Tuple → Outcome Value
+cross at d xs e ys =
+    if nat_le (counted d + counted e) arity_limit then within_size at (counted d + counted e) (product xs ys) else refused Arity at
+
+-- whether a set has a tuple
+abbrev pub among : Span → Tuple → Option ℕ → List Tuple → Outcome Bool
+among at t d ts = if fits d (length t) then Ok (has ts t) else refused Arity at
+
+-- whether all tuples of one set are in another
+abbrev pub inside : Span → Option ℕ → List Tuple → List Tuple → Outcome Bool
+inside at None xs ys = refused Arity at
+inside at (Some d) xs ys = Ok (is_within xs ys)

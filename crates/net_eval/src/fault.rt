@@ -1,0 +1,69 @@
+use net_lex::Span;
+use net_sets::{Text, Tuple};
+use std::alloc::{AllocError, AllocFailed};
+
+/// What is wrong with an expression in its world.
+#[derive(Clone, Copy)]
+pub enum EvalDefect {
+    /// A parameter has no value at a key of its index list, or there is nothing that `min` or `max` could choose from.
+    NoValue,
+    /// A key is not in a parameter's index list.
+    OutsideSet,
+    /// A number, text, tuple, set or condition stands where another kind is needed.
+    KindMismatch,
+    /// A tuple, a key or a set has another number of components than is needed.
+    Arity,
+    /// `div` and `mod` of a negative number or by less than 1; steps of less than 1 in a range.
+    DivMod,
+    /// A number of more than 1,000,000,000,000 in size.
+    TooLarge,
+    /// A set or list of more than 1,000,000 tuples.
+    TooMany,
+}
+
+/// What a fault tells beside its place.
+#[derive(Drop)]
+pub enum Detail<'s> {
+    Nothing,
+    /// A name that has no keys.
+    Named(Text<'s>),
+    /// A name with its key.
+    Keyed(Text<'s>, Tuple<'s>),
+}
+
+/// A fault, and the part of the model that has it.
+#[derive(Drop)]
+pub struct Refusal<'s> {
+    pub defect: EvalDefect,
+    pub at: Span,
+    pub detail: Detail<'s>,
+}
+
+/// Why an expression has no value.
+#[derive(Drop)]
+pub enum EvalFault<'s> {
+    OutOfMemory,
+    Refused(Refusal<'s>),
+}
+
+impl<'s> From<AllocError> for EvalFault<'s> {
+    ghost use Rattle.std.specs.Prelude.{◌≡◌};
+    ghost use Rattle.net_eval.specs.declared.fault.EvalFault.TheVariants.{OutOfMemory};
+
+    ghost from_gives = { λ _ e. e ≡ OutOfMemory };
+
+    fn from(_refused: AllocError) -> EvalFault<'s> {
+        EvalFault::OutOfMemory
+    }
+}
+
+impl<'s, T: Drop> From<AllocFailed<T>> for EvalFault<'s> {
+    ghost use Rattle.std.specs.Prelude.{◌≡◌};
+    ghost use Rattle.net_eval.specs.declared.fault.EvalFault.TheVariants.{OutOfMemory};
+
+    ghost from_gives = { λ _ e. e ≡ OutOfMemory };
+
+    fn from(_refused: AllocFailed<T>) -> EvalFault<'s> {
+        EvalFault::OutOfMemory
+    }
+}
