@@ -1,3 +1,5 @@
+pub mod Numerals
+pub mod Seeing
 mod Trees
 mod NumberExamples
 mod KindExamples

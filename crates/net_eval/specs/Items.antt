@@ -13,7 +13,7 @@ use Rattle.net_eval.specs.declared.value.Value.TheVariants.{Many}
 use Rattle.net_eval.specs.Outcomes.{Outcome, and_then, refused}
 use Rattle.net_eval.specs.Operations.{operation, is_range}
 use Rattle.net_eval.specs.Sets.{fits}
-use Rattle.net_eval.specs.Worlds.{Text, World, Scope, is_known}
+use Rattle.net_eval.specs.Worlds.{Name, World, Scope, is_known}
 
 abbrev pub is_in : Operation → Bool
 is_in op.In = true
@@ -43,16 +43,16 @@ has_part absent = false
 has_part (part m x) = true
 
 -- a name that stands alone
-abbrev pub bare : Tree → Option Text
+abbrev pub bare : Tree → Option Name
 bare (leaf t) = if is_name (role_of t) then Some t.text else None
 bare _ = None
 
-abbrev pub unless_known : World → Scope → Option Text → Option Text
+abbrev pub unless_known : World → Scope → Option Name → Option Name
 unless_known w s None = None
 unless_known w s (Some name) = if is_known w s name then None else Some name
 
 -- the name of a new dummy: it stands alone, and means nothing so far
-abbrev pub new_dummy : World → Scope → Tree → Option Text
+abbrev pub new_dummy : World → Scope → Tree → Option Name
 new_dummy w s x = unless_known w s (bare x)
 
 abbrev pub size : Links → ℕ

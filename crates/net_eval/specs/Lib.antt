@@ -2,6 +2,7 @@ pub mod Held
 pub mod Outcomes
 pub mod Limits
 pub mod Worlds
+pub mod Kept
 pub mod Operations
 pub mod Numbers
 pub mod Sets

@@ -15,7 +15,7 @@ use Rattle.net_eval.specs.declared.row.Place.{Place}
 use Rattle.net_eval.specs.declared.row.Row.{Row}
 use Rattle.net_eval.specs.declared.row.Keys.{Keys}
 use Rattle.net_eval.specs.Outcomes.{Outcome, and_then, refused}
-use Rattle.net_eval.specs.Worlds.{Text, Scope, with_dummy}
+use Rattle.net_eval.specs.Worlds.{Name, Scope, with_dummy}
 use Rattle.net_eval.specs.Numbers.{number, sized, gathered}
 
 abbrev pub start : Scope → Place
@@ -31,7 +31,7 @@ abbrev pub with_key : Tuple → Place → Place
 with_key t p = record { scope = p.scope; key = longer t p.key }
 
 -- a new dummy takes a member, which is one of the key
-abbrev pub bind : Text → Member → Place → Place
+abbrev pub bind : Name → Member → Place → Place
 bind name m p = record { scope = with_dummy name m p.scope; key = longer (m ∷ []) p.key }
 
 -- the place stays where the value of a component is the member
@@ -49,12 +49,12 @@ agrees_as at t p (Several v) = agrees_whole at t p v
 agrees_as at t p _ = refused KindMismatch at
 
 -- a new dummy takes the member; any other component must have it for its value
-abbrev pub fitted : Span → Option Text → Outcome Value → Member → Place → Outcome (Option Place)
+abbrev pub fitted : Span → Option Name → Outcome Value → Member → Place → Outcome (Option Place)
 fitted at (Some name) own m p = Ok (Some (bind name m p))
 fitted at None own m p = and_then own (agrees at m p)
 
 -- the same of what stands alone at the left of `in`
-abbrev pub fitted_alone : Span → Option Text → Outcome Value → Tuple → Place → Outcome (Option Place)
+abbrev pub fitted_alone : Span → Option Name → Outcome Value → Tuple → Place → Outcome (Option Place)
 fitted_alone at (Some name) own (m ∷ ms) p = Ok (Some (bind name m p))
 fitted_alone at (Some name) own [] p = Ok (Some p)
 fitted_alone at None own t p = and_then own (agrees_as at t p)

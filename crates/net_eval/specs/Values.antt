@@ -2,7 +2,7 @@
 use Rattle.std.specs.Prelude.{Bool, true, not, List, [], ◌∷◌, ◌++◌, Option, None, Some, if◌then◌else◌, Ok, ℤ, pos}
 use Rattle.net_lex.specs.declared.span.Span.{Span}
 use Rattle.net_lex.specs.declared.token.Token.{Token}
-use Rattle.net_sets.specs.declared.member.Member.TheVariants.{Number, Name}
+use Rattle.net_sets.specs.declared.member.Member.TheVariants as member
 use Rattle.net_sets.specs.Texts.{text_of}
 use Rattle.net_sets.specs.Sets.{Tuple}
 use Rattle.net_tree.specs.declared.role.Role.{Role}
@@ -17,7 +17,7 @@ use Rattle.net_eval.specs.declared.row.Place.{Place}
 use Rattle.net_eval.specs.declared.row.Row.{Row}
 use Rattle.net_eval.specs.declared.row.Keys.{Keys}
 use Rattle.net_eval.specs.Outcomes.{Outcome, and_then, refused, each}
-use Rattle.net_eval.specs.Worlds.{Text, World, Scope, bound, name_at}
+use Rattle.net_eval.specs.Worlds.{Name, World, Scope, bound, name_at}
 use Rattle.net_eval.specs.Operations.{operation, reduction, is_minus}
 use Rattle.net_eval.specs.Numbers.{number_in, number, turned, range_of}
 use Rattle.net_eval.specs.Operators.{apply, decided, truth, tuple_of}
@@ -27,23 +27,23 @@ use Rattle.net_eval.specs.Widths.{width_by_form}
 
 abbrev pub number_value : Span → Option ℤ → Outcome Value
 number_value at None = refused TooLarge at
-number_value at (Some n) = Ok (One (Number n))
+number_value at (Some n) = Ok (One (member.Number n))
 
 abbrev pub token_value : World → Scope → Token → Role → Outcome Value
 token_value w s t roles.Number = number_value t.span (number_in t.text)
-token_value w s t roles.Text = Ok (One (Name (text_of t.text)))
+token_value w s t roles.Text = Ok (One (member.Name (text_of t.text)))
 token_value w s t roles.Name = name_at t.span w t.text (bound s t.text) []
 token_value w s t _ = refused KindMismatch t.span
 
 -- what a name has at the subscripts
-abbrev pub subscripted : Span → World → Scope → Text → List Value → Outcome Value
+abbrev pub subscripted : Span → World → Scope → Name → List Value → Outcome Value
 subscripted at w s name vs = and_then (tuple_of at vs) (name_at at w name (bound s name))
 
 abbrev pub tupled : Span → List Value → Outcome Value
 tupled at vs = and_then (tuple_of at vs) (λ t. Ok (Several t))
 
 abbrev pub with_sign : Span → Bool → Value → Outcome Value
-with_sign at minus v = and_then (number at v) (λ n. Ok (One (Number (turned minus n))))
+with_sign at minus v = and_then (number at v) (λ n. Ok (One (member.Number (turned minus n))))
 
 -- what is decided, else the rest
 abbrev pub either : {A B : Type 0} → (A → B) → B → Option A → B
@@ -64,11 +64,11 @@ abbrev mutual
       and_then (value w s x) (λ v. if begins_range l then and_then (values w s l (v ∷ [])) (range_of (span_of (chain n x l))) else chained (span_of (chain n x l)) w s l v)
   value w s (choice i x t y e) =
       and_then (and_then (value w s x) (truth (span_of (choice i x t y e)))) (λ b. if b then value w s y else otherwise w s e)
-  value w s (net t u) = Ok (One (Number (pos 0)))
+  value w s (net t u) = Ok (One (member.Number (pos 0)))
 
   -- a missing `else` is 0
   pub otherwise : World → Scope → Part → Outcome Value
-  otherwise w s absent = Ok (One (Number (pos 0)))
+  otherwise w s absent = Ok (One (member.Number (pos 0)))
   otherwise w s (part m x) = value w s x
 
   -- the values of operands, behind those found before

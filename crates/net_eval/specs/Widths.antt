@@ -11,7 +11,7 @@ use Rattle.net_eval.specs.declared.operation.Operation.TheVariants as op
 use Rattle.net_eval.specs.declared.world.Entry.{Entry}
 use Rattle.net_eval.specs.declared.world.Entry.TheVariants.{Set}
 use Rattle.net_eval.specs.Outcomes.{Outcome, refused}
-use Rattle.net_eval.specs.Worlds.{Text, World, Scope, bound, entry_of, with_dummy}
+use Rattle.net_eval.specs.Worlds.{Name, World, Scope, bound, entry_of, with_dummy}
 use Rattle.net_eval.specs.Operations.{operation}
 use Rattle.net_eval.specs.Sets.{counted}
 use Rattle.net_eval.specs.Items.{has_in, any_in, bare, new_dummy, size}
@@ -25,7 +25,7 @@ abbrev pub unless_dummy : Option Member → Option ℕ → Option ℕ
 unless_dummy None d = d
 unless_dummy (Some m) d = None
 
-abbrev pub named_width : World → Scope → Option Text → Option ℕ
+abbrev pub named_width : World → Scope → Option Name → Option ℕ
 named_width w s None = None
 named_width w s (Some name) = unless_dummy (bound s name) (set_width (entry_of w name))
 
@@ -67,11 +67,11 @@ or_one None = Some 1
 or_one (Some d) = Some d
 
 -- a dummy in scope at no member in particular
-abbrev pub with_new : World → Scope → Option Text → Scope
+abbrev pub with_new : World → Scope → Option Name → Scope
 with_new w s None = s
 with_new w s (Some name) = with_dummy name (Number (pos 0)) s
 
-abbrev pub new_count : Option Text → ℕ
+abbrev pub new_count : Option Name → ℕ
 new_count None = 0
 new_count (Some name) = 1
 

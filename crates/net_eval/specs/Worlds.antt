@@ -1,9 +1,8 @@
 -- What names mean: the declared sets and parameters that are seen, and the dummies in scope.
-use Rattle.std.specs.Prelude.{ℕ, Bool, ◌||◌, cond, List, [], ◌∷◌, length, nat_eq, Option, None, Some, is_some, if◌then◌else◌, Ok}
-use Rattle.std.specs.Map.{lookup}
+use Rattle.std.specs.Prelude.{ℕ, ◌+◌, Bool, ◌||◌, List, [], ◌∷◌, length, nat_eq, Option, None, Some, is_some, if◌then◌else◌, Ok}
+use Rattle.std.specs.Str.{bytes_eq}
 use Rattle.net_lex.specs.declared.span.Span.{Span}
 use Rattle.net_sets.specs.declared.member.Member.{Member}
-use Rattle.net_sets.specs.Texts.{same_text}
 use Rattle.net_sets.specs.Sets.{Tuple, has, at_key}
 use Rattle.net_eval.specs.declared.fault.EvalDefect.TheVariants.{NoValue, OutsideSet, KindMismatch, Arity}
 use Rattle.net_eval.specs.declared.fault.Detail.{Detail}
@@ -15,30 +14,35 @@ use Rattle.net_eval.specs.declared.world.Entry.TheVariants.{Set, Parameter}
 use Rattle.net_eval.specs.declared.scope.Binding.{Binding}
 use Rattle.net_eval.specs.Outcomes.{Outcome, refused, refused_of}
 
--- the text of a name
-abbrev pub Text : Type 0
-Text = List ℕ
+abbrev pub Name : Type 0
+Name = List ℕ
 
 -- the sets and parameters that an expression may name, in order of declaration
 abbrev pub World : Type 0
-World = List (Text × Entry)
+World = List (Name × Entry)
 
-abbrev pub entry_of : World → Text → Option Entry
-entry_of w name = lookup (same_text name) w
+abbrev pub entry_of : World → Name → Option Entry
+entry_of [] name = None
+entry_of (e ∷ w) name = if bytes_eq e.0 name then Some e.1 else entry_of w name
+
+-- the place of a name among those that are declared, behind so many
+abbrev pub place_behind : ℕ → World → Name → Option ℕ
+place_behind i [] name = None
+place_behind i (e ∷ w) name = if bytes_eq e.0 name then Some i else place_behind (i + 1) w name
 
 -- the dummies, the newest first
 abbrev pub Scope : Type 0
 Scope = List Binding
 
-abbrev pub bound : Scope → Text → Option Member
+abbrev pub bound : Scope → Name → Option Member
 bound [] name = None
-bound (b ∷ s) name = cond (same_text name b.name) (Some b.member) (bound s name)
+bound (b ∷ s) name = if bytes_eq b.name name then Some b.member else bound s name
 
-abbrev pub with_dummy : Text → Member → Scope → Scope
+abbrev pub with_dummy : Name → Member → Scope → Scope
 with_dummy name m s = (record { name = name; member = m }) ∷ s
 
 -- a name that means something
-abbrev pub is_known : World → Scope → Text → Bool
+abbrev pub is_known : World → Scope → Name → Bool
 is_known w s name = is_some (bound s name) || is_some (entry_of w name)
 
 -- how many subscripts a parameter has
@@ -47,7 +51,7 @@ key_count None = 0
 key_count (Some n) = n
 
 -- a parameter with its key, as faults tell it
-abbrev pub reference : Text → Option ℕ → Tuple → Detail
+abbrev pub reference : Name → Option ℕ → Tuple → Detail
 reference name None key = Named name
 reference name (Some n) key = Keyed name key
 
@@ -57,7 +61,7 @@ value_at at d (Some m) listed = Ok (One m)
 value_at at d None listed = if listed then refused_of NoValue at d else refused_of OutsideSet at d
 
 -- what a declared name is at its subscripts
-abbrev pub entry_at : Span → Text → Option Entry → Tuple → Outcome Value
+abbrev pub entry_at : Span → Name → Option Entry → Tuple → Outcome Value
 entry_at at name None key = refused KindMismatch at
 entry_at at name (Some (Set d ts)) [] = Ok (Many (Some d) ts)
 entry_at at name (Some (Set d ts)) (m ∷ ms) = refused Arity at
@@ -65,7 +69,7 @@ entry_at at name (Some (Parameter n index values)) key =
     if nat_eq (length key) (key_count n) then value_at at (reference name n key) (at_key values key) (has index key) else refused Arity at
 
 -- what a name is at its subscripts; a dummy has none
-abbrev pub name_at : Span → World → Text → Option Member → Tuple → Outcome Value
+abbrev pub name_at : Span → World → Name → Option Member → Tuple → Outcome Value
 name_at at w name None key = entry_at at name (entry_of w name) key
 name_at at w name (Some m) [] = Ok (One m)
 name_at at w name (Some m) (k ∷ ks) = refused Arity at

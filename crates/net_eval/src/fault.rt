@@ -1,5 +1,12 @@
-use net_lex::Span;
-use net_sets::{Text, Tuple};
+ghost use Rattle.std.specs.Prelude.{◌≡◌};
+ghost use Rattle.net_tree.specs.Spans as trees;
+ghost use Rattle.net_tree.specs.View.{tree};
+ghost use Rattle.net_eval.specs.declared.fault.Detail.TheVariants.{Nothing};
+ghost use Rattle.net_eval.specs.declared.fault.EvalFault.TheVariants.{Refused};
+
+use net_lex::{Excerpt, Span};
+use net_sets::Tuple;
+use net_tree::{Expr, span_of};
 use std::alloc::{AllocError, AllocFailed};
 
 /// What is wrong with an expression in its world.
@@ -26,9 +33,9 @@ pub enum EvalDefect {
 pub enum Detail<'s> {
     Nothing,
     /// A name that has no keys.
-    Named(Text<'s>),
+    Named(Excerpt<'s>),
     /// A name with its key.
-    Keyed(Text<'s>, Tuple<'s>),
+    Keyed(Excerpt<'s>, Tuple<'s>),
 }
 
 /// A fault, and the part of the model that has it.
@@ -66,4 +73,37 @@ impl<'s, T: Drop> From<AllocFailed<T>> for EvalFault<'s> {
     fn from(_refused: AllocFailed<T>) -> EvalFault<'s> {
         EvalFault::OutOfMemory
     }
+}
+
+/// A fault at a place.
+pub(crate) fn refuse<'s>(defect: EvalDefect, at: Span) -> EvalFault<'s>
+    ensures { result ≡ Refused (record { defect = defect; at = at; detail = Nothing }) }
+{
+    EvalFault::Refused(Refusal {
+        defect,
+        at,
+        detail: Detail::Nothing,
+    })
+}
+
+/// A fault at a tree; its place is looked for here, and not where nothing is at fault.
+pub(crate) fn refuse_tree<'s>(defect: EvalDefect, whole: &Expr<'_>) -> EvalFault<'s>
+    ensures { result ≡ Refused (record { defect = defect; at = trees.span_of (tree whole.now); detail = Nothing }) }
+{
+    refuse(defect, span_of(whole))
+}
+
+/// A fault at a tree, with what it tells.
+pub(crate) fn refuse_with<'s>(
+    defect: EvalDefect,
+    whole: &Expr<'_>,
+    detail: Detail<'s>,
+) -> EvalFault<'s>
+    ensures { result ≡ Refused (record { defect = defect; at = trees.span_of (tree whole.now); detail = detail.entry }) }
+{
+    EvalFault::Refused(Refusal {
+        defect,
+        at: span_of(whole),
+        detail,
+    })
 }

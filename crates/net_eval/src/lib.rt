@@ -3,6 +3,7 @@
 
 mod fault;
 mod held;
+mod number;
 mod operation;
 mod row;
 mod scope;
@@ -15,4 +16,4 @@ pub use operation::{Operation, Reduction};
 pub use row::{Keys, Row};
 pub use scope::{Binding, Scope};
 pub use value::Value;
-pub use world::{Entry, World};
+pub use world::{Entry, Seen, World};

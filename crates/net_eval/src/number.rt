@@ -1,0 +1,168 @@
+ghost use Rattle.std.specs.Prelude.{◌≡◌, ◌+ℤ◌, ◌-ℤ◌, ◌*ℤ◌, IsTrue};
+ghost use Rattle.net_tree.specs.Spans as trees;
+ghost use Rattle.net_tree.specs.View.{tree};
+ghost use Rattle.net_eval.specs.Limits.{is_small};
+ghost use Rattle.net_eval.specs.Numbers as numbers;
+ghost use Rattle.net_eval.specs.Operators as operators;
+ghost use Rattle.net_eval.specs.Outcomes.{Answers};
+
+use crate::fault::{EvalDefect, EvalFault, refuse_tree};
+use crate::value::Value;
+use net_lex::{Excerpt, whole_of};
+use net_sets::Member;
+use net_tree::Expr;
+
+/// The number that a numeral stands for, if it is whole and within the limit.
+pub(crate) fn number_in(numeral: &Excerpt<'_>) -> Option<i64>
+    ensures { result ≡ numbers.number_in numeral.now }
+{
+    match whole_of(numeral.as_str()) {
+        Ok(number) => Some(number),
+        Err(_) => None,
+    }
+}
+
+/// The greatest size of a number.
+const LIMIT: u128 = 1_000_000_000_000;
+
+#[tactic(auto, unfolding(crate::specs::Limits::is_small))]
+fn is_small(number: &i128) -> bool
+    ensures { result ≡ is_small number.now }
+{
+    number.unsigned_abs() <= LIMIT
+}
+
+fn narrow(number: &i128) -> i64
+    requires { IsTrue (is_small number.now) }
+    ensures { result ≡ number.now }
+{
+    *number as i64
+}
+
+/// A number that arithmetic gives.
+pub(crate) fn sized<'w, 's>(whole: &Expr<'_>, number: &i128) -> Result<Value<'w, 's>, EvalFault<'s>>
+    ensures { Answers (numbers.sized (trees.span_of (tree whole.now)) number.now) result }
+{
+    if is_small(number) {
+        Ok(Value::One(Member::Number(narrow(number))))
+    } else {
+        Err(refuse_tree(EvalDefect::TooLarge, whole))
+    }
+}
+
+/// A value that is a number.
+pub(crate) fn number_of<'s>(whole: &Expr<'_>, value: &Value<'_, 's>) -> Result<i64, EvalFault<'s>>
+    ensures { Answers (numbers.number (trees.span_of (tree whole.now)) value.now) result }
+{
+    match value {
+        Value::One(Member::Number(number)) => Ok(*number),
+        Value::One(Member::Name(_)) => Err(refuse_tree(EvalDefect::KindMismatch, whole)),
+        Value::Several(_) => Err(refuse_tree(EvalDefect::KindMismatch, whole)),
+        Value::Many(_, _) => Err(refuse_tree(EvalDefect::KindMismatch, whole)),
+        Value::Truth(_) => Err(refuse_tree(EvalDefect::KindMismatch, whole)),
+    }
+}
+
+fn sum_of(a: &i64, b: &i64) -> i128
+    ensures { result ≡ a.now +ℤ b.now }
+{
+    i128::from(*a) + i128::from(*b)
+}
+
+fn difference_of(a: &i64, b: &i64) -> i128
+    ensures { result ≡ a.now -ℤ b.now }
+{
+    i128::from(*a) - i128::from(*b)
+}
+
+fn product_of(a: &i64, b: &i64) -> i128
+    ensures { result ≡ a.now *ℤ b.now }
+{
+    i128::from(*a) * i128::from(*b)
+}
+
+pub(crate) fn plus<'w, 's>(
+    whole: &Expr<'_>,
+    x: &Value<'_, 's>,
+    y: &Value<'_, 's>,
+) -> Result<Value<'w, 's>, EvalFault<'s>>
+    ensures { Answers (operators.of_numbers (trees.span_of (tree whole.now)) (numbers.plus (trees.span_of (tree whole.now))) x.now y.now) result }
+{
+    let a = number_of(whole, x)?;
+    let b = number_of(whole, y)?;
+    sized(whole, &sum_of(&a, &b))
+}
+
+pub(crate) fn minus<'w, 's>(
+    whole: &Expr<'_>,
+    x: &Value<'_, 's>,
+    y: &Value<'_, 's>,
+) -> Result<Value<'w, 's>, EvalFault<'s>>
+    ensures { Answers (operators.of_numbers (trees.span_of (tree whole.now)) (numbers.less (trees.span_of (tree whole.now))) x.now y.now) result }
+{
+    let a = number_of(whole, x)?;
+    let b = number_of(whole, y)?;
+    sized(whole, &difference_of(&a, &b))
+}
+
+pub(crate) fn times<'w, 's>(
+    whole: &Expr<'_>,
+    x: &Value<'_, 's>,
+    y: &Value<'_, 's>,
+) -> Result<Value<'w, 's>, EvalFault<'s>>
+    ensures { Answers (operators.of_numbers (trees.span_of (tree whole.now)) (numbers.times (trees.span_of (tree whole.now))) x.now y.now) result }
+{
+    let a = number_of(whole, x)?;
+    let b = number_of(whole, y)?;
+    sized(whole, &product_of(&a, &b))
+}
+
+fn divides(a: &i64, b: &i64) -> bool
+    ensures { result ≡ numbers.divides a.now b.now }
+{
+    *a >= 0 && *b >= 1
+}
+
+fn quotient<'w, 's>(whole: &Expr<'_>, a: &i64, b: &i64) -> Result<Value<'w, 's>, EvalFault<'s>>
+    ensures { Answers (numbers.quotient (trees.span_of (tree whole.now)) a.now b.now) result }
+{
+    if divides(a, b) {
+        Ok(Value::One(Member::Number(*a / *b)))
+    } else {
+        Err(refuse_tree(EvalDefect::DivMod, whole))
+    }
+}
+
+fn remainder<'w, 's>(whole: &Expr<'_>, a: &i64, b: &i64) -> Result<Value<'w, 's>, EvalFault<'s>>
+    ensures { Answers (numbers.remainder (trees.span_of (tree whole.now)) a.now b.now) result }
+{
+    if divides(a, b) {
+        Ok(Value::One(Member::Number(*a % *b)))
+    } else {
+        Err(refuse_tree(EvalDefect::DivMod, whole))
+    }
+}
+
+pub(crate) fn div<'w, 's>(
+    whole: &Expr<'_>,
+    x: &Value<'_, 's>,
+    y: &Value<'_, 's>,
+) -> Result<Value<'w, 's>, EvalFault<'s>>
+    ensures { Answers (operators.of_numbers (trees.span_of (tree whole.now)) (numbers.quotient (trees.span_of (tree whole.now))) x.now y.now) result }
+{
+    let a = number_of(whole, x)?;
+    let b = number_of(whole, y)?;
+    quotient(whole, &a, &b)
+}
+
+pub(crate) fn modulo<'w, 's>(
+    whole: &Expr<'_>,
+    x: &Value<'_, 's>,
+    y: &Value<'_, 's>,
+) -> Result<Value<'w, 's>, EvalFault<'s>>
+    ensures { Answers (operators.of_numbers (trees.span_of (tree whole.now)) (numbers.remainder (trees.span_of (tree whole.now))) x.now y.now) result }
+{
+    let a = number_of(whole, x)?;
+    let b = number_of(whole, y)?;
+    remainder(whole, &a, &b)
+}
