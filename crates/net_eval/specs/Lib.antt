@@ -1,4 +1,3 @@
-pub mod Held
 pub mod Outcomes
 pub mod Limits
 pub mod Worlds

@@ -2,7 +2,6 @@
 #![tactic(auto)]
 
 mod fault;
-mod held;
 mod number;
 mod operation;
 mod row;
@@ -11,7 +10,6 @@ mod value;
 mod world;
 
 pub use fault::{Detail, EvalDefect, EvalFault, Refusal};
-pub use held::Held;
 pub use operation::{Operation, Reduction};
 pub use row::{Keys, Row};
 pub use scope::{Binding, Scope};

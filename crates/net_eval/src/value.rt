@@ -1,5 +1,4 @@
-use crate::held::Held;
-use net_sets::{Member, Tuple};
+use net_sets::{Held, Member, Tuple};
 
 /// What an expression comes to.
 #[derive(Drop)]
