@@ -1,5 +1,8 @@
 pub mod Numerals
 pub mod Seeing
+pub mod Cases
+pub mod Walking
+pub mod Ranging
 mod Trees
 mod NumberExamples
 mod KindExamples

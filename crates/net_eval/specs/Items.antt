@@ -1,5 +1,5 @@
 -- Items of braces, by their form.
-use Rattle.std.specs.Prelude.{ℕ, ◌+◌, Bool, true, false, ◌&&◌, ◌||◌, List, nat_le, Option, None, Some, if◌then◌else◌, Ok}
+use Rattle.std.specs.Prelude.{ℕ, ◌+◌, Bool, true, false, ◌&&◌, ◌||◌, List, nat_le, Option, None, Some, is_some, if◌then◌else◌, Ok}
 use Rattle.net_lex.specs.declared.span.Span.{Span}
 use Rattle.net_sets.specs.Limits.{arity_limit}
 use Rattle.net_sets.specs.Sets.{Tuple}
@@ -19,15 +19,22 @@ abbrev pub is_in : Operation → Bool
 is_in op.In = true
 is_in _ = false
 
--- `in` alone, between two operands
-abbrev pub is_lone_in : Links → Bool
-is_lone_in (link o y none) = is_in (operation o)
-is_lone_in _ = false
+-- what stands behind a lone `in`
+abbrev pub behind_in : Links → Option Tree
+behind_in (link o y none) = if is_in (operation o) then Some y else None
+behind_in _ = None
 
--- an item with `in` at its top
+abbrev pub both : Tree → Option Tree → Option (Tree × Tree)
+both x None = None
+both x (Some y) = Some (x, y)
+
+-- the two sides of an item with `in` at its top
+abbrev pub sides : Tree → Option (Tree × Tree)
+sides (chain n x l) = both x (behind_in l)
+sides _ = None
+
 abbrev pub has_in : Tree → Bool
-has_in (chain n x l) = is_lone_in l
-has_in _ = false
+has_in x = is_some (sides x)
 
 abbrev pub any_in : Links → Bool
 any_in none = false

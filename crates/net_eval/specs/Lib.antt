@@ -10,3 +10,4 @@ pub mod Items
 pub mod Widths
 pub mod Rows
 pub mod Values
+pub mod Walks

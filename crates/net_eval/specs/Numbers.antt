@@ -78,12 +78,23 @@ gathered Sum (Some a) n = a +ℤ n
 gathered Min (Some a) n = int_min a n
 gathered Max (Some a) n = int_max a n
 
+-- the numbers of a range, which are not too many
+abbrev pub range_within : Span → ℤ → ℤ → ℤ → Outcome Value
+range_within at a b c = if nat_le (range_size a b c) tuples_limit then Ok (Many (Some 1) (singles (range_numbers a b c))) else refused TooMany at
+
+abbrev pub are_small : ℤ → ℤ → ℤ → Bool
+are_small a b c = is_small a && is_small b && is_small c
+
+-- the step is at least 1
+abbrev pub step : Span → ℤ → Outcome (Unit {0})
+step at c = if int_lt c (pos 1) then refused DivMod at else Ok tt
+
+abbrev pub size : Span → ℤ → ℤ → ℤ → Outcome (Unit {0})
+size at a b c = if are_small a b c then Ok tt else refused TooLarge at
+
 -- a .. b by c
 abbrev pub range : Span → ℤ → ℤ → ℤ → Outcome Value
-range at a b c =
-    if int_lt c (pos 1) then refused DivMod at
-    else if nat_le (range_size a b c) tuples_limit then Ok (Many (Some 1) (singles (range_numbers a b c)))
-    else refused TooMany at
+range at a b c = and_then (step at c) (λ u. and_then (size at a b c) (λ v. range_within at a b c))
 
 -- the bounds of a range, and its step where that is said
 abbrev pub range_of : Span → List Value → Outcome Value

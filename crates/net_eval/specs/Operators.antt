@@ -1,6 +1,7 @@
 -- What an operator makes of the values on its two sides, or why it refuses them; the place is the whole chain's.
-use Rattle.std.specs.Prelude.{Bool, true, false, not, List, [], ◌∷◌, ◌++◌, length, nat_le, int_lt, int_le, Option, None, Some, if◌then◌else◌, Ok, ℤ}
+use Rattle.std.specs.Prelude.{◌+◌, Bool, true, false, not, List, [], ◌∷◌, ◌++◌, length, nat_le, int_lt, int_le, Option, None, Some, if◌then◌else◌, Ok, ℤ}
 use Rattle.net_lex.specs.declared.span.Span.{Span}
+use Rattle.net_sets.specs.declared.member.Member.{Member}
 use Rattle.net_sets.specs.Limits.{arity_limit}
 use Rattle.net_sets.specs.Sets.{Tuple, same_member}
 use Rattle.net_sets.specs.Operations.{union, difference, intersection, symmetric_difference}
@@ -87,12 +88,24 @@ decided op.And at x = and_then (truth at x) (λ b. Ok (if b then None else Some 
 decided op.Or at x = and_then (truth at x) (λ b. Ok (if b then Some (Truth true) else None))
 decided _ at x = Ok None
 
--- the members of some values, in order
-abbrev pub members_of : Span → List Value → Tuple → Outcome (Tuple)
-members_of at [] found = Ok found
-members_of at (One m ∷ vs) found = members_of at vs (found ++ m ∷ [])
-members_of at (_ ∷ vs) found = refused KindMismatch at
+-- a tuple with more members, as long as it has at most four
+abbrev pub longer : Tuple → Option Tuple → Option Tuple
+longer t None = None
+longer t (Some key) = if nat_le (length key + length t) arity_limit then Some (key ++ t) else None
 
--- a tuple of members has at most four
-abbrev pub tuple_of : Span → List Value → Outcome (Tuple)
-tuple_of at vs = and_then (members_of at vs []) (λ ms. if nat_le (length ms) arity_limit then Ok ms else refused Arity at)
+abbrev pub short_enough : Span → Option Tuple → Outcome Tuple
+short_enough at None = refused Arity at
+short_enough at (Some t) = Ok t
+
+abbrev pub member : Span → Value → Outcome Member
+member at (One m) = Ok m
+member at _ = refused KindMismatch at
+
+-- the members of some values behind others
+abbrev pub members_behind : Span → List Value → Option Tuple → Outcome Tuple
+members_behind at [] key = short_enough at key
+members_behind at (v ∷ vs) key = and_then (member at v) (λ m. members_behind at vs (longer (m ∷ []) key))
+
+-- a tuple of members, of which there are at most four
+abbrev pub tuple_of : Span → List Value → Outcome Tuple
+tuple_of at vs = members_behind at vs (Some [])

@@ -16,15 +16,11 @@ use Rattle.net_eval.specs.declared.row.Row.{Row}
 use Rattle.net_eval.specs.declared.row.Keys.{Keys}
 use Rattle.net_eval.specs.Outcomes.{Outcome, and_then, refused}
 use Rattle.net_eval.specs.Worlds.{Name, Scope, with_dummy}
+use Rattle.net_eval.specs.Operators.{longer}
 use Rattle.net_eval.specs.Numbers.{number, sized, gathered}
 
 abbrev pub start : Scope → Place
 start s = record { scope = s; key = Some [] }
-
--- a key with more members, as long as it has at most four
-abbrev pub longer : Tuple → Option Tuple → Option Tuple
-longer t None = None
-longer t (Some key) = if nat_le (length key + length t) arity_limit then Some (key ++ t) else None
 
 -- a tuple behind the key
 abbrev pub with_key : Tuple → Place → Place
@@ -53,10 +49,14 @@ abbrev pub fitted : Span → Option Name → Outcome Value → Member → Place 
 fitted at (Some name) own m p = Ok (Some (bind name m p))
 fitted at None own m p = and_then own (agrees at m p)
 
+-- the one member of a tuple
+abbrev pub bound_first : Name → Tuple → Place → Outcome (Option Place)
+bound_first name [] p = Ok (Some p)
+bound_first name (m ∷ ms) p = Ok (Some (bind name m p))
+
 -- the same of what stands alone at the left of `in`
 abbrev pub fitted_alone : Span → Option Name → Outcome Value → Tuple → Place → Outcome (Option Place)
-fitted_alone at (Some name) own (m ∷ ms) p = Ok (Some (bind name m p))
-fitted_alone at (Some name) own [] p = Ok (Some p)
+fitted_alone at (Some name) own t p = bound_first name t p
 fitted_alone at None own t p = and_then own (agrees_as at t p)
 
 abbrev pub if_fits : (Place → Outcome (Option Place)) → Option Place → Outcome (Option Place)
@@ -115,9 +115,12 @@ selected by_form holds rows = and_then (width_of rows by_form) (λ n. and_then (
 abbrev pub no_keys : Keys
 no_keys = record { width = None; rows = [] }
 
+abbrev pub keys_of : List Row → List Tuple
+keys_of rows = map (λ r. r.key) rows
+
 -- the keys as a set
-abbrev pub as_set : Keys → Value
-as_set k = Many k.width (union [] (map (λ r. r.key) k.rows))
+abbrev pub as_set : Span → Keys → Outcome Value
+as_set at k = if nat_le (length (union [] (keys_of k.rows))) tuples_limit then Ok (Many k.width (union [] (keys_of k.rows))) else refused TooMany at
 
 abbrev pub rows_of : Scope → List Tuple → List Row
 rows_of s ts = map (λ t. record { key = t; scope = s }) ts
@@ -137,12 +140,12 @@ abbrev pub all_of : ℕ → List Tuple → Bool
 all_of n [] = true
 all_of n (t ∷ ts) = if nat_eq (length t) n then all_of n ts else false
 
+abbrev pub keys_within : Span → Scope → ℕ → List Tuple → Outcome Keys
+keys_within at s n ts = if nat_le (length ts) tuples_limit then Ok (keys n (rows_of s ts)) else refused TooMany at
+
 abbrev pub listed_as : Span → Scope → List Tuple → List Tuple → Outcome Keys
 listed_as at s [] each_once = Ok no_keys
-listed_as at s (t ∷ ts) each_once =
-    if all_of (length t) ts
-    then if nat_le (length each_once) tuples_limit then Ok (keys (length t) (rows_of s each_once)) else refused TooMany at
-    else refused Arity at
+listed_as at s (t ∷ ts) each_once = if all_of (length t) ts then keys_within at s (length t) each_once else refused Arity at
 
 -- braces without a condition list tuples of the same length, each once
 abbrev pub listed : Span → Scope → Bool → List Value → Outcome Keys
@@ -154,10 +157,14 @@ gathered_over at r body [] so_far = Ok so_far
 gathered_over at r body (row ∷ rows) so_far =
     and_then (body row.scope) (λ v. and_then (number at v) (λ n. gathered_over at r body rows (Some (gathered r so_far n))))
 
+-- what is made of no numbers
+abbrev pub nothing_reduced : Span → Reduction → Outcome Value
+nothing_reduced at Sum = Ok (One (Number (pos 0)))
+nothing_reduced at Min = refused NoValue at
+nothing_reduced at Max = refused NoValue at
+
 abbrev pub reduced_to : Span → Reduction → Option ℤ → Outcome Value
-reduced_to at Sum None = Ok (One (Number (pos 0)))
-reduced_to at Min None = refused NoValue at
-reduced_to at Max None = refused NoValue at
+reduced_to at r None = nothing_reduced at r
 reduced_to at r (Some n) = sized at n
 
 abbrev pub reduce : Span → Reduction → (Scope → Outcome Value) → Keys → Outcome Value

@@ -1,9 +1,9 @@
 -- What the operators on sets give.
-use Rattle.std.specs.Prelude.{ℕ, ◌+◌, Bool, true, List, length, nat_eq, nat_le, Option, None, Some, if◌then◌else◌, Ok}
+use Rattle.std.specs.Prelude.{ℕ, ◌&&◌, [], ◌+◌, Bool, true, List, length, nat_eq, nat_le, Option, None, Some, if◌then◌else◌, Ok}
 use Rattle.net_lex.specs.declared.span.Span.{Span}
 use Rattle.net_sets.specs.Limits.{arity_limit, tuples_limit}
 use Rattle.net_sets.specs.Sets.{Tuple, has}
-use Rattle.net_sets.specs.Operations.{product, is_within}
+use Rattle.net_sets.specs.Operations.{union, product, widest, is_within}
 use Rattle.net_eval.specs.declared.fault.EvalDefect.TheVariants.{Arity, TooMany}
 use Rattle.net_eval.specs.declared.value.Value.{Value}
 use Rattle.net_eval.specs.declared.value.Value.TheVariants.{Many}
@@ -33,9 +33,12 @@ abbrev pub set_of : Span → Option ℕ → List Tuple → Outcome Value
 set_of at None ts = refused Arity at
 set_of at (Some d) ts = within_size at d ts
 
+-- each tuple of one set with each of another; none may have more than four members
 abbrev pub cross : Span → Option ℕ → List Tuple → Option ℕ → List Tuple → Outcome Value
 cross at d xs e ys =
-    if nat_le (counted d + counted e) arity_limit then within_size at (counted d + counted e) (product xs ys) else refused Arity at
+    if nat_le (counted d + counted e) arity_limit && nat_le (widest xs + widest ys) arity_limit
+    then (if nat_le (length (product xs ys)) tuples_limit then Ok (Many (Some (counted d + counted e)) (union [] (product xs ys))) else refused TooMany at)
+    else refused Arity at
 
 -- whether a set has a tuple
 abbrev pub among : Span → Tuple → Option ℕ → List Tuple → Outcome Bool

@@ -8,7 +8,7 @@ use Rattle.net_sets.specs.Sets.{Tuple}
 use Rattle.net_tree.specs.declared.role.Role.{Role}
 use Rattle.net_tree.specs.declared.role.Role.TheVariants as roles
 use Rattle.net_tree.specs.Role.{role_of}
-use Rattle.net_tree.specs.Spans.{span_of, span_between}
+use Rattle.net_tree.specs.Spans.{span_of, span_between, braces_span}
 use Rattle.net_tree.specs.Tree.{Tree, Links, Part, Braces, leaf, indexed, parens, tuple, negated, braced, signed, reduced, chain, choice, net, none, link, absent, part, empty, filled}
 use Rattle.net_eval.specs.declared.fault.EvalDefect.TheVariants.{KindMismatch, TooLarge}
 use Rattle.net_eval.specs.declared.value.Value.{Value}
@@ -19,7 +19,7 @@ use Rattle.net_eval.specs.declared.row.Keys.{Keys}
 use Rattle.net_eval.specs.Outcomes.{Outcome, and_then, refused, each}
 use Rattle.net_eval.specs.Worlds.{Name, World, Scope, bound, name_at}
 use Rattle.net_eval.specs.Operations.{operation, reduction, is_minus}
-use Rattle.net_eval.specs.Numbers.{number_in, number, turned, range_of}
+use Rattle.net_eval.specs.Numbers.{number_in, number, sized, turned, range_of}
 use Rattle.net_eval.specs.Operators.{apply, decided, truth, tuple_of}
 use Rattle.net_eval.specs.Items.{is_in, has_in, any_in, begins_range, has_part, new_dummy, needed, chosen, tuples_of, walking, opened, open_with}
 use Rattle.net_eval.specs.Rows.{start, with_key, fitted, fitted_alone, if_fits, onward, finished, selected, no_keys, as_set, listed, reduce}
@@ -43,7 +43,7 @@ abbrev pub tupled : Span → List Value → Outcome Value
 tupled at vs = and_then (tuple_of at vs) (λ t. Ok (Several t))
 
 abbrev pub with_sign : Span → Bool → Value → Outcome Value
-with_sign at minus v = and_then (number at v) (λ n. Ok (One (member.Number (turned minus n))))
+with_sign at minus v = and_then (number at v) (λ n. sized at (turned minus n))
 
 -- what is decided, else the rest
 abbrev pub either : {A B : Type 0} → (A → B) → B → Option A → B
@@ -57,7 +57,7 @@ abbrev mutual
   value w s (parens o x c) = value w s x
   value w s (tuple o x l c) = and_then (and_then (value w s x) (λ v. values w s l (v ∷ []))) (tupled (span_of (tuple o x l c)))
   value w s (negated n o x c) = and_then (and_then (value w s x) (truth (span_of (negated n o x c)))) (λ b. Ok (Truth (not b)))
-  value w s (braced b) = and_then (index w s b) (λ k. Ok (as_set k))
+  value w s (braced b) = and_then (index w s b) (as_set (braces_span b))
   value w s (signed t x) = and_then (value w s x) (with_sign (span_of (signed t x)) (is_minus t))
   value w s (reduced r b x) = and_then (index w s b) (reduce (span_of (reduced r b x)) (reduction r) (λ q. value w q x))
   value w s (chain n x l) =
@@ -112,6 +112,7 @@ abbrev mutual
 
   -- the components of a tuple from the left, up to the first that does not agree; `own` is the value of the whole
   pub left_place : Span → World → Tree → Outcome Value → Tuple → Place → Outcome (Option Place)
+  left_place at w (tuple o x l c) own [] p = Ok (Some p)
   left_place at w (tuple o x l c) own (m ∷ ms) p =
       and_then (fitted (span_of (tuple o x l c)) (new_dummy w p.scope x) (value w p.scope x) m p) (if_fits (places (span_of (tuple o x l c)) w l ms))
   left_place at w x own t p = fitted_alone at (new_dummy w p.scope x) own t p

@@ -1,5 +1,5 @@
 -- How many members the keys of braces have by their form alone, where no key was found.
-use Rattle.std.specs.Prelude.{ℕ, ◌+◌, Bool, true, false, ◌&&◌, ◌||◌, nat_le, Option, None, Some, is_some, if◌then◌else◌, Ok, pos}
+use Rattle.std.specs.Prelude.{ℕ, ◌+◌, min, Bool, true, false, ◌&&◌, ◌||◌, nat_le, Option, None, Some, is_some, if◌then◌else◌, Ok, pos}
 use Rattle.net_lex.specs.declared.span.Span.{Span}
 use Rattle.net_sets.specs.declared.member.Member.{Member}
 use Rattle.net_sets.specs.declared.member.Member.TheVariants.{Number}
@@ -8,13 +8,14 @@ use Rattle.net_tree.specs.Tree.{Tree, Links, Braces, leaf, indexed, parens, tupl
 use Rattle.net_eval.specs.declared.fault.EvalDefect.TheVariants.{KindMismatch, Arity}
 use Rattle.net_eval.specs.declared.operation.Operation.{Operation}
 use Rattle.net_eval.specs.declared.operation.Operation.TheVariants as op
+use Rattle.net_eval.specs.declared.width.Form.{Form}
 use Rattle.net_eval.specs.declared.world.Entry.{Entry}
 use Rattle.net_eval.specs.declared.world.Entry.TheVariants.{Set}
 use Rattle.net_eval.specs.Outcomes.{Outcome, refused}
 use Rattle.net_eval.specs.Worlds.{Name, World, Scope, bound, entry_of, with_dummy}
 use Rattle.net_eval.specs.Operations.{operation}
 use Rattle.net_eval.specs.Sets.{counted}
-use Rattle.net_eval.specs.Items.{has_in, any_in, bare, new_dummy, size}
+use Rattle.net_eval.specs.Items.{sides, has_in, any_in, bare, new_dummy, size}
 
 -- the dimension of a declared set
 abbrev pub set_width : Option Entry → Option ℕ
@@ -52,62 +53,64 @@ is_set_form w s (chain n x l) = begin_set l
 is_set_form w s (choice i x t y e) = is_set_form w s y
 is_set_form w s _ = false
 
+-- numbers of members past four are not told apart
+abbrev pub capped : ℕ → ℕ
+capped n = min n 5
+
+-- the dimension of what two sets of the same dimension make
+abbrev pub of_either : Option ℕ → Option ℕ → Option ℕ
+of_either None e = Some (counted e)
+of_either (Some d) e = Some d
+
 -- the dimension of what an operator makes of two sets; none for `{}`
 abbrev pub combined : Operation → Option ℕ → Option ℕ → Option ℕ
 combined op.Range d e = Some 1
-combined op.Cross d e = Some (counted d + counted e)
-combined op.Inter None e = Some (counted e)
-combined op.Union None e = Some (counted e)
-combined op.Diff None e = Some (counted e)
-combined op.Symdiff None e = Some (counted e)
+combined op.Cross d e = Some (capped (counted d + counted e))
+combined op.Inter d e = of_either d e
+combined op.Union d e = of_either d e
+combined op.Diff d e = of_either d e
+combined op.Symdiff d e = of_either d e
 combined _ d e = d
 
 abbrev pub or_one : Option ℕ → Option ℕ
 or_one None = Some 1
 or_one (Some d) = Some d
 
--- a dummy in scope at no member in particular
-abbrev pub with_new : World → Scope → Option Name → Scope
-with_new w s None = s
-with_new w s (Some name) = with_dummy name (Number (pos 0)) s
+-- no item so far
+abbrev pub begin : Scope → Form
+begin s = record { scope = s; count = 0; indexes = true }
 
-abbrev pub new_count : Option Name → ℕ
-new_count None = 0
-new_count (Some name) = 1
+-- a new dummy is in scope from now on, at no member in particular, and is a member of the key
+abbrev pub with_new : Form → Option Name → Form
+with_new f None = f
+with_new f (Some name) = record { scope = with_dummy name (Number (pos 0)) f.scope; count = capped (f.count + 1); indexes = f.indexes }
 
--- how many of the components of a tuple are new dummies, and the scope behind them
-abbrev pub dummies_in : World → Scope → Links → ℕ
-dummies_in w s none = 0
-dummies_in w s (link o x l) = new_count (new_dummy w s x) + dummies_in w (with_new w s (new_dummy w s x)) l
+abbrev pub with_component : World → Form → Tree → Form
+with_component w f x = with_new f (new_dummy w f.scope x)
 
-abbrev pub scope_behind : World → Scope → Links → Scope
-scope_behind w s none = s
-scope_behind w s (link o x l) = scope_behind w (with_new w s (new_dummy w s x)) l
+abbrev pub with_components : World → Form → Links → Form
+with_components w f none = f
+with_components w f (link o x l) = with_components w (with_component w f x) l
 
--- the same of the left of `in`
-abbrev pub left_count : World → Scope → Tree → ℕ
-left_count w s (tuple o x l c) = new_count (new_dummy w s x) + dummies_in w (with_new w s (new_dummy w s x)) l
-left_count w s x = new_count (new_dummy w s x)
+-- what stands at the left of `in`
+abbrev pub with_left : World → Form → Tree → Form
+with_left w f (tuple o x l c) = with_components w (with_component w f x) l
+with_left w f x = with_component w f x
 
-abbrev pub left_scope : World → Scope → Tree → Scope
-left_scope w s (tuple o x l c) = scope_behind w (with_new w s (new_dummy w s x)) l
-left_scope w s x = with_new w s (new_dummy w s x)
+-- an item that is a set of this dimension by its form, or no set
+abbrev pub with_plain : Form → Option ℕ → Bool → Form
+with_plain f d is_set = record { scope = f.scope; count = capped (f.count + counted d); indexes = f.indexes && is_set }
 
--- and of an item
-abbrev pub dummy_count : World → Scope → Tree → ℕ
-dummy_count w s (chain n x l) = left_count w s x
-dummy_count w s _ = 0
-
-abbrev pub item_scope : World → Scope → Tree → Scope
-item_scope w s (chain n x l) = if has_in (chain n x l) then left_scope w s x else s
-item_scope w s _ = s
+abbrev pub with_sides : World → Form → Option (Tree × Tree) → Option ℕ → Bool → Form
+with_sides w f None d is_set = with_plain f d is_set
+with_sides w f (Some p) d is_set = with_left w f p.0
 
 abbrev mutual
   -- the dimension of a set by its form, none for `{}`; what is no set counts as a member or tuple of one
   pub width : World → Scope → Tree → Option ℕ
   width w s (leaf t) = or_one (named_width w s (bare (leaf t)))
   width w s (parens o x c) = width w s x
-  width w s (tuple o x l c) = Some (1 + size l)
+  width w s (tuple o x l c) = Some (capped (1 + size l))
   width w s (braced b) = braces_width w s b
   width w s (chain n x l) = chain_width w s (width w s x) l
   width w s (choice i x t y e) = width w s y
@@ -125,26 +128,28 @@ abbrev mutual
   braces_width w s (empty o p c) = None
   braces_width w s (filled o i is p c) =
       if has_in i || any_in is || is_set_form w s i
-      then Some (items_width w (item_scope w s i) is (if has_in i then dummy_count w s i else counted (width w s i)))
+      then Some (with_items w (with_sides w (begin s) (sides i) (width w s i) (is_set_form w s i)) is).count
       else width w s i
 
-  -- the keys of items, behind so many
-  pub items_width : World → Scope → Links → ℕ → ℕ
-  items_width w s none n = n
-  items_width w s (link o i is) n = items_width w (item_scope w s i) is (n + (if has_in i then dummy_count w s i else counted (width w s i)))
+  -- items behind others
+  pub with_items : World → Form → Links → Form
+  with_items w f none = f
+  with_items w f (link o i is) = with_items w (with_sides w f (sides i) (width w f.scope i) (is_set_form w f.scope i)) is
 
--- an item that may stand among items that index
-abbrev pub may_index : World → Scope → Tree → Bool
-may_index w s i = has_in i || is_set_form w s i
+-- braces with these items
+abbrev pub filled_width : World → Scope → Tree → Links → Option ℕ
+filled_width w s i is =
+    if has_in i || any_in is || is_set_form w s i
+    then Some (with_items w (with_sides w (begin s) (sides i) (width w s i) (is_set_form w s i)) is).count
+    else width w s i
 
-abbrev pub all_index : World → Scope → Links → Bool
-all_index w s none = true
-all_index w s (link o i is) = may_index w s i && all_index w (item_scope w s i) is
+abbrev pub with_item : World → Form → Tree → Form
+with_item w f i = with_sides w f (sides i) (width w f.scope i) (is_set_form w f.scope i)
 
 -- the number of members of keys by the form of the items, which must all be sets
+abbrev pub width_of_form : Span → Form → Outcome ℕ
+width_of_form at f =
+    if f.indexes then (if nat_le f.count arity_limit then Ok f.count else refused Arity at) else refused KindMismatch at
+
 abbrev pub width_by_form : Span → World → Scope → Tree → Links → Outcome ℕ
-width_by_form at w s i is =
-    if may_index w s i && all_index w (item_scope w s i) is
-    then (let n = items_width w (item_scope w s i) is (if has_in i then dummy_count w s i else counted (width w s i)) in
-    if nat_le n arity_limit then Ok n else refused Arity at)
-    else refused KindMismatch at
+width_by_form at w s i is = width_of_form at (with_items w (with_item w (begin s) i) is)

@@ -1,5 +1,5 @@
 -- What names mean: the declared sets and parameters that are seen, and the dummies in scope.
-use Rattle.std.specs.Prelude.{ℕ, ◌+◌, Bool, ◌||◌, List, [], ◌∷◌, length, nat_eq, Option, None, Some, is_some, if◌then◌else◌, Ok}
+use Rattle.std.specs.Prelude.{ℕ, ◌+◌, Bool, true, false, ◌||◌, List, [], ◌∷◌, length, nat_eq, Option, None, Some, is_some, if◌then◌else◌, Ok}
 use Rattle.std.specs.Str.{bytes_eq}
 use Rattle.net_lex.specs.declared.span.Span.{Span}
 use Rattle.net_sets.specs.declared.member.Member.{Member}
@@ -55,10 +55,15 @@ abbrev pub reference : Name → Option ℕ → Tuple → Detail
 reference name None key = Named name
 reference name (Some n) key = Keyed name key
 
+-- a key without a value, by whether the index list has it
+abbrev pub missing : Span → Detail → Bool → Outcome Value
+missing at d true = refused_of NoValue at d
+missing at d false = refused_of OutsideSet at d
+
 -- the value of a parameter at a key, if it has one, and whether its index list has the key
 abbrev pub value_at : Span → Detail → Option Member → Bool → Outcome Value
 value_at at d (Some m) listed = Ok (One m)
-value_at at d None listed = if listed then refused_of NoValue at d else refused_of OutsideSet at d
+value_at at d None listed = missing at d listed
 
 -- what a declared name is at its subscripts
 abbrev pub entry_at : Span → Name → Option Entry → Tuple → Outcome Value

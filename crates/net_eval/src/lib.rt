@@ -1,14 +1,23 @@
 //! Values of expressions: members, sets, truths, and the keys that braces index by.
 #![tactic(auto)]
 
+mod eval;
 mod fault;
+mod item;
+mod list;
+mod name;
 mod number;
 mod operation;
+mod operator;
+mod range;
 mod row;
 mod scope;
+mod set;
 mod value;
+mod width;
 mod world;
 
+pub use eval::evaluate;
 pub use fault::{Detail, EvalDefect, EvalFault, Refusal};
 pub use operation::{Operation, Reduction};
 pub use row::{Keys, Row};

@@ -1,12 +1,15 @@
-ghost use Rattle.std.specs.Prelude.{◌≡◌, ◌+ℤ◌, ◌-ℤ◌, ◌*ℤ◌, IsTrue};
+ghost use Rattle.std.specs.Prelude.{◌≡◌, ◌≤◌, ◌-◌, ◌^◌, ◌+ℤ◌, ◌-ℤ◌, ◌*ℤ◌, IsTrue, IfSome, Some, unsigned_abs};
 ghost use Rattle.net_tree.specs.Spans as trees;
 ghost use Rattle.net_tree.specs.View.{tree};
 ghost use Rattle.net_eval.specs.Limits.{is_small};
 ghost use Rattle.net_eval.specs.Numbers as numbers;
 ghost use Rattle.net_eval.specs.Operators as operators;
 ghost use Rattle.net_eval.specs.Outcomes.{Answers};
+ghost use Rattle.net_eval.specs.Rows as rows;
+ghost use Rattle.net_eval.specs.Values as values;
 
 use crate::fault::{EvalDefect, EvalFault, refuse_tree};
+use crate::operation::Reduction;
 use crate::value::Value;
 use net_lex::{Excerpt, whole_of};
 use net_sets::Member;
@@ -165,4 +168,74 @@ pub(crate) fn modulo<'w, 's>(
     let a = number_of(whole, x)?;
     let b = number_of(whole, y)?;
     remainder(whole, &a, &b)
+}
+
+fn turned(minus: bool, number: &i64) -> i128
+    ensures { result ≡ numbers.turned minus number.now }
+{
+    if minus {
+        -i128::from(*number)
+    } else {
+        i128::from(*number)
+    }
+}
+
+/// The number with this sign.
+pub(crate) fn with_sign<'w, 's>(
+    whole: &Expr<'_>,
+    minus: bool,
+    value: &Value<'_, 's>,
+) -> Result<Value<'w, 's>, EvalFault<'s>>
+    ensures { Answers (values.with_sign (trees.span_of (tree whole.now)) minus value.now) result }
+{
+    let number = number_of(whole, value)?;
+    sized(whole, &turned(minus, &number))
+}
+
+/// What is made of the numbers so far and one more.
+pub(crate) fn gathered(reduction: Reduction, so_far: &Option<i128>, number: &i64) -> i128
+    requires { IfSome so_far.now (λ a. unsigned_abs a ≤ 2 ^ 127 - 2 ^ 64) }
+    ensures value { result ≡ numbers.gathered reduction so_far.now number.now }
+{
+    match so_far {
+        None => i128::from(*number),
+        Some(so_far) => gathered_two(reduction, so_far, number),
+    }
+}
+
+fn gathered_two(reduction: Reduction, so_far: &i128, number: &i64) -> i128
+    requires { unsigned_abs so_far.now ≤ 2 ^ 127 - 2 ^ 64 }
+    ensures { result ≡ numbers.gathered reduction (Some so_far.now) number.now }
+{
+    match reduction {
+        Reduction::Sum => *so_far + i128::from(*number),
+        Reduction::Min => (*so_far).min(i128::from(*number)),
+        Reduction::Max => (*so_far).max(i128::from(*number)),
+    }
+}
+
+fn nothing_reduced<'w, 's>(
+    whole: &Expr<'_>,
+    reduction: Reduction,
+) -> Result<Value<'w, 's>, EvalFault<'s>>
+    ensures { Answers (rows.nothing_reduced (trees.span_of (tree whole.now)) reduction) result }
+{
+    match reduction {
+        Reduction::Sum => Ok(Value::One(Member::Number(0))),
+        Reduction::Min | Reduction::Max => Err(refuse_tree(EvalDefect::NoValue, whole)),
+    }
+}
+
+/// What a reduction comes to.
+pub(crate) fn reduced_to<'w, 's>(
+    whole: &Expr<'_>,
+    reduction: Reduction,
+    so_far: &Option<i128>,
+) -> Result<Value<'w, 's>, EvalFault<'s>>
+    ensures { Answers (rows.reduced_to (trees.span_of (tree whole.now)) reduction so_far.now) result }
+{
+    match so_far {
+        None => nothing_reduced(whole, reduction),
+        Some(number) => sized(whole, number),
+    }
 }

@@ -1,13 +1,26 @@
+//! Walks over braces: where they stand, and the keys that they find.
+
+ghost use Rattle.std.specs.Prelude.{◌≡◌, ◌∷◌, [], Ok, Some, IfOk};
+ghost use Rattle.net_tree.specs.Spans as trees;
+ghost use Rattle.net_tree.specs.View.{tree};
+ghost use Rattle.net_eval.specs.Operators as operators;
+ghost use Rattle.net_eval.specs.Rows as rows;
+ghost use Rattle.net_eval.specs.Outcomes.{Answers, Leaves};
+
+use crate::fault::{EvalDefect, EvalFault, refuse, refuse_tree};
 use crate::scope::Scope;
-use net_lex::Items;
-use net_sets::Tuple;
+use crate::value::Value;
+use net_lex::{Excerpt, Items, Span};
+use net_sets::{Member, Tuple};
+use net_tree::Expr;
+use std::alloc::{AllocError, Global};
 
 /// Where a walk over braces stands.
 #[derive(Drop)]
-pub struct Place<'s> {
-    pub scope: Scope<'s>,
+pub(crate) struct Place<'s> {
+    pub(crate) scope: Scope<'s>,
     /// The key so far; none where it has more than four members.
-    pub key: Option<Tuple<'s>>,
+    pub(crate) key: Option<Tuple<'s>>,
 }
 
 /// A key of braces, and the dummies in scope at it.
@@ -17,9 +30,245 @@ pub struct Row<'s> {
     pub scope: Scope<'s>,
 }
 
+impl<'s> Row<'s> {
+    /// The same row once more.
+    pub(crate) fn again(&self, alloc: Global) -> Result<Row<'s>, AllocError>
+        ensures { IfOk result (λ r. r ≡ self.now) }
+    {
+        Ok(Row {
+            key: self.key.again(),
+            scope: self.scope.again(alloc)?,
+        })
+    }
+}
+
 /// The keys of braces in order, and how many members each has; `{}` has no such number.
 #[derive(Drop)]
 pub struct Keys<'s> {
     pub width: Option<u8>,
     pub rows: Items<Row<'s>>,
+}
+
+/// The place before the first item.
+pub(crate) fn start<'s>(alloc: Global, scope: &Scope<'s>) -> Result<Place<'s>, EvalFault<'s>>
+    ensures { Answers (Ok (rows.start scope.now)) result }
+{
+    Ok(Place {
+        scope: scope.again(alloc)?,
+        key: Some(Tuple::new()),
+    })
+}
+
+fn key_again<'s>(key: &Option<Tuple<'s>>) -> Option<Tuple<'s>>
+    ensures { result ≡ key.now }
+{
+    match key {
+        None => None,
+        Some(key) => Some(key.again()),
+    }
+}
+
+/// A key with one member more, as long as it has at most four.
+pub(crate) fn longer_by_one<'s>(key: &Option<Tuple<'s>>, member: &Member<'s>) -> Option<Tuple<'s>>
+    ensures { result ≡ operators.longer (member.now ∷ []) key.now }
+{
+    match key {
+        None => None,
+        Some(key) => {
+            if key.len() < 4 {
+                let mut longer = key.again();
+                longer.add(member.again());
+                Some(longer)
+            } else {
+                None
+            }
+        }
+    }
+}
+
+/// A key with more members, as long as it has at most four.
+fn longer<'s>(key: &Option<Tuple<'s>>, more: &Tuple<'s>) -> Option<Tuple<'s>>
+    ensures { result ≡ operators.longer more.now key.now }
+{
+    match key {
+        None => None,
+        Some(key) => {
+            if key.len() + more.len() <= 4 {
+                Some(key.beside(more))
+            } else {
+                None
+            }
+        }
+    }
+}
+
+impl<'s> Place<'s> {
+    fn again(&self, alloc: Global) -> Result<Place<'s>, AllocError>
+        ensures { IfOk result (λ p. p ≡ self.now) }
+    {
+        Ok(Place {
+            scope: self.scope.again(alloc)?,
+            key: key_again(&self.key),
+        })
+    }
+}
+
+/// The same place.
+pub(crate) fn stay<'s>(
+    alloc: Global,
+    place: &Place<'s>,
+) -> Result<Option<Place<'s>>, EvalFault<'s>>
+    ensures { Answers (Ok (Some place.now)) result }
+{
+    Ok(Some(place.again(alloc)?))
+}
+
+/// The place with a tuple behind its key.
+pub(crate) fn with_key<'s>(
+    alloc: Global,
+    tuple: &Tuple<'s>,
+    place: &Place<'s>,
+) -> Result<Option<Place<'s>>, EvalFault<'s>>
+    ensures { Answers (Ok (Some (rows.with_key tuple.now place.now))) result }
+{
+    let scope = place.scope.again(alloc)?;
+    let key = longer(&place.key, tuple);
+    Ok(Some(Place { scope, key }))
+}
+
+/// A new dummy takes a member, which is one of the key.
+pub(crate) fn bind<'s>(
+    alloc: Global,
+    name: &Excerpt<'s>,
+    member: &Member<'s>,
+    place: &Place<'s>,
+) -> Result<Option<Place<'s>>, EvalFault<'s>>
+    ensures { Answers (Ok (Some (rows.bind name.now member.now place.now))) result }
+{
+    let scope = place.scope.with(alloc, name.again(), member.again())?;
+    let key = longer_by_one(&place.key, member);
+    Ok(Some(Place { scope, key }))
+}
+
+/// The place stays where the value of a component is the member.
+pub(crate) fn agrees<'s>(
+    alloc: Global,
+    whole: &Expr<'_>,
+    member: &Member<'s>,
+    place: &Place<'s>,
+    value: &Value<'_, 's>,
+) -> Result<Option<Place<'s>>, EvalFault<'s>>
+    ensures { Answers (rows.agrees (trees.span_of (tree whole.now)) member.now place.now value.now) result }
+{
+    match value {
+        Value::One(found) => {
+            if *found == *member {
+                stay(alloc, place)
+            } else {
+                Ok(None)
+            }
+        }
+        Value::Several(_) => Err(refuse_tree(EvalDefect::KindMismatch, whole)),
+        Value::Many(_, _) => Err(refuse_tree(EvalDefect::KindMismatch, whole)),
+        Value::Truth(_) => Err(refuse_tree(EvalDefect::KindMismatch, whole)),
+    }
+}
+
+fn agrees_whole<'s>(
+    alloc: Global,
+    whole: &Expr<'_>,
+    tuple: &Tuple<'s>,
+    place: &Place<'s>,
+    found: &Tuple<'s>,
+) -> Result<Option<Place<'s>>, EvalFault<'s>>
+    ensures { Answers (rows.agrees_whole (trees.span_of (tree whole.now)) tuple.now place.now found.now) result }
+{
+    if found.len() == tuple.len() {
+        if *found == *tuple {
+            stay(alloc, place)
+        } else {
+            Ok(None)
+        }
+    } else {
+        Err(refuse_tree(EvalDefect::Arity, whole))
+    }
+}
+
+/// The same of what is no tuple by its form.
+pub(crate) fn agrees_as<'s>(
+    alloc: Global,
+    whole: &Expr<'_>,
+    tuple: &Tuple<'s>,
+    place: &Place<'s>,
+    value: &Value<'_, 's>,
+) -> Result<Option<Place<'s>>, EvalFault<'s>>
+    ensures { Answers (rows.agrees_as (trees.span_of (tree whole.now)) tuple.now place.now value.now) result }
+{
+    match value {
+        Value::One(member) => {
+            agrees_whole(alloc, whole, tuple, place, &Tuple::single(member.again()))
+        }
+        Value::Several(found) => agrees_whole(alloc, whole, tuple, place, found),
+        Value::Many(_, _) => Err(refuse_tree(EvalDefect::KindMismatch, whole)),
+        Value::Truth(_) => Err(refuse_tree(EvalDefect::KindMismatch, whole)),
+    }
+}
+
+/// A new dummy that stands alone takes the one member of a tuple.
+pub(crate) fn bind_first<'s>(
+    alloc: Global,
+    name: &Excerpt<'s>,
+    members: &[Member<'s>],
+    place: &Place<'s>,
+) -> Result<Option<Place<'s>>, EvalFault<'s>>
+    ensures { Answers (rows.bound_first name.now members.now place.now) result }
+{
+    match members {
+        [] => stay(alloc, place),
+        [member, ..] => bind(alloc, name, member, place),
+    }
+}
+
+fn is_alike<'s>(key: &Tuple<'s>, found: &[Row<'s>]) -> bool
+    ensures { result ≡ rows.is_alike key.now found.now }
+{
+    match found {
+        [] => true,
+        [row, ..] => row.key.len() == key.len(),
+    }
+}
+
+fn add_row<'s>(
+    at: Span,
+    scope: Scope<'s>,
+    key: Tuple<'s>,
+    found: &mut Vec<Row<'s>>,
+) -> Result<(), EvalFault<'s>>
+    ensures { Leaves (rows.add_row at scope.entry key.entry found.old.items) result found.new.items }
+{
+    if is_alike(&key, found.as_slice()) {
+        if found.len() < 1_000_000 {
+            found.push(Row { key, scope })?;
+            Ok(())
+        } else {
+            Err(refuse(EvalDefect::TooMany, at))
+        }
+    } else {
+        Err(refuse(EvalDefect::Arity, at))
+    }
+}
+
+/// Adds a key that is complete.
+pub(crate) fn finish<'s>(
+    at: Span,
+    place: Place<'s>,
+    found: &mut Vec<Row<'s>>,
+) -> Result<(), EvalFault<'s>>
+    ensures { Leaves (rows.finished at place.entry found.old.items) result found.new.items }
+{
+    let Place { scope, key } = place;
+    match key {
+        None => Err(refuse(EvalDefect::Arity, at)),
+        Some(key) => add_row(at, scope, key, found),
+    }
 }

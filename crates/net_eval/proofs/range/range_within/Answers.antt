@@ -1,0 +1,18 @@
+use Rattle.std.proofs.Common.{◌≡◌, rules, to_z, of_z}
+use Rattle.std.proofs.lemmas.Int.{to_z-of_z}
+use mir.Val.{SFits}
+use mir.Syntax.{w64}
+use Rattle.net_tree.specs.Spans.{span_of}
+use Rattle.net_tree.specs.View.{tree}
+use Rattle.net_eval.proofs.Ranging.{range_made}
+use Rattle.net_eval.proofs.Walking.{answers_by}
+use Rattle.net_eval.proofs.range.range_within.Goals as goal
+
+pub returns : goal.returns
+returns c =
+    let a : SFits w64 c.args.first.now = search rules in
+    let b : SFits w64 c.args.last.now = search rules in
+    let d : SFits w64 c.args.by.now = search rules in
+    answers_by _ _ _
+    (range_made (span_of (tree c.args.whole.now)) c.args.first.now c.args.last.now c.args.by.now _ _ _ (to_z-of_z w64 c.args.first.now a) (to_z-of_z w64 c.args.last.now b) (to_z-of_z w64 c.args.by.now d))
+    (c.made.ensures _ c.listed.ensures)

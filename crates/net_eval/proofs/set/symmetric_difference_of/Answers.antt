@@ -1,0 +1,11 @@
+use Rattle.std.proofs.Common.{ap}
+use Rattle.net_sets.specs.Operations.{symmetric_difference}
+use Rattle.net_tree.specs.Spans.{span_of}
+use Rattle.net_tree.specs.View.{tree}
+use Rattle.net_eval.specs.Sets.{set_of}
+use Rattle.net_eval.proofs.Walking.{answers_by}
+use Rattle.net_eval.proofs.set.symmetric_difference_of.Goals as goal
+
+pub returns-in-Some : goal.returns-in-Some
+returns-in-Some c =
+    answers_by _ _ _ (ap (λ d. set_of (span_of (tree c.args.whole.now)) d (symmetric_difference c.args.first.now c.args.second.now)) c.in-Some.is) (c.made.ensures _ c.symmetric_difference.ensures)

@@ -1,0 +1,226 @@
+//! Items of braces, by their form.
+
+ghost use Rattle.std.specs.Prelude.{◌≡◌, ◌+◌, Some};
+ghost use Rattle.std.specs.Option.{option_map};
+ghost use Rattle.net_tree.specs.Spans as trees;
+ghost use Rattle.net_tree.specs.Tree.{leaf};
+ghost use Rattle.net_tree.specs.View.{tree, links_of, option_part};
+ghost use Rattle.net_eval.specs.Items as items;
+ghost use Rattle.net_eval.specs.Operations as operations;
+ghost use Rattle.net_eval.specs.Outcomes.{Answers};
+ghost use Rattle.net_eval.specs.Worlds as worlds;
+
+use crate::fault::{EvalDefect, EvalFault, refuse, refuse_tree};
+use crate::operation::{Operation, operation_of};
+use crate::scope::Scope;
+use crate::value::Value;
+use crate::world::Seen;
+use net_lex::{Boxed, Excerpt, Span, Token};
+use net_sets::Held;
+use net_tree::{Expr, Link, Operator, Part, Role, role_of};
+
+fn is_in(operator: &Operator<'_>) -> bool
+    ensures { result ≡ items.is_in (operations.operation operator.now) }
+{
+    matches!(operation_of(operator), Operation::In)
+}
+
+/// What stands behind a lone `in`.
+fn behind_in<'a, 's>(links: &'a [Link<'s>]) -> Option<&'a Expr<'s>>
+    ensures { option_map (λ x. tree x.now) result ≡ items.behind_in (links_of links.entry.now) }
+{
+    match links {
+        [] => None,
+        [link] => {
+            if is_in(&link.operator) {
+                Some(&link.operand)
+            } else {
+                None
+            }
+        }
+        [_, _, ..] => None,
+    }
+}
+
+/// The two sides of an item with `in` at its top.
+#[tactic(auto, using(net_tree::proofs::Views::views))]
+pub(crate) fn sides_of<'a, 's>(item: &'a Expr<'s>) -> Option<(&'a Expr<'s>, &'a Expr<'s>)>
+    ensures { option_map (λ p. (tree p.0.now, tree p.1.now)) result ≡ items.sides (tree item.entry.now) }
+{
+    match item {
+        Expr::Chain(_, operands) => {
+            let series = operands.get();
+            match behind_in(series.more.as_slice()) {
+                None => None,
+                Some(set) => Some((&series.first, set)),
+            }
+        }
+        Expr::Leaf(_) | Expr::Indexed(_) | Expr::Parens(_) | Expr::Tuple(_) => None,
+        Expr::Negated(_) | Expr::Braced(_) | Expr::Signed(_) | Expr::Reduced(_, _) => None,
+        Expr::Choice(_, _, _) | Expr::Net(_) => None,
+    }
+}
+
+pub(crate) fn has_in(item: &Expr<'_>) -> bool
+    ensures { result ≡ items.has_in (tree item.now) }
+{
+    sides_of(item).is_some()
+}
+
+pub(crate) fn any_in(links: &[Link<'_>]) -> bool
+    ensures { result ≡ items.any_in (links_of links.now) }
+{
+    for link in links {
+        if has_in(&link.operand) {
+            return true;
+        }
+    }
+    false
+}
+
+fn is_range(operator: &Operator<'_>) -> bool
+    ensures { result ≡ operations.is_range (operations.operation operator.now) }
+{
+    matches!(operation_of(operator), Operation::Range)
+}
+
+/// Whether a chain is a range.
+pub(crate) fn begins_range(links: &[Link<'_>]) -> bool
+    ensures { result ≡ items.begins_range (links_of links.now) }
+{
+    match links {
+        [] => false,
+        [link, ..] => is_range(&link.operator),
+    }
+}
+
+pub(crate) fn has_part(part: &Option<Boxed<Part<'_>>>) -> bool
+    ensures { result ≡ items.has_part (option_part part.now) }
+{
+    match part {
+        None => false,
+        Some(_) => true,
+    }
+}
+
+fn if_name<'a, 's>(token: &'a Token<'s>) -> Option<&'a Excerpt<'s>>
+    ensures { option_map (λ t. t.now) result ≡ items.bare (leaf token.entry.now) }
+{
+    match role_of(token) {
+        Role::Name => Some(&token.text),
+        _ => None,
+    }
+}
+
+/// A name that stands alone.
+#[tactic(auto, using(net_tree::proofs::Views::views))]
+pub(crate) fn bare<'a, 's>(component: &'a Expr<'s>) -> Option<&'a Excerpt<'s>>
+    ensures { option_map (λ t. t.now) result ≡ items.bare (tree component.entry.now) }
+{
+    match component {
+        Expr::Leaf(token) => if_name(token),
+        Expr::Indexed(_) | Expr::Parens(_) | Expr::Tuple(_) | Expr::Negated(_) => None,
+        Expr::Braced(_) | Expr::Signed(_) | Expr::Reduced(_, _) | Expr::Chain(_, _) => None,
+        Expr::Choice(_, _, _) | Expr::Net(_) => None,
+    }
+}
+
+fn is_known<'s>(seen: &Seen<'_, 's>, scope: &Scope<'s>, name: &Excerpt<'s>) -> bool
+    ensures { result ≡ worlds.is_known seen.now scope.now name.now }
+{
+    scope.get(name).is_some() || seen.find(name).is_some()
+}
+
+/// The name of a new dummy: it stands alone, and means nothing so far.
+pub(crate) fn new_dummy<'a, 's>(
+    seen: &Seen<'_, 's>,
+    scope: &Scope<'s>,
+    component: &'a Expr<'s>,
+) -> Option<&'a Excerpt<'s>>
+    ensures { option_map (λ t. t.now) result ≡ items.new_dummy seen.now scope.now (tree component.entry.now) }
+{
+    match bare(component) {
+        None => None,
+        Some(name) => {
+            if is_known(seen, scope, name) {
+                None
+            } else {
+                Some(name)
+            }
+        }
+    }
+}
+
+pub(crate) fn links_len(links: &[Link<'_>]) -> usize
+    ensures { result ≡ items.size (links_of links.now) }
+{
+    links.len()
+}
+
+/// How many members the tuples of an item's set must have, where its left tells that by its form. Those past four are
+/// not told apart.
+#[tactic(auto, using(net_tree::proofs::Views::views))]
+fn fits_needed(dimension: Option<u8>, left: &Expr<'_>) -> bool
+    ensures { result ≡ items.fits_needed dimension (items.needed (tree left.now)) }
+{
+    match left {
+        Expr::Tuple(parts) => fits_size(dimension, links_len(parts.get().1.more.as_slice())),
+        Expr::Leaf(_) => fits_size(dimension, 0),
+        Expr::Indexed(_) | Expr::Parens(_) | Expr::Negated(_) | Expr::Braced(_) => true,
+        Expr::Signed(_) | Expr::Reduced(_, _) | Expr::Chain(_, _) => true,
+        Expr::Choice(_, _, _) | Expr::Net(_) => true,
+    }
+}
+
+/// Whether a set of a dimension has tuples of one member and so many more.
+fn fits_size(dimension: Option<u8>, more: usize) -> bool
+    ensures { result ≡ items.fits_needed dimension (Some (1 + more)) }
+{
+    match dimension {
+        None => more < 4,
+        Some(dimension) => more < 4 && usize::from(dimension) == more + 1,
+    }
+}
+
+/// The tuples of the set behind `in`.
+pub(crate) fn chosen<'w, 's>(
+    item: &Expr<'_>,
+    left: &Expr<'_>,
+    value: Value<'w, 's>,
+) -> Result<Held<'w, 's>, EvalFault<'s>>
+    ensures { Answers (items.chosen (trees.span_of (tree item.now)) (items.needed (tree left.now)) value.entry) result }
+{
+    match value {
+        Value::Many(dimension, tuples) => {
+            if fits_needed(dimension, left) {
+                Ok(tuples)
+            } else {
+                Err(refuse_tree(EvalDefect::Arity, item))
+            }
+        }
+        Value::One(_member) => Err(refuse_tree(EvalDefect::KindMismatch, item)),
+        Value::Several(_tuple) => Err(refuse_tree(EvalDefect::KindMismatch, item)),
+        Value::Truth(_truth) => Err(refuse_tree(EvalDefect::KindMismatch, item)),
+    }
+}
+
+/// The tuples of an item that is a set.
+pub(crate) fn tuples_of<'w, 's>(
+    at: Span,
+    value: Value<'w, 's>,
+) -> Result<Held<'w, 's>, EvalFault<'s>>
+    ensures { Answers (items.tuples_of at value.entry) result }
+{
+    match value {
+        Value::Many(_dimension, tuples) => Ok(tuples),
+        Value::One(_member) => Err(refuse(EvalDefect::KindMismatch, at)),
+        Value::Several(_tuple) => Err(refuse(EvalDefect::KindMismatch, at)),
+        Value::Truth(_truth) => Err(refuse(EvalDefect::KindMismatch, at)),
+    }
+}
+
+pub(crate) fn is_set(value: &Value<'_, '_>) -> bool
+    ensures { result ≡ items.is_set value.now }
+{
+    matches!(value, Value::Many(_, _))
+}

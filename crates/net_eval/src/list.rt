@@ -1,0 +1,163 @@
+//! Braces that list members and tuples, and the keys of braces as a set.
+
+ghost use Rattle.std.specs.Prelude.{◌≡◌, ◌++◌, ◌∷◌, [], Ok, IfOk, length};
+ghost use Rattle.net_sets.specs.Made.{IsMade};
+ghost use Rattle.net_sets.specs.Operations.{union};
+ghost use Rattle.net_eval.specs.Outcomes.{Answers};
+ghost use Rattle.net_eval.specs.Rows as rows;
+
+use crate::fault::{EvalDefect, EvalFault, refuse};
+use crate::row::{Keys, Row};
+use crate::scope::Scope;
+use crate::set::once;
+use crate::value::Value;
+use net_lex::{Items, Span};
+use net_sets::{Held, SetFault, Tuple, TupleSet};
+use std::alloc::{AllocError, Global};
+
+/// A member alone, or a tuple.
+fn tuple_in<'s>(at: Span, value: &Value<'_, 's>) -> Result<Tuple<'s>, EvalFault<'s>>
+    ensures { Answers (rows.tuple_in at value.now) result }
+{
+    match value {
+        Value::One(member) => Ok(Tuple::single(member.again())),
+        Value::Several(tuple) => Ok(tuple.again()),
+        Value::Many(_, _) => Err(refuse(EvalDefect::KindMismatch, at)),
+        Value::Truth(_) => Err(refuse(EvalDefect::KindMismatch, at)),
+    }
+}
+
+fn tuples_in<'s>(
+    alloc: Global,
+    at: Span,
+    values: &[Value<'_, 's>],
+) -> Result<Items<Tuple<'s>>, EvalFault<'s>>
+    ensures { Answers (rows.tuples_in at values.now []) result }
+{
+    let mut found = Vec::new(alloc);
+    for value in values {
+        let tuple = tuple_in(at, value)?;
+        found.push(tuple)?;
+    }
+    Ok(Items::new(found))
+}
+
+fn all_of(size: usize, tuples: &[Tuple<'_>]) -> bool
+    ensures { result ≡ rows.all_of size tuples.now }
+{
+    for tuple in tuples {
+        if tuple.len() != size {
+            return false;
+        }
+    }
+    true
+}
+
+fn rows_of<'s>(
+    alloc: Global,
+    scope: &Scope<'s>,
+    tuples: &[Tuple<'s>],
+) -> Result<Items<Row<'s>>, AllocError>
+    ensures { IfOk result (λ all. all ≡ rows.rows_of scope.now tuples.now) }
+{
+    let mut all = Vec::new(alloc);
+    for tuple in tuples {
+        let scope = scope.again(alloc)?;
+        let key = tuple.again();
+        all.push(Row { key, scope })?;
+    }
+    Ok(Items::new(all))
+}
+
+fn no_keys<'s>(alloc: Global) -> Keys<'s>
+    ensures { result ≡ rows.no_keys }
+{
+    Keys {
+        width: None,
+        rows: Items::new(Vec::new(alloc)),
+    }
+}
+
+/// The rows of tuples of the same length, each once.
+fn rows_once<'s>(
+    alloc: Global,
+    at: Span,
+    scope: &Scope<'s>,
+    first: &Tuple<'s>,
+    tuples: &[Tuple<'s>],
+) -> Result<Keys<'s>, EvalFault<'s>>
+    ensures { Answers (rows.keys_within at scope.now (length first.now) (union [] tuples.now)) result }
+{
+    match once(alloc, tuples) {
+        Ok(set) => Ok(Keys {
+            width: Some(first.len() as u8),
+            rows: rows_of(alloc, scope, set.as_slice())?,
+        }),
+        Err(SetFault::TooMany) => Err(refuse(EvalDefect::TooMany, at)),
+        Err(SetFault::OutOfMemory) => Err(EvalFault::OutOfMemory),
+    }
+}
+
+fn listed_as<'s>(
+    alloc: Global,
+    at: Span,
+    scope: &Scope<'s>,
+    tuples: &[Tuple<'s>],
+) -> Result<Keys<'s>, EvalFault<'s>>
+    ensures { Answers (rows.listed_as at scope.now tuples.now (union [] tuples.now)) result }
+{
+    match tuples {
+        [] => Ok(no_keys(alloc)),
+        [first, rest @ ..] => {
+            if all_of(first.len(), rest) {
+                rows_once(alloc, at, scope, first, tuples)
+            } else {
+                Err(refuse(EvalDefect::Arity, at))
+            }
+        }
+    }
+}
+
+/// The keys of braces that list members and tuples.
+pub(crate) fn listed<'s>(
+    alloc: Global,
+    at: Span,
+    scope: &Scope<'s>,
+    conditioned: bool,
+    values: Items<Value<'_, 's>>,
+) -> Result<Keys<'s>, EvalFault<'s>>
+    ensures { Answers (rows.listed at scope.now conditioned values.entry) result }
+{
+    if conditioned {
+        Err(refuse(EvalDefect::KindMismatch, at))
+    } else {
+        let tuples = tuples_in(alloc, at, values.as_slice())?;
+        listed_as(alloc, at, scope, tuples.as_slice())
+    }
+}
+
+fn keys_of<'s>(alloc: Global, found: &[Row<'s>]) -> Result<Items<Tuple<'s>>, AllocError>
+    ensures { IfOk result (λ all. all ≡ rows.keys_of found.now) }
+{
+    let mut all = Vec::new(alloc);
+    for row in found {
+        all.push(row.key.again())?;
+    }
+    Ok(Items::new(all))
+}
+
+/// The keys of braces as a set.
+pub(crate) fn as_value<'w, 's>(
+    alloc: Global,
+    at: Span,
+    keys: Keys<'s>,
+) -> Result<Value<'w, 's>, EvalFault<'s>>
+    ensures { Answers (rows.as_set at keys.entry) result }
+{
+    let tuples = keys_of(alloc, keys.rows.as_slice())?;
+    match once(alloc, tuples.as_slice()) {
+        Ok(set) => Ok(Value::Many(keys.width, Held::own(set))),
+        Err(SetFault::TooMany) => Err(refuse(EvalDefect::TooMany, at)),
+        Err(SetFault::OutOfMemory) => Err(EvalFault::OutOfMemory),
+    }
+}

@@ -1,0 +1,148 @@
+//! What names and other leaves are.
+
+ghost use Rattle.std.specs.Prelude.{◌≡◌};
+ghost use Rattle.std.specs.Option.{option_copied};
+ghost use Rattle.net_sets.specs.Sets.{has, at_key};
+ghost use Rattle.net_tree.specs.Tree as trees;
+ghost use Rattle.net_eval.specs.Numbers.{number_in};
+ghost use Rattle.net_eval.specs.Outcomes.{Answers};
+ghost use Rattle.net_eval.specs.Values as values;
+ghost use Rattle.net_eval.specs.Worlds as worlds;
+
+use crate::fault::{Detail, EvalDefect, EvalFault, Refusal, refuse};
+use crate::number::number_in;
+use crate::scope::Scope;
+use crate::value::Value;
+use crate::world::{Entry, Seen};
+use net_lex::{Excerpt, Span, Token};
+use net_sets::{Held, Member, Table, Text, Tuple, TupleSet};
+use net_tree::{Role, role_of};
+
+/// A parameter with its key, as faults tell it.
+fn reference<'s>(name: &Excerpt<'s>, keys: Option<u8>, key: Tuple<'s>) -> Detail<'s>
+    ensures { result ≡ worlds.reference name.now keys key.entry }
+{
+    match keys {
+        None => Detail::Named(name.again()),
+        Some(_) => Detail::Keyed(name.again(), key),
+    }
+}
+
+fn missing<'w, 's>(
+    at: Span,
+    detail: Detail<'s>,
+    listed: bool,
+) -> Result<Value<'w, 's>, EvalFault<'s>>
+    ensures { Answers (worlds.missing at detail.entry listed) result }
+{
+    let defect = if listed {
+        EvalDefect::NoValue
+    } else {
+        EvalDefect::OutsideSet
+    };
+    Err(EvalFault::Refused(Refusal { defect, at, detail }))
+}
+
+/// The value of a parameter at a key.
+fn value_at<'w, 's>(
+    at: Span,
+    name: &Excerpt<'s>,
+    keys: Option<u8>,
+    index: &TupleSet<'s>,
+    table: &Table<'s>,
+    key: Tuple<'s>,
+) -> Result<Value<'w, 's>, EvalFault<'s>>
+    ensures { Answers (worlds.value_at at (worlds.reference name.now keys key.entry) (at_key table.now key.entry) (has index.now key.entry)) result }
+{
+    match table.get(&key) {
+        Some(member) => Ok(Value::One(member.again())),
+        None => {
+            let listed = index.contains(&key);
+            missing(at, reference(name, keys, key), listed)
+        }
+    }
+}
+
+fn key_count(keys: Option<u8>) -> usize
+    ensures { result ≡ worlds.key_count keys }
+{
+    match keys {
+        None => 0,
+        Some(count) => usize::from(count),
+    }
+}
+
+/// What a declared name is at its subscripts.
+fn entry_at<'w, 's>(
+    at: Span,
+    name: &Excerpt<'s>,
+    entry: Option<&'w Entry<'s>>,
+    key: Tuple<'s>,
+) -> Result<Value<'w, 's>, EvalFault<'s>>
+    ensures { Answers (worlds.entry_at at name.now (option_copied entry.entry) key.entry) result }
+{
+    match entry {
+        None => Err(refuse(EvalDefect::KindMismatch, at)),
+        Some(Entry::Set(dimension, set)) => {
+            if key.len() == 0 {
+                Ok(Value::Many(Some(*dimension), Held::lent(set)))
+            } else {
+                Err(refuse(EvalDefect::Arity, at))
+            }
+        }
+        Some(Entry::Parameter(keys, index, table)) => {
+            if key.len() == key_count(*keys) {
+                value_at(at, name, *keys, index, table, key)
+            } else {
+                Err(refuse(EvalDefect::Arity, at))
+            }
+        }
+    }
+}
+
+/// What a name is at its subscripts; a dummy has none.
+pub(crate) fn name_at<'w, 's>(
+    at: Span,
+    seen: &Seen<'w, 's>,
+    scope: &Scope<'s>,
+    name: &Excerpt<'s>,
+    key: Tuple<'s>,
+) -> Result<Value<'w, 's>, EvalFault<'s>>
+    ensures { Answers (worlds.name_at at seen.now name.now (worlds.bound scope.now name.now) key.entry) result }
+{
+    match scope.get(name) {
+        None => entry_at(at, name, seen.find(name), key),
+        Some(member) => {
+            if key.len() == 0 {
+                Ok(Value::One(member.again()))
+            } else {
+                Err(refuse(EvalDefect::Arity, at))
+            }
+        }
+    }
+}
+
+fn numeral<'w, 's>(token: &Token<'s>) -> Result<Value<'w, 's>, EvalFault<'s>>
+    ensures { Answers (values.number_value token.now.span (number_in token.now.text)) result }
+{
+    match number_in(&token.text) {
+        None => Err(refuse(EvalDefect::TooLarge, token.span)),
+        Some(number) => Ok(Value::One(Member::Number(number))),
+    }
+}
+
+/// What a leaf is.
+pub(crate) fn leaf<'w, 's>(
+    seen: &Seen<'w, 's>,
+    scope: &Scope<'s>,
+    token: &Token<'s>,
+) -> Result<Value<'w, 's>, EvalFault<'s>>
+    ensures { Answers (values.value seen.now scope.now (trees.leaf token.now)) result }
+{
+    match role_of(token) {
+        Role::Number => numeral(token),
+        Role::Text => Ok(Value::One(Member::Name(Text::new(&token.text)))),
+        Role::Name => name_at(token.span, seen, scope, &token.text, Tuple::new()),
+        _ => Err(refuse(EvalDefect::KindMismatch, token.span)),
+    }
+}

@@ -1,0 +1,234 @@
+//! What operators make of the values on their two sides.
+
+ghost use Rattle.std.specs.Prelude.{◌≡◌, ◌∷◌, [], int_lt, int_le, List};
+ghost use Rattle.net_tree.specs.Spans as trees;
+ghost use Rattle.net_tree.specs.View.{tree};
+ghost use Rattle.net_eval.specs.Operators as operators;
+ghost use Rattle.net_eval.specs.Outcomes.{Answers, and_then};
+
+use crate::fault::{EvalDefect, EvalFault, refuse, refuse_tree};
+use crate::number::{div, minus, modulo, number_of, plus, times};
+use crate::operation::Operation;
+use crate::row::longer_by_one;
+use crate::set::{belongs, contained, cross_values, differ, lack, meet, unite};
+use crate::value::Value;
+use net_lex::Span;
+use net_sets::{Member, Tuple};
+use net_tree::Expr;
+use std::alloc::Global;
+
+fn less<'w, 's>(whole: &Expr<'_>, x: &Value<'_, 's>, y: &Value<'_, 's>) -> Result<Value<'w, 's>, EvalFault<'s>>
+    ensures { Answers (operators.compared (trees.span_of (tree whole.now)) int_lt x.now y.now) result }
+{
+    let a = number_of(whole, x)?;
+    let b = number_of(whole, y)?;
+    Ok(Value::Truth(a < b))
+}
+
+fn at_most<'w, 's>(whole: &Expr<'_>, x: &Value<'_, 's>, y: &Value<'_, 's>) -> Result<Value<'w, 's>, EvalFault<'s>>
+    ensures { Answers (operators.compared (trees.span_of (tree whole.now)) int_le x.now y.now) result }
+{
+    let a = number_of(whole, x)?;
+    let b = number_of(whole, y)?;
+    Ok(Value::Truth(a <= b))
+}
+
+fn greater<'w, 's>(whole: &Expr<'_>, x: &Value<'_, 's>, y: &Value<'_, 's>) -> Result<Value<'w, 's>, EvalFault<'s>>
+    ensures { Answers (operators.compared (trees.span_of (tree whole.now)) (λ a b. int_lt b a) x.now y.now) result }
+{
+    let a = number_of(whole, x)?;
+    let b = number_of(whole, y)?;
+    Ok(Value::Truth(b < a))
+}
+
+fn at_least<'w, 's>(whole: &Expr<'_>, x: &Value<'_, 's>, y: &Value<'_, 's>) -> Result<Value<'w, 's>, EvalFault<'s>>
+    ensures { Answers (operators.compared (trees.span_of (tree whole.now)) (λ a b. int_le b a) x.now y.now) result }
+{
+    let a = number_of(whole, x)?;
+    let b = number_of(whole, y)?;
+    Ok(Value::Truth(b <= a))
+}
+
+/// Whether two members are the same.
+fn same<'s>(whole: &Expr<'_>, x: &Value<'_, 's>, y: &Value<'_, 's>) -> Result<bool, EvalFault<'s>>
+    ensures { Answers (operators.same (trees.span_of (tree whole.now)) x.now y.now) result }
+{
+    match (x, y) {
+        (Value::One(a), Value::One(b)) => Ok(*a == *b),
+        _ => Err(refuse_tree(EvalDefect::KindMismatch, whole)),
+    }
+}
+
+/// The truth of a condition.
+pub(crate) fn truth<'s>(whole: &Expr<'_>, value: &Value<'_, 's>) -> Result<bool, EvalFault<'s>>
+    ensures { Answers (operators.truth (trees.span_of (tree whole.now)) value.now) result }
+{
+    match value {
+        Value::Truth(truth) => Ok(*truth),
+        Value::One(_) => Err(refuse_tree(EvalDefect::KindMismatch, whole)),
+        Value::Several(_) => Err(refuse_tree(EvalDefect::KindMismatch, whole)),
+        Value::Many(_, _) => Err(refuse_tree(EvalDefect::KindMismatch, whole)),
+    }
+}
+
+/// The truth of a condition behind items; the place is the braces'.
+pub(crate) fn truth_at<'s>(at: Span, value: &Value<'_, 's>) -> Result<bool, EvalFault<'s>>
+    ensures { Answers (operators.truth at value.now) result }
+{
+    match value {
+        Value::Truth(truth) => Ok(*truth),
+        Value::One(_) => Err(refuse(EvalDefect::KindMismatch, at)),
+        Value::Several(_) => Err(refuse(EvalDefect::KindMismatch, at)),
+        Value::Many(_, _) => Err(refuse(EvalDefect::KindMismatch, at)),
+    }
+}
+
+/// What the left side alone decides.
+pub(crate) fn decided<'w, 's>(
+    operation: Operation,
+    whole: &Expr<'_>,
+    value: &Value<'_, 's>,
+) -> Result<Option<Value<'w, 's>>, EvalFault<'s>>
+    ensures { Answers (operators.decided operation (trees.span_of (tree whole.now)) value.now) result }
+{
+    match operation {
+        Operation::And => {
+            if truth(whole, value)? {
+                Ok(None)
+            } else {
+                Ok(Some(Value::Truth(false)))
+            }
+        }
+        Operation::Or => {
+            if truth(whole, value)? {
+                Ok(Some(Value::Truth(true)))
+            } else {
+                Ok(None)
+            }
+        }
+        _ => Ok(None),
+    }
+}
+
+
+fn equal<'w, 's>(whole: &Expr<'_>, x: &Value<'_, 's>, y: &Value<'_, 's>) -> Result<Value<'w, 's>, EvalFault<'s>>
+    ensures { Answers (operators.as_truth (operators.same (trees.span_of (tree whole.now)) x.now y.now)) result }
+{
+    let holds = same(whole, x, y)?;
+    Ok(Value::Truth(holds))
+}
+
+fn unequal<'w, 's>(whole: &Expr<'_>, x: &Value<'_, 's>, y: &Value<'_, 's>) -> Result<Value<'w, 's>, EvalFault<'s>>
+    ensures { Answers (operators.as_denial (operators.same (trees.span_of (tree whole.now)) x.now y.now)) result }
+{
+    let holds = same(whole, x, y)?;
+    Ok(Value::Truth(!holds))
+}
+
+fn is_in<'w, 's>(whole: &Expr<'_>, x: &Value<'_, 's>, y: &Value<'_, 's>) -> Result<Value<'w, 's>, EvalFault<'s>>
+    ensures { Answers (operators.as_truth (operators.belongs (trees.span_of (tree whole.now)) x.now y.now)) result }
+{
+    let holds = belongs(whole, x, y)?;
+    Ok(Value::Truth(holds))
+}
+
+fn is_not_in<'w, 's>(whole: &Expr<'_>, x: &Value<'_, 's>, y: &Value<'_, 's>) -> Result<Value<'w, 's>, EvalFault<'s>>
+    ensures { Answers (operators.as_denial (operators.belongs (trees.span_of (tree whole.now)) x.now y.now)) result }
+{
+    let holds = belongs(whole, x, y)?;
+    Ok(Value::Truth(!holds))
+}
+
+fn is_within<'w, 's>(whole: &Expr<'_>, x: &Value<'_, 's>, y: &Value<'_, 's>) -> Result<Value<'w, 's>, EvalFault<'s>>
+    ensures { Answers (operators.as_truth (operators.contained (trees.span_of (tree whole.now)) x.now y.now)) result }
+{
+    let holds = contained(whole, x, y)?;
+    Ok(Value::Truth(holds))
+}
+
+fn is_not_within<'w, 's>(whole: &Expr<'_>, x: &Value<'_, 's>, y: &Value<'_, 's>) -> Result<Value<'w, 's>, EvalFault<'s>>
+    ensures { Answers (operators.as_denial (operators.contained (trees.span_of (tree whole.now)) x.now y.now)) result }
+{
+    let holds = contained(whole, x, y)?;
+    Ok(Value::Truth(!holds))
+}
+
+/// The truth of the right side, where the left one did not decide.
+fn right_truth<'w, 's>(whole: &Expr<'_>, x: &Value<'_, 's>, y: &Value<'_, 's>) -> Result<Value<'w, 's>, EvalFault<'s>>
+    ensures { Answers (operators.as_truth (and_then (operators.truth (trees.span_of (tree whole.now)) x.now) (λ b. operators.truth (trees.span_of (tree whole.now)) y.now))) result }
+{
+    let _left = truth(whole, x)?;
+    let holds = truth(whole, y)?;
+    Ok(Value::Truth(holds))
+}
+
+/// What an operator makes of the values on its two sides.
+pub(crate) fn apply<'w, 's>(
+    alloc: Global,
+    operation: Operation,
+    whole: &Expr<'_>,
+    x: &Value<'_, 's>,
+    y: &Value<'_, 's>,
+) -> Result<Value<'w, 's>, EvalFault<'s>>
+    ensures { Answers (operators.apply operation (trees.span_of (tree whole.now)) x.now y.now) result }
+{
+    match operation {
+        Operation::Plus => plus(whole, x, y),
+        Operation::Minus => minus(whole, x, y),
+        Operation::Times => times(whole, x, y),
+        Operation::Div => div(whole, x, y),
+        Operation::Mod => modulo(whole, x, y),
+        Operation::Cross => cross_values(alloc, whole, x, y),
+        Operation::Inter => meet(alloc, whole, x, y),
+        Operation::Union => unite(alloc, whole, x, y),
+        Operation::Diff => lack(alloc, whole, x, y),
+        Operation::Symdiff => differ(alloc, whole, x, y),
+        Operation::Equal => equal(whole, x, y),
+        Operation::Unequal => unequal(whole, x, y),
+        Operation::Less => less(whole, x, y),
+        Operation::AtMost => at_most(whole, x, y),
+        Operation::Greater => greater(whole, x, y),
+        Operation::AtLeast => at_least(whole, x, y),
+        Operation::In => is_in(whole, x, y),
+        Operation::NotIn => is_not_in(whole, x, y),
+        Operation::Within => is_within(whole, x, y),
+        Operation::NotWithin => is_not_within(whole, x, y),
+        Operation::And | Operation::Or => right_truth(whole, x, y),
+        Operation::Range | Operation::Other => Err(refuse_tree(EvalDefect::KindMismatch, whole)),
+    }
+}
+
+fn member_of<'s>(whole: &Expr<'_>, value: &Value<'_, 's>) -> Result<Member<'s>, EvalFault<'s>>
+    ensures { Answers (operators.member (trees.span_of (tree whole.now)) value.now) result }
+{
+    match value {
+        Value::One(member) => Ok(member.again()),
+        Value::Several(_) => Err(refuse_tree(EvalDefect::KindMismatch, whole)),
+        Value::Many(_, _) => Err(refuse_tree(EvalDefect::KindMismatch, whole)),
+        Value::Truth(_) => Err(refuse_tree(EvalDefect::KindMismatch, whole)),
+    }
+}
+
+fn short_enough<'s>(whole: &Expr<'_>, key: Option<Tuple<'s>>) -> Result<Tuple<'s>, EvalFault<'s>>
+    ensures { Answers (operators.short_enough (trees.span_of (tree whole.now)) key.entry) result }
+{
+    match key {
+        None => Err(refuse_tree(EvalDefect::Arity, whole)),
+        Some(tuple) => Ok(tuple),
+    }
+}
+
+/// The tuple of the members that some values are.
+pub(crate) fn tuple_of<'s>(
+    whole: &Expr<'_>,
+    values: &[Value<'_, 's>],
+) -> Result<Tuple<'s>, EvalFault<'s>>
+    ensures { Answers (operators.tuple_of (trees.span_of (tree whole.now)) values.now) result }
+{
+    let mut key = Some(Tuple::new());
+    for value in values {
+        let member = member_of(whole, value)?;
+        key = longer_by_one(&key, &member);
+    }
+    short_enough(whole, key)
+}

@@ -1,0 +1,145 @@
+//! Ranges of numbers, as `1 .. 9 by 2`.
+
+ghost use Rattle.std.specs.Prelude.{◌≡◌, ◌∷◌, [], IsTrue, OnOk, false, int_lt, pos};
+ghost use Rattle.net_tree.specs.Spans as trees;
+ghost use Rattle.net_tree.specs.View.{tree};
+ghost use Rattle.net_eval.specs.Limits.{is_small};
+ghost use Rattle.net_eval.specs.Numbers as numbers;
+ghost use Rattle.net_eval.specs.Outcomes.{Answers};
+
+use crate::fault::{EvalDefect, EvalFault, refuse_tree};
+use crate::number::number_of;
+use crate::set::made;
+use crate::value::Value;
+use net_sets::Range;
+use net_tree::Expr;
+use std::alloc::Global;
+
+/// The greatest size of a number.
+const LIMIT: u64 = 1_000_000_000_000;
+
+#[tactic(auto, unfolding(crate::specs::Limits::is_small))]
+fn is_small(number: &i64) -> bool
+    ensures { result ≡ is_small number.now }
+{
+    number.unsigned_abs() <= LIMIT
+}
+
+/// The numbers of a range whose step is at least 1.
+#[tactic(auto, unfolding(crate::specs::Limits::is_small))]
+fn range_within<'w, 's>(
+    alloc: Global,
+    whole: &Expr<'_>,
+    first: &i64,
+    last: &i64,
+    by: &i64,
+) -> Result<Value<'w, 's>, EvalFault<'s>>
+    requires small { IsTrue (numbers.are_small first.now last.now by.now) }
+    requires moves { int_lt by.now (pos 1) ≡ false }
+    ensures { Answers (numbers.range_within (trees.span_of (tree whole.now)) first.now last.now by.now) result }
+{
+    let range = Range {
+        first: *first,
+        last: *last,
+        by: *by,
+    };
+    made(whole, 1, range.listed(alloc))
+}
+
+fn are_small(first: &i64, last: &i64, by: &i64) -> bool
+    ensures { result ≡ numbers.are_small first.now last.now by.now }
+{
+    if !is_small(first) {
+        return false;
+    }
+    if !is_small(last) {
+        return false;
+    }
+    is_small(by)
+}
+
+/// The step is at least 1.
+fn check_step<'s>(whole: &Expr<'_>, by: &i64) -> Result<(), EvalFault<'s>>
+    ensures value { Answers (numbers.step (trees.span_of (tree whole.now)) by.now) result }
+    ensures moves { OnOk result (int_lt by.now (pos 1) ≡ false) }
+{
+    if *by < 1 {
+        Err(refuse_tree(EvalDefect::DivMod, whole))
+    } else {
+        Ok(())
+    }
+}
+
+fn check_size<'s>(
+    whole: &Expr<'_>,
+    first: &i64,
+    last: &i64,
+    by: &i64,
+) -> Result<(), EvalFault<'s>>
+    ensures value { Answers (numbers.size (trees.span_of (tree whole.now)) first.now last.now by.now) result }
+    ensures small { OnOk result (IsTrue (numbers.are_small first.now last.now by.now)) }
+{
+    if are_small(first, last, by) {
+        Ok(())
+    } else {
+        Err(refuse_tree(EvalDefect::TooLarge, whole))
+    }
+}
+
+fn range<'w, 's>(
+    alloc: Global,
+    whole: &Expr<'_>,
+    first: &i64,
+    last: &i64,
+    by: &i64,
+) -> Result<Value<'w, 's>, EvalFault<'s>>
+    ensures { Answers (numbers.range (trees.span_of (tree whole.now)) first.now last.now by.now) result }
+{
+    check_step(whole, by)?;
+    check_size(whole, first, last, by)?;
+    range_within(alloc, whole, first, last, by)
+}
+
+fn range_of_two<'w, 's>(
+    alloc: Global,
+    whole: &Expr<'_>,
+    x: &Value<'_, 's>,
+    y: &Value<'_, 's>,
+) -> Result<Value<'w, 's>, EvalFault<'s>>
+    ensures { Answers (numbers.range_of (trees.span_of (tree whole.now)) (x.now ∷ y.now ∷ [])) result }
+{
+    let first = number_of(whole, x)?;
+    let last = number_of(whole, y)?;
+    range(alloc, whole, &first, &last, &1)
+}
+
+fn range_of_three<'w, 's>(
+    alloc: Global,
+    whole: &Expr<'_>,
+    x: &Value<'_, 's>,
+    y: &Value<'_, 's>,
+    z: &Value<'_, 's>,
+) -> Result<Value<'w, 's>, EvalFault<'s>>
+    ensures { Answers (numbers.range_of (trees.span_of (tree whole.now)) (x.now ∷ y.now ∷ z.now ∷ [])) result }
+{
+    let first = number_of(whole, x)?;
+    let last = number_of(whole, y)?;
+    let by = number_of(whole, z)?;
+    range(alloc, whole, &first, &last, &by)
+}
+
+/// The range of two bounds, and of a step where that is said.
+pub(crate) fn range_of<'w, 's>(
+    alloc: Global,
+    whole: &Expr<'_>,
+    values: &[Value<'_, 's>],
+) -> Result<Value<'w, 's>, EvalFault<'s>>
+    ensures { Answers (numbers.range_of (trees.span_of (tree whole.now)) values.now) result }
+{
+    match values {
+        [x, y] => range_of_two(alloc, whole, x, y),
+        [x, y, z] => range_of_three(alloc, whole, x, y, z),
+        [] | [_] => Err(refuse_tree(EvalDefect::KindMismatch, whole)),
+        [_, _, _, _, ..] => Err(refuse_tree(EvalDefect::KindMismatch, whole)),
+    }
+}

@@ -1,0 +1,318 @@
+//! What operators make of sets.
+
+ghost use Rattle.std.specs.Prelude.{◌≡◌, [], List, Ok};
+ghost use Rattle.net_sets.specs.Limits.{tuples_limit};
+ghost use Rattle.net_sets.specs.Made.{IsMade, IsCrossed};
+ghost use Rattle.net_sets.specs.Operations as set_operations;
+ghost use Rattle.net_sets.specs.Sets.{Tuple as Members};
+ghost use Rattle.net_lex.specs.declared.span.Span.{Span as Place};
+ghost use Rattle.net_tree.specs.Spans as trees;
+ghost use Rattle.net_tree.specs.View.{tree};
+ghost use Rattle.net_eval.specs.Operators as operators;
+ghost use Rattle.net_eval.specs.Outcomes.{Answers};
+ghost use Rattle.net_eval.specs.Sets as sets;
+
+use crate::fault::{EvalDefect, EvalFault, refuse_tree};
+use crate::value::Value;
+use net_sets::{Held, SetFault, Tuple, TupleSet, cross, difference, intersection, is_within, symmetric_difference, union, widest};
+use net_tree::Expr;
+use std::alloc::Global;
+
+/// `{}` counts as of one component.
+fn counted(dimension: Option<u8>) -> usize
+    ensures { result ≡ sets.counted dimension }
+{
+    match dimension {
+        None => 1,
+        Some(dimension) => usize::from(dimension),
+    }
+}
+
+/// `{}` fits every dimension.
+fn fits(dimension: Option<u8>, size: usize) -> bool
+    ensures { result ≡ sets.fits dimension size }
+{
+    match dimension {
+        None => true,
+        Some(dimension) => usize::from(dimension) == size,
+    }
+}
+
+/// The dimension that two sets share.
+fn shared(first: Option<u8>, second: Option<u8>) -> Option<u8>
+    ensures { result ≡ sets.shared first second }
+{
+    match first {
+        None => Some(second.unwrap_or(1)),
+        Some(dimension) => {
+            if fits(second, usize::from(dimension)) {
+                Some(dimension)
+            } else {
+                None
+            }
+        }
+    }
+}
+
+/// A set of its own, which is not too large, as each is.
+fn set_value<'w, 's>(dimension: u8, set: TupleSet<'s>) -> Value<'w, 's>
+    ensures { (at : Place) → sets.within_size at dimension set.entry ≡ Ok result }
+{
+    let _few = set.len();
+    Value::Many(Some(dimension), Held::own(set))
+}
+
+/// A set that was made, if it is not too large.
+pub(crate) fn made<'w, 's>(
+    whole: &Expr<'_>,
+    dimension: u8,
+    set: Result<TupleSet<'s>, SetFault>,
+) -> Result<Value<'w, 's>, EvalFault<'s>>
+    ensures { (wanted : List Members) → IsMade wanted set.entry → Answers (sets.within_size (trees.span_of (tree whole.now)) dimension wanted) result }
+{
+    match set {
+        Ok(set) => Ok(set_value(dimension, set)),
+        Err(SetFault::TooMany) => Err(refuse_tree(EvalDefect::TooMany, whole)),
+        Err(SetFault::OutOfMemory) => Err(EvalFault::OutOfMemory),
+    }
+}
+
+fn union_of<'w, 's>(
+    alloc: Global,
+    whole: &Expr<'_>,
+    dimension: Option<u8>,
+    first: &TupleSet<'s>,
+    second: &TupleSet<'s>,
+) -> Result<Value<'w, 's>, EvalFault<'s>>
+    ensures { Answers (sets.set_of (trees.span_of (tree whole.now)) dimension (set_operations.union first.now second.now)) result }
+{
+    match dimension {
+        None => Err(refuse_tree(EvalDefect::Arity, whole)),
+        Some(dimension) => {
+            let copy = first.again(alloc)?;
+            made(whole, dimension, union(copy, second))
+        }
+    }
+}
+
+fn difference_of<'w, 's>(
+    alloc: Global,
+    whole: &Expr<'_>,
+    dimension: Option<u8>,
+    first: &TupleSet<'s>,
+    second: &TupleSet<'s>,
+) -> Result<Value<'w, 's>, EvalFault<'s>>
+    ensures { Answers (sets.set_of (trees.span_of (tree whole.now)) dimension (set_operations.difference first.now second.now)) result }
+{
+    match dimension {
+        None => Err(refuse_tree(EvalDefect::Arity, whole)),
+        Some(dimension) => Ok(set_value(dimension, difference(alloc, first, second)?)),
+    }
+}
+
+fn intersection_of<'w, 's>(
+    alloc: Global,
+    whole: &Expr<'_>,
+    dimension: Option<u8>,
+    first: &TupleSet<'s>,
+    second: &TupleSet<'s>,
+) -> Result<Value<'w, 's>, EvalFault<'s>>
+    ensures { Answers (sets.set_of (trees.span_of (tree whole.now)) dimension (set_operations.intersection first.now second.now)) result }
+{
+    match dimension {
+        None => Err(refuse_tree(EvalDefect::Arity, whole)),
+        Some(dimension) => Ok(set_value(dimension, intersection(alloc, first, second)?)),
+    }
+}
+
+fn symmetric_difference_of<'w, 's>(
+    alloc: Global,
+    whole: &Expr<'_>,
+    dimension: Option<u8>,
+    first: &TupleSet<'s>,
+    second: &TupleSet<'s>,
+) -> Result<Value<'w, 's>, EvalFault<'s>>
+    ensures { Answers (sets.set_of (trees.span_of (tree whole.now)) dimension (set_operations.symmetric_difference first.now second.now)) result }
+{
+    match dimension {
+        None => Err(refuse_tree(EvalDefect::Arity, whole)),
+        Some(dimension) => made(whole, dimension, symmetric_difference(alloc, first, second)),
+    }
+}
+
+pub(crate) fn unite<'w, 's>(
+    alloc: Global,
+    whole: &Expr<'_>,
+    x: &Value<'_, 's>,
+    y: &Value<'_, 's>,
+) -> Result<Value<'w, 's>, EvalFault<'s>>
+    ensures { Answers (operators.of_sets (trees.span_of (tree whole.now)) set_operations.union x.now y.now) result }
+{
+    match (x, y) {
+        (Value::Many(d, first), Value::Many(e, second)) => {
+            union_of(alloc, whole, shared(*d, *e), first.get(), second.get())
+        }
+        _ => Err(refuse_tree(EvalDefect::KindMismatch, whole)),
+    }
+}
+
+pub(crate) fn lack<'w, 's>(
+    alloc: Global,
+    whole: &Expr<'_>,
+    x: &Value<'_, 's>,
+    y: &Value<'_, 's>,
+) -> Result<Value<'w, 's>, EvalFault<'s>>
+    ensures { Answers (operators.of_sets (trees.span_of (tree whole.now)) set_operations.difference x.now y.now) result }
+{
+    match (x, y) {
+        (Value::Many(d, first), Value::Many(e, second)) => {
+            difference_of(alloc, whole, shared(*d, *e), first.get(), second.get())
+        }
+        _ => Err(refuse_tree(EvalDefect::KindMismatch, whole)),
+    }
+}
+
+pub(crate) fn meet<'w, 's>(
+    alloc: Global,
+    whole: &Expr<'_>,
+    x: &Value<'_, 's>,
+    y: &Value<'_, 's>,
+) -> Result<Value<'w, 's>, EvalFault<'s>>
+    ensures { Answers (operators.of_sets (trees.span_of (tree whole.now)) set_operations.intersection x.now y.now) result }
+{
+    match (x, y) {
+        (Value::Many(d, first), Value::Many(e, second)) => {
+            intersection_of(alloc, whole, shared(*d, *e), first.get(), second.get())
+        }
+        _ => Err(refuse_tree(EvalDefect::KindMismatch, whole)),
+    }
+}
+
+pub(crate) fn differ<'w, 's>(
+    alloc: Global,
+    whole: &Expr<'_>,
+    x: &Value<'_, 's>,
+    y: &Value<'_, 's>,
+) -> Result<Value<'w, 's>, EvalFault<'s>>
+    ensures { Answers (operators.of_sets (trees.span_of (tree whole.now)) set_operations.symmetric_difference x.now y.now) result }
+{
+    match (x, y) {
+        (Value::Many(d, first), Value::Many(e, second)) => {
+            symmetric_difference_of(alloc, whole, shared(*d, *e), first.get(), second.get())
+        }
+        _ => Err(refuse_tree(EvalDefect::KindMismatch, whole)),
+    }
+}
+
+fn crossed<'w, 's>(
+    alloc: Global,
+    whole: &Expr<'_>,
+    d: Option<u8>,
+    first: &TupleSet<'s>,
+    e: Option<u8>,
+    second: &TupleSet<'s>,
+) -> Result<Value<'w, 's>, EvalFault<'s>>
+    ensures { Answers (sets.cross (trees.span_of (tree whole.now)) d first.now e second.now) result }
+{
+    let size = counted(d) + counted(e);
+    if size <= 4 && widest(first) + widest(second) <= 4 {
+        match cross(alloc, first, second) {
+            Ok(set) => Ok(Value::Many(Some(size as u8), Held::own(set))),
+            Err(SetFault::TooMany) => Err(refuse_tree(EvalDefect::TooMany, whole)),
+            Err(SetFault::OutOfMemory) => Err(EvalFault::OutOfMemory),
+        }
+    } else {
+        Err(refuse_tree(EvalDefect::Arity, whole))
+    }
+}
+
+pub(crate) fn cross_values<'w, 's>(
+    alloc: Global,
+    whole: &Expr<'_>,
+    x: &Value<'_, 's>,
+    y: &Value<'_, 's>,
+) -> Result<Value<'w, 's>, EvalFault<'s>>
+    ensures { Answers (operators.crossed (trees.span_of (tree whole.now)) x.now y.now) result }
+{
+    match (x, y) {
+        (Value::Many(d, first), Value::Many(e, second)) => {
+            crossed(alloc, whole, *d, first.get(), *e, second.get())
+        }
+        _ => Err(refuse_tree(EvalDefect::KindMismatch, whole)),
+    }
+}
+
+fn among<'s>(
+    whole: &Expr<'_>,
+    tuple: &Tuple<'s>,
+    dimension: Option<u8>,
+    set: &TupleSet<'s>,
+) -> Result<bool, EvalFault<'s>>
+    ensures { Answers (sets.among (trees.span_of (tree whole.now)) tuple.now dimension set.now) result }
+{
+    if fits(dimension, tuple.len()) {
+        Ok(set.contains(tuple))
+    } else {
+        Err(refuse_tree(EvalDefect::Arity, whole))
+    }
+}
+
+/// Whether a member or tuple is in a set.
+pub(crate) fn belongs<'s>(
+    whole: &Expr<'_>,
+    x: &Value<'_, 's>,
+    y: &Value<'_, 's>,
+) -> Result<bool, EvalFault<'s>>
+    ensures { Answers (operators.belongs (trees.span_of (tree whole.now)) x.now y.now) result }
+{
+    match (x, y) {
+        (Value::One(member), Value::Many(dimension, set)) => {
+            among(whole, &Tuple::single(member.again()), *dimension, set.get())
+        }
+        (Value::Several(tuple), Value::Many(dimension, set)) => {
+            among(whole, tuple, *dimension, set.get())
+        }
+        _ => Err(refuse_tree(EvalDefect::KindMismatch, whole)),
+    }
+}
+
+fn inside<'s>(
+    whole: &Expr<'_>,
+    dimension: Option<u8>,
+    first: &TupleSet<'s>,
+    second: &TupleSet<'s>,
+) -> Result<bool, EvalFault<'s>>
+    ensures { Answers (sets.inside (trees.span_of (tree whole.now)) dimension first.now second.now) result }
+{
+    match dimension {
+        None => Err(refuse_tree(EvalDefect::Arity, whole)),
+        Some(_) => Ok(is_within(first, second)),
+    }
+}
+
+/// Whether a set is within another.
+pub(crate) fn contained<'s>(
+    whole: &Expr<'_>,
+    x: &Value<'_, 's>,
+    y: &Value<'_, 's>,
+) -> Result<bool, EvalFault<'s>>
+    ensures { Answers (operators.contained (trees.span_of (tree whole.now)) x.now y.now) result }
+{
+    match (x, y) {
+        (Value::Many(d, first), Value::Many(e, second)) => {
+            inside(whole, shared(*d, *e), first.get(), second.get())
+        }
+        _ => Err(refuse_tree(EvalDefect::KindMismatch, whole)),
+    }
+}
+
+/// The tuples, each once.
+pub(crate) fn once<'s>(alloc: Global, tuples: &[Tuple<'s>]) -> Result<TupleSet<'s>, SetFault>
+    ensures { IsMade (set_operations.union [] tuples.now) result }
+{
+    let mut all = TupleSet::new(alloc);
+    for tuple in tuples {
+        all.add(tuple.again())?;
+    }
+    Ok(all)
+}

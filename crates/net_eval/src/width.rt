@@ -1,0 +1,404 @@
+//! How many members the keys of braces have by their form alone, where no key was found.
+
+ghost use Rattle.std.specs.Prelude.{◌≡◌, ◌+◌, Some, IfOk};
+ghost use Rattle.std.specs.Option.{option_copied, option_map};
+ghost use Rattle.net_tree.specs.View.{tree, braces_of, links_of};
+ghost use Rattle.net_eval.specs.Items as items;
+ghost use Rattle.net_eval.specs.Operations.{operation};
+ghost use Rattle.net_eval.specs.Outcomes.{Answers};
+ghost use Rattle.net_eval.specs.Rows as rows;
+ghost use Rattle.net_eval.specs.Sets.{counted};
+ghost use Rattle.net_eval.specs.Widths as widths;
+
+use crate::fault::{EvalDefect, EvalFault, refuse};
+use crate::item::{any_in, bare, has_in, links_len, new_dummy, sides_of};
+use crate::operation::{Operation, operation_of};
+use crate::row::Row;
+use crate::scope::Scope;
+use crate::world::{Entry, Seen};
+use net_lex::{Excerpt, Span};
+use net_sets::Member;
+use net_tree::{Braces, Expr, Link};
+use std::alloc::{AllocError, Global};
+
+/// What items tell by their form: the dummies in scope, the number of members of the keys, and whether all are sets.
+#[derive(Drop)]
+pub(crate) struct Form<'s> {
+    pub(crate) scope: Scope<'s>,
+    pub(crate) count: u8,
+    pub(crate) indexes: bool,
+}
+
+/// Past four members are not told apart.
+fn capped_sum(a: u8, b: u8) -> u8
+    ensures { result ≡ widths.capped (a + b) }
+{
+    (u16::from(a) + u16::from(b)).min(5) as u8
+}
+
+fn capped_size(more: &[Link<'_>]) -> u8
+    ensures { result ≡ widths.capped (1 + items.size (links_of more.now)) }
+{
+    1 + links_len(more).min(4) as u8
+}
+
+fn counted(dimension: Option<u8>) -> u8
+    ensures { result ≡ counted dimension }
+{
+    dimension.unwrap_or(1)
+}
+
+fn set_width(entry: Option<&Entry<'_>>) -> Option<u8>
+    ensures { result ≡ widths.set_width (option_copied entry.entry) }
+{
+    match entry {
+        Some(Entry::Set(dimension, _)) => Some(*dimension),
+        Some(Entry::Parameter(_, _, _)) => None,
+        None => None,
+    }
+}
+
+/// The dimension of the set that a bare name is.
+fn named_width<'s>(
+    seen: &Seen<'_, 's>,
+    scope: &Scope<'s>,
+    component: &Expr<'s>,
+) -> Option<u8>
+    ensures { result ≡ widths.named_width seen.now scope.now (items.bare (tree component.now)) }
+{
+    match bare(component) {
+        None => None,
+        Some(name) => {
+            if scope.get(name).is_some() {
+                None
+            } else {
+                set_width(seen.find(name))
+            }
+        }
+    }
+}
+
+fn or_one(dimension: Option<u8>) -> Option<u8>
+    ensures { result ≡ widths.or_one dimension }
+{
+    Some(dimension.unwrap_or(1))
+}
+
+fn makes_set(operation: Operation) -> bool
+    ensures { result ≡ widths.makes_set operation }
+{
+    match operation {
+        Operation::Range | Operation::Cross | Operation::Inter => true,
+        Operation::Union | Operation::Diff | Operation::Symdiff => true,
+        _ => false,
+    }
+}
+
+fn begin_set(links: &[Link<'_>]) -> bool
+    ensures { result ≡ widths.begin_set (links_of links.now) }
+{
+    match links {
+        [] => false,
+        [link, ..] => makes_set(operation_of(&link.operator)),
+    }
+}
+
+/// Whether a tree is a set by its form: of an `if`, its `then` side decides.
+#[tactic(auto, using(net_tree::proofs::Views::views))]
+fn is_set_form<'s>(seen: &Seen<'_, 's>, scope: &Scope<'s>, expr: &Expr<'s>) -> bool
+    ensures { result ≡ widths.is_set_form seen.now scope.now (tree expr.now) }
+{
+    match expr {
+        Expr::Leaf(_) => named_width(seen, scope, expr).is_some(),
+        Expr::Parens(parts) => is_set_form(seen, scope, &parts.get().1),
+        Expr::Braced(_) => true,
+        Expr::Chain(_, operands) => begin_set(operands.get().more.as_slice()),
+        Expr::Choice(_, branch, _) => is_set_form(seen, scope, &branch.get().value),
+        Expr::Indexed(_) | Expr::Tuple(_) | Expr::Negated(_) | Expr::Signed(_) => false,
+        Expr::Reduced(_, _) | Expr::Net(_) => false,
+    }
+}
+
+fn of_either(first: Option<u8>, second: Option<u8>) -> Option<u8>
+    ensures { result ≡ widths.of_either first second }
+{
+    match first {
+        None => Some(counted(second)),
+        Some(dimension) => Some(dimension),
+    }
+}
+
+fn combined(operation: Operation, first: Option<u8>, second: Option<u8>) -> Option<u8>
+    ensures { result ≡ widths.combined operation first second }
+{
+    match operation {
+        Operation::Range => Some(1),
+        Operation::Cross => Some(capped_sum(counted(first), counted(second))),
+        Operation::Inter | Operation::Union => of_either(first, second),
+        Operation::Diff | Operation::Symdiff => of_either(first, second),
+        _ => first,
+    }
+}
+
+fn begin<'s>(alloc: Global, scope: &Scope<'s>) -> Result<Form<'s>, AllocError>
+    ensures { IfOk result (λ f. f ≡ widths.begin scope.now) }
+{
+    Ok(Form {
+        scope: scope.again(alloc)?,
+        count: 0,
+        indexes: true,
+    })
+}
+
+fn with_component<'s>(
+    alloc: Global,
+    seen: &Seen<'_, 's>,
+    form: Form<'s>,
+    component: &Expr<'s>,
+) -> Result<Form<'s>, AllocError>
+    ensures { IfOk result (λ f. f ≡ widths.with_component seen.now form.entry (tree component.now)) }
+{
+    match new_dummy(seen, &form.scope, component) {
+        None => Ok(form),
+        Some(name) => {
+            let scope = form.scope.with(alloc, name.again(), Member::Number(0))?;
+            Ok(Form {
+                scope,
+                count: capped_sum(form.count, 1),
+                indexes: form.indexes,
+            })
+        }
+    }
+}
+
+fn with_components<'s>(
+    alloc: Global,
+    seen: &Seen<'_, 's>,
+    form: Form<'s>,
+    links: &[Link<'s>],
+) -> Result<Form<'s>, AllocError>
+    ensures { IfOk result (λ f. f ≡ widths.with_components seen.now form.entry (links_of links.now)) }
+{
+    let mut form = form;
+    for link in links {
+        form = with_component(alloc, seen, form, &link.operand)?;
+    }
+    Ok(form)
+}
+
+fn with_tuple<'s>(
+    alloc: Global,
+    seen: &Seen<'_, 's>,
+    form: Form<'s>,
+    first: &Expr<'s>,
+    more: &[Link<'s>],
+) -> Result<Form<'s>, AllocError>
+    ensures { IfOk result (λ f. f ≡ widths.with_components seen.now (widths.with_component seen.now form.entry (tree first.now)) (links_of more.now)) }
+{
+    let form = with_component(alloc, seen, form, first)?;
+    with_components(alloc, seen, form, more)
+}
+
+/// What stands at the left of `in`.
+#[tactic(auto, using(net_tree::proofs::Views::views))]
+fn with_left<'s>(
+    alloc: Global,
+    seen: &Seen<'_, 's>,
+    form: Form<'s>,
+    left: &Expr<'s>,
+) -> Result<Form<'s>, AllocError>
+    ensures { IfOk result (λ f. f ≡ widths.with_left seen.now form.entry (tree left.now)) }
+{
+    match left {
+        Expr::Tuple(parts) => {
+            let series = &parts.get().1;
+            with_tuple(alloc, seen, form, &series.first, series.more.as_slice())
+        }
+        Expr::Leaf(_) | Expr::Indexed(_) | Expr::Parens(_) | Expr::Negated(_) => {
+            with_component(alloc, seen, form, left)
+        }
+        Expr::Braced(_) | Expr::Signed(_) | Expr::Reduced(_, _) | Expr::Chain(_, _) => {
+            with_component(alloc, seen, form, left)
+        }
+        Expr::Choice(_, _, _) | Expr::Net(_) => with_component(alloc, seen, form, left),
+    }
+}
+
+/// An item that is a set of this dimension by its form, or no set.
+fn with_plain<'s>(form: Form<'s>, dimension: Option<u8>, is_set: bool) -> Form<'s>
+    ensures { result ≡ widths.with_plain form.entry dimension is_set }
+{
+    let Form {
+        scope,
+        count,
+        indexes,
+    } = form;
+    Form {
+        scope,
+        count: capped_sum(count, counted(dimension)),
+        indexes: indexes && is_set,
+    }
+}
+
+/// The dimension of a set by its form; what is no set counts as a member or tuple of one.
+#[cycle(width)]
+#[tactic(auto, using(net_tree::proofs::Views::views))]
+fn tree_width<'s>(
+    alloc: Global,
+    seen: &Seen<'_, 's>,
+    scope: &Scope<'s>,
+    expr: &Expr<'s>,
+) -> Result<Option<u8>, AllocError>
+    ensures { IfOk result (λ d. d ≡ widths.width seen.now scope.now (tree expr.now)) }
+{
+    match expr {
+        Expr::Leaf(_) => Ok(or_one(named_width(seen, scope, expr))),
+        Expr::Parens(parts) => tree_width(alloc, seen, scope, &parts.get().1),
+        Expr::Tuple(parts) => Ok(Some(capped_size(parts.get().1.more.as_slice()))),
+        Expr::Braced(braces) => braces_width(alloc, seen, scope, braces.get()),
+        Expr::Chain(_, operands) => {
+            let series = operands.get();
+            chain_width(alloc, seen, scope, &series.first, series.more.as_slice())
+        }
+        Expr::Choice(_, branch, _) => tree_width(alloc, seen, scope, &branch.get().value),
+        Expr::Indexed(_) | Expr::Negated(_) | Expr::Signed(_) => Ok(Some(1)),
+        Expr::Reduced(_, _) | Expr::Net(_) => Ok(Some(1)),
+    }
+}
+
+#[cycle(width)]
+fn chain_width<'s>(
+    alloc: Global,
+    seen: &Seen<'_, 's>,
+    scope: &Scope<'s>,
+    first: &Expr<'s>,
+    more: &[Link<'s>],
+) -> Result<Option<u8>, AllocError>
+    ensures { IfOk result (λ d. d ≡ widths.chain_width seen.now scope.now (widths.width seen.now scope.now (tree first.now)) (links_of more.now)) }
+{
+    let mut so_far = tree_width(alloc, seen, scope, first)?;
+    for link in more {
+        let operand = tree_width(alloc, seen, scope, &link.operand)?;
+        so_far = combined(operation_of(&link.operator), so_far, operand);
+    }
+    Ok(so_far)
+}
+
+#[cycle(width)]
+#[tactic(auto, using(net_tree::proofs::Views::views))]
+fn braces_width<'s>(
+    alloc: Global,
+    seen: &Seen<'_, 's>,
+    scope: &Scope<'s>,
+    braces: &Braces<'s>,
+) -> Result<Option<u8>, AllocError>
+    ensures { IfOk result (λ d. d ≡ widths.braces_width seen.now scope.now (braces_of braces.now)) }
+{
+    match braces {
+        Braces::Empty(_, _, _) => Ok(None),
+        Braces::Filled(_, series, _, _) => {
+            filled_width(alloc, seen, scope, &series.first, series.more.as_slice())
+        }
+    }
+}
+
+#[cycle(width)]
+fn filled_width<'s>(
+    alloc: Global,
+    seen: &Seen<'_, 's>,
+    scope: &Scope<'s>,
+    item: &Expr<'s>,
+    more: &[Link<'s>],
+) -> Result<Option<u8>, AllocError>
+    ensures { IfOk result (λ d. d ≡ widths.filled_width seen.now scope.now (tree item.now) (links_of more.now)) }
+{
+    if has_in(item) || any_in(more) || is_set_form(seen, scope, item) {
+        let form = items_form(alloc, seen, scope, item, more)?;
+        Ok(Some(form.count))
+    } else {
+        tree_width(alloc, seen, scope, item)
+    }
+}
+
+/// What items tell by their form.
+#[cycle(width)]
+fn items_form<'s>(
+    alloc: Global,
+    seen: &Seen<'_, 's>,
+    scope: &Scope<'s>,
+    item: &Expr<'s>,
+    more: &[Link<'s>],
+) -> Result<Form<'s>, AllocError>
+    ensures { IfOk result (λ f. f ≡ widths.with_items seen.now (widths.with_item seen.now (widths.begin scope.now) (tree item.now)) (links_of more.now)) }
+{
+    let mut form = with_item(alloc, seen, begin(alloc, scope)?, item)?;
+    for link in more {
+        form = with_item(alloc, seen, form, &link.operand)?;
+    }
+    Ok(form)
+}
+
+#[cycle(width)]
+fn with_item<'s>(
+    alloc: Global,
+    seen: &Seen<'_, 's>,
+    form: Form<'s>,
+    item: &Expr<'s>,
+) -> Result<Form<'s>, AllocError>
+    ensures { IfOk result (λ f. f ≡ widths.with_item seen.now form.entry (tree item.now)) }
+{
+    match sides_of(item) {
+        Some((left, _)) => with_left(alloc, seen, form, left),
+        None => {
+            let dimension = tree_width(alloc, seen, &form.scope, item)?;
+            let is_set = is_set_form(seen, &form.scope, item);
+            Ok(with_plain(form, dimension, is_set))
+        }
+    }
+}
+
+fn width_of_form<'s>(at: Span, form: &Form<'s>) -> Result<u8, EvalFault<'s>>
+    ensures { Answers (widths.width_of_form at form.now) result }
+{
+    if form.indexes {
+        if form.count <= 4 {
+            Ok(form.count)
+        } else {
+            Err(refuse(EvalDefect::Arity, at))
+        }
+    } else {
+        Err(refuse(EvalDefect::KindMismatch, at))
+    }
+}
+
+fn width_by_form<'s>(
+    alloc: Global,
+    at: Span,
+    seen: &Seen<'_, 's>,
+    scope: &Scope<'s>,
+    item: &Expr<'s>,
+    more: &[Link<'s>],
+) -> Result<u8, EvalFault<'s>>
+    ensures { Answers (widths.width_by_form at seen.now scope.now (tree item.now) (links_of more.now)) result }
+{
+    let form = items_form(alloc, seen, scope, item, more)?;
+    width_of_form(at, &form)
+}
+
+/// The number of members of the keys that were found; where there is none, that which the items' form tells.
+pub(crate) fn width<'s>(
+    alloc: Global,
+    at: Span,
+    seen: &Seen<'_, 's>,
+    scope: &Scope<'s>,
+    item: &Expr<'s>,
+    more: &[Link<'s>],
+    found: &[Row<'s>],
+) -> Result<u8, EvalFault<'s>>
+    ensures { Answers (rows.width_of found.now (widths.width_by_form at seen.now scope.now (tree item.now) (links_of more.now))) result }
+{
+    match found {
+        [] => width_by_form(alloc, at, seen, scope, item, more),
+        [row, ..] => Ok(row.key.len() as u8),
+    }
+}
