@@ -1,5 +1,5 @@
 -- How many numbers a range lists.
-use Rattle.std.specs.Prelude.{◌≡◌, ℕ, zero, suc, ◌+ℤ◌, List, [], ◌∷◌, length, map, nat_le, if◌then◌else◌, ℤ, Some, Ok}
+use Rattle.std.specs.Prelude.{◌≡◌, ℕ, zero, suc, ◌+ℤ◌, length, nat_le, if◌then◌else◌, ℤ, Some, Ok}
 use Rattle.std.proofs.Common.{refl, sym, ap, ◌∙◌}
 use Rattle.net_lex.specs.declared.span.Span.{Span}
 use Rattle.net_sets.specs.Limits.{tuples_limit}

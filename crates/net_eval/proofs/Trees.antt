@@ -1,10 +1,9 @@
 -- Trees, worlds and scopes of the worked examples.
-use Rattle.std.specs.Prelude.{ℕ, List, [], ◌∷◌, None, Some, pos, ℤ, codes}
+use Rattle.std.specs.Prelude.{ℕ, List, [], ◌∷◌, None, Some, pos, codes}
 use Rattle.net_lex.specs.declared.token.Token.{Token}
 use Rattle.net_lex.specs.declared.token.Kind.TheVariants as kinds
 use Rattle.net_sets.specs.declared.member.Member.TheVariants.{Number, Name}
 use Rattle.net_eval.specs.declared.world.Entry.TheVariants.{Set, Parameter}
-use Rattle.net_eval.specs.declared.scope.Binding.{Binding}
 use Rattle.net_eval.specs.Worlds.{World, Scope}
 
 -- tokens of each kind, with their places
@@ -28,8 +27,11 @@ abbrev pub cities : World
 cities =
     (codes "CITIES", Set 1 ((Name (codes "a") ∷ []) ∷ (Name (codes "b") ∷ []) ∷ []))
     ∷ (codes "LINKS", Set 2 ((Name (codes "a") ∷ Name (codes "b") ∷ []) ∷ (Name (codes "b") ∷ Name (codes "a") ∷ []) ∷ []))
-    ∷ (codes "cost", Parameter (Some 2) ((Name (codes "a") ∷ Name (codes "b") ∷ []) ∷ (Name (codes "b") ∷ Name (codes "a") ∷ []) ∷ [])
-        (((Name (codes "a") ∷ Name (codes "b") ∷ []), Number (pos 1)) ∷ []))
+    ∷ (
+      codes "cost",
+      Parameter (Some 2) ((Name (codes "a") ∷ Name (codes "b") ∷ []) ∷ (Name (codes "b") ∷ Name (codes "a") ∷ []) ∷ [])
+          (((Name (codes "a") ∷ Name (codes "b") ∷ []), Number (pos 1)) ∷ []),
+    )
     ∷ (codes "rate", Parameter None ([] ∷ []) (([], Number (pos 7)) ∷ []))
     ∷ (codes "base", Parameter None ([] ∷ []) []) ∷ []
 

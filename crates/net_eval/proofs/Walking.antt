@@ -8,7 +8,7 @@ use Rattle.net_sets.specs.Sets.{Tuple}
 use Rattle.net_tree.specs.declared.expr.Link.{Link, out-Link}
 use Rattle.net_tree.specs.declared.expr.Operator.{Operator}
 use Rattle.net_tree.specs.Spans.{span_of, span_between}
-use Rattle.net_tree.specs.Tree.{Tree, Links, Part, Braces, leaf, indexed, parens, tuple, negated, braced, signed, reduced, chain, choice, net, none, link, filled}
+use Rattle.net_tree.specs.Tree.{Tree, Links, Part, Braces, indexed, tuple, negated, signed, reduced, chain, choice, none, link, filled}
 use Rattle.net_tree.specs.View.{tree, links_of}
 use Rattle.net_tree.specs.Weights.{weight, weights}
 use Rattle.net_tree.proofs.Views.{links_of-cons, next_link, first_link}
@@ -24,7 +24,7 @@ use Rattle.net_eval.specs.Worlds.{World, Scope}
 use Rattle.net_eval.specs.Operations.{operation, is_range, reduction, is_minus}
 use Rattle.net_eval.specs.Operators.{apply, decided, truth}
 use Rattle.net_eval.specs.Numbers.{range_of}
-use Rattle.net_eval.specs.Items.{is_in, behind_in, both, sides, size, any_in, has_in, has_part, begins_range, new_dummy, tuples_of, is_set, Opening, walking as walking_over, listing, opened, open_with}
+use Rattle.net_eval.specs.Items.{is_in, behind_in, both, sides, size, any_in, has_in, has_part, begins_range, new_dummy, tuples_of, is_set, walking as walking_over, listing, opened, open_with}
 use Rattle.net_eval.specs.Widths.{makes_set, begin_set}
 use Rattle.net_eval.specs.Rows.{start, onward, listed, reduce, fitted_alone}
 use Rattle.net_eval.specs.Values.{value, values, chained, index, walk, set_behind, place, left_place, either, subscripted, tupled, with_sign, otherwise}
@@ -135,9 +135,10 @@ index-filled w s o (chain n x (link r y none)) is p c = go (is_in (operation r))
   where
     i : Tree
     i = chain n x (link r y none)
+
     go : (b : Bool)
         → and_then (if is_some (both x (behind b y)) then and_then (set_behind w s (chain n x (link r y none))) (λ ts. Ok (walking_over ts)) else and_then (value w s (chain n x (link r y none))) (opened (span_between o c) (any_in is)))
-            (open_with (walked (span_between o c) w s (chain n x (link r y none)) is p) (λ v. and_then (values w s is (v ∷ [])) (listed (span_between o c) s (has_part p))))
+        (open_with (walked (span_between o c) w s (chain n x (link r y none)) is p) (λ v. and_then (values w s is (v ∷ [])) (listed (span_between o c) s (has_part p))))
         ≡ keys_by_sides (span_between o c) w s (chain n x (link r y none)) is p (both x (behind b y))
     go true = open_sides (set_behind w s (chain n x (link r y none))) _ _
     go false = open_plain (span_between o c) w s (chain n x (link r y none)) is p
@@ -176,9 +177,11 @@ weight-sides (chain n a (link r b none)) x y h = go (is_in (operation r)) h
     first_of_two : Option (Tree × Tree) → Tree
     first_of_two None = a
     first_of_two (Some q) = q.0
+
     second_of_two : Option (Tree × Tree) → Tree
     second_of_two None = a
     second_of_two (Some q) = q.1
+
     go : (c : Bool) → Some (x, y) ≡ both a (behind c b) → (weight x < weight (chain n a (link r b none))) × (weight y < weight (chain n a (link r b none))) × (weight x + weight y < weight (chain n a (link r b none)))
     go true e =
         let left : x ≡ a = ap first_of_two e in

@@ -1,9 +1,9 @@
 -- Walks over braces: where they stand, and the keys that they find.
-use Rattle.std.specs.Prelude.{ℕ, ◌+◌, Bool, true, false, List, [], ◌∷◌, ◌++◌, length, map, nat_eq, nat_le, nat_lt, Option, None, Some, if◌then◌else◌, Ok, ℤ, pos}
+use Rattle.std.specs.Prelude.{ℕ, Bool, true, false, List, [], ◌∷◌, ◌++◌, length, map, nat_eq, nat_le, nat_lt, Option, None, Some, if◌then◌else◌, Ok, ℤ, pos}
 use Rattle.net_lex.specs.declared.span.Span.{Span}
 use Rattle.net_sets.specs.declared.member.Member.{Member}
 use Rattle.net_sets.specs.declared.member.Member.TheVariants.{Number}
-use Rattle.net_sets.specs.Limits.{arity_limit, tuples_limit}
+use Rattle.net_sets.specs.Limits.{tuples_limit}
 use Rattle.net_sets.specs.Sets.{Tuple, same_member, same_tuple}
 use Rattle.net_sets.specs.Operations.{union}
 use Rattle.net_eval.specs.declared.fault.EvalDefect.TheVariants.{NoValue, KindMismatch, Arity, TooMany}

@@ -22,7 +22,9 @@ use crate::number::{gathered, number_of, reduced_to, with_sign};
 use crate::operation::{Operation, Reduction, is_minus, operation_of, reduction_of};
 use crate::operator::{apply, decided, truth, truth_at, tuple_of};
 use crate::range::range_of;
-use crate::row::{Keys, Place, Row, agrees, agrees_as, bind, bind_first, finish, start, stay, with_key};
+use crate::row::{
+    Keys, Place, Row, agrees, agrees_as, bind, bind_first, finish, start, stay, with_key,
+};
 use crate::scope::Scope;
 use crate::value::Value;
 use crate::width::width;
@@ -47,12 +49,27 @@ pub fn evaluate<'w, 's>(
         Expr::Leaf(token) => leaf(seen, scope, token),
         Expr::Indexed(parts) => {
             let (name, _, series, _) = parts.get();
-            subscripted(alloc, seen, scope, expr, name, &series.first, series.more.as_slice())
+            subscripted(
+                alloc,
+                seen,
+                scope,
+                expr,
+                name,
+                &series.first,
+                series.more.as_slice(),
+            )
         }
         Expr::Parens(parts) => evaluate(alloc, seen, scope, &parts.get().1),
         Expr::Tuple(parts) => {
             let series = &parts.get().1;
-            tupled(alloc, seen, scope, expr, &series.first, series.more.as_slice())
+            tupled(
+                alloc,
+                seen,
+                scope,
+                expr,
+                &series.first,
+                series.more.as_slice(),
+            )
         }
         Expr::Negated(parts) => negated(alloc, seen, scope, expr, &parts.get().2),
         Expr::Braced(braces) => braced(alloc, seen, scope, braces.get()),
@@ -62,11 +79,26 @@ pub fn evaluate<'w, 's>(
         }
         Expr::Reduced(parts, body) => {
             let (word, braces) = parts.get();
-            reduced(alloc, seen, scope, expr, reduction_of(word), braces, body.get())
+            reduced(
+                alloc,
+                seen,
+                scope,
+                expr,
+                reduction_of(word),
+                braces,
+                body.get(),
+            )
         }
         Expr::Chain(_, operands) => {
             let series = operands.get();
-            chain(alloc, seen, scope, expr, &series.first, series.more.as_slice())
+            chain(
+                alloc,
+                seen,
+                scope,
+                expr,
+                &series.first,
+                series.more.as_slice(),
+            )
         }
         Expr::Choice(condition, branch, otherwise) => choice(
             alloc,
@@ -596,7 +628,16 @@ fn left_place<'w, 's>(
     match left {
         Expr::Tuple(parts) => {
             let series = &parts.get().1;
-            components(alloc, seen, item, left, &series.first, series.more.as_slice(), tuple, place)
+            components(
+                alloc,
+                seen,
+                item,
+                left,
+                &series.first,
+                series.more.as_slice(),
+                tuple,
+                place,
+            )
         }
         Expr::Leaf(_) | Expr::Indexed(_) | Expr::Parens(_) | Expr::Negated(_) => {
             alone(alloc, seen, item, left, tuple, place)
@@ -668,7 +709,16 @@ fn places<'w, 's>(
         [link, rest @ ..] => match members {
             [] => Ok(Some(place)),
             [member, others @ ..] => {
-                fit_all(alloc, seen, whole, &link.operand, rest, member, others, place)
+                fit_all(
+                    alloc,
+                    seen,
+                    whole,
+                    &link.operand,
+                    rest,
+                    member,
+                    others,
+                    place,
+                )
             }
         },
     }

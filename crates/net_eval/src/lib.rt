@@ -1,6 +1,7 @@
 //! Values of expressions: members, sets, truths, and the keys that braces index by.
 #![tactic(auto)]
 
+mod calls;
 mod eval;
 mod fault;
 mod item;
@@ -17,6 +18,7 @@ mod value;
 mod width;
 mod world;
 
+pub use calls::{holds, index_of, member, members};
 pub use eval::evaluate;
 pub use fault::{Detail, EvalDefect, EvalFault, Refusal};
 pub use operation::{Operation, Reduction};

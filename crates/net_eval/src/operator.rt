@@ -17,7 +17,11 @@ use net_sets::{Member, Tuple};
 use net_tree::Expr;
 use std::alloc::Global;
 
-fn less<'w, 's>(whole: &Expr<'_>, x: &Value<'_, 's>, y: &Value<'_, 's>) -> Result<Value<'w, 's>, EvalFault<'s>>
+fn less<'w, 's>(
+    whole: &Expr<'_>,
+    x: &Value<'_, 's>,
+    y: &Value<'_, 's>,
+) -> Result<Value<'w, 's>, EvalFault<'s>>
     ensures { Answers (operators.compared (trees.span_of (tree whole.now)) int_lt x.now y.now) result }
 {
     let a = number_of(whole, x)?;
@@ -25,7 +29,11 @@ fn less<'w, 's>(whole: &Expr<'_>, x: &Value<'_, 's>, y: &Value<'_, 's>) -> Resul
     Ok(Value::Truth(a < b))
 }
 
-fn at_most<'w, 's>(whole: &Expr<'_>, x: &Value<'_, 's>, y: &Value<'_, 's>) -> Result<Value<'w, 's>, EvalFault<'s>>
+fn at_most<'w, 's>(
+    whole: &Expr<'_>,
+    x: &Value<'_, 's>,
+    y: &Value<'_, 's>,
+) -> Result<Value<'w, 's>, EvalFault<'s>>
     ensures { Answers (operators.compared (trees.span_of (tree whole.now)) int_le x.now y.now) result }
 {
     let a = number_of(whole, x)?;
@@ -33,7 +41,11 @@ fn at_most<'w, 's>(whole: &Expr<'_>, x: &Value<'_, 's>, y: &Value<'_, 's>) -> Re
     Ok(Value::Truth(a <= b))
 }
 
-fn greater<'w, 's>(whole: &Expr<'_>, x: &Value<'_, 's>, y: &Value<'_, 's>) -> Result<Value<'w, 's>, EvalFault<'s>>
+fn greater<'w, 's>(
+    whole: &Expr<'_>,
+    x: &Value<'_, 's>,
+    y: &Value<'_, 's>,
+) -> Result<Value<'w, 's>, EvalFault<'s>>
     ensures { Answers (operators.compared (trees.span_of (tree whole.now)) (λ a b. int_lt b a) x.now y.now) result }
 {
     let a = number_of(whole, x)?;
@@ -41,7 +53,11 @@ fn greater<'w, 's>(whole: &Expr<'_>, x: &Value<'_, 's>, y: &Value<'_, 's>) -> Re
     Ok(Value::Truth(b < a))
 }
 
-fn at_least<'w, 's>(whole: &Expr<'_>, x: &Value<'_, 's>, y: &Value<'_, 's>) -> Result<Value<'w, 's>, EvalFault<'s>>
+fn at_least<'w, 's>(
+    whole: &Expr<'_>,
+    x: &Value<'_, 's>,
+    y: &Value<'_, 's>,
+) -> Result<Value<'w, 's>, EvalFault<'s>>
     ensures { Answers (operators.compared (trees.span_of (tree whole.now)) (λ a b. int_le b a) x.now y.now) result }
 {
     let a = number_of(whole, x)?;
@@ -110,43 +126,66 @@ pub(crate) fn decided<'w, 's>(
     }
 }
 
-
-fn equal<'w, 's>(whole: &Expr<'_>, x: &Value<'_, 's>, y: &Value<'_, 's>) -> Result<Value<'w, 's>, EvalFault<'s>>
+fn equal<'w, 's>(
+    whole: &Expr<'_>,
+    x: &Value<'_, 's>,
+    y: &Value<'_, 's>,
+) -> Result<Value<'w, 's>, EvalFault<'s>>
     ensures { Answers (operators.as_truth (operators.same (trees.span_of (tree whole.now)) x.now y.now)) result }
 {
     let holds = same(whole, x, y)?;
     Ok(Value::Truth(holds))
 }
 
-fn unequal<'w, 's>(whole: &Expr<'_>, x: &Value<'_, 's>, y: &Value<'_, 's>) -> Result<Value<'w, 's>, EvalFault<'s>>
+fn unequal<'w, 's>(
+    whole: &Expr<'_>,
+    x: &Value<'_, 's>,
+    y: &Value<'_, 's>,
+) -> Result<Value<'w, 's>, EvalFault<'s>>
     ensures { Answers (operators.as_denial (operators.same (trees.span_of (tree whole.now)) x.now y.now)) result }
 {
     let holds = same(whole, x, y)?;
     Ok(Value::Truth(!holds))
 }
 
-fn is_in<'w, 's>(whole: &Expr<'_>, x: &Value<'_, 's>, y: &Value<'_, 's>) -> Result<Value<'w, 's>, EvalFault<'s>>
+fn is_in<'w, 's>(
+    whole: &Expr<'_>,
+    x: &Value<'_, 's>,
+    y: &Value<'_, 's>,
+) -> Result<Value<'w, 's>, EvalFault<'s>>
     ensures { Answers (operators.as_truth (operators.belongs (trees.span_of (tree whole.now)) x.now y.now)) result }
 {
     let holds = belongs(whole, x, y)?;
     Ok(Value::Truth(holds))
 }
 
-fn is_not_in<'w, 's>(whole: &Expr<'_>, x: &Value<'_, 's>, y: &Value<'_, 's>) -> Result<Value<'w, 's>, EvalFault<'s>>
+fn is_not_in<'w, 's>(
+    whole: &Expr<'_>,
+    x: &Value<'_, 's>,
+    y: &Value<'_, 's>,
+) -> Result<Value<'w, 's>, EvalFault<'s>>
     ensures { Answers (operators.as_denial (operators.belongs (trees.span_of (tree whole.now)) x.now y.now)) result }
 {
     let holds = belongs(whole, x, y)?;
     Ok(Value::Truth(!holds))
 }
 
-fn is_within<'w, 's>(whole: &Expr<'_>, x: &Value<'_, 's>, y: &Value<'_, 's>) -> Result<Value<'w, 's>, EvalFault<'s>>
+fn is_within<'w, 's>(
+    whole: &Expr<'_>,
+    x: &Value<'_, 's>,
+    y: &Value<'_, 's>,
+) -> Result<Value<'w, 's>, EvalFault<'s>>
     ensures { Answers (operators.as_truth (operators.contained (trees.span_of (tree whole.now)) x.now y.now)) result }
 {
     let holds = contained(whole, x, y)?;
     Ok(Value::Truth(holds))
 }
 
-fn is_not_within<'w, 's>(whole: &Expr<'_>, x: &Value<'_, 's>, y: &Value<'_, 's>) -> Result<Value<'w, 's>, EvalFault<'s>>
+fn is_not_within<'w, 's>(
+    whole: &Expr<'_>,
+    x: &Value<'_, 's>,
+    y: &Value<'_, 's>,
+) -> Result<Value<'w, 's>, EvalFault<'s>>
     ensures { Answers (operators.as_denial (operators.contained (trees.span_of (tree whole.now)) x.now y.now)) result }
 {
     let holds = contained(whole, x, y)?;
@@ -154,7 +193,11 @@ fn is_not_within<'w, 's>(whole: &Expr<'_>, x: &Value<'_, 's>, y: &Value<'_, 's>)
 }
 
 /// The truth of the right side, where the left one did not decide.
-fn right_truth<'w, 's>(whole: &Expr<'_>, x: &Value<'_, 's>, y: &Value<'_, 's>) -> Result<Value<'w, 's>, EvalFault<'s>>
+fn right_truth<'w, 's>(
+    whole: &Expr<'_>,
+    x: &Value<'_, 's>,
+    y: &Value<'_, 's>,
+) -> Result<Value<'w, 's>, EvalFault<'s>>
     ensures { Answers (operators.as_truth (and_then (operators.truth (trees.span_of (tree whole.now)) x.now) (λ b. operators.truth (trees.span_of (tree whole.now)) y.now))) result }
 {
     let _left = truth(whole, x)?;
@@ -198,7 +241,11 @@ pub(crate) fn apply<'w, 's>(
     }
 }
 
-fn member_of<'s>(whole: &Expr<'_>, value: &Value<'_, 's>) -> Result<Member<'s>, EvalFault<'s>>
+/// A value that is a number or a text.
+pub(crate) fn member_of<'s>(
+    whole: &Expr<'_>,
+    value: &Value<'_, 's>,
+) -> Result<Member<'s>, EvalFault<'s>>
     ensures { Answers (operators.member (trees.span_of (tree whole.now)) value.now) result }
 {
     match value {

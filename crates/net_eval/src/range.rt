@@ -70,12 +70,7 @@ fn check_step<'s>(whole: &Expr<'_>, by: &i64) -> Result<(), EvalFault<'s>>
     }
 }
 
-fn check_size<'s>(
-    whole: &Expr<'_>,
-    first: &i64,
-    last: &i64,
-    by: &i64,
-) -> Result<(), EvalFault<'s>>
+fn check_size<'s>(whole: &Expr<'_>, first: &i64, last: &i64, by: &i64) -> Result<(), EvalFault<'s>>
     ensures value { Answers (numbers.size (trees.span_of (tree whole.now)) first.now last.now by.now) result }
     ensures small { OnOk result (IsTrue (numbers.are_small first.now last.now by.now)) }
 {

@@ -114,10 +114,7 @@ impl<'s> Place<'s> {
 }
 
 /// The same place.
-pub(crate) fn stay<'s>(
-    alloc: Global,
-    place: &Place<'s>,
-) -> Result<Option<Place<'s>>, EvalFault<'s>>
+pub(crate) fn stay<'s>(alloc: Global, place: &Place<'s>) -> Result<Option<Place<'s>>, EvalFault<'s>>
     ensures { Answers (Ok (Some place.now)) result }
 {
     Ok(Some(place.again(alloc)?))

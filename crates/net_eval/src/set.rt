@@ -14,7 +14,10 @@ ghost use Rattle.net_eval.specs.Sets as sets;
 
 use crate::fault::{EvalDefect, EvalFault, refuse_tree};
 use crate::value::Value;
-use net_sets::{Held, SetFault, Tuple, TupleSet, cross, difference, intersection, is_within, symmetric_difference, union, widest};
+use net_sets::{
+    Held, SetFault, Tuple, TupleSet, cross, difference, intersection, is_within,
+    symmetric_difference, union, widest,
+};
 use net_tree::Expr;
 use std::alloc::Global;
 

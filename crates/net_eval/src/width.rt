@@ -59,11 +59,7 @@ fn set_width(entry: Option<&Entry<'_>>) -> Option<u8>
 }
 
 /// The dimension of the set that a bare name is.
-fn named_width<'s>(
-    seen: &Seen<'_, 's>,
-    scope: &Scope<'s>,
-    component: &Expr<'s>,
-) -> Option<u8>
+fn named_width<'s>(seen: &Seen<'_, 's>, scope: &Scope<'s>, component: &Expr<'s>) -> Option<u8>
     ensures { result ≡ widths.named_width seen.now scope.now (items.bare (tree component.now)) }
 {
     match bare(component) {

@@ -2,7 +2,7 @@ use Rattle.std.proofs.Common.{◌≡◌, false, rules, refl, Ok, length, take, �
 use Rattle.std.proofs.lemmas.Result.{err_from_is_err_and}
 use Rattle.net_tree.specs.declared.expr.Series.{out-Series}
 use Rattle.net_tree.specs.View.{tree, links_of, braces_of, option_part}
-use Rattle.net_tree.proofs.Views.{next_link, views}
+use Rattle.net_tree.proofs.Views.{views}
 use Rattle.net_tree.specs.Spans.{span_of}
 use Rattle.net_eval.specs.Outcomes.{and_then}
 use Rattle.net_eval.specs.Rows.{reduce}
@@ -11,7 +11,7 @@ use Rattle.net_tree.specs.Tree.{link}
 use Rattle.net_tree.specs.Weights.{weights}
 use Rattle.net_eval.specs.Walks.{index_items}
 use Rattle.net_eval.proofs.Cases.{in_indexed, in_parens, in_tuple, in_negated, in_signed, in_reduced, in_chain, in_choice, in_filled}
-use Rattle.net_eval.proofs.Walking.{answers_by, is_tuple, value-indexed, value-tuple, value-negated, value-signed, value-reduced, value-chain, value-choice, index-filled, left-tuple, left-other, place-sides, link_lighter, first_weighs, stops, goes, leaves_by, leaves_answers, from_start, ok_same, split_first, rest_first, walk-step, chained-left, values-left}
+use Rattle.net_eval.proofs.Walking.{answers_by, is_tuple, value-indexed, value-tuple, value-negated, value-signed, value-reduced, value-chain, value-choice, index-filled, left-tuple, left-other, place-sides, link_lighter, stops, goes, leaves_by, leaves_answers, from_start, ok_same, split_first, rest_first, walk-step, chained-left, values-left}
 use Rattle.net_eval.proofs.eval.+eval.Goals as goal
 
 pub evaluate-returns-in-Indexed : goal.evaluate-returns-in-Indexed
@@ -65,8 +65,8 @@ index-returns-in-Filled t c =
     let first = (out-Series c.in-Filled.series).first in
     answers_by _ _ _
     (ap (index c.args.seen.now c.args.scope.now) (in_filled c.args.braces.now c.in-Filled.open c.in-Filled.series c.in-Filled.condition c.in-Filled.close c.as_slice.result.now c.in-Filled.is c.as_slice.ensures)
-        ∙ index-filled c.args.seen.now c.args.scope.now c.in-Filled.open (tree first) (links_of c.as_slice.result.now) (option_part c.in-Filled.condition) c.in-Filled.close
-        ∙ ap (λ at. index_items at c.args.seen.now c.args.scope.now (tree first) (links_of c.as_slice.result.now) (option_part c.in-Filled.condition)) (sym c.span_between-in-Filled.ensures))
+    ∙ index-filled c.args.seen.now c.args.scope.now c.in-Filled.open (tree first) (links_of c.as_slice.result.now) (option_part c.in-Filled.condition) c.in-Filled.close
+    ∙ ap (λ at. index_items at c.args.seen.now c.args.scope.now (tree first) (links_of c.as_slice.result.now) (option_part c.in-Filled.condition)) (sym c.span_between-in-Filled.ensures))
     c.index_items.ensures
 
 pub chained-joined-requires : goal.chained-joined-requires
@@ -80,37 +80,37 @@ chained-returns-in_err-value t c =
     let y = err_from_is_err_and c.from_residual.result c.from_residual.ensures.1 in
     rw y.1 (rw y.2
     (stops _ _ _ c.in_err-value.field-0.0
-        (chained-left _ c.args.seen.now c.args.scope.now c.args.links.now c.loop-link.link-index c.link-item.result c.loop-link.value _ c.loop-link-test.true c.link-item.is c.loop-link.invariant)
-        c.in_err-value.ensures))
+    (chained-left _ c.args.seen.now c.args.scope.now c.args.links.now c.loop-link.link-index c.link-item.result c.loop-link.value _ c.loop-link-test.true c.link-item.is c.loop-link.invariant)
+    c.in_err-value.ensures))
 
 pub chained-loop-link-preserved : goal.chained-loop-link-preserved
 chained-loop-link-preserved t c =
     sym (goes _ _ _ _
-        (chained-left _ c.args.seen.now c.args.scope.now c.args.links.now c.loop-link.link-index c.link-item.result c.loop-link.value _ c.loop-link-test.true c.link-item.is c.loop-link.invariant)
-        c.in_ok-value.ensures)
+    (chained-left _ c.args.seen.now c.args.scope.now c.args.links.now c.loop-link.link-index c.link-item.result c.loop-link.value _ c.loop-link-test.true c.link-item.is c.loop-link.invariant)
+    c.in_ok-value.ensures)
 
 pub evaluate_more-returns-in_err-value : goal.evaluate_more-returns-in_err-value
 evaluate_more-returns-in_err-value t c =
     let y = err_from_is_err_and c.from_residual-in_err-value.result c.from_residual-in_err-value.ensures.1 in
     rw y.1 (rw y.2
     (stops _ _ _ c.in_err-value.field-0.0
-        (values-left c.args.seen.now c.args.scope.now c.args.more.now c.loop-link.link-index c.link-item.result c.loop-link.found.items _ c.loop-link-test.true c.link-item.is c.loop-link.invariant)
-        c.in_err-value.ensures))
+    (values-left c.args.seen.now c.args.scope.now c.args.more.now c.loop-link.link-index c.link-item.result c.loop-link.found.items _ c.loop-link-test.true c.link-item.is c.loop-link.invariant)
+    c.in_err-value.ensures))
 
 pub evaluate_more-loop-link-preserved : goal.evaluate_more-loop-link-preserved
 evaluate_more-loop-link-preserved t c =
     ap (values c.args.seen.now c.args.scope.now (links_of (drop (c.loop-link.link-index + 1) c.args.more.now))) c.in_ok-push-2.ensures.items
     ∙ sym (goes _ _ _ _
-        (values-left c.args.seen.now c.args.scope.now c.args.more.now c.loop-link.link-index c.link-item.result c.loop-link.found.items _ c.loop-link-test.true c.link-item.is c.loop-link.invariant)
-        c.in_ok-value.ensures)
+    (values-left c.args.seen.now c.args.scope.now c.args.more.now c.loop-link.link-index c.link-item.result c.loop-link.found.items _ c.loop-link-test.true c.link-item.is c.loop-link.invariant)
+    c.in_ok-value.ensures)
 
 pub collect-returns-in_err-through : goal.collect-returns-in_err-through
 collect-returns-in_err-through t c =
     let y = err_from_is_err_and c.from_residual-in_err-through.result c.from_residual-in_err-through.ensures.1 in
     rw y.1 (rw y.2
     (leaves_answers _ _ c.in_err-through.field-0.0 _
-        (from_start c.args.at c.args.seen.now (tree c.args.item.now) (links_of c.args.more.now) c.args.scope.now c.in_ok-place.place c.args.tuples _ (ok_same _ _ _ _ refl refl c.in_ok-place.ensures) c.new-found.ensures.items)
-        c.in_err-through.ensures))
+    (from_start c.args.at c.args.seen.now (tree c.args.item.now) (links_of c.args.more.now) c.args.scope.now c.in_ok-place.place c.args.tuples _ (ok_same _ _ _ _ refl refl c.in_ok-place.ensures) c.new-found.ensures.items)
+    c.in_err-through.ensures))
 
 pub collect-returns : goal.collect-returns
 collect-returns t c =
@@ -124,8 +124,8 @@ pub places-returns-in-len1-up-members : goal.places-returns-in-len1-up-members
 places-returns-in-len1-up-members t c =
     answers_by _ _ _
     (ap (λ k. places (span_of (tree c.args.whole.now)) c.args.seen.now k c.args.members.now c.args.place) (rest_first c.args.links.now c.link-item.result c.in-len1-up.len_at_least c.link-item.is)
-        ∙ ap (λ ms. places (span_of (tree c.args.whole.now)) c.args.seen.now (link c.link-item.result.operator (tree c.link-item.result.operand) (links_of (take (length c.args.links.now - 1) (drop 1 c.args.links.now)))) ms c.args.place)
-            (split_first c.args.members.now c.member-item.result c.in-len1-up-members.len_at_least c.member-item.is))
+    ∙ ap (λ ms. places (span_of (tree c.args.whole.now)) c.args.seen.now (link c.link-item.result.operator (tree c.link-item.result.operand) (links_of (take (length c.args.links.now - 1) (drop 1 c.args.links.now)))) ms c.args.place)
+    (split_first c.args.members.now c.member-item.result c.in-len1-up-members.len_at_least c.member-item.is))
     c.fit_all.ensures
 
 pub walk-walk_item-requires : goal.walk-walk_item-requires
@@ -135,7 +135,7 @@ pub walk-returns-in-len1-up : goal.walk-returns-in-len1-up
 walk-returns-in-len1-up t c =
     leaves_by _ _ _ _
     (ap (λ k. walk c.args.at c.args.seen.now k c.args.place c.args.found.now.items) (rest_first c.args.items.now c.link-item.result c.in-len1-up.len_at_least c.link-item.is)
-        ∙ walk-step c.args.at c.args.seen.now c.link-item.result.operator (tree c.link-item.result.operand) (links_of (take (length c.args.items.now - 1) (drop 1 c.args.items.now))) c.args.place c.args.found.now.items)
+    ∙ walk-step c.args.at c.args.seen.now c.link-item.result.operator (tree c.link-item.result.operand) (links_of (take (length c.args.items.now - 1) (drop 1 c.args.items.now))) c.args.place c.args.found.now.items)
     c.walk_item.ensures
 
 pub place_at-returns-in-Some : goal.place_at-returns-in-Some

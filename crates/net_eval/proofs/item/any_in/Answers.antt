@@ -1,4 +1,4 @@
-use Rattle.std.specs.Prelude.{◌≡◌, ◌+◌, ◌||◌, drop}
+use Rattle.std.specs.Prelude.{◌+◌, ◌||◌, drop}
 use Rattle.std.proofs.Common.{ap, sym, ◌∙◌}
 use Rattle.net_tree.specs.View.{links_of}
 use Rattle.net_tree.proofs.Views.{next_link}

@@ -1,0 +1,71 @@
+//! What an expression is where one kind is needed; any other kind is a fault of the expression.
+
+ghost use Rattle.std.specs.Prelude.{◌≡◌};
+ghost use Rattle.net_tree.specs.Spans as trees;
+ghost use Rattle.net_tree.specs.View.{tree, braces_of};
+ghost use Rattle.net_eval.specs.Items as items;
+ghost use Rattle.net_eval.specs.Operators as operators;
+ghost use Rattle.net_eval.specs.Outcomes.{Answers, and_then};
+ghost use Rattle.net_eval.specs.Values as values;
+
+use crate::eval::{evaluate, index};
+use crate::fault::EvalFault;
+use crate::item::tuples_of;
+use crate::operator::{member_of, truth};
+use crate::row::Keys;
+use crate::scope::Scope;
+use crate::world::Seen;
+use net_sets::{Held, Member};
+use net_tree::{Braces, Expr, span_of};
+use std::alloc::Global;
+
+/// The number or text that an expression is.
+pub fn member<'s>(
+    alloc: Global,
+    seen: &Seen<'_, 's>,
+    scope: &Scope<'s>,
+    expr: &Expr<'s>,
+) -> Result<Member<'s>, EvalFault<'s>>
+    ensures { Answers (and_then (values.value seen.now scope.now (tree expr.now)) (operators.member (trees.span_of (tree expr.now)))) result }
+{
+    let found = evaluate(alloc, seen, scope, expr)?;
+    member_of(expr, &found)
+}
+
+/// The tuples of the set that an expression is, in order.
+pub fn members<'w, 's>(
+    alloc: Global,
+    seen: &Seen<'w, 's>,
+    scope: &Scope<'s>,
+    expr: &Expr<'s>,
+) -> Result<Held<'w, 's>, EvalFault<'s>>
+    ensures { Answers (and_then (values.value seen.now scope.now (tree expr.now)) (items.tuples_of (trees.span_of (tree expr.now)))) result }
+{
+    let found = evaluate(alloc, seen, scope, expr)?;
+    tuples_of(span_of(expr), found)
+}
+
+/// The truth of the condition that an expression is.
+pub fn holds<'s>(
+    alloc: Global,
+    seen: &Seen<'_, 's>,
+    scope: &Scope<'s>,
+    expr: &Expr<'s>,
+) -> Result<bool, EvalFault<'s>>
+    ensures { Answers (and_then (values.value seen.now scope.now (tree expr.now)) (operators.truth (trees.span_of (tree expr.now)))) result }
+{
+    let found = evaluate(alloc, seen, scope, expr)?;
+    truth(expr, &found)
+}
+
+/// The keys by which braces index, in order, each with the dummies in scope at it.
+pub fn index_of<'s>(
+    alloc: Global,
+    seen: &Seen<'_, 's>,
+    scope: &Scope<'s>,
+    braces: &Braces<'s>,
+) -> Result<Keys<'s>, EvalFault<'s>>
+    ensures { Answers (values.index seen.now scope.now (braces_of braces.now)) result }
+{
+    index(alloc, seen, scope, braces)
+}
