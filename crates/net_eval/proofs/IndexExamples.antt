@@ -1,5 +1,5 @@
 -- Braces that index. Values of trees, worked out.
-use Rattle.std.specs.Prelude.{◌≡◌, [], ◌∷◌, Some, Ok, Err, pos, codes}
+use Rattle.std.specs.Prelude.{◌≡◌, None, [], ◌∷◌, Some, Ok, Err, pos, codes}
 use Rattle.std.proofs.Common.{refl}
 use Rattle.net_lex.specs.NumeralFront.{mantissa_at, power_at, numeral_at}
 use Rattle.net_lex.specs.Significands.{whole_value}
@@ -14,7 +14,7 @@ use Rattle.net_eval.specs.declared.value.Value.TheVariants.{Many}
 use Rattle.net_eval.specs.Limits.{is_small}
 use Rattle.net_eval.specs.Operations.{operations, operation, reduction, is_minus}
 use Rattle.net_eval.specs.Numbers.{number_in}
-use Rattle.net_eval.specs.Values.{value}
+use Rattle.net_eval.specs.Values.{value, index}
 use Rattle.net_eval.proofs.Trees.{name, number, key, mark, cities, pairs, i_is}
 
 -- {i in {3,1} union {2,1}}
@@ -176,3 +176,18 @@ keys_unlike = refl
 not_in_is_no_dummy : value [] [] (braced (filled (mark (codes "{") 0 1) (chain 7 (leaf (number (codes "1") 1 2)) (link (operator.Two (key (codes "not") 3 6) (key (codes "in") 7 9)) (braced (filled (mark (codes "{") 10 11) (leaf (number (codes "2") 11 12)) none absent (mark (codes "}") 12 13))) none)) none absent (mark (codes "}") 13 14))) ≡ Err (record { defect = defects.KindMismatch; at = record { start = 0; end = 14 }; detail = Nothing })
 unfolding role_of marks keys operations operation reduction is_minus is_small number_in numeral_at mantissa_at power_at whole_value span_of span_between braces_span
 not_in_is_no_dummy = refl
+
+-- {i in {3,1} union {2,1}}    each key with its dummy
+each_with_its_dummy : index [] [] (filled (mark (codes "{") 0 1) (chain 7 (leaf (name (codes "i") 1 2)) (link (operator.One (key (codes "in") 3 5)) (chain 6 (braced (filled (mark (codes "{") 6 7) (leaf (number (codes "3") 7 8)) (link (operator.One (mark (codes ",") 8 9)) (leaf (number (codes "1") 9 10)) none) absent (mark (codes "}") 10 11))) (link (operator.One (key (codes "union") 12 17)) (braced (filled (mark (codes "{") 18 19) (leaf (number (codes "2") 19 20)) (link (operator.One (mark (codes ",") 20 21)) (leaf (number (codes "1") 21 22)) none) absent (mark (codes "}") 22 23))) none)) none)) none absent (mark (codes "}") 23 24)) ≡ Ok (record { width = Some 1; rows = ((record { key = (Number (pos 3) ∷ []); scope = ((record { name = codes "i"; member = Number (pos 3) }) ∷ []) }) ∷ (record { key = (Number (pos 1) ∷ []); scope = ((record { name = codes "i"; member = Number (pos 1) }) ∷ []) }) ∷ (record { key = (Number (pos 2) ∷ []); scope = ((record { name = codes "i"; member = Number (pos 2) }) ∷ []) }) ∷ []) })
+unfolding role_of marks keys operations operation reduction is_minus is_small number_in numeral_at mantissa_at power_at whole_value span_of span_between braces_span
+each_with_its_dummy = refl
+
+-- {i in 1..1, 2..2, (j,i) in {(5,1),(6,2)}}    a plain item gives members of the key and no dummy
+the_newest_first : index [] [] (filled (mark (codes "{") 0 1) (chain 7 (leaf (name (codes "i") 1 2)) (link (operator.One (key (codes "in") 3 5)) (chain 3 (leaf (number (codes "1") 6 7)) (link (operator.One (mark (codes "..") 7 9)) (leaf (number (codes "1") 9 10)) none)) none)) (link (operator.One (mark (codes ",") 10 11)) (chain 3 (leaf (number (codes "2") 12 13)) (link (operator.One (mark (codes "..") 13 15)) (leaf (number (codes "2") 15 16)) none)) (link (operator.One (mark (codes ",") 16 17)) (chain 7 (tuple (mark (codes "(") 18 19) (leaf (name (codes "j") 19 20)) (link (operator.One (mark (codes ",") 20 21)) (leaf (name (codes "i") 21 22)) none) (mark (codes ")") 22 23)) (link (operator.One (key (codes "in") 24 26)) (braced (filled (mark (codes "{") 27 28) (tuple (mark (codes "(") 28 29) (leaf (number (codes "5") 29 30)) (link (operator.One (mark (codes ",") 30 31)) (leaf (number (codes "1") 31 32)) none) (mark (codes ")") 32 33)) (link (operator.One (mark (codes ",") 33 34)) (tuple (mark (codes "(") 34 35) (leaf (number (codes "6") 35 36)) (link (operator.One (mark (codes ",") 36 37)) (leaf (number (codes "2") 37 38)) none) (mark (codes ")") 38 39)) none) absent (mark (codes "}") 39 40))) none)) none)) absent (mark (codes "}") 40 41)) ≡ Ok (record { width = Some 3; rows = ((record { key = (Number (pos 1) ∷ Number (pos 2) ∷ Number (pos 5) ∷ []); scope = ((record { name = codes "j"; member = Number (pos 5) }) ∷ (record { name = codes "i"; member = Number (pos 1) }) ∷ []) }) ∷ []) })
+unfolding role_of marks keys operations operation reduction is_minus is_small number_in numeral_at mantissa_at power_at whole_value span_of span_between braces_span
+the_newest_first = refl
+
+-- {}    `{}` fits every number of keys
+nothing_has_no_width : index [] [] (empty (mark (codes "{") 0 1) absent (mark (codes "}") 1 2)) ≡ Ok (record { width = None; rows = ([]) })
+unfolding role_of marks keys operations operation reduction is_minus is_small number_in numeral_at mantissa_at power_at whole_value span_of span_between braces_span
+nothing_has_no_width = refl

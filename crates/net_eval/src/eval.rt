@@ -14,9 +14,9 @@ ghost use Rattle.net_eval.specs.Walks as walks;
 ghost use Rattle.net_eval.specs.Widths as widths;
 ghost use Rattle.net_eval.specs.declared.value.Value.TheVariants.{Truth};
 
-use crate::fault::{EvalDefect, EvalFault, refuse};
+use crate::fault::EvalFault;
 use crate::item::{any_in, begins_range, chosen, has_part, is_set, new_dummy, sides_of, tuples_of};
-use crate::list::{as_value, listed};
+use crate::list::{as_value, listed, no_items};
 use crate::name::{leaf, name_at};
 use crate::number::{gathered, number_of, reduced_to, with_sign};
 use crate::operation::{Operation, Reduction, is_minus, operation_of, reduction_of};
@@ -382,19 +382,6 @@ pub(crate) fn index<'w, 's>(
             series.more.as_slice(),
             condition,
         ),
-    }
-}
-
-fn no_items<'s>(alloc: Global, at: Span, conditioned: bool) -> Result<Keys<'s>, EvalFault<'s>>
-    ensures { Answers (walks.no_items at conditioned) result }
-{
-    if conditioned {
-        Err(refuse(EvalDefect::KindMismatch, at))
-    } else {
-        Ok(Keys {
-            width: None,
-            rows: Items::new(Vec::new(alloc)),
-        })
     }
 }
 

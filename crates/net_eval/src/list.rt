@@ -5,6 +5,7 @@ ghost use Rattle.net_sets.specs.Made.{IsMade};
 ghost use Rattle.net_sets.specs.Operations.{union};
 ghost use Rattle.net_eval.specs.Outcomes.{Answers};
 ghost use Rattle.net_eval.specs.Rows as rows;
+ghost use Rattle.net_eval.specs.Walks as walks;
 
 use crate::fault::{EvalDefect, EvalFault, refuse};
 use crate::row::{Keys, Row};
@@ -75,6 +76,21 @@ fn no_keys<'s>(alloc: Global) -> Keys<'s>
     Keys {
         width: None,
         rows: Items::new(Vec::new(alloc)),
+    }
+}
+
+/// Braces without items.
+pub(crate) fn no_items<'s>(
+    alloc: Global,
+    at: Span,
+    conditioned: bool,
+) -> Result<Keys<'s>, EvalFault<'s>>
+    ensures { Answers (walks.no_items at conditioned) result }
+{
+    if conditioned {
+        Err(refuse(EvalDefect::KindMismatch, at))
+    } else {
+        Ok(no_keys(alloc))
     }
 }
 
