@@ -113,7 +113,6 @@ pub fn evaluate<'w, 's>(
     }
 }
 
-/// What a name has at its subscripts.
 #[cycle(eval)]
 fn subscripted<'w, 's>(
     alloc: Global,
@@ -131,7 +130,6 @@ fn subscripted<'w, 's>(
     name_at(span_of(whole), seen, scope, &name.text, key)
 }
 
-/// A tuple of values.
 #[cycle(eval)]
 fn tupled<'w, 's>(
     alloc: Global,
@@ -224,25 +222,11 @@ fn chain<'w, 's>(
 {
     let value = evaluate(alloc, seen, scope, first)?;
     if begins_range(more) {
-        ranged(alloc, seen, scope, whole, value, more)
+        let found = evaluate_more(alloc, seen, scope, value, more)?;
+        range_of(alloc, whole, found.as_slice())
     } else {
         chained(alloc, seen, scope, whole, more, value)
     }
-}
-
-#[cycle(eval)]
-fn ranged<'w, 's>(
-    alloc: Global,
-    seen: &Seen<'w, 's>,
-    scope: &Scope<'s>,
-    whole: &Expr<'s>,
-    first: Value<'w, 's>,
-    more: &[Link<'s>],
-) -> Result<Value<'w, 's>, EvalFault<'s>>
-    ensures { Answers (and_then (values.values seen.now scope.now (links_of more.now) (first.entry ∷ [])) (numbers.range_of (trees.span_of (tree whole.now)))) result }
-{
-    let found = evaluate_more(alloc, seen, scope, first, more)?;
-    range_of(alloc, whole, found.as_slice())
 }
 
 #[cycle(eval)]
@@ -283,7 +267,6 @@ fn other_branch<'w, 's>(
     }
 }
 
-/// The values of expressions in a row.
 #[cycle(eval)]
 fn evaluate_all<'w, 's>(
     alloc: Global,
@@ -385,7 +368,6 @@ pub(crate) fn index<'w, 's>(
     }
 }
 
-/// The keys of items and a condition.
 #[cycle(eval)]
 fn index_items<'w, 's>(
     alloc: Global,
@@ -512,7 +494,6 @@ fn onward<'w, 's>(
     }
 }
 
-/// The items from left to right.
 #[cycle(eval)]
 fn walk<'w, 's>(
     alloc: Global,
@@ -546,7 +527,6 @@ fn walk_item<'w, 's>(
     through(alloc, seen, at, item, more, &place, tuples, found)
 }
 
-/// The tuples of the set of an item.
 #[cycle(eval)]
 fn item_tuples<'w, 's>(
     alloc: Global,
@@ -566,7 +546,6 @@ fn item_tuples<'w, 's>(
     }
 }
 
-/// The tuples of the set behind `in`.
 #[cycle(eval)]
 fn choose<'w, 's>(
     alloc: Global,
@@ -777,7 +756,6 @@ fn keep<'w, 's>(
     })
 }
 
-/// Whether the condition behind items holds.
 #[cycle(eval)]
 #[tactic(auto, using(net_tree::proofs::Views::views))]
 fn holds<'w, 's>(
@@ -791,22 +769,11 @@ fn holds<'w, 's>(
 {
     match condition {
         None => Ok(true),
-        Some(part) => is_true(alloc, seen, at, scope, &part.get().value),
+        Some(part) => {
+            let value = evaluate(alloc, seen, scope, &part.get().value)?;
+            truth_at(at, &value)
+        }
     }
-}
-
-#[cycle(eval)]
-fn is_true<'w, 's>(
-    alloc: Global,
-    seen: &Seen<'w, 's>,
-    at: Span,
-    scope: &Scope<'s>,
-    condition: &Expr<'s>,
-) -> Result<bool, EvalFault<'s>>
-    ensures { Answers (and_then (values.value seen.now scope.now (tree condition.now)) (operators.truth at)) result }
-{
-    let value = evaluate(alloc, seen, scope, condition)?;
-    truth_at(at, &value)
 }
 
 /// What a reduction comes to over keys.

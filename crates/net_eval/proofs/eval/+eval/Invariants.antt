@@ -31,9 +31,6 @@ decreases-reduced l = 12 * (braces_weight (braces_of l.braces.now) + weight (tre
 abbrev pub decreases-chain : goal.decreases-chain
 decreases-chain l = 12 * (weight (tree l.first.now) + weights (links_of l.more.now)) + 3
 
-abbrev pub decreases-ranged : goal.decreases-ranged
-decreases-ranged l = 12 * weights (links_of l.more.now) + 2
-
 abbrev pub decreases-choice : goal.decreases-choice
 decreases-choice l = 12 * (weight (tree l.condition.now) + weight (tree l.branch.now) + part_weight (option_part l.otherwise.now)) + 2
 
@@ -111,9 +108,6 @@ decreases-keep l = 12 * part_weight (option_part l.condition.now) + 2
 
 abbrev pub decreases-holds : goal.decreases-holds
 decreases-holds l = 12 * part_weight (option_part l.condition.now) + 1
-
-abbrev pub decreases-is_true : goal.decreases-is_true
-decreases-is_true l = 12 * weight (tree l.condition.now) + 1
 
 abbrev pub decreases-gather : goal.decreases-gather
 decreases-gather l = 12 * weight (tree l.body.now) + 1
