@@ -1,5 +1,6 @@
 pub mod Outcomes
 pub mod Limits
+pub mod Faults
 pub mod Worlds
 pub mod Kept
 pub mod Operations

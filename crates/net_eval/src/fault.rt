@@ -3,6 +3,7 @@ ghost use Rattle.net_tree.specs.Spans as trees;
 ghost use Rattle.net_tree.specs.View.{tree};
 ghost use Rattle.net_eval.specs.declared.fault.Detail.TheVariants.{Nothing};
 ghost use Rattle.net_eval.specs.declared.fault.EvalFault.TheVariants.{Refused};
+ghost use Rattle.net_eval.specs.Faults.{number_of, name_of};
 
 use net_lex::{Excerpt, Span};
 use net_sets::Tuple;
@@ -26,6 +27,38 @@ pub enum EvalDefect {
     TooLarge,
     /// A set or list of more than 1,000,000 tuples.
     TooMany,
+}
+
+impl EvalDefect {
+    /// The number under which the program tells it.
+    pub fn number(self) -> u64
+        ensures { result ≡ number_of self }
+    {
+        match self {
+            EvalDefect::NoValue => 32,
+            EvalDefect::OutsideSet => 33,
+            EvalDefect::KindMismatch => 36,
+            EvalDefect::Arity => 37,
+            EvalDefect::DivMod => 38,
+            EvalDefect::TooLarge => 39,
+            EvalDefect::TooMany => 40,
+        }
+    }
+
+    /// The name under which the program tells it.
+    pub fn name(self) -> &'static str
+        ensures { result.now ≡ name_of self }
+    {
+        match self {
+            EvalDefect::NoValue => "NoValue",
+            EvalDefect::OutsideSet => "OutsideSet",
+            EvalDefect::KindMismatch => "KindMismatch",
+            EvalDefect::Arity => "Arity",
+            EvalDefect::DivMod => "DivMod",
+            EvalDefect::TooLarge => "TooLarge",
+            EvalDefect::TooMany => "TooMany",
+        }
+    }
 }
 
 /// What a fault tells beside its place.
@@ -91,19 +124,4 @@ pub(crate) fn refuse_tree<'s>(defect: EvalDefect, whole: &Expr<'_>) -> EvalFault
     ensures { result ≡ Refused (record { defect = defect; at = trees.span_of (tree whole.now); detail = Nothing }) }
 {
     refuse(defect, span_of(whole))
-}
-
-/// A fault at a tree, with what it tells.
-pub(crate) fn refuse_with<'s>(
-    defect: EvalDefect,
-    whole: &Expr<'_>,
-    detail: Detail<'s>,
-) -> EvalFault<'s>
-    ensures { result ≡ Refused (record { defect = defect; at = trees.span_of (tree whole.now); detail = detail.entry }) }
-{
-    EvalFault::Refused(Refusal {
-        defect,
-        at: span_of(whole),
-        detail,
-    })
 }
