@@ -23,8 +23,8 @@ const SIMPLEX_LOOKS: u64 = 4000;
 /// The most turns of a search: growths, changes of potentials and sendings.
 const SEARCH_TURNS: u32 = 1_000_000;
 
-/// What is guessed of a problem, each way with a bound on its work: the supplies' sum; a node that is a cut by itself; a probe; a network simplex; cost scaling, and from
-/// where that ends the search by trees. The one error is want of memory.
+/// What is guessed of a problem, each way with a bound on its work: the supplies' sum; a node that is a cut by itself; a probe; a
+/// network simplex; cost scaling, and from where that ends the search by trees. The one error is want of memory.
 pub fn find_guess(alloc: Global, problem: &Problem) -> Result<Guess, AllocError> {
     match guessed(alloc, problem) {
         Ok(guess) => Ok(guess),
