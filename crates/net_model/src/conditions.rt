@@ -4,6 +4,7 @@ ghost use Rattle.net_model.specs.Conditions as grammar;
 ghost use Rattle.net_model.specs.Expressions.{inside};
 ghost use Rattle.net_model.specs.Reading.{Gives};
 
+use crate::carried::Carried;
 use crate::cursor::{Cursor, expect, operator_at};
 use crate::expressions::climb_to;
 use crate::sort::Sort;
@@ -15,23 +16,28 @@ use std::alloc::Global;
 
 /// `net_in`, `net_out`.
 #[tactic(auto, using(net_tree::proofs::Views::views), unfolding(crate::specs::Conditions::net_at))]
-fn net_at<'t, 's>(alloc: Global, tokens: &mut Cursor<'t, 's>) -> Result<Expr<'s>, Stop>
+fn net_at<'t, 's>(alloc: Global, tokens: &mut Cursor<'t, 's>) -> Result<Carried<Expr<'s>>, Stop>
     ensures value { Gives tree result tokens.new (grammar.net_at tokens.old) }
     ensures shorter { IfOk result (λ x. length tokens.new < length tokens.old) }
 {
     let word = expect(Sort::Net, Awaiting::Other, tokens)?;
-    Ok(Expr::Net(Boxed::new(Box::new(alloc, (None, word))?)))
+    let parts = Boxed::new(Box::new(alloc, (None, word))?);
+    Ok(Carried::new(Expr::Net(parts)))
 }
 
 /// `- net_in`
 #[tactic(auto, using(net_tree::proofs::Views::views), unfolding(crate::specs::Conditions::signed_net_at))]
-fn signed_net_at<'t, 's>(alloc: Global, tokens: &mut Cursor<'t, 's>) -> Result<Expr<'s>, Stop>
+fn signed_net_at<'t, 's>(
+    alloc: Global,
+    tokens: &mut Cursor<'t, 's>,
+) -> Result<Carried<Expr<'s>>, Stop>
     ensures value { Gives tree result tokens.new (grammar.signed_net_at tokens.old) }
     ensures shorter { IfOk result (λ x. length tokens.new < length tokens.old) }
 {
     let sign = expect(Sort::Sign, Awaiting::Other, tokens)?;
     let word = expect(Sort::Net, Awaiting::Other, tokens)?;
-    Ok(Expr::Net(Boxed::new(Box::new(alloc, (Some(sign), word))?)))
+    let parts = Boxed::new(Box::new(alloc, (Some(sign), word))?);
+    Ok(Carried::new(Expr::Net(parts)))
 }
 
 /// A term, and whether a net term may still come.
@@ -41,7 +47,7 @@ fn term_at<'t, 's>(
     depth: u8,
     free: bool,
     tokens: &mut Cursor<'t, 's>,
-) -> Result<(Expr<'s>, bool), Stop>
+) -> Result<(Carried<Expr<'s>>, bool), Stop>
     ensures value { Gives (λ x. (tree x.0, x.1)) result tokens.new (grammar.term_at (inside depth) free tokens.old) }
     ensures shorter { IfOk result (λ x. length tokens.new < length tokens.old) }
 {
@@ -59,7 +65,7 @@ fn first_term_at<'t, 's>(
     depth: u8,
     free: bool,
     tokens: &mut Cursor<'t, 's>,
-) -> Result<(Expr<'s>, bool), Stop>
+) -> Result<(Carried<Expr<'s>>, bool), Stop>
     ensures value { Gives (λ x. (tree x.0, x.1)) result tokens.new (grammar.first_term_at (inside depth) free tokens.old) }
     ensures shorter { IfOk result (λ x. length tokens.new < length tokens.old) }
 {
@@ -83,6 +89,7 @@ fn further_term_at<'t, 's>(
 {
     let operator = operator_at(alloc, tokens)?;
     let (operand, free) = term_at(alloc, depth, free, tokens)?;
+    let operand = operand.into_inner();
     Ok((Link { operator, operand }, free))
 }
 
@@ -114,7 +121,7 @@ fn sum_at<'t, 's>(
     depth: u8,
     free: bool,
     tokens: &mut Cursor<'t, 's>,
-) -> Result<(Expr<'s>, bool), Stop>
+) -> Result<(Carried<Expr<'s>>, bool), Stop>
     ensures value { Gives (λ x. (tree x.0, x.1)) result tokens.new (grammar.sum_at (inside depth) free tokens.old) }
     ensures shorter { IfOk result (λ x. length tokens.new < length tokens.old) }
 {
@@ -149,20 +156,27 @@ fn high_at<'t, 's>(
     alloc: Global,
     depth: u8,
     colon: Token<'s>,
-    low: Expr<'s>,
+    low: Carried<Expr<'s>>,
     bound: Token<'s>,
-    middle: Expr<'s>,
+    middle: Carried<Expr<'s>>,
     tokens: &mut Cursor<'t, 's>,
-) -> Result<NetCond<'s>, Stop>
+) -> Result<Carried<NetCond<'s>>, Stop>
     ensures value { Gives condition_of result tokens.new (grammar.high_at (inside depth) colon.entry (tree low.entry) bound.entry (tree middle.entry) tokens.old) }
     ensures shorter { IfOk result (λ x. length tokens.new ≤ length tokens.old) }
 {
     if chain_next(role_of(&bound), tokens) {
         let second = expect(Sort::Bound, Awaiting::Other, tokens)?;
         let high = climb_to(alloc, depth, 3, tokens)?;
-        Ok(NetCond::Between(colon, low, bound, middle, second, high))
+        Ok(Carried::new(NetCond::Between(
+            colon,
+            low.into_inner(),
+            bound,
+            middle.into_inner(),
+            second,
+            high.into_inner(),
+        )))
     } else {
-        Ok(NetCond::One(colon, low, bound, middle))
+        Ok(Carried::new(NetCond::One(colon, low.into_inner(), bound, middle.into_inner())))
     }
 }
 
@@ -171,10 +185,10 @@ fn middle_at<'t, 's>(
     alloc: Global,
     depth: u8,
     colon: Token<'s>,
-    low: Expr<'s>,
+    low: Carried<Expr<'s>>,
     bound: Token<'s>,
     tokens: &mut Cursor<'t, 's>,
-) -> Result<NetCond<'s>, Stop>
+) -> Result<Carried<NetCond<'s>>, Stop>
     ensures value { Gives condition_of result tokens.new (grammar.middle_at (inside depth) colon.entry (tree low.entry) bound.entry tokens.old) }
     ensures shorter { IfOk result (λ x. length tokens.new ≤ length tokens.old) }
 {
@@ -191,11 +205,11 @@ fn bounded_at<'t, 's>(
     alloc: Global,
     depth: u8,
     colon: Token<'s>,
-    left: Expr<'s>,
+    left: Carried<Expr<'s>>,
     free: bool,
     bound: Token<'s>,
     tokens: &mut Cursor<'t, 's>,
-) -> Result<NetCond<'s>, Stop>
+) -> Result<Carried<NetCond<'s>>, Stop>
     ensures value { Gives condition_of result tokens.new (grammar.bounded_at (inside depth) colon.entry (tree left.entry) free bound.entry tokens.old) }
     ensures shorter { IfOk result (λ x. length tokens.new ≤ length tokens.old) }
 {
@@ -203,7 +217,7 @@ fn bounded_at<'t, 's>(
         middle_at(alloc, depth, colon, left, bound, tokens)
     } else {
         let right = climb_to(alloc, depth, 3, tokens)?;
-        Ok(NetCond::One(colon, left, bound, right))
+        Ok(Carried::new(NetCond::One(colon, left.into_inner(), bound, right.into_inner())))
     }
 }
 
@@ -212,7 +226,7 @@ fn said_at<'t, 's>(
     alloc: Global,
     depth: u8,
     tokens: &mut Cursor<'t, 's>,
-) -> Result<NetCond<'s>, Stop>
+) -> Result<Carried<NetCond<'s>>, Stop>
     ensures value { Gives condition_of result tokens.new (grammar.said_at (inside depth) tokens.old) }
     ensures shorter { IfOk result (λ x. length tokens.new ≤ length tokens.old) }
 {
@@ -228,13 +242,13 @@ pub(crate) fn condition_at<'t, 's>(
     alloc: Global,
     depth: u8,
     tokens: &mut Cursor<'t, 's>,
-) -> Result<NetCond<'s>, Stop>
+) -> Result<Carried<NetCond<'s>>, Stop>
     ensures value { Gives condition_of result tokens.new (grammar.condition_at (inside depth) tokens.old) }
     ensures shorter { IfOk result (λ x. length tokens.new ≤ length tokens.old) }
 {
     if tokens.next_is(Sort::Colon) {
         said_at(alloc, depth, tokens)
     } else {
-        Ok(NetCond::Absent)
+        Ok(Carried::new(NetCond::Absent))
     }
 }

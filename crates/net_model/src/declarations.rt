@@ -5,6 +5,7 @@ ghost use Rattle.net_model.specs.Expressions.{inside, part_at, wide};
 ghost use Rattle.net_model.specs.Reading.{Gives};
 ghost use Rattle.net_model.specs.declared.sort.Sort.TheVariants as sorts;
 
+use crate::carried::Carried;
 use crate::conditions::condition_at;
 use crate::cursor::{Cursor, expect};
 use crate::expressions::{braces_of, climb_to, wide_of};
@@ -22,14 +23,15 @@ fn indexing_at<'t, 's>(
     alloc: Global,
     depth: u8,
     tokens: &mut Cursor<'t, 's>,
-) -> Result<Option<Braces<'s>>, Stop>
+) -> Result<Carried<Option<Braces<'s>>>, Stop>
     ensures value { Gives indexing_of result tokens.new (grammar.indexing_at (inside depth) tokens.old) }
     ensures shorter { IfOk result (λ x. length tokens.new ≤ length tokens.old) }
 {
     if tokens.next_is(Sort::OpenBrace) {
-        Ok(Some(braces_of(alloc, depth, tokens)?))
+        let braces = braces_of(alloc, depth, tokens)?.into_inner();
+        Ok(Carried::new(Some(braces)))
     } else {
-        Ok(None)
+        Ok(Carried::new(None))
     }
 }
 
@@ -39,14 +41,14 @@ fn set_at<'t, 's>(
     depth: u8,
     word: Token<'s>,
     tokens: &mut Cursor<'t, 's>,
-) -> Result<Decl<'s>, Stop>
+) -> Result<Carried<Decl<'s>>, Stop>
     ensures value { Gives declaration_of result tokens.new (grammar.set_at (inside depth) word.entry tokens.old) }
     ensures shorter { IfOk result (λ x. length tokens.new ≤ length tokens.old) }
 {
     let name = expect(Sort::Name, Awaiting::Other, tokens)?;
     let (said, stood) = phrases(alloc, depth, Owner::Set, tokens)?;
     let end = phrases_end(Owner::Set, stood, tokens)?;
-    Ok(Decl::Set(word, name, said, end))
+    Ok(Carried::new(Decl::Set(word, name, said, end)))
 }
 
 #[tactic(auto, unfolding(crate::specs::Declarations::param_at))]
@@ -55,7 +57,7 @@ fn param_at<'t, 's>(
     depth: u8,
     word: Token<'s>,
     tokens: &mut Cursor<'t, 's>,
-) -> Result<Decl<'s>, Stop>
+) -> Result<Carried<Decl<'s>>, Stop>
     ensures value { Gives declaration_of result tokens.new (grammar.param_at (inside depth) word.entry tokens.old) }
     ensures shorter { IfOk result (λ x. length tokens.new ≤ length tokens.old) }
 {
@@ -63,7 +65,7 @@ fn param_at<'t, 's>(
     let indexing = indexing_at(alloc, depth, tokens)?;
     let (said, stood) = phrases(alloc, depth, Owner::Param, tokens)?;
     let end = phrases_end(Owner::Param, stood, tokens)?;
-    Ok(Decl::Param(word, name, indexing, said, end))
+    Ok(Carried::new(Decl::Param(word, name, indexing.into_inner(), said, end)))
 }
 
 #[tactic(auto, unfolding(crate::specs::Declarations::arc_at))]
@@ -72,7 +74,7 @@ fn arc_at<'t, 's>(
     depth: u8,
     word: Token<'s>,
     tokens: &mut Cursor<'t, 's>,
-) -> Result<Decl<'s>, Stop>
+) -> Result<Carried<Decl<'s>>, Stop>
     ensures value { Gives declaration_of result tokens.new (grammar.arc_at (inside depth) word.entry tokens.old) }
     ensures shorter { IfOk result (λ x. length tokens.new ≤ length tokens.old) }
 {
@@ -80,7 +82,7 @@ fn arc_at<'t, 's>(
     let indexing = indexing_at(alloc, depth, tokens)?;
     let (said, stood) = phrases(alloc, depth, Owner::Arc, tokens)?;
     let end = phrases_end(Owner::Arc, stood, tokens)?;
-    Ok(Decl::Arc(word, name, indexing, said, end))
+    Ok(Carried::new(Decl::Arc(word, name, indexing.into_inner(), said, end)))
 }
 
 #[tactic(auto, unfolding(crate::specs::Declarations::check_at))]
@@ -89,7 +91,7 @@ fn check_at<'t, 's>(
     depth: u8,
     word: Token<'s>,
     tokens: &mut Cursor<'t, 's>,
-) -> Result<Decl<'s>, Stop>
+) -> Result<Carried<Decl<'s>>, Stop>
     ensures value { Gives declaration_of result tokens.new (grammar.check_at (inside depth) word.entry tokens.old) }
     ensures shorter { IfOk result (λ x. length tokens.new ≤ length tokens.old) }
 {
@@ -97,7 +99,13 @@ fn check_at<'t, 's>(
     let colon = expect(Sort::Colon, Awaiting::Other, tokens)?;
     let condition = climb_to(alloc, depth, 10, tokens)?;
     let end = expect(Sort::Semicolon, Awaiting::Other, tokens)?;
-    Ok(Decl::Check(word, indexing, colon, condition, end))
+    Ok(Carried::new(Decl::Check(
+        word,
+        indexing.into_inner(),
+        colon,
+        condition.into_inner(),
+        end,
+    )))
 }
 
 #[tactic(auto, unfolding(crate::specs::Declarations::node_at))]
@@ -106,7 +114,7 @@ fn node_at<'t, 's>(
     depth: u8,
     word: Token<'s>,
     tokens: &mut Cursor<'t, 's>,
-) -> Result<Decl<'s>, Stop>
+) -> Result<Carried<Decl<'s>>, Stop>
     ensures value { Gives declaration_of result tokens.new (grammar.node_at (inside depth) word.entry tokens.old) }
     ensures shorter { IfOk result (λ x. length tokens.new ≤ length tokens.old) }
 {
@@ -114,7 +122,13 @@ fn node_at<'t, 's>(
     let indexing = indexing_at(alloc, depth, tokens)?;
     let condition = condition_at(alloc, depth, tokens)?;
     let end = expect(Sort::Semicolon, Awaiting::Other, tokens)?;
-    Ok(Decl::Node(word, name, indexing, condition, end))
+    Ok(Carried::new(Decl::Node(
+        word,
+        name,
+        indexing.into_inner(),
+        condition.into_inner(),
+        end,
+    )))
 }
 
 /// The expression of an objective, if it has one.
@@ -123,18 +137,18 @@ fn value_part<'t, 's>(
     alloc: Global,
     depth: u8,
     tokens: &mut Cursor<'t, 's>,
-) -> Result<Option<Part<'s>>, Stop>
+) -> Result<Carried<Option<Part<'s>>>, Stop>
     ensures value { Gives option_part result tokens.new (part_at sorts.Colon (wide (inside depth) 7) tokens.old) }
     ensures shorter { IfOk result (λ x. length tokens.new ≤ length tokens.old) }
 {
     if !tokens.next_is(Sort::Colon) {
-        return Ok(None);
+        return Ok(Carried::new(None));
     }
     let Some(mark) = tokens.next() else {
         return Err(Stop::Refused(0, Awaiting::Other));
     };
-    let value = wide_of(alloc, depth, 7, tokens)?;
-    Ok(Some(Part { mark, value }))
+    let value = wide_of(alloc, depth, 7, tokens)?.into_inner();
+    Ok(Carried::new(Some(Part { mark, value })))
 }
 
 /// What is awaited behind an objective without an expression, and behind one with an expression.
@@ -153,14 +167,14 @@ fn objective_at<'t, 's>(
     depth: u8,
     word: Token<'s>,
     tokens: &mut Cursor<'t, 's>,
-) -> Result<Decl<'s>, Stop>
+) -> Result<Carried<Decl<'s>>, Stop>
     ensures value { Gives declaration_of result tokens.new (grammar.objective_at (inside depth) word.entry tokens.old) }
     ensures shorter { IfOk result (λ x. length tokens.new ≤ length tokens.old) }
 {
     let name = expect(Sort::Name, Awaiting::Other, tokens)?;
     let part = value_part(alloc, depth, tokens)?;
-    let end = expect(Sort::Semicolon, behind_objective(&part), tokens)?;
-    Ok(Decl::Objective(word, name, part, end))
+    let end = expect(Sort::Semicolon, behind_objective(part.get()), tokens)?;
+    Ok(Carried::new(Decl::Objective(word, name, part.into_inner(), end)))
 }
 
 /// The declaration that this word begins.
@@ -171,7 +185,7 @@ fn declared_at<'t, 's>(
     kind: Declares,
     word: Token<'s>,
     tokens: &mut Cursor<'t, 's>,
-) -> Result<Decl<'s>, Stop>
+) -> Result<Carried<Decl<'s>>, Stop>
     ensures value { Gives declaration_of result tokens.new (grammar.declared_at (inside depth) kind word.entry tokens.old) }
     ensures shorter { IfOk result (λ x. length tokens.new ≤ length tokens.old) }
 {
@@ -191,7 +205,7 @@ fn declaration_at<'t, 's>(
     alloc: Global,
     depth: u8,
     tokens: &mut Cursor<'t, 's>,
-) -> Result<Decl<'s>, Stop>
+) -> Result<Carried<Decl<'s>>, Stop>
     ensures value { Gives declaration_of result tokens.new (grammar.declaration_at (inside depth) tokens.old) }
     ensures shorter { IfOk result (λ x. length tokens.new < length tokens.old) }
 {
@@ -215,7 +229,7 @@ fn declaration_step<'t, 's>(
     ensures shorter { IfOk result (λ x. length tokens.new < length tokens.old) }
 {
     let declaration = declaration_at(alloc, depth, tokens)?;
-    Ok(declaration)
+    Ok(declaration.into_inner())
 }
 
 /// The declarations that the tokens are, up to their end.

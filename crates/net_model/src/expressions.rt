@@ -2,12 +2,13 @@
 //! caller. A `place` is the rank that a tree may have there.
 
 ghost use Rattle.std.specs.Prelude.{◌≡◌, ◌<◌, ◌≤◌, Some, None, length, IfOk};
-ghost use Rattle.net_tree.specs.View.{tree, links_of, braces_of, option_part};
+ghost use Rattle.net_tree.specs.View.{tree, links_of, braces_of, option_part, part_of};
 ghost use Rattle.net_model.specs.Expressions as grammar;
 ghost use Rattle.net_model.specs.Expressions.{inside, inner_of, unary};
 ghost use Rattle.net_model.specs.Reading.{Gives};
 ghost use Rattle.net_model.specs.declared.sort.Sort.TheVariants as sorts;
 
+use crate::carried::Carried;
 use crate::cursor::{Cursor, expect, operator_at};
 use crate::sort::Sort;
 use crate::stop::{Awaiting, Stop};
@@ -18,7 +19,11 @@ use std::alloc::Global;
 
 /// A tree that stands by itself or behind a sign, or a reduction.
 #[cycle(parser)]
-fn unary_of<'t, 's>(alloc: Global, depth: u8, tokens: &mut Cursor<'t, 's>) -> Result<Expr<'s>, Stop>
+fn unary_of<'t, 's>(
+    alloc: Global,
+    depth: u8,
+    tokens: &mut Cursor<'t, 's>,
+) -> Result<Carried<Expr<'s>>, Stop>
     ensures value { Gives tree result tokens.new (unary (inside depth) tokens.old) }
     ensures shorter { IfOk result (λ x. length tokens.new < length tokens.old) }
 {
@@ -31,7 +36,7 @@ fn unary_of<'t, 's>(alloc: Global, depth: u8, tokens: &mut Cursor<'t, 's>) -> Re
 
 /// The same where no nesting may be opened.
 #[tactic(auto, using(net_tree::proofs::Views::views, crate::proofs::Making::makings), unfolding(crate::specs::Expressions::unary, crate::specs::Expressions::unary_at, crate::specs::Expressions::negated_at))]
-fn shut<'t, 's>(tokens: &mut Cursor<'t, 's>) -> Result<Expr<'s>, Stop>
+fn shut<'t, 's>(tokens: &mut Cursor<'t, 's>) -> Result<Carried<Expr<'s>>, Stop>
     ensures value { Gives tree result tokens.new (unary None tokens.old) }
     ensures shorter { IfOk result (λ x. length tokens.new < length tokens.old) }
 {
@@ -41,7 +46,7 @@ fn shut<'t, 's>(tokens: &mut Cursor<'t, 's>) -> Result<Expr<'s>, Stop>
     };
     match role_of(&token) {
         Role::Name => name_shut(token, tokens),
-        Role::Number | Role::Text => Ok(Expr::Leaf(token)),
+        Role::Number | Role::Text => Ok(Carried::new(Expr::Leaf(token))),
         Role::Not => not_shut(tokens),
         Role::Open | Role::OpenBrace | Role::Sign | Role::Reduction => Err(Stop::TooDeep(left)),
         _ => Err(Stop::Refused(left, Awaiting::Other)),
@@ -49,19 +54,22 @@ fn shut<'t, 's>(tokens: &mut Cursor<'t, 's>) -> Result<Expr<'s>, Stop>
 }
 
 #[tactic(auto, using(net_tree::proofs::Views::views, crate::proofs::Making::makings), unfolding(crate::specs::Expressions::named_at))]
-fn name_shut<'t, 's>(name: Token<'s>, tokens: &mut Cursor<'t, 's>) -> Result<Expr<'s>, Stop>
+fn name_shut<'t, 's>(
+    name: Token<'s>,
+    tokens: &mut Cursor<'t, 's>,
+) -> Result<Carried<Expr<'s>>, Stop>
     ensures value { Gives tree result tokens.new (grammar.named_at None name.entry tokens.old) }
     ensures shorter { IfOk result (λ x. length tokens.new ≤ length tokens.old) }
 {
     if tokens.next_is(Sort::OpenSquare) {
         Err(Stop::TooDeep(tokens.len()))
     } else {
-        Ok(Expr::Leaf(name))
+        Ok(Carried::new(Expr::Leaf(name)))
     }
 }
 
 #[tactic(auto, unfolding(crate::specs::Expressions::not_shut))]
-fn not_shut<'t, 's>(tokens: &mut Cursor<'t, 's>) -> Result<Expr<'s>, Stop>
+fn not_shut<'t, 's>(tokens: &mut Cursor<'t, 's>) -> Result<Carried<Expr<'s>>, Stop>
     ensures value { Gives tree result tokens.new (grammar.not_shut tokens.old) }
     ensures shorter { IfOk result (λ x. length tokens.new ≤ length tokens.old) }
 {
@@ -79,7 +87,7 @@ fn unary_inside<'t, 's>(
     alloc: Global,
     depth: u8,
     tokens: &mut Cursor<'t, 's>,
-) -> Result<Expr<'s>, Stop>
+) -> Result<Carried<Expr<'s>>, Stop>
     ensures value { Gives tree result tokens.new (unary (Some (inner_of (inside depth))) tokens.old) }
     ensures shorter { IfOk result (λ x. length tokens.new < length tokens.old) }
 {
@@ -89,18 +97,19 @@ fn unary_inside<'t, 's>(
     };
     match role_of(&token) {
         Role::Name => named_inside(alloc, depth, token, tokens),
-        Role::Number | Role::Text => Ok(Expr::Leaf(token)),
+        Role::Number | Role::Text => Ok(Carried::new(Expr::Leaf(token))),
         Role::Not => negated_inside(alloc, depth, token, tokens),
         Role::Open => parens_inside(alloc, depth, token, tokens),
         Role::OpenBrace => {
             let braces = braces_inside(alloc, depth, token, tokens)?;
-            let braces = Boxed::new(Box::new(alloc, braces)?);
-            Ok(Expr::Braced(braces))
+            let braces = Boxed::new(Box::new(alloc, braces.into_inner())?);
+            Ok(Carried::new(Expr::Braced(braces)))
         }
         Role::Sign => {
             let operand = climb_to(alloc, depth, 1, tokens)?;
-            let parts = Boxed::new(Box::new(alloc, (token, operand))?);
-            Ok(Expr::Signed(parts))
+            let parts = (token, operand.into_inner());
+            let parts = Boxed::new(Box::new(alloc, parts)?);
+            Ok(Carried::new(Expr::Signed(parts)))
         }
         Role::Reduction => reduced_inside(alloc, depth, token, tokens),
         _ => Err(Stop::Refused(left, Awaiting::Other)),
@@ -113,7 +122,7 @@ pub(crate) fn named_of<'t, 's>(
     depth: u8,
     name: Token<'s>,
     tokens: &mut Cursor<'t, 's>,
-) -> Result<Expr<'s>, Stop>
+) -> Result<Carried<Expr<'s>>, Stop>
     ensures value { Gives tree result tokens.new (grammar.named_at (inside depth) name.entry tokens.old) }
     ensures shorter { IfOk result (λ x. length tokens.new ≤ length tokens.old) }
 {
@@ -132,14 +141,14 @@ fn named_inside<'t, 's>(
     depth: u8,
     name: Token<'s>,
     tokens: &mut Cursor<'t, 's>,
-) -> Result<Expr<'s>, Stop>
+) -> Result<Carried<Expr<'s>>, Stop>
     ensures value { Gives tree result tokens.new (grammar.named_at (Some (inner_of (inside depth))) name.entry tokens.old) }
     ensures shorter { IfOk result (λ x. length tokens.new ≤ length tokens.old) }
 {
     if tokens.next_is(Sort::OpenSquare) {
         subscripts_inside(alloc, depth, name, tokens)
     } else {
-        Ok(Expr::Leaf(name))
+        Ok(Carried::new(Expr::Leaf(name)))
     }
 }
 
@@ -151,7 +160,7 @@ fn subscripts_inside<'t, 's>(
     depth: u8,
     name: Token<'s>,
     tokens: &mut Cursor<'t, 's>,
-) -> Result<Expr<'s>, Stop>
+) -> Result<Carried<Expr<'s>>, Stop>
     ensures value { Gives tree result tokens.new (grammar.subscripts_at (inner_of (inside depth)) name.entry tokens.old) }
     ensures shorter { IfOk result (λ x. length tokens.new ≤ length tokens.old) }
 {
@@ -161,8 +170,10 @@ fn subscripts_inside<'t, 's>(
     let first = climb_to(alloc, depth, 3, tokens)?;
     let more = links_from(alloc, depth, 0, 3, tokens)?;
     let close = expect(Sort::CloseSquare, Awaiting::Other, tokens)?;
+    let first = first.into_inner();
     let parts = (name, open, Series { first, more }, close);
-    Ok(Expr::Indexed(Boxed::new(Box::new(alloc, parts)?)))
+    let parts = Boxed::new(Box::new(alloc, parts)?);
+    Ok(Carried::new(Expr::Indexed(parts)))
 }
 
 /// What `(` begins.
@@ -173,7 +184,7 @@ fn parens_inside<'t, 's>(
     depth: u8,
     opening: Token<'s>,
     tokens: &mut Cursor<'t, 's>,
-) -> Result<Expr<'s>, Stop>
+) -> Result<Carried<Expr<'s>>, Stop>
     ensures value { Gives tree result tokens.new (grammar.parens_at (inner_of (inside depth)) opening.entry tokens.old) }
     ensures shorter { IfOk result (λ x. length tokens.new < length tokens.old) }
 {
@@ -188,13 +199,13 @@ fn parens_from<'t, 's>(
     alloc: Global,
     depth: u8,
     opening: Token<'s>,
-    first: Expr<'s>,
+    first: Carried<Expr<'s>>,
     tokens: &mut Cursor<'t, 's>,
-) -> Result<Expr<'s>, Stop>
+) -> Result<Carried<Expr<'s>>, Stop>
     ensures value { Gives tree result tokens.new (grammar.parens_from (inner_of (inside depth)) opening.entry (tree first.entry) tokens.old) }
     ensures shorter { IfOk result (λ x. length tokens.new < length tokens.old) }
 {
-    if is_sum(&first) {
+    if is_sum(first.get()) {
         let more = links_from(alloc, depth, 0, 3, tokens)?;
         listed(alloc, opening, first, more, tokens)
     } else {
@@ -207,15 +218,16 @@ fn parens_from<'t, 's>(
 fn closed<'t, 's>(
     alloc: Global,
     opening: Token<'s>,
-    inner: Expr<'s>,
+    inner: Carried<Expr<'s>>,
     tokens: &mut Cursor<'t, 's>,
-) -> Result<Expr<'s>, Stop>
+) -> Result<Carried<Expr<'s>>, Stop>
     ensures value { Gives tree result tokens.new (grammar.closed opening.entry (tree inner.entry) tokens.old) }
     ensures shorter { IfOk result (λ x. length tokens.new < length tokens.old) }
 {
     let close = expect(Sort::Close, Awaiting::Other, tokens)?;
-    let parts = (opening, inner, close);
-    Ok(Expr::Parens(Boxed::new(Box::new(alloc, parts)?)))
+    let parts = (opening, inner.into_inner(), close);
+    let parts = Boxed::new(Box::new(alloc, parts)?);
+    Ok(Carried::new(Expr::Parens(parts)))
 }
 
 /// The end of parentheses around one tree or around a tuple.
@@ -223,10 +235,10 @@ fn closed<'t, 's>(
 fn listed<'t, 's>(
     alloc: Global,
     opening: Token<'s>,
-    first: Expr<'s>,
+    first: Carried<Expr<'s>>,
     more: Items<Link<'s>>,
     tokens: &mut Cursor<'t, 's>,
-) -> Result<Expr<'s>, Stop>
+) -> Result<Carried<Expr<'s>>, Stop>
     ensures value { Gives tree result tokens.new (grammar.listed opening.entry (tree first.entry) (links_of more.entry) tokens.old) }
     ensures shorter { IfOk result (λ x. length tokens.new < length tokens.old) }
 {
@@ -234,8 +246,10 @@ fn listed<'t, 's>(
         return closed(alloc, opening, first, tokens);
     }
     let close = expect(Sort::Close, Awaiting::Other, tokens)?;
+    let first = first.into_inner();
     let parts = (opening, Series { first, more }, close);
-    Ok(Expr::Tuple(Boxed::new(Box::new(alloc, parts)?)))
+    let parts = Boxed::new(Box::new(alloc, parts)?);
+    Ok(Carried::new(Expr::Tuple(parts)))
 }
 
 /// What `not` begins.
@@ -246,15 +260,16 @@ fn negated_inside<'t, 's>(
     depth: u8,
     word: Token<'s>,
     tokens: &mut Cursor<'t, 's>,
-) -> Result<Expr<'s>, Stop>
+) -> Result<Carried<Expr<'s>>, Stop>
     ensures value { Gives tree result tokens.new (grammar.negated_at (Some (inner_of (inside depth))) word.entry tokens.old) }
     ensures shorter { IfOk result (λ x. length tokens.new < length tokens.old) }
 {
     let open = expect(Sort::Open, Awaiting::Other, tokens)?;
     let inner = climb_to(alloc, depth, 10, tokens)?;
     let close = expect(Sort::Close, Awaiting::Other, tokens)?;
-    let parts = (word, open, inner, close);
-    Ok(Expr::Negated(Boxed::new(Box::new(alloc, parts)?)))
+    let parts = (word, open, inner.into_inner(), close);
+    let parts = Boxed::new(Box::new(alloc, parts)?);
+    Ok(Carried::new(Expr::Negated(parts)))
 }
 
 /// Braces.
@@ -263,7 +278,7 @@ pub(crate) fn braces_of<'t, 's>(
     alloc: Global,
     depth: u8,
     tokens: &mut Cursor<'t, 's>,
-) -> Result<Braces<'s>, Stop>
+) -> Result<Carried<Braces<'s>>, Stop>
     ensures value { Gives braces_of result tokens.new (grammar.braces (inside depth) tokens.old) }
     ensures shorter { IfOk result (λ x. length tokens.new < length tokens.old) }
 {
@@ -275,7 +290,7 @@ pub(crate) fn braces_of<'t, 's>(
 }
 
 #[tactic(auto, unfolding(crate::specs::Expressions::braces))]
-fn shut_braces<'t, 's>(tokens: &mut Cursor<'t, 's>) -> Result<Braces<'s>, Stop>
+fn shut_braces<'t, 's>(tokens: &mut Cursor<'t, 's>) -> Result<Carried<Braces<'s>>, Stop>
     ensures value { Gives braces_of result tokens.new (grammar.braces None tokens.old) }
     ensures shorter { IfOk result (λ x. length tokens.new < length tokens.old) }
 {
@@ -292,7 +307,7 @@ fn braces_opened<'t, 's>(
     alloc: Global,
     depth: u8,
     tokens: &mut Cursor<'t, 's>,
-) -> Result<Braces<'s>, Stop>
+) -> Result<Carried<Braces<'s>>, Stop>
     ensures value { Gives braces_of result tokens.new (grammar.braces (Some (inner_of (inside depth))) tokens.old) }
     ensures shorter { IfOk result (λ x. length tokens.new < length tokens.old) }
 {
@@ -308,7 +323,7 @@ fn braces_inside<'t, 's>(
     depth: u8,
     opening: Token<'s>,
     tokens: &mut Cursor<'t, 's>,
-) -> Result<Braces<'s>, Stop>
+) -> Result<Carried<Braces<'s>>, Stop>
     ensures value { Gives braces_of result tokens.new (grammar.braces_at (inner_of (inside depth)) opening.entry tokens.old) }
     ensures shorter { IfOk result (λ x. length tokens.new < length tokens.old) }
 {
@@ -327,13 +342,13 @@ fn hollow_inside<'t, 's>(
     depth: u8,
     opening: Token<'s>,
     tokens: &mut Cursor<'t, 's>,
-) -> Result<Braces<'s>, Stop>
+) -> Result<Carried<Braces<'s>>, Stop>
     ensures value { Gives braces_of result tokens.new (grammar.hollow_at (inner_of (inside depth)) opening.entry tokens.old) }
     ensures shorter { IfOk result (λ x. length tokens.new < length tokens.old) }
 {
     let filter = filter_of(alloc, depth, tokens)?;
     let close = expect(Sort::CloseBrace, Awaiting::Other, tokens)?;
-    Ok(Braces::Empty(opening, filter, close))
+    Ok(Carried::new(Braces::Empty(opening, filter, close)))
 }
 
 /// Braces with items.
@@ -344,7 +359,7 @@ fn items_inside<'t, 's>(
     depth: u8,
     opening: Token<'s>,
     tokens: &mut Cursor<'t, 's>,
-) -> Result<Braces<'s>, Stop>
+) -> Result<Carried<Braces<'s>>, Stop>
     ensures value { Gives braces_of result tokens.new (grammar.items_at (inner_of (inside depth)) opening.entry tokens.old) }
     ensures shorter { IfOk result (λ x. length tokens.new < length tokens.old) }
 {
@@ -352,7 +367,9 @@ fn items_inside<'t, 's>(
     let more = links_from(alloc, depth, 0, 8, tokens)?;
     let filter = filter_of(alloc, depth, tokens)?;
     let close = expect(Sort::CloseBrace, Awaiting::Other, tokens)?;
-    Ok(Braces::Filled(opening, Series { first, more }, filter, close))
+    let first = first.into_inner();
+    let braces = Braces::Filled(opening, Series { first, more }, filter, close);
+    Ok(Carried::new(braces))
 }
 
 /// The condition of braces, if there is one.
@@ -372,7 +389,7 @@ fn filter_of<'t, 's>(
     let Some(mark) = tokens.next() else {
         return Err(Stop::Refused(0, Awaiting::Other));
     };
-    let value = climb_to(alloc, depth, 10, tokens)?;
+    let value = climb_to(alloc, depth, 10, tokens)?.into_inner();
     Ok(Some(Boxed::new(Box::new(alloc, Part { mark, value })?)))
 }
 
@@ -384,14 +401,15 @@ fn reduced_inside<'t, 's>(
     depth: u8,
     word: Token<'s>,
     tokens: &mut Cursor<'t, 's>,
-) -> Result<Expr<'s>, Stop>
+) -> Result<Carried<Expr<'s>>, Stop>
     ensures value { Gives tree result tokens.new (grammar.reduced_at (inner_of (inside depth)) word.entry tokens.old) }
     ensures shorter { IfOk result (λ x. length tokens.new < length tokens.old) }
 {
     let braces = braces_of(alloc, depth, tokens)?;
     let body = climb_to(alloc, depth, 2, tokens)?;
-    let front = Boxed::new(Box::new(alloc, (word, braces))?);
-    Ok(Expr::Reduced(front, Boxed::new(Box::new(alloc, body)?)))
+    let body = Boxed::new(Box::new(alloc, body.into_inner())?);
+    let front = Boxed::new(Box::new(alloc, (word, braces.into_inner()))?);
+    Ok(Carried::new(Expr::Reduced(front, body)))
 }
 
 /// An `if`, or a tree for this place.
@@ -402,7 +420,7 @@ pub(crate) fn wide_of<'t, 's>(
     depth: u8,
     place: u8,
     tokens: &mut Cursor<'t, 's>,
-) -> Result<Expr<'s>, Stop>
+) -> Result<Carried<Expr<'s>>, Stop>
     ensures value { Gives tree result tokens.new (grammar.wide (inside depth) place tokens.old) }
     ensures shorter { IfOk result (λ x. length tokens.new < length tokens.old) }
 {
@@ -414,7 +432,11 @@ pub(crate) fn wide_of<'t, 's>(
 }
 
 #[cycle(parser)]
-fn if_of<'t, 's>(alloc: Global, depth: u8, tokens: &mut Cursor<'t, 's>) -> Result<Expr<'s>, Stop>
+fn if_of<'t, 's>(
+    alloc: Global,
+    depth: u8,
+    tokens: &mut Cursor<'t, 's>,
+) -> Result<Carried<Expr<'s>>, Stop>
     ensures value { Gives tree result tokens.new (grammar.if_at (inside depth) tokens.old) }
     ensures shorter { IfOk result (λ x. length tokens.new < length tokens.old) }
 {
@@ -426,7 +448,7 @@ fn if_of<'t, 's>(alloc: Global, depth: u8, tokens: &mut Cursor<'t, 's>) -> Resul
 }
 
 #[tactic(auto, unfolding(crate::specs::Expressions::if_at))]
-fn shut_if<'t, 's>(tokens: &mut Cursor<'t, 's>) -> Result<Expr<'s>, Stop>
+fn shut_if<'t, 's>(tokens: &mut Cursor<'t, 's>) -> Result<Carried<Expr<'s>>, Stop>
     ensures value { Gives tree result tokens.new (grammar.if_at None tokens.old) }
     ensures shorter { IfOk result (λ x. length tokens.new < length tokens.old) }
 {
@@ -439,7 +461,7 @@ fn if_inside<'t, 's>(
     alloc: Global,
     depth: u8,
     tokens: &mut Cursor<'t, 's>,
-) -> Result<Expr<'s>, Stop>
+) -> Result<Carried<Expr<'s>>, Stop>
     ensures value { Gives tree result tokens.new (grammar.if_at (Some (inner_of (inside depth))) tokens.old) }
     ensures shorter { IfOk result (λ x. length tokens.new < length tokens.old) }
 {
@@ -447,6 +469,24 @@ fn if_inside<'t, 's>(
         None => Err(Stop::Refused(0, Awaiting::Other)),
         Some(word) => choice_inside(alloc, depth, word, tokens),
     }
+}
+
+/// A tree for this place, with the mark or word before it.
+#[cycle(parser)]
+#[tactic(auto, using(net_tree::proofs::Views::views, crate::proofs::Making::makings))]
+fn introduced<'t, 's>(
+    alloc: Global,
+    depth: u8,
+    place: u8,
+    mark: Token<'s>,
+    tokens: &mut Cursor<'t, 's>,
+) -> Result<Boxed<Part<'s>>, Stop>
+    ensures value { Gives (λ p. (part_of p).1) result tokens.new (grammar.climb place (unary (inside depth)) tokens.old) }
+    ensures mark { IfOk result (λ p. (part_of p).0 ≡ mark.entry) }
+    ensures shorter { IfOk result (λ x. length tokens.new < length tokens.old) }
+{
+    let value = climb_to(alloc, depth, place, tokens)?.into_inner();
+    Ok(Boxed::new(Box::new(alloc, Part { mark, value })?))
 }
 
 /// What `if` begins.
@@ -457,27 +497,15 @@ fn choice_inside<'t, 's>(
     depth: u8,
     word: Token<'s>,
     tokens: &mut Cursor<'t, 's>,
-) -> Result<Expr<'s>, Stop>
+) -> Result<Carried<Expr<'s>>, Stop>
     ensures value { Gives tree result tokens.new (grammar.choice_at (inner_of (inside depth)) word.entry tokens.old) }
     ensures shorter { IfOk result (λ x. length tokens.new < length tokens.old) }
 {
-    let condition = climb_to(alloc, depth, 10, tokens)?;
+    let condition = introduced(alloc, depth, 10, word, tokens)?;
     let then = expect(Sort::Then, Awaiting::Other, tokens)?;
-    let branch = climb_to(alloc, depth, 7, tokens)?;
+    let branch = introduced(alloc, depth, 7, then, tokens)?;
     let otherwise = otherwise_of(alloc, depth, tokens)?;
-    let condition = Part {
-        mark: word,
-        value: condition,
-    };
-    let condition = Boxed::new(Box::new(alloc, condition)?);
-    let branch = Boxed::new(Box::new(
-        alloc,
-        Part {
-            mark: then,
-            value: branch,
-        },
-    )?);
-    Ok(Expr::Choice(condition, branch, otherwise))
+    Ok(Carried::new(Expr::Choice(condition, branch, otherwise)))
 }
 
 /// The part of `else`, if there is one.
@@ -497,7 +525,7 @@ fn otherwise_of<'t, 's>(
     let Some(mark) = tokens.next() else {
         return Err(Stop::Refused(0, Awaiting::Other));
     };
-    let value = wide_of(alloc, depth, 7, tokens)?;
+    let value = wide_of(alloc, depth, 7, tokens)?.into_inner();
     Ok(Some(Boxed::new(Box::new(alloc, Part { mark, value })?)))
 }
 
@@ -508,7 +536,7 @@ pub(crate) fn climb_to<'t, 's>(
     depth: u8,
     place: u8,
     tokens: &mut Cursor<'t, 's>,
-) -> Result<Expr<'s>, Stop>
+) -> Result<Carried<Expr<'s>>, Stop>
     ensures value { Gives tree result tokens.new (grammar.climb place (unary (inside depth)) tokens.old) }
     ensures shorter { IfOk result (λ x. length tokens.new < length tokens.old) }
 {
@@ -527,7 +555,7 @@ fn chain_of<'t, 's>(
     depth: u8,
     place: u8,
     tokens: &mut Cursor<'t, 's>,
-) -> Result<Expr<'s>, Stop>
+) -> Result<Carried<Expr<'s>>, Stop>
     ensures value { Gives tree result tokens.new (grammar.chain_at place (grammar.climb place (unary (inside depth))) tokens.old) }
     ensures shorter { IfOk result (λ x. length tokens.new < length tokens.old) }
 {
@@ -552,6 +580,7 @@ fn links_from<'t, 's>(
     while tokens.next_joins(level, found.len()) {
         let operator = operator_at(alloc, tokens)?;
         let operand = climb_to(alloc, depth, place, tokens)?;
+        let operand = operand.into_inner();
         found.push(Link { operator, operand })?;
     }
     Ok(Items::new(found))

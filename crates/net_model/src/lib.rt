@@ -1,6 +1,7 @@
 //! From the tokens of a model text to its declarations.
 #![tactic(auto)]
 
+mod carried;
 mod conditions;
 mod cursor;
 mod declarations;

@@ -161,17 +161,17 @@ fn body_of<'t, 's>(
             let number = expect(Sort::Number, Awaiting::Other, tokens)?;
             Ok(Body::Valued(Expr::Leaf(number)))
         }
-        Slot::Set => Ok(Body::Valued(climb_to(alloc, depth, 7, tokens)?)),
-        Slot::Sum => Ok(Body::Valued(climb_to(alloc, depth, 3, tokens)?)),
-        Slot::Value => Ok(Body::Valued(wide_of(alloc, depth, 7, tokens)?)),
+        Slot::Set => Ok(Body::Valued(climb_to(alloc, depth, 7, tokens)?.into_inner())),
+        Slot::Sum => Ok(Body::Valued(climb_to(alloc, depth, 3, tokens)?.into_inner())),
+        Slot::Value => Ok(Body::Valued(wide_of(alloc, depth, 7, tokens)?.into_inner())),
         Slot::Node => {
             let name = expect(Sort::Name, Awaiting::Other, tokens)?;
-            Ok(Body::Valued(named_of(alloc, depth, name, tokens)?))
+            Ok(Body::Valued(named_of(alloc, depth, name, tokens)?.into_inner()))
         }
         Slot::Price => {
             let name = expect(Sort::Name, Awaiting::Objective, tokens)?;
             let price = climb_to(alloc, depth, 3, tokens)?;
-            Ok(Body::Priced(name, price))
+            Ok(Body::Priced(name, price.into_inner()))
         }
     }
 }

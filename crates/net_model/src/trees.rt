@@ -4,6 +4,7 @@ ghost use Rattle.net_tree.specs.View.{tree, links_of};
 ghost use Rattle.net_model.specs.Expressions.{chained, is_none};
 ghost use Rattle.net_model.specs.declared.stop.Stop.TheVariants.{OutOfMemory};
 
+use crate::carried::Carried;
 use crate::stop::Stop;
 use net_lex::{Boxed, Items};
 use net_tree::{Expr, Link, Series};
@@ -38,15 +39,16 @@ pub(crate) fn is_none(links: &Items<Link<'_>>) -> bool
 pub(crate) fn chained<'s>(
     alloc: Global,
     place: u8,
-    first: Expr<'s>,
+    first: Carried<Expr<'s>>,
     more: Items<Link<'s>>,
-) -> Result<Expr<'s>, Stop>
+) -> Result<Carried<Expr<'s>>, Stop>
     ensures value { IfOk result (λ x. tree x ≡ chained place (tree first.entry) (links_of more.entry)) }
     ensures memory { IfErr result (λ e. e ≡ OutOfMemory) }
 {
     if is_none(&more) {
         return Ok(first);
     }
+    let first = first.into_inner();
     let operands = Boxed::new(Box::new(alloc, Series { first, more })?);
-    Ok(Expr::Chain(place, operands))
+    Ok(Carried::new(Expr::Chain(place, operands)))
 }

@@ -58,6 +58,9 @@ decreases-if_inside l = 100 * l.depth + 85
 abbrev pub decreases-choice_inside : goal.decreases-choice_inside
 decreases-choice_inside l = 100 * l.depth + 80
 
+abbrev pub decreases-introduced : goal.decreases-introduced
+decreases-introduced l = 100 * l.depth + 4 * l.place + 5
+
 abbrev pub decreases-otherwise_of : goal.decreases-otherwise_of
 decreases-otherwise_of l = 100 * l.depth + 70
 
