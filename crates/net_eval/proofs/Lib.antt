@@ -3,6 +3,7 @@ pub mod Seeing
 pub mod Cases
 pub mod Walking
 pub mod Ranging
+pub mod Passing
 mod Trees
 mod NumberExamples
 mod KindExamples

@@ -1,6 +1,6 @@
 -- The parts of items, and the steps of the definition of values.
 use Rattle.std.specs.Prelude.{◌≡◌, ◌+◌, ◌-◌, ◌<◌, ◌≤◌, ℕ, zero, suc, not, ◌++◌, List, [], ◌∷◌, length, get_or, drop, take, Option, None, Some, is_some, Bool, true, false, ◌||◌, if◌then◌else◌, Result, Ok, Err, IfOk}
-use Rattle.std.proofs.Common.{refl, sym, ap, subst, ◌∙◌, arith}
+use Rattle.std.proofs.Common.{refl, sym, ap, subst, append_assoc, ◌∙◌, arith}
 use Rattle.std.proofs.lemmas.Bool.{true≢false}
 use Rattle.net_lex.specs.declared.span.Span.{Span}
 use Rattle.net_lex.specs.declared.token.Token.{Token}
@@ -8,7 +8,7 @@ use Rattle.net_sets.specs.Sets.{Tuple}
 use Rattle.net_tree.specs.declared.expr.Link.{Link, out-Link}
 use Rattle.net_tree.specs.declared.expr.Operator.{Operator}
 use Rattle.net_tree.specs.Spans.{span_of, span_between}
-use Rattle.net_tree.specs.Tree.{Tree, Links, Part, Braces, indexed, tuple, negated, signed, reduced, chain, choice, none, link, filled}
+use Rattle.net_tree.specs.Tree.{Tree, Links, Part, Braces, indexed, tuple, negated, signed, reduced, chain, choice, none, link, filled, absent, part}
 use Rattle.net_tree.specs.View.{tree, links_of}
 use Rattle.net_tree.specs.Weights.{weight, weights}
 use Rattle.net_tree.proofs.Views.{links_of-cons, next_link, first_link}
@@ -26,8 +26,8 @@ use Rattle.net_eval.specs.Operators.{apply, decided, truth}
 use Rattle.net_eval.specs.Numbers.{range_of}
 use Rattle.net_eval.specs.Items.{is_in, behind_in, both, sides, size, any_in, has_in, has_part, begins_range, new_dummy, tuples_of, is_set, walking as walking_over, listing, opened, open_with}
 use Rattle.net_eval.specs.Widths.{makes_set, begin_set}
-use Rattle.net_eval.specs.Rows.{start, onward, listed, reduce, fitted_alone}
-use Rattle.net_eval.specs.Values.{value, values, chained, index, walk, set_behind, place, left_place, either, subscripted, tupled, with_sign, otherwise}
+use Rattle.net_eval.specs.Rows.{start, onward, listed, reduce, fitted_alone, kept, keys}
+use Rattle.net_eval.specs.Values.{value, values, chained, index, walk, holds, set_behind, place, left_place, either, subscripted, tupled, with_sign, otherwise}
 use Rattle.net_eval.specs.Walks.{joined, walked, opened_keys, by_sides, item_tuples, keys_by_sides, index_items, placed, component_places}
 
 -- what stands behind the only link, by its operator
@@ -93,7 +93,7 @@ and_then-assoc : {A B C : Type 0} (o : Outcome A) (f : A → Outcome B) (g : B �
 and_then-assoc (Ok x) f g = refl
 and_then-assoc (Err r) f g = refl
 
-and_then-same : {A B : Type 0} (o : Outcome A) (f g : A → Outcome B) → ((x : A) → f x ≡ g x) → and_then o f ≡ and_then o g
+pub and_then-same : {A B : Type 0} (o : Outcome A) (f g : A → Outcome B) → ((x : A) → f x ≡ g x) → and_then o f ≡ and_then o g
 and_then-same (Ok x) f g h = h x
 and_then-same (Err r) f g h = refl
 
@@ -292,5 +292,18 @@ pub chained-left : (at : Span) (w : World) (s : Scope) (ls : List Link) (i : ℕ
     → wanted ≡ and_then (joined at (operation (out-Link l).operator) (value w s (tree (out-Link l).operand)) v) (chained at w s (links_of (drop (i + 1) ls)))
 chained-left at w s ls i l v wanted h e same =
     sym same ∙ ap (λ k. chained at w s k v) (next_link ls i l h e) ∙ chained-step at w s (out-Link l).operator (tree (out-Link l).operand) (links_of (drop (i + 1) ls)) v
+
+-- without a condition all rows are kept
+all_kept : (rows found : List Row) → kept (λ q. Ok true) rows found ≡ Ok (found ++ rows)
+all_kept [] found = ap Ok (sym (append_nil found))
+  where
+    append_nil : (rs : List Row) → rs ++ [] ≡ rs
+    append_nil [] = refl
+    append_nil (r ∷ rs) = ap (◌∷◌ r) (append_nil rs)
+all_kept (r ∷ rows) found = all_kept rows (found ++ r ∷ []) ∙ ap Ok (append_assoc found (r ∷ []) rows)
+
+pub unconditioned : (at : Span) (w : World) (p : Part) (n : ℕ) (rows : List Row) → has_part p ≡ false → and_then (kept (λ q. holds at w q p) rows []) (λ left. Ok (keys n left)) ≡ Ok (keys n rows)
+unconditioned at w absent n rows h = ap (λ o. and_then o (λ left. Ok (keys n left))) (all_kept rows [])
+unconditioned at w (part m x) n rows h = cc
 
 pub ruleset walking = (chained-step, index-filled, walk-step, place-is, left_place-tuple, weight-sides)

@@ -23,9 +23,10 @@ use crate::operation::{Operation, Reduction, is_minus, operation_of, reduction_o
 use crate::operator::{apply, decided, truth, truth_at, tuple_of};
 use crate::range::range_of;
 use crate::row::{
-    Keys, Place, Row, agrees, agrees_as, bind, bind_first, finish, start, stay, with_key,
+    Keys, Place, Row, agrees, agrees_as, as_keys, bind, bind_first, finish, start, stay, with_key,
 };
 use crate::scope::Scope;
+use crate::selecting::selecting;
 use crate::value::Value;
 use crate::width::width;
 use crate::world::Seen;
@@ -453,7 +454,7 @@ fn collect<'w, 's>(
     Ok(Items::new(found))
 }
 
-/// The rest of the walk behind each tuple of an item's set.
+/// The rest of the walk behind each tuple of an item's set. Those that the dummies in scope leave out are passed by.
 #[cycle(eval)]
 fn through<'w, 's>(
     alloc: Global,
@@ -467,8 +468,8 @@ fn through<'w, 's>(
 ) -> Result<(), EvalFault<'s>>
     ensures { Leaves (each (rows.onward (values.place seen.now (tree item.now)) (values.walk at seen.now (links_of more.now)) place.now) tuples.entry found.old.items) result found.new.items }
 {
-    let all = tuples.get().as_slice();
-    for tuple in all {
+    let mut left = tuples.walk(selecting(seen, &place.scope, item));
+    while let Some(tuple) = left.next() {
         onward(alloc, seen, at, item, more, place, tuple, found)?;
     }
     Ok(())
@@ -743,6 +744,9 @@ fn keep<'w, 's>(
 ) -> Result<Keys<'s>, EvalFault<'s>>
     ensures { Answers (and_then (rows.kept (λ q. values.holds at seen.now q (option_part condition.now)) found.entry []) (λ left. Ok (rows.keys width left))) result }
 {
+    if !has_part(condition) {
+        return Ok(as_keys(width, found));
+    }
     let mut kept = Vec::new(alloc);
     let rows = found.as_slice();
     for row in rows {
@@ -750,10 +754,7 @@ fn keep<'w, 's>(
             kept.push(row.again(alloc)?)?;
         }
     }
-    Ok(Keys {
-        width: Some(width),
-        rows: Items::new(kept),
-    })
+    Ok(as_keys(width, Items::new(kept)))
 }
 
 #[cycle(eval)]

@@ -13,6 +13,7 @@ mod operator;
 mod range;
 mod row;
 mod scope;
+mod selecting;
 mod set;
 mod value;
 mod width;

@@ -49,6 +49,16 @@ pub struct Keys<'s> {
     pub rows: Items<Row<'s>>,
 }
 
+/// Keys of so many members.
+pub(crate) fn as_keys<'s>(width: u8, found: Items<Row<'s>>) -> Keys<'s>
+    ensures { result ≡ rows.keys width found.entry }
+{
+    Keys {
+        width: Some(width),
+        rows: found,
+    }
+}
+
 /// The place before the first item.
 pub(crate) fn start<'s>(alloc: Global, scope: &Scope<'s>) -> Result<Place<'s>, EvalFault<'s>>
     ensures { Answers (Ok (rows.start scope.now)) result }

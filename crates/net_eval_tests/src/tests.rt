@@ -2,7 +2,7 @@
 use net_eval::{Entry, EvalFault, Scope, Seen, Value, World, evaluate};
 use net_lex::{Excerpt, lex_model};
 use net_model::parse_declarations;
-use net_sets::{Member, Tuple, TupleSet};
+use net_sets::{IndexedSet, Member, Tuple, TupleSet};
 use net_tree::{Decl, Expr, Model};
 use std::alloc::{AllocError, Global};
 use std::test::Fail;
@@ -177,12 +177,20 @@ fn names(rt: HostRuntime) -> Result<(), Fail> {
         }
     }
     let mut world = World::new(alloc);
-    world.add(&Excerpt::new("L"), Entry::Set(2, links))?;
+    world.add(
+        &Excerpt::new("L"),
+        Entry::Set(2, IndexedSet::new(alloc, links)?),
+    )?;
     let table = [
         (1, "check: L;", "{ 1,2 1,3 2,3}"),
         (1, "check: {i in 1..2, (i,j) in L};", "{ 1,2 1,3 2,3}"),
         (1, "check: sum {(i,j) in L} j;", "8"),
         (1, "check: {(i,3) in L};", "{ 1 2}"),
+        (1, "check: {j in 3..4, (i,j) in L};", "{ 3,1 3,2}"),
+        (1, "check: {i in 1..3, (k,i) in L, (i,j) in L};", "{ 2,1,3}"),
+        (1, "check: {i in 2..2, (i,i) in L union {(2,2)}};", "{ 2}"),
+        (1, "check: {k in 3..3, (i,k) in L union {(5,4),(4,3)}};", "{ 3,1 3,2 3,4}"),
+        (1, "check: {i in 1..1, (1 div 0,i) in L};", "E38 DivMod 20..27"),
         (1, "check: {L, k in 7..8: k = 8};", "{ 1,2,8 1,3,8 2,3,8}"),
         (1, "check: {i in L};", "E37 Arity 8..14"),
         (1, "check: (1,3) in L;", "true"),

@@ -1,42 +1,17 @@
 -- Indices for all components, and what they tell.
-use Rattle.std.specs.Prelude.{◌≡◌, ℕ, suc, zero, ◌+◌, ◌<◌, ◌≤◌, Bool, true, false, cond, max, List, [], ◌∷◌, ◌++◌, length, drop, get_or, slice_get, slice_index_or, Option, None, Some, is_some, unwrap_or}
-use Rattle.std.specs.List.{position_from, fold}
+use Rattle.std.specs.Prelude.{◌≡◌, ℕ, suc, zero, ◌+◌, ◌<◌, ◌≤◌, Bool, true, false, cond, List, [], ◌∷◌, ◌++◌, length, drop, get_or, slice_get, slice_index_or, Option, None, Some, is_some, unwrap_or}
+use Rattle.std.specs.List.{position_from}
 use Rattle.std.specs.Option.{IfSome, option_copied}
 use Rattle.std.proofs.Math.Dec.{ltb}
 use Rattle.std.proofs.Common.{Bor, refl, ap, sym, subst, ◌∙◌, arith}
-use Rattle.std.proofs.lemmas.Bool.Decides.{nat_tests}
 use Rattle.std.proofs.lemmas.List.{length-append, get_or_default, length-drop}
-use Rattle.std.proofs.lemmas.Option.{slice_get_past}
 use mathlib.Core.Logic.{◌⊎◌, inl, inr}
 use Rattle.net_sets.specs.declared.member.Member.{Member}
 use Rattle.net_sets.specs.declared.component_index.Chains.{Chains}
 use Rattle.net_sets.specs.Sets.{Tuple}
-use Rattle.net_sets.specs.Operations.{widest}
-use Rattle.net_sets.specs.Components.{is_member, agrees, next_place, IsIndexFrom, AreIndexedTo, AreIndexed}
+use Rattle.net_sets.specs.Operations.{narrowest}
+use Rattle.net_sets.specs.Components.{agrees, next_place, IsIndexFrom, AreIndexedTo, AreIndexed}
 use Rattle.net_sets.proofs.Reading.{item_at}
-use Rattle.net_sets.proofs.Crossing.{least, wide_from}
-
--- no tuple has a component behind the widest
-none_from : (k : ℕ) (m : Member) (most i : ℕ) (ts : List Tuple) → fold (λ w t. max w (length t)) most ts ≤ k → position_from (agrees k m) i ts ≡ None
-none_from k m most i [] h = refl
-none_from k m most i (t ∷ ts) h =
-    let wide = least (max most (length t)) ts in
-    let short : length t ≤ k = omega arith in
-    let unlike : agrees k m t ≡ false = ap (is_member m) (slice_get_past t k short) in
-    rw unlike (none_from k m (max most (length t)) (i + 1) ts h)
-
-pub past_the_widest : (k : ℕ) (m : Member) (ts : List Tuple) → widest ts ≤ k → None ≡ next_place k m 0 ts
-past_the_widest k m ts h = sym (none_from k m 0 0 ts h)
-
-pub no_such_component : (k : ℕ) (m : Member) (ts : List Tuple) (place : ℕ) → widest ts ≤ k → place < length ts → agrees k m (get_or ts place []) ≡ true → ⊥
-no_such_component k m ts place h there is =
-    let wide = wide_from 0 ts place [] there in
-    let short : length (get_or ts place []) ≤ k = omega arith in
-    let unlike : agrees k m (get_or ts place []) ≡ false = ap (is_member m) (slice_get_past (get_or ts place []) k short) in
-    cc
-
-pub missing : (indices : List Chains) (k : ℕ) (ts : List Tuple) → AreIndexed ts indices → false ≡ ltb k (length indices) → widest ts ≤ k
-missing indices k ts kept none = let size = kept.size in grind (arith, nat_tests)
 
 -- the place that is found is one of them
 found_within : (test : Tuple → Bool) (i j : ℕ) (ts : List Tuple) → position_from test i ts ≡ Some j → j < i + length ts
@@ -88,11 +63,11 @@ one_indexed ts many indices more new kept is put = record {
     step k c (inl there) = kept.each k c there
     step k c (inr last) = subst (λ j. IsIndexFrom j ts 0 c) (sym (last.0 ∙ kept.size)) (subst (λ (x : Chains). IsIndexFrom many ts 0 x) last.1 is)
 
+pub all_indexed : (ts : List Tuple) (many least : ℕ) (indices : List Chains) → AreIndexedTo ts many indices → least ≡ narrowest ts → AreIndexed ts least indices
+all_indexed ts many least indices kept narrow = record { narrow = narrow; each = kept.each }
+
 pub chains_at : (indices given : List Chains) (k : ℕ) (r : Option (Bor Chains)) (x : Bor Chains) → given ≡ indices → is_some r ≡ ltb k (length given) → IfSome r (λ y. y.now ≡ slice_index_or given k y.now) → r ≡ Some x → slice_get indices k ≡ Some x.now
 chains_at indices given k r x same some value is = ap (λ cs. slice_get cs k) (sym same) ∙ (sym (item_at r given k some value) ∙ ap option_copied is)
-
-pub missing_in : (indices given : List Chains) (k : ℕ) (ts : List Tuple) → AreIndexed ts indices → given ≡ indices → false ≡ ltb k (length given) → widest ts ≤ k
-missing_in indices given k ts kept same none = missing indices k ts kept (none ∙ ap (λ cs. ltb k (length cs)) same)
 
 pub next_read : (ts : List Tuple) (k : ℕ) (m : Member) (place next : ℕ) (chains : Chains) → IsIndexFrom k ts 0 chains → place < length ts → next ≡ get_or chains.next.items place next → agrees k m (get_or ts place []) ≡ true
     → next ≡ unwrap_or (next_place k m (place + 1) ts) (length ts)

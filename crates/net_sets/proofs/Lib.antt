@@ -11,5 +11,6 @@ pub mod Listing
 pub mod Chaining
 pub mod Indexed
 pub mod Walking
+pub mod Onward
 pub mod Rows
 mod Examples

@@ -1,11 +1,11 @@
 -- The tuples of a set that have a given member at one component.
-use Rattle.std.specs.Prelude.{◌≡◌, ℕ, ◌+◌, ◌<◌, ◌≤◌, Bool, true, false, List, [], length, drop, get_or, slice_get, Option, None, Some, unwrap_or}
+use Rattle.std.specs.Prelude.{◌≡◌, ℕ, ◌+◌, ◌<◌, ◌≤◌, Bool, true, false, List, [], length, drop, filter, get_or, nat_lt, slice_get, Option, None, Some, unwrap_or, if◌then◌else◌}
 use Rattle.std.specs.List.{position_from}
 use Rattle.std.specs.BTreeMap.{BTreeMap, get_by}
 use Rattle.net_sets.specs.declared.member.Member.{Member}
 use Rattle.net_sets.specs.declared.component_index.Chains.{Chains}
 use Rattle.net_sets.specs.Sets.{Tuple, same_member}
-use Rattle.net_sets.specs.Operations.{widest}
+use Rattle.net_sets.specs.Operations.{narrowest}
 use Rattle.net_sets.specs.Orders.{member_order}
 
 abbrev pub is_member : Member → Option Member → Bool
@@ -35,6 +35,13 @@ pub record AreIndexedTo (ts : List Tuple) (many : ℕ) (indices : List Chains) :
   pub size : length indices ≡ many
   pub each : (component : ℕ) (chains : Chains) → slice_get indices component ≡ Some chains → IsIndexFrom component ts 0 chains
 
--- for each component that a tuple has
-abbrev pub AreIndexed : List Tuple → List Chains → Type 0
-AreIndexed ts indices = AreIndexedTo ts (widest ts) indices
+-- the indices that there are, and how many members each tuple has at least
+pub record AreIndexed (ts : List Tuple) (least : ℕ) (indices : List Chains) : Type 0 where
+  pub narrow : least ≡ narrowest ts
+  pub each : (component : ℕ) (chains : Chains) → slice_get indices component ≡ Some chains → IsIndexFrom component ts 0 chains
+
+-- the tuples that are sought: where a component and a member are given, and each tuple has the component, those that have the
+-- member there, and else all
+abbrev pub sought : Option (ℕ × Member) → List Tuple → List Tuple
+sought None ts = ts
+sought (Some s) ts = if nat_lt s.0 (narrowest ts) then filter (agrees s.0 s.1) ts else ts

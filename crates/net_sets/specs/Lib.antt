@@ -6,6 +6,7 @@ pub mod Kept
 pub mod Held
 pub mod Operations
 pub mod Components
+pub mod Ways
 pub mod Made
 pub mod Ranges
 pub mod Laws

@@ -1,19 +1,21 @@
 ghost use Rattle.std.specs.Prelude.{◌≡◌, ◌<◌, ◌+◌, [], true, List, get_or, length, IfOk};
-ghost use Rattle.net_sets.specs.declared.member.Member.{Member};
 ghost use Rattle.net_sets.specs.Components.{agrees, next_place};
+ghost use Rattle.net_sets.specs.Operations.{narrowest};
 
 use crate::component_index::{Chains, chains_of};
 use crate::member::Member;
-use crate::operations::widest;
+use crate::operations::{narrowest, widest};
 use crate::tuple_set::TupleSet;
+use crate::walk::place_from;
 use std::alloc::{AllocError, Global};
 use std::marker::Model;
 
 /// A set in which the tuples with a given member at one component are found without a look at the others. Contracts see it
-/// as the set.
+/// as the set. Where no tuple has two members there is nothing to find so, and no index is made.
 #[derive(Drop)]
 pub struct IndexedSet<'s> {
     set: TupleSet<'s>,
+    narrowest: usize,
     components: Vec<Chains<'s>>,
 }
 
@@ -26,7 +28,7 @@ impl<'s> Model for IndexedSet<'s> {
 
     ghost view = { λ s. s.set };
 
-    ghost invariant = { λ s. AreIndexed s.set s.components.items };
+    ghost invariant = { λ s. AreIndexed s.set s.narrowest s.components.items };
 }
 
 impl<'s> IndexedSet<'s> {
@@ -34,11 +36,17 @@ impl<'s> IndexedSet<'s> {
         ensures { IfOk result (λ indexed. indexed ≡ set.entry) }
     {
         let width = widest(&set);
+        let indexed = if width < 2 { 0 } else { width };
+        let narrowest = narrowest(&set);
         let mut components = Vec::new(alloc);
-        for component in 0..width {
+        for component in 0..indexed {
             components.push(chains_of(alloc, component, set.as_slice())?)?;
         }
-        Ok(IndexedSet { set, components })
+        Ok(IndexedSet {
+            set,
+            narrowest,
+            components,
+        })
     }
 
     pub fn set(&self) -> &TupleSet<'s>
@@ -47,24 +55,34 @@ impl<'s> IndexedSet<'s> {
         &self.set
     }
 
+    /// How many members each tuple has at least, 4 where there is none.
+    pub(crate) fn narrowest(&self) -> usize
+        ensures { result ≡ narrowest self.now }
+    {
+        self.narrowest
+    }
+
     /// The place of the first tuple that has the member at the component, which is counted from 0.
     pub fn first_with(&self, component: usize, member: &Member<'s>) -> Option<usize>
         ensures { result ≡ next_place component member.now 0 self.now }
     {
         match self.components.get(component) {
-            None => None,
+            None => place_from(component, member, 0, self.set.as_slice()),
             Some(chains) => chains.first(member),
         }
     }
 
-    /// The place of the next tuple with the same member at the component as the tuple at a place. Nothing is promised where
-    /// that one has no such component.
-    pub fn next_with(&self, component: usize, place: usize) -> Option<usize>
-        requires { place < length self.now }
-        ensures { (m : Member) → agrees component m (get_or self.now place []) ≡ true → result ≡ next_place component m (place + 1) self.now }
+    /// The place of the next tuple that has the member at the component, behind the place of one that has it.
+    pub fn next_with(&self, component: usize, member: &Member<'s>, place: usize) -> Option<usize>
+        requires there { place < length self.now }
+        requires alike { agrees component member.now (get_or self.now place []) ≡ true }
+        ensures { result ≡ next_place component member.now (place + 1) self.now }
     {
         match self.components.get(component) {
-            None => None,
+            None => {
+                let tuples = self.set.as_slice();
+                place_from(component, member, place + 1, tuples)
+            }
             Some(chains) => {
                 let next = chains.next[place];
                 if next < self.set.len() {

@@ -13,6 +13,7 @@ mod table;
 mod text;
 mod tuple;
 mod tuple_set;
+mod walk;
 
 pub use fault::SetFault;
 pub use held::Held;
@@ -20,10 +21,11 @@ pub use indexed_set::IndexedSet;
 pub use laws::walks_those_that_agree;
 pub use member::Member;
 pub use operations::{
-    cross, difference, intersection, is_within, symmetric_difference, union, widest,
+    cross, difference, intersection, is_within, narrowest, symmetric_difference, union, widest,
 };
 pub use range::Range;
 pub use table::Table;
 pub use text::Text;
 pub use tuple::Tuple;
 pub use tuple_set::TupleSet;
+pub use walk::Walk;

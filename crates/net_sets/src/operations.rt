@@ -2,7 +2,7 @@
 ghost use Rattle.std.specs.Prelude.{◌≡◌, ◌<◌, ◌+◌, ◌≤◌, ◌++◌, ◌∷◌, [], false, if◌then◌else◌, length, IfOk, OnOk};
 ghost use Rattle.net_sets.specs.Limits.{arity_limit, tuples_limit};
 ghost use Rattle.net_sets.specs.Made.{IsMade, IsCrossed, with_set};
-ghost use Rattle.net_sets.specs.Operations.{union, difference, intersection, symmetric_difference, is_within, is_chosen, chosen, behind, widest};
+ghost use Rattle.net_sets.specs.Operations.{union, difference, intersection, symmetric_difference, is_within, is_chosen, chosen, behind, widest, narrowest};
 ghost use Rattle.net_sets.specs.Sets.{has};
 
 use crate::fault::SetFault;
@@ -116,6 +116,17 @@ pub fn widest<'s>(set: &TupleSet<'s>) -> usize
     let mut width = 0;
     for tuple in set.as_slice() {
         width = width.max(tuple.len());
+    }
+    width
+}
+
+/// How many members each tuple of a set has at least, 4 where there is none.
+pub fn narrowest(set: &TupleSet<'_>) -> usize
+    ensures { result ≡ narrowest set.now }
+{
+    let mut width = 4;
+    for tuple in set.as_slice() {
+        width = width.min(tuple.len());
     }
     width
 }

@@ -1,6 +1,6 @@
 use net_lex::Excerpt;
 use net_sets::{
-    IndexedSet, Member, Range, SetFault, Table, Text, Tuple, TupleSet, cross, difference,
+    Held, IndexedSet, Member, Range, SetFault, Table, Text, Tuple, TupleSet, cross, difference,
     intersection, is_within, symmetric_difference, union, widest,
 };
 use std::alloc::{AllocError, Global};
@@ -205,23 +205,21 @@ fn too_many(rt: HostRuntime) -> Result<(), Fail> {
     Ok(())
 }
 
-/// The places of the tuples that have the member at the component, as a walk finds them.
+/// The places of the tuples that a walk comes by.
 fn walked<'s>(
     alloc: Global,
-    set: &IndexedSet<'s>,
+    set: &TupleSet<'s>,
+    held: &Held<'_, 's>,
     component: usize,
-    wanted: &Member<'s>,
+    wanted: Member<'s>,
 ) -> Result<Vec<usize>, AllocError> {
     let mut places = Vec::new(alloc);
-    let mut next = set.first_with(component, wanted);
-    for _ in 0..set.set().len() {
-        if let Some(place) = next {
-            places.push(place)?;
-            next = if place < set.set().len() {
-                set.next_with(component, place)
-            } else {
-                None
-            };
+    let mut walk = held.walk(Some((component, wanted)));
+    for _ in 0..set.len() {
+        if let Some(tuple) = walk.next() {
+            if let Some(place) = set.position(tuple) {
+                places.push(place)?;
+            }
         }
     }
     Ok(places)
@@ -238,10 +236,14 @@ fn components(rt: HostRuntime) -> Result<(), Fail> {
         (1, "b", &[0, 3, 4]),
         (0, "1", &[3]),
         (0, "'1'", &[]),
-        (2, "a", &[]),
+        (2, "a", &[0, 1, 2, 3, 4, 5]),
     ];
+    let own = Held::own(indexed.set().again(alloc)?);
+    let lent = Held::lent(&indexed);
     for (component, wanted, places) in table {
-        let found = walked(alloc, &indexed, component, &member(wanted))?;
+        let found = walked(alloc, indexed.set(), &lent, component, member(wanted))?;
+        assert!(rt; found.as_slice() == places, "{component} {wanted}");
+        let found = walked(alloc, indexed.set(), &own, component, member(wanted))?;
         assert!(rt; found.as_slice() == places, "{component} {wanted}");
     }
     Ok(())

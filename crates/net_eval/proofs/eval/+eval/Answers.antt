@@ -11,7 +11,8 @@ use Rattle.net_tree.specs.Tree.{link}
 use Rattle.net_tree.specs.Weights.{weights}
 use Rattle.net_eval.specs.Walks.{index_items}
 use Rattle.net_eval.proofs.Cases.{in_indexed, in_parens, in_tuple, in_negated, in_signed, in_reduced, in_chain, in_choice, in_filled}
-use Rattle.net_eval.proofs.Walking.{answers_by, is_tuple, value-indexed, value-tuple, value-negated, value-signed, value-reduced, value-chain, value-choice, index-filled, left-tuple, left-other, place-sides, link_lighter, stops, goes, leaves_by, leaves_answers, from_start, ok_same, split_first, rest_first, walk-step, chained-left, values-left}
+use Rattle.net_eval.proofs.Walking.{answers_by, is_tuple, value-indexed, value-tuple, value-negated, value-signed, value-reduced, value-chain, value-choice, index-filled, left-tuple, left-other, place-sides, link_lighter, stops, goes, leaves_by, leaves_answers, from_start, ok_same, split_first, rest_first, walk-step, chained-left, values-left, unconditioned}
+use Rattle.net_eval.proofs.Passing.{selected_from}
 use Rattle.net_eval.proofs.eval.+eval.Goals as goal
 
 pub evaluate-returns-in-Indexed : goal.evaluate-returns-in-Indexed
@@ -141,3 +142,10 @@ walk-returns-in-len1-up t c =
 pub place_at-returns-in-Some : goal.place_at-returns-in-Some
 place_at-returns-in-Some t c =
     answers_by _ _ _ (place-sides c.args.seen.now (tree c.args.item.now) (tree c.in-Some.left.now) _ c.args.tuple.now c.args.place.now c.in-Some.ensures) c.left_place.ensures
+
+pub through-loop-tuple-init : goal.through-loop-tuple-init
+through-loop-tuple-init t c =
+    selected_from c.args.seen.now (tree c.args.item.now) _ c.args.place.now c.args.tuples c.walk-left.result c.selecting.result c.args.found.now.items c.selecting.ensures c.walk-left.ensures
+
+pub keep-returns-then-not-has_part : goal.keep-returns-then-not-has_part
+keep-returns-then-not-has_part t c = unconditioned c.args.at c.args.seen.now (option_part c.args.condition.now) c.args.width c.args.found (sym c.has_part.ensures ∙ c.if-not-has_part.true) ∙ ap Ok (sym c.as_keys.ensures)

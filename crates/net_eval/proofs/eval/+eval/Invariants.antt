@@ -1,4 +1,4 @@
-use Rattle.std.specs.Prelude.{◌≡◌, ◌≤◌, ◌+◌, ◌*◌, ◌^◌, drop, [], ◌∷◌, None, IfSome, unsigned_abs}
+use Rattle.std.specs.Prelude.{◌≡◌, ◌≤◌, ◌+◌, ◌*◌, ◌^◌, drop, [], ◌∷◌, length, None, IfSome, unsigned_abs}
 use Rattle.net_tree.specs.View.{tree, links_of, braces_of, option_part}
 use Rattle.net_tree.specs.Weights.{weight, weights, braces_weight, part_weight}
 use Rattle.net_tree.specs.Spans.{span_of}
@@ -123,8 +123,11 @@ invariant-chained-loop-link l =
 
 abbrev pub invariant-through-loop-tuple : goal.invariant-through-loop-tuple
 invariant-through-loop-tuple l =
-    each (onward (values.place l.fn.seen (tree l.fn.item)) (values.walk l.fn.at l.fn.seen (links_of l.fn.more)) l.fn.place) (drop l.tuple-index l.all) l.found.items
+    each (onward (values.place l.fn.seen (tree l.fn.item)) (values.walk l.fn.at l.fn.seen (links_of l.fn.more)) l.fn.place) l.left l.found.items
     ≡ each (onward (values.place l.fn.seen (tree l.fn.item)) (values.walk l.fn.at l.fn.seen (links_of l.fn.more)) l.fn.place) l.fn.tuples l.fn.found.items
+
+abbrev pub decreases-through-loop-tuple : goal.decreases-through-loop-tuple
+decreases-through-loop-tuple l = length l.left
 
 abbrev pub invariant-keep-loop-row : goal.invariant-keep-loop-row
 invariant-keep-loop-row l =

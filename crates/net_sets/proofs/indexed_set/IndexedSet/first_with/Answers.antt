@@ -1,14 +1,7 @@
-use Rattle.std.specs.Prelude.{None}
-use Rattle.std.proofs.Common.{◌≡◌, ap, subst, ◌∙◌}
+use Rattle.std.proofs.Common.{ap, ◌∙◌}
 use Rattle.net_sets.specs.Components.{next_place}
-use Rattle.net_sets.proofs.Indexed.{past_the_widest, missing_in, chains_at}
+use Rattle.net_sets.proofs.Indexed.{chains_at}
 use Rattle.net_sets.proofs.indexed_set.IndexedSet.first_with.Goals as goal
-
-pub returns-in-None : goal.returns-in-None
-returns-in-None c =
-    subst (λ ts. None ≡ next_place c.args.component c.args.member.now 0 ts) c.self.view_is
-    (past_the_widest c.args.component c.args.member.now c.self.inside.set
-    (missing_in c.self.inside.components.items c.deref.result.now c.args.component c.self.inside.set c.self.invariant c.deref.ensures.value c.in-None.ensures.lookup.0))
 
 pub returns-in-Some : goal.returns-in-Some
 returns-in-Some c =

@@ -1,0 +1,106 @@
+//! Which tuples of a set an item of braces can agree with, as far as the dummies in scope at its left tell.
+
+ghost use Rattle.std.specs.Prelude.{◌≡◌, is_some};
+ghost use Rattle.net_tree.specs.View.{tree, links_of};
+ghost use Rattle.net_eval.specs.Items as items;
+ghost use Rattle.net_eval.specs.Selecting as select;
+
+use crate::item::{bare, new_dummy, sides_of};
+use crate::scope::Scope;
+use crate::world::Seen;
+use net_sets::Member;
+use net_tree::{Expr, Link};
+
+/// The member of a dummy in scope that stands alone.
+fn dummy_alone<'s>(scope: &Scope<'s>, component: &Expr<'s>) -> Option<Member<'s>>
+    ensures { result ≡ select.dummy_alone scope.now (items.bare (tree component.now)) }
+{
+    match bare(component) {
+        None => None,
+        Some(name) => match scope.get(name) {
+            None => None,
+            Some(member) => Some(member.again()),
+        },
+    }
+}
+
+fn is_new<'s>(seen: &Seen<'_, 's>, scope: &Scope<'s>, component: &Expr<'s>) -> bool
+    ensures { result ≡ is_some (items.new_dummy seen.now scope.now (tree component.now)) }
+{
+    new_dummy(seen, scope, component).is_some()
+}
+
+/// The same of the components behind the first.
+fn selecting_behind<'s>(
+    seen: &Seen<'_, 's>,
+    scope: &Scope<'s>,
+    links: &[Link<'s>],
+) -> Option<(usize, Member<'s>)>
+    ensures { result ≡ select.selecting_from seen.now scope.now 1 (links_of links.now) }
+{
+    for place in 0..links.len() {
+        let component = &links[place].operand;
+        match dummy_alone(scope, component) {
+            Some(member) => return Some((place + 1, member)),
+            None => {
+                if !is_new(seen, scope, component) {
+                    return None;
+                }
+            }
+        }
+    }
+    None
+}
+
+#[tactic(auto, using(net_tree::proofs::Views::views))]
+fn selecting_left<'s>(
+    seen: &Seen<'_, 's>,
+    scope: &Scope<'s>,
+    left: &Expr<'s>,
+) -> Option<(usize, Member<'s>)>
+    ensures { result ≡ select.selecting_left seen.now scope.now (tree left.now) }
+{
+    match left {
+        Expr::Tuple(parts) => {
+            let series = &parts.get().1;
+            selecting_first(seen, scope, &series.first, series.more.as_slice())
+        }
+        Expr::Leaf(_) | Expr::Indexed(_) | Expr::Parens(_) | Expr::Negated(_) => None,
+        Expr::Braced(_) | Expr::Signed(_) | Expr::Reduced(_, _) | Expr::Chain(_, _) => None,
+        Expr::Choice(_, _, _) | Expr::Net(_) => None,
+    }
+}
+
+fn selecting_first<'s>(
+    seen: &Seen<'_, 's>,
+    scope: &Scope<'s>,
+    first: &Expr<'s>,
+    more: &[Link<'s>],
+) -> Option<(usize, Member<'s>)>
+    ensures { result ≡ select.selecting_components seen.now scope.now (tree first.now) (links_of more.now) }
+{
+    match dummy_alone(scope, first) {
+        Some(member) => Some((0, member)),
+        None => {
+            if is_new(seen, scope, first) {
+                selecting_behind(seen, scope, more)
+            } else {
+                None
+            }
+        }
+    }
+}
+
+/// The component by which a tuple at the left of `in` selects, counted from 0, and the member that it must have there.
+pub(crate) fn selecting<'s>(
+    seen: &Seen<'_, 's>,
+    scope: &Scope<'s>,
+    item: &Expr<'s>,
+) -> Option<(usize, Member<'s>)>
+    ensures { result ≡ select.selecting seen.now scope.now (tree item.now) }
+{
+    match sides_of(item) {
+        None => None,
+        Some((left, _)) => selecting_left(seen, scope, left),
+    }
+}

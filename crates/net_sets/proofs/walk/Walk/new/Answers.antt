@@ -1,0 +1,8 @@
+use Rattle.net_sets.proofs.Onward.{next_there, all_to_come}
+use Rattle.net_sets.proofs.walk.Walk.new.Goals as goal
+
+pub invariant_of-result : goal.invariant_of-result
+invariant_of-result c = next_there c.args.way c.args.tuples.now 0 c.first-next.result c.first-next.ensures c.requires
+
+pub returns : goal.returns
+returns c = all_to_come c.args.way c.args.tuples.now 0 c.first-next.result c.first-next.ensures
