@@ -4,6 +4,7 @@ pub mod Cases
 pub mod Walking
 pub mod Ranging
 pub mod Passing
+pub mod Scoping
 mod Trees
 mod NumberExamples
 mod KindExamples

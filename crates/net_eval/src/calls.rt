@@ -8,9 +8,10 @@ ghost use Rattle.net_eval.specs.Operators as operators;
 ghost use Rattle.net_eval.specs.Outcomes.{Answers, and_then};
 ghost use Rattle.net_eval.specs.Values as values;
 
-use crate::eval::{evaluate, index};
+use crate::eval::evaluate;
 use crate::fault::EvalFault;
 use crate::item::tuples_of;
+use crate::keys::index;
 use crate::operator::{member_of, truth};
 use crate::row::Keys;
 use crate::scope::Scope;

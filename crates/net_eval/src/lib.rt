@@ -4,7 +4,9 @@
 mod calls;
 mod eval;
 mod fault;
+mod fitting;
 mod item;
+mod keys;
 mod list;
 mod name;
 mod number;

@@ -275,7 +275,7 @@ pub(crate) fn tuple_of<'s>(
     let mut key = Some(Tuple::new());
     for value in values {
         let member = member_of(whole, value)?;
-        key = longer_by_one(&key, &member);
+        key = longer_by_one(key, &member);
     }
     short_enough(whole, key)
 }

@@ -79,14 +79,14 @@ fn key_again<'s>(key: &Option<Tuple<'s>>) -> Option<Tuple<'s>>
 }
 
 /// A key with one member more, as long as it has at most four.
-pub(crate) fn longer_by_one<'s>(key: &Option<Tuple<'s>>, member: &Member<'s>) -> Option<Tuple<'s>>
-    ensures { result ≡ operators.longer (member.now ∷ []) key.now }
+pub(crate) fn longer_by_one<'s>(key: Option<Tuple<'s>>, member: &Member<'s>) -> Option<Tuple<'s>>
+    ensures { result ≡ operators.longer (member.now ∷ []) key.entry }
 {
     match key {
         None => None,
         Some(key) => {
             if key.len() < 4 {
-                let mut longer = key.again();
+                let mut longer = key;
                 longer.add(member.again());
                 Some(longer)
             } else {
@@ -113,7 +113,8 @@ fn longer<'s>(key: &Option<Tuple<'s>>, more: &Tuple<'s>) -> Option<Tuple<'s>>
 }
 
 impl<'s> Place<'s> {
-    fn again(&self, alloc: Global) -> Result<Place<'s>, AllocError>
+    /// The same place once more.
+    pub(crate) fn again(&self, alloc: Global) -> Result<Place<'s>, AllocError>
         ensures { IfOk result (λ p. p ≡ self.now) }
     {
         Ok(Place {
@@ -145,32 +146,31 @@ pub(crate) fn with_key<'s>(
 
 /// A new dummy takes a member, which is one of the key.
 pub(crate) fn bind<'s>(
-    alloc: Global,
     name: &Excerpt<'s>,
     member: &Member<'s>,
-    place: &Place<'s>,
+    place: Place<'s>,
 ) -> Result<Option<Place<'s>>, EvalFault<'s>>
-    ensures { Answers (Ok (Some (rows.bind name.now member.now place.now))) result }
+    ensures { Answers (Ok (Some (rows.bind name.now member.now place.entry))) result }
 {
-    let scope = place.scope.with(alloc, name.again(), member.again())?;
-    let key = longer_by_one(&place.key, member);
+    let Place { scope, key } = place;
+    let scope = scope.extended(name.again(), member.again())?;
+    let key = longer_by_one(key, member);
     Ok(Some(Place { scope, key }))
 }
 
 /// The place stays where the value of a component is the member.
 pub(crate) fn agrees<'s>(
-    alloc: Global,
     whole: &Expr<'_>,
     member: &Member<'s>,
-    place: &Place<'s>,
+    place: Place<'s>,
     value: &Value<'_, 's>,
 ) -> Result<Option<Place<'s>>, EvalFault<'s>>
-    ensures { Answers (rows.agrees (trees.span_of (tree whole.now)) member.now place.now value.now) result }
+    ensures { Answers (rows.agrees (trees.span_of (tree whole.now)) member.now place.entry value.now) result }
 {
     match value {
         Value::One(found) => {
             if *found == *member {
-                stay(alloc, place)
+                Ok(Some(place))
             } else {
                 Ok(None)
             }
@@ -232,7 +232,7 @@ pub(crate) fn bind_first<'s>(
 {
     match members {
         [] => stay(alloc, place),
-        [member, ..] => bind(alloc, name, member, place),
+        [member, ..] => bind(name, member, place.again(alloc)?),
     }
 }
 

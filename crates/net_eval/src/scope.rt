@@ -14,19 +14,20 @@ pub struct Binding<'s> {
     pub member: Member<'s>,
 }
 
-/// The dummies in scope, the newest first.
+/// The dummies in scope, which contracts see as their list, the newest first.
 #[derive(Drop)]
 pub struct Scope<'s> {
+    /// The newest last.
     bindings: Items<Binding<'s>>,
 }
 
 impl<'s> Model for Scope<'s> {
-    ghost use Rattle.std.specs.Prelude.{List};
+    ghost use Rattle.std.specs.Prelude.{List, reverse};
     ghost use Rattle.net_eval.specs.declared.scope.Binding.{Binding};
 
     ghost Value = { List Binding };
 
-    ghost view = { λ s. s.bindings };
+    ghost view = { λ s. reverse s.bindings };
 }
 
 impl<'s> Scope<'s> {
@@ -43,13 +44,14 @@ impl<'s> Scope<'s> {
     pub fn get(&self, name: &Excerpt<'s>) -> Option<&Member<'s>>
         ensures { option_copied result ≡ bound self.now name.now }
     {
+        let mut found = None;
         let bindings = self.bindings.as_slice();
         for binding in bindings {
             if binding.name.as_str() == name.as_str() {
-                return Some(&binding.member);
+                found = Some(&binding.member);
             }
         }
-        None
+        found
     }
 
     /// The same dummies once more.
@@ -72,9 +74,20 @@ impl<'s> Scope<'s> {
     ) -> Result<Scope<'s>, AllocError>
         ensures { IfOk result (λ s. s ≡ with_dummy name.entry member.entry self.now) }
     {
-        let mut bindings = Vec::new(alloc);
+        self.again(alloc)?.extended(name, member)
+    }
+
+    /// The same where these are not needed any more.
+    pub(crate) fn extended(
+        self,
+        name: Excerpt<'s>,
+        member: Member<'s>,
+    ) -> Result<Scope<'s>, AllocError>
+        ensures { IfOk result (λ s. s ≡ with_dummy name.entry member.entry self.entry) }
+    {
+        let Scope { bindings } = self;
+        let mut bindings = bindings.into_vec();
         bindings.push(Binding { name, member })?;
-        copy_into(&mut bindings, self.bindings.as_slice())?;
         Ok(Scope {
             bindings: Items::new(bindings),
         })

@@ -1,4 +1,4 @@
-use Rattle.std.proofs.Common.{◌≡◌, false, rules, refl, Ok, length, take, ◌-◌, sym, ap, ◌∙◌, ◌+◌, drop, arith}
+use Rattle.std.proofs.Common.{◌≡◌, ◌∷◌, false, rules, refl, Ok, length, take, ◌-◌, sym, ap, ◌∙◌, ◌+◌, drop, arith}
 use Rattle.std.proofs.lemmas.Result.{err_from_is_err_and}
 use Rattle.net_tree.specs.declared.expr.Series.{out-Series}
 use Rattle.net_tree.specs.View.{tree, links_of, braces_of, option_part}
@@ -9,60 +9,60 @@ use Rattle.net_eval.specs.Rows.{reduce}
 use Rattle.net_eval.specs.Values.{value, values, index, walk, places}
 use Rattle.net_tree.specs.Tree.{link}
 use Rattle.net_tree.specs.Weights.{weights}
-use Rattle.net_eval.specs.Walks.{index_items}
+use Rattle.net_eval.specs.Walks.{index_items, component_places}
 use Rattle.net_eval.proofs.Cases.{in_indexed, in_parens, in_tuple, in_negated, in_signed, in_reduced, in_chain, in_choice, in_filled}
 use Rattle.net_eval.proofs.Walking.{answers_by, is_tuple, value-indexed, value-tuple, value-negated, value-signed, value-reduced, value-chain, value-choice, index-filled, left-tuple, left-other, place-sides, link_lighter, stops, goes, leaves_by, leaves_answers, from_start, ok_same, split_first, rest_first, walk-step, chained-left, values-left, unconditioned}
 use Rattle.net_eval.proofs.Passing.{selected_from}
-use Rattle.net_eval.proofs.eval.+eval.Goals as goal
+use Rattle.net_eval.proofs.+eval.Goals as goal
 
-pub evaluate-returns-in-Indexed : goal.evaluate-returns-in-Indexed
-evaluate-returns-in-Indexed t c =
+pub eval::evaluate-returns-in-Indexed : goal.eval::evaluate-returns-in-Indexed
+eval::evaluate-returns-in-Indexed t c =
     answers_by _ _ _ (value-indexed c.args.seen.now c.args.scope.now (tree c.args.expr.now) _ _ _ _ _ (in_indexed c.args.expr.now c.in-Indexed.parts c.get.result.now c.as_slice.result.now c.in-Indexed.is c.get.ensures c.as_slice.ensures)) c.subscripted.ensures
 
-pub evaluate-returns-in-Parens : goal.evaluate-returns-in-Parens
-evaluate-returns-in-Parens t c =
+pub eval::evaluate-returns-in-Parens : goal.eval::evaluate-returns-in-Parens
+eval::evaluate-returns-in-Parens t c =
     answers_by _ _ _ (ap (value c.args.seen.now c.args.scope.now) (in_parens c.args.expr.now c.in-Parens.parts c.get-in-Parens.result.now c.in-Parens.is c.get-in-Parens.ensures)) c.evaluate.ensures
 
-pub evaluate-returns-in-Tuple : goal.evaluate-returns-in-Tuple
-evaluate-returns-in-Tuple t c =
+pub eval::evaluate-returns-in-Tuple : goal.eval::evaluate-returns-in-Tuple
+eval::evaluate-returns-in-Tuple t c =
     answers_by _ _ _ (value-tuple c.args.seen.now c.args.scope.now (tree c.args.expr.now) _ _ _ _ (in_tuple c.args.expr.now c.in-Tuple.parts c.get-in-Tuple.result.now c.as_slice-in-Tuple.result.now c.in-Tuple.is c.get-in-Tuple.ensures c.as_slice-in-Tuple.ensures)) c.tupled.ensures
 
-pub evaluate-returns-in-Negated : goal.evaluate-returns-in-Negated
-evaluate-returns-in-Negated t c =
+pub eval::evaluate-returns-in-Negated : goal.eval::evaluate-returns-in-Negated
+eval::evaluate-returns-in-Negated t c =
     answers_by _ _ _ (value-negated c.args.seen.now c.args.scope.now (tree c.args.expr.now) _ _ _ _ (in_negated c.args.expr.now c.in-Negated.parts c.get-in-Negated.result.now c.in-Negated.is c.get-in-Negated.ensures)) c.negated.ensures
 
-pub evaluate-returns-in-Signed : goal.evaluate-returns-in-Signed
-evaluate-returns-in-Signed t c =
+pub eval::evaluate-returns-in-Signed : goal.eval::evaluate-returns-in-Signed
+eval::evaluate-returns-in-Signed t c =
     answers_by _ _ _ (value-signed c.args.seen.now c.args.scope.now (tree c.args.expr.now) _ _ (in_signed c.args.expr.now c.in-Signed.parts c.get-in-Signed.result.now c.in-Signed.is c.get-in-Signed.ensures)) c.signed.ensures
 
-pub evaluate-returns-in-Reduced : goal.evaluate-returns-in-Reduced
-evaluate-returns-in-Reduced t c =
+pub eval::evaluate-returns-in-Reduced : goal.eval::evaluate-returns-in-Reduced
+eval::evaluate-returns-in-Reduced t c =
     answers_by _ _ _ (value-reduced c.args.seen.now c.args.scope.now (tree c.args.expr.now) _ _ _ (in_reduced c.args.expr.now c.in-Reduced.parts c.get-in-Reduced.result.now c.in-Reduced.body c.get-in-Reduced-2.result.now c.in-Reduced.is c.get-in-Reduced.ensures c.get-in-Reduced-2.ensures) ∙ ap (λ r. and_then (index c.args.seen.now c.args.scope.now (braces_of c.get-in-Reduced.result.now.1)) (reduce (span_of (tree c.args.expr.now)) r (λ q. value c.args.seen.now q (tree c.get-in-Reduced-2.result.now)))) (sym c.reduction_of.ensures)) c.reduced.ensures
 
-pub evaluate-returns-in-Chain : goal.evaluate-returns-in-Chain
-evaluate-returns-in-Chain t c =
+pub eval::evaluate-returns-in-Chain : goal.eval::evaluate-returns-in-Chain
+eval::evaluate-returns-in-Chain t c =
     answers_by _ _ _ (value-chain c.args.seen.now c.args.scope.now (tree c.args.expr.now) _ _ _ (in_chain c.args.expr.now _ c.in-Chain.operands c.get-series.result.now c.as_slice-in-Chain.result.now c.in-Chain.is c.get-series.ensures c.as_slice-in-Chain.ensures)) c.chain.ensures
 
-pub evaluate-returns-in-Choice : goal.evaluate-returns-in-Choice
-evaluate-returns-in-Choice t c =
+pub eval::evaluate-returns-in-Choice : goal.eval::evaluate-returns-in-Choice
+eval::evaluate-returns-in-Choice t c =
     answers_by _ _ _ (value-choice c.args.seen.now c.args.scope.now (tree c.args.expr.now) _ _ _ _ _ (in_choice c.args.expr.now c.in-Choice.condition c.in-Choice.branch c.get-in-Choice.result.now c.get-in-Choice-2.result.now c.in-Choice.otherwise c.in-Choice.is c.get-in-Choice.ensures c.get-in-Choice-2.ensures)) c.choice.ensures
 
-pub left_place-returns-in-Tuple : goal.left_place-returns-in-Tuple
-left_place-returns-in-Tuple t c =
+pub fitting::left_place-returns-in-Tuple : goal.fitting::left_place-returns-in-Tuple
+fitting::left_place-returns-in-Tuple t c =
     answers_by _ _ _ (left-tuple _ c.args.seen.now (tree c.args.left.now) _ _ _ _ _ c.args.tuple.now c.args.place.now (in_tuple c.args.left.now c.in-Tuple.parts c.get.result.now c.as_slice.result.now c.in-Tuple.is c.get.ensures c.as_slice.ensures)) c.components.ensures
 
-pub left_place-returns-in-Leaf : goal.left_place-returns-in-Leaf
-left_place-returns-in-Leaf t c =
+pub fitting::left_place-returns-in-Leaf : goal.fitting::left_place-returns-in-Leaf
+fitting::left_place-returns-in-Leaf t c =
     let other : is_tuple (tree c.args.left.now) ≡ false = search (rules, views) in
     answers_by _ _ _ (left-other _ c.args.seen.now (tree c.args.left.now) _ c.args.tuple.now c.args.place.now other) c.alone-in-Leaf.ensures
 
-pub left_place-returns-in-Braced : goal.left_place-returns-in-Braced
-left_place-returns-in-Braced t c =
+pub fitting::left_place-returns-in-Braced : goal.fitting::left_place-returns-in-Braced
+fitting::left_place-returns-in-Braced t c =
     let other : is_tuple (tree c.args.left.now) ≡ false = search (rules, views) in
     answers_by _ _ _ (left-other _ c.args.seen.now (tree c.args.left.now) _ c.args.tuple.now c.args.place.now other) c.alone-in-Braced.ensures
 
-pub index-returns-in-Filled : goal.index-returns-in-Filled
-index-returns-in-Filled t c =
+pub keys::index-returns-in-Filled : goal.keys::index-returns-in-Filled
+keys::index-returns-in-Filled t c =
     let first = (out-Series c.in-Filled.series).first in
     answers_by _ _ _
     (ap (index c.args.seen.now c.args.scope.now) (in_filled c.args.braces.now c.in-Filled.open c.in-Filled.series c.in-Filled.condition c.in-Filled.close c.as_slice.result.now c.in-Filled.is c.as_slice.ensures)
@@ -70,82 +70,92 @@ index-returns-in-Filled t c =
     ∙ ap (λ at. index_items at c.args.seen.now c.args.scope.now (tree first) (links_of c.as_slice.result.now) (option_part c.in-Filled.condition)) (sym c.span_between-in-Filled.ensures))
     c.index_items.ensures
 
-pub chained-joined-requires : goal.chained-joined-requires
-chained-joined-requires t c = omega (arith, link_lighter c.args.links.now c.loop-link.link-index c.link-item.result c.loop-link-test.true c.link-item.is)
+pub eval::chained-joined-requires : goal.eval::chained-joined-requires
+eval::chained-joined-requires t c = omega (arith, link_lighter c.args.links.now c.loop-link.link-index c.link-item.result c.loop-link-test.true c.link-item.is)
 
-pub evaluate_more-evaluate-requires : goal.evaluate_more-evaluate-requires
-evaluate_more-evaluate-requires t c = omega (arith, link_lighter c.args.more.now c.loop-link.link-index c.link-item.result c.loop-link-test.true c.link-item.is)
+pub eval::evaluate_more-evaluate-requires : goal.eval::evaluate_more-evaluate-requires
+eval::evaluate_more-evaluate-requires t c = omega (arith, link_lighter c.args.more.now c.loop-link.link-index c.link-item.result c.loop-link-test.true c.link-item.is)
 
-pub chained-returns-in_err-value : goal.chained-returns-in_err-value
-chained-returns-in_err-value t c =
+pub eval::chained-returns-in_err-value : goal.eval::chained-returns-in_err-value
+eval::chained-returns-in_err-value t c =
     let y = err_from_is_err_and c.from_residual.result c.from_residual.ensures.1 in
     rw y.1 (rw y.2
     (stops _ _ _ c.in_err-value.field-0.0
     (chained-left _ c.args.seen.now c.args.scope.now c.args.links.now c.loop-link.link-index c.link-item.result c.loop-link.value _ c.loop-link-test.true c.link-item.is c.loop-link.invariant)
     c.in_err-value.ensures))
 
-pub chained-loop-link-preserved : goal.chained-loop-link-preserved
-chained-loop-link-preserved t c =
+pub eval::chained-loop-link-preserved : goal.eval::chained-loop-link-preserved
+eval::chained-loop-link-preserved t c =
     sym (goes _ _ _ _
     (chained-left _ c.args.seen.now c.args.scope.now c.args.links.now c.loop-link.link-index c.link-item.result c.loop-link.value _ c.loop-link-test.true c.link-item.is c.loop-link.invariant)
     c.in_ok-value.ensures)
 
-pub evaluate_more-returns-in_err-value : goal.evaluate_more-returns-in_err-value
-evaluate_more-returns-in_err-value t c =
+pub eval::evaluate_more-returns-in_err-value : goal.eval::evaluate_more-returns-in_err-value
+eval::evaluate_more-returns-in_err-value t c =
     let y = err_from_is_err_and c.from_residual-in_err-value.result c.from_residual-in_err-value.ensures.1 in
     rw y.1 (rw y.2
     (stops _ _ _ c.in_err-value.field-0.0
     (values-left c.args.seen.now c.args.scope.now c.args.more.now c.loop-link.link-index c.link-item.result c.loop-link.found.items _ c.loop-link-test.true c.link-item.is c.loop-link.invariant)
     c.in_err-value.ensures))
 
-pub evaluate_more-loop-link-preserved : goal.evaluate_more-loop-link-preserved
-evaluate_more-loop-link-preserved t c =
+pub eval::evaluate_more-loop-link-preserved : goal.eval::evaluate_more-loop-link-preserved
+eval::evaluate_more-loop-link-preserved t c =
     ap (values c.args.seen.now c.args.scope.now (links_of (drop (c.loop-link.link-index + 1) c.args.more.now))) c.in_ok-push-2.ensures.items
     ∙ sym (goes _ _ _ _
     (values-left c.args.seen.now c.args.scope.now c.args.more.now c.loop-link.link-index c.link-item.result c.loop-link.found.items _ c.loop-link-test.true c.link-item.is c.loop-link.invariant)
     c.in_ok-value.ensures)
 
-pub collect-returns-in_err-through : goal.collect-returns-in_err-through
-collect-returns-in_err-through t c =
+pub keys::collect-returns-in_err-through : goal.keys::collect-returns-in_err-through
+keys::collect-returns-in_err-through t c =
     let y = err_from_is_err_and c.from_residual-in_err-through.result c.from_residual-in_err-through.ensures.1 in
     rw y.1 (rw y.2
     (leaves_answers _ _ c.in_err-through.field-0.0 _
     (from_start c.args.at c.args.seen.now (tree c.args.item.now) (links_of c.args.more.now) c.args.scope.now c.in_ok-place.place c.args.tuples _ (ok_same _ _ _ _ refl refl c.in_ok-place.ensures) c.new-found.ensures.items)
     c.in_err-through.ensures))
 
-pub collect-returns : goal.collect-returns
-collect-returns t c =
+pub keys::collect-returns : goal.keys::collect-returns
+keys::collect-returns t c =
     from_start c.args.at c.args.seen.now (tree c.args.item.now) (links_of c.args.more.now) c.args.scope.now c.in_ok-place.place c.args.tuples _ (ok_same _ _ _ _ refl refl c.in_ok-place.ensures) c.new-found.ensures.items
     ∙ c.in_ok-through.ensures ∙ ap Ok (sym c.new.ensures)
 
-pub places-fit_all-requires : goal.places-fit_all-requires
-places-fit_all-requires t c = omega (arith, ap weights (rest_first c.args.links.now c.link-item.result c.in-len1-up.len_at_least c.link-item.is))
+pub fitting::places-fit_all-requires : goal.fitting::places-fit_all-requires
+fitting::places-fit_all-requires t c = omega (arith, ap weights (rest_first c.args.links.now c.link-item.result c.in-len1-up.len_at_least c.link-item.is))
 
-pub places-returns-in-len1-up-members : goal.places-returns-in-len1-up-members
-places-returns-in-len1-up-members t c =
+pub fitting::places-returns-in-len1-up-members : goal.fitting::places-returns-in-len1-up-members
+fitting::places-returns-in-len1-up-members t c =
     answers_by _ _ _
     (ap (λ k. places (span_of (tree c.args.whole.now)) c.args.seen.now k c.args.members.now c.args.place) (rest_first c.args.links.now c.link-item.result c.in-len1-up.len_at_least c.link-item.is)
     ∙ ap (λ ms. places (span_of (tree c.args.whole.now)) c.args.seen.now (link c.link-item.result.operator (tree c.link-item.result.operand) (links_of (take (length c.args.links.now - 1) (drop 1 c.args.links.now)))) ms c.args.place)
     (split_first c.args.members.now c.member-item.result c.in-len1-up-members.len_at_least c.member-item.is))
     c.fit_all.ensures
 
-pub walk-walk_item-requires : goal.walk-walk_item-requires
-walk-walk_item-requires t c = omega (arith, ap weights (rest_first c.args.items.now c.link-item.result c.in-len1-up.len_at_least c.link-item.is))
+pub keys::walk-walk_item-requires : goal.keys::walk-walk_item-requires
+keys::walk-walk_item-requires t c = omega (arith, ap weights (rest_first c.args.items.now c.link-item.result c.in-len1-up.len_at_least c.link-item.is))
 
-pub walk-returns-in-len1-up : goal.walk-returns-in-len1-up
-walk-returns-in-len1-up t c =
+pub keys::walk-returns-in-len1-up : goal.keys::walk-returns-in-len1-up
+keys::walk-returns-in-len1-up t c =
     leaves_by _ _ _ _
     (ap (λ k. walk c.args.at c.args.seen.now k c.args.place c.args.found.now.items) (rest_first c.args.items.now c.link-item.result c.in-len1-up.len_at_least c.link-item.is)
     ∙ walk-step c.args.at c.args.seen.now c.link-item.result.operator (tree c.link-item.result.operand) (links_of (take (length c.args.items.now - 1) (drop 1 c.args.items.now))) c.args.place c.args.found.now.items)
     c.walk_item.ensures
 
-pub place_at-returns-in-Some : goal.place_at-returns-in-Some
-place_at-returns-in-Some t c =
+pub fitting::place_at-returns-in-Some : goal.fitting::place_at-returns-in-Some
+fitting::place_at-returns-in-Some t c =
     answers_by _ _ _ (place-sides c.args.seen.now (tree c.args.item.now) (tree c.in-Some.left.now) _ c.args.tuple.now c.args.place.now c.in-Some.ensures) c.left_place.ensures
 
-pub through-loop-tuple-init : goal.through-loop-tuple-init
-through-loop-tuple-init t c =
+pub keys::through-loop-tuple-init : goal.keys::through-loop-tuple-init
+keys::through-loop-tuple-init t c =
     selected_from c.args.seen.now (tree c.args.item.now) _ c.args.place.now c.args.tuples c.walk-left.result c.selecting.result c.args.found.now.items c.selecting.ensures c.walk-left.ensures
 
-pub keep-returns-then-not-has_part : goal.keep-returns-then-not-has_part
-keep-returns-then-not-has_part t c = unconditioned c.args.at c.args.seen.now (option_part c.args.condition.now) c.args.width c.args.found (sym c.has_part.ensures ∙ c.if-not-has_part.true) ∙ ap Ok (sym c.as_keys.ensures)
+pub keys::keep-returns-then-not-has_part : goal.keys::keep-returns-then-not-has_part
+keys::keep-returns-then-not-has_part t c = unconditioned c.args.at c.args.seen.now (option_part c.args.condition.now) c.args.width c.args.found (sym c.has_part.ensures ∙ c.if-not-has_part.true) ∙ ap Ok (sym c.as_keys.ensures)
+
+pub fitting::components-returns-in_ok-here-in-len1-up : goal.fitting::components-returns-in_ok-here-in-len1-up
+fitting::components-returns-in_ok-here-in-len1-up t c =
+    answers_by _ _ _
+    (ap (λ ms. component_places (span_of (tree c.args.whole.now)) c.args.seen.now (tree c.args.first.now) (links_of c.args.more.now) ms c.args.place.now)
+    (sym c.as_slice.ensures.members ∙ split_first c.as_slice.result.now c.member-item.result c.in-len1-up.len_at_least c.member-item.is)
+    ∙ ap
+    (component_places (span_of (tree c.args.whole.now)) c.args.seen.now (tree c.args.first.now) (links_of c.args.more.now) (c.member-item.result ∷ take (length c.as_slice.result.now - 1) (drop 1 c.as_slice.result.now)))
+    (sym c.in_ok-here-in-len1-up.ensures))
+    c.fit_all.ensures

@@ -1,0 +1,141 @@
+use Rattle.std.specs.Prelude.{◌≡◌, ◌≤◌, ◌+◌, ◌*◌, ◌^◌, drop, [], ◌∷◌, length, None, IfSome, unsigned_abs}
+use Rattle.net_tree.specs.View.{tree, links_of, braces_of, option_part}
+use Rattle.net_tree.specs.Weights.{weight, weights, braces_weight, part_weight}
+use Rattle.net_tree.specs.Spans.{span_of}
+use Rattle.net_eval.specs.Outcomes.{each}
+use Rattle.net_eval.specs.Rows.{onward, kept, gathered_over}
+use Rattle.net_eval.specs.Values as values
+use Rattle.net_eval.proofs.+eval.Given as goal
+
+abbrev pub decreases-eval::evaluate : goal.decreases-eval::evaluate
+decreases-eval::evaluate l = 12 * weight (tree l.expr.now)
+
+abbrev pub decreases-eval::subscripted : goal.decreases-eval::subscripted
+decreases-eval::subscripted l = 12 * (weight (tree l.first.now) + weights (links_of l.more.now)) + 3
+
+abbrev pub decreases-eval::tupled : goal.decreases-eval::tupled
+decreases-eval::tupled l = 12 * (weight (tree l.first.now) + weights (links_of l.more.now)) + 3
+
+abbrev pub decreases-eval::negated : goal.decreases-eval::negated
+decreases-eval::negated l = 12 * weight (tree l.condition.now) + 1
+
+abbrev pub decreases-eval::braced : goal.decreases-eval::braced
+decreases-eval::braced l = 12 * braces_weight (braces_of l.braces.now) + 3
+
+abbrev pub decreases-eval::signed : goal.decreases-eval::signed
+decreases-eval::signed l = 12 * weight (tree l.operand.now) + 1
+
+abbrev pub decreases-eval::reduced : goal.decreases-eval::reduced
+decreases-eval::reduced l = 12 * (braces_weight (braces_of l.braces.now) + weight (tree l.body.now)) + 3
+
+abbrev pub decreases-eval::chain : goal.decreases-eval::chain
+decreases-eval::chain l = 12 * (weight (tree l.first.now) + weights (links_of l.more.now)) + 3
+
+abbrev pub decreases-eval::choice : goal.decreases-eval::choice
+decreases-eval::choice l = 12 * (weight (tree l.condition.now) + weight (tree l.branch.now) + part_weight (option_part l.otherwise.now)) + 2
+
+abbrev pub decreases-eval::other_branch : goal.decreases-eval::other_branch
+decreases-eval::other_branch l = 12 * part_weight (option_part l.otherwise.now) + 1
+
+abbrev pub decreases-eval::evaluate_all : goal.decreases-eval::evaluate_all
+decreases-eval::evaluate_all l = 12 * (weight (tree l.first.now) + weights (links_of l.more.now)) + 2
+
+abbrev pub decreases-eval::evaluate_more : goal.decreases-eval::evaluate_more
+decreases-eval::evaluate_more l = 12 * weights (links_of l.more.now) + 1
+
+abbrev pub decreases-eval::chained : goal.decreases-eval::chained
+decreases-eval::chained l = 12 * weights (links_of l.links.now) + 1
+
+abbrev pub decreases-eval::joined : goal.decreases-eval::joined
+decreases-eval::joined l = 12 * weight (tree l.link.now.operand) + 1
+
+abbrev pub decreases-keys::index : goal.decreases-keys::index
+decreases-keys::index l = 12 * braces_weight (braces_of l.braces.now)
+
+abbrev pub decreases-keys::index_items : goal.decreases-keys::index_items
+decreases-keys::index_items l = 12 * (weight (tree l.item.now) + weights (links_of l.more.now) + part_weight (option_part l.condition.now)) + 11
+
+abbrev pub decreases-keys::open : goal.decreases-keys::open
+decreases-keys::open l = 12 * (weight (tree l.item.now) + weights (links_of l.more.now) + part_weight (option_part l.condition.now)) + 10
+
+abbrev pub decreases-keys::select : goal.decreases-keys::select
+decreases-keys::select l = 12 * (weight (tree l.item.now) + weights (links_of l.more.now) + part_weight (option_part l.condition.now)) + 9
+
+abbrev pub decreases-keys::collect : goal.decreases-keys::collect
+decreases-keys::collect l = 12 * (weight (tree l.item.now) + weights (links_of l.more.now)) + 8
+
+abbrev pub decreases-fitting::fit_all : goal.decreases-fitting::fit_all
+decreases-fitting::fit_all l = 12 * (weight (tree l.component.now) + weights (links_of l.more.now)) + 2
+
+abbrev pub decreases-keys::through : goal.decreases-keys::through
+decreases-keys::through l = 12 * (weight (tree l.item.now) + weights (links_of l.more.now)) + 7
+
+abbrev pub decreases-keys::onward : goal.decreases-keys::onward
+decreases-keys::onward l = 12 * (weight (tree l.item.now) + weights (links_of l.more.now)) + 6
+
+abbrev pub decreases-keys::walk : goal.decreases-keys::walk
+decreases-keys::walk l = 12 * weights (links_of l.items.now)
+
+abbrev pub decreases-keys::walk_item : goal.decreases-keys::walk_item
+decreases-keys::walk_item l = 12 * (weight (tree l.item.now) + weights (links_of l.more.now)) + 9
+
+abbrev pub decreases-keys::item_tuples : goal.decreases-keys::item_tuples
+decreases-keys::item_tuples l = 12 * weight (tree l.item.now) + 2
+
+abbrev pub decreases-keys::choose : goal.decreases-keys::choose
+decreases-keys::choose l = 12 * weight (tree l.set.now) + 1
+
+abbrev pub decreases-fitting::place_at : goal.decreases-fitting::place_at
+decreases-fitting::place_at l = 12 * weight (tree l.item.now) + 1
+
+abbrev pub decreases-fitting::left_place : goal.decreases-fitting::left_place
+decreases-fitting::left_place l = 12 * weight (tree l.left.now) + 2
+
+abbrev pub decreases-fitting::alone : goal.decreases-fitting::alone
+decreases-fitting::alone l = 12 * weight (tree l.left.now) + 1
+
+abbrev pub decreases-fitting::components : goal.decreases-fitting::components
+decreases-fitting::components l = 12 * (weight (tree l.first.now) + weights (links_of l.more.now)) + 3
+
+abbrev pub decreases-fitting::places : goal.decreases-fitting::places
+decreases-fitting::places l = 12 * weights (links_of l.links.now)
+
+abbrev pub decreases-fitting::fit : goal.decreases-fitting::fit
+decreases-fitting::fit l = 12 * weight (tree l.component.now) + 1
+
+abbrev pub decreases-keys::keep : goal.decreases-keys::keep
+decreases-keys::keep l = 12 * part_weight (option_part l.condition.now) + 2
+
+abbrev pub decreases-keys::holds : goal.decreases-keys::holds
+decreases-keys::holds l = 12 * part_weight (option_part l.condition.now) + 1
+
+abbrev pub decreases-eval::gather : goal.decreases-eval::gather
+decreases-eval::gather l = 12 * weight (tree l.body.now) + 1
+
+-- what is left, behind what was found, comes to the same as all
+abbrev pub invariant-eval::evaluate_more-loop-link : goal.invariant-eval::evaluate_more-loop-link
+invariant-eval::evaluate_more-loop-link l =
+    values.values l.seen l.scope (links_of (drop l.link-index l.more)) l.found.items ≡ values.values l.fn.seen l.fn.scope (links_of l.fn.more) (l.fn.first ∷ [])
+
+abbrev pub invariant-eval::chained-loop-link : goal.invariant-eval::chained-loop-link
+invariant-eval::chained-loop-link l =
+    values.chained (span_of (tree l.fn.whole)) l.fn.seen l.fn.scope (links_of (drop l.link-index l.links)) l.value ≡ values.chained (span_of (tree l.fn.whole)) l.fn.seen l.fn.scope (links_of l.fn.links) l.fn.value
+
+abbrev pub invariant-keys::through-loop-tuple : goal.invariant-keys::through-loop-tuple
+invariant-keys::through-loop-tuple l =
+    each (onward (values.place l.fn.seen (tree l.fn.item)) (values.walk l.fn.at l.fn.seen (links_of l.fn.more)) l.fn.place) l.left l.found.items
+    ≡ each (onward (values.place l.fn.seen (tree l.fn.item)) (values.walk l.fn.at l.fn.seen (links_of l.fn.more)) l.fn.place) l.fn.tuples l.fn.found.items
+
+abbrev pub decreases-keys::through-loop-tuple : goal.decreases-keys::through-loop-tuple
+decreases-keys::through-loop-tuple l = length l.left
+
+abbrev pub invariant-keys::keep-loop-row : goal.invariant-keys::keep-loop-row
+invariant-keys::keep-loop-row l =
+    kept (λ q. values.holds l.fn.at l.fn.seen q (option_part l.fn.condition)) (drop l.row-index l.rows) l.kept.items ≡ kept (λ q. values.holds l.fn.at l.fn.seen q (option_part l.fn.condition)) l.fn.found []
+
+abbrev pub invariant-eval::gather-loop-row : goal.invariant-eval::gather-loop-row
+invariant-eval::gather-loop-row l = record {
+  same : gathered_over (span_of (tree l.fn.whole)) l.fn.reduction (λ q. values.value l.fn.seen q (tree l.fn.body)) (drop l.row-index l.rows) l.so_far
+      ≡ gathered_over (span_of (tree l.fn.whole)) l.fn.reduction (λ q. values.value l.fn.seen q (tree l.fn.body)) l.fn.keys.rows None;
+  small : IfSome l.so_far (λ a. unsigned_abs a ≤ l.row-index * 2 ^ 63);
+}

@@ -1,0 +1,292 @@
+//! The keys of braces, found by walks over their items.
+
+ghost use Rattle.std.specs.Prelude.{[], Ok};
+ghost use Rattle.net_tree.specs.Spans as trees;
+ghost use Rattle.net_tree.specs.View.{tree, braces_of, links_of, option_part};
+ghost use Rattle.net_eval.specs.Items as items;
+ghost use Rattle.net_eval.specs.Outcomes.{Answers, Leaves, and_then, each};
+ghost use Rattle.net_eval.specs.Rows as rows;
+ghost use Rattle.net_eval.specs.Values as values;
+ghost use Rattle.net_eval.specs.Walks as walks;
+
+use crate::eval::{evaluate, evaluate_more};
+use crate::fault::EvalFault;
+use crate::fitting::place_at;
+use crate::item::{any_in, chosen, has_part, is_set, sides_of, tuples_of};
+use crate::list::{listed, no_items};
+use crate::operator::truth_at;
+use crate::row::{Keys, Place, Row, as_keys, finish, start};
+use crate::scope::Scope;
+use crate::selecting::selecting;
+use crate::value::Value;
+use crate::width::width;
+use crate::world::Seen;
+use net_lex::{Boxed, Items, Span};
+use net_sets::{Held, Tuple};
+use net_tree::{Braces, Expr, Link, Part, span_between};
+use std::alloc::Global;
+
+/// The keys of braces, each with the dummies in scope at it.
+#[cycle(eval)]
+#[tactic(auto, using(net_tree::proofs::Views::views))]
+pub(crate) fn index<'w, 's>(
+    alloc: Global,
+    seen: &Seen<'w, 's>,
+    scope: &Scope<'s>,
+    braces: &Braces<'s>,
+) -> Result<Keys<'s>, EvalFault<'s>>
+    ensures { Answers (values.index seen.now scope.now (braces_of braces.now)) result }
+{
+    match braces {
+        Braces::Empty(open, condition, close) => {
+            no_items(alloc, span_between(open, close), has_part(condition))
+        }
+        Braces::Filled(open, series, condition, close) => index_items(
+            alloc,
+            seen,
+            scope,
+            span_between(open, close),
+            &series.first,
+            series.more.as_slice(),
+            condition,
+        ),
+    }
+}
+
+#[cycle(eval)]
+fn index_items<'w, 's>(
+    alloc: Global,
+    seen: &Seen<'w, 's>,
+    scope: &Scope<'s>,
+    at: Span,
+    item: &Expr<'s>,
+    more: &[Link<'s>],
+    condition: &Option<Boxed<Part<'s>>>,
+) -> Result<Keys<'s>, EvalFault<'s>>
+    ensures { Answers (walks.index_items at seen.now scope.now (tree item.now) (links_of more.now) (option_part condition.now)) result }
+{
+    match sides_of(item) {
+        Some((left, set)) => {
+            let tuples = choose(alloc, seen, scope, item, left, set)?;
+            select(alloc, seen, scope, at, item, more, condition, tuples)
+        }
+        None => {
+            let value = evaluate(alloc, seen, scope, item)?;
+            open(alloc, seen, scope, at, item, more, condition, value)
+        }
+    }
+}
+
+/// Braces without `in` index where their first item is a set.
+#[cycle(eval)]
+fn open<'w, 's>(
+    alloc: Global,
+    seen: &Seen<'w, 's>,
+    scope: &Scope<'s>,
+    at: Span,
+    item: &Expr<'s>,
+    more: &[Link<'s>],
+    condition: &Option<Boxed<Part<'s>>>,
+    value: Value<'w, 's>,
+) -> Result<Keys<'s>, EvalFault<'s>>
+    ensures { Answers (walks.opened_keys at seen.now scope.now (tree item.now) (links_of more.now) (option_part condition.now) value.entry) result }
+{
+    if any_in(more) || is_set(&value) {
+        let tuples = tuples_of(at, value)?;
+        select(alloc, seen, scope, at, item, more, condition, tuples)
+    } else {
+        let found = evaluate_more(alloc, seen, scope, value, more)?;
+        listed(alloc, at, scope, has_part(condition), found)
+    }
+}
+
+/// The keys that items lead to, and then those at which the condition holds.
+#[cycle(eval)]
+fn select<'w, 's>(
+    alloc: Global,
+    seen: &Seen<'w, 's>,
+    scope: &Scope<'s>,
+    at: Span,
+    item: &Expr<'s>,
+    more: &[Link<'s>],
+    condition: &Option<Boxed<Part<'s>>>,
+    tuples: Held<'w, 's>,
+) -> Result<Keys<'s>, EvalFault<'s>>
+    ensures { Answers (walks.walked at seen.now scope.now (tree item.now) (links_of more.now) (option_part condition.now) tuples.entry) result }
+{
+    let found = collect(alloc, seen, scope, at, item, more, tuples)?;
+    let width = width(alloc, at, seen, scope, item, more, found.as_slice())?;
+    keep(alloc, seen, at, condition, width, found)
+}
+
+/// The keys that items lead to.
+#[cycle(eval)]
+fn collect<'w, 's>(
+    alloc: Global,
+    seen: &Seen<'w, 's>,
+    scope: &Scope<'s>,
+    at: Span,
+    item: &Expr<'s>,
+    more: &[Link<'s>],
+    tuples: Held<'w, 's>,
+) -> Result<Items<Row<'s>>, EvalFault<'s>>
+    ensures { Answers (each (rows.onward (values.place seen.now (tree item.now)) (values.walk at seen.now (links_of more.now)) (rows.start scope.now)) tuples.entry []) result }
+{
+    let place = start(alloc, scope)?;
+    let mut found = Vec::new(alloc);
+    through(alloc, seen, at, item, more, &place, tuples, &mut found)?;
+    Ok(Items::new(found))
+}
+
+/// The rest of the walk behind each tuple of an item's set. Those that the dummies in scope leave out are passed by.
+#[cycle(eval)]
+fn through<'w, 's>(
+    alloc: Global,
+    seen: &Seen<'w, 's>,
+    at: Span,
+    item: &Expr<'s>,
+    more: &[Link<'s>],
+    place: &Place<'s>,
+    tuples: Held<'w, 's>,
+    found: &mut Vec<Row<'s>>,
+) -> Result<(), EvalFault<'s>>
+    ensures { Leaves (each (rows.onward (values.place seen.now (tree item.now)) (values.walk at seen.now (links_of more.now)) place.now) tuples.entry found.old.items) result found.new.items }
+{
+    let mut left = tuples.walk(selecting(seen, &place.scope, item));
+    while let Some(tuple) = left.next() {
+        onward(alloc, seen, at, item, more, place, tuple, found)?;
+    }
+    Ok(())
+}
+
+/// The rest of the walk behind one tuple, if the tuple agrees.
+#[cycle(eval)]
+fn onward<'w, 's>(
+    alloc: Global,
+    seen: &Seen<'w, 's>,
+    at: Span,
+    item: &Expr<'s>,
+    more: &[Link<'s>],
+    place: &Place<'s>,
+    tuple: &Tuple<'s>,
+    found: &mut Vec<Row<'s>>,
+) -> Result<(), EvalFault<'s>>
+    ensures { Leaves (rows.onward (values.place seen.now (tree item.now)) (values.walk at seen.now (links_of more.now)) place.now tuple.now found.old.items) result found.new.items }
+{
+    match place_at(alloc, seen, item, tuple, place)? {
+        None => Ok(()),
+        Some(next) => walk(alloc, seen, at, more, next, found),
+    }
+}
+
+#[cycle(eval)]
+fn walk<'w, 's>(
+    alloc: Global,
+    seen: &Seen<'w, 's>,
+    at: Span,
+    items: &[Link<'s>],
+    place: Place<'s>,
+    found: &mut Vec<Row<'s>>,
+) -> Result<(), EvalFault<'s>>
+    ensures { Leaves (values.walk at seen.now (links_of items.now) place.entry found.old.items) result found.new.items }
+{
+    match items {
+        [] => finish(at, place, found),
+        [link, rest @ ..] => walk_item(alloc, seen, at, &link.operand, rest, place, found),
+    }
+}
+
+#[cycle(eval)]
+fn walk_item<'w, 's>(
+    alloc: Global,
+    seen: &Seen<'w, 's>,
+    at: Span,
+    item: &Expr<'s>,
+    more: &[Link<'s>],
+    place: Place<'s>,
+    found: &mut Vec<Row<'s>>,
+) -> Result<(), EvalFault<'s>>
+    ensures { Leaves (and_then (walks.item_tuples at seen.now place.entry.scope (tree item.now)) (λ ts. each (rows.onward (values.place seen.now (tree item.now)) (values.walk at seen.now (links_of more.now)) place.entry) ts found.old.items)) result found.new.items }
+{
+    let tuples = item_tuples(alloc, seen, at, &place.scope, item)?;
+    through(alloc, seen, at, item, more, &place, tuples, found)
+}
+
+#[cycle(eval)]
+fn item_tuples<'w, 's>(
+    alloc: Global,
+    seen: &Seen<'w, 's>,
+    at: Span,
+    scope: &Scope<'s>,
+    item: &Expr<'s>,
+) -> Result<Held<'w, 's>, EvalFault<'s>>
+    ensures { Answers (walks.item_tuples at seen.now scope.now (tree item.now)) result }
+{
+    match sides_of(item) {
+        Some((left, set)) => choose(alloc, seen, scope, item, left, set),
+        None => {
+            let value = evaluate(alloc, seen, scope, item)?;
+            tuples_of(at, value)
+        }
+    }
+}
+
+#[cycle(eval)]
+fn choose<'w, 's>(
+    alloc: Global,
+    seen: &Seen<'w, 's>,
+    scope: &Scope<'s>,
+    item: &Expr<'s>,
+    left: &Expr<'s>,
+    set: &Expr<'s>,
+) -> Result<Held<'w, 's>, EvalFault<'s>>
+    ensures { Answers (and_then (values.value seen.now scope.now (tree set.now)) (items.chosen (trees.span_of (tree item.now)) (items.needed (tree left.now)))) result }
+{
+    let value = evaluate(alloc, seen, scope, set)?;
+    chosen(item, left, value)
+}
+
+/// The keys at which the condition holds.
+#[cycle(eval)]
+fn keep<'w, 's>(
+    alloc: Global,
+    seen: &Seen<'w, 's>,
+    at: Span,
+    condition: &Option<Boxed<Part<'s>>>,
+    width: u8,
+    found: Items<Row<'s>>,
+) -> Result<Keys<'s>, EvalFault<'s>>
+    ensures { Answers (and_then (rows.kept (λ q. values.holds at seen.now q (option_part condition.now)) found.entry []) (λ left. Ok (rows.keys width left))) result }
+{
+    if !has_part(condition) {
+        return Ok(as_keys(width, found));
+    }
+    let mut kept = Vec::new(alloc);
+    let rows = found.as_slice();
+    for row in rows {
+        if holds(alloc, seen, at, &row.scope, condition)? {
+            kept.push(row.again(alloc)?)?;
+        }
+    }
+    Ok(as_keys(width, Items::new(kept)))
+}
+
+#[cycle(eval)]
+#[tactic(auto, using(net_tree::proofs::Views::views))]
+fn holds<'w, 's>(
+    alloc: Global,
+    seen: &Seen<'w, 's>,
+    at: Span,
+    scope: &Scope<'s>,
+    condition: &Option<Boxed<Part<'s>>>,
+) -> Result<bool, EvalFault<'s>>
+    ensures { Answers (values.holds at seen.now scope.now (option_part condition.now)) result }
+{
+    match condition {
+        None => Ok(true),
+        Some(part) => {
+            let value = evaluate(alloc, seen, scope, &part.get().value)?;
+            truth_at(at, &value)
+        }
+    }
+}
