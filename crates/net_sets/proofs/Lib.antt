@@ -8,6 +8,7 @@ pub mod Unions
 pub mod Crossing
 pub mod Steps
 pub mod Listing
+pub mod InRange
 pub mod Chaining
 pub mod Indexed
 pub mod Walking

@@ -25,7 +25,7 @@ way_on_fits first last by way r = step (int_lt by (pos 0))
     step true e = way_up_fits last first way r.last_fits r.first_fits e
     step false e = way_up_fits first last way r.first_fits r.last_fits e
 
-some_step : (by : ℤ) → (by ≡ pos 0 → ⊥) → 0 < unsigned_abs by
+pub some_step : (by : ℤ) → (by ≡ pos 0 → ⊥) → 0 < unsigned_abs by
 some_step (pos zero) h = absurd (h refl)
 some_step (pos (suc n)) h = omega arith
 some_step (negsuc n) h = omega arith
