@@ -13,3 +13,4 @@ mod NameExamples
 mod SetExamples
 mod ListExamples
 mod IndexExamples
+mod SelectingExamples

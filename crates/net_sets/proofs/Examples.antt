@@ -1,10 +1,11 @@
 -- Texts, sets and ranges that are worked out.
-use Rattle.std.specs.Prelude.{◌≡◌, ℕ, true, false, [], ◌∷◌, pos, negsuc, codes}
+use Rattle.std.specs.Prelude.{◌≡◌, ℕ, true, false, [], ◌∷◌, None, Some, pos, negsuc, codes}
 use Rattle.std.proofs.Common.{refl}
 use Rattle.net_sets.specs.declared.member.Member.TheVariants.{Number, Name}
 use Rattle.net_sets.specs.Texts.{text_of}
 use Rattle.net_sets.specs.Sets.{Tuple, same_member}
-use Rattle.net_sets.specs.Operations.{union, difference, intersection, symmetric_difference, product, is_within}
+use Rattle.net_sets.specs.Operations.{union, difference, intersection, symmetric_difference, product, is_within, narrowest}
+use Rattle.net_sets.specs.Components.{sought}
 use Rattle.net_sets.specs.Ranges.{range, in_range}
 
 -- a name, and strings with either delimiter
@@ -81,3 +82,27 @@ between = refl
 
 past : in_range (pos 1) (pos 8) (pos 3) (pos 10) ≡ false
 past = refl
+
+-- tuples by a component
+pair : ℕ → ℕ → Tuple
+pair j k = Number (pos j) ∷ Number (pos k) ∷ []
+
+shortest : narrowest (pair 1 2 ∷ n 3 ∷ []) ≡ 1
+unfolding n pair
+shortest = refl
+
+none_shorter : narrowest [] ≡ 4
+none_shorter = refl
+
+by_second : sought (Some (1, Number (pos 3))) (pair 1 3 ∷ pair 1 2 ∷ pair 2 3 ∷ []) ≡ pair 1 3 ∷ pair 2 3 ∷ []
+unfolding pair
+by_second = refl
+
+-- not all have a second
+by_missing : sought (Some (1, Number (pos 3))) (pair 1 2 ∷ n 3 ∷ []) ≡ pair 1 2 ∷ n 3 ∷ []
+unfolding n pair
+by_missing = refl
+
+by_none : sought None (pair 1 2 ∷ pair 3 4 ∷ []) ≡ pair 1 2 ∷ pair 3 4 ∷ []
+unfolding pair
+by_none = refl
