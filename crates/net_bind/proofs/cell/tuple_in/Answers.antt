@@ -1,0 +1,9 @@
+use Rattle.std.proofs.Common.{rules, arith}
+use Rattle.net_bind.proofs.Cells.{whole, full}
+use Rattle.net_bind.proofs.cell.tuple_in.Goals as goal
+
+pub returns-then-not-has_room : goal.returns-then-not-has_room
+returns-then-not-has_room c = search (rules, arith, full c.loop-cell.cell-index c.args.cells.now c.loop-cell.tuple c.loop-cell.invariant.taken)
+
+pub returns : goal.returns
+returns c = search (rules, arith, whole c.loop-cell.cell-index c.args.cells.now c.loop-cell.tuple c.loop-cell.invariant.taken)

@@ -1,0 +1,90 @@
+//! What data statements give to declared names.
+
+ghost use Rattle.std.specs.Prelude.{◌≡◌};
+
+use crate::cell::Cell;
+use net_data::Members;
+use std::marker::Model;
+
+/// Words one after the other, which contracts see as their tokens.
+#[derive(Drop)]
+pub(crate) struct Line<'m, 't, 's> {
+    cells: &'m [Cell<'t, 's>],
+}
+
+impl<'m, 't, 's> Model for Line<'m, 't, 's> {
+    ghost use Rattle.std.specs.Prelude.{List};
+    ghost use Rattle.net_lex.specs.declared.token.Token.{Token};
+
+    ghost Value = { List Token };
+
+    ghost view = { λ line. line.cells.now };
+}
+
+impl<'m, 't, 's> Line<'m, 't, 's> {
+    pub(crate) fn new(cells: &'m [Cell<'t, 's>]) -> Line<'m, 't, 's>
+        ensures { result ≡ cells.entry.now }
+    {
+        Line { cells }
+    }
+
+    pub(crate) fn cells(&self) -> &'m [Cell<'t, 's>]
+        ensures { result.now ≡ self.now }
+    {
+        self.cells
+    }
+}
+
+/// Groups of cells, each the members of a key and values behind it.
+#[derive(Drop)]
+pub(crate) struct Groups<'m, 't, 's> {
+    /// The place among the declared names of that which tells how many members a key has.
+    pub(crate) leader: usize,
+    /// How many values stand behind each key.
+    pub(crate) values: usize,
+    /// Which of them is meant, counted from 0.
+    pub(crate) place: usize,
+    pub(crate) cells: Line<'m, 't, 's>,
+}
+
+/// Rows of a table, each a member and a value for each column.
+#[derive(Drop)]
+pub(crate) struct Grid<'m, 't, 's> {
+    /// Whether the column's member comes first in a key.
+    pub(crate) transposed: bool,
+    pub(crate) columns: Line<'m, 't, 's>,
+    pub(crate) cells: Line<'m, 't, 's>,
+}
+
+/// What a statement says of a name.
+#[derive(Drop)]
+pub(crate) enum Given<'m, 't, 's> {
+    /// The members and tuples of a set.
+    Members(Members<'t, 's>),
+    Groups(Groups<'m, 't, 's>),
+    Grid(Grid<'m, 't, 's>),
+}
+
+/// A name in a data statement, and what the statement says of it.
+#[derive(Drop)]
+pub(crate) struct Mention<'m, 't, 's> {
+    pub(crate) word: Cell<'t, 's>,
+    /// The value that stands behind `default`.
+    pub(crate) default: Option<Cell<'t, 's>>,
+    pub(crate) given: Given<'m, 't, 's>,
+}
+
+/// What is said of one declared name, statement by statement; contracts see the list of it.
+#[derive(Drop)]
+pub(crate) struct Mentions<'m, 't, 's> {
+    mentions: Vec<Mention<'m, 't, 's>>,
+}
+
+impl<'m, 't, 's> Model for Mentions<'m, 't, 's> {
+    ghost use Rattle.std.specs.Prelude.{List};
+    ghost use Rattle.net_bind.specs.declared.given.Mention.{Mention};
+
+    ghost Value = { List Mention };
+
+    ghost view = { λ all. all.mentions.items };
+}

@@ -1,0 +1,137 @@
+//! The declared sets and parameters, found by their names.
+
+ghost use Rattle.std.specs.Prelude.{◌≡◌, ◌++◌, ◌∷◌, [], List, ℕ, Some, None, OnOk, IfOk, map, if◌then◌else◌};
+ghost use Rattle.std.specs.Str.{bytes_eq};
+ghost use Rattle.net_tree.specs.View.{model, declaration_of};
+ghost use Rattle.net_bind.specs.Kept.{told, or_else};
+ghost use Rattle.net_bind.specs.Names as names;
+ghost use Rattle.net_bind.specs.Outcomes.{Answers};
+
+use crate::cell::Cell;
+use crate::fault::{BindDefect, BindFault, refuse_in};
+use net_eval::Detail;
+use net_lex::{Excerpt, Language};
+use net_tree::Decl;
+use std::alloc::{AllocError, Global};
+use std::collections::BTreeMap;
+use std::marker::Model;
+
+/// The declared names in order, each with whether it is a set's. They are found in an ordered map, which no text can make
+/// slow.
+#[derive(Drop)]
+pub(crate) struct Names<'s> {
+    names: Vec<(Excerpt<'s>, bool)>,
+    places: BTreeMap<&'s str, (usize, bool)>,
+}
+
+impl<'s> Model for Names<'s> {
+    ghost use Rattle.std.specs.Prelude.{List, ℕ, Bool};
+    ghost use Rattle.net_bind.specs.Kept.{IsKept};
+
+    ghost Value = { List (List ℕ × Bool) };
+
+    ghost view = { λ n. n.names.items };
+
+    ghost invariant = { λ n. IsKept n.names.items n.places };
+}
+
+fn insert<'s>(
+    places: &mut BTreeMap<&'s str, (usize, bool)>,
+    name: &Excerpt<'s>,
+    place: usize,
+    is_set: bool,
+) -> Result<(), AllocError>
+    ensures { OnOk result ((q : List ℕ) → told places.new q ≡ if bytes_eq name.now q then Some (place, is_set) else told places.old q) }
+{
+    match places.insert(name.as_str(), (place, is_set)) {
+        Ok(_) => Ok(()),
+        Err(_) => Err(AllocError),
+    }
+}
+
+/// Tells the place of a name that has none so far.
+fn remember<'s>(
+    places: &mut BTreeMap<&'s str, (usize, bool)>,
+    name: &Excerpt<'s>,
+    place: usize,
+    is_set: bool,
+) -> Result<(), AllocError>
+    ensures { OnOk result ((q : List ℕ) → told places.new q ≡ or_else (told places.old q) (if bytes_eq name.now q then Some (place, is_set) else None)) }
+{
+    match places.get(&name.as_str()) {
+        Some(_) => Ok(()),
+        None => insert(places, name, place, is_set),
+    }
+}
+
+impl<'s> Names<'s> {
+    fn new(alloc: Global) -> Names<'s>
+        ensures { result ≡ [] }
+    {
+        Names {
+            names: Vec::new(alloc),
+            places: BTreeMap::new(alloc),
+        }
+    }
+
+    /// These names, and one more behind them.
+    fn with(self, name: &Excerpt<'s>, is_set: bool) -> Result<Names<'s>, AllocError>
+        ensures { IfOk result (λ all. all ≡ self.entry ++ (name.now, is_set) ∷ []) }
+    {
+        let Names {
+            mut names,
+            mut places,
+        } = self;
+        let place = names.len();
+        remember(&mut places, name, place, is_set)?;
+        names.push((name.again(), is_set))?;
+        Ok(Names { names, places })
+    }
+
+    /// The place of a name, and whether it is a set's.
+    fn find(&self, name: &Excerpt<'s>) -> Option<(usize, bool)>
+        ensures { result ≡ names.found_behind 0 self.now name.now }
+    {
+        self.places.get(&name.as_str()).copied()
+    }
+
+    /// The place of the set, or of the parameter, that a word of the data names.
+    pub(crate) fn target(&self, is_set: bool, word: &Cell<'_, 's>) -> Result<usize, BindFault<'s>>
+        ensures { Answers (names.target self.now is_set word.now) result }
+    {
+        let token = word.token();
+        match self.find(&token.text) {
+            Some((place, found)) if found == is_set => Ok(place),
+            _ => Err(refuse_in(
+                Language::Data,
+                BindDefect::NoSuchName,
+                token.span,
+                Detail::Named(token.text.again()),
+            )),
+        }
+    }
+}
+
+/// The names that declarations declare as sets and parameters.
+pub(crate) fn declared<'s>(alloc: Global, decls: &[Decl<'s>]) -> Result<Names<'s>, AllocError>
+    ensures { IfOk result (λ all. all ≡ names.declared (map declaration_of decls.now)) }
+{
+    let mut all = Names::new(alloc);
+    for decl in decls {
+        all = with_declared(all, decl)?;
+    }
+    Ok(all)
+}
+
+fn with_declared<'s>(all: Names<'s>, decl: &Decl<'s>) -> Result<Names<'s>, AllocError>
+    ensures { IfOk result (λ more. more ≡ all.entry ++ names.declared (declaration_of decl.now ∷ [])) }
+{
+    match decl {
+        Decl::Set(_, name, _, _) => all.with(&name.text, true),
+        Decl::Param(_, name, _, _, _) => all.with(&name.text, false),
+        Decl::Check(_, _, _, _, _) => Ok(all),
+        Decl::Node(_, _, _, _, _) => Ok(all),
+        Decl::Arc(_, _, _, _, _) => Ok(all),
+        Decl::Objective(_, _, _, _) => Ok(all),
+    }
+}
