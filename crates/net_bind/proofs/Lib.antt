@@ -1,2 +1,4 @@
 pub mod Cells
 pub mod Naming
+pub mod Items
+pub mod Lists

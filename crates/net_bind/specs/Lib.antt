@@ -5,3 +5,8 @@ pub mod Cells
 pub mod Names
 pub mod Kept
 pub mod Mentions
+pub mod SetPhrases
+pub mod SetData
+pub mod BoundSets
+pub mod Rows
+pub mod Restrictions

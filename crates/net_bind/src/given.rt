@@ -1,9 +1,10 @@
 //! What data statements give to declared names.
 
-ghost use Rattle.std.specs.Prelude.{◌≡◌};
+ghost use Rattle.std.specs.Prelude.{◌≡◌, ◌++◌, ◌∷◌, [], OnOk};
 
 use crate::cell::Cell;
 use net_data::Members;
+use std::alloc::AllocError;
 use std::marker::Model;
 
 /// Words one after the other, which contracts see as their tokens.
@@ -77,7 +78,7 @@ pub(crate) struct Mention<'m, 't, 's> {
 /// What is said of one declared name, statement by statement; contracts see the list of it.
 #[derive(Drop)]
 pub(crate) struct Mentions<'m, 't, 's> {
-    mentions: Vec<Mention<'m, 't, 's>>,
+    pub(crate) mentions: Vec<Mention<'m, 't, 's>>,
 }
 
 impl<'m, 't, 's> Model for Mentions<'m, 't, 's> {
@@ -87,4 +88,19 @@ impl<'m, 't, 's> Model for Mentions<'m, 't, 's> {
     ghost Value = { List Mention };
 
     ghost view = { λ all. all.mentions.items };
+}
+
+impl<'m, 't, 's> Mentions<'m, 't, 's> {
+    pub(crate) fn push(&mut self, mention: Mention<'m, 't, 's>) -> Result<(), AllocError>
+        ensures { OnOk result (self.new ≡ self.old ++ mention.entry ∷ []) }
+    {
+        self.mentions.push(mention)?;
+        Ok(())
+    }
+
+    pub(crate) fn as_slice(&self) -> &[Mention<'m, 't, 's>]
+        ensures { result.now ≡ self.now }
+    {
+        self.mentions.as_slice()
+    }
 }

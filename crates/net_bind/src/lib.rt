@@ -4,6 +4,14 @@
 mod cell;
 mod fault;
 mod given;
+mod group;
+mod item;
+mod laid;
+mod mention;
 mod names;
+mod restriction;
+mod row;
+mod set;
+mod set_phrase;
 
 pub use fault::{BindDefect, BindFault, Refusal};

@@ -88,6 +88,13 @@ impl<'s> Names<'s> {
         Ok(Names { names, places })
     }
 
+    /// The names in order.
+    pub(crate) fn names(&self) -> &[(Excerpt<'s>, bool)]
+        ensures { result.now ≡ self.now }
+    {
+        self.names.as_slice()
+    }
+
     /// The place of a name, and whether it is a set's.
     fn find(&self, name: &Excerpt<'s>) -> Option<(usize, bool)>
         ensures { result ≡ names.found_behind 0 self.now name.now }

@@ -1,0 +1,7 @@
+use Rattle.std.specs.Prelude.{◌≡◌, drop}
+use Rattle.net_bind.specs.Outcomes.{each}
+use Rattle.net_bind.specs.SetData.{with_statement, given_set}
+use Rattle.net_bind.proofs.set.given_set.Given as goal
+
+abbrev pub invariant-loop-mention : goal.invariant-loop-mention
+invariant-loop-mention l = each (with_statement l.fn.widths l.fn.dimension l.fn.is_assigned) (drop l.mention-index l.fn.mentions) l.found ≡ given_set l.fn.widths l.fn.dimension l.fn.is_assigned l.fn.mentions

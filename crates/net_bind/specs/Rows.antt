@@ -1,0 +1,96 @@
+-- What data statements say of a parameter: rows, each a key and its value.
+use Rattle.std.specs.Prelude.{ℕ, ◌+◌, Bool, true, false, ◌&&◌, ◌||◌, List, [], ◌∷◌, ◌++◌, length, nat_eq, nat_lt, slice_get, take, is_some, Option, None, Some, if◌then◌else◌, Ok}
+use Rattle.net_lex.specs.declared.language.Language.{Language}
+use Rattle.net_lex.specs.declared.language.Language.TheVariants.{Data}
+use Rattle.net_lex.specs.declared.span.Span.{Span}
+use Rattle.net_lex.specs.declared.token.Token.{Token}
+use Rattle.net_sets.specs.declared.member.Member.{Member}
+use Rattle.net_sets.specs.Limits.{tuples_limit}
+use Rattle.net_sets.specs.Sets.{Tuple, has, at_key}
+use Rattle.net_data.specs.Rows.{points}
+use Rattle.net_eval.specs.declared.fault.Detail.TheVariants.{Nothing}
+use Rattle.net_eval.specs.declared.fault.EvalDefect.TheVariants.{Arity, OutsideSet, TooMany}
+use Rattle.net_eval.specs.Worlds.{reference}
+use Rattle.net_bind.specs.declared.fault.BindDefect.TheVariants.{DoubleValue, Value}
+use Rattle.net_bind.specs.declared.given.Given.{Given}
+use Rattle.net_bind.specs.declared.given.Given.TheVariants as given
+use Rattle.net_bind.specs.declared.given.Mention.{Mention}
+use Rattle.net_bind.specs.Cells.{member_in, tuple_in}
+use Rattle.net_bind.specs.Outcomes.{Outcome, and_then, each, refused_as, refused_there}
+use Rattle.net_bind.specs.SetData.{begins_at, whole_groups, cut, told_by, agrees, doubled}
+
+-- the values of a parameter, each with its key, and where the values that data give stand
+abbrev pub Table : Type 0
+Table = List (Tuple × Member)
+
+-- what statements gave so far: values with their places, and the default
+abbrev pub Taken : Type 0
+Taken = Table × List Span
+
+-- a value more, of which there are not too many
+abbrev pub with_value : Language → Span → Tuple → Member → Table → Outcome Table
+with_value text at key m t = if nat_lt (length t) tuples_limit then Ok (t ++ (key, m) ∷ []) else refused_as text (Value TooMany) at Nothing
+
+-- a row for a key that has no value yet, and is in the index list
+abbrev pub with_row : Token → Option ℕ → List Tuple → List Token → Token → Taken → Outcome Taken
+with_row word n index key value t =
+    if is_some (at_key t.0 (tuple_in key)) then refused_as Data DoubleValue (begins_at value.span key) (reference word.text n (tuple_in key))
+    else if has index (tuple_in key) then and_then (with_value Data (begins_at value.span key) (tuple_in key) (member_in value) t.0) (λ u. Ok (u, t.1 ++ value.span ∷ []))
+    else refused_as Data (Value OutsideSet) (begins_at value.span key) (reference word.text n (tuple_in key))
+
+-- a cell that gives a value; a point gives none
+abbrev pub with_cell : Token → Option ℕ → List Tuple → List Token → Option Token → Taken → Outcome Taken
+with_cell word n index key None t = Ok t
+with_cell word n index key (Some value) t = if points value.kind then Ok t else with_row word n index key value t
+
+-- a group: the members of a key, and values of which one is meant
+abbrev pub with_group : Token → Option ℕ → List Tuple → (keys place : ℕ) → List Token → Taken → Outcome Taken
+with_group word n index keys place g t = with_cell word n index (take keys g) (slice_get g (keys + place)) t
+
+abbrev pub pair_of : Bool → Token → Token → List Token
+pair_of false row column = row ∷ column ∷ []
+pair_of true row column = column ∷ row ∷ []
+
+-- the cells of a table's row, column by column
+abbrev pub across : Token → Option ℕ → List Tuple → Bool → Token → List Token → List Token → Taken → Outcome Taken
+across word n index transposed row [] cells t = Ok t
+across word n index transposed row (c ∷ cs) [] t = Ok t
+across word n index transposed row (c ∷ cs) (cell ∷ cells) t =
+    and_then (with_cell word n index (pair_of transposed row c) (Some cell) t) (across word n index transposed row cs cells)
+
+-- a row of a table: a member, and a cell for each column
+abbrev pub with_line : Token → Option ℕ → List Tuple → Bool → List Token → List Token → Taken → Outcome Taken
+with_line word n index transposed columns [] t = Ok t
+with_line word n index transposed columns (row ∷ cells) t = across word n index transposed row columns cells t
+
+-- a table has two keys
+abbrev pub has_two : Token → ℕ → Outcome (Unit {0})
+has_two word n = if nat_eq n 2 then Ok tt else refused_there Arity word.span
+
+-- the shape of a statement: the number of its keys, and groups that are whole
+abbrev pub shaped : List ℕ → ℕ → Token → Given → Outcome (Unit {0})
+shaped widths n word (given.Members ts) = Ok tt
+shaped widths n word (given.Groups g) = and_then (agrees word (told_by widths g.leader n) n) (λ u. whole_groups word.span n (n + g.values) (cut (n + g.values) g.cells))
+shaped widths n word (given.Grid g) = and_then (has_two word n) (λ u. whole_groups word.span 1 (1 + length g.columns) (cut (1 + length g.columns) g.cells))
+
+-- its rows
+abbrev pub with_rows : Option ℕ → List Tuple → ℕ → Token → Given → Taken → Outcome Taken
+with_rows n index size word (given.Members ts) t = Ok t
+with_rows n index size word (given.Groups g) t = each (with_group word n index size g.place) (cut (size + g.values) g.cells) t
+with_rows n index size word (given.Grid g) t = each (with_line word n index g.transposed g.columns) (cut (1 + length g.columns) g.cells) t
+
+-- the default that data say so far
+abbrev pub either : Option Token → Option Token → Option Token
+either None later = later
+either (Some c) later = Some c
+
+-- what all statements of a parameter gave so far
+abbrev pub All : Type 0
+All = Taken × Option Token
+
+-- a statement more: its shape, then that there is no `:=` and no second default, then its rows
+abbrev pub with_statement : List ℕ → Option ℕ → List Tuple → ℕ → Bool → Mention → All → Outcome All
+with_statement widths n index size is_assigned m all =
+    and_then (shaped widths size m.word m.given) (λ u.
+    if is_assigned || (is_some m.default && is_some all.1) then doubled m.word
+    else and_then (with_rows n index size m.word m.given all.0) (λ t. Ok (t, either all.1 m.default)))

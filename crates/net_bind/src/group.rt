@@ -1,0 +1,197 @@
+//! Groups of cells: the members of a key, and values behind it.
+
+ghost use Rattle.std.specs.Prelude.{◌≡◌, ◌<◌, ◌≤◌, ◌+◌, min, map, nat_eq, length, take, drop, IfOk};
+ghost use Rattle.net_lex.specs.declared.language.Language.TheVariants.{Data as InData};
+ghost use Rattle.net_eval.specs.declared.fault.Detail.TheVariants.{Nothing};
+ghost use Rattle.net_bind.specs.declared.fault.BindFault.TheVariants.{Refused};
+ghost use Rattle.net_bind.specs.declared.fault.BindDefect.TheVariants.{Value as AValue};
+ghost use Rattle.net_data.specs.Rows.{points, groups};
+ghost use Rattle.net_bind.specs.SetData as set_data;
+ghost use Rattle.net_bind.specs.Outcomes.{Answers};
+
+use crate::cell::Cell;
+use crate::given::Line;
+use crate::fault::{BindDefect, BindFault, refuse_in};
+use net_eval::{Detail, EvalDefect};
+use net_lex::{Items, Kind, Language, Span};
+use std::alloc::{AllocError, Global};
+
+/// A fault in the data text, of the kind that expressions may have too.
+pub(crate) fn refuse_there<'s>(defect: EvalDefect, at: Span) -> BindFault<'s>
+    ensures { result ≡ Refused (record { defect = AValue defect; text = InData; at = at; detail = Nothing }) }
+{
+    refuse_in(Language::Data, BindDefect::Value(defect), at, Detail::Nothing)
+}
+
+/// Where a row begins.
+pub(crate) fn begins_at(at: Span, row: &[Cell<'_, '_>]) -> Span
+    ensures { result ≡ set_data.begins_at at row.now }
+{
+    match row {
+        [] => at,
+        [first, ..] => first.token().span,
+    }
+}
+
+pub(crate) fn is_point(kind: Kind) -> bool
+    ensures { result ≡ points kind }
+{
+    match kind {
+        Kind::Dot => true,
+        _ => false,
+    }
+}
+
+fn without_points<'s>(key: &[Cell<'_, 's>]) -> Result<(), BindFault<'s>>
+    ensures { Answers (set_data.without_points key.now) result }
+{
+    for cell in key {
+        let token = cell.token();
+        if is_point(token.kind) {
+            return Err(refuse_there(EvalDefect::Arity, token.span));
+        }
+    }
+    Ok(())
+}
+
+/// The first cells, no more than there are.
+pub(crate) fn front<'c, 't, 's>(count: usize, cells: &'c [Cell<'t, 's>]) -> &'c [Cell<'t, 's>]
+    ensures { result.now ≡ take count cells.entry.now }
+{
+    cells.get(..count).unwrap_or(cells)
+}
+
+fn is_whole(keys: usize, values: usize, len: usize) -> bool
+    ensures { result ≡ nat_eq len (keys + values) }
+{
+    len >= keys && len - keys == values
+}
+
+fn whole_group<'s>(
+    at: Span,
+    keys: usize,
+    values: usize,
+    group: &[Cell<'_, 's>],
+) -> Result<(), BindFault<'s>>
+    ensures { Answers (set_data.whole_group at keys (keys + values) group.now) result }
+{
+    if is_whole(keys, values, group.len()) {
+        without_points(front(keys, group))
+    } else {
+        Err(refuse_there(EvalDefect::Arity, begins_at(at, group)))
+    }
+}
+
+/// How many of so many cells are a key and the values behind it.
+fn reach(keys: usize, values: usize, len: usize) -> usize
+    ensures value { result ≡ min (keys + values) len }
+    ensures within { result ≤ len }
+{
+    if keys >= len {
+        len
+    } else {
+        keys + values.min(len - keys)
+    }
+}
+
+/// The cells behind the first ones.
+fn behind<'c, 't, 's>(count: usize, cells: &'c [Cell<'t, 's>]) -> &'c [Cell<'t, 's>]
+    requires { count ≤ length cells.now }
+    ensures { result.now ≡ drop count cells.entry.now }
+{
+    let (_, back) = cells.split_at(count);
+    back
+}
+
+fn groups_of<'c, 't, 's>(
+    alloc: Global,
+    keys: usize,
+    values: usize,
+    cells: &'c [Cell<'t, 's>],
+) -> Result<Items<Line<'c, 't, 's>>, AllocError>
+    requires { 0 < keys + values }
+    ensures { IfOk result (λ all. all ≡ groups (keys + values) cells.entry.now) }
+{
+    let mut all: Vec<Line<'c, 't, 's>> = Vec::new(alloc);
+    let mut left = cells;
+    while !left.is_empty() {
+        let size = reach(keys, values, left.len());
+        all.push(Line::new(front(size, left)))?;
+        left = behind(size, left);
+    }
+    Ok(Items::new(all))
+}
+
+/// The cells cut into groups, each a key and values behind it; the last one may be short.
+pub(crate) fn cut<'c, 't, 's>(
+    alloc: Global,
+    keys: usize,
+    values: usize,
+    cells: &'c [Cell<'t, 's>],
+) -> Result<Items<Line<'c, 't, 's>>, AllocError>
+    ensures { IfOk result (λ all. all ≡ set_data.cut (keys + values) cells.entry.now) }
+{
+    if keys == 0 && values == 0 {
+        let none: Vec<Line<'c, 't, 's>> = Vec::new(alloc);
+        Ok(Items::new(none))
+    } else {
+        groups_of(alloc, keys, values, cells)
+    }
+}
+
+/// Each group is as long as it has to be, and has no point in its key.
+pub(crate) fn whole_groups<'s>(
+    at: Span,
+    keys: usize,
+    values: usize,
+    groups: &[Line<'_, '_, 's>],
+) -> Result<(), BindFault<'s>>
+    ensures { Answers (set_data.whole_groups at keys (keys + values) groups.now) result }
+{
+    for group in groups {
+        whole_group(at, keys, values, group.cells())?;
+    }
+    Ok(())
+}
+
+/// Each row has so many members.
+pub(crate) fn all_of_size<'s>(
+    at: Span,
+    size: usize,
+    rows: &[Items<Cell<'_, 's>>],
+) -> Result<(), BindFault<'s>>
+    ensures { Answers (set_data.all_of_size at size rows.now) result }
+{
+    for row in rows {
+        let cells = row.as_slice();
+        if cells.len() != size {
+            return Err(refuse_there(EvalDefect::Arity, begins_at(at, cells)));
+        }
+    }
+    Ok(())
+}
+
+fn copied<'t, 's>(alloc: Global, cells: &[Cell<'t, 's>]) -> Result<Items<Cell<'t, 's>>, AllocError>
+    ensures { IfOk result (λ all. all ≡ cells.now) }
+{
+    let mut all = Vec::new(alloc);
+    for cell in cells {
+        all.push(cell.again())?;
+    }
+    Ok(Items::new(all))
+}
+
+/// The keys of the groups.
+pub(crate) fn keys_of<'t, 's>(
+    alloc: Global,
+    keys: usize,
+    groups: &[Line<'_, 't, 's>],
+) -> Result<Items<Items<Cell<'t, 's>>>, AllocError>
+    ensures { IfOk result (λ all. all ≡ map (take keys) groups.now) }
+{
+    let mut all = Vec::new(alloc);
+    for group in groups {
+        all.push(copied(alloc, front(keys, group.cells()))?)?;
+    }
+    Ok(Items::new(all))
+}

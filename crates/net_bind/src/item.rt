@@ -1,0 +1,137 @@
+//! The items of a set's data, and its rows.
+
+ghost use Rattle.std.specs.Prelude.{◌≡◌, ◌++◌, ◌∷◌, [], IfOk};
+ghost use Rattle.net_bind.specs.SetData as set_data;
+
+use crate::cell::Cell;
+use crate::laid::cells_of;
+use net_data::{Cells, Members};
+use net_lex::Items;
+use std::alloc::{AllocError, Global};
+
+/// A tuple of a set, or a member that stands alone.
+#[derive(Drop)]
+pub(crate) struct Item<'t, 's> {
+    pub(crate) is_tuple: bool,
+    pub(crate) members: Cells<'t, 's>,
+}
+
+/// Rows of a set, and the members that stand alone behind them and are no row yet.
+#[derive(Drop)]
+pub(crate) struct Rows<'t, 's> {
+    pub(crate) rows: Items<Items<Cell<'t, 's>>>,
+    pub(crate) alone: Items<Cell<'t, 's>>,
+}
+
+fn items_of<'t, 's>(
+    alloc: Global,
+    members: &Members<'t, 's>,
+) -> Result<Items<Item<'t, 's>>, AllocError>
+    ensures { IfOk result (λ all. all ≡ set_data.items members.now) }
+{
+    let mut all = Vec::new(alloc);
+    let mut left = members.again();
+    while let Some(members) = left.first() {
+        let is_tuple = left.begins_tuple();
+        all.push(Item { is_tuple, members })?;
+        left = left.rest();
+    }
+    Ok(Items::new(all))
+}
+
+fn with_row<'t, 's>(
+    rows: Items<Items<Cell<'t, 's>>>,
+    row: Items<Cell<'t, 's>>,
+) -> Result<Items<Items<Cell<'t, 's>>>, AllocError>
+    ensures { IfOk result (λ all. all ≡ rows.entry ++ row.entry ∷ []) }
+{
+    let mut all = rows.into_vec();
+    all.push(row)?;
+    Ok(Items::new(all))
+}
+
+/// The rows, with that of members that stand alone, if there are any.
+fn closed<'t, 's>(rows: Rows<'t, 's>) -> Result<Items<Items<Cell<'t, 's>>>, AllocError>
+    ensures { IfOk result (λ all. all ≡ set_data.closed rows.entry) }
+{
+    let Rows { rows, alone } = rows;
+    if alone.as_slice().is_empty() {
+        Ok(rows)
+    } else {
+        with_row(rows, alone)
+    }
+}
+
+/// So many members that stand alone are a row.
+fn opened<'t, 's>(
+    alloc: Global,
+    dimension: usize,
+    rows: Items<Items<Cell<'t, 's>>>,
+    alone: Items<Cell<'t, 's>>,
+) -> Result<Rows<'t, 's>, AllocError>
+    ensures { IfOk result (λ all. all ≡ set_data.opened dimension rows.entry alone.entry) }
+{
+    if dimension <= alone.as_slice().len() {
+        let rows = with_row(rows, alone)?;
+        Ok(Rows {
+            rows,
+            alone: Items::new(Vec::new(alloc)),
+        })
+    } else {
+        Ok(Rows { rows, alone })
+    }
+}
+
+fn joined<'t, 's>(
+    front: Items<Cell<'t, 's>>,
+    back: &[Cell<'t, 's>],
+) -> Result<Items<Cell<'t, 's>>, AllocError>
+    ensures { IfOk result (λ all. all ≡ front.entry ++ back.now) }
+{
+    let mut all = front.into_vec();
+    for cell in back {
+        all.push(cell.again())?;
+    }
+    Ok(Items::new(all))
+}
+
+fn with_item<'t, 's>(
+    alloc: Global,
+    dimension: usize,
+    rows: Rows<'t, 's>,
+    item: &Item<'t, 's>,
+) -> Result<Rows<'t, 's>, AllocError>
+    ensures { IfOk result (λ all. all ≡ set_data.with_item dimension rows.entry item.now) }
+{
+    let members = cells_of(alloc, item.members.again())?;
+    if item.is_tuple {
+        let rows = with_row(closed(rows)?, members)?;
+        Ok(Rows {
+            rows,
+            alone: Items::new(Vec::new(alloc)),
+        })
+    } else {
+        let Rows { rows, alone } = rows;
+        let alone = joined(alone, members.as_slice())?;
+        opened(alloc, dimension, rows, alone)
+    }
+}
+
+/// The rows of a set of this dimension: each tuple is one, and so are so many members that stand alone.
+pub(crate) fn set_rows<'t, 's>(
+    alloc: Global,
+    dimension: usize,
+    members: &Members<'t, 's>,
+) -> Result<Items<Items<Cell<'t, 's>>>, AllocError>
+    ensures { IfOk result (λ all. all ≡ set_data.set_rows dimension members.now) }
+{
+    let items = items_of(alloc, members)?;
+    let mut rows = Rows {
+        rows: Items::new(Vec::new(alloc)),
+        alone: Items::new(Vec::new(alloc)),
+    };
+    for item in items.as_slice() {
+        rows = with_item(alloc, dimension, rows, item)?;
+    }
+    closed(rows)
+}

@@ -1,0 +1,295 @@
+//! What the statements say, gathered for each declared name.
+
+ghost use Rattle.std.specs.Prelude.{◌≡◌, false, None, Ok, length};
+ghost use Rattle.net_data.specs.declared.statement.Statement.TheVariants as Statements;
+ghost use Rattle.net_bind.specs.Mentions as mentions;
+ghost use Rattle.net_bind.specs.Outcomes.{Answers, Leaves};
+
+use crate::cell::Cell;
+use crate::fault::BindFault;
+use crate::given::{Given, Grid, Groups, Line, Mention, Mentions};
+use crate::laid::Laid;
+use crate::names::Names;
+use net_data::{ColumnsStatement, DefaultValue, ListStatement, NamedSet, SetStatement, Statement, TableStatement};
+use net_lex::Items;
+use std::alloc::Global;
+
+fn default_word<'t, 's>(default: &Option<DefaultValue<'t, 's>>) -> Option<Cell<'t, 's>>
+    ensures { result ≡ mentions.default_word default.now }
+{
+    match default {
+        None => None,
+        Some(default) => Some(Cell::new(default.value.token())),
+    }
+}
+
+/// One mention more of the name at a place.
+fn add<'m, 't, 's>(
+    place: usize,
+    mention: Mention<'m, 't, 's>,
+    all: &mut Vec<Mentions<'m, 't, 's>>,
+) -> Result<(), BindFault<'s>>
+    ensures { Leaves (Ok (mentions.with_mention place mention.entry all.old.items)) result all.new.items }
+{
+    if place < all.len() {
+        all[place].push(mention)?;
+    }
+    Ok(())
+}
+
+/// `set S := a b;`
+fn in_set<'m, 't, 's>(
+    names: &Names<'s>,
+    set: &SetStatement<'t, 's>,
+    all: &mut Vec<Mentions<'m, 't, 's>>,
+) -> Result<(), BindFault<'s>>
+    ensures { Leaves (mentions.in_statement names.now (Statements.Set set.now) all.old.items) result all.new.items }
+{
+    let word = Cell::new(set.name.token());
+    let place = names.target(true, &word)?;
+    let given = Given::Members(set.items.again());
+    add(
+        place,
+        Mention {
+            word,
+            default: None,
+            given,
+        },
+        all,
+    )
+}
+
+/// `param p default 0 := a 1;`
+fn in_list<'m, 't, 's>(
+    names: &Names<'s>,
+    list: &ListStatement<'t, 's>,
+    cells: &'m [Cell<'t, 's>],
+    all: &mut Vec<Mentions<'m, 't, 's>>,
+) -> Result<(), BindFault<'s>>
+    requires { cells.now ≡ mentions.given_cells list.now.given }
+    ensures { Leaves (mentions.in_statement names.now (Statements.List list.now) all.old.items) result all.new.items }
+{
+    let word = Cell::new(list.name.token());
+    let leader = names.target(false, &word)?;
+    let default = default_word(&list.default);
+    let given = Given::Groups(Groups {
+        leader,
+        values: 1,
+        place: 0,
+        cells: Line::new(cells),
+    });
+    add(
+        leader,
+        Mention {
+            word,
+            default,
+            given,
+        },
+        all,
+    )
+}
+
+/// `param p : a b := c 1 2;`
+fn in_table<'m, 't, 's>(
+    names: &Names<'s>,
+    table: &TableStatement<'t, 's>,
+    columns: &'m [Cell<'t, 's>],
+    cells: &'m [Cell<'t, 's>],
+    all: &mut Vec<Mentions<'m, 't, 's>>,
+) -> Result<(), BindFault<'s>>
+    requires heading { columns.now ≡ table.now.columns }
+    requires cells { cells.now ≡ table.now.cells }
+    ensures { Leaves (mentions.in_statement names.now (Statements.Table table.now) all.old.items) result all.new.items }
+{
+    let word = Cell::new(table.name.token());
+    let place = names.target(false, &word)?;
+    let default = default_word(&table.default);
+    let given = Given::Grid(Grid {
+        transposed: table.transposed.is_some(),
+        columns: Line::new(columns),
+        cells: Line::new(cells),
+    });
+    add(
+        place,
+        Mention {
+            word,
+            default,
+            given,
+        },
+        all,
+    )
+}
+
+fn set_first<'s>(
+    names: &Names<'s>,
+    set: &Option<NamedSet<'_, 's>>,
+) -> Result<Option<usize>, BindFault<'s>>
+    ensures { Answers (mentions.set_first names.now set.now) result }
+{
+    match set {
+        None => Ok(None),
+        Some(set) => {
+            let place = names.target(true, &Cell::new(set.name.token()))?;
+            Ok(Some(place))
+        }
+    }
+}
+
+fn lesser(first: Option<usize>, place: usize) -> usize
+    ensures { result ≡ mentions.lesser first place }
+{
+    match first {
+        None => place,
+        Some(first) => first.min(place),
+    }
+}
+
+/// The first declared of the names in a heading, whose words are all looked up.
+fn first_of<'s>(
+    names: &Names<'s>,
+    words: &[Cell<'_, 's>],
+    before: Option<usize>,
+) -> Result<Option<usize>, BindFault<'s>>
+    ensures { Answers (mentions.first_of names.now words.now before) result }
+{
+    let mut first = before;
+    for word in words {
+        let place = names.target(false, word)?;
+        first = Some(lesser(first, place));
+    }
+    Ok(first)
+}
+
+fn in_heading<'m, 't, 's>(
+    names: &Names<'s>,
+    leader: usize,
+    words: &[Cell<'t, 's>],
+    cells: &'m [Cell<'t, 's>],
+    all: &mut Vec<Mentions<'m, 't, 's>>,
+) -> Result<(), BindFault<'s>>
+    ensures { Leaves (mentions.headed names.now leader (length words.now) cells.entry.now 0 words.now all.old.items) result all.new.items }
+{
+    for (place, word) in words.iter().enumerate() {
+        headed(names, leader, words.len(), place, word, cells, all)?;
+    }
+    Ok(())
+}
+
+/// A parameter of a heading.
+fn headed<'m, 't, 's>(
+    names: &Names<'s>,
+    leader: usize,
+    values: usize,
+    place: usize,
+    word: &Cell<'t, 's>,
+    cells: &'m [Cell<'t, 's>],
+    all: &mut Vec<Mentions<'m, 't, 's>>,
+) -> Result<(), BindFault<'s>>
+    ensures { Leaves (mentions.mentioned names.now false word.now (λ i. mentions.mention word.now None (mentions.grouped leader values place cells.entry.now)) all.old.items) result all.new.items }
+{
+    let target = names.target(false, word)?;
+    add_group(target, word.again(), leader, values, place, cells, all)
+}
+
+fn add_group<'m, 't, 's>(
+    target: usize,
+    word: Cell<'t, 's>,
+    leader: usize,
+    values: usize,
+    place: usize,
+    cells: &'m [Cell<'t, 's>],
+    all: &mut Vec<Mentions<'m, 't, 's>>,
+) -> Result<(), BindFault<'s>>
+    ensures { Leaves (Ok (mentions.with_mention target (mentions.mention word.entry None (mentions.grouped leader values place cells.entry.now)) all.old.items)) result all.new.items }
+{
+    let given = Given::Groups(Groups {
+        leader,
+        values,
+        place,
+        cells: Line::new(cells),
+    });
+    add(
+        target,
+        Mention {
+            word,
+            default: None,
+            given,
+        },
+        all,
+    )
+}
+
+/// The set of a heading.
+fn set_headed<'m, 't, 's>(
+    names: &Names<'s>,
+    leader: usize,
+    values: usize,
+    set: &Option<NamedSet<'t, 's>>,
+    cells: &'m [Cell<'t, 's>],
+    all: &mut Vec<Mentions<'m, 't, 's>>,
+) -> Result<(), BindFault<'s>>
+    ensures { Leaves (mentions.set_headed names.now leader values cells.entry.now set.now all.old.items) result all.new.items }
+{
+    match set {
+        None => Ok(()),
+        Some(set) => {
+            let word = Cell::new(set.name.token());
+            let target = names.target(true, &word)?;
+            add_group(target, word, leader, values, 0, cells, all)
+        }
+    }
+}
+
+/// `param : S : p q := a 1 2;`
+fn in_columns<'m, 't, 's>(
+    names: &Names<'s>,
+    set: &Option<NamedSet<'t, 's>>,
+    words: &[Cell<'t, 's>],
+    cells: &'m [Cell<'t, 's>],
+    all: &mut Vec<Mentions<'m, 't, 's>>,
+) -> Result<(), BindFault<'s>>
+    ensures { Leaves (mentions.in_columns names.now set.now words.now cells.entry.now all.old.items) result all.new.items }
+{
+    let before = set_first(names, set)?;
+    let leader = first_of(names, words, before)?.unwrap_or(0);
+    set_headed(names, leader, words.len(), set, cells, all)?;
+    in_heading(names, leader, words, cells, all)
+}
+
+fn in_statement<'m, 't, 's>(
+    names: &Names<'s>,
+    sheet: &'m Laid<'m, 't, 's>,
+    all: &mut Vec<Mentions<'m, 't, 's>>,
+) -> Result<(), BindFault<'s>>
+    ensures { Leaves (mentions.in_statement names.now sheet.entry.now all.old.items) result all.new.items }
+{
+    match sheet.statement() {
+        Statement::Set(set) => in_set(names, set, all),
+        Statement::List(list) => in_list(names, list, sheet.cells(), all),
+        Statement::Table(table) => in_table(names, table, sheet.heading(), sheet.cells(), all),
+        Statement::Columns(columns) => {
+            in_columns(names, &columns.set, sheet.heading(), sheet.cells(), all)
+        }
+    }
+}
+
+/// What all statements say, for each declared name. The names are looked up first, statement by statement and from the left:
+/// E30 at the first that is no set's where one is given, or no parameter's.
+pub(crate) fn said<'m, 't, 's>(
+    alloc: Global,
+    names: &Names<'s>,
+    statements: &'m [Laid<'m, 't, 's>],
+) -> Result<Items<Mentions<'m, 't, 's>>, BindFault<'s>>
+    ensures { Answers (mentions.said names.now statements.entry.now) result }
+{
+    let mut all: Vec<Mentions<'m, 't, 's>> = Vec::new(alloc);
+    for _name in names.names() {
+        all.push(Mentions {
+            mentions: Vec::new(alloc),
+        })?;
+    }
+    for sheet in statements {
+        in_statement(names, sheet, &mut all)?;
+    }
+    Ok(Items::new(all))
+}

@@ -1,0 +1,179 @@
+//! Rows of a parameter's data, each a key and its value.
+
+ghost use Rattle.std.specs.Prelude.{◌≡◌, ◌+◌, IfOk, None, Some, slice_get};
+ghost use Rattle.std.specs.Option.{option_copied};
+ghost use Rattle.net_eval.specs.declared.fault.Detail.TheVariants.{Nothing};
+ghost use Rattle.net_eval.specs.declared.fault.EvalDefect.TheVariants.{TooMany};
+ghost use Rattle.net_bind.specs.declared.fault.BindFault.TheVariants.{Refused};
+ghost use Rattle.net_bind.specs.declared.fault.BindDefect.TheVariants.{Value as AValue};
+ghost use Rattle.net_sets.specs.Sets.{at_key};
+ghost use Rattle.net_eval.specs.Worlds as worlds;
+ghost use Rattle.net_bind.specs.Rows as rows;
+ghost use Rattle.net_bind.specs.Outcomes.{Leaves, each};
+
+use crate::cell::{Cell, tuple_in};
+use crate::fault::{BindDefect, BindFault, refuse_in};
+use crate::group::{begins_at, front, is_point};
+use net_eval::{Detail, EvalDefect};
+use crate::given::Line;
+use net_lex::{Excerpt, Items, Language, Span};
+use net_sets::{Member, SetFault, Table, Tuple, TupleSet};
+use std::alloc::{AllocError, Global};
+
+/// A parameter with its key, as faults tell it.
+pub(crate) fn reference<'s>(name: &Excerpt<'s>, keys: Option<u8>, key: &Tuple<'s>) -> Detail<'s>
+    ensures { result ≡ worlds.reference name.now keys key.now }
+{
+    match keys {
+        None => Detail::Named(name.again()),
+        Some(_) => Detail::Keyed(name.again(), key.again()),
+    }
+}
+
+/// A value more, of which there are not too many.
+pub(crate) fn with_value<'s>(
+    text: Language,
+    at: Span,
+    key: Tuple<'s>,
+    member: Member<'s>,
+    table: &mut Table<'s>,
+) -> Result<(), BindFault<'s>>
+    requires { at_key table.old key.entry ≡ None }
+    ensures { Leaves (rows.with_value text at key.entry member.entry table.old) result table.new }
+{
+    if table.len() < 1_000_000 {
+        match table.insert(key, member) {
+            Ok(()) => Ok(()),
+            Err(SetFault::OutOfMemory) => Err(BindFault::OutOfMemory),
+            Err(SetFault::TooMany) => Err(too_many(text, at)),
+        }
+    } else {
+        Err(too_many(text, at))
+    }
+}
+
+fn too_many<'s>(text: Language, at: Span) -> BindFault<'s>
+    ensures { result ≡ Refused (record { defect = AValue TooMany; text = text; at = at; detail = Nothing }) }
+{
+    refuse_in(text, BindDefect::Value(EvalDefect::TooMany), at, Detail::Nothing)
+}
+
+/// A row for a key that has no value yet, and is in the index list.
+fn with_row<'s>(
+    word: &Cell<'_, 's>,
+    keys: Option<u8>,
+    index: &TupleSet<'s>,
+    cells: &[Cell<'_, 's>],
+    value: &Cell<'_, 's>,
+    table: &mut Table<'s>,
+    places: &mut Vec<Span>,
+) -> Result<(), BindFault<'s>>
+    ensures { Leaves (rows.with_row word.now keys index.now cells.now value.now (table.old, places.old.items)) result (table.new, places.new.items) }
+{
+    let key = tuple_in(cells);
+    let at = begins_at(value.token().span, cells);
+    let name = &word.token().text;
+    if table.get(&key).is_some() {
+        let detail = reference(name, keys, &key);
+        return Err(refuse_in(Language::Data, BindDefect::DoubleValue, at, detail));
+    }
+    if !index.contains(&key) {
+        let detail = reference(name, keys, &key);
+        let defect = BindDefect::Value(EvalDefect::OutsideSet);
+        return Err(refuse_in(Language::Data, defect, at, detail));
+    }
+    with_value(Language::Data, at, key, value.member(), table)?;
+    places.push(value.token().span)?;
+    Ok(())
+}
+
+/// A cell that gives a value; a point gives none.
+fn with_cell<'s>(
+    word: &Cell<'_, 's>,
+    keys: Option<u8>,
+    index: &TupleSet<'s>,
+    cells: &[Cell<'_, 's>],
+    value: &Cell<'_, 's>,
+    table: &mut Table<'s>,
+    places: &mut Vec<Span>,
+) -> Result<(), BindFault<'s>>
+    ensures { Leaves (rows.with_cell word.now keys index.now cells.now (Some value.now) (table.old, places.old.items)) result (table.new, places.new.items) }
+{
+    if is_point(value.token().kind) {
+        Ok(())
+    } else {
+        with_row(word, keys, index, cells, value, table, places)
+    }
+}
+
+/// A group: the members of a key, and values of which one is meant.
+fn with_group<'s>(
+    word: &Cell<'_, 's>,
+    keys: Option<u8>,
+    index: &TupleSet<'s>,
+    size: usize,
+    place: usize,
+    group: &[Cell<'_, 's>],
+    table: &mut Table<'s>,
+    places: &mut Vec<Span>,
+) -> Result<(), BindFault<'s>>
+    ensures { Leaves (rows.with_group word.now keys index.now size place group.now (table.old, places.old.items)) result (table.new, places.new.items) }
+{
+    match value_at(size, place, group) {
+        None => Ok(()),
+        Some(value) => with_cell(word, keys, index, front(size, group), value, table, places),
+    }
+}
+
+/// The value at a place behind the key.
+fn value_at<'c, 't, 's>(
+    size: usize,
+    place: usize,
+    group: &'c [Cell<'t, 's>],
+) -> Option<&'c Cell<'t, 's>>
+    ensures { option_copied result ≡ slice_get group.entry.now (size + place) }
+{
+    if size < group.len() && place < group.len() - size {
+        group.get(size + place)
+    } else {
+        None
+    }
+}
+
+/// A statement of groups.
+pub(crate) fn with_groups<'s>(
+    word: &Cell<'_, 's>,
+    keys: Option<u8>,
+    index: &TupleSet<'s>,
+    size: usize,
+    place: usize,
+    groups: &[Line<'_, '_, 's>],
+    table: &mut Table<'s>,
+    places: &mut Vec<Span>,
+) -> Result<(), BindFault<'s>>
+    ensures { Leaves (each (rows.with_group word.now keys index.now size place) groups.now (table.old, places.old.items)) result (table.new, places.new.items) }
+{
+    for group in groups {
+        with_group(word, keys, index, size, place, group.cells(), table, places)?;
+    }
+    Ok(())
+}
+
+fn pair_of<'t, 's>(
+    alloc: Global,
+    transposed: bool,
+    row: &Cell<'t, 's>,
+    column: &Cell<'t, 's>,
+) -> Result<Items<Cell<'t, 's>>, AllocError>
+    ensures { IfOk result (λ all. all ≡ rows.pair_of transposed row.now column.now) }
+{
+    let mut all = Vec::new(alloc);
+    if transposed {
+        all.push(column.again())?;
+        all.push(row.again())?;
+    } else {
+        all.push(row.again())?;
+        all.push(column.again())?;
+    }
+    Ok(Items::new(all))
+}

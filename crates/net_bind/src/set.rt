@@ -1,0 +1,271 @@
+//! Declared sets.
+
+ghost use Rattle.std.specs.Prelude.{◌≡◌, [], IfOk, map};
+ghost use Rattle.std.specs.Option.{option_copied};
+ghost use Rattle.net_eval.specs.declared.world.Entry.TheVariants.{Set as ASet};
+ghost use Rattle.net_lex.specs.declared.language.Language.TheVariants.{Data as InData};
+ghost use Rattle.net_eval.specs.declared.fault.Detail.TheVariants.{Named as AName};
+ghost use Rattle.net_bind.specs.declared.fault.BindFault.TheVariants.{Refused};
+ghost use Rattle.net_bind.specs.declared.fault.BindDefect.TheVariants.{DoubleValue};
+ghost use Rattle.net_bind.specs.declared.given.Given.TheVariants as given;
+ghost use Rattle.net_tree.specs.View.{phrase_of};
+ghost use Rattle.net_bind.specs.BoundSets as bound;
+ghost use Rattle.net_bind.specs.SetData as set_data;
+ghost use Rattle.net_bind.specs.Outcomes.{Answers, Leaves, each};
+
+use crate::cell::{Cell, tuple_in};
+use crate::fault::{BindDefect, BindFault, refuse_in};
+use crate::given::{Given, Groups, Mention};
+use crate::group::{all_of_size, begins_at, cut, keys_of, refuse_there, whole_groups};
+use crate::item::set_rows;
+use crate::set_phrase::{Claim, Claims, SetPhrase, assigned, set_phrases};
+use net_data::Members;
+use net_eval::{Detail, Entry, EvalDefect, Seen};
+use net_lex::{Items, Language, Token};
+use net_sets::{SetFault, TupleSet, is_within};
+use net_tree::Phrase;
+use std::alloc::{AllocError, Global};
+
+/// How many members a key has: as many as the first declared name of the heading says, if that was bound before.
+pub(crate) fn told_by(widths: &[usize], leader: usize, own: usize) -> usize
+    ensures { result ≡ set_data.told_by widths.now leader own }
+{
+    match widths.get(leader) {
+        Some(width) => *width,
+        None => own,
+    }
+}
+
+pub(crate) fn agrees<'s>(word: &Cell<'_, 's>, told: usize, own: usize) -> Result<(), BindFault<'s>>
+    ensures { Answers (set_data.agrees word.now told own) result }
+{
+    if told == own {
+        Ok(())
+    } else {
+        Err(refuse_there(EvalDefect::Arity, word.token().span))
+    }
+}
+
+/// The name of a statement gives what was given before.
+pub(crate) fn doubled<'s>(word: &Cell<'_, 's>) -> BindFault<'s>
+    ensures { result ≡ Refused (record { defect = DoubleValue; text = InData; at = word.now.span; detail = AName word.now.text }) }
+{
+    let token = word.token();
+    refuse_in(
+        Language::Data,
+        BindDefect::DoubleValue,
+        token.span,
+        Detail::Named(token.text.again()),
+    )
+}
+
+fn member_rows<'t, 's>(
+    alloc: Global,
+    dimension: usize,
+    word: &Cell<'t, 's>,
+    members: &Members<'t, 's>,
+) -> Result<Items<Items<Cell<'t, 's>>>, BindFault<'s>>
+    ensures { Answers (set_data.given_rows [] dimension word.now (given.Members members.now)) result }
+{
+    let rows = set_rows(alloc, dimension, members)?;
+    all_of_size(word.token().span, dimension, rows.as_slice())?;
+    Ok(rows)
+}
+
+fn key_rows<'t, 's>(
+    alloc: Global,
+    widths: &[usize],
+    dimension: usize,
+    word: &Cell<'t, 's>,
+    groups: &Groups<'_, 't, 's>,
+) -> Result<Items<Items<Cell<'t, 's>>>, BindFault<'s>>
+    ensures { Answers (set_data.given_rows widths.now dimension word.now (given.Groups groups.now)) result }
+{
+    agrees(word, told_by(widths, groups.leader, dimension), dimension)?;
+    let cells = cut(alloc, dimension, groups.values, groups.cells.cells())?;
+    whole_groups(word.token().span, dimension, groups.values, cells.as_slice())?;
+    Ok(keys_of(alloc, dimension, cells.as_slice())?)
+}
+
+fn given_rows<'t, 's>(
+    alloc: Global,
+    widths: &[usize],
+    dimension: usize,
+    mention: &Mention<'_, 't, 's>,
+) -> Result<Items<Items<Cell<'t, 's>>>, BindFault<'s>>
+    ensures { Answers (set_data.given_rows widths.now dimension mention.now.word mention.now.given) result }
+{
+    match &mention.given {
+        Given::Members(members) => member_rows(alloc, dimension, &mention.word, members),
+        Given::Groups(groups) => key_rows(alloc, widths, dimension, &mention.word, groups),
+        Given::Grid(_) => Ok(Items::new(Vec::new(alloc))),
+    }
+}
+
+fn with_member<'s>(
+    word: &Cell<'_, 's>,
+    row: &[Cell<'_, 's>],
+    set: &mut TupleSet<'s>,
+) -> Result<(), BindFault<'s>>
+    ensures { Leaves (set_data.with_member word.now row.now set.old) result set.new }
+{
+    let token = word.token();
+    let at = begins_at(token.span, row);
+    let tuple = tuple_in(row);
+    if set.contains(&tuple) {
+        return Err(refuse_in(
+            Language::Data,
+            BindDefect::DoubleValue,
+            at,
+            Detail::Named(token.text.again()),
+        ));
+    }
+    match set.add(tuple) {
+        Ok(()) => Ok(()),
+        Err(SetFault::OutOfMemory) => Err(BindFault::OutOfMemory),
+        Err(SetFault::TooMany) => Err(refuse_there(EvalDefect::TooMany, at)),
+    }
+}
+
+fn members_of<'s>(
+    alloc: Global,
+    word: &Cell<'_, 's>,
+    rows: &[Items<Cell<'_, 's>>],
+) -> Result<TupleSet<'s>, BindFault<'s>>
+    ensures { Answers (each (set_data.with_member word.now) rows.now []) result }
+{
+    let mut set = TupleSet::new(alloc);
+    for row in rows {
+        with_member(word, row.as_slice(), &mut set)?;
+    }
+    Ok(set)
+}
+
+/// A statement that gives the set, unless it is given already.
+fn with_statement<'s>(
+    alloc: Global,
+    widths: &[usize],
+    dimension: usize,
+    is_assigned: bool,
+    mention: &Mention<'_, '_, 's>,
+    found: Option<TupleSet<'s>>,
+) -> Result<Option<TupleSet<'s>>, BindFault<'s>>
+    ensures { Answers (set_data.with_statement widths.now dimension is_assigned mention.now found.entry) result }
+{
+    let rows = given_rows(alloc, widths, dimension, mention)?;
+    if is_assigned || found.is_some() {
+        Err(doubled(&mention.word))
+    } else {
+        Ok(Some(members_of(alloc, &mention.word, rows.as_slice())?))
+    }
+}
+
+/// The set that the statements give, if they give one.
+fn given_set<'s>(
+    alloc: Global,
+    widths: &[usize],
+    dimension: usize,
+    is_assigned: bool,
+    mentions: &[Mention<'_, '_, 's>],
+) -> Result<Option<TupleSet<'s>>, BindFault<'s>>
+    ensures { Answers (set_data.given_set widths.now dimension is_assigned mentions.now) result }
+{
+    let mut found = None;
+    for mention in mentions {
+        found = with_statement(alloc, widths, dimension, is_assigned, mention, found)?;
+    }
+    Ok(found)
+}
+
+/// The set that `:=` says, else that which data say.
+fn one_of<'s>(
+    alloc: Global,
+    name: &Token<'s>,
+    assigned: Option<&TupleSet<'s>>,
+    found: Option<TupleSet<'s>>,
+) -> Result<TupleSet<'s>, BindFault<'s>>
+    ensures { Answers (bound.one_of name.now (option_copied assigned.entry) found.entry) result }
+{
+    match (assigned, found) {
+        (Some(set), _found) => Ok(set.again(alloc)?),
+        (None, Some(set)) => Ok(set),
+        (None, None) => Err(refuse_in(
+            Language::Model,
+            BindDefect::Value(EvalDefect::NoValue),
+            name.span,
+            Detail::Named(name.text.again()),
+        )),
+    }
+}
+
+fn is_allowed<'s>(set: &TupleSet<'s>, claim: &Claim<'_, 's>) -> bool
+    ensures { result ≡ bound.is_allowed set.now claim.now }
+{
+    match claim {
+        Claim::Within(_, within) => is_within(set, within.get()),
+        Claim::Nothing => true,
+        Claim::Dimension(_) => true,
+        Claim::Becomes(_, _) => true,
+    }
+}
+
+/// Each set that it has to be within has its members.
+fn allowed<'s>(
+    name: &Token<'s>,
+    set: &TupleSet<'s>,
+    phrases: &[SetPhrase<'_, 's>],
+) -> Result<(), BindFault<'s>>
+    ensures { Answers (bound.allowed name.now set.now phrases.now) result }
+{
+    for phrase in phrases {
+        if !is_allowed(set, &phrase.claim) {
+            return Err(refuse_in(
+                Language::Model,
+                BindDefect::Restriction,
+                phrase.at,
+                Detail::Named(name.text.again()),
+            ));
+        }
+    }
+    Ok(())
+}
+
+/// The entry of a set; how a world keeps sets is known here alone.
+fn set_entry<'s>(dimension: u8, set: TupleSet<'s>) -> Result<Entry<'s>, AllocError>
+    ensures { IfOk result (λ e. e ≡ ASet dimension set.entry) }
+{
+    Ok(Entry::Set(dimension, set))
+}
+
+fn set_of<'s>(
+    alloc: Global,
+    widths: &[usize],
+    name: &Token<'s>,
+    mentions: &[Mention<'_, '_, 's>],
+    claims: &Claims<'_, 's>,
+) -> Result<Entry<'s>, BindFault<'s>>
+    ensures { Answers (bound.set_of widths.now name.now mentions.now claims.now) result }
+{
+    let phrases = claims.phrases.as_slice();
+    let dimension = claims.dimension.unwrap_or(1);
+    let assigned = assigned(phrases);
+    let found = given_set(alloc, widths, usize::from(dimension), assigned.is_some(), mentions)?;
+    let set = one_of(alloc, name, assigned, found)?;
+    allowed(name, &set, phrases)?;
+    Ok(set_entry(dimension, set)?)
+}
+
+/// What a declared set is: what its phrases say, then what data say, then what it is.
+pub(crate) fn bound_set<'w, 's>(
+    alloc: Global,
+    seen: &Seen<'w, 's>,
+    widths: &[usize],
+    name: &Token<'s>,
+    phrases: &[Phrase<'s>],
+    mentions: &[Mention<'_, '_, 's>],
+) -> Result<Entry<'s>, BindFault<'s>>
+    ensures { Answers (bound.bound_set seen.now widths.now name.now (map phrase_of phrases.now) mentions.now) result }
+{
+    let claims = set_phrases(alloc, seen, phrases)?;
+    set_of(alloc, widths, name, mentions, &claims)
+}

@@ -1,0 +1,245 @@
+//! Phrases of a set's declaration: `dimen 2`, `within S`, `:= {1, 2}`.
+
+ghost use Rattle.std.specs.Prelude.{◌≡◌, None, map};
+ghost use Rattle.std.specs.Option.{option_copied};
+ghost use Rattle.net_tree.specs.Spans as trees;
+ghost use Rattle.net_tree.specs.View.{tree, body_of, phrase_of};
+ghost use Rattle.net_bind.specs.Outcomes.{Answers};
+ghost use Rattle.net_bind.specs.SetPhrases as phrases;
+ghost use Rattle.net_bind.specs.declared.set_phrase.SetWord.TheVariants as words;
+
+use crate::fault::{BindFault, refuse};
+use net_eval::{EvalDefect, Scope, Seen, Value, evaluate};
+use net_lex::{Items, Span};
+use net_sets::{Held, Member, TupleSet};
+use net_tree::{Begins, Body, Expr, Phrase, Relates, Role, role_of, span_of};
+use std::alloc::Global;
+
+/// The word of a phrase.
+#[derive(Clone, Copy)]
+pub(crate) enum SetWord {
+    Dimension,
+    Within,
+    Becomes,
+    Other,
+}
+
+/// What a phrase says.
+#[derive(Drop)]
+pub(crate) enum Claim<'w, 's> {
+    Nothing,
+    /// `dimen 2`
+    Dimension(u8),
+    /// `within S`
+    Within(Option<u8>, Held<'w, 's>),
+    /// `:= {1, 2}`
+    Becomes(Option<u8>, Held<'w, 's>),
+}
+
+/// What a phrase says, and where its expression stands.
+#[derive(Drop)]
+pub(crate) struct SetPhrase<'w, 's> {
+    pub(crate) at: Span,
+    pub(crate) claim: Claim<'w, 's>,
+}
+
+/// What phrases say, and the dimension in which they agree.
+#[derive(Drop)]
+pub(crate) struct Claims<'w, 's> {
+    pub(crate) dimension: Option<u8>,
+    pub(crate) phrases: Items<SetPhrase<'w, 's>>,
+}
+
+fn set_word(role: Role) -> SetWord
+    ensures { result ≡ phrases.set_word role }
+{
+    match role {
+        Role::Phrase(Begins::Dimen) => SetWord::Dimension,
+        Role::Relation(Relates::Within) => SetWord::Within,
+        Role::Becomes => SetWord::Becomes,
+        _ => SetWord::Other,
+    }
+}
+
+fn dimension<'w, 's>(at: Span, value: &Value<'_, 's>) -> Result<Claim<'w, 's>, BindFault<'s>>
+    ensures { Answers (phrases.dimension at value.now) result }
+{
+    match value {
+        Value::One(Member::Number(number)) => {
+            if *number >= 1 && *number <= 4 {
+                Ok(Claim::Dimension(number.unsigned_abs() as u8))
+            } else {
+                Err(refuse(EvalDefect::Arity, at))
+            }
+        }
+        _ => Err(refuse(EvalDefect::KindMismatch, at)),
+    }
+}
+
+fn claimed<'w, 's>(
+    word: SetWord,
+    at: Span,
+    value: Value<'w, 's>,
+) -> Result<Claim<'w, 's>, BindFault<'s>>
+    ensures { Answers (phrases.claimed word at value.entry) result }
+{
+    match word {
+        SetWord::Dimension => dimension(at, &value),
+        SetWord::Within => within(at, value),
+        SetWord::Becomes => becomes(at, value),
+        SetWord::Other => Ok(Claim::Nothing),
+    }
+}
+
+fn within<'w, 's>(at: Span, value: Value<'w, 's>) -> Result<Claim<'w, 's>, BindFault<'s>>
+    ensures { Answers (phrases.claimed words.Within at value.entry) result }
+{
+    match value {
+        Value::Many(dimension, set) => Ok(Claim::Within(dimension, set)),
+        Value::One(_member) => Err(refuse(EvalDefect::KindMismatch, at)),
+        Value::Several(_tuple) => Err(refuse(EvalDefect::KindMismatch, at)),
+        Value::Truth(_) => Err(refuse(EvalDefect::KindMismatch, at)),
+    }
+}
+
+fn becomes<'w, 's>(at: Span, value: Value<'w, 's>) -> Result<Claim<'w, 's>, BindFault<'s>>
+    ensures { Answers (phrases.claimed words.Becomes at value.entry) result }
+{
+    match value {
+        Value::Many(dimension, set) => Ok(Claim::Becomes(dimension, set)),
+        Value::One(_member) => Err(refuse(EvalDefect::KindMismatch, at)),
+        Value::Several(_tuple) => Err(refuse(EvalDefect::KindMismatch, at)),
+        Value::Truth(_) => Err(refuse(EvalDefect::KindMismatch, at)),
+    }
+}
+
+fn set_phrase<'w, 's>(
+    alloc: Global,
+    seen: &Seen<'w, 's>,
+    word: SetWord,
+    expr: &Expr<'s>,
+) -> Result<SetPhrase<'w, 's>, BindFault<'s>>
+    ensures { Answers (phrases.set_phrase seen.now word (tree expr.now)) result }
+{
+    let value = evaluate(alloc, seen, &Scope::new(alloc), expr)?;
+    let at = span_of(expr);
+    let claim = claimed(word, at, value)?;
+    Ok(SetPhrase { at, claim })
+}
+
+fn dimension_of(claim: &Claim<'_, '_>) -> Option<u8>
+    ensures { result ≡ phrases.dimension_of claim.now }
+{
+    match claim {
+        Claim::Nothing => None,
+        Claim::Dimension(dimension) => Some(*dimension),
+        Claim::Within(dimension, _) => *dimension,
+        Claim::Becomes(dimension, _) => *dimension,
+    }
+}
+
+/// The dimension that two say, who must agree.
+fn agreed<'s>(
+    at: Span,
+    before: Option<u8>,
+    now: Option<u8>,
+) -> Result<Option<u8>, BindFault<'s>>
+    ensures { Answers (phrases.agreed at before now) result }
+{
+    match (before, now) {
+        (None, now) => Ok(now),
+        (Some(dimension), None) => Ok(Some(dimension)),
+        (Some(dimension), Some(other)) => {
+            if dimension == other {
+                Ok(Some(dimension))
+            } else {
+                Err(refuse(EvalDefect::Arity, at))
+            }
+        }
+    }
+}
+
+fn with_phrase<'w, 's>(
+    claims: Claims<'w, 's>,
+    phrase: SetPhrase<'w, 's>,
+) -> Result<Claims<'w, 's>, BindFault<'s>>
+    ensures { Answers (phrases.with_phrase claims.entry phrase.entry) result }
+{
+    let Claims {
+        dimension,
+        phrases,
+    } = claims;
+    let dimension = agreed(phrase.at, dimension, dimension_of(&phrase.claim))?;
+    let mut all = phrases.into_vec();
+    all.push(phrase)?;
+    Ok(Claims {
+        dimension,
+        phrases: Items::new(all),
+    })
+}
+
+fn in_body<'w, 's>(
+    alloc: Global,
+    seen: &Seen<'w, 's>,
+    word: SetWord,
+    body: &Body<'s>,
+    claims: Claims<'w, 's>,
+) -> Result<Claims<'w, 's>, BindFault<'s>>
+    ensures { Answers (phrases.in_body seen.now word (body_of body.now) claims.entry) result }
+{
+    match body {
+        Body::Plain => Ok(claims),
+        Body::Valued(expr) => {
+            let phrase = set_phrase(alloc, seen, word, expr)?;
+            with_phrase(claims, phrase)
+        }
+        Body::Priced(_, _) => Ok(claims),
+    }
+}
+
+fn unclaimed<'w, 's: 'w>(alloc: Global) -> Claims<'w, 's>
+    ensures { result ≡ phrases.unclaimed }
+{
+    Claims {
+        dimension: None,
+        phrases: Items::new(Vec::new(alloc)),
+    }
+}
+
+/// What the phrases of a set say: each in turn is evaluated, and agrees with those before it in the dimension.
+pub(crate) fn set_phrases<'w, 's>(
+    alloc: Global,
+    seen: &Seen<'w, 's>,
+    all: &[Phrase<'s>],
+) -> Result<Claims<'w, 's>, BindFault<'s>>
+    ensures { Answers (phrases.set_phrases seen.now (map phrase_of all.now)) result }
+{
+    let mut claims = unclaimed(alloc);
+    for phrase in all {
+        claims = in_body(alloc, seen, set_word(role_of(&phrase.word)), &phrase.body, claims)?;
+    }
+    Ok(claims)
+}
+
+fn becomes_set<'c, 's>(claim: &'c Claim<'_, 's>) -> Option<&'c TupleSet<'s>>
+    ensures { option_copied result ≡ phrases.becomes claim.entry.now None }
+{
+    match claim {
+        Claim::Becomes(_, set) => Some(set.get()),
+        Claim::Nothing => None,
+        Claim::Dimension(_) => None,
+        Claim::Within(_, _) => None,
+    }
+}
+
+/// The set that `:=` says.
+pub(crate) fn assigned<'c, 's>(all: &'c [SetPhrase<'_, 's>]) -> Option<&'c TupleSet<'s>>
+    ensures { option_copied result ≡ phrases.assigned all.entry.now }
+{
+    for phrase in all {
+        if let Some(set) = becomes_set(&phrase.claim) {
+            return Some(set);
+        }
+    }
+    None
+}
