@@ -1,5 +1,5 @@
 -- What data statements say of a parameter: rows, each a key and its value.
-use Rattle.std.specs.Prelude.{ℕ, ◌+◌, Bool, true, false, ◌&&◌, ◌||◌, List, [], ◌∷◌, ◌++◌, length, nat_eq, nat_lt, slice_get, take, is_some, Option, None, Some, if◌then◌else◌, Ok}
+use Rattle.std.specs.Prelude.{ℕ, ◌+◌, Bool, true, false, ◌&&◌, ◌||◌, List, [], ◌∷◌, ◌++◌, length, nat_eq, nat_lt, slice_get, take, is_some, Option, None, Some, if◌then◌else◌, Result, Ok, Err, ⊤, ◌≡◌}
 use Rattle.net_lex.specs.declared.language.Language.{Language}
 use Rattle.net_lex.specs.declared.language.Language.TheVariants.{Data}
 use Rattle.net_lex.specs.declared.span.Span.{Span}
@@ -12,6 +12,8 @@ use Rattle.net_eval.specs.declared.fault.Detail.TheVariants.{Nothing}
 use Rattle.net_eval.specs.declared.fault.EvalDefect.TheVariants.{Arity, OutsideSet, TooMany}
 use Rattle.net_eval.specs.Worlds.{reference}
 use Rattle.net_bind.specs.declared.fault.BindDefect.TheVariants.{DoubleValue, Value}
+use Rattle.net_bind.specs.declared.fault.BindFault.{BindFault}
+use Rattle.net_bind.specs.declared.fault.BindFault.TheVariants.{OutOfMemory, Refused}
 use Rattle.net_bind.specs.declared.given.Given.{Given}
 use Rattle.net_bind.specs.declared.given.Given.TheVariants as given
 use Rattle.net_bind.specs.declared.given.Mention.{Mention}
@@ -79,6 +81,11 @@ with_rows n index size word (given.Members ts) t = Ok t
 with_rows n index size word (given.Groups g) t = each (with_group word n index size g.place) (cut (size + g.values) g.cells) t
 with_rows n index size word (given.Grid g) t = each (with_line word n index g.transposed g.columns) (cut (1 + length g.columns) g.cells) t
 
+-- the shape of a statement is judged, then that it does not say what was said before, and then its rows are taken
+abbrev pub taken : List ℕ → Option ℕ → List Tuple → ℕ → Token → Given → Bool → Taken → Outcome Taken
+taken widths n index size word g is_doubled t =
+    and_then (shaped widths size word g) (λ u. if is_doubled then doubled word else with_rows n index size word g t)
+
 -- the default that data say so far
 abbrev pub either : Option Token → Option Token → Option Token
 either None later = later
@@ -91,6 +98,10 @@ All = Taken × Option Token
 -- a statement more: its shape, then that there is no `:=` and no second default, then its rows
 abbrev pub with_statement : List ℕ → Option ℕ → List Tuple → ℕ → Bool → Mention → All → Outcome All
 with_statement widths n index size is_assigned m all =
-    and_then (shaped widths size m.word m.given) (λ u.
-    if is_assigned || (is_some m.default && is_some all.1) then doubled m.word
-    else and_then (with_rows n index size m.word m.given all.0) (λ t. Ok (t, either all.1 m.default)))
+    and_then (taken widths n index size m.word m.given (is_assigned || (is_some m.default && is_some all.1)) all.0) (λ t. Ok (t, either all.1 m.default))
+
+-- the code answers the default, and leaves the values
+abbrev pub Gives : Outcome All → Result (Option Token) BindFault → Taken → Type 0
+Gives wanted (Ok default) new = wanted ≡ Ok (new, default)
+Gives wanted (Err OutOfMemory) new = ⊤
+Gives wanted (Err (Refused r)) new = wanted ≡ Err r

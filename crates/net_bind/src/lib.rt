@@ -9,6 +9,7 @@ mod item;
 mod laid;
 mod mention;
 mod names;
+mod param_data;
 mod restriction;
 mod row;
 mod set;

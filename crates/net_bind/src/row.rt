@@ -38,7 +38,7 @@ pub(crate) fn with_value<'s>(
     member: Member<'s>,
     table: &mut Table<'s>,
 ) -> Result<(), BindFault<'s>>
-    requires { at_key table.old key.entry ≡ None }
+    requires { at_key table.old key ≡ None }
     ensures { Leaves (rows.with_value text at key.entry member.entry table.old) result table.new }
 {
     if table.len() < 1_000_000 {
@@ -88,7 +88,7 @@ fn with_row<'s>(
 }
 
 /// A cell that gives a value; a point gives none.
-fn with_cell<'s>(
+pub(crate) fn with_cell<'s>(
     word: &Cell<'_, 's>,
     keys: Option<u8>,
     index: &TupleSet<'s>,
@@ -159,7 +159,7 @@ pub(crate) fn with_groups<'s>(
     Ok(())
 }
 
-fn pair_of<'t, 's>(
+pub(crate) fn pair_of<'t, 's>(
     alloc: Global,
     transposed: bool,
     row: &Cell<'t, 's>,
