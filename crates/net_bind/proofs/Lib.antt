@@ -2,3 +2,4 @@ pub mod Cells
 pub mod Naming
 pub mod Items
 pub mod Lists
+pub mod Fresh

@@ -10,3 +10,5 @@ pub mod SetData
 pub mod BoundSets
 pub mod Rows
 pub mod Restrictions
+pub mod BoundParameters
+pub mod Binding

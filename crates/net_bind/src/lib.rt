@@ -2,6 +2,7 @@
 #![tactic(auto)]
 
 mod cell;
+mod check;
 mod fault;
 mod given;
 mod group;
@@ -9,10 +10,13 @@ mod item;
 mod laid;
 mod mention;
 mod names;
+mod param;
 mod param_data;
 mod restriction;
 mod row;
 mod set;
 mod set_phrase;
+mod world;
 
+pub use world::bind;
 pub use fault::{BindDefect, BindFault, Refusal};

@@ -1,0 +1,9 @@
+use Rattle.std.specs.Prelude.{Err}
+use Rattle.std.proofs.Common.{◌≡◌, rules}
+use Rattle.net_sets.proofs.Unions.{refused_in_turn, handed_on}
+use Rattle.net_bind.proofs.param.once.Goals as goal
+
+pub returns-in_err-add : goal.returns-in_err-add
+returns-in_err-add c =
+    let is : c.from_residual.result ≡ Err c.in_err-add.field-0.0 = search rules in
+    handed_on _ _ _ is (refused_in_turn _ c.loop-tuple.all _ _ _ c.again.result _ c.loop-tuple.invariant.goes_on c.loop-tuple-test.true c.tuple-item.is c.again.ensures c.in_err-add.ensures.made)
