@@ -1,7 +1,10 @@
 -- Worlds in which the names of declarations to come mean nothing so far.
 use Rattle.std.specs.Prelude.{◌≡◌, ℕ, zero, suc, Bool, true, false, ◌||◌, List, [], ◌∷◌, ◌++◌, length, take, map, None, Some, if◌then◌else◌, Ok, Err, Result}
 use Rattle.std.specs.Str.{bytes_eq}
-use Rattle.std.proofs.Common.{refl, sym, ap, ◌∙◌, subst}
+use Rattle.std.proofs.Common.{refl, sym, ap, ◌∙◌, subst, add-one, ◌+◌, ◌<◌, get_or, drop}
+use Rattle.std.proofs.Math.Seq.{drop-cons}
+use Rattle.net_tree.specs.declared.declaration.Decl.{Decl}
+use Rattle.net_tree.specs.View.{declaration_of}
 use Rattle.net_lex.specs.declared.token.Token.{Token}
 use Rattle.net_tree.specs.Tree.{Declaration, set, param, check, node, arc, objective}
 use Rattle.net_eval.specs.declared.world.Entry.{Entry}
@@ -9,7 +12,7 @@ use Rattle.net_eval.specs.Worlds.{Name, World, entry_of}
 use Rattle.net_bind.specs.Binding.{widths, is_among, AreNew, IsFresh, declare}
 use Rattle.net_bind.specs.Mentions.{Sorted}
 use Rattle.net_bind.specs.declared.fault.Refusal.{Refusal}
-use Rattle.net_bind.specs.Outcomes.{Outcome, and_then}
+use Rattle.net_bind.specs.Outcomes.{Outcome, and_then, each}
 
 abbrev world_of : Outcome World → World
 world_of (Ok w) = w
@@ -78,3 +81,25 @@ fresh_next given w v (arc k n b ps e) ds h i = subst (λ u. IsFreshFrom u ds) (s
 fresh_next given w v (objective k n p e) ds h i = subst (λ u. IsFreshFrom u ds) (same w v i) (record { known = h.known; news = h.news; knows = h.knows })
 
 pub ruleset fresh = (at_first, fresh_now, fresh_next)
+
+drop_at : (ds : List Decl) (i : ℕ) (d : Decl) → i < length ds → d ≡ get_or ds i d → drop i ds ≡ d ∷ drop (i + 1) ds
+drop_at ds i d h e = let a = drop-cons ds i d h in let b = add-one i in cc
+
+abbrev front : List Decl → ℕ → List Declaration
+front ds i = map declaration_of (drop i ds)
+
+left_at : (ds : List Decl) (i : ℕ) (d : Decl) → i < length ds → d ≡ get_or ds i d → front ds i ≡ declaration_of d ∷ front ds (i + 1)
+left_at ds i d h e = ap (map declaration_of) (drop_at ds i d h e)
+
+-- the next declaration's name means nothing so far
+pub fresh_item : (w : World) (ds : List Decl) (i : ℕ) (d : Decl) → IsFreshFrom w (front ds i) → i < length ds → d ≡ get_or ds i d → IsFresh w (declaration_of d)
+fresh_item w ds i d h l e = fresh_now w (declaration_of d) (front ds (i + 1)) (subst (IsFreshFrom w) (left_at ds i d l e) h)
+
+pub fresh_left : (given : Sorted) (w v : World) (ds : List Decl) (i : ℕ) (d : Decl) → IsFreshFrom w (front ds i) → i < length ds → d ≡ get_or ds i d
+    → declare given (declaration_of d) w ≡ Ok v → IsFreshFrom v (front ds (i + 1))
+fresh_left given w v ds i d h l e o = fresh_next given w v (declaration_of d) (front ds (i + 1)) (subst (IsFreshFrom w) (left_at ds i d l e) h) o
+
+pub goes_on : (given : Sorted) (w v : World) (ds : List Decl) (i : ℕ) (d : Decl) (all : Outcome World) → each (declare given) (front ds i) w ≡ all → i < length ds → d ≡ get_or ds i d
+    → declare given (declaration_of d) w ≡ Ok v → each (declare given) (front ds (i + 1)) v ≡ all
+goes_on given w v ds i d all h l e o =
+    sym (ap (λ ds. each (declare given) ds w) (left_at ds i d l e) ∙ ap (λ x. and_then x (each (declare given) (front ds (i + 1)))) o) ∙ h

@@ -70,9 +70,13 @@ check_one w (objective k n p e) known = Ok known
 abbrev pub after_checks : List Declaration → World → Outcome World
 after_checks ds w = and_then (each (check_one w) ds 0) (λ known. Ok w)
 
+-- the world, where it is known what is said of each name
+abbrev pub with_given : List Declaration → Sorted → Outcome World
+with_given ds given = and_then (each (declare given) ds []) (after_checks ds)
+
 -- the world of declarations and statements, or the first fault
 abbrev pub world : List Declaration → List Statement → Outcome World
-world ds ss = and_then (said (declared ds) ss) (λ given. and_then (each (declare given) ds []) (after_checks ds))
+world ds ss = and_then (said (declared ds) ss) (with_given ds)
 
 abbrev pub is_among : List Name → Name → Bool
 is_among [] n = false

@@ -11,8 +11,8 @@ ghost use Rattle.net_bind.specs.Outcomes.{Answers, Leaves, each};
 
 use crate::check::all_checked;
 use crate::fault::BindFault;
-use crate::given::Mentions;
-use crate::laid::laid_out;
+use crate::given::{Mention, Mentions};
+use crate::laid::{Laid, laid_out};
 use crate::mention::said;
 use crate::names::declared;
 use crate::param::bound_parameter;
@@ -59,9 +59,9 @@ fn whole<'w, 's>(world: &'w World<'s>, widths: &[usize]) -> Seen<'w, 's>
     Seen::new(world, widths.len())
 }
 
-fn entry_of_set<'s>(
+fn entry_of_set<'m, 't, 's>(
     alloc: Global,
-    given: &[Mentions<'_, '_, 's>],
+    given: &[Mentions<'m, 't, 's>],
     name: &Token<'s>,
     phrases: &[Phrase<'s>],
     world: &World<'s>,
@@ -73,13 +73,16 @@ fn entry_of_set<'s>(
     let seen = whole(world, widths);
     match given.get(widths.len()) {
         Some(mentions) => bound_set(alloc, &seen, widths, name, phrases, mentions.as_slice()),
-        None => bound_set(alloc, &seen, widths, name, phrases, &[]),
+        None => {
+            let none: Vec<Mention<'m, 't, 's>> = Vec::new(alloc);
+            bound_set(alloc, &seen, widths, name, phrases, none.as_slice())
+        }
     }
 }
 
-fn entry_of_parameter<'s>(
+fn entry_of_parameter<'m, 't, 's>(
     alloc: Global,
-    given: &[Mentions<'_, '_, 's>],
+    given: &[Mentions<'m, 't, 's>],
     name: &Token<'s>,
     braces: &Option<Braces<'s>>,
     phrases: &[Phrase<'s>],
@@ -100,7 +103,10 @@ fn entry_of_parameter<'s>(
             phrases,
             mentions.as_slice(),
         ),
-        None => bound_parameter(alloc, &seen, widths, name, braces, phrases, &[]),
+        None => {
+            let none: Vec<Mention<'m, 't, 's>> = Vec::new(alloc);
+            bound_parameter(alloc, &seen, widths, name, braces, phrases, none.as_slice())
+        }
     }
 }
 
@@ -151,6 +157,46 @@ fn declare_all<'s>(
     Ok(world)
 }
 
+/// The world, once its checks hold.
+fn after_checks<'s>(
+    alloc: Global,
+    decls: &[Decl<'s>],
+    world: World<'s>,
+) -> Result<World<'s>, BindFault<'s>>
+    ensures { Answers (binding.after_checks (map declaration_of decls.now) world.entry) result }
+{
+    match all_checked(alloc, &world, decls) {
+        Ok(_) => Ok(world),
+        Err(fault) => Err(fault),
+    }
+}
+
+/// The world, where it is known what is said of each name.
+fn bind_given<'s>(
+    alloc: Global,
+    decls: &[Decl<'s>],
+    given: &[Mentions<'_, '_, 's>],
+) -> Result<World<'s>, BindFault<'s>>
+    requires { binding.AreNew [] (map declaration_of decls.now) }
+    ensures { Answers (binding.with_given (map declaration_of decls.now) given.now) result }
+{
+    let world = declare_all(alloc, given, decls)?;
+    after_checks(alloc, decls, world)
+}
+
+fn bind_sheets<'s>(
+    alloc: Global,
+    decls: &[Decl<'s>],
+    sheets: &[Laid<'_, '_, 's>],
+) -> Result<World<'s>, BindFault<'s>>
+    requires { binding.AreNew [] (map declaration_of decls.now) }
+    ensures { Answers (binding.world (map declaration_of decls.now) sheets.now) result }
+{
+    let names = declared(alloc, decls)?;
+    let given = said(alloc, &names, sheets)?;
+    bind_given(alloc, decls, given.as_slice())
+}
+
 /// The world of a model, no two sets or parameters of which have one name, and of its tables.
 ///
 /// The names of all statements are looked up first: E30 at a word in data that is not a set's or a parameter's name as the
@@ -164,11 +210,6 @@ pub fn bind<'s>(
     requires { binding.AreNew [] (view.model model.now) }
     ensures { Answers (binding.world (view.model model.now) tables.now.statements) result }
 {
-    let decls = model.declarations.as_slice();
-    let names = declared(alloc, decls)?;
     let sheets = laid_out(alloc, tables.statements.as_slice())?;
-    let given = said(alloc, &names, sheets.as_slice())?;
-    let world = declare_all(alloc, given.as_slice(), decls)?;
-    all_checked(alloc, &world, decls)?;
-    Ok(world)
+    bind_sheets(alloc, model.declarations.as_slice(), sheets.as_slice())
 }
