@@ -9,10 +9,13 @@ use Rattle.net_lex.specs.declared.token.Token.{Token}
 use Rattle.net_tree.specs.Tree.{Declaration, set, param, check, node, arc, objective}
 use Rattle.net_eval.specs.declared.world.Entry.{Entry}
 use Rattle.net_eval.specs.Worlds.{Name, World, entry_of}
-use Rattle.net_bind.specs.Binding.{widths, is_among, AreNew, IsFresh, declare}
-use Rattle.net_bind.specs.Mentions.{Sorted}
+use Rattle.net_bind.specs.Binding.{world, with_given, widths, is_among, AreNew, IsFresh, declare}
+use Rattle.net_bind.specs.declared.fault.BindFault.{BindFault}
+use Rattle.net_data.specs.declared.statement.Statement.{Statement}
+use Rattle.net_bind.specs.Names.{Declared, declared}
+use Rattle.net_bind.specs.Mentions.{Sorted, said}
 use Rattle.net_bind.specs.declared.fault.Refusal.{Refusal}
-use Rattle.net_bind.specs.Outcomes.{Outcome, and_then, each}
+use Rattle.net_bind.specs.Outcomes.{Outcome, Answers, and_then, each}
 
 abbrev world_of : Outcome World → World
 world_of (Ok w) = w
@@ -103,3 +106,8 @@ pub goes_on : (given : Sorted) (w v : World) (ds : List Decl) (i : ℕ) (d : Dec
     → declare given (declaration_of d) w ≡ Ok v → each (declare given) (front ds (i + 1)) v ≡ all
 goes_on given w v ds i d all h l e o =
     sym (ap (λ ds. each (declare given) ds w) (left_at ds i d l e) ∙ ap (λ x. and_then x (each (declare given) (front ds (i + 1)))) o) ∙ h
+
+-- what is said of each name leads on to the world
+pub said_first : (ds : List Declaration) (ss : List Statement) (ns : Declared) (given : Sorted) (r : Result World BindFault) → ns ≡ declared ds → said ns ss ≡ Ok given
+    → Answers (with_given ds given) r → Answers (world ds ss) r
+said_first ds ss ns given r e f h = subst (λ o. Answers (and_then o (with_given ds)) r) (sym (ap (λ k. said k ss) (sym e) ∙ f)) h

@@ -184,13 +184,13 @@ fn bind_given<'s>(
     after_checks(alloc, decls, world)
 }
 
-fn bind_sheets<'s>(
+fn bind_sheets<'m, 't, 's>(
     alloc: Global,
     decls: &[Decl<'s>],
-    sheets: &[Laid<'_, '_, 's>],
+    sheets: &'m [Laid<'m, 't, 's>],
 ) -> Result<World<'s>, BindFault<'s>>
     requires { binding.AreNew [] (map declaration_of decls.now) }
-    ensures { Answers (binding.world (map declaration_of decls.now) sheets.now) result }
+    ensures { Answers (binding.world (map declaration_of decls.now) sheets.entry.now) result }
 {
     let names = declared(alloc, decls)?;
     let given = said(alloc, &names, sheets)?;
