@@ -1,5 +1,5 @@
 -- Worlds in which the names of declarations to come mean nothing so far.
-use Rattle.std.specs.Prelude.{◌≡◌, ℕ, zero, suc, Bool, true, false, ◌||◌, List, [], ◌∷◌, ◌++◌, length, take, map, None, Some, if◌then◌else◌, Ok, Err, Result}
+use Rattle.std.specs.Prelude.{◌≡◌, ℕ, Bool, true, false, ◌||◌, List, [], ◌∷◌, ◌++◌, length, take, map, None, Some, if◌then◌else◌, Ok, Err, Result}
 use Rattle.std.specs.Str.{bytes_eq}
 use Rattle.std.proofs.Common.{refl, sym, ap, ◌∙◌, subst, add-one, ◌+◌, ◌<◌, get_or, drop}
 use Rattle.std.proofs.Math.Seq.{drop-cons}
@@ -14,7 +14,6 @@ use Rattle.net_bind.specs.declared.fault.BindFault.{BindFault}
 use Rattle.net_data.specs.declared.statement.Statement.{Statement}
 use Rattle.net_bind.specs.Names.{Declared, declared}
 use Rattle.net_bind.specs.Mentions.{Sorted, said}
-use Rattle.net_bind.specs.declared.fault.Refusal.{Refusal}
 use Rattle.net_bind.specs.Outcomes.{Outcome, Answers, and_then, each}
 
 abbrev world_of : Outcome World → World

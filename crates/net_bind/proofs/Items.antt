@@ -1,6 +1,6 @@
 -- Walks over the items of a set.
-use Rattle.std.specs.Prelude.{◌≡◌, ℕ, zero, suc, ◌≤◌, Bool, true, false, List, [], ◌∷◌, ◌++◌, length, drop, slice_get, Option, None, Some, unwrap_or, codes, if◌then◌else◌}
-use Rattle.std.proofs.Common.{refl, sym, ap, ◌∙◌, subst, arith, append_assoc, length-drop}
+use Rattle.std.specs.Prelude.{◌≡◌, ℕ, zero, suc, ◌≤◌, Bool, true, false, List, [], ◌∷◌, ◌++◌, length, drop, slice_get, None, Some, unwrap_or, codes, if◌then◌else◌}
+use Rattle.std.proofs.Common.{refl, sym, ap, ◌∙◌, arith, append_assoc, length-drop}
 use Rattle.net_lex.specs.declared.token.Token.{Token}
 use Rattle.net_data.specs.Rows.{first_item, begins_tuple, more_items, inside_len}
 use Rattle.net_data.specs.Tests.{is_mark}

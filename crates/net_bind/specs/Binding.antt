@@ -6,7 +6,7 @@ use Rattle.net_lex.specs.declared.language.Language.TheVariants.{Model}
 use Rattle.net_lex.specs.declared.token.Token.{Token}
 use Rattle.net_data.specs.declared.statement.Statement.{Statement}
 use Rattle.net_tree.specs.Spans.{span_of}
-use Rattle.net_tree.specs.Tree.{Tree, Braces, Phrase, Declaration, set, param, check, node, arc, objective}
+use Rattle.net_tree.specs.Tree.{Tree, Braces, Declaration, set, param, check, node, arc, objective}
 use Rattle.net_eval.specs.declared.fault.Detail.TheVariants.{Nothing}
 use Rattle.net_eval.specs.declared.row.Row.{Row}
 use Rattle.net_eval.specs.declared.world.Entry.{Entry}

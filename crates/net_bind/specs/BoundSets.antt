@@ -1,7 +1,6 @@
 -- A declared set: what its phrases say, then what data say, then what it is.
 use Rattle.std.specs.Prelude.{ℕ, Bool, true, List, [], ◌∷◌, is_some, unwrap_or, Option, None, Some, if◌then◌else◌, Ok}
 use Rattle.net_lex.specs.declared.language.Language.TheVariants.{Model}
-use Rattle.net_lex.specs.declared.span.Span.{Span}
 use Rattle.net_lex.specs.declared.token.Token.{Token}
 use Rattle.net_sets.specs.Operations.{is_within}
 use Rattle.net_sets.specs.Sets.{Tuple}

@@ -1,11 +1,10 @@
 -- What a parameter's phrases ask of its values.
-use Rattle.std.specs.Prelude.{ℕ, Bool, true, not, List, [], ◌∷◌, Option, None, Some, codes, if◌then◌else◌, Ok, ℤ, int_lt, int_le}
+use Rattle.std.specs.Prelude.{Bool, true, not, List, [], ◌∷◌, Option, None, Some, codes, if◌then◌else◌, Ok, ℤ, int_lt, int_le}
 use Rattle.std.specs.Str.{bytes_eq}
 use Rattle.net_lex.specs.declared.language.Language.TheVariants.{Model}
 use Rattle.net_lex.specs.declared.span.Span.{Span}
 use Rattle.net_lex.specs.declared.token.Token.{Token}
 use Rattle.net_sets.specs.declared.member.Member.{Member}
-use Rattle.net_sets.specs.declared.member.Member.TheVariants.{Number, Name}
 use Rattle.net_tree.specs.Spans.{span_of}
 use Rattle.net_tree.specs.Tree.{Tree, Body, plain, valued, priced, Phrase}
 use Rattle.net_eval.specs.declared.fault.Detail.{Detail}

@@ -114,7 +114,12 @@ impl<'s> From<EvalFault<'s>> for BindFault<'s> {
 pub(crate) fn refuse<'s>(defect: EvalDefect, at: Span) -> BindFault<'s>
     ensures { result ≡ Refused (record { defect = AValue defect; text = InModel; at = at; detail = Nothing }) }
 {
-    refuse_in(Language::Model, BindDefect::Value(defect), at, Detail::Nothing)
+    refuse_in(
+        Language::Model,
+        BindDefect::Value(defect),
+        at,
+        Detail::Nothing,
+    )
 }
 
 /// A fault in one of the texts, with what is told beside its place.

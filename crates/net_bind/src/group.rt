@@ -10,8 +10,8 @@ ghost use Rattle.net_bind.specs.SetData as set_data;
 ghost use Rattle.net_bind.specs.Outcomes.{Answers};
 
 use crate::cell::Cell;
-use crate::given::Line;
 use crate::fault::{BindDefect, BindFault, refuse_in};
+use crate::given::Line;
 use net_eval::{Detail, EvalDefect};
 use net_lex::{Items, Kind, Language, Span};
 use std::alloc::{AllocError, Global};
@@ -20,7 +20,12 @@ use std::alloc::{AllocError, Global};
 pub(crate) fn refuse_there<'s>(defect: EvalDefect, at: Span) -> BindFault<'s>
     ensures { result ≡ Refused (record { defect = AValue defect; text = InData; at = at; detail = Nothing }) }
 {
-    refuse_in(Language::Data, BindDefect::Value(defect), at, Detail::Nothing)
+    refuse_in(
+        Language::Data,
+        BindDefect::Value(defect),
+        at,
+        Detail::Nothing,
+    )
 }
 
 /// Where a row begins.

@@ -92,10 +92,7 @@ fn body_of<'t, 's>(
 }
 
 impl<'m, 't, 's> Laid<'m, 't, 's> {
-    fn new(
-        alloc: Global,
-        statement: &'m Statement<'t, 's>,
-    ) -> Result<Laid<'m, 't, 's>, AllocError>
+    fn new(alloc: Global, statement: &'m Statement<'t, 's>) -> Result<Laid<'m, 't, 's>, AllocError>
         ensures { IfOk result (λ l. l ≡ statement.entry.now) }
     {
         Ok(Laid {

@@ -18,5 +18,5 @@ mod set;
 mod set_phrase;
 mod world;
 
-pub use world::bind;
 pub use fault::{BindDefect, BindFault, Refusal};
+pub use world::bind;

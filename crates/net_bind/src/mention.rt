@@ -10,7 +10,10 @@ use crate::fault::BindFault;
 use crate::given::{Given, Grid, Groups, Line, Mention, Mentions};
 use crate::laid::Laid;
 use crate::names::Names;
-use net_data::{ColumnsStatement, DefaultValue, ListStatement, NamedSet, SetStatement, Statement, TableStatement};
+use net_data::{
+    ColumnsStatement, DefaultValue, ListStatement, NamedSet, SetStatement, Statement,
+    TableStatement,
+};
 use net_lex::Items;
 use std::alloc::Global;
 

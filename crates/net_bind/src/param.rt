@@ -154,11 +154,7 @@ fn once<'s>(alloc: Global, tuples: &[Tuple<'s>]) -> Result<TupleSet<'s>, SetFaul
 }
 
 /// The index list: the keys, each once.
-fn index_list<'s>(
-    alloc: Global,
-    at: Span,
-    rows: &[Row<'s>],
-) -> Result<TupleSet<'s>, BindFault<'s>>
+fn index_list<'s>(alloc: Global, at: Span, rows: &[Row<'s>]) -> Result<TupleSet<'s>, BindFault<'s>>
     ensures { Answers (bound.index_list at rows.now) result }
 {
     let keys = keys_of(alloc, rows)?;
@@ -325,7 +321,9 @@ fn fit_values<'s>(
     ensures { Answers (bound.fit_values seen.now name.now keys (map phrase_of phrases.now) text at places.now table.now rows.now) result }
 {
     for row in rows {
-        fit_value(alloc, seen, name, keys, phrases, text, at, places, table, row)?;
+        fit_value(
+            alloc, seen, name, keys, phrases, text, at, places, table, row,
+        )?;
     }
     Ok(())
 }
@@ -347,7 +345,18 @@ fn with_values<'s>(
 {
     with_keys(alloc, seen, name.span, expr, word, rows, table)?;
     let at = source_at(name.span, expr, word);
-    fit_values(alloc, seen, name, keys, phrases, source_text(word), at, places, table, rows)
+    fit_values(
+        alloc,
+        seen,
+        name,
+        keys,
+        phrases,
+        source_text(word),
+        at,
+        places,
+        table,
+        rows,
+    )
 }
 
 fn with_source<'s>(
@@ -367,10 +376,28 @@ fn with_source<'s>(
 {
     match (assigned, default) {
         (Some(expr), _) => with_values(
-            alloc, seen, name, keys, phrases, Some(expr), None, rows, places, table,
+            alloc,
+            seen,
+            name,
+            keys,
+            phrases,
+            Some(expr),
+            None,
+            rows,
+            places,
+            table,
         ),
         (None, Some(word)) => with_values(
-            alloc, seen, name, keys, phrases, None, Some(word), rows, places, table,
+            alloc,
+            seen,
+            name,
+            keys,
+            phrases,
+            None,
+            Some(word),
+            rows,
+            places,
+            table,
         ),
         (None, None) => with_values(
             alloc, seen, name, keys, phrases, otherwise, None, rows, places, table,
@@ -396,7 +423,16 @@ fn with_data<'s>(
     let assigned = phrase_value(Gives::Becomes, phrases);
     let otherwise = phrase_value(Gives::Default, phrases);
     let is_assigned = assigned.is_some();
-    let default = said_of(alloc, widths, keys, &index, is_assigned, mentions, &mut table, &mut places)?;
+    let default = said_of(
+        alloc,
+        widths,
+        keys,
+        &index,
+        is_assigned,
+        mentions,
+        &mut table,
+        &mut places,
+    )?;
     with_source(
         alloc,
         seen,
@@ -428,5 +464,15 @@ pub(crate) fn bound_parameter<'s>(
     let keys = keys_in(alloc, seen, braces)?;
     let rows = keys.rows.as_slice();
     let index = index_list(alloc, span_or(name.span, braces), rows)?;
-    with_data(alloc, seen, widths, name, phrases, mentions, key_size(braces, &keys), rows, index)
+    with_data(
+        alloc,
+        seen,
+        widths,
+        name,
+        phrases,
+        mentions,
+        key_size(braces, &keys),
+        rows,
+        index,
+    )
 }

@@ -120,7 +120,16 @@ fn grouped<'t, 's>(
     if is_doubled {
         return Err(doubled(word));
     }
-    with_groups(word, keys, index, size, groups.place, cells.as_slice(), table, places)
+    with_groups(
+        word,
+        keys,
+        index,
+        size,
+        groups.place,
+        cells.as_slice(),
+        table,
+        places,
+    )
 }
 
 /// A table, whose shape is judged before its rows are taken.
@@ -144,7 +153,16 @@ fn gridded<'t, 's>(
     if is_doubled {
         return Err(doubled(word));
     }
-    with_lines(alloc, word, keys, index, grid, lines.as_slice(), table, places)
+    with_lines(
+        alloc,
+        word,
+        keys,
+        index,
+        grid,
+        lines.as_slice(),
+        table,
+        places,
+    )
 }
 
 fn taken<'t, 's>(
@@ -178,10 +196,7 @@ fn taken<'t, 's>(
     }
 }
 
-fn either<'t, 's>(
-    before: Option<Cell<'t, 's>>,
-    now: &Option<Cell<'t, 's>>,
-) -> Option<Cell<'t, 's>>
+fn either<'t, 's>(before: Option<Cell<'t, 's>>, now: &Option<Cell<'t, 's>>) -> Option<Cell<'t, 's>>
     ensures { result ≡ rows.either before.entry now.now }
 {
     match before {
@@ -210,7 +225,9 @@ pub(crate) fn said_of<'t, 's>(
     let mut default: Option<Cell<'t, 's>> = None;
     for mention in mentions {
         let is_doubled = is_assigned || (mention.default.is_some() && default.is_some());
-        taken(alloc, widths, keys, index, size, mention, is_doubled, table, places)?;
+        taken(
+            alloc, widths, keys, index, size, mention, is_doubled, table, places,
+        )?;
         default = either(default, &mention.default);
     }
     Ok(default)

@@ -216,7 +216,15 @@ pub(crate) fn restricted<'s>(
     ensures { Answers (restrictions.restricted seen.now scope.now detail.now member.now (map phrase_of phrases.now)) result }
 {
     for phrase in phrases {
-        restricted_in(alloc, seen, scope, detail, member, &phrase.word, &phrase.body)?;
+        restricted_in(
+            alloc,
+            seen,
+            scope,
+            detail,
+            member,
+            &phrase.word,
+            &phrase.body,
+        )?;
     }
     Ok(())
 }

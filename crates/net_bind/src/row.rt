@@ -13,9 +13,9 @@ ghost use Rattle.net_bind.specs.Outcomes.{Leaves, each};
 
 use crate::cell::{Cell, tuple_in};
 use crate::fault::{BindDefect, BindFault, refuse_in};
+use crate::given::Line;
 use crate::group::{begins_at, front, is_point};
 use net_eval::{Detail, EvalDefect};
-use crate::given::Line;
 use net_lex::{Excerpt, Items, Language, Span};
 use net_sets::{Member, SetFault, Table, Tuple, TupleSet};
 use std::alloc::{AllocError, Global};
@@ -55,7 +55,12 @@ pub(crate) fn with_value<'s>(
 fn too_many<'s>(text: Language, at: Span) -> BindFault<'s>
     ensures { result ≡ Refused (record { defect = AValue TooMany; text = text; at = at; detail = Nothing }) }
 {
-    refuse_in(text, BindDefect::Value(EvalDefect::TooMany), at, Detail::Nothing)
+    refuse_in(
+        text,
+        BindDefect::Value(EvalDefect::TooMany),
+        at,
+        Detail::Nothing,
+    )
 }
 
 /// A row for a key that has no value yet, and is in the index list.

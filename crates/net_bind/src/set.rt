@@ -83,7 +83,12 @@ fn key_rows<'t, 's>(
 {
     agrees(word, told_by(widths, groups.leader, dimension), dimension)?;
     let cells = cut(alloc, dimension, groups.values, groups.cells.cells())?;
-    whole_groups(word.token().span, dimension, groups.values, cells.as_slice())?;
+    whole_groups(
+        word.token().span,
+        dimension,
+        groups.values,
+        cells.as_slice(),
+    )?;
     Ok(keys_of(alloc, dimension, cells.as_slice())?)
 }
 
@@ -249,7 +254,13 @@ fn set_of<'s>(
     let phrases = claims.phrases.as_slice();
     let dimension = claims.dimension.unwrap_or(1);
     let assigned = assigned(phrases);
-    let found = given_set(alloc, widths, usize::from(dimension), assigned.is_some(), mentions)?;
+    let found = given_set(
+        alloc,
+        widths,
+        usize::from(dimension),
+        assigned.is_some(),
+        mentions,
+    )?;
     let set = one_of(alloc, name, assigned, found)?;
     allowed(name, &set, phrases)?;
     Ok(set_entry(dimension, set)?)

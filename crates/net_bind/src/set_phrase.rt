@@ -139,11 +139,7 @@ fn dimension_of(claim: &Claim<'_, '_>) -> Option<u8>
 }
 
 /// The dimension that two say, who must agree.
-fn agreed<'s>(
-    at: Span,
-    before: Option<u8>,
-    now: Option<u8>,
-) -> Result<Option<u8>, BindFault<'s>>
+fn agreed<'s>(at: Span, before: Option<u8>, now: Option<u8>) -> Result<Option<u8>, BindFault<'s>>
     ensures { Answers (phrases.agreed at before now) result }
 {
     match (before, now) {
@@ -165,10 +161,7 @@ fn with_phrase<'w, 's>(
 ) -> Result<Claims<'w, 's>, BindFault<'s>>
     ensures { Answers (phrases.with_phrase claims.entry phrase.entry) result }
 {
-    let Claims {
-        dimension,
-        phrases,
-    } = claims;
+    let Claims { dimension, phrases } = claims;
     let dimension = agreed(phrase.at, dimension, dimension_of(&phrase.claim))?;
     let mut all = phrases.into_vec();
     all.push(phrase)?;
@@ -216,7 +209,13 @@ pub(crate) fn set_phrases<'w, 's>(
 {
     let mut claims = unclaimed(alloc);
     for phrase in all {
-        claims = in_body(alloc, seen, set_word(role_of(&phrase.word)), &phrase.body, claims)?;
+        claims = in_body(
+            alloc,
+            seen,
+            set_word(role_of(&phrase.word)),
+            &phrase.body,
+            claims,
+        )?;
     }
     Ok(claims)
 }

@@ -129,8 +129,15 @@ fn declare<'s>(
             with_entry(name, entry, world, widths)
         }
         Decl::Param(_, name, braces, phrases, _) => {
-            let entry =
-                entry_of_parameter(alloc, given, name, braces, phrases.as_slice(), world, widths)?;
+            let entry = entry_of_parameter(
+                alloc,
+                given,
+                name,
+                braces,
+                phrases.as_slice(),
+                world,
+                widths,
+            )?;
             with_entry(name, entry, world, widths)
         }
         Decl::Check(_, _, _, _, _) => Ok(()),

@@ -1,4 +1,3 @@
-use Rattle.std.proofs.Common.{rules}
 use Rattle.net_bind.proofs.param.with_source.Goals as goal
 
 pub returns-in-None-Some : goal.returns-in-None-Some

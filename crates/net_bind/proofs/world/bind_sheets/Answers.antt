@@ -1,4 +1,4 @@
-use Rattle.std.proofs.Common.{rules, ◌≡◌, Ok, map, sym, subst}
+use Rattle.std.proofs.Common.{rules, ◌≡◌, Ok, map}
 use Rattle.net_tree.specs.View.{declaration_of}
 use Rattle.net_bind.specs.Binding.{with_given}
 use Rattle.net_bind.specs.Mentions.{said}
