@@ -1,0 +1,4 @@
+mod Keeping
+mod Sizes
+mod NetTerms
+mod Ranges

@@ -1,0 +1,19 @@
+use Rattle.std.proofs.Common.{rules, ◌≡◌, length, take, ap, sym, subst, ◌∙◌}
+use Rattle.net_forms.specs.Kept.{IsKept}
+use Rattle.net_forms.specs.Arcs.{declared}
+use Rattle.net_forms.proofs.Keeping.{kept_more, kept_same, front_taken}
+use Rattle.net_forms.proofs.arc.ArcNames.add.Goals as goal
+
+pub invariant_of-self-in-Ok : goal.invariant_of-self-in-Ok
+invariant_of-self-in-Ok c =
+    let last : c.len-place.result ≡ length c.self.inside.declarations.items = search (rules, c.len-place.ensures) in
+    rw (c.in_ok-push.ensures.items, c.again.ensures)
+    (kept_more c.self.inside.declarations.items c.args.name.now c.args.arcs c.len-place.result c.self.inside.places c.insert.new.places c.self.invariant
+    (ap (λ w. declared w c.args.name.now) c.self.view_is ∙ c.requires) last c.in-Ok.ensures.ok)
+
+pub invariant_of-self-in-Err : goal.invariant_of-self-in-Err
+invariant_of-self-in-Err c =
+    let last : c.len-place.result ≡ length c.self.inside.declarations.items = search (rules, c.len-place.ensures) in
+    subst (λ w. IsKept w c.insert.new.places)
+    (sym (c.truncate.ensures.items ∙ ap (λ w. take c.len-place.result w) c.in_ok-push.ensures.items ∙ front_taken _ _ c.len-place.result last))
+    (kept_same c.self.inside.declarations.items c.self.inside.places c.insert.new.places c.self.invariant c.in-Err.ensures.err)
