@@ -2,3 +2,10 @@ mod Keeping
 mod Sizes
 mod NetTerms
 mod Ranges
+mod Rings
+mod FormLaws
+mod WorthLaws
+mod Coefficients
+mod Adding
+mod FormSizes
+mod Naming

@@ -1,5 +1,5 @@
 -- Sums of arcs with coefficients, and what arithmetic makes of them.
-use Rattle.std.specs.Prelude.{ℕ, Bool, true, false, not, ◌&&◌, ◌||◌, List, [], ◌∷◌, nat_eq, Option, None, Some, if◌then◌else◌, Ok, ℤ, pos, negsuc, ◌+ℤ◌, ◌*ℤ◌, int_div, int_rem}
+use Rattle.std.specs.Prelude.{ℕ, ◌≤◌, unsigned_abs, Bool, true, false, not, ◌&&◌, ◌||◌, List, [], ◌∷◌, nat_eq, Option, None, Some, if◌then◌else◌, Ok, ℤ, pos, negsuc, ◌+ℤ◌, ◌*ℤ◌, int_div, int_rem}
 use Rattle.net_lex.specs.declared.span.Span.{Span}
 use Rattle.net_eval.specs.declared.fault.EvalDefect.TheVariants.{KindMismatch, DivMod, TooLarge}
 use Rattle.net_eval.specs.Limits.{is_small}
@@ -43,6 +43,10 @@ just n = record { constant = n; products = [] }
 abbrev pub one_arc : ℕ → Linear
 one_arc a = record { constant = pos 0; products = (a, pos 1) ∷ [] }
 
+-- m + k * n
+abbrev pub scaled_onto : ℤ → ℤ → ℤ → ℤ
+scaled_onto m k n = m +ℤ k *ℤ n
+
 -- f + k * g
 abbrev pub combined : Linear → ℤ → Linear → Linear
 combined f k g = record { constant = f.constant +ℤ k *ℤ g.constant; products = with_times f.products k g.products }
@@ -55,9 +59,20 @@ is_number (p ∷ ps) = false
 abbrev pub Term : Type 0
 Term = Option Linear
 
--- a result of arithmetic: its number and each coefficient are within the limit
+-- the number and each coefficient are within the limit
+abbrev pub is_sized : Linear → Bool
+is_sized f = is_small f.constant && all_small f.products
+
+abbrev pub if_sized : Linear → Term
+if_sized f = if is_sized f then Some f else None
+
+abbrev pub within : Span → Term → Outcome Term
+within at (Some f) = Ok (Some f)
+within at None = refused (Value TooLarge) at
+
+-- a result of arithmetic
 abbrev pub sized : Span → Linear → Outcome Term
-sized at f = if is_small f.constant && all_small f.products then Ok (Some f) else refused (Value TooLarge) at
+sized at f = within at (if_sized f)
 
 abbrev pub minus_one : ℤ
 minus_one = negsuc 0
@@ -69,12 +84,12 @@ times at f g =
     else if is_number g.products then sized at (combined (just (pos 0)) g.constant f)
     else refused NotLinear at
 
+abbrev pub quotient : Span → (ℤ → ℤ → ℤ) → ℤ → ℤ → Outcome Term
+quotient at h m n = if divides m n then sized at (just (h m n)) else refused (Value DivMod) at
+
 -- both sides are numbers alone
 abbrev pub divided : Span → (ℤ → ℤ → ℤ) → Linear → Linear → Outcome Term
-divided at h f g =
-    if is_number f.products && is_number g.products
-    then if divides f.constant g.constant then sized at (just (h f.constant g.constant)) else refused (Value DivMod) at
-    else refused NotLinear at
+divided at h f g = if is_number f.products && is_number g.products then quotient at h f.constant g.constant else refused NotLinear at
 
 abbrev pub joined : Joint → Span → Linear → Linear → Outcome Term
 joined Plus at f g = sized at (combined f (pos 1) g)
@@ -88,14 +103,15 @@ abbrev pub join : Joint → Span → Term → Term → Outcome Term
 join j at (Some f) (Some g) = joined j at f g
 join j at _ _ = refused (Value KindMismatch) at
 
--- with a sign
-abbrev pub signed_form : Bool → Linear → Linear
-signed_form true f = combined (just (pos 0)) minus_one f
-signed_form false f = f
+-- k * f
+abbrev pub scaled : Span → ℤ → Linear → Outcome Term
+scaled at k f = sized at (combined (just (pos 0)) k f)
 
+-- with a sign
 abbrev pub turn : Bool → Span → Term → Outcome Term
 turn minus at None = refused (Value KindMismatch) at
-turn minus at (Some f) = Ok (Some (signed_form minus f))
+turn true at (Some f) = scaled at minus_one f
+turn false at (Some f) = Ok (Some f)
 
 -- one more of the terms of a sum; only the total is tested
 abbrev pub gathered : Span → Linear → Term → Outcome Linear
@@ -130,3 +146,8 @@ products_at x (p ∷ ps) = (p.1 *ℤ x p.0) +ℤ products_at x ps
 
 abbrev pub form_at : (ℕ → ℤ) → Linear → ℤ
 form_at x f = f.constant +ℤ products_at x f.products
+
+-- the number and each coefficient are at most n in size
+pub record AreWithin (n : ℕ) (f : Linear) : Type 0 where
+  pub constant : unsigned_abs f.constant ≤ n
+  pub products : (a : ℕ) → unsigned_abs (coefficient f.products a) ≤ n

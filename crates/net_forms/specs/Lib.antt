@@ -8,3 +8,4 @@ pub mod Kept
 pub mod Forms
 pub mod Objectives
 pub mod Worths
+pub mod Laws

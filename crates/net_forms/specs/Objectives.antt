@@ -28,7 +28,7 @@ use Rattle.net_forms.specs.Outcomes.{Outcome, and_then, refused, from_values, nu
 abbrev mutual
   pub names_arc : Arcs → Tree → Bool
   names_arc a (leaf t) = is_arc a t.text
-  names_arc a (indexed n o x l c) = is_arc a n.text || names_arc a x || any_arc a l
+  names_arc a (indexed n o x l c) = is_arc a n.text || (names_arc a x || any_arc a l)
   names_arc a (parens o x c) = names_arc a x
   names_arc a (tuple o x l c) = names_arc a x || any_arc a l
   names_arc a (negated n o x c) = names_arc a x
@@ -36,7 +36,7 @@ abbrev mutual
   names_arc a (signed t x) = names_arc a x
   names_arc a (reduced r b x) = braces_arc a b || names_arc a x
   names_arc a (chain n x l) = names_arc a x || any_arc a l
-  names_arc a (choice i x t y e) = names_arc a x || names_arc a y || part_arc a e
+  names_arc a (choice i x t y e) = (names_arc a x || names_arc a y) || part_arc a e
   names_arc a (net t u) = false
 
   pub any_arc : Arcs → Links → Bool
@@ -49,28 +49,27 @@ abbrev mutual
 
   pub braces_arc : Arcs → Braces → Bool
   braces_arc a (empty o p c) = part_arc a p
-  braces_arc a (filled o x l p c) = names_arc a x || any_arc a l || part_arc a p
+  braces_arc a (filled o x l p c) = (names_arc a x || any_arc a l) || part_arc a p
+
+abbrev pub first_or_any : Arcs → Tree → Links → Bool
+first_or_any a x l = names_arc a x || any_arc a l
 
 -- `+` and `-` alone
 abbrev pub are_signs : Links → Bool
 are_signs none = true
 are_signs (link o x l) = is_sign (joint o) && are_signs l
 
-abbrev pub is_times : Joint → Bool
-is_times Times = true
-is_times _ = false
+-- an operator between what stands before it and the operand behind it, by whether an arc stands there: `*` takes one arc, and
+-- the others that make numbers take none
+abbrev pub may_join : Joint → Bool → Bool → Bool
+may_join Times before here = not (before && here)
+may_join Other before here = false
+may_join _ before here = not (before || here)
 
-abbrev pub is_numeric : Joint → Bool
-is_numeric Other = false
-is_numeric _ = true
-
--- at most one operand names an arc, and each operator with an arc on one of its sides is `*`; seen: an arc stands before
+-- at most one operand names an arc, and each operator with an arc on one of its sides is `*`
 abbrev pub one_factor : Arcs → Bool → Links → Bool
-one_factor a seen none = true
-one_factor a seen (link o x l) =
-    if seen then is_times (joint o) && not (names_arc a x) && one_factor a true l
-    else if names_arc a x then is_times (joint o) && one_factor a true l
-    else is_numeric (joint o) && one_factor a false l
+one_factor a before none = true
+one_factor a before (link o x l) = may_join (joint o) before (names_arc a x) && one_factor a (before || names_arc a x) l
 
 -- a sum, or a product with at most one operand that names an arc
 abbrev pub is_linear : Arcs → Tree → Links → Bool
@@ -97,13 +96,13 @@ linear at false u = refused NotLinear at
 
 -- the arc of a reference; its subscripts are evaluated first
 abbrev pub key_of : World → Scope → Span → Tree → Links → Outcome Tuple
-key_of w s at x l = from_values (plain.and_then (plain.and_then (value w s x) (λ v. values w s l (v ∷ []))) (tuple_of at))
+key_of w s at x l = and_then (from_values (plain.and_then (value w s x) (λ v. values w s l (v ∷ [])))) (λ vs. from_values (tuple_of at vs))
 
 abbrev pub arc_term : Arcs → Span → Name → Outcome Tuple → Outcome Term
 arc_term a at name key = and_then (and_then key (arc_at at name (declared a name))) (λ n. Ok (Some (one_arc n)))
 
 abbrev pub condition : World → Scope → Span → Tree → Outcome Bool
-condition w s at x = from_values (plain.and_then (value w s x) (truth at))
+condition w s at x = and_then (from_values (value w s x)) (λ v. from_values (truth at v))
 
 abbrev pub scopes : Keys → List Row
 scopes k = k.rows
@@ -141,6 +140,21 @@ abbrev mutual
   pub chained : Arcs → Span → World → Scope → Links → Term → Outcome Term
   chained a at w s none u = Ok u
   chained a at w s (link o x l) u = and_then (objective a w s x) (λ v. and_then (join (joint o) at u v) (chained a at w s l))
+
+-- what a tree in which an arc stands comes to
+abbrev pub with_arcs : Arcs → World → Scope → Tree → Outcome Term
+with_arcs a w s (leaf t) = arc_term a (span_of (leaf t)) t.text (Ok [])
+with_arcs a w s (indexed n o x l c) = linear (span_of (indexed n o x l c)) (not (first_or_any a x l)) (arc_term a (span_of (indexed n o x l c)) n.text (key_of w s (span_of (indexed n o x l c)) x l))
+with_arcs a w s (parens o x c) = objective a w s x
+with_arcs a w s (signed t x) = and_then (objective a w s x) (turn (is_minus t) (span_of (signed t x)))
+with_arcs a w s (reduced r b x) =
+    linear (span_of (reduced r b x)) (is_sum (reduction r) && not (braces_arc a b))
+    (and_then (from_values (index w s b)) (λ k. total (span_of (reduced r b x)) (λ row. objective a w row.scope x) k.rows))
+with_arcs a w s (chain n x l) = linear (span_of (chain n x l)) (is_linear a x l) (and_then (objective a w s x) (chained a (span_of (chain n x l)) w s l))
+with_arcs a w s (choice i x t y e) =
+    linear (span_of (choice i x t y e)) (not (names_arc a x))
+    (and_then (condition w s (span_of (choice i x t y e)) x) (λ holds. if holds then objective a w s y else otherwise a w s e))
+with_arcs a w s t = refused NotLinear (span_of t)
 
 -- the objective has to be a number
 abbrev pub objective_form : Arcs → World → Scope → Tree → Outcome Linear

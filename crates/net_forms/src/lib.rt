@@ -4,12 +4,20 @@
 mod arc;
 mod condition;
 mod fault;
+mod form;
 mod joint;
+mod key;
+mod laws;
+mod names;
 mod net_term;
+mod products;
+mod term;
 mod value;
 
 pub use arc::{ArcKeys, ArcNames};
 pub use condition::{Comparison, Sides, node_range};
 pub use fault::{FormDefect, FormFault, FormRefusal};
+pub use form::Form;
 pub use joint::Joint;
+pub use laws::forms_have_worth;
 pub use net_term::NetTerm;
