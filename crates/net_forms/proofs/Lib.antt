@@ -9,3 +9,4 @@ mod Coefficients
 mod Adding
 mod FormSizes
 mod Naming
+mod Converting

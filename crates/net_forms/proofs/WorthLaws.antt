@@ -1,5 +1,5 @@
 -- What an objective comes to is worth what its expression is worth.
-use Rattle.std.specs.Prelude.{◌≡◌, ℕ, Bool, true, false, not, ◌&&◌, ◌||◌, Option, None, Some, Ok, Err, ℤ, pos}
+use Rattle.std.specs.Prelude.{◌≡◌, ℕ, Bool, true, false, not, ◌&&◌, ◌||◌, Option, None, Some, Result, Ok, Err, IfOk, ℤ, pos}
 use Rattle.std.proofs.Common.{ap, sym, ◌∙◌}
 use Rattle.net_lex.specs.declared.span.Span.{Span}
 use Rattle.net_tree.specs.Spans.{span_of}
@@ -12,8 +12,9 @@ use Rattle.net_forms.specs.Arcs.{Arcs, declared, is_arc, arc_at}
 use Rattle.net_forms.specs.Forms.{Linear, Term, just, join, turn, as_form, form_at}
 use Rattle.net_forms.specs.Joints.{joint}
 use Rattle.net_forms.specs.Laws.{HaveWorth}
-use Rattle.net_forms.specs.Objectives.{names_arc, any_arc, braces_arc, is_sum, is_linear, key_of, condition, objective, otherwise, chained}
-use Rattle.net_forms.specs.Outcomes.{Outcome, and_then, from_values}
+use Rattle.net_forms.specs.Objectives.{names_arc, any_arc, braces_arc, is_sum, is_linear, key_of, condition, objective, otherwise, chained, objective_form}
+use Rattle.net_forms.specs.Outcomes.{Outcome, Answers, and_then, from_values}
+use Rattle.net_forms.specs.declared.fault.FormFault.{FormFault}
 use Rattle.net_forms.specs.Worths.{combine, worth, worth_else, worth_chain}
 use Rattle.net_forms.proofs.FormLaws.{term_at, same_term, form_just, join_ok, turn_ok, total_ok, mixed_ok, no_arcs, linear_ok, arc_ok, choose_ok}
 use Rattle.net_forms.proofs.Ranges.{ok_then}
@@ -60,3 +61,7 @@ form_of x at (Some g) f e = let same : g ≡ f = cc in ap (form_at x) (sym same)
 
 pub have_worth : HaveWorth
 have_worth a w s t f e x = ok_then (objective a w s t) (as_form (span_of t)) f e (λ u h k. form_of x (span_of t) u f k ∙ law x a w s t u h)
+
+pub worth_by : (a : Arcs) (w : World) (s : Scope) (t : Tree) (r : Result Linear FormFault) → Answers (objective_form a w s t) r → IfOk r (λ f. (x : ℕ → ℤ) → form_at x f ≡ worth a w s t x)
+worth_by a w s t (Ok f) e = have_worth a w s t f e
+worth_by a w s t (Err f) e = tt

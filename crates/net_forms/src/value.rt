@@ -1,14 +1,19 @@
 //! Values, with their faults as those of what they stand in.
 
 ghost use Rattle.std.specs.Prelude.{◌≡◌};
-ghost use Rattle.net_tree.specs.View.{tree};
+ghost use Rattle.net_tree.specs.Spans as trees;
+ghost use Rattle.net_tree.specs.View.{tree, braces_of};
+ghost use Rattle.net_eval.specs.Operations as operations;
+ghost use Rattle.net_eval.specs.Operators as operators;
 ghost use Rattle.net_eval.specs.Values as values;
+ghost use Rattle.net_forms.specs.Objectives as objectives;
 ghost use Rattle.net_forms.specs.Outcomes.{Answers, as_number, from_values, number_or_none};
 
-use crate::fault::{FormFault, widened};
-use net_eval::{Scope, Seen, Value, evaluate};
+use crate::fault::{FormDefect, FormFault, refuse_tree, widened};
+use net_eval::{EvalDefect, Keys, Scope, Seen, Value, evaluate, index_of};
+use net_lex::Token;
 use net_sets::Member;
-use net_tree::Expr;
+use net_tree::{Braces, Expr};
 use std::alloc::Global;
 
 /// The value of an expression.
@@ -50,4 +55,56 @@ pub(crate) fn number_or_none<'s>(
 {
     let value = value_of(alloc, seen, scope, expr)?;
     Ok(number_in(&value))
+}
+
+fn truth<'s>(whole: &Expr<'_>, value: &Value<'_, 's>) -> Result<bool, FormFault<'s>>
+    ensures { Answers (from_values (operators.truth (trees.span_of (tree whole.now)) value.now)) result }
+{
+    match value {
+        Value::Truth(truth) => Ok(*truth),
+        Value::One(_) => Err(refuse_tree(FormDefect::Value(EvalDefect::KindMismatch), whole)),
+        Value::Several(_) => Err(refuse_tree(FormDefect::Value(EvalDefect::KindMismatch), whole)),
+        Value::Many(_, _) => Err(refuse_tree(FormDefect::Value(EvalDefect::KindMismatch), whole)),
+    }
+}
+
+/// The truth of the condition of an `if`.
+pub(crate) fn truth_of<'s>(
+    alloc: Global,
+    seen: &Seen<'_, 's>,
+    scope: &Scope<'s>,
+    whole: &Expr<'s>,
+    condition: &Expr<'s>,
+) -> Result<bool, FormFault<'s>>
+    ensures { Answers (objectives.condition seen.now scope.now (trees.span_of (tree whole.now)) (tree condition.now)) result }
+{
+    let value = value_of(alloc, seen, scope, condition)?;
+    truth(whole, &value)
+}
+
+/// The keys by which braces index.
+pub(crate) fn keys_of<'s>(
+    alloc: Global,
+    seen: &Seen<'_, 's>,
+    scope: &Scope<'s>,
+    braces: &Braces<'s>,
+) -> Result<Keys<'s>, FormFault<'s>>
+    ensures { Answers (from_values (values.index seen.now scope.now (braces_of braces.now))) result }
+{
+    match index_of(alloc, seen, scope, braces) {
+        Ok(keys) => Ok(keys),
+        Err(fault) => Err(widened(fault)),
+    }
+}
+
+/// Whether a reduction is a sum.
+#[tactic(auto, unfolding(net_eval::specs::Operations::reduction))]
+pub(crate) fn is_sum(word: &Token<'_>) -> bool
+    ensures { result ≡ objectives.is_sum (operations.reduction word.now) }
+{
+    match word.text.as_str() {
+        "min" => false,
+        "max" => false,
+        _ => true,
+    }
 }

@@ -1,0 +1,6 @@
+use Rattle.net_tree.specs.View.{tree}
+use Rattle.net_forms.proofs.WorthLaws.{worth_by}
+use Rattle.net_forms.proofs.objectives.objective.Goals as goal
+
+pub returns-clause-worth : goal.returns-clause-worth
+returns-clause-worth c = worth_by c.args.arcs.now c.args.seen.now c.args.scope.now (tree c.args.expr.now) c.form_of.result c.form_of.ensures
