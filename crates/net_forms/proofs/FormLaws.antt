@@ -1,5 +1,5 @@
 -- What forms are worth, and what arithmetic makes of them.
-use Rattle.std.specs.Prelude.{◌≡◌, ℕ, Bool, true, false, not, ◌&&◌, List, [], ◌∷◌, Option, None, Some, if◌then◌else◌, Ok, Err, ℤ, pos, negsuc, ◌+ℤ◌, ◌-ℤ◌, ◌*ℤ◌, neg_ℤ, nat_eq, int_div, int_rem}
+use Rattle.std.specs.Prelude.{◌≡◌, ℕ, Bool, true, false, not, ◌&&◌, List, [], ◌∷◌, Option, None, Some, if◌then◌else◌, Result, Ok, Err, IfOk, ℤ, pos, negsuc, ◌+ℤ◌, ◌-ℤ◌, ◌*ℤ◌, neg_ℤ, nat_eq, int_div, int_rem}
 use Rattle.std.proofs.Common.{refl, ap, sym, ◌∙◌, arith}
 use Rattle.std.proofs.lemmas.Int.{ints}
 use lib.IntN.{*ℤ_comm}
@@ -16,9 +16,10 @@ use Rattle.net_forms.specs.declared.fault.FormDefect.TheVariants.{Value, NotLine
 use Rattle.net_forms.specs.declared.joint.Joint.{Joint}
 use Rattle.net_forms.specs.declared.joint.Joint.TheVariants.{Plus, Minus, Times, Div, Mod, Other}
 use Rattle.net_forms.specs.Conditions.{number_of}
-use Rattle.net_forms.specs.Forms.{Products, more, with_times, all_small, Linear, just, one_arc, combined, is_number, Term, sized, minus_one, is_sized, within, times, divided, joined, join, turn, gathered, gathered_over, total, as_form, products_at, form_at}
+use Rattle.net_forms.specs.Forms.{Products, more, with_times, all_small, Linear, just, one_arc, combined, is_number, Term, sized, minus_one, is_sized, within, times, divided, joined, join, turn, gathered, gathered_over, total, as_form, or_too_large, priced, products_at, form_at}
 use Rattle.net_forms.specs.Objectives.{plain_term, mixed, linear}
-use Rattle.net_forms.specs.Outcomes.{Outcome, and_then, refused, number_or_none}
+use Rattle.net_forms.specs.Outcomes.{Outcome, Answers, and_then, refused, number_or_none}
+use Rattle.net_forms.specs.declared.fault.FormFault.{FormFault}
 use Rattle.net_forms.specs.Worths.{read, number_at, combine, sum_over, sum_in, choose}
 use Rattle.net_normal.proofs.WholeNumbers.{mul-add}
 use Rattle.net_forms.proofs.Ranges.{ok_then}
@@ -171,3 +172,18 @@ pub choose_ok : (x : ℕ → ℤ) (c : Outcome Bool) (u v : Outcome Term) (r : T
 choose_ok x (Ok true) u v r m n e h k = h e
 choose_ok x (Ok false) u v r m n e h k = k e
 choose_ok x (Err f) u v r m n e h k = cc
+
+-- a price more
+pub priced_worth : (x : ℕ → ℤ) (at : Span) (f : Linear) (arc : ℕ) (price : ℤ) (r : Linear) → priced at f arc price ≡ Ok r → form_at x r ≡ form_at x f +ℤ price *ℤ x arc
+priced_worth x at f arc price r e = go (is_small price) (is_sized (combined f price (one_arc arc))) e
+  where
+    go : (b c : Bool) → (if b then or_too_large at (if c then Some (combined f price (one_arc arc)) else None) else refused (Value TooLarge) at) ≡ Ok r → form_at x r ≡ form_at x f +ℤ price *ℤ x arc
+    go true true e =
+        let same : combined f price (one_arc arc) ≡ r = cc in
+        ap (form_at x) (sym same) ∙ form_combined x f price (one_arc arc) ∙ ap (λ (i : ℤ). form_at x f +ℤ price *ℤ i) (form_arc x arc)
+    go true false e = cc
+    go false c e = cc
+
+pub priced_by : (at : Span) (f : Linear) (arc : ℕ) (price : ℤ) (r : Result Linear FormFault) → Answers (priced at f arc price) r → IfOk r (λ g. (x : ℕ → ℤ) → form_at x g ≡ form_at x f +ℤ price *ℤ x arc)
+priced_by at f arc price (Ok g) e = λ x. priced_worth x at f arc price g e
+priced_by at f arc price (Err v) e = tt

@@ -2,6 +2,7 @@
 use Rattle.std.specs.Prelude.{◌≡◌, ℕ, ◌≤◌, ◌<◌, ◌+◌, ◌*◌, ◌^◌, Bool, true, false, ◌&&◌, [], ◌∷◌, if◌then◌else◌, ℤ, pos, negsuc, ◌+ℤ◌, ◌*ℤ◌, unsigned_abs}
 use Rattle.std.proofs.Common.{refl, ap, sym, ◌∙◌, subst, arith}
 use Rattle.std.proofs.lemmas.Int.{ints, unsigned_abs-mul}
+use Rattle.net_normal.specs.Limits.{IsSized, value_limit}
 use Rattle.net_eval.specs.Limits.{is_small}
 use Rattle.net_forms.specs.Forms.{Products, Linear, coefficient, with_times, all_small, all_apart, combined, is_sized, AreWithin, just, one_arc}
 use Rattle.net_forms.proofs.Adding.{abs_product}
@@ -76,3 +77,13 @@ room_next f g new k e i s h n w = subst (AreWithin (n + 1000000000000)) (sym i) 
 
 pub apart_new : (ps : Products) (k : ℤ) (qs new : Products) → new ≡ with_times ps k qs → all_apart ps ≡ true → all_apart new ≡ true
 apart_new ps k qs new e h = ap all_apart e ∙ apart_with ps k qs h
+
+small_sized : (n : ℤ) → unsigned_abs n ≤ 1000000000000 → IsSized value_limit n
+small_sized (pos k) h = record { above = omega (arith, ints, h); below = omega (arith, ints, h) }
+small_sized (negsuc k) h = record { above = omega (arith, ints, h); below = omega (arith, ints, h) }
+
+pub is_sized_number : (n : ℤ) → is_small n ≡ true → IsSized value_limit n
+is_sized_number n h = small_sized n (small_abs n h)
+
+pub sized_as : (m n : ℤ) → m ≡ n → IsSized value_limit n → IsSized value_limit m
+sized_as m n e h = subst (IsSized value_limit) (sym e) h

@@ -2,6 +2,7 @@
 use Rattle.std.specs.Prelude.{◌≡◌, ℕ, ◌+◌, ◌*◌, ◌^◌, ◌<◌, ◌≤◌, Bool, true, false, ◌&&◌, IsTrue, ℤ, pos, negsuc, ◌+ℤ◌, ◌-ℤ◌, neg_ℤ, unsigned_abs}
 use Rattle.std.proofs.Common.{refl, ap, sym, ◌∙◌, subst, arith, rules, FitsSigned, w64, to_z, of_z}
 use mir.Val.{hbits}
+use mir.Syntax.{w128}
 use Rattle.std.proofs.lemmas.Int.{ints, fits_signed_from_abs, to_z-of_z}
 use Rattle.std.proofs.lemmas.Bool.{leb-true}
 use Rattle.net_normal.specs.Limits.{IsSized, range_limit}
@@ -51,3 +52,16 @@ taken_fits a b h = let p = both_true (is_small a) (is_small b) h in subst (FitsS
 
 pub taken_is : (a b : ℤ) → IsTrue (is_small a && is_small b) → to_z w64 (of_z w64 (to_z w64 (of_z w64 a) -ℤ to_z w64 (of_z w64 b))) ≡ a -ℤ b
 taken_is a b h = let p = both_true (is_small a) (is_small b) h in to_z-of_z w64 _ (taken_fits a b h) ∙ taken a b p.0 p.1
+
+-- a number within the limit, as a wide one and as the code narrows it
+small_128 : (n : ℤ) → is_small n ≡ true → FitsSigned w128 n
+small_128 n h = fits_signed_from_abs w128 n (le_lt (unsigned_abs n) (small_abs n h))
+  where
+    le_lt : (m : ℕ) → m ≤ 1000000000000 → m < 2 ^ hbits w128
+    le_lt m h = omega arith
+
+pub narrow_fits : (n : ℤ) → is_small n ≡ true → FitsSigned w64 (to_z w128 (of_z w128 n))
+narrow_fits n h = subst (FitsSigned w64) (sym (to_z-of_z w128 n (small_128 n h))) (fits_64 n (omega (arith, small_abs n h)))
+
+pub narrow_is : (n : ℤ) → is_small n ≡ true → to_z w64 (of_z w64 (to_z w128 (of_z w128 n))) ≡ n
+narrow_is n h = to_z-of_z w64 _ (narrow_fits n h) ∙ to_z-of_z w128 n (small_128 n h)

@@ -113,6 +113,14 @@ turn minus at None = refused (Value KindMismatch) at
 turn true at (Some f) = scaled at minus_one f
 turn false at (Some f) = Ok (Some f)
 
+abbrev pub or_too_large : Span → Term → Outcome Linear
+or_too_large at (Some f) = Ok f
+or_too_large at None = refused (Value TooLarge) at
+
+-- with a price of an arc more, which is a number within the limit
+abbrev pub priced : Span → Linear → ℕ → ℤ → Outcome Linear
+priced at f arc price = if is_small price then or_too_large at (if_sized (combined f price (one_arc arc))) else refused (Value TooLarge) at
+
 -- one more of the terms of a sum; only the total is tested
 abbrev pub gathered : Span → Linear → Term → Outcome Linear
 gathered at sum None = refused (Value KindMismatch) at

@@ -39,6 +39,15 @@ fn next_constant(constant: &i128, factor: &i128, other: &i128) -> i128
     sum_of(constant, &product)
 }
 
+/// A number within the limit.
+fn narrow(number: &i128) -> i64
+    requires { is_small number.now ≡ true }
+    ensures value { result ≡ number.now }
+    ensures size { IsSized value_limit number.now }
+{
+    *number as i64
+}
+
 impl Sum {
     /// A number alone.
     pub(crate) fn number(alloc: Global, number: &i128) -> Sum
@@ -84,6 +93,13 @@ impl Sum {
         Ok((Sum { constant, products }, fits))
     }
 
+    /// The coefficient of an arc.
+    fn coefficient(&self, arc: usize) -> i128
+        ensures { result ≡ forms.coefficient self.now.products arc }
+    {
+        coefficient_of(&self.products, arc)
+    }
+
     /// Whether all is within the limit.
     fn is_sized(&self) -> bool
         ensures { result ≡ forms.is_sized self.now }
@@ -120,9 +136,9 @@ impl Form {
         }
     }
 
-    /// 0.
+    /// 0, which no arc is part of.
     #[tactic(auto, unfolding(net_eval::specs::Limits::is_small))]
-    pub(crate) fn zero(alloc: Global) -> Form
+    pub fn zero(alloc: Global) -> Form
         ensures { result ≡ forms.just (pos 0) }
     {
         Form::number(alloc, &0)
@@ -179,5 +195,22 @@ impl Form {
         ensures small { is_small result ≡ true }
     {
         self.sum.constant
+    }
+
+    /// The number that is added to the arcs' products, at most 1,000,000,000,000 in size.
+    pub fn constant(&self) -> i64
+        ensures value { result ≡ self.now.constant }
+        ensures size { IsSized value_limit result }
+    {
+        narrow(&self.sum.constant)
+    }
+
+    /// The coefficient of an arc, at most 1,000,000,000,000 in size; 0 where the arc does not stand in the form.
+    pub fn coefficient(&self, arc: usize) -> i64
+        ensures value { result ≡ forms.coefficient self.now.products arc }
+        ensures size { IsSized value_limit result }
+    {
+        let coefficient = self.sum.coefficient(arc);
+        narrow(&coefficient)
     }
 }

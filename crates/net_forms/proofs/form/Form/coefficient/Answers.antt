@@ -1,0 +1,12 @@
+use Rattle.std.proofs.Common.{ap, ◌∙◌}
+use Rattle.std.proofs.lemmas.Int.{to_z-of_z}
+use mir.Syntax.{w128}
+use Rattle.net_eval.specs.Limits.{is_small}
+use Rattle.net_forms.proofs.Coefficients.{each_small}
+use Rattle.net_forms.proofs.FormSizes.{products_small}
+use Rattle.net_forms.proofs.form.Form.coefficient.Goals as goal
+
+pub narrow-requires : goal.narrow-requires
+narrow-requires c =
+    ap is_small (to_z-of_z w128 c.coefficient-coefficient.result (record { sfits = c.coefficient-coefficient.type_inv }) ∙ c.coefficient-coefficient.ensures)
+    ∙ each_small c.self.inside.sum.products c.args.arc (products_small c.self.inside.sum c.self.invariant)

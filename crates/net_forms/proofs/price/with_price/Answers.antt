@@ -1,0 +1,7 @@
+use Rattle.net_tree.specs.View.{tree}
+use Rattle.net_tree.specs.Spans.{span_of}
+use Rattle.net_forms.proofs.FormLaws.{priced_by}
+use Rattle.net_forms.proofs.price.with_price.Goals as goal
+
+pub returns-clause-worth : goal.returns-clause-worth
+returns-clause-worth c = priced_by (span_of (tree c.args.whole.now)) c.args.form c.args.arc c.args.price.now c.priced.result c.priced.ensures
