@@ -10,3 +10,4 @@ mod Adding
 mod FormSizes
 mod Naming
 mod Converting
+mod Examples
