@@ -22,7 +22,7 @@ use crate::set_phrase::{Claim, Claims, SetPhrase, assigned, set_phrases};
 use net_data::Members;
 use net_eval::{Detail, Entry, EvalDefect, Seen};
 use net_lex::{Items, Language, Token};
-use net_sets::{SetFault, TupleSet, is_within};
+use net_sets::{IndexedSet, SetFault, TupleSet, is_within};
 use net_tree::Phrase;
 use std::alloc::{AllocError, Global};
 
@@ -236,9 +236,14 @@ fn allowed<'s>(
 }
 
 /// The entry of a set; how a world keeps sets is known here alone.
-fn set_entry<'s>(dimension: u8, set: TupleSet<'s>) -> Result<Entry<'s>, AllocError>
+fn set_entry<'s>(
+    alloc: Global,
+    dimension: u8,
+    set: TupleSet<'s>,
+) -> Result<Entry<'s>, AllocError>
     ensures { IfOk result (λ e. e ≡ ASet dimension set.entry) }
 {
+    let set = IndexedSet::new(alloc, set)?;
     Ok(Entry::Set(dimension, set))
 }
 
@@ -263,7 +268,7 @@ fn set_of<'s>(
     )?;
     let set = one_of(alloc, name, assigned, found)?;
     allowed(name, &set, phrases)?;
-    Ok(set_entry(dimension, set)?)
+    Ok(set_entry(alloc, dimension, set)?)
 }
 
 /// What a declared set is: what its phrases say, then what data say, then what it is.
