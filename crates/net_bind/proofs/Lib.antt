@@ -3,3 +3,4 @@ pub mod Naming
 pub mod Items
 pub mod Lists
 pub mod Fresh
+mod Examples
