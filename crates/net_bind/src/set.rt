@@ -236,11 +236,7 @@ fn allowed<'s>(
 }
 
 /// The entry of a set; how a world keeps sets is known here alone.
-fn set_entry<'s>(
-    alloc: Global,
-    dimension: u8,
-    set: TupleSet<'s>,
-) -> Result<Entry<'s>, AllocError>
+fn set_entry<'s>(alloc: Global, dimension: u8, set: TupleSet<'s>) -> Result<Entry<'s>, AllocError>
     ensures { IfOk result (λ e. e ≡ ASet dimension set.entry) }
 {
     let set = IndexedSet::new(alloc, set)?;
