@@ -1,16 +1,13 @@
 //! What bench/run measures: reads texts, and says how much processor time that took.
 #![tactic(auto)]
 
-use net_bind::bind;
 use net_check::Certificate;
 use net_data::parse_data;
 use net_dimacs::{read_problem, write_problem};
-use net_eval::{Scope, Seen, World, index_of};
 use net_growth::settle;
 use net_lex::{lex_data, lex_model};
 use net_model::parse_model;
 use net_solve::{Plain, Settled, solve};
-use net_tree::{Braces, Decl, Model};
 use std::alloc::{AllocError, Global};
 use std::process::ExitCode;
 use std::rt::Files;
@@ -105,79 +102,6 @@ fn model<R: Files + AllocGlobal + Print + Eprint + CpuClock>(
     Ok(true)
 }
 
-/// How many keys braces have, with so many names declared before them; one where there are none.
-fn keys_of<'s>(
-    alloc: Global,
-    world: &World<'s>,
-    known: usize,
-    braces: &Option<Braces<'s>>,
-) -> Option<usize> {
-    match braces {
-        None => Some(1),
-        Some(braces) => {
-            let keys = index_of(alloc, &Seen::new(world, known), &Scope::new(alloc), braces);
-            match keys {
-                Ok(keys) => Some(keys.rows.as_slice().len()),
-                Err(_) => None,
-            }
-        }
-    }
-}
-
-/// How many keys the nodes and arcs of a model have together.
-fn instances<'s>(alloc: Global, model: &Model<'s>, world: &World<'s>) -> Option<usize> {
-    let (mut known, mut count) = (0_usize, 0_usize);
-    for declaration in model.declarations.as_slice() {
-        let more = match declaration {
-            Decl::Set(_, _, _, _) | Decl::Param(_, _, _, _, _) => {
-                known = known.wrapping_add(1);
-                0
-            }
-            Decl::Check(_, _, _, _, _) | Decl::Objective(_, _, _, _) => 0,
-            Decl::Node(_, _, braces, _, _) | Decl::Arc(_, _, braces, _, _) => {
-                keys_of(alloc, world, known, braces)?
-            }
-        };
-        count = count.wrapping_add(more);
-    }
-    Some(count)
-}
-
-/// A model and its data, bound, and the keys of all nodes and arcs.
-fn bound<R: Files + AllocGlobal + Print + Eprint + CpuClock>(
-    rt: &R,
-    path: &str,
-    data: &str,
-) -> io::Result<bool> {
-    let (text, said) = (fs::read(rt, path)?, fs::read(rt, data)?);
-    let Ok(tokens) = lex_model(rt.alloc(), text.as_slice()) else {
-        return Ok(false);
-    };
-    let Ok(words) = lex_data(rt.alloc(), said.as_slice()) else {
-        return Ok(false);
-    };
-    let Ok(tables) = parse_data(rt.alloc(), &words) else {
-        return Ok(false);
-    };
-    let Ok(model) = parse_model(rt.alloc(), &tokens) else {
-        return Ok(false);
-    };
-    let start = rt.thread_cpu_time()?;
-    let Ok(world) = bind(rt.alloc(), &model, &tables) else {
-        return Ok(false);
-    };
-    let bound = rt.thread_cpu_time()?;
-    let Some(count) = instances(rt.alloc(), &model, &world) else {
-        return Ok(false);
-    };
-    let listed = rt.thread_cpu_time()?;
-    rt.println(format_args!("{count} keys of nodes and arcs"))?;
-    let binding = bound.saturating_sub(start).as_micros();
-    let listing = listed.saturating_sub(bound).as_micros();
-    rt.eprintln(format_args!("bind {binding} us, index {listing} us"))?;
-    Ok(true)
-}
-
 /// Numbers of each size and sign, the same for the same seed.
 fn numbers(alloc: Global, count: usize, seed: u64) -> Result<Vec<i64>, AllocError> {
     let mut numbers = Vec::with_capacity(alloc, count)?;
@@ -248,7 +172,7 @@ fn main(rt: HostRuntime) -> io::Result<ExitCode> {
     let mut words = env::args(&rt)?;
     let _program = words.next();
     let (Some(what), Some(path)) = (words.next(), words.next()) else {
-        rt.eprintln("usage: measure problem|data|tables|model|bind|solve|grow PATH [SEED|DATA]")?;
+        rt.eprintln("usage: measure problem|data|tables|model|solve|grow PATH [SEED]")?;
         return Ok(ExitCode::from(64));
     };
     let is_done = match what.as_str() {
@@ -261,10 +185,6 @@ fn main(rt: HostRuntime) -> io::Result<ExitCode> {
             };
             grow(&rt, path.as_str(), seed)?
         }
-        "bind" => match words.next() {
-            Some(data) => bound(&rt, path.as_str(), data.as_str())?,
-            None => false,
-        },
         "data" => data(&rt, path.as_str())?,
         "tables" => tables(&rt, path.as_str())?,
         "model" => model(&rt, path.as_str())?,

@@ -189,8 +189,16 @@ fn names(rt: HostRuntime) -> Result<(), Fail> {
         (1, "check: {j in 3..4, (i,j) in L};", "{ 3,1 3,2}"),
         (1, "check: {i in 1..3, (k,i) in L, (i,j) in L};", "{ 2,1,3}"),
         (1, "check: {i in 2..2, (i,i) in L union {(2,2)}};", "{ 2}"),
-        (1, "check: {k in 3..3, (i,k) in L union {(5,4),(4,3)}};", "{ 3,1 3,2 3,4}"),
-        (1, "check: {i in 1..1, (1 div 0,i) in L};", "E38 DivMod 20..27"),
+        (
+            1,
+            "check: {k in 3..3, (i,k) in L union {(5,4),(4,3)}};",
+            "{ 3,1 3,2 3,4}",
+        ),
+        (
+            1,
+            "check: {i in 1..1, (1 div 0,i) in L};",
+            "E38 DivMod 20..27",
+        ),
         (1, "check: {L, k in 7..8: k = 8};", "{ 1,2,8 1,3,8 2,3,8}"),
         (1, "check: {i in L};", "E37 Arity 8..14"),
         (1, "check: (1,3) in L;", "true"),
