@@ -1,0 +1,24 @@
+-- The declared names of nodes or of arcs, and what is declared by each.
+use Rattle.std.specs.Prelude.{ℕ, List, [], ◌∷◌, ◌++◌, length, map, Option, is_some}
+use Rattle.net_eval.specs.declared.row.Row.{Row}
+use Rattle.net_eval.specs.Worlds.{Name}
+use Rattle.net_inst.specs.declared.names.Declared.{Declared}
+use Rattle.net_inst.specs.declared.names.Key.{Key}
+
+-- the declarations in order, and of each node or arc in order the number of its declaration, counted from 0, and its key
+pub record Listed : Type 0 where
+  pub declarations : List Declared
+  pub keys : List Key
+
+abbrev pub no_names : Listed
+no_names = record { declarations = []; keys = [] }
+
+abbrev pub keyed : ℕ → Row → Key
+keyed d row = record { declaration = d; tuple = row.key }
+
+-- with one more declaration; the number of its keys is none where it has no braces
+abbrev pub listed_with : Listed → Name → Option ℕ → List Row → Listed
+listed_with l name count rows = record {
+  declarations = l.declarations ++ (record { name = name; indexed = is_some count }) ∷ [];
+  keys = l.keys ++ map (keyed (length l.declarations)) rows;
+}

@@ -1,0 +1,42 @@
+-- How a node or an arc is named in texts:  Move    Ship['PITT','NE']    N[3]
+use Rattle.std.specs.Prelude.{ℕ, Bool, true, false, List, [], ◌∷◌, ◌++◌, codes, nat_eq, if◌then◌else◌}
+use Rattle.std.specs.Fmt.{signed_decimal}
+use Rattle.net_sets.specs.declared.member.Member.{Member}
+use Rattle.net_sets.specs.declared.member.Member.TheVariants.{Number, Name}
+use Rattle.net_sets.specs.Sets.{Tuple}
+use Rattle.net_eval.specs.declared.fault.Detail.{Detail}
+use Rattle.net_eval.specs.declared.fault.Detail.TheVariants.{Nothing, Named, Keyed}
+
+-- each single quote twice
+abbrev pub doubled : List ℕ → List ℕ
+doubled [] = []
+doubled (c ∷ cs) = if nat_eq c 39 then 39 ∷ 39 ∷ doubled cs else c ∷ doubled cs
+
+-- in single quotes
+abbrev pub quoted : List ℕ → List ℕ
+quoted t = 39 ∷ (doubled t ++ 39 ∷ [])
+
+-- a text stands in single quotes, a number as a plain decimal
+abbrev pub member_text : Member → List ℕ
+member_text (Number n) = signed_decimal n
+member_text (Name t) = quoted t
+
+-- members behind a first one, each behind a comma
+abbrev pub further_text : List Member → List ℕ
+further_text [] = []
+further_text (m ∷ ms) = 44 ∷ (member_text m ++ further_text ms)
+
+abbrev pub members_text : Tuple → List ℕ
+members_text [] = []
+members_text (m ∷ ms) = member_text m ++ further_text ms
+
+-- the name, and where it is indexed the key in brackets, be it empty
+abbrev pub reference_text : List ℕ → Bool → Tuple → List ℕ
+reference_text name false key = name
+reference_text name true key = name ++ (91 ∷ (members_text key ++ 93 ∷ []))
+
+-- what a fault tells beside its place
+abbrev pub detail_text : Detail → List ℕ
+detail_text Nothing = []
+detail_text (Named name) = name
+detail_text (Keyed name key) = reference_text name true key

@@ -1,0 +1,110 @@
+//! The names of nodes and arcs.
+
+ghost use Rattle.std.specs.Prelude.{◌≡◌, ◌++◌, List, map, slice_get, IfOk, OnOk};
+ghost use Rattle.std.specs.Option.{option_copied};
+ghost use Rattle.net_inst.specs.Lists as lists;
+
+use net_eval::Row;
+use net_lex::Excerpt;
+use net_sets::Tuple;
+use std::alloc::{AllocError, Global};
+use std::marker::Model;
+
+/// A declared name, and whether braces index it.
+#[derive(Drop)]
+pub struct Declared<'s> {
+    pub name: Excerpt<'s>,
+    pub indexed: bool,
+}
+
+/// A node or an arc: the number of its declaration, counted from 0, and its key; without braces that is the empty one.
+#[derive(Drop)]
+pub struct Key<'s> {
+    pub declaration: usize,
+    pub tuple: Tuple<'s>,
+}
+
+/// The declarations of nodes or of arcs in the model's order, and what they declare, in the order of declarations and of keys.
+#[derive(Drop)]
+pub struct NameList<'s> {
+    declarations: Vec<Declared<'s>>,
+    keys: Vec<Key<'s>>,
+}
+
+impl<'s> Model for NameList<'s> {
+    ghost use Rattle.net_inst.specs.Lists.{Listed};
+
+    ghost Value = { Listed };
+
+    ghost view = { λ l. record { declarations = l.declarations.items; keys = l.keys.items } };
+}
+
+/// The names of a network: that of its objective, and those of its nodes and arcs in order.
+#[derive(Drop)]
+pub struct Names<'s> {
+    pub objective: Excerpt<'s>,
+    pub nodes: NameList<'s>,
+    pub arcs: NameList<'s>,
+}
+
+impl<'s> NameList<'s> {
+    /// Nothing declared.
+    pub(crate) fn new(alloc: Global) -> NameList<'s>
+        ensures { result ≡ lists.no_names }
+    {
+        NameList {
+            declarations: Vec::new(alloc),
+            keys: Vec::new(alloc),
+        }
+    }
+
+    pub fn declarations(&self) -> &[Declared<'s>]
+        ensures { result.now ≡ self.now.declarations }
+    {
+        self.declarations.as_slice()
+    }
+
+    /// The nodes or arcs, those of one declaration together.
+    pub fn keys(&self) -> &[Key<'s>]
+        ensures { result.now ≡ self.now.keys }
+    {
+        self.keys.as_slice()
+    }
+
+    /// These, and one declaration more with its keys.
+    pub(crate) fn with(
+        self,
+        name: &Excerpt<'s>,
+        count: Option<u8>,
+        rows: &[Row<'s>],
+    ) -> Result<NameList<'s>, AllocError>
+        ensures { IfOk result (λ l. l ≡ lists.listed_with self.entry name.now count rows.now) }
+    {
+        let NameList {
+            mut declarations,
+            mut keys,
+        } = self;
+        push_keys(&mut keys, declarations.len(), rows)?;
+        declarations.push(Declared {
+            name: name.again(),
+            indexed: count.is_some(),
+        })?;
+        Ok(NameList { declarations, keys })
+    }
+}
+
+fn push_keys<'s>(
+    keys: &mut Vec<Key<'s>>,
+    declaration: usize,
+    rows: &[Row<'s>],
+) -> Result<(), AllocError>
+    ensures { OnOk result (keys.new.items ≡ keys.old.items ++ map (lists.keyed declaration) rows.now) }
+{
+    for row in rows {
+        keys.push(Key {
+            declaration,
+            tuple: row.key.again(),
+        })?;
+    }
+    Ok(())
+}
