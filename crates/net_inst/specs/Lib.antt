@@ -2,3 +2,11 @@ pub mod Faults
 pub mod Outcomes
 pub mod References
 pub mod Lists
+pub mod Indexings
+pub mod Groups
+pub mod Numbers
+pub mod Nodes
+pub mod Phrases
+pub mod Arcs
+pub mod Drafts
+pub mod Instances

@@ -1,0 +1,11 @@
+use Rattle.std.specs.Prelude.{◌≡◌, ◌≤◌, drop, length, map}
+use Rattle.net_normal.specs.Limits.{node_limit}
+use Rattle.net_tree.specs.View.{condition_of}
+use Rattle.net_inst.specs.Nodes.{ranges_at, sides_of}
+use Rattle.net_inst.proofs.node.push_ranges.Given as goal
+
+abbrev pub invariant-loop-row : goal.invariant-loop-row
+invariant-loop-row l =
+    (ranges_at l.seen l.name l.count (condition_of l.condition) (drop l.row-index l.rows) (map sides_of l.ranges.items)
+    ≡ ranges_at l.fn.seen l.fn.name l.fn.count (condition_of l.fn.condition) l.fn.rows (map sides_of l.fn.ranges.items))
+    × (length l.ranges.items ≤ node_limit) × (l.row-index ≤ length l.ranges.items)

@@ -1,0 +1,29 @@
+-- The keys by which a declaration declares.
+use Rattle.std.specs.Prelude.{ℕ, List, [], ◌∷◌, map, Option, None, Some, Ok}
+use Rattle.net_sets.specs.Sets.{Tuple}
+use Rattle.net_tree.specs.Tree.{Braces}
+use Rattle.net_eval.specs.declared.row.Keys.{Keys}
+use Rattle.net_eval.specs.declared.row.Row.{Row}
+use Rattle.net_eval.specs.Values.{index}
+use Rattle.net_eval.specs.Worlds.{World}
+use Rattle.net_inst.specs.declared.indexing.Indexing.{Indexing}
+use Rattle.net_inst.specs.Outcomes.{Outcome, and_then, from_values}
+
+-- without braces there is one key, which is empty
+abbrev pub alone : Indexing
+alone = record { count = None; rows = (record { key = []; scope = [] }) ∷ [] }
+
+-- `{}` counts as one key
+abbrev pub counted : Option ℕ → ℕ
+counted None = 1
+counted (Some n) = n
+
+abbrev pub by_keys : Keys → Indexing
+by_keys k = record { count = Some (counted k.width); rows = k.rows }
+
+abbrev pub indexing_in : World → Option Braces → Outcome Indexing
+indexing_in w None = Ok alone
+indexing_in w (Some b) = and_then (from_values (index w [] b)) (λ k. Ok (by_keys k))
+
+abbrev pub tuples_of : List Row → List Tuple
+tuples_of rows = map (λ row. row.key) rows

@@ -1,0 +1,80 @@
+-- The network of a model: its nodes and arcs in order of declaration and of keys, its objective, and all their names.
+use Rattle.std.specs.Prelude.{◌≡◌, ℕ, suc, Bool, true, false, List, [], ◌∷◌, map, Option, None, Some, unwrap_or, Result, Ok, Err, ⊤, ℤ}
+use Rattle.net_lex.specs.declared.span.Span.{Span}
+use Rattle.net_lex.specs.declared.token.Token.{Token}
+use Rattle.net_tree.specs.Tree.{Declaration, set, param, check, node, arc, objective}
+use Rattle.net_normal.specs.declared.instance.InstArc.{InstArc}
+use Rattle.net_normal.specs.declared.instance.Sense.{Sense}
+use Rattle.net_eval.specs.declared.fault.Detail.TheVariants.{Nothing, Named}
+use Rattle.net_eval.specs.Worlds.{Name, World}
+use Rattle.net_forms.specs.declared.condition.Sides.{Sides}
+use Rattle.net_forms.specs.Forms.{Products, coefficient}
+use Rattle.net_inst.specs.declared.arc.Drawn.{Drawn}
+use Rattle.net_inst.specs.declared.fault.InstDefect.TheVariants.{NoObjective, NoSuchObjective}
+use Rattle.net_inst.specs.declared.fault.InstFault.{InstFault}
+use Rattle.net_inst.specs.declared.goal.Goal.{Goal}
+use Rattle.net_inst.specs.declared.instantiate.Named.{Named as NamedOfCode}
+use Rattle.net_inst.specs.declared.names.Names.{Names}
+use Rattle.net_inst.specs.Drafts.{Drawing, nothing, draw}
+use Rattle.net_inst.specs.Nodes.{sides_of}
+use Rattle.net_inst.specs.Outcomes.{Outcome, and_then, refused, AnswersAs}
+
+pub record Network : Type 0 where
+  pub nodes : List Sides
+  pub arcs : List InstArc
+  pub sense : Sense
+  pub constant : ℤ
+  pub names : Names
+
+-- the arcs from number a on, each with its coefficient
+abbrev pub with_coefficients : Products → ℕ → List Drawn → List InstArc
+with_coefficients ps a [] = []
+with_coefficients ps a (x ∷ xs) =
+    (record { lower = x.lower; upper = x.upper; coefficient = coefficient ps a; tail = x.tail; head = x.head }) ∷ with_coefficients ps (suc a) xs
+
+abbrev pub network_of : Drawing → Goal → Network
+network_of d g = record {
+  nodes = d.nodes.ranges;
+  arcs = with_coefficients d.arcs.form.products 0 d.arcs.arcs;
+  sense = g.sense;
+  constant = d.arcs.form.constant;
+  names = record { objective = g.name; nodes = d.nodes.group.list; arcs = d.arcs.group.list };
+}
+
+-- where no objective is declared, or not the one of the given name
+abbrev pub without_goal : {A : Type 0} → Option Name → Span → Bool → Outcome A
+without_goal wanted at false = refused NoObjective at Nothing
+without_goal wanted at true = refused NoSuchObjective at (Named (unwrap_or wanted []))
+
+abbrev pub finished : Option Name → Span → Drawing → Option Goal → Outcome Network
+finished wanted at d (Some g) = Ok (network_of d g)
+finished wanted at d None = without_goal wanted at d.aims
+
+-- the last token of a declaration
+abbrev pub semicolon : Declaration → Token
+semicolon (set t n ps e) = e
+semicolon (param t n b ps e) = e
+semicolon (check t b m x e) = e
+semicolon (node t n b c e) = e
+semicolon (arc t n b ps e) = e
+semicolon (objective t n p e) = e
+
+-- where the declarations end; that of none is at the start of the text
+abbrev pub end_of : ℕ → List Declaration → ℕ
+end_of at [] = at
+end_of at (d ∷ ds) = end_of (semicolon d).span.end ds
+
+abbrev pub end_span : List Declaration → Span
+end_span ds = record { start = end_of 0 ds; end = end_of 0 ds }
+
+-- the network of a model with the objective of a name, or with the only one
+abbrev pub network : Option Name → World → List Declaration → Outcome Network
+network wanted w ds = and_then (draw wanted w ds nothing) (λ d. finished wanted (end_span ds) d d.goal)
+
+-- what contracts see of a network with its names
+abbrev pub seen_as : NamedOfCode → Network
+seen_as n = record { nodes = map sides_of n.instance.nodes.items; arcs = n.instance.arcs.items; sense = n.instance.sense; constant = n.instance.constant; names = n.names }
+
+-- the code answers the network that is wanted, or the first fault, unless memory runs out
+abbrev pub AnswersNetwork : Outcome Network → Result NamedOfCode InstFault → Type 0
+AnswersNetwork wanted result = AnswersAs seen_as wanted result

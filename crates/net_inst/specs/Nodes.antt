@@ -1,0 +1,89 @@
+-- The nodes of declarations, and those that `from` and `to` name.
+use Rattle.std.specs.Prelude.{ℕ, ◌+◌, List, [], ◌∷◌, ◌++◌, length, nat_eq, nat_lt, Option, None, Some, if◌then◌else◌, Ok, Err}
+use Rattle.net_lex.specs.declared.span.Span.{Span}
+use Rattle.net_lex.specs.declared.token.Token.{Token}
+use Rattle.net_sets.specs.Sets.{Tuple, place_of}
+use Rattle.net_tree.specs.Spans.{span_of}
+use Rattle.net_tree.specs.Tree.{Tree, leaf, indexed, Braces, Condition}
+use Rattle.net_normal.specs.declared.instance.NodeRange.{NodeRange}
+use Rattle.net_normal.specs.Limits.{node_limit}
+use Rattle.net_eval.specs.declared.fault.Detail.{Detail}
+use Rattle.net_eval.specs.declared.fault.Detail.TheVariants.{Named}
+use Rattle.net_eval.specs.declared.fault.EvalDefect.TheVariants.{KindMismatch, Arity}
+use Rattle.net_eval.specs.declared.row.Row.{Row}
+use Rattle.net_eval.specs.Worlds.{Name, World, Scope, key_count, reference}
+use Rattle.net_forms.specs.declared.arc.ArcKeys.{ArcKeys}
+use Rattle.net_forms.specs.declared.condition.Sides.{Sides}
+use Rattle.net_forms.specs.declared.fault.FormDefect.{FormDefect}
+use Rattle.net_forms.specs.declared.fault.FormDefect.TheVariants as defects
+use Rattle.net_forms.specs.declared.fault.FormRefusal.{FormRefusal}
+use Rattle.net_forms.specs.Arcs.{declared}
+use Rattle.net_forms.specs.Conditions.{range_in}
+use Rattle.net_forms.specs.Objectives.{key_of}
+use Rattle.net_forms.specs.Outcomes as forms
+use Rattle.net_inst.specs.declared.fault.InstDefect.TheVariants.{Form, NoSuchNode, TooManyNodes}
+use Rattle.net_inst.specs.declared.fault.InstRefusal.{InstRefusal}
+use Rattle.net_inst.specs.declared.group.Group.{Group}
+use Rattle.net_inst.specs.declared.indexing.Indexing.{Indexing}
+use Rattle.net_inst.specs.Groups.{no_group, group_with}
+use Rattle.net_inst.specs.Indexings.{indexing_in}
+use Rattle.net_inst.specs.Outcomes.{Outcome, and_then, refused, refused_name, refused_form, from_forms, widened}
+
+-- nodes in order, each with the net inflows that it allows
+pub record DrawnNodes : Type 0 where
+  pub ranges : List Sides
+  pub group : Group
+
+abbrev pub sides_of : NodeRange → Sides
+sides_of r = record { low = r.low; high = r.high }
+
+abbrev pub no_nodes : DrawnNodes
+no_nodes = record { ranges = []; group = no_group }
+
+-- that a condition is met by no net inflow is told of the node
+abbrev pub told_of : Span → Detail → FormDefect → InstRefusal → InstRefusal
+told_of at d defects.NodeCrossed r = record { defect = Form defects.NodeCrossed; at = at; detail = d }
+told_of at d _ r = r
+
+abbrev pub of_node : {A : Type 0} → Span → Detail → forms.Outcome A → Outcome A
+of_node at d (Ok a) = Ok a
+of_node at d (Err r) = Err (told_of at d r.defect (widened r))
+
+-- one node more, at a key
+abbrev pub next_range : World → Token → Option ℕ → Condition → Row → List Sides → Outcome (List Sides)
+next_range w n k c row found =
+    if nat_lt (length found) node_limit then and_then (of_node n.span (reference n.text k row.key) (range_in w row.scope c)) (λ r. Ok (found ++ r ∷ [])) else refused_name TooManyNodes n
+
+-- a node for each key, behind those found before
+abbrev pub ranges_at : World → Token → Option ℕ → Condition → List Row → List Sides → Outcome (List Sides)
+ranges_at w n k c [] found = Ok found
+ranges_at w n k c (row ∷ rows) found = and_then (next_range w n k c row found) (ranges_at w n k c rows)
+
+abbrev pub nodes_by : World → Token → Condition → DrawnNodes → Indexing → Outcome DrawnNodes
+nodes_by w n c d i =
+    and_then (ranges_at w n i.count c i.rows d.ranges) (λ ranges. Ok (record { ranges = ranges; group = group_with d.group n.text (length d.ranges) i }))
+
+-- the nodes of a declaration behind those of the declarations before it
+abbrev pub with_nodes : World → Token → Option Braces → Condition → DrawnNodes → Outcome DrawnNodes
+with_nodes w n b c d = and_then (indexing_in w b) (nodes_by w n c d)
+
+abbrev pub among : ℕ → Span → Detail → ℕ → Outcome ℕ
+among count at d v = if nat_lt v count then Ok v else refused NoSuchNode at d
+
+-- the node at a place of a declaration
+abbrev pub numbered : ℕ → Span → Detail → ℕ → Option ℕ → Outcome ℕ
+numbered count at d first None = refused NoSuchNode at d
+numbered count at d first (Some place) = among count at d (first + place)
+
+-- the node that a name has at a key
+abbrev pub node_at : ℕ → Span → Name → Option ArcKeys → Tuple → Outcome ℕ
+node_at count at name None key = refused NoSuchNode at (Named name)
+node_at count at name (Some k) key =
+    if nat_eq (length key) (key_count k.keys) then numbered count at (reference name k.keys key) k.first (place_of k.index key) else refused_form (defects.Value Arity) at
+
+-- the node that is named; its subscripts are evaluated first
+abbrev pub node_named : DrawnNodes → World → Scope → Tree → Outcome ℕ
+node_named d w s (leaf t) = node_at (length d.ranges) (span_of (leaf t)) t.text (declared d.group.numbers t.text) []
+node_named d w s (indexed n o x l c) =
+    and_then (from_forms (key_of w s (span_of (indexed n o x l c)) x l)) (node_at (length d.ranges) (span_of (indexed n o x l c)) n.text (declared d.group.numbers n.text))
+node_named d w s t = refused_form (defects.Value KindMismatch) (span_of t)

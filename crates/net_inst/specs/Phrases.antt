@@ -1,0 +1,48 @@
+-- What the phrases of an arc say.
+use Rattle.std.specs.Prelude.{Bool, true, false, List, [], ◌∷◌, Option, None, Some, if◌then◌else◌, Ok}
+use Rattle.net_lex.specs.declared.token.Token.{Token}
+use Rattle.net_tree.specs.declared.role.Begins.TheVariants as begins
+use Rattle.net_tree.specs.declared.role.Relates.TheVariants as relates
+use Rattle.net_tree.specs.declared.role.Role.{Role}
+use Rattle.net_tree.specs.declared.role.Role.TheVariants as roles
+use Rattle.net_tree.specs.Role.{role_of}
+use Rattle.net_tree.specs.Tree.{Tree, Body, plain, valued, priced, Phrase}
+use Rattle.net_inst.specs.declared.fault.InstDefect.TheVariants.{NoLower, NoUpper, NoEnds}
+use Rattle.net_inst.specs.declared.phrases.ArcWord.{ArcWord}
+use Rattle.net_inst.specs.declared.phrases.ArcWord.TheVariants.{AtLeast, AtMost, From, To}
+use Rattle.net_inst.specs.Outcomes.{Outcome, refused_name}
+
+abbrev pub is_word : ArcWord → Role → Bool
+is_word AtLeast (roles.Relation relates.AtLeast) = true
+is_word AtMost (roles.Relation relates.AtMost) = true
+is_word From (roles.Phrase begins.From) = true
+is_word To (roles.Phrase begins.To) = true
+is_word _ _ = false
+
+abbrev pub value_in : Body → Option Tree
+value_in (valued x) = Some x
+value_in plain = None
+value_in (priced n x) = None
+
+-- what stands behind the word
+abbrev pub said : ArcWord → List Phrase → Option Tree
+said a [] = None
+said a (p ∷ ps) = if is_word a (role_of p.word) then value_in p.body else said a ps
+
+-- the bounds of an arc, and the nodes at its ends
+pub record Parts : Type 0 where
+  pub lower : Tree
+  pub upper : Tree
+  pub tail : Option Tree
+  pub head : Option Tree
+
+-- both bounds have to be there, and one end
+abbrev pub parts_from : Token → Option Tree → Option Tree → Option Tree → Option Tree → Outcome Parts
+parts_from n None u t h = refused_name NoLower n
+parts_from n (Some l) None t h = refused_name NoUpper n
+parts_from n (Some l) (Some u) None None = refused_name NoEnds n
+parts_from n (Some l) (Some u) None (Some h) = Ok (record { lower = l; upper = u; tail = None; head = Some h })
+parts_from n (Some l) (Some u) (Some t) h = Ok (record { lower = l; upper = u; tail = Some t; head = h })
+
+abbrev pub parts_of : Token → List Phrase → Outcome Parts
+parts_of n ps = parts_from n (said AtLeast ps) (said AtMost ps) (said From ps) (said To ps)

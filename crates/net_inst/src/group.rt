@@ -1,0 +1,91 @@
+//! Declared nodes or arcs: their names, and the numbers that references find.
+
+ghost use Rattle.std.specs.Prelude.{◌≡◌, ◌≤◌, ◌<◌, ◌^◌, [], IfOk, length};
+ghost use Rattle.net_sets.specs.Limits.{tuples_limit};
+ghost use Rattle.net_sets.specs.Operations.{union};
+ghost use Rattle.net_inst.specs.Groups as groups;
+ghost use Rattle.net_inst.specs.Indexings.{tuples_of};
+
+use crate::indexing::Indexing;
+use crate::names::NameList;
+use net_eval::Row;
+use net_forms::{ArcKeys, ArcNames};
+use net_lex::Excerpt;
+use net_sets::{SetFault, TupleSet};
+use std::alloc::{AllocError, Global};
+
+/// Declared nodes, or arcs.
+#[derive(Drop)]
+pub(crate) struct Group<'s> {
+    pub(crate) list: NameList<'s>,
+    pub(crate) numbers: ArcNames<'s>,
+}
+
+/// The keys of rows, each once.
+fn keys_in<'s>(alloc: Global, rows: &[Row<'s>]) -> Result<TupleSet<'s>, AllocError>
+    requires { length rows.now ≤ tuples_limit }
+    ensures { IfOk result (λ keys. keys ≡ union [] (tuples_of rows.now)) }
+{
+    let mut keys = TupleSet::new(alloc);
+    for row in rows {
+        match keys.add(row.key.again()) {
+            Ok(()) => {}
+            Err(SetFault::OutOfMemory) => return Err(AllocError),
+            Err(SetFault::TooMany) => unreachable!(),
+        }
+    }
+    Ok(keys)
+}
+
+/// With a declared name more, unless it has a meaning.
+fn numbers_with<'s>(
+    alloc: Global,
+    numbers: ArcNames<'s>,
+    name: &Excerpt<'s>,
+    first: u32,
+    indexing: &Indexing<'s>,
+) -> Result<ArcNames<'s>, AllocError>
+    requires { length indexing.now.rows ≤ tuples_limit }
+    ensures { IfOk result (λ n. n ≡ groups.numbers_with numbers.entry name.now first indexing.now) }
+{
+    let mut numbers = numbers;
+    if numbers.has(name) {
+        return Ok(numbers);
+    }
+    let keys = ArcKeys {
+        keys: indexing.count,
+        first,
+        index: keys_in(alloc, indexing.rows.as_slice())?,
+    };
+    numbers.add(name, keys)?;
+    Ok(numbers)
+}
+
+impl<'s> Group<'s> {
+    /// Nothing declared.
+    pub(crate) fn new(alloc: Global) -> Group<'s>
+        ensures { result ≡ groups.no_group }
+    {
+        Group {
+            list: NameList::new(alloc),
+            numbers: ArcNames::new(alloc),
+        }
+    }
+
+    /// With one declaration more, whose first node or arc has this number.
+    pub(crate) fn with(
+        self,
+        alloc: Global,
+        name: &Excerpt<'s>,
+        first: u32,
+        indexing: &Indexing<'s>,
+    ) -> Result<Group<'s>, AllocError>
+        requires { length indexing.now.rows ≤ tuples_limit }
+        ensures { IfOk result (λ g. g ≡ groups.group_with self.entry name.now first indexing.now) }
+    {
+        let Group { list, numbers } = self;
+        let list = list.with(name, indexing.count, indexing.rows.as_slice())?;
+        let numbers = numbers_with(alloc, numbers, name, first, indexing)?;
+        Ok(Group { list, numbers })
+    }
+}

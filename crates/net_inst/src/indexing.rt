@@ -1,0 +1,77 @@
+//! The keys by which declarations declare.
+
+ghost use Rattle.std.specs.Prelude.{◌≡◌, OnOk, IfOk};
+ghost use Rattle.net_tree.specs.View.{indexing_of};
+ghost use Rattle.net_inst.specs.Indexings as indexings;
+ghost use Rattle.net_inst.specs.Outcomes.{Answers};
+
+use crate::fault::InstFault;
+use net_eval::{Keys, Row, Scope, Seen, index_of};
+use net_lex::Items;
+use net_sets::Tuple;
+use net_tree::Braces;
+use std::alloc::{AllocError, Global};
+
+/// The keys of a declaration in order, each with the dummies in scope at it, and how many members a key has; that is none
+/// where there are no braces.
+#[derive(Drop)]
+pub(crate) struct Indexing<'s> {
+    pub(crate) count: Option<u8>,
+    pub(crate) rows: Items<Row<'s>>,
+}
+
+/// The one key of a declaration without braces.
+fn alone<'s>(alloc: Global) -> Result<Indexing<'s>, AllocError>
+    ensures { IfOk result (λ i. i ≡ indexings.alone) }
+{
+    let mut rows = Vec::new(alloc);
+    rows.push(Row {
+        key: Tuple::new(),
+        scope: Scope::new(alloc),
+    })?;
+    Ok(Indexing {
+        count: None,
+        rows: Items::new(rows),
+    })
+}
+
+/// How many members the keys have; those of `{}` count as one.
+fn counted(width: Option<u8>) -> u8
+    ensures { result ≡ indexings.counted width }
+{
+    match width {
+        None => 1,
+        Some(width) => width,
+    }
+}
+
+fn by_keys(keys: Keys<'_>) -> Indexing<'_>
+    ensures { result ≡ indexings.by_keys keys.entry }
+{
+    let Keys { width, rows } = keys;
+    Indexing {
+        count: Some(counted(width)),
+        rows,
+    }
+}
+
+/// The keys of a declaration with these braces.
+pub(crate) fn indexing_of<'s>(
+    alloc: Global,
+    seen: &Seen<'_, 's>,
+    braces: &Option<Braces<'s>>,
+) -> Result<Indexing<'s>, InstFault<'s>>
+    ensures { Answers (indexings.indexing_in seen.now (indexing_of braces.now)) result }
+{
+    match braces {
+        None => {
+            let indexing = alone(alloc)?;
+            Ok(indexing)
+        }
+        Some(braces) => {
+            let scope = Scope::new(alloc);
+            let keys = index_of(alloc, seen, &scope, braces)?;
+            Ok(by_keys(keys))
+        }
+    }
+}

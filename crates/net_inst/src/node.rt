@@ -1,0 +1,181 @@
+//! The nodes of declarations.
+
+ghost use Rattle.std.specs.Prelude.{◌≡◌, ◌≤◌, ◌+◌, length, map, IfOk, OnOk};
+ghost use Rattle.net_tree.specs.View.{condition_of, indexing_of};
+ghost use Rattle.net_normal.specs.Limits.{node_limit};
+ghost use Rattle.net_eval.specs.Worlds.{reference};
+ghost use Rattle.net_forms.specs.Conditions.{range_in};
+ghost use Rattle.net_inst.specs.Nodes as nodes;
+ghost use Rattle.net_inst.specs.Nodes.{sides_of};
+ghost use Rattle.net_inst.specs.Outcomes.{Answers, AnswersAs, Leaves, widened};
+
+use crate::fault::{InstDefect, InstFault, InstRefusal, refuse, refuse_name};
+use crate::group::Group;
+use crate::indexing::{Indexing, indexing_of};
+use net_eval::{Detail, Row, Seen};
+use net_forms::{FormDefect, FormFault, FormRefusal, node_range};
+use net_lex::{Span, Token};
+use net_normal::NodeRange;
+use net_tree::{Braces, NetCond};
+use std::alloc::Global;
+use std::marker::Model;
+
+/// How many nodes a network may have.
+const NODE_LIMIT: usize = 10_000;
+
+/// The nodes of the declarations so far, in order, each with its range.
+#[derive(Drop)]
+pub(crate) struct NodeDraft<'s> {
+    ranges: Vec<NodeRange>,
+    group: Group<'s>,
+}
+
+impl<'s> Model for NodeDraft<'s> {
+    ghost use Rattle.std.specs.Prelude.{◌≤◌, map, length};
+    ghost use Rattle.net_normal.specs.Limits.{node_limit};
+    ghost use Rattle.net_inst.specs.Nodes.{DrawnNodes, sides_of};
+
+    ghost Value = { DrawnNodes };
+
+    ghost view = { λ d. record { ranges = map sides_of d.ranges.items; group = d.group } };
+
+    ghost invariant = { λ d. length d.ranges.items ≤ node_limit };
+}
+
+/// A node with its key, as faults tell it.
+pub(crate) fn reference<'s>(name: &Token<'s>, count: Option<u8>, row: &Row<'s>) -> Detail<'s>
+    ensures { result ≡ reference name.now.text count row.now.key }
+{
+    match count {
+        None => Detail::Named(name.text.again()),
+        Some(_) => Detail::Keyed(name.text.again(), row.key.again()),
+    }
+}
+
+/// A fault of a condition; that no net inflow meets it is told of the node, at its declared name.
+fn told_of<'s>(at: Span, detail: Detail<'s>, refusal: FormRefusal<'s>) -> InstRefusal<'s>
+    ensures { result ≡ nodes.told_of at detail.entry refusal.entry.defect (widened refusal.entry) }
+{
+    match refusal.defect {
+        FormDefect::NodeCrossed => InstRefusal {
+            defect: InstDefect::Form(FormDefect::NodeCrossed),
+            at,
+            detail,
+        },
+        defect => InstRefusal {
+            defect: InstDefect::Form(defect),
+            at: refusal.at,
+            detail: refusal.detail,
+        },
+    }
+}
+
+/// The range of a node at a key.
+fn range_at<'s>(
+    alloc: Global,
+    seen: &Seen<'_, 's>,
+    name: &Token<'s>,
+    count: Option<u8>,
+    condition: &NetCond<'s>,
+    row: &Row<'s>,
+) -> Result<NodeRange, InstFault<'s>>
+    ensures { AnswersAs sides_of (nodes.of_node name.now.span (reference name.now.text count row.now.key) (range_in seen.now row.now.scope (condition_of condition.now))) result }
+{
+    match node_range(alloc, seen, &row.scope, condition) {
+        Ok(range) => Ok(range),
+        Err(FormFault::OutOfMemory) => Err(InstFault::OutOfMemory),
+        Err(FormFault::Refused(refusal)) => Err(InstFault::Refused(told_of(
+            name.span,
+            reference(name, count, row),
+            refusal,
+        ))),
+    }
+}
+
+/// One node more, at a key.
+fn push_range<'s>(
+    alloc: Global,
+    seen: &Seen<'_, 's>,
+    name: &Token<'s>,
+    count: Option<u8>,
+    condition: &NetCond<'s>,
+    row: &Row<'s>,
+    ranges: &mut Vec<NodeRange>,
+) -> Result<(), InstFault<'s>>
+    ensures value { Leaves (nodes.next_range seen.now name.now count (condition_of condition.now) row.now (map sides_of ranges.old.items)) result (map sides_of ranges.new.items) }
+    ensures count { OnOk result ((length ranges.new.items ≡ length ranges.old.items + 1) × (length ranges.new.items ≤ node_limit)) }
+{
+    if ranges.len() < NODE_LIMIT {
+        let range = range_at(alloc, seen, name, count, condition, row)?;
+        ranges.push(range)?;
+        Ok(())
+    } else {
+        Err(refuse_name(InstDefect::TooManyNodes, name))
+    }
+}
+
+/// A node for each key, behind those so far.
+fn push_ranges<'s>(
+    alloc: Global,
+    seen: &Seen<'_, 's>,
+    name: &Token<'s>,
+    count: Option<u8>,
+    condition: &NetCond<'s>,
+    rows: &[Row<'s>],
+    ranges: &mut Vec<NodeRange>,
+) -> Result<(), InstFault<'s>>
+    requires { length ranges.now.items ≤ node_limit }
+    ensures value { Leaves (nodes.ranges_at seen.now name.now count (condition_of condition.now) rows.now (map sides_of ranges.old.items)) result (map sides_of ranges.new.items) }
+    ensures few { OnOk result ((length ranges.new.items ≤ node_limit) × (length rows.now ≤ node_limit)) }
+{
+    for row in rows {
+        push_range(alloc, seen, name, count, condition, row, ranges)?;
+    }
+    Ok(())
+}
+
+impl<'s> NodeDraft<'s> {
+    /// No nodes.
+    pub(crate) fn new(alloc: Global) -> NodeDraft<'s>
+        ensures { result ≡ nodes.no_nodes }
+    {
+        NodeDraft {
+            ranges: Vec::new(alloc),
+            group: Group::new(alloc),
+        }
+    }
+
+    /// The nodes at some keys of a declaration, behind those so far.
+    fn by_keys(
+        self,
+        alloc: Global,
+        seen: &Seen<'_, 's>,
+        name: &Token<'s>,
+        condition: &NetCond<'s>,
+        indexing: &Indexing<'s>,
+    ) -> Result<NodeDraft<'s>, InstFault<'s>>
+        ensures { Answers (nodes.nodes_by seen.now name.now (condition_of condition.now) self.entry indexing.now) result }
+    {
+        let NodeDraft { mut ranges, group } = self;
+        let first = ranges.len() as u32;
+        let rows = indexing.rows.as_slice();
+        push_ranges(alloc, seen, name, indexing.count, condition, rows, &mut ranges)?;
+        let group = group.with(alloc, &name.text, first, indexing)?;
+        Ok(NodeDraft { ranges, group })
+    }
+
+    /// The nodes of a declaration behind those of the declarations before it.
+    pub(crate) fn with(
+        self,
+        alloc: Global,
+        seen: &Seen<'_, 's>,
+        name: &Token<'s>,
+        braces: &Option<Braces<'s>>,
+        condition: &NetCond<'s>,
+    ) -> Result<NodeDraft<'s>, InstFault<'s>>
+        ensures { Answers (nodes.with_nodes seen.now name.now (indexing_of braces.now) (condition_of condition.now) self.entry) result }
+    {
+        let indexing = indexing_of(alloc, seen, braces)?;
+        self.by_keys(alloc, seen, name, condition, &indexing)
+    }
+}

@@ -1,0 +1,55 @@
+//! Numbers in declarations.
+
+ghost use Rattle.std.specs.Prelude.{◌≡◌, IfOk};
+ghost use Rattle.net_tree.specs.Spans as trees;
+ghost use Rattle.net_tree.specs.View.{tree};
+ghost use Rattle.net_normal.specs.Limits.{IsSized, value_limit};
+ghost use Rattle.net_eval.specs.Limits.{is_small};
+ghost use Rattle.net_inst.specs.Numbers as numbers;
+ghost use Rattle.net_inst.specs.Outcomes.{Answers};
+
+use crate::fault::{InstFault, refuse_tree};
+use net_eval::{EvalDefect, Scope, Seen, member};
+use net_forms::FormDefect;
+use net_sets::Member;
+use net_tree::Expr;
+use std::alloc::Global;
+
+/// The greatest size of a number.
+const LIMIT: u64 = 1_000_000_000_000;
+
+#[tactic(auto, unfolding(net_eval::specs::Limits::is_small))]
+fn is_small(number: &i64) -> bool
+    ensures { result ≡ is_small number.now }
+{
+    number.unsigned_abs() <= LIMIT
+}
+
+/// The number that a member is, where it is within the limit.
+fn number_in<'s>(whole: &Expr<'_>, member: &Member<'s>) -> Result<i64, InstFault<'s>>
+    ensures { Answers (numbers.number_in (trees.span_of (tree whole.now)) member.now) result }
+{
+    match member {
+        Member::Number(number) => {
+            if is_small(number) {
+                Ok(*number)
+            } else {
+                Err(refuse_tree(FormDefect::Value(EvalDefect::TooLarge), whole))
+            }
+        }
+        Member::Name(_) => Err(refuse_tree(FormDefect::Value(EvalDefect::KindMismatch), whole)),
+    }
+}
+
+/// The number that an expression is; what else it is is a fault of the expression.
+pub(crate) fn number_of<'s>(
+    alloc: Global,
+    seen: &Seen<'_, 's>,
+    scope: &Scope<'s>,
+    expr: &Expr<'s>,
+) -> Result<i64, InstFault<'s>>
+    ensures { Answers (numbers.number seen.now scope.now (tree expr.now)) result }
+{
+    let member = member(alloc, seen, scope, expr)?;
+    number_in(expr, &member)
+}
