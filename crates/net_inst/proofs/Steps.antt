@@ -1,15 +1,24 @@
 -- Steps of the definitions.
-use Rattle.std.specs.Prelude.{◌≡◌, ◌+◌, ◌<◌, ◌≤◌, ℕ, List, [], ◌∷◌, length, get_or, drop, map, Option, Ok, Err, Result}
+use Rattle.std.specs.Prelude.{◌≡◌, ◌+◌, ◌<◌, ◌≤◌, ℕ, List, [], ◌∷◌, length, get_or, drop, map, Bool, true, false, cond, Option, None, Some, Ok, Err, Result}
+use Rattle.std.specs.List.{position_from}
 use Rattle.std.proofs.Common.{refl, ap, sym, ◌∙◌, subst, add-one, arith}
 use Rattle.std.proofs.Math.Seq.{drop-cons}
 use Rattle.net_lex.specs.declared.token.Token.{Token}
-use Rattle.net_tree.specs.Tree.{Condition}
+use Rattle.net_sets.specs.Sets.{Tuple, same_tuple, place_of}
+use Rattle.net_tree.specs.declared.declaration.Phrase.{Phrase as PhraseOfCode}
+use Rattle.net_tree.specs.Tree.{Condition, Phrase}
+use Rattle.net_tree.specs.View.{phrase_of}
+use Rattle.net_tree.proofs.Views.{next_phrase}
 use Rattle.net_eval.specs.declared.row.Row.{Row}
-use Rattle.net_eval.specs.Worlds.{World}
+use Rattle.net_eval.specs.Worlds.{World, Scope}
+use Rattle.net_forms.specs.Forms.{Linear}
 use Rattle.net_forms.specs.declared.condition.Sides.{Sides}
 use Rattle.net_inst.specs.declared.fault.InstFault.{InstFault}
 use Rattle.net_inst.specs.declared.fault.InstFault.TheVariants.{OutOfMemory, Refused}
-use Rattle.net_inst.specs.Nodes.{next_range, ranges_at}
+use Rattle.net_inst.specs.declared.goal.Goal.{Goal}
+use Rattle.net_inst.specs.Arcs.{DrawnArcs, price_in, prices_in, next_arc, arcs_at}
+use Rattle.net_inst.specs.Nodes.{DrawnNodes, next_range, ranges_at}
+use Rattle.net_inst.specs.Phrases.{Parts}
 use Rattle.net_inst.specs.Outcomes.{Outcome, Answers, and_then}
 
 -- a fault of the first step is a fault of all
@@ -30,3 +39,21 @@ one_more i a b h e = omega arith
 
 pub ranges-left : (w : World) (n : Token) (k : Option ℕ) (c : Condition) (rows : List Row) (i : ℕ) (row : Row) (found : List Sides) (wanted : Outcome (List Sides)) → i < length rows → row ≡ get_or rows i row → ranges_at w n k c (drop i rows) found ≡ wanted → wanted ≡ and_then (next_range w n k c row found) (ranges_at w n k c (drop (i + 1) rows))
 ranges-left w n k c rows i row found wanted h e inv = sym inv ∙ ap (λ (l : List Row). ranges_at w n k c l found) (left_at rows i row h e)
+
+-- a tuple's place is below their number
+below : (test : Tuple → Bool) (i j : ℕ) (ts : List Tuple) → position_from test i ts ≡ Some j → j < i + length ts
+below test i j [] e = cc
+below test i j (t ∷ ts) e = step (test t) e (below test (i + 1) j ts)
+  where
+    step : (b : Bool) → cond b (Some i) (position_from test (i + 1) ts) ≡ Some j → (position_from test (i + 1) ts ≡ Some j → j < i + 1 + length ts) → j < i + length (t ∷ ts)
+    step true h more = let same : i ≡ j = cc in omega (arith, same)
+    step false h more = omega (arith, more h)
+
+pub place_below : (ts : List Tuple) (t : Tuple) (j : ℕ) → Some j ≡ place_of ts t → j < length ts
+place_below ts t j e = omega (arith, below (same_tuple t) 0 j ts (sym e))
+
+pub prices-left : (g : Option Goal) (w : World) (s : Scope) (a : ℕ) (ps : List PhraseOfCode) (i : ℕ) (p : PhraseOfCode) (f : Linear) (wanted : Outcome Linear) → i < length ps → p ≡ get_or ps i p → prices_in g w s a (map phrase_of (drop i ps)) f ≡ wanted → wanted ≡ and_then (price_in g w s a (phrase_of p).body f) (prices_in g w s a (map phrase_of (drop (i + 1) ps)))
+prices-left g w s a ps i p f wanted h e inv = sym inv ∙ ap (λ l. prices_in g w s a l f) (next_phrase ps i p h e)
+
+pub arcs-left : (g : Option Goal) (ns : DrawnNodes) (w : World) (n : Token) (k : Option ℕ) (p : Parts) (ps : List Phrase) (rows : List Row) (i : ℕ) (row : Row) (d : DrawnArcs) (wanted : Outcome DrawnArcs) → i < length rows → row ≡ get_or rows i row → arcs_at g ns w n k p ps (drop i rows) d ≡ wanted → wanted ≡ and_then (next_arc g ns w n k p ps row d) (arcs_at g ns w n k p ps (drop (i + 1) rows))
+arcs-left g ns w n k p ps rows i row d wanted h e inv = sym inv ∙ ap (λ (l : List Row). arcs_at g ns w n k p ps l d) (left_at rows i row h e)

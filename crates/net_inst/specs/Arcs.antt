@@ -46,9 +46,12 @@ abbrev pub is_goal : Option Goal → Name → Bool
 is_goal None name = false
 is_goal (Some g) name = bytes_eq g.name name
 
+abbrev pub priced_by : World → Scope → ℕ → Tree → forms.Linear → Outcome forms.Linear
+priced_by w s a x f = and_then (number w s x) (λ c. from_forms (forms.priced (span_of x) f a c))
+
 -- the form with what a phrase gives arc a in the objective; phrases of other objectives are passed over
 abbrev pub price_in : Option Goal → World → Scope → ℕ → Body → forms.Linear → Outcome forms.Linear
-price_in g w s a (priced n x) f = if is_goal g n.text then and_then (number w s x) (λ c. from_forms (forms.priced (span_of x) f a c)) else Ok f
+price_in g w s a (priced n x) f = if is_goal g n.text then priced_by w s a x f else Ok f
 price_in g w s a plain f = Ok f
 price_in g w s a (valued x) f = Ok f
 
@@ -67,6 +70,10 @@ next_arc g ns w n k p ps row d =
 abbrev pub arcs_at : Option Goal → DrawnNodes → World → Token → Option ℕ → Parts → List Phrase → List Row → DrawnArcs → Outcome DrawnArcs
 arcs_at g ns w n k p ps [] d = Ok d
 arcs_at g ns w n k p ps (row ∷ rows) d = and_then (next_arc g ns w n k p ps row d) (arcs_at g ns w n k p ps rows)
+
+-- with another form of the objective
+abbrev pub formed : DrawnArcs → forms.Linear → DrawnArcs
+formed d f = record { arcs = d.arcs; form = f; group = d.group }
 
 abbrev pub named_arcs : Name → ℕ → Indexing → DrawnArcs → DrawnArcs
 named_arcs name first i d = record { arcs = d.arcs; form = d.form; group = group_with d.group name first i }

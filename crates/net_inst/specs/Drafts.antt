@@ -2,27 +2,23 @@
 use Rattle.std.specs.Prelude.{ℕ, ◌+◌, Bool, true, false, List, [], ◌∷◌, codes, take, Option, None, Some, if◌then◌else◌, Ok, pos}
 use Rattle.std.specs.Str.{bytes_eq}
 use Rattle.net_lex.specs.declared.token.Token.{Token}
-use Rattle.net_tree.specs.Tree.{Part, absent, part, Declaration, set, param, check, node, arc, objective}
+use Rattle.net_tree.specs.Tree.{Tree, Braces, Condition, Phrase, Part, absent, part, Declaration, set, param, check, node, arc, objective}
 use Rattle.net_normal.specs.declared.instance.Sense.{Sense}
 use Rattle.net_normal.specs.declared.instance.Sense.TheVariants.{Minimise, Maximise}
 use Rattle.net_eval.specs.Worlds.{Name, World}
 use Rattle.net_forms.specs.Forms.{Linear, just}
 use Rattle.net_forms.specs.Objectives.{objective_form}
 use Rattle.net_inst.specs.declared.fault.InstDefect.TheVariants.{TwoObjectives}
+use Rattle.net_inst.specs.declared.draft.Draft.{Draft}
 use Rattle.net_inst.specs.declared.goal.Goal.{Goal}
-use Rattle.net_inst.specs.Arcs.{DrawnArcs, no_arcs, with_arcs}
+use Rattle.net_inst.specs.Arcs.{DrawnArcs, no_arcs, with_arcs, formed}
 use Rattle.net_inst.specs.Groups.{Numbers}
 use Rattle.net_inst.specs.Nodes.{DrawnNodes, no_nodes, with_nodes}
 use Rattle.net_inst.specs.Outcomes.{Outcome, and_then, refused_name, from_forms}
 
--- what the declarations so far come to: how many sets and parameters they declare, the nodes, the arcs, the chosen objective,
--- and whether there is an objective at all
-pub record Drawing : Type 0 where
-  pub known : ℕ
-  pub nodes : DrawnNodes
-  pub arcs : DrawnArcs
-  pub goal : Option Goal
-  pub aims : Bool
+-- what the declarations so far come to
+abbrev pub Drawing : Type 0
+Drawing = Draft
 
 abbrev pub nothing : Drawing
 nothing = record { known = 0; nodes = no_nodes; arcs = no_arcs; goal = None; aims = false }
@@ -41,10 +37,13 @@ is_chosen (Some name) g n = Ok (bytes_eq name n.text)
 is_chosen None None n = Ok true
 is_chosen None (Some g) n = refused_name TwoObjectives n
 
+abbrev pub said_tree : Numbers → World → Tree → Outcome Linear
+said_tree a w x = from_forms (objective_form a w [] x)
+
 -- what an objective says itself of the arcs declared before it
 abbrev pub said_form : Numbers → World → Part → Outcome Linear
 said_form a w absent = Ok (just (pos 0))
-said_form a w (part m x) = from_forms (objective_form a w [] x)
+said_form a w (part m x) = said_tree a w x
 
 abbrev pub passed : Drawing → Drawing
 passed d = record { known = d.known; nodes = d.nodes; arcs = d.arcs; goal = d.goal; aims = true }
@@ -53,14 +52,16 @@ abbrev pub aimed : Drawing → Token → Token → Linear → Drawing
 aimed d t n f = record {
   known = d.known;
   nodes = d.nodes;
-  arcs = record { arcs = d.arcs.arcs; form = f; group = d.arcs.group };
+  arcs = formed d.arcs f;
   goal = Some (record { name = n.text; sense = sense_of t });
   aims = true;
 }
 
-abbrev pub if_chosen : World → Token → Token → Part → Drawing → Bool → Outcome Drawing
-if_chosen w t n p d true = and_then (said_form d.arcs.group.numbers (seen w d) p) (λ f. Ok (aimed d t n f))
-if_chosen w t n p d false = Ok (passed d)
+abbrev pub with_goal : World → Token → Token → Part → Drawing → Outcome Drawing
+with_goal w t n p d = and_then (said_form d.arcs.group.numbers w p) (λ f. Ok (aimed d t n f))
+
+abbrev pub with_objective : Option Name → World → Token → Token → Part → Drawing → Outcome Drawing
+with_objective wanted w t n p d = and_then (is_chosen wanted d.goal n) (λ b. if b then with_goal w t n p d else Ok (passed d))
 
 abbrev pub known_more : Drawing → Drawing
 known_more d = record { known = d.known + 1; nodes = d.nodes; arcs = d.arcs; goal = d.goal; aims = d.aims }
@@ -71,14 +72,20 @@ nodes_more d ns = record { known = d.known; nodes = ns; arcs = d.arcs; goal = d.
 abbrev pub arcs_more : Drawing → DrawnArcs → Drawing
 arcs_more d xs = record { known = d.known; nodes = d.nodes; arcs = xs; goal = d.goal; aims = d.aims }
 
+abbrev pub with_node_declaration : World → Token → Option Braces → Condition → Drawing → Outcome Drawing
+with_node_declaration w n b c d = and_then (with_nodes w n b c d.nodes) (λ ns. Ok (nodes_more d ns))
+
+abbrev pub with_arc_declaration : World → Token → Option Braces → List Phrase → Drawing → Outcome Drawing
+with_arc_declaration w n b ps d = and_then (with_arcs d.goal d.nodes w n b ps d.arcs) (λ xs. Ok (arcs_more d xs))
+
 -- one declaration more
 abbrev pub declare : Option Name → World → Declaration → Drawing → Outcome Drawing
 declare wanted w (set t n ps e) d = Ok (known_more d)
 declare wanted w (param t n b ps e) d = Ok (known_more d)
 declare wanted w (check t b m x e) d = Ok d
-declare wanted w (node t n b c e) d = and_then (with_nodes (seen w d) n b c d.nodes) (λ ns. Ok (nodes_more d ns))
-declare wanted w (arc t n b ps e) d = and_then (with_arcs d.goal d.nodes (seen w d) n b ps d.arcs) (λ xs. Ok (arcs_more d xs))
-declare wanted w (objective t n p e) d = and_then (is_chosen wanted d.goal n) (if_chosen w t n p d)
+declare wanted w (node t n b c e) d = with_node_declaration (seen w d) n b c d
+declare wanted w (arc t n b ps e) d = with_arc_declaration (seen w d) n b ps d
+declare wanted w (objective t n p e) d = with_objective wanted (seen w d) t n p d
 
 -- the declarations in order
 abbrev pub draw : Option Name → World → List Declaration → Drawing → Outcome Drawing

@@ -7,6 +7,7 @@ pub mod Groups
 pub mod Numbers
 pub mod Nodes
 pub mod Phrases
+pub mod Parts
 pub mod Arcs
 pub mod Drafts
 pub mod Instances

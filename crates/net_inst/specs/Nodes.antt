@@ -4,7 +4,7 @@ use Rattle.net_lex.specs.declared.span.Span.{Span}
 use Rattle.net_lex.specs.declared.token.Token.{Token}
 use Rattle.net_sets.specs.Sets.{Tuple, place_of}
 use Rattle.net_tree.specs.Spans.{span_of}
-use Rattle.net_tree.specs.Tree.{Tree, leaf, indexed, Braces, Condition}
+use Rattle.net_tree.specs.Tree.{Tree, Links, leaf, indexed, Braces, Condition}
 use Rattle.net_normal.specs.declared.instance.NodeRange.{NodeRange}
 use Rattle.net_normal.specs.Limits.{node_limit}
 use Rattle.net_eval.specs.declared.fault.Detail.{Detail}
@@ -81,9 +81,23 @@ node_at count at name None key = refused NoSuchNode at (Named name)
 node_at count at name (Some k) key =
     if nat_eq (length key) (key_count k.keys) then numbered count at (reference name k.keys key) k.first (place_of k.index key) else refused_form (defects.Value Arity) at
 
+abbrev pub indexed_node : DrawnNodes → World → Scope → Span → Token → Tree → Links → Outcome ℕ
+indexed_node d w s at n x l = and_then (from_forms (key_of w s at x l)) (node_at (length d.ranges) at n.text (declared d.group.numbers n.text))
+
+-- a name, and its subscripts where it has any
+abbrev pub name_in : Tree → Option (Token × Option (Tree × Links))
+name_in (leaf t) = Some (t, None)
+name_in (indexed n o x l c) = Some (n, Some (x, l))
+name_in _ = None
+
+abbrev pub node_of : DrawnNodes → World → Scope → Span → Token → Option (Tree × Links) → Outcome ℕ
+node_of d w s at n None = node_at (length d.ranges) at n.text (declared d.group.numbers n.text) []
+node_of d w s at n (Some q) = indexed_node d w s at n q.0 q.1
+
+abbrev pub node_by : DrawnNodes → World → Scope → Span → Option (Token × Option (Tree × Links)) → Outcome ℕ
+node_by d w s at None = refused_form (defects.Value KindMismatch) at
+node_by d w s at (Some p) = node_of d w s at p.0 p.1
+
 -- the node that is named; its subscripts are evaluated first
 abbrev pub node_named : DrawnNodes → World → Scope → Tree → Outcome ℕ
-node_named d w s (leaf t) = node_at (length d.ranges) (span_of (leaf t)) t.text (declared d.group.numbers t.text) []
-node_named d w s (indexed n o x l c) =
-    and_then (from_forms (key_of w s (span_of (indexed n o x l c)) x l)) (node_at (length d.ranges) (span_of (indexed n o x l c)) n.text (declared d.group.numbers n.text))
-node_named d w s t = refused_form (defects.Value KindMismatch) (span_of t)
+node_named d w s t = node_by d w s (span_of t) (name_in t)

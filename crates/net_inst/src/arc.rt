@@ -1,3 +1,23 @@
+//! The arcs of declarations.
+
+ghost use Rattle.std.specs.Prelude.{◌≡◌, option_map};
+ghost use Rattle.std.specs.Option.{option_copied};
+ghost use Rattle.net_tree.specs.View.{tree};
+ghost use Rattle.net_eval.specs.Worlds.{reference};
+ghost use Rattle.net_inst.specs.Arcs as found;
+ghost use Rattle.net_inst.specs.Outcomes.{Answers};
+ghost use Rattle.net_inst.specs.Parts.{parts_seen};
+
+use crate::fault::{InstDefect, InstFault, refuse};
+use crate::node::{NodeDraft, reference};
+use crate::node_name::node_named;
+use crate::number::number_of;
+use crate::phrases::ArcParts;
+use net_eval::{Row, Scope, Seen};
+use net_lex::Token;
+use net_tree::{Expr, Phrase};
+use std::alloc::Global;
+
 /// An arc at a key without its coefficient: its bounds, and its nodes by their numbers.
 #[derive(Clone, Copy)]
 pub(crate) struct Drawn {
@@ -5,4 +25,80 @@ pub(crate) struct Drawn {
     pub(crate) upper: i64,
     pub(crate) tail: Option<u32>,
     pub(crate) head: Option<u32>,
+}
+
+/// What a declaration says of its arcs.
+#[derive(Clone, Copy)]
+pub(crate) struct ArcText<'a, 's> {
+    /// The declared name.
+    pub(crate) name: &'a Token<'s>,
+    pub(crate) parts: ArcParts<'a, 's>,
+    pub(crate) phrases: &'a [Phrase<'s>],
+}
+
+/// The node at an end, where one is said.
+fn end_at<'s>(
+    alloc: Global,
+    seen: &Seen<'_, 's>,
+    scope: &Scope<'s>,
+    nodes: &NodeDraft<'s>,
+    end: Option<&Expr<'s>>,
+) -> Result<Option<u32>, InstFault<'s>>
+    ensures { Answers (found.end_at nodes.now seen.now scope.now (option_map tree (option_copied end.entry))) result }
+{
+    match end {
+        None => Ok(None),
+        Some(expr) => {
+            let number = node_named(alloc, seen, scope, nodes, expr)?;
+            Ok(Some(number))
+        }
+    }
+}
+
+/// An arc with these bounds, where its ends are said.
+fn with_ends<'s>(
+    alloc: Global,
+    seen: &Seen<'_, 's>,
+    scope: &Scope<'s>,
+    nodes: &NodeDraft<'s>,
+    parts: ArcParts<'_, 's>,
+    lower: i64,
+    upper: i64,
+) -> Result<Drawn, InstFault<'s>>
+    ensures { Answers (found.with_ends nodes.now seen.now scope.now (parts_seen parts.entry) lower upper) result }
+{
+    let tail = end_at(alloc, seen, scope, nodes, parts.tail)?;
+    let head = end_at(alloc, seen, scope, nodes, parts.head)?;
+    Ok(Drawn {
+        lower,
+        upper,
+        tail,
+        head,
+    })
+}
+
+/// An arc at a key: its bounds, and then its ends.
+pub(crate) fn arc_at<'s>(
+    alloc: Global,
+    seen: &Seen<'_, 's>,
+    nodes: &NodeDraft<'s>,
+    name: &Token<'s>,
+    count: Option<u8>,
+    parts: ArcParts<'_, 's>,
+    row: &Row<'s>,
+) -> Result<Drawn, InstFault<'s>>
+    ensures { Answers (found.drawn nodes.now seen.now name.now count (parts_seen parts.entry) row.now) result }
+{
+    let scope = &row.scope;
+    let lower = number_of(alloc, seen, scope, parts.lower)?;
+    let upper = number_of(alloc, seen, scope, parts.upper)?;
+    if upper < lower {
+        Err(refuse(
+            InstDefect::ArcCrossed,
+            name.span,
+            reference(name, count, row),
+        ))
+    } else {
+        with_ends(alloc, seen, scope, nodes, parts, lower, upper)
+    }
 }

@@ -4,6 +4,7 @@ ghost use Rattle.net_tree.specs.View.{tree};
 ghost use Rattle.net_eval.specs.declared.fault.Detail.TheVariants.{Nothing as NoDetail, Named as ByName};
 ghost use Rattle.net_inst.specs.declared.fault.InstDefect.TheVariants as defects;
 ghost use Rattle.net_inst.specs.declared.fault.InstFault.TheVariants.{Refused};
+ghost use Rattle.net_inst.specs.Outcomes.{widened_fault};
 ghost use Rattle.net_inst.specs.Faults.{number_of, name_of};
 
 use net_eval::{Detail, EvalFault, Refusal};
@@ -153,6 +154,13 @@ impl<'s> From<EvalFault<'s>> for InstFault<'s> {
             }),
         }
     }
+}
+
+/// The fault of a form, as one of the model.
+pub(crate) fn widened<'s>(fault: FormFault<'s>) -> InstFault<'s>
+    ensures { result ≡ widened_fault fault.entry }
+{
+    InstFault::from(fault)
 }
 
 /// A fault with its place and what is told beside.

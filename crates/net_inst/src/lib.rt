@@ -2,6 +2,8 @@
 #![tactic(auto)]
 
 mod arc;
+mod arc_draft;
+mod draft;
 mod fault;
 mod goal;
 mod group;
@@ -10,8 +12,10 @@ mod instantiate;
 mod key;
 mod names;
 mod node;
+mod node_name;
 mod number;
 mod phrases;
+mod price;
 mod reference;
 
 pub use fault::{InstDefect, InstFault, InstRefusal};

@@ -1,9 +1,11 @@
 //! The nodes of declarations.
 
 ghost use Rattle.std.specs.Prelude.{◌≡◌, ◌≤◌, ◌+◌, length, map, IfOk, OnOk};
+ghost use Rattle.std.specs.Option.{option_copied};
 ghost use Rattle.net_tree.specs.View.{condition_of, indexing_of};
 ghost use Rattle.net_normal.specs.Limits.{node_limit};
 ghost use Rattle.net_eval.specs.Worlds.{reference};
+ghost use Rattle.net_forms.specs.Arcs.{declared};
 ghost use Rattle.net_forms.specs.Conditions.{range_in};
 ghost use Rattle.net_inst.specs.Nodes as nodes;
 ghost use Rattle.net_inst.specs.Nodes.{sides_of};
@@ -13,8 +15,8 @@ use crate::fault::{InstDefect, InstFault, InstRefusal, refuse, refuse_name};
 use crate::group::Group;
 use crate::indexing::{Indexing, indexing_of};
 use net_eval::{Detail, Row, Seen};
-use net_forms::{FormDefect, FormFault, FormRefusal, node_range};
-use net_lex::{Span, Token};
+use net_forms::{ArcKeys, FormDefect, FormFault, FormRefusal, node_range};
+use net_lex::{Excerpt, Span, Token};
 use net_normal::NodeRange;
 use net_tree::{Braces, NetCond};
 use std::alloc::Global;
@@ -145,6 +147,21 @@ impl<'s> NodeDraft<'s> {
         }
     }
 
+    /// How many nodes there are.
+    pub(crate) fn len(&self) -> usize
+        ensures value { result ≡ length self.now.ranges }
+        ensures few { result ≤ node_limit }
+    {
+        self.ranges.len()
+    }
+
+    /// The keys of a declared name, and the number of its first node.
+    pub(crate) fn keys_of(&self, name: &Excerpt<'s>) -> Option<&ArcKeys<'s>>
+        ensures { option_copied result ≡ declared self.now.group.numbers name.now }
+    {
+        self.group.numbers.get(name)
+    }
+
     /// The nodes at some keys of a declaration, behind those so far.
     fn by_keys(
         self,
@@ -159,7 +176,15 @@ impl<'s> NodeDraft<'s> {
         let NodeDraft { mut ranges, group } = self;
         let first = ranges.len() as u32;
         let rows = indexing.rows.as_slice();
-        push_ranges(alloc, seen, name, indexing.count, condition, rows, &mut ranges)?;
+        push_ranges(
+            alloc,
+            seen,
+            name,
+            indexing.count,
+            condition,
+            rows,
+            &mut ranges,
+        )?;
         let group = group.with(alloc, &name.text, first, indexing)?;
         Ok(NodeDraft { ranges, group })
     }

@@ -1,5 +1,17 @@
 //! What the phrases of an arc say.
 
+ghost use Rattle.std.specs.Prelude.{◌≡◌, map, option_map};
+ghost use Rattle.std.specs.Option.{option_copied};
+ghost use Rattle.net_tree.specs.Role.{role_of};
+ghost use Rattle.net_tree.specs.View.{tree, body_of, phrase_of};
+ghost use Rattle.net_inst.specs.Phrases as saying;
+ghost use Rattle.net_inst.specs.Parts.{parts_seen};
+ghost use Rattle.net_inst.specs.Outcomes.{AnswersAs};
+
+use crate::fault::{InstDefect, InstFault, refuse_name};
+use net_lex::Token;
+use net_tree::{Begins, Body, Expr, Phrase, Relates, Role, role_of};
+
 /// The words of an arc's phrases that stand at most once.
 #[derive(Clone, Copy)]
 pub(crate) enum ArcWord {
@@ -9,4 +21,84 @@ pub(crate) enum ArcWord {
     AtMost,
     From,
     To,
+}
+
+/// What the phrases of an arc say of its bounds, and of its ends where they are said.
+#[derive(Clone, Copy)]
+pub(crate) struct ArcParts<'a, 's> {
+    pub(crate) lower: &'a Expr<'s>,
+    pub(crate) upper: &'a Expr<'s>,
+    pub(crate) tail: Option<&'a Expr<'s>>,
+    pub(crate) head: Option<&'a Expr<'s>>,
+}
+
+fn is_word(word: ArcWord, role: Role) -> bool
+    ensures { result ≡ saying.is_word word role }
+{
+    match (word, role) {
+        (ArcWord::AtLeast, Role::Relation(Relates::AtLeast)) => true,
+        (ArcWord::AtMost, Role::Relation(Relates::AtMost)) => true,
+        (ArcWord::From, Role::Phrase(Begins::From)) => true,
+        (ArcWord::To, Role::Phrase(Begins::To)) => true,
+        _ => false,
+    }
+}
+
+fn value_in<'a, 's>(body: &'a Body<'s>) -> Option<&'a Expr<'s>>
+    ensures { option_map tree (option_copied result) ≡ saying.value_in (body_of body.entry.now) }
+{
+    match body {
+        Body::Valued(expr) => Some(expr),
+        Body::Plain => None,
+        Body::Priced(_, _) => None,
+    }
+}
+
+/// What stands behind a word.
+fn said<'a, 's>(word: ArcWord, phrases: &'a [Phrase<'s>]) -> Option<&'a Expr<'s>>
+    ensures { option_map tree (option_copied result) ≡ saying.said word (map phrase_of phrases.entry.now) }
+{
+    for phrase in phrases {
+        if is_word(word, role_of(&phrase.word)) {
+            return value_in(&phrase.body);
+        }
+    }
+    None
+}
+
+/// Both bounds have to be there, and one end.
+fn parts_from<'a, 's>(
+    name: &Token<'s>,
+    lower: Option<&'a Expr<'s>>,
+    upper: Option<&'a Expr<'s>>,
+    tail: Option<&'a Expr<'s>>,
+    head: Option<&'a Expr<'s>>,
+) -> Result<ArcParts<'a, 's>, InstFault<'s>>
+    ensures { AnswersAs parts_seen (saying.parts_from name.now (option_map tree (option_copied lower.entry)) (option_map tree (option_copied upper.entry)) (option_map tree (option_copied tail.entry)) (option_map tree (option_copied head.entry))) result }
+{
+    match (lower, upper, tail, head) {
+        (None, _, _, _) => Err(refuse_name(InstDefect::NoLower, name)),
+        (Some(_), None, _, _) => Err(refuse_name(InstDefect::NoUpper, name)),
+        (Some(_), Some(_), None, None) => Err(refuse_name(InstDefect::NoEnds, name)),
+        (Some(lower), Some(upper), tail, head) => Ok(ArcParts {
+            lower,
+            upper,
+            tail,
+            head,
+        }),
+    }
+}
+
+/// What the phrases of an arc say; the first that is lacking is told at the declared name.
+pub(crate) fn parts_of<'a, 's>(
+    name: &Token<'s>,
+    phrases: &'a [Phrase<'s>],
+) -> Result<ArcParts<'a, 's>, InstFault<'s>>
+    ensures { AnswersAs parts_seen (saying.parts_of name.now (map phrase_of phrases.entry.now)) result }
+{
+    let lower = said(ArcWord::AtLeast, phrases);
+    let upper = said(ArcWord::AtMost, phrases);
+    let tail = said(ArcWord::From, phrases);
+    let head = said(ArcWord::To, phrases);
+    parts_from(name, lower, upper, tail, head)
 }

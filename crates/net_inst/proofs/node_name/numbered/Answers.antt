@@ -1,0 +1,5 @@
+use Rattle.net_inst.proofs.Steps.{place_below}
+use Rattle.net_inst.proofs.node_name.numbered.Goals as goal
+
+pub number_behind-number-requires : goal.number_behind-number-requires
+number_behind-number-requires c = place_below c.args.keys.now.index c.args.key c.in-Some.place c.in-Some.ensures

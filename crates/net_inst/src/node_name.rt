@@ -1,0 +1,182 @@
+//! The nodes that `from` and `to` name.
+
+ghost use Rattle.std.specs.Prelude.{◌≡◌, ◌+◌, ◌<◌, ◌≤◌, ◌^◌, [], option_map, length};
+ghost use Rattle.std.specs.Option.{option_copied};
+ghost use Rattle.net_sets.specs.Sets.{place_of};
+ghost use Rattle.net_tree.specs.Spans as trees;
+ghost use Rattle.net_tree.specs.View.{tree, links_of};
+ghost use Rattle.net_normal.specs.Limits.{node_limit};
+ghost use Rattle.net_eval.specs.Worlds as worlds;
+ghost use Rattle.net_forms.specs.Arcs.{declared};
+ghost use Rattle.net_inst.specs.Nodes as found;
+ghost use Rattle.net_inst.specs.Outcomes.{Answers};
+
+use crate::fault::{InstDefect, InstFault, refuse, refuse_tree};
+use crate::key::key_of;
+use crate::node::NodeDraft;
+use net_eval::{Detail, EvalDefect, Scope, Seen};
+use net_forms::{ArcKeys, FormDefect};
+use net_lex::{Excerpt, Span, Token};
+use net_sets::Tuple;
+use net_tree::{Expr, Link, span_of};
+use std::alloc::Global;
+
+fn key_count(count: Option<u8>) -> usize
+    ensures { result ≡ worlds.key_count count }
+{
+    match count {
+        None => 0,
+        Some(count) => usize::from(count),
+    }
+}
+
+/// A node with its key, as faults tell it.
+fn reference<'s>(name: &Excerpt<'s>, count: Option<u8>, key: Tuple<'s>) -> Detail<'s>
+    ensures { result ≡ worlds.reference name.now count key.entry }
+{
+    match count {
+        None => Detail::Named(name.again()),
+        Some(_) => Detail::Keyed(name.again(), key),
+    }
+}
+
+/// The number of the node at a place of a declaration.
+fn number_behind(keys: &ArcKeys<'_>, place: usize) -> usize
+    requires { place < length keys.now.index }
+    ensures { result ≡ keys.now.first + place }
+{
+    let count = keys.index.len();
+    prove!(place < count);
+    keys.first as usize + place
+}
+
+/// A number, where it is that of one of so many nodes.
+fn among<'s>(
+    count: usize,
+    at: Span,
+    detail: Detail<'s>,
+    number: usize,
+) -> Result<u32, InstFault<'s>>
+    requires { count ≤ node_limit }
+    ensures value { Answers (found.among count at detail.entry number) result }
+{
+    if number < count {
+        Ok(number as u32)
+    } else {
+        Err(refuse(InstDefect::NoSuchNode, at, detail))
+    }
+}
+
+/// The node at a key of a declaration.
+fn numbered<'s>(
+    count: usize,
+    at: Span,
+    name: &Excerpt<'s>,
+    keys: &ArcKeys<'s>,
+    key: Tuple<'s>,
+) -> Result<u32, InstFault<'s>>
+    requires { count ≤ node_limit }
+    ensures value { Answers (found.numbered count at (worlds.reference name.now keys.now.keys key.entry) keys.now.first (place_of keys.now.index key.entry)) result }
+{
+    match keys.index.position(&key) {
+        Some(place) => {
+            let number = number_behind(keys, place);
+            among(count, at, reference(name, keys.keys, key), number)
+        }
+        None => Err(refuse(InstDefect::NoSuchNode, at, reference(name, keys.keys, key))),
+    }
+}
+
+/// The node that a name has at a key.
+fn node_at<'s>(
+    count: usize,
+    whole: &Expr<'s>,
+    name: &Excerpt<'s>,
+    keys: Option<&ArcKeys<'s>>,
+    key: Tuple<'s>,
+) -> Result<u32, InstFault<'s>>
+    requires { count ≤ node_limit }
+    ensures value { Answers (found.node_at count (trees.span_of (tree whole.now)) name.now (option_copied keys.entry) key.entry) result }
+{
+    match keys {
+        None => Err(refuse(
+            InstDefect::NoSuchNode,
+            span_of(whole),
+            Detail::Named(name.again()),
+        )),
+        Some(keys) => {
+            if key.len() == key_count(keys.keys) {
+                numbered(count, span_of(whole), name, keys, key)
+            } else {
+                Err(refuse_tree(FormDefect::Value(EvalDefect::Arity), whole))
+            }
+        }
+    }
+}
+
+/// The node of a name without subscripts.
+fn plain_node<'s>(
+    nodes: &NodeDraft<'s>,
+    whole: &Expr<'s>,
+    name: &Token<'s>,
+) -> Result<u32, InstFault<'s>>
+    ensures value { Answers (found.node_at (length nodes.now.ranges) (trees.span_of (tree whole.now)) name.now.text (declared nodes.now.group.numbers name.now.text) []) result }
+{
+    let keys = nodes.keys_of(&name.text);
+    node_at(nodes.len(), whole, &name.text, keys, Tuple::new())
+}
+
+/// The node of a name with subscripts.
+fn indexed_node<'s>(
+    alloc: Global,
+    seen: &Seen<'_, 's>,
+    scope: &Scope<'s>,
+    nodes: &NodeDraft<'s>,
+    whole: &Expr<'s>,
+    name: &Token<'s>,
+    subscripts: (&Expr<'s>, &[Link<'s>]),
+) -> Result<u32, InstFault<'s>>
+    ensures value { Answers (found.indexed_node nodes.now seen.now scope.now (trees.span_of (tree whole.now)) name.now (tree subscripts.entry.0.now) (links_of subscripts.entry.1.now)) result }
+{
+    let key = key_of(alloc, seen, scope, whole, subscripts.0, subscripts.1)?;
+    let keys = nodes.keys_of(&name.text);
+    node_at(nodes.len(), whole, &name.text, keys, key)
+}
+
+/// A name, and its subscripts where it has any.
+#[tactic(auto, using(net_tree::proofs::Views::views))]
+fn name_in<'a, 's>(
+    expr: &'a Expr<'s>,
+) -> Option<(&'a Token<'s>, Option<(&'a Expr<'s>, &'a [Link<'s>])>)>
+    ensures { option_map (λ p. (p.0.now, option_map (λ q. (tree q.0.now, links_of q.1.now)) p.1)) result ≡ found.name_in (tree expr.entry.now) }
+{
+    match expr {
+        Expr::Leaf(name) => Some((name, None)),
+        Expr::Indexed(parts) => {
+            let (name, _, series, _) = parts.get();
+            Some((name, Some((&series.first, series.more.as_slice()))))
+        }
+        Expr::Parens(_) | Expr::Tuple(_) | Expr::Negated(_) | Expr::Braced(_) => None,
+        Expr::Signed(_) | Expr::Reduced(_, _) | Expr::Chain(_, _) => None,
+        Expr::Choice(_, _, _) | Expr::Net(_) => None,
+    }
+}
+
+/// The number of the node that is named; its subscripts are evaluated first.
+pub(crate) fn node_named<'s>(
+    alloc: Global,
+    seen: &Seen<'_, 's>,
+    scope: &Scope<'s>,
+    nodes: &NodeDraft<'s>,
+    expr: &Expr<'s>,
+) -> Result<u32, InstFault<'s>>
+    ensures value { Answers (found.node_named nodes.now seen.now scope.now (tree expr.now)) result }
+{
+    match name_in(expr) {
+        None => Err(refuse_tree(FormDefect::Value(EvalDefect::KindMismatch), expr)),
+        Some((name, None)) => plain_node(nodes, expr, name),
+        Some((name, Some((first, more)))) => {
+            indexed_node(alloc, seen, scope, nodes, expr, name, (first, more))
+        }
+    }
+}
