@@ -1,5 +1,5 @@
 -- What the declarations of a model come to, one after the other.
-use Rattle.std.specs.Prelude.{ℕ, ◌+◌, Bool, true, false, List, [], ◌∷◌, codes, take, Option, None, Some, if◌then◌else◌, Ok, pos}
+use Rattle.std.specs.Prelude.{◌+◌, Bool, true, false, List, [], ◌∷◌, codes, take, Option, None, Some, if◌then◌else◌, Ok, pos}
 use Rattle.std.specs.Str.{bytes_eq}
 use Rattle.net_lex.specs.declared.token.Token.{Token}
 use Rattle.net_tree.specs.Tree.{Tree, Braces, Condition, Phrase, Part, absent, part, Declaration, set, param, check, node, arc, objective}

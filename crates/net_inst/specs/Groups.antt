@@ -1,5 +1,5 @@
 -- Declared nodes, or arcs: their names for those who read, and the numbers that references find.
-use Rattle.std.specs.Prelude.{ℕ, Bool, true, false, List, [], ◌∷◌, ◌++◌}
+use Rattle.std.specs.Prelude.{ℕ, Bool, true, false, [], ◌∷◌, ◌++◌}
 use Rattle.net_sets.specs.Operations.{union}
 use Rattle.net_eval.specs.Worlds.{Name}
 use Rattle.net_forms.specs.Arcs as numbers

@@ -16,7 +16,6 @@ use Rattle.net_forms.specs.declared.arc.ArcKeys.{ArcKeys}
 use Rattle.net_forms.specs.declared.condition.Sides.{Sides}
 use Rattle.net_forms.specs.declared.fault.FormDefect.{FormDefect}
 use Rattle.net_forms.specs.declared.fault.FormDefect.TheVariants as defects
-use Rattle.net_forms.specs.declared.fault.FormRefusal.{FormRefusal}
 use Rattle.net_forms.specs.Arcs.{declared}
 use Rattle.net_forms.specs.Conditions.{range_in}
 use Rattle.net_forms.specs.Objectives.{key_of}

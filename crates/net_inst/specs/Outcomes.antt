@@ -4,10 +4,8 @@ use Rattle.net_lex.specs.declared.span.Span.{Span}
 use Rattle.net_lex.specs.declared.token.Token.{Token}
 use Rattle.net_eval.specs.declared.fault.Detail.{Detail}
 use Rattle.net_eval.specs.declared.fault.Detail.TheVariants.{Nothing, Named}
-use Rattle.net_eval.specs.declared.fault.EvalFault.{EvalFault}
 use Rattle.net_eval.specs.Outcomes as values
 use Rattle.net_forms.specs.declared.fault.FormDefect.{FormDefect}
-use Rattle.net_forms.specs.declared.fault.FormDefect.TheVariants.{Value}
 use Rattle.net_forms.specs.declared.fault.FormFault.{FormFault}
 use Rattle.net_forms.specs.declared.fault.FormFault.TheVariants as faults
 use Rattle.net_forms.specs.declared.fault.FormRefusal.{FormRefusal}
