@@ -7,16 +7,18 @@ use Rattle.net_lex.specs.declared.token.Token.{Token}
 use Rattle.net_sets.specs.Sets.{Tuple, same_tuple, place_of}
 use Rattle.net_tree.specs.declared.declaration.Phrase.{Phrase as PhraseOfCode}
 use Rattle.net_tree.specs.Tree.{Condition, Phrase}
-use Rattle.net_tree.specs.View.{phrase_of}
-use Rattle.net_tree.proofs.Views.{next_phrase}
+use Rattle.net_tree.specs.View.{phrase_of, declaration_of}
+use Rattle.net_tree.specs.declared.declaration.Decl.{Decl}
+use Rattle.net_tree.proofs.Views.{next_phrase, next_declaration}
 use Rattle.net_eval.specs.declared.row.Row.{Row}
-use Rattle.net_eval.specs.Worlds.{World, Scope}
+use Rattle.net_eval.specs.Worlds.{Name, World, Scope}
 use Rattle.net_forms.specs.Forms.{Linear}
 use Rattle.net_forms.specs.declared.condition.Sides.{Sides}
 use Rattle.net_inst.specs.declared.fault.InstFault.{InstFault}
 use Rattle.net_inst.specs.declared.fault.InstFault.TheVariants.{OutOfMemory, Refused}
 use Rattle.net_inst.specs.declared.goal.Goal.{Goal}
 use Rattle.net_inst.specs.Arcs.{DrawnArcs, price_in, prices_in, next_arc, arcs_at}
+use Rattle.net_inst.specs.Drafts.{Drawing, declare, draw}
 use Rattle.net_inst.specs.Nodes.{DrawnNodes, next_range, ranges_at}
 use Rattle.net_inst.specs.Phrases.{Parts}
 use Rattle.net_inst.specs.Outcomes.{Outcome, Answers, and_then}
@@ -36,6 +38,9 @@ left_at xs i x h e = let a = drop-cons xs i x h in let b = add-one i in cc
 
 pub one_more : (i a b : ℕ) → i ≤ a → b ≡ a + 1 → i + 1 ≤ b
 one_more i a b h e = omega arith
+
+pub step_up : (i a b : ℕ) → a ≤ i → b ≤ a + 1 → b ≤ i + 1
+step_up i a b h e = omega arith
 
 pub ranges-left : (w : World) (n : Token) (k : Option ℕ) (c : Condition) (rows : List Row) (i : ℕ) (row : Row) (found : List Sides) (wanted : Outcome (List Sides)) → i < length rows → row ≡ get_or rows i row → ranges_at w n k c (drop i rows) found ≡ wanted → wanted ≡ and_then (next_range w n k c row found) (ranges_at w n k c (drop (i + 1) rows))
 ranges-left w n k c rows i row found wanted h e inv = sym inv ∙ ap (λ (l : List Row). ranges_at w n k c l found) (left_at rows i row h e)
@@ -57,3 +62,6 @@ prices-left g w s a ps i p f wanted h e inv = sym inv ∙ ap (λ l. prices_in g 
 
 pub arcs-left : (g : Option Goal) (ns : DrawnNodes) (w : World) (n : Token) (k : Option ℕ) (p : Parts) (ps : List Phrase) (rows : List Row) (i : ℕ) (row : Row) (d : DrawnArcs) (wanted : Outcome DrawnArcs) → i < length rows → row ≡ get_or rows i row → arcs_at g ns w n k p ps (drop i rows) d ≡ wanted → wanted ≡ and_then (next_arc g ns w n k p ps row d) (arcs_at g ns w n k p ps (drop (i + 1) rows))
 arcs-left g ns w n k p ps rows i row d wanted h e inv = sym inv ∙ ap (λ (l : List Row). arcs_at g ns w n k p ps l d) (left_at rows i row h e)
+
+pub draw-left : (n : Option Name) (w : World) (ds : List Decl) (i : ℕ) (x : Decl) (d : Drawing) (wanted : Outcome Drawing) → i < length ds → x ≡ get_or ds i x → draw n w (map declaration_of (drop i ds)) d ≡ wanted → wanted ≡ and_then (declare n w (declaration_of x) d) (draw n w (map declaration_of (drop (i + 1) ds)))
+draw-left n w ds i x d wanted h e inv = sym inv ∙ ap (λ l. draw n w l d) (next_declaration ds i x h e)
