@@ -8,8 +8,8 @@ use crate::certificate::Side;
 use crate::wide::wide;
 use net_normal::{FlowArc, Problem};
 
-/// What the nodes of a set supply together.
-fn supply_in(problem: &Problem, flags: &[bool]) -> i128
+/// What the nodes of a set supply together; there is one flag a node.
+pub fn supply_in(problem: &Problem, flags: &[bool]) -> i128
     requires { length flags.now ≡ vec_len problem.now.supplies }
     ensures { result ≡ supply_in problem.now.supplies.items flags.now }
 {
@@ -37,8 +37,8 @@ fn across(arc: &FlowArc, flags: &[bool], out: &i64, into: &i64) -> i128
     }
 }
 
-/// The most that the arcs can carry out of a set.
-fn most_out(problem: &Problem, flags: &[bool]) -> i128
+/// The most that the arcs can carry out of a set: CAP of those that go out less LOW of those that come in.
+pub fn most_out(problem: &Problem, flags: &[bool]) -> i128
     requires { length flags.now ≡ vec_len problem.now.supplies }
     ensures { result ≡ most_out problem.now.arcs.items flags.now }
 {
@@ -49,8 +49,8 @@ fn most_out(problem: &Problem, flags: &[bool]) -> i128
     total
 }
 
-/// The least that the arcs must carry out of a set.
-fn least_out(problem: &Problem, flags: &[bool]) -> i128
+/// The least that the arcs must carry out of a set: LOW of those that go out less CAP of those that come in.
+pub fn least_out(problem: &Problem, flags: &[bool]) -> i128
     requires { length flags.now ≡ vec_len problem.now.supplies }
     ensures { result ≡ least_out problem.now.arcs.items flags.now }
 {

@@ -6,7 +6,7 @@ mod bounds;
 mod certificate;
 mod checker;
 pub mod cost;
-mod cut;
+pub mod cut;
 mod laws;
 mod slackness;
 mod verdict;

@@ -1,0 +1,5 @@
+pub mod References
+pub mod Links
+pub mod Lifts
+pub mod Displays
+pub mod Cuts

@@ -1,0 +1,182 @@
+//! The plan as it is displayed.
+
+ghost use Rattle.std.specs.Prelude.{◌≡◌, ◌≤◌, ◌++◌, IfOk, OnOk, length, nat_eq};
+ghost use Rattle.std.specs.List.{zip, flat_map, prefix_len, take_while};
+ghost use Rattle.net_report.specs.Displays as displays;
+
+use itoa::Buffer;
+use net_check::wide::wide;
+use net_inst::{Declared, Key, NameList, Names, append_member};
+use net_lex::Excerpt;
+use net_sets::Tuple;
+use std::alloc::{AllocError, Global};
+
+/// A plan: the objective's name and value, and the number of each arc under its declared name. An indexed declaration has a
+/// line for each of its arcs, with the members of its key before the number, and a last line `;`.
+///
+/// The assignment has a number for each arc name. Fails only where memory runs out.
+pub fn write_display(
+    alloc: Global,
+    names: &Names<'_>,
+    assignment: &[i64],
+    value: i128,
+) -> Result<Vec<u8>, AllocError>
+    requires { length assignment.now ≡ length names.now.arcs.keys }
+    ensures value { IfOk result (λ text. text.items ≡ displays.display_text names.now assignment.now value) }
+
+    // Where the arcs stand in the order of their declarations, no arc of a declaration is left out.
+    ensures all { displays.AreInOrder 0 names.now.arcs.keys →
+        IfOk result (λ text. text.items ≡ displays.display_of_all names.now assignment.now value) }
+{
+    write_plan(alloc, names, assignment, value)
+}
+
+fn write_plan(
+    alloc: Global,
+    names: &Names<'_>,
+    assignment: &[i64],
+    value: i128,
+) -> Result<Vec<u8>, AllocError>
+    requires { length assignment.now ≡ length names.now.arcs.keys }
+    ensures { IfOk result (λ text. text.items ≡ displays.display_text names.now assignment.now value) }
+{
+    let mut text = Vec::new(alloc);
+    push_value(&mut text, &names.objective, value)?;
+    push_blocks(alloc, &mut text, &names.arcs, assignment)?;
+    Ok(text)
+}
+
+fn push_value(text: &mut Vec<u8>, name: &Excerpt<'_>, number: i128) -> Result<(), AllocError>
+    ensures ok { OnOk result (text.new.items ≡ text.old.items ++ displays.value_line name.now number) }
+{
+    let mut buffer = Buffer::new();
+    text.extend_from_slice(name.as_str().as_bytes())?;
+    text.extend_from_slice(b" = ")?;
+    text.extend_from_slice(buffer.format(number).as_bytes())?;
+    text.push(b'\n')?;
+    Ok(())
+}
+
+/// The declarations in order, each with its arcs.
+fn push_blocks(
+    alloc: Global,
+    text: &mut Vec<u8>,
+    arcs: &NameList<'_>,
+    assignment: &[i64],
+) -> Result<(), AllocError>
+    requires { length assignment.now ≡ length arcs.now.keys }
+    ensures ok { OnOk result (text.new.items ≡ text.old.items ++ displays.blocks 0 arcs.now.declarations (zip arcs.now.keys assignment.now)) }
+{
+    let keys = arcs.keys();
+    let mut told = 0;
+    for (number, declared) in arcs.declarations().iter().enumerate() {
+        told += push_next(
+            alloc,
+            text,
+            number,
+            declared,
+            &keys[told..],
+            &assignment[told..],
+        )?;
+    }
+    Ok(())
+}
+
+/// A declaration with those of the arcs that are of it, from the front on; answers how many these are.
+fn push_next(
+    alloc: Global,
+    text: &mut Vec<u8>,
+    number: usize,
+    declared: &Declared<'_>,
+    keys: &[Key<'_>],
+    numbers: &[i64],
+) -> Result<usize, AllocError>
+    requires { length numbers.now ≡ length keys.now }
+    ensures ok { OnOk result (text.new.items ≡ text.old.items ++ displays.block declared.now (take_while (displays.is_of number) (zip keys.now numbers.now))) }
+    ensures count { IfOk result (λ n. n ≡ prefix_len (displays.is_of number) (zip keys.now numbers.now)) }
+    ensures fits { IfOk result (λ n. n ≤ length keys.now) }
+{
+    let count = count_own(number, keys);
+    push_block(alloc, text, declared, &keys[..count], &numbers[..count])?;
+    Ok(count)
+}
+
+/// How many arcs from the front on are of a declaration.
+fn count_own(declaration: usize, keys: &[Key<'_>]) -> usize
+    ensures value { result ≡ prefix_len (λ k. nat_eq k.declaration declaration) keys.now }
+    ensures fits { result ≤ length keys.now }
+{
+    for (place, key) in keys.iter().enumerate() {
+        if key.declaration != declaration {
+            return place;
+        }
+    }
+    keys.len()
+}
+
+/// A declaration with its arcs.
+fn push_block(
+    alloc: Global,
+    text: &mut Vec<u8>,
+    declared: &Declared<'_>,
+    keys: &[Key<'_>],
+    numbers: &[i64],
+) -> Result<(), AllocError>
+    requires { length numbers.now ≡ length keys.now }
+    ensures ok { OnOk result (text.new.items ≡ text.old.items ++ displays.block declared.now (zip keys.now numbers.now)) }
+{
+    if declared.indexed {
+        text.extend_from_slice(declared.name.as_str().as_bytes())?;
+        text.extend_from_slice(b" :=\n")?;
+        push_rows(alloc, text, keys, numbers)?;
+        text.extend_from_slice(b";\n")
+    } else {
+        push_values(text, &declared.name, numbers)
+    }
+}
+
+fn push_values(text: &mut Vec<u8>, name: &Excerpt<'_>, numbers: &[i64]) -> Result<(), AllocError>
+    ensures ok { OnOk result (text.new.items ≡ text.old.items ++ flat_map (displays.value_line name.now) numbers.now) }
+{
+    for number in numbers {
+        push_value(text, name, wide(number))?;
+    }
+    Ok(())
+}
+
+fn push_rows(
+    alloc: Global,
+    text: &mut Vec<u8>,
+    keys: &[Key<'_>],
+    numbers: &[i64],
+) -> Result<(), AllocError>
+    requires { length numbers.now ≡ length keys.now }
+    ensures ok { OnOk result (text.new.items ≡ text.old.items ++ flat_map displays.row (zip keys.now numbers.now)) }
+{
+    for (arc, key) in keys.iter().enumerate() {
+        push_row(alloc, text, key, numbers[arc])?;
+    }
+    Ok(())
+}
+
+/// The members of an arc's key, and its number.
+fn push_row(alloc: Global, text: &mut Vec<u8>, key: &Key<'_>, number: i64) -> Result<(), AllocError>
+    ensures ok { OnOk result (text.new.items ≡ text.old.items ++ displays.row (key.now, number)) }
+{
+    let mut buffer = Buffer::new();
+    push_fields(alloc, text, &key.tuple)?;
+    text.extend_from_slice(buffer.format(number).as_bytes())?;
+    text.push(b'\n')?;
+    Ok(())
+}
+
+/// The members, with a blank behind each.
+fn push_fields(alloc: Global, text: &mut Vec<u8>, key: &Tuple<'_>) -> Result<(), AllocError>
+    ensures ok { OnOk result (text.new.items ≡ text.old.items ++ displays.fields key.now) }
+{
+    for member in key.as_slice() {
+        append_member(alloc, text, member)?;
+        text.push(b' ')?;
+    }
+    Ok(())
+}
