@@ -4,3 +4,4 @@ pub mod Items
 pub mod Lists
 pub mod Fresh
 mod Examples
+pub mod NewNames

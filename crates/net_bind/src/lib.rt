@@ -8,6 +8,7 @@ mod given;
 mod group;
 mod item;
 mod laid;
+mod laws;
 mod mention;
 mod names;
 mod param;
@@ -19,4 +20,5 @@ mod set_phrase;
 mod world;
 
 pub use fault::{BindDefect, BindFault, Refusal};
+pub use laws::well_named_are_new;
 pub use world::bind;

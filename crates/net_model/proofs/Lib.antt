@@ -28,3 +28,4 @@ pub mod LocalTrees
 pub mod LocalModels
 pub mod TreeLaws
 pub mod Examples
+pub mod NamedModels

@@ -4,7 +4,10 @@ ghost use Rattle.net_tree.specs.Print.{put, print};
 ghost use Rattle.net_tree.specs.Depth.{model_depth};
 ghost use Rattle.net_tree.specs.Level.{IsLevel};
 ghost use Rattle.net_tree.specs.Declarations.{AreDeclarations};
+ghost use Rattle.net_names.specs.Names.{IsWellNamed};
 ghost use Rattle.net_model.specs.Declarations.{model_at};
+ghost use Rattle.net_model.specs.Models.{meant};
+ghost use Rattle.net_model.specs.Reading.{Tokens};
 ghost use Rattle.net_model.specs.declared.stop.Stop.TheVariants.{TooDeep};
 
 /// A law alone: no two expressions, and no two models, that are written as the grammar wants have the same tokens.
@@ -18,4 +21,9 @@ pub fn one_tree()
 pub fn read_back()
     ensures kept { (limit : ℕ) (x : List Declaration) → AreDeclarations x → model_depth x ≤ limit → model_at limit (print x) ≡ Ok ((x, tt), []) }
     ensures exceeded { (limit : ℕ) (x : List Declaration) → AreDeclarations x → limit < model_depth x → (left : ℕ) × (model_at limit (print x) ≡ Err (TooDeep left)) }
+{}
+
+/// A law alone: the names of a model that tokens are are as they should be.
+pub fn well_named()
+    ensures value { (ts : Tokens) (ds : List Declaration) → meant ts ≡ Ok ds → IsWellNamed ds }
 {}

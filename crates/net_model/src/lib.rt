@@ -17,6 +17,6 @@ mod stop;
 mod trees;
 
 pub use fault::{ModelDefect, ModelFault};
-pub use laws::{one_tree, read_back};
+pub use laws::{one_tree, read_back, well_named};
 pub use model::parse_model;
 pub use parse::parse_declarations;
