@@ -5,6 +5,12 @@ pub mod Walking
 pub mod Ranging
 pub mod Passing
 pub mod Scoping
+pub mod Parting
+pub mod Distinct
+pub mod Walked
+pub mod KeysOnce
+pub mod Alike
+pub mod SetsGiven
 mod Trees
 mod NumberExamples
 mod KindExamples

@@ -13,3 +13,4 @@ pub mod Widths
 pub mod Rows
 pub mod Values
 pub mod Walks
+pub mod SetValues
