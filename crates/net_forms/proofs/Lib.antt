@@ -1,13 +1,13 @@
 mod Keeping
 mod Sizes
 mod NetTerms
-mod Ranges
-mod Rings
-mod FormLaws
+pub mod Ranges
+pub mod Rings
+pub mod FormLaws
 mod WorthLaws
-mod Coefficients
+pub mod Coefficients
 mod Adding
-mod FormSizes
+pub mod FormSizes
 mod Naming
 mod Converting
 mod Examples

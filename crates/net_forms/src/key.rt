@@ -113,8 +113,9 @@ fn tuple_of<'s>(whole: &Expr<'_>, values: &[Value<'_, 's>]) -> Result<Tuple<'s>,
     short_enough(whole, key)
 }
 
-/// The key of a reference, all of whose subscripts are evaluated first.
-pub(crate) fn key_of<'s>(
+/// The key of a reference, all of whose subscripts are evaluated first. `KindMismatch` is answered at the reference where one
+/// of them is no member, and `Arity` where they are more than four.
+pub fn key_of<'s>(
     alloc: Global,
     seen: &Seen<'_, 's>,
     scope: &Scope<'s>,

@@ -21,6 +21,7 @@ pub use condition::{Comparison, Sides, node_range};
 pub use fault::{FormDefect, FormFault, FormRefusal};
 pub use form::Form;
 pub use joint::Joint;
+pub use key::key_of;
 pub use laws::forms_have_worth;
 pub use net_term::NetTerm;
 pub use objectives::objective;

@@ -13,10 +13,11 @@ use Rattle.net_inst.specs.declared.arc.Drawn.{Drawn}
 use Rattle.net_inst.specs.declared.fault.InstDefect.TheVariants.{NoObjective, NoSuchObjective}
 use Rattle.net_inst.specs.declared.fault.InstFault.{InstFault}
 use Rattle.net_inst.specs.declared.goal.Goal.{Goal}
-use Rattle.net_inst.specs.declared.instantiate.Named.{Named as NamedOfCode}
+use Rattle.net_inst.specs.declared.network.Named.{Named as NamedOfCode}
 use Rattle.net_inst.specs.declared.names.Names.{Names}
+use Rattle.net_inst.specs.Arcs.{DrawnArcs}
 use Rattle.net_inst.specs.Drafts.{Drawing, nothing, draw}
-use Rattle.net_inst.specs.Nodes.{sides_of}
+use Rattle.net_inst.specs.Nodes.{DrawnNodes, sides_of}
 use Rattle.net_inst.specs.Outcomes.{Outcome, and_then, refused, AnswersAs}
 
 pub record Network : Type 0 where
@@ -26,19 +27,21 @@ pub record Network : Type 0 where
   pub constant : ℤ
   pub names : Names
 
+abbrev pub with_coefficient : Drawn → ℤ → InstArc
+with_coefficient x c = record { lower = x.lower; upper = x.upper; coefficient = c; tail = x.tail; head = x.head }
+
 -- the arcs from number a on, each with its coefficient
 abbrev pub with_coefficients : Products → ℕ → List Drawn → List InstArc
 with_coefficients ps a [] = []
-with_coefficients ps a (x ∷ xs) =
-    (record { lower = x.lower; upper = x.upper; coefficient = coefficient ps a; tail = x.tail; head = x.head }) ∷ with_coefficients ps (suc a) xs
+with_coefficients ps a (x ∷ xs) = with_coefficient x (coefficient ps a) ∷ with_coefficients ps (suc a) xs
 
-abbrev pub network_of : Drawing → Goal → Network
-network_of d g = record {
-  nodes = d.nodes.ranges;
-  arcs = with_coefficients d.arcs.form.products 0 d.arcs.arcs;
+abbrev pub network_of : DrawnNodes → DrawnArcs → Goal → Network
+network_of ns xs g = record {
+  nodes = ns.ranges;
+  arcs = with_coefficients xs.form.products 0 xs.arcs;
   sense = g.sense;
-  constant = d.arcs.form.constant;
-  names = record { objective = g.name; nodes = d.nodes.group.list; arcs = d.arcs.group.list };
+  constant = xs.form.constant;
+  names = record { objective = g.name; nodes = ns.group.list; arcs = xs.group.list };
 }
 
 -- where no objective is declared, or not the one of the given name
@@ -47,7 +50,7 @@ without_goal wanted at false = refused NoObjective at Nothing
 without_goal wanted at true = refused NoSuchObjective at (Named (unwrap_or wanted []))
 
 abbrev pub finished : Option Name → Span → Drawing → Option Goal → Outcome Network
-finished wanted at d (Some g) = Ok (network_of d g)
+finished wanted at d (Some g) = Ok (network_of d.nodes d.arcs g)
 finished wanted at d None = without_goal wanted at d.aims
 
 -- the last token of a declaration
@@ -64,12 +67,13 @@ abbrev pub end_of : ℕ → List Declaration → ℕ
 end_of at [] = at
 end_of at (d ∷ ds) = end_of (semicolon d).span.end ds
 
-abbrev pub end_span : List Declaration → Span
-end_span ds = record { start = end_of 0 ds; end = end_of 0 ds }
+-- nothing, at a place
+abbrev pub point : ℕ → Span
+point at = record { start = at; end = at }
 
 -- the network of a model with the objective of a name, or with the only one
 abbrev pub network : Option Name → World → List Declaration → Outcome Network
-network wanted w ds = and_then (draw wanted w ds nothing) (λ d. finished wanted (end_span ds) d d.goal)
+network wanted w ds = and_then (draw wanted w ds nothing) (λ d. finished wanted (point (end_of 0 ds)) d d.goal)
 
 -- what contracts see of a network with its names
 abbrev pub seen_as : NamedOfCode → Network

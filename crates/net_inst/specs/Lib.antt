@@ -9,5 +9,10 @@ pub mod Nodes
 pub mod Phrases
 pub mod Parts
 pub mod Arcs
+pub mod Fitting
 pub mod Drafts
 pub mod Instances
+pub mod AsWritten
+pub mod Readings
+pub mod Laws
+pub mod ByName

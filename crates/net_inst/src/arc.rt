@@ -1,10 +1,12 @@
 //! The arcs of declarations.
 
-ghost use Rattle.std.specs.Prelude.{◌≡◌, option_map};
+ghost use Rattle.std.specs.Prelude.{◌≡◌, All, IfOk, option_map};
 ghost use Rattle.std.specs.Option.{option_copied};
 ghost use Rattle.net_tree.specs.View.{tree};
 ghost use Rattle.net_eval.specs.Worlds.{reference};
 ghost use Rattle.net_inst.specs.Arcs as found;
+ghost use Rattle.net_inst.specs.Fitting.{IsPriced};
+ghost use Rattle.net_inst.specs.Instances as network;
 ghost use Rattle.net_inst.specs.Outcomes.{Answers};
 ghost use Rattle.net_inst.specs.Parts.{parts_seen};
 
@@ -14,9 +16,11 @@ use crate::node_name::node_named;
 use crate::number::number_of;
 use crate::phrases::ArcParts;
 use net_eval::{Row, Scope, Seen};
+use net_forms::Form;
 use net_lex::Token;
+use net_normal::InstArc;
 use net_tree::{Expr, Phrase};
-use std::alloc::Global;
+use std::alloc::{AllocError, Global};
 
 /// An arc at a key without its coefficient: its bounds, and its nodes by their numbers.
 #[derive(Clone, Copy)]
@@ -101,4 +105,31 @@ pub(crate) fn arc_at<'s>(
     } else {
         with_ends(alloc, seen, scope, nodes, parts, lower, upper)
     }
+}
+
+/// The arc with its coefficient.
+fn with_coefficient(arc: &Drawn, coefficient: &i64) -> InstArc
+    ensures { result ≡ network.with_coefficient arc.now coefficient.now }
+{
+    InstArc {
+        lower: arc.lower,
+        upper: arc.upper,
+        coefficient: *coefficient,
+        tail: arc.tail,
+        head: arc.head,
+    }
+}
+
+/// The arcs with their coefficients in the objective.
+pub(crate) fn priced(alloc: Global, form: &Form, arcs: &[Drawn]) -> Result<Vec<InstArc>, AllocError>
+    ensures value { IfOk result (λ all. all.items ≡ network.with_coefficients form.now.products 0 arcs.now) }
+    ensures size { IfOk result (λ all. All IsPriced all.items) }
+{
+    let mut all = Vec::new(alloc);
+    for arc in arcs {
+        let coefficient = form.coefficient(all.len());
+        let whole = with_coefficient(arc, &coefficient);
+        all.push(whole)?;
+    }
+    Ok(all)
 }

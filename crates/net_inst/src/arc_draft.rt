@@ -1,23 +1,27 @@
 //! The arcs of a model, draft by draft.
 
-ghost use Rattle.std.specs.Prelude.{◌≡◌, ◌≤◌, ◌+◌, length, map, IfOk};
+ghost use Rattle.std.specs.Prelude.{◌≡◌, ◌≤◌, ◌+◌, All, length, map, IfOk};
 ghost use Rattle.net_tree.specs.View.{indexing_of, phrase_of};
-ghost use Rattle.net_normal.specs.Limits.{arc_limit};
+ghost use Rattle.net_normal.specs.Limits.{IsSized, arc_limit, value_limit};
 ghost use Rattle.net_inst.specs.Arcs as found;
+ghost use Rattle.net_inst.specs.Fitting.{IsPriced};
+ghost use Rattle.net_inst.specs.Instances.{with_coefficients};
 ghost use Rattle.net_inst.specs.Outcomes.{Answers};
 ghost use Rattle.net_inst.specs.Parts.{parts_seen};
 
-use crate::arc::{ArcText, Drawn, arc_at};
+use crate::arc::{ArcText, Drawn, arc_at, priced};
 use crate::fault::{InstDefect, InstFault, refuse_name};
 use crate::goal::Goal;
 use crate::group::Group;
 use crate::indexing::{Indexing, indexing_of};
+use crate::names::NameList;
 use crate::node::NodeDraft;
 use crate::phrases::parts_of;
 use crate::price::with_phrases;
 use net_eval::{Row, Seen};
 use net_forms::{ArcNames, Form};
 use net_lex::Token;
+use net_normal::InstArc;
 use net_tree::{Braces, Phrase};
 use std::alloc::{AllocError, Global};
 use std::marker::Model;
@@ -188,5 +192,30 @@ impl<'s> ArcDraft<'s> {
     {
         let ArcDraft { arcs, group, .. } = self;
         ArcDraft { arcs, form, group }
+    }
+
+    /// The arcs with their coefficients in the objective.
+    pub(crate) fn priced(&self, alloc: Global) -> Result<Vec<InstArc>, AllocError>
+        ensures value { IfOk result (λ all. all.items ≡ with_coefficients self.now.form.products 0 self.now.arcs) }
+        ensures size { IfOk result (λ all. All IsPriced all.items) }
+        ensures few { IfOk result (λ all. length all.items ≤ arc_limit) }
+    {
+        priced(alloc, &self.form, self.arcs.as_slice())
+    }
+
+    /// What the objective adds to its arcs' terms.
+    pub(crate) fn constant(&self) -> i64
+        ensures value { result ≡ self.now.form.constant }
+        ensures size { IsSized value_limit result }
+    {
+        self.form.constant()
+    }
+
+    pub(crate) fn into_names(self) -> NameList<'s>
+        ensures { result ≡ self.entry.group.list }
+    {
+        let ArcDraft { group, .. } = self;
+        let Group { list, .. } = group;
+        list
     }
 }

@@ -8,9 +8,9 @@ mod fault;
 mod goal;
 mod group;
 mod indexing;
-mod instantiate;
-mod key;
+mod laws;
 mod names;
+mod network;
 mod node;
 mod node_name;
 mod number;
@@ -19,6 +19,11 @@ mod price;
 mod reference;
 
 pub use fault::{InstDefect, InstFault, InstRefusal};
-pub use instantiate::Named;
+pub use laws::{
+    arcs_are_written, assignments_are_alike, flows_stand_for_assignments, names_are_declared,
+    names_declared_once_are_apart, network_without_objective_is_one, objective_is_written,
+    ranges_are_conditions,
+};
 pub use names::{Declared, Key, NameList, Names};
+pub use network::{Named, instantiate, instantiate_for};
 pub use reference::{append_detail, append_member, append_reference};

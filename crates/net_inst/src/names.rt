@@ -49,7 +49,7 @@ pub struct Names<'s> {
 
 impl<'s> NameList<'s> {
     /// Nothing declared.
-    pub(crate) fn new(alloc: Global) -> NameList<'s>
+    pub fn new(alloc: Global) -> NameList<'s>
         ensures { result ≡ lists.no_names }
     {
         NameList {
@@ -71,8 +71,8 @@ impl<'s> NameList<'s> {
         self.keys.as_slice()
     }
 
-    /// These, and one declaration more with its keys.
-    pub(crate) fn with(
+    /// These, and one declaration more: its name, how many members its keys have where braces index it, and its keys.
+    pub fn with(
         self,
         name: &Excerpt<'s>,
         count: Option<u8>,

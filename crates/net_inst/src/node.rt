@@ -14,6 +14,7 @@ ghost use Rattle.net_inst.specs.Outcomes.{Answers, AnswersAs, Leaves, widened};
 use crate::fault::{InstDefect, InstFault, InstRefusal, refuse, refuse_name};
 use crate::group::Group;
 use crate::indexing::{Indexing, indexing_of};
+use crate::names::NameList;
 use net_eval::{Detail, Row, Seen};
 use net_forms::{ArcKeys, FormDefect, FormFault, FormRefusal, node_range};
 use net_lex::{Excerpt, Span, Token};
@@ -202,5 +203,17 @@ impl<'s> NodeDraft<'s> {
     {
         let indexing = indexing_of(alloc, seen, braces)?;
         self.by_keys(alloc, seen, name, condition, &indexing)
+    }
+
+    /// The nodes' ranges, and their names.
+    pub(crate) fn into_parts(self) -> (Vec<NodeRange>, NameList<'s>)
+        ensures ranges { map sides_of result.0.items ≡ self.entry.ranges }
+        ensures count { length result.0.items ≡ length self.entry.ranges }
+        ensures few { length result.0.items ≤ node_limit }
+        ensures names { result.1 ≡ self.entry.group.list }
+    {
+        let NodeDraft { ranges, group } = self;
+        let Group { list, .. } = group;
+        (ranges, list)
     }
 }

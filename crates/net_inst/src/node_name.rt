@@ -12,10 +12,9 @@ ghost use Rattle.net_inst.specs.Nodes as found;
 ghost use Rattle.net_inst.specs.Outcomes.{Answers};
 
 use crate::fault::{InstDefect, InstFault, refuse, refuse_tree};
-use crate::key::key_of;
 use crate::node::NodeDraft;
 use net_eval::{Detail, EvalDefect, Scope, Seen};
-use net_forms::{ArcKeys, FormDefect};
+use net_forms::{ArcKeys, FormDefect, key_of};
 use net_lex::{Excerpt, Span, Token};
 use net_sets::Tuple;
 use net_tree::{Expr, Link, span_of};

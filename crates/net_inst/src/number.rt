@@ -1,9 +1,8 @@
 //! Numbers in declarations.
 
-ghost use Rattle.std.specs.Prelude.{◌≡◌, IfOk};
+ghost use Rattle.std.specs.Prelude.{◌≡◌};
 ghost use Rattle.net_tree.specs.Spans as trees;
 ghost use Rattle.net_tree.specs.View.{tree};
-ghost use Rattle.net_normal.specs.Limits.{IsSized, value_limit};
 ghost use Rattle.net_eval.specs.Limits.{is_small};
 ghost use Rattle.net_inst.specs.Numbers as numbers;
 ghost use Rattle.net_inst.specs.Outcomes.{Answers};
