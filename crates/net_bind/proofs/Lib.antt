@@ -5,3 +5,6 @@ pub mod Lists
 pub mod Fresh
 mod Examples
 pub mod NewNames
+pub mod RowsTaken
+pub mod Claiming
+pub mod HeldSets

@@ -12,7 +12,7 @@ use Rattle.net_names.specs.Scopes.{Name, Scope, meaning_in}
 use Rattle.net_names.specs.Told.{Fault, first, declared_before}
 use Rattle.net_bind.specs.Binding.{is_among, AreNew}
 
-firsts : (a b : Option Fault) → first a b ≡ None → (a ≡ None) × (b ≡ None)
+pub firsts : (a b : Option Fault) → first a b ≡ None → (a ≡ None) × (b ≡ None)
 firsts None b h = (refl, h)
 firsts (Some f) b h = cc
 
@@ -20,11 +20,11 @@ firsts (Some f) b h = cc
 of_three : (a b c : Option Fault) → first a (first b c) ≡ None → a ≡ None
 of_three a b c h = (firsts a (first b c) h).0
 
-none_before : (o : Option Meaning) (t : Token) → declared_before o t ≡ None → o ≡ None
+pub none_before : (o : Option Meaning) (t : Token) → declared_before o t ≡ None → o ≡ None
 none_before None t h = refl
 none_before (Some m) t h = cc
 
-parts : (n k : Name) (m : Meaning) (s : Scope) → meaning_in n (s ++ (k, m) ∷ []) ≡ None → (meaning_in n s ≡ None) × (bytes_eq k n ≡ false)
+pub parts : (n k : Name) (m : Meaning) (s : Scope) → meaning_in n (s ++ (k, m) ∷ []) ≡ None → (meaning_in n s ≡ None) × (bytes_eq k n ≡ false)
 parts n k m [] h = go (bytes_eq k n) refl h
   where
     go : (b : Bool) → bytes_eq k n ≡ b → (if b then Some m else None) ≡ None → (meaning_in n [] ≡ None) × (bytes_eq k n ≡ false)

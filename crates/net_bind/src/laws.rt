@@ -1,9 +1,20 @@
-ghost use Rattle.std.specs.Prelude.{List, []};
+//! Laws of binding; they run nothing.
+
+ghost use Rattle.std.specs.Prelude.{◌≡◌, List, [], Ok};
+ghost use Rattle.net_data.specs.declared.statement.Statement.{Statement};
+ghost use Rattle.net_eval.specs.SetValues.{HasSets};
+ghost use Rattle.net_eval.specs.Worlds.{World};
 ghost use Rattle.net_tree.specs.Tree.{Declaration};
 ghost use Rattle.net_names.specs.Names.{IsWellNamed};
+ghost use Rattle.net_bind.specs.Binding as binding;
 ghost use Rattle.net_bind.specs.Binding.{AreNew};
 
-/// A law alone: a model whose names are as they should be can be bound.
+/// A model whose names are as they should be can be bound.
 pub fn well_named_are_new()
     ensures value { (ds : List Declaration) → IsWellNamed ds → AreNew [] ds }
+{}
+
+/// In the world of a model and its tables each declared set has its tuples once and of its dimension.
+pub fn bound_worlds_have_sets()
+    ensures value { (ds : List Declaration) (ss : List Statement) (w : World) → binding.world ds ss ≡ Ok w → HasSets w }
 {}

@@ -20,5 +20,5 @@ mod set_phrase;
 mod world;
 
 pub use fault::{BindDefect, BindFault, Refusal};
-pub use laws::well_named_are_new;
+pub use laws::{bound_worlds_have_sets, well_named_are_new};
 pub use world::bind;

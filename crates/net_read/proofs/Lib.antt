@@ -1,0 +1,4 @@
+pub mod OneFault
+pub mod Stops
+pub mod NamesOnce
+pub mod Apart

@@ -1,0 +1,14 @@
+use Rattle.std.proofs.Common.{List, Err, subst}
+use Rattle.net_lex.specs.declared.token.Token.{Token}
+use Rattle.net_model.specs.Models.{meant, Parses}
+use Rattle.net_read.proofs.Stops.{model_token, model_parse}
+use Rattle.net_read.proofs.texts.read_model.Goals as goal
+
+pub returns-in-Err-clause-refused : goal.returns-in-Err-clause-refused
+returns-in-Err-clause-refused c = model_token c.args.text.now c.in-Err.fault c.of_token.result c.in-Err.ensures.value.refused c.of_token.ensures
+
+pub returns-clause-refused : goal.returns-clause-refused
+returns-clause-refused c =
+    let fault = c.in-Err-parse_model.fault in
+    let parsed = subst (λ (t : List Token). Parses (Err fault) (meant t)) c.deref.ensures.value c.in-Err-parse_model.ensures.value in
+    model_parse c.args.text.now c.in-Ok.tokens.items fault c.of_model.result c.in-Ok.ensures.value.ok parsed c.of_model.ensures

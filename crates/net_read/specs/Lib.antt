@@ -1,0 +1,4 @@
+pub mod Defects
+pub mod Findings
+pub mod Reading
+pub mod FirstFaults

@@ -1,0 +1,70 @@
+//! The network of a model text and a data text.
+
+ghost use Rattle.std.specs.Prelude.{[], IfOk, IfErr};
+ghost use Rattle.std.specs.Option.{option_copied};
+ghost use Rattle.net_tree.specs.View as view;
+ghost use Rattle.net_inst.specs.Instances.{seen_as};
+ghost use Rattle.net_bind.specs.Binding.{AreNew};
+ghost use Rattle.net_read.specs.Reading.{ComeTo, IsNetworkOf};
+ghost use Rattle.net_read.specs.FirstFaults.{IsNetworkStop, IsStop};
+
+use crate::finding::{Stop, of_binding, of_data, of_network, of_token};
+use crate::texts::read_model;
+use net_bind::bind;
+use net_data::{Tables, parse_data};
+use net_inst::{Named, instantiate_for};
+use net_lex::{Language, lex_data};
+use net_tree::Model;
+use std::alloc::Global;
+
+/// The network of declarations and statements.
+fn network_of<'s>(
+    alloc: Global,
+    model: &Model<'s>,
+    tables: &Tables<'_, 's>,
+    objective: Option<&'s str>,
+) -> Result<Named<'s>, Stop<'s>>
+    requires { AreNew [] (view.model model.now) }
+    ensures ok { IfOk result (λ n. ComeTo (option_copied objective.entry) (view.model model.now) tables.now (seen_as n)) }
+    ensures refused { IfErr result (IsNetworkStop (option_copied objective.entry) (view.model model.now) tables.now) }
+{
+    let world = match bind(alloc, model, tables) {
+        Ok(world) => world,
+        Err(fault) => return Err(of_binding(fault)),
+    };
+    match instantiate_for(alloc, model, &world, objective) {
+        Ok(named) => Ok(named),
+        Err(fault) => Err(of_network(fault)),
+    }
+}
+
+/// The network of a model text with a data text, and its names: with the objective of this name, or with the only one.
+///
+/// The first fault is told, in the order of tokens, grammar and names of the model, tokens and statements of the data,
+/// binding with the checks, and the network.
+pub fn read_network<'s>(
+    alloc: Global,
+    model: &'s [u8],
+    data: &'s [u8],
+    objective: Option<&'s str>,
+) -> Result<Named<'s>, Stop<'s>>
+    ensures ok { IfOk result (λ n. IsNetworkOf (option_copied objective.entry) model.entry.now «data».entry.now (seen_as n)) }
+    ensures refused { IfErr result (IsStop (option_copied objective.entry) model.entry.now «data».entry.now) }
+{
+    let declared = match read_model(alloc, model) {
+        Ok(declared) => declared,
+        Err(stop) => return Err(stop),
+    };
+    let tokens = match lex_data(alloc, data) {
+        Ok(tokens) => tokens,
+        Err(fault) => return Err(of_token(Language::Data, fault)),
+    };
+    let tables = match parse_data(alloc, &tokens) {
+        Ok(tables) => tables,
+        Err(fault) => return Err(of_data(fault)),
+    };
+    match network_of(alloc, &declared, &tables, objective) {
+        Ok(named) => Ok(named),
+        Err(stop) => Err(stop),
+    }
+}
