@@ -2,6 +2,4 @@
 #![tactic(auto)]
 
 #[cfg(test)]
-mod models;
-#[cfg(test)]
 mod runs;
