@@ -2,11 +2,11 @@
 _netflow() {
     local word=${COMP_WORDS[COMP_CWORD]}
     if [ "$COMP_CWORD" -eq 1 ]; then
-        COMPREPLY=($(compgen -W "compile min check help --help" -- "$word"))
+        COMPREPLY=($(compgen -W "solve compile min check help --help" -- "$word"))
     elif [ "${COMP_WORDS[1]}" = help ]; then
-        COMPREPLY=($(compgen -W "compile min check" -- "$word"))
+        COMPREPLY=($(compgen -W "solve compile min check" -- "$word"))
     else
-        COMPREPLY=($(compgen -W "--help" -- "$word") $(compgen -f -- "$word"))
+        COMPREPLY=($(compgen -W "--help --objective" -- "$word") $(compgen -f -- "$word"))
     fi
 }
 complete -o filenames -F _netflow netflow

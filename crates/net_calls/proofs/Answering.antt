@@ -13,7 +13,7 @@ use Rattle.net_calls.specs.declared.fault.Fault.{Fault}
 use Rattle.net_calls.specs.declared.fault.Fault.TheVariants as faults
 use Rattle.net_calls.specs.Checked.{IsFirstLineFault, IsLineRefusal, IsCertificateStop}
 use Rattle.net_calls.specs.Settled.{Settles, IsAnswerText}
-use Rattle.net_calls.proofs.ByName.{zip_length}
+use Rattle.net_calls.proofs.Counts.{zip_length}
 
 -- a certificate has its problem's size
 certificate_shape : (problem : Problem) (certificate : Certificate) → IsCertificate problem certificate → HasShape problem certificate

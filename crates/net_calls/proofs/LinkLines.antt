@@ -1,19 +1,15 @@
 -- The link lines say nothing of a problem, so a compiled text is its problem's.
-use Rattle.std.proofs.Common.{◌≡◌, ℕ, ◌+◌, ◌^◌, ◌<◌, ◌==◌, Bool, true, false, ◌&&◌, ◌||◌, List, [], ◌∷◌, ◌++◌, length, map, Some, None, ℤ, pos, negsuc, refl, sym, ap, subst, ◌∙◌, codes, decimal, arith, append_assoc, inl, inr}
+use Rattle.std.proofs.Common.{◌≡◌, ℕ, suc, ◌+◌, ◌^◌, ◌<◌, ◌==◌, Bool, true, false, ◌&&◌, ◌||◌, List, [], ◌∷◌, ◌++◌, length, ℤ, pos, negsuc, refl, sym, ap, ◌∙◌, codes, decimal, arith, append_assoc, inl, inr}
 use Rattle.std.specs.List.{AllByRecursion, list_all}
 use Rattle.std.specs.Fmt.{signed_decimal}
 use Rattle.std.proofs.lemmas.Bool.{cases_Bool}
 use Rattle.std.proofs.lemmas.Bool.Decides.{nat_tests}
 use Rattle.std.proofs.lemmas.Int.{ints}
 use Rattle.std.proofs.lemmas.List.Elements.{recursion_from_All}
-use Rattle.net_lex.specs.declared.language.Language.TheVariants as languages
-use Rattle.net_lex.specs.declared.token.Token.{Token}
-use Rattle.net_lex.specs.declared.token.Kind.{Kind}
-use Rattle.net_lex.specs.declared.token.Kind.TheVariants as kinds
 use Rattle.net_lex.specs.Characters.{continues_name}
-use Rattle.net_lex.specs.Reading.{Reads, StandIn, IsNext, EndsInGap}
-use Rattle.net_lex.specs.Tokens.{Allows}
 use Rattle.net_normal.specs.Limits.{IsSized, value_limit, constant_limit}
+use Rattle.net_normal.specs.NormalForm.{numbers_from}
+use Rattle.net_normal.specs.declared.instance.InstArc.{InstArc}
 use Rattle.net_normal.specs.declared.instance.Sense.{Sense}
 use Rattle.net_normal.specs.declared.instance.Sense.TheVariants.{Minimise, Maximise}
 use Rattle.net_normal.specs.declared.link.Link.{Link}
@@ -23,14 +19,16 @@ use Rattle.net_dimacs.proofs.Comments.{comment_skipped}
 use Rattle.net_dimacs.proofs.Decimals.{IsPrintable, IsSolid, solid_decimal}
 use Rattle.net_dimacs.proofs.Lists.{all_map, all_append}
 use Rattle.net_dimacs.proofs.WrittenLines.{IsPlain}
-use Rattle.net_calls.specs.Declarations.{Form, objective, node, arc, Sign, word, name, number, Tokens, is_name, Spell, signs_of_all}
-use Rattle.net_calls.specs.Links.{constant_line, sign_line, node_line, node_lines, arc_line, arc_lines, link_lines}
-use Rattle.net_calls.specs.Models.{Name, nodes_in, arcs_in}
+use Rattle.net_report.specs.Links.{constant_line, sign_line, node_line, node_lines, arc_line, arc_lines, link_lines}
+use Rattle.net_calls.specs.Lines.{IsInLine, IsOneLine}
+
+abbrev Name : Type 0
+Name = List ℕ
 
 abbrev pub Plain : List ℕ → Type 0
 Plain bytes = AllByRecursion IsPlain bytes
 
--- ---- numbers and names have no line ends
+-- ---- numbers have no line ends
 
 plain_number : (z : ℤ) → IsPrintable z → Plain (signed_decimal z)
 plain_number z fit = all_map IsSolid IsPlain (signed_decimal z) (λ b s. record { no_feed = s.no_feed; no_return = s.no_return }) (solid_decimal z fit)
@@ -39,89 +37,12 @@ printable_sized : (l : ℕ) (z : ℤ) → l < 2 ^ 127 → IsSized l z → IsPrin
 printable_sized l (pos n) small h = let b = h.below in omega (arith, ints)
 printable_sized l (negsuc n) small h = let b = h.above in omega (arith, ints)
 
-goes_on_other : (b k : ℕ) → continues_name k ≡ false → continues_name b ≡ true → (b == k) ≡ false
-goes_on_other b k not_k is_b =
-    elim (cases_Bool (b == k)) [
-      | inl e ↦ let same : b ≡ k = grind (arith, nat_tests) in absurd (let h = sym is_b ∙ ap continues_name same ∙ not_k in cc)
-      | inr e ↦ e
-    ]
+-- ---- the lines
 
 both_true : (s t : Bool) → (s && t) ≡ true → (s ≡ true) × (t ≡ true)
 both_true true true e = (refl, refl)
 both_true true false e = absurd (let h = e in cc)
 both_true false t e = absurd (let h = e in cc)
-
-plain_name : (bytes : List ℕ) → list_all continues_name bytes ≡ true → Plain bytes
-plain_name [] e = tt
-plain_name (b ∷ bytes) e =
-    let both = both_true (continues_name b) (list_all continues_name bytes) e in
-    (record { no_feed = goes_on_other b 10 refl both.0; no_return = goes_on_other b 13 refl both.0 }, plain_name bytes both.1)
-
--- a name among tokens is plain
-abbrev IsPlainName : Token → Type 0
-IsPlainName t = is_name t.kind ≡ true → Plain t.text
-
-allowed_plain : (kind : Kind) (text : List ℕ) → Allows languages.Model kind text → is_name kind ≡ true → Plain text
-allowed_plain kinds.Name text a e = plain_name text a.0.goes_on
-allowed_plain kinds.Key text a e = absurd (let h = e in cc)
-allowed_plain kinds.Num text a e = absurd (let h = e in cc)
-allowed_plain kinds.Str text a e = absurd (let h = e in cc)
-allowed_plain kinds.Mark text a e = absurd (let h = e in cc)
-allowed_plain kinds.Dot text a e = absurd (let h = e in cc)
-
-read_plain : (at : ℕ) (rest : List ℕ) (tokens : Tokens) → StandIn (IsNext languages.Model) EndsInGap at rest tokens → AllByRecursion IsPlainName tokens
-read_plain at rest [] h = tt
-read_plain at rest (t ∷ tokens) h = (allowed_plain t.kind t.text h.2.longest.allowed, read_plain t.span.end h.1 tokens h.3)
-
--- ---- and so are the names of declarations
-
-abbrev PlainSign : Sign → Type 0
-PlainSign (word w) = Unit {0}
-PlainSign (name n) = Plain n.text
-PlainSign (number x) = Unit {0}
-
-after_plain : (sign : Sign) (tokens rest : Tokens) → Spell (sign ∷ []) tokens rest → AllByRecursion IsPlainName tokens → PlainSign sign × AllByRecursion IsPlainName rest
-after_plain (word w) tokens rest h all =
-    let e : tokens ≡ h.1.token ∷ rest = h.1.first ∙ ap (λ (t : Tokens). h.1.token ∷ t) h.2 in
-    (tt, (subst (AllByRecursion IsPlainName) e all).1)
-after_plain (name n) tokens rest h all =
-    let e : tokens ≡ n ∷ rest = h.1.0 ∙ ap (λ (t : Tokens). n ∷ t) h.2 in
-    let both = subst (AllByRecursion IsPlainName) e all in
-    (both.0 h.1.1, both.1)
-after_plain (number x) tokens rest (after, inl s, e) all =
-    let whole : tokens ≡ s.token ∷ rest = s.first ∙ ap (λ (t : Tokens). s.token ∷ t) e in
-    (tt, (subst (AllByRecursion IsPlainName) whole all).1)
-after_plain (number x) tokens rest (after, inr s, e) all =
-    let whole : tokens ≡ s.minus.token ∷ s.digits.token ∷ rest = s.minus.first ∙ ap (λ (t : Tokens). s.minus.token ∷ t) (s.digits.first ∙ ap (λ (t : Tokens). s.digits.token ∷ t) e) in
-    (tt, (subst (AllByRecursion IsPlainName) whole all).1.1)
-
-signs_plain : (signs : List Sign) (tokens rest : Tokens) → Spell signs tokens rest → AllByRecursion IsPlainName tokens → AllByRecursion PlainSign signs
-signs_plain [] tokens rest h all = tt
-signs_plain (sign ∷ signs) tokens rest h all =
-    let one = after_plain sign tokens h.0 (h.0, h.1, refl) all in
-    (one.0, signs_plain signs h.0 rest h.2 one.1)
-
-nodes_plain : (forms : List Form) → AllByRecursion PlainSign (signs_of_all forms) → AllByRecursion Plain (map (λ n. n.name) (nodes_in forms))
-nodes_plain [] h = tt
-nodes_plain (objective n ∷ forms) h = nodes_plain forms h.1.1.1
-nodes_plain (node n None ∷ forms) h = (h.1.0, nodes_plain forms h.1.1.1)
-nodes_plain (node n (Some c) ∷ forms) h = (h.1.0, nodes_plain forms h.1.1.1.1.1.1.1)
-nodes_plain (arc a ∷ forms) h = nodes_plain forms h.1.1.1.1.1.1.1.1.1.1.1.1.1.1.1.1.1.1
-
-arcs_plain : (forms : List Form) → AllByRecursion PlainSign (signs_of_all forms) → AllByRecursion Plain (map (λ a. a.name) (arcs_in forms))
-arcs_plain [] h = tt
-arcs_plain (objective n ∷ forms) h = arcs_plain forms h.1.1.1
-arcs_plain (node n None ∷ forms) h = arcs_plain forms h.1.1.1
-arcs_plain (node n (Some c) ∷ forms) h = arcs_plain forms h.1.1.1.1.1.1.1
-arcs_plain (arc a ∷ forms) h = (h.1.0, arcs_plain forms h.1.1.1.1.1.1.1.1.1.1.1.1.1.1.1.1.1.1)
-
-pub names_plain : (text : List ℕ) (tokens : Tokens) (forms : List Form) → Reads languages.Model text tokens → Spell (signs_of_all forms) tokens []
-    → AllByRecursion Plain (map (λ n. n.name) (nodes_in forms)) × AllByRecursion Plain (map (λ a. a.name) (arcs_in forms))
-names_plain text tokens forms reads spelled =
-    let signs = signs_plain (signs_of_all forms) tokens [] spelled (read_plain 0 text tokens reads) in
-    (nodes_plain forms signs, arcs_plain forms signs)
-
--- ---- the lines
 
 plain_byte : (b : ℕ) → (b == 10) ≡ false → (b == 13) ≡ false → IsPlain b
 plain_byte b p q = record { no_feed = p; no_return = q }
@@ -205,6 +126,14 @@ links_skipped link nodes arcs rest few numbers node_names arc_names =
     ∙ ap statements_of (append_assoc names last rest)
     ∙ nodes_skipped 0 nodes (last ++ rest) (omega (arith, few)) node_names
     ∙ arcs_skipped link.numbers.items link.offsets.items arcs rest numbers offsets arc_names
+
+pub plain_names : (names : List Name) → AllByRecursion IsOneLine names → AllByRecursion Plain names
+plain_names [] h = tt
+plain_names (n ∷ names) h = (all_map IsInLine IsPlain n (λ b s. record { no_feed = s.no_feed; no_return = s.no_return }) h.0, plain_names names h.1)
+
+pub numbers_small : (k : ℕ) (arcs : List InstArc) → k + length arcs < 2 ^ 128 → AllByRecursion (λ n. n < 2 ^ 128) (numbers_from k arcs)
+numbers_small k [] h = tt
+numbers_small k (a ∷ arcs) h = (omega (arith, h), numbers_small (suc k) arcs (omega (arith, h)))
 
 -- what says the same is the same problem's text
 pub same_problem : (text other : List ℕ) (supplies : List ℤ) (arcs : List FlowArc) → statements_of text ≡ statements_of other → IsProblemText other supplies arcs → IsProblemText text supplies arcs

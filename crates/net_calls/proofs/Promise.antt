@@ -1,82 +1,104 @@
 -- The promise of a compiled model, from what its parts promise.
-use Rattle.std.proofs.Common.{◌≡◌, ℕ, suc, ◌+◌, ◌^◌, ◌<◌, List, [], ◌∷◌, ◌++◌, length, map, ℤ, sym, ap, subst, ◌∙◌, arith}
-use Rattle.std.specs.List.{AllByRecursion}
-use Rattle.net_normal.specs.Flows.{cost_of}
-use Rattle.net_normal.specs.Links.{lifted, value_at}
-use Rattle.net_normal.specs.Correspondence.{CorrespondsOneToOne}
-use Rattle.net_normal.specs.NormalForm.{IsNormalForm, numbers_from}
-use Rattle.net_normal.specs.declared.instance.InstArc.{InstArc}
-use Rattle.net_dimacs.specs.Problems.{statements_of, IsProblemText, IsOnlyProblem}
+use Rattle.std.proofs.Common.{◌≡◌, ℕ, ◌<◌, ◌≤◌, ◌^◌, List, [], ◌∷◌, ◌++◌, length, map, vec_len, Option, Some, Ok, neg_ℤ, sym, ap, subst, ◌∙◌, arith, length-append}
+use Rattle.std.specs.List.{AllByRecursion, flat_map}
+use Rattle.std.proofs.lemmas.List.{length-map}
+use Rattle.net_dimacs.specs.Problems.{statements_of}
 use Rattle.net_dimacs.specs.Written.{problem_text}
+use Rattle.net_eval.specs.Worlds.{Name}
+use Rattle.net_inst.specs.declared.names.Names.{Names}
+use Rattle.net_inst.specs.AsWritten.{nodes, arcs, node_declared, arc_declared}
+use Rattle.net_inst.specs.ByName.{CorrespondsByName, CorrespondAsWritten}
+use Rattle.net_inst.specs.Instances.{seen_as}
+use Rattle.net_inst.specs.Laws.{AreNames, HaveNames, HaveExactRanges, HaveBounds, HaveObjective, IsObjectiveOf}
+use Rattle.net_inst.specs.Readings.{Objective, objectives, chosen}
+use Rattle.net_normal.specs.NormalForm.{supplies_from}
+use Rattle.net_normal.specs.Sums.{sum_of}
+use Rattle.net_model.proofs.NamedModels.{meant_well_named}
+use Rattle.net_read.proofs.Apart.{bound_apart}
+use Rattle.net_report.specs.References.{name_in, names_in}
 use Rattle.net_calls.specs.declared.compiled.Compiled.{Compiled}
-use Rattle.net_calls.specs.declared.named.Named.{Named}
-use Rattle.net_calls.specs.Steps.{IsNamed}
-use Rattle.net_calls.specs.Assignments.{IsFeasible, Agree, value_of, by_name}
-use Rattle.net_calls.specs.Headline.{Headline, up}
-use Rattle.net_calls.specs.Links.{link_lines}
-use Rattle.net_calls.specs.Models.{Name, NodeOf, ArcOf, node_names, arc_names}
-use Rattle.net_calls.proofs.ByName.{IsKnown, up_of, by_names}
-use Rattle.net_calls.proofs.Distinct.{AreDistinct, distinct_nodes, distinct_arcs}
-use Rattle.net_calls.proofs.LinkLines.{Plain, names_plain, links_skipped, same_problem, same_only}
+use Rattle.net_calls.specs.Headline.{Headline, AreOnLines}
+use Rattle.net_calls.specs.Made.{IsMade, HasSizes}
+use Rattle.net_calls.proofs.Counts.{node_count, arc_count, number_count, supply_count, numbers_within, flow_arc_count}
+use Rattle.net_calls.proofs.LinkLines.{links_skipped, plain_names, numbers_small, same_problem, same_only}
 
-numbers_small : (k : ℕ) (arcs : List InstArc) → k + length arcs < 2 ^ 128 → AllByRecursion (λ n. n < 2 ^ 128) (numbers_from k arcs)
-numbers_small k [] h = tt
-numbers_small k (a ∷ arcs) h = (omega (arith, h), numbers_small (suc k) arcs (omega (arith, h)))
-
-known : (m d : List ℕ) (named : Named) (n : IsNamed m d named) → IsKnown n.drafted.model named.instance
-known m d named n =
-    record {
-      network = n.drafted.network;
-      nodes = subst (λ (l : List NodeOf). AreDistinct (map (λ x. x.name) l)) n.drafted.says.nodes (distinct_nodes [] n.forms n.declared.named);
-      arcs = subst (λ (l : List ArcOf). AreDistinct (map (λ x. x.name) l)) n.drafted.says.arcs (distinct_arcs [] n.forms n.declared.named);
-    }
+few_names : (wanted : Option Name) (m d : List ℕ) (c : Compiled) → HaveNames → HaveExactRanges → IsMade wanted m d c → length (names_in c.names.nodes) < 2 ^ 127
+few_names wanted m d c names ranges made =
+    let is = made.network in
+    let count = node_count wanted is.network.world is.declarations made.named names ranges is.network.network in
+    let keys = ap (λ (x : Names). length x.nodes.keys) made.names in
+    let instance = made.named.instance in
+    let few = instance.few_nodes in
+    omega (arith, length-map c.names.nodes.keys (name_in c.names.nodes.declarations), keys, count, instance.nodes.ok.0, few)
 
 -- the text is the link lines, which say nothing, and the problem's
-says : (m d : List ℕ) (named : Named) (c : Compiled) (n : IsNamed m d named) → IsNormalForm named.instance c.problem c.link
-    → statements_of (link_lines c.link (node_names n.drafted.model) (arc_names n.drafted.model) ++ problem_text c.problem.supplies.items c.problem.arcs.items) ≡ statements_of (problem_text c.problem.supplies.items c.problem.arcs.items)
-says m d named c n normal =
-    let model = n.drafted.model in
-    let plain = names_plain m n.tokens n.forms n.declared.read.read n.declared.written.spelled in
-    let instance = named.instance in
-    let few_nodes = instance.few_nodes in
-    let few_arcs = instance.few_arcs in
-    links_skipped c.link (node_names model) (arc_names model) (problem_text c.problem.supplies.items c.problem.arcs.items)
-    (omega (arith, sym (ap length n.drafted.nodes), named.names.nodes.ok.0, named.nodes_named, few_nodes))
-    (subst (AllByRecursion (λ k. k < 2 ^ 128)) (sym normal.numbers) (numbers_small 1 instance.arcs.items (omega (arith, instance.arcs.ok.0, few_arcs))))
-    (subst (λ (l : List NodeOf). AllByRecursion Plain (map (λ x. x.name) l)) n.drafted.says.nodes plain.0)
-    (subst (λ (l : List ArcOf). AllByRecursion Plain (map (λ x. x.name) l)) n.drafted.says.arcs plain.1)
+says : (wanted : Option Name) (m d : List ℕ) (c : Compiled) → HaveNames → HaveExactRanges → IsMade wanted m d c → AreOnLines c.names
+    → statements_of c.text.items ≡ statements_of (problem_text c.problem.supplies.items c.problem.arcs.items)
+says wanted m d c names ranges made on =
+    let instance = made.named.instance in
+    let few = instance.few_arcs in
+    ap statements_of made.text
+    ∙ links_skipped c.link (names_in c.names.nodes) (names_in c.names.arcs) (problem_text c.problem.supplies.items c.problem.arcs.items)
+    (few_names wanted m d c names ranges made)
+    (subst (AllByRecursion (λ k. k < 2 ^ 128)) (sym made.normal.numbers) (numbers_small 1 instance.arcs.items (omega (arith, instance.arcs.ok.0, few))))
+    (plain_names (names_in c.names.nodes) on.nodes)
+    (plain_names (names_in c.names.arcs) on.arcs)
 
-pub headline_of : (m d : List ℕ) (named : Named) (c : Compiled) → IsNamed m d named → c.names.objective ≡ named.names.objective → c.names.nodes.items ≡ named.names.nodes.items
-    → c.names.arcs.items ≡ named.names.arcs.items → IsNormalForm named.instance c.problem c.link → CorrespondsOneToOne named.instance c.problem c.link
-    → c.text.items ≡ link_lines c.link named.names.nodes.items named.names.arcs.items ++ problem_text c.problem.supplies.items c.problem.arcs.items
-    → IsProblemText (problem_text c.problem.supplies.items c.problem.arcs.items) c.problem.supplies.items c.problem.arcs.items
-    → IsOnlyProblem (problem_text c.problem.supplies.items c.problem.arcs.items) c.problem.supplies.items c.problem.arcs.items
-    → Headline m d c
-headline_of m d named c n objective nodes arcs normal corresponds text problem only =
-    let model = n.drafted.model in
+some_same : (o : Option Objective) (x y : Objective) → o ≡ Some x → o ≡ Some y → x ≡ y
+some_same o x y p q = let both : ◌≡◌ {A = Option Objective} (Some x) (Some y) = sym p ∙ q in cc
+
+pub headline_of : (wanted : Option Name) (m d : List ℕ) (c : Compiled) → HaveNames → HaveExactRanges → HaveObjective → CorrespondAsWritten → IsMade wanted m d c → Headline wanted m d c
+headline_of wanted m d c names ranges objective correspond made =
+    let is = made.network in
+    let ds = is.declarations in
+    let w = is.network.world in
+    let n = made.named in
     let lines = problem_text c.problem.supplies.items c.problem.arcs.items in
-    let arc_list : c.names.arcs.items ≡ arc_names model = arcs ∙ n.drafted.arcs in
-    let whole : c.text.items ≡ link_lines c.link (node_names model) (arc_names model) ++ lines =
-    text ∙ ap (λ (l : List Name). link_lines c.link l named.names.arcs.items ++ lines) n.drafted.nodes
-    ∙ ap (λ (l : List Name). link_lines c.link (node_names model) l ++ lines) n.drafted.arcs in
-    let same : statements_of c.text.items ≡ statements_of lines = ap statements_of whole ∙ says m d named c n normal in
-    let by = by_names model named.instance c.problem c.link (known m d named n) corresponds in
-    let ups : (flows : List ℤ) → up_of model c.link flows ≡ up c flows = λ flows. ap (λ (l : List Name). by_name l (lifted c.link flows)) (sym arc_list) in
+    let called = names wanted w ds (seen_as n) is.network.network in
+    let aim = objective wanted w ds (seen_as n) is.network.network in
     record {
-      model = model;
-      accepts = record { tokens = n.tokens; forms = n.forms; declared = n.declared; no_data = n.no_data; network = n.network; says = n.drafted.says };
-      objective = objective ∙ n.drafted.objective;
-      nodes = nodes ∙ n.drafted.nodes;
-      arcs = arc_list;
-      instance = named.instance;
-      network = n.drafted.network;
-      normal = normal;
-      text = whole;
-      problem = same_problem c.text.items lines c.problem.supplies.items c.problem.arcs.items same problem;
-      only = same_only c.text.items lines c.problem.supplies.items c.problem.arcs.items same only;
-      forward = λ flows f. subst (IsFeasible model) (ups flows) (by.forward flows f);
-      onto = λ x f. let y = by.onto x f in (y.0, y.1, subst (λ u. Agree model u x) (ups y.0) y.2);
-      injective = λ flows others f g agree.
-          by.injective flows others f g (subst (λ u. Agree model u (up_of model c.link others)) (sym (ups flows)) (subst (λ u. Agree model (up c flows) u) (sym (ups others)) agree));
-      value = λ flows f. subst (λ u. value_of model u ≡ value_at c.link (cost_of c.problem flows)) (ups flows) (by.value flows f);
+      declarations = ds;
+      world = w;
+      accepts = record { model = is.model; tables = is.tables; statements = is.statements; world = is.network.bound };
+      objective = aim.0;
+      is_chosen = aim.1;
+      named = ap (λ (x : Names). x.objective) made.names ∙ aim.2.name;
+      sense = made.normal.sense ∙ aim.2.sense;
+      node_names = subst (λ (x : Names). AreNames (flat_map node_declared ds) (map (λ v. v.label) (nodes w ds)) x.nodes) (sym made.names) called.nodes;
+      arc_names = subst (λ (x : Names). AreNames (flat_map arc_declared ds) (map (λ a. a.label) (arcs w ds)) x.arcs) (sym made.names) called.arcs;
+      text = made.text;
+      problem = λ on. same_problem c.text.items lines c.problem.supplies.items c.problem.arcs.items (says wanted m d c names ranges made on) made.problem;
+      only = λ on. same_only c.text.items lines c.problem.supplies.items c.problem.arcs.items (says wanted m d c names ranges made on) made.only;
+      corresponds =
+          let apart = bound_apart ds is.tables.statements w (meant_well_named is.model.tokens ds is.model.meant) is.network.bound in
+          let by = correspond wanted w ds n c.problem c.link is.network.network apart made.corresponds in
+          subst (λ o. CorrespondsByName (nodes w ds) (arcs w ds) o c.problem c.link) (some_same (chosen wanted (objectives w ds)) by.0 aim.0 by.1 aim.1) by.2;
+    }
+
+-- the network's sum is the value of the promised objective
+pub aim_of : (wanted : Option Name) (m d : List ℕ) (c : Compiled) (names : HaveNames) (ranges : HaveExactRanges) (objective : HaveObjective) (correspond : CorrespondAsWritten) (made : IsMade wanted m d c)
+    → let promise = headline_of wanted m d c names ranges objective correspond made in IsObjectiveOf promise.objective (seen_as made.named) (arcs promise.world promise.declarations)
+unfolding headline_of
+aim_of wanted m d c names ranges objective correspond made = (objective wanted made.network.network.world made.network.declarations (seen_as made.named) made.network.network.network).2
+
+pub sizes_of : (wanted : Option Name) (m d : List ℕ) (c : Compiled) → HaveNames → HaveExactRanges → HaveBounds → IsMade wanted m d c → HasSizes c
+sizes_of wanted m d c names ranges bounds made =
+    let is = made.network in
+    let n = made.named in
+    let normal = made.normal in
+    let nodes_named = node_count wanted is.network.world is.declarations n names ranges is.network.network in
+    let arcs_named = arc_count wanted is.network.world is.declarations n names bounds is.network.network in
+    let node_keys = ap (λ (x : Names). length x.nodes.keys) made.names in
+    let arc_keys = ap (λ (x : Names). length x.arcs.keys) made.names in
+    let inner = supplies_from n.instance.arcs.items 0 n.instance.nodes.items in
+    let supplies = ap length normal.supplies in
+    let joined = length-append inner (neg_ℤ (sum_of inner) ∷ []) in
+    let counted = supply_count n.instance.arcs.items 0 n.instance.nodes.items in
+    let arcs_made = ap length normal.arcs in
+    let arcs_whole = flow_arc_count n.instance in
+    record {
+      nodes = omega (arith, c.problem.supplies.ok.0, nodes_named, node_keys, supplies, joined, counted);
+      arcs = omega (arith, c.link.numbers.ok.0, arcs_named, arc_keys, ap length normal.numbers, number_count 1 n.instance.arcs.items);
+      numbers = subst (AllByRecursion (λ k. k ≤ vec_len c.problem.arcs)) (sym normal.numbers)
+          (numbers_within 1 n.instance.arcs.items (vec_len c.problem.arcs) (omega (arith, c.problem.arcs.ok.0, arcs_made, arcs_whole)));
     }

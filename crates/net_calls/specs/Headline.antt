@@ -1,43 +1,52 @@
 -- The promise of a compiled model (AMPL book, chapter 15; First DIMACS Implementation Challenge, minimum-cost flow): its text is a
 -- flow problem whose feasible flows are the model's feasible assignments, one for one, and whose costs are their values.
-use Rattle.std.specs.Prelude.{◌≡◌, ℕ, List, ◌++◌, ℤ}
-use Rattle.net_normal.specs.Flows.{IsFeasibleFlow, cost_of}
-use Rattle.net_normal.specs.Links.{lifted, value_at}
+use Rattle.std.specs.Prelude.{◌≡◌, ℕ, List, ◌++◌, map, Option, Some, Ok}
+use Rattle.std.specs.List.{AllByRecursion, flat_map}
+use Rattle.net_tree.specs.Tree.{Declaration}
+use Rattle.net_data.specs.declared.tables.Tables.{Tables}
+use Rattle.net_bind.specs.Binding as binding
+use Rattle.net_eval.specs.Worlds.{Name, World}
 use Rattle.net_dimacs.specs.Problems.{IsProblemText, IsOnlyProblem}
 use Rattle.net_dimacs.specs.Written.{problem_text}
+use Rattle.net_inst.specs.declared.names.Names.{Names}
+use Rattle.net_inst.specs.AsWritten.{nodes, arcs, node_declared, arc_declared}
+use Rattle.net_inst.specs.Readings.{Objective, objectives, chosen}
+use Rattle.net_inst.specs.Laws.{AreNames}
+use Rattle.net_inst.specs.ByName.{CorrespondsByName}
+use Rattle.net_read.specs.Reading.{IsModel, IsData}
+use Rattle.net_report.specs.Links.{link_text}
+use Rattle.net_report.specs.References.{names_in}
 use Rattle.net_calls.specs.declared.compiled.Compiled.{Compiled}
-use Rattle.net_calls.specs.Models.{NamedModel, node_names, arc_names}
-use Rattle.net_calls.specs.Accepted.{IsModelOf}
-use Rattle.net_calls.specs.Assignments.{Assignment, IsFeasible, Agree, value_of, by_name}
-use Rattle.net_calls.specs.Links.{link_lines}
-use Rattle.net_calls.specs.Instances.{IsNetworkOf}
-use Rattle.net_normal.specs.NormalForm.{IsNormalForm}
-use Rattle.net_normal.specs.declared.instance.Instance.{Instance}
+use Rattle.net_calls.specs.Lines.{IsOneLine}
 
--- the assignment that a flow stands for
-abbrev pub up : Compiled → List ℤ → Assignment
-up c flows = by_name c.names.arcs.items (lifted c.link flows)
+-- the model text is these declarations, the data text is these statements, and together they give the sets and parameters these values
+pub record IsModelWithData (model_text data_text : List ℕ) (ds : List Declaration) (w : World) : Type 0 where
+  pub model : IsModel model_text ds
+  pub tables : Tables
+  pub statements : IsData data_text tables
+  pub world : binding.world ds tables.statements ≡ Ok w
 
-pub record Headline (model_text data_text : List ℕ) (c : Compiled) : Type 0 where
-  -- the two texts are a model, and the names are its names in order
-  pub model : NamedModel
-  pub accepts : IsModelOf model_text data_text model
-  pub objective : c.names.objective ≡ model.objective
-  pub nodes : c.names.nodes.items ≡ node_names model
-  pub arcs : c.names.arcs.items ≡ arc_names model
-  -- node by node and arc by arc the problem is the model's normal form, so the printed numbers are those of these names
-  pub instance : Instance
-  pub network : IsNetworkOf model instance
-  pub normal : IsNormalForm instance c.problem c.link
-  -- the text is the link lines and the problem's lines, and it is this problem and no other
-  pub text : c.text.items ≡ link_lines c.link (node_names model) (arc_names model) ++ problem_text c.problem.supplies.items c.problem.arcs.items
-  pub problem : IsProblemText c.text.items c.problem.supplies.items c.problem.arcs.items
-  pub only : IsOnlyProblem c.text.items c.problem.supplies.items c.problem.arcs.items
-  -- each feasible flow stands for a feasible assignment
-  pub forward : (flows : List ℤ) → IsFeasibleFlow c.problem flows → IsFeasible model (up c flows)
-  -- no feasible assignment is lost
-  pub onto : (x : Assignment) → IsFeasible model x → (flows : List ℤ) × IsFeasibleFlow c.problem flows × Agree model (up c flows) x
-  -- none is there twice
-  pub injective : (flows others : List ℤ) → IsFeasibleFlow c.problem flows → IsFeasibleFlow c.problem others → Agree model (up c flows) (up c others) → flows ≡ others
-  -- a flow's cost, with the constant and the sign that are printed, is the assignment's value
-  pub value : (flows : List ℤ) → IsFeasibleFlow c.problem flows → value_of model (up c flows) ≡ value_at c.link (cost_of c.problem flows)
+-- no node and no arc has a name with a line end in it
+pub record AreOnLines (names : Names) : Type 0 where
+  pub nodes : AllByRecursion IsOneLine (names_in names.nodes)
+  pub arcs : AllByRecursion IsOneLine (names_in names.arcs)
+
+pub record Headline (wanted : Option Name) (model_text data_text : List ℕ) (c : Compiled) : Type 0 where
+  -- the two texts are a model with its data
+  pub declarations : List Declaration
+  pub world : World
+  pub accepts : IsModelWithData model_text data_text declarations world
+  -- the objective is the wanted one, or the only one; the names are those that the model declares, in order
+  pub objective : Objective
+  pub is_chosen : chosen wanted (objectives world declarations) ≡ Some objective
+  pub named : c.names.objective ≡ objective.name
+  pub sense : c.link.sense ≡ objective.sense
+  pub node_names : AreNames (flat_map node_declared declarations) (map (λ v. v.label) (nodes world declarations)) c.names.nodes
+  pub arc_names : AreNames (flat_map arc_declared declarations) (map (λ a. a.label) (arcs world declarations)) c.names.arcs
+  -- the text is the link lines, with each name, and the problem's lines; where no name has a line end it is this problem and no other
+  pub text : c.text.items ≡ link_text c.names c.link ++ problem_text c.problem.supplies.items c.problem.arcs.items
+  pub problem : AreOnLines c.names → IsProblemText c.text.items c.problem.supplies.items c.problem.arcs.items
+  pub only : AreOnLines c.names → IsOnlyProblem c.text.items c.problem.supplies.items c.problem.arcs.items
+  -- each feasible flow stands for a feasible assignment of names and keys (forward), none of these is lost (onto), none is there
+  -- twice (injective), and a flow's cost, with the constant and the sign that are printed, is the assignment's value (value)
+  pub corresponds : CorrespondsByName (nodes world declarations) (arcs world declarations) objective c.problem c.link

@@ -3,8 +3,10 @@ use Rattle.std.specs.Prelude.{◌≡◌, ℕ, List, Option}
 use Rattle.std.specs.Io.KnownBytes.{Appends, Consumes, IsAtEnd}
 use Rattle.net_lex.specs.declared.language.Language.TheVariants as languages
 use Rattle.net_lex.specs.Limits.{text_limit}
+use Rattle.net_eval.specs.Worlds.{Name}
 use Rattle.net_dimacs.specs.Limits as dimacs
 use Rattle.net_ends.specs.Ends.{ReadsToLimit, WritesFront}
+use Rattle.net_calls.specs.declared.answer.Answer.{Answer}
 use Rattle.net_calls.specs.declared.compiled.Compiled.{Compiled}
 use Rattle.net_calls.specs.declared.fault.Fault.{Fault}
 use Rattle.net_calls.specs.declared.fault.TextName.{TextName}
@@ -15,6 +17,8 @@ use Rattle.net_solve.specs.declared.settled.Settled.{Settled}
 use Rattle.net_calls.specs.declared.ending.Ending.{Ending}
 use Rattle.net_calls.specs.Checked.{Judges, IsLineRefusal, IsProblemRefusal, ending_of, verdict_line}
 use Rattle.net_calls.specs.Settled.{Settles, settled_ending}
+use Rattle.net_calls.specs.Answers.{Answers, text_of}
+use Rattle.net_calls.specs.Answers as answers
 use Rattle.net_calls.specs.Headline.{Headline}
 
 -- the most bytes of a problem text and of a certificate text
@@ -36,32 +40,53 @@ abbrev pub ReadsUpTo : ℕ → Course → List ℕ → Type 0
 ReadsUpTo limit source text = ReadsToLimit limit source.old source.new text
 
 -- the two texts were read to their ends, and the answer keeps the promise for them
-pub record Compiles (model data' : Course) (answer : Compiled) : Type 0 where
+pub record Compiles (wanted : Option Name) (model data' : Course) (answer : Compiled) : Type 0 where
   pub model_text : List ℕ
   pub data_text : List ℕ
   pub model_read : ReadsWhole model model_text
   pub data_read : ReadsWhole data' data_text
-  pub compiled : Headline model_text data_text answer
+  pub compiled : Headline wanted model_text data_text answer
 
 -- the answer's text was written, and nothing else
-pub record WritesAnswer (model data' output : Course) : Type 0 where
+pub record WritesAnswer (wanted : Option Name) (model data' output : Course) : Type 0 where
   pub answer : Compiled
-  pub made : Compiles model data' answer
+  pub made : Compiles wanted model data' answer
   pub written : Appends output.old output.new answer.text.items
 
 -- a front of the answer's text was written, and nothing else
-pub record WritesFrontOfAnswer (model data' output : Course) : Type 0 where
+pub record WritesFrontOfAnswer (wanted : Option Name) (model data' output : Course) : Type 0 where
   pub answer : Compiled
-  pub made : Compiles model data' answer
+  pub made : Compiles wanted model data' answer
   pub written : WritesFront output.old output.new answer.text.items
 
+-- the two texts were read to their ends, and the answer is one to them
+pub record Solves (wanted : Option Name) (model data' : Course) (answer : Answer) : Type 0 where
+  pub model_text : List ℕ
+  pub data_text : List ℕ
+  pub model_read : ReadsWhole model model_text
+  pub data_read : ReadsWhole data' data_text
+  pub solved : Answers wanted model_text data_text answer
+
+-- the plan or the cut was written, and nothing else
+pub record WritesOutcome (wanted : Option Name) (model data' output : Course) (ending : Ending) : Type 0 where
+  pub answer : Answer
+  pub made : Solves wanted model data' answer
+  pub ends : ending ≡ answers.ending_of answer.outcome
+  pub written : Appends output.old output.new (text_of answer.outcome)
+
+-- a front of it was written, and nothing else
+pub record WritesFrontOfOutcome (wanted : Option Name) (model data' output : Course) : Type 0 where
+  pub answer : Answer
+  pub made : Solves wanted model data' answer
+  pub written : WritesFront output.old output.new (text_of answer.outcome)
+
 -- the two texts were read up to their limits, and this is what is wrong with them
-pub record Refuses (model data' : Course) (fault : Fault) : Type 0 where
+pub record Refuses (wanted : Option Name) (model data' : Course) (fault : Fault) : Type 0 where
   pub model_text : List ℕ
   pub data_text : List ℕ
   pub model_read : ReadsUpTo (text_limit languages.Model) model model_text
   pub data_read : ReadsUpTo (text_limit languages.Data) data' data_text
-  pub refused : IsRefusal model_text data_text fault
+  pub refused : IsRefusal wanted model_text data_text fault
 
 -- of a refused text, this
 abbrev pub IfRefused : Fault → Type 0 → Type 0

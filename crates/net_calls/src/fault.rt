@@ -3,9 +3,9 @@
 ghost use Rattle.std.specs.Prelude.{◌≡◌};
 ghost use Rattle.net_calls.specs.FaultLines.{detail_gap, text_word};
 
-use crate::fault_kinds::FaultKind;
 use net_dimacs::LineFault;
 use net_lex::Span;
+use net_read::Defect;
 use std::alloc::{AllocError, AllocFailed};
 use std::error::Error;
 use std::fmt;
@@ -36,7 +36,7 @@ impl TextName {
 /// How a fault's line begins: `E04 NotWhole data`.
 #[derive(Clone, Copy)]
 struct Head {
-    number: u8,
+    number: u64,
     name: &'static str,
     text: TextName,
 }
@@ -59,13 +59,13 @@ impl fmt::Display for Head {
 /// A fault of a text, with its place.
 #[derive(Debug, Drop)]
 pub struct Refusal {
-    pub kind: FaultKind,
+    pub kind: Defect,
     pub text: TextName,
     pub span: Span,
     /// The place of the span's start, both from 1.
     pub line: u64,
     pub column: u64,
-    /// What is said of the place besides; empty for most kinds.
+    /// What is said of the place besides, as a name with its key; empty for most kinds.
     pub detail: String,
 }
 
@@ -114,7 +114,7 @@ impl fmt::Display for LineRefusal {
     /// As `E75 Count problem 3`.
     fn fmt<W: fmt::Write>(&self, f: &mut fmt::Formatter<W>) -> fmt::Result {
         let head = Head {
-            number: self.fault.number(),
+            number: u64::from(self.fault.number()),
             name: self.fault.name(),
             text: self.text,
         };

@@ -1,32 +1,23 @@
 //! The calls from end to end: texts in, an answer's text out.
 #![tactic(auto)]
 
+mod answer;
 mod checking;
 mod compiled;
-mod declaration;
-mod declared;
-mod draft;
 mod ending;
 mod fault;
-mod fault_kinds;
-mod finding;
-mod forms;
-mod instance;
-mod laws;
 mod line_runs;
-mod links;
-mod named;
-mod names;
 mod run;
 mod settling;
+mod solve_run;
+mod telling;
 
+pub use answer::{Answer, Outcome, solve_model, solve_model_with};
 pub use checking::check_bytes;
-pub use compiled::{Compiled, compile};
+pub use compiled::{Compiled, Options, compile, compile_with};
 pub use ending::Ending;
 pub use fault::{Fault, LineRefusal, Refusal, TextName};
-pub use fault_kinds::{FaultKind, GrammarFault, NetworkFault, TableFault};
-pub use laws::{accepted_or_refused, one_first_fault};
 pub use line_runs::{run_check, run_min};
-pub use named::Names;
-pub use run::run_compile;
+pub use run::{run_compile, run_compile_with};
 pub use settling::solve_min;
+pub use solve_run::{run_solve, run_solve_with};

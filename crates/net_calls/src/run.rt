@@ -1,16 +1,17 @@
 //! Runs from end to end: texts are read whole, then the answer is computed whole, then it is written.
 
-ghost use Rattle.std.specs.Prelude.{◌≡◌, ◌+◌, ◌^◌, ◌<◌, ◌⊎◌, ◌↔◌, true, false, OnOk, IfOk, IfErr, IsErrOf};
+ghost use Rattle.std.specs.Prelude.{◌≡◌, ◌+◌, ◌^◌, ◌<◌, ◌⊎◌, ◌↔◌, None, true, false, OnOk, IfOk, IfErr, IsErrOf};
+ghost use Rattle.std.specs.Option.{option_copied};
 ghost use Rattle.net_ends.specs.Ends.{ReadsToLimit};
 ghost use Rattle.net_calls.specs.Runs.{WritesAnswer, WritesFrontOfAnswer, Refuses, IfRefused, IfUnread};
 
-use crate::compiled::compile;
+use crate::compiled::{Options, compile_with};
 use crate::fault::{Fault, TextName};
 use net_ends::{ReadFault, Sink, Source, read_to_limit, write_whole};
 use net_lex::{DATA_LIMIT, MODEL_LIMIT};
 use std::alloc::Global;
 
-/// Compiles what the two sources give, and writes the text of the answer.
+/// Compiles what the two sources give, with the model's only objective, and writes the text of the answer.
 pub fn run_compile<M: Source, D: Source, W: Sink>(
     alloc: Global,
     model: &mut M,
@@ -20,17 +21,53 @@ pub fn run_compile<M: Source, D: Source, W: Sink>(
     requires model_unread { M.failed model.old ≡ false }
     requires data_unread { D.failed «data».old ≡ false }
     requires unwritten { W.failed output.old ≡ false }
-    ensures ok { OnOk result (WritesAnswer
+    ensures ok { OnOk result (WritesAnswer None
         (record { old = M.remaining model.old; new = M.remaining model.new })
         (record { old = D.remaining «data».old; new = D.remaining «data».new })
         (record { old = W.taken output.old; new = W.taken output.new })) }
 
     // A refused call has written nothing; a failed write leaves a front of the answer.
     ensures refused { IfErr result (λ fault. (fault ≡ Fault.Unwritten) ⊎ (output.new ≡ output.old)) }
-    ensures told { IfErr result (λ fault. IfRefused fault (Refuses
+    ensures told { IfErr result (λ fault. IfRefused fault (Refuses None
         (record { old = M.remaining model.old; new = M.remaining model.new })
         (record { old = D.remaining «data».old; new = D.remaining «data».new }) fault)) }
-    ensures front { IsErrOf result Fault.Unwritten → WritesFrontOfAnswer
+    ensures front { IsErrOf result Fault.Unwritten → WritesFrontOfAnswer None
+        (record { old = M.remaining model.old; new = M.remaining model.new })
+        (record { old = D.remaining «data».old; new = D.remaining «data».new })
+        (record { old = W.taken output.old; new = W.taken output.new }) }
+
+    // An end is blamed exactly where it failed, and the model is read first.
+    ensures model { IsErrOf result (Fault.Unread TextName.Model) ↔ (M.failed model.new ≡ true) }
+    ensures data { IsErrOf result (Fault.Unread TextName.Data) ↔ (D.failed «data».new ≡ true) }
+    ensures output { IsErrOf result Fault.Unwritten ↔ (W.failed output.new ≡ true) }
+    ensures ends { IfErr result (λ fault. IfUnread fault (λ text. (text ≡ TextName.Model) ⊎ (text ≡ TextName.Data))) }
+    ensures first { M.failed model.new ≡ true → «data».new ≡ «data».old }
+{
+    run_compile_with(alloc, Options { objective: None }, model, data, output)
+}
+
+/// Compiles what the two sources give, with the objective that is chosen, and writes the text of the answer.
+pub fn run_compile_with<'o, M: Source, D: Source, W: Sink>(
+    alloc: Global,
+    options: Options<'o>,
+    model: &mut M,
+    data: &mut D,
+    output: &mut W,
+) -> Result<(), Fault>
+    requires model_unread { M.failed model.old ≡ false }
+    requires data_unread { D.failed «data».old ≡ false }
+    requires unwritten { W.failed output.old ≡ false }
+    ensures ok { OnOk result (WritesAnswer (option_copied options.entry.objective)
+        (record { old = M.remaining model.old; new = M.remaining model.new })
+        (record { old = D.remaining «data».old; new = D.remaining «data».new })
+        (record { old = W.taken output.old; new = W.taken output.new })) }
+
+    // A refused call has written nothing; a failed write leaves a front of the answer.
+    ensures refused { IfErr result (λ fault. (fault ≡ Fault.Unwritten) ⊎ (output.new ≡ output.old)) }
+    ensures told { IfErr result (λ fault. IfRefused fault (Refuses (option_copied options.entry.objective)
+        (record { old = M.remaining model.old; new = M.remaining model.new })
+        (record { old = D.remaining «data».old; new = D.remaining «data».new }) fault)) }
+    ensures front { IsErrOf result Fault.Unwritten → WritesFrontOfAnswer (option_copied options.entry.objective)
         (record { old = M.remaining model.old; new = M.remaining model.new })
         (record { old = D.remaining «data».old; new = D.remaining «data».new })
         (record { old = W.taken output.old; new = W.taken output.new }) }
@@ -44,7 +81,7 @@ pub fn run_compile<M: Source, D: Source, W: Sink>(
 {
     let model_text = read_text(alloc, model, MODEL_LIMIT, TextName::Model)?;
     let data_text = read_text(alloc, data, DATA_LIMIT, TextName::Data)?;
-    let compiled = compile(alloc, &model_text, &data_text)?;
+    let compiled = compile_with(alloc, options, &model_text, &data_text)?;
     match write_whole(output, &compiled.text) {
         Ok(()) => Ok(()),
         Err(_) => Err(Fault::Unwritten),

@@ -2,4 +2,6 @@
 #![tactic(auto)]
 
 #[cfg(test)]
+mod models;
+#[cfg(test)]
 mod runs;

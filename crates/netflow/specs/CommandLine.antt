@@ -1,11 +1,12 @@
 -- The command line: which words ask for what, in clap's own terms of a simple command.
-use Rattle.std.specs.Prelude.{◌≡◌, ◌∷◌, [], List, ℕ, Some, map, codes, true, false, string_bytes, option_map, slice_get, unwrap_or}
+use Rattle.std.specs.Prelude.{◌≡◌, ◌∷◌, [], List, ℕ, Option, None, Some, map, codes, true, false, string_bytes, option_map, slice_get, unwrap_or}
+use Rattle.std.specs.Option.{option_copied}
 use Rattle.clap.specs.Words.{App, Row, Rule, Text, app_of, first_of, new_app, new_rule, subcommand_of, with_rule, with_subcommand}
 use Rattle.clap.specs.declared.builder.command.Command.{Command}
 use Rattle.clap.specs.declared.builder.command.Command.TheViews.{out-Command}
 use Rattle.clap.specs.declared.builder.ArgAction.TheVariants.{Set}
 use Rattle.netflow.specs.declared.words.Action.{Action}
-use Rattle.netflow.specs.declared.words.Action.TheVariants.{Compile, Min, Check}
+use Rattle.netflow.specs.declared.words.Action.TheVariants.{Compile, Solve, Min, Check}
 use Rattle.netflow.specs.declared.words.Words.{Words}
 use Rattle.netflow.specs.declared.call.Call.{Call}
 use Rattle.netflow.specs.declared.call.Call.TheVariants as calls
@@ -14,8 +15,18 @@ use Rattle.netflow.specs.declared.call.Call.TheVariants as calls
 abbrev pub path_rule : Text → Rule
 path_rule name = record (new_rule name) { required = true; action = Some Set }
 
+-- `--objective NAME`, which may be left out
+abbrev pub objective_rule : Rule
+objective_rule = record (new_rule (codes "NAME")) { long = Some (codes "objective"); action = Some Set }
+
+abbrev pub model_app : Text → App
+model_app name = with_rule (with_rule (with_rule (new_app name) (path_rule (codes "MODEL"))) (path_rule (codes "DATA"))) objective_rule
+
 abbrev pub compile_app : App
-compile_app = with_rule (with_rule (new_app (codes "compile")) (path_rule (codes "MODEL"))) (path_rule (codes "DATA"))
+compile_app = model_app (codes "compile")
+
+abbrev pub solve_app : App
+solve_app = model_app (codes "solve")
 
 abbrev pub min_app : App
 min_app = with_rule (new_app (codes "min")) (path_rule (codes "PROBLEM"))
@@ -28,16 +39,18 @@ abbrev pub bare_app : App
 bare_app = record (new_app (codes "netflow")) { top = record (new_app (codes "netflow")).top { subcommand_required = true } }
 
 abbrev pub netflow_app : App
-netflow_app = with_subcommand (with_subcommand (with_subcommand bare_app compile_app.top) min_app.top) check_app.top
+netflow_app = with_subcommand (with_subcommand (with_subcommand (with_subcommand bare_app compile_app.top) solve_app.top) min_app.top) check_app.top
 
 abbrev pub action_word : Action → Text
 action_word Compile = codes "compile"
+action_word Solve = codes "solve"
 action_word Min = codes "min"
 action_word Check = codes "check"
 
 -- the names of the paths of a subcommand, in order
 abbrev pub path_names : Action → List Text
 path_names Compile = codes "MODEL" ∷ codes "DATA" ∷ []
+path_names Solve = codes "MODEL" ∷ codes "DATA" ∷ []
 path_names Min = codes "PROBLEM" ∷ []
 path_names Check = codes "PROBLEM" ∷ codes "CERTIFICATE" ∷ []
 
@@ -49,18 +62,32 @@ IsApp app command = (app_of command ≡ app) × ((out-Command command).has_globa
 abbrev pub given : List Row → Text → Text
 given rows name = unwrap_or (first_of name rows) []
 
+-- the objective that was given to a command that takes one
+abbrev pub asked_objective : Action → List Row → Text
+asked_objective Compile rows = given rows (codes "NAME")
+asked_objective Solve rows = given rows (codes "NAME")
+asked_objective Min rows = []
+asked_objective Check rows = []
+
 -- the subcommand that clap reads in these words, and the values that it has for its paths, in order
 pub record IsAskedBy (words : List Text) (asked : Words) : Type 0 where
   pub rows : List Row
   pub subcommand : subcommand_of netflow_app words ≡ Some (action_word asked.command, rows)
   pub paths : map string_bytes asked.paths.items ≡ map (given rows) (path_names asked.command)
+  pub objective : string_bytes asked.objective ≡ asked_objective asked.command rows
 
 -- the path at this place
 abbrev pub path_at : Words → ℕ → Text
 path_at asked at = unwrap_or (option_map string_bytes (slice_get asked.paths.items at)) []
 
+-- no objective where no name was given
+abbrev pub objective_in : Text → Option Text
+objective_in [] = None
+objective_in (byte ∷ bytes) = Some (byte ∷ bytes)
+
 -- the call of the words' command, on their paths in order
 abbrev pub IsCallOf : Words → Call → Type 0
-IsCallOf asked (calls.Compile model other) = (asked.command ≡ Compile) × (model.now ≡ path_at asked 0) × (other.now ≡ path_at asked 1)
+IsCallOf asked (calls.Compile model other objective) = (asked.command ≡ Compile) × (model.now ≡ path_at asked 0) × (other.now ≡ path_at asked 1) × (option_copied objective ≡ objective_in (string_bytes asked.objective))
+IsCallOf asked (calls.Solve model other objective) = (asked.command ≡ Solve) × (model.now ≡ path_at asked 0) × (other.now ≡ path_at asked 1) × (option_copied objective ≡ objective_in (string_bytes asked.objective))
 IsCallOf asked (calls.Min problem) = (asked.command ≡ Min) × (problem.now ≡ path_at asked 0)
 IsCallOf asked (calls.Check problem certificate) = (asked.command ≡ Check) × (problem.now ≡ path_at asked 0) × (certificate.now ≡ path_at asked 1)

@@ -1,14 +1,17 @@
 //! What is to be run, on which files.
 
-ghost use Rattle.netflow.specs.CommandLine.{IsCallOf, path_at};
-ghost use Rattle.std.specs.Prelude.{◌≡◌};
+ghost use Rattle.netflow.specs.CommandLine.{IsCallOf, objective_in, path_at};
+ghost use Rattle.std.specs.Option.{option_copied};
+ghost use Rattle.std.specs.Prelude.{◌≡◌, string_bytes};
 
 use crate::words::{Action, Words};
 
 /// A call with the paths of its files.
 pub enum Call<'w> {
-    /// A model and its data.
-    Compile(&'w str, &'w str),
+    /// A model and its data, and the objective where one is chosen.
+    Compile(&'w str, &'w str, Option<&'w str>),
+    /// The same.
+    Solve(&'w str, &'w str, Option<&'w str>),
     /// A problem.
     Min(&'w str),
     /// A problem and a certificate.
@@ -25,12 +28,26 @@ fn path_at(words: &Words, at: usize) -> &str
     }
 }
 
+/// The objective that is chosen; none where no name was given.
+fn objective_in(words: &Words) -> Option<&str>
+    ensures { option_copied result ≡ objective_in (string_bytes words.now.objective) }
+{
+    if words.objective.is_empty() {
+        None
+    } else {
+        Some(words.objective.as_str())
+    }
+}
+
 /// The call that these words ask for.
 pub fn call_of(words: &Words) -> Call<'_>
     ensures value { IsCallOf words.now result }
 {
     match words.command {
-        Action::Compile => Call::Compile(path_at(words, 0), path_at(words, 1)),
+        Action::Compile => {
+            Call::Compile(path_at(words, 0), path_at(words, 1), objective_in(words))
+        }
+        Action::Solve => Call::Solve(path_at(words, 0), path_at(words, 1), objective_in(words)),
         Action::Min => Call::Min(path_at(words, 0)),
         Action::Check => Call::Check(path_at(words, 0), path_at(words, 1)),
     }

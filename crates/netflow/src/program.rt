@@ -3,7 +3,9 @@
 use crate::call::{Call, call_of};
 use crate::status::Status;
 use crate::words::{WordsFault, words_of};
-use net_calls::{Ending, Fault, TextName, run_check, run_compile, run_min};
+use net_calls::{
+    Ending, Fault, Options, TextName, run_check, run_compile_with, run_min, run_solve_with,
+};
 use net_ends::{OfRead, OfWrite};
 use std::process::ExitCode;
 use std::rt::Runtime;
@@ -13,6 +15,7 @@ fn compile_files<R: Runtime + AllocGlobal>(
     rt: &R,
     model: &str,
     data: &str,
+    objective: Option<&str>,
 ) -> Result<Ending, Fault> {
     let Ok(model) = fs::open(rt, model) else {
         return Err(Fault::Unread(TextName::Model));
@@ -23,8 +26,38 @@ fn compile_files<R: Runtime + AllocGlobal>(
     let mut model = OfRead::new(model);
     let mut data = OfRead::new(data);
     let mut output = OfWrite::new(io::writer(rt));
-    run_compile(rt.alloc(), &mut model, &mut data, &mut output)?;
+    run_compile_with(
+        rt.alloc(),
+        Options { objective },
+        &mut model,
+        &mut data,
+        &mut output,
+    )?;
     Ok(Ending::Done)
+}
+
+fn solve_files<R: Runtime + AllocGlobal>(
+    rt: &R,
+    model: &str,
+    data: &str,
+    objective: Option<&str>,
+) -> Result<Ending, Fault> {
+    let Ok(model) = fs::open(rt, model) else {
+        return Err(Fault::Unread(TextName::Model));
+    };
+    let Ok(data) = fs::open(rt, data) else {
+        return Err(Fault::Unread(TextName::Data));
+    };
+    let mut model = OfRead::new(model);
+    let mut data = OfRead::new(data);
+    let mut output = OfWrite::new(io::writer(rt));
+    run_solve_with(
+        rt.alloc(),
+        Options { objective },
+        &mut model,
+        &mut data,
+        &mut output,
+    )
 }
 
 fn min_file<R: Runtime + AllocGlobal>(rt: &R, problem: &str) -> Result<Ending, Fault> {
@@ -56,7 +89,8 @@ fn check_files<R: Runtime + AllocGlobal>(
 /// Runs a call on its files.
 fn run_call<R: Runtime + AllocGlobal>(rt: &R, call: Call<'_>) -> Result<Ending, Fault> {
     match call {
-        Call::Compile(model, data) => compile_files(rt, model, data),
+        Call::Compile(model, data, objective) => compile_files(rt, model, data, objective),
+        Call::Solve(model, data, objective) => solve_files(rt, model, data, objective),
         Call::Min(problem) => min_file(rt, problem),
         Call::Check(problem, certificate) => check_files(rt, problem, certificate),
     }

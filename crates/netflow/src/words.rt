@@ -4,7 +4,7 @@ ghost use Rattle.std.specs.Prelude.{◌≡◌, false, [], ◌∷◌, map, string
 ghost use Rattle.clap.specs.Words.{rule_of};
 ghost use Rattle.clap.specs.Matches.{found_of};
 ghost use Rattle.clap.specs.Walk.{rows_of};
-ghost use Rattle.netflow.specs.CommandLine.{path_rule, compile_app, min_app, check_app, netflow_app, action_word, path_names, given, IsApp, IsAskedBy};
+ghost use Rattle.netflow.specs.CommandLine.{path_rule, objective_rule, solve_app, compile_app, min_app, check_app, netflow_app, action_word, path_names, asked_objective, given, IsApp, IsAskedBy};
 
 use clap::error::ErrorKind;
 use clap::{Arg, ArgAction, ArgMatches, Command, Error};
@@ -15,6 +15,8 @@ use std::alloc::{AllocError, Global};
 pub enum Action {
     /// `netflow compile MODEL DATA`
     Compile,
+    /// `netflow solve MODEL DATA`
+    Solve,
     /// `netflow min PROBLEM`
     Min,
     /// `netflow check PROBLEM CERTIFICATE`
@@ -27,6 +29,8 @@ pub struct Words {
     pub command: Action,
     /// The paths, in order.
     pub paths: Vec<String>,
+    /// The name of the objective; empty where none was given.
+    pub objective: String,
 }
 
 /// Why words ask for nothing that is there.
@@ -45,7 +49,7 @@ impl From<AllocError> for WordsFault {
     }
 }
 
-const ABOUT: &str = "Minimum-cost flow: models in AMPL's words compiled, DIMACS problems
+const ABOUT: &str = "Minimum-cost flow: models in AMPL's words solved and compiled, DIMACS problems
 solved, certificates checked";
 
 const STATUSES: &str = "Exit status:
@@ -57,6 +61,7 @@ const STATUSES: &str = "Exit status:
   64  wrong words on the command line
 
 Example:
+  netflow solve transport.mod transport.dat
   netflow compile transport.mod transport.dat > transport.min
   netflow min transport.min > transport.sol
   netflow check transport.min transport.sol";
@@ -68,6 +73,17 @@ const COMPILE_HELP: &str = "The text begins with comment lines that say what eac
 Example:
   netflow compile transport.mod transport.dat > transport.min
   netflow compile transport.mod /dev/null";
+
+const SOLVE_ABOUT: &str = "Solves a model and writes its plan, or why there is none";
+
+const SOLVE_HELP: &str =
+    "The plan is the objective's value and the number of each arc. Where there is
+none, a set of nodes that supplies more than its arcs can carry, or less than
+they must (status 2).
+
+Example:
+  netflow solve transport.mod transport.dat
+  netflow solve transport.mod transport.dat --objective Profit";
 
 const MIN_ABOUT: &str = "Solves a DIMACS problem and writes a certificate";
 
@@ -95,6 +111,17 @@ fn path<'a>(alloc: Global, name: &'a str, help: &'a str) -> Arg<'a>
         .help(help)
 }
 
+/// The option that chooses an objective.
+fn objective<'a>(alloc: Global) -> Arg<'a>
+    ensures rule { rule_of result ≡ objective_rule }
+    ensures local { result.global ≡ false }
+{
+    Arg::new(alloc, "NAME")
+        .long("objective")
+        .action(ArgAction::Set)
+        .help("The objective, where the model has several")
+}
+
 fn compile_command<'a>(alloc: Global) -> Result<Command<'a>, AllocError>
     ensures { IfOk result (IsApp compile_app) }
 {
@@ -106,7 +133,23 @@ fn compile_command<'a>(alloc: Global) -> Result<Command<'a>, AllocError>
             alloc,
             "DATA",
             "The model's data; /dev/null where it has none",
-        ))
+        ))?
+        .arg(objective(alloc))
+}
+
+fn solve_command<'a>(alloc: Global) -> Result<Command<'a>, AllocError>
+    ensures { IfOk result (IsApp solve_app) }
+{
+    Command::new(alloc, "solve")
+        .about(SOLVE_ABOUT)
+        .after_help(SOLVE_HELP)
+        .arg(path(alloc, "MODEL", "The model: its objective, nodes and arcs"))?
+        .arg(path(
+            alloc,
+            "DATA",
+            "The model's data; /dev/null where it has none",
+        ))?
+        .arg(objective(alloc))
 }
 
 fn min_command<'a>(alloc: Global) -> Result<Command<'a>, AllocError>
@@ -145,6 +188,7 @@ fn command<'a>(alloc: Global) -> Result<Command<'a>, AllocError>
         .subcommand_required(true)
         .arg_required_else_help(false)
         .subcommand(compile_command(alloc)?)?
+        .subcommand(solve_command(alloc)?)?
         .subcommand(min_command(alloc)?)?
         .subcommand(check_command(alloc)?)
 }
@@ -154,6 +198,7 @@ fn action_of(name: &str) -> Option<Action>
 {
     match name {
         "compile" => Some(Action::Compile),
+        "solve" => Some(Action::Solve),
         "min" => Some(Action::Min),
         "check" => Some(Action::Check),
         _ => None,
@@ -202,8 +247,23 @@ fn paths_of(
 {
     match action {
         Action::Compile => two_paths(alloc, matches, "MODEL", "DATA"),
+        Action::Solve => two_paths(alloc, matches, "MODEL", "DATA"),
         Action::Min => one_path(alloc, matches, "PROBLEM"),
         Action::Check => two_paths(alloc, matches, "PROBLEM", "CERTIFICATE"),
+    }
+}
+
+/// The name of the objective of an action that takes one; empty where none was given.
+fn objective_of(
+    alloc: Global,
+    action: Action,
+    matches: &ArgMatches<'_>,
+) -> Result<String, AllocError>
+    ensures { IfOk result (λ name. string_bytes name ≡ asked_objective action (rows_of (found_of matches.now))) }
+{
+    match action {
+        Action::Compile | Action::Solve => path_of(alloc, matches, "NAME"),
+        Action::Min | Action::Check => Ok(String::new(alloc)),
     }
 }
 
@@ -227,5 +287,10 @@ pub fn words_of(alloc: Global, words: &[String]) -> Result<Words, WordsFault>
         return Err(WordsFault::NoCommand);
     };
     let paths = paths_of(alloc, command, found)?;
-    Ok(Words { command, paths })
+    let objective = objective_of(alloc, command, found)?;
+    Ok(Words {
+        command,
+        paths,
+        objective,
+    })
 }

@@ -1,7 +1,7 @@
 use Rattle.std.proofs.Common.{◌≡◌, rules, ap, ◌∙◌, codes, true, false}
 use Rattle.std.proofs.lemmas.Result.{IfOk-weaker}
 use Rattle.clap.specs.Simple.{App, app_of, app_of_fields, new_app}
-use Rattle.netflow.specs.CommandLine.{IsApp, compile_app, min_app, check_app, bare_app}
+use Rattle.netflow.specs.CommandLine.{IsApp, compile_app, solve_app, min_app, check_app, bare_app}
 use Rattle.netflow.proofs.Commands.{with_sub}
 use Rattle.netflow.proofs.words.command.Goals as goal
 
@@ -16,5 +16,6 @@ returns c =
           ∙ (ap (λ f. f.has_globals) c.after_help.ensures ∙ (ap (λ f. f.has_globals) c.about.ensures ∙ c.new.ensures.local))),
     ) in
     let first = with_sub c.arg_required_else_help.result c.in_ok-compile_command.field-0 c.in_ok-subcommand.field-0 bare_app compile_app bare c.in_ok-compile_command.ensures c.in_ok-subcommand.ensures in
-    let second = with_sub c.in_ok-subcommand.field-0 c.in_ok-min_command.field-0 c.in_ok-subcommand-2.field-0 _ min_app first c.in_ok-min_command.ensures c.in_ok-subcommand-2.ensures in
-    IfOk-weaker c.subcommand-3.result _ _ (λ made adds. with_sub c.in_ok-subcommand-2.field-0 c.in_ok-check_command.field-0 made _ check_app second c.in_ok-check_command.ensures adds) c.subcommand-3.ensures
+    let second = with_sub c.in_ok-subcommand.field-0 c.in_ok-solve_command.field-0 c.in_ok-subcommand-2.field-0 _ solve_app first c.in_ok-solve_command.ensures c.in_ok-subcommand-2.ensures in
+    let third = with_sub c.in_ok-subcommand-2.field-0 c.in_ok-min_command.field-0 c.in_ok-subcommand-3.field-0 _ min_app second c.in_ok-min_command.ensures c.in_ok-subcommand-3.ensures in
+    IfOk-weaker c.subcommand-4.result _ _ (λ made adds. with_sub c.in_ok-subcommand-3.field-0 c.in_ok-check_command.field-0 made _ check_app third c.in_ok-check_command.ensures adds) c.subcommand-4.ensures

@@ -1,0 +1,82 @@
+-- The answer to a model, from its compiled form and what settles its problem.
+use Rattle.std.proofs.Common.{◌≡◌, ℕ, List, length, map, Bool, Option, Some, Ok, ℤ, ◌≤ℤ◌, sym, ap, subst, ◌∙◌}
+use Rattle.net_check.specs.Certificates.{IsViolatedCut}
+use Rattle.net_check.specs.declared.certificate.Side.{Side}
+use Rattle.net_eval.specs.Worlds.{Name}
+use Rattle.net_inst.specs.AsWritten.{Node, Arc, nodes, arcs, AreDistinct, Assignment, numbers_on, IsFeasible}
+use Rattle.net_inst.specs.ByName.{CorrespondsByName, CorrespondAsWritten, up, Agree}
+use Rattle.net_inst.specs.Instances.{Network, seen_as}
+use Rattle.net_inst.specs.Laws.{HaveNames, HaveExactRanges, HaveObjective, IsObjectiveOf, total_of}
+use Rattle.net_inst.specs.Readings.{Objective, value_of}
+use Rattle.net_normal.specs.Flows.{IsFeasibleFlow, cost_of}
+use Rattle.net_normal.specs.Links.{lifted, value_at}
+use Rattle.net_model.proofs.NamedModels.{meant_well_named}
+use Rattle.net_read.proofs.Apart.{bound_apart}
+use Rattle.net_report.specs.Cuts.{cut_text}
+use Rattle.net_solve.specs.Settling.{IsSettledBy, BoundsEachFlow, LeavesNoFlow}
+use Rattle.net_solve.specs.declared.settled.Settled.{Settled}
+use Rattle.net_solve.specs.declared.settled.Settled.TheVariants.{Optimal, Cut}
+use Rattle.net_calls.specs.declared.answer.Answer.{Answer}
+use Rattle.net_calls.specs.declared.answer.Outcome.{Outcome}
+use Rattle.net_calls.specs.declared.answer.Outcome.TheVariants.{Displayed, Infeasible}
+use Rattle.net_calls.specs.declared.compiled.Compiled.{Compiled}
+use Rattle.net_calls.specs.Answers.{Answers, IsAsGood, IsBestPlan, IsDisplay, IsCut, IsOutcome, by_arc}
+use Rattle.net_calls.specs.Headline.{Headline}
+use Rattle.net_calls.specs.Made.{IsMade}
+use Rattle.net_calls.specs.Outcomes.{IsLifted, IsToldCut, IsOutcomeOf}
+use Rattle.net_calls.proofs.Promise.{headline_of, aim_of}
+use Rattle.net_calls.proofs.Solving.{as_good}
+
+-- what is alike on each arc has one value
+value_alike : (o : Objective) (n : Network) (ns : List Node) (all : List Arc) → IsObjectiveOf o n all → AreDistinct ns all → (x y : Assignment) → Agree all x y → value_of o x ≡ value_of o y
+value_alike o n ns all aim distinct x y agree = sym (aim.value distinct.arcs x) ∙ ap (total_of n) agree ∙ aim.value distinct.arcs y
+
+best : (o : Objective) (n : Network) (ns : List Node) (all : List Arc) (c : Compiled) (flows : List ℤ) (cost : ℤ) (text : List ℕ) (numbers : List ℤ) (value : ℤ) → IsObjectiveOf o n all → c.link.sense ≡ o.sense
+    → CorrespondsByName ns all o c.problem c.link → AreDistinct ns all → IsFeasibleFlow c.problem flows → cost ≡ cost_of c.problem flows
+    → ((others : List ℤ) → IsFeasibleFlow c.problem others → cost ≤ℤ cost_of c.problem others) → IsLifted c flows cost text numbers value → IsBestPlan ns all o numbers value
+best o n ns all c flows cost text numbers value aim sense by distinct feasible is bounds lift =
+    record {
+      feasible = subst (λ l. IsFeasible ns all (by_arc all l)) (sym lift.lifts) (by.forward flows feasible);
+      is_value = ap (λ (l : List ℤ). value_of o (by_arc all l)) lift.lifts ∙ by.value flows feasible ∙ ap (value_at c.link) (sym is) ∙ sym lift.worth;
+      none_better = λ x fits.
+          let back = by.onto x fits in
+          let same : value_at c.link (cost_of c.problem back.0) ≡ value_of o x = sym (by.value back.0 back.1) ∙ value_alike o n ns all aim distinct (up all c.link back.0) x back.2 in
+          subst (λ v. IsAsGood o.sense v (value_of o x)) (sym lift.worth)
+          (subst (IsAsGood o.sense (value_at c.link cost)) same (as_good c.link o.sense cost (cost_of c.problem back.0) sense (bounds back.0 back.1)));
+    }
+
+none : (o : Objective) (ns : List Node) (all : List Arc) (c : Compiled) → CorrespondsByName ns all o c.problem c.link → ((flows : List ℤ) → ¬ IsFeasibleFlow c.problem flows) → (x : Assignment) → ¬ IsFeasible ns all x
+none o ns all c by empty x fits = let back = by.onto x fits in empty back.0 back.1
+
+pub answers_of : (wanted : Option Name) (m d : List ℕ) (c : Compiled) (settled : Settled) (outcome : Outcome) → HaveNames → HaveExactRanges → HaveObjective → CorrespondAsWritten → IsMade wanted m d c
+    → IsSettledBy c.problem settled → BoundsEachFlow c.problem settled → LeavesNoFlow c.problem settled → IsOutcomeOf c settled outcome → Answers wanted m d (record { compiled = c; outcome = outcome })
+answers_of wanted m d c settled outcome names ranges objective correspond made by bounds leaves is =
+    record { compiled = promise; outcome = go settled outcome by bounds leaves is }
+  where
+    promise : Headline wanted m d c
+    promise = headline_of wanted m d c names ranges objective correspond made
+
+    aim : IsObjectiveOf promise.objective (seen_as made.named) (arcs promise.world promise.declarations)
+    aim = aim_of wanted m d c names ranges objective correspond made
+
+    apart : AreDistinct (nodes promise.world promise.declarations) (arcs promise.world promise.declarations)
+    apart = bound_apart promise.declarations promise.accepts.tables.statements promise.world
+        (meant_well_named promise.accepts.model.tokens promise.declarations promise.accepts.model.meant) promise.accepts.world
+
+    go : (s : Settled) (o : Outcome) → IsSettledBy c.problem s → BoundsEachFlow c.problem s → LeavesNoFlow c.problem s → IsOutcomeOf c s o
+        → IsOutcome c (nodes promise.world promise.declarations) (arcs promise.world promise.declarations) promise.objective o
+    go (Optimal cost flows potentials) (Displayed text numbers value) f g h k =
+        record {
+          displayed = k.display;
+          best =
+              best promise.objective (seen_as made.named) (nodes promise.world promise.declarations) (arcs promise.world promise.declarations) c flows.items cost text.items numbers.items value aim
+              promise.sense promise.corresponds apart f.feasible f.cost g k;
+        }
+    go (Optimal cost flows potentials) (Infeasible text flags side) f g h k = absurd k
+    go (Cut flags side) (Displayed text numbers value) f g h k = absurd k
+    go (Cut flags side) (Infeasible text set on) f g h k =
+        record {
+          told = k.tells ∙ ap (λ (l : List Bool). cut_text c.names c.problem l side) (sym k.same_set) ∙ ap (cut_text c.names c.problem set.items) (sym k.same_side);
+          violated = subst (λ l. IsViolatedCut c.problem l on) (sym k.same_set) (subst (IsViolatedCut c.problem flags.items) (sym k.same_side) f);
+          none = none promise.objective (nodes promise.world promise.declarations) (arcs promise.world promise.declarations) c promise.corresponds h;
+        }

@@ -1,0 +1,32 @@
+use Rattle.std.proofs.Common.{refl, ap, length, arith}
+use Rattle.net_calls.proofs.Counts.{arc_count, number_count}
+use Rattle.net_calls.proofs.compiled.compiled_of.Goals as goal
+
+pub returns-in-Err-clause-refused : goal.returns-in-Err-clause-refused
+returns-in-Err-clause-refused c = c.told.ensures _ c.in-Err.ensures.refused
+
+pub text_of-requires : goal.text_of-requires
+text_of-requires c =
+    let n = c.in-Ok.named in
+    let is = c.in-Ok.ensures.ok in
+    let numbers = c.in_ok-problem.link.numbers in
+    omega (
+      arith,
+      numbers.ok.0,
+      ap length c.in_ok-problem.ensures.value.numbers,
+      number_count 1 n.instance.arcs.items,
+      arc_count _ is.network.world is.declarations n c.names_are_declared.ensures.value c.arcs_are_written.ensures.bounds is.network.network,
+    )
+
+pub returns-clause-made : goal.returns-clause-made
+returns-clause-made c =
+    record {
+      named = c.in-Ok.named;
+      network = c.in-Ok.ensures.ok;
+      names = refl;
+      normal = c.in_ok-problem.ensures.value;
+      corresponds = c.in_ok-problem.ensures.corresponds;
+      text = c.in_ok-text.ensures.value;
+      problem = c.in_ok-text.ensures.problem;
+      only = c.in_ok-text.ensures.only;
+    }

@@ -1,0 +1,144 @@
+//! The answer to a model with its data.
+
+ghost use Rattle.std.specs.Prelude.{◌≡◌, None, IfOk, IfErr};
+ghost use Rattle.std.specs.Option.{option_copied};
+ghost use Rattle.net_check.specs.Certificates.{IsViolatedCut};
+ghost use Rattle.net_normal.specs.Flows.{IsFeasibleFlow, cost_of};
+ghost use Rattle.net_solve.specs.Settling.{IsSettledBy};
+ghost use Rattle.net_calls.specs.Answers.{Answers, text_of};
+ghost use Rattle.net_calls.specs.Made.{HasSizes};
+ghost use Rattle.net_calls.specs.Outcomes.{IsOutcomeOf, IsDisplayOf, IsCutOf};
+ghost use Rattle.net_calls.specs.Telling.{IsRefusal};
+
+use crate::compiled::{Compiled, Options, compile_with};
+use crate::fault::Fault;
+use net_check::Side;
+use net_inst::{
+    flows_stand_for_assignments, names_are_declared, objective_is_written, ranges_are_conditions,
+};
+use net_report::{lift, write_cut, write_display};
+use net_solve::{Settled, Silent, solve};
+use std::alloc::{AllocError, Global};
+
+/// What comes out of a model.
+#[derive(Drop)]
+pub enum Outcome {
+    /// A feasible assignment than which none is better.
+    Displayed {
+        /// The objective's value and the number of each arc, by name.
+        text: Vec<u8>,
+        /// The number of each arc, in the order of the names.
+        assignment: Vec<i64>,
+        /// The objective's value.
+        value: i128,
+    },
+    /// No assignment is feasible, as a set of nodes shows.
+    Infeasible {
+        /// The set's supply, what its arcs allow, and the names of its nodes.
+        text: Vec<u8>,
+        /// Whether each node of the problem is in the set.
+        flags: Vec<bool>,
+        /// On which side the set's supply is wrong.
+        side: Side,
+    },
+}
+
+impl Outcome {
+    /// The text that tells it.
+    pub fn text(&self) -> &[u8]
+        ensures { result.now ≡ text_of self.now }
+    {
+        match self {
+            Outcome::Displayed { text, .. } => text.as_slice(),
+            Outcome::Infeasible { text, .. } => text.as_slice(),
+        }
+    }
+}
+
+/// A model solved: as it is compiled, and what comes out.
+#[derive(Drop)]
+pub struct Answer<'s> {
+    pub compiled: Compiled<'s>,
+    pub outcome: Outcome,
+}
+
+/// Solves a model with its data, with the model's only objective.
+pub fn solve_model<'s>(alloc: Global, model: &'s [u8], data: &'s [u8]) -> Result<Answer<'s>, Fault>
+    ensures value { IfOk result (Answers None model.entry.now «data».entry.now) }
+    ensures refused { IfErr result (IsRefusal None model.entry.now «data».entry.now) }
+{
+    solve_model_with(alloc, Options { objective: None }, model, data)
+}
+
+/// Solves a model with its data, with the objective that is chosen. Faults are those of [`compile_with`].
+pub fn solve_model_with<'s>(
+    alloc: Global,
+    options: Options<'s>,
+    model: &'s [u8],
+    data: &'s [u8],
+) -> Result<Answer<'s>, Fault>
+    ensures value { IfOk result (Answers (option_copied options.entry.objective) model.entry.now «data».entry.now) }
+    ensures refused { IfErr result (IsRefusal (option_copied options.entry.objective) model.entry.now «data».entry.now) }
+{
+    let compiled = compile_with(alloc, options, model, data)?;
+    let settled = solve(alloc, &Silent, &compiled.problem)?;
+    let outcome = outcome_of(alloc, &compiled, settled)?;
+    names_are_declared();
+    ranges_are_conditions();
+    objective_is_written();
+    flows_stand_for_assignments();
+    Ok(Answer { compiled, outcome })
+}
+
+/// What a problem's certificate tells of its model.
+fn outcome_of(
+    alloc: Global,
+    compiled: &Compiled<'_>,
+    settled: Settled,
+) -> Result<Outcome, AllocError>
+    requires sizes { HasSizes compiled.now }
+    requires settled { IsSettledBy compiled.now.problem settled }
+    ensures { IfOk result (IsOutcomeOf compiled.now settled) }
+{
+    match settled {
+        Settled::Optimal { value, flows, .. } => displayed(alloc, compiled, value, &flows),
+        Settled::Cut { flags, side } => infeasible(alloc, compiled, flags, side),
+    }
+}
+
+/// The plan that a feasible flow stands for.
+fn displayed(
+    alloc: Global,
+    compiled: &Compiled<'_>,
+    cost: i128,
+    flows: &[i64],
+) -> Result<Outcome, AllocError>
+    requires sizes { HasSizes compiled.now }
+    requires feasible { IsFeasibleFlow compiled.now.problem flows.now }
+    requires cost { cost ≡ cost_of compiled.now.problem flows.now }
+    ensures { IfOk result (IsDisplayOf compiled.now flows.now cost) }
+{
+    let assignment = lift(alloc, &compiled.link, flows)?;
+    let value = compiled.link.value(cost);
+    let text = write_display(alloc, &compiled.names, &assignment, value)?;
+    Ok(Outcome::Displayed {
+        text,
+        assignment,
+        value,
+    })
+}
+
+/// Why there is no plan, by a violated cut.
+fn infeasible(
+    alloc: Global,
+    compiled: &Compiled<'_>,
+    flags: Vec<bool>,
+    side: Side,
+) -> Result<Outcome, AllocError>
+    requires sizes { HasSizes compiled.now }
+    requires violated { IsViolatedCut compiled.now.problem flags.items side }
+    ensures { IfOk result (IsCutOf compiled.now flags.items side) }
+{
+    let text = write_cut(alloc, &compiled.names, &compiled.problem, &flags, side)?;
+    Ok(Outcome::Infeasible { text, flags, side })
+}

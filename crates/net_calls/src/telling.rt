@@ -1,0 +1,62 @@
+//! How a finding in a text is told.
+
+ghost use Rattle.std.specs.Prelude.{◌≡◌, Option, IfOk};
+ghost use Rattle.net_eval.specs.Worlds.{Name};
+ghost use Rattle.net_read.specs.FirstFaults.{IsStop};
+ghost use Rattle.net_calls.specs.Telling.{IsTold, IsRefusal, name_of, text_of};
+
+use crate::fault::{Fault, Refusal, TextName};
+use net_inst::append_detail;
+use net_lex::{Language, line_column};
+use net_read::{Finding, Stop};
+use std::alloc::{AllocError, Global};
+
+fn name_of(text: Language) -> TextName
+    ensures { result ≡ name_of text }
+{
+    match text {
+        Language::Model => TextName::Model,
+        Language::Data => TextName::Data,
+    }
+}
+
+fn text_of<'a>(model: &'a [u8], data: &'a [u8], text: Language) -> &'a [u8]
+    ensures { result.now ≡ text_of model.entry.now «data».entry.now text }
+{
+    match text {
+        Language::Model => model,
+        Language::Data => data,
+    }
+}
+
+/// A finding in its text, with line and column.
+fn refusal_of(alloc: Global, text: &[u8], finding: &Finding<'_>) -> Result<Refusal, AllocError>
+    ensures { IfOk result (IsTold text.now finding.now) }
+{
+    let (line, column) = line_column(text, finding.at.start.min(text.len()));
+    let mut detail = Vec::new(alloc);
+    append_detail(alloc, &mut detail, &finding.detail)?;
+    Ok(Refusal {
+        kind: finding.defect,
+        text: name_of(finding.text),
+        span: finding.at,
+        line,
+        column,
+        detail: String::from_utf8_lossy(alloc, &detail)?,
+    })
+}
+
+/// The fault that is told of two texts.
+pub(crate) fn told(alloc: Global, model: &[u8], data: &[u8], stop: &Stop<'_>) -> Fault
+    ensures { (wanted : Option Name) → IsStop wanted model.now «data».now stop.now → IsRefusal wanted model.now «data».now result }
+{
+    match stop {
+        Stop::OutOfMemory => Fault::OutOfMemory,
+        Stop::At(finding) => {
+            match refusal_of(alloc, text_of(model, data, finding.text), finding) {
+                Ok(refusal) => Fault::Refused(refusal),
+                Err(_) => Fault::OutOfMemory,
+            }
+        }
+    }
+}
