@@ -17,10 +17,10 @@ use Rattle.net_model.proofs.NamedModels.{meant_well_named}
 use Rattle.net_read.proofs.Apart.{bound_apart}
 use Rattle.net_report.specs.References.{name_in, names_in}
 use Rattle.net_calls.specs.declared.compiled.Compiled.{Compiled}
-use Rattle.net_calls.specs.Headline.{Headline, AreOnLines}
+use Rattle.net_calls.specs.Headline.{Headline}
 use Rattle.net_calls.specs.Made.{IsMade, HasSizes}
 use Rattle.net_calls.proofs.Counts.{node_count, arc_count, number_count, supply_count, numbers_within, flow_arc_count}
-use Rattle.net_calls.proofs.LinkLines.{links_skipped, plain_names, numbers_small, same_problem, same_only}
+use Rattle.net_calls.proofs.LinkLines.{links_skipped, numbers_small, same_problem, same_only}
 
 few_names : (wanted : Option Name) (m d : List ℕ) (c : Compiled) → HaveNames → HaveExactRanges → IsMade wanted m d c → length (names_in c.names.nodes) < 2 ^ 127
 few_names wanted m d c names ranges made =
@@ -32,17 +32,15 @@ few_names wanted m d c names ranges made =
     omega (arith, length-map c.names.nodes.keys (name_in c.names.nodes.declarations), keys, count, instance.nodes.ok.0, few)
 
 -- the text is the link lines, which say nothing, and the problem's
-says : (wanted : Option Name) (m d : List ℕ) (c : Compiled) → HaveNames → HaveExactRanges → IsMade wanted m d c → AreOnLines c.names
+says : (wanted : Option Name) (m d : List ℕ) (c : Compiled) → HaveNames → HaveExactRanges → IsMade wanted m d c
     → statements_of c.text.items ≡ statements_of (problem_text c.problem.supplies.items c.problem.arcs.items)
-says wanted m d c names ranges made on =
+says wanted m d c names ranges made =
     let instance = made.named.instance in
     let few = instance.few_arcs in
     ap statements_of made.text
     ∙ links_skipped c.link (names_in c.names.nodes) (names_in c.names.arcs) (problem_text c.problem.supplies.items c.problem.arcs.items)
     (few_names wanted m d c names ranges made)
     (subst (AllByRecursion (λ k. k < 2 ^ 128)) (sym made.normal.numbers) (numbers_small 1 instance.arcs.items (omega (arith, instance.arcs.ok.0, few))))
-    (plain_names (names_in c.names.nodes) on.nodes)
-    (plain_names (names_in c.names.arcs) on.arcs)
 
 some_same : (o : Option Objective) (x y : Objective) → o ≡ Some x → o ≡ Some y → x ≡ y
 some_same o x y p q = let both : ◌≡◌ {A = Option Objective} (Some x) (Some y) = sym p ∙ q in cc
@@ -67,8 +65,8 @@ headline_of wanted m d c names ranges objective correspond made =
       node_names = subst (λ (x : Names). AreNames (flat_map node_declared ds) (map (λ v. v.label) (nodes w ds)) x.nodes) (sym made.names) called.nodes;
       arc_names = subst (λ (x : Names). AreNames (flat_map arc_declared ds) (map (λ a. a.label) (arcs w ds)) x.arcs) (sym made.names) called.arcs;
       text = made.text;
-      problem = λ on. same_problem c.text.items lines c.problem.supplies.items c.problem.arcs.items (says wanted m d c names ranges made on) made.problem;
-      only = λ on. same_only c.text.items lines c.problem.supplies.items c.problem.arcs.items (says wanted m d c names ranges made on) made.only;
+      problem = same_problem c.text.items lines c.problem.supplies.items c.problem.arcs.items (says wanted m d c names ranges made) made.problem;
+      only = same_only c.text.items lines c.problem.supplies.items c.problem.arcs.items (says wanted m d c names ranges made) made.only;
       corresponds =
           let apart = bound_apart ds is.tables.statements w (meant_well_named is.model.tokens ds is.model.meant) is.network.bound in
           let by = correspond wanted w ds n c.problem c.link is.network.network apart made.corresponds in

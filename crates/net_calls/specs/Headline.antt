@@ -1,23 +1,20 @@
 -- The promise of a compiled model (AMPL book, chapter 15; First DIMACS Implementation Challenge, minimum-cost flow): its text is a
 -- flow problem whose feasible flows are the model's feasible assignments, one for one, and whose costs are their values.
 use Rattle.std.specs.Prelude.{◌≡◌, ℕ, List, ◌++◌, map, Option, Some, Ok}
-use Rattle.std.specs.List.{AllByRecursion, flat_map}
+use Rattle.std.specs.List.{flat_map}
 use Rattle.net_tree.specs.Tree.{Declaration}
 use Rattle.net_data.specs.declared.tables.Tables.{Tables}
 use Rattle.net_bind.specs.Binding as binding
 use Rattle.net_eval.specs.Worlds.{Name, World}
 use Rattle.net_dimacs.specs.Problems.{IsProblemText, IsOnlyProblem}
 use Rattle.net_dimacs.specs.Written.{problem_text}
-use Rattle.net_inst.specs.declared.names.Names.{Names}
 use Rattle.net_inst.specs.AsWritten.{nodes, arcs, node_declared, arc_declared}
 use Rattle.net_inst.specs.Readings.{Objective, objectives, chosen}
 use Rattle.net_inst.specs.Laws.{AreNames}
 use Rattle.net_inst.specs.ByName.{CorrespondsByName}
 use Rattle.net_read.specs.Reading.{IsModel, IsData}
 use Rattle.net_report.specs.Links.{link_text}
-use Rattle.net_report.specs.References.{names_in}
 use Rattle.net_calls.specs.declared.compiled.Compiled.{Compiled}
-use Rattle.net_calls.specs.Lines.{IsOneLine}
 
 -- the model text is these declarations, the data text is these statements, and together they give the sets and parameters these values
 pub record IsModelWithData (model_text data_text : List ℕ) (ds : List Declaration) (w : World) : Type 0 where
@@ -25,11 +22,6 @@ pub record IsModelWithData (model_text data_text : List ℕ) (ds : List Declarat
   pub tables : Tables
   pub statements : IsData data_text tables
   pub world : binding.world ds tables.statements ≡ Ok w
-
--- no node and no arc has a name with a line end in it
-pub record AreOnLines (names : Names) : Type 0 where
-  pub nodes : AllByRecursion IsOneLine (names_in names.nodes)
-  pub arcs : AllByRecursion IsOneLine (names_in names.arcs)
 
 pub record Headline (wanted : Option Name) (model_text data_text : List ℕ) (c : Compiled) : Type 0 where
   -- the two texts are a model with its data
@@ -43,10 +35,10 @@ pub record Headline (wanted : Option Name) (model_text data_text : List ℕ) (c 
   pub sense : c.link.sense ≡ objective.sense
   pub node_names : AreNames (flat_map node_declared declarations) (map (λ v. v.label) (nodes world declarations)) c.names.nodes
   pub arc_names : AreNames (flat_map arc_declared declarations) (map (λ a. a.label) (arcs world declarations)) c.names.arcs
-  -- the text is the link lines, with each name, and the problem's lines; where no name has a line end it is this problem and no other
+  -- the text is the link lines, with each name, and the problem's lines; it is this problem and no other
   pub text : c.text.items ≡ link_text c.names c.link ++ problem_text c.problem.supplies.items c.problem.arcs.items
-  pub problem : AreOnLines c.names → IsProblemText c.text.items c.problem.supplies.items c.problem.arcs.items
-  pub only : AreOnLines c.names → IsOnlyProblem c.text.items c.problem.supplies.items c.problem.arcs.items
+  pub problem : IsProblemText c.text.items c.problem.supplies.items c.problem.arcs.items
+  pub only : IsOnlyProblem c.text.items c.problem.supplies.items c.problem.arcs.items
   -- each feasible flow stands for a feasible assignment of names and keys (forward), none of these is lost (onto), none is there
   -- twice (injective), and a flow's cost, with the constant and the sign that are printed, is the assignment's value (value)
   pub corresponds : CorrespondsByName (nodes world declarations) (arcs world declarations) objective c.problem c.link

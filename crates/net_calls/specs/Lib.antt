@@ -1,6 +1,5 @@
 pub mod FaultLines
 pub mod Telling
-pub mod Lines
 pub mod Headline
 pub mod Made
 pub mod Answers

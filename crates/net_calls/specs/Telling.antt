@@ -1,9 +1,10 @@
 -- How the first fault of two texts is told.
-use Rattle.std.specs.Prelude.{◌≡◌, ℕ, List, Option, take, string_bytes}
-use Rattle.std.specs.Str.{IsUtf8}
+use Rattle.std.specs.Prelude.{◌≡◌, ◌≤◌, ℕ, List, Option, length, min, max, take, string_bytes}
+use Rattle.std.specs.Str.Lossy.{utf8_lossy}
 use Rattle.net_lex.specs.declared.language.Language.{Language}
 use Rattle.net_lex.specs.declared.language.Language.TheVariants as languages
 use Rattle.net_lex.specs.Places.{line_of, column_of}
+use Rattle.net_lex.specs.declared.span.Span.{Span}
 use Rattle.net_eval.specs.Worlds.{Name}
 use Rattle.net_inst.specs.References.{detail_text}
 use Rattle.net_read.specs.declared.finding.Finding.{Finding}
@@ -22,14 +23,23 @@ abbrev pub text_of : (model_text data_text : List ℕ) → Language → List ℕ
 text_of model_text data_text languages.Model = model_text
 text_of model_text data_text languages.Data = data_text
 
+-- a span as far as it lies in a text of this many bytes
+abbrev pub within : ℕ → Span → Span
+within size at = record { start = min at.start size; end = max (min at.start size) (min at.end size) }
+
+pub record LiesIn (size : ℕ) (at : Span) : Type 0 where
+  pub forward : at.start ≤ at.end
+  pub inside : at.end ≤ size
+
 -- a finding in a text, with the line and the column of its start, and as text what is told beside the place
 pub record IsTold (text : List ℕ) (finding : Finding) (r : Refusal) : Type 0 where
   pub kind : r.kind ≡ finding.defect
   pub named : r.text ≡ name_of finding.text
-  pub span : r.span ≡ finding.at
-  pub line : r.line ≡ line_of (take finding.at.start text)
-  pub column : r.column ≡ column_of (take finding.at.start text)
-  pub detail : IsUtf8 (detail_text finding.detail) → string_bytes r.detail ≡ detail_text finding.detail
+  pub span : r.span ≡ within (length text) finding.at
+  pub lies : LiesIn (length text) r.span
+  pub line : r.line ≡ line_of (take r.span.start text)
+  pub column : r.column ≡ column_of (take r.span.start text)
+  pub detail : string_bytes r.detail ≡ utf8_lossy (detail_text finding.detail)
 
 -- the first fault, told with its place in its text, or want of memory
 abbrev pub IsRefusal : Option Name → (model_text data_text : List ℕ) → Fault → Type 0

@@ -1,13 +1,13 @@
 //! How a finding in a text is told.
 
-ghost use Rattle.std.specs.Prelude.{◌≡◌, Option, IfOk};
+ghost use Rattle.std.specs.Prelude.{◌≡◌, Option, IfOk, length};
 ghost use Rattle.net_eval.specs.Worlds.{Name};
 ghost use Rattle.net_read.specs.FirstFaults.{IsStop};
-ghost use Rattle.net_calls.specs.Telling.{IsTold, IsRefusal, name_of, text_of};
+ghost use Rattle.net_calls.specs.Telling.{IsTold, IsRefusal, LiesIn, name_of, text_of, within};
 
 use crate::fault::{Fault, Refusal, TextName};
 use net_inst::append_detail;
-use net_lex::{Language, line_column};
+use net_lex::{Language, Span, line_column};
 use net_read::{Finding, Stop};
 use std::alloc::{AllocError, Global};
 
@@ -29,17 +29,30 @@ fn text_of<'a>(model: &'a [u8], data: &'a [u8], text: Language) -> &'a [u8]
     }
 }
 
+/// A span as far as it lies in a text.
+fn within(text: &[u8], at: Span) -> Span
+    ensures value { result ≡ within (length text.now) at }
+    ensures lies { LiesIn (length text.now) result }
+{
+    let start = at.start.min(text.len());
+    Span {
+        start,
+        end: start.max(at.end.min(text.len())),
+    }
+}
+
 /// A finding in its text, with line and column.
 fn refusal_of(alloc: Global, text: &[u8], finding: &Finding<'_>) -> Result<Refusal, AllocError>
     ensures { IfOk result (IsTold text.now finding.now) }
 {
-    let (line, column) = line_column(text, finding.at.start.min(text.len()));
+    let span = within(text, finding.at);
+    let (line, column) = line_column(text, span.start);
     let mut detail = Vec::new(alloc);
     append_detail(alloc, &mut detail, &finding.detail)?;
     Ok(Refusal {
         kind: finding.defect,
         text: name_of(finding.text),
-        span: finding.at,
+        span,
         line,
         column,
         detail: String::from_utf8_lossy(alloc, &detail)?,

@@ -1,5 +1,5 @@
 -- The comment lines above a compiled problem, which lead from its numbers back to the model (a DIMACS text skips lines that begin with `c`).
-use Rattle.std.specs.Prelude.{ℕ, ◌+◌, ℤ, List, [], ◌∷◌, ◌++◌, codes, decimal}
+use Rattle.std.specs.Prelude.{ℕ, ◌+◌, ◌==◌, ◌||◌, if◌then◌else◌, ℤ, List, [], ◌∷◌, ◌++◌, map, codes, decimal}
 use Rattle.std.specs.Fmt.{signed_decimal}
 use Rattle.net_normal.specs.declared.instance.Sense.{Sense}
 use Rattle.net_normal.specs.declared.instance.Sense.TheVariants.{Minimise, Maximise}
@@ -16,8 +16,16 @@ abbrev pub sign_line : Sense → List ℕ
 sign_line Minimise = codes "c sign 1\n"
 sign_line Maximise = codes "c sign -1\n"
 
+-- what stands for a byte in a line: for a line end a blank, else the byte itself
+abbrev pub within_line : ℕ → ℕ
+within_line byte = if (byte == 10) || (byte == 13) then 32 else byte
+
+-- a name in a line; no token has a line end in it, so the names of models stand as they are
+abbrev pub in_line : List ℕ → List ℕ
+in_line name = map within_line name
+
 abbrev pub node_line : ℕ → List ℕ → List ℕ
-node_line number name = codes "c node " ++ (decimal number ++ (32 ∷ (name ++ 10 ∷ [])))
+node_line number name = codes "c node " ++ (decimal number ++ (32 ∷ (in_line name ++ 10 ∷ [])))
 
 -- of the nodes after the first n, counted from 1
 abbrev pub node_lines : ℕ → List (List ℕ) → List ℕ
@@ -25,7 +33,7 @@ node_lines n [] = []
 node_lines n (name ∷ names) = node_line (n + 1) name ++ node_lines (n + 1) names
 
 abbrev pub arc_line : ℕ → ℤ → List ℕ → List ℕ
-arc_line number offset name = codes "c arc " ++ (decimal number ++ (32 ∷ (signed_decimal offset ++ (32 ∷ (name ++ 10 ∷ [])))))
+arc_line number offset name = codes "c arc " ++ (decimal number ++ (32 ∷ (signed_decimal offset ++ (32 ∷ (in_line name ++ 10 ∷ [])))))
 
 -- each arc's number and offset, and its name
 abbrev pub arc_lines : (numbers : List ℕ) (offsets : List ℤ) (names : List (List ℕ)) → List ℕ

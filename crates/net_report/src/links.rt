@@ -68,7 +68,7 @@ fn push_node(
     text.extend_from_slice(b"c node ")?;
     text.extend_from_slice(buffer.format(node + 1).as_bytes())?;
     text.push(b' ')?;
-    append_name(alloc, text, nodes, key)?;
+    push_name(alloc, text, nodes, key)?;
     text.push(b'\n')?;
     Ok(())
 }
@@ -104,7 +104,41 @@ fn push_arc(
     text.push(b' ')?;
     text.extend_from_slice(buffer.format(offset).as_bytes())?;
     text.push(b' ')?;
-    append_name(alloc, text, arcs, key)?;
+    push_name(alloc, text, arcs, key)?;
     text.push(b'\n')?;
     Ok(())
+}
+
+/// A name in a line.
+fn push_name(
+    alloc: Global,
+    text: &mut Vec<u8>,
+    list: &NameList<'_>,
+    key: &Key<'_>,
+) -> Result<(), AllocError>
+    ensures ok { OnOk result (text.new.items ≡ text.old.items ++ lines.in_line (name_in list.now.declarations key.now)) }
+{
+    let mut name = Vec::new(alloc);
+    append_name(alloc, &mut name, list, key)?;
+    push_in_line(text, &name)
+}
+
+fn push_in_line(text: &mut Vec<u8>, name: &[u8]) -> Result<(), AllocError>
+    ensures ok { OnOk result (text.new.items ≡ text.old.items ++ lines.in_line name.now) }
+{
+    for byte in name {
+        text.push(within_line(*byte))?;
+    }
+    Ok(())
+}
+
+/// What stands for a byte in a line: for a line end a blank.
+fn within_line(byte: u8) -> u8
+    ensures { result ≡ lines.within_line byte }
+{
+    if byte == b'\n' || byte == b'\r' {
+        b' '
+    } else {
+        byte
+    }
 }
