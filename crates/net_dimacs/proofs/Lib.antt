@@ -18,6 +18,7 @@ mod ReadLaws
 pub mod Decimals
 pub mod WrittenLines
 mod WriteLaws
+mod Sending
 mod CertificateLines
 mod CertificateWriteLaws
 mod Examples
