@@ -1,4 +1,6 @@
 pub mod FaultLines
+pub mod Texts
+pub mod Linked
 pub mod Telling
 pub mod Lines
 pub mod Headline
@@ -9,3 +11,4 @@ pub mod LineTexts
 pub mod Checked
 pub mod Settled
 pub mod Runs
+pub mod ProblemSources
