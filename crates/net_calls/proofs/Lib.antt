@@ -5,3 +5,5 @@ pub mod Answering
 pub mod Solving
 pub mod Answered
 pub mod Reading
+mod Writing
+mod Pieces

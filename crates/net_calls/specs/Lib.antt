@@ -1,4 +1,6 @@
 pub mod FaultLines
+pub mod Texts
+pub mod Linked
 pub mod Telling
 pub mod Headline
 pub mod Made
@@ -8,3 +10,4 @@ pub mod LineTexts
 pub mod Checked
 pub mod Settled
 pub mod Runs
+pub mod ProblemSources

@@ -1,6 +1,6 @@
 //! Certificates of problems, from text to verdict.
 
-ghost use Rattle.std.specs.Prelude.{◌≡◌, ◌++◌, IfOk, IfErr, OnOk};
+ghost use Rattle.std.specs.Prelude.{◌≡◌, ◌++◌, List, ℕ, IfOk, IfErr, OnOk};
 ghost use Rattle.net_calls.specs.LineTexts.{IsProblemOf, IsCertificateOf};
 ghost use Rattle.net_calls.specs.Checked.{Judges, IsLineRefusal, IsProblemRefusal, IsCertificateStop, fault_of, reason_word, verdict_line};
 
@@ -20,11 +20,19 @@ pub fn check_bytes(alloc: Global, problem: &[u8], certificate: &[u8]) -> Result<
         Ok(network) => network,
         Err(fault) => return Err(fault),
     };
-    let claim = match certificate_of(alloc, &network, certificate) {
+    judge(alloc, &network, certificate)
+}
+
+/// The verdict on a certificate's text of a problem.
+pub(crate) fn judge(alloc: Global, network: &Problem, certificate: &[u8]) -> Result<Verdict, Fault>
+    ensures value { (problem : List ℕ) → IsProblemOf problem network.now → IfOk result (Judges problem certificate.now) }
+    ensures refused { (problem : List ℕ) → IsProblemOf problem network.now → IfErr result (IsLineRefusal problem certificate.now) }
+{
+    let claim = match certificate_of(alloc, network, certificate) {
         Ok(claim) => claim,
         Err(fault) => return Err(fault),
     };
-    Ok(check(&network, &claim))
+    Ok(check(network, &claim))
 }
 
 /// The problem of a text.
@@ -51,7 +59,7 @@ fn certificate_of(alloc: Global, problem: &Problem, text: &[u8]) -> Result<Certi
     }
 }
 
-fn fault_of(text: TextName, fault: ProblemFault) -> Fault
+pub(crate) fn fault_of(text: TextName, fault: ProblemFault) -> Fault
     ensures { result ≡ fault_of text fault }
 {
     match fault {

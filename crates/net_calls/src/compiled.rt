@@ -1,24 +1,18 @@
 //! From a model text and a data text to a problem text.
 
-ghost use Rattle.std.specs.Prelude.{◌≡◌, ◌++◌, None, IfOk, IfErr, length, vec_len};
+ghost use Rattle.std.specs.Prelude.{◌≡◌, None, IfOk, IfErr};
 ghost use Rattle.std.specs.Option.{option_copied};
-ghost use Rattle.net_dimacs.specs.Problems.{IsProblemText, IsOnlyProblem};
-ghost use Rattle.net_dimacs.specs.Written.{problem_text};
-ghost use Rattle.net_report.specs.Links.{link_text};
+ghost use Rattle.net_calls.specs.Linked.{whole};
 ghost use Rattle.net_calls.specs.Made.{IsMade, HasSizes};
 ghost use Rattle.net_calls.specs.Telling.{IsRefusal};
 ghost use Rattle.net_calls.specs.Headline.{Headline};
 
 use crate::fault::Fault;
-use crate::telling::told;
+use crate::linked::{Linked, link_model};
+use crate::text::Text;
 use net_dimacs::write_problem;
-use net_inst::{
-    Names, arcs_are_written, flows_stand_for_assignments, names_are_declared, objective_is_written,
-    ranges_are_conditions,
-};
-use net_normal::{Link, Problem, normalise};
-use net_read::read_network;
-use net_report::write_links;
+use net_inst::Names;
+use net_normal::{Link, Problem};
 use std::alloc::{AllocError, Global};
 
 /// What a caller may choose.
@@ -31,8 +25,8 @@ pub struct Options<'s> {
 /// A model compiled: its problem, the way back, its names, and the text of all three.
 #[derive(Drop)]
 pub struct Compiled<'s> {
-    /// The link lines, then the problem's text.
-    pub text: Vec<u8>,
+    /// The link lines, then the problem's lines.
+    pub text: Text,
     pub problem: Problem,
     pub link: Link,
     pub names: Names<'s>,
@@ -61,55 +55,27 @@ pub fn compile_with<'s>(
     ensures sizes { IfOk result HasSizes }
     ensures refused { IfErr result (IsRefusal (option_copied options.entry.objective) model.entry.now «data».entry.now) }
 {
-    let compiled = compiled_of(alloc, options.objective, model, data)?;
-    names_are_declared();
-    arcs_are_written();
-    ranges_are_conditions();
-    objective_is_written();
-    flows_stand_for_assignments();
+    let linked = link_model(alloc, options.objective, model, data)?;
+    let compiled = with_text(alloc, linked)?;
     Ok(compiled)
 }
 
-/// The problem of two texts, with its text.
-fn compiled_of<'s>(
-    alloc: Global,
-    objective: Option<&'s str>,
-    model: &'s [u8],
-    data: &'s [u8],
-) -> Result<Compiled<'s>, Fault>
-    ensures made { IfOk result (IsMade (option_copied objective.entry) model.entry.now «data».entry.now) }
-    ensures refused { IfErr result (IsRefusal (option_copied objective.entry) model.entry.now «data».entry.now) }
+/// The problem's lines behind the link lines.
+fn with_text(alloc: Global, linked: Linked<'_>) -> Result<Compiled<'_>, AllocError>
+    ensures { IfOk result (λ compiled. compiled ≡ whole linked.entry) }
 {
-    let named = match read_network(alloc, model, data, objective) {
-        Ok(named) => named,
-        Err(stop) => return Err(told(alloc, model, data, &stop)),
-    };
-    let (problem, link) = normalise(alloc, &named.instance)?;
-    names_are_declared();
-    arcs_are_written();
-    let text = text_of(alloc, &named.names, &problem, &link)?;
-    Ok(Compiled {
-        text,
+    let Linked {
+        mut lines,
         problem,
         link,
-        names: named.names,
+        names,
+    } = linked;
+    let problem_lines = write_problem(alloc, &problem)?;
+    lines.extend_from_slice(&problem_lines)?;
+    Ok(Compiled {
+        text: Text::new(lines),
+        problem,
+        link,
+        names,
     })
-}
-
-/// The link lines, with the names, and the problem's lines.
-fn text_of(
-    alloc: Global,
-    names: &Names<'_>,
-    problem: &Problem,
-    link: &Link,
-) -> Result<Vec<u8>, AllocError>
-    requires { vec_len link.now.numbers ≡ length names.now.arcs.keys }
-    ensures value { IfOk result (λ text. text.items ≡ link_text names.now link.now ++ problem_text problem.now.supplies.items problem.now.arcs.items) }
-    ensures problem { IfOk result (λ text. IsProblemText (problem_text problem.now.supplies.items problem.now.arcs.items) problem.now.supplies.items problem.now.arcs.items) }
-    ensures only { IfOk result (λ text. IsOnlyProblem (problem_text problem.now.supplies.items problem.now.arcs.items) problem.now.supplies.items problem.now.arcs.items) }
-{
-    let mut text = write_links(alloc, names, link)?;
-    let lines = write_problem(alloc, problem)?;
-    text.extend_from_slice(&lines)?;
-    Ok(text)
 }

@@ -7,10 +7,13 @@ mod compiled;
 mod ending;
 mod fault;
 mod line_runs;
+mod linked;
+mod problem_source;
 mod run;
 mod settling;
 mod solve_run;
 mod telling;
+mod text;
 
 pub use answer::{Answer, Outcome, solve_model, solve_model_with};
 pub use checking::check_bytes;
@@ -21,3 +24,4 @@ pub use line_runs::{run_check, run_min};
 pub use run::{run_compile, run_compile_with};
 pub use settling::solve_min;
 pub use solve_run::{run_solve, run_solve_with};
+pub use text::Text;

@@ -1,17 +1,19 @@
-//! Runs over texts of lines: texts are read whole, then the answer is computed whole, then it is written.
+//! Runs over texts of lines: a problem is read by pieces and a certificate whole, then the answer is computed whole, then it is written.
 
-ghost use Rattle.std.specs.Prelude.{◌≡◌, ◌⊎◌, ◌↔◌, true, false, IfOk, IfErr, IsErrOf};
-ghost use Rattle.net_calls.specs.Checked.{ending_of};
-ghost use Rattle.net_calls.specs.Settled.{settled_ending};
+ghost use Rattle.std.specs.Prelude.{◌≡◌, ◌⊎◌, ◌↔◌, List, ℕ, true, false, IfOk, IfErr, IsErrOf};
+ghost use Rattle.net_dimacs.specs.Scans.{Stands};
+ghost use Rattle.net_calls.specs.Checked.{Judges, IsLineRefusal, IsProblemRefusal, ending_of};
+ghost use Rattle.net_calls.specs.Settled.{Settles, settled_ending};
 ghost use Rattle.net_calls.specs.Runs.{IfRefused, IfUnread, WritesVerdict, WritesFrontOfVerdict, RefusesLines, WritesCertificate, WritesFrontOfCertificate, RefusesProblem};
 
-use crate::checking::{check_bytes, verdict_line};
+use crate::checking::{judge, verdict_line};
 use crate::ending::Ending;
 use crate::fault::{Fault, TextName};
+use crate::problem_source::{finished, read_problem_from};
 use crate::run::read_text;
-use crate::settling::solve_min;
+use crate::settling::settle;
 use net_check::Verdict;
-use net_dimacs::TEXT_LIMIT;
+use net_dimacs::{Reading, TEXT_LIMIT};
 use net_ends::{Sink, Source, write_whole};
 use net_solve::Settled;
 use std::alloc::Global;
@@ -32,6 +34,31 @@ fn settled_ending(settled: &Settled) -> Ending
         Settled::Optimal { .. } => Ending::Done,
         Settled::Cut { .. } => Ending::Refuted,
     }
+}
+
+/// The verdict on a certificate's text of the problem that was read.
+fn check_read(alloc: Global, reading: Reading, certificate: &[u8]) -> Result<Verdict, Fault>
+    ensures value { (text : List ℕ) → Stands reading text → IfOk result (Judges text certificate.now) }
+    ensures refused { (text : List ℕ) → Stands reading text → IfErr result (IsLineRefusal text certificate.now) }
+{
+    let network = match finished(reading) {
+        Ok(network) => network,
+        Err(fault) => return Err(fault),
+    };
+    judge(alloc, &network, certificate)
+}
+
+/// Settles the problem that was read. The second part is the text of its certificate.
+fn solve_read(alloc: Global, reading: Reading) -> Result<(Settled, Vec<u8>), Fault>
+    ensures value { (text : List ℕ) → Stands reading text → IfOk result (λ answer. Settles text answer.0 answer.1.items) }
+    ensures refused { (text : List ℕ) → Stands reading text → IfErr result (IsProblemRefusal text) }
+{
+    let network = match finished(reading) {
+        Ok(network) => network,
+        Err(fault) => return Err(fault),
+    };
+    let answer = settle(alloc, &network)?;
+    Ok(answer)
 }
 
 /// Checks the certificate that the second source gives of the problem that the first gives, and writes the verdict's line.
@@ -66,9 +93,9 @@ pub fn run_check<P: Source, C: Source, W: Sink>(
     ensures ends { IfErr result (λ fault. IfUnread fault (λ text. (text ≡ TextName.Problem) ⊎ (text ≡ TextName.Certificate))) }
     ensures first { P.failed problem.new ≡ true → certificate.new ≡ certificate.old }
 {
-    let problem_text = read_text(alloc, problem, TEXT_LIMIT, TextName::Problem)?;
+    let reading = read_problem_from(alloc, problem)?;
     let certificate_text = read_text(alloc, certificate, TEXT_LIMIT, TextName::Certificate)?;
-    let verdict = check_bytes(alloc, &problem_text, &certificate_text)?;
+    let verdict = check_read(alloc, reading, &certificate_text)?;
     let ending = ending_of(&verdict);
     let line = verdict_line(alloc, verdict)?;
     match write_whole(output, &line) {
@@ -102,8 +129,8 @@ pub fn run_min<P: Source, W: Sink>(
     ensures ends { IfErr result (λ fault. IfUnread fault (λ text. text ≡ TextName.Problem)) }
     ensures output { IsErrOf result Fault.Unwritten ↔ (W.failed output.new ≡ true) }
 {
-    let problem_text = read_text(alloc, problem, TEXT_LIMIT, TextName::Problem)?;
-    let (settled, text) = solve_min(alloc, &problem_text)?;
+    let reading = read_problem_from(alloc, problem)?;
+    let (settled, text) = solve_read(alloc, reading)?;
     let ending = settled_ending(&settled);
     match write_whole(output, &text) {
         Ok(()) => Ok(ending),

@@ -1,13 +1,14 @@
-//! Runs from end to end: texts are read whole, then the answer is computed whole, then it is written.
+//! Runs that compile: texts are read whole, then the problem and its link lines are made, then they are written.
 
 ghost use Rattle.std.specs.Prelude.{◌≡◌, ◌+◌, ◌^◌, ◌<◌, ◌⊎◌, ◌↔◌, None, true, false, OnOk, IfOk, IfErr, IsErrOf};
 ghost use Rattle.std.specs.Option.{option_copied};
 ghost use Rattle.net_ends.specs.Ends.{ReadsToLimit};
 ghost use Rattle.net_calls.specs.Runs.{WritesAnswer, WritesFrontOfAnswer, Refuses, IfRefused, IfUnread};
 
-use crate::compiled::{Options, compile_with};
+use crate::compiled::Options;
 use crate::fault::{Fault, TextName};
-use net_ends::{ReadFault, Sink, Source, read_to_limit, write_whole};
+use crate::linked::{link_model, write_linked};
+use net_ends::{ReadFault, Sink, Source, read_to_limit};
 use net_lex::{DATA_LIMIT, MODEL_LIMIT};
 use std::alloc::Global;
 
@@ -81,8 +82,8 @@ pub fn run_compile_with<'o, M: Source, D: Source, W: Sink>(
 {
     let model_text = read_text(alloc, model, MODEL_LIMIT, TextName::Model)?;
     let data_text = read_text(alloc, data, DATA_LIMIT, TextName::Data)?;
-    let compiled = compile_with(alloc, options, &model_text, &data_text)?;
-    match write_whole(output, &compiled.text) {
+    let linked = link_model(alloc, options.objective, &model_text, &data_text)?;
+    match write_linked(output, &linked) {
         Ok(()) => Ok(()),
         Err(_) => Err(Fault::Unwritten),
     }

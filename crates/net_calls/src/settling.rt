@@ -1,9 +1,10 @@
 //! Problems, from text to certificate.
 
-ghost use Rattle.std.specs.Prelude.{◌≡◌, IfOk, IfErr};
+ghost use Rattle.std.specs.Prelude.{◌≡◌, List, ℕ, IfOk, IfErr};
 ghost use Rattle.net_check.specs.Certificates.{IsCertificate};
 ghost use Rattle.net_solve.specs.Settling.{IsSettledBy, certificate_of};
 ghost use Rattle.net_calls.specs.Checked.{IsProblemRefusal};
+ghost use Rattle.net_calls.specs.LineTexts.{IsProblemOf};
 ghost use Rattle.net_calls.specs.Settled.{Settles, IsAnswerText};
 
 use crate::checking::problem_of;
@@ -22,8 +23,16 @@ pub fn solve_min(alloc: Global, problem: &[u8]) -> Result<(Settled, Vec<u8>), Fa
         Ok(network) => network,
         Err(fault) => return Err(fault),
     };
-    let settled = solve(alloc, &Silent, &network)?;
-    let (settled, text) = with_text(alloc, &network, settled)?;
+    let answer = settle(alloc, &network)?;
+    Ok(answer)
+}
+
+/// Settles a problem. The second part is the text of its certificate.
+pub(crate) fn settle(alloc: Global, network: &Problem) -> Result<(Settled, Vec<u8>), AllocError>
+    ensures { (problem : List ℕ) → IsProblemOf problem network.now → IfOk result (λ answer. Settles problem answer.0 answer.1.items) }
+{
+    let settled = solve(alloc, &Silent, network)?;
+    let (settled, text) = with_text(alloc, network, settled)?;
     Ok((settled, text))
 }
 

@@ -10,7 +10,7 @@ fn compiled(alloc: Global, row: &Row) -> Result<String, AllocError> {
         objective: row.objective,
     };
     match compile_with(alloc, options, row.model.as_bytes(), row.data.as_bytes()) {
-        Ok(compiled) => String::from_utf8_lossy(alloc, &compiled.text),
+        Ok(compiled) => String::from_utf8_lossy(alloc, compiled.text.as_bytes()),
         Err(Fault::OutOfMemory) => Err(AllocError),
         Err(fault) => format!(in alloc; "{fault}"),
     }

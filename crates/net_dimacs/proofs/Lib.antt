@@ -17,7 +17,8 @@ mod Complete
 mod ReadLaws
 pub mod Decimals
 pub mod WrittenLines
-mod WriteLaws
+pub mod WriteLaws
+mod Sending
 mod CertificateLines
 mod CertificateWriteLaws
 mod Examples

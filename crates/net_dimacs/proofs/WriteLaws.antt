@@ -9,10 +9,16 @@ use Rattle.net_dimacs.proofs.Complete.{one_problem}
 use Rattle.net_dimacs.proofs.ReadLaws.{limits_of}
 use Rattle.net_dimacs.proofs.WrittenLines.{written_is}
 
+pub text_is : (p : Problem) → IsProblemText (problem_text p.supplies.items p.arcs.items) p.supplies.items p.arcs.items
+text_is p = written_is p.supplies.items p.arcs.items (limits_of p)
+
+pub text_only : (p : Problem) → IsOnlyProblem (problem_text p.supplies.items p.arcs.items) p.supplies.items p.arcs.items
+text_only p = λ s a fit text. one_problem (problem_text p.supplies.items p.arcs.items) s p.supplies.items a p.arcs.items text fit (text_is p) (limits_of p)
+
 pub written_ok : {E : Type 0} (p : Problem) (r : Result (Vec ℕ) E) → IfOk r (λ t. t.items ≡ problem_text p.supplies.items p.arcs.items) → IfOk r (λ t. IsProblemText t.items p.supplies.items p.arcs.items)
-written_ok p (Ok t) e = subst (λ text. IsProblemText text p.supplies.items p.arcs.items) (sym e) (written_is p.supplies.items p.arcs.items (limits_of p))
+written_ok p (Ok t) e = subst (λ text. IsProblemText text p.supplies.items p.arcs.items) (sym e) (text_is p)
 written_ok p (Err fault) e = tt
 
 pub written_only : {E : Type 0} (p : Problem) (r : Result (Vec ℕ) E) → IfOk r (λ t. t.items ≡ problem_text p.supplies.items p.arcs.items) → IfOk r (λ t. IsOnlyProblem t.items p.supplies.items p.arcs.items)
-written_only {E} p (Ok t) e = λ s a fit text. one_problem t.items s p.supplies.items a p.arcs.items text fit (written_ok {E = E} p (Ok t) e) (limits_of p)
+written_only p (Ok t) e = subst (λ text. IsOnlyProblem text p.supplies.items p.arcs.items) (sym e) (text_only p)
 written_only p (Err fault) e = tt

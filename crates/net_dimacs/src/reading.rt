@@ -1,6 +1,6 @@
 //! Reading a problem text in pieces.
 
-ghost use Rattle.std.specs.Prelude.{◌≡◌, ℕ, ◌+◌, ◌≤◌, List, [], ◌++◌, IfOk, vec_len};
+ghost use Rattle.std.specs.Prelude.{◌≡◌, ℕ, ◌+◌, ◌<◌, ◌≤◌, ◌⊎◌, List, [], ◌++◌, IfOk, length, vec_len};
 
 use crate::fields::after_last_feed;
 use crate::limits::TEXT_LIMIT;
@@ -23,7 +23,10 @@ pub struct Reading {
 }
 
 impl Reading {
-    ghost use Rattle.net_dimacs.specs.Reading.{read_text, Gives};
+    ghost use Rattle.std.specs.Str.Lines.{lines};
+    ghost use Rattle.net_dimacs.specs.Limits.{text_limit};
+    ghost use Rattle.net_dimacs.specs.Problems.{IsProblemText, IsOnlyProblem, IsNoProblemText};
+    ghost use Rattle.net_dimacs.specs.Reading.{read_text, Gives, IfRefused};
     ghost use Rattle.net_dimacs.specs.Scans.{Stands};
 
     /// Before the first byte. It takes no memory.
@@ -62,8 +65,26 @@ impl Reading {
         })
     }
 
-    /// The problem of the text, or its first fault.
+    /// The problem of the text, or its first fault, as [`crate::read_problem`] has them.
     pub fn finish(self) -> Result<Problem, ProblemFault>
+        ensures value { (text : List ℕ) → Stands self text → Gives (read_text text) result }
+
+        // What is read is what the text is, and it is no other problem.
+        ensures ok { (text : List ℕ) → Stands self text →
+            IfOk result (λ problem. IsProblemText text problem.supplies.items problem.arcs.items) }
+        ensures only { (text : List ℕ) → Stands self text →
+            IfOk result (λ problem. IsOnlyProblem text problem.supplies.items problem.arcs.items) }
+
+        // A text is refused only where it is no problem, or past the limit.
+        ensures refused { (text : List ℕ) → Stands self text →
+            IfRefused result (λ _. (text_limit < length text) ⊎ IsNoProblemText text) }
+        ensures place { (text : List ℕ) → Stands self text →
+            IfRefused result (λ refusal. (1 ≤ refusal.line) × (refusal.line ≤ length (lines text) + 1)) }
+    {
+        self.read_out()
+    }
+
+    fn read_out(self) -> Result<Problem, ProblemFault>
         ensures { (text : List ℕ) → Stands self text → Gives (read_text text) result }
     {
         if self.length > TEXT_LIMIT {

@@ -1,12 +1,14 @@
-use Rattle.net_calls.proofs.Promise.{headline_of, sizes_of}
+use Rattle.std.proofs.Common.{sym, subst}
+use Rattle.std.specs.Option.{option_copied}
+use Rattle.net_calls.specs.Headline.{Headline}
+use Rattle.net_calls.specs.Made.{IsMade, HasSizes}
 use Rattle.net_calls.proofs.compiled.compile_with.Goals as goal
 
 pub returns-clause-value : goal.returns-clause-value
-returns-clause-value c =
-    headline_of _ c.args.model.now c.args.data.now c.in_ok-compiled.compiled c.names_are_declared.ensures.value c.ranges_are_conditions.ensures.value
-    c.objective_is_written.ensures.value c.flows_stand_for_assignments.ensures.value c.in_ok-compiled.ensures.made
+returns-clause-value c = subst (λ a. Headline (option_copied c.args.options.objective) c.args.model.now c.args.data.now a) (sym c.in_ok-compiled.ensures) c.in_ok-linked.ensures.value
+
+pub returns-clause-made : goal.returns-clause-made
+returns-clause-made c = subst (λ a. IsMade (option_copied c.args.options.objective) c.args.model.now c.args.data.now a) (sym c.in_ok-compiled.ensures) c.in_ok-linked.ensures.made
 
 pub returns-clause-sizes : goal.returns-clause-sizes
-returns-clause-sizes c =
-    sizes_of _ c.args.model.now c.args.data.now c.in_ok-compiled.compiled c.names_are_declared.ensures.value c.ranges_are_conditions.ensures.value
-    c.arcs_are_written.ensures.bounds c.in_ok-compiled.ensures.made
+returns-clause-sizes c = subst HasSizes (sym c.in_ok-compiled.ensures) c.in_ok-linked.ensures.sizes

@@ -1,14 +1,15 @@
-use Rattle.std.proofs.Common.{ℕ, List, rules, subst}
+use Rattle.std.proofs.Common.{rules}
 use Rattle.net_calls.specs.Settled.{Settles}
 use Rattle.net_calls.proofs.Reading.{read_whole}
 use Rattle.net_calls.proofs.line_runs.run_min.Goals as goal
 
 pub returns-in-Ok-clause-ok : goal.returns-in-Ok-clause-ok
 returns-in-Ok-clause-ok g c =
-    let settles = subst (λ (t : List ℕ). Settles t c.in_ok-settled.settled c.in_ok-settled.text.items) c.deref.ensures.value c.in_ok-settled.ensures.value in
+    let gave = c.in_ok-reading.ensures.value in
+    let settles : Settles gave.text c.in_ok-settled.settled c.in_ok-settled.text.items = c.in_ok-settled.ensures.value gave.text gave.known in
     record {
-      problem_text = c.in_ok-problem_text.problem_text.items;
-      problem_read = read_whole _ _ _ c.in_ok-problem_text.ensures.value settles.is_problem.short;
+      problem_text = gave.text;
+      problem_read = read_whole _ _ _ gave.read settles.is_problem.short;
       settled = c.in_ok-settled.settled;
       text = c.in_ok-settled.text.items;
       settles = settles;
@@ -18,10 +19,11 @@ returns-in-Ok-clause-ok g c =
 
 pub returns-clause-front : goal.returns-clause-front
 returns-clause-front g c =
-    let settles = subst (λ (t : List ℕ). Settles t c.in_ok-settled.settled c.in_ok-settled.text.items) c.deref.ensures.value c.in_ok-settled.ensures.value in
+    let gave = c.in_ok-reading.ensures.value in
+    let settles : Settles gave.text c.in_ok-settled.settled c.in_ok-settled.text.items = c.in_ok-settled.ensures.value gave.text gave.known in
     λ fault. record {
-      problem_text = c.in_ok-problem_text.problem_text.items;
-      problem_read = read_whole _ _ _ c.in_ok-problem_text.ensures.value settles.is_problem.short;
+      problem_text = gave.text;
+      problem_read = read_whole _ _ _ gave.read settles.is_problem.short;
       settled = c.in_ok-settled.settled;
       text = c.in_ok-settled.text.items;
       settles = settles;

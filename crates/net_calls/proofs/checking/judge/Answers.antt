@@ -1,0 +1,5 @@
+use Rattle.net_calls.proofs.Answering.{certificate_refusal}
+use Rattle.net_calls.proofs.checking.judge.Goals as goal
+
+pub returns-in-Err-clause-refused : goal.returns-in-Err-clause-refused
+returns-in-Err-clause-refused c = λ problem is. certificate_refusal problem c.args.certificate.now c.args.network.now c.in-Err.fault is c.in-Err.ensures.refused

@@ -1,0 +1,6 @@
+use Rattle.net_calls.proofs.Reading.{short_problem}
+use Rattle.net_calls.proofs.problem_source.finished.Goals as goal
+
+pub returns-in-Ok-clause-ok : goal.returns-in-Ok-clause-ok
+returns-in-Ok-clause-ok c = λ text known.
+    record { short = short_problem text _ (c.in-Ok.ensures.value text known); is = c.in-Ok.ensures.ok text known; only = c.in-Ok.ensures.only text known }

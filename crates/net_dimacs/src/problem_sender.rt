@@ -1,0 +1,113 @@
+//! Problems as DIMACS texts that go out while they are made.
+
+ghost use Rattle.std.specs.Prelude.{◌≡◌, ◌<◌, ◌≤◌, ◌||◌, OnOk, OnErr, is_err, length};
+ghost use Rattle.std.specs.List.{flat_map};
+ghost use Rattle.std.specs.Io.KnownBytes.{Appends};
+ghost use Rattle.net_ends.specs.Ends.{WritesFront};
+ghost use Rattle.net_normal.specs.Limits.{flow_node_limit};
+ghost use Rattle.net_dimacs.specs.Written.{head_line, node_line, node_lines, arc_line, problem_text};
+ghost use Rattle.net_dimacs.specs.Problems.{IsProblemText, IsOnlyProblem};
+ghost use Rattle.net_dimacs.specs.Sending.{Sends};
+
+use crate::page::{Page, send_line};
+use net_ends::{Failed, Sink, write_whole};
+use net_normal::{FlowArc, Problem};
+
+/// Writes the text of a problem, as `write_problem` makes it, by pages of 4,096 bytes. It takes no memory.
+///
+/// After a `Failed` a front of the text went out.
+pub fn write_problem_to<W: Sink>(problem: &Problem, sink: &mut W) -> Result<(), Failed>
+    ensures ok { OnOk result (Appends (W.taken sink.old) (W.taken sink.new)
+        (problem_text problem.now.supplies.items problem.now.arcs.items)) }
+    ensures err { OnErr result (WritesFront (W.taken sink.old) (W.taken sink.new)
+        (problem_text problem.now.supplies.items problem.now.arcs.items)) }
+    ensures flag { W.failed sink.new ≡ (W.failed sink.old || is_err result) }
+
+    // What is written is that problem, and no other.
+    ensures problem { IsProblemText (problem_text problem.now.supplies.items problem.now.arcs.items)
+        problem.now.supplies.items problem.now.arcs.items }
+    ensures only { IsOnlyProblem (problem_text problem.now.supplies.items problem.now.arcs.items)
+        problem.now.supplies.items problem.now.arcs.items }
+{
+    send_whole(problem, sink)
+}
+
+fn send_whole<W: Sink>(problem: &Problem, sink: &mut W) -> Result<(), Failed>
+    ensures ok { OnOk result (Appends (W.taken sink.old) (W.taken sink.new)
+        (problem_text problem.now.supplies.items problem.now.arcs.items)) }
+    ensures err { OnErr result (WritesFront (W.taken sink.old) (W.taken sink.new)
+        (problem_text problem.now.supplies.items problem.now.arcs.items)) }
+    ensures flag { W.failed sink.new ≡ (W.failed sink.old || is_err result) }
+{
+    let mut page = Page::new();
+    send_problem(sink, &mut page, problem)?;
+    write_whole(sink, page.as_slice())?;
+    Ok(())
+}
+
+fn send_problem<W: Sink>(sink: &mut W, page: &mut Page, problem: &Problem) -> Result<(), Failed>
+    ensures bytes { Sends (W.taken sink.old) (W.taken sink.new) page.old.items
+        (problem_text problem.now.supplies.items problem.now.arcs.items) page.new.items result }
+    ensures flag { W.failed sink.new ≡ (W.failed sink.old || is_err result) }
+{
+    send_head(sink, page, problem)?;
+    send_nodes(sink, page, &problem.supplies)?;
+    send_arcs(sink, page, &problem.arcs)?;
+    Ok(())
+}
+
+fn send_head<W: Sink>(sink: &mut W, page: &mut Page, problem: &Problem) -> Result<(), Failed>
+    ensures bytes { Sends (W.taken sink.old) (W.taken sink.new) page.old.items
+        (head_line problem.now.supplies.items problem.now.arcs.items) page.new.items result }
+    ensures flag { W.failed sink.new ≡ (W.failed sink.old || is_err result) }
+{
+    let node_count = problem.supplies.len() as i64;
+    let arc_count = problem.arcs.len() as i64;
+    send_line(sink, page, b"p min", &[node_count, arc_count])
+}
+
+fn send_nodes<W: Sink>(sink: &mut W, page: &mut Page, supplies: &[i64]) -> Result<(), Failed>
+    requires { length supplies.now ≤ flow_node_limit }
+    ensures bytes { Sends (W.taken sink.old) (W.taken sink.new) page.old.items (node_lines 0 supplies.now) page.new.items result }
+    ensures flag { W.failed sink.new ≡ (W.failed sink.old || is_err result) }
+{
+    for (node, supply) in supplies.iter().enumerate() {
+        send_node(sink, page, node, supply)?;
+    }
+    Ok(())
+}
+
+fn send_node<W: Sink>(
+    sink: &mut W,
+    page: &mut Page,
+    node: usize,
+    supply: &i64,
+) -> Result<(), Failed>
+    requires { node < flow_node_limit }
+    ensures bytes { Sends (W.taken sink.old) (W.taken sink.new) page.old.items (node_line node supply.now) page.new.items result }
+    ensures flag { W.failed sink.new ≡ (W.failed sink.old || is_err result) }
+{
+    if *supply == 0 {
+        return Ok(());
+    }
+    send_line(sink, page, b"n", &[node as i64 + 1, *supply])
+}
+
+fn send_arcs<W: Sink>(sink: &mut W, page: &mut Page, arcs: &[FlowArc]) -> Result<(), Failed>
+    ensures bytes { Sends (W.taken sink.old) (W.taken sink.new) page.old.items (flat_map arc_line arcs.now) page.new.items result }
+    ensures flag { W.failed sink.new ≡ (W.failed sink.old || is_err result) }
+{
+    for arc in arcs {
+        send_arc(sink, page, *arc)?;
+    }
+    Ok(())
+}
+
+fn send_arc<W: Sink>(sink: &mut W, page: &mut Page, arc: FlowArc) -> Result<(), Failed>
+    ensures bytes { Sends (W.taken sink.old) (W.taken sink.new) page.old.items (arc_line arc) page.new.items result }
+    ensures flag { W.failed sink.new ≡ (W.failed sink.old || is_err result) }
+{
+    let src = i64::from(arc.src) + 1;
+    let dst = i64::from(arc.dst) + 1;
+    send_line(sink, page, b"a", &[src, dst, arc.low, arc.cap, arc.cost])
+}
