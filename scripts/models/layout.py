@@ -83,7 +83,7 @@ class Layout(World):
         operators = self.rng.choice([["="], ["="], ["="], ["<="], [">="], ["<=", "<="], [">=", ">="]])
         sides, frees = [], []
         for place, operator in enumerate(operators):
-            param = self.new_param(self.named_copy(braces, []) if braces and braces.key() else None, taken=every_dummy(braces))
+            param = self.new_param(self.named_copy(braces, []) if braces and braces.key() else None, is_apart=True)
             param.ready = False
             self.declared.append(param.finish(self.rng))
             side = ParamRef(param, list(scope))

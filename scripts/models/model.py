@@ -10,8 +10,10 @@ from models.tables import Tables, twin_text
 
 
 class Model:
-    def __init__(self, seed):
-        self.seed, self.rng = seed, random.Random(f"model {seed}")
+    """Of a seed; another one of the same seed where `attempt` is another number."""
+
+    def __init__(self, seed, attempt=0):
+        self.seed, self.rng = seed, random.Random(f"model {seed} {attempt}")
         restart_names()
         self.layout = Layout(self.rng)
         self.declare()

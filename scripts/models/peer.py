@@ -5,7 +5,7 @@ SECONDS = 60
 
 
 class TwinFault(Exception):
-    """glpsol did not take the twin: a mistake of the generator."""
+    """glpsol did not take the twin."""
 
 
 def solved(folder):

@@ -1,5 +1,5 @@
 """Random sets and parameters, with their data."""
-from models.author import Author
+from models.author import DUMMIES, Author
 from models.declarations import Check, Param, SetDecl
 from models.expressions import Fault, Member, ParamRef, Relation, every_dummy
 from models.sets import Braces, Literal, Range, SetBinary, SetRef, whole
@@ -114,8 +114,10 @@ class World(Author):
     def scope_of(self, braces):
         return braces.named() if braces else []
 
-    def new_param(self, braces, kind="number", domain=None, taken=()):
-        return Param(self.new_name(PARAM_NAMES, [*every_dummy(braces), *taken]), braces, kind, domain)
+    def new_param(self, braces, kind="number", domain=None, is_apart=False):
+        """With a name that is no dummy's, where others' dummies are there already."""
+        names = [it for it in PARAM_NAMES if it not in DUMMIES] if is_apart else PARAM_NAMES
+        return Param(self.new_name(names, every_dummy(braces)), braces, kind, domain)
 
     def scalar(self):
         param = self.new_param(None)
