@@ -122,8 +122,8 @@ class Layout(World):
         for objective in self.objectives:
             if objective.expression is None and self.chance(0.85):
                 for _ in range(self.rng.choice([1, 1, 1, 2])):
-                    price = self.sound(lambda: self.number(scope, 2), envs) or Member(self.rng.randint(1, 9))
-                    arc.prices.append((objective, price))
+                    price = self.sound(lambda: self.number(scope, self.rng.choice([1, 2, 2, 4])), envs)
+                    arc.prices.append((objective, price or Member(self.rng.randint(1, 9))))
         self.declared.append(arc.finish(self.rng))
         self.arcs.append(arc)
 

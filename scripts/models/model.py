@@ -8,6 +8,8 @@ from models.plan import chosen_plan, decide_free, fixed_ranges, relax
 from models.sets import restart_names
 from models.tables import Tables, twin_text
 
+MARKS = "+ - * = <> < <= > >= .. :=".split()
+
 
 class Model:
     """Of a seed; another one of the same seed where `attempt` is another number."""
@@ -55,10 +57,19 @@ class Model:
 
     def model_text(self):
         remarks = ["\n"] * 20 + ["  # a remark; with : = and 'marks\n", " /* two\n lines */\n", " "]
-        return f"# Seed {self.seed}.\n" + "".join(it.text() + self.rng.choice(remarks) for it in self.layout.declared)
+        text = f"# Seed {self.seed}.\n" + "".join(it.text() + self.rng.choice(remarks) for it in self.layout.declared)
+        if self.rng.random() < 0.3:
+            for mark in MARKS:
+                # No text of a set has one of these with its blanks.
+                text = text.replace(f" {mark} ", mark)
+        return self.with_ends(text)
 
     def data_text(self):
-        return Tables(self.rng).text(self.layout.declared)
+        return self.with_ends(Tables(self.rng).text(self.layout.declared))
+
+    def with_ends(self, text):
+        """Lines with a carriage return, at times."""
+        return text.replace("\n", "\r\n") if self.rng.random() < 0.05 else text
 
     def twin(self):
         """The same in MathProg: arcs are variables, nodes constraints."""
