@@ -1,0 +1,1 @@
+"""Seeded random models, which scripts/check_models gives to netflow and to glpsol."""
