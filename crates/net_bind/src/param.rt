@@ -359,6 +359,21 @@ fn with_values<'s>(
     )
 }
 
+/// What gives the values that data leave open: what `:=` says, else the default that data say, else what `default` says.
+fn source<'a, 'c, 's>(
+    assigned: Option<&'a Expr<'s>>,
+    default: Option<&'a Cell<'c, 's>>,
+    otherwise: Option<&'a Expr<'s>>,
+) -> (Option<&'a Expr<'s>>, Option<&'a Cell<'c, 's>>)
+    ensures { (bound.as_tree (option_copied result.0), option_copied result.1) ≡ bound.source (bound.as_tree (option_copied assigned.entry)) (option_copied default.entry) (bound.as_tree (option_copied otherwise.entry)) }
+{
+    match (assigned, default) {
+        (Some(expr), _) => (Some(expr), None),
+        (None, Some(word)) => (None, Some(word)),
+        (None, None) => (otherwise, None),
+    }
+}
+
 fn with_source<'s>(
     alloc: Global,
     seen: &Seen<'_, 's>,
@@ -374,35 +389,10 @@ fn with_source<'s>(
 ) -> Result<(), BindFault<'s>>
     ensures { Leaves (bound.values seen.now name.now keys (map phrase_of phrases.now) (bound.source (bound.as_tree (option_copied assigned.entry)) (option_copied default.entry) (bound.as_tree (option_copied otherwise.entry))) rows.now (table.old, places.now)) result table.new }
 {
-    match (assigned, default) {
-        (Some(expr), _) => with_values(
-            alloc,
-            seen,
-            name,
-            keys,
-            phrases,
-            Some(expr),
-            None,
-            rows,
-            places,
-            table,
-        ),
-        (None, Some(word)) => with_values(
-            alloc,
-            seen,
-            name,
-            keys,
-            phrases,
-            None,
-            Some(word),
-            rows,
-            places,
-            table,
-        ),
-        (None, None) => with_values(
-            alloc, seen, name, keys, phrases, otherwise, None, rows, places, table,
-        ),
-    }
+    let (expr, word) = source(assigned, default, otherwise);
+    with_values(
+        alloc, seen, name, keys, phrases, expr, word, rows, places, table,
+    )
 }
 
 fn with_data<'s>(

@@ -1,6 +1,6 @@
 //! Declared sets.
 
-ghost use Rattle.std.specs.Prelude.{◌≡◌, [], IfOk, map};
+ghost use Rattle.std.specs.Prelude.{◌≡◌, ◌||◌, [], IfOk, is_some, map};
 ghost use Rattle.std.specs.Option.{option_copied};
 ghost use Rattle.net_eval.specs.declared.world.Entry.TheVariants.{Set as ASet};
 ghost use Rattle.net_lex.specs.declared.language.Language.TheVariants.{Data as InData};
@@ -146,6 +146,13 @@ fn members_of<'s>(
     Ok(set)
 }
 
+/// Whether `:=` or a statement before gives the set.
+fn is_given(is_assigned: bool, found: &Option<TupleSet<'_>>) -> bool
+    ensures { result ≡ (is_assigned || is_some found.now) }
+{
+    is_assigned || found.is_some()
+}
+
 /// A statement that gives the set, unless it is given already.
 fn with_statement<'s>(
     alloc: Global,
@@ -158,7 +165,7 @@ fn with_statement<'s>(
     ensures { Answers (set_data.with_statement widths.now dimension is_assigned mention.now found.entry) result }
 {
     let rows = given_rows(alloc, widths, dimension, mention)?;
-    if is_assigned || found.is_some() {
+    if is_given(is_assigned, &found) {
         Err(doubled(&mention.word))
     } else {
         Ok(Some(members_of(alloc, &mention.word, rows.as_slice())?))

@@ -207,9 +207,9 @@ selected_walk w i next p ts found = by_component (selecting w p.scope i) refl
     by_component None e = refl
     by_component (Some s) e = go_past s.0 s.1 e (nat_lt s.0 (narrowest ts)) refl
 
-pub selected_from : (w : World) (i : Tree) (next : Place → List Row → Outcome (List Row)) (p : Place) (ts left : List Tuple) (o : Option (ℕ × Member)) (found : List Row) → o ≡ selecting w p.scope i → left ≡ sought o ts
+pub selected_from : (w : World) (i : Tree) (next : Place → List Row → Outcome (List Row)) (p : Place) (ts left : List Tuple) (found : List Row) → left ≡ sought (selecting w p.scope i) ts
     → each (onward (place w i) next p) left found ≡ each (onward (place w i) next p) ts found
-selected_from w i next p ts left o found e h = ap (λ us. each (onward (place w i) next p) us found) (h ∙ ap (λ c. sought c ts) e) ∙ selected_walk w i next p ts found
+selected_from w i next p ts left found h = ap (λ us. each (onward (place w i) next p) us found) h ∙ selected_walk w i next p ts found
 
 -- a tuple at the left of `in`, as the code reads it
 pub left-tuple : (w : World) (s : Scope) (k : Tree) (o : Token) (x : Tree) (l : Links) (c : Token) → k ≡ tuple o x l c → selecting_components w s x l ≡ selecting_left w s k

@@ -1,6 +1,7 @@
 -- The parts of items, and the steps of the definition of values.
-use Rattle.std.specs.Prelude.{◌≡◌, ◌+◌, ◌-◌, ◌<◌, ◌≤◌, ℕ, zero, suc, not, ◌++◌, List, [], ◌∷◌, length, get_or, drop, take, Option, None, Some, is_some, Bool, true, false, ◌||◌, if◌then◌else◌, Result, Ok, Err, IfOk}
-use Rattle.std.proofs.Common.{refl, sym, ap, subst, append_assoc, ◌∙◌, arith}
+use Rattle.std.specs.Prelude.{◌≡◌, ◌+◌, ◌-◌, ◌<◌, ◌≤◌, ℕ, zero, suc, not, ◌++◌, List, [], ◌∷◌, length, get_or, drop, take, Option, None, Some, is_some, Bool, true, false, ◌||◌, if◌then◌else◌, Result, Ok, Err, IfOk, IfSome, ℤ, unsigned_abs}
+use Rattle.std.proofs.Common.{refl, sym, ap, subst, add-one, append_assoc, ◌∙◌, arith}
+use Rattle.std.proofs.Math.Seq.{drop-cons}
 use Rattle.std.proofs.lemmas.Bool.{true≢false}
 use Rattle.net_lex.specs.declared.span.Span.{Span}
 use Rattle.net_lex.specs.declared.token.Token.{Token}
@@ -14,6 +15,7 @@ use Rattle.net_tree.specs.Weights.{weight, weights}
 use Rattle.net_tree.proofs.Views.{links_of-cons, next_link, first_link}
 use Rattle.net_eval.specs.declared.fault.EvalFault.{EvalFault}
 use Rattle.net_eval.specs.declared.fault.EvalFault.TheVariants as faults
+use Rattle.net_eval.specs.declared.operation.Reduction.{Reduction}
 use Rattle.net_eval.specs.declared.row.Place.{Place}
 use Rattle.net_eval.specs.declared.row.Row.{Row}
 use Rattle.net_eval.specs.declared.row.Keys.{Keys}
@@ -23,10 +25,10 @@ use Rattle.net_eval.specs.Outcomes.{Outcome, Answers, Leaves, and_then, each}
 use Rattle.net_eval.specs.Worlds.{World, Scope}
 use Rattle.net_eval.specs.Operations.{operation, is_range, reduction, is_minus}
 use Rattle.net_eval.specs.Operators.{apply, decided, truth}
-use Rattle.net_eval.specs.Numbers.{range_of}
+use Rattle.net_eval.specs.Numbers.{number, gathered, range_of}
 use Rattle.net_eval.specs.Items.{is_in, behind_in, both, sides, size, any_in, has_in, has_part, begins_range, new_dummy, tuples_of, is_set, walking as walking_over, listing, opened, open_with}
 use Rattle.net_eval.specs.Widths.{makes_set, begin_set}
-use Rattle.net_eval.specs.Rows.{start, onward, listed, reduce, fitted_alone, kept, keys}
+use Rattle.net_eval.specs.Rows.{start, onward, listed, reduce, fitted_alone, keep, kept, keys, gathered_over}
 use Rattle.net_eval.specs.Values.{value, values, chained, index, walk, holds, set_behind, place, left_place, either, subscripted, tupled, with_sign, otherwise}
 use Rattle.net_eval.specs.Walks.{joined, walked, opened_keys, by_sides, item_tuples, keys_by_sides, index_items, placed, component_places}
 
@@ -292,6 +294,30 @@ pub chained-left : (at : Span) (w : World) (s : Scope) (ls : List Link) (i : ℕ
     → wanted ≡ and_then (joined at (operation (out-Link l).operator) (value w s (tree (out-Link l).operand)) v) (chained at w s (links_of (drop (i + 1) ls)))
 chained-left at w s ls i l v wanted h e same =
     sym same ∙ ap (λ k. chained at w s k v) (next_link ls i l h e) ∙ chained-step at w s (out-Link l).operator (tree (out-Link l).operand) (links_of (drop (i + 1) ls)) v
+
+drop_at : {A : Type 0} (xs : List A) (i : ℕ) (x : A) → i < length xs → x ≡ get_or xs i x → drop i xs ≡ x ∷ drop (i + 1) xs
+drop_at xs i x h e = let a = drop-cons xs i x h in let b = add-one i in cc
+
+-- one step over rows
+pub kept-left : (f : Scope → Outcome Bool) (rows : List Row) (i : ℕ) (r : Row) (found : List Row) (wanted : Outcome (List Row)) → i < length rows → r ≡ get_or rows i r
+    → kept f (drop i rows) found ≡ wanted
+    → wanted ≡ and_then (f r.scope) (λ b. kept f (drop (i + 1) rows) (keep r found b))
+kept-left f rows i r found wanted h e same = sym same ∙ ap (λ k. kept f k found) (drop_at rows i r h e)
+
+-- what one value more makes of it, or its fault
+abbrev pub one_more : Span → Reduction → Option ℤ → Value → Outcome (Option ℤ)
+one_more at r so_far v = and_then (number at v) (λ n. Ok (Some (gathered r so_far n)))
+
+pub gathered-left : (at : Span) (r : Reduction) (body : Scope → Outcome Value) (rows : List Row) (i : ℕ) (row : Row) (so_far : Option ℤ) (wanted : Outcome (Option ℤ)) → i < length rows → row ≡ get_or rows i row
+    → gathered_over at r body (drop i rows) so_far ≡ wanted
+    → wanted ≡ and_then (body row.scope) (λ v. and_then (one_more at r so_far v) (gathered_over at r body (drop (i + 1) rows)))
+gathered-left at r body rows i row so_far wanted h e same =
+    sym same ∙ ap (λ k. gathered_over at r body k so_far) (drop_at rows i row h e)
+    ∙ and_then-same (body row.scope) _ _ (λ v. sym (and_then-assoc (number at v) (λ n. Ok (Some (gathered r so_far n))) (gathered_over at r body (drop (i + 1) rows))))
+
+pub if_some_by : (o : Option ℤ) (k n : ℕ) → k ≤ n → IfSome o (λ a. unsigned_abs a ≤ k) → IfSome o (λ a. unsigned_abs a ≤ n)
+if_some_by None k n h small = small
+if_some_by (Some a) k n h small = omega arith
 
 -- without a condition all rows are kept
 all_kept : (rows found : List Row) → kept (λ q. Ok true) rows found ≡ Ok (found ++ rows)

@@ -1,6 +1,6 @@
 //! Values of trees.
 
-ghost use Rattle.std.specs.Prelude.{◌≡◌, ◌∷◌, [], Ok, None, not, if◌then◌else◌};
+ghost use Rattle.std.specs.Prelude.{◌≡◌, ◌∷◌, [], Ok, None, not, pos, if◌then◌else◌};
 ghost use Rattle.net_tree.specs.Spans as trees;
 ghost use Rattle.net_tree.specs.View.{tree, braces_of, links_of, option_part};
 ghost use Rattle.net_eval.specs.Items as items;
@@ -11,14 +11,15 @@ ghost use Rattle.net_eval.specs.Outcomes.{Answers, and_then};
 ghost use Rattle.net_eval.specs.Rows as rows;
 ghost use Rattle.net_eval.specs.Values as values;
 ghost use Rattle.net_eval.specs.Walks as walks;
-ghost use Rattle.net_eval.specs.declared.value.Value.TheVariants.{Truth};
+ghost use Rattle.net_sets.specs.declared.member.Member.TheVariants.{Number};
+ghost use Rattle.net_eval.specs.declared.value.Value.TheVariants.{One, Truth};
 
 use crate::fault::EvalFault;
 use crate::item::begins_range;
 use crate::keys::index;
 use crate::list::as_value;
 use crate::name::{leaf, name_at};
-use crate::number::{gathered, number_of, reduced_to, with_sign};
+use crate::number::{one_more, reduced_to, with_sign};
 use crate::operation::{Reduction, is_minus, operation_of, reduction_of};
 use crate::operator::{apply, decided, truth, tuple_of};
 use crate::range::range_of;
@@ -247,7 +248,13 @@ fn choice<'w, 's>(
     }
 }
 
-/// A missing `else` is 0.
+/// What a missing `else` is worth.
+fn missing_else<'w, 's>() -> Value<'w, 's>
+    ensures { result ≡ One (Number (pos 0)) }
+{
+    Value::One(Member::Number(0))
+}
+
 #[cycle(eval)]
 #[tactic(auto, using(net_tree::proofs::Views::views))]
 fn other_branch<'w, 's>(
@@ -259,7 +266,7 @@ fn other_branch<'w, 's>(
     ensures { Answers (values.otherwise seen.now scope.now (option_part otherwise.now)) result }
 {
     match otherwise {
-        None => Ok(Value::One(Member::Number(0))),
+        None => Ok(missing_else()),
         Some(part) => evaluate(alloc, seen, scope, &part.get().value),
     }
 }
@@ -354,8 +361,7 @@ fn gather<'w, 's>(
     let rows = keys.rows.as_slice();
     for row in rows {
         let value = evaluate(alloc, seen, &row.scope, body)?;
-        let number = number_of(whole, &value)?;
-        so_far = Some(gathered(reduction, &so_far, &number));
+        so_far = one_more(whole, reduction, &so_far, &value)?;
     }
     Ok(so_far)
 }

@@ -15,9 +15,9 @@ use crate::fitting::place_at;
 use crate::item::{any_in, chosen, has_part, is_set, sides_of, tuples_of};
 use crate::list::{listed, no_items};
 use crate::operator::truth_at;
-use crate::row::{Keys, Place, Row, as_keys, finish, start};
+use crate::row::{Keys, Place, Row, as_keys, finish, keep_if, start};
 use crate::scope::Scope;
-use crate::selecting::selecting;
+use crate::selecting::selected;
 use crate::value::Value;
 use crate::width::width;
 use crate::world::Seen;
@@ -152,7 +152,7 @@ fn through<'w, 's>(
 ) -> Result<(), EvalFault<'s>>
     ensures { Leaves (each (rows.onward (values.place seen.now (tree item.now)) (values.walk at seen.now (links_of more.now)) place.now) tuples.entry found.old.items) result found.new.items }
 {
-    let mut left = tuples.walk(selecting(seen, &place.scope, item));
+    let mut left = selected(seen, &place.scope, item, &tuples);
     while let Some(tuple) = left.next() {
         onward(alloc, seen, at, item, more, place, tuple, found)?;
     }
@@ -264,9 +264,8 @@ fn keep<'w, 's>(
     let mut kept = Vec::new(alloc);
     let rows = found.as_slice();
     for row in rows {
-        if holds(alloc, seen, at, &row.scope, condition)? {
-            kept.push(row.again(alloc)?)?;
-        }
+        let holds = holds(alloc, seen, at, &row.scope, condition)?;
+        keep_if(alloc, holds, row, &mut kept)?;
     }
     Ok(as_keys(width, Items::new(kept)))
 }

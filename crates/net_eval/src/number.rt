@@ -1,10 +1,10 @@
-ghost use Rattle.std.specs.Prelude.{◌≡◌, ◌≤◌, ◌-◌, ◌^◌, ◌+ℤ◌, ◌-ℤ◌, ◌*ℤ◌, IsTrue, IfSome, Some, unsigned_abs};
+ghost use Rattle.std.specs.Prelude.{◌≡◌, ◌≤◌, ◌+◌, ◌-◌, ◌^◌, ◌+ℤ◌, ◌-ℤ◌, ◌*ℤ◌, ℕ, IsTrue, IfOk, IfSome, Ok, Some, unsigned_abs};
 ghost use Rattle.net_tree.specs.Spans as trees;
 ghost use Rattle.net_tree.specs.View.{tree};
 ghost use Rattle.net_eval.specs.Limits.{is_small};
 ghost use Rattle.net_eval.specs.Numbers as numbers;
 ghost use Rattle.net_eval.specs.Operators as operators;
-ghost use Rattle.net_eval.specs.Outcomes.{Answers};
+ghost use Rattle.net_eval.specs.Outcomes.{Answers, and_then};
 ghost use Rattle.net_eval.specs.Rows as rows;
 ghost use Rattle.net_eval.specs.Values as values;
 
@@ -192,10 +192,26 @@ pub(crate) fn with_sign<'w, 's>(
     sized(whole, &turned(minus, &number))
 }
 
+/// What a reduction makes of the numbers so far and one value more.
+pub(crate) fn one_more<'s>(
+    whole: &Expr<'_>,
+    reduction: Reduction,
+    so_far: &Option<i128>,
+    value: &Value<'_, 's>,
+) -> Result<Option<i128>, EvalFault<'s>>
+    requires { IfSome so_far.now (λ a. unsigned_abs a ≤ 2 ^ 127 - 2 ^ 64) }
+    ensures value { Answers (and_then (numbers.number (trees.span_of (tree whole.now)) value.now) (λ n. Ok (Some (numbers.gathered reduction so_far.now n)))) result }
+    ensures small { (k : ℕ) → IfSome so_far.now (λ a. unsigned_abs a ≤ k) → IfOk result (λ o. IfSome o (λ a. unsigned_abs a ≤ k + 2 ^ 63)) }
+{
+    let number = number_of(whole, value)?;
+    Ok(Some(gathered(reduction, so_far, &number)))
+}
+
 /// What is made of the numbers so far and one more.
-pub(crate) fn gathered(reduction: Reduction, so_far: &Option<i128>, number: &i64) -> i128
+fn gathered(reduction: Reduction, so_far: &Option<i128>, number: &i64) -> i128
     requires { IfSome so_far.now (λ a. unsigned_abs a ≤ 2 ^ 127 - 2 ^ 64) }
     ensures value { result ≡ numbers.gathered reduction so_far.now number.now }
+    ensures small { (k : ℕ) → IfSome so_far.now (λ a. unsigned_abs a ≤ k) → unsigned_abs result ≤ k + 2 ^ 63 }
 {
     match so_far {
         None => i128::from(*number),
@@ -205,7 +221,8 @@ pub(crate) fn gathered(reduction: Reduction, so_far: &Option<i128>, number: &i64
 
 fn gathered_two(reduction: Reduction, so_far: &i128, number: &i64) -> i128
     requires { unsigned_abs so_far.now ≤ 2 ^ 127 - 2 ^ 64 }
-    ensures { result ≡ numbers.gathered reduction (Some so_far.now) number.now }
+    ensures value { result ≡ numbers.gathered reduction (Some so_far.now) number.now }
+    ensures small { unsigned_abs result ≤ unsigned_abs so_far.now + 2 ^ 63 }
 {
     match reduction {
         Reduction::Sum => *so_far + i128::from(*number),

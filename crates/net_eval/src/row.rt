@@ -49,6 +49,21 @@ pub struct Keys<'s> {
     pub rows: Items<Row<'s>>,
 }
 
+/// A row at which the condition holds stands behind those found before.
+pub(crate) fn keep_if<'s>(
+    alloc: Global,
+    holds: bool,
+    row: &Row<'s>,
+    found: &mut Vec<Row<'s>>,
+) -> Result<(), AllocError>
+    ensures { IfOk result (λ _. found.new.items ≡ rows.keep row.now found.old.items holds) }
+{
+    if holds {
+        found.push(row.again(alloc)?)?;
+    }
+    Ok(())
+}
+
 /// Keys of so many members.
 pub(crate) fn as_keys<'s>(width: u8, found: Items<Row<'s>>) -> Keys<'s>
     ensures { result ≡ rows.keys width found.entry }

@@ -1,6 +1,7 @@
 //! Which tuples of a set an item of braces can agree with, as far as the dummies in scope at its left tell.
 
 ghost use Rattle.std.specs.Prelude.{◌≡◌, is_some};
+ghost use Rattle.net_sets.specs.Components.{sought};
 ghost use Rattle.net_tree.specs.View.{tree, links_of};
 ghost use Rattle.net_eval.specs.Items as items;
 ghost use Rattle.net_eval.specs.Selecting as select;
@@ -8,7 +9,7 @@ ghost use Rattle.net_eval.specs.Selecting as select;
 use crate::item::{bare, new_dummy, sides_of};
 use crate::scope::Scope;
 use crate::world::Seen;
-use net_sets::Member;
+use net_sets::{Held, Member, Walk};
 use net_tree::{Expr, Link};
 
 /// The member of a dummy in scope that stands alone.
@@ -103,4 +104,16 @@ pub(crate) fn selecting<'s>(
         None => None,
         Some((left, _)) => selecting_left(seen, scope, left),
     }
+}
+
+/// The tuples of an item's set, without those that the dummies in scope leave out.
+pub(crate) fn selected<'a, 'w, 's>(
+    seen: &Seen<'_, 's>,
+    scope: &Scope<'s>,
+    item: &Expr<'s>,
+    tuples: &'a Held<'w, 's>,
+) -> Walk<'a, 's>
+    ensures { result ≡ sought (select.selecting seen.now scope.now (tree item.now)) tuples.now }
+{
+    tuples.walk(selecting(seen, scope, item))
 }

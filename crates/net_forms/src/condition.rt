@@ -1,12 +1,13 @@
 //! Ranges of conditions.
 
-ghost use Rattle.std.specs.Prelude.{◌≡◌, ◌&&◌, ◌↔◌, ◌-ℤ◌, IsTrue, IfOk, IfErr, ℤ, not};
+ghost use Rattle.std.specs.Prelude.{◌≡◌, ◌&&◌, ◌↔◌, ◌-ℤ◌, IsTrue, IfOk, IfErr, ℤ, not, pos};
 ghost use Rattle.net_normal.specs.Assignments.{IsInRange};
 ghost use Rattle.net_tree.specs.Role as role;
 ghost use Rattle.net_tree.specs.View.{tree, condition_of};
 ghost use Rattle.net_eval.specs.Limits.{is_small};
 ghost use Rattle.net_forms.specs.Conditions as conditions;
 ghost use Rattle.net_forms.specs.Outcomes.{Answers};
+ghost use Rattle.net_forms.specs.declared.condition.Comparison.TheVariants.{Equal};
 
 use crate::fault::{FormDefect, FormFault, refuse};
 use crate::net_term::{NetTerm, net_side};
@@ -220,6 +221,13 @@ fn between<'s>(
     solved_twice(at, comparisons, terms, &low, &sum, &high)
 }
 
+/// What a node without a condition asks: as much flows in as out.
+fn balanced() -> Sides
+    ensures { result ≡ conditions.compared_with Equal (pos 0) }
+{
+    compared_with(Comparison::Equal, 0)
+}
+
 fn sides_of<'s>(
     alloc: Global,
     seen: &Seen<'_, 's>,
@@ -229,7 +237,7 @@ fn sides_of<'s>(
     ensures { Answers (conditions.sides_in seen.now scope.now (condition_of condition.now)) result }
 {
     match condition {
-        NetCond::Absent => Ok(compared_with(Comparison::Equal, 0)),
+        NetCond::Absent => Ok(balanced()),
         NetCond::One(_, left, operator, right) => one(alloc, seen, scope, left, operator, right),
         NetCond::Between(_, low, first, middle, second, high) => between(
             alloc,

@@ -188,6 +188,14 @@ fn modulo<'s>(
     }
 }
 
+/// A form less another.
+#[tactic(auto, unfolding(net_eval::specs::Limits::is_small))]
+fn less<'s>(whole: &Expr<'_>, left: Form, right: &Form) -> Result<Option<Form>, FormFault<'s>>
+    ensures { Answers (forms.sized (trees.span_of (tree whole.now)) (forms.combined left forms.minus_one right.now)) result }
+{
+    added(whole, left, &-1, right)
+}
+
 #[tactic(auto, unfolding(net_eval::specs::Limits::is_small))]
 fn joined<'s>(
     alloc: Global,
@@ -200,7 +208,7 @@ fn joined<'s>(
 {
     match joint {
         Joint::Plus => added(whole, left, &1, right),
-        Joint::Minus => added(whole, left, &-1, right),
+        Joint::Minus => less(whole, left, right),
         Joint::Times => times(alloc, whole, &left, right),
         Joint::Div => div(alloc, whole, &left, right),
         Joint::Mod => modulo(alloc, whole, &left, right),

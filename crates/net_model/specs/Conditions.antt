@@ -26,6 +26,10 @@ signed_net_next (t ∷ ts) = if is_sign (role_of t) then next_is is_net ts else 
 unfoldable pub net_at : Tokens → Read Tree
 net_at ts = expect sorts.Net awaiting.Other ts >>= λ w. read_as (net None w.0) w.1
 
+-- a net term, behind which no other may come
+abbrev pub only_net_at : Tokens → Read (Tree × Bool)
+only_net_at ts = net_at ts >>= λ x. read_as (x.0, false) x.1
+
 unfoldable pub signed_net_at : Tokens → Read Tree
 signed_net_at ts = expect sorts.Sign awaiting.Other ts >>= λ s. expect sorts.Net awaiting.Other s.1 >>= λ w. read_as (net (Some s.0) w.0) w.1
 

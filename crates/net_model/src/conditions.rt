@@ -25,6 +25,17 @@ fn net_at<'t, 's>(alloc: Global, tokens: &mut Cursor<'t, 's>) -> Result<Carried<
     Ok(Carried::new(Expr::Net(parts)))
 }
 
+/// A net term, behind which no other may come.
+fn only_net_at<'t, 's>(
+    alloc: Global,
+    tokens: &mut Cursor<'t, 's>,
+) -> Result<(Carried<Expr<'s>>, bool), Stop>
+    ensures value { Gives (λ x. (tree x.0, x.1)) result tokens.new (grammar.only_net_at tokens.old) }
+    ensures shorter { IfOk result (λ x. length tokens.new < length tokens.old) }
+{
+    Ok((net_at(alloc, tokens)?, false))
+}
+
 /// `- net_in`
 #[tactic(auto, using(net_tree::proofs::Views::views), unfolding(crate::specs::Conditions::signed_net_at))]
 fn signed_net_at<'t, 's>(
@@ -52,7 +63,7 @@ fn term_at<'t, 's>(
     ensures shorter { IfOk result (λ x. length tokens.new < length tokens.old) }
 {
     if free && tokens.next_is(Sort::Net) {
-        Ok((net_at(alloc, tokens)?, false))
+        only_net_at(alloc, tokens)
     } else {
         Ok((climb_to(alloc, depth, 2, tokens)?, free))
     }

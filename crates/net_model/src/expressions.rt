@@ -10,6 +10,7 @@ ghost use Rattle.net_model.specs.declared.sort.Sort.TheVariants as sorts;
 
 use crate::carried::Carried;
 use crate::cursor::{Cursor, expect, operator_at};
+use crate::place::{body_place, right_place};
 use crate::sort::Sort;
 use crate::stop::{Awaiting, Stop};
 use crate::trees::{chained, is_none, is_sum};
@@ -406,10 +407,23 @@ fn reduced_inside<'t, 's>(
     ensures shorter { IfOk result (λ x. length tokens.new < length tokens.old) }
 {
     let braces = braces_of(alloc, depth, tokens)?;
-    let body = climb_to(alloc, depth, 2, tokens)?;
+    let body = body_inside(alloc, depth, tokens)?;
     let body = Boxed::new(Box::new(alloc, body.into_inner())?);
     let front = Boxed::new(Box::new(alloc, (word, braces.into_inner()))?);
     Ok(Carried::new(Expr::Reduced(front, body)))
+}
+
+/// What a reduction takes behind its braces.
+#[cycle(parser)]
+fn body_inside<'t, 's>(
+    alloc: Global,
+    depth: u8,
+    tokens: &mut Cursor<'t, 's>,
+) -> Result<Carried<Expr<'s>>, Stop>
+    ensures value { Gives tree result tokens.new (grammar.climb 2 (unary (inside depth)) tokens.old) }
+    ensures shorter { IfOk result (λ x. length tokens.new < length tokens.old) }
+{
+    climb_to(alloc, depth, body_place(), tokens)
 }
 
 /// An `if`, or a tree for this place.
@@ -560,8 +574,22 @@ fn chain_of<'t, 's>(
     ensures shorter { IfOk result (λ x. length tokens.new < length tokens.old) }
 {
     let first = climb_to(alloc, depth, place, tokens)?;
-    let more = links_from(alloc, depth, place, place, tokens)?;
+    let more = chain_links(alloc, depth, place, tokens)?;
     Ok(chained(alloc, place, first, more)?)
+}
+
+/// The links of a chain whose first operand has this rank.
+#[cycle(parser)]
+fn chain_links<'t, 's>(
+    alloc: Global,
+    depth: u8,
+    place: u8,
+    tokens: &mut Cursor<'t, 's>,
+) -> Result<Items<Link<'s>>, Stop>
+    ensures value { Gives links_of result tokens.new (grammar.all_links place (grammar.climb place (unary (inside depth))) tokens.old) }
+    ensures shorter { IfOk result (λ x. length tokens.new ≤ length tokens.old) }
+{
+    links_from(alloc, depth, place, right_place(place), tokens)
 }
 
 /// The links that tokens of this level join, with operands for this place.

@@ -12,6 +12,7 @@ mod model;
 mod parse;
 mod phrase;
 mod phrases;
+mod place;
 mod sort;
 mod stop;
 mod trees;

@@ -1,4 +1,4 @@
-ghost use Rattle.std.specs.Prelude.{IfOk, IfErr};
+ghost use Rattle.std.specs.Prelude.{◌≡◌, IfOk, IfErr};
 ghost use Rattle.net_tree.specs.View.{model};
 ghost use Rattle.net_model.specs.Declarations.{model_at, nesting_limit};
 ghost use Rattle.net_model.specs.Faults.{Tells};
@@ -10,6 +10,13 @@ use crate::fault::{ModelFault, told};
 use net_lex::Token;
 use net_tree::Model;
 use std::alloc::Global;
+
+/// How many nestings may be opened, each in the one before.
+fn deepest() -> u8
+    ensures { result ≡ nesting_limit }
+{
+    64
+}
 
 /// The declarations that the tokens of a model text are, without a look at their names.
 pub fn parse_declarations<'s>(
@@ -25,7 +32,7 @@ pub fn parse_declarations<'s>(
     ensures refused { IfErr result (IsRefused tokens.now) }
 {
     let mut cursor = Cursor::new(tokens);
-    match declarations(alloc, 64, &mut cursor) {
+    match declarations(alloc, deepest(), &mut cursor) {
         Ok(declarations) => Ok(Model { declarations }),
         Err(stop) => Err(told(stop, tokens)),
     }

@@ -189,6 +189,12 @@ fn comma_at<'t, 's>(tokens: &mut Cursor<'t, 's>) -> Result<Option<Token<'s>>, St
     }
 }
 
+fn phrase_of<'s>(comma: Option<Token<'s>>, word: Token<'s>, body: Body<'s>) -> Phrase<'s>
+    ensures { view.phrase_of result ≡ record { comma = comma.entry; word = word.entry; body = view.body_of body.entry } }
+{
+    Phrase { comma, word, body }
+}
+
 /// A phrase behind its comma, and what stood with it.
 #[tactic(auto, unfolding(crate::specs::Phrases::worded))]
 fn worded<'t, 's>(
@@ -214,7 +220,7 @@ fn worded<'t, 's>(
         None => Err(Stop::Refused(left, Awaiting::Phrase)),
         Some(slot) => {
             let body = body_of(alloc, depth, slot, tokens)?;
-            Ok((Phrase { comma, word, body }, and_then_stood(stood, role)))
+            Ok((phrase_of(comma, word, body), and_then_stood(stood, role)))
         }
     }
 }

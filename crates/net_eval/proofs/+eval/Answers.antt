@@ -1,17 +1,17 @@
-use Rattle.std.proofs.Common.{◌≡◌, ◌∷◌, false, rules, refl, Ok, length, take, ◌-◌, sym, ap, ◌∙◌, ◌+◌, drop, arith}
+use Rattle.std.proofs.Common.{◌≡◌, ◌*◌, ◌^◌, ◌∷◌, false, rules, refl, Ok, length, take, ◌-◌, sym, ap, ◌∙◌, ◌+◌, drop, arith}
 use Rattle.std.proofs.lemmas.Result.{err_from_is_err_and}
 use Rattle.net_tree.specs.declared.expr.Series.{out-Series}
 use Rattle.net_tree.specs.View.{tree, links_of, braces_of, option_part}
 use Rattle.net_tree.proofs.Views.{views}
 use Rattle.net_tree.specs.Spans.{span_of}
 use Rattle.net_eval.specs.Outcomes.{and_then}
-use Rattle.net_eval.specs.Rows.{reduce}
-use Rattle.net_eval.specs.Values.{value, values, index, walk, places}
+use Rattle.net_eval.specs.Rows.{reduce, kept, keys}
+use Rattle.net_eval.specs.Values.{value, values, index, walk, places, holds}
 use Rattle.net_tree.specs.Tree.{link}
 use Rattle.net_tree.specs.Weights.{weights}
 use Rattle.net_eval.specs.Walks.{index_items, component_places}
 use Rattle.net_eval.proofs.Cases.{in_indexed, in_parens, in_tuple, in_negated, in_signed, in_reduced, in_chain, in_choice, in_filled}
-use Rattle.net_eval.proofs.Walking.{answers_by, is_tuple, value-indexed, value-tuple, value-negated, value-signed, value-reduced, value-chain, value-choice, index-filled, left-tuple, left-other, place-sides, link_lighter, stops, goes, leaves_by, leaves_answers, from_start, ok_same, split_first, rest_first, walk-step, chained-left, values-left, unconditioned}
+use Rattle.net_eval.proofs.Walking.{answers_by, is_tuple, value-indexed, value-tuple, value-negated, value-signed, value-reduced, value-chain, value-choice, index-filled, left-tuple, left-other, place-sides, link_lighter, stops, goes, leaves_by, leaves_answers, from_start, ok_same, split_first, rest_first, walk-step, chained-left, values-left, kept-left, gathered-left, if_some_by, unconditioned}
 use Rattle.net_eval.proofs.Passing.{selected_from}
 use Rattle.net_eval.proofs.+eval.Goals as goal
 
@@ -145,10 +145,56 @@ fitting::place_at-returns-in-Some t c =
 
 pub keys::through-loop-tuple-init : goal.keys::through-loop-tuple-init
 keys::through-loop-tuple-init t c =
-    selected_from c.args.seen.now (tree c.args.item.now) _ c.args.place.now c.args.tuples c.walk-left.result c.selecting.result c.args.found.now.items c.selecting.ensures c.walk-left.ensures
+    selected_from c.args.seen.now (tree c.args.item.now) _ c.args.place.now c.args.tuples c.selected-left.result c.args.found.now.items c.selected-left.ensures
+
+pub keys::keep-loop-row-preserved : goal.keys::keep-loop-row-preserved
+keys::keep-loop-row-preserved t c =
+    ap (kept (λ q. holds c.args.at c.args.seen.now q (option_part c.args.condition.now)) (drop (c.loop-row.row-index + 1) c.as_slice-rows.result.now)) c.in_ok-keep_if.ensures
+    ∙ sym (goes _ _ _ _
+    (kept-left (λ q. holds c.args.at c.args.seen.now q (option_part c.args.condition.now)) c.as_slice-rows.result.now c.loop-row.row-index c.row-item.result c.loop-row.kept.items _ c.loop-row-test.true c.row-item.is c.loop-row.invariant)
+    c.in_ok-holds.ensures)
 
 pub keys::keep-returns-then-not-has_part : goal.keys::keep-returns-then-not-has_part
 keys::keep-returns-then-not-has_part t c = unconditioned c.args.at c.args.seen.now (option_part c.args.condition.now) c.args.width c.args.found (sym c.has_part.ensures ∙ c.if-not-has_part.true) ∙ ap Ok (sym c.as_keys.ensures)
+
+pub keys::keep-returns-in_err-holds : goal.keys::keep-returns-in_err-holds
+keys::keep-returns-in_err-holds t c =
+    let y = err_from_is_err_and c.from_residual.result c.from_residual.ensures.1 in
+    rw y.1 (rw y.2
+    (stops _ (λ left. Ok (keys c.args.width left)) _ c.in_err-holds.field-0.0 refl
+    (stops _ _ _ c.in_err-holds.field-0.0
+    (kept-left (λ q. holds c.args.at c.args.seen.now q (option_part c.args.condition.now)) c.as_slice-rows.result.now c.loop-row.row-index c.row-item.result c.loop-row.kept.items _ c.loop-row-test.true c.row-item.is c.loop-row.invariant)
+    c.in_err-holds.ensures)))
+
+pub eval::gather-returns-in_err-value : goal.eval::gather-returns-in_err-value
+eval::gather-returns-in_err-value t c =
+    let y = err_from_is_err_and c.from_residual.result c.from_residual.ensures.1 in
+    rw y.1 (rw y.2
+    (stops _ _ _ c.in_err-value.field-0.0
+    (gathered-left (span_of (tree c.args.whole.now)) c.args.reduction (λ q. value c.args.seen.now q (tree c.args.body.now)) c.as_slice-rows.result.now c.loop-row.row-index c.row-item.result c.loop-row.so_far _ c.loop-row-test.true c.row-item.is c.loop-row.invariant.same)
+    c.in_err-value.ensures))
+
+pub eval::gather-returns-in_err-so_far : goal.eval::gather-returns-in_err-so_far
+eval::gather-returns-in_err-so_far t c =
+    let y = err_from_is_err_and c.from_residual-in_err-so_far.result c.from_residual-in_err-so_far.ensures.1 in
+    rw y.1 (rw y.2
+    (stops _ _ _ c.in_err-so_far.field-0.0
+    (goes _ _ _ _
+    (gathered-left (span_of (tree c.args.whole.now)) c.args.reduction (λ q. value c.args.seen.now q (tree c.args.body.now)) c.as_slice-rows.result.now c.loop-row.row-index c.row-item.result c.loop-row.so_far _ c.loop-row-test.true c.row-item.is c.loop-row.invariant.same)
+    c.in_ok-value.ensures)
+    c.in_err-so_far.ensures.value))
+
+pub eval::gather-loop-row-preserved : goal.eval::gather-loop-row-preserved
+eval::gather-loop-row-preserved t c =
+    record {
+      same =
+          sym (goes _ _ _ _
+          (goes _ _ _ _
+          (gathered-left (span_of (tree c.args.whole.now)) c.args.reduction (λ q. value c.args.seen.now q (tree c.args.body.now)) c.as_slice-rows.result.now c.loop-row.row-index c.row-item.result c.loop-row.so_far _ c.loop-row-test.true c.row-item.is c.loop-row.invariant.same)
+          c.in_ok-value.ensures)
+          c.in_ok-so_far.ensures.value);
+      small = if_some_by c.in_ok-so_far.so_far (c.loop-row.row-index * 2 ^ 63 + 2 ^ 63) ((c.loop-row.row-index + 1) * 2 ^ 63) (omega arith) (c.in_ok-so_far.ensures.small (c.loop-row.row-index * 2 ^ 63) c.loop-row.invariant.small);
+    }
 
 pub fitting::components-returns-in_ok-here-in-len1-up : goal.fitting::components-returns-in_ok-here-in-len1-up
 fitting::components-returns-in_ok-here-in-len1-up t c =

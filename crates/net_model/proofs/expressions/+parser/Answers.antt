@@ -40,6 +40,12 @@ climb_to-returns-then-place-lt2-clause-value t c = rw (climb-low c.args.place (u
 pub climb_to-returns-else-place-lt2-clause-value : goal.climb_to-returns-else-place-lt2-clause-value
 climb_to-returns-else-place-lt2-clause-value t c = rw (climb-high c.args.place (unary (inside c.args.depth)) c.if-place-lt2.false) c.chain_of.ensures.value
 
+pub body_inside-returns-clause-value : goal.body_inside-returns-clause-value
+body_inside-returns-clause-value t c = rw c.body_place.ensures at c.climb_to.ensures.value
+
+pub chain_links-returns-clause-value : goal.chain_links-returns-clause-value
+chain_links-returns-clause-value t c = rw c.right_place.ensures at c.links_from.ensures.value
+
 pub links_from-returns-in_err-operator-clause-value : goal.links_from-returns-in_err-operator-clause-value
 links_from-returns-in_err-operator-clause-value t c =
     let same : c.len.result ≡ length c.loop-alloc.found.items = omega (arith, c.len.ensures, c.loop-alloc.found.ok) in

@@ -46,6 +46,9 @@ decreases-filter_of l = 100 * l.depth + 70
 abbrev pub decreases-reduced_inside : goal.decreases-reduced_inside
 decreases-reduced_inside l = 100 * l.depth + 80
 
+abbrev pub decreases-body_inside : goal.decreases-body_inside
+decreases-body_inside l = 100 * l.depth + 11
+
 abbrev pub decreases-wide_of : goal.decreases-wide_of
 decreases-wide_of l = 100 * l.depth + 4 * l.place + 10
 
@@ -68,7 +71,10 @@ abbrev pub decreases-climb_to : goal.decreases-climb_to
 decreases-climb_to l = 100 * l.depth + 4 * l.place + 2
 
 abbrev pub decreases-chain_of : goal.decreases-chain_of
-decreases-chain_of l = 100 * l.depth + 4 * l.place + 4
+decreases-chain_of l = 100 * l.depth + 4 * l.place + 5
+
+abbrev pub decreases-chain_links : goal.decreases-chain_links
+decreases-chain_links l = 100 * l.depth + 4 * l.place + 4
 
 abbrev pub decreases-links_from : goal.decreases-links_from
 decreases-links_from l = 100 * l.depth + 4 * l.place + 3
