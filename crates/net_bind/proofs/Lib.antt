@@ -6,5 +6,6 @@ pub mod Fresh
 mod Examples
 pub mod NewNames
 pub mod RowsTaken
+pub mod Products
 pub mod Claiming
 pub mod HeldSets

@@ -5,6 +5,8 @@ pub mod Cells
 pub mod Names
 pub mod Kept
 pub mod Mentions
+pub mod Factors
+pub mod Fences
 pub mod SetPhrases
 pub mod SetData
 pub mod BoundSets

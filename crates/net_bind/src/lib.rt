@@ -3,7 +3,9 @@
 
 mod cell;
 mod check;
+mod crossing;
 mod fault;
+mod fence;
 mod given;
 mod group;
 mod item;

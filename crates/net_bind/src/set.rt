@@ -22,7 +22,7 @@ use crate::set_phrase::{Claim, Claims, SetPhrase, assigned, set_phrases};
 use net_data::Members;
 use net_eval::{Detail, Entry, EvalDefect, Seen};
 use net_lex::{Items, Language, Token};
-use net_sets::{IndexedSet, SetFault, TupleSet, is_within};
+use net_sets::{IndexedSet, SetFault, TupleSet};
 use net_tree::Phrase;
 use std::alloc::{AllocError, Global};
 
@@ -214,7 +214,7 @@ fn is_allowed<'s>(set: &TupleSet<'s>, claim: &Claim<'_, 's>) -> bool
     ensures { result ≡ bound.is_allowed set.now claim.now }
 {
     match claim {
-        Claim::Within(_, within) => is_within(set, within.get()),
+        Claim::Within(_, fence) => fence.holds(set),
         Claim::Nothing => true,
         Claim::Dimension(_) => true,
         Claim::Becomes(_, _) => true,

@@ -1,14 +1,16 @@
 //! Phrases of a set's declaration: `dimen 2`, `within S`, `:= {1, 2}`.
 
-ghost use Rattle.std.specs.Prelude.{◌≡◌, None, map};
-ghost use Rattle.std.specs.Option.{option_copied};
+ghost use Rattle.std.specs.Prelude.{◌≡◌, None, Ok, map};
+ghost use Rattle.std.specs.Option.{option_copied, IfSome};
 ghost use Rattle.net_tree.specs.Spans as trees;
 ghost use Rattle.net_tree.specs.View.{tree, body_of, phrase_of};
 ghost use Rattle.net_bind.specs.Outcomes.{Answers};
 ghost use Rattle.net_bind.specs.SetPhrases as phrases;
 ghost use Rattle.net_bind.specs.declared.set_phrase.SetWord.TheVariants as words;
 
+use crate::crossing::crossed;
 use crate::fault::{BindFault, refuse};
+use crate::fence::Fence;
 use net_eval::{EvalDefect, Scope, Seen, Value, evaluate};
 use net_lex::{Items, Span};
 use net_sets::{Held, Member, TupleSet};
@@ -31,7 +33,7 @@ pub(crate) enum Claim<'w, 's> {
     /// `dimen 2`
     Dimension(u8),
     /// `within S`
-    Within(Option<u8>, Held<'w, 's>),
+    Within(Option<u8>, Fence<'w, 's>),
     /// `:= {1, 2}`
     Becomes(Option<u8>, Held<'w, 's>),
 }
@@ -95,7 +97,7 @@ fn within<'w, 's>(at: Span, value: Value<'w, 's>) -> Result<Claim<'w, 's>, BindF
     ensures { Answers (phrases.claimed words.Within at value.entry) result }
 {
     match value {
-        Value::Many(dimension, set) => Ok(Claim::Within(dimension, set)),
+        Value::Many(dimension, set) => Ok(Claim::Within(dimension, Fence::whole(set))),
         Value::One(_member) => Err(refuse(EvalDefect::KindMismatch, at)),
         Value::Several(_tuple) => Err(refuse(EvalDefect::KindMismatch, at)),
         Value::Truth(_) => Err(refuse(EvalDefect::KindMismatch, at)),
@@ -113,7 +115,7 @@ fn becomes<'w, 's>(at: Span, value: Value<'w, 's>) -> Result<Claim<'w, 's>, Bind
     }
 }
 
-fn set_phrase<'w, 's>(
+fn evaluated_phrase<'w, 's>(
     alloc: Global,
     seen: &Seen<'w, 's>,
     word: SetWord,
@@ -125,6 +127,38 @@ fn set_phrase<'w, 's>(
     let at = span_of(expr);
     let claim = claimed(word, at, value)?;
     Ok(SetPhrase { at, claim })
+}
+
+/// What a set has to be within where the expression is a product that needs no listing.
+fn crossed_phrase<'w, 's>(
+    alloc: Global,
+    seen: &Seen<'w, 's>,
+    expr: &Expr<'s>,
+) -> Option<SetPhrase<'w, 's>>
+    ensures { IfSome result (λ p. phrases.set_phrase seen.now words.Within (tree expr.now) ≡ Ok p) }
+{
+    let (dimension, fence) = crossed(alloc, seen, expr)?;
+    Some(SetPhrase {
+        at: span_of(expr),
+        claim: Claim::Within(Some(dimension), fence),
+    })
+}
+
+fn set_phrase<'w, 's>(
+    alloc: Global,
+    seen: &Seen<'w, 's>,
+    word: SetWord,
+    expr: &Expr<'s>,
+) -> Result<SetPhrase<'w, 's>, BindFault<'s>>
+    ensures { Answers (phrases.set_phrase seen.now word (tree expr.now)) result }
+{
+    match word {
+        SetWord::Within => match crossed_phrase(alloc, seen, expr) {
+            Some(phrase) => Ok(phrase),
+            None => evaluated_phrase(alloc, seen, word, expr),
+        },
+        _ => evaluated_phrase(alloc, seen, word, expr),
+    }
 }
 
 fn dimension_of(claim: &Claim<'_, '_>) -> Option<u8>

@@ -1,0 +1,135 @@
+//! Sets of the form `A cross B`, of which the two factors are enough.
+
+ghost use Rattle.std.specs.Prelude.{◌≡◌, [], Ok, Some};
+ghost use Rattle.std.specs.Option.{option_map, IfSome};
+ghost use Rattle.net_lex.specs.declared.span.Span.{Span as Place};
+ghost use Rattle.net_tree.specs.View.{tree, links_of};
+ghost use Rattle.net_eval.specs.Sets as sets;
+ghost use Rattle.net_eval.specs.Values.{value as value_of};
+ghost use Rattle.net_eval.specs.declared.value.Value.TheVariants.{Many};
+ghost use Rattle.net_bind.specs.Factors as forms;
+
+use crate::fence::Fence;
+use net_eval::{Scope, Seen, Value, evaluate};
+use net_sets::{Held, TupleSet, narrowest, widest};
+use net_tree::{Expr, Link, Operator};
+use std::alloc::Global;
+
+/// How many tuples a set may have.
+const TUPLES_LIMIT: usize = 1_000_000;
+
+#[tactic(auto, unfolding(crate::specs::Factors::is_cross))]
+fn is_cross(operator: &Operator<'_>) -> bool
+    ensures { result ≡ forms.is_cross operator.now }
+{
+    match operator {
+        Operator::One(token) => token.text.as_str() == "cross",
+        Operator::Two(_, _) => false,
+    }
+}
+
+/// What stands behind a lone `cross`.
+fn behind_cross<'a, 's>(links: &'a [Link<'s>]) -> Option<&'a Expr<'s>>
+    ensures { option_map (λ x. tree x.now) result ≡ forms.behind_cross (links_of links.entry.now) }
+{
+    match links {
+        [] => None,
+        [link] => {
+            if is_cross(&link.operator) {
+                Some(&link.operand)
+            } else {
+                None
+            }
+        }
+        [_, _, ..] => None,
+    }
+}
+
+/// The two sides of `A cross B`, in parentheses or not.
+#[tactic(auto, using(net_tree::proofs::Views::views))]
+fn factors<'a, 's>(expr: &'a Expr<'s>) -> Option<(&'a Expr<'s>, &'a Expr<'s>)>
+    ensures { option_map (λ p. (tree p.0.now, tree p.1.now)) result ≡ forms.factors (tree expr.entry.now) }
+{
+    match expr {
+        Expr::Parens(parts) => factors(&parts.get().1),
+        Expr::Chain(_, operands) => {
+            let series = operands.get();
+            match behind_cross(series.more.as_slice()) {
+                None => None,
+                Some(second) => Some((&series.first, second)),
+            }
+        }
+        Expr::Leaf(_) | Expr::Indexed(_) | Expr::Tuple(_) | Expr::Negated(_) => None,
+        Expr::Braced(_) | Expr::Signed(_) | Expr::Reduced(_, _) => None,
+        Expr::Choice(_, _, _) | Expr::Net(_) => None,
+    }
+}
+
+/// The set that an expression is, if it is one.
+fn set_of<'w, 's>(
+    alloc: Global,
+    seen: &Seen<'w, 's>,
+    expr: &Expr<'s>,
+) -> Option<(Option<u8>, Held<'w, 's>)>
+    ensures { IfSome result (λ p. value_of seen.now [] (tree expr.now) ≡ Ok (Many p.0 p.1)) }
+{
+    match evaluate(alloc, seen, &Scope::new(alloc), expr) {
+        Ok(Value::Many(dimension, set)) => Some((dimension, set)),
+        Ok(Value::One(_member)) => None,
+        Ok(Value::Several(_tuple)) => None,
+        Ok(Value::Truth(_)) => None,
+        Err(_fault) => None,
+    }
+}
+
+/// `{}` counts as of one component.
+fn counted(dimension: Option<u8>) -> usize
+    ensures { result ≡ sets.counted dimension }
+{
+    match dimension {
+        None => 1,
+        Some(dimension) => usize::from(dimension),
+    }
+}
+
+/// Whether the product of two sets is a set that can be kept as its factors.
+fn can_part(d: Option<u8>, first: &TupleSet<'_>, e: Option<u8>, second: &TupleSet<'_>) -> bool
+    ensures { result ≡ forms.can_part d first.now e second.now }
+{
+    counted(d) + counted(e) <= 4
+        && widest(first) + widest(second) <= 4
+        && widest(first) <= narrowest(first)
+        && first.len() * second.len() <= TUPLES_LIMIT
+}
+
+/// The product of two sets and its dimension, where it can be kept as its factors.
+fn product<'w, 's>(
+    d: Option<u8>,
+    first: Held<'w, 's>,
+    e: Option<u8>,
+    second: Held<'w, 's>,
+) -> Option<(u8, Fence<'w, 's>)>
+    ensures { IfSome result (λ p. (at : Place) → sets.cross at d first.entry e second.entry ≡ Ok (Many (Some p.0) p.1)) }
+{
+    if can_part(d, first.get(), e, second.get()) {
+        let size = counted(d) + counted(e);
+        let width = widest(first.get());
+        Some((size as u8, Fence::crossed(width, first, second)))
+    } else {
+        None
+    }
+}
+
+/// The product that an expression is by its form, and its dimension, where it can be kept as its factors.
+pub(crate) fn crossed<'w, 's>(
+    alloc: Global,
+    seen: &Seen<'w, 's>,
+    expr: &Expr<'s>,
+) -> Option<(u8, Fence<'w, 's>)>
+    ensures { IfSome result (λ p. value_of seen.now [] (tree expr.now) ≡ Ok (Many (Some p.0) p.1)) }
+{
+    let (left, right) = factors(expr)?;
+    let (d, first) = set_of(alloc, seen, left)?;
+    let (e, second) = set_of(alloc, seen, right)?;
+    product(d, first, e, second)
+}

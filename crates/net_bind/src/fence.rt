@@ -1,0 +1,106 @@
+//! What a set has to be within.
+
+ghost use Rattle.std.specs.Prelude.{◌≡◌, ◌≤◌, [], length};
+ghost use Rattle.net_sets.specs.Limits.{arity_limit};
+ghost use Rattle.net_sets.specs.Operations.{union, product, is_within};
+ghost use Rattle.net_sets.specs.Sets.{has};
+ghost use Rattle.net_bind.specs.Fences.{AreLong};
+
+use net_sets::{Held, Member, Tuple, TupleSet};
+use std::marker::Model;
+
+/// How the tuples of a fence are known.
+#[derive(Drop)]
+enum Extent<'w, 's> {
+    Whole(Held<'w, 's>),
+    /// The product of two sets, and how many members each tuple of the first has.
+    Crossed(usize, Held<'w, 's>, Held<'w, 's>),
+}
+
+/// What a set has to be within, which contracts see as the list of its tuples. A product is kept as its two factors.
+#[derive(Drop)]
+pub(crate) struct Fence<'w, 's> {
+    extent: Extent<'w, 's>,
+}
+
+impl<'w, 's> Model for Fence<'w, 's> {
+    ghost use Rattle.std.specs.Prelude.{List};
+    ghost use Rattle.net_sets.specs.declared.member.Member.{Member};
+    ghost use Rattle.net_bind.specs.Fences.{tuples_within, IsParted};
+
+    ghost Value = { List (List Member) };
+
+    ghost view = { λ f. tuples_within f.extent };
+
+    ghost invariant = { λ f. IsParted f.extent };
+}
+
+/// The tuple of these members.
+fn tuple_of<'s>(members: &[Member<'s>]) -> Tuple<'s>
+    requires { length members.now ≤ arity_limit }
+    ensures { result ≡ members.now }
+{
+    let mut tuple = Tuple::new();
+    for member in members {
+        tuple.add(member.again());
+    }
+    tuple
+}
+
+/// Whether the product of two sets has a tuple: the first has its front, the second the rest.
+fn is_crossed<'s>(
+    width: usize,
+    first: &TupleSet<'s>,
+    second: &TupleSet<'s>,
+    tuple: &Tuple<'s>,
+) -> bool
+    requires { AreLong width first.now }
+    ensures { result ≡ has (union [] (product first.now second.now)) tuple.now }
+{
+    let members = tuple.as_slice();
+    let (front, back) = members.split_at(width.min(members.len()));
+    first.contains(&tuple_of(front)) && second.contains(&tuple_of(back))
+}
+
+impl<'w, 's> Fence<'w, 's> {
+    pub(crate) fn whole(set: Held<'w, 's>) -> Fence<'w, 's>
+        ensures { result ≡ set.entry }
+    {
+        Fence {
+            extent: Extent::Whole(set),
+        }
+    }
+
+    /// The product of two sets; the tuples of the first have `width` members.
+    pub(crate) fn crossed(width: usize, first: Held<'w, 's>, second: Held<'w, 's>) -> Fence<'w, 's>
+        requires { AreLong width first }
+        ensures { result ≡ union [] (product first.entry second.entry) }
+    {
+        Fence {
+            extent: Extent::Crossed(width, first, second),
+        }
+    }
+
+    fn contains(&self, tuple: &Tuple<'s>) -> bool
+        ensures { result ≡ has self.now tuple.now }
+    {
+        match &self.extent {
+            Extent::Whole(set) => set.get().contains(tuple),
+            Extent::Crossed(width, first, second) => {
+                is_crossed(*width, first.get(), second.get(), tuple)
+            }
+        }
+    }
+
+    /// Whether each tuple of the set is one of the fence.
+    pub(crate) fn holds(&self, set: &TupleSet<'s>) -> bool
+        ensures { result ≡ is_within set.now self.now }
+    {
+        for tuple in set.as_slice() {
+            if !self.contains(tuple) {
+                return false;
+            }
+        }
+        true
+    }
+}
