@@ -156,6 +156,13 @@ impl<'s> NodeDraft<'s> {
         self.ranges.len()
     }
 
+    /// The number of the next node.
+    fn next_number(&self) -> u32
+        ensures { result ≡ length self.now.ranges }
+    {
+        self.len() as u32
+    }
+
     /// The keys of a declared name, and the number of its first node.
     pub(crate) fn keys_of(&self, name: &Excerpt<'s>) -> Option<&ArcKeys<'s>>
         ensures { option_copied result ≡ declared self.now.group.numbers name.now }
@@ -174,8 +181,8 @@ impl<'s> NodeDraft<'s> {
     ) -> Result<NodeDraft<'s>, InstFault<'s>>
         ensures { Answers (nodes.nodes_by seen.now name.now (condition_of condition.now) self.entry indexing.now) result }
     {
+        let first = self.next_number();
         let NodeDraft { mut ranges, group } = self;
-        let first = ranges.len() as u32;
         let rows = indexing.rows.as_slice();
         push_ranges(
             alloc,
