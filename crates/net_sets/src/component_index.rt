@@ -70,7 +70,7 @@ pub(crate) fn chains_of<'s>(
     ensures { IfOk result (IsIndexFrom component tuples.now 0) }
 {
     let size = tuples.len();
-    let mut next = Vec::new(alloc);
+    let mut next = Vec::with_capacity(alloc, size)?;
     for _ in 0..size {
         next.push(size)?;
     }

@@ -38,6 +38,8 @@ impl<'s> IndexedSet<'s> {
         let width = widest(&set);
         let indexed = if width < 2 { 0 } else { width };
         let narrowest = narrowest(&set);
+        let mut set = set;
+        set.shrink_to_fit();
         let mut components = Vec::new(alloc);
         for component in 0..indexed {
             components.push(chains_of(alloc, component, set.as_slice())?)?;

@@ -1,4 +1,4 @@
-ghost use Rattle.std.specs.Prelude.{◌≡◌, ◌<◌, ◌+◌, ◌-◌, ◌∷◌, [], ◌++◌, length, take, MatchOption, OnOk};
+ghost use Rattle.std.specs.Prelude.{◌≡◌, ◌<◌, ◌+◌, ◌-◌, ◌∷◌, [], ◌++◌, length, take, IsTrue, MatchOption, OnOk};
 ghost use Rattle.std.specs.Ordering.{nat_cmp};
 ghost use Rattle.std.specs.Cmp.Lexicographic.{slice_cmp};
 ghost use Rattle.net_lex.specs.Characters.{is_quote};
@@ -13,21 +13,20 @@ use std::marker::Model;
 /// string with its bytes.
 #[derive(Drop)]
 pub struct Text<'s> {
+    /// A string as it is written, where a delimiter may stand doubled in it or the text begins with a quote; else the text.
     bytes: &'s [u8],
-    /// The delimiter, where it may stand doubled between these bytes.
-    doubled: Option<u8>,
 }
 
 impl<'s> Model for Text<'s> {
     ghost use Rattle.std.specs.Prelude.{ℕ, List};
     ghost use Rattle.std.specs.Coded.{coded_list, coded_ℕ};
-    ghost use Rattle.net_sets.specs.Texts.{spelled};
+    ghost use Rattle.net_sets.specs.Texts.{text_of};
 
     ghost Value = { List ℕ };
 
     ghost coded = { coded_list coded_ℕ };
 
-    ghost view = { λ t. spelled t.doubled t.bytes.now };
+    ghost view = { λ t. text_of t.bytes.now };
 }
 
 /// What is left behind the first byte, and behind the second of a doubled delimiter.
@@ -67,39 +66,65 @@ fn without_last(bytes: &[u8]) -> &[u8]
     }
 }
 
+/// Whether bytes do not begin with a quote, and so are a text as it is.
+fn is_plain(bytes: &[u8]) -> bool
+    ensures { IsTrue result → text_of bytes.now ≡ bytes.now }
+{
+    match bytes {
+        [] => true,
+        [first, ..] => !is_quote(*first),
+    }
+}
+
+/// What spells a text: bytes, and the delimiter that may stand doubled between them.
+fn spelling(bytes: &[u8]) -> (&[u8], Option<u8>)
+    ensures { spelled result.1 result.0.now ≡ text_of bytes.now }
+{
+    match bytes {
+        [quote, behind @ ..] if is_quote(*quote) => (without_last(behind), Some(*quote)),
+        _ => (bytes, None),
+    }
+}
+
+/// What stands between two delimiters, where this is the text as it is; else the string.
+fn unquoted<'a>(string: &'a [u8], delimiter: u8, between: &'a [u8]) -> &'a [u8]
+    requires { text_of string.now ≡ single delimiter between.now }
+    ensures { text_of result.now ≡ text_of string.now }
+{
+    if is_plain(between) && !between.contains(&delimiter) {
+        between
+    } else {
+        string
+    }
+}
+
+/// The text of a token as it is, where it stands so in the token; else the token.
+fn shortest(token: &[u8]) -> &[u8]
+    ensures { text_of result.now ≡ text_of token.now }
+{
+    match token {
+        [quote, behind @ ..] if is_quote(*quote) => unquoted(token, *quote, without_last(behind)),
+        _ => token,
+    }
+}
+
 impl<'s> Text<'s> {
     /// The text of a token that is a name or a string.
     pub fn new(token: &Excerpt<'s>) -> Text<'s>
         ensures { result ≡ text_of token.now }
     {
-        let bytes = token.as_str().as_bytes();
-        match bytes {
-            [quote, behind @ ..] if is_quote(*quote) => Text::between(*quote, without_last(behind)),
-            _ => Text {
-                bytes,
-                doubled: None,
-            },
+        Text {
+            bytes: shortest(token.as_str().as_bytes()),
         }
-    }
-
-    /// The text between two delimiters.
-    fn between(delimiter: u8, bytes: &'s [u8]) -> Text<'s>
-        ensures { result ≡ single delimiter bytes.now }
-    {
-        let doubled = if bytes.contains(&delimiter) {
-            Some(delimiter)
-        } else {
-            None
-        };
-        Text { bytes, doubled }
     }
 
     /// Appends the bytes of the text. Where memory is short the first of them may have been appended.
     pub fn append_to(&self, out: &mut Vec<u8>) -> Result<(), AllocError>
         ensures { OnOk result (out.new.items ≡ out.old.items ++ self.now) }
     {
-        let mut left = self.bytes;
-        while let Some((byte, behind)) = first(left, self.doubled) {
+        let (bytes, doubled) = spelling(self.bytes);
+        let mut left = bytes;
+        while let Some((byte, behind)) = first(left, doubled) {
             out.push(byte)?;
             left = behind;
         }
@@ -110,19 +135,16 @@ impl<'s> Text<'s> {
     pub fn again(&self) -> Text<'s>
         ensures { result ≡ self.now }
     {
-        Text {
-            bytes: self.bytes,
-            doubled: self.doubled,
-        }
+        Text { bytes: self.bytes }
     }
 }
 
 /// Whether two spellings are of the same text.
-fn is_same(a: &[u8], a_doubled: Option<u8>, b: &[u8], b_doubled: Option<u8>) -> bool
-    ensures { result ≡ same_text (spelled a_doubled a.now) (spelled b_doubled b.now) }
+fn is_same(a: (&[u8], Option<u8>), b: (&[u8], Option<u8>)) -> bool
+    ensures { result ≡ same_text (spelled a.entry.1 a.entry.0.now) (spelled b.entry.1 b.entry.0.now) }
 {
-    let mut left = a;
-    let mut right = b;
+    let (mut left, a_doubled) = a;
+    let (mut right, b_doubled) = b;
     while let Some((x, left_behind)) = first(left, a_doubled) {
         match first(right, b_doubled) {
             Some((y, right_behind)) if x == y => {
@@ -136,11 +158,11 @@ fn is_same(a: &[u8], a_doubled: Option<u8>, b: &[u8], b_doubled: Option<u8>) -> 
 }
 
 /// How two spellings compare, byte by byte of their texts.
-fn compare(a: &[u8], a_doubled: Option<u8>, b: &[u8], b_doubled: Option<u8>) -> Ordering
-    ensures { result ≡ slice_cmp nat_cmp (spelled a_doubled a.now) (spelled b_doubled b.now) }
+fn compare(a: (&[u8], Option<u8>), b: (&[u8], Option<u8>)) -> Ordering
+    ensures { result ≡ slice_cmp nat_cmp (spelled a.entry.1 a.entry.0.now) (spelled b.entry.1 b.entry.0.now) }
 {
-    let mut left = a;
-    let mut right = b;
+    let (mut left, a_doubled) = a;
+    let (mut right, b_doubled) = b;
     while let Some((x, left_behind)) = first(left, a_doubled) {
         match first(right, b_doubled) {
             None => return Ordering::Greater,
@@ -170,9 +192,10 @@ impl<'s> PartialEq for Text<'s> {
     ghost laws = { Prim.search (comparing, rules) };
 
     fn eq(&self, other: &Text<'s>) -> bool {
-        match (self.doubled, other.doubled) {
-            (None, None) => self.bytes == other.bytes,
-            _ => is_same(self.bytes, self.doubled, other.bytes, other.doubled),
+        if is_plain(self.bytes) && is_plain(other.bytes) {
+            self.bytes == other.bytes
+        } else {
+            is_same(spelling(self.bytes), spelling(other.bytes))
         }
     }
 }
@@ -215,9 +238,10 @@ impl<'s> Ord for Text<'s> {
     ghost matches_eq = { Prim.search (comparing, rules) };
 
     fn cmp(&self, other: &Text<'s>) -> Ordering {
-        match (self.doubled, other.doubled) {
-            (None, None) => self.bytes.cmp(other.bytes),
-            _ => compare(self.bytes, self.doubled, other.bytes, other.doubled),
+        if is_plain(self.bytes) && is_plain(other.bytes) {
+            self.bytes.cmp(other.bytes)
+        } else {
+            compare(spelling(self.bytes), spelling(other.bytes))
         }
     }
 }

@@ -10,6 +10,7 @@ ghost use Rattle.net_sets.specs.Orders.{tuple_order};
 ghost use Rattle.net_sets.specs.Sets.{has, added, place_of, same_tuple};
 
 use crate::fault::SetFault;
+use crate::member::Member;
 use crate::tuple::Tuple;
 use std::alloc::{AllocError, Global};
 use std::collections::BTreeMap;
@@ -23,7 +24,8 @@ pub(crate) const TUPLES_LIMIT: usize = 1_000_000;
 #[derive(Drop)]
 pub struct TupleSet<'s> {
     tuples: Vec<Tuple<'s>>,
-    places: BTreeMap<Tuple<'s>, usize>,
+    /// The place of each tuple, by its members.
+    places: BTreeMap<Vec<Member<'s>>, usize>,
 }
 
 impl<'s> Model for TupleSet<'s> {
@@ -38,16 +40,27 @@ impl<'s> Model for TupleSet<'s> {
     ghost invariant = { λ s. IsKept s.tuples.items s.places };
 }
 
-/// Tells the place of a tuple.
+/// The members of a tuple, in no more memory than they take.
+fn members_of<'s>(alloc: Global, tuple: &Tuple<'s>) -> Result<Vec<Member<'s>>, AllocError>
+    ensures { IfOk result (λ members. members.items ≡ tuple.now) }
+{
+    let mut members = Vec::with_capacity(alloc, tuple.len())?;
+    for member in tuple.as_slice() {
+        members.push(member.again())?;
+    }
+    Ok(members)
+}
+
+/// Tells the place of the tuple with these members.
 fn insert<'s>(
-    places: &mut BTreeMap<Tuple<'s>, usize>,
-    tuple: Tuple<'s>,
+    places: &mut BTreeMap<Vec<Member<'s>>, usize>,
+    members: Vec<Member<'s>>,
     place: usize,
 ) -> Result<(), AllocError>
-    ensures ok { OnOk result ((t : List Member) → told places.new t ≡ if is_eq (tuple_order tuple.entry t) then Some place else told places.old t) }
+    ensures ok { OnOk result ((t : List Member) → told places.new t ≡ if is_eq (tuple_order members.entry.items t) then Some place else told places.old t) }
     ensures err { OnErr result ((t : List Member) → told places.new t ≡ told places.old t) }
 {
-    match places.insert(tuple, place) {
+    match places.insert(members, place) {
         Ok(_) => Ok(()),
         Err(_) => Err(AllocError),
     }
@@ -83,7 +96,7 @@ impl<'s> TupleSet<'s> {
     pub fn position(&self, tuple: &Tuple<'s>) -> Option<usize>
         ensures { result ≡ place_of self.now tuple.now }
     {
-        self.places.get(tuple).copied()
+        self.places.get(tuple.as_slice()).copied()
     }
 
     pub fn contains(&self, tuple: &Tuple<'s>) -> bool
@@ -106,8 +119,9 @@ impl<'s> TupleSet<'s> {
         ensures err { OnErr result (self.new ≡ self.old) }
     {
         let place = self.tuples.len();
-        self.tuples.push(tuple.again())?;
-        match insert(&mut self.places, tuple, place) {
+        let members = members_of(*self.tuples.allocator(), &tuple)?;
+        self.tuples.push(tuple)?;
+        match insert(&mut self.places, members, place) {
             Ok(()) => Ok(()),
             Err(refused) => {
                 self.tuples.truncate(place);
@@ -132,6 +146,13 @@ impl<'s> TupleSet<'s> {
         } else {
             Err(SetFault::TooMany)
         }
+    }
+
+    /// Gives back the memory that is kept for more tuples.
+    pub fn shrink_to_fit(&mut self)
+        ensures { self.new ≡ self.old }
+    {
+        self.tuples.shrink_to_fit();
     }
 
     /// The same set once more.

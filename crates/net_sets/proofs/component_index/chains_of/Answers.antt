@@ -5,7 +5,7 @@ use Rattle.net_sets.proofs.Chaining.{none_yet}
 use Rattle.net_sets.proofs.component_index.chains_of.Goals as goal
 
 pub loop-init : goal.loop-init
-loop-init c = ap length c.new-next.ensures.items
+loop-init c = ap length c.in_ok-next.ensures.items
 
 pub loop-preserved : goal.loop-preserved
 loop-preserved c =

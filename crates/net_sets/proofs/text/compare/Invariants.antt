@@ -5,7 +5,7 @@ use Rattle.net_sets.specs.Texts.{spelled}
 use Rattle.net_sets.proofs.text.compare.Given as goal
 
 abbrev pub invariant-loop-x : goal.invariant-loop-x
-invariant-loop-x l = slice_cmp nat_cmp (spelled l.a_doubled l.left) (spelled l.b_doubled l.right) ≡ slice_cmp nat_cmp (spelled l.fn.a_doubled l.fn.a) (spelled l.fn.b_doubled l.fn.b)
+invariant-loop-x l = slice_cmp nat_cmp (spelled l.a_doubled l.left) (spelled l.b_doubled l.right) ≡ slice_cmp nat_cmp (spelled l.fn.a.1 l.fn.a.0.now) (spelled l.fn.b.1 l.fn.b.0.now)
 
 abbrev pub decreases-loop-x : goal.decreases-loop-x
 decreases-loop-x l = length l.left

@@ -1,6 +1,10 @@
 use Rattle.std.proofs.Common.{rules}
 use Rattle.net_sets.proofs.Places.{told_after}
 use Rattle.net_sets.proofs.tuple_set.insert.Goals as goal
+use Rattle.net_sets.proofs.tuple_set.insert.Goals.{in-Ok, in-Err}
 
-pub returns-in-Ok-clause-ok : goal.returns-in-Ok-clause-ok
-returns-in-Ok-clause-ok c = told_after _ (λ s t. search rules) c.args.places.now c.insert.new.self _ _ c.in-Ok.ensures.updates
+pub returns-clause-ok : goal.returns-clause-ok
+returns-clause-ok c = elim c.match-insert.branch [
+  | in-Ok w ↦ rw w.result-is (told_after _ (λ k m. search rules) c.args.places.now c.insert.new.self _ _ w.in-Ok.ensures.entries)
+  | in-Err w ↦ search rules
+]

@@ -11,5 +11,5 @@ use Rattle.net_sets.proofs.tuple_set.TupleSet.push.Goals as goal
 pub invariant_of-self-in-Ok : goal.invariant_of-self-in-Ok
 invariant_of-self-in-Ok c =
     let end : c.len-place.result ≡ length c.self.inside.tuples.items = search rules in
-    rw (c.in_ok-push.ensures.items, c.again.ensures)
-    (kept_more c.self.inside.tuples.items c.args.tuple c.self.inside.places c.insert.new.places c.self.invariant (ap (λ ts. has ts c.args.tuple) c.self.view_is ∙ c.requires.fresh) (subst (λ ts. length ts < tuples_limit) (sym c.self.view_is) c.requires.room) (λ q. c.in-Ok.ensures.ok q ∙ ap (λ k. cond (is_eq (tuple_order c.args.tuple q)) (Some k) (told c.self.inside.places q)) end))
+    rw (c.in_ok-push.ensures.items)
+    (kept_more c.self.inside.tuples.items c.args.tuple c.self.inside.places c.insert.new.places c.self.invariant (ap (λ ts. has ts c.args.tuple) c.self.view_is ∙ c.requires.fresh) (subst (λ ts. length ts < tuples_limit) (sym c.self.view_is) c.requires.room) (λ q. c.in-Ok.ensures.ok q ∙ (ap (λ t. cond (is_eq (tuple_order t q)) (Some c.len-place.result) (told c.self.inside.places q)) c.in_ok-members.ensures ∙ ap (λ k. cond (is_eq (tuple_order c.args.tuple q)) (Some k) (told c.self.inside.places q)) end)))
