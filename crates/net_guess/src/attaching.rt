@@ -19,6 +19,17 @@ pub struct Attachment {
     pub join: u32,
 }
 
+/// A place on the way from a subtree's new root to its old one.
+#[derive(Clone, Copy)]
+struct Turn {
+    node: u32,
+    /// What becomes its parent.
+    above: u32,
+    /// The last node of what it takes along, and the one behind that.
+    last: u32,
+    behind: u32,
+}
+
 /// What is remembered of the subtree's root before the change.
 #[derive(Clone, Copy)]
 struct Before {
@@ -84,41 +95,55 @@ impl Tree {
         } else {
             self.thread(parent)?.next
         };
-        let (mut node, mut above) = (attachment.stem, parent);
-        let mut last = self.node(node)?.last;
-        let mut behind = self.thread(last)?.next;
-        self.set_next(parent, node)?;
+        let last = self.node(attachment.stem)?.last;
+        let mut turn = Turn {
+            node: attachment.stem,
+            above: parent,
+            last,
+            behind: self.thread(last)?.next,
+        };
+        self.set_next(parent, turn.node)?;
         turned.clear();
         turned.push(parent)?;
         for _ in 0..self.nodes.len() {
-            if node == attachment.leaving {
+            if turn.node == attachment.leaving {
                 break;
             }
-            let old_parent = self.node(node)?.parent;
-            self.set_next(last, old_parent)?;
-            turned.push(last)?;
-            let ahead = self.thread(node)?.previous;
-            self.follow(ahead, behind)?;
-            self.set_parent(node, above)?;
-            above = node;
-            node = old_parent;
-            last = self.node(node)?.last;
-            if last == self.node(above)?.last {
-                last = self.thread(above)?.previous;
-            }
-            behind = self.thread(last)?.next;
+            turned.push(turn.last)?;
+            turn = self.turn_node(turn)?;
         }
-        self.set_parent(attachment.leaving, above)?;
-        self.follow(last, behind_all)?;
-        self.set_last(attachment.leaving, last)?;
+        self.set_parent(attachment.leaving, turn.above)?;
+        self.follow(turn.last, behind_all)?;
+        self.set_last(attachment.leaving, turn.last)?;
         if before.previous != parent {
-            self.follow(before.previous, behind)?;
+            self.follow(before.previous, turn.behind)?;
         }
         for node in turned.iter() {
             let next = self.thread(*node)?.next;
             self.set_previous(next, *node)?;
         }
         Ok(())
+    }
+
+    /// Takes what is left of a node's subtree behind it. Answers the next place, its old parent.
+    #[inline]
+    fn turn_node(&mut self, turn: Turn) -> Result<Turn, Halt> {
+        let above = turn.node;
+        let node = self.node(above)?.parent;
+        self.set_next(turn.last, node)?;
+        let ahead = self.thread(above)?.previous;
+        self.follow(ahead, turn.behind)?;
+        self.set_parent(above, turn.above)?;
+        let mut last = self.node(node)?.last;
+        if last == self.node(above)?.last {
+            last = self.thread(above)?.previous;
+        }
+        Ok(Turn {
+            node,
+            above,
+            last,
+            behind: self.thread(last)?.next,
+        })
     }
 
     /// Turns the arcs on the way from a subtree's old root to its new one, and gives each of its nodes its new size.
