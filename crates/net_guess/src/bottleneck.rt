@@ -1,6 +1,5 @@
 //! A node that is a cut by itself: it supplies more than its arcs take away, or wants more than they bring.
 
-use crate::excess::excess_of;
 use crate::guess::Guess;
 use crate::halt::Halt;
 use crate::places::{at, put};
@@ -36,13 +35,12 @@ fn rooms_of(alloc: Global, problem: &Problem) -> Result<Rooms, Halt> {
     Ok(rooms)
 }
 
-/// The first node whose supply its own arcs cannot take away, or whose want they cannot bring, as a cut.
-pub fn bottleneck(alloc: Global, problem: &Problem) -> Result<Option<Guess>, Halt> {
-    let mut lows = Vec::with_capacity(alloc, problem.arcs.len())?;
-    for arc in &problem.arcs {
-        lows.push(arc.low)?;
-    }
-    let excess = excess_of(alloc, problem, &lows)?;
+/// The first node with more excess at the lower bounds than its own arcs can take away, or less than they can bring, as a cut.
+pub fn bottleneck(
+    alloc: Global,
+    problem: &Problem,
+    excess: &[i128],
+) -> Result<Option<Guess>, Halt> {
     let rooms = rooms_of(alloc, problem)?;
     let mut node = 0u32;
     for ((excess, out), into) in excess.iter().zip(&rooms.out).zip(&rooms.into) {

@@ -18,14 +18,37 @@ pub fn add_excess(excess: &mut Vec<i128>, node: u32, amount: i128) -> Result<(),
     Ok(())
 }
 
+/// Each node's supply.
+fn supplies_of(alloc: Global, problem: &Problem) -> Result<Vec<i128>, Halt>
+    ensures { IfOk result (λ supplies. vec_len supplies ≡ vec_len problem.now.supplies) }
+{
+    let mut supplies = Vec::with_capacity(alloc, problem.supplies.len())?;
+    for supply in &problem.supplies {
+        supplies.push(i128::from(*supply))?;
+    }
+    Ok(supplies)
+}
+
+/// Each node's supply less what leaves it where each arc has its lower bound; a negative one is a deficit.
+pub fn excess_at_lows(alloc: Global, problem: &Problem) -> Result<Vec<i128>, Halt>
+    ensures { IfOk result (λ excess. vec_len excess ≡ vec_len problem.now.supplies) }
+{
+    let mut excess = supplies_of(alloc, problem)?;
+    for arc in &problem.arcs {
+        if arc.low != 0 {
+            let low = i128::from(arc.low);
+            add_excess(&mut excess, arc.src, -low)?;
+            add_excess(&mut excess, arc.dst, low)?;
+        }
+    }
+    Ok(excess)
+}
+
 /// Each node's supply less what a flow sends out of it; a negative one is a deficit.
 pub fn excess_of(alloc: Global, problem: &Problem, flows: &[i64]) -> Result<Vec<i128>, Halt>
     ensures { IfOk result (λ excess. vec_len excess ≡ vec_len problem.now.supplies) }
 {
-    let mut excess = Vec::with_capacity(alloc, problem.supplies.len())?;
-    for supply in &problem.supplies {
-        excess.push(i128::from(*supply))?;
-    }
+    let mut excess = supplies_of(alloc, problem)?;
     for (arc, flow) in problem.arcs.iter().zip(flows) {
         let flow = i128::from(*flow);
         add_excess(&mut excess, arc.src, -flow)?;

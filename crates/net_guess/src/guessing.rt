@@ -1,6 +1,7 @@
 //! The ways in which a problem's answer is guessed.
 
 use crate::bottleneck::bottleneck;
+use crate::excess::excess_at_lows;
 use crate::guess::Guess;
 use crate::halt::Halt;
 use crate::places::at;
@@ -49,13 +50,14 @@ fn guessed(alloc: Global, problem: &Problem) -> Result<Guess, Halt> {
         let flags = vec![in alloc; true; problem.supplies.len()]?;
         return Ok(Guess::Cut { flags, side });
     }
-    if let Some(guess) = bottleneck(alloc, problem)? {
+    let excess = excess_at_lows(alloc, problem)?;
+    if let Some(guess) = bottleneck(alloc, problem, &excess)? {
         return Ok(guess);
     }
-    if let Some(guess) = probed(alloc, problem)? {
+    if let Some(guess) = probed(alloc, problem, &excess)? {
         return Ok(guess);
     }
-    match by_simplex(alloc, problem) {
+    match by_simplex(alloc, problem, &excess) {
         Ok(Some(guess)) => Ok(guess),
         Ok(None) | Err(Halt::OutOfRange) => by_search(alloc, problem),
         Err(Halt::OutOfMemory) => Err(Halt::OutOfMemory),
@@ -68,9 +70,9 @@ fn size_of(problem: &Problem) -> u64 {
 }
 
 /// What a probe says: a cut, or where nothing costs anything, the flow.
-fn probed(alloc: Global, problem: &Problem) -> Result<Option<Guess>, Halt> {
+fn probed(alloc: Global, problem: &Problem, excess: &[i128]) -> Result<Option<Guess>, Halt> {
     let limit = PROBE_LOOKS.saturating_mul(size_of(problem));
-    let mut probe = Probe::new(alloc, problem, limit)?;
+    let mut probe = Probe::new(alloc, problem, excess, limit)?;
     match probe.run(alloc)? {
         Seen::Cut(flags) => Ok(Some(Guess::Cut {
             flags,
@@ -86,8 +88,8 @@ fn probed(alloc: Global, problem: &Problem) -> Result<Option<Guess>, Halt> {
 }
 
 /// What a network simplex says, where it ends at a flow.
-fn by_simplex(alloc: Global, problem: &Problem) -> Result<Option<Guess>, Halt> {
-    let mut simplex = Simplex::new(alloc, problem)?;
+fn by_simplex(alloc: Global, problem: &Problem, excess: &[i128]) -> Result<Option<Guess>, Halt> {
+    let mut simplex = Simplex::new(alloc, problem, excess)?;
     match simplex.run(problem, SIMPLEX_LOOKS.saturating_mul(size_of(problem)))? {
         Ended::Optimal => {
             let flows = simplex.flows(alloc, problem)?;

@@ -3,6 +3,7 @@
 #![tactic(auto)]
 
 mod attaching;
+mod block;
 mod bottleneck;
 mod children;
 mod cutting;

@@ -16,14 +16,21 @@ impl Simplex {
     pub fn dearest(&mut self) -> Result<Option<u32>, Halt> {
         let count = self.arcs.len();
         let mut left = count;
-        for _ in 0..=count {
+        for turn in 0..=count {
             let from = self.next.min(count);
-            let to = from.saturating_add(self.block.min(left)).min(count);
+            let to = from
+                .saturating_add(self.block.length().min(left))
+                .min(count);
             let looked = to.saturating_sub(from);
             let found = self.dearest_between(from, to)?;
             self.work = self.work.wrapping_add(looked as u64);
             left = left.saturating_sub(looked);
             self.next = if to == count { 0 } else { to };
+            if found.is_none() {
+                self.block.shrink();
+            } else if turn == 0 {
+                self.block.grow();
+            }
             if found.is_some() || left == 0 {
                 return Ok(found);
             }

@@ -2,7 +2,7 @@
 //!
 //! Where no excess that is left can reach a deficit, the nodes that it can reach are the guess at a cut.
 
-use crate::excess::{add_excess, excess_of};
+use crate::excess::add_excess;
 use crate::halt::Halt;
 use crate::incidence::{Incidence, back_of};
 use crate::places::{at, index, put};
@@ -50,16 +50,19 @@ pub struct Probe {
 }
 
 impl Probe {
-    /// Of the flow at all lower bounds, with so much work to be done.
-    pub fn new(alloc: Global, problem: &Problem, limit: u64) -> Result<Probe, Halt> {
-        let mut lows = Vec::with_capacity(alloc, problem.arcs.len())?;
-        for arc in &problem.arcs {
-            lows.push(arc.low)?;
-        }
-        let count = problem.supplies.len();
+    /// Of the flow at all lower bounds and the excess there, with so much work to be done.
+    pub fn new(
+        alloc: Global,
+        problem: &Problem,
+        excess: &[i128],
+        limit: u64,
+    ) -> Result<Probe, Halt> {
+        let count = excess.len();
+        let mut left = Vec::with_capacity(alloc, count)?;
+        left.extend_from_slice(excess)?;
         Ok(Probe {
             incidence: Incidence::at_lows(alloc, problem)?,
-            excess: excess_of(alloc, problem, &lows)?,
+            excess: left,
             levels: vec![in alloc; NO_LEVEL; count]?,
             current: vec![in alloc; 0u32; count]?,
             queue: Vec::with_capacity(alloc, count)?,

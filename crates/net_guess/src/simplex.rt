@@ -5,9 +5,10 @@
 //! goes. Of several such arcs the last on the way around from the cycle's top goes, so that no basis comes again (Cunningham 1976;
 //! Ahuja, Magnanti, Orlin: Network Flows, chapter 11).
 
+use crate::block::Block;
 use crate::halt::Halt;
 use crate::places::{at, index, put};
-use crate::simplex_arc::{PricedArc, Status, priced_arcs, priced_order, root_of};
+use crate::simplex_arc::{PricedArc, Status, priced_arcs, priced_order};
 use crate::starting::first_tree;
 use crate::tree::Tree;
 use net_normal::Problem;
@@ -25,7 +26,7 @@ pub struct Simplex {
     /// Where the next block of arcs to be priced begins.
     pub next: usize,
     /// How many arcs are priced together.
-    pub block: usize,
+    pub block: Block,
     /// How many arcs and nodes were looked at.
     pub work: u64,
     /// Room to work in.
@@ -44,25 +45,20 @@ pub enum Ended {
 }
 
 impl Simplex {
-    /// Before its first change of the tree, where each node hangs below the root, but for those that want flow: they hang by
-    /// the cheapest arc into them.
-    pub fn new(alloc: Global, problem: &Problem) -> Result<Simplex, Halt> {
+    /// Before its first change of the tree, where each node with its excess at the lower bounds hangs below the root, but for
+    /// those that want flow: they hang by the cheapest arc into them.
+    pub fn new(alloc: Global, problem: &Problem, excess: &[i128]) -> Result<Simplex, Halt> {
         let numbers = priced_order(alloc, problem)?;
         let arcs = priced_arcs(alloc, problem, &numbers)?;
         let statuses = vec![in alloc; Status::AtLower; arcs.len()]?;
-        let root = root_of(arcs.len());
-        let block = if is_bipartite(alloc, problem)? {
-            root.saturating_mul(2)
-        } else {
-            root.saturating_mul(6) / 5
-        };
+        let block = Block::new(arcs.len(), is_bipartite(alloc, problem)?);
         let mut simplex = Simplex {
             arcs,
             numbers,
             statuses,
-            tree: first_tree(alloc, problem)?,
+            tree: first_tree(alloc, problem, excess)?,
             next: 0,
-            block: block.max(10),
+            block,
             work: 0,
             turned: Vec::new(alloc),
             is_short: false,

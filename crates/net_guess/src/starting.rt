@@ -1,7 +1,7 @@
 //! The tree that a network simplex begins with.
 
-use crate::excess::excess_of;
 use crate::halt::Halt;
+use crate::places::index;
 use crate::tree::{NO_NODE, Thread, Tree, TreeArc, TreeNode};
 use net_normal::Problem;
 use std::alloc::Global;
@@ -45,48 +45,43 @@ fn root_arc(number: u32, excess: i64) -> TreeArc {
 }
 
 /// Each node below the root: what it has too much of goes up, what it lacks comes down at a cost past all others.
-pub fn first_tree(alloc: Global, problem: &Problem) -> Result<Tree, Halt> {
-    let mut lows = Vec::with_capacity(alloc, problem.arcs.len())?;
-    for arc in &problem.arcs {
-        lows.push(arc.low)?;
-    }
-    let excess = excess_of(alloc, problem, &lows)?;
+pub fn first_tree(alloc: Global, problem: &Problem, excess: &[i128]) -> Result<Tree, Halt> {
     let cost = root_cost(problem)?;
-    let count = problem.supplies.len();
-    let root = count as u32;
-    let mut tree = Tree::with_room(alloc, count)?;
+    let root = index(excess.len());
+    let mut tree = Tree::with_room(alloc, excess.len())?;
     for (place, excess) in excess.iter().enumerate() {
-        let node = place as u32;
+        let node = index(place);
         let amount = match i64::try_from(*excess) {
             Ok(amount) if amount.wrapping_abs() <= ROOT_ROOM => amount,
             _ => return Err(Halt::OutOfRange),
         };
-        tree.nodes.push(TreeNode {
+        let leaf = TreeNode {
             parent: root,
             size: 1,
             last: node,
-            arc: root_arc((problem.arcs.len() as u32).wrapping_add(node), amount),
-        })?;
-        tree.potentials.push(if amount >= 0 { 0 } else { cost })?;
-        tree.threads.push(Thread {
+            arc: root_arc(index(problem.arcs.len()).wrapping_add(node), amount),
+        };
+        let thread = Thread {
             next: node.wrapping_add(1),
             previous: if node == 0 {
                 root
             } else {
                 node.wrapping_sub(1)
             },
-        })?;
+        };
+        tree.add(leaf, thread, if amount >= 0 { 0 } else { cost })?;
     }
-    tree.nodes.push(TreeNode {
+    let last = root.wrapping_sub(1);
+    let top = TreeNode {
         parent: NO_NODE,
         size: root.wrapping_add(1),
-        last: root.wrapping_sub(1),
+        last,
         arc: root_arc(u32::MAX, 0),
-    })?;
-    tree.potentials.push(0)?;
-    tree.threads.push(Thread {
+    };
+    let thread = Thread {
         next: 0,
-        previous: root.wrapping_sub(1),
-    })?;
+        previous: last,
+    };
+    tree.add(top, thread, 0)?;
     Ok(tree)
 }

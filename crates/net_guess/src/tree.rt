@@ -78,6 +78,19 @@ impl Tree {
         })
     }
 
+    /// Adds the next node, with its neighbours in the cyclic order and its potential.
+    pub fn add(
+        &mut self,
+        node: TreeNode,
+        thread: Thread,
+        potential: i64,
+    ) -> Result<(), AllocError> {
+        self.nodes.push(node)?;
+        self.threads.push(thread)?;
+        self.potentials.push(potential)?;
+        Ok(())
+    }
+
     #[inline]
     pub fn node(&self, node: u32) -> Result<TreeNode, Halt> {
         at(&self.nodes, node)

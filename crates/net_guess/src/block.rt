@@ -1,0 +1,60 @@
+//! How many arcs a network simplex prices together.
+
+use crate::simplex_arc::root_of;
+
+/// The least length, in hundredths of the square root of the number of arcs.
+const LEAST: usize = 40;
+
+/// The length at first, and the greatest, where nodes have arcs both in and out.
+const FIRST: usize = 120;
+
+const GREATEST: usize = 150;
+
+/// Both, where none has.
+const BIPARTITE: usize = 200;
+
+/// How much longer a block becomes where the first one has an arc, and how much shorter where one has none.
+const GROWTH: usize = 1;
+
+const LOSS: usize = 12;
+
+/// The length of a block, which follows what is found: where nearly every block has an arc that saves something, longer ones
+/// find better arcs; where many have none, shorter ones leave less to be priced.
+#[derive(Clone, Copy)]
+pub struct Block {
+    /// The square root of the number of arcs.
+    root: usize,
+    /// The length in hundredths of that, and the most that it may be.
+    share: usize,
+    greatest: usize,
+}
+
+impl Block {
+    pub fn new(arc_count: usize, is_bipartite: bool) -> Block {
+        let (share, greatest) = if is_bipartite {
+            (BIPARTITE, BIPARTITE)
+        } else {
+            (FIRST, GREATEST)
+        };
+        Block {
+            root: root_of(arc_count),
+            share,
+            greatest,
+        }
+    }
+
+    /// How many arcs it has.
+    pub fn length(&self) -> usize {
+        (self.root.saturating_mul(self.share) / 100).max(10)
+    }
+
+    /// After a search that found an arc in its first block.
+    pub fn grow(&mut self) {
+        self.share = self.share.saturating_add(GROWTH).min(self.greatest);
+    }
+
+    /// After a block that has none.
+    pub fn shrink(&mut self) {
+        self.share = self.share.saturating_sub(LOSS).max(LEAST);
+    }
+}
