@@ -5,8 +5,8 @@ ghost use Rattle.net_model.specs.Expressions.{inside};
 ghost use Rattle.net_model.specs.Reading.{Gives};
 
 use crate::carried::Carried;
+use crate::chains::climb_to;
 use crate::cursor::{Cursor, expect, operator_at};
-use crate::expressions::climb_to;
 use crate::sort::Sort;
 use crate::stop::{Awaiting, Stop};
 use crate::trees::chained;

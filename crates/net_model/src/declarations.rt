@@ -5,10 +5,12 @@ ghost use Rattle.net_model.specs.Expressions.{inside, part_at, wide};
 ghost use Rattle.net_model.specs.Reading.{Gives};
 ghost use Rattle.net_model.specs.declared.sort.Sort.TheVariants as sorts;
 
+use crate::braces::braces_of;
 use crate::carried::Carried;
+use crate::chains::climb_to;
+use crate::choices::wide_of;
 use crate::conditions::condition_at;
 use crate::cursor::{Cursor, expect};
-use crate::expressions::{braces_of, climb_to, wide_of};
 use crate::phrase::Owner;
 use crate::phrases::{phrases, phrases_end};
 use crate::sort::Sort;

@@ -1,7 +1,10 @@
 //! From the tokens of a model text to its declarations.
 #![tactic(auto)]
 
+mod braces;
 mod carried;
+mod chains;
+mod choices;
 mod conditions;
 mod cursor;
 mod declarations;

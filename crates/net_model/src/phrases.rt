@@ -4,8 +4,10 @@ ghost use Rattle.net_model.specs.Expressions.{inside};
 ghost use Rattle.net_model.specs.Phrases as grammar;
 ghost use Rattle.net_model.specs.Reading.{Gives};
 
+use crate::chains::climb_to;
+use crate::choices::wide_of;
 use crate::cursor::{Cursor, expect};
-use crate::expressions::{climb_to, named_of, wide_of};
+use crate::expressions::named_of;
 use crate::phrase::{Owner, Slot, Stood};
 use crate::sort::Sort;
 use crate::stop::{Awaiting, Stop};

@@ -11,64 +11,64 @@ use Rattle.net_model.specs.Expressions.{inside, climb, unary, if_at, braces, lin
 use Rattle.net_model.specs.Reading.{Gives, next_is, read_as}
 use Rattle.net_model.proofs.Steps.{inside-none, inside-some, climb-low, climb-high}
 use Rattle.net_model.proofs.Turning.{all_read, one_read, no_operator, no_operand}
-use Rattle.net_model.proofs.expressions.+parser.Goals as goal
+use Rattle.net_model.proofs.+parser.Goals as goal
 
 with_operand : (o : Operator) (x y : Expr) → x ≡ y → ◌≡◌ {A = Operator × Tree} (o, tree x) (o, tree y)
 with_operand o x y same = ap (λ (z : Expr). (o, tree z)) same
 
-pub braces_of-returns-then-depth-eq0-clause-value : goal.braces_of-returns-then-depth-eq0-clause-value
-braces_of-returns-then-depth-eq0-clause-value t c = rw (inside-none c.args.depth c.if-depth-eq0.true) c.shut_braces.ensures.value
+pub braces::braces_of-returns-then-depth-eq0-clause-value : goal.braces::braces_of-returns-then-depth-eq0-clause-value
+braces::braces_of-returns-then-depth-eq0-clause-value t c = rw (inside-none c.args.depth c.if-depth-eq0.true) c.shut_braces.ensures.value
 
-pub braces_of-returns-else-depth-eq0-clause-value : goal.braces_of-returns-else-depth-eq0-clause-value
-braces_of-returns-else-depth-eq0-clause-value t c = rw (inside-some c.args.depth c.if-depth-eq0.false) c.braces_opened.ensures.value
+pub braces::braces_of-returns-else-depth-eq0-clause-value : goal.braces::braces_of-returns-else-depth-eq0-clause-value
+braces::braces_of-returns-else-depth-eq0-clause-value t c = rw (inside-some c.args.depth c.if-depth-eq0.false) c.braces_opened.ensures.value
 
-pub if_of-returns-then-depth-eq0-clause-value : goal.if_of-returns-then-depth-eq0-clause-value
-if_of-returns-then-depth-eq0-clause-value t c = rw (inside-none c.args.depth c.if-depth-eq0.true) c.shut_if.ensures.value
+pub choices::if_of-returns-then-depth-eq0-clause-value : goal.choices::if_of-returns-then-depth-eq0-clause-value
+choices::if_of-returns-then-depth-eq0-clause-value t c = rw (inside-none c.args.depth c.if-depth-eq0.true) c.shut_if.ensures.value
 
-pub if_of-returns-else-depth-eq0-clause-value : goal.if_of-returns-else-depth-eq0-clause-value
-if_of-returns-else-depth-eq0-clause-value t c = rw (inside-some c.args.depth c.if-depth-eq0.false) c.if_inside.ensures.value
+pub choices::if_of-returns-else-depth-eq0-clause-value : goal.choices::if_of-returns-else-depth-eq0-clause-value
+choices::if_of-returns-else-depth-eq0-clause-value t c = rw (inside-some c.args.depth c.if-depth-eq0.false) c.if_inside.ensures.value
 
-pub unary_of-returns-then-depth-eq0-clause-value : goal.unary_of-returns-then-depth-eq0-clause-value
-unary_of-returns-then-depth-eq0-clause-value t c = rw (inside-none c.args.depth c.if-depth-eq0.true) c.shut.ensures.value
+pub expressions::unary_of-returns-then-depth-eq0-clause-value : goal.expressions::unary_of-returns-then-depth-eq0-clause-value
+expressions::unary_of-returns-then-depth-eq0-clause-value t c = rw (inside-none c.args.depth c.if-depth-eq0.true) c.shut.ensures.value
 
-pub unary_of-returns-else-depth-eq0-clause-value : goal.unary_of-returns-else-depth-eq0-clause-value
-unary_of-returns-else-depth-eq0-clause-value t c = rw (inside-some c.args.depth c.if-depth-eq0.false) c.unary_inside.ensures.value
+pub expressions::unary_of-returns-else-depth-eq0-clause-value : goal.expressions::unary_of-returns-else-depth-eq0-clause-value
+expressions::unary_of-returns-else-depth-eq0-clause-value t c = rw (inside-some c.args.depth c.if-depth-eq0.false) c.unary_inside.ensures.value
 
-pub climb_to-returns-then-place-lt2-clause-value : goal.climb_to-returns-then-place-lt2-clause-value
-climb_to-returns-then-place-lt2-clause-value t c = rw (climb-low c.args.place (unary (inside c.args.depth)) c.if-place-lt2.true) c.unary_of.ensures.value
+pub chains::climb_to-returns-then-place-lt2-clause-value : goal.chains::climb_to-returns-then-place-lt2-clause-value
+chains::climb_to-returns-then-place-lt2-clause-value t c = rw (climb-low c.args.place (unary (inside c.args.depth)) c.if-place-lt2.true) c.unary_of.ensures.value
 
-pub climb_to-returns-else-place-lt2-clause-value : goal.climb_to-returns-else-place-lt2-clause-value
-climb_to-returns-else-place-lt2-clause-value t c = rw (climb-high c.args.place (unary (inside c.args.depth)) c.if-place-lt2.false) c.chain_of.ensures.value
+pub chains::climb_to-returns-else-place-lt2-clause-value : goal.chains::climb_to-returns-else-place-lt2-clause-value
+chains::climb_to-returns-else-place-lt2-clause-value t c = rw (climb-high c.args.place (unary (inside c.args.depth)) c.if-place-lt2.false) c.chain_of.ensures.value
 
-pub body_inside-returns-clause-value : goal.body_inside-returns-clause-value
-body_inside-returns-clause-value t c = rw c.body_place.ensures at c.climb_to.ensures.value
+pub braces::body_inside-returns-clause-value : goal.braces::body_inside-returns-clause-value
+braces::body_inside-returns-clause-value t c = rw c.body_place.ensures at c.climb_to.ensures.value
 
-pub chain_links-returns-clause-value : goal.chain_links-returns-clause-value
-chain_links-returns-clause-value t c = rw c.right_place.ensures at c.links_from.ensures.value
+pub chains::chain_links-returns-clause-value : goal.chains::chain_links-returns-clause-value
+chains::chain_links-returns-clause-value t c = rw c.right_place.ensures at c.links_from.ensures.value
 
-pub links_from-returns-in_err-operator-clause-value : goal.links_from-returns-in_err-operator-clause-value
-links_from-returns-in_err-operator-clause-value t c =
+pub chains::links_from-returns-in_err-operator-clause-value : goal.chains::links_from-returns-in_err-operator-clause-value
+chains::links_from-returns-in_err-operator-clause-value t c =
     let same : c.len.result ≡ length c.loop-alloc.found.items = omega (arith, c.len.ensures, c.loop-alloc.found.ok) in
     let y = err_from_is_err_and c.from_residual.result c.from_residual.ensures.1 in
     rw y.1 (rw y.2 (no_operator c.loop-alloc.found.items (length c.args.tokens.now) c.args.level c.len.result (climb c.args.place (unary (inside c.args.depth))) c.loop-alloc.tokens (links (length c.args.tokens.now) c.args.level 0 (climb c.args.place (unary (inside c.args.depth))) c.args.tokens.now) c.in_err-operator.field-0.0
     same c.loop-alloc.invariant.room (sym c.next_joins.ensures ∙ c.loop-alloc-test.true) c.loop-alloc.invariant.read c.in_err-operator.ensures.value))
 
-pub links_from-returns-in_err-operand-clause-value : goal.links_from-returns-in_err-operand-clause-value
-links_from-returns-in_err-operand-clause-value t c =
+pub chains::links_from-returns-in_err-operand-clause-value : goal.chains::links_from-returns-in_err-operand-clause-value
+chains::links_from-returns-in_err-operand-clause-value t c =
     let same : c.len.result ≡ length c.loop-alloc.found.items = omega (arith, c.len.ensures, c.loop-alloc.found.ok) in
     let y = err_from_is_err_and c.from_residual-in_err-operand.result c.from_residual-in_err-operand.ensures.1 in
     rw y.1 (rw y.2 (no_operand c.loop-alloc.found.items (length c.args.tokens.now) c.args.level c.len.result (climb c.args.place (unary (inside c.args.depth))) c.loop-alloc.tokens c.in_ok-operator.operator c.operator_at.new.tokens (links (length c.args.tokens.now) c.args.level 0 (climb c.args.place (unary (inside c.args.depth))) c.args.tokens.now) c.in_err-operand.field-0.0
     same c.loop-alloc.invariant.room (sym c.next_joins.ensures ∙ c.loop-alloc-test.true) c.in_ok-operator.ensures.value c.loop-alloc.invariant.read c.in_err-operand.ensures.value))
 
-pub links_from-returns-clause-value : goal.links_from-returns-clause-value
-links_from-returns-clause-value t c =
+pub chains::links_from-returns-clause-value : goal.chains::links_from-returns-clause-value
+chains::links_from-returns-clause-value t c =
     let same : c.len.result ≡ length c.loop-alloc.found.items = omega (arith, c.len.ensures, c.loop-alloc.found.ok) in
     all_read c.loop-alloc.found.items (length c.args.tokens.now - length c.loop-alloc.found.items) c.args.level (length c.loop-alloc.found.items) (climb c.args.place (unary (inside c.args.depth))) c.loop-alloc.tokens (links (length c.args.tokens.now) c.args.level 0 (climb c.args.place (unary (inside c.args.depth))) c.args.tokens.now)
     (sym (ap (λ n. next_is (joins c.args.level n) c.loop-alloc.tokens) same) ∙ (sym c.next_joins.ensures ∙ c.loop-alloc-test.false)) c.loop-alloc.invariant.read
     ∙ ap (λ l. read_as (links_of l) c.loop-alloc.tokens) (sym c.new.ensures)
 
-pub links_from-loop-alloc-preserved : goal.links_from-loop-alloc-preserved
-links_from-loop-alloc-preserved t c =
+pub chains::links_from-loop-alloc-preserved : goal.chains::links_from-loop-alloc-preserved
+chains::links_from-loop-alloc-preserved t c =
     let same : c.len.result ≡ length c.loop-alloc.found.items = omega (arith, c.len.ensures, c.loop-alloc.found.ok) in
     let more : length c.push.new.self.items ≡ length c.loop-alloc.found.items + 1 = omega (arith, ap length c.in_ok-push.ensures.items, length-append c.loop-alloc.found.items (roll-Link (record { operator = c.in_ok-operator.operator; operand = c.into_inner-operand.result }) ∷ [])) in
     record {

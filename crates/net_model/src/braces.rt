@@ -1,0 +1,170 @@
+//! Braces, and reductions over them.
+
+ghost use Rattle.std.specs.Prelude.{◌≡◌, ◌<◌, ◌≤◌, Some, None, length, IfOk};
+ghost use Rattle.net_tree.specs.View.{tree, braces_of, option_part};
+ghost use Rattle.net_model.specs.Expressions as grammar;
+ghost use Rattle.net_model.specs.Expressions.{inside, inner_of, unary};
+ghost use Rattle.net_model.specs.Reading.{Gives};
+
+use crate::carried::Carried;
+use crate::chains::{climb_to, links_from};
+use crate::cursor::{Cursor, expect};
+use crate::place::body_place;
+use crate::sort::Sort;
+use crate::stop::{Awaiting, Stop};
+use net_lex::{Boxed, Token};
+use net_tree::{Braces, Expr, Part, Series};
+use std::alloc::Global;
+
+/// Braces.
+#[cycle(parser)]
+pub(crate) fn braces_of<'t, 's>(
+    alloc: Global,
+    depth: u8,
+    tokens: &mut Cursor<'t, 's>,
+) -> Result<Carried<Braces<'s>>, Stop>
+    ensures value { Gives braces_of result tokens.new (grammar.braces (inside depth) tokens.old) }
+    ensures shorter { IfOk result (λ x. length tokens.new < length tokens.old) }
+{
+    if depth == 0 {
+        shut_braces(tokens)
+    } else {
+        braces_opened(alloc, depth - 1, tokens)
+    }
+}
+
+#[tactic(auto, unfolding(crate::specs::Expressions::braces))]
+fn shut_braces<'t, 's>(tokens: &mut Cursor<'t, 's>) -> Result<Carried<Braces<'s>>, Stop>
+    ensures value { Gives braces_of result tokens.new (grammar.braces None tokens.old) }
+    ensures shorter { IfOk result (λ x. length tokens.new < length tokens.old) }
+{
+    if tokens.next_is(Sort::OpenBrace) {
+        Err(Stop::TooDeep(tokens.len()))
+    } else {
+        Err(Stop::Refused(tokens.len(), Awaiting::Other))
+    }
+}
+
+#[cycle(parser)]
+#[tactic(auto, unfolding(crate::specs::Expressions::braces))]
+fn braces_opened<'t, 's>(
+    alloc: Global,
+    depth: u8,
+    tokens: &mut Cursor<'t, 's>,
+) -> Result<Carried<Braces<'s>>, Stop>
+    ensures value { Gives braces_of result tokens.new (grammar.braces (Some (inner_of (inside depth))) tokens.old) }
+    ensures shorter { IfOk result (λ x. length tokens.new < length tokens.old) }
+{
+    let open = expect(Sort::OpenBrace, Awaiting::Other, tokens)?;
+    braces_inside(alloc, depth, open, tokens)
+}
+
+/// What `{` begins.
+#[cycle(parser)]
+#[tactic(auto, unfolding(crate::specs::Expressions::braces_at))]
+pub(crate) fn braces_inside<'t, 's>(
+    alloc: Global,
+    depth: u8,
+    opening: Token<'s>,
+    tokens: &mut Cursor<'t, 's>,
+) -> Result<Carried<Braces<'s>>, Stop>
+    ensures value { Gives braces_of result tokens.new (grammar.braces_at (inner_of (inside depth)) opening.entry tokens.old) }
+    ensures shorter { IfOk result (λ x. length tokens.new < length tokens.old) }
+{
+    if tokens.next_is_hollow() {
+        hollow_inside(alloc, depth, opening, tokens)
+    } else {
+        items_inside(alloc, depth, opening, tokens)
+    }
+}
+
+/// Braces without items.
+#[cycle(parser)]
+#[tactic(auto, using(net_tree::proofs::Views::views, crate::proofs::Making::makings), unfolding(crate::specs::Expressions::hollow_at))]
+fn hollow_inside<'t, 's>(
+    alloc: Global,
+    depth: u8,
+    opening: Token<'s>,
+    tokens: &mut Cursor<'t, 's>,
+) -> Result<Carried<Braces<'s>>, Stop>
+    ensures value { Gives braces_of result tokens.new (grammar.hollow_at (inner_of (inside depth)) opening.entry tokens.old) }
+    ensures shorter { IfOk result (λ x. length tokens.new < length tokens.old) }
+{
+    let filter = filter_of(alloc, depth, tokens)?;
+    let close = expect(Sort::CloseBrace, Awaiting::Other, tokens)?;
+    Ok(Carried::new(Braces::Empty(opening, filter, close)))
+}
+
+/// Braces with items.
+#[cycle(parser)]
+#[tactic(auto, using(net_tree::proofs::Views::views, crate::proofs::Making::makings), unfolding(crate::specs::Expressions::items_at, crate::specs::Expressions::inner_of))]
+fn items_inside<'t, 's>(
+    alloc: Global,
+    depth: u8,
+    opening: Token<'s>,
+    tokens: &mut Cursor<'t, 's>,
+) -> Result<Carried<Braces<'s>>, Stop>
+    ensures value { Gives braces_of result tokens.new (grammar.items_at (inner_of (inside depth)) opening.entry tokens.old) }
+    ensures shorter { IfOk result (λ x. length tokens.new < length tokens.old) }
+{
+    let first = climb_to(alloc, depth, 8, tokens)?;
+    let more = links_from(alloc, depth, 0, 8, tokens)?;
+    let filter = filter_of(alloc, depth, tokens)?;
+    let close = expect(Sort::CloseBrace, Awaiting::Other, tokens)?;
+    let first = first.into_inner();
+    let braces = Braces::Filled(opening, Series { first, more }, filter, close);
+    Ok(Carried::new(braces))
+}
+
+/// The condition of braces, if there is one.
+#[cycle(parser)]
+#[tactic(auto, using(net_tree::proofs::Views::views, crate::proofs::Making::makings), unfolding(crate::specs::Expressions::part_at, crate::specs::Expressions::present_at, crate::specs::Expressions::inner_of))]
+fn filter_of<'t, 's>(
+    alloc: Global,
+    depth: u8,
+    tokens: &mut Cursor<'t, 's>,
+) -> Result<Option<Boxed<Part<'s>>>, Stop>
+    ensures value { Gives option_part result tokens.new (grammar.filter_at (inner_of (inside depth)) tokens.old) }
+    ensures shorter { IfOk result (λ x. length tokens.new ≤ length tokens.old) }
+{
+    if !tokens.next_is(Sort::Colon) {
+        return Ok(None);
+    }
+    let Some(mark) = tokens.next() else {
+        return Err(Stop::Refused(0, Awaiting::Other));
+    };
+    let value = climb_to(alloc, depth, 10, tokens)?.into_inner();
+    Ok(Some(Boxed::new(Box::new(alloc, Part { mark, value })?)))
+}
+
+/// What `sum`, `min` or `max` begins.
+#[cycle(parser)]
+#[tactic(auto, using(net_tree::proofs::Views::views, crate::proofs::Making::makings), unfolding(crate::specs::Expressions::reduced_at, crate::specs::Expressions::inner_of))]
+pub(crate) fn reduced_inside<'t, 's>(
+    alloc: Global,
+    depth: u8,
+    word: Token<'s>,
+    tokens: &mut Cursor<'t, 's>,
+) -> Result<Carried<Expr<'s>>, Stop>
+    ensures value { Gives tree result tokens.new (grammar.reduced_at (inner_of (inside depth)) word.entry tokens.old) }
+    ensures shorter { IfOk result (λ x. length tokens.new < length tokens.old) }
+{
+    let braces = braces_of(alloc, depth, tokens)?;
+    let body = body_inside(alloc, depth, tokens)?;
+    let body = Boxed::new(Box::new(alloc, body.into_inner())?);
+    let front = Boxed::new(Box::new(alloc, (word, braces.into_inner()))?);
+    Ok(Carried::new(Expr::Reduced(front, body)))
+}
+
+/// What a reduction takes behind its braces.
+#[cycle(parser)]
+fn body_inside<'t, 's>(
+    alloc: Global,
+    depth: u8,
+    tokens: &mut Cursor<'t, 's>,
+) -> Result<Carried<Expr<'s>>, Stop>
+    ensures value { Gives tree result tokens.new (grammar.climb 2 (unary (inside depth)) tokens.old) }
+    ensures shorter { IfOk result (λ x. length tokens.new < length tokens.old) }
+{
+    climb_to(alloc, depth, body_place(), tokens)
+}

@@ -1,0 +1,134 @@
+//! `if` with its branches, where one may stand.
+
+ghost use Rattle.std.specs.Prelude.{◌≡◌, ◌<◌, ◌≤◌, Some, None, length, IfOk};
+ghost use Rattle.net_tree.specs.View.{tree, option_part, part_of};
+ghost use Rattle.net_model.specs.Expressions as grammar;
+ghost use Rattle.net_model.specs.Expressions.{inside, inner_of, unary};
+ghost use Rattle.net_model.specs.Reading.{Gives};
+ghost use Rattle.net_model.specs.declared.sort.Sort.TheVariants as sorts;
+
+use crate::carried::Carried;
+use crate::chains::climb_to;
+use crate::cursor::{Cursor, expect};
+use crate::sort::Sort;
+use crate::stop::{Awaiting, Stop};
+use net_lex::{Boxed, Token};
+use net_tree::{Expr, Part};
+use std::alloc::Global;
+
+/// An `if`, or a tree for this place.
+#[cycle(parser)]
+#[tactic(auto, unfolding(crate::specs::Expressions::wide))]
+pub(crate) fn wide_of<'t, 's>(
+    alloc: Global,
+    depth: u8,
+    place: u8,
+    tokens: &mut Cursor<'t, 's>,
+) -> Result<Carried<Expr<'s>>, Stop>
+    ensures value { Gives tree result tokens.new (grammar.wide (inside depth) place tokens.old) }
+    ensures shorter { IfOk result (λ x. length tokens.new < length tokens.old) }
+{
+    if tokens.next_is(Sort::If) {
+        if_of(alloc, depth, tokens)
+    } else {
+        climb_to(alloc, depth, place, tokens)
+    }
+}
+
+#[cycle(parser)]
+fn if_of<'t, 's>(
+    alloc: Global,
+    depth: u8,
+    tokens: &mut Cursor<'t, 's>,
+) -> Result<Carried<Expr<'s>>, Stop>
+    ensures value { Gives tree result tokens.new (grammar.if_at (inside depth) tokens.old) }
+    ensures shorter { IfOk result (λ x. length tokens.new < length tokens.old) }
+{
+    if depth == 0 {
+        shut_if(tokens)
+    } else {
+        if_inside(alloc, depth - 1, tokens)
+    }
+}
+
+#[tactic(auto, unfolding(crate::specs::Expressions::if_at))]
+fn shut_if<'t, 's>(tokens: &mut Cursor<'t, 's>) -> Result<Carried<Expr<'s>>, Stop>
+    ensures value { Gives tree result tokens.new (grammar.if_at None tokens.old) }
+    ensures shorter { IfOk result (λ x. length tokens.new < length tokens.old) }
+{
+    Err(Stop::TooDeep(tokens.len()))
+}
+
+#[cycle(parser)]
+#[tactic(auto, unfolding(crate::specs::Expressions::if_at))]
+fn if_inside<'t, 's>(
+    alloc: Global,
+    depth: u8,
+    tokens: &mut Cursor<'t, 's>,
+) -> Result<Carried<Expr<'s>>, Stop>
+    ensures value { Gives tree result tokens.new (grammar.if_at (Some (inner_of (inside depth))) tokens.old) }
+    ensures shorter { IfOk result (λ x. length tokens.new < length tokens.old) }
+{
+    match tokens.next() {
+        None => Err(Stop::Refused(0, Awaiting::Other)),
+        Some(word) => choice_inside(alloc, depth, word, tokens),
+    }
+}
+
+/// A tree for this place, with the mark or word before it.
+#[cycle(parser)]
+#[tactic(auto, using(net_tree::proofs::Views::views, crate::proofs::Making::makings))]
+fn introduced<'t, 's>(
+    alloc: Global,
+    depth: u8,
+    place: u8,
+    mark: Token<'s>,
+    tokens: &mut Cursor<'t, 's>,
+) -> Result<Boxed<Part<'s>>, Stop>
+    ensures value { Gives (λ p. (part_of p).1) result tokens.new (grammar.climb place (unary (inside depth)) tokens.old) }
+    ensures mark { IfOk result (λ p. (part_of p).0 ≡ mark.entry) }
+    ensures shorter { IfOk result (λ x. length tokens.new < length tokens.old) }
+{
+    let value = climb_to(alloc, depth, place, tokens)?.into_inner();
+    Ok(Boxed::new(Box::new(alloc, Part { mark, value })?))
+}
+
+/// What `if` begins.
+#[cycle(parser)]
+#[tactic(auto, using(net_tree::proofs::Views::views, crate::proofs::Making::makings), unfolding(crate::specs::Expressions::choice_at, crate::specs::Expressions::inner_of))]
+fn choice_inside<'t, 's>(
+    alloc: Global,
+    depth: u8,
+    word: Token<'s>,
+    tokens: &mut Cursor<'t, 's>,
+) -> Result<Carried<Expr<'s>>, Stop>
+    ensures value { Gives tree result tokens.new (grammar.choice_at (inner_of (inside depth)) word.entry tokens.old) }
+    ensures shorter { IfOk result (λ x. length tokens.new < length tokens.old) }
+{
+    let condition = introduced(alloc, depth, 10, word, tokens)?;
+    let then = expect(Sort::Then, Awaiting::Other, tokens)?;
+    let branch = introduced(alloc, depth, 7, then, tokens)?;
+    let otherwise = otherwise_of(alloc, depth, tokens)?;
+    Ok(Carried::new(Expr::Choice(condition, branch, otherwise)))
+}
+
+/// The part of `else`, if there is one.
+#[cycle(parser)]
+#[tactic(auto, using(net_tree::proofs::Views::views, crate::proofs::Making::makings), unfolding(crate::specs::Expressions::part_at, crate::specs::Expressions::present_at, crate::specs::Expressions::inner_of))]
+fn otherwise_of<'t, 's>(
+    alloc: Global,
+    depth: u8,
+    tokens: &mut Cursor<'t, 's>,
+) -> Result<Option<Boxed<Part<'s>>>, Stop>
+    ensures value { Gives option_part result tokens.new (grammar.part_at sorts.Else ((inner_of (inside depth)).wide 7) tokens.old) }
+    ensures shorter { IfOk result (λ x. length tokens.new ≤ length tokens.old) }
+{
+    if !tokens.next_is(Sort::Else) {
+        return Ok(None);
+    }
+    let Some(mark) = tokens.next() else {
+        return Err(Stop::Refused(0, Awaiting::Other));
+    };
+    let value = wide_of(alloc, depth, 7, tokens)?.into_inner();
+    Ok(Some(Boxed::new(Box::new(alloc, Part { mark, value })?)))
+}
