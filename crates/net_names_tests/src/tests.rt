@@ -56,8 +56,18 @@ fn models(rt: HostRuntime) -> Result<(), Fail> {
     Ok(())
 }
 
+/// Texts, each with the number, the place and the word of its fault.
+fn all_refused(
+    rt: &(impl Abort + AllocGlobal),
+    table: &[(&'static str, (u8, usize, &'static str))],
+) {
+    for (text, expected) in table {
+        assert!(rt; fault(rt, text) == *expected, "{text}");
+    }
+}
+
 #[test]
-fn refusals(rt: HostRuntime) -> Result<(), Fail> {
+fn refused_names(rt: HostRuntime) -> Result<(), Fail> {
     let table = [
         // what is used is declared before
         ("check: a > 0; param a;", (12, 7, "a")),
@@ -89,6 +99,16 @@ fn refusals(rt: HostRuntime) -> Result<(), Fail> {
         ("minimize C: 1; arc X obj C d;", (14, 25, "C")),
         ("minimize C: 1; arc X from M, obj C 1;", (12, 26, "M")),
         ("minimize Cost: 3; arc X obj Cost 1;", (14, 28, "Cost")),
+        // the grammar comes first
+        ("set A within B; x;", (14, 16, "x")),
+    ];
+    all_refused(&rt, &table);
+    Ok(())
+}
+
+#[test]
+fn refused_dummies(rt: HostRuntime) -> Result<(), Fail> {
+    let table = [
         // dummies
         ("check {i in 1 .. i}: 1 = 1;", (12, 17, "i")),
         ("set S; check {(i) in S}: 1 = 1;", (12, 15, "i")),
@@ -113,11 +133,7 @@ fn refusals(rt: HostRuntime) -> Result<(), Fail> {
         ),
         ("set A; check {i in A}: i > 0; check: i > 0;", (12, 37, "i")),
         ("set A; param p {i in A} >= i, default j;", (12, 38, "j")),
-        // the grammar comes first
-        ("set A within B; x;", (14, 16, "x")),
     ];
-    for (text, expected) in table {
-        assert!(rt; fault(&rt, text) == expected, "{text}");
-    }
+    all_refused(&rt, &table);
     Ok(())
 }
