@@ -6,7 +6,7 @@ ghost use Rattle.net_bind.specs.Binding as binding;
 ghost use Rattle.net_bind.specs.Outcomes.{Answers, each};
 
 use crate::fault::{BindDefect, BindFault, refuse_in};
-use crate::param::keys_in;
+use crate::indexing::keys_in;
 use net_eval::{Detail, Row, Seen, World, holds};
 use net_lex::Language;
 use net_tree::{Braces, Decl, Expr, span_of};

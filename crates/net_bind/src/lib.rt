@@ -8,6 +8,7 @@ mod fault;
 mod fence;
 mod given;
 mod group;
+mod indexing;
 mod item;
 mod laid;
 mod laws;
@@ -19,6 +20,7 @@ mod restriction;
 mod row;
 mod set;
 mod set_phrase;
+mod source;
 mod world;
 
 pub use fault::{BindDefect, BindFault, Refusal};

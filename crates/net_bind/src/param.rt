@@ -1,26 +1,25 @@
 //! Declared parameters.
 
-ghost use Rattle.std.specs.Prelude.{◌≡◌, [], IfOk, Ok, List, map};
+ghost use Rattle.std.specs.Prelude.{◌≡◌, map};
 ghost use Rattle.std.specs.Option.{option_copied};
-ghost use Rattle.net_sets.specs.Made.{IsMade};
-ghost use Rattle.net_sets.specs.Operations.{union};
-ghost use Rattle.net_tree.specs.View.{tree, body_of, phrase_of, indexing_of};
-ghost use Rattle.net_eval.specs.Rows.{keys_of};
+ghost use Rattle.net_tree.specs.View.{body_of, phrase_of, indexing_of};
 ghost use Rattle.net_bind.specs.BoundParameters as bound;
 ghost use Rattle.net_bind.specs.declared.param.Gives.TheVariants as gives;
-ghost use Rattle.net_bind.specs.Outcomes.{Answers, Leaves, each};
+ghost use Rattle.net_bind.specs.Outcomes.{Answers, Leaves};
 
 use crate::cell::Cell;
-use crate::fault::{BindDefect, BindFault, refuse, refuse_in};
+use crate::fault::{BindDefect, BindFault, refuse_in};
 use crate::given::Mention;
+use crate::indexing::{index_list, key_size, keys_in, span_or};
 use crate::param_data::said_of;
 use crate::restriction::restricted;
-use crate::row::{reference, with_value};
-use net_eval::{Detail, Entry, EvalDefect, Keys, Row, Scope, Seen, index_of, member};
-use net_lex::{Items, Language, Span, Token};
-use net_sets::{Member, SetFault, Table, Tuple, TupleSet};
-use net_tree::{Begins, Body, Braces, Expr, Phrase, Role, braces_span, role_of, span_of};
-use std::alloc::{AllocError, Global};
+use crate::row::reference;
+use crate::source::{source, source_at, source_text, with_keys};
+use net_eval::{Detail, Entry, EvalDefect, Row, Seen};
+use net_lex::{Language, Span, Token};
+use net_sets::{Member, Table, TupleSet};
+use net_tree::{Begins, Body, Braces, Expr, Phrase, Role, role_of};
+use std::alloc::Global;
 
 /// The word of a phrase that gives values.
 #[derive(Clone, Copy)]
@@ -82,163 +81,6 @@ fn takes_texts(phrases: &[Phrase<'_>]) -> bool
         }
     }
     false
-}
-
-/// One key without members, where there are no braces.
-fn lone_key<'s>(alloc: Global) -> Result<Keys<'s>, BindFault<'s>>
-    ensures { Answers (Ok bound.lone_key) result }
-{
-    let mut rows = Vec::new(alloc);
-    rows.push(Row {
-        key: Tuple::new(),
-        scope: Scope::new(alloc),
-    })?;
-    Ok(Keys {
-        width: None,
-        rows: Items::new(rows),
-    })
-}
-
-/// The keys that braces index by.
-pub(crate) fn keys_in<'s>(
-    alloc: Global,
-    seen: &Seen<'_, 's>,
-    braces: &Option<Braces<'s>>,
-) -> Result<Keys<'s>, BindFault<'s>>
-    ensures { Answers (bound.keys_in seen.now (indexing_of braces.now)) result }
-{
-    match braces {
-        None => lone_key(alloc),
-        Some(braces) => Ok(index_of(alloc, seen, &Scope::new(alloc), braces)?),
-    }
-}
-
-/// How many members a key has; none where there are no braces.
-fn key_size(braces: &Option<Braces<'_>>, keys: &Keys<'_>) -> Option<u8>
-    ensures { result ≡ bound.key_size (indexing_of braces.now) keys.now }
-{
-    match braces {
-        None => None,
-        Some(_) => Some(keys.width.unwrap_or(1)),
-    }
-}
-
-fn span_or(at: Span, braces: &Option<Braces<'_>>) -> Span
-    ensures { result ≡ bound.span_or at (indexing_of braces.now) }
-{
-    match braces {
-        None => at,
-        Some(braces) => braces_span(braces),
-    }
-}
-
-fn keys_of<'s>(alloc: Global, rows: &[Row<'s>]) -> Result<Items<Tuple<'s>>, AllocError>
-    ensures { IfOk result (λ all. all ≡ keys_of rows.now) }
-{
-    let mut all = Vec::new(alloc);
-    for row in rows {
-        all.push(row.key.again())?;
-    }
-    Ok(Items::new(all))
-}
-
-/// The tuples, each once.
-fn once<'s>(alloc: Global, tuples: &[Tuple<'s>]) -> Result<TupleSet<'s>, SetFault>
-    ensures { IsMade (union [] tuples.now) result }
-{
-    let mut all = TupleSet::new(alloc);
-    for tuple in tuples {
-        all.add(tuple.again())?;
-    }
-    Ok(all)
-}
-
-/// The index list: the keys, each once.
-fn index_list<'s>(alloc: Global, at: Span, rows: &[Row<'s>]) -> Result<TupleSet<'s>, BindFault<'s>>
-    ensures { Answers (bound.index_list at rows.now) result }
-{
-    let keys = keys_of(alloc, rows)?;
-    match once(alloc, keys.as_slice()) {
-        Ok(all) => Ok(all),
-        Err(SetFault::OutOfMemory) => Err(BindFault::OutOfMemory),
-        Err(SetFault::TooMany) => Err(refuse(EvalDefect::TooMany, at)),
-    }
-}
-
-fn from_source<'s>(
-    alloc: Global,
-    seen: &Seen<'_, 's>,
-    scope: &Scope<'s>,
-    expr: Option<&Expr<'s>>,
-    word: Option<&Cell<'_, 's>>,
-) -> Result<Option<Member<'s>>, BindFault<'s>>
-    ensures { Answers (bound.from_source seen.now scope.now (bound.as_tree (option_copied expr.entry), option_copied word.entry)) result }
-{
-    match (expr, word) {
-        (Some(expr), _) => Ok(Some(member(alloc, seen, scope, expr)?)),
-        (None, Some(word)) => Ok(Some(word.member())),
-        (None, None) => Ok(None),
-    }
-}
-
-fn source_text(word: Option<&Cell<'_, '_>>) -> Language
-    ensures { result ≡ bound.source_text (option_copied word.entry) }
-{
-    match word {
-        None => Language::Model,
-        Some(_) => Language::Data,
-    }
-}
-
-fn source_at(at: Span, expr: Option<&Expr<'_>>, word: Option<&Cell<'_, '_>>) -> Span
-    ensures { result ≡ bound.source_at at (bound.as_tree (option_copied expr.entry), option_copied word.entry) }
-{
-    match (expr, word) {
-        (Some(expr), _) => span_of(expr),
-        (None, Some(word)) => word.token().span,
-        (None, None) => at,
-    }
-}
-
-/// A key that has no value yet takes one from the source.
-fn with_key<'s>(
-    alloc: Global,
-    seen: &Seen<'_, 's>,
-    at: Span,
-    expr: Option<&Expr<'s>>,
-    word: Option<&Cell<'_, 's>>,
-    row: &Row<'s>,
-    table: &mut Table<'s>,
-) -> Result<(), BindFault<'s>>
-    ensures { Leaves (bound.with_key seen.now at (bound.as_tree (option_copied expr.entry), option_copied word.entry) row.now table.old) result table.new }
-{
-    if table.get(&row.key).is_some() {
-        return Ok(());
-    }
-    match from_source(alloc, seen, &row.scope, expr, word)? {
-        None => Ok(()),
-        Some(member) => {
-            let at = source_at(at, expr, word);
-            with_value(source_text(word), at, row.key.again(), member, table)
-        }
-    }
-}
-
-fn with_keys<'s>(
-    alloc: Global,
-    seen: &Seen<'_, 's>,
-    at: Span,
-    expr: Option<&Expr<'s>>,
-    word: Option<&Cell<'_, 's>>,
-    rows: &[Row<'s>],
-    table: &mut Table<'s>,
-) -> Result<(), BindFault<'s>>
-    ensures { Leaves (each (bound.with_key seen.now at (bound.as_tree (option_copied expr.entry), option_copied word.entry)) rows.now table.old) result table.new }
-{
-    for row in rows {
-        with_key(alloc, seen, at, expr, word, row, table)?;
-    }
-    Ok(())
 }
 
 fn is_number(member: &Member<'_>) -> bool
@@ -359,36 +201,22 @@ fn with_values<'s>(
     )
 }
 
-/// What gives the values that data leave open: what `:=` says, else the default that data say, else what `default` says.
-fn source<'a, 'c, 's>(
-    assigned: Option<&'a Expr<'s>>,
-    default: Option<&'a Cell<'c, 's>>,
-    otherwise: Option<&'a Expr<'s>>,
-) -> (Option<&'a Expr<'s>>, Option<&'a Cell<'c, 's>>)
-    ensures { (bound.as_tree (option_copied result.0), option_copied result.1) ≡ bound.source (bound.as_tree (option_copied assigned.entry)) (option_copied default.entry) (bound.as_tree (option_copied otherwise.entry)) }
-{
-    match (assigned, default) {
-        (Some(expr), _) => (Some(expr), None),
-        (None, Some(word)) => (None, Some(word)),
-        (None, None) => (otherwise, None),
-    }
-}
-
+/// The same, with what gives the values that data leave open by its phrases and by the data's default.
 fn with_source<'s>(
     alloc: Global,
     seen: &Seen<'_, 's>,
     name: &Token<'s>,
     keys: Option<u8>,
     phrases: &[Phrase<'s>],
-    assigned: Option<&Expr<'s>>,
     default: Option<&Cell<'_, 's>>,
-    otherwise: Option<&Expr<'s>>,
     rows: &[Row<'s>],
     places: &[Span],
     table: &mut Table<'s>,
 ) -> Result<(), BindFault<'s>>
-    ensures { Leaves (bound.values seen.now name.now keys (map phrase_of phrases.now) (bound.source (bound.as_tree (option_copied assigned.entry)) (option_copied default.entry) (bound.as_tree (option_copied otherwise.entry))) rows.now (table.old, places.now)) result table.new }
+    ensures { Leaves (bound.values seen.now name.now keys (map phrase_of phrases.now) (bound.source (bound.phrase_value gives.Becomes (map phrase_of phrases.now)) (option_copied default.entry) (bound.phrase_value gives.Default (map phrase_of phrases.now))) rows.now (table.old, places.now)) result table.new }
 {
+    let assigned = phrase_value(Gives::Becomes, phrases);
+    let otherwise = phrase_value(Gives::Default, phrases);
     let (expr, word) = source(assigned, default, otherwise);
     with_values(
         alloc, seen, name, keys, phrases, expr, word, rows, places, table,
@@ -410,9 +238,7 @@ fn with_data<'s>(
 {
     let mut table = Table::new(alloc);
     let mut places = Vec::new(alloc);
-    let assigned = phrase_value(Gives::Becomes, phrases);
-    let otherwise = phrase_value(Gives::Default, phrases);
-    let is_assigned = assigned.is_some();
+    let is_assigned = phrase_value(Gives::Becomes, phrases).is_some();
     let default = said_of(
         alloc,
         widths,
@@ -429,9 +255,7 @@ fn with_data<'s>(
         name,
         keys,
         phrases,
-        assigned,
         default.as_ref(),
-        otherwise,
         rows,
         &places,
         &mut table,

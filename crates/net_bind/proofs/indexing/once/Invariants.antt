@@ -2,7 +2,7 @@ use Rattle.std.proofs.Common.{◌≡◌, ◌≤◌, length}
 use Rattle.std.specs.Prelude.{drop, []}
 use Rattle.net_sets.specs.Limits.{tuples_limit}
 use Rattle.net_sets.specs.Operations.{union}
-use Rattle.net_bind.proofs.param.once.Given as goal
+use Rattle.net_bind.proofs.indexing.once.Given as goal
 
 abbrev pub invariant-loop-tuple : goal.invariant-loop-tuple
 invariant-loop-tuple l = record {

@@ -1,7 +1,7 @@
 use Rattle.std.specs.Prelude.{Err}
 use Rattle.std.proofs.Common.{◌≡◌, rules}
 use Rattle.net_sets.proofs.Unions.{refused_in_turn, handed_on}
-use Rattle.net_bind.proofs.param.once.Goals as goal
+use Rattle.net_bind.proofs.indexing.once.Goals as goal
 
 pub returns-in_err-add : goal.returns-in_err-add
 returns-in_err-add c =

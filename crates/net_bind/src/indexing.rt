@@ -1,0 +1,101 @@
+//! The keys that braces index by, and the index list that they make.
+
+ghost use Rattle.std.specs.Prelude.{◌≡◌, [], IfOk, Ok};
+ghost use Rattle.net_sets.specs.Made.{IsMade};
+ghost use Rattle.net_sets.specs.Operations.{union};
+ghost use Rattle.net_tree.specs.View.{indexing_of};
+ghost use Rattle.net_eval.specs.Rows.{keys_of};
+ghost use Rattle.net_bind.specs.BoundParameters as bound;
+ghost use Rattle.net_bind.specs.Outcomes.{Answers};
+
+use crate::fault::{BindFault, refuse};
+use net_eval::{EvalDefect, Keys, Row, Scope, Seen, index_of};
+use net_lex::{Items, Span};
+use net_sets::{SetFault, Tuple, TupleSet};
+use net_tree::{Braces, braces_span};
+use std::alloc::{AllocError, Global};
+
+/// One key without members, where there are no braces.
+fn lone_key<'s>(alloc: Global) -> Result<Keys<'s>, BindFault<'s>>
+    ensures { Answers (Ok bound.lone_key) result }
+{
+    let mut rows = Vec::new(alloc);
+    rows.push(Row {
+        key: Tuple::new(),
+        scope: Scope::new(alloc),
+    })?;
+    Ok(Keys {
+        width: None,
+        rows: Items::new(rows),
+    })
+}
+
+/// The keys that braces index by.
+pub(crate) fn keys_in<'s>(
+    alloc: Global,
+    seen: &Seen<'_, 's>,
+    braces: &Option<Braces<'s>>,
+) -> Result<Keys<'s>, BindFault<'s>>
+    ensures { Answers (bound.keys_in seen.now (indexing_of braces.now)) result }
+{
+    match braces {
+        None => lone_key(alloc),
+        Some(braces) => Ok(index_of(alloc, seen, &Scope::new(alloc), braces)?),
+    }
+}
+
+/// How many members a key has; none where there are no braces.
+pub(crate) fn key_size(braces: &Option<Braces<'_>>, keys: &Keys<'_>) -> Option<u8>
+    ensures { result ≡ bound.key_size (indexing_of braces.now) keys.now }
+{
+    match braces {
+        None => None,
+        Some(_) => Some(keys.width.unwrap_or(1)),
+    }
+}
+
+pub(crate) fn span_or(at: Span, braces: &Option<Braces<'_>>) -> Span
+    ensures { result ≡ bound.span_or at (indexing_of braces.now) }
+{
+    match braces {
+        None => at,
+        Some(braces) => braces_span(braces),
+    }
+}
+
+fn keys_of<'s>(alloc: Global, rows: &[Row<'s>]) -> Result<Items<Tuple<'s>>, AllocError>
+    ensures { IfOk result (λ all. all ≡ keys_of rows.now) }
+{
+    let mut all = Vec::new(alloc);
+    for row in rows {
+        all.push(row.key.again())?;
+    }
+    Ok(Items::new(all))
+}
+
+/// The tuples, each once.
+fn once<'s>(alloc: Global, tuples: &[Tuple<'s>]) -> Result<TupleSet<'s>, SetFault>
+    ensures { IsMade (union [] tuples.now) result }
+{
+    let mut all = TupleSet::new(alloc);
+    for tuple in tuples {
+        all.add(tuple.again())?;
+    }
+    Ok(all)
+}
+
+/// The index list: the keys, each once.
+pub(crate) fn index_list<'s>(
+    alloc: Global,
+    at: Span,
+    rows: &[Row<'s>],
+) -> Result<TupleSet<'s>, BindFault<'s>>
+    ensures { Answers (bound.index_list at rows.now) result }
+{
+    let keys = keys_of(alloc, rows)?;
+    match once(alloc, keys.as_slice()) {
+        Ok(all) => Ok(all),
+        Err(SetFault::OutOfMemory) => Err(BindFault::OutOfMemory),
+        Err(SetFault::TooMany) => Err(refuse(EvalDefect::TooMany, at)),
+    }
+}
