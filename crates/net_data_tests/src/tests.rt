@@ -36,7 +36,7 @@ fn all_say(rt: &impl Abort, alloc: Global, table: &[(&str, &str)]) -> Result<(),
 }
 
 #[test]
-fn statements(rt: HostRuntime) -> Result<(), Fail> {
+fn sets(rt: HostRuntime) -> Result<(), Fail> {
     let table = [
         ("", ""),
         (",,", ""),
@@ -45,6 +45,14 @@ fn statements(rt: HostRuntime) -> Result<(), Fail> {
         ("set S := a , b, 3 'x y';", "set S a b 3 'x y' \n"),
         ("set L := (a,b),(c,d,e) f;", "set L <a b ><c d e >f \n"),
         ("set S := end set default;", "set S end set default \n"),
+    ];
+    all_say(&rt, rt.alloc(), &table)?;
+    Ok(())
+}
+
+#[test]
+fn parameters(rt: HostRuntime) -> Result<(), Fail> {
+    let table = [
         ("param p;", "list p \n"),
         ("param p := ;", "list p = \n"),
         (
@@ -128,16 +136,13 @@ fn data_of_models(rt: HostRuntime) -> Result<(), Fail> {
 }
 
 #[test]
-fn faults(rt: HostRuntime) -> Result<(), Fail> {
+fn syntax_faults(rt: HostRuntime) -> Result<(), Fail> {
     let table = [
         ("x", "E20 Syntax 0 1"),
         ("set", "E20 Syntax 3 3"),
         ("set ,  # more", "E20 Syntax 5 5"),
         ("set S a;", "E20 Syntax 6 7"),
         ("set S 1;", "E20 Syntax 6 7"),
-        ("param cost: x y := ann 1 2 bob 3;", "E21 RowWidth 31 32"),
-        ("param cost: := ann 1;", "E22 TableWidth 12 14"),
-        ("param: := ;", "E22 TableWidth 7 9"),
         ("set 's' := a;", "E20 Syntax 4 7"),
         ("set S := (a);", "E20 Syntax 11 12"),
         ("set S := ();", "E20 Syntax 10 11"),
@@ -158,9 +163,20 @@ fn faults(rt: HostRuntime) -> Result<(), Fail> {
         ("param p : . := 1;", "E20 Syntax 10 11"),
         ("param p := (a, 1);", "E20 Syntax 11 12"),
         ("param p default . ;", "E20 Syntax 16 17"),
+        ("param c : x y := a 1 (;", "E20 Syntax 21 22"),
+    ];
+    all_say(&rt, rt.alloc(), &table)?;
+    Ok(())
+}
+
+#[test]
+fn width_faults(rt: HostRuntime) -> Result<(), Fail> {
+    let table = [
+        ("param cost: x y := ann 1 2 bob 3;", "E21 RowWidth 31 32"),
+        ("param cost: := ann 1;", "E22 TableWidth 12 14"),
+        ("param: := ;", "E22 TableWidth 7 9"),
         ("param c : x y := a 1 2 b 3;", "E21 RowWidth 25 26"),
         ("param c : x y := a 1 2 b 3 ,, ;", "E21 RowWidth 25 26"),
-        ("param c : x y := a 1 (;", "E20 Syntax 21 22"),
         ("param c : x y := ;", "table c : x y = \n"),
         ("param c : := ;", "E22 TableWidth 10 12"),
         ("param: S: := a b;", "E22 TableWidth 10 12"),

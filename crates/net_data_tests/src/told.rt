@@ -1,5 +1,8 @@
 //! Statements as one line of text each: the kind, and then the words, with one blank behind each.
-use net_data::{Cells, Members, Statement, Tables, Word};
+use net_data::{
+    Cells, ColumnsStatement, DefaultValue, ListStatement, Members, Statement, TableStatement,
+    Tables, Word,
+};
 use std::alloc::AllocError;
 
 fn add_word(out: &mut String, word: &Word<'_, '_>) -> Result<(), AllocError> {
@@ -37,6 +40,50 @@ fn add_items(out: &mut String, items: &Members<'_, '_>) -> Result<(), AllocError
     Ok(())
 }
 
+/// The word of a default, if there is one.
+fn add_default(out: &mut String, default: &Option<DefaultValue<'_, '_>>) -> Result<(), AllocError> {
+    if let Some(default) = default {
+        out.push_str("default ")?;
+        add_word(out, &default.value)?;
+    }
+    Ok(())
+}
+
+fn add_list(out: &mut String, list: &ListStatement<'_, '_>) -> Result<(), AllocError> {
+    out.push_str("list ")?;
+    add_word(out, &list.name)?;
+    add_default(out, &list.default)?;
+    if let Some(given) = &list.given {
+        out.push_str("= ")?;
+        add_cells(out, &given.cells)?;
+    }
+    Ok(())
+}
+
+fn add_table(out: &mut String, table: &TableStatement<'_, '_>) -> Result<(), AllocError> {
+    out.push_str("table ")?;
+    add_word(out, &table.name)?;
+    add_default(out, &table.default)?;
+    if table.transposed.is_some() {
+        out.push_str("turned ")?;
+    }
+    out.push_str(": ")?;
+    add_cells(out, &table.columns)?;
+    out.push_str("= ")?;
+    add_cells(out, &table.cells)
+}
+
+fn add_columns(out: &mut String, columns: &ColumnsStatement<'_, '_>) -> Result<(), AllocError> {
+    out.push_str("columns ")?;
+    if let Some(set) = &columns.set {
+        add_word(out, &set.name)?;
+        out.push_str(": ")?;
+    }
+    add_cells(out, &columns.names)?;
+    out.push_str("= ")?;
+    add_cells(out, &columns.cells)
+}
+
 fn add_statement(out: &mut String, statement: &Statement<'_, '_>) -> Result<(), AllocError> {
     match statement {
         Statement::Set(set) => {
@@ -44,43 +91,9 @@ fn add_statement(out: &mut String, statement: &Statement<'_, '_>) -> Result<(), 
             add_word(out, &set.name)?;
             add_items(out, &set.items)?;
         }
-        Statement::List(list) => {
-            out.push_str("list ")?;
-            add_word(out, &list.name)?;
-            if let Some(default) = &list.default {
-                out.push_str("default ")?;
-                add_word(out, &default.value)?;
-            }
-            if let Some(given) = &list.given {
-                out.push_str("= ")?;
-                add_cells(out, &given.cells)?;
-            }
-        }
-        Statement::Table(table) => {
-            out.push_str("table ")?;
-            add_word(out, &table.name)?;
-            if let Some(default) = &table.default {
-                out.push_str("default ")?;
-                add_word(out, &default.value)?;
-            }
-            if table.transposed.is_some() {
-                out.push_str("turned ")?;
-            }
-            out.push_str(": ")?;
-            add_cells(out, &table.columns)?;
-            out.push_str("= ")?;
-            add_cells(out, &table.cells)?;
-        }
-        Statement::Columns(columns) => {
-            out.push_str("columns ")?;
-            if let Some(set) = &columns.set {
-                add_word(out, &set.name)?;
-                out.push_str(": ")?;
-            }
-            add_cells(out, &columns.names)?;
-            out.push_str("= ")?;
-            add_cells(out, &columns.cells)?;
-        }
+        Statement::List(list) => add_list(out, list)?,
+        Statement::Table(table) => add_table(out, table)?,
+        Statement::Columns(columns) => add_columns(out, columns)?,
     }
     out.push_str("\n")?;
     Ok(())
