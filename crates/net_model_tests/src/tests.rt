@@ -47,17 +47,20 @@ fn count(rt: &(impl Abort + AllocGlobal), text: &str) -> usize {
     }
 }
 
+/// Texts, each with the number of its declarations.
+fn all_have(rt: &(impl Abort + AllocGlobal), table: &[(&str, usize)]) {
+    for (text, expected) in table {
+        assert_eq!(rt; count(rt, text), *expected, "{text}");
+    }
+}
+
 #[test]
-fn models(rt: HostRuntime) -> Result<(), Fail> {
+fn declarations(rt: HostRuntime) -> Result<(), Fail> {
     let table = [
         ("", 0),
         (
             "set CITIES; set LINKS within (CITIES cross CITIES); param supply {CITIES} >= 0;",
             3,
-        ),
-        (
-            "check: sum {i in CITIES} supply[i] = sum {j in CITIES} demand[j];",
-            1,
         ),
         (
             "minimize Total_Cost; node Balance {k in CITIES}: net_in = demand[k] - supply[k];",
@@ -80,6 +83,22 @@ fn models(rt: HostRuntime) -> Result<(), Fail> {
             1,
         ),
         (
+            "node A: 1 <= net_in <= 4; node B: net_out >= 2; node C: 2 = net_in;",
+            3,
+        ),
+    ];
+    all_have(&rt, &table);
+    Ok(())
+}
+
+#[test]
+fn expressions(rt: HostRuntime) -> Result<(), Fail> {
+    let table = [
+        (
+            "check: sum {i in CITIES} supply[i] = sum {j in CITIES} demand[j];",
+            1,
+        ),
+        (
             "set A := {1 .. 9 by 2, 'x'} union {} diff {: 1 = 2}; set B dimen 2 within A;",
             2,
         ),
@@ -95,19 +114,20 @@ fn models(rt: HostRuntime) -> Result<(), Fail> {
             "check {(i,j) in L, k in S}: -i * 2 div 3 + sum {l in S} l * 2 + min {l in S} l <> j mod 2;",
             1,
         ),
-        (
-            "node A: 1 <= net_in <= 4; node B: net_out >= 2; node C: 2 = net_in;",
-            3,
-        ),
     ];
-    for (text, expected) in table {
-        assert_eq!(rt; count(&rt, text), expected, "{text}");
-    }
+    all_have(&rt, &table);
     Ok(())
 }
 
+/// Texts, each with the number, the offset and the word of its fault.
+fn all_refused(rt: &(impl Abort + AllocGlobal), table: &[(&str, u8, usize, Option<&str>)]) {
+    for (text, number, start, word) in table {
+        is_refused(rt, text, *number, *start, *word);
+    }
+}
+
 #[test]
-fn refusals(rt: HostRuntime) -> Result<(), Fail> {
+fn refused_phrases(rt: HostRuntime) -> Result<(), Fail> {
     let table = [
         // a phrase is awaited
         ("arc X >= 1 foo;", 14, 11, Some("foo")),
@@ -130,6 +150,17 @@ fn refusals(rt: HostRuntime) -> Result<(), Fail> {
         ("set S dimen x;", 10, 12, None),
         ("arc X obj {i in S} C 3;", 14, 10, Some("{")),
         ("arc X obj C {i in S} 3;", 10, 21, None),
+        // commas
+        ("arc X >= 1,;", 10, 11, None),
+        ("arc X,, >= 1;", 10, 6, None),
+    ];
+    all_refused(&rt, &table);
+    Ok(())
+}
+
+#[test]
+fn refused_terms(rt: HostRuntime) -> Result<(), Fail> {
+    let table = [
         // behind the end of an arc
         ("arc X to B 2, obj C 4;", 15, 11, None),
         ("arc X from A {1};", 15, 13, None),
@@ -138,9 +169,6 @@ fn refusals(rt: HostRuntime) -> Result<(), Fail> {
         ("arc X from A, 2;", 10, 14, None),
         ("arc X from N[i] 2;", 15, 16, None),
         ("arc X from N[i] [j];", 10, 16, None),
-        // commas
-        ("arc X >= 1,;", 10, 11, None),
-        ("arc X,, >= 1;", 10, 6, None),
         // net terms
         ("node A: net_in = net_in;", 16, 17, None),
         ("node A: 3 + - net_in = 1;", 16, 14, None),
@@ -162,9 +190,7 @@ fn refusals(rt: HostRuntime) -> Result<(), Fail> {
         ("param p := a / b;", 14, 13, Some("/")),
         ("param p := sum {i in S};", 10, 23, None),
     ];
-    for (text, number, start, word) in table {
-        is_refused(&rt, text, number, start, word);
-    }
+    all_refused(&rt, &table);
     Ok(())
 }
 
