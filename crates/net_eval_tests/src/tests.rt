@@ -167,13 +167,12 @@ fn pair<'s>(first: i64, second: i64) -> Tuple<'s> {
     tuple
 }
 
-#[test]
-fn names(rt: HostRuntime) -> Result<(), Fail> {
-    let alloc = rt.alloc();
+/// A world of one set, the pairs `L`.
+fn world_of_pairs<'s>(alloc: Global) -> Result<World<'s>, AllocError> {
     let mut links = TupleSet::new(alloc);
     for (first, second) in [(1, 2), (1, 3), (2, 3)] {
         if links.add(pair(first, second)).is_err() {
-            return Err(Fail::from(AllocError));
+            return Err(AllocError);
         }
     }
     let mut world = World::new(alloc);
@@ -181,6 +180,13 @@ fn names(rt: HostRuntime) -> Result<(), Fail> {
         &Excerpt::new("L"),
         Entry::Set(2, IndexedSet::new(alloc, links)?),
     )?;
+    Ok(world)
+}
+
+#[test]
+fn names(rt: HostRuntime) -> Result<(), Fail> {
+    let alloc = rt.alloc();
+    let world = world_of_pairs(alloc)?;
     let table = [
         (1, "check: L;", "{ 1,2 1,3 2,3}"),
         (1, "check: {i in 1..2, (i,j) in L};", "{ 1,2 1,3 2,3}"),
