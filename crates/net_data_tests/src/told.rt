@@ -3,7 +3,7 @@ use net_data::{
     Cells, ColumnsStatement, DefaultValue, ListStatement, Members, Statement, TableStatement,
     Tables, Word,
 };
-use std::alloc::AllocError;
+use std::alloc::{AllocError, Global};
 
 fn add_word(out: &mut String, word: &Word<'_, '_>) -> Result<(), AllocError> {
     out.push_str(word.token().text.as_str())?;
@@ -100,15 +100,16 @@ fn add_statement(out: &mut String, statement: &Statement<'_, '_>) -> Result<(), 
 }
 
 /// What the tables say.
-pub fn told(out: &mut String, tables: &Tables<'_, '_>) -> Result<(), AllocError> {
+pub fn told(alloc: Global, tables: &Tables<'_, '_>) -> Result<String, AllocError> {
+    let mut out = String::new(alloc);
     if tables.opening.is_some() {
         out.push_str("data\n")?;
     }
     for statement in tables.statements.as_slice() {
-        add_statement(out, statement)?;
+        add_statement(&mut out, statement)?;
     }
     if tables.ending.is_some() {
         out.push_str("end\n")?;
     }
-    Ok(())
+    Ok(out)
 }

@@ -3,6 +3,7 @@
 ghost use Rattle.std.specs.Prelude.{◌<◌};
 
 use net_dimacs::{ProblemFault, Reading, read_problem, write_problem};
+use net_expect::expect;
 use net_normal::Problem;
 use std::alloc::{AllocError, Global};
 use std::test::Fail;
@@ -36,7 +37,7 @@ fn answer_in_pieces(alloc: Global, text: &str, size: usize) -> Result<String, Al
 }
 
 // Texts as they are written.
-const PLAIN: [&str; 3] = [
+const PLAIN: &[&str] = &[
     "p min 3 1\nn 1 2\nn 2 -2\na 1 2 0 5 4\n",
     "p min 9 9\nn 1 450\nn 4 -90\nn 5 -120\nn 6 -120\nn 7 -70\nn 8 -50\na 1 2 0 250 25\na 1 3 0 250 35\na 2 4 0 100 17\na 2 5 0 100 7\na 2 6 0 100 13\na 3 5 0 100 13\na 3 6 0 100 8\na 3 7 0 100 2\na 3 8 0 100 21\n",
     "p min 5 7\na 5 1 0 1000 -1\na 4 5 0 1000 0\na 1 2 0 50 0\na 1 3 0 100 0\na 2 4 0 40 0\na 3 4 0 110 0\na 2 3 0 20 0\n",
@@ -45,14 +46,13 @@ const PLAIN: [&str; 3] = [
 #[test]
 fn written_texts_are_read_back(rt: HostRuntime) -> Result<(), Fail> {
     for text in PLAIN {
-        let written = answer(rt.alloc(), text)?;
-        assert_eq!(rt; written.as_str(), text);
+        expect(text, answer(rt.alloc(), text), text)?;
     }
     Ok(())
 }
 
 // Foreign texts, and what is written of them.
-const FOREIGN: [(&str, &str); 7] = [
+const FOREIGN: &[(&str, &str)] = &[
     (
         "c tiny\r\n\r\np min 3 3\r\nn 1 4\r\nn 3 -5\r\na 1 2 2 5 1\r\na 1 3 0 5 3\r\na 2 3 0 5 1\r\n",
         "p min 3 3\nn 1 4\nn 3 -5\na 1 2 2 5 1\na 1 3 0 5 3\na 2 3 0 5 1\n",
@@ -75,7 +75,7 @@ const FOREIGN: [(&str, &str); 7] = [
 ];
 
 // Texts that are no problem.
-const WRONG: [(&str, &str); 34] = [
+const WRONG: &[(&str, &str)] = &[
     ("", "E71 NoProblemLine problem 1"),
     ("c x\n\n", "E71 NoProblemLine problem 3"),
     ("a 1 2 0 1 1\n", "E71 NoProblemLine problem 1"),
@@ -157,28 +157,36 @@ const WRONG: [(&str, &str); 34] = [
 
 #[test]
 fn foreign_texts_are_judged(rt: HostRuntime) -> Result<(), Fail> {
-    for (text, want) in FOREIGN {
-        let answered = answer(rt.alloc(), text)?;
-        assert_eq!(rt; answered.as_str(), want);
+    for (text, wanted) in FOREIGN {
+        expect(text, answer(rt.alloc(), text), wanted)?;
     }
-    for (text, want) in WRONG {
-        let answered = answer(rt.alloc(), text)?;
-        assert_eq!(rt; answered.as_str(), want);
+    Ok(())
+}
+
+#[test]
+fn wrong_texts_are_refused(rt: HostRuntime) -> Result<(), Fail> {
+    for (text, wanted) in WRONG {
+        expect(text, answer(rt.alloc(), text), wanted)?;
+    }
+    Ok(())
+}
+
+// Each text of a table in pieces of this size.
+fn are_read_in_pieces(alloc: Global, table: &[(&str, &str)], size: usize) -> Result<(), Fail>
+    requires { 0 < size }
+{
+    for (text, wanted) in table {
+        expect(text, answer_in_pieces(alloc, text, size), wanted)?;
     }
     Ok(())
 }
 
 #[test]
 fn texts_may_be_cut_anywhere(rt: HostRuntime) -> Result<(), Fail> {
-    for size in [1, 2, 7] {
-        for (text, want) in FOREIGN {
-            let answered = answer_in_pieces(rt.alloc(), text, size)?;
-            assert_eq!(rt; answered.as_str(), want);
-        }
-        for (text, want) in WRONG {
-            let answered = answer_in_pieces(rt.alloc(), text, size)?;
-            assert_eq!(rt; answered.as_str(), want);
-        }
-    }
-    Ok(())
+    are_read_in_pieces(rt.alloc(), FOREIGN, 1)?;
+    are_read_in_pieces(rt.alloc(), FOREIGN, 2)?;
+    are_read_in_pieces(rt.alloc(), FOREIGN, 7)?;
+    are_read_in_pieces(rt.alloc(), WRONG, 1)?;
+    are_read_in_pieces(rt.alloc(), WRONG, 2)?;
+    are_read_in_pieces(rt.alloc(), WRONG, 7)
 }

@@ -1,8 +1,10 @@
 //! Answers written by hand from the rules of the language.
 use net_eval::{Scope, Seen, World};
+use net_expect::expect;
 use net_forms::{ArcKeys, ArcNames, Form, FormFault, node_range, objective, with_price};
 use net_lex::{Excerpt, lex_model};
 use net_model::parse_declarations;
+use net_normal::NodeRange;
 use net_sets::{Member, Tuple, TupleSet};
 use net_tree::{Decl, Expr, Model, NetCond};
 use std::alloc::{AllocError, Global};
@@ -58,6 +60,23 @@ fn side(alloc: Global, number: Option<i64>) -> Result<String, AllocError> {
     }
 }
 
+/// The two sides of a range.
+fn told_sides(alloc: Global, range: &NodeRange) -> Result<String, AllocError> {
+    let low = side(alloc, range.low)?;
+    let high = side(alloc, range.high)?;
+    format!(in alloc; "{}..{}", low.as_str(), high.as_str())
+}
+
+/// The range of a condition in an empty world.
+fn told_condition(alloc: Global, condition: &NetCond<'_>) -> Result<String, AllocError> {
+    let world = World::new(alloc);
+    let seen = Seen::new(&world, 0);
+    match node_range(alloc, &seen, &Scope::new(alloc), condition) {
+        Ok(range) => told_sides(alloc, &range),
+        Err(fault) => told_fault(alloc, &fault),
+    }
+}
+
 /// The range of the condition of a text's node.
 fn told_range<'s>(alloc: Global, text: &'s str) -> Result<String, AllocError> {
     let Ok(tokens) = lex_model(alloc, text.as_bytes()) else {
@@ -66,19 +85,9 @@ fn told_range<'s>(alloc: Global, text: &'s str) -> Result<String, AllocError> {
     let Ok(model) = parse_declarations(alloc, &tokens) else {
         return String::from_str(alloc, "no model");
     };
-    let Some(condition) = condition(&model) else {
-        return String::from_str(alloc, "no node");
-    };
-    let world = World::new(alloc);
-    let seen = Seen::new(&world, 0);
-    match node_range(alloc, &seen, &Scope::new(alloc), condition) {
-        Ok(range) => {
-            let low = side(alloc, range.low)?;
-            let high = side(alloc, range.high)?;
-            let (low, high) = (low.as_str(), high.as_str());
-            format!(in alloc; "{low}..{high}")
-        }
-        Err(fault) => told_fault(alloc, &fault),
+    match condition(&model) {
+        Some(condition) => told_condition(alloc, condition),
+        None => String::from_str(alloc, "no node"),
     }
 }
 
@@ -138,24 +147,14 @@ fn told_form(alloc: Global, form: &Form) -> Result<String, AllocError> {
     format!(in alloc; "{constant}: {x} {y} {a} {b} {c}")
 }
 
-/// The form of a text's objective, with these prices of X more at its expression.
-fn told_objective<'s>(alloc: Global, text: &'s str, prices: &[i64]) -> Result<String, AllocError> {
-    let Ok(tokens) = lex_model(alloc, text.as_bytes()) else {
-        return String::from_str(alloc, "no tokens");
-    };
-    let Ok(model) = parse_declarations(alloc, &tokens) else {
-        return String::from_str(alloc, "no model");
-    };
-    let Some(expr) = expression(&model) else {
-        return String::from_str(alloc, "no objective");
-    };
-    let world = World::new(alloc);
-    let seen = Seen::new(&world, 0);
-    let arcs = arcs(alloc)?;
-    let mut form = match objective(alloc, &arcs, &seen, &Scope::new(alloc), expr) {
-        Ok(form) => form,
-        Err(fault) => return told_fault(alloc, &fault),
-    };
+/// A form with these prices of X more at the expression.
+fn told_priced(
+    alloc: Global,
+    form: Form,
+    expr: &Expr<'_>,
+    prices: &[i64],
+) -> Result<String, AllocError> {
+    let mut form = form;
     for price in prices {
         form = match with_price(alloc, form, 0, expr, price) {
             Ok(form) => form,
@@ -165,80 +164,107 @@ fn told_objective<'s>(alloc: Global, text: &'s str, prices: &[i64]) -> Result<St
     told_form(alloc, &form)
 }
 
+/// The form of an expression over the five arcs, with these prices of X more.
+fn told_expression(alloc: Global, expr: &Expr<'_>, prices: &[i64]) -> Result<String, AllocError> {
+    let world = World::new(alloc);
+    let seen = Seen::new(&world, 0);
+    let arcs = arcs(alloc)?;
+    match objective(alloc, &arcs, &seen, &Scope::new(alloc), expr) {
+        Ok(form) => told_priced(alloc, form, expr, prices),
+        Err(fault) => told_fault(alloc, &fault),
+    }
+}
+
+/// The form of a text's objective, with these prices of X more at its expression.
+fn told_objective<'s>(alloc: Global, text: &'s str, prices: &[i64]) -> Result<String, AllocError> {
+    let Ok(tokens) = lex_model(alloc, text.as_bytes()) else {
+        return String::from_str(alloc, "no tokens");
+    };
+    let Ok(model) = parse_declarations(alloc, &tokens) else {
+        return String::from_str(alloc, "no model");
+    };
+    match expression(&model) {
+        Some(expr) => told_expression(alloc, expr, prices),
+        None => String::from_str(alloc, "no objective"),
+    }
+}
+
+/// Nodes, and the ranges of their net inflow.
+const RANGES: &[(&str, &str)] = &[
+    ("node A;", "0..0"),
+    ("node C: 1 <= net_in <= 4;", "1..4"),
+    ("node D: 3 >= 5 - net_out >= 1;", "-4..-2"),
+    ("node A: net_in >= 3;", "3.."),
+    ("node A: 3 >= net_in;", "..3"),
+    ("node A: net_out >= 3;", "..-3"),
+    ("node A: - net_out <= 3 + 1;", "..4"),
+    ("node A: 2 + net_in - 5 == 10;", "13..13"),
+    ("node A: 7 = 3 * 4 - net_in;", "5..5"),
+    ("node A: 4 <= net_in <= 2;", "E54 NodeCrossed 8..24"),
+    ("node A: net_in = 'a';", "E36 KindMismatch 8..20"),
+    ("node A: 'a' <= net_in <= 7 div 0;", "E38 DivMod 25..32"),
+    ("node A: net_in + 'a' = 3;", "E36 KindMismatch 8..20"),
+    (
+        "node A: net_in + 1000000000000 + 1 = 3;",
+        "E39 TooLarge 8..34",
+    ),
+    (
+        "node A: 1000000000000 >= net_in + 1000000000000 >= 0 - 1000000000000;",
+        "-2000000000000..0",
+    ),
+];
+
 #[test]
 fn ranges(rt: HostRuntime) -> Result<(), Fail> {
-    let alloc = rt.alloc();
-    let table = [
-        ("node A;", "0..0"),
-        ("node C: 1 <= net_in <= 4;", "1..4"),
-        ("node D: 3 >= 5 - net_out >= 1;", "-4..-2"),
-        ("node A: net_in >= 3;", "3.."),
-        ("node A: 3 >= net_in;", "..3"),
-        ("node A: net_out >= 3;", "..-3"),
-        ("node A: - net_out <= 3 + 1;", "..4"),
-        ("node A: 2 + net_in - 5 == 10;", "13..13"),
-        ("node A: 7 = 3 * 4 - net_in;", "5..5"),
-        ("node A: 4 <= net_in <= 2;", "E54 NodeCrossed 8..24"),
-        ("node A: net_in = 'a';", "E36 KindMismatch 8..20"),
-        ("node A: 'a' <= net_in <= 7 div 0;", "E38 DivMod 25..32"),
-        ("node A: net_in + 'a' = 3;", "E36 KindMismatch 8..20"),
-        (
-            "node A: net_in + 1000000000000 + 1 = 3;",
-            "E39 TooLarge 8..34",
-        ),
-        (
-            "node A: 1000000000000 >= net_in + 1000000000000 >= 0 - 1000000000000;",
-            "-2000000000000..0",
-        ),
-    ];
-    for (text, wanted) in table {
-        let found = told_range(alloc, text)?;
-        assert!(rt; found.as_str() == wanted, "{text} {found}");
+    for (text, wanted) in RANGES {
+        expect(text, told_range(rt.alloc(), text), wanted)?;
     }
     Ok(())
 }
+
+/// Objectives: the constant, and the coefficients of the five arcs.
+const OBJECTIVES: &[(&str, &str)] = &[
+    ("minimize C: X;", "0: 1 0 0 0 0"),
+    ("minimize C: 3 * X - Y - X + 7;", "7: 2 -1 0 0 0"),
+    ("minimize C: -(X - 2) * 4;", "8: -4 0 0 0 0"),
+    ("minimize C: 6 div 3 * X;", "0: 2 0 0 0 0"),
+    ("minimize C: sum {i in 1..3} i * Z[i];", "0: 0 0 1 2 3"),
+    ("minimize C: sum {i in 1..3} (X - 2);", "-6: 3 0 0 0 0"),
+    ("minimize C: if 1 = 1 then Y else X * X;", "0: 0 1 0 0 0"),
+    ("minimize C: X + (if 1 = 2 then Y);", "0: 1 0 0 0 0"),
+    ("minimize C: sum {i in {}} X * X;", "0: 0 0 0 0 0"),
+    ("minimize C: 1 + X * X;", "E58 NotLinear 16..21"),
+    ("minimize C: X * 6 div 3;", "E58 NotLinear 12..23"),
+    ("minimize C: Z[X];", "E58 NotLinear 12..16"),
+    ("minimize C: max {i in 1..3} Z[i];", "E58 NotLinear 12..32"),
+    ("minimize C: if X = 1 then 2;", "E58 NotLinear 12..27"),
+    ("minimize C: Z[4];", "E33 OutsideSet 12..16"),
+    ("minimize C: Z[1,2];", "E37 Arity 12..18"),
+    ("minimize C: Z;", "E37 Arity 12..13"),
+    ("minimize C: 1000000000000 * X + X;", "E39 TooLarge 12..33"),
+    ("minimize C: 'a';", "E36 KindMismatch 12..15"),
+    ("minimize C: X + 'a' + 7 div 0;", "E36 KindMismatch 12..29"),
+];
 
 #[test]
 fn objectives(rt: HostRuntime) -> Result<(), Fail> {
-    let alloc = rt.alloc();
-    let table = [
-        ("minimize C: X;", "0: 1 0 0 0 0"),
-        ("minimize C: 3 * X - Y - X + 7;", "7: 2 -1 0 0 0"),
-        ("minimize C: -(X - 2) * 4;", "8: -4 0 0 0 0"),
-        ("minimize C: 6 div 3 * X;", "0: 2 0 0 0 0"),
-        ("minimize C: sum {i in 1..3} i * Z[i];", "0: 0 0 1 2 3"),
-        ("minimize C: sum {i in 1..3} (X - 2);", "-6: 3 0 0 0 0"),
-        ("minimize C: if 1 = 1 then Y else X * X;", "0: 0 1 0 0 0"),
-        ("minimize C: X + (if 1 = 2 then Y);", "0: 1 0 0 0 0"),
-        ("minimize C: sum {i in {}} X * X;", "0: 0 0 0 0 0"),
-        ("minimize C: 1 + X * X;", "E58 NotLinear 16..21"),
-        ("minimize C: X * 6 div 3;", "E58 NotLinear 12..23"),
-        ("minimize C: Z[X];", "E58 NotLinear 12..16"),
-        ("minimize C: max {i in 1..3} Z[i];", "E58 NotLinear 12..32"),
-        ("minimize C: if X = 1 then 2;", "E58 NotLinear 12..27"),
-        ("minimize C: Z[4];", "E33 OutsideSet 12..16"),
-        ("minimize C: Z[1,2];", "E37 Arity 12..18"),
-        ("minimize C: Z;", "E37 Arity 12..13"),
-        ("minimize C: 1000000000000 * X + X;", "E39 TooLarge 12..33"),
-        ("minimize C: 'a';", "E36 KindMismatch 12..15"),
-        ("minimize C: X + 'a' + 7 div 0;", "E36 KindMismatch 12..29"),
-    ];
-    for (text, wanted) in table {
-        let found = told_objective(alloc, text, &[])?;
-        assert!(rt; found.as_str() == wanted, "{text} {found}");
+    for (text, wanted) in OBJECTIVES {
+        expect(text, told_objective(rt.alloc(), text, &[]), wanted)?;
     }
     Ok(())
 }
 
+/// Prices that are added to the coefficient of X, one after the other.
+const PRICES: &[(&[i64], &str)] = &[
+    (&[3, 4, -1], "0: 6 0 0 0 0"),
+    (&[1_000_000_000_000, 1], "E39 TooLarge 12..13"),
+];
+
 #[test]
 fn prices(rt: HostRuntime) -> Result<(), Fail> {
-    let alloc = rt.alloc();
-    let added = told_objective(alloc, "minimize C: 0;", &[3, 4, -1])?;
-    let past = told_objective(alloc, "minimize C: 0;", &[1_000_000_000_000, 1])?;
-    let found = format!(in alloc; "{added}, {past}")?;
-    assert!(rt;
-        found.as_str() == "0: 6 0 0 0 0, E39 TooLarge 12..13",
-        "{found}"
-    );
+    let text = "minimize C: 0;";
+    for (prices, wanted) in PRICES {
+        expect(text, told_objective(rt.alloc(), text, prices), wanted)?;
+    }
     Ok(())
 }

@@ -1,5 +1,9 @@
-//! Texts that are models, and texts that are refused with the place where the grammar does not go on.
+//! Texts that are models, and texts that are refused with the place of the first fault, of the grammar or of names.
 #![tactic(auto)]
 
 #[cfg(test)]
-mod tests;
+mod grammar;
+#[cfg(test)]
+mod names;
+#[cfg(test)]
+mod told;

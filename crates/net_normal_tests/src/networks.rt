@@ -1,74 +1,109 @@
-//! Networks for tests, which stop where they pass a limit.
+//! Networks of tables. What passes a limit is no network.
 
 ghost use Rattle.std.specs.Prelude.{IsTrue};
 ghost use Rattle.net_normal.specs.Limits.{IsSized, range_limit};
 
 use net_normal::{InstArc, Instance, NodeRange, RANGE_LIMIT, Sense};
-use std::process::Abort;
+use std::alloc::{AllocError, Global};
+
+/// What a node's condition says of its net inflow.
+pub enum Condition {
+    Exactly(i64),
+    /// From the first number to the second.
+    Between(i64, i64),
+    AtLeast(i64),
+    AtMost(i64),
+}
+
+/// The node of `from` and that of `to`, counted from 0, and `>=`, `<=` and the coefficient.
+pub type Arc = (Option<u32>, Option<u32>, i64, i64, i64);
 
 /// Whether a number may be a side of a range.
-fn is_side(number: &i64) -> bool
-    ensures { IsTrue result → IsSized range_limit number.now }
+fn is_side(number: i64) -> bool
+    ensures { IsTrue result → IsSized range_limit number }
 {
-    -RANGE_LIMIT <= *number && *number <= RANGE_LIMIT
+    -RANGE_LIMIT <= number && number <= RANGE_LIMIT
 }
 
-/// `low <= net_in <= high`
-pub fn between(rt: &impl Abort, low: i64, high: i64) -> NodeRange {
-    assert!(rt; is_side(&low) && is_side(&high) && low <= high);
-    NodeRange {
-        low: Some(low),
-        high: Some(high),
+fn between(low: i64, high: i64) -> Option<NodeRange> {
+    if is_side(low) && is_side(high) && low <= high {
+        Some(NodeRange {
+            low: Some(low),
+            high: Some(high),
+        })
+    } else {
+        None
     }
 }
 
-/// `net_in = number`
-pub fn exactly(rt: &impl Abort, number: i64) -> NodeRange {
-    between(rt, number, number)
-}
-
-/// `net_in >= low`
-pub fn at_least(rt: &impl Abort, low: i64) -> NodeRange {
-    assert!(rt; is_side(&low));
-    NodeRange {
-        low: Some(low),
-        high: None,
+fn at_least(low: i64) -> Option<NodeRange> {
+    if is_side(low) {
+        Some(NodeRange {
+            low: Some(low),
+            high: None,
+        })
+    } else {
+        None
     }
 }
 
-/// `net_in <= high`
-pub fn at_most(rt: &impl Abort, high: i64) -> NodeRange {
-    assert!(rt; is_side(&high));
-    NodeRange {
-        low: None,
-        high: Some(high),
+fn at_most(high: i64) -> Option<NodeRange> {
+    if is_side(high) {
+        Some(NodeRange {
+            low: None,
+            high: Some(high),
+        })
+    } else {
+        None
     }
 }
 
-/// `arc X >= lower, <= upper, from tail, to head, obj Cost coefficient;`
-pub fn arc(
-    tail: Option<u32>,
-    head: Option<u32>,
-    lower: i64,
-    upper: i64,
-    coefficient: i64,
-) -> InstArc {
-    InstArc {
-        lower,
-        upper,
-        coefficient,
-        tail,
-        head,
+fn range_of(condition: &Condition) -> Option<NodeRange> {
+    match condition {
+        Condition::Exactly(number) => between(*number, *number),
+        Condition::Between(low, high) => between(*low, *high),
+        Condition::AtLeast(low) => at_least(*low),
+        Condition::AtMost(high) => at_most(*high),
     }
 }
 
-/// The network of these nodes and arcs.
+fn nodes_of(alloc: Global, conditions: &[Condition]) -> Result<Vec<NodeRange>, AllocError> {
+    let mut nodes = Vec::new(alloc);
+    for condition in conditions {
+        match range_of(condition) {
+            Some(range) => nodes.push(range)?,
+            None => return Err(AllocError),
+        }
+    }
+    Ok(nodes)
+}
+
+fn arcs_of(alloc: Global, arcs: &[Arc]) -> Result<Vec<InstArc>, AllocError> {
+    let mut made = Vec::new(alloc);
+    for (tail, head, lower, upper, coefficient) in arcs {
+        made.push(InstArc {
+            lower: *lower,
+            upper: *upper,
+            coefficient: *coefficient,
+            tail: *tail,
+            head: *head,
+        })?;
+    }
+    Ok(made)
+}
+
+/// The network of these nodes and arcs, and of what the objective adds to its arcs' terms.
 pub fn network(
-    rt: &impl Abort,
+    alloc: Global,
     sense: Sense,
-    nodes: Vec<NodeRange>,
-    arcs: Vec<InstArc>,
+    nodes: &[Condition],
+    arcs: &[Arc],
     constant: i64,
-) -> Instance {
-    Instance::checked(nodes, arcs, sense, constant).expect(rt, "within the limits")
+) -> Result<Instance, AllocError> {
+    let nodes = nodes_of(alloc, nodes)?;
+    let arcs = arcs_of(alloc, arcs)?;
+    match Instance::checked(nodes, arcs, sense, constant) {
+        Some(instance) => Ok(instance),
+        None => Err(AllocError),
+    }
 }
