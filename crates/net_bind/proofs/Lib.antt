@@ -6,6 +6,9 @@ pub mod Fresh
 mod Examples
 pub mod NewNames
 pub mod RowsTaken
+pub mod DataRowsTaken
+pub mod SetRowsTaken
 pub mod Products
 pub mod Claiming
-pub mod HeldSets
+pub mod HeldParameters
+pub mod HeldEntries

@@ -45,7 +45,7 @@ has_added ts x t = step (has ts x) refl
     step true e = ap (λ us. has us t) (stays ts x e) ∙ there (same_tuple t x) refl e
     step false e = ap (λ us. has us t) (put_last ts x e) ∙ list_any-append (same_tuple t) ts (x ∷ []) ∙ ap (λ b. has ts t || b) (or-false (same_tuple t x))
 
-has_union : (xs ys : List Tuple) (t : Tuple) → has (union xs ys) t ≡ (has xs t || has ys t)
+pub has_union : (xs ys : List Tuple) (t : Tuple) → has (union xs ys) t ≡ (has xs t || has ys t)
 has_union xs [] t = sym (or-false (has xs t))
 has_union xs (y ∷ ys) t = has_union (added xs y) ys t ∙ ap (λ b. b || has ys t) (has_added xs y t) ∙ or_assoc (has xs t) (same_tuple t y) (has ys t)
 

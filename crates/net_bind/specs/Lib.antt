@@ -11,6 +11,8 @@ pub mod SetPhrases
 pub mod SetData
 pub mod BoundSets
 pub mod Rows
+pub mod DataRows
 pub mod Restrictions
 pub mod BoundParameters
+pub mod ParameterValues
 pub mod Binding

@@ -24,5 +24,8 @@ mod source;
 mod world;
 
 pub use fault::{BindDefect, BindFault, Refusal};
-pub use laws::{bound_worlds_have_sets, well_named_are_new};
+pub use laws::{
+    bound_worlds_have_parameters, bound_worlds_have_sets, statements_are_taken_by_rows,
+    well_named_are_new,
+};
 pub use world::bind;

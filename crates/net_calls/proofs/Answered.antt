@@ -13,6 +13,7 @@ use Rattle.net_normal.specs.Links.{lifted, value_at}
 use Rattle.net_model.proofs.NamedModels.{meant_well_named}
 use Rattle.net_read.proofs.Apart.{bound_apart}
 use Rattle.net_report.specs.Cuts.{cut_text}
+use Rattle.net_report.proofs.InOrder.{shows_all}
 use Rattle.net_solve.specs.Settling.{IsSettledBy, BoundsEachFlow, LeavesNoFlow}
 use Rattle.net_solve.specs.declared.settled.Settled.{Settled}
 use Rattle.net_solve.specs.declared.settled.Settled.TheVariants.{Optimal, Cut}
@@ -67,7 +68,7 @@ answers_of wanted m d c settled outcome names ranges objective correspond made b
         → IsOutcome c (nodes promise.world promise.declarations) (arcs promise.world promise.declarations) promise.objective o
     go (Optimal cost flows potentials) (Displayed text numbers value) f g h k =
         record {
-          displayed = k.display;
+          displayed = k.display ∙ shows_all c.names numbers.items value promise.arc_names.ordered;
           best =
               best promise.objective (seen_as made.named) (nodes promise.world promise.declarations) (arcs promise.world promise.declarations) c flows.items cost text.items numbers.items value aim
               promise.sense promise.corresponds apart f.feasible f.cost g k;

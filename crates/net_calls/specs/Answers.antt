@@ -8,7 +8,7 @@ use Rattle.net_inst.specs.Readings.{Objective, value_of}
 use Rattle.net_normal.specs.declared.instance.Sense.{Sense}
 use Rattle.net_normal.specs.declared.instance.Sense.TheVariants.{Minimise, Maximise}
 use Rattle.net_report.specs.Cuts.{cut_text}
-use Rattle.net_report.specs.Displays.{display_text}
+use Rattle.net_report.specs.Displays.{display_of_all}
 use Rattle.net_calls.specs.declared.answer.Answer.{Answer}
 use Rattle.net_calls.specs.declared.answer.Outcome.{Outcome}
 use Rattle.net_calls.specs.declared.answer.Outcome.TheVariants.{Displayed, Infeasible}
@@ -32,9 +32,9 @@ pub record IsBestPlan (ns : List Node) (all : List Arc) (o : Objective) (numbers
   pub is_value : value_of o (by_arc all numbers) ≡ value
   pub none_better : (x : Assignment) → IsFeasible ns all x → IsAsGood o.sense value (value_of o x)
 
--- a plan, displayed
+-- a plan, displayed: each declared name with all of its arcs
 pub record IsDisplay (c : Compiled) (ns : List Node) (all : List Arc) (o : Objective) (text : List ℕ) (numbers : List ℤ) (value : ℤ) : Type 0 where
-  pub displayed : text ≡ display_text c.names numbers value
+  pub displayed : text ≡ display_of_all c.names numbers value
   pub best : IsBestPlan ns all o numbers value
 
 -- a set of nodes whose arcs cannot carry what it supplies, told by names; so no assignment is feasible

@@ -1,5 +1,5 @@
 -- The labels behind the numbers of nodes and arcs.
-use Rattle.std.specs.Prelude.{◌≡◌, ◌+◌, ◌&&◌, ◌||◌, ℕ, zero, suc, Bool, true, false, cond, List, [], ◌∷◌, ◌++◌, length, map, slice_get, Option, None, Some, is_some, if◌then◌else◌, Ok}
+use Rattle.std.specs.Prelude.{◌≡◌, ◌+◌, ◌≤◌, ◌<◌, ◌&&◌, ◌||◌, ℕ, zero, suc, Bool, true, false, cond, List, [], ◌∷◌, ◌++◌, length, map, slice_get, Option, None, Some, is_some, if◌then◌else◌, Ok}
 use Rattle.std.specs.List.{AllZip, IsDistinct, position_from}
 use Rattle.std.specs.Str.{bytes_eq}
 use Rattle.std.proofs.Common.{refl, ap, sym, ◌∙◌, subst, arith, append_assoc, append-nil, ◌⊎◌, inl, inr}
@@ -18,14 +18,15 @@ use Rattle.net_forms.specs.Arcs.{declared, is_arc}
 use Rattle.net_inst.specs.declared.group.Group.{Group}
 use Rattle.net_inst.specs.declared.indexing.Indexing.{Indexing}
 use Rattle.net_inst.specs.declared.names.Declared.{Declared}
+use Rattle.net_inst.specs.declared.names.Key.{Key}
 use Rattle.net_inst.specs.AsWritten.{Label, label_at, same_label}
 use Rattle.net_inst.specs.Groups.{Numbers, unless_known, numbers_with, group_with}
 use Rattle.net_inst.specs.Indexings.{alone, by_keys, indexing_in, tuples_of}
 use Rattle.net_inst.specs.Laws.{IsKeyOf}
-use Rattle.net_inst.specs.Lists.{keyed}
+use Rattle.net_inst.specs.Lists.{keyed, AreInOrder}
 use Rattle.net_inst.specs.Outcomes.{from_values}
 use Rattle.net_inst.specs.Readings.{name_alone}
-use Rattle.net_inst.proofs.Zips.{ok_then, ok_is, map_map, map_join, zip_join, zip_as, get_front, get_behind, get_last, distinct_front, distinct_behind, distinct_of}
+use Rattle.net_inst.proofs.Zips.{ok_then, ok_is, map_map, map_join, zip_join, zip_as, get_front, get_behind, get_last, get_below, distinct_front, distinct_behind, distinct_of}
 
 abbrev pub label_of : Name → Bool → Tuple → Label
 label_of name flag key = record { name = name; indexed = flag; key = key }
@@ -193,6 +194,7 @@ known_more a ds d first i h = record { alike = λ q. go q (is_arc a d.name) refl
 pub record IsGroup (labels : List Label) (names : List Declared) (g : Group) : Type 0 where
   pub declarations : g.list.declarations ≡ names
   pub keys : AllZip (IsKeyOf names) labels g.list.keys
+  pub ordered : AreInOrder 0 g.list.keys
   pub finds : Finds labels g.numbers
   pub known : NameAlike g.numbers (map name_alone names)
 
@@ -211,6 +213,20 @@ fresh_keys names n b m (row ∷ rows) e = (
   fresh_keys names n b m rows e,
 )
 
+fresh_order : (least m : ℕ) (rows : List Row) → least ≤ m → AreInOrder least (map (keyed m) rows)
+fresh_order least m [] l = tt
+fresh_order least m (row ∷ rows) l = (l, fresh_order m m rows (omega arith))
+
+-- one more declaration's keys stand behind those of the declarations before
+more_order : (names : List Declared) (labels : List Label) (ks : List Key) (least m : ℕ) (rows : List Row) → m ≡ length names → least ≤ m → AllZip (IsKeyOf names) labels ks → AreInOrder least ks
+    → AreInOrder least (ks ++ map (keyed m) rows)
+more_order names [] [] least m rows e l h o = fresh_order least m rows l
+more_order names [] (k ∷ ks) least m rows e l h o = absurd h
+more_order names (x ∷ labels) [] least m rows e l h o = absurd h
+more_order names (x ∷ labels) (k ∷ ks) least m rows e l h o =
+    let below : k.declaration < length names = get_below names k.declaration _ h.0.declaration in
+    (o.0, more_order names labels ks k.declaration m rows e (omega (arith, e, below)) h.1 o.1)
+
 pub group_more : (labels : List Label) (names : List Declared) (g : Group) (n : Token) (b : Option Braces) (first : ℕ) (i : Indexing) → IsGroup labels names g → first ≡ length labels → is_some i.count ≡ is_some b
     → IsGroup (labels ++ map (label_at n b) i.rows) (names ++ (record { name = n.text; indexed = is_some b }) ∷ []) (group_with g n.text first i)
 group_more labels names g n b first i h at flag = record {
@@ -218,6 +234,7 @@ group_more labels names g n b first i h at flag = record {
   keys = zip_join (IsKeyOf all) labels (map (label_at n b) i.rows) g.list.keys (map (keyed (length g.list.declarations)) i.rows)
       (zip_as (IsKeyOf names) (IsKeyOf all) labels g.list.keys (λ l k u. record { declaration = get_front names (last ∷ []) k.declaration _ u.declaration; key = u.key }) h.keys)
       (fresh_keys names n b (length g.list.declarations) i.rows (ap (λ (ds : List Declared). length ds) h.declarations));
+  ordered = more_order names labels g.list.keys 0 (length g.list.declarations) i.rows (ap (λ (ds : List Declared). length ds) h.declarations) (omega arith) h.keys h.ordered;
   finds = subst (λ (ls : List Label). Finds (labels ++ ls) (numbers_with g.numbers n.text first i)) (map_map (label_of n.text (is_some b)) (λ (row : Row). row.key) i.rows) (finds_more labels g.numbers n.text (is_some b) first i h.finds at);
   known = known_more g.numbers names last first i h.known;
 }

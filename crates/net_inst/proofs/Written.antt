@@ -143,8 +143,8 @@ written wanted w (x ∷ xs) m d new h e =
 
 pub nothing_written : IsWritten no_lines nothing
 nothing_written = record {
-  nodes = record { ranges = tt; group = record { declarations = refl; keys = tt; finds = record { runs = λ name k e. absurd (let h = e in cc) }; known = record { alike = λ n. refl } } };
-  arcs = record { drawn = tt; group = record { declarations = refl; keys = tt; finds = record { runs = λ name k e. absurd (let h = e in cc) }; known = record { alike = λ n. refl } } };
+  nodes = record { ranges = tt; group = record { declarations = refl; keys = tt; ordered = tt; finds = record { runs = λ name k e. absurd (let h = e in cc) }; known = record { alike = λ n. refl } } };
+  arcs = record { drawn = tt; group = record { declarations = refl; keys = tt; ordered = tt; finds = record { runs = λ name k e. absurd (let h = e in cc) }; known = record { alike = λ n. refl } } };
 }
 
 pub all_written : (wanted : Option Name) (w : World) (ds : List Declaration) (d : Drawing) → draw wanted w ds nothing ≡ Ok d → IsWritten (all_lines w 0 ds) d
@@ -180,7 +180,7 @@ have_exact_ranges wanted w ds n e =
     subst (AllZip IsRangeOf (nodes w ds)) (ap (λ (z : Network). z.nodes) f.whole) (zip_as HasRange IsRangeOf (nodes w ds) f.drawing.nodes.ranges range_is (all_written wanted w ds f.drawing f.is_drawn).nodes.ranges)
 
 names_are : (labels : List Label) (names : List Declared) (g : Group) → IsGroup labels names g → AreNames names labels g.list
-names_are labels names g h = record { declarations = h.declarations; keys = h.keys }
+names_are labels names g h = record { declarations = h.declarations; keys = h.keys; ordered = h.ordered }
 
 pub have_names : HaveNames
 have_names wanted w ds n e =

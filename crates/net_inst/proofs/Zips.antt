@@ -1,5 +1,5 @@
 -- Lists place by place.
-use Rattle.std.specs.Prelude.{◌≡◌, ◌+◌, ℕ, zero, suc, Bool, true, false, List, [], ◌∷◌, ◌++◌, length, map, slice_get, Some, Ok, Err}
+use Rattle.std.specs.Prelude.{◌≡◌, ◌+◌, ◌<◌, ℕ, zero, suc, Bool, true, false, List, [], ◌∷◌, ◌++◌, length, map, slice_get, Some, Ok, Err}
 use Rattle.std.specs.List.{AllByRecursion, AllZip, IsDistinct}
 use Rattle.std.proofs.Common.{refl, ap, arith}
 use Rattle.net_inst.specs.Outcomes.{Outcome, and_then}
@@ -50,6 +50,11 @@ get_behind (x ∷ xs) ys i (suc v) e = get_behind xs ys i v (omega (arith, e))
 
 pub get_last : {A : Type 0} (xs ys : List A) (y : A) → slice_get (xs ++ y ∷ ys) (length xs) ≡ Some y
 get_last xs ys y = get_behind xs (y ∷ ys) 0 (length xs) (omega arith)
+
+pub get_below : {A : Type 0} (xs : List A) (v : ℕ) (x : A) → slice_get xs v ≡ Some x → v < length xs
+get_below [] v x e = absurd (let h = e in cc)
+get_below (y ∷ xs) zero x e = omega arith
+get_below (y ∷ xs) (suc v) x e = let behind = get_below xs v x e in omega (arith, behind)
 
 -- distinct lists
 all_front : {A : Type 0} (P : A → Type 0) (xs ys : List A) → AllByRecursion P (xs ++ ys) → AllByRecursion P xs

@@ -22,7 +22,7 @@ use Rattle.net_inst.specs.declared.names.Key.{Key}
 use Rattle.net_inst.specs.AsWritten.{Label, Node, Arc, rows_of, known_behind, nodes, arcs, node_declared, arc_declared, same_label, Assignment, numbers_on, by_label, from_end, to_end, AreDistinct, IsFeasible}
 use Rattle.net_inst.specs.Indexings.{indexing_in, tuples_of}
 use Rattle.net_inst.specs.Instances.{Network, network, seen_as}
-use Rattle.net_inst.specs.Lists.{Listed}
+use Rattle.net_inst.specs.Lists.{Listed, AreInOrder}
 use Rattle.net_inst.specs.Readings.{Objective, objectives, chosen, value_of}
 
 -- an arc but for its coefficient
@@ -56,10 +56,11 @@ pub record IsKeyOf (declared : List Declared) (l : Label) (k : Key) : Type 0 whe
   pub declaration : slice_get declared k.declaration ≡ Some (record { name = l.name; indexed = l.indexed })
   pub key : k.tuple ≡ l.key
 
--- the declared names in order, and the key of each node or arc in order
+-- the declared names in order, and the key of each node or arc in order, those of a declaration together
 pub record AreNames (declared : List Declared) (labels : List Label) (listed : Listed) : Type 0 where
   pub declarations : listed.declarations ≡ declared
   pub keys : AllZip (IsKeyOf declared) labels listed.keys
+  pub ordered : AreInOrder 0 listed.keys
 
 pub record AreNamesOf (w : World) (ds : List Declaration) (n : Network) : Type 0 where
   pub nodes : AreNames (flat_map node_declared ds) (map (λ v. v.label) (nodes w ds)) n.names.nodes

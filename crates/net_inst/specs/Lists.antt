@@ -1,5 +1,5 @@
 -- The declared names of nodes or of arcs, and what is declared by each.
-use Rattle.std.specs.Prelude.{ℕ, List, [], ◌∷◌, ◌++◌, length, map, Option, is_some}
+use Rattle.std.specs.Prelude.{ℕ, ◌≤◌, List, [], ◌∷◌, ◌++◌, length, map, Option, is_some}
 use Rattle.net_eval.specs.declared.row.Row.{Row}
 use Rattle.net_eval.specs.Worlds.{Name}
 use Rattle.net_inst.specs.declared.names.Declared.{Declared}
@@ -22,3 +22,8 @@ listed_with l name count rows = record {
   declarations = l.declarations ++ (record { name = name; indexed = is_some count }) ∷ [];
   keys = l.keys ++ map (keyed (length l.declarations)) rows;
 }
+
+-- each node or arc stands behind those of the declarations before its own
+abbrev pub AreInOrder : (least : ℕ) → List Key → Type 0
+AreInOrder least [] = Unit {0}
+AreInOrder least (k ∷ ks) = (least ≤ k.declaration) × AreInOrder k.declaration ks

@@ -6,7 +6,7 @@ use Rattle.net_names.specs.Names.{IsWellNamed}
 use Rattle.net_model.proofs.NamedModels.{meant_well_named}
 use Rattle.net_eval.specs.Worlds.{Name, World}
 use Rattle.net_bind.specs.Binding as binding
-use Rattle.net_bind.proofs.HeldSets.{have_sets}
+use Rattle.net_bind.proofs.HeldEntries.{have_sets}
 use Rattle.net_inst.specs.AsWritten.{nodes, arcs, AreDistinct}
 use Rattle.net_inst.specs.Instances.{Network}
 use Rattle.net_inst.proofs.KeysOnce.{are_distinct_in_sets}

@@ -7,7 +7,8 @@ use Rattle.std.proofs.lemmas.Bool.Decides.{nat_tests}
 use Rattle.net_inst.specs.declared.names.Declared.{Declared}
 use Rattle.net_inst.specs.declared.names.Key.{Key}
 use Rattle.net_inst.specs.declared.names.Names.{Names}
-use Rattle.net_report.specs.Displays.{Assigned, value_line, is_of, block, blocks, AreInOrder, blocks_of_all, display_text, display_of_all}
+use Rattle.net_inst.specs.Lists.{AreInOrder}
+use Rattle.net_report.specs.Displays.{Assigned, value_line, is_of, block, blocks, blocks_of_all, display_text, display_of_all}
 
 -- arcs with their numbers, of declaration d or a later one, in order
 abbrev pub IsOrdered : ℕ → List Assigned → Type 0

@@ -1,5 +1,5 @@
 -- The plan as it is displayed: the objective's value, and each arc's number under its declared name.
-use Rattle.std.specs.Prelude.{ℕ, suc, ◌≤◌, Bool, ℤ, List, [], ◌∷◌, ◌++◌, drop, nat_eq, if◌then◌else◌, codes}
+use Rattle.std.specs.Prelude.{ℕ, suc, Bool, ℤ, List, [], ◌∷◌, ◌++◌, drop, nat_eq, if◌then◌else◌, codes}
 use Rattle.std.specs.Fmt.{signed_decimal}
 use Rattle.std.specs.List.{zip, flat_map, filter, take_while, prefix_len}
 use Rattle.net_sets.specs.Sets.{Tuple}
@@ -38,11 +38,6 @@ is_of d a = nat_eq a.0.declaration d
 abbrev pub blocks : ℕ → List Declared → List Assigned → List ℕ
 blocks d [] arcs = []
 blocks d (x ∷ xs) arcs = block x (take_while (is_of d) arcs) ++ blocks (suc d) xs (drop (prefix_len (is_of d) arcs) arcs)
-
--- each arc stands behind those of the declarations before its own
-abbrev pub AreInOrder : (least : ℕ) → List Key → Type 0
-AreInOrder least [] = Unit {0}
-AreInOrder least (k ∷ ks) = (least ≤ k.declaration) × AreInOrder k.declaration ks
 
 -- the declarations from number d on, each with all arcs that are of it
 abbrev pub blocks_of_all : ℕ → List Declared → List Assigned → List ℕ

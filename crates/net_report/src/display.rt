@@ -2,6 +2,7 @@
 
 ghost use Rattle.std.specs.Prelude.{◌≡◌, ◌≤◌, ◌++◌, IfOk, OnOk, length, nat_eq};
 ghost use Rattle.std.specs.List.{zip, flat_map, prefix_len, take_while};
+ghost use Rattle.net_inst.specs.Lists.{AreInOrder};
 ghost use Rattle.net_report.specs.Displays as displays;
 
 use itoa::Buffer;
@@ -25,7 +26,7 @@ pub fn write_display(
     ensures value { IfOk result (λ text. text.items ≡ displays.display_text names.now assignment.now value) }
 
     // Where the arcs stand in the order of their declarations, no arc of a declaration is left out.
-    ensures all { displays.AreInOrder 0 names.now.arcs.keys →
+    ensures all { AreInOrder 0 names.now.arcs.keys →
         IfOk result (λ text. text.items ≡ displays.display_of_all names.now assignment.now value) }
 {
     write_plan(alloc, names, assignment, value)

@@ -1,4 +1,4 @@
-use Rattle.net_bind.proofs.HeldSets.{have_sets}
+use Rattle.net_bind.proofs.HeldEntries.{have_sets}
 use Rattle.net_bind.proofs.laws.bound_worlds_have_sets.Goals as goal
 
 pub returns : goal.returns
