@@ -23,3 +23,5 @@ mod CertificateLines
 mod CertificateWriteLaws
 mod Examples
 pub mod Comments
+pub mod Lengths
+pub mod ReadBack

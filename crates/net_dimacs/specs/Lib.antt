@@ -15,3 +15,4 @@ pub mod CertificateWritten
 pub mod CertificateReading
 pub mod Numerals
 pub mod CertificateDrafts
+pub mod ReadBack

@@ -8,6 +8,7 @@ mod claim;
 mod draft;
 mod fields;
 mod integer;
+mod laws;
 mod limits;
 mod line_stop;
 mod number;
@@ -23,6 +24,7 @@ mod statement;
 
 pub use certificate_reader::read_certificate;
 pub use certificate_writer::write_certificate;
+pub use laws::written_texts_are_read_back;
 pub use limits::TEXT_LIMIT;
 pub use problem_fault::{LineFault, ProblemFault, Refusal};
 pub use problem_reader::read_problem;
