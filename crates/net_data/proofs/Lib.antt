@@ -4,6 +4,8 @@ pub mod Turns
 pub mod Apart
 pub mod Bare
 pub mod RunLemmas
+pub mod Lookahead
+pub mod NextToken
 pub mod Places
 pub mod SetRuns
 pub mod Steps
@@ -15,6 +17,9 @@ pub mod StatementComplete
 pub mod TablesMean
 pub mod Blames
 pub mod Promise
+pub mod RunsAhead
+pub mod StatementsAhead
+pub mod GoingOn
 pub mod Examples
 pub mod CellLemmas
 pub mod ItemLemmas

@@ -56,7 +56,7 @@ judged_err : (j : Result (Unit {0}) Stop) (x : Tables) (e : Stop) → (j >>= (λ
 judged_err (Ok u) x e h = absurd (cc)
 judged_err (Err d) x e h = let same : d ≡ e = cc in rw same refl
 
-no_tables : (tokens : List Token) (e : Stop) → tables tokens ≡ Err e → e.defect ≡ Syntax → (x : Tables) → Mean tokens x → ⊥
+pub no_tables : (tokens : List Token) (e : Stop) → tables tokens ≡ Err e → e.defect ≡ Syntax → (x : Tables) → Mean tokens x → ⊥
 no_tables tokens e h s x mean = all_width x.statements e (judged_err (all_judged x.statements) x e (sym (tables-complete tokens x mean) ∙ h)) s
 
 -- the fault of a stop with this place

@@ -9,7 +9,7 @@ use Rattle.net_data.specs.Reading.{run, run_len, semicolon}
 use Rattle.net_data.proofs.Apart.{name-mark, member-mark, cell-mark}
 
 -- a run goes on behind a comma and behind a token that passes
-abbrev run_behind : Token → List Token → Bool → Bool → List Token × List Token → List Token × List Token
+abbrev pub run_behind : Token → List Token → Bool → Bool → List Token × List Token → List Token × List Token
 run_behind token tokens true passes run = run
 run_behind token tokens false true run = (token ∷ run.0, run.1)
 run_behind token tokens false false run = ([], token ∷ tokens)
@@ -24,11 +24,11 @@ run_at token tokens n true false is = let one : 1 + n ≡ suc n = omega arith in
 run_at token tokens n false true is = let one : 1 + n ≡ suc n = omega arith in rw (one, is) refl
 run_at token tokens n false false is = refl
 
-run-cons : (test : Token → Bool) (token : Token) (tokens : List Token) → run test (token ∷ tokens) ≡ run_behind token tokens (is_comma token) (test token) (run test tokens)
+pub run-cons : (test : Token → Bool) (token : Token) (tokens : List Token) → run test (token ∷ tokens) ≡ run_behind token tokens (is_comma token) (test token) (run test tokens)
 unfolding run
 run-cons test token tokens = run_at token tokens (run_len test tokens) (is_comma token) (test token) refl
 
-run-nil : (test : Token → Bool) → run test [] ≡ ([], [])
+pub run-nil : (test : Token → Bool) → run test [] ≡ ([], [])
 unfolding run
 run-nil test = refl
 

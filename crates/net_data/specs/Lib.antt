@@ -6,4 +6,5 @@ pub mod Reading
 pub mod Printing
 pub mod Meaning
 pub mod Refusals
+pub mod GoingOn
 pub mod Rows

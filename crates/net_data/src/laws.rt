@@ -3,6 +3,7 @@ ghost use Rattle.net_data.specs.Rows.{groups, set_rows, first_row, more_rows};
 ghost use Rattle.net_lex.specs.declared.token.Token.{Token};
 ghost use Rattle.net_data.specs.declared.tables.Tables.{Tables};
 ghost use Rattle.net_data.specs.Meaning.{Mean, all_judged};
+ghost use Rattle.net_data.specs.GoingOn.{NoneGoOn};
 
 /// A law alone: tokens that mean tables without a fault mean no others.
 pub fn one_meaning()
@@ -21,4 +22,9 @@ pub fn set_row_by_row()
     ensures none { (dimension : ℕ) → set_rows dimension [] ≡ [] }
     ensures next { (dimension : ℕ) (items : List Token) → 0 < dimension → 0 < length items
         → set_rows dimension items ≡ first_row dimension items ∷ set_rows dimension (more_rows dimension items) }
+{}
+
+/// A law alone: where reading stops at a token that is not allowed, no statements go on with it, whatever comes behind.
+pub fn no_statements_go_on()
+    ensures value { NoneGoOn }
 {}

@@ -20,7 +20,7 @@ mod word;
 
 pub use cells::Cells;
 pub use fault::{DataDefect, DataFault};
-pub use laws::{group_by_group, one_meaning, set_row_by_row};
+pub use laws::{group_by_group, no_statements_go_on, one_meaning, set_row_by_row};
 pub use members::Members;
 pub use parse::parse_data;
 pub use statement::{
