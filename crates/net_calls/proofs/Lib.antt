@@ -7,3 +7,4 @@ pub mod Answered
 pub mod Reading
 mod Writing
 mod Pieces
+pub mod Accepted

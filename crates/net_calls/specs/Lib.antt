@@ -11,3 +11,4 @@ pub mod Checked
 pub mod Settled
 pub mod Runs
 pub mod ProblemSources
+pub mod Accepted
