@@ -1,5 +1,5 @@
-"""What scripts/wrong_bodies and scripts/costs share: the toolchain's own words for a check of one crate, over the libraries
-below it as `rt ci` or `rt lib` left them, and a run of such a check with its processor time."""
+"""What scripts/build, scripts/wrong_bodies and scripts/costs share: the toolchain's own words for a check of one crate, over the
+libraries below it as `rt ci` or `rt lib` left them, a run of such a check with its processor time, and the build of a crate."""
 import importlib.machinery
 import importlib.util
 import os
@@ -62,3 +62,23 @@ def check(crate, folder, *more):
 def processor_seconds():
     used = [resource.getrusage(who) for who in (resource.RUSAGE_SELF, resource.RUSAGE_CHILDREN)]
     return sum(it.ru_utime + it.ru_stime for it in used)
+
+
+def build(name, jobs):
+    """What `rt lib` does in the crate's folder, of a program `rt run`, over libraries that are built, and with no lock: the crates
+    of the repository often stand on the same libraries, and each `rt lib` would keep the others out of them. Who calls this
+    holds the locks of all."""
+    RT.rtlib.Crate.cuts_libraries = False
+    crate = crates_of(TOP)[name]
+    os.chdir(crate.folder)
+    os.makedirs("out", exist_ok=True)
+    RT.rtlib.guarded()
+    if crate.is_program:
+        # It lets go of its locks before the program runs.
+        crate.held = []
+        return crate.run(["--jobs", jobs], [])
+    return crate.build_rlib(["--jobs", jobs], anew=False)
+
+
+if __name__ == "__main__":
+    sys.exit(build(*sys.argv[1:]))

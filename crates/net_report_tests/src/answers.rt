@@ -3,6 +3,7 @@
 ghost use Rattle.std.specs.Prelude.{◌≡◌, All, IsTrue};
 ghost use Rattle.net_report.specs.Lifts.{IsCarried};
 
+use net_expect::expect;
 use net_normal::{FLOW_LIMIT, InstArc, Instance, Link, NodeRange, Sense, normalise};
 use net_report::lift;
 use std::alloc::{AllocError, Global};
@@ -55,27 +56,33 @@ fn are_carried(flows: &[i64], numbers: &[u32]) -> bool
     true
 }
 
-fn lifted(alloc: Global, arcs: &[(i64, i64)], flows: &[i64]) -> Result<Vec<i64>, AllocError> {
-    let link = link_of(alloc, arcs, Sense::Minimise)?;
+/// The assignment of a flow, which has to carry each arc of the link.
+fn lifted(alloc: Global, link: &Link, flows: &[i64]) -> Result<String, AllocError> {
     if !are_carried(flows, &link.numbers) {
-        return Err(AllocError);
+        return String::from_str(alloc, "not carried");
     }
-    lift(alloc, &link, flows)
+    let assignment = lift(alloc, link, flows)?;
+    format!(in alloc; "{assignment:?}")
+}
+
+fn answer(alloc: Global, arcs: &[(i64, i64)], flows: &[i64]) -> Result<String, AllocError> {
+    lifted(alloc, &link_of(alloc, arcs, Sense::Minimise)?, flows)
 }
 
 /// Lower bounds and coefficients of arcs, flows, and the assignment that they stand for.
-const FLOWS: [(&[(i64, i64)], &[i64], &[i64]); 4] = [
-    (&[(-3, 4)], &[5], &[2]),
-    (&[(-4, 1), (-4, 2)], &[8, 3, 0], &[4, -1]),
-    (&[(0, 2), (7, 1)], &[0, 9], &[0, 9]),
-    (&[], &[], &[]),
+const FLOWS: &[(&[(i64, i64)], &[i64], &str)] = &[
+    (&[(-3, 4)], &[5], "[2]"),
+    (&[(-4, 1), (-4, 2)], &[8, 3, 0], "[4, -1]"),
+    (&[(0, 2), (7, 1)], &[0, 9], "[0, 9]"),
+    (&[], &[], "[]"),
+    // No flow for the second arc.
+    (&[(0, 1), (0, 1)], &[4], "not carried"),
 ];
 
 #[test]
 fn flows_are_lifted(rt: HostRuntime) -> Result<(), Fail> {
-    for (arcs, flows, want) in FLOWS {
-        let assignment = lifted(rt.alloc(), arcs, flows)?;
-        assert_eq!(rt; assignment.as_slice(), want);
+    for (arcs, flows, wanted) in FLOWS {
+        expect(wanted, answer(rt.alloc(), arcs, flows), wanted)?;
     }
     Ok(())
 }

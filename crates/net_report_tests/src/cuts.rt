@@ -2,6 +2,7 @@
 
 use crate::names::{ALONE, Declaration, list_of};
 use net_check::Side;
+use net_expect::expect;
 use net_inst::{NameList, Names};
 use net_lex::Excerpt;
 use net_normal::{FlowArc, Problem};
@@ -33,104 +34,106 @@ fn problem_of(
     }
 }
 
-fn cut(
+/// The text of a cut, whose shape has to be that of the names and of the problem.
+fn written(
     alloc: Global,
-    nodes: &[Declaration],
+    names: &Names<'_>,
     problem: &Problem,
-    flags: &[bool],
-    side: Side,
+    cut: &Cut,
 ) -> Result<String, AllocError> {
+    let count = problem.supplies.len();
+    if count != cut.flags.len() || count == 0 || count - 1 != names.nodes.keys().len() {
+        return String::from_str(alloc, "of another shape");
+    }
+    let text = write_cut(alloc, names, problem, cut.flags, cut.side)?;
+    String::from_utf8_lossy(alloc, &text)
+}
+
+fn answer(alloc: Global, cut: &Cut) -> Result<String, AllocError> {
+    let problem = problem_of(alloc, cut.supplies, cut.arcs)?;
     let names = Names {
         objective: Excerpt::new("Cost"),
-        nodes: list_of(alloc, nodes)?,
+        nodes: list_of(alloc, cut.nodes)?,
         arcs: NameList::new(alloc),
     };
-    let count = names.nodes.keys().len();
-    if problem.supplies.len() == 0 || problem.supplies.len() - 1 != count {
-        return Err(AllocError);
-    }
-    if flags.len() != problem.supplies.len() {
-        return Err(AllocError);
-    }
-    let text = write_cut(alloc, &names, problem, flags, side)?;
-    String::from_utf8_lossy(alloc, &text)
+    written(alloc, &names, &problem, cut)
 }
 
 const TWO: &[Declaration] = &[("A", None, ALONE), ("B", None, ALONE)];
 
 /// Node declarations, supplies, arcs, the set and the side, and the text.
-const CUTS: [(
-    &[Declaration],
-    &[i64],
-    &[(u32, u32, i64, i64)],
-    &[bool],
-    Side,
-    &str,
-); 7] = [
-    (
-        TWO,
-        &[5, -5, 0],
-        &[(0, 1, 0, 3)],
-        &[true, false, false],
-        Side::Over,
-        "infeasible\nover 5 3\nnode A\n",
-    ),
-    (
-        TWO,
-        &[5, -5, 0],
-        &[(0, 1, 0, 3)],
-        &[false, true, true],
-        Side::Under,
-        "infeasible\nunder -5 -3\nnode B\noutside\n",
-    ),
-    (
-        TWO,
-        &[5, -4, -1],
-        &[(0, 1, 0, 9)],
-        &[false, false, true],
-        Side::Under,
-        "infeasible\nunder -1 0\noutside\n",
-    ),
-    (
-        TWO,
-        &[5, -4, -1],
-        &[(0, 1, 0, 9)],
-        &[true, true, false],
-        Side::Over,
-        "infeasible\nover 1 0\nnode A\nnode B\n",
-    ),
-    (
-        &[("A", None, ALONE)],
-        &[-28, 28],
-        &[(1, 0, 0, 8), (1, 0, 0, 8), (0, 1, 0, 0)],
-        &[false, true],
-        Side::Over,
-        "infeasible\nover 28 16\noutside\n",
-    ),
-    (
-        &[("N", Some(1), &[&["'it''s'"], &["7"]])],
-        &[1, 2, -3],
-        &[(0, 1, 2, 4), (2, 0, 1, 6)],
-        &[true, true, false],
-        Side::Over,
-        "infeasible\nover 3 -1\nnode N['it''s']\nnode N[7]\n",
-    ),
-    (
-        TWO,
-        &[-1, 0, 1],
-        &[(0, 1, 3, 9), (2, 0, 0, 2)],
-        &[true, false, false],
-        Side::Under,
-        "infeasible\nunder -1 1\nnode A\n",
-    ),
+struct Cut {
+    nodes: &'static [Declaration],
+    supplies: &'static [i64],
+    arcs: &'static [(u32, u32, i64, i64)],
+    flags: &'static [bool],
+    side: Side,
+    text: &'static str,
+}
+
+const CUTS: &[Cut] = &[
+    Cut {
+        nodes: TWO,
+        supplies: &[5, -5, 0],
+        arcs: &[(0, 1, 0, 3)],
+        flags: &[true, false, false],
+        side: Side::Over,
+        text: "infeasible\nover 5 3\nnode A\n",
+    },
+    Cut {
+        nodes: TWO,
+        supplies: &[5, -5, 0],
+        arcs: &[(0, 1, 0, 3)],
+        flags: &[false, true, true],
+        side: Side::Under,
+        text: "infeasible\nunder -5 -3\nnode B\noutside\n",
+    },
+    Cut {
+        nodes: TWO,
+        supplies: &[5, -4, -1],
+        arcs: &[(0, 1, 0, 9)],
+        flags: &[false, false, true],
+        side: Side::Under,
+        text: "infeasible\nunder -1 0\noutside\n",
+    },
+    Cut {
+        nodes: TWO,
+        supplies: &[5, -4, -1],
+        arcs: &[(0, 1, 0, 9)],
+        flags: &[true, true, false],
+        side: Side::Over,
+        text: "infeasible\nover 1 0\nnode A\nnode B\n",
+    },
+    Cut {
+        nodes: &[("A", None, ALONE)],
+        supplies: &[-28, 28],
+        arcs: &[(1, 0, 0, 8), (1, 0, 0, 8), (0, 1, 0, 0)],
+        flags: &[false, true],
+        side: Side::Over,
+        text: "infeasible\nover 28 16\noutside\n",
+    },
+    Cut {
+        nodes: &[("N", Some(1), &[&["'it''s'"], &["7"]])],
+        supplies: &[1, 2, -3],
+        arcs: &[(0, 1, 2, 4), (2, 0, 1, 6)],
+        flags: &[true, true, false],
+        side: Side::Over,
+        text: "infeasible\nover 3 -1\nnode N['it''s']\nnode N[7]\n",
+    },
+    Cut {
+        nodes: TWO,
+        supplies: &[-1, 0, 1],
+        arcs: &[(0, 1, 3, 9), (2, 0, 0, 2)],
+        flags: &[true, false, false],
+        side: Side::Under,
+        text: "infeasible\nunder -1 1\nnode A\n",
+    },
 ];
 
 #[test]
 fn cuts_are_told(rt: HostRuntime) -> Result<(), Fail> {
-    for (nodes, supplies, arcs, flags, side, want) in CUTS {
-        let problem = problem_of(rt.alloc(), supplies, arcs)?;
-        let text = cut(rt.alloc(), nodes, &problem, flags, side)?;
-        assert_eq!(rt; text.as_str(), want);
+    for cut in CUTS {
+        expect(cut.text, answer(rt.alloc(), cut), cut.text)?;
     }
     Ok(())
 }

@@ -1,12 +1,14 @@
 //! What problems, given as texts, are settled by, whatever is guessed of them.
 use net_check::{Certificate, Verdict, check};
 use net_dimacs::read_problem;
+use net_expect::expect;
 use net_growth::settle;
+use net_normal::Problem;
 use std::alloc::{AllocError, Global};
 use std::test::Fail;
 
-/// Problems, and how what settles them begins: the value and the flows, or the side and the flags of a cut.
-const PROBLEMS: [(&str, &str); 9] = [
+/// Problems, and what settles them: the value and the flows, or the side and the flags of a cut.
+const PROBLEMS: &[(&str, &str)] = &[
     // The triangle: the way round costs 2 a unit, the straight one 3.
     (
         "p min 3 3\nn 1 4\nn 3 -4\na 1 2 2 5 1\na 1 3 0 5 3\na 2 3 0 5 1\n",
@@ -52,7 +54,7 @@ const PROBLEMS: [(&str, &str); 9] = [
 ];
 
 /// Flows and potentials: none, some of each size, and too many.
-const GUESSES: [(&[i64], &[i64]); 6] = [
+const GUESSES: &[(&[i64], &[i64])] = &[
     (&[], &[]),
     (&[4, 0, 4], &[0, 1, 2]),
     (&[1, 1, 1, 1], &[0, 0, 0, 0]),
@@ -64,35 +66,51 @@ const GUESSES: [(&[i64], &[i64]); 6] = [
     (&[0, 5], &[7, 7, -7]),
 ];
 
-/// What settles the problem of a text, where the check says yes to it.
+/// A certificate: the value and the flows, or the side and the flags of a cut.
+fn told(alloc: Global, certificate: &Certificate) -> Result<String, AllocError> {
+    match certificate {
+        Certificate::Optimal { value, flows, .. } => format!(in alloc; "{value} {flows:?}"),
+        Certificate::Cut { flags, side } => format!(in alloc; "{side:?} {flags:?}"),
+    }
+}
+
+/// A certificate, where the check says yes to it.
+fn checked(
+    alloc: Global,
+    problem: &Problem,
+    certificate: Certificate,
+) -> Result<String, AllocError> {
+    match check(problem, &certificate) {
+        Verdict::Yes => told(alloc, &certificate),
+        Verdict::No(..) => String::from_str(alloc, "no certificate"),
+    }
+}
+
+/// What settles the problem of a text, from a guess.
 fn settled(
     alloc: Global,
     text: &str,
     flows: &[i64],
     potentials: &[i64],
 ) -> Result<String, AllocError> {
-    let problem = match read_problem(alloc, text.as_bytes()) {
-        Ok(problem) => problem,
-        Err(_) => return Err(AllocError),
-    };
-    let certificate = settle(alloc, &problem, flows, potentials)?;
-    if check(&problem, &certificate) != Verdict::Yes {
-        return String::from_str(alloc, "no certificate");
+    match read_problem(alloc, text.as_bytes()) {
+        Ok(problem) => checked(alloc, &problem, settle(alloc, &problem, flows, potentials)?),
+        Err(_) => String::from_str(alloc, "no problem"),
     }
-    match &certificate {
-        Certificate::Optimal { value, flows, .. } => format!(in alloc; "{value} {flows:?}"),
-        Certificate::Cut { flags, side } => format!(in alloc; "{side:?} {flags:?}"),
+}
+
+/// Settles all problems from one guess.
+fn all_are_settled(alloc: Global, flows: &[i64], potentials: &[i64]) -> Result<(), Fail> {
+    for (problem, answer) in PROBLEMS {
+        expect(problem, settled(alloc, problem, flows, potentials), answer)?;
     }
+    Ok(())
 }
 
 #[test]
 fn problems_are_settled_from_any_guess(rt: HostRuntime) -> Result<(), Fail> {
-    let alloc = rt.alloc();
-    for (problem, answer) in PROBLEMS {
-        for (flows, potentials) in GUESSES {
-            let text = settled(alloc, problem, flows, potentials)?;
-            assert_eq!(rt; text.as_str(), answer);
-        }
+    for (flows, potentials) in GUESSES {
+        all_are_settled(rt.alloc(), flows, potentials)?;
     }
     Ok(())
 }

@@ -1,6 +1,6 @@
 //! Texts that are models by the grammar, and texts that are refused with the place where it does not go on. Answers written by
 //! hand from the rules of the language.
-use crate::told::told_count;
+use crate::told_models::told_count;
 use net_expect::expect;
 use std::alloc::{AllocError, Global};
 use std::test::Fail;

@@ -1,8 +1,8 @@
 //! Whole token lists of short texts.
+use net_expect::expect;
 use net_lex::Language::{Data, Model};
 use net_lex::{Language, Token, lex_data, lex_model};
 use std::alloc::{AllocError, Global};
-use std::fmt::Write;
 use std::test::Fail;
 
 /// The tokens of a text.
@@ -21,22 +21,33 @@ fn tokens_of<'s>(
     }
 }
 
-/// The tokens of a text as `KIND TEXT START`, each in a line of its own.
+/// A token as `KIND TEXT START`, in a line of its own.
+fn line_of(alloc: Global, token: &Token<'_>) -> Result<String, AllocError> {
+    format!(in alloc;
+        "{:?} {} {}\n",
+        token.kind,
+        token.text.as_str(),
+        token.span.start
+    )
+}
+
+fn add_line(alloc: Global, lines: &mut String, token: &Token<'_>) -> Result<(), AllocError> {
+    let line = line_of(alloc, token)?;
+    lines.push_str(line.as_str())
+}
+
+/// The tokens of a text, a line each.
 fn listed(alloc: Global, language: Language, text: &str) -> Result<String, AllocError> {
-    let mut lines = String::new(alloc);
     let tokens = tokens_of(alloc, language, text)?;
+    let mut lines = String::new(alloc);
     for token in &tokens {
-        let kind = token.kind;
-        let text = token.text.as_str();
-        let start = token.span.start;
-        let line = format!(in alloc; "{kind:?} {text} {start}\n")?;
-        lines.push_str(line.as_str())?;
+        add_line(alloc, &mut lines, token)?;
     }
     Ok(lines)
 }
 
 /// Texts, and their tokens.
-const TEXTS: [(Language, &str, &str); 15] = [
+const TEXTS: &[(Language, &str, &str)] = &[
     (Model, "", ""),
     (Model, " \t\r\n# all comment", ""),
     (Model, "/* a *//**//***/ # b\n/* # */", ""),
@@ -92,9 +103,8 @@ const TEXTS: [(Language, &str, &str); 15] = [
 
 #[test]
 fn tokens(rt: HostRuntime) -> Result<(), Fail> {
-    for (language, text, expected) in TEXTS {
-        let given = listed(rt.alloc(), language, text)?;
-        assert_eq!(rt; given.as_str(), expected);
+    for (language, text, wanted) in TEXTS {
+        expect(text, listed(rt.alloc(), *language, text), wanted)?;
     }
     Ok(())
 }

@@ -1,6 +1,6 @@
 //! Models whose names are as they should be, and models with a name that is not, told with its place. Answers written by hand
 //! from the rules of names.
-use crate::told::told_model;
+use crate::told_models::told_model;
 use net_expect::expect;
 use std::test::Fail;
 

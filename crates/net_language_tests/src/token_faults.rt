@@ -1,4 +1,5 @@
 //! First faults of texts.
+use net_expect::expect;
 use net_lex::Language::{Data, Model};
 use net_lex::{Language, LexFault, lex_data, lex_model};
 use std::alloc::{AllocError, Global};
@@ -12,9 +13,7 @@ fn fault_of(alloc: Global, language: Language, text: &[u8]) -> Result<String, Al
     };
     match read {
         Err(LexFault::At(defect, span)) => {
-            let start = span.start;
-            let end = span.end;
-            format!(in alloc; "{defect:?} {start} {end}")
+            format!(in alloc; "{defect:?} {} {}", span.start, span.end)
         }
         Err(LexFault::OutOfMemory) => Err(AllocError),
         Ok(_) => Ok(String::new(alloc)),
@@ -22,7 +21,7 @@ fn fault_of(alloc: Global, language: Language, text: &[u8]) -> Result<String, Al
 }
 
 /// Short texts, and their faults.
-const TEXTS: [(Language, &[u8], &str); 20] = [
+const TEXTS: &[(Language, &[u8], &str)] = &[
     (Model, b"minimize A$;", "BadCharacter 10 11"),
     (
         Model,
@@ -50,7 +49,7 @@ const TEXTS: [(Language, &[u8], &str); 20] = [
 ];
 
 /// Texts of one byte, many times, and their faults: tokens and texts as long as they may be, and one byte longer.
-const LENGTHS: [(Language, u8, usize, &str); 9] = [
+const LENGTHS: &[(Language, u8, usize, &str)] = &[
     (Model, b'a', 255, ""),
     (Model, b'a', 256, "TextTooLong 0 256"),
     (Data, b'0', 255, ""),
@@ -63,19 +62,30 @@ const LENGTHS: [(Language, u8, usize, &str); 9] = [
     (Data, b' ', 0x10_0001, ""),
 ];
 
+/// The fault of a text that is one byte many times.
+fn fault_of_many(
+    alloc: Global,
+    language: Language,
+    byte: u8,
+    count: usize,
+) -> Result<String, AllocError> {
+    let text = vec![in alloc; byte; count]?;
+    fault_of(alloc, language, &text)
+}
+
 #[test]
 fn first_faults(rt: HostRuntime) -> Result<(), Fail> {
-    for (language, text, expected) in TEXTS {
-        assert_eq!(rt; fault_of(rt.alloc(), language, text)?.as_str(), expected);
+    for (language, text, wanted) in TEXTS {
+        expect(wanted, fault_of(rt.alloc(), *language, text), wanted)?;
     }
     Ok(())
 }
 
 #[test]
 fn lengths(rt: HostRuntime) -> Result<(), Fail> {
-    for (language, byte, count, expected) in LENGTHS {
-        let text = vec![in rt.alloc(); byte; count]?;
-        assert_eq!(rt; fault_of(rt.alloc(), language, &text)?.as_str(), expected);
+    for (language, byte, count, wanted) in LENGTHS {
+        let given = fault_of_many(rt.alloc(), *language, *byte, *count);
+        expect("a byte many times", given, wanted)?;
     }
     Ok(())
 }

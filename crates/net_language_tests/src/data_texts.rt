@@ -1,4 +1,4 @@
-use crate::told::told;
+use crate::told_data::told;
 use net_data::{DataFault, Tables, parse_data};
 use net_expect::expect;
 use net_lex::lex_data;
