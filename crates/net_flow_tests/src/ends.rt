@@ -5,11 +5,13 @@ use net_expect::expect;
 use std::alloc::{AllocError, Global};
 use std::test::Fail;
 
+const FIVE: &[u8] = &[1, 2, 3, 4, 5];
+
 /// What is read of five bytes, one a call, where this many calls succeed.
 fn read_of(alloc: Global, calls: u64) -> Result<String, AllocError> {
-    let mut source = MemorySource::new(b"bytes", 1, Some(calls));
+    let mut source = MemorySource::new(FIVE, 1, Some(calls));
     match read_to_limit(alloc, &mut source, 9) {
-        Ok(text) => String::from_utf8_lossy(alloc, &text),
+        Ok(text) => format!(in alloc; "{text:?}"),
         Err(ReadFault::Failed) => String::from_str(alloc, "failed"),
         Err(ReadFault::OutOfMemory) => Err(AllocError),
     }
@@ -23,7 +25,7 @@ const READS: &[(u64, &str)] = &[
     (3, "failed"),
     (4, "failed"),
     (5, "failed"),
-    (6, "bytes"),
+    (6, "[1, 2, 3, 4, 5]"),
 ];
 
 #[test]
@@ -34,23 +36,22 @@ fn a_source_fails_at_each_call(rt: HostRuntime) -> Result<(), Fail> {
     Ok(())
 }
 
-/// What a sink with this room took of five bytes, two a call, where this many calls succeed; and whether a write failed.
+/// What a sink with this room took of five bytes, two a call, where this many calls succeed; and whether all was written.
 fn written_to(alloc: Global, room: usize, calls: Option<u64>) -> Result<String, AllocError> {
     let mut sink = MemorySink::new(Vec::with_capacity(alloc, room)?, 2, calls);
-    let wrote = write_whole(&mut sink, b"bytes").is_ok();
-    let taken = String::from_utf8_lossy(alloc, &sink.taken)?;
-    format!(in alloc; "{taken} {wrote}")
+    let wrote = write_whole(&mut sink, FIVE).is_ok();
+    format!(in alloc; "{:?} {wrote}", sink.taken)
 }
 
 /// The room of a sink, how many of its calls succeed, and what is written.
 const WRITES: &[(usize, Option<u64>, &str)] = &[
-    (9, Some(0), " false"),
-    (9, Some(1), "by false"),
-    (9, Some(2), "byte false"),
-    (9, Some(3), "bytes true"),
-    (5, Some(3), "bytes true"),
-    (3, None, "byt false"),
-    (0, None, " false"),
+    (9, Some(0), "[] false"),
+    (9, Some(1), "[1, 2] false"),
+    (9, Some(2), "[1, 2, 3, 4] false"),
+    (9, Some(3), "[1, 2, 3, 4, 5] true"),
+    (5, Some(3), "[1, 2, 3, 4, 5] true"),
+    (3, None, "[1, 2, 3] false"),
+    (0, None, "[] false"),
 ];
 
 #[test]
