@@ -66,7 +66,7 @@ const GUESSES: &[(&[i64], &[i64])] = &[
 ];
 
 /// A certificate: the value and the flows, or the side and the flags of a cut.
-fn told(alloc: Global, certificate: &Certificate) -> Result<String, AllocError> {
+pub fn told(alloc: Global, certificate: &Certificate) -> Result<String, AllocError> {
     match certificate {
         Certificate::Optimal { value, flows, .. } => format!(in alloc; "{value} {flows:?}"),
         Certificate::Cut { flags, side } => format!(in alloc; "{side:?} {flags:?}"),

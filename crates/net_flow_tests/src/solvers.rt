@@ -1,10 +1,11 @@
 //! Solvers that are given, where the program gives none.
 
+use crate::guesses::told;
 use net_check::{Certificate, Verdict, check};
 use net_dimacs::read_problem;
 use net_expect::expect;
 use net_normal::Problem;
-use net_solve::{Settled, Solver, solve};
+use net_solve::{Solver, solve};
 use std::alloc::{AllocError, Global};
 use std::test::Fail;
 
@@ -29,23 +30,15 @@ impl Solver for Known {
 /// Two arcs beside each other: how much flows on which is anybody's choice.
 const PARALLEL: &str = "p min 3 2\nn 1 5\nn 2 -5\na 1 2 0 3 1\na 1 2 0 3 1\n";
 
-/// The value and the flows, or that it is a cut.
-fn told(alloc: Global, settled: &Settled) -> Result<String, AllocError> {
-    match settled {
-        Settled::Optimal { value, flows, .. } => format!(in alloc; "{value} {flows:?}"),
-        Settled::Cut { .. } => String::from_str(alloc, "cut"),
-    }
-}
-
 /// What settles the problem, where the solver knows these flows.
 fn answer(alloc: Global, flows: [i64; 2]) -> Result<String, AllocError> {
     match read_problem(alloc, PARALLEL.as_bytes()) {
-        Ok(problem) => told(alloc, &solve(alloc, &Known(flows), &problem)?),
+        Ok(problem) => told(alloc, &solve(alloc, &Known(flows), &problem)?.certificate()),
         Err(_) => Err(AllocError),
     }
 }
 
-/// What a solver knows, and what the problem is settled by. Two of them know an answer; it is asked, and its answer is given.
+/// What a solver knows, and what the problem is settled by: the answer of the solver that was given.
 const KNOWN: &[([i64; 2], &str)] = &[([2, 3], "5 [2, 3]"), ([3, 2], "5 [3, 2]")];
 
 #[test]
