@@ -1,9 +1,8 @@
 //! What problems, given as texts, are settled by, whatever is guessed of them.
-use net_check::{Certificate, Verdict, check};
+use net_check::Certificate;
 use net_dimacs::read_problem;
 use net_expect::expect;
 use net_growth::settle;
-use net_normal::Problem;
 use std::alloc::{AllocError, Global};
 use std::test::Fail;
 
@@ -67,22 +66,10 @@ const GUESSES: &[(&[i64], &[i64])] = &[
 ];
 
 /// A certificate: the value and the flows, or the side and the flags of a cut.
-fn told(alloc: Global, certificate: &Certificate) -> Result<String, AllocError> {
+pub fn told(alloc: Global, certificate: &Certificate) -> Result<String, AllocError> {
     match certificate {
         Certificate::Optimal { value, flows, .. } => format!(in alloc; "{value} {flows:?}"),
         Certificate::Cut { flags, side } => format!(in alloc; "{side:?} {flags:?}"),
-    }
-}
-
-/// A certificate, where the check says yes to it.
-fn checked(
-    alloc: Global,
-    problem: &Problem,
-    certificate: Certificate,
-) -> Result<String, AllocError> {
-    match check(problem, &certificate) {
-        Verdict::Yes => told(alloc, &certificate),
-        Verdict::No(..) => String::from_str(alloc, "no certificate"),
     }
 }
 
@@ -94,8 +81,8 @@ fn settled(
     potentials: &[i64],
 ) -> Result<String, AllocError> {
     match read_problem(alloc, text.as_bytes()) {
-        Ok(problem) => checked(alloc, &problem, settle(alloc, &problem, flows, potentials)?),
-        Err(_) => String::from_str(alloc, "no problem"),
+        Ok(problem) => told(alloc, &settle(alloc, &problem, flows, potentials)?),
+        Err(_) => Err(AllocError),
     }
 }
 
