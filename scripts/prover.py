@@ -1,5 +1,6 @@
-"""What scripts/build, scripts/wrong_bodies and scripts/costs share: the toolchain's own words for a check of one crate, over the
-libraries below it as `rt ci` or `rt lib` left them, a run of such a check with its processor time, and the build of a crate."""
+"""What scripts/build, scripts/wrong_bodies, scripts/costs and scripts/gate share: the toolchain's own words for a check of one crate,
+over the libraries below it as `rt ci` or `rt lib` left them, a run of such a check with its processor time, the build of a crate,
+and how many checks the machine holds side by side."""
 import importlib.machinery
 import importlib.util
 import os
@@ -29,6 +30,15 @@ def toolchain():
 
 
 RT = toolchain()
+
+
+# A check takes up to about so much memory.
+MEMORY = 4 * 2**30
+
+
+def lanes():
+    """How many checks may run side by side: one a processor, as many as memory holds."""
+    return max(1, min(RT.processors(), RT.free() // MEMORY))
 
 
 def crates_of(top):
@@ -81,4 +91,7 @@ def build(name, jobs):
 
 
 if __name__ == "__main__":
-    sys.exit(build(*sys.argv[1:]))
+    if sys.argv[1:] == ["--lanes"]:
+        print(lanes())
+    else:
+        sys.exit(build(*sys.argv[1:]))
