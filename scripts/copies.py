@@ -1,7 +1,8 @@
 """Copies of functions under other names, with their proofs, so that a second wrong body of a function stands beside the first.
 
 A function can be copied where it is no method of a trait, is in no cycle of calls, and nothing but its own proof speaks of its
-goals; the copy goes behind the others of its file, or of its type's impl. Texts are those of rt fmt: a function ends at the first brace at its own margin.
+goals; the copy goes to the end of its file, or to the head of its type's impl. Texts are those of rt fmt: a function ends at the
+first brace at its own margin.
 """
 import pathlib
 import re
@@ -26,8 +27,10 @@ class Function:
         self.path = [it for it in module.split("/") if it not in ("lib", "main")] + ([self.impl[2]] if self.impl else [])
 
     def told(self, name):
-        """How the prover tells a function of this name beside it: a method by its type, whatever its module."""
-        return f"{self.impl[2]}::{name}" if self.impl else "::".join([*self.path, name])
+        """How the prover tells a function of this name beside it: a method by its type and its trait, whatever its module."""
+        if self.impl:
+            return f"{self.impl[2]}{(self.impl[1] or '').split('::')[-1]}::{name}"
+        return "::".join([*self.path, name])
 
     def folder(self, room, name):
         return pathlib.Path(room, "proofs", *self.path, name)
