@@ -1,0 +1,131 @@
+"""Functions as they stand in a text of a crate: copies of them under other names, with their proofs, so that a second wrong body
+of a function stands beside the first; and stubs in place of their bodies, so that a check of what calls them costs less.
+
+Texts are those of rt fmt: a function ends at the first brace at its own margin. A copy goes to the end of its file, or to the
+head of its type's impl. A function can be copied where it is no method of a trait, is in no cycle of calls, and nothing but its
+own proof speaks of its goals. A stub keeps the signature and the contract, so what its callers have to show of themselves stays
+the same; its own goals cannot be proved. Functions of a cycle become stubs together, where all of them can.
+"""
+import pathlib
+import re
+import shutil
+
+FUNCTION = re.compile(r"(?m)^( *)(?:pub(?:\([^)]*\))?\s+)?(?:final\s+)?(const\s+)?fn (\w+)")
+IMPL = re.compile(r"(?m)^impl(?:<[^{]*?>)?\s+(?:([\w:]+)(?:<[^{]*?>)?\s+for\s+)?(\w+)[^{]*\{\n")
+CYCLE = re.compile(r"(?m)^ *#\[cycle\((\w+)\)\]\n")
+STUB = "unreachable!()"
+# What a function's own proof is written in; other files beside them hold lemmas.
+PROOF = ("Answers.antt", "Invariants.antt", "Proof.antt")
+
+
+class Function:
+    """A function of a file: its text from its attributes to its end, and its owner, a type or a module."""
+
+    def __init__(self, file, text, header):
+        self.file, self.name, self.margin = file, header[3], header[1]
+        above = max(text.rfind("\n\n", 0, header.start()) + 2, text.rfind("{\n", 0, header.start()) + 2)
+        end = text.find(f"\n{self.margin}}}\n", header.start())
+        self.start, self.end = above, end + len(f"\n{self.margin}}}\n") if end >= 0 else above
+        self.text = text[self.start:self.end]
+        self.impl = list(IMPL.finditer(text, 0, header.start()))[-1] if self.margin and IMPL.search(text, 0, header.start()) else None
+        module = file[len("src/"):-len(".rt")]
+        self.path = [it for it in module.split("/") if it not in ("lib", "main")] + ([self.impl[2]] if self.impl else [])
+        self.is_const = bool(header[2])
+        # The signature and the contract, or None where that is not plain.
+        self.head = self.head_of(text[header.start():self.end])
+        self.cycle = (CYCLE.search(self.text) or {1: None})[1]
+
+    @staticmethod
+    def at(file, text, at):
+        """The function that a place of a file is in."""
+        return Function(file, text, list(FUNCTION.finditer(text, 0, at))[-1])
+
+    @staticmethod
+    def all_of(file, text):
+        """The functions of a file that stand in it as such or in an impl."""
+        for header in FUNCTION.finditer(text):
+            function = Function(file, text, header)
+            outside = not function.margin or function.impl and text.find("\n}\n", function.impl.start()) > header.start()
+            if len(function.margin) == (4 if function.impl else 0) and outside:
+                yield function
+
+    def head_of(self, whole):
+        """What stands before the body: it begins at a brace alone behind a contract, else at the end of the signature's line."""
+        line, contract = re.search(r"[{;]\n", whole), re.search(rf"(?m)^{self.margin}    (?:requires|ensures|ghost)\b", whole)
+        if contract and (not line or contract.start() < line.start()):
+            line = re.search(rf"(?m)^{self.margin}\{{\n", whole)
+        return whole[:line.end()] if line and line[0] != ";\n" else None
+
+    def told(self, name):
+        """How the prover tells a function of this name beside it: a method by its type and its trait, whatever its module."""
+        if self.impl:
+            return f"{self.impl[2]}{(self.impl[1] or '').split('::')[-1]}::{name}"
+        return "::".join([*self.path, name])
+
+    def folder(self, room, name):
+        return pathlib.Path(room, "proofs", *self.path, name)
+
+    def can_be_copied(self, room):
+        alone = self.text and not (self.impl and self.impl[1]) and not self.cycle
+        return bool(alone) and not self.is_cited(room)
+
+    def mentions(self):
+        return re.compile(rf"\b(proofs|contracts)\.{re.escape('.'.join([*self.path, self.name]))}(?!\w)")
+
+    def is_cited(self, room):
+        """Whether a proof other than its own speaks of its goals, or of the records of its steps."""
+        own = self.folder(room, self.name)
+        others = (it for it in pathlib.Path(room, "proofs").rglob("*.antt") if own not in it.parents)
+        return any(it[1] == "proofs" for file in others for it in self.mentions().finditer(file.read_text(encoding="utf-8")))
+
+    def copy(self, room, text, name):
+        """Puts a function of this name and text into the copy of the crate, with the proof of this one."""
+        path = pathlib.Path(room, self.file)
+        whole, made = path.read_text(encoding="utf-8"), re.sub(rf"\bfn {self.name}\b", f"fn {name}", text, count=1)
+        if self.impl:
+            whole = whole.replace(self.impl[0], self.impl[0] + made + "\n", 1)
+        else:
+            whole += "\n" + made
+        path.write_text(whole, encoding="utf-8")
+        if self.folder(room, self.name).is_dir():
+            shutil.copytree(self.folder(room, self.name), self.folder(room, name))
+            for file in self.folder(room, name).glob("*.antt"):
+                dotted = ".".join([*self.path, name])
+                file.write_text(self.mentions().sub(lambda it: f"{it[1]}.{dotted}", file.read_text(encoding="utf-8")), encoding="utf-8")
+
+    def can_be_stub(self):
+        """Whether its body can be any: not one that the compiler runs or takes a type from, and not the program's own."""
+        plain = self.head and self.text and not self.is_const and not re.search(r"->[^{]*\bimpl\b", self.head)
+        return bool(plain) and (self.name, self.file) != ("main", "src/main.rt")
+
+    def stub(self):
+        """Its text with a stub for a body, outside any cycle."""
+        whole = self.text[:self.text.index(self.head) + len(self.head)]
+        return f"{CYCLE.sub('', whole)}{self.margin}    {STUB}\n{self.margin}}}\n"
+
+
+def unwrite(folder):
+    """Takes away the proof that is written in this folder."""
+    for name in PROOF:
+        pathlib.Path(folder, name).unlink(missing_ok=True)
+
+
+def stub_all_but(room, names):
+    """Puts stubs into the copy of the crate in place of all functions but these, as the prover tells them, and those of their cycles."""
+    texts = {file: file.read_text(encoding="utf-8") for file in pathlib.Path(room, "src").rglob("*.rt")}
+    functions = {file: list(Function.all_of(str(file.relative_to(room)), text)) for file, text in texts.items()}
+    every = [function for found in functions.values() for function in found]
+    stays = {id(it) for it in every if it.told(it.name) in names or not it.can_be_stub()}
+    # A cycle is one of functions alone where each of its attributes was found at a function.
+    cycles = {name for text in texts.values() for name in CYCLE.findall(text)}
+    kept = {it.cycle for it in every if id(it) in stays} | {name for name in cycles if sum(it.cycle == name for it in every) != sum(CYCLE.findall(text).count(name) for text in texts.values())}
+    for file, found in functions.items():
+        text = texts[file]
+        for function in sorted(found, key=lambda it: -it.start):
+            if id(function) not in stays and (function.cycle is None or function.cycle not in kept):
+                text = text[:function.start] + function.stub() + text[function.end:]
+                unwrite(function.folder(room, function.name))
+        file.write_text(text, encoding="utf-8")
+    for name in cycles - kept:
+        for folder in pathlib.Path(room, "proofs").rglob(f"+{name}"):
+            unwrite(folder)
