@@ -10,95 +10,122 @@ use net_model::parse_model;
 use net_solve::{Plain, Settled, solve};
 use std::alloc::{AllocError, Global};
 use std::process::ExitCode;
-use std::rt::Files;
 use std::time::CpuClock;
 use std::{env, fs, io};
 
-/// A problem text, read and written again: counts on standard output, times on standard error.
-fn problem<R: Files + AllocGlobal + Print + Eprint + CpuClock>(
-    rt: &R,
-    path: &str,
-) -> io::Result<bool> {
-    let text = fs::read(rt, path)?;
-    let start = rt.thread_cpu_time()?;
-    let Ok(problem) = read_problem(rt.alloc(), text.as_slice()) else {
-        return Ok(false);
+/// How much processor time there was until now, in microseconds; 0 where the clock fails, which main has read before.
+fn now<R: CpuClock>(rt: &R) -> u128 {
+    match rt.thread_cpu_time() {
+        Ok(time) => time.as_micros(),
+        Err(_) => 0,
+    }
+}
+
+/// Counts of what was read, and the times that the stages took, in microseconds.
+struct Told {
+    counts: (usize, usize, usize),
+    times: (u128, u128),
+}
+
+/// A problem text, read and written again: its nodes, arcs and bytes.
+fn problem<R: AllocGlobal + CpuClock>(rt: &R, text: &[u8]) -> Option<Told> {
+    let start = now(rt);
+    let Ok(problem) = read_problem(rt.alloc(), text) else {
+        return None;
     };
-    let read = rt.thread_cpu_time()?;
+    let read = now(rt);
     let Ok(written) = write_problem(rt.alloc(), &problem) else {
-        return Ok(false);
+        return None;
     };
-    let wrote = rt.thread_cpu_time()?;
-    let (nodes, arcs, bytes) = (problem.supplies.len(), problem.arcs.len(), written.len());
-    rt.println(format_args!("{nodes} nodes, {arcs} arcs, {bytes} bytes"))?;
-    let reading = read.saturating_sub(start).as_micros();
-    let writing = wrote.saturating_sub(read).as_micros();
-    rt.eprintln(format_args!("read {reading} us, write {writing} us"))?;
-    Ok(true)
+    let wrote = now(rt);
+    let counts = (problem.supplies.len(), problem.arcs.len(), written.len());
+    Some(Told {
+        counts,
+        times: (read.saturating_sub(start), wrote.saturating_sub(read)),
+    })
 }
 
-/// A data text, cut into its tokens.
-fn data<R: Files + AllocGlobal + Print + Eprint + CpuClock>(
-    rt: &R,
-    path: &str,
-) -> io::Result<bool> {
-    let text = fs::read(rt, path)?;
-    let start = rt.thread_cpu_time()?;
-    let Ok(tokens) = lex_data(rt.alloc(), text.as_slice()) else {
-        return Ok(false);
+/// A data text, cut into its tokens: how many, and room for how many.
+fn data<R: AllocGlobal + CpuClock>(rt: &R, text: &[u8]) -> Option<Told> {
+    let start = now(rt);
+    let Ok(tokens) = lex_data(rt.alloc(), text) else {
+        return None;
     };
-    let lexed = rt.thread_cpu_time()?;
-    let (count, room) = (tokens.len(), tokens.capacity());
-    rt.println(format_args!("{count} tokens"))?;
-    let lexing = lexed.saturating_sub(start).as_micros();
-    rt.eprintln(format_args!("lex {lexing} us, room for {room} tokens"))?;
-    Ok(true)
+    let lexed = now(rt);
+    let counts = (tokens.len(), 0, tokens.capacity());
+    Some(Told {
+        counts,
+        times: (lexed.saturating_sub(start), 0),
+    })
 }
 
-/// A data text, cut into its tokens and those read as statements.
-fn tables<R: Files + AllocGlobal + Print + Eprint + CpuClock>(
-    rt: &R,
-    path: &str,
-) -> io::Result<bool> {
-    let text = fs::read(rt, path)?;
-    let start = rt.thread_cpu_time()?;
-    let Ok(tokens) = lex_data(rt.alloc(), text.as_slice()) else {
-        return Ok(false);
+/// A data text, cut into its tokens and those read as statements: how many of both.
+fn tables<R: AllocGlobal + CpuClock>(rt: &R, text: &[u8]) -> Option<Told> {
+    let start = now(rt);
+    let Ok(tokens) = lex_data(rt.alloc(), text) else {
+        return None;
     };
-    let lexed = rt.thread_cpu_time()?;
+    let lexed = now(rt);
     let Ok(tables) = parse_data(rt.alloc(), &tokens) else {
-        return Ok(false);
+        return None;
     };
-    let parsed = rt.thread_cpu_time()?;
-    let (count, statements) = (tokens.len(), tables.statements.as_slice().len());
-    rt.println(format_args!("{count} tokens, {statements} statements"))?;
-    let lexing = lexed.saturating_sub(start).as_micros();
-    let parsing = parsed.saturating_sub(lexed).as_micros();
-    rt.eprintln(format_args!("lex {lexing} us, parse {parsing} us"))?;
-    Ok(true)
+    let parsed = now(rt);
+    let counts = (
+        tokens.len(),
+        tables.statements.as_slice().len(),
+        tokens.capacity(),
+    );
+    Some(Told {
+        counts,
+        times: (lexed.saturating_sub(start), parsed.saturating_sub(lexed)),
+    })
 }
 
-/// A model text, cut into its tokens and those read as declarations.
-fn model<R: Files + AllocGlobal + Print + Eprint + CpuClock>(
-    rt: &R,
-    path: &str,
-) -> io::Result<bool> {
-    let text = fs::read(rt, path)?;
-    let start = rt.thread_cpu_time()?;
-    let Ok(tokens) = lex_model(rt.alloc(), text.as_slice()) else {
-        return Ok(false);
+/// A model text, cut into its tokens and those read as declarations: how many of both, and room for how many tokens.
+fn model<R: AllocGlobal + CpuClock>(rt: &R, text: &[u8]) -> Option<Told> {
+    let start = now(rt);
+    let Ok(tokens) = lex_model(rt.alloc(), text) else {
+        return None;
     };
-    let lexed = rt.thread_cpu_time()?;
+    let lexed = now(rt);
     let Ok(model) = parse_model(rt.alloc(), &tokens) else {
+        return None;
+    };
+    let parsed = now(rt);
+    let counts = (
+        tokens.len(),
+        model.declarations.as_slice().len(),
+        tokens.capacity(),
+    );
+    Some(Told {
+        counts,
+        times: (lexed.saturating_sub(start), parsed.saturating_sub(lexed)),
+    })
+}
+
+/// Counts on standard output, times on standard error.
+fn tell<R: Print + Eprint>(rt: &R, what: &str, told: Option<Told>) -> io::Result<bool> {
+    let Some(
+        Told {
+            counts: (first, second, third),
+            times: (one, two),
+        },
+    ) = told
+    else {
         return Ok(false);
     };
-    let parsed = rt.thread_cpu_time()?;
-    let (count, room) = (tokens.len(), tokens.capacity());
-    let declarations = model.declarations.as_slice().len();
-    rt.println(format_args!("{count} tokens, {declarations} declarations"))?;
-    let lexing = lexed.saturating_sub(start).as_micros();
-    let parsing = parsed.saturating_sub(lexed).as_micros();
-    rt.eprintln(format_args!("lex {lexing} us, parse {parsing} us, room for {room} tokens"))?;
+    match what {
+        "problem" => rt.println(format_args!("{first} nodes, {second} arcs, {third} bytes"))?,
+        "data" => rt.println(format_args!("{first} tokens"))?,
+        "tables" => rt.println(format_args!("{first} tokens, {second} statements"))?,
+        _ => rt.println(format_args!("{first} tokens, {second} declarations"))?,
+    }
+    match what {
+        "problem" => rt.eprintln(format_args!("read {one} us, write {two} us"))?,
+        "data" => rt.eprintln(format_args!("lex {one} us, room for {third} tokens"))?,
+        "tables" => rt.eprintln(format_args!("lex {one} us, parse {two} us"))?,
+        _ => rt.eprintln(format_args!("lex {one} us, parse {two} us, room for {third} tokens"))?,
+    }
     Ok(true)
 }
 
@@ -117,55 +144,72 @@ fn numbers(alloc: Global, count: usize, seed: u64) -> Result<Vec<i64>, AllocErro
     Ok(numbers)
 }
 
-/// A problem, settled by the growth alone: from nothing at seed 0, else from numbers that have nothing to do with it.
-fn grow<R: Files + AllocGlobal + Print + Eprint + CpuClock>(
-    rt: &R,
-    path: &str,
-    seed: u64,
-) -> io::Result<bool> {
-    let text = fs::read(rt, path)?;
-    let Ok(problem) = read_problem(rt.alloc(), text.as_slice()) else {
-        return Ok(false);
+/// A problem, settled by the growth alone: from nothing at seed 0, else from numbers that have nothing to do with it. What it
+/// takes in microseconds; its value or a cut is told.
+fn grown<R: AllocGlobal + CpuClock + Print>(rt: &R, text: &[u8], seed: u64) -> Option<u128> {
+    let Ok(problem) = read_problem(rt.alloc(), text) else {
+        return None;
     };
     let count = if seed == 0 { 0 } else { problem.arcs.len() };
     let Ok(guess) = numbers(rt.alloc(), count, seed) else {
-        return Ok(false);
+        return None;
     };
-    let start = rt.thread_cpu_time()?;
+    let start = now(rt);
     let Ok(settled) = settle(rt.alloc(), &problem, &guess, &guess) else {
-        return Ok(false);
+        return None;
     };
-    let end = rt.thread_cpu_time()?;
-    match &settled {
-        Certificate::Optimal { value, .. } => rt.println(format_args!("s {value}"))?,
-        Certificate::Cut { side, .. } => rt.println(format_args!("cut {side:?}"))?,
-    }
-    let growing = end.saturating_sub(start).as_micros();
-    rt.eprintln(format_args!("grow {growing} us"))?;
-    Ok(true)
+    let end = now(rt);
+    let told = match &settled {
+        Certificate::Optimal { value, .. } => rt.println(format_args!("s {value}")),
+        Certificate::Cut { side, .. } => rt.println(format_args!("cut {side:?}")),
+    };
+    told.is_ok().then_some(end.saturating_sub(start))
 }
 
-/// A problem, settled by `Plain`: its value or what it is on standard output, the time on standard error.
-fn solved<R: Files + AllocGlobal + Print + Eprint + CpuClock>(
-    rt: &R,
-    path: &str,
-) -> io::Result<bool> {
-    let text = fs::read(rt, path)?;
-    let Ok(problem) = read_problem(rt.alloc(), text.as_slice()) else {
-        return Ok(false);
+/// A problem, settled by `Plain`: what it takes in microseconds; its value or a cut is told.
+fn solved<R: AllocGlobal + CpuClock + Print>(rt: &R, text: &[u8]) -> Option<u128> {
+    let Ok(problem) = read_problem(rt.alloc(), text) else {
+        return None;
     };
-    let start = rt.thread_cpu_time()?;
+    let start = now(rt);
     let Ok(settled) = solve(rt.alloc(), &Plain, &problem) else {
-        return Ok(false);
+        return None;
     };
-    let end = rt.thread_cpu_time()?;
-    match &settled {
-        Settled::Optimal { value, .. } => rt.println(format_args!("s {value}"))?,
-        Settled::Cut { side, .. } => rt.println(format_args!("cut {side:?}"))?,
+    let end = now(rt);
+    let told = match &settled {
+        Settled::Optimal { value, .. } => rt.println(format_args!("s {value}")),
+        Settled::Cut { side, .. } => rt.println(format_args!("cut {side:?}")),
+    };
+    told.is_ok().then_some(end.saturating_sub(start))
+}
+
+/// A time on standard error.
+fn tell_time<R: Eprint>(rt: &R, doing: &str, time: Option<u128>) -> io::Result<bool> {
+    match time {
+        None => Ok(false),
+        Some(time) => {
+            rt.eprintln(format_args!("{doing} {time} us"))?;
+            Ok(true)
+        }
     }
-    let solving = end.saturating_sub(start).as_micros();
-    rt.eprintln(format_args!("solve {solving} us"))?;
-    Ok(true)
+}
+
+/// What is asked for, of a text; whether it was done.
+fn measured<R: AllocGlobal + CpuClock + Print + Eprint>(
+    rt: &R,
+    what: &str,
+    text: &[u8],
+    seed: u64,
+) -> io::Result<bool> {
+    match what {
+        "problem" => tell(rt, what, problem(rt, text)),
+        "data" => tell(rt, what, data(rt, text)),
+        "tables" => tell(rt, what, tables(rt, text)),
+        "model" => tell(rt, what, model(rt, text)),
+        "solve" => tell_time(rt, what, solved(rt, text)),
+        "grow" => tell_time(rt, what, grown(rt, text, seed)),
+        _ => Ok(false),
+    }
 }
 
 fn main(rt: HostRuntime) -> io::Result<ExitCode> {
@@ -175,22 +219,13 @@ fn main(rt: HostRuntime) -> io::Result<ExitCode> {
         rt.eprintln("usage: measure problem|data|tables|model|solve|grow PATH [SEED]")?;
         return Ok(ExitCode::from(64));
     };
-    let is_done = match what.as_str() {
-        "problem" => problem(&rt, path.as_str())?,
-        "solve" => solved(&rt, path.as_str())?,
-        "grow" => {
-            let seed = match words.next() {
-                Some(word) => word.as_str().parse::<u64>().unwrap_or(0),
-                None => 0,
-            };
-            grow(&rt, path.as_str(), seed)?
-        }
-        "data" => data(&rt, path.as_str())?,
-        "tables" => tables(&rt, path.as_str())?,
-        "model" => model(&rt, path.as_str())?,
-        _ => false,
+    let seed = match words.next() {
+        Some(word) => word.as_str().parse::<u64>().unwrap_or(0),
+        None => 0,
     };
-    if is_done {
+    let _clock = rt.thread_cpu_time()?;
+    let text = fs::read(&rt, path.as_str())?;
+    if measured(&rt, what.as_str(), text.as_slice(), seed)? {
         Ok(ExitCode::SUCCESS)
     } else {
         rt.eprintln("measure: the text was refused, or no memory")?;
