@@ -91,7 +91,7 @@ stops_leaving o f wanted (faults.Refused r) new last e h = e ∙ ap (λ k. and_t
 pub goes : {A B : Type 0} (o : Outcome A) (f : A → Outcome B) (wanted : Outcome B) (x : A) → wanted ≡ and_then o f → o ≡ Ok x → wanted ≡ f x
 goes o f wanted x e h = e ∙ ap (λ k. and_then k f) h
 
-and_then-assoc : {A B C : Type 0} (o : Outcome A) (f : A → Outcome B) (g : B → Outcome C) → and_then (and_then o f) g ≡ and_then o (λ x. and_then (f x) g)
+pub and_then-assoc : {A B C : Type 0} (o : Outcome A) (f : A → Outcome B) (g : B → Outcome C) → and_then (and_then o f) g ≡ and_then o (λ x. and_then (f x) g)
 and_then-assoc (Ok x) f g = refl
 and_then-assoc (Err r) f g = refl
 
@@ -301,8 +301,9 @@ drop_at xs i x h e = let a = drop-cons xs i x h in let b = add-one i in cc
 -- one step over rows
 pub kept-left : (f : Scope → Outcome Bool) (rows : List Row) (i : ℕ) (r : Row) (found : List Row) (wanted : Outcome (List Row)) → i < length rows → r ≡ get_or rows i r
     → kept f (drop i rows) found ≡ wanted
-    → wanted ≡ and_then (f r.scope) (λ b. kept f (drop (i + 1) rows) (keep r found b))
-kept-left f rows i r found wanted h e same = sym same ∙ ap (λ k. kept f k found) (drop_at rows i r h e)
+    → wanted ≡ and_then (and_then (f r.scope) (λ b. Ok (keep r found b))) (kept f (drop (i + 1) rows))
+kept-left f rows i r found wanted h e same =
+    sym same ∙ ap (λ k. kept f k found) (drop_at rows i r h e) ∙ sym (and_then-assoc (f r.scope) (λ b. Ok (keep r found b)) (kept f (drop (i + 1) rows)))
 
 -- what one value more makes of it, or its fault
 abbrev pub one_more : Span → Reduction → Option ℤ → Value → Outcome (Option ℤ)
@@ -310,10 +311,11 @@ one_more at r so_far v = and_then (number at v) (λ n. Ok (Some (gathered r so_f
 
 pub gathered-left : (at : Span) (r : Reduction) (body : Scope → Outcome Value) (rows : List Row) (i : ℕ) (row : Row) (so_far : Option ℤ) (wanted : Outcome (Option ℤ)) → i < length rows → row ≡ get_or rows i row
     → gathered_over at r body (drop i rows) so_far ≡ wanted
-    → wanted ≡ and_then (body row.scope) (λ v. and_then (one_more at r so_far v) (gathered_over at r body (drop (i + 1) rows)))
+    → wanted ≡ and_then (and_then (body row.scope) (one_more at r so_far)) (gathered_over at r body (drop (i + 1) rows))
 gathered-left at r body rows i row so_far wanted h e same =
     sym same ∙ ap (λ k. gathered_over at r body k so_far) (drop_at rows i row h e)
     ∙ and_then-same (body row.scope) _ _ (λ v. sym (and_then-assoc (number at v) (λ n. Ok (Some (gathered r so_far n))) (gathered_over at r body (drop (i + 1) rows))))
+    ∙ sym (and_then-assoc (body row.scope) (one_more at r so_far) (gathered_over at r body (drop (i + 1) rows)))
 
 pub if_some_by : (o : Option ℤ) (k n : ℕ) → k ≤ n → IfSome o (λ a. unsigned_abs a ≤ k) → IfSome o (λ a. unsigned_abs a ≤ n)
 if_some_by None k n h small = small

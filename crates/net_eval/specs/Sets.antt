@@ -3,8 +3,10 @@ use Rattle.std.specs.Prelude.{ℕ, ◌&&◌, [], ◌+◌, Bool, true, List, leng
 use Rattle.net_lex.specs.declared.span.Span.{Span}
 use Rattle.net_sets.specs.Limits.{arity_limit, tuples_limit}
 use Rattle.net_sets.specs.Sets.{Tuple, has}
-use Rattle.net_sets.specs.Operations.{union, product, widest, is_within}
+use Rattle.net_sets.specs.Operations.{union, difference, intersection, symmetric_difference, product, widest, is_within}
 use Rattle.net_eval.specs.declared.fault.EvalDefect.TheVariants.{Arity, TooMany}
+use Rattle.net_eval.specs.declared.operation.Operation.{Operation}
+use Rattle.net_eval.specs.declared.operation.Operation.TheVariants as op
 use Rattle.net_eval.specs.declared.value.Value.{Value}
 use Rattle.net_eval.specs.declared.value.Value.TheVariants.{Many}
 use Rattle.net_eval.specs.Outcomes.{Outcome, refused}
@@ -32,6 +34,13 @@ within_size at d ts = if nat_le (length ts) tuples_limit then Ok (Many (Some d) 
 abbrev pub set_of : Span → Option ℕ → List Tuple → Outcome Value
 set_of at None ts = refused Arity at
 set_of at (Some d) ts = within_size at d ts
+
+-- the set that `union`, `diff`, `inter` or `symdiff` makes of two
+abbrev pub mixed : Operation → (List Tuple → List Tuple → List Tuple)
+mixed op.Union = union
+mixed op.Diff = difference
+mixed op.Inter = intersection
+mixed _ = symmetric_difference
 
 -- each tuple of one set with each of another; none may have more than four members
 abbrev pub cross : Span → Option ℕ → List Tuple → Option ℕ → List Tuple → Outcome Value

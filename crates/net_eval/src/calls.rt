@@ -8,11 +8,11 @@ ghost use Rattle.net_eval.specs.Operators as operators;
 ghost use Rattle.net_eval.specs.Outcomes.{Answers, and_then};
 ghost use Rattle.net_eval.specs.Values as values;
 
-use crate::eval::evaluate;
+use crate::eval::{evaluate, is_met};
 use crate::fault::EvalFault;
 use crate::item::tuples_of;
 use crate::keys::index;
-use crate::operator::{member_of, truth};
+use crate::operator::member_of;
 use crate::row::Keys;
 use crate::scope::Scope;
 use crate::world::Seen;
@@ -42,8 +42,7 @@ pub fn members<'w, 's>(
 ) -> Result<Held<'w, 's>, EvalFault<'s>>
     ensures { Answers (and_then (values.value seen.now scope.now (tree expr.now)) (items.tuples_of (trees.span_of (tree expr.now)))) result }
 {
-    let found = evaluate(alloc, seen, scope, expr)?;
-    tuples_of(span_of(expr), found)
+    tuples_of(span_of(expr), evaluate(alloc, seen, scope, expr))
 }
 
 /// The truth of the condition that an expression is.
@@ -55,8 +54,7 @@ pub fn holds<'s>(
 ) -> Result<bool, EvalFault<'s>>
     ensures { Answers (and_then (values.value seen.now scope.now (tree expr.now)) (operators.truth (trees.span_of (tree expr.now)))) result }
 {
-    let found = evaluate(alloc, seen, scope, expr)?;
-    truth(expr, &found)
+    is_met(alloc, seen, scope, expr, expr)
 }
 
 /// The keys by which braces index, in order, each with the dummies in scope at it.

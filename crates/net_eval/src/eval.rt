@@ -21,7 +21,7 @@ use crate::list::as_value;
 use crate::name::{leaf, name_at};
 use crate::number::{one_more, reduced_to, with_sign};
 use crate::operation::{Reduction, is_minus, operation_of, reduction_of};
-use crate::operator::{apply, decided, truth, tuple_of};
+use crate::operator::{apply, as_denial, decided, truth_of, tuple_of};
 use crate::range::range_of;
 use crate::row::Keys;
 use crate::scope::Scope;
@@ -144,6 +144,20 @@ fn tupled<'w, 's>(
     Ok(Value::Several(tuple))
 }
 
+/// The truth of a condition.
+#[cycle(eval)]
+pub(crate) fn is_met<'s>(
+    alloc: Global,
+    seen: &Seen<'_, 's>,
+    scope: &Scope<'s>,
+    whole: &Expr<'s>,
+    condition: &Expr<'s>,
+) -> Result<bool, EvalFault<'s>>
+    ensures { Answers (and_then (values.value seen.now scope.now (tree condition.now)) (operators.truth (trees.span_of (tree whole.now)))) result }
+{
+    truth_of(whole, evaluate(alloc, seen, scope, condition))
+}
+
 #[cycle(eval)]
 fn negated<'w, 's>(
     alloc: Global,
@@ -154,9 +168,7 @@ fn negated<'w, 's>(
 ) -> Result<Value<'w, 's>, EvalFault<'s>>
     ensures { Answers (and_then (and_then (values.value seen.now scope.now (tree condition.now)) (operators.truth (trees.span_of (tree whole.now)))) (λ b. Ok (Truth (not b)))) result }
 {
-    let value = evaluate(alloc, seen, scope, condition)?;
-    let holds = truth(whole, &value)?;
-    Ok(Value::Truth(!holds))
+    as_denial(is_met(alloc, seen, scope, whole, condition))
 }
 
 /// The set of the keys of braces.
@@ -170,7 +182,7 @@ fn braced<'w, 's>(
     ensures { Answers (and_then (values.index seen.now scope.now (braces_of braces.now)) (rows.as_set (trees.braces_span (braces_of braces.now)))) result }
 {
     let keys = index(alloc, seen, scope, braces)?;
-    as_value(alloc, braces_span(braces), keys)
+    as_value(alloc, braces_span(braces), &keys)
 }
 
 #[cycle(eval)]
@@ -184,8 +196,8 @@ fn signed<'w, 's>(
 ) -> Result<Value<'w, 's>, EvalFault<'s>>
     ensures { Answers (and_then (values.value seen.now scope.now (tree operand.now)) (values.with_sign (trees.span_of (tree whole.now)) (operations.is_minus sign.now))) result }
 {
-    let value = evaluate(alloc, seen, scope, operand)?;
-    with_sign(whole, is_minus(sign), &value)
+    let value = evaluate(alloc, seen, scope, operand);
+    with_sign(whole, is_minus(sign), value)
 }
 
 /// What a reduction makes of an expression over braces.
@@ -202,8 +214,7 @@ fn reduced<'w, 's>(
     ensures { Answers (and_then (values.index seen.now scope.now (braces_of braces.now)) (rows.reduce (trees.span_of (tree whole.now)) reduction (λ q. values.value seen.now q (tree body.now)))) result }
 {
     let keys = index(alloc, seen, scope, braces)?;
-    let so_far = gather(alloc, seen, whole, reduction, body, keys)?;
-    reduced_to(whole, reduction, &so_far)
+    gather(alloc, seen, whole, reduction, body, &keys)
 }
 
 /// The operands of a chain, and their operators from the left.
@@ -220,8 +231,7 @@ fn chain<'w, 's>(
 {
     let value = evaluate(alloc, seen, scope, first)?;
     if begins_range(more) {
-        let found = evaluate_more(alloc, seen, scope, value, more)?;
-        range_of(alloc, whole, found.as_slice())
+        range_of(alloc, whole, evaluate_more(alloc, seen, scope, value, more))
     } else {
         chained(alloc, seen, scope, whole, more, value)
     }
@@ -239,9 +249,7 @@ fn choice<'w, 's>(
 ) -> Result<Value<'w, 's>, EvalFault<'s>>
     ensures { Answers (and_then (and_then (values.value seen.now scope.now (tree condition.now)) (operators.truth (trees.span_of (tree whole.now)))) (λ b. if b then values.value seen.now scope.now (tree branch.now) else values.otherwise seen.now scope.now (option_part otherwise.now))) result }
 {
-    let value = evaluate(alloc, seen, scope, condition)?;
-    let holds = truth(whole, &value)?;
-    if holds {
+    if is_met(alloc, seen, scope, whole, condition)? {
         evaluate(alloc, seen, scope, branch)
     } else {
         other_branch(alloc, seen, scope, otherwise)
@@ -318,7 +326,7 @@ fn chained<'w, 's>(
 {
     let mut value = value;
     for link in links {
-        value = joined(alloc, seen, scope, whole, link, value)?;
+        value = joined(alloc, seen, scope, whole, link, &value)?;
     }
     Ok(value)
 }
@@ -331,16 +339,16 @@ fn joined<'w, 's>(
     scope: &Scope<'s>,
     whole: &Expr<'s>,
     link: &Link<'s>,
-    value: Value<'w, 's>,
+    value: &Value<'_, 's>,
 ) -> Result<Value<'w, 's>, EvalFault<'s>>
-    ensures { Answers (walks.joined (trees.span_of (tree whole.now)) (operations.operation link.now.operator) (values.value seen.now scope.now (tree link.now.operand)) value.entry) result }
+    ensures { Answers (walks.joined (trees.span_of (tree whole.now)) (operations.operation link.now.operator) (values.value seen.now scope.now (tree link.now.operand)) value.now) result }
 {
     let operation = operation_of(&link.operator);
-    match decided(operation, whole, &value)? {
+    match decided(operation, whole, value)? {
         Some(value) => Ok(value),
         None => {
             let other = evaluate(alloc, seen, scope, &link.operand)?;
-            apply(alloc, operation, whole, &value, &other)
+            apply(alloc, operation, whole, value, &other)
         }
     }
 }
@@ -353,15 +361,15 @@ fn gather<'w, 's>(
     whole: &Expr<'s>,
     reduction: Reduction,
     body: &Expr<'s>,
-    keys: Keys<'s>,
-) -> Result<Option<i128>, EvalFault<'s>>
-    ensures { Answers (rows.gathered_over (trees.span_of (tree whole.now)) reduction (λ q. values.value seen.now q (tree body.now)) keys.entry.rows None) result }
+    keys: &Keys<'s>,
+) -> Result<Value<'w, 's>, EvalFault<'s>>
+    ensures { Answers (rows.reduce (trees.span_of (tree whole.now)) reduction (λ q. values.value seen.now q (tree body.now)) keys.now) result }
 {
     let mut so_far = None;
     let rows = keys.rows.as_slice();
     for row in rows {
-        let value = evaluate(alloc, seen, &row.scope, body)?;
-        so_far = one_more(whole, reduction, &so_far, &value)?;
+        let value = evaluate(alloc, seen, &row.scope, body);
+        so_far = one_more(whole, reduction, &so_far, value)?;
     }
-    Ok(so_far)
+    reduced_to(whole, reduction, &so_far)
 }

@@ -12,7 +12,7 @@ ghost use Rattle.net_eval.specs.Walks as walks;
 use crate::eval::evaluate;
 use crate::fault::EvalFault;
 use crate::item::{new_dummy, sides_of};
-use crate::row::{Place, agrees, agrees_as, bind, bind_first, stay, with_key};
+use crate::row::{Place, agrees, agrees_as, bind_first, stay, with_key};
 use crate::world::Seen;
 use net_sets::{Member, Tuple};
 use net_tree::{Expr, Link};
@@ -87,8 +87,8 @@ fn alone<'w, 's>(
     match new_dummy(seen, &place.scope, left) {
         Some(name) => bind_first(alloc, name, tuple.as_slice(), place),
         None => {
-            let value = evaluate(alloc, seen, &place.scope, left)?;
-            agrees_as(alloc, item, tuple, place, &value)
+            let value = evaluate(alloc, seen, &place.scope, left);
+            agrees_as(alloc, item, tuple, place, value)
         }
     }
 }
@@ -161,9 +161,10 @@ fn fit_all<'w, 's>(
 ) -> Result<Option<Place<'s>>, EvalFault<'s>>
     ensures { Answers (walks.component_places (trees.span_of (tree whole.now)) seen.now (tree component.now) (links_of more.now) (member.now ∷ others.now) place.entry) result }
 {
-    match fit(alloc, seen, whole, component, member, place)? {
-        None => Ok(None),
-        Some(next) => places(alloc, seen, whole, more, others, next),
+    match fit(alloc, seen, whole, component, member, place) {
+        Ok(None) => Ok(None),
+        Ok(Some(next)) => places(alloc, seen, whole, more, others, next),
+        Err(fault) => Err(fault),
     }
 }
 
@@ -180,10 +181,10 @@ fn fit<'w, 's>(
     ensures { Answers (rows.fitted (trees.span_of (tree whole.now)) (items.new_dummy seen.now place.entry.scope (tree component.now)) (values.value seen.now place.entry.scope (tree component.now)) member.now place.entry) result }
 {
     match new_dummy(seen, &place.scope, component) {
-        Some(name) => bind(name, member, place),
+        Some(name) => place.bind(name, member),
         None => {
-            let value = evaluate(alloc, seen, &place.scope, component)?;
-            agrees(whole, member, place, &value)
+            let value = evaluate(alloc, seen, &place.scope, component);
+            agrees(whole, member, place, value)
         }
     }
 }

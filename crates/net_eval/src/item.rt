@@ -7,7 +7,8 @@ ghost use Rattle.net_tree.specs.Tree.{leaf};
 ghost use Rattle.net_tree.specs.View.{tree, links_of, option_part};
 ghost use Rattle.net_eval.specs.Items as items;
 ghost use Rattle.net_eval.specs.Operations as operations;
-ghost use Rattle.net_eval.specs.Outcomes.{Answers};
+ghost use Rattle.net_eval.specs.Outcomes.{Answers, Outcome, and_then};
+ghost use Rattle.net_eval.specs.declared.value.Value.{Value as Found};
 ghost use Rattle.net_eval.specs.Worlds as worlds;
 
 use crate::fault::{EvalDefect, EvalFault, refuse, refuse_tree};
@@ -186,11 +187,11 @@ fn fits_size(dimension: Option<u8>, more: usize) -> bool
 pub(crate) fn chosen<'w, 's>(
     item: &Expr<'_>,
     left: &Expr<'_>,
-    value: Value<'w, 's>,
+    value: Result<Value<'w, 's>, EvalFault<'s>>,
 ) -> Result<Held<'w, 's>, EvalFault<'s>>
-    ensures { Answers (items.chosen (trees.span_of (tree item.now)) (items.needed (tree left.now)) value.entry) result }
+    ensures { (wanted : Outcome Found) → Answers wanted value.entry → Answers (and_then wanted (items.chosen (trees.span_of (tree item.now)) (items.needed (tree left.now)))) result }
 {
-    match value {
+    match value? {
         Value::Many(dimension, tuples) => {
             if fits_needed(dimension, left) {
                 Ok(tuples)
@@ -207,11 +208,11 @@ pub(crate) fn chosen<'w, 's>(
 /// The tuples of an item that is a set.
 pub(crate) fn tuples_of<'w, 's>(
     at: Span,
-    value: Value<'w, 's>,
+    value: Result<Value<'w, 's>, EvalFault<'s>>,
 ) -> Result<Held<'w, 's>, EvalFault<'s>>
-    ensures { Answers (items.tuples_of at value.entry) result }
+    ensures { (wanted : Outcome Found) → Answers wanted value.entry → Answers (and_then wanted (items.tuples_of at)) result }
 {
-    match value {
+    match value? {
         Value::Many(_dimension, tuples) => Ok(tuples),
         Value::One(_member) => Err(refuse(EvalDefect::KindMismatch, at)),
         Value::Several(_tuple) => Err(refuse(EvalDefect::KindMismatch, at)),

@@ -15,7 +15,7 @@ use crate::fitting::place_at;
 use crate::item::{any_in, chosen, has_part, is_set, sides_of, tuples_of};
 use crate::list::{listed, no_items};
 use crate::operator::truth_at;
-use crate::row::{Keys, Place, Row, as_keys, finish, keep_if, start};
+use crate::row::{Keys, Place, Row, as_keys, keep_if, start};
 use crate::scope::Scope;
 use crate::selecting::selected;
 use crate::value::Value;
@@ -92,10 +92,10 @@ fn open<'w, 's>(
     ensures { Answers (walks.opened_keys at seen.now scope.now (tree item.now) (links_of more.now) (option_part condition.now) value.entry) result }
 {
     if any_in(more) || is_set(&value) {
-        let tuples = tuples_of(at, value)?;
+        let tuples = tuples_of(at, Ok(value))?;
         select(alloc, seen, scope, at, item, more, condition, tuples)
     } else {
-        let found = evaluate_more(alloc, seen, scope, value, more)?;
+        let found = evaluate_more(alloc, seen, scope, value, more);
         listed(alloc, at, scope, has_part(condition), found)
     }
 }
@@ -134,7 +134,7 @@ fn collect<'w, 's>(
 {
     let place = start(alloc, scope)?;
     let mut found = Vec::new(alloc);
-    through(alloc, seen, at, item, more, &place, tuples, &mut found)?;
+    through(alloc, seen, at, item, more, place, tuples, &mut found)?;
     Ok(Items::new(found))
 }
 
@@ -146,15 +146,15 @@ fn through<'w, 's>(
     at: Span,
     item: &Expr<'s>,
     more: &[Link<'s>],
-    place: &Place<'s>,
+    place: Place<'s>,
     tuples: Held<'w, 's>,
     found: &mut Vec<Row<'s>>,
 ) -> Result<(), EvalFault<'s>>
-    ensures { Leaves (each (rows.onward (values.place seen.now (tree item.now)) (values.walk at seen.now (links_of more.now)) place.now) tuples.entry found.old.items) result found.new.items }
+    ensures { Leaves (each (rows.onward (values.place seen.now (tree item.now)) (values.walk at seen.now (links_of more.now)) place.entry) tuples.entry found.old.items) result found.new.items }
 {
     let mut left = selected(seen, &place.scope, item, &tuples);
     while let Some(tuple) = left.next() {
-        onward(alloc, seen, at, item, more, place, tuple, found)?;
+        onward(alloc, seen, at, item, more, &place, tuple, found)?;
     }
     Ok(())
 }
@@ -173,9 +173,10 @@ fn onward<'w, 's>(
 ) -> Result<(), EvalFault<'s>>
     ensures { Leaves (rows.onward (values.place seen.now (tree item.now)) (values.walk at seen.now (links_of more.now)) place.now tuple.now found.old.items) result found.new.items }
 {
-    match place_at(alloc, seen, item, tuple, place)? {
-        None => Ok(()),
-        Some(next) => walk(alloc, seen, at, more, next, found),
+    match place_at(alloc, seen, item, tuple, place) {
+        Ok(None) => Ok(()),
+        Ok(Some(next)) => walk(alloc, seen, at, more, next, found),
+        Err(fault) => Err(fault),
     }
 }
 
@@ -191,7 +192,7 @@ fn walk<'w, 's>(
     ensures { Leaves (values.walk at seen.now (links_of items.now) place.entry found.old.items) result found.new.items }
 {
     match items {
-        [] => finish(at, place, found),
+        [] => place.finish(at, found),
         [link, rest @ ..] => walk_item(alloc, seen, at, &link.operand, rest, place, found),
     }
 }
@@ -209,7 +210,7 @@ fn walk_item<'w, 's>(
     ensures { Leaves (and_then (walks.item_tuples at seen.now place.entry.scope (tree item.now)) (λ ts. each (rows.onward (values.place seen.now (tree item.now)) (values.walk at seen.now (links_of more.now)) place.entry) ts found.old.items)) result found.new.items }
 {
     let tuples = item_tuples(alloc, seen, at, &place.scope, item)?;
-    through(alloc, seen, at, item, more, &place, tuples, found)
+    through(alloc, seen, at, item, more, place, tuples, found)
 }
 
 #[cycle(eval)]
@@ -224,10 +225,7 @@ fn item_tuples<'w, 's>(
 {
     match sides_of(item) {
         Some((left, set)) => choose(alloc, seen, scope, item, left, set),
-        None => {
-            let value = evaluate(alloc, seen, scope, item)?;
-            tuples_of(at, value)
-        }
+        None => tuples_of(at, evaluate(alloc, seen, scope, item)),
     }
 }
 
@@ -242,8 +240,7 @@ fn choose<'w, 's>(
 ) -> Result<Held<'w, 's>, EvalFault<'s>>
     ensures { Answers (and_then (values.value seen.now scope.now (tree set.now)) (items.chosen (trees.span_of (tree item.now)) (items.needed (tree left.now)))) result }
 {
-    let value = evaluate(alloc, seen, scope, set)?;
-    chosen(item, left, value)
+    chosen(item, left, evaluate(alloc, seen, scope, set))
 }
 
 /// The keys at which the condition holds.
@@ -264,7 +261,7 @@ fn keep<'w, 's>(
     let mut kept = Vec::new(alloc);
     let rows = found.as_slice();
     for row in rows {
-        let holds = holds(alloc, seen, at, &row.scope, condition)?;
+        let holds = holds(alloc, seen, at, &row.scope, condition);
         keep_if(alloc, holds, row, &mut kept)?;
     }
     Ok(as_keys(width, Items::new(kept)))
@@ -283,9 +280,6 @@ fn holds<'w, 's>(
 {
     match condition {
         None => Ok(true),
-        Some(part) => {
-            let value = evaluate(alloc, seen, scope, &part.get().value)?;
-            truth_at(at, &value)
-        }
+        Some(part) => truth_at(at, evaluate(alloc, seen, scope, &part.get().value)),
     }
 }

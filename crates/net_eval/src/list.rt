@@ -1,9 +1,10 @@
 //! Braces that list members and tuples, and the keys of braces as a set.
 
-ghost use Rattle.std.specs.Prelude.{◌≡◌, ◌++◌, ◌∷◌, [], Ok, IfOk, length};
+ghost use Rattle.std.specs.Prelude.{◌≡◌, ◌++◌, ◌∷◌, [], List, Ok, IfOk, length};
 ghost use Rattle.net_sets.specs.Made.{IsMade};
 ghost use Rattle.net_sets.specs.Operations.{union};
-ghost use Rattle.net_eval.specs.Outcomes.{Answers};
+ghost use Rattle.net_eval.specs.Outcomes.{Answers, Outcome, and_then};
+ghost use Rattle.net_eval.specs.declared.value.Value.{Value as Found};
 ghost use Rattle.net_eval.specs.Rows as rows;
 ghost use Rattle.net_eval.specs.Walks as walks;
 
@@ -140,10 +141,11 @@ pub(crate) fn listed<'s>(
     at: Span,
     scope: &Scope<'s>,
     conditioned: bool,
-    values: Items<Value<'_, 's>>,
+    values: Result<Items<Value<'_, 's>>, EvalFault<'s>>,
 ) -> Result<Keys<'s>, EvalFault<'s>>
-    ensures { Answers (rows.listed at scope.now conditioned values.entry) result }
+    ensures { (wanted : Outcome (List Found)) → Answers wanted values.entry → Answers (and_then wanted (rows.listed at scope.now conditioned)) result }
 {
+    let values = values?;
     if conditioned {
         Err(refuse(EvalDefect::KindMismatch, at))
     } else {
@@ -166,9 +168,9 @@ fn keys_of<'s>(alloc: Global, found: &[Row<'s>]) -> Result<Items<Tuple<'s>>, All
 pub(crate) fn as_value<'w, 's>(
     alloc: Global,
     at: Span,
-    keys: Keys<'s>,
+    keys: &Keys<'s>,
 ) -> Result<Value<'w, 's>, EvalFault<'s>>
-    ensures { Answers (rows.as_set at keys.entry) result }
+    ensures { Answers (rows.as_set at keys.now) result }
 {
     let tuples = keys_of(alloc, keys.rows.as_slice())?;
     match once(alloc, tuples.as_slice()) {

@@ -4,7 +4,8 @@ ghost use Rattle.net_tree.specs.View.{tree};
 ghost use Rattle.net_eval.specs.Limits.{is_small};
 ghost use Rattle.net_eval.specs.Numbers as numbers;
 ghost use Rattle.net_eval.specs.Operators as operators;
-ghost use Rattle.net_eval.specs.Outcomes.{Answers, and_then};
+ghost use Rattle.net_eval.specs.Outcomes.{Answers, Outcome, and_then};
+ghost use Rattle.net_eval.specs.declared.value.Value.{Value as Found};
 ghost use Rattle.net_eval.specs.Rows as rows;
 ghost use Rattle.net_eval.specs.Values as values;
 
@@ -63,6 +64,22 @@ pub(crate) fn number_of<'s>(whole: &Expr<'_>, value: &Value<'_, 's>) -> Result<i
         Value::Several(_) => Err(refuse_tree(EvalDefect::KindMismatch, whole)),
         Value::Many(_, _) => Err(refuse_tree(EvalDefect::KindMismatch, whole)),
         Value::Truth(_) => Err(refuse_tree(EvalDefect::KindMismatch, whole)),
+    }
+}
+
+/// The number that was evaluated.
+fn number_found<'s>(
+    whole: &Expr<'_>,
+    value: Result<Value<'_, 's>, EvalFault<'s>>,
+) -> Result<i64, EvalFault<'s>>
+    ensures { (wanted : Outcome Found) → Answers wanted value.entry → Answers (and_then wanted (numbers.number (trees.span_of (tree whole.now)))) result }
+{
+    match value? {
+        Value::One(Member::Number(number)) => Ok(number),
+        Value::One(Member::Name(_name)) => Err(refuse_tree(EvalDefect::KindMismatch, whole)),
+        Value::Several(_tuple) => Err(refuse_tree(EvalDefect::KindMismatch, whole)),
+        Value::Many(_dimension, _tuples) => Err(refuse_tree(EvalDefect::KindMismatch, whole)),
+        Value::Truth(_truth) => Err(refuse_tree(EvalDefect::KindMismatch, whole)),
     }
 }
 
@@ -184,11 +201,11 @@ fn turned(minus: bool, number: &i64) -> i128
 pub(crate) fn with_sign<'w, 's>(
     whole: &Expr<'_>,
     minus: bool,
-    value: &Value<'_, 's>,
+    value: Result<Value<'_, 's>, EvalFault<'s>>,
 ) -> Result<Value<'w, 's>, EvalFault<'s>>
-    ensures { Answers (values.with_sign (trees.span_of (tree whole.now)) minus value.now) result }
+    ensures { (wanted : Outcome Found) → Answers wanted value.entry → Answers (and_then wanted (values.with_sign (trees.span_of (tree whole.now)) minus)) result }
 {
-    let number = number_of(whole, value)?;
+    let number = number_found(whole, value)?;
     sized(whole, &turned(minus, &number))
 }
 
@@ -197,13 +214,13 @@ pub(crate) fn one_more<'s>(
     whole: &Expr<'_>,
     reduction: Reduction,
     so_far: &Option<i128>,
-    value: &Value<'_, 's>,
+    value: Result<Value<'_, 's>, EvalFault<'s>>,
 ) -> Result<Option<i128>, EvalFault<'s>>
     requires { IfSome so_far.now (λ a. unsigned_abs a ≤ 2 ^ 127 - 2 ^ 64) }
-    ensures value { Answers (and_then (numbers.number (trees.span_of (tree whole.now)) value.now) (λ n. Ok (Some (numbers.gathered reduction so_far.now n)))) result }
+    ensures value { (wanted : Outcome Found) → Answers wanted value.entry → Answers (and_then wanted (λ v. and_then (numbers.number (trees.span_of (tree whole.now)) v) (λ n. Ok (Some (numbers.gathered reduction so_far.now n))))) result }
     ensures small { (k : ℕ) → IfSome so_far.now (λ a. unsigned_abs a ≤ k) → IfOk result (λ o. IfSome o (λ a. unsigned_abs a ≤ k + 2 ^ 63)) }
 {
-    let number = number_of(whole, value)?;
+    let number = number_found(whole, value)?;
     Ok(Some(gathered(reduction, so_far, &number)))
 }
 

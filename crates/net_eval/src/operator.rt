@@ -1,16 +1,17 @@
 //! What operators make of the values on their two sides.
 
-ghost use Rattle.std.specs.Prelude.{◌≡◌, ◌∷◌, [], int_lt, int_le, List};
+ghost use Rattle.std.specs.Prelude.{◌∷◌, [], Bool, int_lt, int_le};
 ghost use Rattle.net_tree.specs.Spans as trees;
 ghost use Rattle.net_tree.specs.View.{tree};
 ghost use Rattle.net_eval.specs.Operators as operators;
-ghost use Rattle.net_eval.specs.Outcomes.{Answers, and_then};
+ghost use Rattle.net_eval.specs.Outcomes.{Answers, Outcome, and_then};
+ghost use Rattle.net_eval.specs.declared.value.Value.{Value as Found};
 
 use crate::fault::{EvalDefect, EvalFault, refuse, refuse_tree};
 use crate::number::{div, minus, modulo, number_of, plus, times};
 use crate::operation::Operation;
 use crate::row::longer_by_one;
-use crate::set::{belongs, contained, cross_values, differ, lack, meet, unite};
+use crate::set::{belongs, contained, cross_values, of_sets};
 use crate::value::Value;
 use net_lex::Span;
 use net_sets::{Member, Tuple};
@@ -87,15 +88,33 @@ pub(crate) fn truth<'s>(whole: &Expr<'_>, value: &Value<'_, 's>) -> Result<bool,
     }
 }
 
-/// The truth of a condition behind items; the place is the braces'.
-pub(crate) fn truth_at<'s>(at: Span, value: &Value<'_, 's>) -> Result<bool, EvalFault<'s>>
-    ensures { Answers (operators.truth at value.now) result }
+/// The truth of a condition that was evaluated.
+pub(crate) fn truth_of<'s>(
+    whole: &Expr<'_>,
+    value: Result<Value<'_, 's>, EvalFault<'s>>,
+) -> Result<bool, EvalFault<'s>>
+    ensures { (wanted : Outcome Found) → Answers wanted value.entry → Answers (and_then wanted (operators.truth (trees.span_of (tree whole.now)))) result }
 {
-    match value {
-        Value::Truth(truth) => Ok(*truth),
-        Value::One(_) => Err(refuse(EvalDefect::KindMismatch, at)),
-        Value::Several(_) => Err(refuse(EvalDefect::KindMismatch, at)),
-        Value::Many(_, _) => Err(refuse(EvalDefect::KindMismatch, at)),
+    match value? {
+        Value::Truth(truth) => Ok(truth),
+        Value::One(_member) => Err(refuse_tree(EvalDefect::KindMismatch, whole)),
+        Value::Several(_tuple) => Err(refuse_tree(EvalDefect::KindMismatch, whole)),
+        Value::Many(_dimension, _tuples) => Err(refuse_tree(EvalDefect::KindMismatch, whole)),
+    }
+}
+
+/// The truth of a condition behind items; the place is the braces'.
+pub(crate) fn truth_at<'s>(
+    at: Span,
+    value: Result<Value<'_, 's>, EvalFault<'s>>,
+) -> Result<bool, EvalFault<'s>>
+    ensures { (wanted : Outcome Found) → Answers wanted value.entry → Answers (and_then wanted (operators.truth at)) result }
+{
+    match value? {
+        Value::Truth(truth) => Ok(truth),
+        Value::One(_member) => Err(refuse(EvalDefect::KindMismatch, at)),
+        Value::Several(_tuple) => Err(refuse(EvalDefect::KindMismatch, at)),
+        Value::Many(_dimension, _tuples) => Err(refuse(EvalDefect::KindMismatch, at)),
     }
 }
 
@@ -126,69 +145,21 @@ pub(crate) fn decided<'w, 's>(
     }
 }
 
-fn equal<'w, 's>(
-    whole: &Expr<'_>,
-    x: &Value<'_, 's>,
-    y: &Value<'_, 's>,
-) -> Result<Value<'w, 's>, EvalFault<'s>>
-    ensures { Answers (operators.as_truth (operators.same (trees.span_of (tree whole.now)) x.now y.now)) result }
+/// The truth of a condition as a value.
+fn as_truth<'w, 's>(found: Result<bool, EvalFault<'s>>) -> Result<Value<'w, 's>, EvalFault<'s>>
+    ensures { (wanted : Outcome Bool) → Answers wanted found.entry → Answers (operators.as_truth wanted) result }
 {
-    let holds = same(whole, x, y)?;
+    let holds = found?;
     Ok(Value::Truth(holds))
 }
 
-fn unequal<'w, 's>(
-    whole: &Expr<'_>,
-    x: &Value<'_, 's>,
-    y: &Value<'_, 's>,
+/// Whether a condition does not hold.
+pub(crate) fn as_denial<'w, 's>(
+    found: Result<bool, EvalFault<'s>>,
 ) -> Result<Value<'w, 's>, EvalFault<'s>>
-    ensures { Answers (operators.as_denial (operators.same (trees.span_of (tree whole.now)) x.now y.now)) result }
+    ensures { (wanted : Outcome Bool) → Answers wanted found.entry → Answers (operators.as_denial wanted) result }
 {
-    let holds = same(whole, x, y)?;
-    Ok(Value::Truth(!holds))
-}
-
-fn is_in<'w, 's>(
-    whole: &Expr<'_>,
-    x: &Value<'_, 's>,
-    y: &Value<'_, 's>,
-) -> Result<Value<'w, 's>, EvalFault<'s>>
-    ensures { Answers (operators.as_truth (operators.belongs (trees.span_of (tree whole.now)) x.now y.now)) result }
-{
-    let holds = belongs(whole, x, y)?;
-    Ok(Value::Truth(holds))
-}
-
-fn is_not_in<'w, 's>(
-    whole: &Expr<'_>,
-    x: &Value<'_, 's>,
-    y: &Value<'_, 's>,
-) -> Result<Value<'w, 's>, EvalFault<'s>>
-    ensures { Answers (operators.as_denial (operators.belongs (trees.span_of (tree whole.now)) x.now y.now)) result }
-{
-    let holds = belongs(whole, x, y)?;
-    Ok(Value::Truth(!holds))
-}
-
-fn is_within<'w, 's>(
-    whole: &Expr<'_>,
-    x: &Value<'_, 's>,
-    y: &Value<'_, 's>,
-) -> Result<Value<'w, 's>, EvalFault<'s>>
-    ensures { Answers (operators.as_truth (operators.contained (trees.span_of (tree whole.now)) x.now y.now)) result }
-{
-    let holds = contained(whole, x, y)?;
-    Ok(Value::Truth(holds))
-}
-
-fn is_not_within<'w, 's>(
-    whole: &Expr<'_>,
-    x: &Value<'_, 's>,
-    y: &Value<'_, 's>,
-) -> Result<Value<'w, 's>, EvalFault<'s>>
-    ensures { Answers (operators.as_denial (operators.contained (trees.span_of (tree whole.now)) x.now y.now)) result }
-{
-    let holds = contained(whole, x, y)?;
+    let holds = found?;
     Ok(Value::Truth(!holds))
 }
 
@@ -221,21 +192,20 @@ pub(crate) fn apply<'w, 's>(
         Operation::Times => times(whole, x, y),
         Operation::Div => div(whole, x, y),
         Operation::Mod => modulo(whole, x, y),
-        Operation::Cross => cross_values(alloc, whole, x, y),
-        Operation::Inter => meet(alloc, whole, x, y),
-        Operation::Union => unite(alloc, whole, x, y),
-        Operation::Diff => lack(alloc, whole, x, y),
-        Operation::Symdiff => differ(alloc, whole, x, y),
-        Operation::Equal => equal(whole, x, y),
-        Operation::Unequal => unequal(whole, x, y),
         Operation::Less => less(whole, x, y),
         Operation::AtMost => at_most(whole, x, y),
         Operation::Greater => greater(whole, x, y),
         Operation::AtLeast => at_least(whole, x, y),
-        Operation::In => is_in(whole, x, y),
-        Operation::NotIn => is_not_in(whole, x, y),
-        Operation::Within => is_within(whole, x, y),
-        Operation::NotWithin => is_not_within(whole, x, y),
+        Operation::Cross => cross_values(alloc, whole, x, y),
+        Operation::Inter | Operation::Union | Operation::Diff | Operation::Symdiff => {
+            of_sets(alloc, operation, whole, x, y)
+        }
+        Operation::Equal => as_truth(same(whole, x, y)),
+        Operation::Unequal => as_denial(same(whole, x, y)),
+        Operation::In => as_truth(belongs(whole, x, y)),
+        Operation::NotIn => as_denial(belongs(whole, x, y)),
+        Operation::Within => as_truth(contained(whole, x, y)),
+        Operation::NotWithin => as_denial(contained(whole, x, y)),
         Operation::And | Operation::Or => right_truth(whole, x, y),
         Operation::Range | Operation::Other => Err(refuse_tree(EvalDefect::KindMismatch, whole)),
     }

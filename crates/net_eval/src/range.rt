@@ -1,16 +1,18 @@
 //! Ranges of numbers, as `1 .. 9 by 2`.
 
-ghost use Rattle.std.specs.Prelude.{◌≡◌, ◌∷◌, [], IsTrue, OnOk, false, int_lt, pos};
+ghost use Rattle.std.specs.Prelude.{◌≡◌, ◌∷◌, [], List, IsTrue, OnOk, false, int_lt, pos};
 ghost use Rattle.net_tree.specs.Spans as trees;
 ghost use Rattle.net_tree.specs.View.{tree};
 ghost use Rattle.net_eval.specs.Limits.{is_small};
 ghost use Rattle.net_eval.specs.Numbers as numbers;
-ghost use Rattle.net_eval.specs.Outcomes.{Answers};
+ghost use Rattle.net_eval.specs.Outcomes.{Answers, Outcome, and_then};
+ghost use Rattle.net_eval.specs.declared.value.Value.{Value as Found};
 
 use crate::fault::{EvalDefect, EvalFault, refuse_tree};
 use crate::number::number_of;
 use crate::set::made;
 use crate::value::Value;
+use net_lex::Items;
 use net_sets::Range;
 use net_tree::Expr;
 use std::alloc::Global;
@@ -123,8 +125,7 @@ fn range_of_three<'w, 's>(
     range(alloc, whole, &first, &last, &by)
 }
 
-/// The range of two bounds, and of a step where that is said.
-pub(crate) fn range_of<'w, 's>(
+fn range_between<'w, 's>(
     alloc: Global,
     whole: &Expr<'_>,
     values: &[Value<'_, 's>],
@@ -137,4 +138,16 @@ pub(crate) fn range_of<'w, 's>(
         [] | [_] => Err(refuse_tree(EvalDefect::KindMismatch, whole)),
         [_, _, _, _, ..] => Err(refuse_tree(EvalDefect::KindMismatch, whole)),
     }
+}
+
+/// The range of two bounds, and of a step where that is said.
+pub(crate) fn range_of<'w, 's>(
+    alloc: Global,
+    whole: &Expr<'_>,
+    values: Result<Items<Value<'_, 's>>, EvalFault<'s>>,
+) -> Result<Value<'w, 's>, EvalFault<'s>>
+    ensures { (wanted : Outcome (List Found)) → Answers wanted values.entry → Answers (and_then wanted (numbers.range_of (trees.span_of (tree whole.now)))) result }
+{
+    let values = values?;
+    range_between(alloc, whole, values.as_slice())
 }

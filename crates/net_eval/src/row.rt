@@ -1,11 +1,12 @@
 //! Walks over braces: where they stand, and the keys that they find.
 
-ghost use Rattle.std.specs.Prelude.{◌≡◌, ◌∷◌, [], Ok, Some, IfOk};
+ghost use Rattle.std.specs.Prelude.{◌≡◌, ◌∷◌, [], Bool, Ok, Some, IfOk};
 ghost use Rattle.net_tree.specs.Spans as trees;
 ghost use Rattle.net_tree.specs.View.{tree};
 ghost use Rattle.net_eval.specs.Operators as operators;
 ghost use Rattle.net_eval.specs.Rows as rows;
-ghost use Rattle.net_eval.specs.Outcomes.{Answers, Leaves};
+ghost use Rattle.net_eval.specs.Outcomes.{Answers, Leaves, Outcome, and_then};
+ghost use Rattle.net_eval.specs.declared.value.Value.{Value as Found};
 
 use crate::fault::{EvalDefect, EvalFault, refuse, refuse_tree};
 use crate::scope::Scope;
@@ -15,12 +16,20 @@ use net_sets::{Member, Tuple};
 use net_tree::Expr;
 use std::alloc::{AllocError, Global};
 
-/// Where a walk over braces stands.
-#[derive(Drop)]
+/// Where a walk over braces stands. Dropping it is one call, as walks carry it past many places where they may stop.
 pub(crate) struct Place<'s> {
     pub(crate) scope: Scope<'s>,
     /// The key so far; none where it has more than four members.
     pub(crate) key: Option<Tuple<'s>>,
+}
+
+impl<'s> Drop for Place<'s> {
+    fn drop(self) {
+        let Place {
+            scope: _scope,
+            key: _key,
+        } = self;
+    }
 }
 
 /// A key of braces, and the dummies in scope at it.
@@ -52,12 +61,13 @@ pub struct Keys<'s> {
 /// A row at which the condition holds stands behind those found before.
 pub(crate) fn keep_if<'s>(
     alloc: Global,
-    holds: bool,
+    holds: Result<bool, EvalFault<'s>>,
     row: &Row<'s>,
     found: &mut Vec<Row<'s>>,
-) -> Result<(), AllocError>
-    ensures { IfOk result (λ _. found.new.items ≡ rows.keep row.now found.old.items holds) }
+) -> Result<(), EvalFault<'s>>
+    ensures { (wanted : Outcome Bool) → Answers wanted holds.entry → Leaves (and_then wanted (λ b. Ok (rows.keep row.now found.old.items b))) result found.new.items }
 {
+    let holds = holds?;
     if holds {
         found.push(row.again(alloc)?)?;
     }
@@ -137,6 +147,31 @@ impl<'s> Place<'s> {
             key: key_again(&self.key),
         })
     }
+
+    /// A new dummy takes a member, which is one of the key.
+    pub(crate) fn bind(
+        self,
+        name: &Excerpt<'s>,
+        member: &Member<'s>,
+    ) -> Result<Option<Place<'s>>, EvalFault<'s>>
+        ensures { Answers (Ok (Some (rows.bind name.now member.now self.entry))) result }
+    {
+        let Place { scope, key } = self;
+        let scope = scope.extended(name.again(), member.again())?;
+        let key = longer_by_one(key, member);
+        Ok(Some(Place { scope, key }))
+    }
+
+    /// Adds a key that is complete.
+    pub(crate) fn finish(self, at: Span, found: &mut Vec<Row<'s>>) -> Result<(), EvalFault<'s>>
+        ensures { Leaves (rows.finished at self.entry found.old.items) result found.new.items }
+    {
+        let Place { scope, key } = self;
+        match key {
+            None => Err(refuse(EvalDefect::Arity, at)),
+            Some(key) => add_row(at, scope, key, found),
+        }
+    }
 }
 
 /// The same place.
@@ -159,40 +194,26 @@ pub(crate) fn with_key<'s>(
     Ok(Some(Place { scope, key }))
 }
 
-/// A new dummy takes a member, which is one of the key.
-pub(crate) fn bind<'s>(
-    name: &Excerpt<'s>,
-    member: &Member<'s>,
-    place: Place<'s>,
-) -> Result<Option<Place<'s>>, EvalFault<'s>>
-    ensures { Answers (Ok (Some (rows.bind name.now member.now place.entry))) result }
-{
-    let Place { scope, key } = place;
-    let scope = scope.extended(name.again(), member.again())?;
-    let key = longer_by_one(key, member);
-    Ok(Some(Place { scope, key }))
-}
-
 /// The place stays where the value of a component is the member.
 pub(crate) fn agrees<'s>(
     whole: &Expr<'_>,
     member: &Member<'s>,
     place: Place<'s>,
-    value: &Value<'_, 's>,
+    value: Result<Value<'_, 's>, EvalFault<'s>>,
 ) -> Result<Option<Place<'s>>, EvalFault<'s>>
-    ensures { Answers (rows.agrees (trees.span_of (tree whole.now)) member.now place.entry value.now) result }
+    ensures { (wanted : Outcome Found) → Answers wanted value.entry → Answers (and_then wanted (rows.agrees (trees.span_of (tree whole.now)) member.now place.entry)) result }
 {
-    match value {
+    match value? {
         Value::One(found) => {
-            if *found == *member {
+            if found == *member {
                 Ok(Some(place))
             } else {
                 Ok(None)
             }
         }
-        Value::Several(_) => Err(refuse_tree(EvalDefect::KindMismatch, whole)),
-        Value::Many(_, _) => Err(refuse_tree(EvalDefect::KindMismatch, whole)),
-        Value::Truth(_) => Err(refuse_tree(EvalDefect::KindMismatch, whole)),
+        Value::Several(_tuple) => Err(refuse_tree(EvalDefect::KindMismatch, whole)),
+        Value::Many(_dimension, _tuples) => Err(refuse_tree(EvalDefect::KindMismatch, whole)),
+        Value::Truth(_truth) => Err(refuse_tree(EvalDefect::KindMismatch, whole)),
     }
 }
 
@@ -222,17 +243,15 @@ pub(crate) fn agrees_as<'s>(
     whole: &Expr<'_>,
     tuple: &Tuple<'s>,
     place: &Place<'s>,
-    value: &Value<'_, 's>,
+    value: Result<Value<'_, 's>, EvalFault<'s>>,
 ) -> Result<Option<Place<'s>>, EvalFault<'s>>
-    ensures { Answers (rows.agrees_as (trees.span_of (tree whole.now)) tuple.now place.now value.now) result }
+    ensures { (wanted : Outcome Found) → Answers wanted value.entry → Answers (and_then wanted (rows.agrees_as (trees.span_of (tree whole.now)) tuple.now place.now)) result }
 {
-    match value {
-        Value::One(member) => {
-            agrees_whole(alloc, whole, tuple, place, &Tuple::single(member.again()))
-        }
-        Value::Several(found) => agrees_whole(alloc, whole, tuple, place, found),
-        Value::Many(_, _) => Err(refuse_tree(EvalDefect::KindMismatch, whole)),
-        Value::Truth(_) => Err(refuse_tree(EvalDefect::KindMismatch, whole)),
+    match value? {
+        Value::One(member) => agrees_whole(alloc, whole, tuple, place, &Tuple::single(member)),
+        Value::Several(found) => agrees_whole(alloc, whole, tuple, place, &found),
+        Value::Many(_dimension, _tuples) => Err(refuse_tree(EvalDefect::KindMismatch, whole)),
+        Value::Truth(_truth) => Err(refuse_tree(EvalDefect::KindMismatch, whole)),
     }
 }
 
@@ -247,7 +266,7 @@ pub(crate) fn bind_first<'s>(
 {
     match members {
         [] => stay(alloc, place),
-        [member, ..] => bind(name, member, place.again(alloc)?),
+        [member, ..] => place.again(alloc)?.bind(name, member),
     }
 }
 
@@ -277,20 +296,5 @@ fn add_row<'s>(
         }
     } else {
         Err(refuse(EvalDefect::Arity, at))
-    }
-}
-
-/// Adds a key that is complete.
-pub(crate) fn finish<'s>(
-    at: Span,
-    place: Place<'s>,
-    found: &mut Vec<Row<'s>>,
-) -> Result<(), EvalFault<'s>>
-    ensures { Leaves (rows.finished at place.entry found.old.items) result found.new.items }
-{
-    let Place { scope, key } = place;
-    match key {
-        None => Err(refuse(EvalDefect::Arity, at)),
-        Some(key) => add_row(at, scope, key, found),
     }
 }

@@ -13,6 +13,7 @@ ghost use Rattle.net_eval.specs.Outcomes.{Answers};
 ghost use Rattle.net_eval.specs.Sets as sets;
 
 use crate::fault::{EvalDefect, EvalFault, refuse_tree};
+use crate::operation::Operation;
 use crate::value::Value;
 use net_sets::{
     Held, SetFault, Tuple, TupleSet, cross, difference, intersection, is_within,
@@ -80,128 +81,68 @@ pub(crate) fn made<'w, 's>(
     }
 }
 
-fn union_of<'w, 's>(
+/// A set, which is not too large, as each is.
+fn few<'s>(set: TupleSet<'s>) -> Result<TupleSet<'s>, SetFault>
+    ensures { IsMade set.entry result }
+{
+    let _few = set.len();
+    Ok(set)
+}
+
+/// The set that an operator makes of two.
+fn mixed<'s>(
     alloc: Global,
+    operation: Operation,
+    first: &TupleSet<'s>,
+    second: &TupleSet<'s>,
+) -> Result<TupleSet<'s>, SetFault>
+    ensures { IsMade (sets.mixed operation first.now second.now) result }
+{
+    match operation {
+        Operation::Union => union(first.again(alloc)?, second),
+        Operation::Diff => few(difference(alloc, first, second)?),
+        Operation::Inter => few(intersection(alloc, first, second)?),
+        _ => symmetric_difference(alloc, first, second),
+    }
+}
+
+/// The same as a value, if the two have the same dimension.
+fn set_of<'w, 's>(
+    alloc: Global,
+    operation: Operation,
     whole: &Expr<'_>,
     dimension: Option<u8>,
     first: &TupleSet<'s>,
     second: &TupleSet<'s>,
 ) -> Result<Value<'w, 's>, EvalFault<'s>>
-    ensures { Answers (sets.set_of (trees.span_of (tree whole.now)) dimension (set_operations.union first.now second.now)) result }
+    ensures { Answers (sets.set_of (trees.span_of (tree whole.now)) dimension (sets.mixed operation first.now second.now)) result }
 {
     match dimension {
         None => Err(refuse_tree(EvalDefect::Arity, whole)),
-        Some(dimension) => {
-            let copy = first.again(alloc)?;
-            made(whole, dimension, union(copy, second))
-        }
+        Some(dimension) => made(whole, dimension, mixed(alloc, operation, first, second)),
     }
 }
 
-fn difference_of<'w, 's>(
+/// What an operator makes of two values that have to be sets.
+pub(crate) fn of_sets<'w, 's>(
     alloc: Global,
-    whole: &Expr<'_>,
-    dimension: Option<u8>,
-    first: &TupleSet<'s>,
-    second: &TupleSet<'s>,
-) -> Result<Value<'w, 's>, EvalFault<'s>>
-    ensures { Answers (sets.set_of (trees.span_of (tree whole.now)) dimension (set_operations.difference first.now second.now)) result }
-{
-    match dimension {
-        None => Err(refuse_tree(EvalDefect::Arity, whole)),
-        Some(dimension) => Ok(set_value(dimension, difference(alloc, first, second)?)),
-    }
-}
-
-fn intersection_of<'w, 's>(
-    alloc: Global,
-    whole: &Expr<'_>,
-    dimension: Option<u8>,
-    first: &TupleSet<'s>,
-    second: &TupleSet<'s>,
-) -> Result<Value<'w, 's>, EvalFault<'s>>
-    ensures { Answers (sets.set_of (trees.span_of (tree whole.now)) dimension (set_operations.intersection first.now second.now)) result }
-{
-    match dimension {
-        None => Err(refuse_tree(EvalDefect::Arity, whole)),
-        Some(dimension) => Ok(set_value(dimension, intersection(alloc, first, second)?)),
-    }
-}
-
-fn symmetric_difference_of<'w, 's>(
-    alloc: Global,
-    whole: &Expr<'_>,
-    dimension: Option<u8>,
-    first: &TupleSet<'s>,
-    second: &TupleSet<'s>,
-) -> Result<Value<'w, 's>, EvalFault<'s>>
-    ensures { Answers (sets.set_of (trees.span_of (tree whole.now)) dimension (set_operations.symmetric_difference first.now second.now)) result }
-{
-    match dimension {
-        None => Err(refuse_tree(EvalDefect::Arity, whole)),
-        Some(dimension) => made(whole, dimension, symmetric_difference(alloc, first, second)),
-    }
-}
-
-pub(crate) fn unite<'w, 's>(
-    alloc: Global,
+    operation: Operation,
     whole: &Expr<'_>,
     x: &Value<'_, 's>,
     y: &Value<'_, 's>,
 ) -> Result<Value<'w, 's>, EvalFault<'s>>
-    ensures { Answers (operators.of_sets (trees.span_of (tree whole.now)) set_operations.union x.now y.now) result }
+    ensures { Answers (operators.of_sets (trees.span_of (tree whole.now)) (sets.mixed operation) x.now y.now) result }
 {
     match (x, y) {
         (Value::Many(d, first), Value::Many(e, second)) => {
-            union_of(alloc, whole, shared(*d, *e), first.get(), second.get())
-        }
-        _ => Err(refuse_tree(EvalDefect::KindMismatch, whole)),
-    }
-}
-
-pub(crate) fn lack<'w, 's>(
-    alloc: Global,
-    whole: &Expr<'_>,
-    x: &Value<'_, 's>,
-    y: &Value<'_, 's>,
-) -> Result<Value<'w, 's>, EvalFault<'s>>
-    ensures { Answers (operators.of_sets (trees.span_of (tree whole.now)) set_operations.difference x.now y.now) result }
-{
-    match (x, y) {
-        (Value::Many(d, first), Value::Many(e, second)) => {
-            difference_of(alloc, whole, shared(*d, *e), first.get(), second.get())
-        }
-        _ => Err(refuse_tree(EvalDefect::KindMismatch, whole)),
-    }
-}
-
-pub(crate) fn meet<'w, 's>(
-    alloc: Global,
-    whole: &Expr<'_>,
-    x: &Value<'_, 's>,
-    y: &Value<'_, 's>,
-) -> Result<Value<'w, 's>, EvalFault<'s>>
-    ensures { Answers (operators.of_sets (trees.span_of (tree whole.now)) set_operations.intersection x.now y.now) result }
-{
-    match (x, y) {
-        (Value::Many(d, first), Value::Many(e, second)) => {
-            intersection_of(alloc, whole, shared(*d, *e), first.get(), second.get())
-        }
-        _ => Err(refuse_tree(EvalDefect::KindMismatch, whole)),
-    }
-}
-
-pub(crate) fn differ<'w, 's>(
-    alloc: Global,
-    whole: &Expr<'_>,
-    x: &Value<'_, 's>,
-    y: &Value<'_, 's>,
-) -> Result<Value<'w, 's>, EvalFault<'s>>
-    ensures { Answers (operators.of_sets (trees.span_of (tree whole.now)) set_operations.symmetric_difference x.now y.now) result }
-{
-    match (x, y) {
-        (Value::Many(d, first), Value::Many(e, second)) => {
-            symmetric_difference_of(alloc, whole, shared(*d, *e), first.get(), second.get())
+            set_of(
+                alloc,
+                operation,
+                whole,
+                shared(*d, *e),
+                first.get(),
+                second.get(),
+            )
         }
         _ => Err(refuse_tree(EvalDefect::KindMismatch, whole)),
     }

@@ -5,11 +5,11 @@ use Rattle.net_tree.specs.View.{tree, links_of, braces_of, option_part}
 use Rattle.net_tree.proofs.Views.{views}
 use Rattle.net_tree.specs.Spans.{span_of}
 use Rattle.net_eval.specs.Outcomes.{and_then}
-use Rattle.net_eval.specs.Rows.{reduce, kept, keys}
-use Rattle.net_eval.specs.Values.{value, values, index, walk, places, holds}
+use Rattle.net_eval.specs.Rows.{fitted, fitted_alone, reduce, reduced_to, kept, keys}
+use Rattle.net_eval.specs.Values.{value, values, index, walk, places, holds, with_sign}
 use Rattle.net_tree.specs.Tree.{link}
 use Rattle.net_tree.specs.Weights.{weights}
-use Rattle.net_eval.specs.Walks.{index_items, component_places}
+use Rattle.net_eval.specs.Walks.{by_sides, index_items, component_places}
 use Rattle.net_eval.proofs.Cases.{in_indexed, in_parens, in_tuple, in_negated, in_signed, in_reduced, in_chain, in_choice, in_filled}
 use Rattle.net_eval.proofs.Walking.{answers_by, is_tuple, value-indexed, value-tuple, value-negated, value-signed, value-reduced, value-chain, value-choice, index-filled, left-tuple, left-other, place-sides, link_lighter, stops, goes, leaves_by, leaves_answers, from_start, ok_same, split_first, rest_first, walk-step, chained-left, values-left, kept-left, gathered-left, if_some_by, unconditioned}
 use Rattle.net_eval.proofs.Passing.{selected_from}
@@ -145,54 +145,42 @@ fitting::place_at-returns-in-Some t c =
 
 pub keys::through-loop-tuple-init : goal.keys::through-loop-tuple-init
 keys::through-loop-tuple-init t c =
-    selected_from c.args.seen.now (tree c.args.item.now) _ c.args.place.now c.args.tuples c.selected-left.result c.args.found.now.items c.selected-left.ensures
+    selected_from c.args.seen.now (tree c.args.item.now) _ c.args.place c.args.tuples c.selected-left.result c.args.found.now.items c.selected-left.ensures
 
 pub keys::keep-loop-row-preserved : goal.keys::keep-loop-row-preserved
 keys::keep-loop-row-preserved t c =
-    ap (kept (λ q. holds c.args.at c.args.seen.now q (option_part c.args.condition.now)) (drop (c.loop-row.row-index + 1) c.as_slice-rows.result.now)) c.in_ok-keep_if.ensures
-    ∙ sym (goes _ _ _ _
+    sym (goes _ _ _ _
     (kept-left (λ q. holds c.args.at c.args.seen.now q (option_part c.args.condition.now)) c.as_slice-rows.result.now c.loop-row.row-index c.row-item.result c.loop-row.kept.items _ c.loop-row-test.true c.row-item.is c.loop-row.invariant)
-    c.in_ok-holds.ensures)
+    (c.in_ok-keep_if.ensures _ c.holds-holds.ensures))
 
 pub keys::keep-returns-then-not-has_part : goal.keys::keep-returns-then-not-has_part
 keys::keep-returns-then-not-has_part t c = unconditioned c.args.at c.args.seen.now (option_part c.args.condition.now) c.args.width c.args.found (sym c.has_part.ensures ∙ c.if-not-has_part.true) ∙ ap Ok (sym c.as_keys.ensures)
 
-pub keys::keep-returns-in_err-holds : goal.keys::keep-returns-in_err-holds
-keys::keep-returns-in_err-holds t c =
+pub keys::keep-returns-in_err-keep_if : goal.keys::keep-returns-in_err-keep_if
+keys::keep-returns-in_err-keep_if t c =
     let y = err_from_is_err_and c.from_residual.result c.from_residual.ensures.1 in
     rw y.1 (rw y.2
-    (stops _ (λ left. Ok (keys c.args.width left)) _ c.in_err-holds.field-0.0 refl
-    (stops _ _ _ c.in_err-holds.field-0.0
+    (stops _ (λ left. Ok (keys c.args.width left)) _ c.in_err-keep_if.field-0.0 refl
+    (stops _ _ _ c.in_err-keep_if.field-0.0
     (kept-left (λ q. holds c.args.at c.args.seen.now q (option_part c.args.condition.now)) c.as_slice-rows.result.now c.loop-row.row-index c.row-item.result c.loop-row.kept.items _ c.loop-row-test.true c.row-item.is c.loop-row.invariant)
-    c.in_err-holds.ensures)))
-
-pub eval::gather-returns-in_err-value : goal.eval::gather-returns-in_err-value
-eval::gather-returns-in_err-value t c =
-    let y = err_from_is_err_and c.from_residual.result c.from_residual.ensures.1 in
-    rw y.1 (rw y.2
-    (stops _ _ _ c.in_err-value.field-0.0
-    (gathered-left (span_of (tree c.args.whole.now)) c.args.reduction (λ q. value c.args.seen.now q (tree c.args.body.now)) c.as_slice-rows.result.now c.loop-row.row-index c.row-item.result c.loop-row.so_far _ c.loop-row-test.true c.row-item.is c.loop-row.invariant.same)
-    c.in_err-value.ensures))
+    (leaves_answers _ _ c.in_err-keep_if.field-0.0 _ refl (c.in_err-keep_if.ensures _ c.holds-holds.ensures)))))
 
 pub eval::gather-returns-in_err-so_far : goal.eval::gather-returns-in_err-so_far
 eval::gather-returns-in_err-so_far t c =
-    let y = err_from_is_err_and c.from_residual-in_err-so_far.result c.from_residual-in_err-so_far.ensures.1 in
+    let y = err_from_is_err_and c.from_residual.result c.from_residual.ensures.1 in
     rw y.1 (rw y.2
+    (stops _ (reduced_to (span_of (tree c.args.whole.now)) c.args.reduction) _ c.in_err-so_far.field-0.0 refl
     (stops _ _ _ c.in_err-so_far.field-0.0
-    (goes _ _ _ _
     (gathered-left (span_of (tree c.args.whole.now)) c.args.reduction (λ q. value c.args.seen.now q (tree c.args.body.now)) c.as_slice-rows.result.now c.loop-row.row-index c.row-item.result c.loop-row.so_far _ c.loop-row-test.true c.row-item.is c.loop-row.invariant.same)
-    c.in_ok-value.ensures)
-    c.in_err-so_far.ensures.value))
+    (c.in_err-so_far.ensures.value _ c.evaluate-value.ensures))))
 
 pub eval::gather-loop-row-preserved : goal.eval::gather-loop-row-preserved
 eval::gather-loop-row-preserved t c =
     record {
       same =
           sym (goes _ _ _ _
-          (goes _ _ _ _
           (gathered-left (span_of (tree c.args.whole.now)) c.args.reduction (λ q. value c.args.seen.now q (tree c.args.body.now)) c.as_slice-rows.result.now c.loop-row.row-index c.row-item.result c.loop-row.so_far _ c.loop-row-test.true c.row-item.is c.loop-row.invariant.same)
-          c.in_ok-value.ensures)
-          c.in_ok-so_far.ensures.value);
+          (c.in_ok-so_far.ensures.value _ c.evaluate-value.ensures));
       small = if_some_by c.in_ok-so_far.so_far (c.loop-row.row-index * 2 ^ 63 + 2 ^ 63) ((c.loop-row.row-index + 1) * 2 ^ 63) (omega arith) (c.in_ok-so_far.ensures.small (c.loop-row.row-index * 2 ^ 63) c.loop-row.invariant.small);
     }
 
@@ -205,3 +193,52 @@ fitting::components-returns-in_ok-here-in-len1-up t c =
     (component_places (span_of (tree c.args.whole.now)) c.args.seen.now (tree c.args.first.now) (links_of c.args.more.now) (c.member-item.result ∷ take (length c.as_slice.result.now - 1) (drop 1 c.as_slice.result.now)))
     (sym c.in_ok-here-in-len1-up.ensures))
     c.fit_all.ensures
+
+pub eval::is_met-returns : goal.eval::is_met-returns
+eval::is_met-returns t c = c.truth_of.ensures _ c.evaluate.ensures
+
+pub eval::negated-returns : goal.eval::negated-returns
+eval::negated-returns t c = c.as_denial.ensures _ c.is_met.ensures
+
+pub eval::signed-returns : goal.eval::signed-returns
+eval::signed-returns t c =
+    answers_by _ _ _ (ap (λ b. and_then (value c.args.seen.now c.args.scope.now (tree c.args.operand.now)) (with_sign (span_of (tree c.args.whole.now)) b)) (sym c.is_minus.ensures)) (c.with_sign.ensures _ c.evaluate-value.ensures)
+
+pub eval::chain-returns-then-begins_range : goal.eval::chain-returns-then-begins_range
+eval::chain-returns-then-begins_range t c =
+    let listed = c.range_of.ensures _ c.evaluate_more.ensures in search (rules, listed)
+
+pub fitting::alone-returns-in-None : goal.fitting::alone-returns-in-None
+fitting::alone-returns-in-None t c =
+    answers_by _ _ _
+    (ap (λ o. fitted_alone (span_of (tree c.args.item.now)) o (value c.args.seen.now c.args.place.now.scope (tree c.args.left.now)) c.args.tuple.now c.args.place.now) (sym c.in-None.ensures))
+    (c.agrees_as.ensures _ c.evaluate-value.ensures)
+
+pub fitting::fit-returns-in-None : goal.fitting::fit-returns-in-None
+fitting::fit-returns-in-None t c =
+    answers_by _ _ _
+    (ap (λ o. fitted (span_of (tree c.args.whole.now)) o (value c.args.seen.now c.args.place.scope (tree c.args.component.now)) c.args.member.now c.args.place) (sym c.in-None.ensures))
+    (c.agrees.ensures _ c.evaluate-value.ensures)
+
+pub keys::choose-returns : goal.keys::choose-returns
+keys::choose-returns t c = c.chosen.ensures _ c.evaluate.ensures
+
+pub keys::holds-returns-in-Some : goal.keys::holds-returns-in-Some
+keys::holds-returns-in-Some t c =
+    let told = c.truth_at.ensures _ c.evaluate.ensures in search (rules, views, told)
+
+pub keys::item_tuples-returns-in-None : goal.keys::item_tuples-returns-in-None
+keys::item_tuples-returns-in-None t c =
+    answers_by _ _ _ (ap (by_sides c.args.at c.args.seen.now c.args.scope.now (tree c.args.item.now)) (sym c.in-None.ensures)) (c.tuples_of.ensures _ c.evaluate.ensures)
+
+pub keys::open-returns-in_err-tuples : goal.keys::open-returns-in_err-tuples
+keys::open-returns-in_err-tuples t c =
+    let told = c.in_err-tuples.ensures (Ok c.args.value) refl in search (rules, told)
+
+pub keys::open-returns-in_ok-tuples : goal.keys::open-returns-in_ok-tuples
+keys::open-returns-in_ok-tuples t c =
+    let told = c.in_ok-tuples.ensures (Ok c.args.value) refl in search (rules, told)
+
+pub keys::open-returns-else-is_set : goal.keys::open-returns-else-is_set
+keys::open-returns-else-is_set t c =
+    let told = c.listed.ensures _ c.evaluate_more-found.ensures in search (rules, told)

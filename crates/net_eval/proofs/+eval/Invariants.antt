@@ -16,8 +16,11 @@ decreases-eval::subscripted l = 12 * (weight (tree l.first.now) + weights (links
 abbrev pub decreases-eval::tupled : goal.decreases-eval::tupled
 decreases-eval::tupled l = 12 * (weight (tree l.first.now) + weights (links_of l.more.now)) + 3
 
+abbrev pub decreases-eval::is_met : goal.decreases-eval::is_met
+decreases-eval::is_met l = 12 * weight (tree l.condition.now) + 1
+
 abbrev pub decreases-eval::negated : goal.decreases-eval::negated
-decreases-eval::negated l = 12 * weight (tree l.condition.now) + 1
+decreases-eval::negated l = 12 * weight (tree l.condition.now) + 2
 
 abbrev pub decreases-eval::braced : goal.decreases-eval::braced
 decreases-eval::braced l = 12 * braces_weight (braces_of l.braces.now) + 3

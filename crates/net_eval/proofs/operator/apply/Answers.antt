@@ -1,0 +1,30 @@
+use Rattle.std.proofs.Common.{ap}
+use Rattle.net_tree.specs.Spans.{span_of}
+use Rattle.net_tree.specs.View.{tree}
+use Rattle.net_eval.specs.Operators.{apply}
+use Rattle.net_eval.proofs.Walking.{answers_by}
+use Rattle.net_eval.proofs.operator.apply.Goals as goal
+
+pub returns-in-Equal : goal.returns-in-Equal
+returns-in-Equal c =
+    answers_by _ _ _ (ap (λ o. apply o (span_of (tree c.args.whole.now)) c.args.x.now c.args.y.now) c.in-Equal.is) (c.as_truth.ensures _ c.same.ensures)
+
+pub returns-in-Unequal : goal.returns-in-Unequal
+returns-in-Unequal c =
+    answers_by _ _ _ (ap (λ o. apply o (span_of (tree c.args.whole.now)) c.args.x.now c.args.y.now) c.in-Unequal.is) (c.as_denial.ensures _ c.same-in-Unequal.ensures)
+
+pub returns-in-In : goal.returns-in-In
+returns-in-In c =
+    answers_by _ _ _ (ap (λ o. apply o (span_of (tree c.args.whole.now)) c.args.x.now c.args.y.now) c.in-In.is) (c.as_truth-in-In.ensures _ c.belongs.ensures)
+
+pub returns-in-NotIn : goal.returns-in-NotIn
+returns-in-NotIn c =
+    answers_by _ _ _ (ap (λ o. apply o (span_of (tree c.args.whole.now)) c.args.x.now c.args.y.now) c.in-NotIn.is) (c.as_denial-in-NotIn.ensures _ c.belongs-in-NotIn.ensures)
+
+pub returns-in-Within : goal.returns-in-Within
+returns-in-Within c =
+    answers_by _ _ _ (ap (λ o. apply o (span_of (tree c.args.whole.now)) c.args.x.now c.args.y.now) c.in-Within.is) (c.as_truth-in-Within.ensures _ c.contained.ensures)
+
+pub returns-in-NotWithin : goal.returns-in-NotWithin
+returns-in-NotWithin c =
+    answers_by _ _ _ (ap (λ o. apply o (span_of (tree c.args.whole.now)) c.args.x.now c.args.y.now) c.in-NotWithin.is) (c.as_denial-in-NotWithin.ensures _ c.contained-in-NotWithin.ensures)
