@@ -1,4 +1,5 @@
 use Rattle.std.proofs.Common.{◌≡◌, ◌*◌, ◌^◌, ◌∷◌, false, rules, refl, Ok, length, take, ◌-◌, sym, ap, ◌∙◌, ◌+◌, drop, arith}
+use Rattle.std.proofs.lemmas.Grind.{common_steps}
 use Rattle.std.proofs.lemmas.Result.{err_from_is_err_and}
 use Rattle.net_tree.specs.declared.expr.Series.{out-Series}
 use Rattle.net_tree.specs.View.{tree, links_of, braces_of, option_part}
@@ -242,3 +243,45 @@ keys::open-returns-in_ok-tuples t c =
 pub keys::open-returns-else-is_set : goal.keys::open-returns-else-is_set
 keys::open-returns-else-is_set t c =
     let told = c.listed.ensures _ c.evaluate_more-found.ensures in search (rules, told)
+
+pub eval::chained-loop-link-init : goal.eval::chained-loop-link-init
+eval::chained-loop-link-init t c = grind (arith, common_steps)
+
+pub eval::chained-returns : goal.eval::chained-returns
+eval::chained-returns t c = grind (arith, common_steps)
+
+pub eval::evaluate_more-loop-link-init : goal.eval::evaluate_more-loop-link-init
+eval::evaluate_more-loop-link-init t c = grind (arith, common_steps)
+
+pub eval::evaluate_more-returns : goal.eval::evaluate_more-returns
+eval::evaluate_more-returns t c = grind (arith, common_steps)
+
+pub eval::gather-loop-row-init : goal.eval::gather-loop-row-init
+eval::gather-loop-row-init t c = grind (arith, common_steps)
+
+pub eval::gather-returns : goal.eval::gather-returns
+eval::gather-returns t c = grind (arith, common_steps)
+
+pub keys::keep-loop-row-init : goal.keys::keep-loop-row-init
+keys::keep-loop-row-init t c = grind (arith, common_steps)
+
+pub keys::keep-returns : goal.keys::keep-returns
+keys::keep-returns t c = grind (arith, common_steps)
+
+pub keys::through-loop-tuple-preserved : goal.keys::through-loop-tuple-preserved
+keys::through-loop-tuple-preserved t c = grind (arith, common_steps)
+
+pub keys::through-returns : goal.keys::through-returns
+keys::through-returns t c = grind (arith, common_steps)
+
+pub keys::through-returns-in_err-onward : goal.keys::through-returns-in_err-onward
+keys::through-returns-in_err-onward t c = grind (arith, common_steps)
+
+pub keys::select-returns : goal.keys::select-returns
+keys::select-returns t c = grind (arith, common_steps)
+
+pub keys::select-returns-in_err-found : goal.keys::select-returns-in_err-found
+keys::select-returns-in_err-found t c = grind (arith, common_steps)
+
+pub keys::select-returns-in_err-width : goal.keys::select-returns-in_err-width
+keys::select-returns-in_err-width t c = grind (arith, common_steps)

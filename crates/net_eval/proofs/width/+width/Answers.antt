@@ -1,6 +1,6 @@
 use Rattle.std.proofs.Common.{ap, sym, ◌∙◌, ◌+◌, drop, arith}
 use Rattle.net_tree.specs.View.{links_of}
-use Rattle.net_tree.proofs.Views.{next_link}
+use Rattle.net_tree.proofs.Views.{next_link, views}
 use Rattle.net_eval.specs.Operations.{operation}
 use Rattle.net_eval.specs.Widths.{chain_width, combined, with_items}
 use Rattle.net_eval.proofs.Walking.{link_lighter}
@@ -24,3 +24,48 @@ items_form-loop-link-preserved t c =
     ap (λ f. with_items c.args.seen.now f (links_of (drop (c.loop-link.link-index + 1) c.args.more.now))) c.in_ok-form-2.ensures
     ∙ sym (ap (with_items c.args.seen.now c.loop-link.form) (next_link c.args.more.now c.loop-link.link-index c.link-item.result c.loop-link-test.true c.link-item.is))
     ∙ c.loop-link.invariant
+
+pub tree_width-returns-in-Braced : goal.tree_width-returns-in-Braced
+tree_width-returns-in-Braced t c = grind (arith, views)
+
+pub tree_width-returns-in-Chain : goal.tree_width-returns-in-Chain
+tree_width-returns-in-Chain t c = grind (arith, views)
+
+pub tree_width-returns-in-Choice : goal.tree_width-returns-in-Choice
+tree_width-returns-in-Choice t c = grind (arith, views)
+
+pub tree_width-returns-in-Indexed : goal.tree_width-returns-in-Indexed
+tree_width-returns-in-Indexed t c = grind (arith, views)
+
+pub tree_width-returns-in-Leaf : goal.tree_width-returns-in-Leaf
+tree_width-returns-in-Leaf t c = grind (arith, views)
+
+pub tree_width-returns-in-Parens : goal.tree_width-returns-in-Parens
+tree_width-returns-in-Parens t c = grind (arith, views)
+
+pub tree_width-returns-in-Reduced : goal.tree_width-returns-in-Reduced
+tree_width-returns-in-Reduced t c = grind (arith, views)
+
+pub tree_width-returns-in-Tuple : goal.tree_width-returns-in-Tuple
+tree_width-returns-in-Tuple t c = grind (arith, views)
+
+pub braces_width-returns-in-Empty : goal.braces_width-returns-in-Empty
+braces_width-returns-in-Empty t c = grind (arith, views)
+
+pub braces_width-returns-in-Filled : goal.braces_width-returns-in-Filled
+braces_width-returns-in-Filled t c = grind (arith, views)
+
+pub tree_width-tree_width-requires : goal.tree_width-tree_width-requires
+tree_width-tree_width-requires t c = grind (arith, views)
+
+pub tree_width-tree_width-requires-in-Choice : goal.tree_width-tree_width-requires-in-Choice
+tree_width-tree_width-requires-in-Choice t c = grind (arith, views)
+
+pub tree_width-braces_width-requires : goal.tree_width-braces_width-requires
+tree_width-braces_width-requires t c = grind (arith, views)
+
+pub tree_width-chain_width-requires : goal.tree_width-chain_width-requires
+tree_width-chain_width-requires t c = grind (arith, views)
+
+pub braces_width-filled_width-requires : goal.braces_width-filled_width-requires
+braces_width-filled_width-requires t c = grind (arith, views)
