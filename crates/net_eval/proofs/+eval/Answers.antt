@@ -285,3 +285,42 @@ keys::select-returns-in_err-found t c = grind (arith, common_steps)
 
 pub keys::select-returns-in_err-width : goal.keys::select-returns-in_err-width
 keys::select-returns-in_err-width t c = grind (arith, common_steps)
+
+pub eval::evaluate-subscripted-requires : goal.eval::evaluate-subscripted-requires
+eval::evaluate-subscripted-requires t c = grind (arith, views)
+
+pub eval::evaluate-evaluate-requires : goal.eval::evaluate-evaluate-requires
+eval::evaluate-evaluate-requires t c = grind (arith, views)
+
+pub eval::evaluate-tupled-requires : goal.eval::evaluate-tupled-requires
+eval::evaluate-tupled-requires t c = grind (arith, views)
+
+pub eval::evaluate-negated-requires : goal.eval::evaluate-negated-requires
+eval::evaluate-negated-requires t c = grind (arith, views)
+
+pub eval::evaluate-braced-requires : goal.eval::evaluate-braced-requires
+eval::evaluate-braced-requires t c = grind (arith, views)
+
+pub eval::evaluate-signed-requires : goal.eval::evaluate-signed-requires
+eval::evaluate-signed-requires t c = grind (arith, views)
+
+pub eval::evaluate-reduced-requires : goal.eval::evaluate-reduced-requires
+eval::evaluate-reduced-requires t c = grind (arith, views)
+
+pub eval::evaluate-chain-requires : goal.eval::evaluate-chain-requires
+eval::evaluate-chain-requires t c = grind (arith, views)
+
+pub eval::evaluate-choice-requires : goal.eval::evaluate-choice-requires
+eval::evaluate-choice-requires t c = grind (arith, views)
+
+pub eval::other_branch-evaluate-requires : goal.eval::other_branch-evaluate-requires
+eval::other_branch-evaluate-requires t c = grind (arith, views)
+
+pub keys::index-index_items-requires : goal.keys::index-index_items-requires
+keys::index-index_items-requires t c = grind (arith, views)
+
+pub keys::holds-evaluate-requires : goal.keys::holds-evaluate-requires
+keys::holds-evaluate-requires t c = grind (arith, views)
+
+pub fitting::left_place-components-requires : goal.fitting::left_place-components-requires
+fitting::left_place-components-requires t c = grind (arith, views)
