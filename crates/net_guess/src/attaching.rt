@@ -42,18 +42,18 @@ struct Before {
 impl Tree {
     /// Hangs a subtree up anew. `turned` is room to work in.
     pub fn attach(&mut self, attachment: &Attachment, turned: &mut Vec<u32>) -> Result<(), Halt> {
-        let leaving = self.node(attachment.leaving)?;
+        let leaving = self.node(attachment.leaving);
         let before = Before {
-            previous: self.thread(attachment.leaving)?.previous,
+            previous: self.thread(attachment.leaving).previous,
             size: leaving.size,
             last: leaving.last,
             parent: leaving.parent,
         };
         if attachment.stem == attachment.leaving {
-            self.move_whole(attachment, before)?;
+            self.move_whole(attachment, before);
         } else {
             self.turn_order(attachment, before, turned)?;
-            self.turn_arcs(attachment, before)?;
+            self.turn_arcs(attachment, before);
         }
         self.mend_lasts(attachment, before)?;
         self.grow(attachment.parent, attachment.join, before.size)?;
@@ -65,20 +65,20 @@ impl Tree {
     }
 
     /// Moves a subtree that keeps its root.
-    fn move_whole(&mut self, attachment: &Attachment, before: Before) -> Result<(), Halt> {
+    fn move_whole(&mut self, attachment: &Attachment, before: Before) {
         let root = attachment.leaving;
-        let mut node = self.node(root)?;
+        let mut node = self.node(root);
         node.parent = attachment.parent;
         node.arc = attachment.arc;
-        self.put_node(root, node)?;
-        if self.thread(attachment.parent)?.next == root {
-            return Ok(());
+        self.put_node(root, node);
+        if self.thread(attachment.parent).next == root {
+            return;
         }
-        let behind = self.thread(before.last)?.next;
-        self.follow(before.previous, behind)?;
-        let behind = self.thread(attachment.parent)?.next;
-        self.follow(attachment.parent, root)?;
-        self.follow(before.last, behind)
+        let behind = self.thread(before.last).next;
+        self.follow(before.previous, behind);
+        let behind = self.thread(attachment.parent).next;
+        self.follow(attachment.parent, root);
+        self.follow(before.last, behind);
     }
 
     /// Turns the cyclic order of a subtree that gets a new root: each node on the way to the old root takes what is left of its
@@ -91,18 +91,18 @@ impl Tree {
     ) -> Result<(), Halt> {
         let parent = attachment.parent;
         let behind_all = if before.previous == parent {
-            self.thread(before.last)?.next
+            self.thread(before.last).next
         } else {
-            self.thread(parent)?.next
+            self.thread(parent).next
         };
-        let last = self.node(attachment.stem)?.last;
+        let last = self.node(attachment.stem).last;
         let mut turn = Turn {
             node: attachment.stem,
             above: parent,
             last,
-            behind: self.thread(last)?.next,
+            behind: self.thread(last).next,
         };
-        self.set_next(parent, turn.node)?;
+        self.set_next(parent, turn.node);
         turned.clear();
         turned.push(parent)?;
         for _ in 0..self.nodes.len() {
@@ -110,76 +110,76 @@ impl Tree {
                 break;
             }
             turned.push(turn.last)?;
-            turn = self.turn_node(turn)?;
+            turn = self.turn_node(turn);
         }
-        self.set_parent(attachment.leaving, turn.above)?;
-        self.follow(turn.last, behind_all)?;
-        self.set_last(attachment.leaving, turn.last)?;
+        self.set_parent(attachment.leaving, turn.above);
+        self.follow(turn.last, behind_all);
+        self.set_last(attachment.leaving, turn.last);
         if before.previous != parent {
-            self.follow(before.previous, turn.behind)?;
+            self.follow(before.previous, turn.behind);
         }
         for node in turned.iter() {
-            let next = self.thread(*node)?.next;
-            self.set_previous(next, *node)?;
+            let next = self.thread(*node).next;
+            self.set_previous(next, *node);
         }
         Ok(())
     }
 
     /// Takes what is left of a node's subtree behind it. Answers the next place, its old parent.
     #[inline]
-    fn turn_node(&mut self, turn: Turn) -> Result<Turn, Halt> {
+    fn turn_node(&mut self, turn: Turn) -> Turn {
         let above = turn.node;
-        let node = self.node(above)?.parent;
-        self.set_next(turn.last, node)?;
-        let ahead = self.thread(above)?.previous;
-        self.follow(ahead, turn.behind)?;
-        self.set_parent(above, turn.above)?;
-        let mut last = self.node(node)?.last;
-        if last == self.node(above)?.last {
-            last = self.thread(above)?.previous;
+        let node = self.node(above).parent;
+        self.set_next(turn.last, node);
+        let ahead = self.thread(above).previous;
+        self.follow(ahead, turn.behind);
+        self.set_parent(above, turn.above);
+        let mut last = self.node(node).last;
+        if last == self.node(above).last {
+            last = self.thread(above).previous;
         }
-        Ok(Turn {
+        Turn {
             node,
             above,
             last,
-            behind: self.thread(last)?.next,
-        })
+            behind: self.thread(last).next,
+        }
     }
 
     /// Turns the arcs on the way from a subtree's old root to its new one, and gives each of its nodes its new size.
-    fn turn_arcs(&mut self, attachment: &Attachment, before: Before) -> Result<(), Halt> {
-        let last = self.node(attachment.leaving)?.last;
+    fn turn_arcs(&mut self, attachment: &Attachment, before: Before) {
+        let last = self.node(attachment.leaving).last;
         let mut place = attachment.leaving;
         let mut size = 0u32;
         for _ in 0..self.nodes.len() {
             if place == attachment.stem {
                 break;
             }
-            let mut node = self.node(place)?;
-            let mut below = self.node(node.parent)?;
+            let mut node = self.node(place);
+            let mut below = self.node(node.parent);
             size = size.wrapping_add(node.size).wrapping_sub(below.size);
             node.size = size;
             node.arc = below.arc.turned();
-            self.put_node(place, node)?;
+            self.put_node(place, node);
             below.last = last;
-            self.put_node(node.parent, below)?;
+            self.put_node(node.parent, below);
             place = node.parent;
         }
-        let mut stem = self.node(attachment.stem)?;
+        let mut stem = self.node(attachment.stem);
         stem.arc = attachment.arc;
         stem.size = before.size;
-        self.put_node(attachment.stem, stem)
+        self.put_node(attachment.stem, stem);
     }
 
     /// Gives the nodes above both places their new last nodes.
     fn mend_lasts(&mut self, attachment: &Attachment, before: Before) -> Result<(), Halt> {
         let parent = attachment.parent;
-        let limit = if self.node(attachment.join)?.last == parent {
+        let limit = if self.node(attachment.join).last == parent {
             attachment.join
         } else {
             NO_NODE
         };
-        let last = self.node(attachment.leaving)?.last;
+        let last = self.node(attachment.leaving).last;
         self.change_lasts(parent, NO_NODE, parent, last)?;
         let ahead = before.previous;
         let new_last = if attachment.join != ahead && parent != ahead {
@@ -200,11 +200,11 @@ impl Tree {
             if place == limit || place == NO_NODE {
                 return Ok(());
             }
-            let node = self.node(place)?;
+            let node = self.node(place);
             if node.last != old {
                 return Ok(());
             }
-            self.set_last(place, new)?;
+            self.set_last(place, new);
             place = node.parent;
         }
         Err(Halt::OutOfRange)

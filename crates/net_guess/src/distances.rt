@@ -38,15 +38,16 @@ impl Scaling {
             }
         }
         for node in 0..index(distances.len()) {
-            let distance = at(&distances, node)?;
-            if distance >= FAR && at(&self.excess, node)? > 0 {
+            let distance = at(&distances, node, FAR);
+            if distance >= FAR && self.excess(node) > 0 {
                 return Err(Halt::OutOfRange);
             }
             let steps = i64::from(distance.min(greatest.wrapping_add(1)));
-            let potential = at(&self.potentials, node)?;
-            let lower = potential.wrapping_sub(steps.wrapping_mul(epsilon));
-            put(&mut self.potentials, node, lower)?;
-            self.rewind(node)?;
+            let lower = self
+                .potential(node)
+                .wrapping_sub(steps.wrapping_mul(epsilon));
+            put(&mut self.potentials, node, lower);
+            self.rewind(node);
         }
         Ok(())
     }
@@ -57,8 +58,8 @@ impl Scaling {
         let mut distances = vec![in alloc; FAR; count]?;
         let mut waiting = BinaryHeap::new(alloc);
         for node in 0..index(count) {
-            if at(&self.excess, node)? < 0 {
-                put(&mut distances, node, 0)?;
+            if self.excess(node) < 0 {
+                put(&mut distances, node, 0);
                 waiting.push(Reverse((0u32, node)))?;
             }
         }
@@ -66,7 +67,7 @@ impl Scaling {
             let Some(Reverse((distance, node))) = waiting.pop() else {
                 break;
             };
-            if at(&distances, node)? == distance {
+            if at(&distances, node, FAR) == distance {
                 self.reach_back(&mut distances, &mut waiting, node, distance, epsilon)?;
             }
         }
@@ -83,20 +84,21 @@ impl Scaling {
         distance: u32,
         epsilon: i64,
     ) -> Result<(), Halt> {
-        let potential = at(&self.potentials, node)?;
-        for place in self.network.row(node)? {
-            let arc = at(&self.network.arcs, place)?;
-            let known = at(distances, arc.head)?;
+        let potential = self.potential(node);
+        let row = self.network.row(node);
+        for place in row.start..row.end {
+            let arc = self.network.arc(place);
+            let known = at(distances, arc.head, 0);
             if arc.reverse_room <= 0 || known <= distance {
                 continue;
             }
-            let tail = at(&self.potentials, arc.head)?;
-            let reduced = tail
+            let reduced = self
+                .potential(arc.head)
                 .wrapping_sub(arc.cost.wrapping_mul(self.factor))
                 .wrapping_sub(potential);
             let farther = distance.wrapping_add(steps_of(reduced, epsilon));
             if farther < known {
-                put(distances, arc.head, farther)?;
+                put(distances, arc.head, farther);
                 waiting.push(Reverse((farther, arc.head)))?;
             }
         }

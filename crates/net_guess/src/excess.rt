@@ -4,7 +4,7 @@ ghost use Rattle.std.specs.Prelude.{◌≡◌, ◌<◌, IfOk, vec_len};
 
 use crate::halt::Halt;
 use net_normal::Problem;
-use std::alloc::Global;
+use std::alloc::{AllocError, Global};
 
 /// Adds to a node's excess.
 pub fn add_excess(excess: &mut Vec<i128>, node: u32, amount: i128) -> Result<(), Halt>
@@ -18,8 +18,17 @@ pub fn add_excess(excess: &mut Vec<i128>, node: u32, amount: i128) -> Result<(),
     Ok(())
 }
 
+/// The flow that is at each arc's lower bound.
+pub fn lows_of(alloc: Global, problem: &Problem) -> Result<Vec<i64>, AllocError> {
+    let mut lows = Vec::with_capacity(alloc, problem.arcs.len())?;
+    for arc in &problem.arcs {
+        lows.push(arc.low)?;
+    }
+    Ok(lows)
+}
+
 /// Each node's supply.
-fn supplies_of(alloc: Global, problem: &Problem) -> Result<Vec<i128>, Halt>
+fn supplies_of(alloc: Global, problem: &Problem) -> Result<Vec<i128>, AllocError>
     ensures { IfOk result (λ supplies. vec_len supplies ≡ vec_len problem.now.supplies) }
 {
     let mut supplies = Vec::with_capacity(alloc, problem.supplies.len())?;

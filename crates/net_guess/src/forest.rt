@@ -151,6 +151,24 @@ impl Forest {
         }
     }
 
+    /// The potential that each node has now.
+    pub fn potentials(&self, alloc: Global) -> Result<Vec<i64>, AllocError> {
+        let mut potentials = Vec::with_capacity(alloc, self.nodes.len())?;
+        for node in &self.nodes {
+            potentials.push(self.potential(node))?;
+        }
+        Ok(potentials)
+    }
+
+    /// Whether each node is in the forest.
+    pub fn flags(&self, alloc: Global) -> Result<Vec<bool>, AllocError> {
+        let mut flags = Vec::with_capacity(alloc, self.nodes.len())?;
+        for node in &self.nodes {
+            flags.push(node.is_inside)?;
+        }
+        Ok(flags)
+    }
+
     /// Whether a node is in the forest.
     pub fn contains(&self, node: u32) -> bool
         requires { node < vec_len self.now.nodes }

@@ -4,9 +4,7 @@ use crate::bottleneck::bottleneck;
 use crate::excess::excess_at_lows;
 use crate::guess::Guess;
 use crate::halt::Halt;
-use crate::places::at;
 use crate::probe::{Probe, Seen};
-use crate::residual::Residual;
 use crate::scaling::scaled_start;
 use crate::search::{Ending, Search};
 use crate::simplex::{Ended, Simplex};
@@ -39,12 +37,7 @@ pub fn find_guess(alloc: Global, problem: &Problem) -> Result<Guess, AllocError>
 
 /// The first guess that comes to something.
 fn guessed(alloc: Global, problem: &Problem) -> Result<Guess, Halt> {
-    let mut total = 0i128;
-    for supply in &problem.supplies {
-        total = total
-            .checked_add(i128::from(*supply))
-            .ok_or(Halt::OutOfRange)?;
-    }
+    let total = supplies_sum(problem)?;
     if total != 0 {
         let side = if total > 0 { Side::Over } else { Side::Under };
         let flags = vec![in alloc; true; problem.supplies.len()]?;
@@ -62,6 +55,17 @@ fn guessed(alloc: Global, problem: &Problem) -> Result<Guess, Halt> {
         Ok(None) | Err(Halt::OutOfRange) => by_search(alloc, problem),
         Err(Halt::OutOfMemory) => Err(Halt::OutOfMemory),
     }
+}
+
+/// The sum of all supplies.
+fn supplies_sum(problem: &Problem) -> Result<i128, Halt> {
+    let mut total = 0i128;
+    for supply in &problem.supplies {
+        total = total
+            .checked_add(i128::from(*supply))
+            .ok_or(Halt::OutOfRange)?;
+    }
+    Ok(total)
 }
 
 /// Nodes and arcs together.
@@ -102,42 +106,27 @@ fn by_simplex(alloc: Global, problem: &Problem, excess: &[i128]) -> Result<Optio
 
 /// What the search by trees says, from where cost scaling ends.
 fn by_search(alloc: Global, problem: &Problem) -> Result<Guess, Halt> {
-    let start = match scaled_start(alloc, problem) {
-        Ok(start) => start,
-        Err(Halt::OutOfRange) => Start::plain(alloc, problem)?,
-        Err(Halt::OutOfMemory) => return Err(Halt::OutOfMemory),
-    };
-    let start = start.settled(problem)?;
-    let mut search = Search::new(alloc, problem, &start)?;
+    let mut search = Search::new(alloc, problem, &settled_start(alloc, problem)?)?;
     match search.run(SEARCH_TURNS) {
-        Ok(Ending::Balanced) | Err(Halt::OutOfRange) => {
-            let flows = flows_of(alloc, problem, &search.network)?;
-            let mut potentials = Vec::with_capacity(alloc, problem.supplies.len())?;
-            for node in &search.forest.nodes {
-                potentials.push(search.forest.potential(node))?;
-            }
-            Ok(Guess::Flow { flows, potentials })
-        }
-        Ok(Ending::Stuck) => {
-            let mut flags = Vec::with_capacity(alloc, search.forest.nodes.len())?;
-            for node in &search.forest.nodes {
-                flags.push(node.is_inside)?;
-            }
-            Ok(Guess::Cut {
-                flags,
-                side: Side::Over,
-            })
-        }
+        Ok(Ending::Balanced) | Err(Halt::OutOfRange) => Ok(Guess::Flow {
+            flows: search.network.flows(alloc, problem)?,
+            potentials: search.forest.potentials(alloc)?,
+        }),
+        Ok(Ending::Stuck) => Ok(Guess::Cut {
+            flags: search.forest.flags(alloc)?,
+            side: Side::Over,
+        }),
         Err(Halt::OutOfMemory) => Err(Halt::OutOfMemory),
     }
 }
 
-/// The flows of a residual network.
-fn flows_of(alloc: Global, problem: &Problem, network: &Residual) -> Result<Vec<i64>, Halt> {
-    let mut flows = Vec::with_capacity(alloc, problem.arcs.len())?;
-    for (arc, forward) in problem.arcs.iter().zip(&network.forwards) {
-        let room = at(&network.arcs, *forward)?.room;
-        flows.push(arc.cap.wrapping_sub(room))?;
-    }
-    Ok(flows)
+/// What a search starts from: where cost scaling ends, or the plain start, with flow at its bounds.
+fn settled_start(alloc: Global, problem: &Problem) -> Result<Start, Halt> {
+    let mut start = match scaled_start(alloc, problem) {
+        Ok(start) => start,
+        Err(Halt::OutOfRange) => Start::plain(alloc, problem)?,
+        Err(Halt::OutOfMemory) => return Err(Halt::OutOfMemory),
+    };
+    start.settle(problem);
+    Ok(start)
 }

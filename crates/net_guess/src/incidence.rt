@@ -1,10 +1,10 @@
 //! The arcs at each node, those out of it and those into it, with the room for flow on them both ways.
 
 use crate::halt::Halt;
-use crate::places::{at, index, put};
+use crate::places::{at, index, put, row_at};
 use crate::residual_rows::row_ends;
 use net_normal::Problem;
-use std::alloc::Global;
+use std::alloc::{AllocError, Global};
 use std::ops::Range;
 
 /// An arc at a node, seen from there.
@@ -52,48 +52,56 @@ impl Incidence {
                     head: arc.dst,
                     place,
                 },
-            )?;
+            );
             incidence.add(
                 arc.dst,
                 Incident {
                     head: arc.src,
                     place: back_of(place),
                 },
-            )?;
+            );
         }
         Ok(incidence)
     }
 
     /// Takes the last free place at a node.
-    fn add(&mut self, node: u32, incident: Incident) -> Result<(), Halt> {
-        let Some(free) = at(&self.starts, node)?.checked_sub(1) else {
-            return Err(Halt::OutOfRange);
-        };
-        put(&mut self.starts, node, free)?;
-        put(&mut self.ends, free, incident)
+    fn add(&mut self, node: u32, incident: Incident) {
+        let free = at(&self.starts, node, 0).wrapping_sub(1);
+        put(&mut self.starts, node, free);
+        put(&mut self.ends, free, incident);
     }
 
     /// The places of the arcs at a node.
-    pub fn row(&self, node: u32) -> Result<Range<u32>, Halt> {
-        let from = at(&self.starts, node)?;
-        let to = at(&self.starts, node.wrapping_add(1))?;
-        Ok(from..to)
+    pub fn row(&self, node: u32) -> Range<u32> {
+        row_at(&self.starts, node)
+    }
+
+    /// An arc at a node by its place.
+    #[inline]
+    pub fn end(&self, place: u32) -> Incident {
+        at(&self.ends, place, Incident { head: 0, place: 0 })
+    }
+
+    /// The room for flow that stands at a place.
+    #[inline]
+    pub fn room(&self, place: u32) -> i64 {
+        at(&self.rooms, place, 0)
     }
 
     /// Sends flow over an arc, seen as this one is.
-    pub fn send(&mut self, place: u32, amount: i64) -> Result<(), Halt> {
-        let ahead = at(&self.rooms, place)?;
-        put(&mut self.rooms, place, ahead.wrapping_sub(amount))?;
-        let back = at(&self.rooms, back_of(place))?;
-        put(&mut self.rooms, back_of(place), back.wrapping_add(amount))
+    pub fn send(&mut self, place: u32, amount: i64) {
+        let ahead = self.room(place);
+        put(&mut self.rooms, place, ahead.wrapping_sub(amount));
+        let back = self.room(back_of(place));
+        put(&mut self.rooms, back_of(place), back.wrapping_add(amount));
     }
 
     /// The flow on each arc of the problem.
-    pub fn flows(&self, alloc: Global, problem: &Problem) -> Result<Vec<i64>, Halt> {
+    pub fn flows(&self, alloc: Global, problem: &Problem) -> Result<Vec<i64>, AllocError> {
         let mut flows = Vec::with_capacity(alloc, problem.arcs.len())?;
         let mut place = 0u32;
         for arc in &problem.arcs {
-            let sent = at(&self.rooms, back_of(place))?;
+            let sent = self.room(back_of(place));
             flows.push(arc.low.wrapping_add(sent))?;
             place = place.wrapping_add(2);
         }

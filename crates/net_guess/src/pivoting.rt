@@ -5,6 +5,7 @@ use crate::halt::Halt;
 use crate::places::{at, index, put};
 use crate::simplex::Simplex;
 use crate::simplex_arc::{PricedArc, Status};
+use crate::starting::ROOT_ROOM;
 use crate::tree::TreeArc;
 use net_normal::{FlowArc, Problem};
 
@@ -42,27 +43,35 @@ struct Narrow {
 impl Simplex {
     /// Lets the arc at this place come in.
     pub fn enter(&mut self, problem: &Problem, place: u32) -> Result<(), Halt> {
-        let arc = at(&self.arcs, place)?;
-        let known = at(&problem.arcs, at(&self.numbers, place)?)?;
+        let arc = self.arc(place);
+        let known = self.known(problem, place);
         let cycle = self.cycle(arc.src, arc.dst, known.cap.wrapping_sub(known.low))?;
         if cycle.amount > 0 {
             self.tree.send_down(cycle.join, cycle.first, cycle.amount)?;
             self.tree
                 .send_down(cycle.join, cycle.second, cycle.amount.wrapping_neg())?;
         }
-        let status = at(&self.statuses, place)?;
         match cycle.going {
-            Going::Itself => self.set_status(problem, place, other(status)),
-            Going::Before(node) => self.exchange(problem, place, &cycle, node),
-            Going::Behind(node) => self.exchange(problem, place, &cycle, node),
+            Going::Itself => {
+                self.set_status(problem, place, other(self.status(place)));
+                Ok(())
+            }
+            Going::Before(node) | Going::Behind(node) => {
+                self.exchange(problem, place, &cycle, node)
+            }
         }
     }
 
+    /// Where the flow on the arc at a place is.
+    fn status(&self, place: u32) -> Status {
+        at(&self.statuses, place, Status::Basic)
+    }
+
     /// Gives an arc a status, and what it is priced by.
-    fn set_status(&mut self, problem: &Problem, place: u32, status: Status) -> Result<(), Halt> {
-        let arc = at(&problem.arcs, at(&self.numbers, place)?)?;
-        put(&mut self.arcs, place, PricedArc::of(&arc, status))?;
-        put(&mut self.statuses, place, status)
+    fn set_status(&mut self, problem: &Problem, place: u32, status: Status) {
+        let arc = self.known(problem, place);
+        put(&mut self.arcs, place, PricedArc::of(&arc, status));
+        put(&mut self.statuses, place, status);
     }
 
     /// The cycle that an arc between these nodes closes, with this room.
@@ -73,8 +82,8 @@ impl Simplex {
             node: None,
         };
         let mut behind = before;
-        let mut left = self.tree.node(low)?;
-        let mut right = self.tree.node(high)?;
+        let mut left = self.tree.node(low);
+        let mut right = self.tree.node(high);
         for _ in 0..=self.tree.nodes.len().saturating_mul(2) {
             if low == high {
                 return Ok(narrowest(first, second, low, room, before, behind));
@@ -87,7 +96,7 @@ impl Simplex {
                     };
                 }
                 low = left.parent;
-                left = self.tree.node(low)?;
+                left = self.tree.node(low);
             } else {
                 if right.arc.room_up <= behind.room {
                     behind = Narrow {
@@ -96,7 +105,7 @@ impl Simplex {
                     };
                 }
                 high = right.parent;
-                right = self.tree.node(high)?;
+                right = self.tree.node(high);
             }
         }
         Err(Halt::OutOfRange)
@@ -115,16 +124,10 @@ impl Simplex {
             Going::Behind(_node) => (cycle.second, cycle.first),
             Going::Before(_) | Going::Itself => (cycle.first, cycle.second),
         };
-        self.leave(problem, leaving)?;
-        let known = at(&problem.arcs, at(&self.numbers, place)?)?;
-        let arc = tree_arc(
-            &known,
-            at(&self.statuses, place)?,
-            place,
-            cycle.amount,
-            stem,
-        );
-        self.set_status(problem, place, Status::Basic)?;
+        self.leave(problem, leaving);
+        let known = self.known(problem, place);
+        let arc = tree_arc(&known, self.status(place), place, cycle.amount, stem);
+        self.set_status(problem, place, Status::Basic);
         let attachment = Attachment {
             leaving,
             stem,
@@ -138,14 +141,15 @@ impl Simplex {
         } else {
             known.cost
         };
-        let above = at(&self.tree.potentials, parent)?;
-        let below = at(&self.tree.potentials, stem)?;
-        self.lift(stem, above.wrapping_add(cost).wrapping_sub(below))
+        let above = self.tree.potential(parent);
+        let below = self.tree.potential(stem);
+        self.lift(stem, above.wrapping_add(cost).wrapping_sub(below));
+        Ok(())
     }
 
     /// Puts the arc above a node at the bound that it has reached.
-    fn leave(&mut self, problem: &Problem, node: u32) -> Result<(), Halt> {
-        let arc = self.tree.node(node)?.arc;
+    fn leave(&mut self, problem: &Problem, node: u32) {
+        let arc = self.tree.node(node).arc;
         let at_low = arc.flow() == 0;
         if (arc.number as usize) < self.arcs.len() {
             let status = if at_low {
@@ -153,26 +157,25 @@ impl Simplex {
             } else {
                 Status::AtUpper
             };
-            return self.set_status(problem, arc.number, status);
-        }
-        if !at_low {
+            self.set_status(problem, arc.number, status);
+        } else if !at_low {
             self.is_short = true;
         }
-        Ok(())
     }
 
     /// Adds to the potentials of a subtree, or takes as much from all others where those are fewer.
-    fn lift(&mut self, top: u32, amount: i64) -> Result<(), Halt> {
-        let node = self.tree.node(top)?;
+    fn lift(&mut self, top: u32, amount: i64) {
+        let node = self.tree.node(top);
         self.work = self.work.wrapping_add(u64::from(node.size));
         let all = index(self.tree.nodes.len());
         let others = all.saturating_sub(node.size);
-        let root = at(&self.tree.potentials, all.wrapping_sub(1))?;
-        if others < node.size && root.wrapping_abs() < crate::starting::ROOT_ROOM / 4 {
-            let first = self.tree.thread(node.last)?.next;
-            return self.tree.raise(first, others, amount.wrapping_neg());
+        let root = self.tree.potential(all.wrapping_sub(1));
+        if others < node.size && root.wrapping_abs() < ROOT_ROOM / 4 {
+            let first = self.tree.thread(node.last).next;
+            self.tree.raise(first, others, amount.wrapping_neg());
+        } else {
+            self.tree.raise(top, node.size, amount);
         }
-        self.tree.raise(top, node.size, amount)
     }
 }
 

@@ -1,16 +1,32 @@
 //! Reads and writes at places of a list.
 //!
-//! A guess keeps its lists by indices of which nothing is proved, so each read and write tests its own: a guess that points
-//! outside gives up.
+//! A guess keeps its lists by indices of which nothing is proved, so each read and write tests its own: outside its list a guess reads
+//! what stands for nothing there, and writes nothing. Its loops are bounded, and what it says is for others to test.
 
-use crate::halt::Halt;
+use net_normal::{FlowArc, Problem};
+use std::ops::Range;
 
-/// What stands at a place.
+/// What stands at a place, or what stands for nothing where the list has no such place.
 #[inline]
-pub fn at<T: Copy>(items: &[T], place: u32) -> Result<T, Halt> {
+pub fn at<T: Copy>(items: &Vec<T>, place: u32, nothing: T) -> T {
     match items.get(place as usize) {
-        Some(item) => Ok(*item),
-        None => Err(Halt::OutOfRange),
+        Some(item) => *item,
+        None => nothing,
+    }
+}
+
+/// An arc of a problem by its index.
+#[inline]
+pub fn arc_at(problem: &Problem, number: u32) -> FlowArc {
+    match problem.arcs.get(number as usize) {
+        Some(arc) => *arc,
+        None => FlowArc {
+            src: 0,
+            dst: 0,
+            low: 0,
+            cap: 0,
+            cost: 0,
+        },
     }
 }
 
@@ -22,12 +38,14 @@ pub fn index(place: usize) -> u32 {
 
 /// Puts an item at a place.
 #[inline]
-pub fn put<T: Copy>(items: &mut [T], place: u32, item: T) -> Result<(), Halt> {
-    match items.get_mut(place as usize) {
-        Some(slot) => {
-            *slot = item;
-            Ok(())
-        }
-        None => Err(Halt::OutOfRange),
+pub fn put<T: Copy>(items: &mut Vec<T>, place: u32, item: T) {
+    if let Some(slot) = items.get_mut(place as usize) {
+        *slot = item;
     }
+}
+
+/// The places of what stands at a node, where these are the starts of each node's and of the end of all.
+#[inline]
+pub fn row_at(starts: &Vec<u32>, node: u32) -> Range<u32> {
+    at(starts, node, 0)..at(starts, node.wrapping_add(1), 0)
 }

@@ -2,15 +2,17 @@
 //!
 //! Where no excess that is left can reach a deficit, the nodes that it can reach are the guess at a cut.
 
-use crate::excess::add_excess;
 use crate::halt::Halt;
 use crate::incidence::{Incidence, back_of};
 use crate::places::{at, index, put};
 use net_normal::Problem;
-use std::alloc::Global;
+use std::alloc::{AllocError, Global};
 
 /// The level of a node from which no deficit is reached.
 const NO_LEVEL: u32 = u32::MAX;
+
+/// The number of no node.
+const NO_NODE: u32 = u32::MAX;
 
 /// So many rounds end their levels early.
 const SHORT_ROUNDS: u64 = 6;
@@ -92,31 +94,49 @@ impl Probe {
     }
 
     /// The nodes that excess can still be sent to, those where it is among them. Where no excess reaches a deficit, nothing leaves them.
-    fn reached(&mut self, alloc: Global) -> Result<Vec<bool>, Halt> {
-        let count = index(self.levels.len());
+    fn reached(&mut self, alloc: Global) -> Result<Vec<bool>, AllocError> {
         let mut flags = vec![in alloc; false; self.levels.len()]?;
-        self.queue.clear();
-        for node in 0..count {
-            if at(&self.excess, node)? > 0 {
-                put(&mut flags, node, true)?;
-                self.queue.push(node)?;
-            }
-        }
-        for place in 0..count {
-            let Some(node) = self.queue.get(place as usize).copied() else {
+        self.begin_reached(&mut flags)?;
+        for place in 0..index(self.levels.len()) {
+            let node = at(&self.queue, place, NO_NODE);
+            if node == NO_NODE {
                 break;
-            };
+            }
             self.reach_on(node, &mut flags)?;
         }
         Ok(flags)
     }
 
+    /// Takes in the nodes with excess.
+    fn begin_reached(&mut self, flags: &mut Vec<bool>) -> Result<(), AllocError> {
+        self.queue.clear();
+        for node in 0..index(self.excess.len()) {
+            if self.excess(node) > 0 {
+                put(flags, node, true);
+                self.queue.push(node)?;
+            }
+        }
+        Ok(())
+    }
+
+    /// A node's excess that is left.
+    fn excess(&self, node: u32) -> i128 {
+        at(&self.excess, node, 0)
+    }
+
+    /// A node's level.
+    #[inline]
+    fn level(&self, node: u32) -> u32 {
+        at(&self.levels, node, NO_LEVEL)
+    }
+
     /// Takes in the nodes to which an arc with room leads from this one.
-    fn reach_on(&mut self, node: u32, flags: &mut Vec<bool>) -> Result<(), Halt> {
-        for place in self.incidence.row(node)? {
-            let arc = at(&self.incidence.ends, place)?;
-            if !at(flags, arc.head)? && at(&self.incidence.rooms, arc.place)? > 0 {
-                put(flags, arc.head, true)?;
+    fn reach_on(&mut self, node: u32, flags: &mut Vec<bool>) -> Result<(), AllocError> {
+        let row = self.incidence.row(node);
+        for place in row.start..row.end {
+            let arc = self.incidence.end(place);
+            if !at(flags, arc.head, true) && self.incidence.room(arc.place) > 0 {
+                put(flags, arc.head, true);
                 self.queue.push(arc.head)?;
             }
         }
@@ -125,15 +145,13 @@ impl Probe {
 
     /// Gives nodes their levels, from the deficits back; a short round ends one level behind the first node with excess.
     /// Answers whether such a node has a level.
-    fn set_levels(&mut self, is_short: bool) -> Result<bool, Halt> {
+    fn set_levels(&mut self, is_short: bool) -> Result<bool, AllocError> {
         self.begin_levels()?;
         let mut last = NO_LEVEL - 1;
         let mut is_met = false;
         for place in 0..index(self.levels.len()) {
-            let Some(node) = self.queue.get(place as usize).copied() else {
-                break;
-            };
-            let level = at(&self.levels, node)?;
+            let node = at(&self.queue, place, NO_NODE);
+            let level = self.level(node);
             if level >= last {
                 break;
             }
@@ -148,18 +166,16 @@ impl Probe {
     }
 
     /// The nodes with a deficit have level 0, and all others none.
-    fn begin_levels(&mut self) -> Result<(), Halt> {
+    fn begin_levels(&mut self) -> Result<(), AllocError> {
         self.queue.clear();
         for place in 0..index(self.levels.len()) {
-            let has_deficit = at(&self.excess, place)? < 0;
-            put(
-                &mut self.levels,
-                place,
-                if has_deficit { 0 } else { NO_LEVEL },
-            )?;
-            put(&mut self.current, place, at(&self.incidence.starts, place)?)?;
-            if has_deficit {
+            let start = at(&self.incidence.starts, place, 0);
+            put(&mut self.current, place, start);
+            if self.excess(place) < 0 {
+                put(&mut self.levels, place, 0);
                 self.queue.push(place)?;
+            } else {
+                put(&mut self.levels, place, NO_LEVEL);
             }
         }
         let looked = self.levels.len() as u64;
@@ -168,16 +184,15 @@ impl Probe {
     }
 
     /// Gives this level to the nodes from which a residual arc leads to this one. Answers whether one of them has excess.
-    fn reach_back(&mut self, node: u32, level: u32) -> Result<bool, Halt> {
+    fn reach_back(&mut self, node: u32, level: u32) -> Result<bool, AllocError> {
         let mut is_met = false;
-        for place in self.incidence.row(node)? {
-            let arc = at(&self.incidence.ends, place)?;
-            if at(&self.levels, arc.head)? == NO_LEVEL
-                && at(&self.incidence.rooms, back_of(arc.place))? > 0
-            {
-                put(&mut self.levels, arc.head, level)?;
+        let row = self.incidence.row(node);
+        for place in row.start..row.end {
+            let arc = self.incidence.end(place);
+            if self.level(arc.head) == NO_LEVEL && self.incidence.room(back_of(arc.place)) > 0 {
+                put(&mut self.levels, arc.head, level);
                 self.queue.push(arc.head)?;
-                is_met = is_met || at(&self.excess, arc.head)? > 0;
+                is_met = is_met || self.excess(arc.head) > 0;
             }
         }
         Ok(is_met)
@@ -186,7 +201,7 @@ impl Probe {
     /// Sends what a node has too much of, as far as ways lead down the levels.
     fn send_from(&mut self, node: u32) -> Result<(), Halt> {
         for _ in 0..self.limit {
-            if at(&self.excess, node)? <= 0 || at(&self.levels, node)? == NO_LEVEL {
+            if self.excess(node) <= 0 || self.level(node) == NO_LEVEL {
                 return Ok(());
             }
             let Some(end) = self.find_way(node)? else {
@@ -201,45 +216,47 @@ impl Probe {
     }
 
     /// A way from a node down the levels to a deficit, kept as the path. Answers where it ends.
-    fn find_way(&mut self, from: u32) -> Result<Option<u32>, Halt> {
+    fn find_way(&mut self, from: u32) -> Result<Option<u32>, AllocError> {
         self.path.clear();
         let mut node = from;
         for _ in 0..self.limit {
-            if at(&self.excess, node)? < 0 {
+            if self.excess(node) < 0 {
                 return Ok(Some(node));
             }
-            match self.next_down(node)? {
+            match self.next_down(node) {
                 Some(place) => {
                     self.path.push(Step { tail: node, place })?;
-                    node = at(&self.incidence.ends, place)?.head;
+                    node = self.incidence.end(place).head;
                 }
-                None => {
-                    put(&mut self.levels, node, NO_LEVEL)?;
-                    let Some(step) = self.path.pop() else {
-                        return Ok(None);
-                    };
-                    node = step.tail;
-                    put(&mut self.current, node, step.place.wrapping_add(1))?;
-                }
+                None => match self.step_back(node) {
+                    Some(tail) => node = tail,
+                    None => return Ok(None),
+                },
             }
         }
         Ok(None)
     }
 
+    /// Takes a node from which no way leads off the path. Answers the node before it.
+    fn step_back(&mut self, node: u32) -> Option<u32> {
+        put(&mut self.levels, node, NO_LEVEL);
+        let step = self.path.pop()?;
+        put(&mut self.current, step.tail, step.place.wrapping_add(1));
+        Some(step.tail)
+    }
+
     /// The next residual arc with room from a node to one a level lower.
-    fn next_down(&mut self, node: u32) -> Result<Option<u32>, Halt> {
-        let level = at(&self.levels, node)?;
+    fn next_down(&mut self, node: u32) -> Option<u32> {
+        let level = self.level(node);
         if level == NO_LEVEL || level == 0 {
-            return Ok(None);
+            return None;
         }
-        let from = at(&self.current, node)?;
-        let to = at(&self.incidence.starts, node.wrapping_add(1))?;
+        let from = at(&self.current, node, 0);
+        let to = at(&self.incidence.starts, node.wrapping_add(1), 0);
         let mut found = None;
         for place in from..to {
-            let arc = at(&self.incidence.ends, place)?;
-            if at(&self.levels, arc.head)? == level - 1
-                && at(&self.incidence.rooms, arc.place)? > 0
-            {
+            let arc = self.incidence.end(place);
+            if self.level(arc.head) == level - 1 && self.incidence.room(arc.place) > 0 {
                 found = Some(place);
                 break;
             }
@@ -249,34 +266,39 @@ impl Probe {
             .work
             .wrapping_add(u64::from(next.saturating_sub(from)))
             .wrapping_add(1);
-        put(&mut self.current, node, next)?;
-        Ok(found)
+        put(&mut self.current, node, next);
+        found
     }
 
     /// Sends over the path what its start has, its end lacks and its arcs take.
     fn send_along(&mut self, from: u32, to: u32) -> Result<(), Halt> {
-        let wanted = at(&self.excess, to)?.wrapping_neg();
-        let mut amount = at(&self.excess, from)?.min(wanted);
-        for step in &self.path {
-            let place = at(&self.incidence.ends, step.place)?.place;
-            amount = amount.min(i128::from(at(&self.incidence.rooms, place)?));
-        }
+        let wanted = self.excess(to).wrapping_neg();
+        let amount = self.room_of_path().min(self.excess(from)).min(wanted);
         let Ok(sent) = i64::try_from(amount) else {
             return Err(Halt::OutOfRange);
         };
         for step in &self.path {
-            let place = at(&self.incidence.ends, step.place)?.place;
-            self.incidence.send(place, sent)?;
+            let place = self.incidence.end(step.place).place;
+            self.incidence.send(place, sent);
         }
         self.work = self.work.wrapping_add(self.path.len() as u64);
-        self.add_to(from, amount.wrapping_neg())?;
-        self.add_to(to, amount)
+        self.add_to(from, amount.wrapping_neg());
+        self.add_to(to, amount);
+        Ok(())
     }
 
-    fn add_to(&mut self, node: u32, amount: i128) -> Result<(), Halt> {
-        if node as usize >= self.excess.len() {
-            return Err(Halt::OutOfRange);
+    /// What the arcs of the path take.
+    fn room_of_path(&self) -> i128 {
+        let mut least = i128::MAX;
+        for step in &self.path {
+            let place = self.incidence.end(step.place).place;
+            least = least.min(i128::from(self.incidence.room(place)));
         }
-        add_excess(&mut self.excess, node, amount)
+        least
+    }
+
+    fn add_to(&mut self, node: u32, amount: i128) {
+        let sum = self.excess(node).wrapping_add(amount);
+        put(&mut self.excess, node, sum);
     }
 }

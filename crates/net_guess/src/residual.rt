@@ -5,11 +5,11 @@ ghost use Rattle.net_normal.specs.Limits.{IsFlowArcOf};
 ghost use Rattle.net_guess.specs.Residuals.{IsResidualArcOf};
 
 use crate::halt::Halt;
-use crate::places::at;
+use crate::places::{at, row_at};
 use crate::residual_arc::ResidualArc;
 use crate::residual_rows::row_ends;
 use net_normal::{FlowArc, Problem};
-use std::alloc::Global;
+use std::alloc::{AllocError, Global};
 use std::ops::Range;
 
 /// The residual arcs of a problem's flow, those out of one node beside each other.
@@ -45,16 +45,9 @@ impl Residual {
         ensures { IfOk result (λ network. vec_len network.starts ≡ vec_len problem.now.supplies + 1) }
     {
         let arc_count = problem.arcs.len();
-        let none = ResidualArc {
-            head: 0,
-            reverse: 0,
-            room: 0,
-            reverse_room: 0,
-            cost: 0,
-        };
         let mut network = Residual {
             starts: row_ends(alloc, problem)?,
-            arcs: vec![in alloc; none; 2 * arc_count]?,
+            arcs: vec![in alloc; ResidualArc::NONE; 2 * arc_count]?,
             forwards: Vec::with_capacity(alloc, arc_count)?,
         };
         for (arc, flow) in problem.arcs.iter().zip(flows) {
@@ -116,10 +109,23 @@ impl Residual {
     }
 
     /// The places of the residual arcs out of a node.
-    pub fn row(&self, node: u32) -> Result<Range<u32>, Halt> {
-        let from = at(&self.starts, node)?;
-        let to = at(&self.starts, node.wrapping_add(1))?;
-        Ok(from..to)
+    pub fn row(&self, node: u32) -> Range<u32> {
+        row_at(&self.starts, node)
+    }
+
+    /// A residual arc by its place, or where there is none, one without room.
+    #[inline]
+    pub fn arc(&self, place: u32) -> ResidualArc {
+        at(&self.arcs, place, ResidualArc::NONE)
+    }
+
+    /// The flow on each arc of the problem.
+    pub fn flows(&self, alloc: Global, problem: &Problem) -> Result<Vec<i64>, AllocError> {
+        let mut flows = Vec::with_capacity(alloc, problem.arcs.len())?;
+        for (arc, forward) in problem.arcs.iter().zip(&self.forwards) {
+            flows.push(arc.cap.wrapping_sub(self.arc(*forward).room))?;
+        }
+        Ok(flows)
     }
 
     /// The node that a residual arc leaves.

@@ -22,6 +22,15 @@ pub struct ResidualArc {
 }
 
 impl ResidualArc {
+    /// What stands where no residual arc is: it has no room.
+    pub const NONE: ResidualArc = ResidualArc {
+        head: 0,
+        reverse: 0,
+        room: 0,
+        reverse_room: 0,
+        cost: 0,
+    };
+
     /// An arc of a problem, forwards, at a flow within its bounds.
     pub fn ahead(arc: &FlowArc, flow: i64, reverse: u32) -> ResidualArc
         requires arc { (nodes : ℕ) × IsFlowArcOf nodes arc.now }

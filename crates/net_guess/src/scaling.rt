@@ -5,12 +5,13 @@
 //! minus epsilon, and turns it into one for a smaller epsilon, by pushes over arcs of negative reduced cost and relabels of nodes with
 //! excess. What it ends with are whole potentials that are nearly those of a flow of least cost.
 
-use crate::excess::excess_of;
+use crate::excess::{excess_of, lows_of};
 use crate::halt::Halt;
 use crate::places::{at, index, put};
 use crate::residual::Residual;
 use crate::residual_arc::ResidualArc;
 use crate::start::Start;
+use crate::starting::greatest_cost;
 use net_normal::Problem;
 use std::alloc::Global;
 use std::collections::VecDeque;
@@ -52,27 +53,15 @@ pub struct Scaling {
 pub fn scaled_start(alloc: Global, problem: &Problem) -> Result<Start, Halt> {
     let mut scaling = Scaling::new(alloc, problem)?;
     scaling.run(alloc, problem)?;
-    let mut flows = Vec::with_capacity(alloc, problem.arcs.len())?;
-    for (arc, forward) in problem.arcs.iter().zip(&scaling.network.forwards) {
-        let room = at(&scaling.network.arcs, *forward)?.room;
-        flows.push(arc.cap.wrapping_sub(room))?;
-    }
-    let mut potentials = Vec::with_capacity(alloc, problem.supplies.len())?;
-    for potential in &scaling.potentials {
-        let Some(whole) = potential.checked_div_euclid(scaling.factor) else {
-            return Err(Halt::OutOfRange);
-        };
-        potentials.push(whole)?;
-    }
-    Ok(Start { flows, potentials })
+    Ok(Start {
+        flows: scaling.network.flows(alloc, problem)?,
+        potentials: scaling.whole_potentials(alloc)?,
+    })
 }
 
 impl Scaling {
     fn new(alloc: Global, problem: &Problem) -> Result<Scaling, Halt> {
-        let mut lows = Vec::with_capacity(alloc, problem.arcs.len())?;
-        for arc in &problem.arcs {
-            lows.push(arc.low)?;
-        }
+        let lows = lows_of(alloc, problem)?;
         let count = problem.supplies.len();
         let size = (count as u64).saturating_add(problem.arcs.len() as u64);
         Ok(Scaling {
@@ -91,11 +80,7 @@ impl Scaling {
 
     /// All phases.
     fn run(&mut self, alloc: Global, problem: &Problem) -> Result<(), Halt> {
-        let mut greatest = 0i64;
-        for arc in &problem.arcs {
-            greatest = greatest.max(arc.cost.wrapping_abs());
-        }
-        let first = i128::from(greatest).saturating_mul(i128::from(self.factor)) / 2;
+        let first = i128::from(greatest_cost(problem)).saturating_mul(i128::from(self.factor)) / 2;
         let mut epsilon = i64::try_from(first)
             .unwrap_or(GREATEST)
             .min(GREATEST)
@@ -111,57 +96,80 @@ impl Scaling {
         Err(Halt::OutOfRange)
     }
 
+    /// The potentials in the problem's costs.
+    fn whole_potentials(&self, alloc: Global) -> Result<Vec<i64>, Halt> {
+        let mut potentials = Vec::with_capacity(alloc, self.potentials.len())?;
+        for potential in &self.potentials {
+            let Some(whole) = potential.checked_div_euclid(self.factor) else {
+                return Err(Halt::OutOfRange);
+            };
+            potentials.push(whole)?;
+        }
+        Ok(potentials)
+    }
+
+    /// A node's excess.
+    #[inline]
+    pub fn excess(&self, node: u32) -> i128 {
+        at(&self.excess, node, 0)
+    }
+
+    /// A node's potential.
+    #[inline]
+    pub fn potential(&self, node: u32) -> i64 {
+        at(&self.potentials, node, 0)
+    }
+
     /// A residual arc's reduced cost, where its tail has this potential.
     #[inline]
-    fn reduced_cost(&self, arc: &ResidualArc, tail: i64) -> Result<i64, Halt> {
-        let head = at(&self.potentials, arc.head)?;
-        Ok(
-            arc.cost
-                .wrapping_mul(self.factor)
-                .wrapping_add(tail)
-                .wrapping_sub(head),
-        )
+    fn reduced_cost(&self, arc: &ResidualArc, tail: i64) -> i64 {
+        arc.cost
+            .wrapping_mul(self.factor)
+            .wrapping_add(tail)
+            .wrapping_sub(self.potential(arc.head))
     }
 
     /// Fills the residual arcs of negative reduced cost.
     fn saturate(&mut self) -> Result<(), Halt> {
         for node in 0..index(self.potentials.len()) {
-            let tail = at(&self.potentials, node)?;
-            for place in self.network.row(node)? {
-                let arc = at(&self.network.arcs, place)?;
-                if arc.room > 0 && self.reduced_cost(&arc, tail)? < 0 {
+            let tail = self.potential(node);
+            let row = self.network.row(node);
+            for place in row.start..row.end {
+                let arc = self.network.arc(place);
+                if arc.room > 0 && self.reduced_cost(&arc, tail) < 0 {
                     self.push(node, place, arc.room)?;
                 }
             }
-            self.rewind(node)?;
+            self.rewind(node);
         }
         Ok(())
     }
 
     /// Lets the search for a push out of a node begin anew.
-    pub fn rewind(&mut self, node: u32) -> Result<(), Halt> {
-        put(&mut self.current, node, at(&self.network.starts, node)?)
+    pub fn rewind(&mut self, node: u32) {
+        let start = at(&self.network.starts, node, 0);
+        put(&mut self.current, node, start);
     }
 
     /// Sends an amount over a residual arc out of a node.
     fn push(&mut self, node: u32, place: u32, amount: i64) -> Result<(), Halt> {
-        let head = at(&self.network.arcs, place)?.head;
+        let head = self.network.arc(place).head;
         self.network.try_send(place, amount)?;
-        let left = at(&self.excess, node)?.wrapping_sub(i128::from(amount));
-        put(&mut self.excess, node, left)?;
-        let more = at(&self.excess, head)?.wrapping_add(i128::from(amount));
-        put(&mut self.excess, head, more)
+        let left = self.excess(node).wrapping_sub(i128::from(amount));
+        put(&mut self.excess, node, left);
+        let more = self.excess(head).wrapping_add(i128::from(amount));
+        put(&mut self.excess, head, more);
+        Ok(())
     }
 
     /// Puts a node's potential as low as its residual arcs ask for. Fails where it has none with room.
     fn relabel(&mut self, node: u32, epsilon: i64) -> Result<(), Halt> {
         let mut least: Option<i64> = None;
-        let row = self.network.row(node)?;
-        let first = row.start;
-        for place in row {
-            let arc = at(&self.network.arcs, place)?;
+        let row = self.network.row(node);
+        for place in row.start..row.end {
+            let arc = self.network.arc(place);
             if arc.room > 0 {
-                let step = self.reduced_cost(&arc, 0)?;
+                let step = self.reduced_cost(&arc, 0);
                 least = Some(least.map_or(step, |other| other.min(step)));
             }
             self.work = self.work.wrapping_add(1);
@@ -173,21 +181,21 @@ impl Scaling {
         if potential < LOWEST || self.work > self.limit {
             return Err(Halt::OutOfRange);
         }
-        put(&mut self.potentials, node, potential)?;
-        put(&mut self.current, node, first)?;
+        put(&mut self.potentials, node, potential);
+        put(&mut self.current, node, row.start);
         self.relabels = self.relabels.wrapping_add(1);
         Ok(())
     }
 
     /// The next residual arc of negative reduced cost with room out of a node.
-    fn next_push(&mut self, node: u32) -> Result<Option<u32>, Halt> {
-        let tail = at(&self.potentials, node)?;
-        let from = at(&self.current, node)?;
-        let to = at(&self.network.starts, node.wrapping_add(1))?;
+    fn next_push(&mut self, node: u32) -> Option<u32> {
+        let tail = self.potential(node);
+        let from = at(&self.current, node, 0);
+        let to = at(&self.network.starts, node.wrapping_add(1), 0);
         let mut found = None;
         for place in from..to {
-            let arc = at(&self.network.arcs, place)?;
-            if arc.room > 0 && self.reduced_cost(&arc, tail)? < 0 {
+            let arc = self.network.arc(place);
+            if arc.room > 0 && self.reduced_cost(&arc, tail) < 0 {
                 found = Some(place);
                 break;
             }
@@ -197,14 +205,14 @@ impl Scaling {
             .work
             .wrapping_add(u64::from(next.saturating_sub(from)))
             .wrapping_add(1);
-        put(&mut self.current, node, next)?;
-        Ok(found)
+        put(&mut self.current, node, next);
+        found
     }
 
     /// Puts a node with excess at the end of the queue.
     fn enqueue(&mut self, node: u32) -> Result<(), Halt> {
-        if at(&self.excess, node)? > 0 && !at(&self.is_queued, node)? {
-            put(&mut self.is_queued, node, true)?;
+        if self.excess(node) > 0 && !at(&self.is_queued, node, true) {
+            put(&mut self.is_queued, node, true);
             self.queue.push_back(node)?;
         }
         Ok(())
@@ -222,7 +230,7 @@ impl Scaling {
             let Some(node) = self.queue.pop_front() else {
                 return Ok(());
             };
-            put(&mut self.is_queued, node, false)?;
+            put(&mut self.is_queued, node, false);
             self.discharge(node, epsilon)?;
             if self.work > self.limit {
                 return Err(Halt::OutOfRange);
@@ -238,7 +246,7 @@ impl Scaling {
     /// Pushes all of a node's excess away, on ways of a few arcs.
     fn discharge(&mut self, node: u32, epsilon: i64) -> Result<(), Halt> {
         for _ in 0..self.limit {
-            if at(&self.excess, node)? <= 0 {
+            if self.excess(node) <= 0 {
                 return Ok(());
             }
             let end = self.push_way(node, epsilon)?;
@@ -257,22 +265,18 @@ impl Scaling {
         let mut node = from;
         let mut length = 0u32;
         for _ in 0..self.limit {
-            if at(&self.excess, node)? <= 0 || length == WAY || self.work > self.limit {
+            if self.excess(node) <= 0 || length == WAY || self.work > self.limit {
                 break;
             }
-            let Some(place) = self.next_push(node)? else {
+            let Some(place) = self.next_push(node) else {
                 self.relabel(node, epsilon)?;
                 continue;
             };
-            let arc = at(&self.network.arcs, place)?;
+            let arc = self.network.arc(place);
             if !self.is_open(&arc, node, epsilon)? {
                 continue;
             }
-            let amount = at(&self.excess, node)?.min(i128::from(arc.room));
-            let Ok(amount) = i64::try_from(amount) else {
-                return Err(Halt::OutOfRange);
-            };
-            self.push(node, place, amount)?;
+            self.push_most(node, place, arc.room)?;
             if node != from {
                 self.enqueue(node)?;
             }
@@ -282,14 +286,22 @@ impl Scaling {
         Ok(node)
     }
 
+    /// Pushes what a node has over a residual arc with this room.
+    fn push_most(&mut self, node: u32, place: u32, room: i64) -> Result<(), Halt> {
+        let amount = self.excess(node).min(i128::from(room));
+        match i64::try_from(amount) {
+            Ok(amount) => self.push(node, place, amount),
+            Err(_) => Err(Halt::OutOfRange),
+        }
+    }
+
     /// Whether a push over an arc may go on from its head; a head that could not is relabelled first, and then the arc's reduced cost
     /// may not be negative any more.
     fn is_open(&mut self, arc: &ResidualArc, tail: u32, epsilon: i64) -> Result<bool, Halt> {
-        if at(&self.excess, arc.head)? < 0 || self.next_push(arc.head)?.is_some() {
+        if self.excess(arc.head) < 0 || self.next_push(arc.head).is_some() {
             return Ok(true);
         }
         self.relabel(arc.head, epsilon)?;
-        let potential = at(&self.potentials, tail)?;
-        Ok(self.reduced_cost(arc, potential)? < 0)
+        Ok(self.reduced_cost(arc, self.potential(tail)) < 0)
     }
 }

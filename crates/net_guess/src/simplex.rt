@@ -6,13 +6,17 @@
 //! Ahuja, Magnanti, Orlin: Network Flows, chapter 11).
 
 use crate::block::Block;
+use crate::excess::lows_of;
 use crate::halt::Halt;
-use crate::places::{at, index, put};
+use crate::places::{arc_at, at, index, put};
 use crate::simplex_arc::{PricedArc, Status, priced_arcs, priced_order};
 use crate::starting::first_tree;
 use crate::tree::Tree;
-use net_normal::Problem;
-use std::alloc::Global;
+use net_normal::{FlowArc, Problem};
+use std::alloc::{AllocError, Global};
+
+/// The place of no arc.
+const NO_PLACE: u32 = u32::MAX;
 
 /// A network simplex under way.
 #[derive(Drop)]
@@ -69,30 +73,40 @@ impl Simplex {
 
     /// What a unit of flow over an arc, and through the tree back, costs.
     #[inline]
-    pub fn price(&self, arc: &PricedArc) -> Result<i64, Halt> {
-        let src = at(&self.tree.potentials, arc.src)?;
-        let dst = at(&self.tree.potentials, arc.dst)?;
-        Ok(arc.cost.wrapping_add(src).wrapping_sub(dst))
+    pub fn price(&self, arc: &PricedArc) -> i64 {
+        let src = self.tree.potential(arc.src);
+        let dst = self.tree.potential(arc.dst);
+        arc.cost.wrapping_add(src).wrapping_sub(dst)
+    }
+
+    /// The arc at a place.
+    pub fn arc(&self, place: u32) -> PricedArc {
+        at(&self.arcs, place, PricedArc::NONE)
+    }
+
+    /// What the problem says of the arc at a place.
+    pub fn known(&self, problem: &Problem, place: u32) -> FlowArc {
+        arc_at(problem, at(&self.numbers, place, NO_PLACE))
+    }
+
+    /// The cheapest arc into each node that wants flow.
+    fn cheapest(&self, alloc: Global, problem: &Problem) -> Result<Vec<u32>, Halt> {
+        let mut best = vec![in alloc; NO_PLACE; problem.supplies.len()]?;
+        for (place, arc) in self.arcs.iter().enumerate() {
+            if at(&problem.supplies, arc.dst, 0) < 0 {
+                let other = at(&best, arc.dst, NO_PLACE);
+                if other == NO_PLACE || arc.cost < self.arc(other).cost {
+                    put(&mut best, arc.dst, index(place));
+                }
+            }
+        }
+        Ok(best)
     }
 
     /// Lets the cheapest arc into each node that wants flow come in, where that saves something.
     fn enter_cheapest(&mut self, alloc: Global, problem: &Problem) -> Result<(), Halt> {
-        let mut best = vec![in alloc; None; problem.supplies.len()]?;
-        for (place, arc) in self.arcs.iter().enumerate() {
-            if at(&problem.supplies, arc.dst)? >= 0 {
-                continue;
-            }
-            let cheaper = match at(&best, arc.dst)? {
-                None => true,
-                Some(other) => arc.cost < at(&self.arcs, other)?.cost,
-            };
-            if cheaper {
-                put(&mut best, arc.dst, Some(index(place)))?;
-            }
-        }
-        for place in best.iter().flatten() {
-            let arc = at(&self.arcs, *place)?;
-            if self.price(&arc)? < 0 {
+        for place in &self.cheapest(alloc, problem)? {
+            if self.price(&self.arc(*place)) < 0 {
                 self.enter(problem, *place)?;
             }
         }
@@ -104,7 +118,7 @@ impl Simplex {
         for _ in 0..limit {
             match self.dearest()? {
                 Some(place) => self.enter(problem, place)?,
-                None => return self.ended(),
+                None => return Ok(self.ended()),
             }
             if self.work > limit {
                 return Err(Halt::OutOfRange);
@@ -114,40 +128,46 @@ impl Simplex {
     }
 
     /// Whether flow is left on arcs to the root.
-    fn ended(&self) -> Result<Ended, Halt> {
+    fn ended(&self) -> Ended {
         let count = self.arcs.len();
         let left = self.tree.nodes.iter().any(|node| node.arc.number as usize >= count
             && node.arc.flow() != 0);
         if left || self.is_short {
-            Ok(Ended::Infeasible)
+            Ended::Infeasible
         } else {
-            Ok(Ended::Optimal)
+            Ended::Optimal
         }
     }
 
     /// The flow on each arc of the problem.
-    pub fn flows(&self, alloc: Global, problem: &Problem) -> Result<Vec<i64>, Halt> {
-        let mut flows = Vec::with_capacity(alloc, problem.arcs.len())?;
-        for arc in &problem.arcs {
-            flows.push(arc.low)?;
-        }
-        for (number, status) in self.numbers.iter().zip(&self.statuses) {
-            if let Status::AtUpper = status {
-                let cap = at(&problem.arcs, *number)?.cap;
-                put(&mut flows, *number, cap)?;
-            }
-        }
-        for node in &self.tree.nodes {
-            if let Some(number) = self.numbers.get(node.arc.number as usize) {
-                let low = at(&flows, *number)?;
-                put(&mut flows, *number, low.wrapping_add(node.arc.flow()))?;
-            }
-        }
+    pub fn flows(&self, alloc: Global, problem: &Problem) -> Result<Vec<i64>, AllocError> {
+        let mut flows = lows_of(alloc, problem)?;
+        self.add_bounds(problem, &mut flows);
+        self.add_tree(&mut flows);
         Ok(flows)
     }
 
+    /// Puts arcs at their capacities that are there.
+    fn add_bounds(&self, problem: &Problem, flows: &mut Vec<i64>) {
+        for (number, status) in self.numbers.iter().zip(&self.statuses) {
+            if let Status::AtUpper = status {
+                put(flows, *number, arc_at(problem, *number).cap);
+            }
+        }
+    }
+
+    /// Adds the flow on the arcs of the tree.
+    fn add_tree(&self, flows: &mut Vec<i64>) {
+        for node in &self.tree.nodes {
+            if let Some(number) = self.numbers.get(node.arc.number as usize) {
+                let low = at(flows, *number, 0);
+                put(flows, *number, low.wrapping_add(node.arc.flow()));
+            }
+        }
+    }
+
     /// The potential of each node of the problem.
-    pub fn potentials(&self, alloc: Global, problem: &Problem) -> Result<Vec<i64>, Halt> {
+    pub fn potentials(&self, alloc: Global, problem: &Problem) -> Result<Vec<i64>, AllocError> {
         let count = problem.supplies.len();
         let mut potentials = Vec::with_capacity(alloc, count)?;
         for potential in self.tree.potentials.iter().take(count) {
@@ -158,16 +178,10 @@ impl Simplex {
 }
 
 /// Whether no node has arcs both in and out.
-fn is_bipartite(alloc: Global, problem: &Problem) -> Result<bool, Halt> {
-    let count = problem.supplies.len();
-    let mut leaves = vec![in alloc; false; count]?;
+fn is_bipartite(alloc: Global, problem: &Problem) -> Result<bool, AllocError> {
+    let mut leaves = vec![in alloc; false; problem.supplies.len()]?;
     for arc in &problem.arcs {
-        put(&mut leaves, arc.src, true)?;
+        put(&mut leaves, arc.src, true);
     }
-    for arc in &problem.arcs {
-        if at(&leaves, arc.dst)? {
-            return Ok(false);
-        }
-    }
-    Ok(true)
+    Ok(!problem.arcs.iter().any(|arc| at(&leaves, arc.dst, false)))
 }

@@ -1,7 +1,7 @@
 //! The arcs of a problem as a network simplex prices them.
 
 use crate::halt::Halt;
-use crate::places::{at, index};
+use crate::places::{arc_at, index};
 use net_normal::{FlowArc, Problem};
 use std::alloc::Global;
 
@@ -24,6 +24,13 @@ pub struct PricedArc {
 }
 
 impl PricedArc {
+    /// What stands for no arc: nothing is saved over it.
+    pub const NONE: PricedArc = PricedArc {
+        src: 0,
+        dst: 0,
+        cost: 0,
+    };
+
     pub fn of(arc: &FlowArc, status: Status) -> PricedArc {
         match status {
             Status::AtLower => PricedArc {
@@ -36,11 +43,7 @@ impl PricedArc {
                 dst: arc.src,
                 cost: arc.cost.wrapping_neg(),
             },
-            Status::Basic => PricedArc {
-                src: 0,
-                dst: 0,
-                cost: 0,
-            },
+            Status::Basic => PricedArc::NONE,
         }
     }
 }
@@ -84,7 +87,7 @@ pub fn priced_arcs(
 ) -> Result<Vec<PricedArc>, Halt> {
     let mut arcs = Vec::with_capacity(alloc, numbers.len())?;
     for number in numbers {
-        arcs.push(PricedArc::of(&at(&problem.arcs, *number)?, Status::AtLower))?;
+        arcs.push(PricedArc::of(&arc_at(problem, *number), Status::AtLower))?;
     }
     Ok(arcs)
 }

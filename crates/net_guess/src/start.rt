@@ -1,9 +1,8 @@
 //! What a search starts from.
 
-use crate::halt::Halt;
 use crate::places::at;
 use net_normal::{FlowArc, Problem};
-use std::alloc::Global;
+use std::alloc::{AllocError, Global};
 
 /// A flow and potentials. Where a search is to start, flow is at the bound that each reduced cost asks for.
 #[derive(Drop)]
@@ -27,7 +26,7 @@ fn settled_flow(arc: &FlowArc, reduced: i64, flow: i64) -> i64 {
 
 impl Start {
     /// Potentials 0, and each arc at its capacity where a unit saves something, else at its lower bound.
-    pub fn plain(alloc: Global, problem: &Problem) -> Result<Start, Halt> {
+    pub fn plain(alloc: Global, problem: &Problem) -> Result<Start, AllocError> {
         let mut flows = Vec::with_capacity(alloc, problem.arcs.len())?;
         for arc in &problem.arcs {
             flows.push(if arc.cost < 0 { arc.cap } else { arc.low })?;
@@ -36,16 +35,13 @@ impl Start {
         Ok(Start { flows, potentials })
     }
 
-    /// The same, with flow at the bounds that the potentials ask for.
-    pub fn settled(mut self, problem: &Problem) -> Result<Start, Halt> {
-        for (place, arc) in problem.arcs.iter().enumerate() {
-            let src = at(&self.potentials, arc.src)?;
-            let dst = at(&self.potentials, arc.dst)?;
+    /// Puts flow at the bounds that the potentials ask for.
+    pub fn settle(&mut self, problem: &Problem) {
+        for (arc, flow) in problem.arcs.iter().zip(self.flows.iter_mut()) {
+            let src = at(&self.potentials, arc.src, 0);
+            let dst = at(&self.potentials, arc.dst, 0);
             let reduced = arc.cost.wrapping_add(src).wrapping_sub(dst);
-            if let Some(flow) = self.flows.get_mut(place) {
-                *flow = settled_flow(arc, reduced, *flow);
-            }
+            *flow = settled_flow(arc, reduced, *flow);
         }
-        Ok(self)
     }
 }

@@ -12,12 +12,18 @@ pub const ROOT_ROOM: i64 = 1 << 61;
 /// The greatest cost that an arc from the root may have.
 const ROOT_COST_LIMIT: i64 = 1 << 58;
 
-/// What a unit from the root costs: more than any way through the problem.
-fn root_cost(problem: &Problem) -> Result<i64, Halt> {
+/// The greatest size of a cost.
+pub fn greatest_cost(problem: &Problem) -> i64 {
     let mut greatest = 0i64;
     for arc in &problem.arcs {
         greatest = greatest.max(arc.cost.wrapping_abs());
     }
+    greatest
+}
+
+/// What a unit from the root costs: more than any way through the problem.
+fn root_cost(problem: &Problem) -> Result<i64, Halt> {
+    let greatest = greatest_cost(problem);
     let nodes = problem.supplies.len() as i64;
     match greatest.wrapping_add(1).checked_mul(nodes) {
         Some(cost) if cost <= ROOT_COST_LIMIT => Ok(cost),

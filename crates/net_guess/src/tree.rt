@@ -91,62 +91,79 @@ impl Tree {
         Ok(())
     }
 
+    /// A node by its number, or one that has no parent and no arc.
     #[inline]
-    pub fn node(&self, node: u32) -> Result<TreeNode, Halt> {
-        at(&self.nodes, node)
+    pub fn node(&self, node: u32) -> TreeNode {
+        match self.nodes.get(node as usize) {
+            Some(node) => *node,
+            None => TreeNode {
+                parent: NO_NODE,
+                size: 0,
+                last: NO_NODE,
+                arc: TreeArc {
+                    number: u32::MAX,
+                    is_up: true,
+                    room_up: 0,
+                    room_down: 0,
+                },
+            },
+        }
     }
 
     #[inline]
-    pub fn thread(&self, node: u32) -> Result<Thread, Halt> {
-        at(&self.threads, node)
+    pub fn thread(&self, node: u32) -> Thread {
+        match self.threads.get(node as usize) {
+            Some(thread) => *thread,
+            None => Thread {
+                next: NO_NODE,
+                previous: NO_NODE,
+            },
+        }
     }
 
     #[inline]
-    pub fn put_node(&mut self, place: u32, node: TreeNode) -> Result<(), Halt> {
-        put(&mut self.nodes, place, node)
+    pub fn potential(&self, node: u32) -> i64 {
+        at(&self.potentials, node, 0)
+    }
+
+    #[inline]
+    pub fn put_node(&mut self, place: u32, node: TreeNode) {
+        put(&mut self.nodes, place, node);
     }
 
     /// Lets one node follow another in the cyclic order.
     #[inline]
-    pub fn follow(&mut self, node: u32, next: u32) -> Result<(), Halt> {
-        self.set_next(node, next)?;
-        self.set_previous(next, node)
+    pub fn follow(&mut self, node: u32, next: u32) {
+        self.set_next(node, next);
+        self.set_previous(next, node);
     }
 
     #[inline]
-    pub fn set_next(&mut self, node: u32, next: u32) -> Result<(), Halt> {
-        match self.threads.get_mut(node as usize) {
-            Some(thread) => thread.next = next,
-            None => return Err(Halt::OutOfRange),
+    pub fn set_next(&mut self, node: u32, next: u32) {
+        if let Some(thread) = self.threads.get_mut(node as usize) {
+            thread.next = next;
         }
-        Ok(())
     }
 
     #[inline]
-    pub fn set_previous(&mut self, node: u32, previous: u32) -> Result<(), Halt> {
-        match self.threads.get_mut(node as usize) {
-            Some(thread) => thread.previous = previous,
-            None => return Err(Halt::OutOfRange),
+    pub fn set_previous(&mut self, node: u32, previous: u32) {
+        if let Some(thread) = self.threads.get_mut(node as usize) {
+            thread.previous = previous;
         }
-        Ok(())
     }
 
     #[inline]
-    pub fn set_parent(&mut self, node: u32, parent: u32) -> Result<(), Halt> {
-        match self.nodes.get_mut(node as usize) {
-            Some(node) => node.parent = parent,
-            None => return Err(Halt::OutOfRange),
+    pub fn set_parent(&mut self, node: u32, parent: u32) {
+        if let Some(node) = self.nodes.get_mut(node as usize) {
+            node.parent = parent;
         }
-        Ok(())
     }
 
     #[inline]
-    pub fn set_last(&mut self, node: u32, last: u32) -> Result<(), Halt> {
-        match self.nodes.get_mut(node as usize) {
-            Some(node) => node.last = last,
-            None => return Err(Halt::OutOfRange),
+    pub fn set_last(&mut self, node: u32, last: u32) {
+        if let Some(node) = self.nodes.get_mut(node as usize) {
+            node.last = last;
         }
-        Ok(())
     }
 
     /// Sends an amount down from a node's ancestor to it, or where it is negative, up.
@@ -169,15 +186,13 @@ impl Tree {
     }
 
     /// Adds to the potentials of so many nodes, from one on in the cyclic order.
-    pub fn raise(&mut self, from: u32, count: u32, amount: i64) -> Result<(), Halt> {
+    pub fn raise(&mut self, from: u32, count: u32, amount: i64) {
         let mut place = from;
         for _ in 0..count {
-            match self.potentials.get_mut(place as usize) {
-                Some(potential) => *potential = potential.wrapping_add(amount),
-                None => return Err(Halt::OutOfRange),
+            if let Some(potential) = self.potentials.get_mut(place as usize) {
+                *potential = potential.wrapping_add(amount);
             }
-            place = self.thread(place)?.next;
+            place = self.thread(place).next;
         }
-        Ok(())
     }
 }
