@@ -2,7 +2,7 @@
 
 use crate::attaching::Attachment;
 use crate::halt::Halt;
-use crate::places::{at, index, put};
+use crate::places::{at, index, put, try_at};
 use crate::simplex::Simplex;
 use crate::simplex_arc::{PricedArc, Status};
 use crate::starting::ROOT_ROOM;
@@ -82,8 +82,8 @@ impl Simplex {
             node: None,
         };
         let mut behind = before;
-        let mut left = self.tree.node(low);
-        let mut right = self.tree.node(high);
+        let mut left = try_at(&self.tree.nodes, low)?;
+        let mut right = try_at(&self.tree.nodes, high)?;
         for _ in 0..=self.tree.nodes.len().saturating_mul(2) {
             if low == high {
                 return Ok(narrowest(first, second, low, room, before, behind));
@@ -96,7 +96,7 @@ impl Simplex {
                     };
                 }
                 low = left.parent;
-                left = self.tree.node(low);
+                left = try_at(&self.tree.nodes, low)?;
             } else {
                 if right.arc.room_up <= behind.room {
                     behind = Narrow {
@@ -105,7 +105,7 @@ impl Simplex {
                     };
                 }
                 high = right.parent;
-                right = self.tree.node(high);
+                right = try_at(&self.tree.nodes, high)?;
             }
         }
         Err(Halt::OutOfRange)
@@ -143,8 +143,7 @@ impl Simplex {
         };
         let above = self.tree.potential(parent);
         let below = self.tree.potential(stem);
-        self.lift(stem, above.wrapping_add(cost).wrapping_sub(below));
-        Ok(())
+        self.lift(stem, above.wrapping_add(cost).wrapping_sub(below))
     }
 
     /// Puts the arc above a node at the bound that it has reached.
@@ -164,7 +163,7 @@ impl Simplex {
     }
 
     /// Adds to the potentials of a subtree, or takes as much from all others where those are fewer.
-    fn lift(&mut self, top: u32, amount: i64) {
+    fn lift(&mut self, top: u32, amount: i64) -> Result<(), Halt> {
         let node = self.tree.node(top);
         self.work = self.work.wrapping_add(u64::from(node.size));
         let all = index(self.tree.nodes.len());
@@ -172,9 +171,9 @@ impl Simplex {
         let root = self.tree.potential(all.wrapping_sub(1));
         if others < node.size && root.wrapping_abs() < ROOT_ROOM / 4 {
             let first = self.tree.thread(node.last).next;
-            self.tree.raise(first, others, amount.wrapping_neg());
+            self.tree.raise(first, others, amount.wrapping_neg())
         } else {
-            self.tree.raise(top, node.size, amount);
+            self.tree.raise(top, node.size, amount)
         }
     }
 }

@@ -1,8 +1,10 @@
 //! Reads and writes at places of a list.
 //!
 //! A guess keeps its lists by indices of which nothing is proved, so each read and write tests its own: outside its list a guess reads
-//! what stands for nothing there, and writes nothing. Its loops are bounded, and what it says is for others to test.
+//! what stands for nothing there, and writes nothing; in the loops that take most of its time it gives up. All loops are bounded, and
+//! what it says is for others to test.
 
+use crate::halt::Halt;
 use net_normal::{FlowArc, Problem};
 use std::ops::Range;
 
@@ -12,6 +14,15 @@ pub fn at<T: Copy>(items: &Vec<T>, place: u32, nothing: T) -> T {
     match items.get(place as usize) {
         Some(item) => *item,
         None => nothing,
+    }
+}
+
+/// What stands at a place; a guess that points outside gives up.
+#[inline]
+pub fn try_at<T: Copy>(items: &Vec<T>, place: u32) -> Result<T, Halt> {
+    match items.get(place as usize) {
+        Some(item) => Ok(*item),
+        None => Err(Halt::OutOfRange),
     }
 }
 

@@ -22,7 +22,7 @@ impl Simplex {
                 .saturating_add(self.block.length().min(left))
                 .min(count);
             let looked = to.saturating_sub(from);
-            let found = self.dearest_between(from, to);
+            let found = self.dearest_between(from, to)?;
             self.work = self.work.wrapping_add(looked as u64);
             left = left.saturating_sub(looked);
             self.next = if to == count { 0 } else { to };
@@ -40,14 +40,16 @@ impl Simplex {
 
     /// The arc of the most negative price among those at these places.
     #[inline(never)]
-    fn dearest_between(&self, from: usize, to: usize) -> Option<u32> {
-        let block = self.arcs.get(from..to)?;
+    fn dearest_between(&self, from: usize, to: usize) -> Result<Option<u32>, Halt> {
+        let Some(block) = self.arcs.get(from..to) else {
+            return Err(Halt::OutOfRange);
+        };
         let mut best = Priced {
             price: 0,
             place: None,
         };
         for (offset, arc) in block.iter().enumerate() {
-            let price = self.price(arc);
+            let price = self.price(arc)?;
             if price < best.price {
                 best = Priced {
                     price,
@@ -55,6 +57,6 @@ impl Simplex {
                 };
             }
         }
-        best.place.map(index)
+        Ok(best.place.map(index))
     }
 }

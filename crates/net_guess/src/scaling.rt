@@ -7,7 +7,7 @@
 
 use crate::excess::{excess_of, lows_of};
 use crate::halt::Halt;
-use crate::places::{at, index, put};
+use crate::places::{at, index, put, try_at};
 use crate::residual::Residual;
 use crate::residual_arc::ResidualArc;
 use crate::start::Start;
@@ -122,11 +122,14 @@ impl Scaling {
 
     /// A residual arc's reduced cost, where its tail has this potential.
     #[inline]
-    fn reduced_cost(&self, arc: &ResidualArc, tail: i64) -> i64 {
-        arc.cost
-            .wrapping_mul(self.factor)
-            .wrapping_add(tail)
-            .wrapping_sub(self.potential(arc.head))
+    fn reduced_cost(&self, arc: &ResidualArc, tail: i64) -> Result<i64, Halt> {
+        let head = try_at(&self.potentials, arc.head)?;
+        Ok(
+            arc.cost
+                .wrapping_mul(self.factor)
+                .wrapping_add(tail)
+                .wrapping_sub(head),
+        )
     }
 
     /// Fills the residual arcs of negative reduced cost.
@@ -136,7 +139,7 @@ impl Scaling {
             let row = self.network.row(node);
             for place in row.start..row.end {
                 let arc = self.network.arc(place);
-                if arc.room > 0 && self.reduced_cost(&arc, tail) < 0 {
+                if arc.room > 0 && self.reduced_cost(&arc, tail)? < 0 {
                     self.push(node, place, arc.room)?;
                 }
             }
@@ -167,9 +170,9 @@ impl Scaling {
         let mut least: Option<i64> = None;
         let row = self.network.row(node);
         for place in row.start..row.end {
-            let arc = self.network.arc(place);
+            let arc = try_at(&self.network.arcs, place)?;
             if arc.room > 0 {
-                let step = self.reduced_cost(&arc, 0);
+                let step = self.reduced_cost(&arc, 0)?;
                 least = Some(least.map_or(step, |other| other.min(step)));
             }
             self.work = self.work.wrapping_add(1);
@@ -188,14 +191,14 @@ impl Scaling {
     }
 
     /// The next residual arc of negative reduced cost with room out of a node.
-    fn next_push(&mut self, node: u32) -> Option<u32> {
+    fn next_push(&mut self, node: u32) -> Result<Option<u32>, Halt> {
         let tail = self.potential(node);
         let from = at(&self.current, node, 0);
         let to = at(&self.network.starts, node.wrapping_add(1), 0);
         let mut found = None;
         for place in from..to {
-            let arc = self.network.arc(place);
-            if arc.room > 0 && self.reduced_cost(&arc, tail) < 0 {
+            let arc = try_at(&self.network.arcs, place)?;
+            if arc.room > 0 && self.reduced_cost(&arc, tail)? < 0 {
                 found = Some(place);
                 break;
             }
@@ -206,7 +209,7 @@ impl Scaling {
             .wrapping_add(u64::from(next.saturating_sub(from)))
             .wrapping_add(1);
         put(&mut self.current, node, next);
-        found
+        Ok(found)
     }
 
     /// Puts a node with excess at the end of the queue.
@@ -268,7 +271,7 @@ impl Scaling {
             if self.excess(node) <= 0 || length == WAY || self.work > self.limit {
                 break;
             }
-            let Some(place) = self.next_push(node) else {
+            let Some(place) = self.next_push(node)? else {
                 self.relabel(node, epsilon)?;
                 continue;
             };
@@ -298,10 +301,10 @@ impl Scaling {
     /// Whether a push over an arc may go on from its head; a head that could not is relabelled first, and then the arc's reduced cost
     /// may not be negative any more.
     fn is_open(&mut self, arc: &ResidualArc, tail: u32, epsilon: i64) -> Result<bool, Halt> {
-        if self.excess(arc.head) < 0 || self.next_push(arc.head).is_some() {
+        if self.excess(arc.head) < 0 || self.next_push(arc.head)?.is_some() {
             return Ok(true);
         }
         self.relabel(arc.head, epsilon)?;
-        Ok(self.reduced_cost(arc, self.potential(tail)) < 0)
+        Ok(self.reduced_cost(arc, self.potential(tail))? < 0)
     }
 }

@@ -8,7 +8,7 @@
 use crate::block::Block;
 use crate::excess::lows_of;
 use crate::halt::Halt;
-use crate::places::{arc_at, at, index, put};
+use crate::places::{arc_at, at, index, put, try_at};
 use crate::simplex_arc::{PricedArc, Status, priced_arcs, priced_order};
 use crate::starting::first_tree;
 use crate::tree::Tree;
@@ -73,10 +73,10 @@ impl Simplex {
 
     /// What a unit of flow over an arc, and through the tree back, costs.
     #[inline]
-    pub fn price(&self, arc: &PricedArc) -> i64 {
-        let src = self.tree.potential(arc.src);
-        let dst = self.tree.potential(arc.dst);
-        arc.cost.wrapping_add(src).wrapping_sub(dst)
+    pub fn price(&self, arc: &PricedArc) -> Result<i64, Halt> {
+        let src = try_at(&self.tree.potentials, arc.src)?;
+        let dst = try_at(&self.tree.potentials, arc.dst)?;
+        Ok(arc.cost.wrapping_add(src).wrapping_sub(dst))
     }
 
     /// The arc at a place.
@@ -106,7 +106,7 @@ impl Simplex {
     /// Lets the cheapest arc into each node that wants flow come in, where that saves something.
     fn enter_cheapest(&mut self, alloc: Global, problem: &Problem) -> Result<(), Halt> {
         for place in &self.cheapest(alloc, problem)? {
-            if self.price(&self.arc(*place)) < 0 {
+            if self.price(&self.arc(*place))? < 0 {
                 self.enter(problem, *place)?;
             }
         }

@@ -1,7 +1,7 @@
 //! The spanning tree of a network simplex, with its nodes in a cyclic order in which each subtree stands together.
 
 use crate::halt::Halt;
-use crate::places::{at, put};
+use crate::places::{at, put, try_at};
 use std::alloc::{AllocError, Global};
 
 /// No node.
@@ -186,13 +186,15 @@ impl Tree {
     }
 
     /// Adds to the potentials of so many nodes, from one on in the cyclic order.
-    pub fn raise(&mut self, from: u32, count: u32, amount: i64) {
+    pub fn raise(&mut self, from: u32, count: u32, amount: i64) -> Result<(), Halt> {
         let mut place = from;
         for _ in 0..count {
-            if let Some(potential) = self.potentials.get_mut(place as usize) {
-                *potential = potential.wrapping_add(amount);
+            match self.potentials.get_mut(place as usize) {
+                Some(potential) => *potential = potential.wrapping_add(amount),
+                None => return Err(Halt::OutOfRange),
             }
-            place = self.thread(place).next;
+            place = try_at(&self.threads, place)?.next;
         }
+        Ok(())
     }
 }
