@@ -118,11 +118,16 @@ impl Tree {
         if before.previous != parent {
             self.follow(before.previous, turn.behind);
         }
-        for node in turned.iter() {
+        self.mend_previous(turned);
+        Ok(())
+    }
+
+    /// Lets each of these nodes be the one before the next.
+    fn mend_previous(&mut self, turned: &Vec<u32>) {
+        for node in turned {
             let next = self.thread(*node).next;
             self.set_previous(next, *node);
         }
-        Ok(())
     }
 
     /// Takes what is left of a node's subtree behind it. Answers the next place, its old parent.

@@ -107,7 +107,18 @@ fn by_simplex(alloc: Global, problem: &Problem, excess: &[i128]) -> Result<Optio
 /// What the search by trees says, from where cost scaling ends.
 fn by_search(alloc: Global, problem: &Problem) -> Result<Guess, Halt> {
     let mut search = Search::new(alloc, problem, &settled_start(alloc, problem)?)?;
-    match search.run(SEARCH_TURNS) {
+    let ended = search.run(SEARCH_TURNS);
+    searched(alloc, problem, &search, ended)
+}
+
+/// What a search says that ended so: the flow that it has come to, or where it is stuck, the forest as a cut.
+fn searched(
+    alloc: Global,
+    problem: &Problem,
+    search: &Search,
+    ended: Result<Ending, Halt>,
+) -> Result<Guess, Halt> {
+    match ended {
         Ok(Ending::Balanced) | Err(Halt::OutOfRange) => Ok(Guess::Flow {
             flows: search.network.flows(alloc, problem)?,
             potentials: search.forest.potentials(alloc)?,
