@@ -1,13 +1,16 @@
 //! Braces, and reductions over them.
 
 ghost use Rattle.std.specs.Prelude.{◌≡◌, ◌<◌, ◌≤◌, Some, None, length, IfOk};
+ghost use Rattle.net_tree.specs.Tree.{reduced};
 ghost use Rattle.net_tree.specs.View.{tree, braces_of, option_part};
 ghost use Rattle.net_model.specs.Expressions as grammar;
 ghost use Rattle.net_model.specs.Expressions.{inside, inner_of, unary};
-ghost use Rattle.net_model.specs.Reading.{Gives};
+ghost use Rattle.net_model.specs.Reading.{Tokens, Gives, read_as};
 
+use crate::boxed::boxed;
 use crate::carried::Carried;
 use crate::chains::{climb_to, links_from};
+use crate::choices::introduced;
 use crate::cursor::{Cursor, expect};
 use crate::place::body_place;
 use crate::sort::Sort;
@@ -92,7 +95,7 @@ fn hollow_inside<'t, 's>(
 {
     let filter = filter_of(alloc, depth, tokens)?;
     let close = expect(Sort::CloseBrace, Awaiting::Other, tokens)?;
-    Ok(Carried::new(Braces::Empty(opening, filter, close)))
+    Ok(Carried::new(Braces::Empty(opening, filter.into_inner(), close)))
 }
 
 /// Braces with items.
@@ -112,7 +115,8 @@ fn items_inside<'t, 's>(
     let filter = filter_of(alloc, depth, tokens)?;
     let close = expect(Sort::CloseBrace, Awaiting::Other, tokens)?;
     let first = first.into_inner();
-    let braces = Braces::Filled(opening, Series { first, more }, filter, close);
+    let more = more.into_inner();
+    let braces = Braces::Filled(opening, Series { first, more }, filter.into_inner(), close);
     Ok(Carried::new(braces))
 }
 
@@ -123,18 +127,18 @@ fn filter_of<'t, 's>(
     alloc: Global,
     depth: u8,
     tokens: &mut Cursor<'t, 's>,
-) -> Result<Option<Boxed<Part<'s>>>, Stop>
+) -> Result<Carried<Option<Boxed<Part<'s>>>>, Stop>
     ensures value { Gives option_part result tokens.new (grammar.filter_at (inner_of (inside depth)) tokens.old) }
     ensures shorter { IfOk result (λ x. length tokens.new ≤ length tokens.old) }
 {
     if !tokens.next_is(Sort::Colon) {
-        return Ok(None);
+        return Ok(Carried::new(None));
     }
     let Some(mark) = tokens.next() else {
         return Err(Stop::Refused(0, Awaiting::Other));
     };
-    let value = climb_to(alloc, depth, 10, tokens)?.into_inner();
-    Ok(Some(Boxed::new(Box::new(alloc, Part { mark, value })?)))
+    let condition = introduced(alloc, depth, 10, mark, tokens)?;
+    Ok(Carried::new(Some(condition.into_inner())))
 }
 
 /// What `sum`, `min` or `max` begins.
@@ -151,8 +155,21 @@ pub(crate) fn reduced_inside<'t, 's>(
 {
     let braces = braces_of(alloc, depth, tokens)?;
     let body = body_inside(alloc, depth, tokens)?;
-    let body = Boxed::new(Box::new(alloc, body.into_inner())?);
-    let front = Boxed::new(Box::new(alloc, (word, braces.into_inner()))?);
+    reduced(alloc, word, braces, body)
+}
+
+/// A reduction of what it takes.
+#[tactic(auto, using(net_tree::proofs::Views::views))]
+fn reduced<'s>(
+    alloc: Global,
+    word: Token<'s>,
+    braces: Carried<Braces<'s>>,
+    body: Carried<Expr<'s>>,
+) -> Result<Carried<Expr<'s>>, Stop>
+    ensures { (rest : Tokens) → Gives tree result rest (read_as (reduced word.entry (braces_of braces.entry) (tree body.entry)) rest) }
+{
+    let body = boxed(alloc, body.into_inner())?;
+    let front = boxed(alloc, (word, braces.into_inner()))?;
     Ok(Carried::new(Expr::Reduced(front, body)))
 }
 

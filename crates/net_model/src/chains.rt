@@ -9,9 +9,10 @@ ghost use Rattle.net_model.specs.Reading.{Gives};
 use crate::carried::Carried;
 use crate::cursor::{Cursor, operator_at};
 use crate::expressions::unary_of;
+use crate::list::push;
 use crate::place::right_place;
 use crate::stop::Stop;
-use crate::trees::chained;
+use crate::trees::{chained, linked};
 use net_lex::Items;
 use net_tree::{Expr, Link};
 use std::alloc::Global;
@@ -58,7 +59,7 @@ fn chain_links<'t, 's>(
     depth: u8,
     place: u8,
     tokens: &mut Cursor<'t, 's>,
-) -> Result<Items<Link<'s>>, Stop>
+) -> Result<Carried<Items<Link<'s>>>, Stop>
     ensures value { Gives links_of result tokens.new (grammar.all_links place (grammar.climb place (unary (inside depth))) tokens.old) }
     ensures shorter { IfOk result (λ x. length tokens.new ≤ length tokens.old) }
 {
@@ -73,7 +74,7 @@ pub(crate) fn links_from<'t, 's>(
     level: u8,
     place: u8,
     tokens: &mut Cursor<'t, 's>,
-) -> Result<Items<Link<'s>>, Stop>
+) -> Result<Carried<Items<Link<'s>>>, Stop>
     ensures value { Gives links_of result tokens.new (grammar.all_links level (grammar.climb place (unary (inside depth))) tokens.old) }
     ensures shorter { IfOk result (λ x. length tokens.new ≤ length tokens.old) }
 {
@@ -81,8 +82,7 @@ pub(crate) fn links_from<'t, 's>(
     while tokens.next_joins(level, found.len()) {
         let operator = operator_at(alloc, tokens)?;
         let operand = climb_to(alloc, depth, place, tokens)?;
-        let operand = operand.into_inner();
-        found.push(Link { operator, operand })?;
+        push(&mut found, linked(operator, operand))?;
     }
-    Ok(Items::new(found))
+    Ok(Carried::new(Items::new(found)))
 }

@@ -7,6 +7,7 @@ ghost use Rattle.net_model.specs.Expressions.{inside, inner_of, unary};
 ghost use Rattle.net_model.specs.Reading.{Gives};
 ghost use Rattle.net_model.specs.declared.sort.Sort.TheVariants as sorts;
 
+use crate::boxed::boxed;
 use crate::carried::Carried;
 use crate::chains::climb_to;
 use crate::cursor::{Cursor, expect};
@@ -78,19 +79,19 @@ fn if_inside<'t, 's>(
 /// A tree for this place, with the mark or word before it.
 #[cycle(parser)]
 #[tactic(auto, using(net_tree::proofs::Views::views, crate::proofs::Making::makings))]
-fn introduced<'t, 's>(
+pub(crate) fn introduced<'t, 's>(
     alloc: Global,
     depth: u8,
     place: u8,
     mark: Token<'s>,
     tokens: &mut Cursor<'t, 's>,
-) -> Result<Boxed<Part<'s>>, Stop>
+) -> Result<Carried<Boxed<Part<'s>>>, Stop>
     ensures value { Gives (λ p. (part_of p).1) result tokens.new (grammar.climb place (unary (inside depth)) tokens.old) }
     ensures mark { IfOk result (λ p. (part_of p).0 ≡ mark.entry) }
     ensures shorter { IfOk result (λ x. length tokens.new < length tokens.old) }
 {
     let value = climb_to(alloc, depth, place, tokens)?.into_inner();
-    Ok(Boxed::new(Box::new(alloc, Part { mark, value })?))
+    Ok(Carried::new(boxed(alloc, Part { mark, value })?))
 }
 
 /// What `if` begins.
@@ -109,7 +110,11 @@ fn choice_inside<'t, 's>(
     let then = expect(Sort::Then, Awaiting::Other, tokens)?;
     let branch = introduced(alloc, depth, 7, then, tokens)?;
     let otherwise = otherwise_of(alloc, depth, tokens)?;
-    Ok(Carried::new(Expr::Choice(condition, branch, otherwise)))
+    Ok(Carried::new(Expr::Choice(
+        condition.into_inner(),
+        branch.into_inner(),
+        otherwise.into_inner(),
+    )))
 }
 
 /// The part of `else`, if there is one.
@@ -119,16 +124,16 @@ fn otherwise_of<'t, 's>(
     alloc: Global,
     depth: u8,
     tokens: &mut Cursor<'t, 's>,
-) -> Result<Option<Boxed<Part<'s>>>, Stop>
+) -> Result<Carried<Option<Boxed<Part<'s>>>>, Stop>
     ensures value { Gives option_part result tokens.new (grammar.part_at sorts.Else ((inner_of (inside depth)).wide 7) tokens.old) }
     ensures shorter { IfOk result (λ x. length tokens.new ≤ length tokens.old) }
 {
     if !tokens.next_is(Sort::Else) {
-        return Ok(None);
+        return Ok(Carried::new(None));
     }
     let Some(mark) = tokens.next() else {
         return Err(Stop::Refused(0, Awaiting::Other));
     };
     let value = wide_of(alloc, depth, 7, tokens)?.into_inner();
-    Ok(Some(Boxed::new(Box::new(alloc, Part { mark, value })?)))
+    Ok(Carried::new(Some(boxed(alloc, Part { mark, value })?)))
 }

@@ -4,13 +4,15 @@ ghost use Rattle.net_model.specs.Conditions as grammar;
 ghost use Rattle.net_model.specs.Expressions.{inside};
 ghost use Rattle.net_model.specs.Reading.{Gives};
 
+use crate::boxed::boxed;
 use crate::carried::Carried;
 use crate::chains::climb_to;
 use crate::cursor::{Cursor, expect, operator_at};
+use crate::list::push;
 use crate::sort::Sort;
 use crate::stop::{Awaiting, Stop};
-use crate::trees::chained;
-use net_lex::{Boxed, Items, Token};
+use crate::trees::{chained, linked};
+use net_lex::{Items, Token};
 use net_tree::{Expr, Link, NetCond, Relates, Role, role_of};
 use std::alloc::Global;
 
@@ -21,7 +23,7 @@ fn net_at<'t, 's>(alloc: Global, tokens: &mut Cursor<'t, 's>) -> Result<Carried<
     ensures shorter { IfOk result (λ x. length tokens.new < length tokens.old) }
 {
     let word = expect(Sort::Net, Awaiting::Other, tokens)?;
-    let parts = Boxed::new(Box::new(alloc, (None, word))?);
+    let parts = boxed(alloc, (None, word))?;
     Ok(Carried::new(Expr::Net(parts)))
 }
 
@@ -47,7 +49,7 @@ fn signed_net_at<'t, 's>(
 {
     let sign = expect(Sort::Sign, Awaiting::Other, tokens)?;
     let word = expect(Sort::Net, Awaiting::Other, tokens)?;
-    let parts = Boxed::new(Box::new(alloc, (Some(sign), word))?);
+    let parts = boxed(alloc, (Some(sign), word))?;
     Ok(Carried::new(Expr::Net(parts)))
 }
 
@@ -94,14 +96,13 @@ fn further_term_at<'t, 's>(
     depth: u8,
     free: bool,
     tokens: &mut Cursor<'t, 's>,
-) -> Result<(Link<'s>, bool), Stop>
+) -> Result<(Carried<Link<'s>>, bool), Stop>
     ensures value { Gives (λ x. (link_of x.0, x.1)) result tokens.new (grammar.further_term_at (inside depth) free tokens.old) }
     ensures shorter { IfOk result (λ x. length tokens.new < length tokens.old) }
 {
     let operator = operator_at(alloc, tokens)?;
     let (operand, free) = term_at(alloc, depth, free, tokens)?;
-    let operand = operand.into_inner();
-    Ok((Link { operator, operand }, free))
+    Ok((linked(operator, operand), free))
 }
 
 /// The terms behind the first one.
@@ -111,7 +112,7 @@ fn further_terms<'t, 's>(
     depth: u8,
     first: bool,
     tokens: &mut Cursor<'t, 's>,
-) -> Result<(Items<Link<'s>>, bool), Stop>
+) -> Result<(Carried<Items<Link<'s>>>, bool), Stop>
     ensures value { Gives (λ x. (map link_of x.0, x.1)) result tokens.new (grammar.further_terms (inside depth) first tokens.old) }
     ensures shorter { IfOk result (λ x. length tokens.new ≤ length tokens.old) }
 {
@@ -119,10 +120,10 @@ fn further_terms<'t, 's>(
     let mut free = first;
     while tokens.next_is(Sort::Sign) {
         let (link, now) = further_term_at(alloc, depth, free, tokens)?;
-        found.push(link)?;
+        push(&mut found, link)?;
         free = now;
     }
-    Ok((Items::new(found), free))
+    Ok((Carried::new(Items::new(found)), free))
 }
 
 /// A sum, and whether no net term stood in it, where one may.

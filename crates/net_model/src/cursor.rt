@@ -5,9 +5,11 @@ ghost use Rattle.net_model.specs.Declarations.{any_left};
 ghost use Rattle.net_model.specs.Expressions.{operator_at, is_hollow};
 ghost use Rattle.net_model.specs.Reading.{Gives, IsFirst, next_is, is_sort, expect};
 
+use crate::boxed::boxed;
+use crate::carried::Carried;
 use crate::sort::{Sort, is_hollow, is_not, is_sort, joins};
 use crate::stop::{Awaiting, Stop};
-use net_lex::{Boxed, Token};
+use net_lex::Token;
 use net_tree::{Operator, role_of};
 use std::alloc::Global;
 use std::marker::Model;
@@ -145,7 +147,7 @@ pub(crate) fn expect<'t, 's>(
 pub(crate) fn operator_at<'t, 's>(
     alloc: Global,
     tokens: &mut Cursor<'t, 's>,
-) -> Result<Operator<'s>, Stop>
+) -> Result<Carried<Operator<'s>>, Stop>
     ensures value { Gives (λ o. o) result tokens.new (operator_at tokens.old) }
     ensures shorter { IfOk result (λ x. length tokens.new < length tokens.old) }
 {
@@ -154,10 +156,10 @@ pub(crate) fn operator_at<'t, 's>(
         Some(token) => {
             if is_not(role_of(&token)) {
                 let second = expect(Sort::Membership, Awaiting::Other, tokens)?;
-                let second = Boxed::new(Box::new(alloc, second)?);
-                Ok(Operator::Two(token, second))
+                let second = boxed(alloc, second)?;
+                Ok(Carried::new(Operator::Two(token, second)))
             } else {
-                Ok(Operator::One(token))
+                Ok(Carried::new(Operator::One(token)))
             }
         }
     }

@@ -1,8 +1,13 @@
-ghost use Rattle.std.specs.Prelude.{◌≡◌, ◌<◌, ◌≤◌, [], length, map, IfOk};
-ghost use Rattle.net_tree.specs.View.{declaration_of, indexing_of, option_part};
+ghost use Rattle.std.specs.Prelude.{◌≡◌, ◌<◌, ◌≤◌, List, [], Option, length, map, IfOk};
+ghost use Rattle.net_lex.specs.declared.token.Token.{Token};
+ghost use Rattle.net_tree.specs.Tree as tree;
+ghost use Rattle.net_tree.specs.Tree.{Declaration};
+ghost use Rattle.net_tree.specs.View.{declaration_of, indexing_of, option_part, phrase_of};
 ghost use Rattle.net_model.specs.Declarations as grammar;
 ghost use Rattle.net_model.specs.Expressions.{inside, part_at, wide};
-ghost use Rattle.net_model.specs.Reading.{Gives};
+ghost use Rattle.net_model.specs.Phrases.{phrases, phrases_end};
+ghost use Rattle.net_model.specs.Reading.{Gives, ◌>>=◌ as ◌▷◌, read_as, expect};
+ghost use Rattle.net_model.specs.declared.stop.Awaiting.TheVariants as awaiting;
 ghost use Rattle.net_model.specs.declared.sort.Sort.TheVariants as sorts;
 
 use crate::braces::braces_of;
@@ -11,12 +16,13 @@ use crate::chains::climb_to;
 use crate::choices::wide_of;
 use crate::conditions::condition_at;
 use crate::cursor::{Cursor, expect};
+use crate::list::push;
 use crate::phrase::Owner;
 use crate::phrases::{phrases, phrases_end};
 use crate::sort::Sort;
 use crate::stop::{Awaiting, Stop};
 use net_lex::{Items, Token};
-use net_tree::{Braces, Decl, Declares, Part, Role, role_of};
+use net_tree::{Braces, Decl, Declares, Part, Phrase, Role, role_of};
 use std::alloc::Global;
 
 /// The braces of a declaration, if it has some.
@@ -37,6 +43,37 @@ fn indexing_at<'t, 's>(
     }
 }
 
+/// The phrases of a declaration and the semicolon behind them.
+fn phrased<'t, 's>(
+    alloc: Global,
+    depth: u8,
+    owner: Owner,
+    tokens: &mut Cursor<'t, 's>,
+) -> Result<Carried<(Items<Phrase<'s>>, Token<'s>)>, Stop>
+    ensures value { (made : List tree.Phrase → Token → Declaration) → Gives (λ p. made (map phrase_of p.0) p.1) result tokens.new (phrases (inside depth) owner tokens.old ▷ λ p. phrases_end owner p.0.1 p.1 ▷ λ e. read_as (made p.0.0 e.0) e.1) }
+    ensures shorter { IfOk result (λ x. length tokens.new ≤ length tokens.old) }
+{
+    let (said, stood) = phrases(alloc, depth, owner, tokens)?;
+    let end = phrases_end(owner, stood, tokens)?;
+    Ok(Carried::new((said.into_inner(), end)))
+}
+
+/// The name of a parameter or an arc, its braces, its phrases and its semicolon.
+fn detailed<'t, 's>(
+    alloc: Global,
+    depth: u8,
+    owner: Owner,
+    tokens: &mut Cursor<'t, 's>,
+) -> Result<Carried<(Token<'s>, Option<Braces<'s>>, Items<Phrase<'s>>, Token<'s>)>, Stop>
+    ensures value { (made : Token → Option tree.Braces → List tree.Phrase → Token → Declaration) → Gives (λ p. made p.0 (indexing_of p.1) (map phrase_of p.2) p.3) result tokens.new (expect sorts.Name awaiting.Other tokens.old ▷ λ n. grammar.indexing_at (inside depth) n.1 ▷ λ b. phrases (inside depth) owner b.1 ▷ λ p. phrases_end owner p.0.1 p.1 ▷ λ e. read_as (made n.0 b.0 p.0.0 e.0) e.1) }
+    ensures shorter { IfOk result (λ x. length tokens.new ≤ length tokens.old) }
+{
+    let name = expect(Sort::Name, Awaiting::Other, tokens)?;
+    let indexing = indexing_at(alloc, depth, tokens)?;
+    let (said, end) = phrased(alloc, depth, owner, tokens)?.into_inner();
+    Ok(Carried::new((name, indexing.into_inner(), said, end)))
+}
+
 #[tactic(auto, unfolding(crate::specs::Declarations::set_at))]
 fn set_at<'t, 's>(
     alloc: Global,
@@ -48,8 +85,7 @@ fn set_at<'t, 's>(
     ensures shorter { IfOk result (λ x. length tokens.new ≤ length tokens.old) }
 {
     let name = expect(Sort::Name, Awaiting::Other, tokens)?;
-    let (said, stood) = phrases(alloc, depth, Owner::Set, tokens)?;
-    let end = phrases_end(Owner::Set, stood, tokens)?;
+    let (said, end) = phrased(alloc, depth, Owner::Set, tokens)?.into_inner();
     Ok(Carried::new(Decl::Set(word, name, said, end)))
 }
 
@@ -63,11 +99,8 @@ fn param_at<'t, 's>(
     ensures value { Gives declaration_of result tokens.new (grammar.param_at (inside depth) word.entry tokens.old) }
     ensures shorter { IfOk result (λ x. length tokens.new ≤ length tokens.old) }
 {
-    let name = expect(Sort::Name, Awaiting::Other, tokens)?;
-    let indexing = indexing_at(alloc, depth, tokens)?;
-    let (said, stood) = phrases(alloc, depth, Owner::Param, tokens)?;
-    let end = phrases_end(Owner::Param, stood, tokens)?;
-    Ok(Carried::new(Decl::Param(word, name, indexing.into_inner(), said, end)))
+    let (name, indexing, said, end) = detailed(alloc, depth, Owner::Param, tokens)?.into_inner();
+    Ok(Carried::new(Decl::Param(word, name, indexing, said, end)))
 }
 
 #[tactic(auto, unfolding(crate::specs::Declarations::arc_at))]
@@ -80,11 +113,8 @@ fn arc_at<'t, 's>(
     ensures value { Gives declaration_of result tokens.new (grammar.arc_at (inside depth) word.entry tokens.old) }
     ensures shorter { IfOk result (λ x. length tokens.new ≤ length tokens.old) }
 {
-    let name = expect(Sort::Name, Awaiting::Other, tokens)?;
-    let indexing = indexing_at(alloc, depth, tokens)?;
-    let (said, stood) = phrases(alloc, depth, Owner::Arc, tokens)?;
-    let end = phrases_end(Owner::Arc, stood, tokens)?;
-    Ok(Carried::new(Decl::Arc(word, name, indexing.into_inner(), said, end)))
+    let (name, indexing, said, end) = detailed(alloc, depth, Owner::Arc, tokens)?.into_inner();
+    Ok(Carried::new(Decl::Arc(word, name, indexing, said, end)))
 }
 
 #[tactic(auto, unfolding(crate::specs::Declarations::check_at))]
@@ -221,19 +251,6 @@ fn declaration_at<'t, 's>(
     }
 }
 
-#[tactic(auto, unfolding(crate::specs::Declarations::declaration_step))]
-fn declaration_step<'t, 's>(
-    alloc: Global,
-    depth: u8,
-    tokens: &mut Cursor<'t, 's>,
-) -> Result<Decl<'s>, Stop>
-    ensures value { Gives (λ d. (declaration_of d, tt)) result tokens.new (grammar.declaration_step (inside depth) tt tokens.old) }
-    ensures shorter { IfOk result (λ x. length tokens.new < length tokens.old) }
-{
-    let declaration = declaration_at(alloc, depth, tokens)?;
-    Ok(declaration.into_inner())
-}
-
 /// The declarations that the tokens are, up to their end.
 pub(crate) fn declarations<'t, 's>(
     alloc: Global,
@@ -245,8 +262,8 @@ pub(crate) fn declarations<'t, 's>(
 {
     let mut found = Vec::new(alloc);
     while tokens.has_more() {
-        let declaration = declaration_step(alloc, depth, tokens)?;
-        found.push(declaration)?;
+        let declaration = declaration_at(alloc, depth, tokens)?;
+        push(&mut found, declaration)?;
     }
     Ok(Items::new(found))
 }

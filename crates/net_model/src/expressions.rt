@@ -2,11 +2,15 @@
 //! caller. A `place` is the rank that a tree may have there.
 
 ghost use Rattle.std.specs.Prelude.{◌≡◌, ◌<◌, ◌≤◌, Some, None, length, IfOk};
-ghost use Rattle.net_tree.specs.View.{tree, links_of};
+ghost use Rattle.net_tree.specs.Tree.{braced, indexed, negated, signed};
+ghost use Rattle.net_tree.specs.View.{tree, braces_of, links_of};
 ghost use Rattle.net_model.specs.Expressions as grammar;
 ghost use Rattle.net_model.specs.Expressions.{inside, inner_of, unary};
-ghost use Rattle.net_model.specs.Reading.{Gives};
+ghost use Rattle.net_model.specs.Reading.{Tokens, Gives, ◌>>=◌ as ◌▷◌, read_as, expect};
+ghost use Rattle.net_model.specs.declared.sort.Sort.TheVariants as sorts;
+ghost use Rattle.net_model.specs.declared.stop.Awaiting.TheVariants as awaiting;
 
+use crate::boxed::boxed;
 use crate::braces::{braces_inside, reduced_inside};
 use crate::carried::Carried;
 use crate::chains::{climb_to, links_from};
@@ -15,8 +19,8 @@ use crate::cursor::{Cursor, expect};
 use crate::sort::Sort;
 use crate::stop::{Awaiting, Stop};
 use crate::trees::{is_none, is_sum};
-use net_lex::{Boxed, Items, Token};
-use net_tree::{Expr, Link, Role, Series, role_of};
+use net_lex::{Items, Token};
+use net_tree::{Braces, Expr, Link, Role, Series, role_of};
 use std::alloc::Global;
 
 /// A tree that stands by itself or behind a sign, or a reduction.
@@ -104,18 +108,37 @@ fn unary_inside<'t, 's>(
         Role::Open => parens_inside(alloc, depth, token, tokens),
         Role::OpenBrace => {
             let braces = braces_inside(alloc, depth, token, tokens)?;
-            let braces = Boxed::new(Box::new(alloc, braces.into_inner())?);
-            Ok(Carried::new(Expr::Braced(braces)))
+            braced(alloc, braces)
         }
         Role::Sign => {
             let operand = climb_to(alloc, depth, 1, tokens)?;
-            let parts = (token, operand.into_inner());
-            let parts = Boxed::new(Box::new(alloc, parts)?);
-            Ok(Carried::new(Expr::Signed(parts)))
+            signed(alloc, token, operand)
         }
         Role::Reduction => reduced_inside(alloc, depth, token, tokens),
         _ => Err(Stop::Refused(left, Awaiting::Other)),
     }
+}
+
+/// Braces as a set.
+#[tactic(auto, using(net_tree::proofs::Views::views))]
+fn braced<'s>(alloc: Global, braces: Carried<Braces<'s>>) -> Result<Carried<Expr<'s>>, Stop>
+    ensures { (rest : Tokens) → Gives tree result rest (read_as (braced (braces_of braces.entry)) rest) }
+{
+    let braces = boxed(alloc, braces.into_inner())?;
+    Ok(Carried::new(Expr::Braced(braces)))
+}
+
+/// A sign with its operand.
+#[tactic(auto, using(net_tree::proofs::Views::views))]
+fn signed<'s>(
+    alloc: Global,
+    sign: Token<'s>,
+    operand: Carried<Expr<'s>>,
+) -> Result<Carried<Expr<'s>>, Stop>
+    ensures { (rest : Tokens) → Gives tree result rest (read_as (signed sign.entry (tree operand.entry)) rest) }
+{
+    let parts = boxed(alloc, (sign, operand.into_inner()))?;
+    Ok(Carried::new(Expr::Signed(parts)))
 }
 
 /// What a name begins.
@@ -171,10 +194,27 @@ fn subscripts_inside<'t, 's>(
     };
     let first = climb_to(alloc, depth, 3, tokens)?;
     let more = links_from(alloc, depth, 0, 3, tokens)?;
+    indexed(alloc, name, open, first, more, tokens)
+}
+
+/// The end of the subscripts of a name.
+#[tactic(auto, using(net_tree::proofs::Views::views, crate::proofs::Making::makings))]
+fn indexed<'t, 's>(
+    alloc: Global,
+    name: Token<'s>,
+    opening: Token<'s>,
+    first: Carried<Expr<'s>>,
+    more: Carried<Items<Link<'s>>>,
+    tokens: &mut Cursor<'t, 's>,
+) -> Result<Carried<Expr<'s>>, Stop>
+    ensures value { Gives tree result tokens.new (expect sorts.CloseSquare awaiting.Other tokens.old ▷ λ c. read_as (indexed name.entry opening.entry (tree first.entry) (links_of more.entry) c.0) c.1) }
+    ensures shorter { IfOk result (λ x. length tokens.new < length tokens.old) }
+{
     let close = expect(Sort::CloseSquare, Awaiting::Other, tokens)?;
     let first = first.into_inner();
-    let parts = (name, open, Series { first, more }, close);
-    let parts = Boxed::new(Box::new(alloc, parts)?);
+    let more = more.into_inner();
+    let parts = (name, opening, Series { first, more }, close);
+    let parts = boxed(alloc, parts)?;
     Ok(Carried::new(Expr::Indexed(parts)))
 }
 
@@ -228,7 +268,7 @@ fn closed<'t, 's>(
 {
     let close = expect(Sort::Close, Awaiting::Other, tokens)?;
     let parts = (opening, inner.into_inner(), close);
-    let parts = Boxed::new(Box::new(alloc, parts)?);
+    let parts = boxed(alloc, parts)?;
     Ok(Carried::new(Expr::Parens(parts)))
 }
 
@@ -238,19 +278,20 @@ fn listed<'t, 's>(
     alloc: Global,
     opening: Token<'s>,
     first: Carried<Expr<'s>>,
-    more: Items<Link<'s>>,
+    more: Carried<Items<Link<'s>>>,
     tokens: &mut Cursor<'t, 's>,
 ) -> Result<Carried<Expr<'s>>, Stop>
     ensures value { Gives tree result tokens.new (grammar.listed opening.entry (tree first.entry) (links_of more.entry) tokens.old) }
     ensures shorter { IfOk result (λ x. length tokens.new < length tokens.old) }
 {
-    if is_none(&more) {
+    if is_none(more.get()) {
         return closed(alloc, opening, first, tokens);
     }
     let close = expect(Sort::Close, Awaiting::Other, tokens)?;
     let first = first.into_inner();
+    let more = more.into_inner();
     let parts = (opening, Series { first, more }, close);
-    let parts = Boxed::new(Box::new(alloc, parts)?);
+    let parts = boxed(alloc, parts)?;
     Ok(Carried::new(Expr::Tuple(parts)))
 }
 
@@ -268,8 +309,23 @@ fn negated_inside<'t, 's>(
 {
     let open = expect(Sort::Open, Awaiting::Other, tokens)?;
     let inner = climb_to(alloc, depth, 10, tokens)?;
+    negated(alloc, word, open, inner, tokens)
+}
+
+/// The end of what `not` takes.
+#[tactic(auto, using(net_tree::proofs::Views::views))]
+fn negated<'t, 's>(
+    alloc: Global,
+    word: Token<'s>,
+    opening: Token<'s>,
+    inner: Carried<Expr<'s>>,
+    tokens: &mut Cursor<'t, 's>,
+) -> Result<Carried<Expr<'s>>, Stop>
+    ensures value { Gives tree result tokens.new (expect sorts.Close awaiting.Other tokens.old ▷ λ c. read_as (negated word.entry opening.entry (tree inner.entry) c.0) c.1) }
+    ensures shorter { IfOk result (λ x. length tokens.new < length tokens.old) }
+{
     let close = expect(Sort::Close, Awaiting::Other, tokens)?;
-    let parts = (word, open, inner.into_inner(), close);
-    let parts = Boxed::new(Box::new(alloc, parts)?);
+    let parts = (word, opening, inner.into_inner(), close);
+    let parts = boxed(alloc, parts)?;
     Ok(Carried::new(Expr::Negated(parts)))
 }

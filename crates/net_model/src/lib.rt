@@ -1,6 +1,7 @@
 //! From the tokens of a model text to its declarations.
 #![tactic(auto)]
 
+mod boxed;
 mod braces;
 mod carried;
 mod chains;
@@ -11,6 +12,7 @@ mod declarations;
 mod expressions;
 mod fault;
 mod laws;
+mod list;
 mod model;
 mod parse;
 mod phrase;

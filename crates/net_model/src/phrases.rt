@@ -1,13 +1,16 @@
 ghost use Rattle.std.specs.Prelude.{◌≡◌, ◌<◌, ◌≤◌, Some, None, length, map, IfOk};
+ghost use Rattle.net_tree.specs.Tree.{valued};
 ghost use Rattle.net_tree.specs.View as view;
 ghost use Rattle.net_model.specs.Expressions.{inside};
 ghost use Rattle.net_model.specs.Phrases as grammar;
 ghost use Rattle.net_model.specs.Reading.{Gives};
 
+use crate::carried::Carried;
 use crate::chains::climb_to;
 use crate::choices::wide_of;
 use crate::cursor::{Cursor, expect};
 use crate::expressions::named_of;
+use crate::list::push;
 use crate::phrase::{Owner, Slot, Stood};
 use crate::sort::Sort;
 use crate::stop::{Awaiting, Stop};
@@ -146,6 +149,13 @@ fn phrase_next(owner: Owner, stood: Stood, tokens: &Cursor<'_, '_>) -> bool
     }
 }
 
+/// An expression as what follows a word.
+fn valued<'s>(value: Carried<Expr<'s>>) -> Carried<Body<'s>>
+    ensures { view.body_of result ≡ valued (view.tree value.entry) }
+{
+    Carried::new(Body::Valued(value.into_inner()))
+}
+
 /// What follows the word.
 #[tactic(auto, using(net_tree::proofs::Views::views))]
 fn body_of<'t, 's>(
@@ -153,27 +163,27 @@ fn body_of<'t, 's>(
     depth: u8,
     slot: Slot,
     tokens: &mut Cursor<'t, 's>,
-) -> Result<Body<'s>, Stop>
+) -> Result<Carried<Body<'s>>, Stop>
     ensures value { Gives view.body_of result tokens.new (grammar.body_of (inside depth) slot tokens.old) }
     ensures shorter { IfOk result (λ x. length tokens.new ≤ length tokens.old) }
 {
     match slot {
-        Slot::Nothing => Ok(Body::Plain),
+        Slot::Nothing => Ok(Carried::new(Body::Plain)),
         Slot::Number => {
             let number = expect(Sort::Number, Awaiting::Other, tokens)?;
-            Ok(Body::Valued(Expr::Leaf(number)))
+            Ok(valued(Carried::new(Expr::Leaf(number))))
         }
-        Slot::Set => Ok(Body::Valued(climb_to(alloc, depth, 7, tokens)?.into_inner())),
-        Slot::Sum => Ok(Body::Valued(climb_to(alloc, depth, 3, tokens)?.into_inner())),
-        Slot::Value => Ok(Body::Valued(wide_of(alloc, depth, 7, tokens)?.into_inner())),
+        Slot::Set => Ok(valued(climb_to(alloc, depth, 7, tokens)?)),
+        Slot::Sum => Ok(valued(climb_to(alloc, depth, 3, tokens)?)),
+        Slot::Value => Ok(valued(wide_of(alloc, depth, 7, tokens)?)),
         Slot::Node => {
             let name = expect(Sort::Name, Awaiting::Other, tokens)?;
-            Ok(Body::Valued(named_of(alloc, depth, name, tokens)?.into_inner()))
+            Ok(valued(named_of(alloc, depth, name, tokens)?))
         }
         Slot::Price => {
             let name = expect(Sort::Name, Awaiting::Objective, tokens)?;
             let price = climb_to(alloc, depth, 3, tokens)?;
-            Ok(Body::Priced(name, price.into_inner()))
+            Ok(Carried::new(Body::Priced(name, price.into_inner())))
         }
     }
 }
@@ -191,10 +201,15 @@ fn comma_at<'t, 's>(tokens: &mut Cursor<'t, 's>) -> Result<Option<Token<'s>>, St
     }
 }
 
-fn phrase_of<'s>(comma: Option<Token<'s>>, word: Token<'s>, body: Body<'s>) -> Phrase<'s>
+fn phrase_of<'s>(
+    comma: Option<Token<'s>>,
+    word: Token<'s>,
+    body: Carried<Body<'s>>,
+) -> Carried<Phrase<'s>>
     ensures { view.phrase_of result ≡ record { comma = comma.entry; word = word.entry; body = view.body_of body.entry } }
 {
-    Phrase { comma, word, body }
+    let body = body.into_inner();
+    Carried::new(Phrase { comma, word, body })
 }
 
 /// A phrase behind its comma, and what stood with it.
@@ -206,7 +221,7 @@ fn worded<'t, 's>(
     stood: Stood,
     comma: Option<Token<'s>>,
     tokens: &mut Cursor<'t, 's>,
-) -> Result<(Phrase<'s>, Stood), Stop>
+) -> Result<(Carried<Phrase<'s>>, Stood), Stop>
     ensures value { Gives (λ p. (view.phrase_of p.0, p.1)) result tokens.new (grammar.worded (inside depth) owner stood comma.entry tokens.old) }
     ensures shorter { IfOk result (λ x. length tokens.new < length tokens.old) }
 {
@@ -235,7 +250,7 @@ fn phrase_at<'t, 's>(
     owner: Owner,
     stood: Stood,
     tokens: &mut Cursor<'t, 's>,
-) -> Result<(Phrase<'s>, Stood), Stop>
+) -> Result<(Carried<Phrase<'s>>, Stood), Stop>
     ensures value { Gives (λ p. (view.phrase_of p.0, p.1)) result tokens.new (grammar.phrase_at (inside depth) owner stood tokens.old) }
     ensures shorter { IfOk result (λ x. length tokens.new < length tokens.old) }
 {
@@ -250,7 +265,7 @@ pub(crate) fn phrases<'t, 's>(
     depth: u8,
     owner: Owner,
     tokens: &mut Cursor<'t, 's>,
-) -> Result<(Items<Phrase<'s>>, Stood), Stop>
+) -> Result<(Carried<Items<Phrase<'s>>>, Stood), Stop>
     ensures value { Gives (λ p. (map view.phrase_of p.0, p.1)) result tokens.new (grammar.phrases (inside depth) owner tokens.old) }
     ensures shorter { IfOk result (λ x. length tokens.new ≤ length tokens.old) }
 {
@@ -267,10 +282,10 @@ pub(crate) fn phrases<'t, 's>(
     };
     while phrase_next(owner, stood, tokens) {
         let (phrase, now) = phrase_at(alloc, depth, owner, stood, tokens)?;
-        found.push(phrase)?;
+        push(&mut found, phrase)?;
         stood = now;
     }
-    Ok((Items::new(found), stood))
+    Ok((Carried::new(Items::new(found)), stood))
 }
 
 /// The semicolon behind phrases.

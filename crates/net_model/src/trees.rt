@@ -1,13 +1,14 @@
 ghost use Rattle.std.specs.Prelude.{◌≡◌, nat_le, IfOk, IfErr};
 ghost use Rattle.net_tree.specs.Level.{rank};
-ghost use Rattle.net_tree.specs.View.{tree, links_of};
+ghost use Rattle.net_tree.specs.View.{tree, link_of, links_of};
 ghost use Rattle.net_model.specs.Expressions.{chained, is_none};
 ghost use Rattle.net_model.specs.declared.stop.Stop.TheVariants.{OutOfMemory};
 
+use crate::boxed::boxed;
 use crate::carried::Carried;
 use crate::stop::Stop;
-use net_lex::{Boxed, Items};
-use net_tree::{Expr, Link, Series};
+use net_lex::Items;
+use net_tree::{Expr, Link, Operator, Series};
 use std::alloc::Global;
 
 /// Whether the tree may stand where a sum may.
@@ -22,6 +23,19 @@ pub(crate) fn is_sum(expr: &Expr<'_>) -> bool
         Expr::Chain(place, _) => *place <= 2,
         Expr::Choice(_, _, _) | Expr::Net(_) => false,
     }
+}
+
+/// An operator and the operand behind it.
+#[tactic(auto, using(crate::proofs::Making::link_made))]
+pub(crate) fn linked<'s>(
+    operator: Carried<Operator<'s>>,
+    operand: Carried<Expr<'s>>,
+) -> Carried<Link<'s>>
+    ensures { link_of result ≡ (operator.entry, tree operand.entry) }
+{
+    let operator = operator.into_inner();
+    let operand = operand.into_inner();
+    Carried::new(Link { operator, operand })
 }
 
 /// Whether there are no links.
@@ -40,15 +54,16 @@ pub(crate) fn chained<'s>(
     alloc: Global,
     place: u8,
     first: Carried<Expr<'s>>,
-    more: Items<Link<'s>>,
+    more: Carried<Items<Link<'s>>>,
 ) -> Result<Carried<Expr<'s>>, Stop>
     ensures value { IfOk result (λ x. tree x ≡ chained place (tree first.entry) (links_of more.entry)) }
     ensures memory { IfErr result (λ e. e ≡ OutOfMemory) }
 {
-    if is_none(&more) {
+    if is_none(more.get()) {
         return Ok(first);
     }
     let first = first.into_inner();
-    let operands = Boxed::new(Box::new(alloc, Series { first, more })?);
+    let more = more.into_inner();
+    let operands = boxed(alloc, Series { first, more })?;
     Ok(Carried::new(Expr::Chain(place, operands)))
 }

@@ -1,20 +1,12 @@
 use Rattle.std.proofs.Common.{◌≡◌, ◌+◌, ◌-◌, sym, ap, ◌∙◌, arith, length, length-append, [], ◌∷◌}
 use Rattle.std.proofs.lemmas.Result.{err_from_is_err_and}
 use Rattle.net_tree.specs.Level.{joins}
-use Rattle.net_tree.specs.declared.expr.Expr.{Expr}
-use Rattle.net_tree.specs.declared.expr.Link.{roll-Link}
-use Rattle.net_tree.specs.declared.expr.Operator.{Operator}
-use Rattle.net_tree.specs.Tree.{Tree}
-use Rattle.net_model.proofs.Making.{link_made}
-use Rattle.net_tree.specs.View.{tree, braces_of, links_of}
-use Rattle.net_model.specs.Expressions.{inside, climb, unary, if_at, braces, links}
-use Rattle.net_model.specs.Reading.{Gives, next_is, read_as}
+use Rattle.net_tree.specs.View.{tree, links_of}
+use Rattle.net_model.specs.Expressions.{inside, climb, unary, links}
+use Rattle.net_model.specs.Reading.{next_is, read_as}
 use Rattle.net_model.proofs.Steps.{inside-none, inside-some, climb-low, climb-high}
 use Rattle.net_model.proofs.Turning.{all_read, one_read, no_operator, no_operand}
 use Rattle.net_model.proofs.+parser.Goals as goal
-
-with_operand : (o : Operator) (x y : Expr) → x ≡ y → ◌≡◌ {A = Operator × Tree} (o, tree x) (o, tree y)
-with_operand o x y same = ap (λ (z : Expr). (o, tree z)) same
 
 pub braces::braces_of-returns-then-depth-eq0-clause-value : goal.braces::braces_of-returns-then-depth-eq0-clause-value
 braces::braces_of-returns-then-depth-eq0-clause-value t c = rw (inside-none c.args.depth c.if-depth-eq0.true) c.shut_braces.ensures.value
@@ -65,18 +57,18 @@ chains::links_from-returns-clause-value t c =
     let same : c.len.result ≡ length c.loop-alloc.found.items = omega (arith, c.len.ensures, c.loop-alloc.found.ok) in
     all_read c.loop-alloc.found.items (length c.args.tokens.now - length c.loop-alloc.found.items) c.args.level (length c.loop-alloc.found.items) (climb c.args.place (unary (inside c.args.depth))) c.loop-alloc.tokens (links (length c.args.tokens.now) c.args.level 0 (climb c.args.place (unary (inside c.args.depth))) c.args.tokens.now)
     (sym (ap (λ n. next_is (joins c.args.level n) c.loop-alloc.tokens) same) ∙ (sym c.next_joins.ensures ∙ c.loop-alloc-test.false)) c.loop-alloc.invariant.read
-    ∙ ap (λ l. read_as (links_of l) c.loop-alloc.tokens) (sym c.new.ensures)
+    ∙ ap (λ l. read_as (links_of l) c.loop-alloc.tokens) (sym (c.new-2.ensures ∙ c.new.ensures))
 
 pub chains::links_from-loop-alloc-preserved : goal.chains::links_from-loop-alloc-preserved
 chains::links_from-loop-alloc-preserved t c =
     let same : c.len.result ≡ length c.loop-alloc.found.items = omega (arith, c.len.ensures, c.loop-alloc.found.ok) in
-    let more : length c.push.new.self.items ≡ length c.loop-alloc.found.items + 1 = omega (arith, ap length c.in_ok-push.ensures.items, length-append c.loop-alloc.found.items (roll-Link (record { operator = c.in_ok-operator.operator; operand = c.into_inner-operand.result }) ∷ [])) in
+    let more : length c.push.new.list.items ≡ length c.loop-alloc.found.items + 1 = omega (arith, ap length c.in_ok-push.ensures.items, length-append c.loop-alloc.found.items (c.linked.result ∷ [])) in
     record {
       read =
-          one_read c.loop-alloc.found.items c.push.new.self.items (roll-Link (record { operator = c.in_ok-operator.operator; operand = c.into_inner-operand.result }))
+          one_read c.loop-alloc.found.items c.push.new.list.items c.linked.result
           (length c.args.tokens.now) c.args.level c.len.result (climb c.args.place (unary (inside c.args.depth))) c.loop-alloc.tokens
           c.in_ok-operator.operator (tree c.in_ok-operand.operand) c.operator_at.new.tokens c.climb_to.new.tokens (links (length c.args.tokens.now) c.args.level 0 (climb c.args.place (unary (inside c.args.depth))) c.args.tokens.now)
           same c.loop-alloc.invariant.room (sym c.next_joins.ensures ∙ c.loop-alloc-test.true) c.in_ok-operator.ensures.value c.in_ok-operand.ensures.value
-          (link_made c.in_ok-operator.operator c.into_inner-operand.result ∙ with_operand c.in_ok-operator.operator c.into_inner-operand.result c.in_ok-operand.operand c.into_inner-operand.ensures) c.in_ok-push.ensures.items c.loop-alloc.invariant.read;
+          c.linked.ensures c.in_ok-push.ensures.items c.loop-alloc.invariant.read;
       room = omega (arith, more, c.in_ok-operator.ensures.shorter, c.in_ok-operand.ensures.shorter, c.loop-alloc.invariant.room);
     }

@@ -25,15 +25,15 @@ returns-clause-value c =
     row_read link_of c.loop-alloc.found.items (length c.args.tokens.now - length c.loop-alloc.found.items) (further_term_at (inside c.args.depth)) sign_next c.loop-alloc.free c.loop-alloc.tokens
     (row (length c.args.tokens.now) (further_term_at (inside c.args.depth)) sign_next c.args.first c.args.tokens.now)
     (sym c.next_is.ensures ∙ c.loop-alloc-test.false) c.loop-alloc.invariant.read
-    ∙ ap (λ l. Ok ((map link_of l, c.loop-alloc.free), c.loop-alloc.tokens)) (sym c.new.ensures)
+    ∙ ap (λ l. Ok ((map link_of l, c.loop-alloc.free), c.loop-alloc.tokens)) (sym (c.new-2.ensures ∙ c.new.ensures))
 
 pub loop-alloc-preserved : goal.loop-alloc-preserved
 loop-alloc-preserved c =
     let on : sign_next c.loop-alloc.free c.loop-alloc.tokens ≡ true = sym c.next_is.ensures ∙ c.loop-alloc-test.true in
-    let more : length c.push.new.self.items ≡ length c.loop-alloc.found.items + 1 = omega (arith, ap length c.in_ok-push.ensures.items, length-append c.loop-alloc.found.items (c.in_ok-link.link ∷ [])) in
+    let more : length c.push.new.list.items ≡ length c.loop-alloc.found.items + 1 = omega (arith, ap length c.in_ok-push.ensures.items, length-append c.loop-alloc.found.items (c.in_ok-link.link ∷ [])) in
     record {
       read =
-          row_turn link_of c.loop-alloc.found.items c.push.new.self.items c.in_ok-link.link (length c.args.tokens.now) (further_term_at (inside c.args.depth)) sign_next c.loop-alloc.free c.in_ok-link.now
+          row_turn link_of c.loop-alloc.found.items c.push.new.list.items c.in_ok-link.link (length c.args.tokens.now) (further_term_at (inside c.args.depth)) sign_next c.loop-alloc.free c.in_ok-link.now
           c.loop-alloc.tokens c.further_term_at.new.tokens (row (length c.args.tokens.now) (further_term_at (inside c.args.depth)) sign_next c.args.first c.args.tokens.now)
           (some_left is_sign c.loop-alloc.tokens on) c.loop-alloc.invariant.room on c.in_ok-link.ensures.value c.in_ok-push.ensures.items c.loop-alloc.invariant.read;
       room = omega (arith, more, c.in_ok-link.ensures.shorter, c.loop-alloc.invariant.room);

@@ -24,15 +24,15 @@ returns-clause-value c =
     row_read phrase_of c.loop-alloc.found.items (length c.args.tokens.now - length c.loop-alloc.found.items) (phrase_at (inside c.args.depth) c.args.owner) (phrase_next c.args.owner) c.loop-alloc.stood c.loop-alloc.tokens
     (row (length c.args.tokens.now) (phrase_at (inside c.args.depth) c.args.owner) (phrase_next c.args.owner) nothing_stood c.args.tokens.now)
     (sym c.phrase_next.ensures ∙ c.loop-alloc-test.false) c.loop-alloc.invariant.read
-    ∙ ap (λ l. Ok ((map phrase_of l, c.loop-alloc.stood), c.loop-alloc.tokens)) (sym c.new.ensures)
+    ∙ ap (λ l. Ok ((map phrase_of l, c.loop-alloc.stood), c.loop-alloc.tokens)) (sym (c.new-2.ensures ∙ c.new.ensures))
 
 pub loop-alloc-preserved : goal.loop-alloc-preserved
 loop-alloc-preserved c =
     let on : phrase_next c.args.owner c.loop-alloc.stood c.loop-alloc.tokens ≡ true = sym c.phrase_next.ensures ∙ c.loop-alloc-test.true in
-    let more : length c.push.new.self.items ≡ length c.loop-alloc.found.items + 1 = omega (arith, ap length c.in_ok-push.ensures.items, length-append c.loop-alloc.found.items (c.in_ok-phrase.phrase ∷ [])) in
+    let more : length c.push.new.list.items ≡ length c.loop-alloc.found.items + 1 = omega (arith, ap length c.in_ok-push.ensures.items, length-append c.loop-alloc.found.items (c.in_ok-phrase.phrase ∷ [])) in
     record {
       read =
-          row_turn phrase_of c.loop-alloc.found.items c.push.new.self.items c.in_ok-phrase.phrase (length c.args.tokens.now) (phrase_at (inside c.args.depth) c.args.owner) (phrase_next c.args.owner) c.loop-alloc.stood c.in_ok-phrase.now
+          row_turn phrase_of c.loop-alloc.found.items c.push.new.list.items c.in_ok-phrase.phrase (length c.args.tokens.now) (phrase_at (inside c.args.depth) c.args.owner) (phrase_next c.args.owner) c.loop-alloc.stood c.in_ok-phrase.now
           c.loop-alloc.tokens c.phrase_at.new.tokens (row (length c.args.tokens.now) (phrase_at (inside c.args.depth) c.args.owner) (phrase_next c.args.owner) nothing_stood c.args.tokens.now)
           (some_left (goes_on c.args.owner c.loop-alloc.stood) c.loop-alloc.tokens on) c.loop-alloc.invariant.room on c.in_ok-phrase.ensures.value c.in_ok-push.ensures.items c.loop-alloc.invariant.read;
       room = omega (arith, more, c.in_ok-phrase.ensures.shorter, c.loop-alloc.invariant.room);

@@ -1,0 +1,14 @@
+ghost use Rattle.std.specs.Prelude.{◌≡◌, IfOk, IfErr};
+ghost use Rattle.net_model.specs.declared.stop.Stop.TheVariants.{OutOfMemory};
+
+use crate::stop::Stop;
+use net_lex::Boxed;
+use std::alloc::Global;
+
+/// The value in a box of its own.
+pub(crate) fn boxed<T: Drop>(alloc: Global, value: T) -> Result<Boxed<T>, Stop>
+    ensures value { IfOk result (λ b. b ≡ value) }
+    ensures memory { IfErr result (λ e. e ≡ OutOfMemory) }
+{
+    Ok(Boxed::new(Box::new(alloc, value)?))
+}
