@@ -83,7 +83,7 @@ pub(crate) fn braces_inside<'t, 's>(
 
 /// Braces without items.
 #[cycle(parser)]
-#[tactic(auto, using(net_tree::proofs::Views::views, crate::proofs::Making::makings), unfolding(crate::specs::Expressions::hollow_at))]
+#[tactic(auto, using(net_tree::proofs::Views::views), unfolding(crate::specs::Expressions::hollow_at))]
 fn hollow_inside<'t, 's>(
     alloc: Global,
     depth: u8,
@@ -100,7 +100,7 @@ fn hollow_inside<'t, 's>(
 
 /// Braces with items.
 #[cycle(parser)]
-#[tactic(auto, using(net_tree::proofs::Views::views, crate::proofs::Making::makings), unfolding(crate::specs::Expressions::items_at, crate::specs::Expressions::inner_of))]
+#[tactic(auto, using(crate::proofs::Making::makings), unfolding(crate::specs::Expressions::items_at, crate::specs::Expressions::inner_of))]
 fn items_inside<'t, 's>(
     alloc: Global,
     depth: u8,
@@ -122,7 +122,7 @@ fn items_inside<'t, 's>(
 
 /// The condition of braces, if there is one.
 #[cycle(parser)]
-#[tactic(auto, using(net_tree::proofs::Views::views, crate::proofs::Making::makings), unfolding(crate::specs::Expressions::part_at, crate::specs::Expressions::present_at, crate::specs::Expressions::inner_of))]
+#[tactic(auto, using(net_tree::proofs::Views::views), unfolding(crate::specs::Expressions::part_at, crate::specs::Expressions::present_at, crate::specs::Expressions::inner_of))]
 fn filter_of<'t, 's>(
     alloc: Global,
     depth: u8,
@@ -143,7 +143,7 @@ fn filter_of<'t, 's>(
 
 /// What `sum`, `min` or `max` begins.
 #[cycle(parser)]
-#[tactic(auto, using(net_tree::proofs::Views::views, crate::proofs::Making::makings), unfolding(crate::specs::Expressions::reduced_at, crate::specs::Expressions::inner_of))]
+#[tactic(auto, unfolding(crate::specs::Expressions::reduced_at, crate::specs::Expressions::inner_of))]
 pub(crate) fn reduced_inside<'t, 's>(
     alloc: Global,
     depth: u8,

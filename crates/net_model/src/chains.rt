@@ -37,7 +37,7 @@ pub(crate) fn climb_to<'t, 's>(
 
 /// A chain of operands of this rank, or one alone.
 #[cycle(parser)]
-#[tactic(auto, using(net_tree::proofs::Views::views, crate::proofs::Making::makings), unfolding(crate::specs::Expressions::chain_at))]
+#[tactic(auto, unfolding(crate::specs::Expressions::chain_at))]
 fn chain_of<'t, 's>(
     alloc: Global,
     depth: u8,

@@ -78,7 +78,7 @@ fn if_inside<'t, 's>(
 
 /// A tree for this place, with the mark or word before it.
 #[cycle(parser)]
-#[tactic(auto, using(net_tree::proofs::Views::views, crate::proofs::Making::makings))]
+#[tactic(auto, using(net_tree::proofs::Views::views))]
 pub(crate) fn introduced<'t, 's>(
     alloc: Global,
     depth: u8,
@@ -96,7 +96,7 @@ pub(crate) fn introduced<'t, 's>(
 
 /// What `if` begins.
 #[cycle(parser)]
-#[tactic(auto, using(net_tree::proofs::Views::views, crate::proofs::Making::makings), unfolding(crate::specs::Expressions::choice_at, crate::specs::Expressions::inner_of))]
+#[tactic(auto, using(net_tree::proofs::Views::views), unfolding(crate::specs::Expressions::choice_at, crate::specs::Expressions::inner_of))]
 fn choice_inside<'t, 's>(
     alloc: Global,
     depth: u8,
@@ -119,7 +119,7 @@ fn choice_inside<'t, 's>(
 
 /// The part of `else`, if there is one.
 #[cycle(parser)]
-#[tactic(auto, using(net_tree::proofs::Views::views, crate::proofs::Making::makings), unfolding(crate::specs::Expressions::part_at, crate::specs::Expressions::present_at, crate::specs::Expressions::inner_of))]
+#[tactic(auto, using(net_tree::proofs::Views::views), unfolding(crate::specs::Expressions::part_at, crate::specs::Expressions::present_at, crate::specs::Expressions::inner_of))]
 fn otherwise_of<'t, 's>(
     alloc: Global,
     depth: u8,

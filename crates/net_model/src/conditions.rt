@@ -1,8 +1,11 @@
 ghost use Rattle.std.specs.Prelude.{◌≡◌, ◌<◌, ◌≤◌, Some, None, length, map, IfOk};
+ghost use Rattle.net_tree.specs.Tree.{one, between};
 ghost use Rattle.net_tree.specs.View.{tree, link_of, links_of, condition_of};
 ghost use Rattle.net_model.specs.Conditions as grammar;
-ghost use Rattle.net_model.specs.Expressions.{inside};
-ghost use Rattle.net_model.specs.Reading.{Gives};
+ghost use Rattle.net_model.specs.Expressions.{inside, climb, unary};
+ghost use Rattle.net_model.specs.Reading.{Gives, ◌>>=◌ as ◌▷◌, read_as, expect};
+ghost use Rattle.net_model.specs.declared.sort.Sort.TheVariants as sorts;
+ghost use Rattle.net_model.specs.declared.stop.Awaiting.TheVariants as awaiting;
 
 use crate::boxed::boxed;
 use crate::carried::Carried;
@@ -162,6 +165,43 @@ fn chain_next(bound: Role, tokens: &Cursor<'_, '_>) -> bool
     }
 }
 
+/// One bound, with a sum on each side.
+fn one<'s>(
+    colon: Token<'s>,
+    left: Carried<Expr<'s>>,
+    bound: Token<'s>,
+    right: Carried<Expr<'s>>,
+) -> Carried<NetCond<'s>>
+    ensures { condition_of result ≡ one colon.entry (tree left.entry) bound.entry (tree right.entry) }
+{
+    Carried::new(NetCond::One(colon, left.into_inner(), bound, right.into_inner()))
+}
+
+/// The second of two bounds.
+fn between_at<'t, 's>(
+    alloc: Global,
+    depth: u8,
+    colon: Token<'s>,
+    low: Carried<Expr<'s>>,
+    bound: Token<'s>,
+    middle: Carried<Expr<'s>>,
+    tokens: &mut Cursor<'t, 's>,
+) -> Result<Carried<NetCond<'s>>, Stop>
+    ensures value { Gives condition_of result tokens.new (expect sorts.Bound awaiting.Other tokens.old ▷ λ q. climb 3 (unary (inside depth)) q.1 ▷ λ z. read_as (between colon.entry (tree low.entry) bound.entry (tree middle.entry) q.0 z.0) z.1) }
+    ensures shorter { IfOk result (λ x. length tokens.new ≤ length tokens.old) }
+{
+    let second = expect(Sort::Bound, Awaiting::Other, tokens)?;
+    let high = climb_to(alloc, depth, 3, tokens)?;
+    Ok(Carried::new(NetCond::Between(
+        colon,
+        low.into_inner(),
+        bound,
+        middle.into_inner(),
+        second,
+        high.into_inner(),
+    )))
+}
+
 /// Behind the second sum, where the first had no net term.
 #[tactic(auto, unfolding(crate::specs::Conditions::high_at))]
 fn high_at<'t, 's>(
@@ -177,18 +217,9 @@ fn high_at<'t, 's>(
     ensures shorter { IfOk result (λ x. length tokens.new ≤ length tokens.old) }
 {
     if chain_next(role_of(&bound), tokens) {
-        let second = expect(Sort::Bound, Awaiting::Other, tokens)?;
-        let high = climb_to(alloc, depth, 3, tokens)?;
-        Ok(Carried::new(NetCond::Between(
-            colon,
-            low.into_inner(),
-            bound,
-            middle.into_inner(),
-            second,
-            high.into_inner(),
-        )))
+        between_at(alloc, depth, colon, low, bound, middle, tokens)
     } else {
-        Ok(Carried::new(NetCond::One(colon, low.into_inner(), bound, middle.into_inner())))
+        Ok(one(colon, low, bound, middle))
     }
 }
 
@@ -229,7 +260,7 @@ fn bounded_at<'t, 's>(
         middle_at(alloc, depth, colon, left, bound, tokens)
     } else {
         let right = climb_to(alloc, depth, 3, tokens)?;
-        Ok(Carried::new(NetCond::One(colon, left.into_inner(), bound, right.into_inner())))
+        Ok(one(colon, left, bound, right))
     }
 }
 

@@ -41,7 +41,7 @@ pub(crate) fn unary_of<'t, 's>(
 }
 
 /// The same where no nesting may be opened.
-#[tactic(auto, using(net_tree::proofs::Views::views, crate::proofs::Making::makings), unfolding(crate::specs::Expressions::unary, crate::specs::Expressions::unary_at, crate::specs::Expressions::negated_at))]
+#[tactic(auto, using(net_tree::proofs::Views::views), unfolding(crate::specs::Expressions::unary, crate::specs::Expressions::unary_at, crate::specs::Expressions::negated_at))]
 fn shut<'t, 's>(tokens: &mut Cursor<'t, 's>) -> Result<Carried<Expr<'s>>, Stop>
     ensures value { Gives tree result tokens.new (unary None tokens.old) }
     ensures shorter { IfOk result (λ x. length tokens.new < length tokens.old) }
@@ -59,7 +59,7 @@ fn shut<'t, 's>(tokens: &mut Cursor<'t, 's>) -> Result<Carried<Expr<'s>>, Stop>
     }
 }
 
-#[tactic(auto, using(net_tree::proofs::Views::views, crate::proofs::Making::makings), unfolding(crate::specs::Expressions::named_at))]
+#[tactic(auto, using(net_tree::proofs::Views::views), unfolding(crate::specs::Expressions::named_at))]
 fn name_shut<'t, 's>(
     name: Token<'s>,
     tokens: &mut Cursor<'t, 's>,
@@ -88,7 +88,7 @@ fn not_shut<'t, 's>(tokens: &mut Cursor<'t, 's>) -> Result<Carried<Expr<'s>>, St
 
 /// The same where so many nestings may be opened further in.
 #[cycle(parser)]
-#[tactic(auto, using(net_tree::proofs::Views::views, crate::proofs::Making::makings), unfolding(crate::specs::Expressions::unary, crate::specs::Expressions::unary_at, crate::specs::Expressions::inner_of))]
+#[tactic(auto, using(net_tree::proofs::Views::views), unfolding(crate::specs::Expressions::unary, crate::specs::Expressions::unary_at, crate::specs::Expressions::inner_of))]
 fn unary_inside<'t, 's>(
     alloc: Global,
     depth: u8,
@@ -160,7 +160,7 @@ pub(crate) fn named_of<'t, 's>(
 
 /// What a name begins where so many nestings may be opened further in.
 #[cycle(parser)]
-#[tactic(auto, using(net_tree::proofs::Views::views, crate::proofs::Making::makings), unfolding(crate::specs::Expressions::named_at))]
+#[tactic(auto, using(net_tree::proofs::Views::views), unfolding(crate::specs::Expressions::named_at))]
 fn named_inside<'t, 's>(
     alloc: Global,
     depth: u8,
@@ -179,7 +179,7 @@ fn named_inside<'t, 's>(
 
 /// A name with the subscripts behind it.
 #[cycle(parser)]
-#[tactic(auto, using(net_tree::proofs::Views::views, crate::proofs::Making::makings), unfolding(crate::specs::Expressions::subscripts_at, crate::specs::Expressions::inner_of))]
+#[tactic(auto, unfolding(crate::specs::Expressions::subscripts_at, crate::specs::Expressions::inner_of))]
 fn subscripts_inside<'t, 's>(
     alloc: Global,
     depth: u8,
@@ -220,7 +220,7 @@ fn indexed<'t, 's>(
 
 /// What `(` begins.
 #[cycle(parser)]
-#[tactic(auto, using(net_tree::proofs::Views::views, crate::proofs::Making::makings), unfolding(crate::specs::Expressions::parens_at, crate::specs::Expressions::inner_of))]
+#[tactic(auto, unfolding(crate::specs::Expressions::parens_at, crate::specs::Expressions::inner_of))]
 fn parens_inside<'t, 's>(
     alloc: Global,
     depth: u8,
@@ -236,7 +236,7 @@ fn parens_inside<'t, 's>(
 
 /// Behind what stands first in parentheses.
 #[cycle(parser)]
-#[tactic(auto, using(net_tree::proofs::Views::views, crate::proofs::Making::makings), unfolding(crate::specs::Expressions::parens_from, crate::specs::Expressions::inner_of))]
+#[tactic(auto, unfolding(crate::specs::Expressions::parens_from, crate::specs::Expressions::inner_of))]
 fn parens_from<'t, 's>(
     alloc: Global,
     depth: u8,
@@ -256,7 +256,7 @@ fn parens_from<'t, 's>(
 }
 
 /// The end of parentheses around one tree.
-#[tactic(auto, using(net_tree::proofs::Views::views, crate::proofs::Making::makings))]
+#[tactic(auto, using(net_tree::proofs::Views::views))]
 fn closed<'t, 's>(
     alloc: Global,
     opening: Token<'s>,
@@ -297,7 +297,7 @@ fn listed<'t, 's>(
 
 /// What `not` begins.
 #[cycle(parser)]
-#[tactic(auto, using(net_tree::proofs::Views::views, crate::proofs::Making::makings), unfolding(crate::specs::Expressions::negated_at, crate::specs::Expressions::inner_of))]
+#[tactic(auto, unfolding(crate::specs::Expressions::negated_at, crate::specs::Expressions::inner_of))]
 fn negated_inside<'t, 's>(
     alloc: Global,
     depth: u8,

@@ -12,7 +12,7 @@ use net_tree::{Expr, Link, Operator, Series};
 use std::alloc::Global;
 
 /// Whether the tree may stand where a sum may.
-#[tactic(auto, using(net_tree::proofs::Views::views, crate::proofs::Making::makings))]
+#[tactic(auto, using(net_tree::proofs::Views::views))]
 pub(crate) fn is_sum(expr: &Expr<'_>) -> bool
     ensures { result ≡ nat_le (rank (tree expr.now)) 3 }
 {
@@ -49,7 +49,7 @@ pub(crate) fn is_none(links: &Items<Link<'_>>) -> bool
 }
 
 /// A chain, or its first operand where that is alone.
-#[tactic(auto, using(net_tree::proofs::Views::views, crate::proofs::Making::makings))]
+#[tactic(auto, using(crate::proofs::Making::makings))]
 pub(crate) fn chained<'s>(
     alloc: Global,
     place: u8,
