@@ -9,6 +9,7 @@ pub mod TreesSound
 pub mod Grips
 pub mod LinksComplete
 pub mod Starts
+pub mod Storing
 pub mod TreesComplete
 pub mod RowLaws
 pub mod TermsSound

@@ -15,6 +15,7 @@ use crate::cursor::{Cursor, expect};
 use crate::place::body_place;
 use crate::sort::Sort;
 use crate::stop::{Awaiting, Stop};
+use crate::stored::Stored;
 use net_lex::{Boxed, Token};
 use net_tree::{Braces, Expr, Part, Series};
 use std::alloc::Global;
@@ -25,7 +26,7 @@ pub(crate) fn braces_of<'t, 's>(
     alloc: Global,
     depth: u8,
     tokens: &mut Cursor<'t, 's>,
-) -> Result<Carried<Braces<'s>>, Stop>
+) -> Result<Stored<Braces<'s>>, Stop>
     ensures value { Gives braces_of result tokens.new (grammar.braces (inside depth) tokens.old) }
     ensures shorter { IfOk result (λ x. length tokens.new < length tokens.old) }
 {
@@ -37,7 +38,7 @@ pub(crate) fn braces_of<'t, 's>(
 }
 
 #[tactic(auto, unfolding(crate::specs::Expressions::braces))]
-fn shut_braces<'t, 's>(tokens: &mut Cursor<'t, 's>) -> Result<Carried<Braces<'s>>, Stop>
+fn shut_braces<'t, 's>(tokens: &mut Cursor<'t, 's>) -> Result<Stored<Braces<'s>>, Stop>
     ensures value { Gives braces_of result tokens.new (grammar.braces None tokens.old) }
     ensures shorter { IfOk result (λ x. length tokens.new < length tokens.old) }
 {
@@ -54,7 +55,7 @@ fn braces_opened<'t, 's>(
     alloc: Global,
     depth: u8,
     tokens: &mut Cursor<'t, 's>,
-) -> Result<Carried<Braces<'s>>, Stop>
+) -> Result<Stored<Braces<'s>>, Stop>
     ensures value { Gives braces_of result tokens.new (grammar.braces (Some (inner_of (inside depth))) tokens.old) }
     ensures shorter { IfOk result (λ x. length tokens.new < length tokens.old) }
 {
@@ -70,7 +71,7 @@ pub(crate) fn braces_inside<'t, 's>(
     depth: u8,
     opening: Token<'s>,
     tokens: &mut Cursor<'t, 's>,
-) -> Result<Carried<Braces<'s>>, Stop>
+) -> Result<Stored<Braces<'s>>, Stop>
     ensures value { Gives braces_of result tokens.new (grammar.braces_at (inner_of (inside depth)) opening.entry tokens.old) }
     ensures shorter { IfOk result (λ x. length tokens.new < length tokens.old) }
 {
@@ -89,13 +90,13 @@ fn hollow_inside<'t, 's>(
     depth: u8,
     opening: Token<'s>,
     tokens: &mut Cursor<'t, 's>,
-) -> Result<Carried<Braces<'s>>, Stop>
+) -> Result<Stored<Braces<'s>>, Stop>
     ensures value { Gives braces_of result tokens.new (grammar.hollow_at (inner_of (inside depth)) opening.entry tokens.old) }
     ensures shorter { IfOk result (λ x. length tokens.new < length tokens.old) }
 {
     let filter = filter_of(alloc, depth, tokens)?;
     let close = expect(Sort::CloseBrace, Awaiting::Other, tokens)?;
-    Ok(Carried::new(Braces::Empty(opening, filter.into_inner(), close)))
+    Stored::new(alloc, Braces::Empty(opening, filter.into_inner(), close))
 }
 
 /// Braces with items.
@@ -106,7 +107,7 @@ fn items_inside<'t, 's>(
     depth: u8,
     opening: Token<'s>,
     tokens: &mut Cursor<'t, 's>,
-) -> Result<Carried<Braces<'s>>, Stop>
+) -> Result<Stored<Braces<'s>>, Stop>
     ensures value { Gives braces_of result tokens.new (grammar.items_at (inner_of (inside depth)) opening.entry tokens.old) }
     ensures shorter { IfOk result (λ x. length tokens.new < length tokens.old) }
 {
@@ -117,7 +118,7 @@ fn items_inside<'t, 's>(
     let first = first.into_inner();
     let more = more.into_inner();
     let braces = Braces::Filled(opening, Series { first, more }, filter.into_inner(), close);
-    Ok(Carried::new(braces))
+    Stored::new(alloc, braces)
 }
 
 /// The condition of braces, if there is one.
@@ -138,7 +139,7 @@ fn filter_of<'t, 's>(
         return Err(Stop::Refused(0, Awaiting::Other));
     };
     let condition = introduced(alloc, depth, 10, mark, tokens)?;
-    Ok(Carried::new(Some(condition.into_inner())))
+    Ok(Carried::new(Some(condition.into_boxed())))
 }
 
 /// What `sum`, `min` or `max` begins.
@@ -149,7 +150,7 @@ pub(crate) fn reduced_inside<'t, 's>(
     depth: u8,
     word: Token<'s>,
     tokens: &mut Cursor<'t, 's>,
-) -> Result<Carried<Expr<'s>>, Stop>
+) -> Result<Stored<Expr<'s>>, Stop>
     ensures value { Gives tree result tokens.new (grammar.reduced_at (inner_of (inside depth)) word.entry tokens.old) }
     ensures shorter { IfOk result (λ x. length tokens.new < length tokens.old) }
 {
@@ -163,14 +164,13 @@ pub(crate) fn reduced_inside<'t, 's>(
 fn reduced<'s>(
     alloc: Global,
     word: Token<'s>,
-    braces: Carried<Braces<'s>>,
-    body: Carried<Expr<'s>>,
-) -> Result<Carried<Expr<'s>>, Stop>
+    braces: Stored<Braces<'s>>,
+    body: Stored<Expr<'s>>,
+) -> Result<Stored<Expr<'s>>, Stop>
     ensures { (rest : Tokens) → Gives tree result rest (read_as (reduced word.entry (braces_of braces.entry) (tree body.entry)) rest) }
 {
-    let body = boxed(alloc, body.into_inner())?;
     let front = boxed(alloc, (word, braces.into_inner()))?;
-    Ok(Carried::new(Expr::Reduced(front, body)))
+    Stored::new(alloc, Expr::Reduced(front, body.into_boxed()))
 }
 
 /// What a reduction takes behind its braces.
@@ -179,7 +179,7 @@ fn body_inside<'t, 's>(
     alloc: Global,
     depth: u8,
     tokens: &mut Cursor<'t, 's>,
-) -> Result<Carried<Expr<'s>>, Stop>
+) -> Result<Stored<Expr<'s>>, Stop>
     ensures value { Gives tree result tokens.new (grammar.climb 2 (unary (inside depth)) tokens.old) }
     ensures shorter { IfOk result (λ x. length tokens.new < length tokens.old) }
 {

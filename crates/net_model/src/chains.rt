@@ -12,6 +12,7 @@ use crate::expressions::unary_of;
 use crate::list::push;
 use crate::place::right_place;
 use crate::stop::Stop;
+use crate::stored::Stored;
 use crate::trees::{chained, linked};
 use net_lex::Items;
 use net_tree::{Expr, Link};
@@ -24,7 +25,7 @@ pub(crate) fn climb_to<'t, 's>(
     depth: u8,
     place: u8,
     tokens: &mut Cursor<'t, 's>,
-) -> Result<Carried<Expr<'s>>, Stop>
+) -> Result<Stored<Expr<'s>>, Stop>
     ensures value { Gives tree result tokens.new (grammar.climb place (unary (inside depth)) tokens.old) }
     ensures shorter { IfOk result (λ x. length tokens.new < length tokens.old) }
 {
@@ -43,7 +44,7 @@ fn chain_of<'t, 's>(
     depth: u8,
     place: u8,
     tokens: &mut Cursor<'t, 's>,
-) -> Result<Carried<Expr<'s>>, Stop>
+) -> Result<Stored<Expr<'s>>, Stop>
     ensures value { Gives tree result tokens.new (grammar.chain_at place (grammar.climb place (unary (inside depth))) tokens.old) }
     ensures shorter { IfOk result (λ x. length tokens.new < length tokens.old) }
 {
@@ -82,7 +83,8 @@ pub(crate) fn links_from<'t, 's>(
     while tokens.next_joins(level, found.len()) {
         let operator = operator_at(alloc, tokens)?;
         let operand = climb_to(alloc, depth, place, tokens)?;
-        push(&mut found, linked(operator, operand))?;
+        let link = linked(alloc, operator, operand)?;
+        push(&mut found, link)?;
     }
     Ok(Carried::new(Items::new(found)))
 }

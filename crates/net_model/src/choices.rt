@@ -13,6 +13,7 @@ use crate::chains::climb_to;
 use crate::cursor::{Cursor, expect};
 use crate::sort::Sort;
 use crate::stop::{Awaiting, Stop};
+use crate::stored::Stored;
 use net_lex::{Boxed, Token};
 use net_tree::{Expr, Part};
 use std::alloc::Global;
@@ -25,7 +26,7 @@ pub(crate) fn wide_of<'t, 's>(
     depth: u8,
     place: u8,
     tokens: &mut Cursor<'t, 's>,
-) -> Result<Carried<Expr<'s>>, Stop>
+) -> Result<Stored<Expr<'s>>, Stop>
     ensures value { Gives tree result tokens.new (grammar.wide (inside depth) place tokens.old) }
     ensures shorter { IfOk result (λ x. length tokens.new < length tokens.old) }
 {
@@ -41,7 +42,7 @@ fn if_of<'t, 's>(
     alloc: Global,
     depth: u8,
     tokens: &mut Cursor<'t, 's>,
-) -> Result<Carried<Expr<'s>>, Stop>
+) -> Result<Stored<Expr<'s>>, Stop>
     ensures value { Gives tree result tokens.new (grammar.if_at (inside depth) tokens.old) }
     ensures shorter { IfOk result (λ x. length tokens.new < length tokens.old) }
 {
@@ -53,7 +54,7 @@ fn if_of<'t, 's>(
 }
 
 #[tactic(auto, unfolding(crate::specs::Expressions::if_at))]
-fn shut_if<'t, 's>(tokens: &mut Cursor<'t, 's>) -> Result<Carried<Expr<'s>>, Stop>
+fn shut_if<'t, 's>(tokens: &mut Cursor<'t, 's>) -> Result<Stored<Expr<'s>>, Stop>
     ensures value { Gives tree result tokens.new (grammar.if_at None tokens.old) }
     ensures shorter { IfOk result (λ x. length tokens.new < length tokens.old) }
 {
@@ -66,7 +67,7 @@ fn if_inside<'t, 's>(
     alloc: Global,
     depth: u8,
     tokens: &mut Cursor<'t, 's>,
-) -> Result<Carried<Expr<'s>>, Stop>
+) -> Result<Stored<Expr<'s>>, Stop>
     ensures value { Gives tree result tokens.new (grammar.if_at (Some (inner_of (inside depth))) tokens.old) }
     ensures shorter { IfOk result (λ x. length tokens.new < length tokens.old) }
 {
@@ -85,13 +86,13 @@ pub(crate) fn introduced<'t, 's>(
     place: u8,
     mark: Token<'s>,
     tokens: &mut Cursor<'t, 's>,
-) -> Result<Carried<Boxed<Part<'s>>>, Stop>
+) -> Result<Stored<Part<'s>>, Stop>
     ensures value { Gives (λ p. (part_of p).1) result tokens.new (grammar.climb place (unary (inside depth)) tokens.old) }
     ensures mark { IfOk result (λ p. (part_of p).0 ≡ mark.entry) }
     ensures shorter { IfOk result (λ x. length tokens.new < length tokens.old) }
 {
     let value = climb_to(alloc, depth, place, tokens)?.into_inner();
-    Ok(Carried::new(boxed(alloc, Part { mark, value })?))
+    Stored::new(alloc, Part { mark, value })
 }
 
 /// What `if` begins.
@@ -102,7 +103,7 @@ fn choice_inside<'t, 's>(
     depth: u8,
     word: Token<'s>,
     tokens: &mut Cursor<'t, 's>,
-) -> Result<Carried<Expr<'s>>, Stop>
+) -> Result<Stored<Expr<'s>>, Stop>
     ensures value { Gives tree result tokens.new (grammar.choice_at (inner_of (inside depth)) word.entry tokens.old) }
     ensures shorter { IfOk result (λ x. length tokens.new < length tokens.old) }
 {
@@ -110,11 +111,12 @@ fn choice_inside<'t, 's>(
     let then = expect(Sort::Then, Awaiting::Other, tokens)?;
     let branch = introduced(alloc, depth, 7, then, tokens)?;
     let otherwise = otherwise_of(alloc, depth, tokens)?;
-    Ok(Carried::new(Expr::Choice(
-        condition.into_inner(),
-        branch.into_inner(),
+    let choice = Expr::Choice(
+        condition.into_boxed(),
+        branch.into_boxed(),
         otherwise.into_inner(),
-    )))
+    );
+    Stored::new(alloc, choice)
 }
 
 /// The part of `else`, if there is one.

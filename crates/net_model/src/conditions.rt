@@ -1,4 +1,4 @@
-ghost use Rattle.std.specs.Prelude.{◌≡◌, ◌<◌, ◌≤◌, Some, None, length, map, IfOk};
+ghost use Rattle.std.specs.Prelude.{◌≡◌, ◌<◌, ◌≤◌, Some, None, length, map, IfOk, IfErr};
 ghost use Rattle.net_tree.specs.Tree.{one, between};
 ghost use Rattle.net_tree.specs.View.{tree, link_of, links_of, condition_of};
 ghost use Rattle.net_model.specs.Conditions as grammar;
@@ -6,6 +6,7 @@ ghost use Rattle.net_model.specs.Expressions.{inside, climb, unary};
 ghost use Rattle.net_model.specs.Reading.{Gives, ◌>>=◌ as ◌▷◌, read_as, expect};
 ghost use Rattle.net_model.specs.declared.sort.Sort.TheVariants as sorts;
 ghost use Rattle.net_model.specs.declared.stop.Awaiting.TheVariants as awaiting;
+ghost use Rattle.net_model.specs.declared.stop.Stop.TheVariants.{OutOfMemory};
 
 use crate::boxed::boxed;
 use crate::carried::Carried;
@@ -14,6 +15,7 @@ use crate::cursor::{Cursor, expect, operator_at};
 use crate::list::push;
 use crate::sort::Sort;
 use crate::stop::{Awaiting, Stop};
+use crate::stored::Stored;
 use crate::trees::{chained, linked};
 use net_lex::{Items, Token};
 use net_tree::{Expr, Link, NetCond, Relates, Role, role_of};
@@ -21,20 +23,20 @@ use std::alloc::Global;
 
 /// `net_in`, `net_out`.
 #[tactic(auto, using(net_tree::proofs::Views::views), unfolding(crate::specs::Conditions::net_at))]
-fn net_at<'t, 's>(alloc: Global, tokens: &mut Cursor<'t, 's>) -> Result<Carried<Expr<'s>>, Stop>
+fn net_at<'t, 's>(alloc: Global, tokens: &mut Cursor<'t, 's>) -> Result<Stored<Expr<'s>>, Stop>
     ensures value { Gives tree result tokens.new (grammar.net_at tokens.old) }
     ensures shorter { IfOk result (λ x. length tokens.new < length tokens.old) }
 {
     let word = expect(Sort::Net, Awaiting::Other, tokens)?;
     let parts = boxed(alloc, (None, word))?;
-    Ok(Carried::new(Expr::Net(parts)))
+    Stored::new(alloc, Expr::Net(parts))
 }
 
 /// A net term, behind which no other may come.
 fn only_net_at<'t, 's>(
     alloc: Global,
     tokens: &mut Cursor<'t, 's>,
-) -> Result<(Carried<Expr<'s>>, bool), Stop>
+) -> Result<(Stored<Expr<'s>>, bool), Stop>
     ensures value { Gives (λ x. (tree x.0, x.1)) result tokens.new (grammar.only_net_at tokens.old) }
     ensures shorter { IfOk result (λ x. length tokens.new < length tokens.old) }
 {
@@ -46,14 +48,14 @@ fn only_net_at<'t, 's>(
 fn signed_net_at<'t, 's>(
     alloc: Global,
     tokens: &mut Cursor<'t, 's>,
-) -> Result<Carried<Expr<'s>>, Stop>
+) -> Result<Stored<Expr<'s>>, Stop>
     ensures value { Gives tree result tokens.new (grammar.signed_net_at tokens.old) }
     ensures shorter { IfOk result (λ x. length tokens.new < length tokens.old) }
 {
     let sign = expect(Sort::Sign, Awaiting::Other, tokens)?;
     let word = expect(Sort::Net, Awaiting::Other, tokens)?;
     let parts = boxed(alloc, (Some(sign), word))?;
-    Ok(Carried::new(Expr::Net(parts)))
+    Stored::new(alloc, Expr::Net(parts))
 }
 
 /// A term, and whether a net term may still come.
@@ -63,7 +65,7 @@ fn term_at<'t, 's>(
     depth: u8,
     free: bool,
     tokens: &mut Cursor<'t, 's>,
-) -> Result<(Carried<Expr<'s>>, bool), Stop>
+) -> Result<(Stored<Expr<'s>>, bool), Stop>
     ensures value { Gives (λ x. (tree x.0, x.1)) result tokens.new (grammar.term_at (inside depth) free tokens.old) }
     ensures shorter { IfOk result (λ x. length tokens.new < length tokens.old) }
 {
@@ -81,7 +83,7 @@ fn first_term_at<'t, 's>(
     depth: u8,
     free: bool,
     tokens: &mut Cursor<'t, 's>,
-) -> Result<(Carried<Expr<'s>>, bool), Stop>
+) -> Result<(Stored<Expr<'s>>, bool), Stop>
     ensures value { Gives (λ x. (tree x.0, x.1)) result tokens.new (grammar.first_term_at (inside depth) free tokens.old) }
     ensures shorter { IfOk result (λ x. length tokens.new < length tokens.old) }
 {
@@ -99,13 +101,13 @@ fn further_term_at<'t, 's>(
     depth: u8,
     free: bool,
     tokens: &mut Cursor<'t, 's>,
-) -> Result<(Carried<Link<'s>>, bool), Stop>
+) -> Result<(Stored<Link<'s>>, bool), Stop>
     ensures value { Gives (λ x. (link_of x.0, x.1)) result tokens.new (grammar.further_term_at (inside depth) free tokens.old) }
     ensures shorter { IfOk result (λ x. length tokens.new < length tokens.old) }
 {
     let operator = operator_at(alloc, tokens)?;
     let (operand, free) = term_at(alloc, depth, free, tokens)?;
-    Ok((linked(operator, operand), free))
+    Ok((linked(alloc, operator, operand)?, free))
 }
 
 /// The terms behind the first one.
@@ -136,7 +138,7 @@ fn sum_at<'t, 's>(
     depth: u8,
     free: bool,
     tokens: &mut Cursor<'t, 's>,
-) -> Result<(Carried<Expr<'s>>, bool), Stop>
+) -> Result<(Stored<Expr<'s>>, bool), Stop>
     ensures value { Gives (λ x. (tree x.0, x.1)) result tokens.new (grammar.sum_at (inside depth) free tokens.old) }
     ensures shorter { IfOk result (λ x. length tokens.new < length tokens.old) }
 {
@@ -167,14 +169,17 @@ fn chain_next(bound: Role, tokens: &Cursor<'_, '_>) -> bool
 
 /// One bound, with a sum on each side.
 fn one<'s>(
+    alloc: Global,
     colon: Token<'s>,
-    left: Carried<Expr<'s>>,
+    left: Stored<Expr<'s>>,
     bound: Token<'s>,
-    right: Carried<Expr<'s>>,
-) -> Carried<NetCond<'s>>
-    ensures { condition_of result ≡ one colon.entry (tree left.entry) bound.entry (tree right.entry) }
+    right: Stored<Expr<'s>>,
+) -> Result<Stored<NetCond<'s>>, Stop>
+    ensures value { IfOk result (λ c. condition_of c ≡ one colon.entry (tree left.entry) bound.entry (tree right.entry)) }
+    ensures memory { IfErr result (λ e. e ≡ OutOfMemory) }
 {
-    Carried::new(NetCond::One(colon, left.into_inner(), bound, right.into_inner()))
+    let condition = NetCond::One(colon, left.into_inner(), bound, right.into_inner());
+    Stored::new(alloc, condition)
 }
 
 /// The second of two bounds.
@@ -182,24 +187,25 @@ fn between_at<'t, 's>(
     alloc: Global,
     depth: u8,
     colon: Token<'s>,
-    low: Carried<Expr<'s>>,
+    low: Stored<Expr<'s>>,
     bound: Token<'s>,
-    middle: Carried<Expr<'s>>,
+    middle: Stored<Expr<'s>>,
     tokens: &mut Cursor<'t, 's>,
-) -> Result<Carried<NetCond<'s>>, Stop>
+) -> Result<Stored<NetCond<'s>>, Stop>
     ensures value { Gives condition_of result tokens.new (expect sorts.Bound awaiting.Other tokens.old ▷ λ q. climb 3 (unary (inside depth)) q.1 ▷ λ z. read_as (between colon.entry (tree low.entry) bound.entry (tree middle.entry) q.0 z.0) z.1) }
     ensures shorter { IfOk result (λ x. length tokens.new ≤ length tokens.old) }
 {
     let second = expect(Sort::Bound, Awaiting::Other, tokens)?;
     let high = climb_to(alloc, depth, 3, tokens)?;
-    Ok(Carried::new(NetCond::Between(
+    let condition = NetCond::Between(
         colon,
         low.into_inner(),
         bound,
         middle.into_inner(),
         second,
         high.into_inner(),
-    )))
+    );
+    Stored::new(alloc, condition)
 }
 
 /// Behind the second sum, where the first had no net term.
@@ -208,18 +214,18 @@ fn high_at<'t, 's>(
     alloc: Global,
     depth: u8,
     colon: Token<'s>,
-    low: Carried<Expr<'s>>,
+    low: Stored<Expr<'s>>,
     bound: Token<'s>,
-    middle: Carried<Expr<'s>>,
+    middle: Stored<Expr<'s>>,
     tokens: &mut Cursor<'t, 's>,
-) -> Result<Carried<NetCond<'s>>, Stop>
+) -> Result<Stored<NetCond<'s>>, Stop>
     ensures value { Gives condition_of result tokens.new (grammar.high_at (inside depth) colon.entry (tree low.entry) bound.entry (tree middle.entry) tokens.old) }
     ensures shorter { IfOk result (λ x. length tokens.new ≤ length tokens.old) }
 {
     if chain_next(role_of(&bound), tokens) {
         between_at(alloc, depth, colon, low, bound, middle, tokens)
     } else {
-        Ok(one(colon, low, bound, middle))
+        Ok(one(alloc, colon, low, bound, middle)?)
     }
 }
 
@@ -228,10 +234,10 @@ fn middle_at<'t, 's>(
     alloc: Global,
     depth: u8,
     colon: Token<'s>,
-    low: Carried<Expr<'s>>,
+    low: Stored<Expr<'s>>,
     bound: Token<'s>,
     tokens: &mut Cursor<'t, 's>,
-) -> Result<Carried<NetCond<'s>>, Stop>
+) -> Result<Stored<NetCond<'s>>, Stop>
     ensures value { Gives condition_of result tokens.new (grammar.middle_at (inside depth) colon.entry (tree low.entry) bound.entry tokens.old) }
     ensures shorter { IfOk result (λ x. length tokens.new ≤ length tokens.old) }
 {
@@ -248,11 +254,11 @@ fn bounded_at<'t, 's>(
     alloc: Global,
     depth: u8,
     colon: Token<'s>,
-    left: Carried<Expr<'s>>,
+    left: Stored<Expr<'s>>,
     free: bool,
     bound: Token<'s>,
     tokens: &mut Cursor<'t, 's>,
-) -> Result<Carried<NetCond<'s>>, Stop>
+) -> Result<Stored<NetCond<'s>>, Stop>
     ensures value { Gives condition_of result tokens.new (grammar.bounded_at (inside depth) colon.entry (tree left.entry) free bound.entry tokens.old) }
     ensures shorter { IfOk result (λ x. length tokens.new ≤ length tokens.old) }
 {
@@ -260,7 +266,7 @@ fn bounded_at<'t, 's>(
         middle_at(alloc, depth, colon, left, bound, tokens)
     } else {
         let right = climb_to(alloc, depth, 3, tokens)?;
-        Ok(one(colon, left, bound, right))
+        Ok(one(alloc, colon, left, bound, right)?)
     }
 }
 
@@ -269,7 +275,7 @@ fn said_at<'t, 's>(
     alloc: Global,
     depth: u8,
     tokens: &mut Cursor<'t, 's>,
-) -> Result<Carried<NetCond<'s>>, Stop>
+) -> Result<Stored<NetCond<'s>>, Stop>
     ensures value { Gives condition_of result tokens.new (grammar.said_at (inside depth) tokens.old) }
     ensures shorter { IfOk result (λ x. length tokens.new ≤ length tokens.old) }
 {
@@ -285,13 +291,13 @@ pub(crate) fn condition_at<'t, 's>(
     alloc: Global,
     depth: u8,
     tokens: &mut Cursor<'t, 's>,
-) -> Result<Carried<NetCond<'s>>, Stop>
+) -> Result<Stored<NetCond<'s>>, Stop>
     ensures value { Gives condition_of result tokens.new (grammar.condition_at (inside depth) tokens.old) }
     ensures shorter { IfOk result (λ x. length tokens.new ≤ length tokens.old) }
 {
     if tokens.next_is(Sort::Colon) {
         said_at(alloc, depth, tokens)
     } else {
-        Ok(Carried::new(NetCond::Absent))
+        Stored::new(alloc, NetCond::Absent)
     }
 }

@@ -11,7 +11,6 @@ ghost use Rattle.net_model.specs.declared.stop.Awaiting.TheVariants as awaiting;
 ghost use Rattle.net_model.specs.declared.sort.Sort.TheVariants as sorts;
 
 use crate::braces::braces_of;
-use crate::carried::Carried;
 use crate::chains::climb_to;
 use crate::choices::wide_of;
 use crate::conditions::condition_at;
@@ -21,6 +20,7 @@ use crate::phrase::Owner;
 use crate::phrases::{phrases, phrases_end};
 use crate::sort::Sort;
 use crate::stop::{Awaiting, Stop};
+use crate::stored::Stored;
 use net_lex::{Items, Token};
 use net_tree::{Braces, Decl, Declares, Part, Phrase, Role, role_of};
 use std::alloc::Global;
@@ -31,15 +31,15 @@ fn indexing_at<'t, 's>(
     alloc: Global,
     depth: u8,
     tokens: &mut Cursor<'t, 's>,
-) -> Result<Carried<Option<Braces<'s>>>, Stop>
+) -> Result<Stored<Option<Braces<'s>>>, Stop>
     ensures value { Gives indexing_of result tokens.new (grammar.indexing_at (inside depth) tokens.old) }
     ensures shorter { IfOk result (λ x. length tokens.new ≤ length tokens.old) }
 {
     if tokens.next_is(Sort::OpenBrace) {
         let braces = braces_of(alloc, depth, tokens)?.into_inner();
-        Ok(Carried::new(Some(braces)))
+        Stored::new(alloc, Some(braces))
     } else {
-        Ok(Carried::new(None))
+        Stored::new(alloc, None)
     }
 }
 
@@ -49,13 +49,13 @@ fn phrased<'t, 's>(
     depth: u8,
     owner: Owner,
     tokens: &mut Cursor<'t, 's>,
-) -> Result<Carried<(Items<Phrase<'s>>, Token<'s>)>, Stop>
+) -> Result<Stored<(Items<Phrase<'s>>, Token<'s>)>, Stop>
     ensures value { (made : List tree.Phrase → Token → Declaration) → Gives (λ p. made (map phrase_of p.0) p.1) result tokens.new (phrases (inside depth) owner tokens.old ▷ λ p. phrases_end owner p.0.1 p.1 ▷ λ e. read_as (made p.0.0 e.0) e.1) }
     ensures shorter { IfOk result (λ x. length tokens.new ≤ length tokens.old) }
 {
     let (said, stood) = phrases(alloc, depth, owner, tokens)?;
     let end = phrases_end(owner, stood, tokens)?;
-    Ok(Carried::new((said.into_inner(), end)))
+    Stored::new(alloc, (said.into_inner(), end))
 }
 
 /// The name of a parameter or an arc, its braces, its phrases and its semicolon.
@@ -64,14 +64,14 @@ fn detailed<'t, 's>(
     depth: u8,
     owner: Owner,
     tokens: &mut Cursor<'t, 's>,
-) -> Result<Carried<(Token<'s>, Option<Braces<'s>>, Items<Phrase<'s>>, Token<'s>)>, Stop>
+) -> Result<Stored<(Token<'s>, Option<Braces<'s>>, Items<Phrase<'s>>, Token<'s>)>, Stop>
     ensures value { (made : Token → Option tree.Braces → List tree.Phrase → Token → Declaration) → Gives (λ p. made p.0 (indexing_of p.1) (map phrase_of p.2) p.3) result tokens.new (expect sorts.Name awaiting.Other tokens.old ▷ λ n. grammar.indexing_at (inside depth) n.1 ▷ λ b. phrases (inside depth) owner b.1 ▷ λ p. phrases_end owner p.0.1 p.1 ▷ λ e. read_as (made n.0 b.0 p.0.0 e.0) e.1) }
     ensures shorter { IfOk result (λ x. length tokens.new ≤ length tokens.old) }
 {
     let name = expect(Sort::Name, Awaiting::Other, tokens)?;
     let indexing = indexing_at(alloc, depth, tokens)?;
     let (said, end) = phrased(alloc, depth, owner, tokens)?.into_inner();
-    Ok(Carried::new((name, indexing.into_inner(), said, end)))
+    Stored::new(alloc, (name, indexing.into_inner(), said, end))
 }
 
 #[tactic(auto, unfolding(crate::specs::Declarations::set_at))]
@@ -80,13 +80,13 @@ fn set_at<'t, 's>(
     depth: u8,
     word: Token<'s>,
     tokens: &mut Cursor<'t, 's>,
-) -> Result<Carried<Decl<'s>>, Stop>
+) -> Result<Stored<Decl<'s>>, Stop>
     ensures value { Gives declaration_of result tokens.new (grammar.set_at (inside depth) word.entry tokens.old) }
     ensures shorter { IfOk result (λ x. length tokens.new ≤ length tokens.old) }
 {
     let name = expect(Sort::Name, Awaiting::Other, tokens)?;
     let (said, end) = phrased(alloc, depth, Owner::Set, tokens)?.into_inner();
-    Ok(Carried::new(Decl::Set(word, name, said, end)))
+    Stored::new(alloc, Decl::Set(word, name, said, end))
 }
 
 #[tactic(auto, unfolding(crate::specs::Declarations::param_at))]
@@ -95,12 +95,12 @@ fn param_at<'t, 's>(
     depth: u8,
     word: Token<'s>,
     tokens: &mut Cursor<'t, 's>,
-) -> Result<Carried<Decl<'s>>, Stop>
+) -> Result<Stored<Decl<'s>>, Stop>
     ensures value { Gives declaration_of result tokens.new (grammar.param_at (inside depth) word.entry tokens.old) }
     ensures shorter { IfOk result (λ x. length tokens.new ≤ length tokens.old) }
 {
     let (name, indexing, said, end) = detailed(alloc, depth, Owner::Param, tokens)?.into_inner();
-    Ok(Carried::new(Decl::Param(word, name, indexing, said, end)))
+    Stored::new(alloc, Decl::Param(word, name, indexing, said, end))
 }
 
 #[tactic(auto, unfolding(crate::specs::Declarations::arc_at))]
@@ -109,12 +109,12 @@ fn arc_at<'t, 's>(
     depth: u8,
     word: Token<'s>,
     tokens: &mut Cursor<'t, 's>,
-) -> Result<Carried<Decl<'s>>, Stop>
+) -> Result<Stored<Decl<'s>>, Stop>
     ensures value { Gives declaration_of result tokens.new (grammar.arc_at (inside depth) word.entry tokens.old) }
     ensures shorter { IfOk result (λ x. length tokens.new ≤ length tokens.old) }
 {
     let (name, indexing, said, end) = detailed(alloc, depth, Owner::Arc, tokens)?.into_inner();
-    Ok(Carried::new(Decl::Arc(word, name, indexing, said, end)))
+    Stored::new(alloc, Decl::Arc(word, name, indexing, said, end))
 }
 
 #[tactic(auto, unfolding(crate::specs::Declarations::check_at))]
@@ -123,7 +123,7 @@ fn check_at<'t, 's>(
     depth: u8,
     word: Token<'s>,
     tokens: &mut Cursor<'t, 's>,
-) -> Result<Carried<Decl<'s>>, Stop>
+) -> Result<Stored<Decl<'s>>, Stop>
     ensures value { Gives declaration_of result tokens.new (grammar.check_at (inside depth) word.entry tokens.old) }
     ensures shorter { IfOk result (λ x. length tokens.new ≤ length tokens.old) }
 {
@@ -131,13 +131,14 @@ fn check_at<'t, 's>(
     let colon = expect(Sort::Colon, Awaiting::Other, tokens)?;
     let condition = climb_to(alloc, depth, 10, tokens)?;
     let end = expect(Sort::Semicolon, Awaiting::Other, tokens)?;
-    Ok(Carried::new(Decl::Check(
+    let check = Decl::Check(
         word,
         indexing.into_inner(),
         colon,
         condition.into_inner(),
         end,
-    )))
+    );
+    Stored::new(alloc, check)
 }
 
 #[tactic(auto, unfolding(crate::specs::Declarations::node_at))]
@@ -146,7 +147,7 @@ fn node_at<'t, 's>(
     depth: u8,
     word: Token<'s>,
     tokens: &mut Cursor<'t, 's>,
-) -> Result<Carried<Decl<'s>>, Stop>
+) -> Result<Stored<Decl<'s>>, Stop>
     ensures value { Gives declaration_of result tokens.new (grammar.node_at (inside depth) word.entry tokens.old) }
     ensures shorter { IfOk result (λ x. length tokens.new ≤ length tokens.old) }
 {
@@ -154,13 +155,14 @@ fn node_at<'t, 's>(
     let indexing = indexing_at(alloc, depth, tokens)?;
     let condition = condition_at(alloc, depth, tokens)?;
     let end = expect(Sort::Semicolon, Awaiting::Other, tokens)?;
-    Ok(Carried::new(Decl::Node(
+    let node = Decl::Node(
         word,
         name,
         indexing.into_inner(),
         condition.into_inner(),
         end,
-    )))
+    );
+    Stored::new(alloc, node)
 }
 
 /// The expression of an objective, if it has one.
@@ -169,18 +171,18 @@ fn value_part<'t, 's>(
     alloc: Global,
     depth: u8,
     tokens: &mut Cursor<'t, 's>,
-) -> Result<Carried<Option<Part<'s>>>, Stop>
+) -> Result<Stored<Option<Part<'s>>>, Stop>
     ensures value { Gives option_part result tokens.new (part_at sorts.Colon (wide (inside depth) 7) tokens.old) }
     ensures shorter { IfOk result (λ x. length tokens.new ≤ length tokens.old) }
 {
     if !tokens.next_is(Sort::Colon) {
-        return Ok(Carried::new(None));
+        return Stored::new(alloc, None);
     }
     let Some(mark) = tokens.next() else {
         return Err(Stop::Refused(0, Awaiting::Other));
     };
     let value = wide_of(alloc, depth, 7, tokens)?.into_inner();
-    Ok(Carried::new(Some(Part { mark, value })))
+    Stored::new(alloc, Some(Part { mark, value }))
 }
 
 /// What is awaited behind an objective without an expression, and behind one with an expression.
@@ -199,14 +201,14 @@ fn objective_at<'t, 's>(
     depth: u8,
     word: Token<'s>,
     tokens: &mut Cursor<'t, 's>,
-) -> Result<Carried<Decl<'s>>, Stop>
+) -> Result<Stored<Decl<'s>>, Stop>
     ensures value { Gives declaration_of result tokens.new (grammar.objective_at (inside depth) word.entry tokens.old) }
     ensures shorter { IfOk result (λ x. length tokens.new ≤ length tokens.old) }
 {
     let name = expect(Sort::Name, Awaiting::Other, tokens)?;
     let part = value_part(alloc, depth, tokens)?;
     let end = expect(Sort::Semicolon, behind_objective(part.get()), tokens)?;
-    Ok(Carried::new(Decl::Objective(word, name, part.into_inner(), end)))
+    Stored::new(alloc, Decl::Objective(word, name, part.into_inner(), end))
 }
 
 /// The declaration that this word begins.
@@ -217,7 +219,7 @@ fn declared_at<'t, 's>(
     kind: Declares,
     word: Token<'s>,
     tokens: &mut Cursor<'t, 's>,
-) -> Result<Carried<Decl<'s>>, Stop>
+) -> Result<Stored<Decl<'s>>, Stop>
     ensures value { Gives declaration_of result tokens.new (grammar.declared_at (inside depth) kind word.entry tokens.old) }
     ensures shorter { IfOk result (λ x. length tokens.new ≤ length tokens.old) }
 {
@@ -237,7 +239,7 @@ fn declaration_at<'t, 's>(
     alloc: Global,
     depth: u8,
     tokens: &mut Cursor<'t, 's>,
-) -> Result<Carried<Decl<'s>>, Stop>
+) -> Result<Stored<Decl<'s>>, Stop>
     ensures value { Gives declaration_of result tokens.new (grammar.declaration_at (inside depth) tokens.old) }
     ensures shorter { IfOk result (λ x. length tokens.new < length tokens.old) }
 {

@@ -18,6 +18,7 @@ use crate::choices::wide_of;
 use crate::cursor::{Cursor, expect};
 use crate::sort::Sort;
 use crate::stop::{Awaiting, Stop};
+use crate::stored::Stored;
 use crate::trees::{is_none, is_sum};
 use net_lex::{Items, Token};
 use net_tree::{Braces, Expr, Link, Role, Series, role_of};
@@ -29,12 +30,12 @@ pub(crate) fn unary_of<'t, 's>(
     alloc: Global,
     depth: u8,
     tokens: &mut Cursor<'t, 's>,
-) -> Result<Carried<Expr<'s>>, Stop>
+) -> Result<Stored<Expr<'s>>, Stop>
     ensures value { Gives tree result tokens.new (unary (inside depth) tokens.old) }
     ensures shorter { IfOk result (λ x. length tokens.new < length tokens.old) }
 {
     if depth == 0 {
-        shut(tokens)
+        shut(alloc, tokens)
     } else {
         unary_inside(alloc, depth - 1, tokens)
     }
@@ -42,7 +43,7 @@ pub(crate) fn unary_of<'t, 's>(
 
 /// The same where no nesting may be opened.
 #[tactic(auto, using(net_tree::proofs::Views::views), unfolding(crate::specs::Expressions::unary, crate::specs::Expressions::unary_at, crate::specs::Expressions::negated_at))]
-fn shut<'t, 's>(tokens: &mut Cursor<'t, 's>) -> Result<Carried<Expr<'s>>, Stop>
+fn shut<'t, 's>(alloc: Global, tokens: &mut Cursor<'t, 's>) -> Result<Stored<Expr<'s>>, Stop>
     ensures value { Gives tree result tokens.new (unary None tokens.old) }
     ensures shorter { IfOk result (λ x. length tokens.new < length tokens.old) }
 {
@@ -51,8 +52,8 @@ fn shut<'t, 's>(tokens: &mut Cursor<'t, 's>) -> Result<Carried<Expr<'s>>, Stop>
         return Err(Stop::Refused(0, Awaiting::Other));
     };
     match role_of(&token) {
-        Role::Name => name_shut(token, tokens),
-        Role::Number | Role::Text => Ok(Carried::new(Expr::Leaf(token))),
+        Role::Name => name_shut(alloc, token, tokens),
+        Role::Number | Role::Text => Stored::new(alloc, Expr::Leaf(token)),
         Role::Not => not_shut(tokens),
         Role::Open | Role::OpenBrace | Role::Sign | Role::Reduction => Err(Stop::TooDeep(left)),
         _ => Err(Stop::Refused(left, Awaiting::Other)),
@@ -61,21 +62,22 @@ fn shut<'t, 's>(tokens: &mut Cursor<'t, 's>) -> Result<Carried<Expr<'s>>, Stop>
 
 #[tactic(auto, using(net_tree::proofs::Views::views), unfolding(crate::specs::Expressions::named_at))]
 fn name_shut<'t, 's>(
+    alloc: Global,
     name: Token<'s>,
     tokens: &mut Cursor<'t, 's>,
-) -> Result<Carried<Expr<'s>>, Stop>
+) -> Result<Stored<Expr<'s>>, Stop>
     ensures value { Gives tree result tokens.new (grammar.named_at None name.entry tokens.old) }
     ensures shorter { IfOk result (λ x. length tokens.new ≤ length tokens.old) }
 {
     if tokens.next_is(Sort::OpenSquare) {
         Err(Stop::TooDeep(tokens.len()))
     } else {
-        Ok(Carried::new(Expr::Leaf(name)))
+        Stored::new(alloc, Expr::Leaf(name))
     }
 }
 
 #[tactic(auto, unfolding(crate::specs::Expressions::not_shut))]
-fn not_shut<'t, 's>(tokens: &mut Cursor<'t, 's>) -> Result<Carried<Expr<'s>>, Stop>
+fn not_shut<'t, 's>(tokens: &mut Cursor<'t, 's>) -> Result<Stored<Expr<'s>>, Stop>
     ensures value { Gives tree result tokens.new (grammar.not_shut tokens.old) }
     ensures shorter { IfOk result (λ x. length tokens.new ≤ length tokens.old) }
 {
@@ -93,7 +95,7 @@ fn unary_inside<'t, 's>(
     alloc: Global,
     depth: u8,
     tokens: &mut Cursor<'t, 's>,
-) -> Result<Carried<Expr<'s>>, Stop>
+) -> Result<Stored<Expr<'s>>, Stop>
     ensures value { Gives tree result tokens.new (unary (Some (inner_of (inside depth))) tokens.old) }
     ensures shorter { IfOk result (λ x. length tokens.new < length tokens.old) }
 {
@@ -103,7 +105,7 @@ fn unary_inside<'t, 's>(
     };
     match role_of(&token) {
         Role::Name => named_inside(alloc, depth, token, tokens),
-        Role::Number | Role::Text => Ok(Carried::new(Expr::Leaf(token))),
+        Role::Number | Role::Text => Stored::new(alloc, Expr::Leaf(token)),
         Role::Not => negated_inside(alloc, depth, token, tokens),
         Role::Open => parens_inside(alloc, depth, token, tokens),
         Role::OpenBrace => {
@@ -121,11 +123,10 @@ fn unary_inside<'t, 's>(
 
 /// Braces as a set.
 #[tactic(auto, using(net_tree::proofs::Views::views))]
-fn braced<'s>(alloc: Global, braces: Carried<Braces<'s>>) -> Result<Carried<Expr<'s>>, Stop>
+fn braced<'s>(alloc: Global, braces: Stored<Braces<'s>>) -> Result<Stored<Expr<'s>>, Stop>
     ensures { (rest : Tokens) → Gives tree result rest (read_as (braced (braces_of braces.entry)) rest) }
 {
-    let braces = boxed(alloc, braces.into_inner())?;
-    Ok(Carried::new(Expr::Braced(braces)))
+    Stored::new(alloc, Expr::Braced(braces.into_boxed()))
 }
 
 /// A sign with its operand.
@@ -133,12 +134,12 @@ fn braced<'s>(alloc: Global, braces: Carried<Braces<'s>>) -> Result<Carried<Expr
 fn signed<'s>(
     alloc: Global,
     sign: Token<'s>,
-    operand: Carried<Expr<'s>>,
-) -> Result<Carried<Expr<'s>>, Stop>
+    operand: Stored<Expr<'s>>,
+) -> Result<Stored<Expr<'s>>, Stop>
     ensures { (rest : Tokens) → Gives tree result rest (read_as (signed sign.entry (tree operand.entry)) rest) }
 {
     let parts = boxed(alloc, (sign, operand.into_inner()))?;
-    Ok(Carried::new(Expr::Signed(parts)))
+    Stored::new(alloc, Expr::Signed(parts))
 }
 
 /// What a name begins.
@@ -147,12 +148,12 @@ pub(crate) fn named_of<'t, 's>(
     depth: u8,
     name: Token<'s>,
     tokens: &mut Cursor<'t, 's>,
-) -> Result<Carried<Expr<'s>>, Stop>
+) -> Result<Stored<Expr<'s>>, Stop>
     ensures value { Gives tree result tokens.new (grammar.named_at (inside depth) name.entry tokens.old) }
     ensures shorter { IfOk result (λ x. length tokens.new ≤ length tokens.old) }
 {
     if depth == 0 {
-        name_shut(name, tokens)
+        name_shut(alloc, name, tokens)
     } else {
         named_inside(alloc, depth - 1, name, tokens)
     }
@@ -166,14 +167,14 @@ fn named_inside<'t, 's>(
     depth: u8,
     name: Token<'s>,
     tokens: &mut Cursor<'t, 's>,
-) -> Result<Carried<Expr<'s>>, Stop>
+) -> Result<Stored<Expr<'s>>, Stop>
     ensures value { Gives tree result tokens.new (grammar.named_at (Some (inner_of (inside depth))) name.entry tokens.old) }
     ensures shorter { IfOk result (λ x. length tokens.new ≤ length tokens.old) }
 {
     if tokens.next_is(Sort::OpenSquare) {
         subscripts_inside(alloc, depth, name, tokens)
     } else {
-        Ok(Carried::new(Expr::Leaf(name)))
+        Stored::new(alloc, Expr::Leaf(name))
     }
 }
 
@@ -185,7 +186,7 @@ fn subscripts_inside<'t, 's>(
     depth: u8,
     name: Token<'s>,
     tokens: &mut Cursor<'t, 's>,
-) -> Result<Carried<Expr<'s>>, Stop>
+) -> Result<Stored<Expr<'s>>, Stop>
     ensures value { Gives tree result tokens.new (grammar.subscripts_at (inner_of (inside depth)) name.entry tokens.old) }
     ensures shorter { IfOk result (λ x. length tokens.new ≤ length tokens.old) }
 {
@@ -203,10 +204,10 @@ fn indexed<'t, 's>(
     alloc: Global,
     name: Token<'s>,
     opening: Token<'s>,
-    first: Carried<Expr<'s>>,
+    first: Stored<Expr<'s>>,
     more: Carried<Items<Link<'s>>>,
     tokens: &mut Cursor<'t, 's>,
-) -> Result<Carried<Expr<'s>>, Stop>
+) -> Result<Stored<Expr<'s>>, Stop>
     ensures value { Gives tree result tokens.new (expect sorts.CloseSquare awaiting.Other tokens.old ▷ λ c. read_as (indexed name.entry opening.entry (tree first.entry) (links_of more.entry) c.0) c.1) }
     ensures shorter { IfOk result (λ x. length tokens.new < length tokens.old) }
 {
@@ -215,7 +216,7 @@ fn indexed<'t, 's>(
     let more = more.into_inner();
     let parts = (name, opening, Series { first, more }, close);
     let parts = boxed(alloc, parts)?;
-    Ok(Carried::new(Expr::Indexed(parts)))
+    Stored::new(alloc, Expr::Indexed(parts))
 }
 
 /// What `(` begins.
@@ -226,7 +227,7 @@ fn parens_inside<'t, 's>(
     depth: u8,
     opening: Token<'s>,
     tokens: &mut Cursor<'t, 's>,
-) -> Result<Carried<Expr<'s>>, Stop>
+) -> Result<Stored<Expr<'s>>, Stop>
     ensures value { Gives tree result tokens.new (grammar.parens_at (inner_of (inside depth)) opening.entry tokens.old) }
     ensures shorter { IfOk result (λ x. length tokens.new < length tokens.old) }
 {
@@ -241,9 +242,9 @@ fn parens_from<'t, 's>(
     alloc: Global,
     depth: u8,
     opening: Token<'s>,
-    first: Carried<Expr<'s>>,
+    first: Stored<Expr<'s>>,
     tokens: &mut Cursor<'t, 's>,
-) -> Result<Carried<Expr<'s>>, Stop>
+) -> Result<Stored<Expr<'s>>, Stop>
     ensures value { Gives tree result tokens.new (grammar.parens_from (inner_of (inside depth)) opening.entry (tree first.entry) tokens.old) }
     ensures shorter { IfOk result (λ x. length tokens.new < length tokens.old) }
 {
@@ -260,16 +261,16 @@ fn parens_from<'t, 's>(
 fn closed<'t, 's>(
     alloc: Global,
     opening: Token<'s>,
-    inner: Carried<Expr<'s>>,
+    inner: Stored<Expr<'s>>,
     tokens: &mut Cursor<'t, 's>,
-) -> Result<Carried<Expr<'s>>, Stop>
+) -> Result<Stored<Expr<'s>>, Stop>
     ensures value { Gives tree result tokens.new (grammar.closed opening.entry (tree inner.entry) tokens.old) }
     ensures shorter { IfOk result (λ x. length tokens.new < length tokens.old) }
 {
     let close = expect(Sort::Close, Awaiting::Other, tokens)?;
     let parts = (opening, inner.into_inner(), close);
     let parts = boxed(alloc, parts)?;
-    Ok(Carried::new(Expr::Parens(parts)))
+    Stored::new(alloc, Expr::Parens(parts))
 }
 
 /// The end of parentheses around one tree or around a tuple.
@@ -277,10 +278,10 @@ fn closed<'t, 's>(
 fn listed<'t, 's>(
     alloc: Global,
     opening: Token<'s>,
-    first: Carried<Expr<'s>>,
+    first: Stored<Expr<'s>>,
     more: Carried<Items<Link<'s>>>,
     tokens: &mut Cursor<'t, 's>,
-) -> Result<Carried<Expr<'s>>, Stop>
+) -> Result<Stored<Expr<'s>>, Stop>
     ensures value { Gives tree result tokens.new (grammar.listed opening.entry (tree first.entry) (links_of more.entry) tokens.old) }
     ensures shorter { IfOk result (λ x. length tokens.new < length tokens.old) }
 {
@@ -292,7 +293,7 @@ fn listed<'t, 's>(
     let more = more.into_inner();
     let parts = (opening, Series { first, more }, close);
     let parts = boxed(alloc, parts)?;
-    Ok(Carried::new(Expr::Tuple(parts)))
+    Stored::new(alloc, Expr::Tuple(parts))
 }
 
 /// What `not` begins.
@@ -303,7 +304,7 @@ fn negated_inside<'t, 's>(
     depth: u8,
     word: Token<'s>,
     tokens: &mut Cursor<'t, 's>,
-) -> Result<Carried<Expr<'s>>, Stop>
+) -> Result<Stored<Expr<'s>>, Stop>
     ensures value { Gives tree result tokens.new (grammar.negated_at (Some (inner_of (inside depth))) word.entry tokens.old) }
     ensures shorter { IfOk result (λ x. length tokens.new < length tokens.old) }
 {
@@ -318,14 +319,14 @@ fn negated<'t, 's>(
     alloc: Global,
     word: Token<'s>,
     opening: Token<'s>,
-    inner: Carried<Expr<'s>>,
+    inner: Stored<Expr<'s>>,
     tokens: &mut Cursor<'t, 's>,
-) -> Result<Carried<Expr<'s>>, Stop>
+) -> Result<Stored<Expr<'s>>, Stop>
     ensures value { Gives tree result tokens.new (expect sorts.Close awaiting.Other tokens.old ▷ λ c. read_as (negated word.entry opening.entry (tree inner.entry) c.0) c.1) }
     ensures shorter { IfOk result (λ x. length tokens.new < length tokens.old) }
 {
     let close = expect(Sort::Close, Awaiting::Other, tokens)?;
     let parts = (word, opening, inner.into_inner(), close);
     let parts = boxed(alloc, parts)?;
-    Ok(Carried::new(Expr::Negated(parts)))
+    Stored::new(alloc, Expr::Negated(parts))
 }

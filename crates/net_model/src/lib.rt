@@ -20,6 +20,7 @@ mod phrases;
 mod place;
 mod sort;
 mod stop;
+mod stored;
 mod trees;
 
 pub use fault::{ModelDefect, ModelFault};

@@ -1,9 +1,10 @@
-ghost use Rattle.std.specs.Prelude.{◌≡◌, ◌<◌, ◌≤◌, Some, None, length, map, IfOk};
+ghost use Rattle.std.specs.Prelude.{◌≡◌, ◌<◌, ◌≤◌, Some, None, length, map, IfOk, IfErr};
 ghost use Rattle.net_tree.specs.Tree.{valued};
 ghost use Rattle.net_tree.specs.View as view;
 ghost use Rattle.net_model.specs.Expressions.{inside};
 ghost use Rattle.net_model.specs.Phrases as grammar;
 ghost use Rattle.net_model.specs.Reading.{Gives};
+ghost use Rattle.net_model.specs.declared.stop.Stop.TheVariants.{OutOfMemory};
 
 use crate::carried::Carried;
 use crate::chains::climb_to;
@@ -14,6 +15,7 @@ use crate::list::push;
 use crate::phrase::{Owner, Slot, Stood};
 use crate::sort::Sort;
 use crate::stop::{Awaiting, Stop};
+use crate::stored::Stored;
 use net_lex::{Items, Token};
 use net_tree::{Begins, Body, Expr, Phrase, Relates, Role, role_of};
 use std::alloc::Global;
@@ -150,10 +152,11 @@ fn phrase_next(owner: Owner, stood: Stood, tokens: &Cursor<'_, '_>) -> bool
 }
 
 /// An expression as what follows a word.
-fn valued<'s>(value: Carried<Expr<'s>>) -> Carried<Body<'s>>
-    ensures { view.body_of result ≡ valued (view.tree value.entry) }
+fn valued<'s>(alloc: Global, value: Stored<Expr<'s>>) -> Result<Stored<Body<'s>>, Stop>
+    ensures value { IfOk result (λ b. view.body_of b ≡ valued (view.tree value.entry)) }
+    ensures memory { IfErr result (λ e. e ≡ OutOfMemory) }
 {
-    Carried::new(Body::Valued(value.into_inner()))
+    Stored::new(alloc, Body::Valued(value.into_inner()))
 }
 
 /// What follows the word.
@@ -163,27 +166,27 @@ fn body_of<'t, 's>(
     depth: u8,
     slot: Slot,
     tokens: &mut Cursor<'t, 's>,
-) -> Result<Carried<Body<'s>>, Stop>
+) -> Result<Stored<Body<'s>>, Stop>
     ensures value { Gives view.body_of result tokens.new (grammar.body_of (inside depth) slot tokens.old) }
     ensures shorter { IfOk result (λ x. length tokens.new ≤ length tokens.old) }
 {
     match slot {
-        Slot::Nothing => Ok(Carried::new(Body::Plain)),
+        Slot::Nothing => Stored::new(alloc, Body::Plain),
         Slot::Number => {
             let number = expect(Sort::Number, Awaiting::Other, tokens)?;
-            Ok(valued(Carried::new(Expr::Leaf(number))))
+            Stored::new(alloc, Body::Valued(Expr::Leaf(number)))
         }
-        Slot::Set => Ok(valued(climb_to(alloc, depth, 7, tokens)?)),
-        Slot::Sum => Ok(valued(climb_to(alloc, depth, 3, tokens)?)),
-        Slot::Value => Ok(valued(wide_of(alloc, depth, 7, tokens)?)),
+        Slot::Set => valued(alloc, climb_to(alloc, depth, 7, tokens)?),
+        Slot::Sum => valued(alloc, climb_to(alloc, depth, 3, tokens)?),
+        Slot::Value => valued(alloc, wide_of(alloc, depth, 7, tokens)?),
         Slot::Node => {
             let name = expect(Sort::Name, Awaiting::Other, tokens)?;
-            Ok(valued(named_of(alloc, depth, name, tokens)?))
+            valued(alloc, named_of(alloc, depth, name, tokens)?)
         }
         Slot::Price => {
             let name = expect(Sort::Name, Awaiting::Objective, tokens)?;
             let price = climb_to(alloc, depth, 3, tokens)?;
-            Ok(Carried::new(Body::Priced(name, price.into_inner())))
+            Stored::new(alloc, Body::Priced(name, price.into_inner()))
         }
     }
 }
@@ -202,14 +205,16 @@ fn comma_at<'t, 's>(tokens: &mut Cursor<'t, 's>) -> Result<Option<Token<'s>>, St
 }
 
 fn phrase_of<'s>(
+    alloc: Global,
     comma: Option<Token<'s>>,
     word: Token<'s>,
-    body: Carried<Body<'s>>,
-) -> Carried<Phrase<'s>>
-    ensures { view.phrase_of result ≡ record { comma = comma.entry; word = word.entry; body = view.body_of body.entry } }
+    body: Stored<Body<'s>>,
+) -> Result<Stored<Phrase<'s>>, Stop>
+    ensures value { IfOk result (λ p. view.phrase_of p ≡ record { comma = comma.entry; word = word.entry; body = view.body_of body.entry }) }
+    ensures memory { IfErr result (λ e. e ≡ OutOfMemory) }
 {
     let body = body.into_inner();
-    Carried::new(Phrase { comma, word, body })
+    Stored::new(alloc, Phrase { comma, word, body })
 }
 
 /// A phrase behind its comma, and what stood with it.
@@ -221,7 +226,7 @@ fn worded<'t, 's>(
     stood: Stood,
     comma: Option<Token<'s>>,
     tokens: &mut Cursor<'t, 's>,
-) -> Result<(Carried<Phrase<'s>>, Stood), Stop>
+) -> Result<(Stored<Phrase<'s>>, Stood), Stop>
     ensures value { Gives (λ p. (view.phrase_of p.0, p.1)) result tokens.new (grammar.worded (inside depth) owner stood comma.entry tokens.old) }
     ensures shorter { IfOk result (λ x. length tokens.new < length tokens.old) }
 {
@@ -237,7 +242,8 @@ fn worded<'t, 's>(
         None => Err(Stop::Refused(left, Awaiting::Phrase)),
         Some(slot) => {
             let body = body_of(alloc, depth, slot, tokens)?;
-            Ok((phrase_of(comma, word, body), and_then_stood(stood, role)))
+            let phrase = phrase_of(alloc, comma, word, body)?;
+            Ok((phrase, and_then_stood(stood, role)))
         }
     }
 }
@@ -250,7 +256,7 @@ fn phrase_at<'t, 's>(
     owner: Owner,
     stood: Stood,
     tokens: &mut Cursor<'t, 's>,
-) -> Result<(Carried<Phrase<'s>>, Stood), Stop>
+) -> Result<(Stored<Phrase<'s>>, Stood), Stop>
     ensures value { Gives (λ p. (view.phrase_of p.0, p.1)) result tokens.new (grammar.phrase_at (inside depth) owner stood tokens.old) }
     ensures shorter { IfOk result (λ x. length tokens.new < length tokens.old) }
 {

@@ -7,6 +7,7 @@ ghost use Rattle.net_model.specs.declared.stop.Stop.TheVariants.{OutOfMemory};
 use crate::boxed::boxed;
 use crate::carried::Carried;
 use crate::stop::Stop;
+use crate::stored::Stored;
 use net_lex::Items;
 use net_tree::{Expr, Link, Operator, Series};
 use std::alloc::Global;
@@ -28,14 +29,16 @@ pub(crate) fn is_sum(expr: &Expr<'_>) -> bool
 /// An operator and the operand behind it.
 #[tactic(auto, using(crate::proofs::Making::link_made))]
 pub(crate) fn linked<'s>(
+    alloc: Global,
     operator: Carried<Operator<'s>>,
-    operand: Carried<Expr<'s>>,
-) -> Carried<Link<'s>>
-    ensures { link_of result ≡ (operator.entry, tree operand.entry) }
+    operand: Stored<Expr<'s>>,
+) -> Result<Stored<Link<'s>>, Stop>
+    ensures value { IfOk result (λ l. link_of l ≡ (operator.entry, tree operand.entry)) }
+    ensures memory { IfErr result (λ e. e ≡ OutOfMemory) }
 {
     let operator = operator.into_inner();
     let operand = operand.into_inner();
-    Carried::new(Link { operator, operand })
+    Stored::new(alloc, Link { operator, operand })
 }
 
 /// Whether there are no links.
@@ -53,9 +56,9 @@ pub(crate) fn is_none(links: &Items<Link<'_>>) -> bool
 pub(crate) fn chained<'s>(
     alloc: Global,
     place: u8,
-    first: Carried<Expr<'s>>,
+    first: Stored<Expr<'s>>,
     more: Carried<Items<Link<'s>>>,
-) -> Result<Carried<Expr<'s>>, Stop>
+) -> Result<Stored<Expr<'s>>, Stop>
     ensures value { IfOk result (λ x. tree x ≡ chained place (tree first.entry) (links_of more.entry)) }
     ensures memory { IfErr result (λ e. e ≡ OutOfMemory) }
 {
@@ -65,5 +68,5 @@ pub(crate) fn chained<'s>(
     let first = first.into_inner();
     let more = more.into_inner();
     let operands = boxed(alloc, Series { first, more })?;
-    Ok(Carried::new(Expr::Chain(place, operands)))
+    Stored::new(alloc, Expr::Chain(place, operands))
 }

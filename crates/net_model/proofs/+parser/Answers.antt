@@ -62,13 +62,13 @@ chains::links_from-returns-clause-value t c =
 pub chains::links_from-loop-alloc-preserved : goal.chains::links_from-loop-alloc-preserved
 chains::links_from-loop-alloc-preserved t c =
     let same : c.len.result ≡ length c.loop-alloc.found.items = omega (arith, c.len.ensures, c.loop-alloc.found.ok) in
-    let more : length c.push.new.list.items ≡ length c.loop-alloc.found.items + 1 = omega (arith, ap length c.in_ok-push.ensures.items, length-append c.loop-alloc.found.items (c.linked.result ∷ [])) in
+    let more : length c.push.new.list.items ≡ length c.loop-alloc.found.items + 1 = omega (arith, ap length c.in_ok-push.ensures.items, length-append c.loop-alloc.found.items (c.in_ok-link.link ∷ [])) in
     record {
       read =
-          one_read c.loop-alloc.found.items c.push.new.list.items c.linked.result
+          one_read c.loop-alloc.found.items c.push.new.list.items c.in_ok-link.link
           (length c.args.tokens.now) c.args.level c.len.result (climb c.args.place (unary (inside c.args.depth))) c.loop-alloc.tokens
           c.in_ok-operator.operator (tree c.in_ok-operand.operand) c.operator_at.new.tokens c.climb_to.new.tokens (links (length c.args.tokens.now) c.args.level 0 (climb c.args.place (unary (inside c.args.depth))) c.args.tokens.now)
           same c.loop-alloc.invariant.room (sym c.next_joins.ensures ∙ c.loop-alloc-test.true) c.in_ok-operator.ensures.value c.in_ok-operand.ensures.value
-          c.linked.ensures c.in_ok-push.ensures.items c.loop-alloc.invariant.read;
+          c.in_ok-link.ensures.value c.in_ok-push.ensures.items c.loop-alloc.invariant.read;
       room = omega (arith, more, c.in_ok-operator.ensures.shorter, c.in_ok-operand.ensures.shorter, c.loop-alloc.invariant.room);
     }

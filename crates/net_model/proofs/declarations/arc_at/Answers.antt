@@ -1,6 +1,7 @@
 use Rattle.std.proofs.lemmas.Result.{err_from_is_err_and}
 use Rattle.net_tree.specs.Tree.{arc}
 use Rattle.net_model.specs.Declarations.{arc_at}
+use Rattle.net_model.proofs.Storing.{stored}
 use Rattle.net_model.proofs.declarations.arc_at.Goals as goal
 
 pub returns-in_err-detailed-clause-value : goal.returns-in_err-detailed-clause-value
@@ -12,4 +13,4 @@ returns-in_err-detailed-clause-value c =
 pub returns-clause-value : goal.returns-clause-value
 unfolding arc_at
 returns-clause-value c =
-    rw c.new.ensures (rw c.into_inner-name.ensures (c.in_ok-detailed.ensures.value (λ n b s e. arc c.args.word n b s e)))
+    stored _ c.new.result c.new.ensures.value c.new.ensures.memory (rw c.into_inner-name.ensures (c.in_ok-detailed.ensures.value (λ n b s e. arc c.args.word n b s e)))

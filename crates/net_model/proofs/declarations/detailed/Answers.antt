@@ -1,5 +1,6 @@
 use Rattle.std.proofs.lemmas.Result.{err_from_is_err_and}
 use Rattle.net_tree.specs.View.{indexing_of}
+use Rattle.net_model.proofs.Storing.{stored}
 use Rattle.net_model.proofs.declarations.detailed.Goals as goal
 
 pub returns-in_err-phrased-clause-value : goal.returns-in_err-phrased-clause-value
@@ -9,4 +10,4 @@ returns-in_err-phrased-clause-value c made =
 
 pub returns-clause-value : goal.returns-clause-value
 returns-clause-value c made =
-    rw c.new.ensures (rw c.into_inner.ensures (rw c.into_inner-said.ensures (rw c.in_ok-name.ensures.value (rw c.in_ok-indexing.ensures.value (c.in_ok-phrased.ensures.value (λ s e. made c.in_ok-name.name (indexing_of c.in_ok-indexing.indexing) s e))))))
+    stored _ c.new.result c.new.ensures.value c.new.ensures.memory (rw c.into_inner.ensures (rw c.into_inner-said.ensures (rw c.in_ok-name.ensures.value (rw c.in_ok-indexing.ensures.value (c.in_ok-phrased.ensures.value (λ s e. made c.in_ok-name.name (indexing_of c.in_ok-indexing.indexing) s e))))))

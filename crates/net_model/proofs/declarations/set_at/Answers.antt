@@ -1,6 +1,7 @@
 use Rattle.std.proofs.lemmas.Result.{err_from_is_err_and}
 use Rattle.net_tree.specs.Tree.{set}
 use Rattle.net_model.specs.Declarations.{set_at}
+use Rattle.net_model.proofs.Storing.{stored}
 use Rattle.net_model.proofs.declarations.set_at.Goals as goal
 
 pub returns-in_err-phrased-clause-value : goal.returns-in_err-phrased-clause-value
@@ -12,4 +13,4 @@ returns-in_err-phrased-clause-value c =
 pub returns-clause-value : goal.returns-clause-value
 unfolding set_at
 returns-clause-value c =
-    rw c.new.ensures (rw c.into_inner-said.ensures (rw c.in_ok-name.ensures.value (c.in_ok-phrased.ensures.value (λ s e. set c.args.word c.in_ok-name.name s e))))
+    stored _ c.new.result c.new.ensures.value c.new.ensures.memory (rw c.into_inner-said.ensures (rw c.in_ok-name.ensures.value (c.in_ok-phrased.ensures.value (λ s e. set c.args.word c.in_ok-name.name s e))))
