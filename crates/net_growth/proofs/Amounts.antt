@@ -23,7 +23,7 @@ pub record Known (problem : Problem) (flows excess : List ℤ) (j : Joined) : Ty
   pub place : j.node < length excess
   pub size : IsSized (2 * 10 ^ 24) (get_or excess j.node (pos 0))
 
-one-of : (b : Bool) (src dst n : ℕ) → src < n → dst < n → cond b dst src < n
+pub one-of : (b : Bool) (src dst n : ℕ) → src < n → dst < n → cond b dst src < n
 one-of true src dst n h k = k
 one-of false src dst n h k = h
 

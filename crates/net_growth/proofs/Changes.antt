@@ -1,5 +1,6 @@
 -- What changes with the flow of one arc: the net outflows of its two ends.
-use Rattle.std.proofs.Common.{◌≡◌, ℕ, zero, suc, ◌+◌, ◌*◌, ◌^◌, ◌<◌, ◌≤◌, Bool, true, false, cond, List, [], ◌∷◌, length, get_or, set, ℤ, pos, ◌+ℤ◌, ◌-ℤ◌, ◌≤ℤ◌, nat_eq, FitsSigned, to_z, of_z, w64, vec_len, All, arith}
+use Rattle.std.proofs.Common.{◌≡◌, ℕ, zero, suc, ◌+◌, ◌*◌, ◌^◌, ◌<◌, ◌≤◌, Bool, true, false, cond, List, [], ◌∷◌, length, get_or, set, ℤ, pos, ◌+ℤ◌, ◌-ℤ◌, ◌≤ℤ◌, nat_eq, FitsSigned, to_z, of_z, w64, vec_len, All, refl, subst, arith}
+use Rattle.std.specs.Int.{w128}
 use Rattle.std.proofs.lemmas.Int.{ints}
 use Rattle.std.specs.List.{AllZip, AllByRecursion}
 use Rattle.std.proofs.lemmas.List.Elements.{recursion_from_All}
@@ -9,6 +10,7 @@ use Rattle.net_normal.specs.Flows.{IsWithinCapacity, net_outflow}
 use Rattle.net_normal.specs.declared.problem.FlowArc.{FlowArc}
 use Rattle.net_normal.specs.declared.problem.Problem.{Problem}
 use Rattle.net_check.specs.Certificates.{IsComplementary, reduced_cost}
+use Rattle.net_check.proofs.Balances.{added_at}
 use Rattle.net_growth.specs.Pseudoflows.{IsUnderWay}
 
 -- R still holds of each pair where it holds of the new one
@@ -85,3 +87,38 @@ added-fits x z amount e h k l = omega (arith, ints, e, h.above, h.below, k.above
 -- an arc of reduced cost 0 may carry anything
 pub level-complementary : (potentials : List ℤ) (arc : FlowArc) (y : ℤ) → reduced_cost potentials arc ≡ pos 0 → IsComplementary potentials arc y
 level-complementary potentials arc y h = record { positive = λ l. absurd (omega (arith, ints, h, l)); negative = λ l. absurd (omega (arith, ints, h, l)) }
+
+-- a number of 128 bits and an amount
+pub sum-wide_fits : (x z amount : ℤ) → x ≡ z → IsSized (10 ^ 25) z → IsSized flow_limit amount → FitsSigned w128 (to_z w128 (of_z w128 x) +ℤ to_z w128 (of_z w128 amount))
+sum-wide_fits x z amount e h k = omega (arith, ints, e, h.above, h.below, k.above, k.below)
+
+pub sum-wide : (x z amount : ℤ) → x ≡ z → IsSized (10 ^ 25) z → IsSized flow_limit amount → to_z w128 (of_z w128 (to_z w128 (of_z w128 x) +ℤ to_z w128 (of_z w128 amount))) ≡ z +ℤ amount
+sum-wide x z amount e h k = omega (arith, ints, e, h.above, h.below, k.above, k.below)
+
+-- the amount is added at one index, and nowhere else
+pub set-added : (xs : List ℤ) (i v : ℕ) (y amount : ℤ) → i < length xs → v < length xs → y ≡ get_or xs i (pos 0) +ℤ amount → get_or (set xs i y) v (pos 0) ≡ get_or xs v (pos 0) +ℤ cond (nat_eq i v) amount (pos 0)
+set-added xs i v y amount inside l is =
+    let same : 0 + v ≡ v = omega arith in
+    subst (λ (w : ℕ). get_or (set xs i y) v (pos 0) ≡ get_or xs v (pos 0) +ℤ cond (nat_eq i w) amount (pos 0)) same
+    (added_at xs (length xs) 0 i i amount y refl inside (omega arith) is v l)
+
+-- a number after an amount is counted, and after it is counted at both ends of an arc
+pub sized-on : (p : Bool) (old new flow x : ℤ) → IsSized (10 ^ 24) old → IsSized flow_limit flow → x ≡ flow → new ≡ old +ℤ cond p x (pos 0) → IsSized (10 ^ 25) new
+sized-on true old new flow x h k same e = record { above = omega (arith, ints, h.above, k.above, same, e); below = omega (arith, ints, h.below, k.below, same, e) }
+sized-on false old new flow x h k same e = record { above = omega (arith, ints, h.above, e); below = omega (arith, ints, h.below, e) }
+
+pub counted : (p q : Bool) (e0 e1 e2 flow x y : ℤ) → e1 ≡ e0 +ℤ cond p x (pos 0) → e2 ≡ e1 +ℤ cond q y (pos 0) → x ≡ flow → y ≡ pos 0 -ℤ flow → e2 ≡ (e0 +ℤ cond p flow (pos 0)) -ℤ cond q flow (pos 0)
+counted true true e0 e1 e2 flow x y h k i j = omega (arith, ints, h, k, i, j)
+counted true false e0 e1 e2 flow x y h k i j = omega (arith, ints, h, k, i, j)
+counted false true e0 e1 e2 flow x y h k i j = omega (arith, ints, h, k, i, j)
+counted false false e0 e1 e2 flow x y h k i j = omega (arith, ints, h, k, i, j)
+
+-- the same numbers in 128 bits
+pub wide-flow : (x flow : ℤ) → x ≡ flow → IsSized flow_limit flow → to_z w128 (of_z w128 x) ≡ flow
+wide-flow x flow e h = omega (arith, ints, e, h.above, h.below)
+
+pub wide-back : (x flow : ℤ) → x ≡ flow → IsSized flow_limit flow → to_z w128 (of_z w128 (pos 0 -ℤ to_z w128 (of_z w128 x))) ≡ pos 0 -ℤ flow
+wide-back x flow e h = omega (arith, ints, e, h.above, h.below)
+
+pub difference-fits : (x y z : ℤ) → IsSized (2 ^ 63) x → y ≡ z → IsSized (10 ^ 24) z → FitsSigned w128 (to_z w128 (of_z w128 x) -ℤ to_z w128 (of_z w128 y))
+difference-fits x y z h e k = omega (arith, ints, h.above, h.below, e, k.above, k.below)

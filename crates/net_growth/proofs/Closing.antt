@@ -264,3 +264,10 @@ closed-under problem most flows old new excess small closer count h = record {
 
 pub within-level : (nodes most : ℕ) (potentials : List ℤ) → nodes ≤ 20000 → most ≤ 10 ^ 12 → AreFromTo (nodes * most) potentials → AreFromTo (2 * 10 ^ 16) potentials
 within-level nodes most potentials few small h v l = let b = h v l in (b.0, omega (arith, ints, b.1, level-small most nodes small few))
+
+-- a level in 64 bits
+pub plain-level : (sorted levels : List ℤ) (x y : ℤ) → length levels ≡ length sorted → AreFromTo (2 * 10 ^ 16) levels → HasLevelOf sorted levels x y → HasLevelOf sorted levels x (to_z w64 (of_z w64 y))
+plain-level sorted levels x y count small h =
+    let size = small h.place (omega (arith, count, h.inside)) in
+    let same : y ≡ to_z w64 (of_z w64 y) = omega (arith, ints, h.level_is, size.0, size.1) in
+    subst (HasLevelOf sorted levels x) same h

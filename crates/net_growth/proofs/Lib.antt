@@ -10,3 +10,4 @@ pub mod Sinking
 pub mod Stopping
 pub mod Stuck
 pub mod Walking
+pub mod Crossing

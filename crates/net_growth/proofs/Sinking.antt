@@ -1,5 +1,5 @@
 -- Complementary slackness where potentials sink together, and where a long gap between potentials is closed.
-use Rattle.std.proofs.Common.{◌≡◌, ℕ, ◌<◌, Bool, true, false, cond, not, ◌&&◌, List, [], ◌∷◌, length, get_or, set, ◌+◌, ◌≤◌, ◌^◌, to_z, of_z, w64, inl, inr, ◌⊎◌, ℤ, pos, negsuc, neg_ℤ, ◌+ℤ◌, ◌-ℤ◌, ◌≤ℤ◌, ◌<ℤ◌, All, refl, sym, ◌∙◌, ap, subst, arith}
+use Rattle.std.proofs.Common.{◌≡◌, ℕ, ◌<◌, Bool, true, false, cond, not, ◌&&◌, List, [], ◌∷◌, length, get_or, set, ◌+◌, ◌≤◌, ◌^◌, to_z, of_z, w64, FitsSigned, inl, inr, ◌⊎◌, ℤ, pos, negsuc, neg_ℤ, ◌+ℤ◌, ◌-ℤ◌, ◌≤ℤ◌, ◌<ℤ◌, All, refl, sym, ◌∙◌, ap, subst, arith}
 use Rattle.std.proofs.lemmas.Int.{ints, clamps}
 use Rattle.std.specs.Int.{int_min}
 use Rattle.std.proofs.lemmas.Bool.{cases_lt}
@@ -74,6 +74,9 @@ closer-next most x y z u v w l m n h e =
     ]
 
 -- one node of the set, lowered
+pub lowered-fits : (x z a : ℤ) → x ≡ z → IsSized (10 ^ 18) z → IsSized (10 ^ 18) a → FitsSigned w64 (to_z w64 (of_z w64 x) -ℤ to_z w64 (of_z w64 a))
+lowered-fits x z a e h k = omega (arith, ints, e, h.above, h.below, k.above, k.below)
+
 pub lowered-value : (x z a : ℤ) → x ≡ z → IsSized (10 ^ 18) z → IsSized (10 ^ 18) a → to_z w64 (of_z w64 (to_z w64 (of_z w64 x) -ℤ to_z w64 (of_z w64 a))) ≡ z -ℤ to_z w64 (of_z w64 a)
 lowered-value x z a e h k = omega (arith, ints, e, h.above, h.below, k.above, k.below)
 

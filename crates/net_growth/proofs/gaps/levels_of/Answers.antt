@@ -1,8 +1,9 @@
 use Rattle.std.proofs.Common.{◌≡◌, ◌+◌, ◌^◌, ◌≤◌, ◌++◌, ◌∷◌, [], get_or, ℤ, pos, ◌+ℤ◌, ◌-ℤ◌, ◌≤ℤ◌, to_z, of_z, w64, sym, ◌∙◌, ap, subst, arith}
 use Rattle.std.specs.Int.{w128, int_min}
 use Rattle.std.proofs.lemmas.Int.{ints}
+use Rattle.std.proofs.lemmas.Grind.{common_steps}
 use Rattle.net_normal.specs.Limits.{IsSized}
-use Rattle.net_growth.proofs.Closing.{HasLevelled, step, level-next, level-small, levelled-next}
+use Rattle.net_growth.proofs.Closing.{HasLevelled, levelled-start, step, level-next, level-small, levelled-next, levelled-done}
 use Rattle.net_growth.proofs.gaps.levels_of.Goals as goal
 
 -- what is known of the step
@@ -41,3 +42,21 @@ loop-number-preserved c =
     subst (HasLevelled c.args.most sorted (i + 1) (to_z w128 (of_z w128 c.wide-number.result)) next) (sym c.in_ok-push.ensures.items)
     (subst (λ (z : ℤ). HasLevelled c.args.most sorted (i + 1) z next (c.loop-number.levels.items ++ next ∷ [])) same
     (levelled-next c.args.most sorted i last level next c.loop-number.levels.items c.requires.rising c.loop-number-test.true (subst (IsSized (2 ^ 63)) x.value x.size) h is))
+
+pub overflow_sub-number : goal.overflow_sub-number
+overflow_sub-number c =
+    let x = c.wide-number.ensures.size in
+    let last = c.loop-number.invariant.size in
+    omega (arith, ints, x.above, x.below, last.above, last.below)
+
+pub returns : goal.returns
+returns c =
+    record { levels = levelled-done c.args.most c.args.sorted.now c.loop-number.number-index _ _ c.loop-number.levels.items (omega (arith, c.loop-number-test.false, c.loop-number.auto.number-index-end)) c.loop-number.invariant }
+
+pub loop-number-init : goal.loop-number-init
+loop-number-init c =
+    let sorted = c.args.sorted.now in
+    let size = c.wide-last.ensures.size in
+    let first : c.unwrap_or.result.now ≡ get_or sorted 0 (pos 0) = grind (arith, common_steps) in
+    let last : to_z w128 (of_z w128 c.wide-last.result) ≡ get_or sorted 0 (pos 0) = omega (arith, ints, first, c.wide-last.ensures.value, size.above, size.below) in
+    rw c.in_ok-levels.ensures.items (levelled-start c.args.most sorted _ c.requires.rising (record { above = omega (arith, ints, size.above, size.below); below = omega (arith, ints, size.above, size.below) }) last)

@@ -1,6 +1,8 @@
-use Rattle.std.proofs.Common.{◌≡◌, ◌<◌, ℤ, pos, length, get_or, to_z, of_z, w64, vec_len, ◌∙◌, arith}
+use Rattle.std.proofs.Common.{◌≡◌, ◌<◌, ℤ, pos, ◌-ℤ◌, cond, length, get_or, to_z, of_z, w64, vec_len, ◌∙◌, ap, arith}
 use Rattle.std.proofs.lemmas.List.{get_or_read}
-use Rattle.net_growth.proofs.Sinking.{lowered-value, lowered-done, lowered-left, skipped-done}
+use Rattle.net_growth.proofs.Sinking.{lowered-fits, lowered-value, lowered-done, lowered-left, skipped-done}
+use Rattle.std.proofs.lemmas.Int.{ints}
+use Rattle.net_check.specs.Certificates.{is_in}
 use Rattle.net_growth.proofs.lowering.lower_each.Goals as goal
 use Rattle.net_growth.proofs.lowering.lower_each.Goals.{then-flags-node, else-flags-node}
 
@@ -29,3 +31,18 @@ loop-node-preserved c =
             left = λ v l m. h.left v (omega (arith, l)) m;
           })
     ]
+
+pub overflow_sub-index_mut : goal.overflow_sub-index_mut
+overflow_sub-index_mut c =
+    let i = c.loop-node.node in
+    let h = c.loop-node.invariant in
+    let within : i < vec_len c.args.potentials.now = omega (arith, c.loop-node-test.true, h.len) in
+    let old = get_or_read c.loop-node.potentials.items _ _ (omega (arith, within, h.len, c.loop-node.potentials.ok.0)) c.index_mut.ensures.value (pos 0) in
+    lowered-fits c.index_mut.result.now _ c.args.amount (old ∙ h.left i (omega arith) within) (c.requires.sizes i within) c.requires.amount
+
+pub returns-clause-value : goal.returns-clause-value
+returns-clause-value c = λ v l.
+    let size = c.requires.amount in
+    let whole : to_z w64 (of_z w64 c.args.amount) ≡ c.args.amount = omega (arith, ints, size.above, size.below) in
+    c.loop-node.invariant.done v (omega (arith, l, c.loop-node-test.false, c.loop-node.invariant.len))
+    ∙ ap (λ (a : ℤ). get_or c.args.potentials.now.items v (pos 0) -ℤ cond (is_in c.args.flags.now v) a (pos 0)) whole

@@ -1,17 +1,25 @@
-use Rattle.std.proofs.Common.{◌≡◌, ◌<◌, ◌-◌, ℕ, Bool, true, false, List, length, get_or, set, replicate, ℤ, pos, ◌≤ℤ◌, ◌<ℤ◌, vec_len, refl, sym, ◌∙◌, ap, subst, arith}
+use Rattle.std.proofs.Common.{◌≡◌, ◌<◌, ◌-◌, ℕ, Bool, true, false, List, length, get_or, set, replicate, ℤ, pos, ◌≤ℤ◌, ◌<ℤ◌, vec_len, All, refl, sym, ◌∙◌, ap, subst, arith}
 use Rattle.std.specs.List.{AllZip}
 use Rattle.std.proofs.lemmas.List.{get_or_read}
+use Rattle.net_normal.specs.Limits.{IsFlowArcOf}
 use Rattle.net_normal.specs.Flows.{IsWithinCapacity}
 use Rattle.net_normal.specs.declared.problem.FlowArc.{FlowArc}
 use Rattle.net_check.proofs.Pairs.{zipped-lengths}
-use Rattle.net_growth.specs.Pseudoflows.{IsFull}
-use Rattle.net_growth.specs.Forests.{HasNoDeficit, joined_at, no_join}
+use Rattle.net_growth.specs.Pseudoflows.{IsFull, IsClear, IsWayOut, no_arc, too_much}
+use Rattle.net_growth.specs.Forests.{HasNoDeficit, IsForest, joined_at, no_join}
 use Rattle.net_growth.specs.declared.forest.Joined.{Joined}
 use Rattle.net_growth.proofs.Amounts.{is-deficit, no-deficit}
 use Rattle.net_growth.proofs.Changes.{excess-sized}
 use Rattle.net_growth.proofs.Grown.{grown-first}
 use Rattle.net_growth.proofs.Stopping.{stuck-cut, none-first, none-more, outside-less, last-is}
 use Rattle.net_growth.proofs.pseudoflow.Pseudoflow.grow.Goals as goal
+
+-- the same of the lists that the code reads
+clear-read : (potentials potentials' flows flows' : List ℤ) (flags flags' : List Bool) (arcs arcs' : List FlowArc) (depth : ℤ) → potentials' ≡ potentials → flows' ≡ flows → flags' ≡ flags → arcs' ≡ arcs → AllZip (IsClear potentials' flags' depth) arcs' flows' → AllZip (IsClear potentials flags depth) arcs flows
+clear-read potentials potentials' flows flows' flags flags' arcs arcs' depth p f g a h = rw (← p, ← f, ← g, ← a) h
+
+way-read : (potentials potentials' flows flows' : List ℤ) (flags flags' : List Bool) (arcs arcs' : List FlowArc) (i : ℕ) (depth : ℤ) → potentials' ≡ potentials → flows' ≡ flows → flags' ≡ flags → arcs' ≡ arcs → IsWayOut potentials' flags' depth (get_or arcs' i no_arc) (get_or flows' i (pos 0)) → IsWayOut potentials flags depth (get_or arcs i no_arc) (get_or flows i (pos 0))
+way-read potentials potentials' flows flows' flags flags' arcs arcs' i depth p f g a h = rw (← p, ← f, ← g, ← a) h
 
 pub joins-init : goal.joins-init
 joins-init c =
@@ -91,3 +99,51 @@ joins-preserved c =
 
 pub joins-smaller : goal.joins-smaller
 joins-smaller c = outside-less _ _ _ _ c.in_ok-reach-in-Some.ensures.one
+
+pub first_way_out-requires-clause-arcs : goal.first_way_out-requires-clause-arcs
+first_way_out-requires-clause-arcs c =
+    let problem = c.args.problem.now in
+    let count : vec_len problem.supplies ≡ length c.deref-in-joins-2.result.now = sym c.joins.invariant.under_way.potentials_count ∙ sym (ap length c.deref-in-joins-2.ensures.value) in
+    subst (λ (n : ℕ). All (IsFlowArcOf n) c.deref.result.now) count (subst (All (IsFlowArcOf (vec_len problem.supplies))) (sym c.deref.ensures.value) problem.arcs_fit)
+
+pub first_way_out-requires-clause-flags : goal.first_way_out-requires-clause-flags
+first_way_out-requires-clause-flags c =
+    ap length c.deref-in-joins-3.ensures.value ∙ c.joins.invariant.grown.flags_count ∙ sym c.joins.invariant.under_way.potentials_count ∙ sym (ap length c.deref-in-joins-2.ensures.value)
+
+pub reach-requires-clause-clear : goal.reach-requires-clause-clear
+reach-requires-clause-clear c =
+    clear-read _ _ _ _ _ _ _ _ c.in-Some.way.depth c.deref-in-joins-2.ensures.value c.deref-in-joins.ensures.value c.deref-in-joins-3.ensures.value c.deref.ensures.value c.in-Some.ensures.clear
+
+pub reach-requires-clause-is : goal.reach-requires-clause-is
+reach-requires-clause-is c =
+    way-read _ _ _ _ _ _ _ _ c.in-Some.way.index c.in-Some.way.depth c.deref-in-joins-2.ensures.value c.deref-in-joins.ensures.value c.deref-in-joins-3.ensures.value c.deref.ensures.value c.in-Some.ensures.is
+
+pub overflow_sub-place : goal.overflow_sub-place
+overflow_sub-place c = omega (arith, c.len-place.ensures, c.reach.new.forest.joined.ok.0, c.in_ok-reach-in-Some.ensures.grown.some)
+
+pub index-requires : goal.index-requires
+index-requires c = omega (arith, c.len-place.ensures, c.reach.new.forest.joined.ok.0, c.in_ok-reach-in-Some.ensures.grown.some)
+
+pub index-requires-in-joins : goal.index-requires-in-joins
+index-requires-in-joins c =
+    let grown = c.in_ok-reach-in-Some.ensures.grown in
+    let all = c.reach.new.forest.joined.items in
+    let place : ℕ = c.len-place.result - 1 in
+    let inside : place < length all = omega (arith, c.len-place.ensures, c.reach.new.forest.joined.ok.0, grown.some) in
+    let joined : c.index.result.now ≡ joined_at all place = get_or_read all _ _ inside c.index.ensures no_join in
+    omega (arith, ap (λ (x : Joined). x.node) joined, grown.forest.node place inside, c.in_ok-reach-in-Some.ensures.under_way.excess_count, c.reach.new.self.excess.ok.0)
+
+pub overflow_cast-place : goal.overflow_cast-place
+overflow_cast-place c = omega (arith, c.len-place.ensures, c.reach.new.forest.joined.ok.0, c.in_ok-reach-in-Some.ensures.grown.counted, c.args.problem.now.few_nodes)
+
+pub pull-requires-clause-forest : goal.pull-requires-clause-forest
+pull-requires-clause-forest c =
+    let state = c.reach.new.self in
+    subst (IsForest c.args.problem.now state.flows.items state.potentials.items state.excess.items) (sym c.deref-then-index-lt0.ensures.value) c.in_ok-reach-in-Some.ensures.grown.forest
+
+pub pull-requires-clause-place : goal.pull-requires-clause-place
+pull-requires-clause-place c = omega (arith, c.len-place.ensures, c.reach.new.forest.joined.ok.0, c.in_ok-reach-in-Some.ensures.grown.some, ap length c.deref-then-index-lt0.ensures.value)
+
+pub returns-then-index-lt0-clause-sent : goal.returns-then-index-lt0-clause-sent
+returns-then-index-lt0-clause-sent c =
+    subst (λ (xs : List ℤ). too_much c.pull.new.self.excess.items < too_much xs) (c.in_ok-reach-in-Some.ensures.same_excess ∙ c.joins.invariant.same_excess) c.pull.ensures.sent

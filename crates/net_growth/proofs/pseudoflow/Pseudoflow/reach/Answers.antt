@@ -1,17 +1,18 @@
-use Rattle.std.proofs.Common.{true, [], ◌∷◌, ◌++◌, ◌≡◌, ◌<◌, ◌≤◌, ◌^◌, ◌+◌, ℕ, List, Bool, length, get_or, set, ℤ, to_z, of_z, w64, vec_len, sym, ◌∙◌, ap, subst, arith}
+use Rattle.std.proofs.Common.{[], ◌∷◌, ◌++◌, ◌≡◌, ◌<◌, ◌≤◌, ◌^◌, ◌+◌, ℕ, List, Bool, length, get_or, set, ℤ, to_z, of_z, w64, vec_len, sym, ◌∙◌, ap, subst, arith, All, true}
 use Rattle.std.specs.Int.{w128}
 use Rattle.std.specs.List.{AllZip}
 use Rattle.std.proofs.lemmas.Int.{ints}
 use Rattle.std.proofs.lemmas.List.{get_or_read}
-use Rattle.net_normal.specs.Limits.{IsSized}
+use Rattle.net_normal.specs.Limits.{IsSized, IsFlowArcOf}
 use Rattle.net_normal.specs.declared.problem.FlowArc.{FlowArc}
 use Rattle.net_normal.specs.declared.problem.Problem.{Problem}
-use Rattle.net_check.specs.Certificates.{is_in}
+use Rattle.net_check.specs.Certificates.{is_in, IsComplementary}
 use Rattle.net_growth.specs.Forests.{IsGrown, tail_of, head_of}
 use Rattle.net_growth.specs.declared.forest.Joined.{Joined}
-use Rattle.net_growth.specs.Pseudoflows.{no_arc, arc_at, IsClear}
+use Rattle.net_growth.specs.Pseudoflows.{no_arc, arc_at, IsClear, IsUnderWay}
 use Rattle.net_growth.proofs.Grown.{Linked, Way, way-of, links-of, grown-more, sunk-sized, depth-sized}
 use Rattle.net_growth.proofs.Sinking.{Sinks}
+use Rattle.net_growth.proofs.Amounts.{one-of}
 use Rattle.net_growth.proofs.pseudoflow.Pseudoflow.reach.Goals as goal
 
 few-joined : (joined outside nodes : ℕ) → joined + outside ≡ nodes → nodes ≤ 20000 → joined ≤ 20000
@@ -116,3 +117,68 @@ returns-clause-one c =
     let sinks = sinks-plain (vec_len problem.supplies) flags c.deref-3.result.now depth old new c.deref-3.ensures.value size (λ v l. c.lower.ensures.value v (omega (arith, l, c.requires.under_way.potentials_count, c.args.self.now.potentials.ok.0))) in
     let links = links-of problem flows old new excess flags all places j h.sunk depth h w sinks (linked problem flags places j c.index.result.now c.args.way.index arc c.link-joined.ensures.index c.requires.inside c.link-joined.ensures.forwards c.link-joined.ensures.node c.link-joined.ensures.parent) in
     record { j = j; inside = omega (arith, links.inside, h.flags_count); before = links.out; all_is = c.in_ok-join.ensures.joined; flags_is = c.in_ok-join.ensures.flags }
+
+pub lower-requires-clause-arcs : goal.lower-requires-clause-arcs
+lower-requires-clause-arcs c =
+    let problem = c.args.problem.now in
+    let count : vec_len problem.supplies ≡ vec_len c.args.self.now.potentials = omega (arith, c.requires.under_way.potentials_count, c.args.self.now.potentials.ok.0) in
+    subst (λ (n : ℕ). All (IsFlowArcOf n) c.deref.result.now) count (subst (All (IsFlowArcOf (vec_len problem.supplies))) (sym c.deref.ensures.value) problem.arcs_fit)
+
+pub lower-requires-clause-flags : goal.lower-requires-clause-flags
+lower-requires-clause-flags c =
+    omega (arith, ap length c.deref-3.ensures.value, c.requires.grown.flags_count, c.requires.under_way.potentials_count, c.args.self.now.potentials.ok.0)
+
+pub lower-requires-clause-slackness : goal.lower-requires-clause-slackness
+lower-requires-clause-slackness c =
+    let slack = IsComplementary c.args.self.now.potentials.items in
+    subst (λ (arcs : List FlowArc). AllZip slack arcs c.deref-2.result.now) (sym c.deref.ensures.value)
+    (subst (AllZip slack c.args.problem.now.arcs.items) (sym c.deref-2.ensures.value) c.requires.under_way.slackness)
+
+-- what is known of the arc by which a node comes in
+arc-fits : (problem : Problem) (i n : ℕ) (arc : FlowArc) → i < length problem.arcs.items → vec_len problem.supplies ≡ n → arc ≡ arc_at problem i → IsFlowArcOf n arc
+arc-fits problem i n arc inside count is = subst (λ (m : ℕ). IsFlowArcOf m arc) count (subst (IsFlowArcOf (vec_len problem.supplies)) (sym is) (problem.arcs_fit i no_arc inside))
+
+pub link-joined-requires-clause-arc : goal.link-joined-requires-clause-arc
+link-joined-requires-clause-arc c =
+    let problem = c.args.problem.now in
+    let inside : c.args.way.index < length problem.arcs.items = omega (arith, c.requires.inside, problem.arcs.ok.0) in
+    arc-fits problem c.args.way.index _ c.index.result.now inside (omega (arith, c.requires.grown.flags_count, c.args.forest.now.flags.ok.0)) (get_or_read problem.arcs.items _ _ inside c.index.ensures no_arc)
+
+pub link-joined-requires-clause-places : goal.link-joined-requires-clause-places
+link-joined-requires-clause-places c = omega (arith, c.requires.grown.flags_count, c.requires.grown.places_count, c.args.forest.now.flags.ok.0, c.args.forest.now.places.ok.0)
+
+pub join-requires-clause-node : goal.join-requires-clause-node
+join-requires-clause-node c =
+    let problem = c.args.problem.now in
+    let n = vec_len c.args.forest.now.flags in
+    let inside : c.args.way.index < length problem.arcs.items = omega (arith, c.requires.inside, problem.arcs.ok.0) in
+    let fits = arc-fits problem c.args.way.index n c.index.result.now inside (omega (arith, c.requires.grown.flags_count, c.args.forest.now.flags.ok.0)) (get_or_read problem.arcs.items _ _ inside c.index.ensures no_arc) in
+    subst (λ (v : ℕ). v < n) c.link-joined.ensures.node (one-of c.link-joined.result.forwards c.index.result.now.src c.index.result.now.dst n fits.src fits.dst)
+
+pub join-requires-clause-places : goal.join-requires-clause-places
+join-requires-clause-places c = omega (arith, c.requires.grown.flags_count, c.requires.grown.places_count, c.args.forest.now.flags.ok.0, c.args.forest.now.places.ok.0)
+
+pub join-requires-clause-few : goal.join-requires-clause-few
+join-requires-clause-few c = omega (arith, c.requires.grown.counted, c.args.problem.now.few_nodes, c.args.forest.now.joined.ok.0)
+
+-- the flow stays complementary where the set sinks
+under-way : (problem : Problem) (flows flows' old new excess : List ℤ) (arcs : List FlowArc) (n : ℕ) → arcs ≡ problem.arcs.items → flows' ≡ flows → length new ≡ n → n ≡ vec_len problem.supplies → AllZip (IsComplementary new) arcs flows' → IsUnderWay problem flows old excess → IsUnderWay problem flows new excess
+under-way problem flows flows' old new excess arcs n is is' count same slack h = record {
+  potentials_count = omega (arith, count, same);
+  excess_count = h.excess_count;
+  capacity = h.capacity;
+  slackness = subst (λ (xs : List FlowArc). AllZip (IsComplementary new) xs flows) is (subst (AllZip (IsComplementary new) arcs) is' slack);
+  balance = h.balance;
+}
+
+pub returns-in_err-join-clause-under_way : goal.returns-in_err-join-clause-under_way
+returns-in_err-join-clause-under_way c =
+    let state = c.args.self.now in
+    under-way c.args.problem.now state.flows.items c.deref-2.result.now state.potentials.items c.lower.new.potentials.items state.excess.items c.deref.result.now _ c.deref.ensures.value c.deref-2.ensures.value
+    (sym c.lower.new.potentials.ok.0) (omega (arith, c.lower.ensures.len, c.requires.under_way.potentials_count, state.potentials.ok.0)) c.lower.ensures.slackness c.requires.under_way
+
+pub returns-clause-under_way : goal.returns-clause-under_way
+returns-clause-under_way c =
+    let state = c.args.self.now in
+    under-way c.args.problem.now state.flows.items c.deref-2.result.now state.potentials.items c.lower.new.potentials.items state.excess.items c.deref.result.now _ c.deref.ensures.value c.deref-2.ensures.value
+    (sym c.lower.new.potentials.ok.0) (omega (arith, c.lower.ensures.len, c.requires.under_way.potentials_count, state.potentials.ok.0)) c.lower.ensures.slackness c.requires.under_way

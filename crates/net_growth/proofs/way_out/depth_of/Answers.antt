@@ -1,0 +1,25 @@
+use Rattle.std.proofs.Common.{of_z, w64, ap, rules}
+use Rattle.net_growth.proofs.Crossing.{way-forwards, way-back, full-forwards, full-back, full-outside, full-inside, depth-is, depth-back}
+use Rattle.net_growth.proofs.way_out.depth_of.Goals as goal
+
+pub returns-in-true-false-clause-some : goal.returns-in-true-false-clause-some
+returns-in-true-false-clause-some c =
+    let r = c.reduced_cost-reduced in
+    way-forwards c.args.potentials.now c.args.flags.now _ c.args.arc.now c.args.flow.now c.in-true-false.is-0 c.in-true-false.is-1 (λ e. c.if-flow-arc.true (ap (of_z w64) e)) (depth-is r.result _ r.ensures.value r.ensures.size)
+
+pub returns-in-false-true-clause-some : goal.returns-in-false-true-clause-some
+returns-in-false-true-clause-some c =
+    let r = c.reduced_cost-reduced in
+    way-back c.args.potentials.now c.args.flags.now _ c.args.arc.now c.args.flow.now c.in-false-true.is-0 c.in-false-true.is-1 (λ e. c.if-flow-arc-2.true (ap (of_z w64) e)) (depth-back r.result _ r.ensures.value r.ensures.size)
+
+pub returns-in_default-clause-none : goal.returns-in_default-clause-none
+returns-in_default-clause-none c = full-inside c.args.flags.now c.args.arc.now c.args.flow.now c.in_default.is-0 c.in_default.is-1
+
+pub returns-in_default-4-clause-none : goal.returns-in_default-4-clause-none
+returns-in_default-4-clause-none c = full-outside c.args.flags.now c.args.arc.now c.args.flow.now c.in_default.is-0 c.in_default.is-1
+
+pub returns-in_default-2-clause-none : goal.returns-in_default-2-clause-none
+returns-in_default-2-clause-none c = full-forwards c.args.flags.now c.args.arc.now c.args.flow.now c.in-true-false.is-1 (search rules)
+
+pub returns-in_default-3-clause-none : goal.returns-in_default-3-clause-none
+returns-in_default-3-clause-none c = full-back c.args.flags.now c.args.arc.now c.args.flow.now c.in-false-true.is-0 (search rules)
