@@ -1,12 +1,13 @@
 //! The arcs of a model, draft by draft.
 
-ghost use Rattle.std.specs.Prelude.{◌≡◌, ◌≤◌, ◌+◌, All, length, map, IfOk};
-ghost use Rattle.net_tree.specs.View.{indexing_of, phrase_of};
+ghost use Rattle.std.specs.Prelude.{◌≡◌, ◌≤◌, ◌+◌, All, length, map, IfOk, OnOk, Ok};
+ghost use Rattle.net_tree.specs.View.{indexing_of, option_part, phrase_of};
 ghost use Rattle.net_normal.specs.Limits.{IsSized, arc_limit, value_limit};
 ghost use Rattle.net_inst.specs.Arcs as found;
+ghost use Rattle.net_inst.specs.Drafts.{said_form};
 ghost use Rattle.net_inst.specs.Fitting.{IsPriced};
 ghost use Rattle.net_inst.specs.Instances.{with_coefficients};
-ghost use Rattle.net_inst.specs.Outcomes.{Answers};
+ghost use Rattle.net_inst.specs.Outcomes.{Leaves, and_then};
 ghost use Rattle.net_inst.specs.Parts.{parts_seen};
 
 use crate::arc::{ArcText, Drawn, arc_at, priced};
@@ -16,15 +17,17 @@ use crate::group::Group;
 use crate::indexing::{Indexing, indexing_of};
 use crate::names::NameList;
 use crate::node::NodeDraft;
+use crate::objective_form::said_form;
 use crate::phrases::parts_of;
-use crate::price::with_phrases;
+use crate::price::add_phrases;
 use net_eval::{Row, Seen};
-use net_forms::{ArcNames, Form};
+use net_forms::Form;
 use net_lex::Token;
 use net_normal::InstArc;
-use net_tree::{Braces, Phrase};
+use net_tree::{Braces, Part, Phrase};
 use std::alloc::{AllocError, Global};
 use std::marker::Model;
+use std::mem;
 
 /// How many arcs a network may have.
 const ARC_LIMIT: usize = 100_000;
@@ -61,9 +64,9 @@ impl<'s> ArcDraft<'s> {
         }
     }
 
-    /// One arc more, at a key.
-    fn with_arc(
-        self,
+    /// Adds the arc at a key.
+    fn add_arc(
+        &mut self,
         alloc: Global,
         goal: &Option<Goal<'s>>,
         seen: &Seen<'_, 's>,
@@ -71,29 +74,32 @@ impl<'s> ArcDraft<'s> {
         text: ArcText<'_, 's>,
         count: Option<u8>,
         row: &Row<'s>,
-    ) -> Result<ArcDraft<'s>, InstFault<'s>>
-        ensures value { Answers (found.next_arc goal.now nodes.now seen.now text.entry.name.now count (parts_seen text.entry.parts) (map phrase_of text.entry.phrases.now) row.now self.entry) result }
-        ensures count { IfOk result (λ d. length d.arcs ≡ length self.entry.arcs + 1) }
+    ) -> Result<(), InstFault<'s>>
+        ensures value { Leaves (found.next_arc goal.now nodes.now seen.now text.entry.name.now count (parts_seen text.entry.parts) (map phrase_of text.entry.phrases.now) row.now self.old) result self.new }
+        ensures count { OnOk result (length self.new.arcs ≡ length self.old.arcs + 1) }
     {
-        let ArcDraft {
-            mut arcs,
-            form,
-            group,
-        } = self;
-        let arc = arcs.len();
+        let arc = self.arcs.len();
         if arc < ARC_LIMIT {
             let new = arc_at(alloc, seen, nodes, text.name, count, text.parts, row)?;
-            let form = with_phrases(alloc, goal, seen, &row.scope, arc, text.phrases, form)?;
-            arcs.push(new)?;
-            Ok(ArcDraft { arcs, form, group })
+            add_phrases(
+                alloc,
+                goal,
+                seen,
+                &row.scope,
+                arc,
+                text.phrases,
+                &mut self.form,
+            )?;
+            self.arcs.push(new)?;
+            Ok(())
         } else {
             Err(refuse_name(InstDefect::TooManyArcs, text.name))
         }
     }
 
-    /// An arc for each key, behind those so far.
-    fn with_rows(
-        self,
+    /// Adds an arc for each key behind those so far.
+    fn add_rows(
+        &mut self,
         alloc: Global,
         goal: &Option<Goal<'s>>,
         seen: &Seen<'_, 's>,
@@ -101,56 +107,53 @@ impl<'s> ArcDraft<'s> {
         text: ArcText<'_, 's>,
         count: Option<u8>,
         rows: &[Row<'s>],
-    ) -> Result<ArcDraft<'s>, InstFault<'s>>
-        ensures value { Answers (found.arcs_at goal.now nodes.now seen.now text.entry.name.now count (parts_seen text.entry.parts) (map phrase_of text.entry.phrases.now) rows.now self.entry) result }
-        ensures few { IfOk result (λ d. length rows.now ≤ length d.arcs) }
+    ) -> Result<(), InstFault<'s>>
+        ensures value { Leaves (found.arcs_at goal.now nodes.now seen.now text.entry.name.now count (parts_seen text.entry.parts) (map phrase_of text.entry.phrases.now) rows.now self.old) result self.new }
+        ensures few { OnOk result (length rows.now ≤ length self.new.arcs) }
     {
-        let mut draft = self;
         for row in rows {
-            draft = draft.with_arc(alloc, goal, seen, nodes, text, count, row)?;
+            self.add_arc(alloc, goal, seen, nodes, text, count, row)?;
         }
-        Ok(draft)
+        Ok(())
     }
 
-    /// The name of a declaration whose arcs are drawn.
-    fn named(
-        self,
+    /// Declares the name of arcs that are drawn.
+    fn declare_name(
+        &mut self,
         alloc: Global,
         name: &Token<'s>,
         first: u32,
         indexing: &Indexing<'s>,
-    ) -> Result<ArcDraft<'s>, AllocError>
-        requires { length indexing.now.rows ≤ arc_limit }
-        ensures { IfOk result (λ d. d ≡ found.named_arcs name.now.text first indexing.now self.entry) }
+    ) -> Result<(), AllocError>
+        requires { length indexing.now.rows ≤ length self.now.arcs }
+        ensures { OnOk result (self.new ≡ found.named_arcs name.now.text first indexing.now self.old) }
     {
-        let ArcDraft { arcs, form, group } = self;
-        let group = group.with(alloc, &name.text, first, indexing)?;
-        Ok(ArcDraft { arcs, form, group })
+        self.group.declare(alloc, &name.text, first, indexing)
     }
 
-    /// The arcs at some keys of a declaration, behind those so far.
-    fn by_keys(
-        self,
+    /// Adds the arcs at some keys of a declaration behind those so far.
+    fn declare_at(
+        &mut self,
         alloc: Global,
         goal: &Option<Goal<'s>>,
         seen: &Seen<'_, 's>,
         nodes: &NodeDraft<'s>,
         text: ArcText<'_, 's>,
         indexing: &Indexing<'s>,
-    ) -> Result<ArcDraft<'s>, InstFault<'s>>
-        ensures { Answers (found.arcs_by goal.now nodes.now seen.now text.entry.name.now (map phrase_of text.entry.phrases.now) self.entry (parts_seen text.entry.parts) indexing.now) result }
+    ) -> Result<(), InstFault<'s>>
+        ensures { Leaves (found.arcs_by goal.now nodes.now seen.now text.entry.name.now (map phrase_of text.entry.phrases.now) self.old (parts_seen text.entry.parts) indexing.now) result self.new }
     {
         let first = self.len() as u32;
         let rows = indexing.rows.as_slice();
-        let drawn = self.with_rows(alloc, goal, seen, nodes, text, indexing.count, rows)?;
-        let named = drawn.named(alloc, text.name, first, indexing)?;
-        Ok(named)
+        self.add_rows(alloc, goal, seen, nodes, text, indexing.count, rows)?;
+        self.declare_name(alloc, text.name, first, indexing)?;
+        Ok(())
     }
 
-    /// The arcs of a declaration behind those of the declarations before it. What its phrases lack is told first, even where
-    /// it has no keys.
-    pub(crate) fn with(
-        self,
+    /// Adds the arcs of a declaration behind those of the declarations before it. What its phrases lack is told first, even
+    /// where it has no keys.
+    pub(crate) fn declare(
+        &mut self,
         alloc: Global,
         goal: &Option<Goal<'s>>,
         seen: &Seen<'_, 's>,
@@ -158,8 +161,8 @@ impl<'s> ArcDraft<'s> {
         name: &Token<'s>,
         braces: &Option<Braces<'s>>,
         phrases: &[Phrase<'s>],
-    ) -> Result<ArcDraft<'s>, InstFault<'s>>
-        ensures { Answers (found.with_arcs goal.now nodes.now seen.now name.now (indexing_of braces.now) (map phrase_of phrases.now) self.entry) result }
+    ) -> Result<(), InstFault<'s>>
+        ensures { Leaves (found.with_arcs goal.now nodes.now seen.now name.now (indexing_of braces.now) (map phrase_of phrases.now) self.old) result self.new }
     {
         let parts = parts_of(name, phrases)?;
         let indexing = indexing_of(alloc, seen, braces)?;
@@ -168,7 +171,7 @@ impl<'s> ArcDraft<'s> {
             parts,
             phrases,
         };
-        self.by_keys(alloc, goal, seen, nodes, text, &indexing)
+        self.declare_at(alloc, goal, seen, nodes, text, &indexing)
     }
 
     /// How many arcs there are.
@@ -179,19 +182,17 @@ impl<'s> ArcDraft<'s> {
         self.arcs.len()
     }
 
-    /// The names of arcs, as an objective's expression refers to them.
-    pub(crate) fn numbers(&self) -> &ArcNames<'s>
-        ensures { result.now ≡ self.now.group.numbers }
+    /// Begins the form of the objective with what the objective says itself.
+    pub(crate) fn begin_form(
+        &mut self,
+        alloc: Global,
+        seen: &Seen<'_, 's>,
+        part: &Option<Part<'s>>,
+    ) -> Result<(), InstFault<'s>>
+        ensures { Leaves (and_then (said_form self.old.group.numbers seen.now (option_part part.now)) (λ f. Ok (found.formed self.old f))) result self.new }
     {
-        &self.group.numbers
-    }
-
-    /// With another form of the objective.
-    pub(crate) fn with_form(self, form: Form) -> ArcDraft<'s>
-        ensures { result ≡ found.formed self.entry form }
-    {
-        let ArcDraft { arcs, group, .. } = self;
-        ArcDraft { arcs, form, group }
+        self.form = said_form(alloc, &self.group.numbers, seen, part)?;
+        Ok(())
     }
 
     /// The arcs with their coefficients in the objective.
@@ -211,11 +212,10 @@ impl<'s> ArcDraft<'s> {
         self.form.constant()
     }
 
-    pub(crate) fn into_names(self) -> NameList<'s>
-        ensures { result ≡ self.entry.group.list }
+    /// The arcs' names, which it has no more then.
+    pub(crate) fn take_names(&mut self, alloc: Global) -> NameList<'s>
+        ensures { result ≡ self.old.group.list }
     {
-        let ArcDraft { group, .. } = self;
-        let Group { list, .. } = group;
-        list
+        mem::replace(&mut self.group.list, NameList::new(alloc))
     }
 }

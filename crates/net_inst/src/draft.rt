@@ -1,20 +1,19 @@
 //! What the declarations of a model come to, one after the other.
 
-ghost use Rattle.std.specs.Prelude.{◌≡◌, ◌+◌, ◌<◌, ◌≤◌, ◌^◌, map, IfOk};
+ghost use Rattle.std.specs.Prelude.{◌≡◌, ◌+◌, ◌<◌, ◌≤◌, ◌^◌, map, OnOk};
 ghost use Rattle.std.specs.Option.{option_copied};
-ghost use Rattle.net_tree.specs.View.{declaration_of, indexing_of, condition_of, phrase_of, tree, option_part};
+ghost use Rattle.net_tree.specs.View.{declaration_of, indexing_of, condition_of, phrase_of, option_part};
 ghost use Rattle.net_inst.specs.Drafts as found;
-ghost use Rattle.net_inst.specs.Outcomes.{Answers};
+ghost use Rattle.net_inst.specs.Outcomes.{Answers, Leaves};
 
 use crate::arc_draft::ArcDraft;
-use crate::fault::{InstDefect, InstFault, refuse_name, widened};
+use crate::fault::{InstDefect, InstFault, refuse_name};
 use crate::goal::Goal;
 use crate::node::NodeDraft;
-use net_eval::{Scope, Seen, World};
-use net_forms::{ArcNames, Form, objective};
+use net_eval::{Seen, World};
 use net_lex::Token;
 use net_normal::Sense;
-use net_tree::{Braces, Decl, Expr, NetCond, Part, Phrase};
+use net_tree::{Braces, Decl, NetCond, Part, Phrase};
 use std::alloc::Global;
 
 /// What the declarations so far come to.
@@ -57,38 +56,6 @@ fn is_chosen<'s>(
     }
 }
 
-/// The form of an objective's expression.
-fn form_of<'s>(
-    alloc: Global,
-    arcs: &ArcNames<'s>,
-    seen: &Seen<'_, 's>,
-    expr: &Expr<'s>,
-) -> Result<Form, InstFault<'s>>
-    ensures { Answers (found.said_tree arcs.now seen.now (tree expr.now)) result }
-{
-    let scope = Scope::new(alloc);
-    match objective(alloc, arcs, seen, &scope, expr) {
-        Ok(form) => Ok(form),
-        Err(fault) => Err(widened(fault)),
-    }
-}
-
-/// What an objective says itself of the arcs declared before it.
-#[tactic(auto, using(net_tree::proofs::Views::views))]
-fn said_form<'s>(
-    alloc: Global,
-    arcs: &ArcNames<'s>,
-    seen: &Seen<'_, 's>,
-    part: &Option<Part<'s>>,
-) -> Result<Form, InstFault<'s>>
-    ensures { Answers (found.said_form arcs.now seen.now (option_part part.now)) result }
-{
-    match part {
-        None => Ok(Form::zero(alloc)),
-        Some(part) => form_of(alloc, arcs, seen, &part.value),
-    }
-}
-
 impl<'s> Draft<'s> {
     /// Nothing declared.
     pub(crate) fn new(alloc: Global) -> Draft<'s>
@@ -103,145 +70,109 @@ impl<'s> Draft<'s> {
         }
     }
 
-    /// With an objective that is the chosen one.
-    fn with_goal(
-        self,
+    /// Takes an objective as the chosen one.
+    fn aim(
+        &mut self,
         alloc: Global,
         seen: &Seen<'_, 's>,
         word: &Token<'s>,
         name: &Token<'s>,
         part: &Option<Part<'s>>,
-    ) -> Result<Draft<'s>, InstFault<'s>>
-        ensures { Answers (found.with_goal seen.now word.now name.now (option_part part.now) self.entry) result }
+    ) -> Result<(), InstFault<'s>>
+        ensures { Leaves (found.with_goal seen.now word.now name.now (option_part part.now) self.old) result self.new }
     {
-        let Draft {
-            known,
-            nodes,
-            arcs,
-            ..
-        } = self;
-        let form = said_form(alloc, arcs.numbers(), seen, part)?;
-        Ok(Draft {
-            known,
-            nodes,
-            arcs: arcs.with_form(form),
-            goal: Some(Goal {
-                name: name.text.again(),
-                sense: sense_of(word),
-            }),
-            aims: true,
-        })
+        self.arcs.begin_form(alloc, seen, part)?;
+        self.goal = Some(Goal {
+            name: name.text.again(),
+            sense: sense_of(word),
+        });
+        self.aims = true;
+        Ok(())
     }
 
-    /// With an objective.
-    fn with_objective(
-        self,
+    /// Adds an objective.
+    fn add_objective(
+        &mut self,
         alloc: Global,
         seen: &Seen<'_, 's>,
         wanted: Option<&'s str>,
         word: &Token<'s>,
         name: &Token<'s>,
         part: &Option<Part<'s>>,
-    ) -> Result<Draft<'s>, InstFault<'s>>
-        ensures { Answers (found.with_objective (option_copied wanted.entry) seen.now word.now name.now (option_part part.now) self.entry) result }
+    ) -> Result<(), InstFault<'s>>
+        ensures { Leaves (found.with_objective (option_copied wanted.entry) seen.now word.now name.now (option_part part.now) self.old) result self.new }
     {
         if is_chosen(wanted, &self.goal, name)? {
-            self.with_goal(alloc, seen, word, name, part)
+            self.aim(alloc, seen, word, name, part)
         } else {
-            Ok(Draft { aims: true, ..self })
+            self.aims = true;
+            Ok(())
         }
     }
 
-    /// With the nodes of a declaration.
-    fn with_nodes(
-        self,
+    /// Adds the nodes of a declaration.
+    fn add_nodes(
+        &mut self,
         alloc: Global,
         seen: &Seen<'_, 's>,
         name: &Token<'s>,
         braces: &Option<Braces<'s>>,
         condition: &NetCond<'s>,
-    ) -> Result<Draft<'s>, InstFault<'s>>
-        ensures { Answers (found.with_node_declaration seen.now name.now (indexing_of braces.now) (condition_of condition.now) self.entry) result }
+    ) -> Result<(), InstFault<'s>>
+        ensures { Leaves (found.with_node_declaration seen.now name.now (indexing_of braces.now) (condition_of condition.now) self.old) result self.new }
     {
-        let Draft {
-            known,
-            nodes,
-            arcs,
-            goal,
-            aims,
-        } = self;
-        let nodes = nodes.with(alloc, seen, name, braces, condition)?;
-        Ok(Draft {
-            known,
-            nodes,
-            arcs,
-            goal,
-            aims,
-        })
+        self.nodes.declare(alloc, seen, name, braces, condition)
     }
 
-    /// With the arcs of a declaration.
-    fn with_arcs(
-        self,
+    /// Adds the arcs of a declaration.
+    fn add_arcs(
+        &mut self,
         alloc: Global,
         seen: &Seen<'_, 's>,
         name: &Token<'s>,
         braces: &Option<Braces<'s>>,
         phrases: &[Phrase<'s>],
-    ) -> Result<Draft<'s>, InstFault<'s>>
-        ensures { Answers (found.with_arc_declaration seen.now name.now (indexing_of braces.now) (map phrase_of phrases.now) self.entry) result }
+    ) -> Result<(), InstFault<'s>>
+        ensures { Leaves (found.with_arc_declaration seen.now name.now (indexing_of braces.now) (map phrase_of phrases.now) self.old) result self.new }
     {
-        let Draft {
-            known,
-            nodes,
-            arcs,
-            goal,
-            aims,
-        } = self;
-        let arcs = arcs.with(alloc, &goal, seen, &nodes, name, braces, phrases)?;
-        Ok(Draft {
-            known,
-            nodes,
-            arcs,
-            goal,
-            aims,
-        })
+        self.arcs.declare(alloc, &self.goal, seen, &self.nodes, name, braces, phrases)
     }
 
-    /// With a set or a parameter, of which no more is seen from there on.
-    fn with_known(self) -> Draft<'s>
-        requires { self.known < 2 ^ 63 }
-        ensures { result ≡ found.known_more self.entry }
+    /// Counts a set or a parameter, of which no more is seen from there on.
+    fn count_known(&mut self)
+        requires { self.now.known < 2 ^ 63 }
+        ensures { self.new ≡ found.known_more self.old }
     {
-        let known = self.known + 1;
-        Draft { known, ..self }
+        self.known += 1;
     }
 
-    /// With one declaration more.
-    pub(crate) fn with(
-        self,
+    /// Adds one declaration more.
+    pub(crate) fn declare(
+        &mut self,
         alloc: Global,
         wanted: Option<&'s str>,
         world: &World<'s>,
         declaration: &Decl<'s>,
-    ) -> Result<Draft<'s>, InstFault<'s>>
-        requires { self.known < 2 ^ 63 }
-        ensures value { Answers (found.declare (option_copied wanted.entry) world.now (declaration_of declaration.now) self.entry) result }
-        ensures known { IfOk result (λ d. d.known ≤ self.entry.known + 1) }
+    ) -> Result<(), InstFault<'s>>
+        requires { self.now.known < 2 ^ 63 }
+        ensures value { Leaves (found.declare (option_copied wanted.entry) world.now (declaration_of declaration.now) self.old) result self.new }
+        ensures known { OnOk result (self.new.known ≤ self.old.known + 1) }
     {
         let seen = Seen::new(world, self.known);
         match declaration {
-            Decl::Set(_, _, _, _) => Ok(self.with_known()),
-            Decl::Param(_, _, _, _, _) => Ok(self.with_known()),
-            Decl::Check(_, _, _, _, _) => Ok(self),
+            Decl::Set(_, _, _, _) | Decl::Param(_, _, _, _, _) => {
+                self.count_known();
+                Ok(())
+            }
+            Decl::Check(_, _, _, _, _) => Ok(()),
             Decl::Node(_, name, braces, condition, _) => {
-                self.with_nodes(alloc, &seen, name, braces, condition)
+                self.add_nodes(alloc, &seen, name, braces, condition)
             }
             Decl::Arc(_, name, braces, phrases, _) => {
-                self.with_arcs(alloc, &seen, name, braces, phrases.as_slice())
+                self.add_arcs(alloc, &seen, name, braces, phrases.as_slice())
             }
             Decl::Objective(word, name, part, _) => {
-                self.with_objective(alloc, &seen, wanted, word, name, part)
+                self.add_objective(alloc, &seen, wanted, word, name, part)
             }
         }
     }

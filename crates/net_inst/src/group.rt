@@ -1,6 +1,6 @@
 //! Declared nodes or arcs: their names, and the numbers that references find.
 
-ghost use Rattle.std.specs.Prelude.{◌≡◌, ◌≤◌, ◌<◌, ◌^◌, [], IfOk, length};
+ghost use Rattle.std.specs.Prelude.{◌≡◌, ◌≤◌, ◌<◌, ◌^◌, [], IfOk, OnOk, length};
 ghost use Rattle.net_sets.specs.Limits.{tuples_limit};
 ghost use Rattle.net_sets.specs.Operations.{union};
 ghost use Rattle.net_inst.specs.Groups as groups;
@@ -37,28 +37,26 @@ fn keys_in<'s>(alloc: Global, rows: &[Row<'s>]) -> Result<TupleSet<'s>, AllocErr
     Ok(keys)
 }
 
-/// With a declared name more, unless it has a meaning.
-fn numbers_with<'s>(
+/// Declares a name, unless it has a meaning.
+fn declare_number<'s>(
     alloc: Global,
-    numbers: ArcNames<'s>,
     name: &Excerpt<'s>,
     first: u32,
     indexing: &Indexing<'s>,
-) -> Result<ArcNames<'s>, AllocError>
+    numbers: &mut ArcNames<'s>,
+) -> Result<(), AllocError>
     requires { length indexing.now.rows ≤ tuples_limit }
-    ensures { IfOk result (λ n. n ≡ groups.numbers_with numbers.entry name.now first indexing.now) }
+    ensures { OnOk result (numbers.new ≡ groups.numbers_with numbers.old name.now first indexing.now) }
 {
-    let mut numbers = numbers;
     if numbers.has(name) {
-        return Ok(numbers);
+        return Ok(());
     }
     let keys = ArcKeys {
         keys: indexing.count,
         first,
         index: keys_in(alloc, indexing.rows.as_slice())?,
     };
-    numbers.add(name, keys)?;
-    Ok(numbers)
+    numbers.add(name, keys)
 }
 
 impl<'s> Group<'s> {
@@ -72,20 +70,19 @@ impl<'s> Group<'s> {
         }
     }
 
-    /// With one declaration more, whose first node or arc has this number.
-    pub(crate) fn with(
-        self,
+    /// Adds a declaration, whose first node or arc has this number.
+    pub(crate) fn declare(
+        &mut self,
         alloc: Global,
         name: &Excerpt<'s>,
         first: u32,
         indexing: &Indexing<'s>,
-    ) -> Result<Group<'s>, AllocError>
+    ) -> Result<(), AllocError>
         requires { length indexing.now.rows ≤ tuples_limit }
-        ensures { IfOk result (λ g. g ≡ groups.group_with self.entry name.now first indexing.now) }
+        ensures { OnOk result (self.new ≡ groups.group_with self.old name.now first indexing.now) }
     {
-        let Group { list, numbers } = self;
-        let list = list.with(name, indexing.count, indexing.rows.as_slice())?;
-        let numbers = numbers_with(alloc, numbers, name, first, indexing)?;
-        Ok(Group { list, numbers })
+        self.list
+            .declare(name, indexing.count, indexing.rows.as_slice())?;
+        declare_number(alloc, name, first, indexing, &mut self.numbers)
     }
 }

@@ -14,6 +14,7 @@ mod network;
 mod node;
 mod node_name;
 mod number;
+mod objective_form;
 mod phrases;
 mod price;
 mod reference;

@@ -80,16 +80,26 @@ impl<'s> NameList<'s> {
     ) -> Result<NameList<'s>, AllocError>
         ensures { IfOk result (λ l. l ≡ lists.listed_with self.entry name.now count rows.now) }
     {
-        let NameList {
-            mut declarations,
-            mut keys,
-        } = self;
-        push_keys(&mut keys, declarations.len(), rows)?;
-        declarations.push(Declared {
+        let mut list = self;
+        list.declare(name, count, rows)?;
+        Ok(list)
+    }
+
+    /// Adds a declaration behind those so far.
+    pub(crate) fn declare(
+        &mut self,
+        name: &Excerpt<'s>,
+        count: Option<u8>,
+        rows: &[Row<'s>],
+    ) -> Result<(), AllocError>
+        ensures { OnOk result (self.new ≡ lists.listed_with self.old name.now count rows.now) }
+    {
+        push_keys(&mut self.keys, self.declarations.len(), rows)?;
+        self.declarations.push(Declared {
             name: name.again(),
             indexed: count.is_some(),
         })?;
-        Ok(NameList { declarations, keys })
+        Ok(())
     }
 }
 

@@ -1,13 +1,13 @@
 //! Networks of models.
 
-ghost use Rattle.std.specs.Prelude.{◌≡◌, All, IfOk, None, length, map};
+ghost use Rattle.std.specs.Prelude.{◌≡◌, All, None, Ok, Err, length, map};
 ghost use Rattle.std.specs.Option.{option_copied};
 ghost use Rattle.net_tree.specs.View.{declaration_of, model as declared_in};
 ghost use Rattle.net_inst.specs.Drafts as drafts;
 ghost use Rattle.net_inst.specs.Fitting.{IsDrawnOf};
 ghost use Rattle.net_inst.specs.Instances as found;
 ghost use Rattle.net_inst.specs.Instances.{AnswersNetwork};
-ghost use Rattle.net_inst.specs.Outcomes.{Answers};
+ghost use Rattle.net_inst.specs.Outcomes.{Leaves};
 
 use crate::arc_draft::ArcDraft;
 use crate::draft::Draft;
@@ -19,7 +19,7 @@ use net_eval::{Detail, World};
 use net_lex::{Excerpt, Span, Token};
 use net_normal::Instance;
 use net_tree::{Decl, Model};
-use std::alloc::{AllocError, Global};
+use std::alloc::Global;
 
 /// A network of nodes and arcs by number, and the names that lead back to the model.
 #[derive(Drop)]
@@ -53,67 +53,62 @@ fn end_of(declarations: &[Decl<'_>]) -> usize
     end
 }
 
-/// What the declarations come to, in order.
+/// Adds declarations in order to nothing.
 fn draw<'s>(
     alloc: Global,
     wanted: Option<&'s str>,
     world: &World<'s>,
     declarations: &[Decl<'s>],
-) -> Result<Draft<'s>, InstFault<'s>>
-    ensures { Answers (drafts.draw (option_copied wanted.entry) world.now (map declaration_of declarations.now) drafts.nothing) result }
+    draft: &mut Draft<'s>,
+) -> Result<(), InstFault<'s>>
+    requires { draft.now.known ≡ 0 }
+    ensures { Leaves (drafts.draw (option_copied wanted.entry) world.now (map declaration_of declarations.now) draft.old) result draft.new }
 {
-    let mut draft = Draft::new(alloc);
     for declaration in declarations {
-        draft = draft.with(alloc, wanted, world, declaration)?;
+        draft.declare(alloc, wanted, world, declaration)?;
     }
-    Ok(draft)
+    Ok(())
 }
 
-/// The network of these nodes and arcs.
+/// The network of these nodes and arcs, which are taken out of their drafts.
 fn with_names<'s>(
     alloc: Global,
-    nodes: NodeDraft<'s>,
-    arcs: ArcDraft<'s>,
-    goal: Goal<'s>,
-) -> Result<Named<'s>, AllocError>
-    requires { All (IsDrawnOf (length nodes.ranges)) arcs.arcs }
-    ensures { IfOk result (λ n. found.seen_as n ≡ found.network_of nodes.entry arcs.entry goal.entry) }
+    nodes: &mut NodeDraft<'s>,
+    arcs: &mut ArcDraft<'s>,
+    goal: &Goal<'s>,
+) -> Result<Named<'s>, InstFault<'s>>
+    requires { All (IsDrawnOf (length nodes.now.ranges)) arcs.now.arcs }
+    ensures { AnswersNetwork (Ok (found.network_of nodes.old arcs.old goal.now)) result }
 {
     let priced = arcs.priced(alloc)?;
-    let constant = arcs.constant();
-    let (ranges, names) = nodes.into_parts();
-    let Goal { name, sense } = goal;
+    let ranges = nodes.take_ranges(alloc);
     Ok(Named {
         instance: Instance {
             nodes: ranges,
             arcs: priced,
-            sense,
-            constant,
+            sense: goal.sense,
+            constant: arcs.constant(),
         },
         names: Names {
-            objective: name,
-            nodes: names,
-            arcs: arcs.into_names(),
+            objective: goal.name.again(),
+            nodes: nodes.take_names(alloc),
+            arcs: arcs.take_names(alloc),
         },
     })
 }
 
 /// That there is no objective at all, or not the one of the given name.
-fn without_goal<'s>(
-    wanted: Option<&'s str>,
-    at: Span,
-    aims: bool,
-) -> Result<Named<'s>, InstFault<'s>>
-    ensures { AnswersNetwork (found.without_goal (option_copied wanted.entry) at aims) result }
+fn without_goal<'s>(wanted: Option<&'s str>, at: Span, aims: bool) -> InstFault<'s>
+    ensures { AnswersNetwork (found.without_goal (option_copied wanted.entry) at aims) (Err result) }
 {
     if !aims {
-        return Err(refuse(InstDefect::NoObjective, at, Detail::Nothing));
+        return refuse(InstDefect::NoObjective, at, Detail::Nothing);
     }
     let name = match wanted {
         Some(name) => Excerpt::new(name),
         None => Excerpt::new(""),
     };
-    Err(refuse(InstDefect::NoSuchObjective, at, Detail::Named(name)))
+    refuse(InstDefect::NoSuchObjective, at, Detail::Named(name))
 }
 
 /// What the declarations come to, once all are drawn.
@@ -121,25 +116,30 @@ fn finished<'s>(
     alloc: Global,
     wanted: Option<&'s str>,
     end: usize,
-    draft: Draft<'s>,
+    draft: &mut Draft<'s>,
 ) -> Result<Named<'s>, InstFault<'s>>
-    requires { All (IsDrawnOf (length draft.nodes.ranges)) draft.arcs.arcs }
-    ensures { AnswersNetwork (found.finished (option_copied wanted.entry) (found.point end) draft.entry draft.entry.goal) result }
+    requires { All (IsDrawnOf (length draft.now.nodes.ranges)) draft.now.arcs.arcs }
+    ensures { AnswersNetwork (found.finished (option_copied wanted.entry) (found.point end) draft.old draft.old.goal) result }
 {
-    let Draft {
-        nodes,
-        arcs,
-        goal,
-        aims,
-        ..
-    } = draft;
-    match goal {
-        Some(goal) => {
-            let network = with_names(alloc, nodes, arcs, goal)?;
-            Ok(network)
-        }
-        None => without_goal(wanted, Span { start: end, end }, aims),
+    match &draft.goal {
+        Some(goal) => with_names(alloc, &mut draft.nodes, &mut draft.arcs, goal),
+        None => Err(without_goal(wanted, Span { start: end, end }, draft.aims)),
     }
+}
+
+/// The network that declarations come to, which are drawn on an empty draft.
+fn network_on<'s>(
+    alloc: Global,
+    wanted: Option<&'s str>,
+    world: &World<'s>,
+    declarations: &[Decl<'s>],
+    draft: &mut Draft<'s>,
+) -> Result<Named<'s>, InstFault<'s>>
+    requires { draft.now ≡ drafts.nothing }
+    ensures { AnswersNetwork (found.network (option_copied wanted.entry) world.now (map declaration_of declarations.now)) result }
+{
+    draw(alloc, wanted, world, declarations, draft)?;
+    finished(alloc, wanted, end_of(declarations), draft)
 }
 
 /// The network of a model in its world, with the objective of a name, or where none is given with the model's only one.
@@ -156,9 +156,14 @@ pub fn instantiate_for<'s>(
 ) -> Result<Named<'s>, InstFault<'s>>
     ensures { AnswersNetwork (found.network (option_copied objective.entry) world.now (declared_in model.now)) result }
 {
-    let declarations = model.declarations.as_slice();
-    let draft = draw(alloc, objective, world, declarations)?;
-    finished(alloc, objective, end_of(declarations), draft)
+    let mut draft = Draft::new(alloc);
+    network_on(
+        alloc,
+        objective,
+        world,
+        model.declarations.as_slice(),
+        &mut draft,
+    )
 }
 
 /// The network of a model in its world, with the model's only objective; else as [`instantiate_for`].

@@ -1,6 +1,6 @@
 //! The nodes of declarations.
 
-ghost use Rattle.std.specs.Prelude.{◌≡◌, ◌≤◌, ◌+◌, length, map, IfOk, OnOk};
+ghost use Rattle.std.specs.Prelude.{◌≡◌, ◌≤◌, ◌+◌, length, map, OnOk};
 ghost use Rattle.std.specs.Option.{option_copied};
 ghost use Rattle.net_tree.specs.View.{condition_of, indexing_of};
 ghost use Rattle.net_normal.specs.Limits.{node_limit};
@@ -9,7 +9,7 @@ ghost use Rattle.net_forms.specs.Arcs.{declared};
 ghost use Rattle.net_forms.specs.Conditions.{range_in};
 ghost use Rattle.net_inst.specs.Nodes as nodes;
 ghost use Rattle.net_inst.specs.Nodes.{sides_of};
-ghost use Rattle.net_inst.specs.Outcomes.{Answers, AnswersAs, Leaves, widened};
+ghost use Rattle.net_inst.specs.Outcomes.{AnswersAs, Leaves, widened};
 
 use crate::fault::{InstDefect, InstFault, InstRefusal, refuse, refuse_name};
 use crate::group::Group;
@@ -22,6 +22,7 @@ use net_normal::NodeRange;
 use net_tree::{Braces, NetCond};
 use std::alloc::Global;
 use std::marker::Model;
+use std::mem;
 
 /// How many nodes a network may have.
 const NODE_LIMIT: usize = 10_000;
@@ -105,8 +106,10 @@ fn push_range<'s>(
     row: &Row<'s>,
     ranges: &mut Vec<NodeRange>,
 ) -> Result<(), InstFault<'s>>
+    requires { length ranges.now.items ≤ node_limit }
     ensures value { Leaves (nodes.next_range seen.now name.now count (condition_of condition.now) row.now (map sides_of ranges.old.items)) result (map sides_of ranges.new.items) }
-    ensures count { OnOk result ((length ranges.new.items ≡ length ranges.old.items + 1) × (length ranges.new.items ≤ node_limit)) }
+    ensures count { OnOk result (length ranges.new.items ≡ length ranges.old.items + 1) }
+    ensures few { length ranges.new.items ≤ node_limit }
 {
     if ranges.len() < NODE_LIMIT {
         let range = range_at(alloc, seen, name, count, condition, row)?;
@@ -129,7 +132,8 @@ fn push_ranges<'s>(
 ) -> Result<(), InstFault<'s>>
     requires { length ranges.now.items ≤ node_limit }
     ensures value { Leaves (nodes.ranges_at seen.now name.now count (condition_of condition.now) rows.now (map sides_of ranges.old.items)) result (map sides_of ranges.new.items) }
-    ensures few { OnOk result ((length ranges.new.items ≤ node_limit) × (length rows.now ≤ node_limit)) }
+    ensures count { OnOk result (length rows.now ≤ node_limit) }
+    ensures few { length ranges.new.items ≤ node_limit }
 {
     for row in rows {
         push_range(alloc, seen, name, count, condition, row, ranges)?;
@@ -170,19 +174,18 @@ impl<'s> NodeDraft<'s> {
         self.group.numbers.get(name)
     }
 
-    /// The nodes at some keys of a declaration, behind those so far.
-    fn by_keys(
-        self,
+    /// Adds the nodes at some keys of a declaration behind those so far.
+    fn declare_at(
+        &mut self,
         alloc: Global,
         seen: &Seen<'_, 's>,
         name: &Token<'s>,
         condition: &NetCond<'s>,
         indexing: &Indexing<'s>,
-    ) -> Result<NodeDraft<'s>, InstFault<'s>>
-        ensures { Answers (nodes.nodes_by seen.now name.now (condition_of condition.now) self.entry indexing.now) result }
+    ) -> Result<(), InstFault<'s>>
+        ensures { Leaves (nodes.nodes_by seen.now name.now (condition_of condition.now) self.old indexing.now) result self.new }
     {
         let first = self.next_number();
-        let NodeDraft { mut ranges, group } = self;
         let rows = indexing.rows.as_slice();
         push_ranges(
             alloc,
@@ -191,36 +194,41 @@ impl<'s> NodeDraft<'s> {
             indexing.count,
             condition,
             rows,
-            &mut ranges,
+            &mut self.ranges,
         )?;
-        let group = group.with(alloc, &name.text, first, indexing)?;
-        Ok(NodeDraft { ranges, group })
+        self.group.declare(alloc, &name.text, first, indexing)?;
+        Ok(())
     }
 
-    /// The nodes of a declaration behind those of the declarations before it.
-    pub(crate) fn with(
-        self,
+    /// Adds the nodes of a declaration behind those of the declarations before it.
+    pub(crate) fn declare(
+        &mut self,
         alloc: Global,
         seen: &Seen<'_, 's>,
         name: &Token<'s>,
         braces: &Option<Braces<'s>>,
         condition: &NetCond<'s>,
-    ) -> Result<NodeDraft<'s>, InstFault<'s>>
-        ensures { Answers (nodes.with_nodes seen.now name.now (indexing_of braces.now) (condition_of condition.now) self.entry) result }
+    ) -> Result<(), InstFault<'s>>
+        ensures { Leaves (nodes.with_nodes seen.now name.now (indexing_of braces.now) (condition_of condition.now) self.old) result self.new }
     {
         let indexing = indexing_of(alloc, seen, braces)?;
-        self.by_keys(alloc, seen, name, condition, &indexing)
+        self.declare_at(alloc, seen, name, condition, &indexing)
     }
 
-    /// The nodes' ranges, and their names.
-    pub(crate) fn into_parts(self) -> (Vec<NodeRange>, NameList<'s>)
-        ensures ranges { map sides_of result.0.items ≡ self.entry.ranges }
-        ensures count { length result.0.items ≡ length self.entry.ranges }
-        ensures few { length result.0.items ≤ node_limit }
-        ensures names { result.1 ≡ self.entry.group.list }
+    /// The nodes' ranges, which it has no more then.
+    pub(crate) fn take_ranges(&mut self, alloc: Global) -> Vec<NodeRange>
+        ensures ranges { map sides_of result.items ≡ self.old.ranges }
+        ensures count { length result.items ≡ length self.old.ranges }
+        ensures few { length result.items ≤ node_limit }
+        ensures names { self.new.group.list ≡ self.old.group.list }
     {
-        let NodeDraft { ranges, group } = self;
-        let Group { list, .. } = group;
-        (ranges, list)
+        mem::replace(&mut self.ranges, Vec::new(alloc))
+    }
+
+    /// The nodes' names, which it has no more then.
+    pub(crate) fn take_names(&mut self, alloc: Global) -> NameList<'s>
+        ensures { result ≡ self.old.group.list }
+    {
+        mem::replace(&mut self.group.list, NameList::new(alloc))
     }
 }

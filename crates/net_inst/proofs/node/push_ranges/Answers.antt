@@ -9,6 +9,6 @@ loop-row-preserved c = (
   sym (goes _ _ _ _
       (ranges-left c.args.seen.now c.args.name.now c.args.count (condition_of c.args.condition.now) c.args.rows.now c.loop-row.row-index c.row-item.result (map sides_of c.loop-row.ranges.items) _ c.loop-row-test.true c.row-item.is c.loop-row.invariant.0)
       c.in_ok-push_range.ensures.value),
-  c.in_ok-push_range.ensures.count.1,
-  one_more _ _ _ c.loop-row.invariant.2 c.in_ok-push_range.ensures.count.0,
+  c.push_range.ensures.few,
+  one_more _ _ _ c.loop-row.invariant.2 c.in_ok-push_range.ensures.count,
 )

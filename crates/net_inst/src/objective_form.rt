@@ -1,0 +1,43 @@
+//! What objectives say themselves.
+
+ghost use Rattle.net_tree.specs.View.{tree, option_part};
+ghost use Rattle.net_inst.specs.Drafts as found;
+ghost use Rattle.net_inst.specs.Outcomes.{Answers};
+
+use crate::fault::{InstFault, widened};
+use net_eval::{Scope, Seen};
+use net_forms::{ArcNames, Form, objective};
+use net_tree::{Expr, Part};
+use std::alloc::Global;
+
+/// The form of an objective's expression.
+fn form_of<'s>(
+    alloc: Global,
+    arcs: &ArcNames<'s>,
+    seen: &Seen<'_, 's>,
+    expr: &Expr<'s>,
+) -> Result<Form, InstFault<'s>>
+    ensures { Answers (found.said_tree arcs.now seen.now (tree expr.now)) result }
+{
+    let scope = Scope::new(alloc);
+    match objective(alloc, arcs, seen, &scope, expr) {
+        Ok(form) => Ok(form),
+        Err(fault) => Err(widened(fault)),
+    }
+}
+
+/// What an objective says itself of the arcs declared before it.
+#[tactic(auto, using(net_tree::proofs::Views::views))]
+pub(crate) fn said_form<'s>(
+    alloc: Global,
+    arcs: &ArcNames<'s>,
+    seen: &Seen<'_, 's>,
+    part: &Option<Part<'s>>,
+) -> Result<Form, InstFault<'s>>
+    ensures { Answers (found.said_form arcs.now seen.now (option_part part.now)) result }
+{
+    match part {
+        None => Ok(Form::zero(alloc)),
+        Some(part) => form_of(alloc, arcs, seen, &part.value),
+    }
+}
