@@ -3,6 +3,7 @@ pub mod Naming
 pub mod Items
 pub mod Lists
 pub mod Fresh
+pub mod Turns
 mod Examples
 pub mod NewNames
 pub mod RowsTaken

@@ -10,7 +10,8 @@ ghost use Rattle.net_eval.specs.declared.value.Value.TheVariants.{Many};
 ghost use Rattle.net_bind.specs.Factors as forms;
 
 use crate::fence::Fence;
-use net_eval::{Scope, Seen, Value, evaluate};
+use crate::stored::{StoredSet, unboxed, value_of};
+use net_eval::{Seen, Value};
 use net_sets::{Held, TupleSet, narrowest, widest};
 use net_tree::{Expr, Link, Operator};
 use std::alloc::Global;
@@ -65,19 +66,42 @@ fn factors<'a, 's>(expr: &'a Expr<'s>) -> Option<(&'a Expr<'s>, &'a Expr<'s>)>
     }
 }
 
+/// A set and its dimension, where there is memory for it.
+fn stored<'w, 's>(
+    alloc: Global,
+    dimension: Option<u8>,
+    set: Held<'w, 's>,
+) -> Option<(Option<u8>, StoredSet<'w, 's>)>
+    ensures { IfSome result (λ p. (p.0 ≡ dimension) × (p.1 ≡ set.entry)) }
+{
+    match StoredSet::new(alloc, set) {
+        Ok(set) => Some((dimension, set)),
+        Err(_) => None,
+    }
+}
+
+/// The set that a value is, if it is one.
+fn set_in<'w, 's>(alloc: Global, value: Value<'w, 's>) -> Option<(Option<u8>, StoredSet<'w, 's>)>
+    ensures { IfSome result (λ p. value.entry ≡ Many p.0 p.1) }
+{
+    match value {
+        Value::Many(dimension, set) => stored(alloc, dimension, set),
+        Value::One(_member) => None,
+        Value::Several(_tuple) => None,
+        Value::Truth(_) => None,
+    }
+}
+
 /// The set that an expression is, if it is one.
 fn set_of<'w, 's>(
     alloc: Global,
     seen: &Seen<'w, 's>,
     expr: &Expr<'s>,
-) -> Option<(Option<u8>, Held<'w, 's>)>
+) -> Option<(Option<u8>, StoredSet<'w, 's>)>
     ensures { IfSome result (λ p. value_of seen.now [] (tree expr.now) ≡ Ok (Many p.0 p.1)) }
 {
-    match evaluate(alloc, seen, &Scope::new(alloc), expr) {
-        Ok(Value::Many(dimension, set)) => Some((dimension, set)),
-        Ok(Value::One(_member)) => None,
-        Ok(Value::Several(_tuple)) => None,
-        Ok(Value::Truth(_)) => None,
+    match value_of(alloc, seen, expr) {
+        Ok(value) => set_in(alloc, unboxed(value)),
         Err(_fault) => None,
     }
 }
@@ -105,9 +129,9 @@ fn can_part(d: Option<u8>, first: &TupleSet<'_>, e: Option<u8>, second: &TupleSe
 /// The product of two sets and its dimension, where it can be kept as its factors.
 fn product<'w, 's>(
     d: Option<u8>,
-    first: Held<'w, 's>,
+    first: StoredSet<'w, 's>,
     e: Option<u8>,
-    second: Held<'w, 's>,
+    second: StoredSet<'w, 's>,
 ) -> Option<(u8, Fence<'w, 's>)>
     ensures { IfSome result (λ p. (at : Place) → sets.cross at d first.entry e second.entry ≡ Ok (Many (Some p.0) p.1)) }
 {

@@ -6,15 +6,16 @@ ghost use Rattle.net_sets.specs.Operations.{union, product, is_within};
 ghost use Rattle.net_sets.specs.Sets.{has};
 ghost use Rattle.net_bind.specs.Fences.{AreLong};
 
-use net_sets::{Held, Member, Tuple, TupleSet};
+use crate::stored::StoredSet;
+use net_sets::{Member, Tuple, TupleSet};
 use std::marker::Model;
 
 /// How the tuples of a fence are known.
 #[derive(Drop)]
 enum Extent<'w, 's> {
-    Whole(Held<'w, 's>),
+    Whole(StoredSet<'w, 's>),
     /// The product of two sets, and how many members each tuple of the first has.
-    Crossed(usize, Held<'w, 's>, Held<'w, 's>),
+    Crossed(usize, StoredSet<'w, 's>, StoredSet<'w, 's>),
 }
 
 /// What a set has to be within, which contracts see as the list of its tuples. A product is kept as its two factors.
@@ -63,7 +64,7 @@ fn is_crossed<'s>(
 }
 
 impl<'w, 's> Fence<'w, 's> {
-    pub(crate) fn whole(set: Held<'w, 's>) -> Fence<'w, 's>
+    pub(crate) fn whole(set: StoredSet<'w, 's>) -> Fence<'w, 's>
         ensures { result ≡ set.entry }
     {
         Fence {
@@ -72,7 +73,11 @@ impl<'w, 's> Fence<'w, 's> {
     }
 
     /// The product of two sets; the tuples of the first have `width` members.
-    pub(crate) fn crossed(width: usize, first: Held<'w, 's>, second: Held<'w, 's>) -> Fence<'w, 's>
+    pub(crate) fn crossed(
+        width: usize,
+        first: StoredSet<'w, 's>,
+        second: StoredSet<'w, 's>,
+    ) -> Fence<'w, 's>
         requires { AreLong width first }
         ensures { result ≡ union [] (product first.entry second.entry) }
     {

@@ -9,8 +9,9 @@ ghost use Rattle.net_bind.specs.BoundParameters as bound;
 ghost use Rattle.net_bind.specs.Outcomes.{Answers};
 
 use crate::fault::{BindFault, refuse};
+use crate::stored::boxed;
 use net_eval::{EvalDefect, Keys, Row, Scope, Seen, index_of};
-use net_lex::{Items, Span};
+use net_lex::{Boxed, Items, Span};
 use net_sets::{SetFault, Tuple, TupleSet};
 use net_tree::{Braces, braces_span};
 use std::alloc::{AllocError, Global};
@@ -89,12 +90,12 @@ pub(crate) fn index_list<'s>(
     alloc: Global,
     at: Span,
     rows: &[Row<'s>],
-) -> Result<TupleSet<'s>, BindFault<'s>>
+) -> Result<Boxed<TupleSet<'s>>, BindFault<'s>>
     ensures { Answers (bound.index_list at rows.now) result }
 {
     let keys = keys_of(alloc, rows)?;
     match once(alloc, keys.as_slice()) {
-        Ok(all) => Ok(all),
+        Ok(all) => Ok(boxed(alloc, all)?),
         Err(SetFault::OutOfMemory) => Err(BindFault::OutOfMemory),
         Err(SetFault::TooMany) => Err(refuse(EvalDefect::TooMany, at)),
     }

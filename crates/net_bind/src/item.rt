@@ -95,6 +95,35 @@ fn joined<'t, 's>(
     Ok(Items::new(all))
 }
 
+/// A tuple is a row, behind that of the members that stand alone before it.
+fn with_tuple<'t, 's>(
+    alloc: Global,
+    rows: Rows<'t, 's>,
+    members: Items<Cell<'t, 's>>,
+) -> Result<Rows<'t, 's>, AllocError>
+    ensures { IfOk result (λ all. all ≡ record { rows = set_data.closed rows.entry ++ members.entry ∷ []; alone = [] }) }
+{
+    let rows = with_row(closed(rows)?, members)?;
+    Ok(Rows {
+        rows,
+        alone: Items::new(Vec::new(alloc)),
+    })
+}
+
+/// Members that stand alone come to those before them.
+fn with_alone<'t, 's>(
+    alloc: Global,
+    dimension: usize,
+    rows: Rows<'t, 's>,
+    members: &[Cell<'t, 's>],
+) -> Result<Rows<'t, 's>, AllocError>
+    ensures { IfOk result (λ all. all ≡ set_data.opened dimension rows.entry.rows (rows.entry.alone ++ members.now)) }
+{
+    let Rows { rows, alone } = rows;
+    let alone = joined(alone, members)?;
+    opened(alloc, dimension, rows, alone)
+}
+
 fn with_item<'t, 's>(
     alloc: Global,
     dimension: usize,
@@ -105,15 +134,9 @@ fn with_item<'t, 's>(
 {
     let members = cells_of(alloc, item.members.again())?;
     if item.is_tuple {
-        let rows = with_row(closed(rows)?, members)?;
-        Ok(Rows {
-            rows,
-            alone: Items::new(Vec::new(alloc)),
-        })
+        with_tuple(alloc, rows, members)
     } else {
-        let Rows { rows, alone } = rows;
-        let alone = joined(alone, members.as_slice())?;
-        opened(alloc, dimension, rows, alone)
+        with_alone(alloc, dimension, rows, members.as_slice())
     }
 }
 

@@ -21,6 +21,7 @@ mod row;
 mod set;
 mod set_phrase;
 mod source;
+mod stored;
 mod world;
 
 pub use fault::{BindDefect, BindFault, Refusal};

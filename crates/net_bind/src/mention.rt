@@ -1,6 +1,6 @@
 //! What the statements say, gathered for each declared name.
 
-ghost use Rattle.std.specs.Prelude.{◌≡◌, false, None, Ok, length};
+ghost use Rattle.std.specs.Prelude.{◌≡◌, false, IfOk, None, Ok, length};
 ghost use Rattle.net_data.specs.declared.statement.Statement.TheVariants as Statements;
 ghost use Rattle.net_bind.specs.Mentions as mentions;
 ghost use Rattle.net_bind.specs.Outcomes.{Answers, Leaves};
@@ -15,7 +15,7 @@ use net_data::{
     TableStatement,
 };
 use net_lex::Items;
-use std::alloc::Global;
+use std::alloc::{AllocError, Global};
 
 fn default_word<'t, 's>(default: &Option<DefaultValue<'t, 's>>) -> Option<Cell<'t, 's>>
     ensures { result ≡ mentions.default_word default.now }
@@ -276,6 +276,22 @@ fn in_statement<'m, 't, 's>(
     }
 }
 
+/// Nothing is said of any name.
+fn unsaid<'m, 't, 's>(
+    alloc: Global,
+    names: &Names<'s>,
+) -> Result<Vec<Mentions<'m, 't, 's>>, AllocError>
+    ensures { IfOk result (λ all. all.items ≡ mentions.unsaid names.now) }
+{
+    let mut all: Vec<Mentions<'m, 't, 's>> = Vec::new(alloc);
+    for _name in names.names() {
+        all.push(Mentions {
+            mentions: Vec::new(alloc),
+        })?;
+    }
+    Ok(all)
+}
+
 /// What all statements say, for each declared name. The names are looked up first, statement by statement and from the left:
 /// E30 at the first that is no set's where one is given, or no parameter's.
 pub(crate) fn said<'m, 't, 's>(
@@ -285,12 +301,7 @@ pub(crate) fn said<'m, 't, 's>(
 ) -> Result<Items<Mentions<'m, 't, 's>>, BindFault<'s>>
     ensures { Answers (mentions.said names.now statements.entry.now) result }
 {
-    let mut all: Vec<Mentions<'m, 't, 's>> = Vec::new(alloc);
-    for _name in names.names() {
-        all.push(Mentions {
-            mentions: Vec::new(alloc),
-        })?;
-    }
+    let mut all = unsaid(alloc, names)?;
     for sheet in statements {
         in_statement(names, sheet, &mut all)?;
     }

@@ -1,8 +1,9 @@
 //! Declared parameters.
 
-ghost use Rattle.std.specs.Prelude.{◌≡◌, map};
+ghost use Rattle.std.specs.Prelude.{◌≡◌, IfOk, map};
 ghost use Rattle.std.specs.Option.{option_copied};
 ghost use Rattle.net_tree.specs.View.{body_of, phrase_of, indexing_of};
+ghost use Rattle.net_eval.specs.declared.world.Entry.TheVariants.{Parameter as AParameter};
 ghost use Rattle.net_bind.specs.BoundParameters as bound;
 ghost use Rattle.net_bind.specs.declared.param.Gives.TheVariants as gives;
 ghost use Rattle.net_bind.specs.Outcomes.{Answers, Leaves};
@@ -15,11 +16,12 @@ use crate::param_data::said_of;
 use crate::restriction::restricted;
 use crate::row::reference;
 use crate::source::{source, source_at, source_text, with_keys};
+use crate::stored::{boxed, unboxed};
 use net_eval::{Detail, Entry, EvalDefect, Row, Seen};
-use net_lex::{Language, Span, Token};
+use net_lex::{Boxed, Language, Span, Token};
 use net_sets::{Member, Table, TupleSet};
 use net_tree::{Begins, Body, Braces, Expr, Phrase, Role, role_of};
-use std::alloc::Global;
+use std::alloc::{AllocError, Global};
 
 /// The word of a phrase that gives values.
 #[derive(Clone, Copy)]
@@ -223,6 +225,18 @@ fn with_source<'s>(
     )
 }
 
+/// The entry of a parameter.
+fn parameter_entry<'s>(
+    alloc: Global,
+    keys: Option<u8>,
+    index: Boxed<TupleSet<'s>>,
+    table: Table<'s>,
+) -> Result<Boxed<Entry<'s>>, AllocError>
+    ensures { IfOk result (λ e. e ≡ AParameter keys index.entry table.entry) }
+{
+    boxed(alloc, Entry::Parameter(keys, unboxed(index), table))
+}
+
 fn with_data<'s>(
     alloc: Global,
     seen: &Seen<'_, 's>,
@@ -232,8 +246,8 @@ fn with_data<'s>(
     mentions: &[Mention<'_, '_, 's>],
     keys: Option<u8>,
     rows: &[Row<'s>],
-    index: TupleSet<'s>,
-) -> Result<Entry<'s>, BindFault<'s>>
+    index: Boxed<TupleSet<'s>>,
+) -> Result<Boxed<Entry<'s>>, BindFault<'s>>
     ensures { Answers (bound.with_data seen.now widths.now name.now (map phrase_of phrases.now) mentions.now keys rows.now index.entry) result }
 {
     let mut table = Table::new(alloc);
@@ -243,7 +257,7 @@ fn with_data<'s>(
         alloc,
         widths,
         keys,
-        &index,
+        index.get(),
         is_assigned,
         mentions,
         &mut table,
@@ -260,7 +274,7 @@ fn with_data<'s>(
         &places,
         &mut table,
     )?;
-    Ok(Entry::Parameter(keys, index, table))
+    Ok(parameter_entry(alloc, keys, index, table)?)
 }
 
 /// What a declared parameter is: its index list, then what data say, then its values, then what its phrases ask of them.
@@ -272,7 +286,7 @@ pub(crate) fn bound_parameter<'s>(
     braces: &Option<Braces<'s>>,
     phrases: &[Phrase<'s>],
     mentions: &[Mention<'_, '_, 's>],
-) -> Result<Entry<'s>, BindFault<'s>>
+) -> Result<Boxed<Entry<'s>>, BindFault<'s>>
     ensures { Answers (bound.bound_parameter seen.now widths.now name.now (indexing_of braces.now) (map phrase_of phrases.now) mentions.now) result }
 {
     let keys = keys_in(alloc, seen, braces)?;

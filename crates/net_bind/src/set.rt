@@ -19,9 +19,10 @@ use crate::given::{Given, Groups, Mention};
 use crate::group::{all_of_size, begins_at, cut, keys_of, refuse_there, whole_groups};
 use crate::item::set_rows;
 use crate::set_phrase::{Claim, Claims, SetPhrase, assigned, set_phrases};
+use crate::stored::{boxed, unboxed};
 use net_data::Members;
 use net_eval::{Detail, Entry, EvalDefect, Seen};
-use net_lex::{Items, Language, Token};
+use net_lex::{Boxed, Items, Language, Token};
 use net_sets::{IndexedSet, SetFault, TupleSet};
 use net_tree::Phrase;
 use std::alloc::{AllocError, Global};
@@ -136,18 +137,18 @@ fn members_of<'s>(
     alloc: Global,
     word: &Cell<'_, 's>,
     rows: &[Items<Cell<'_, 's>>],
-) -> Result<TupleSet<'s>, BindFault<'s>>
+) -> Result<Boxed<TupleSet<'s>>, BindFault<'s>>
     ensures { Answers (each (set_data.with_member word.now) rows.now []) result }
 {
     let mut set = TupleSet::new(alloc);
     for row in rows {
         with_member(word, row.as_slice(), &mut set)?;
     }
-    Ok(set)
+    Ok(boxed(alloc, set)?)
 }
 
 /// Whether `:=` or a statement before gives the set.
-fn is_given(is_assigned: bool, found: &Option<TupleSet<'_>>) -> bool
+fn is_given(is_assigned: bool, found: &Option<Boxed<TupleSet<'_>>>) -> bool
     ensures { result ≡ (is_assigned || is_some found.now) }
 {
     is_assigned || found.is_some()
@@ -160,8 +161,8 @@ fn with_statement<'s>(
     dimension: usize,
     is_assigned: bool,
     mention: &Mention<'_, '_, 's>,
-    found: Option<TupleSet<'s>>,
-) -> Result<Option<TupleSet<'s>>, BindFault<'s>>
+    found: Option<Boxed<TupleSet<'s>>>,
+) -> Result<Option<Boxed<TupleSet<'s>>>, BindFault<'s>>
     ensures { Answers (set_data.with_statement widths.now dimension is_assigned mention.now found.entry) result }
 {
     let rows = given_rows(alloc, widths, dimension, mention)?;
@@ -179,7 +180,7 @@ fn given_set<'s>(
     dimension: usize,
     is_assigned: bool,
     mentions: &[Mention<'_, '_, 's>],
-) -> Result<Option<TupleSet<'s>>, BindFault<'s>>
+) -> Result<Option<Boxed<TupleSet<'s>>>, BindFault<'s>>
     ensures { Answers (set_data.given_set widths.now dimension is_assigned mentions.now) result }
 {
     let mut found = None;
@@ -194,12 +195,12 @@ fn one_of<'s>(
     alloc: Global,
     name: &Token<'s>,
     assigned: Option<&TupleSet<'s>>,
-    found: Option<TupleSet<'s>>,
-) -> Result<TupleSet<'s>, BindFault<'s>>
+    found: Option<Boxed<TupleSet<'s>>>,
+) -> Result<Boxed<TupleSet<'s>>, BindFault<'s>>
     ensures { Answers (bound.one_of name.now (option_copied assigned.entry) found.entry) result }
 {
     match (assigned, found) {
-        (Some(set), _found) => Ok(set.again(alloc)?),
+        (Some(set), _found) => Ok(boxed(alloc, set.again(alloc)?)?),
         (None, Some(set)) => Ok(set),
         (None, None) => Err(refuse_in(
             Language::Model,
@@ -243,11 +244,15 @@ fn allowed<'s>(
 }
 
 /// The entry of a set; how a world keeps sets is known here alone.
-fn set_entry<'s>(alloc: Global, dimension: u8, set: TupleSet<'s>) -> Result<Entry<'s>, AllocError>
+fn set_entry<'s>(
+    alloc: Global,
+    dimension: u8,
+    set: Boxed<TupleSet<'s>>,
+) -> Result<Boxed<Entry<'s>>, AllocError>
     ensures { IfOk result (λ e. e ≡ ASet dimension set.entry) }
 {
-    let set = IndexedSet::new(alloc, set)?;
-    Ok(Entry::Set(dimension, set))
+    let set = IndexedSet::new(alloc, unboxed(set))?;
+    boxed(alloc, Entry::Set(dimension, set))
 }
 
 fn set_of<'s>(
@@ -256,7 +261,7 @@ fn set_of<'s>(
     name: &Token<'s>,
     mentions: &[Mention<'_, '_, 's>],
     claims: &Claims<'_, 's>,
-) -> Result<Entry<'s>, BindFault<'s>>
+) -> Result<Boxed<Entry<'s>>, BindFault<'s>>
     ensures { Answers (bound.set_of widths.now name.now mentions.now claims.now) result }
 {
     let phrases = claims.phrases.as_slice();
@@ -270,7 +275,7 @@ fn set_of<'s>(
         mentions,
     )?;
     let set = one_of(alloc, name, assigned, found)?;
-    allowed(name, &set, phrases)?;
+    allowed(name, set.get(), phrases)?;
     Ok(set_entry(alloc, dimension, set)?)
 }
 
@@ -282,7 +287,7 @@ pub(crate) fn bound_set<'w, 's>(
     name: &Token<'s>,
     phrases: &[Phrase<'s>],
     mentions: &[Mention<'_, '_, 's>],
-) -> Result<Entry<'s>, BindFault<'s>>
+) -> Result<Boxed<Entry<'s>>, BindFault<'s>>
     ensures { Answers (bound.bound_set seen.now widths.now name.now (map phrase_of phrases.now) mentions.now) result }
 {
     let claims = set_phrases(alloc, seen, phrases)?;

@@ -11,9 +11,10 @@ ghost use Rattle.net_bind.specs.declared.set_phrase.SetWord.TheVariants as words
 use crate::crossing::crossed;
 use crate::fault::{BindFault, refuse};
 use crate::fence::Fence;
-use net_eval::{EvalDefect, Scope, Seen, Value, evaluate};
-use net_lex::{Items, Span};
-use net_sets::{Held, Member, TupleSet};
+use crate::stored::{StoredSet, unboxed, value_of};
+use net_eval::{EvalDefect, Seen, Value};
+use net_lex::{Boxed, Items, Span};
+use net_sets::{Member, TupleSet};
 use net_tree::{Begins, Body, Expr, Phrase, Relates, Role, role_of, span_of};
 use std::alloc::Global;
 
@@ -35,14 +36,23 @@ pub(crate) enum Claim<'w, 's> {
     /// `within S`
     Within(Option<u8>, Fence<'w, 's>),
     /// `:= {1, 2}`
-    Becomes(Option<u8>, Held<'w, 's>),
+    Becomes(Option<u8>, StoredSet<'w, 's>),
 }
 
-/// What a phrase says, and where its expression stands.
-#[derive(Drop)]
+/// What a phrase says, and where its expression stands. Dropping it is one call: the prover would else go through all forms of
+/// the claim at each `?`.
 pub(crate) struct SetPhrase<'w, 's> {
     pub(crate) at: Span,
     pub(crate) claim: Claim<'w, 's>,
+}
+
+impl<'w, 's> Drop for SetPhrase<'w, 's> {
+    fn drop(self) {
+        let SetPhrase {
+            at: _at,
+            claim: _claim,
+        } = self;
+    }
 }
 
 /// What phrases say, and the dimension in which they agree.
@@ -79,36 +89,48 @@ fn dimension<'w, 's>(at: Span, value: &Value<'_, 's>) -> Result<Claim<'w, 's>, B
 }
 
 fn claimed<'w, 's>(
+    alloc: Global,
     word: SetWord,
     at: Span,
-    value: Value<'w, 's>,
+    value: Boxed<Value<'w, 's>>,
 ) -> Result<Claim<'w, 's>, BindFault<'s>>
     ensures { Answers (phrases.claimed word at value.entry) result }
 {
     match word {
-        SetWord::Dimension => dimension(at, &value),
-        SetWord::Within => within(at, value),
-        SetWord::Becomes => becomes(at, value),
+        SetWord::Dimension => dimension(at, value.get()),
+        SetWord::Within => within(alloc, at, unboxed(value)),
+        SetWord::Becomes => becomes(alloc, at, unboxed(value)),
         SetWord::Other => Ok(Claim::Nothing),
     }
 }
 
-fn within<'w, 's>(at: Span, value: Value<'w, 's>) -> Result<Claim<'w, 's>, BindFault<'s>>
+fn within<'w, 's>(
+    alloc: Global,
+    at: Span,
+    value: Value<'w, 's>,
+) -> Result<Claim<'w, 's>, BindFault<'s>>
     ensures { Answers (phrases.claimed words.Within at value.entry) result }
 {
     match value {
-        Value::Many(dimension, set) => Ok(Claim::Within(dimension, Fence::whole(set))),
+        Value::Many(dimension, set) => {
+            let set = StoredSet::new(alloc, set)?;
+            Ok(Claim::Within(dimension, Fence::whole(set)))
+        }
         Value::One(_member) => Err(refuse(EvalDefect::KindMismatch, at)),
         Value::Several(_tuple) => Err(refuse(EvalDefect::KindMismatch, at)),
         Value::Truth(_) => Err(refuse(EvalDefect::KindMismatch, at)),
     }
 }
 
-fn becomes<'w, 's>(at: Span, value: Value<'w, 's>) -> Result<Claim<'w, 's>, BindFault<'s>>
+fn becomes<'w, 's>(
+    alloc: Global,
+    at: Span,
+    value: Value<'w, 's>,
+) -> Result<Claim<'w, 's>, BindFault<'s>>
     ensures { Answers (phrases.claimed words.Becomes at value.entry) result }
 {
     match value {
-        Value::Many(dimension, set) => Ok(Claim::Becomes(dimension, set)),
+        Value::Many(dimension, set) => Ok(Claim::Becomes(dimension, StoredSet::new(alloc, set)?)),
         Value::One(_member) => Err(refuse(EvalDefect::KindMismatch, at)),
         Value::Several(_tuple) => Err(refuse(EvalDefect::KindMismatch, at)),
         Value::Truth(_) => Err(refuse(EvalDefect::KindMismatch, at)),
@@ -123,9 +145,9 @@ fn evaluated_phrase<'w, 's>(
 ) -> Result<SetPhrase<'w, 's>, BindFault<'s>>
     ensures { Answers (phrases.set_phrase seen.now word (tree expr.now)) result }
 {
-    let value = evaluate(alloc, seen, &Scope::new(alloc), expr)?;
+    let value = value_of(alloc, seen, expr)?;
     let at = span_of(expr);
-    let claim = claimed(word, at, value)?;
+    let claim = claimed(alloc, word, at, value)?;
     Ok(SetPhrase { at, claim })
 }
 

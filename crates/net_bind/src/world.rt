@@ -17,9 +17,10 @@ use crate::mention::said;
 use crate::names::declared;
 use crate::param::bound_parameter;
 use crate::set::bound_set;
+use crate::stored::unboxed;
 use net_data::Tables;
 use net_eval::{Entry, Seen, World};
-use net_lex::Token;
+use net_lex::{Boxed, Token};
 use net_tree::{Braces, Decl, Model, Phrase};
 use std::alloc::{AllocError, Global};
 
@@ -37,7 +38,7 @@ fn width_of(entry: &Entry<'_>) -> usize
 /// A name that means nothing so far gets an entry.
 fn with_entry<'s>(
     name: &Token<'s>,
-    entry: Entry<'s>,
+    entry: Boxed<Entry<'s>>,
     world: &mut World<'s>,
     widths: &mut Vec<usize>,
 ) -> Result<(), BindFault<'s>>
@@ -46,8 +47,8 @@ fn with_entry<'s>(
     ensures value { Leaves (binding.with_entry world.old name.now entry.entry) result world.new }
     ensures kept { OnOk result (widths.new.items ≡ binding.widths world.new) }
 {
-    widths.push(width_of(&entry))?;
-    world.add(&name.text, entry)?;
+    widths.push(width_of(entry.get()))?;
+    world.add(&name.text, unboxed(entry))?;
     Ok(())
 }
 
@@ -66,7 +67,7 @@ fn entry_of_set<'m, 't, 's>(
     phrases: &[Phrase<'s>],
     world: &World<'s>,
     widths: &[usize],
-) -> Result<Entry<'s>, BindFault<'s>>
+) -> Result<Boxed<Entry<'s>>, BindFault<'s>>
     requires { widths.now ≡ binding.widths world.now }
     ensures { Answers (sets.bound_set world.now (binding.widths world.now) name.now (map phrase_of phrases.now) (binding.said_next given.now world.now)) result }
 {
@@ -88,7 +89,7 @@ fn entry_of_parameter<'m, 't, 's>(
     phrases: &[Phrase<'s>],
     world: &World<'s>,
     widths: &[usize],
-) -> Result<Entry<'s>, BindFault<'s>>
+) -> Result<Boxed<Entry<'s>>, BindFault<'s>>
     requires { widths.now ≡ binding.widths world.now }
     ensures { Answers (parameters.bound_parameter world.now (binding.widths world.now) name.now (indexing_of braces.now) (map phrase_of phrases.now) (binding.said_next given.now world.now)) result }
 {

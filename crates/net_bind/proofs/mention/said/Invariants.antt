@@ -1,10 +1,7 @@
-use Rattle.std.specs.Prelude.{◌≡◌, drop, take}
+use Rattle.std.specs.Prelude.{◌≡◌, drop}
 use Rattle.net_bind.specs.Outcomes.{each}
-use Rattle.net_bind.specs.Mentions.{said, unsaid, in_statement}
+use Rattle.net_bind.specs.Mentions.{said, in_statement}
 use Rattle.net_bind.proofs.mention.said.Given as goal
-
-abbrev pub invariant-loop-name : goal.invariant-loop-name
-invariant-loop-name l = l.all.items ≡ unsaid (take l._name-index l.fn.names)
 
 abbrev pub invariant-loop-sheet : goal.invariant-loop-sheet
 invariant-loop-sheet l = each (in_statement l.fn.names) (drop l.sheet-index l.fn.statements) l.all.items ≡ said l.fn.names l.fn.statements

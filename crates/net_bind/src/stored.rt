@@ -1,0 +1,71 @@
+//! Values of many forms, each in a box.
+
+ghost use Rattle.std.specs.Prelude.{◌≡◌, [], IfOk};
+ghost use Rattle.net_tree.specs.View.{tree};
+ghost use Rattle.net_eval.specs.Outcomes.{Answers};
+ghost use Rattle.net_eval.specs.Values.{value};
+
+use net_eval::{EvalFault, Scope, Seen, Value, evaluate};
+use net_lex::Boxed;
+use net_sets::{Held, TupleSet};
+use net_tree::Expr;
+use std::alloc::{AllocError, Global};
+use std::marker::Model;
+
+/// The value in a box of its own.
+pub(crate) fn boxed<T: Drop>(alloc: Global, inner: T) -> Result<Boxed<T>, AllocError>
+    ensures { IfOk result (λ b. b ≡ inner) }
+{
+    Ok(Boxed::new(Box::new(alloc, inner)?))
+}
+
+/// The value out of its box.
+pub(crate) fn unboxed<T>(boxed: Boxed<T>) -> T
+    ensures { result ≡ boxed }
+{
+    Box::into_inner(boxed.into_box())
+}
+
+/// What an expression comes to, in a box.
+pub(crate) fn value_of<'w, 's>(
+    alloc: Global,
+    seen: &Seen<'w, 's>,
+    expr: &Expr<'s>,
+) -> Result<Boxed<Value<'w, 's>>, EvalFault<'s>>
+    ensures { Answers (value seen.now [] (tree expr.now)) result }
+{
+    match evaluate(alloc, seen, &Scope::new(alloc), expr) {
+        Ok(value) => Ok(boxed(alloc, value)?),
+        Err(fault) => Err(fault),
+    }
+}
+
+/// A set in a box, which contracts see as the list of its tuples. So each phrase of a set has a value of few words.
+#[derive(Drop)]
+pub(crate) struct StoredSet<'w, 's> {
+    set: Boxed<Held<'w, 's>>,
+}
+
+impl<'w, 's> Model for StoredSet<'w, 's> {
+    ghost use Rattle.std.specs.Prelude.{List};
+    ghost use Rattle.net_sets.specs.declared.member.Member.{Member};
+
+    ghost Value = { List (List Member) };
+
+    ghost view = { λ s. s.set };
+}
+
+impl<'w, 's> StoredSet<'w, 's> {
+    pub(crate) fn new(alloc: Global, set: Held<'w, 's>) -> Result<StoredSet<'w, 's>, AllocError>
+        ensures { IfOk result (λ s. s ≡ set.entry) }
+    {
+        let set = boxed(alloc, set)?;
+        Ok(StoredSet { set })
+    }
+
+    pub(crate) fn get(&self) -> &TupleSet<'s>
+        ensures { result.now ≡ self.now }
+    {
+        self.set.get().get()
+    }
+}
