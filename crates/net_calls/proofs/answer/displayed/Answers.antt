@@ -1,4 +1,4 @@
-use Rattle.std.proofs.Common.{length, ap, sym, subst, ◌∙◌}
+use Rattle.std.proofs.Common.{rules, length, ap, sym, subst, ◌∙◌}
 use Rattle.net_normal.specs.Limits.{IsSized, total_cost_limit}
 use Rattle.net_check.proofs.Sums.{plain_128}
 use Rattle.net_calls.proofs.Solving.{carried, cost_sized, lifted_length}
@@ -15,3 +15,10 @@ value-value-requires c =
 pub write_display-requires : goal.write_display-requires
 write_display-requires c =
     ap length c.deref.ensures.value ∙ ap length c.in_ok-assignment.ensures.value ∙ lifted_length c.args.compiled.now.link c.args.flows.now ∙ c.requires.sizes.arcs
+
+pub returns : goal.returns
+returns c = record {
+  lifts = c.in_ok-assignment.ensures.value;
+  worth = search (rules, c.value-value.ensures);
+  display = search (rules, c.in_ok-text.ensures.value, c.deref.ensures.value);
+}
