@@ -21,12 +21,12 @@ use Rattle.net_inst.specs.Arcs.{DrawnArcs, price_in, prices_in, next_arc, arcs_a
 use Rattle.net_inst.specs.Drafts.{Drawing, declare, draw}
 use Rattle.net_inst.specs.Nodes.{DrawnNodes, next_range, ranges_at}
 use Rattle.net_inst.specs.Phrases.{Parts}
-use Rattle.net_inst.specs.Outcomes.{Outcome, Answers, and_then}
+use Rattle.net_inst.specs.Outcomes.{Outcome, Leaves, and_then}
 
 -- a fault of the first step is a fault of all
-pub stops : {A B : Type 0} (o : Outcome A) (f : A → Outcome B) (wanted : Outcome B) (e : InstFault) → wanted ≡ and_then o f → Answers o (Err e) → Answers wanted (Err e)
-stops o f wanted OutOfMemory e h = tt
-stops o f wanted (Refused r) e h = e ∙ ap (λ k. and_then k f) h
+pub halts : {A B : Type 0} (o : Outcome A) (f : A → Outcome B) (wanted : Outcome B) (e : InstFault) (x : A) (y : B) → wanted ≡ and_then o f → Leaves o (Err e) x → Leaves wanted (Err e) y
+halts o f wanted OutOfMemory x y e h = tt
+halts o f wanted (Refused r) x y e h = e ∙ ap (λ k. and_then k f) h
 
 -- behind the first step the rest is left
 pub goes : {A B : Type 0} (o : Outcome A) (f : A → Outcome B) (wanted : Outcome B) (x : A) → wanted ≡ and_then o f → o ≡ Ok x → wanted ≡ f x

@@ -46,9 +46,9 @@ fn end_at<'s>(
     seen: &Seen<'_, 's>,
     scope: &Scope<'s>,
     nodes: &NodeDraft<'s>,
-    end: Option<&Expr<'s>>,
+    end: &Option<&Expr<'s>>,
 ) -> Result<Option<u32>, InstFault<'s>>
-    ensures { Answers (found.end_at nodes.now seen.now scope.now (option_map tree (option_copied end.entry))) result }
+    ensures { Answers (found.end_at nodes.now seen.now scope.now (option_map tree (option_copied end.now))) result }
 {
     match end {
         None => Ok(None),
@@ -65,14 +65,14 @@ fn with_ends<'s>(
     seen: &Seen<'_, 's>,
     scope: &Scope<'s>,
     nodes: &NodeDraft<'s>,
-    parts: ArcParts<'_, 's>,
+    parts: &ArcParts<'_, 's>,
     lower: i64,
     upper: i64,
 ) -> Result<Drawn, InstFault<'s>>
-    ensures { Answers (found.with_ends nodes.now seen.now scope.now (parts_seen parts.entry) lower upper) result }
+    ensures { Answers (found.with_ends nodes.now seen.now scope.now (parts_seen parts.now) lower upper) result }
 {
-    let tail = end_at(alloc, seen, scope, nodes, parts.tail)?;
-    let head = end_at(alloc, seen, scope, nodes, parts.head)?;
+    let tail = end_at(alloc, seen, scope, nodes, &parts.tail)?;
+    let head = end_at(alloc, seen, scope, nodes, &parts.head)?;
     Ok(Drawn {
         lower,
         upper,
@@ -87,11 +87,11 @@ pub(crate) fn arc_at<'s>(
     seen: &Seen<'_, 's>,
     nodes: &NodeDraft<'s>,
     name: &Token<'s>,
-    count: Option<u8>,
-    parts: ArcParts<'_, 's>,
+    count: &Option<u8>,
+    parts: &ArcParts<'_, 's>,
     row: &Row<'s>,
 ) -> Result<Drawn, InstFault<'s>>
-    ensures { Answers (found.drawn nodes.now seen.now name.now count (parts_seen parts.entry) row.now) result }
+    ensures { Answers (found.drawn nodes.now seen.now name.now count.now (parts_seen parts.now) row.now) result }
 {
     let scope = &row.scope;
     let lower = number_of(alloc, seen, scope, parts.lower)?;

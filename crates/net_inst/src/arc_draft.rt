@@ -6,6 +6,7 @@ ghost use Rattle.net_normal.specs.Limits.{IsSized, arc_limit, value_limit};
 ghost use Rattle.net_inst.specs.Arcs as found;
 ghost use Rattle.net_inst.specs.Drafts.{said_form};
 ghost use Rattle.net_inst.specs.Fitting.{IsPriced};
+ghost use Rattle.net_inst.specs.Indexings.{indexing_in};
 ghost use Rattle.net_inst.specs.Instances.{with_coefficients};
 ghost use Rattle.net_inst.specs.Outcomes.{Leaves, and_then};
 ghost use Rattle.net_inst.specs.Parts.{parts_seen};
@@ -71,16 +72,16 @@ impl<'s> ArcDraft<'s> {
         goal: &Option<Goal<'s>>,
         seen: &Seen<'_, 's>,
         nodes: &NodeDraft<'s>,
-        text: ArcText<'_, 's>,
-        count: Option<u8>,
+        text: &ArcText<'_, 's>,
+        count: &Option<u8>,
         row: &Row<'s>,
     ) -> Result<(), InstFault<'s>>
-        ensures value { Leaves (found.next_arc goal.now nodes.now seen.now text.entry.name.now count (parts_seen text.entry.parts) (map phrase_of text.entry.phrases.now) row.now self.old) result self.new }
+        ensures value { Leaves (found.next_arc goal.now nodes.now seen.now text.now.name.now count.now (parts_seen text.now.parts) (map phrase_of text.now.phrases.now) row.now self.old) result self.new }
         ensures count { OnOk result (length self.new.arcs ≡ length self.old.arcs + 1) }
     {
         let arc = self.arcs.len();
         if arc < ARC_LIMIT {
-            let new = arc_at(alloc, seen, nodes, text.name, count, text.parts, row)?;
+            let new = arc_at(alloc, seen, nodes, text.name, count, &text.parts, row)?;
             add_phrases(
                 alloc,
                 goal,
@@ -104,11 +105,11 @@ impl<'s> ArcDraft<'s> {
         goal: &Option<Goal<'s>>,
         seen: &Seen<'_, 's>,
         nodes: &NodeDraft<'s>,
-        text: ArcText<'_, 's>,
-        count: Option<u8>,
+        text: &ArcText<'_, 's>,
+        count: &Option<u8>,
         rows: &[Row<'s>],
     ) -> Result<(), InstFault<'s>>
-        ensures value { Leaves (found.arcs_at goal.now nodes.now seen.now text.entry.name.now count (parts_seen text.entry.parts) (map phrase_of text.entry.phrases.now) rows.now self.old) result self.new }
+        ensures value { Leaves (found.arcs_at goal.now nodes.now seen.now text.now.name.now count.now (parts_seen text.now.parts) (map phrase_of text.now.phrases.now) rows.now self.old) result self.new }
         ensures few { OnOk result (length rows.now ≤ length self.new.arcs) }
     {
         for row in rows {
@@ -138,16 +139,32 @@ impl<'s> ArcDraft<'s> {
         goal: &Option<Goal<'s>>,
         seen: &Seen<'_, 's>,
         nodes: &NodeDraft<'s>,
-        text: ArcText<'_, 's>,
+        text: &ArcText<'_, 's>,
         indexing: &Indexing<'s>,
     ) -> Result<(), InstFault<'s>>
-        ensures { Leaves (found.arcs_by goal.now nodes.now seen.now text.entry.name.now (map phrase_of text.entry.phrases.now) self.old (parts_seen text.entry.parts) indexing.now) result self.new }
+        ensures { Leaves (found.arcs_by goal.now nodes.now seen.now text.now.name.now (map phrase_of text.now.phrases.now) self.old (parts_seen text.now.parts) indexing.now) result self.new }
     {
         let first = self.len() as u32;
         let rows = indexing.rows.as_slice();
-        self.add_rows(alloc, goal, seen, nodes, text, indexing.count, rows)?;
+        self.add_rows(alloc, goal, seen, nodes, text, &indexing.count, rows)?;
         self.declare_name(alloc, text.name, first, indexing)?;
         Ok(())
+    }
+
+    /// Adds the arcs of a declaration whose phrases say what they have to.
+    fn declare_said(
+        &mut self,
+        alloc: Global,
+        goal: &Option<Goal<'s>>,
+        seen: &Seen<'_, 's>,
+        nodes: &NodeDraft<'s>,
+        text: &ArcText<'_, 's>,
+        braces: &Option<Braces<'s>>,
+    ) -> Result<(), InstFault<'s>>
+        ensures { Leaves (and_then (indexing_in seen.now (indexing_of braces.now)) (found.arcs_by goal.now nodes.now seen.now text.now.name.now (map phrase_of text.now.phrases.now) self.old (parts_seen text.now.parts))) result self.new }
+    {
+        let indexing = indexing_of(alloc, seen, braces)?;
+        self.declare_at(alloc, goal, seen, nodes, text, &indexing)
     }
 
     /// Adds the arcs of a declaration behind those of the declarations before it. What its phrases lack is told first, even
@@ -165,13 +182,12 @@ impl<'s> ArcDraft<'s> {
         ensures { Leaves (found.with_arcs goal.now nodes.now seen.now name.now (indexing_of braces.now) (map phrase_of phrases.now) self.old) result self.new }
     {
         let parts = parts_of(name, phrases)?;
-        let indexing = indexing_of(alloc, seen, braces)?;
         let text = ArcText {
             name,
             parts,
             phrases,
         };
-        self.declare_at(alloc, goal, seen, nodes, text, &indexing)
+        self.declare_said(alloc, goal, seen, nodes, &text, braces)
     }
 
     /// How many arcs there are.

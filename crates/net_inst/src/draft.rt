@@ -16,8 +16,7 @@ use net_normal::Sense;
 use net_tree::{Braces, Decl, NetCond, Part, Phrase};
 use std::alloc::Global;
 
-/// What the declarations so far come to.
-#[derive(Drop)]
+/// What the declarations so far come to. Dropping it is one call.
 pub(crate) struct Draft<'s> {
     /// How many sets and parameters they declare.
     pub(crate) known: usize,
@@ -27,6 +26,18 @@ pub(crate) struct Draft<'s> {
     pub(crate) goal: Option<Goal<'s>>,
     /// Whether there is an objective at all.
     pub(crate) aims: bool,
+}
+
+impl<'s> Drop for Draft<'s> {
+    fn drop(self) {
+        let Draft {
+            known: _known,
+            nodes: _nodes,
+            arcs: _arcs,
+            goal: _goal,
+            aims: _aims,
+        } = self;
+    }
 }
 
 #[tactic(auto, unfolding(crate::specs::Drafts::sense_of))]
@@ -41,14 +52,14 @@ fn sense_of(word: &Token<'_>) -> Sense
 
 /// Whether an objective is the chosen one.
 fn is_chosen<'s>(
-    wanted: Option<&'s str>,
+    wanted: &Option<&'s str>,
     goal: &Option<Goal<'s>>,
     name: &Token<'s>,
 ) -> Result<bool, InstFault<'s>>
-    ensures { Answers (found.is_chosen (option_copied wanted.entry) goal.now name.now) result }
+    ensures { Answers (found.is_chosen (option_copied wanted.now) goal.now name.now) result }
 {
     match wanted {
-        Some(wanted) => Ok(wanted == name.text.as_str()),
+        Some(wanted) => Ok(*wanted == name.text.as_str()),
         None => match goal {
             None => Ok(true),
             Some(_) => Err(refuse_name(InstDefect::TwoObjectives, name)),
@@ -95,12 +106,12 @@ impl<'s> Draft<'s> {
         &mut self,
         alloc: Global,
         seen: &Seen<'_, 's>,
-        wanted: Option<&'s str>,
+        wanted: &Option<&'s str>,
         word: &Token<'s>,
         name: &Token<'s>,
         part: &Option<Part<'s>>,
     ) -> Result<(), InstFault<'s>>
-        ensures { Leaves (found.with_objective (option_copied wanted.entry) seen.now word.now name.now (option_part part.now) self.old) result self.new }
+        ensures { Leaves (found.with_objective (option_copied wanted.now) seen.now word.now name.now (option_part part.now) self.old) result self.new }
     {
         if is_chosen(wanted, &self.goal, name)? {
             self.aim(alloc, seen, word, name, part)
@@ -150,12 +161,12 @@ impl<'s> Draft<'s> {
     pub(crate) fn declare(
         &mut self,
         alloc: Global,
-        wanted: Option<&'s str>,
+        wanted: &Option<&'s str>,
         world: &World<'s>,
         declaration: &Decl<'s>,
     ) -> Result<(), InstFault<'s>>
         requires { self.now.known < 2 ^ 63 }
-        ensures value { Leaves (found.declare (option_copied wanted.entry) world.now (declaration_of declaration.now) self.old) result self.new }
+        ensures value { Leaves (found.declare (option_copied wanted.now) world.now (declaration_of declaration.now) self.old) result self.new }
         ensures known { OnOk result (self.new.known ≤ self.old.known + 1) }
     {
         let seen = Seen::new(world, self.known);

@@ -56,13 +56,13 @@ fn end_of(declarations: &[Decl<'_>]) -> usize
 /// Adds declarations in order to nothing.
 fn draw<'s>(
     alloc: Global,
-    wanted: Option<&'s str>,
+    wanted: &Option<&'s str>,
     world: &World<'s>,
     declarations: &[Decl<'s>],
     draft: &mut Draft<'s>,
 ) -> Result<(), InstFault<'s>>
     requires { draft.now.known ≡ 0 }
-    ensures { Leaves (drafts.draw (option_copied wanted.entry) world.now (map declaration_of declarations.now) draft.old) result draft.new }
+    ensures { Leaves (drafts.draw (option_copied wanted.now) world.now (map declaration_of declarations.now) draft.old) result draft.new }
 {
     for declaration in declarations {
         draft.declare(alloc, wanted, world, declaration)?;
@@ -98,8 +98,8 @@ fn with_names<'s>(
 }
 
 /// That there is no objective at all, or not the one of the given name.
-fn without_goal<'s>(wanted: Option<&'s str>, at: Span, aims: bool) -> InstFault<'s>
-    ensures { AnswersNetwork (found.without_goal (option_copied wanted.entry) at aims) (Err result) }
+fn without_goal<'s>(wanted: &Option<&'s str>, at: Span, aims: bool) -> InstFault<'s>
+    ensures { AnswersNetwork (found.without_goal (option_copied wanted.now) at aims) (Err result) }
 {
     if !aims {
         return refuse(InstDefect::NoObjective, at, Detail::Nothing);
@@ -114,12 +114,12 @@ fn without_goal<'s>(wanted: Option<&'s str>, at: Span, aims: bool) -> InstFault<
 /// What the declarations come to, once all are drawn.
 fn finished<'s>(
     alloc: Global,
-    wanted: Option<&'s str>,
+    wanted: &Option<&'s str>,
     end: usize,
     draft: &mut Draft<'s>,
 ) -> Result<Named<'s>, InstFault<'s>>
     requires { All (IsDrawnOf (length draft.now.nodes.ranges)) draft.now.arcs.arcs }
-    ensures { AnswersNetwork (found.finished (option_copied wanted.entry) (found.point end) draft.old draft.old.goal) result }
+    ensures { AnswersNetwork (found.finished (option_copied wanted.now) (found.point end) draft.old draft.old.goal) result }
 {
     match &draft.goal {
         Some(goal) => with_names(alloc, &mut draft.nodes, &mut draft.arcs, goal),
@@ -130,16 +130,30 @@ fn finished<'s>(
 /// The network that declarations come to, which are drawn on an empty draft.
 fn network_on<'s>(
     alloc: Global,
-    wanted: Option<&'s str>,
+    wanted: &Option<&'s str>,
     world: &World<'s>,
     declarations: &[Decl<'s>],
     draft: &mut Draft<'s>,
 ) -> Result<Named<'s>, InstFault<'s>>
     requires { draft.now ≡ drafts.nothing }
-    ensures { AnswersNetwork (found.network (option_copied wanted.entry) world.now (map declaration_of declarations.now)) result }
+    ensures { AnswersNetwork (found.network (option_copied wanted.now) world.now (map declaration_of declarations.now)) result }
 {
     draw(alloc, wanted, world, declarations, draft)?;
     finished(alloc, wanted, end_of(declarations), draft)
+}
+
+/// The network of a model in its world.
+fn network_of<'s>(
+    alloc: Global,
+    wanted: &Option<&'s str>,
+    world: &World<'s>,
+    model: &Model<'s>,
+) -> Result<Named<'s>, InstFault<'s>>
+    ensures { AnswersNetwork (found.network (option_copied wanted.now) world.now (declared_in model.now)) result }
+{
+    let declarations = model.declarations.as_slice();
+    let mut draft = Draft::new(alloc);
+    network_on(alloc, wanted, world, declarations, &mut draft)
 }
 
 /// The network of a model in its world, with the objective of a name, or where none is given with the model's only one.
@@ -156,14 +170,7 @@ pub fn instantiate_for<'s>(
 ) -> Result<Named<'s>, InstFault<'s>>
     ensures { AnswersNetwork (found.network (option_copied objective.entry) world.now (declared_in model.now)) result }
 {
-    let mut draft = Draft::new(alloc);
-    network_on(
-        alloc,
-        objective,
-        world,
-        model.declarations.as_slice(),
-        &mut draft,
-    )
+    network_of(alloc, &objective, world, model)
 }
 
 /// The network of a model in its world, with the model's only objective; else as [`instantiate_for`].

@@ -47,8 +47,8 @@ impl<'s> Model for NodeDraft<'s> {
 }
 
 /// A node with its key, as faults tell it.
-pub(crate) fn reference<'s>(name: &Token<'s>, count: Option<u8>, row: &Row<'s>) -> Detail<'s>
-    ensures { result ≡ reference name.now.text count row.now.key }
+pub(crate) fn reference<'s>(name: &Token<'s>, count: &Option<u8>, row: &Row<'s>) -> Detail<'s>
+    ensures { result ≡ reference name.now.text count.now row.now.key }
 {
     match count {
         None => Detail::Named(name.text.again()),
@@ -79,11 +79,11 @@ fn range_at<'s>(
     alloc: Global,
     seen: &Seen<'_, 's>,
     name: &Token<'s>,
-    count: Option<u8>,
+    count: &Option<u8>,
     condition: &NetCond<'s>,
     row: &Row<'s>,
 ) -> Result<NodeRange, InstFault<'s>>
-    ensures { AnswersAs sides_of (nodes.of_node name.now.span (reference name.now.text count row.now.key) (range_in seen.now row.now.scope (condition_of condition.now))) result }
+    ensures { AnswersAs sides_of (nodes.of_node name.now.span (reference name.now.text count.now row.now.key) (range_in seen.now row.now.scope (condition_of condition.now))) result }
 {
     match node_range(alloc, seen, &row.scope, condition) {
         Ok(range) => Ok(range),
@@ -101,13 +101,13 @@ fn push_range<'s>(
     alloc: Global,
     seen: &Seen<'_, 's>,
     name: &Token<'s>,
-    count: Option<u8>,
+    count: &Option<u8>,
     condition: &NetCond<'s>,
     row: &Row<'s>,
     ranges: &mut Vec<NodeRange>,
 ) -> Result<(), InstFault<'s>>
     requires { length ranges.now.items ≤ node_limit }
-    ensures value { Leaves (nodes.next_range seen.now name.now count (condition_of condition.now) row.now (map sides_of ranges.old.items)) result (map sides_of ranges.new.items) }
+    ensures value { Leaves (nodes.next_range seen.now name.now count.now (condition_of condition.now) row.now (map sides_of ranges.old.items)) result (map sides_of ranges.new.items) }
     ensures count { OnOk result (length ranges.new.items ≡ length ranges.old.items + 1) }
     ensures few { length ranges.new.items ≤ node_limit }
 {
@@ -125,13 +125,13 @@ fn push_ranges<'s>(
     alloc: Global,
     seen: &Seen<'_, 's>,
     name: &Token<'s>,
-    count: Option<u8>,
+    count: &Option<u8>,
     condition: &NetCond<'s>,
     rows: &[Row<'s>],
     ranges: &mut Vec<NodeRange>,
 ) -> Result<(), InstFault<'s>>
     requires { length ranges.now.items ≤ node_limit }
-    ensures value { Leaves (nodes.ranges_at seen.now name.now count (condition_of condition.now) rows.now (map sides_of ranges.old.items)) result (map sides_of ranges.new.items) }
+    ensures value { Leaves (nodes.ranges_at seen.now name.now count.now (condition_of condition.now) rows.now (map sides_of ranges.old.items)) result (map sides_of ranges.new.items) }
     ensures count { OnOk result (length rows.now ≤ node_limit) }
     ensures few { length ranges.new.items ≤ node_limit }
 {
@@ -191,7 +191,7 @@ impl<'s> NodeDraft<'s> {
             alloc,
             seen,
             name,
-            indexing.count,
+            &indexing.count,
             condition,
             rows,
             &mut self.ranges,

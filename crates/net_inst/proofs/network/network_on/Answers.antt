@@ -6,5 +6,5 @@ use Rattle.net_inst.proofs.Fitting.{drawn_fit}
 use Rattle.net_inst.proofs.network.network_on.Goals as goal
 
 pub finished-requires : goal.finished-requires
-finished-requires c = drawn_fit (option_copied c.args.wanted) c.args.world.now (map declaration_of c.args.declarations.now) c.draw.new.draft
-    (subst (λ d. draw (option_copied c.args.wanted) c.args.world.now (map declaration_of c.args.declarations.now) d ≡ Ok c.draw.new.draft) c.requires c.in_ok-draw.ensures)
+finished-requires c = drawn_fit (option_copied c.args.wanted.now) c.args.world.now (map declaration_of c.args.declarations.now) c.draw.new.draft
+    (subst (λ d. draw (option_copied c.args.wanted.now) c.args.world.now (map declaration_of c.args.declarations.now) d ≡ Ok c.draw.new.draft) c.requires c.in_ok-draw.ensures)
