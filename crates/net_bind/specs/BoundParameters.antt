@@ -179,10 +179,14 @@ valued_by w name n ps x rows taken t = and_then (fit_values w name n ps (source_
 abbrev pub values : World → Token → Option ℕ → List Phrase → Source → List Row → Taken → Outcome Table
 values w name n ps x rows taken = and_then (each (with_key w name.span x) rows taken.0) (valued_by w name n ps x rows taken)
 
-abbrev pub with_data : World → List ℕ → Token → List Phrase → List Mention → Option ℕ → List Row → List Tuple → Outcome Entry
-with_data w widths name ps ms n rows index =
+-- the table: what data say, and then its values
+abbrev pub filled : World → List ℕ → Token → List Phrase → List Mention → Option ℕ → List Row → List Tuple → Outcome Table
+filled w widths name ps ms n rows index =
     and_then (said_of widths n index (is_some (phrase_value gives.Becomes ps)) ms) (λ all.
-    and_then (values w name n ps (source (phrase_value gives.Becomes ps) all.1 (phrase_value gives.Default ps)) rows all.0) (λ t. Ok (Parameter n index t)))
+    values w name n ps (source (phrase_value gives.Becomes ps) all.1 (phrase_value gives.Default ps)) rows all.0)
+
+abbrev pub with_data : World → List ℕ → Token → List Phrase → List Mention → Option ℕ → List Row → List Tuple → Outcome Entry
+with_data w widths name ps ms n rows index = and_then (filled w widths name ps ms n rows index) (λ t. Ok (Parameter n index t))
 
 abbrev pub bound_parameter : World → List ℕ → Token → Option Braces → List Phrase → List Mention → Outcome Entry
 bound_parameter w widths name b ps ms =

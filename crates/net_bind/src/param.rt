@@ -1,6 +1,6 @@
 //! Declared parameters.
 
-ghost use Rattle.std.specs.Prelude.{◌≡◌, IfOk, map};
+ghost use Rattle.std.specs.Prelude.{◌≡◌, [], IfOk, map};
 ghost use Rattle.std.specs.Option.{option_copied};
 ghost use Rattle.net_tree.specs.View.{body_of, phrase_of, indexing_of};
 ghost use Rattle.net_eval.specs.declared.world.Entry.TheVariants.{Parameter as AParameter};
@@ -237,6 +237,47 @@ fn parameter_entry<'s>(
     boxed(alloc, Entry::Parameter(keys, unboxed(index), table))
 }
 
+/// What data say, and then its values, in a table that has none yet.
+fn filled<'s>(
+    alloc: Global,
+    seen: &Seen<'_, 's>,
+    widths: &[usize],
+    name: &Token<'s>,
+    phrases: &[Phrase<'s>],
+    mentions: &[Mention<'_, '_, 's>],
+    keys: Option<u8>,
+    rows: &[Row<'s>],
+    index: &TupleSet<'s>,
+    table: &mut Table<'s>,
+) -> Result<(), BindFault<'s>>
+    requires { table.old ≡ [] }
+    ensures { Leaves (bound.filled seen.now widths.now name.now (map phrase_of phrases.now) mentions.now keys rows.now index.now) result table.new }
+{
+    let mut places = Vec::new(alloc);
+    let is_assigned = phrase_value(Gives::Becomes, phrases).is_some();
+    let default = said_of(
+        alloc,
+        widths,
+        keys,
+        index,
+        is_assigned,
+        mentions,
+        table,
+        &mut places,
+    )?;
+    with_source(
+        alloc,
+        seen,
+        name,
+        keys,
+        phrases,
+        default.as_ref(),
+        rows,
+        &places,
+        table,
+    )
+}
+
 fn with_data<'s>(
     alloc: Global,
     seen: &Seen<'_, 's>,
@@ -251,27 +292,16 @@ fn with_data<'s>(
     ensures { Answers (bound.with_data seen.now widths.now name.now (map phrase_of phrases.now) mentions.now keys rows.now index.entry) result }
 {
     let mut table = Table::new(alloc);
-    let mut places = Vec::new(alloc);
-    let is_assigned = phrase_value(Gives::Becomes, phrases).is_some();
-    let default = said_of(
-        alloc,
-        widths,
-        keys,
-        index.get(),
-        is_assigned,
-        mentions,
-        &mut table,
-        &mut places,
-    )?;
-    with_source(
+    filled(
         alloc,
         seen,
+        widths,
         name,
-        keys,
         phrases,
-        default.as_ref(),
+        mentions,
+        keys,
         rows,
-        &places,
+        index.get(),
         &mut table,
     )?;
     Ok(parameter_entry(alloc, keys, index, table)?)

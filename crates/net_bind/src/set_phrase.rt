@@ -39,20 +39,11 @@ pub(crate) enum Claim<'w, 's> {
     Becomes(Option<u8>, StoredSet<'w, 's>),
 }
 
-/// What a phrase says, and where its expression stands. Dropping it is one call: the prover would else go through all forms of
-/// the claim at each `?`.
+/// What a phrase says, and where its expression stands.
+#[derive(Drop)]
 pub(crate) struct SetPhrase<'w, 's> {
     pub(crate) at: Span,
     pub(crate) claim: Claim<'w, 's>,
-}
-
-impl<'w, 's> Drop for SetPhrase<'w, 's> {
-    fn drop(self) {
-        let SetPhrase {
-            at: _at,
-            claim: _claim,
-        } = self;
-    }
 }
 
 /// What phrases say, and the dimension in which they agree.

@@ -7,7 +7,8 @@ ghost use Rattle.net_bind.specs.BoundSets as sets;
 ghost use Rattle.net_bind.specs.BoundParameters as parameters;
 ghost use Rattle.net_eval.specs.Worlds.{entry_of};
 ghost use Rattle.net_bind.specs.Binding as binding;
-ghost use Rattle.net_bind.specs.Outcomes.{Answers, Leaves, each};
+ghost use Rattle.net_eval.specs.declared.world.Entry.{Entry as AnEntry};
+ghost use Rattle.net_bind.specs.Outcomes.{Outcome, Answers, Leaves, and_then, each};
 
 use crate::check::all_checked;
 use crate::fault::BindFault;
@@ -35,18 +36,19 @@ fn width_of(entry: &Entry<'_>) -> usize
     }
 }
 
-/// A name that means nothing so far gets an entry.
+/// A name that means nothing so far gets an entry, if one was made.
 fn with_entry<'s>(
     name: &Token<'s>,
-    entry: Boxed<Entry<'s>>,
+    entry: Result<Boxed<Entry<'s>>, BindFault<'s>>,
     world: &mut World<'s>,
     widths: &mut Vec<usize>,
 ) -> Result<(), BindFault<'s>>
     requires fresh { entry_of world.old name.now.text ≡ None }
     requires kept { widths.old.items ≡ binding.widths world.old }
-    ensures value { Leaves (binding.with_entry world.old name.now entry.entry) result world.new }
+    ensures value { (wanted : Outcome AnEntry) → Answers wanted entry.entry → Leaves (and_then wanted (binding.with_entry world.old name.now)) result world.new }
     ensures kept { OnOk result (widths.new.items ≡ binding.widths world.new) }
 {
+    let entry = entry?;
     widths.push(width_of(entry.get()))?;
     world.add(&name.text, unboxed(entry))?;
     Ok(())
@@ -126,7 +128,7 @@ fn declare<'s>(
 {
     match decl {
         Decl::Set(_, name, phrases, _) => {
-            let entry = entry_of_set(alloc, given, name, phrases.as_slice(), world, widths)?;
+            let entry = entry_of_set(alloc, given, name, phrases.as_slice(), world, widths);
             with_entry(name, entry, world, widths)
         }
         Decl::Param(_, name, braces, phrases, _) => {
@@ -138,7 +140,7 @@ fn declare<'s>(
                 phrases.as_slice(),
                 world,
                 widths,
-            )?;
+            );
             with_entry(name, entry, world, widths)
         }
         Decl::Check(_, _, _, _, _) => Ok(()),
