@@ -1,8 +1,7 @@
 -- Lists whose items are taken in turn.
-use Rattle.std.specs.Prelude.{◌≡◌, ℕ, ◌+◌, ◌<◌, List, ◌∷◌, length, map, drop, Ok, Err}
+use Rattle.std.specs.Prelude.{◌≡◌, ℕ, ◌+◌, ◌<◌, List, ◌∷◌, length, map, drop, Ok}
 use Rattle.std.proofs.Common.{sym, ap, ◌∙◌, add-one, get_or}
 use Rattle.std.proofs.Math.Seq.{drop-cons}
-use Rattle.net_bind.specs.declared.fault.Refusal.{Refusal}
 use Rattle.net_bind.specs.Outcomes.{Outcome, and_then, each}
 
 item_at : {A : Type 0} (xs : List A) (i : ℕ) (x : A) → i < length xs → x ≡ get_or xs i x → drop i xs ≡ x ∷ drop (i + 1) xs
@@ -19,8 +18,3 @@ pub in_turn_by : {A B C : Type 0} (g : A → C) (f : C → B → Outcome B) (xs 
     → x ≡ get_or xs i x → f (g x) b ≡ Ok c → each f (map g (drop (i + 1) xs)) c ≡ all
 in_turn_by g f xs i x b c all h l e o =
     sym (ap (λ ys. each f (map g ys) b) (item_at xs i x l e) ∙ ap (λ r. and_then r (each f (map g (drop (i + 1) xs)))) o) ∙ h
-
--- a fault at the next item is what all come to
-pub stopped : {A B : Type 0} (f : A → B → Outcome B) (xs : List A) (i : ℕ) (x : A) (b : B) (r : Refusal) (all : Outcome B) → each f (drop i xs) b ≡ all → i < length xs → x ≡ get_or xs i x
-    → f x b ≡ Err r → all ≡ Err r
-stopped f xs i x b r all h l e o = sym h ∙ ap (λ ys. each f ys b) (item_at xs i x l e) ∙ ap (λ p. and_then p (each f (drop (i + 1) xs))) o
