@@ -104,6 +104,17 @@ class Function:
         return f"{CYCLE.sub('', whole)}{self.margin}    {STUB}\n{self.margin}}}\n"
 
 
+def without_main(room, names):
+    """Takes the program's own function out of the copy, where it is none of these: what has none is checked as a library, of which
+    nothing is linked."""
+    path = pathlib.Path(room, "src", "main.rt")
+    text = path.read_text(encoding="utf-8") if path.is_file() else ""
+    header = re.search(r"(?m)^fn main\b", text)
+    if header and "main" not in names:
+        main = Function.at("src/main.rt", text, header.end())
+        path.write_text(text[:main.start] + text[main.end:], encoding="utf-8")
+
+
 def unwrite(folder):
     """Takes away the proof that is written in this folder."""
     for name in PROOF:

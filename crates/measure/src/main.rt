@@ -6,7 +6,7 @@ use net_data::parse_data;
 use net_dimacs::{read_problem, write_problem};
 use net_growth::settle;
 use net_lex::{lex_data, lex_model};
-use net_model::parse_model;
+use net_model::{free_model, parse_model};
 use net_solve::{Plain, Settled, solve};
 use std::alloc::{AllocError, Global};
 use std::process::ExitCode;
@@ -22,6 +22,7 @@ fn now<R: CpuClock>(rt: &R) -> u128 {
 }
 
 /// Counts of what was read, and the times that the stages took, in microseconds.
+#[derive(Drop)]
 struct Told {
     counts: (usize, usize, usize),
     times: (u128, u128),
@@ -97,35 +98,43 @@ fn model<R: AllocGlobal + CpuClock>(rt: &R, text: &[u8]) -> Option<Told> {
         model.declarations.as_slice().len(),
         tokens.capacity(),
     );
+    free_model(model);
     Some(Told {
         counts,
         times: (lexed.saturating_sub(start), parsed.saturating_sub(lexed)),
     })
 }
 
-/// Counts on standard output, times on standard error.
+/// Counts on standard output.
+fn tell_counts<R: Print>(rt: &R, what: &str, told: &Told) -> io::Result<()> {
+    let (first, second, third) = told.counts;
+    match what {
+        "problem" => rt.println(format_args!("{first} nodes, {second} arcs, {third} bytes")),
+        "data" => rt.println(format_args!("{first} tokens")),
+        "tables" => rt.println(format_args!("{first} tokens, {second} statements")),
+        _ => rt.println(format_args!("{first} tokens, {second} declarations")),
+    }
+}
+
+/// Times on standard error, and how much room there was.
+fn tell_times<R: Eprint>(rt: &R, what: &str, told: &Told) -> io::Result<()> {
+    let (one, two) = told.times;
+    let room = told.counts.2;
+    match what {
+        "problem" => rt.eprintln(format_args!("read {one} us, write {two} us")),
+        "data" => rt.eprintln(format_args!("lex {one} us, room for {room} tokens")),
+        "tables" => rt.eprintln(format_args!("lex {one} us, parse {two} us")),
+        _ => rt.eprintln(format_args!("lex {one} us, parse {two} us, room for {room} tokens")),
+    }
+}
+
+/// Counts and times, where there are any.
 fn tell<R: Print + Eprint>(rt: &R, what: &str, told: Option<Told>) -> io::Result<bool> {
-    let Some(
-        Told {
-            counts: (first, second, third),
-            times: (one, two),
-        },
-    ) = told
-    else {
+    let Some(told) = told else {
         return Ok(false);
     };
-    match what {
-        "problem" => rt.println(format_args!("{first} nodes, {second} arcs, {third} bytes"))?,
-        "data" => rt.println(format_args!("{first} tokens"))?,
-        "tables" => rt.println(format_args!("{first} tokens, {second} statements"))?,
-        _ => rt.println(format_args!("{first} tokens, {second} declarations"))?,
-    }
-    match what {
-        "problem" => rt.eprintln(format_args!("read {one} us, write {two} us"))?,
-        "data" => rt.eprintln(format_args!("lex {one} us, room for {third} tokens"))?,
-        "tables" => rt.eprintln(format_args!("lex {one} us, parse {two} us"))?,
-        _ => rt.eprintln(format_args!("lex {one} us, parse {two} us, room for {third} tokens"))?,
-    }
+    tell_counts(rt, what, &told)?;
+    tell_times(rt, what, &told)?;
     Ok(true)
 }
 

@@ -70,19 +70,19 @@ given_p ts =
 -- set S;    set S := b a;
 as_given : world (set_s ∷ []) (given_s (name (codes "b") 9 10 ∷ name (codes "a") 11 12 ∷ []) ∷ [])
     ≡ Ok ((codes "S", Set 1 ((members.Name (codes "b") ∷ []) ∷ (members.Name (codes "a") ∷ []) ∷ [])) ∷ [])
-unfolding role_of marks keys operations operation reduction is_minus is_small number_in numeral_at mantissa_at power_at whole_value span_of span_between braces_span member_in relation
+unfolding role_of marks keys operations operation reduction is_minus is_small number_in numeral_at mantissa_at power_at whole_value span_of span_between braces_span member_in relation world
 as_given = refl
 
 -- set S;    set S := b b;
 given_twice : world (set_s ∷ []) (given_s (name (codes "b") 9 10 ∷ name (codes "b") 11 12 ∷ []) ∷ [])
     ≡ Err (record { defect = DoubleValue; text = texts.Data; at = record { start = 11; end = 12 }; detail = Named (codes "S") })
-unfolding role_of marks keys operations operation reduction is_minus is_small number_in numeral_at mantissa_at power_at whole_value span_of span_between braces_span member_in relation
+unfolding role_of marks keys operations operation reduction is_minus is_small number_in numeral_at mantissa_at power_at whole_value span_of span_between braces_span member_in relation world
 given_twice = refl
 
 -- param p {1, 2} default 4;    set S := b;
 another_name : world (param_p ∷ []) (given_s (name (codes "b") 9 10 ∷ []) ∷ [])
     ≡ Err (record { defect = NoSuchName; text = texts.Data; at = record { start = 4; end = 5 }; detail = Named (codes "S") })
-unfolding role_of marks keys operations operation reduction is_minus is_small number_in numeral_at mantissa_at power_at whole_value span_of span_between braces_span member_in relation
+unfolding role_of marks keys operations operation reduction is_minus is_small number_in numeral_at mantissa_at power_at whole_value span_of span_between braces_span member_in relation world
 another_name = refl
 
 -- param p {1, 2} default 4;    param p := 2 7;
@@ -92,11 +92,11 @@ row_and_default : world (param_p ∷ []) (given_p (number (codes "2") 11 12 ∷ 
       Parameter (Some 1) ((members.Number (pos 1) ∷ []) ∷ (members.Number (pos 2) ∷ []) ∷ [])
           ((members.Number (pos 2) ∷ [], members.Number (pos 7)) ∷ (members.Number (pos 1) ∷ [], members.Number (pos 4)) ∷ []),
     ) ∷ [])
-unfolding role_of marks keys operations operation reduction is_minus is_small number_in numeral_at mantissa_at power_at whole_value span_of span_between braces_span member_in relation
+unfolding role_of marks keys operations operation reduction is_minus is_small number_in numeral_at mantissa_at power_at whole_value span_of span_between braces_span member_in relation world
 row_and_default = refl
 
 -- param p {1, 2} default 4;    param p := 3 7;
 key_outside : world (param_p ∷ []) (given_p (number (codes "3") 11 12 ∷ number (codes "7") 13 14 ∷ []) ∷ [])
     ≡ Err (record { defect = Value OutsideSet; text = texts.Data; at = record { start = 11; end = 12 }; detail = Keyed (codes "p") (members.Number (pos 3) ∷ []) })
-unfolding role_of marks keys operations operation reduction is_minus is_small number_in numeral_at mantissa_at power_at whole_value span_of span_between braces_span member_in relation
+unfolding role_of marks keys operations operation reduction is_minus is_small number_in numeral_at mantissa_at power_at whole_value span_of span_between braces_span member_in relation world
 key_outside = refl

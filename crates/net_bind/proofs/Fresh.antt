@@ -109,4 +109,5 @@ goes_on given w v ds i d all h l e o =
 -- what is said of each name leads on to the world
 pub said_first : (ds : List Declaration) (ss : List Statement) (ns : Declared) (given : Sorted) (r : Result World BindFault) → ns ≡ declared ds → said ns ss ≡ Ok given
     → Answers (with_given ds given) r → Answers (world ds ss) r
+unfolding world
 said_first ds ss ns given r e f h = subst (λ o. Answers (and_then o (with_given ds)) r) (sym (ap (λ k. said k ss) (sym e) ∙ f)) h

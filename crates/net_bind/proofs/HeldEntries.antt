@@ -121,6 +121,7 @@ checked_entries : (ds : List Declaration) (w v : World) → AreEntries w → aft
 checked_entries ds w v g h = then_ok (each (check_one w) ds 0) (λ known. Ok w) v h (λ known i k. subst AreEntries (is_ok w v k) g)
 
 have_entries : (ds : List Declaration) (ss : List Statement) (w : World) → binding.world ds ss ≡ Ok w → AreEntries w
+unfolding binding.world
 have_entries ds ss w h =
     then_ok (said (declared ds) ss) (with_given ds) w h (λ given i k.
     then_ok (each (declare given) ds []) (after_checks ds) w k (λ v j l. checked_entries ds v w (all_entries given ds [] v no_entries j) l))

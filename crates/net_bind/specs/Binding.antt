@@ -75,7 +75,7 @@ abbrev pub with_given : List Declaration → Sorted → Outcome World
 with_given ds given = and_then (each (declare given) ds []) (after_checks ds)
 
 -- the world of declarations and statements, or the first fault
-abbrev pub world : List Declaration → List Statement → Outcome World
+unfoldable pub world : List Declaration → List Statement → Outcome World
 world ds ss = and_then (said (declared ds) ss) (with_given ds)
 
 abbrev pub is_among : List Name → Name → Bool

@@ -194,6 +194,7 @@ fn bind_given<'s>(
     after_checks(alloc, decls, world)
 }
 
+#[tactic(auto, unfolding(crate::specs::Binding::world))]
 fn bind_sheets<'m, 't, 's>(
     alloc: Global,
     decls: &[Decl<'s>],

@@ -184,6 +184,7 @@ pub record IsFinished (wanted : Option Name) (w : World) (ds : List Declaration)
   pub whole : network_of drawing.nodes drawing.arcs goal ≡ n
 
 pub network_is : (wanted : Option Name) (w : World) (ds : List Declaration) (n : Network) → network wanted w ds ≡ Ok n → IsFinished wanted w ds n
+unfolding network
 network_is wanted w ds n e = ok_then (draw wanted w ds nothing) (λ d. finished wanted (point (end_of 0 ds)) d d.goal) n e (λ d h i. go d h d.goal refl i)
   where
     none : (b : Bool) (at : Span) → without_goal wanted at b ≡ Ok n → ⊥

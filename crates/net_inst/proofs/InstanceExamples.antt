@@ -136,7 +136,7 @@ whole : network None [] (minimized ∷ nodes ∷ arcs ∷ [])
         arcs = record { declarations = (record { name = codes "X"; indexed = false }) ∷ []; keys = (record { declaration = 0; tuple = [] }) ∷ [] };
       };
     })
-unfolding role_of marks keys operations operation reduction is_minus is_small number_in numeral_at mantissa_at power_at whole_value span_of span_between braces_span joint is_outflow sense_of
+unfolding role_of marks keys operations operation reduction is_minus is_small number_in numeral_at mantissa_at power_at whole_value span_of span_between braces_span joint is_outflow sense_of network
 whole = refl
 
 -- and maximize D;    chosen by its name
@@ -152,25 +152,25 @@ other_objective : network (Some (codes "D")) [] (minimized ∷ nodes ∷ arcs �
         arcs = record { declarations = (record { name = codes "X"; indexed = false }) ∷ []; keys = (record { declaration = 0; tuple = [] }) ∷ [] };
       };
     })
-unfolding role_of marks keys operations operation reduction is_minus is_small number_in numeral_at mantissa_at power_at whole_value span_of span_between braces_span joint is_outflow sense_of
+unfolding role_of marks keys operations operation reduction is_minus is_small number_in numeral_at mantissa_at power_at whole_value span_of span_between braces_span joint is_outflow sense_of network
 other_objective = refl
 
 -- without a name the second is one too many
 second_objective : network None [] (minimized ∷ nodes ∷ arcs ∷ maximized ∷ []) ≡ Err (record { defect = TwoObjectives; at = record { start = 79; end = 80 }; detail = Named (codes "D") })
-unfolding role_of marks keys operations operation reduction is_minus is_small number_in numeral_at mantissa_at power_at whole_value span_of span_between braces_span joint is_outflow sense_of
+unfolding role_of marks keys operations operation reduction is_minus is_small number_in numeral_at mantissa_at power_at whole_value span_of span_between braces_span joint is_outflow sense_of network
 second_objective = refl
 
 -- a model without declarations ends at its start
 no_objective : network None [] [] ≡ Err (record { defect = NoObjective; at = record { start = 0; end = 0 }; detail = Nothing })
-unfolding role_of marks keys operations operation reduction is_minus is_small number_in numeral_at mantissa_at power_at whole_value span_of span_between braces_span joint is_outflow sense_of
+unfolding role_of marks keys operations operation reduction is_minus is_small number_in numeral_at mantissa_at power_at whole_value span_of span_between braces_span joint is_outflow sense_of network
 no_objective = refl
 
 -- a name that is no objective's is told where the declarations end
 no_such_objective : network (Some (codes "E")) [] (minimized ∷ nodes ∷ []) ≡ Err (record { defect = NoSuchObjective; at = record { start = 31; end = 31 }; detail = Named (codes "E") })
-unfolding role_of marks keys operations operation reduction is_minus is_small number_in numeral_at mantissa_at power_at whole_value span_of span_between braces_span joint is_outflow sense_of
+unfolding role_of marks keys operations operation reduction is_minus is_small number_in numeral_at mantissa_at power_at whole_value span_of span_between braces_span joint is_outflow sense_of network
 no_such_objective = refl
 
 -- the objective of a name is wanted, and there is none at all
 nodes_alone : network (Some (codes "E")) [] (nodes ∷ []) ≡ Err (record { defect = NoObjective; at = record { start = 31; end = 31 }; detail = Nothing })
-unfolding role_of marks keys operations operation reduction is_minus is_small number_in numeral_at mantissa_at power_at whole_value span_of span_between braces_span joint is_outflow sense_of
+unfolding role_of marks keys operations operation reduction is_minus is_small number_in numeral_at mantissa_at power_at whole_value span_of span_between braces_span joint is_outflow sense_of network
 nodes_alone = refl

@@ -72,7 +72,7 @@ abbrev pub point : ℕ → Span
 point at = record { start = at; end = at }
 
 -- the network of a model with the objective of a name, or with the only one
-abbrev pub network : Option Name → World → List Declaration → Outcome Network
+unfoldable pub network : Option Name → World → List Declaration → Outcome Network
 network wanted w ds = and_then (draw wanted w ds nothing) (λ d. finished wanted (point (end_of 0 ds)) d d.goal)
 
 -- what contracts see of a network with its names

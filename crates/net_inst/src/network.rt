@@ -128,6 +128,7 @@ fn finished<'s>(
 }
 
 /// The network that declarations come to, which are drawn on an empty draft.
+#[tactic(auto, unfolding(crate::specs::Instances::network))]
 fn network_on<'s>(
     alloc: Global,
     wanted: &Option<&'s str>,

@@ -25,5 +25,5 @@ mod trees;
 
 pub use fault::{ModelDefect, ModelFault};
 pub use laws::{one_tree, read_back, well_named};
-pub use model::parse_model;
+pub use model::{free_model, parse_model};
 pub use parse::parse_declarations;

@@ -49,6 +49,11 @@ fn named<'s>(
     }
 }
 
+/// Frees a model.
+///
+/// What frees one is long, and proved here; a caller that drops a model has it proved once more.
+pub fn free_model(_model: Model<'_>) {}
+
 /// The model that the tokens of a model text are, with names that are as they should be.
 ///
 /// A text that the grammar does not allow is refused with the fault of the grammar, whatever its names are: E10, E11, E14, E15

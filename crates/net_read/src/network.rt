@@ -1,11 +1,11 @@
 //! The network of a model text and a data text.
 
-ghost use Rattle.std.specs.Prelude.{[], IfOk, IfErr};
+ghost use Rattle.std.specs.Prelude.{[], List, ℕ, IfOk, IfErr};
 ghost use Rattle.std.specs.Option.{option_copied};
 ghost use Rattle.net_tree.specs.View as view;
 ghost use Rattle.net_inst.specs.Instances.{seen_as};
 ghost use Rattle.net_bind.specs.Binding.{AreNew};
-ghost use Rattle.net_read.specs.Reading.{ComeTo, IsNetworkOf};
+ghost use Rattle.net_read.specs.Reading.{ComeTo, IsModel, IsNetworkOf};
 ghost use Rattle.net_read.specs.FirstFaults.{IsNetworkStop, IsStop};
 
 use crate::finding::{Stop, of_binding, of_data, of_network, of_token};
@@ -14,6 +14,7 @@ use net_bind::bind;
 use net_data::{Tables, parse_data};
 use net_inst::{Named, instantiate_for};
 use net_lex::{Language, lex_data};
+use net_model::free_model;
 use net_tree::Model;
 use std::alloc::Global;
 
@@ -38,6 +39,31 @@ fn network_of<'s>(
     }
 }
 
+/// The network of the declarations of a model text with a data text.
+fn network_with<'s>(
+    alloc: Global,
+    declared: &Model<'s>,
+    data: &'s [u8],
+    objective: Option<&'s str>,
+) -> Result<Named<'s>, Stop<'s>>
+    requires { AreNew [] (view.model declared.now) }
+    ensures ok { (text : List ℕ) → IsModel text (view.model declared.now) → IfOk result (λ n. IsNetworkOf (option_copied objective.entry) text «data».entry.now (seen_as n)) }
+    ensures refused { (text : List ℕ) → IsModel text (view.model declared.now) → IfErr result (IsStop (option_copied objective.entry) text «data».entry.now) }
+{
+    let tokens = match lex_data(alloc, data) {
+        Ok(tokens) => tokens,
+        Err(fault) => return Err(of_token(Language::Data, fault)),
+    };
+    let tables = match parse_data(alloc, &tokens) {
+        Ok(tables) => tables,
+        Err(fault) => return Err(of_data(fault)),
+    };
+    match network_of(alloc, declared, &tables, objective) {
+        Ok(named) => Ok(named),
+        Err(stop) => Err(stop),
+    }
+}
+
 /// The network of a model text with a data text, and its names: with the objective of this name, or with the only one.
 ///
 /// The first fault is told, in the order of tokens, grammar and names of the model, tokens and statements of the data,
@@ -55,16 +81,7 @@ pub fn read_network<'s>(
         Ok(declared) => declared,
         Err(stop) => return Err(stop),
     };
-    let tokens = match lex_data(alloc, data) {
-        Ok(tokens) => tokens,
-        Err(fault) => return Err(of_token(Language::Data, fault)),
-    };
-    let tables = match parse_data(alloc, &tokens) {
-        Ok(tables) => tables,
-        Err(fault) => return Err(of_data(fault)),
-    };
-    match network_of(alloc, &declared, &tables, objective) {
-        Ok(named) => Ok(named),
-        Err(stop) => Err(stop),
-    }
+    let read = network_with(alloc, &declared, data, objective);
+    free_model(declared);
+    read
 }
