@@ -1,9 +1,10 @@
 //! How far the nodes of a scaling run are from deficits, in steps of epsilon, and potentials that are lowered by as much.
 
 use crate::halt::Halt;
+use crate::incidence::back_of;
 use crate::places::{at, index, put};
 use crate::scaling::Scaling;
-use std::alloc::Global;
+use std::alloc::{AllocError, Global};
 use std::cmp::Reverse;
 use std::collections::BinaryHeap;
 
@@ -14,17 +15,18 @@ const FAR: u32 = 1 << 28;
 const LONGEST: u32 = 200;
 
 /// How many steps of epsilon take a reduced cost below 0.
-fn steps_of(reduced: i64, epsilon: i64) -> u32 {
+fn steps_of(reduced: i128, epsilon: i64) -> u32 {
     if reduced < 0 {
         return 0;
     }
-    match reduced.checked_div(epsilon) {
-        Some(whole) => u32::try_from(whole)
-            .unwrap_or(LONGEST)
-            .saturating_add(1)
-            .min(LONGEST),
-        None => LONGEST,
-    }
+    let whole = i64::try_from(reduced)
+        .unwrap_or(i64::MAX)
+        .checked_div(epsilon)
+        .unwrap_or(i64::MAX);
+    u32::try_from(whole)
+        .unwrap_or(LONGEST)
+        .saturating_add(1)
+        .min(LONGEST)
 }
 
 impl Scaling {
@@ -42,18 +44,32 @@ impl Scaling {
             if distance >= FAR && self.excess(node) > 0 {
                 return Err(Halt::OutOfRange);
             }
-            let steps = i64::from(distance.min(greatest.wrapping_add(1)));
+            let steps = i128::from(distance.min(greatest.wrapping_add(1)));
             let lower = self
                 .potential(node)
-                .wrapping_sub(steps.wrapping_mul(epsilon));
+                .wrapping_sub(steps.wrapping_mul(i128::from(epsilon)));
             put(&mut self.potentials, node, lower);
             self.rewind(node);
         }
         Ok(())
     }
 
+    /// Whether each node is one from which no deficit is reached, where one of them has excess: nothing leaves them any more.
+    pub fn stuck(&mut self, alloc: Global) -> Result<Option<Vec<bool>>, AllocError> {
+        let distances = self.distances(alloc, 1)?;
+        let mut flags = vec![in alloc; false; distances.len()]?;
+        let mut is_stuck = false;
+        for node in 0..index(distances.len()) {
+            if at(&distances, node, 0) >= FAR {
+                put(&mut flags, node, true);
+                is_stuck |= self.excess(node) > 0;
+            }
+        }
+        Ok(if is_stuck { Some(flags) } else { None })
+    }
+
     /// The steps from each node to a deficit.
-    fn distances(&mut self, alloc: Global, epsilon: i64) -> Result<Vec<u32>, Halt> {
+    fn distances(&mut self, alloc: Global, epsilon: i64) -> Result<Vec<u32>, AllocError> {
         let count = self.potentials.len();
         let mut distances = vec![in alloc; FAR; count]?;
         let mut waiting = BinaryHeap::new(alloc);
@@ -63,7 +79,7 @@ impl Scaling {
                 waiting.push(Reverse((0u32, node)))?;
             }
         }
-        for _ in 0..self.network.arcs.len().saturating_add(count) {
+        for _ in 0..self.costs.len().saturating_add(count) {
             let Some(Reverse((distance, node))) = waiting.pop() else {
                 break;
             };
@@ -71,7 +87,7 @@ impl Scaling {
                 self.reach_back(&mut distances, &mut waiting, node, distance, epsilon)?;
             }
         }
-        self.work = self.work.wrapping_add(self.network.arcs.len() as u64);
+        self.work = self.work.wrapping_add(self.costs.len() as u64);
         Ok(distances)
     }
 
@@ -83,18 +99,18 @@ impl Scaling {
         node: u32,
         distance: u32,
         epsilon: i64,
-    ) -> Result<(), Halt> {
+    ) -> Result<(), AllocError> {
         let potential = self.potential(node);
-        let row = self.network.row(node);
+        let row = self.incidence.row(node);
         for place in row.start..row.end {
-            let arc = self.network.arc(place);
+            let arc = self.incidence.end(place);
+            let back = back_of(arc.place);
             let known = at(distances, arc.head, 0);
-            if arc.reverse_room <= 0 || known <= distance {
+            if self.incidence.room(back) <= 0 || known <= distance {
                 continue;
             }
-            let reduced = self
-                .potential(arc.head)
-                .wrapping_sub(arc.cost.wrapping_mul(self.factor))
+            let reduced = i128::from(at(&self.costs, back, 0))
+                .wrapping_add(self.potential(arc.head))
                 .wrapping_sub(potential);
             let farther = distance.wrapping_add(steps_of(reduced, epsilon));
             if farther < known {

@@ -5,10 +5,8 @@ use crate::excess::excess_at_lows;
 use crate::guess::Guess;
 use crate::halt::Halt;
 use crate::probe::{Probe, Seen};
-use crate::scaling::scaled_start;
-use crate::search::{Ending, Search};
+use crate::scaling::scaled;
 use crate::simplex::{Ended, Simplex};
-use crate::start::Start;
 use net_check::Side;
 use net_normal::Problem;
 use std::alloc::{AllocError, Global};
@@ -19,11 +17,8 @@ const PROBE_LOOKS: u64 = 40;
 /// How much a network simplex looks at, for each node and arc.
 const SIMPLEX_LOOKS: u64 = 4000;
 
-/// The most turns of a search: growths, changes of potentials and sendings.
-const SEARCH_TURNS: u32 = 1_000_000;
-
 /// What is guessed of a problem, each way with a bound on its work: the supplies' sum; a node that is a cut by itself; a probe; a
-/// network simplex; cost scaling, and from where that ends the search by trees. The one error is want of memory.
+/// network simplex; cost scaling. The one error is want of memory.
 pub fn find_guess(alloc: Global, problem: &Problem) -> Result<Guess, AllocError> {
     match guessed(alloc, problem) {
         Ok(guess) => Ok(guess),
@@ -52,7 +47,7 @@ fn guessed(alloc: Global, problem: &Problem) -> Result<Guess, Halt> {
     }
     match by_simplex(alloc, problem, &excess) {
         Ok(Some(guess)) => Ok(guess),
-        Ok(None) | Err(Halt::OutOfRange) => by_search(alloc, problem),
+        Ok(None) | Err(Halt::OutOfRange) => scaled(alloc, problem, &excess),
         Err(Halt::OutOfMemory) => Err(Halt::OutOfMemory),
     }
 }
@@ -102,42 +97,4 @@ fn by_simplex(alloc: Global, problem: &Problem, excess: &[i128]) -> Result<Optio
         }
         Ended::Infeasible => Ok(None),
     }
-}
-
-/// What the search by trees says, from where cost scaling ends.
-fn by_search(alloc: Global, problem: &Problem) -> Result<Guess, Halt> {
-    let mut search = Search::new(alloc, problem, &settled_start(alloc, problem)?)?;
-    let ended = search.run(SEARCH_TURNS);
-    searched(alloc, problem, &search, ended)
-}
-
-/// What a search says that ended so: the flow that it has come to, or where it is stuck, the forest as a cut.
-fn searched(
-    alloc: Global,
-    problem: &Problem,
-    search: &Search,
-    ended: Result<Ending, Halt>,
-) -> Result<Guess, Halt> {
-    match ended {
-        Ok(Ending::Balanced) | Err(Halt::OutOfRange) => Ok(Guess::Flow {
-            flows: search.network.flows(alloc, problem)?,
-            potentials: search.forest.potentials(alloc)?,
-        }),
-        Ok(Ending::Stuck) => Ok(Guess::Cut {
-            flags: search.forest.flags(alloc)?,
-            side: Side::Over,
-        }),
-        Err(Halt::OutOfMemory) => Err(Halt::OutOfMemory),
-    }
-}
-
-/// What a search starts from: where cost scaling ends, or the plain start, with flow at its bounds.
-fn settled_start(alloc: Global, problem: &Problem) -> Result<Start, Halt> {
-    let mut start = match scaled_start(alloc, problem) {
-        Ok(start) => start,
-        Err(Halt::OutOfRange) => Start::plain(alloc, problem)?,
-        Err(Halt::OutOfMemory) => return Err(Halt::OutOfMemory),
-    };
-    start.settle(problem);
-    Ok(start)
 }

@@ -1,8 +1,7 @@
 //! The arcs at each node, those out of it and those into it, with the room for flow on them both ways.
 
-use crate::halt::Halt;
 use crate::places::{at, index, put, row_at};
-use crate::residual_rows::row_ends;
+use crate::rows::row_ends;
 use net_normal::Problem;
 use std::alloc::{AllocError, Global};
 use std::ops::Range;
@@ -34,7 +33,7 @@ pub struct Incidence {
 
 impl Incidence {
     /// Of the flow at all lower bounds.
-    pub fn at_lows(alloc: Global, problem: &Problem) -> Result<Incidence, Halt> {
+    pub fn at_lows(alloc: Global, problem: &Problem) -> Result<Incidence, AllocError> {
         let count = problem.arcs.len().saturating_mul(2);
         let none = Incident { head: 0, place: 0 };
         let mut incidence = Incidence {

@@ -3,27 +3,24 @@
 //!
 //! Costs are multiplied by one more than the number of nodes. A phase takes a flow whose residual arcs have reduced costs of at least
 //! minus epsilon, and turns it into one for a smaller epsilon, by pushes over arcs of negative reduced cost and relabels of nodes with
-//! excess. What it ends with are whole potentials that are nearly those of a flow of least cost.
+//! excess. Where epsilon is 1 the flow costs least: around a cycle no more is saved than one for each node, and a cycle that saves
+//! anything saves one more.
 
-use crate::excess::{excess_of, lows_of};
+use crate::guess::Guess;
 use crate::halt::Halt;
-use crate::places::{at, index, put, try_at};
-use crate::residual::Residual;
-use crate::residual_arc::ResidualArc;
-use crate::start::Start;
+use crate::incidence::{Incidence, Incident};
+use crate::places::{at, index, put};
 use crate::starting::greatest_cost;
+use net_check::Side;
 use net_normal::Problem;
-use std::alloc::Global;
+use std::alloc::{AllocError, Global};
 use std::collections::VecDeque;
 
 /// How much is looked at, for each node and arc.
 const LOOKS: u64 = 4000;
 
-/// The lowest potential.
-const LOWEST: i64 = -(1 << 61);
-
-/// The greatest epsilon.
-const GREATEST: i64 = 1 << 58;
+/// The potential, in the problem's costs, of a node that nothing leaves: lower than all that the others come to.
+const LOWEST: i128 = -(1 << 62);
 
 /// How much smaller epsilon becomes from phase to phase.
 const FACTOR: i64 = 8;
@@ -34,44 +31,59 @@ const WAY: u32 = 4;
 /// A scaling run.
 #[derive(Drop)]
 pub struct Scaling {
-    pub network: Residual,
+    pub incidence: Incidence,
+    /// What a unit on each arc of the problem costs, ahead and back, multiplied.
+    pub costs: Vec<i64>,
     pub excess: Vec<i128>,
-    pub potentials: Vec<i64>,
+    pub potentials: Vec<i128>,
     /// The residual arc out of each node at which the search for a push goes on.
     current: Vec<u32>,
     /// Nodes with excess, first in, first out, and whether each node is among them.
     queue: VecDeque<u32>,
     is_queued: Vec<bool>,
     /// What costs are multiplied by.
-    pub factor: i64,
+    factor: i64,
     pub work: u64,
     limit: u64,
     relabels: u64,
 }
 
-/// A start near a flow of least cost: the flow and the whole potentials that a scaling run ends with.
-pub fn scaled_start(alloc: Global, problem: &Problem) -> Result<Start, Halt> {
-    let mut scaling = Scaling::new(alloc, problem)?;
-    scaling.run(alloc, problem)?;
-    Ok(Start {
-        flows: scaling.network.flows(alloc, problem)?,
-        potentials: scaling.whole_potentials(alloc)?,
-    })
+/// What cost scaling says, from the flow at all lower bounds and the excess there: the flow with which it ends or gives up, or a cut.
+pub fn scaled(alloc: Global, problem: &Problem, excess: &[i128]) -> Result<Guess, Halt> {
+    let mut scaling = Scaling::new(alloc, problem, excess)?;
+    match scaling.run(alloc, problem) {
+        Ok(()) | Err(Halt::OutOfRange) => scaling.guess(alloc, problem),
+        Err(Halt::OutOfMemory) => Err(Halt::OutOfMemory),
+    }
+}
+
+/// What a unit on each arc costs, ahead and back, multiplied.
+fn costs_of(alloc: Global, problem: &Problem, factor: i64) -> Result<Vec<i64>, AllocError> {
+    let mut costs = Vec::with_capacity(alloc, problem.arcs.len().saturating_mul(2))?;
+    for arc in &problem.arcs {
+        let cost = arc.cost.wrapping_mul(factor);
+        costs.push(cost)?;
+        costs.push(cost.wrapping_neg())?;
+    }
+    Ok(costs)
 }
 
 impl Scaling {
-    fn new(alloc: Global, problem: &Problem) -> Result<Scaling, Halt> {
-        let lows = lows_of(alloc, problem)?;
-        let count = problem.supplies.len();
+    fn new(alloc: Global, problem: &Problem, excess: &[i128]) -> Result<Scaling, Halt> {
+        let count = excess.len();
         let size = (count as u64).saturating_add(problem.arcs.len() as u64);
+        let factor = (count as i64).saturating_add(1);
+        let mut left = Vec::with_capacity(alloc, count)?;
+        left.extend_from_slice(excess)?;
         Ok(Scaling {
-            network: Residual::of(alloc, problem, &lows)?,
-            excess: excess_of(alloc, problem, &lows)?,
-            potentials: vec![in alloc; 0i64; count]?,
+            incidence: Incidence::at_lows(alloc, problem)?,
+            costs: costs_of(alloc, problem, factor)?,
+            excess: left,
+            potentials: vec![in alloc; 0i128; count]?,
             current: vec![in alloc; 0u32; count]?,
             queue: VecDeque::new(alloc),
             is_queued: vec![in alloc; false; count]?,
-            factor: (count as i64).saturating_add(1),
+            factor,
             work: 0,
             limit: LOOKS.saturating_mul(size),
             relabels: 0,
@@ -80,32 +92,60 @@ impl Scaling {
 
     /// All phases.
     fn run(&mut self, alloc: Global, problem: &Problem) -> Result<(), Halt> {
-        let first = i128::from(greatest_cost(problem)).saturating_mul(i128::from(self.factor)) / 2;
-        let mut epsilon = i64::try_from(first)
-            .unwrap_or(GREATEST)
-            .min(GREATEST)
-            .max(1);
+        let mut epsilon = (greatest_cost(problem).wrapping_mul(self.factor) / 2).max(1);
         for _ in 0..64 {
-            self.saturate()?;
+            self.saturate();
             self.refine(alloc, epsilon)?;
-            if epsilon <= self.factor {
+            if epsilon == 1 {
                 return Ok(());
             }
-            epsilon = (epsilon / FACTOR).max(self.factor);
+            epsilon = (epsilon / FACTOR).max(1);
         }
         Err(Halt::OutOfRange)
     }
 
-    /// The potentials in the problem's costs.
-    fn whole_potentials(&self, alloc: Global) -> Result<Vec<i64>, Halt> {
+    /// The nodes from which no deficit is reached, where one of them has excess; else the flow.
+    fn guess(&mut self, alloc: Global, problem: &Problem) -> Result<Guess, Halt> {
+        if let Some(flags) = self.stuck(alloc)? {
+            return Ok(Guess::Cut {
+                flags,
+                side: Side::Over,
+            });
+        }
+        Ok(Guess::Flow {
+            flows: self.incidence.flows(alloc, problem)?,
+            potentials: self.whole_potentials(alloc)?,
+        })
+    }
+
+    /// The potentials in the problem's costs, complementary to the flow where epsilon came to 1.
+    ///
+    /// Over a residual arc a potential then rises by at most the multiplied cost and 1. All are counted from a residue that none of them
+    /// has, so that rounding down takes off 1 to `factor - 1`: with the 1, a rise grows by less than a unit of the problem's costs.
+    fn whole_potentials(&self, alloc: Global) -> Result<Vec<i64>, AllocError> {
+        let free = self.free_residue(alloc)?;
         let mut potentials = Vec::with_capacity(alloc, self.potentials.len())?;
         for potential in &self.potentials {
-            let Some(whole) = potential.checked_div_euclid(self.factor) else {
-                return Err(Halt::OutOfRange);
-            };
-            potentials.push(whole)?;
+            let whole = potential
+                .wrapping_sub(free)
+                .checked_div_euclid(i128::from(self.factor))
+                .unwrap_or(0);
+            potentials.push(i64::try_from(whole).unwrap_or(0))?;
         }
         Ok(potentials)
+    }
+
+    /// The least number that no potential leaves, divided by the factor: there is one more than there are nodes.
+    fn free_residue(&self, alloc: Global) -> Result<i128, AllocError> {
+        let mut taken = vec![in alloc; false; self.potentials.len().saturating_add(1)]?;
+        for potential in &self.potentials {
+            let residue = potential
+                .checked_rem_euclid(i128::from(self.factor))
+                .unwrap_or(0);
+            put(&mut taken, u32::try_from(residue).unwrap_or(0), true);
+        }
+        let free = taken.iter().position(|is_taken| !*is_taken);
+        Ok(i128::from(index(free.unwrap_or(0))))
     }
 
     /// A node's excess.
@@ -116,100 +156,86 @@ impl Scaling {
 
     /// A node's potential.
     #[inline]
-    pub fn potential(&self, node: u32) -> i64 {
+    pub fn potential(&self, node: u32) -> i128 {
         at(&self.potentials, node, 0)
     }
 
-    /// A residual arc's reduced cost, where its tail has this potential.
+    /// An arc's reduced cost, where its tail has this potential.
     #[inline]
-    fn reduced_cost(&self, arc: &ResidualArc, tail: i64) -> Result<i64, Halt> {
-        let head = try_at(&self.potentials, arc.head)?;
-        Ok(
-            arc.cost
-                .wrapping_mul(self.factor)
-                .wrapping_add(tail)
-                .wrapping_sub(head),
-        )
+    fn reduced_cost(&self, arc: Incident, tail: i128) -> i128 {
+        i128::from(at(&self.costs, arc.place, 0))
+            .wrapping_add(tail)
+            .wrapping_sub(self.potential(arc.head))
     }
 
     /// Fills the residual arcs of negative reduced cost.
-    fn saturate(&mut self) -> Result<(), Halt> {
+    fn saturate(&mut self) {
         for node in 0..index(self.potentials.len()) {
             let tail = self.potential(node);
-            let row = self.network.row(node);
+            let row = self.incidence.row(node);
             for place in row.start..row.end {
-                let arc = self.network.arc(place);
-                if arc.room > 0 && self.reduced_cost(&arc, tail)? < 0 {
-                    self.push(node, place, arc.room)?;
+                let arc = self.incidence.end(place);
+                let room = self.incidence.room(arc.place);
+                if room > 0 && self.reduced_cost(arc, tail) < 0 {
+                    self.push(node, arc, room);
                 }
             }
             self.rewind(node);
         }
-        Ok(())
     }
 
     /// Lets the search for a push out of a node begin anew.
     pub fn rewind(&mut self, node: u32) {
-        let start = at(&self.network.starts, node, 0);
-        put(&mut self.current, node, start);
+        put(&mut self.current, node, self.incidence.row(node).start);
     }
 
-    /// Sends an amount over a residual arc out of a node.
-    fn push(&mut self, node: u32, place: u32, amount: i64) -> Result<(), Halt> {
-        let head = self.network.arc(place).head;
-        self.network.try_send(place, amount)?;
+    /// Sends an amount over an arc out of a node.
+    fn push(&mut self, node: u32, arc: Incident, amount: i64) {
+        self.incidence.send(arc.place, amount);
         let left = self.excess(node).wrapping_sub(i128::from(amount));
         put(&mut self.excess, node, left);
-        let more = self.excess(head).wrapping_add(i128::from(amount));
-        put(&mut self.excess, head, more);
-        Ok(())
+        let more = self.excess(arc.head).wrapping_add(i128::from(amount));
+        put(&mut self.excess, arc.head, more);
     }
 
-    /// Puts a node's potential as low as its residual arcs ask for. Fails where it has none with room.
-    fn relabel(&mut self, node: u32, epsilon: i64) -> Result<(), Halt> {
-        let mut least: Option<i64> = None;
-        let row = self.network.row(node);
+    /// Puts a node's potential as low as its residual arcs ask for.
+    fn relabel(&mut self, node: u32, epsilon: i64) {
+        let mut highest = LOWEST.wrapping_mul(i128::from(self.factor));
+        let row = self.incidence.row(node);
         for place in row.start..row.end {
-            let arc = try_at(&self.network.arcs, place)?;
-            if arc.room > 0 {
-                let step = self.reduced_cost(&arc, 0)?;
-                least = Some(least.map_or(step, |other| other.min(step)));
+            let arc = self.incidence.end(place);
+            if self.incidence.room(arc.place) > 0 {
+                highest = highest.max(self.reduced_cost(arc, 0).wrapping_neg());
             }
             self.work = self.work.wrapping_add(1);
         }
-        let Some(least) = least else {
-            return Err(Halt::OutOfRange);
-        };
-        let potential = least.wrapping_neg().wrapping_sub(epsilon);
-        if potential < LOWEST || self.work > self.limit {
-            return Err(Halt::OutOfRange);
-        }
+        let potential = highest.wrapping_sub(i128::from(epsilon));
         put(&mut self.potentials, node, potential);
         put(&mut self.current, node, row.start);
         self.relabels = self.relabels.wrapping_add(1);
-        Ok(())
     }
 
     /// The next residual arc of negative reduced cost with room out of a node.
-    fn next_push(&mut self, node: u32) -> Result<Option<u32>, Halt> {
+    fn next_push(&mut self, node: u32) -> Option<Incident> {
         let tail = self.potential(node);
+        let row = self.incidence.row(node);
         let from = at(&self.current, node, 0);
-        let to = at(&self.network.starts, node.wrapping_add(1), 0);
+        let mut next = row.end;
         let mut found = None;
-        for place in from..to {
-            let arc = try_at(&self.network.arcs, place)?;
-            if arc.room > 0 && self.reduced_cost(&arc, tail)? < 0 {
-                found = Some(place);
+        for place in from..row.end {
+            let arc = self.incidence.end(place);
+            if self.incidence.room(arc.place) > 0 && self.reduced_cost(arc, tail) < 0 {
+                next = place;
+                found = Some(arc);
                 break;
             }
         }
-        let next = found.unwrap_or(to);
         self.work = self
             .work
             .wrapping_add(u64::from(next.saturating_sub(from)))
             .wrapping_add(1);
         put(&mut self.current, node, next);
-        Ok(found)
+        found
     }
 
     /// Puts a node with excess at the end of the queue.
@@ -249,18 +275,15 @@ impl Scaling {
     /// Pushes all of a node's excess away, on ways of a few arcs.
     fn discharge(&mut self, node: u32, epsilon: i64) -> Result<(), Halt> {
         for _ in 0..self.limit {
-            if self.excess(node) <= 0 {
-                return Ok(());
+            if self.excess(node) <= 0 || self.work > self.limit {
+                break;
             }
             let end = self.push_way(node, epsilon)?;
             if end != node {
                 self.enqueue(end)?;
             }
-            if self.work > self.limit {
-                return Err(Halt::OutOfRange);
-            }
         }
-        Err(Halt::OutOfRange)
+        Ok(())
     }
 
     /// Pushes from a node on, as far as nodes have excess. Answers where that ends.
@@ -271,15 +294,14 @@ impl Scaling {
             if self.excess(node) <= 0 || length == WAY || self.work > self.limit {
                 break;
             }
-            let Some(place) = self.next_push(node)? else {
-                self.relabel(node, epsilon)?;
+            let Some(arc) = self.next_push(node) else {
+                self.relabel(node, epsilon);
                 continue;
             };
-            let arc = self.network.arc(place);
-            if !self.is_open(&arc, node, epsilon)? {
+            if !self.is_open(arc, node, epsilon) {
                 continue;
             }
-            self.push_most(node, place, arc.room)?;
+            self.push_most(node, arc);
             if node != from {
                 self.enqueue(node)?;
             }
@@ -289,22 +311,20 @@ impl Scaling {
         Ok(node)
     }
 
-    /// Pushes what a node has over a residual arc with this room.
-    fn push_most(&mut self, node: u32, place: u32, room: i64) -> Result<(), Halt> {
-        let amount = self.excess(node).min(i128::from(room));
-        match i64::try_from(amount) {
-            Ok(amount) => self.push(node, place, amount),
-            Err(_) => Err(Halt::OutOfRange),
-        }
+    /// Pushes what a node has over an arc, as far as there is room.
+    fn push_most(&mut self, node: u32, arc: Incident) {
+        let room = self.incidence.room(arc.place);
+        let most = i64::try_from(self.excess(node)).unwrap_or(i64::MAX);
+        self.push(node, arc, most.min(room));
     }
 
     /// Whether a push over an arc may go on from its head; a head that could not is relabelled first, and then the arc's reduced cost
     /// may not be negative any more.
-    fn is_open(&mut self, arc: &ResidualArc, tail: u32, epsilon: i64) -> Result<bool, Halt> {
-        if self.excess(arc.head) < 0 || self.next_push(arc.head)?.is_some() {
-            return Ok(true);
+    fn is_open(&mut self, arc: Incident, tail: u32, epsilon: i64) -> bool {
+        if self.excess(arc.head) < 0 || self.next_push(arc.head).is_some() {
+            return true;
         }
-        self.relabel(arc.head, epsilon)?;
-        Ok(self.reduced_cost(arc, self.potential(tail))? < 0)
+        self.relabel(arc.head, epsilon);
+        self.reduced_cost(arc, self.potential(tail)) < 0
     }
 }
