@@ -1,12 +1,12 @@
-//! Why a search ends before it has an answer.
+//! Why a guess ends before it has an answer.
 
 ghost use Rattle.std.specs.Prelude.{◌≡◌};
 ghost use Rattle.net_guess.specs.declared.halt.Halt.TheVariants as halts;
 
 use std::alloc::{AllocError, AllocFailed};
 
-/// Why a search ends before it has an answer.
-#[derive(Clone, Copy, Debug, PartialEq, Eq)]
+/// Why a guess ends before it has an answer.
+#[derive(Clone, Copy)]
 pub enum Halt {
     /// There was no memory.
     OutOfMemory,

@@ -34,7 +34,7 @@ pub struct Scaling {
     pub incidence: Incidence,
     /// What a unit on each arc of the problem costs, ahead and back, multiplied.
     pub costs: Vec<i64>,
-    pub excess: Vec<i128>,
+    excess: Vec<i128>,
     pub potentials: Vec<i128>,
     /// The residual arc out of each node at which the search for a push goes on.
     current: Vec<u32>,
