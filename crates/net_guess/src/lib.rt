@@ -7,6 +7,7 @@ mod block;
 mod bottleneck;
 mod distances;
 mod excess;
+mod fitting;
 mod guess;
 mod guessing;
 mod halt;

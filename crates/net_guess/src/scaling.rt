@@ -4,7 +4,7 @@
 //! Costs are multiplied by one more than the number of nodes. A phase takes a flow whose residual arcs have reduced costs of at least
 //! minus epsilon, and turns it into one for a smaller epsilon, by pushes over arcs of negative reduced cost and relabels of nodes with
 //! excess. Where epsilon is 1 the flow costs least: around a cycle no more is saved than one for each node, and a cycle that saves
-//! anything saves one more.
+//! anything saves one more. Most flows cost least some phases before, which potentials that fit them show.
 
 use crate::guess::Guess;
 use crate::halt::Halt;
@@ -39,10 +39,10 @@ pub struct Scaling {
     /// The residual arc out of each node at which the search for a push goes on.
     current: Vec<u32>,
     /// Nodes with excess, first in, first out, and whether each node is among them.
-    queue: VecDeque<u32>,
-    is_queued: Vec<bool>,
+    pub queue: VecDeque<u32>,
+    pub is_queued: Vec<bool>,
     /// What costs are multiplied by.
-    factor: i64,
+    pub factor: i64,
     pub work: u64,
     limit: u64,
     relabels: u64,
@@ -96,7 +96,7 @@ impl Scaling {
         for _ in 0..64 {
             self.saturate();
             self.refine(alloc, epsilon)?;
-            if epsilon == 1 {
+            if epsilon == 1 || (epsilon <= self.factor && self.fit()?) {
                 return Ok(());
             }
             epsilon = (epsilon / FACTOR).max(1);
@@ -118,10 +118,11 @@ impl Scaling {
         })
     }
 
-    /// The potentials in the problem's costs, complementary to the flow where epsilon came to 1.
+    /// The potentials in the problem's costs, complementary to the flow where whole ones fit it or epsilon came to 1.
     ///
-    /// Over a residual arc a potential then rises by at most the multiplied cost and 1. All are counted from a residue that none of them
-    /// has, so that rounding down takes off 1 to `factor - 1`: with the 1, a rise grows by less than a unit of the problem's costs.
+    /// Where epsilon came to 1, a potential rises over a residual arc by at most the multiplied cost and 1. All are counted from a residue
+    /// that none of them has, so that rounding down takes off 1 to `factor - 1`: with the 1, a rise grows by less than a unit of the
+    /// problem's costs. Whole ones have one residue, so that each comes out lower by the same unit.
     fn whole_potentials(&self, alloc: Global) -> Result<Vec<i64>, AllocError> {
         let free = self.free_residue(alloc)?;
         let mut potentials = Vec::with_capacity(alloc, self.potentials.len())?;
@@ -162,7 +163,7 @@ impl Scaling {
 
     /// An arc's reduced cost, where its tail has this potential.
     #[inline]
-    fn reduced_cost(&self, arc: Incident, tail: i128) -> i128 {
+    pub fn reduced_cost(&self, arc: Incident, tail: i128) -> i128 {
         i128::from(at(&self.costs, arc.place, 0))
             .wrapping_add(tail)
             .wrapping_sub(self.potential(arc.head))
@@ -240,9 +241,8 @@ impl Scaling {
 
     /// Puts a node with excess at the end of the queue.
     fn enqueue(&mut self, node: u32) -> Result<(), Halt> {
-        if self.excess(node) > 0 && !at(&self.is_queued, node, true) {
-            put(&mut self.is_queued, node, true);
-            self.queue.push_back(node)?;
+        if self.excess(node) > 0 {
+            self.wait(node)?;
         }
         Ok(())
     }
