@@ -16,6 +16,12 @@ CYCLE = re.compile(r"(?m)^ *#\[cycle\((\w+)\)\]\n")
 STUB = "unreachable!()"
 # What a function's own proof is written in; other files beside them hold lemmas.
 PROOF = ("Answers.antt", "Invariants.antt", "Proof.antt")
+# The one goal of a stub is that control never comes there. An answer that is none spares the search for one.
+STUB_ANSWER = """use Rattle.{}.Goals as goal
+
+pub unreachable-requires : goal.unreachable-requires
+unreachable-requires c = tt
+"""
 
 
 class Function:
@@ -98,6 +104,22 @@ class Function:
         plain = self.head and self.text and not self.is_const and not re.search(r"->[^{]*\bimpl\b", self.head)
         return bool(plain) and (self.name, self.file) != ("main", "src/main.rt")
 
+    def refuse_stub(self, room, crate):
+        """Writes an answer for the stub's goal that does not answer it, where the place of its proof is known."""
+        parts = self.proof_path()
+        if parts:
+            folder = pathlib.Path(room, "proofs", *parts)
+            folder.mkdir(parents=True, exist_ok=True)
+            (folder / "Answers.antt").write_text(STUB_ANSWER.format(".".join([crate, "proofs", *parts])), encoding="utf-8")
+
+    def proof_path(self):
+        """The folders of its proof, or None for a method of a trait with arguments."""
+        if not self.impl or not self.impl[1]:
+            return [*self.path, self.name]
+        if re.match(rf"(?m)^impl(?:<[^{{]*?>)?\s+{re.escape(self.impl[1])}<", self.impl[0]):
+            return None
+        return [*self.path[:-1], f"{self.impl[2]}{self.impl[1].split('::')[-1]}", self.name]
+
     def stub(self):
         """Its text with a stub for a body, outside any cycle."""
         whole = self.text[:self.text.index(self.head) + len(self.head)]
@@ -121,7 +143,7 @@ def unwrite(folder):
         pathlib.Path(folder, name).unlink(missing_ok=True)
 
 
-def stub_all_but(room, names):
+def stub_all_but(room, names, crate=None):
     """Puts stubs into the copy of the crate in place of all functions but these, as the prover tells them, and those of their cycles."""
     texts = {file: file.read_text(encoding="utf-8") for file in pathlib.Path(room, "src").rglob("*.rt")}
     functions = {file: list(Function.all_of(str(file.relative_to(room)), text)) for file, text in texts.items()}
@@ -136,6 +158,8 @@ def stub_all_but(room, names):
             if id(function) not in stays and (function.cycle is None or function.cycle not in kept):
                 text = text[:function.start] + function.stub() + text[function.end:]
                 unwrite(function.folder(room, function.name))
+                if crate:
+                    function.refuse_stub(room, crate)
         file.write_text(text, encoding="utf-8")
     for name in cycles - kept:
         for folder in pathlib.Path(room, "proofs").rglob(f"+{name}"):
