@@ -1,6 +1,6 @@
 //! Sources and sinks in memory, which can be told to fail.
 
-ghost use Rattle.std.specs.Prelude.{◌≡◌, ℕ, ◌+◌, ◌-◌, ◌^◌, ◌<◌, ◌≤◌, ◌||◌, ◌&&◌, ◌==◌, min, false, not, is_err, length, IfOk, OnErr, Some, vec_len, vec_capacity};
+ghost use Rattle.std.specs.Prelude.{◌≡◌, ℕ, ◌+◌, ◌-◌, ◌^◌, ◌<◌, ◌≤◌, ◌||◌, ◌&&◌, ◌==◌, ◌++◌, min, false, not, is_err, length, take, IfOk, OnErr, Some, vec_len, vec_capacity};
 ghost use Rattle.std.specs.Io.{ReadsAtMost, WritesAtMost};
 ghost use Rattle.std.specs.Io.KnownBytes.{ReadConsumes, WriteAppends};
 ghost use Rattle.net_ends.specs.Ends.{is_due, counted};
@@ -136,6 +136,25 @@ impl MemorySink {
             failed: false,
         }
     }
+
+    /// Takes the bytes that one write takes, and answers how many.
+    fn fill(&mut self, bytes: &[u8]) -> usize
+        ensures count { result ≡ min (min self.old.bytes_per_call (length bytes.now)) self.old.room }
+        ensures bytes { self.new.taken.items ≡ self.old.taken.items ++ take result bytes.now }
+        ensures room { self.new.room + result ≡ self.old.room }
+        ensures pace { self.new.bytes_per_call ≡ self.old.bytes_per_call }
+        ensures calls { self.new.calls_before_failure ≡ self.old.calls_before_failure }
+        ensures flag { self.new.failed ≡ self.old.failed }
+    {
+        let count = self.bytes_per_call.min(bytes.len()).min(self.room);
+        match self.taken.extend_from_slice(&bytes[..count]) {
+            Ok(()) => {
+                self.room -= count;
+                count
+            }
+            Err(_) => unreachable!(),
+        }
+    }
 }
 
 impl Sink for MemorySink {
@@ -163,13 +182,6 @@ impl Sink for MemorySink {
             self.failed = true;
             return Err(Failed);
         }
-        let count = self.bytes_per_call.min(bytes.len()).min(self.room);
-        match self.taken.extend_from_slice(&bytes[..count]) {
-            Ok(()) => {
-                self.room -= count;
-                Ok(count)
-            }
-            Err(_) => unreachable!(),
-        }
+        Ok(self.fill(bytes))
     }
 }

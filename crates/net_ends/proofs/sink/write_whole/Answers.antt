@@ -1,4 +1,5 @@
-use Rattle.std.proofs.Common.{◌≡◌, Bool, true, false, ◌||◌, ◌++◌, take, refl, sym, ap, ◌∙◌, append_assoc, take-append-drop}
+use Rattle.std.proofs.lemmas.Grind.{common_steps}
+use Rattle.std.proofs.Common.{arith, ◌≡◌, Bool, true, false, ◌||◌, ◌++◌, take, refl, sym, ap, ◌∙◌, append_assoc, take-append-drop}
 use Rattle.std.proofs.KnownBytes.{Appends-trans}
 use Rattle.net_ends.proofs.sink.write_whole.Goals as goal
 
@@ -16,3 +17,6 @@ loop-rest-preserved g c =
     let joined : front ++ rest ≡ front ++ (take count rest ++ after) = ap (λ r. front ++ r) (sym parts) in
     let whole : c.args.text.now ≡ (front ++ take count rest) ++ after = c.loop-rest.invariant.1 ∙ joined ∙ sym (append_assoc front (take count rest) after) in
     (front ++ take count rest, whole, Appends-trans _ _ _ front (take count rest) c.loop-rest.invariant.2 c.in_ok-count.ensures.bytes, c.in_ok-count.ensures.flag ∙ or_false _ ∙ c.loop-rest.invariant.3)
+
+pub returns-clause-ok : goal.returns-clause-ok
+returns-clause-ok g c = grind (arith, common_steps)
