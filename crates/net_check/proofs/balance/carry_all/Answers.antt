@@ -1,4 +1,5 @@
 use Rattle.std.proofs.Common.{◌≡◌, ◌<◌, ◌≤◌, List, length, get_or, vec_len, pos, ap, subst, arith}
+use Rattle.std.proofs.lemmas.Grind.{common_steps}
 use Rattle.net_normal.specs.Flows.{IsWithinCapacity}
 use Rattle.net_normal.specs.declared.problem.FlowArc.{FlowArc}
 use Rattle.net_check.proofs.Pairs.{no_arc, zipped-lengths, flow-sized}
@@ -39,3 +40,9 @@ returns-clause-sizes g c =
     let problem = c.args.problem.now in
     let few : c.loop-index.index ≤ 200000 = omega (arith, c.loop-index.auto.index-end, c.deref-arc-items.ensures.len, problem.few_arcs) in
     carried-small g.row.N c.args.first problem.arcs.items c.args.flows.now c.loop-index.index c.loop-index.balances few c.loop-index.invariant
+
+pub loop-index-init : goal.loop-index-init
+loop-index-init g c = grind (arith, common_steps)
+
+pub returns-clause-value : goal.returns-clause-value
+returns-clause-value g c = grind (arith, common_steps)

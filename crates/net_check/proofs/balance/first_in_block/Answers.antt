@@ -1,4 +1,5 @@
 use Rattle.std.proofs.Common.{◌≡◌, ◌<◌, ◌+◌, ◌-◌, ◌^◌, length, get_or, ℤ, pos, of_z, ap, sym, ◌∙◌, arith, refl, below_more, vec_len}
+use Rattle.std.proofs.lemmas.Grind.{common_steps}
 use mir.Syntax.{w128}
 use Rattle.net_normal.specs.Limits.{IsSized}
 use Rattle.net_normal.specs.Flows.{net_outflow}
@@ -51,3 +52,15 @@ returns-clause-none g c = λ v far supply p.
     let inside : v < vec_len c.args.problem.now.supplies = omega (arith, slice_get-inside supplies v supply p, c.args.problem.now.supplies.ok.0) in
     let before : v < c.loop-node.node = omega (arith, inside, far, c.loop-node-test.false, c.min-end.ensures, c.len.ensures) in
     c.loop-node.invariant v before supply p
+
+pub overflow_cast-result : goal.overflow_cast-result
+overflow_cast-result g c = grind (arith, common_steps)
+
+pub carry_all-requires : goal.carry_all-requires
+carry_all-requires g c = grind (arith, common_steps)
+
+pub overflow_add-result : goal.overflow_add-result
+overflow_add-result g c = grind (arith, common_steps)
+
+pub loop-node-init : goal.loop-node-init
+loop-node-init g c = grind (arith, common_steps)

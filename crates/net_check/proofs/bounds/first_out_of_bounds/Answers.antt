@@ -1,4 +1,5 @@
 use Rattle.std.proofs.Common.{IsTrue, refl, arith, below_more, rules}
+use Rattle.std.proofs.lemmas.Grind.{common_steps}
 use Rattle.net_normal.specs.Flows.{IsWithinCapacity}
 use Rattle.net_check.specs.FirstFaults.{ArcKeeps}
 use Rattle.net_check.proofs.Pairs.{keeps-here, kept, keeps-all}
@@ -22,3 +23,6 @@ loop-index-preserved c =
 
 pub returns-clause-none : goal.returns-clause-none
 returns-clause-none c = keeps-all IsWithinCapacity c.args.arcs.now c.args.flows.now c.requires.one_each (λ k l. c.loop-index.invariant k (omega arith))
+
+pub loop-index-init : goal.loop-index-init
+loop-index-init c = grind (arith, common_steps)

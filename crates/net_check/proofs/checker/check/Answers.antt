@@ -1,4 +1,5 @@
-use Rattle.std.proofs.Common.{List, Bool, ℤ, sym, subst}
+use Rattle.std.proofs.Common.{List, Bool, ℤ, sym, subst, arith}
+use Rattle.std.proofs.lemmas.Grind.{common_steps}
 use Rattle.net_check.specs.Certificates.{IsCertificate, IsOptimal, IsViolatedCut}
 use Rattle.net_check.specs.FirstFaults.{IsFirstFault, IsFirstFaultOfFlow, IsFirstFaultOfCut}
 use Rattle.net_check.specs.declared.certificate.Certificate.{Certificate}
@@ -30,3 +31,9 @@ returns-in-Cut-clause-yes c =
           (subst (λ (certificate : Certificate). IsFirstFault problem certificate reason number) (sym c.in-Cut.is)
           (subst (λ (bs : List Bool). IsFirstFaultOfCut problem bs side reason number) c.deref-in-Cut.ensures.value (c.check_cut.ensures.no reason number e)))),
     )
+
+pub returns-in-Optimal-clause-no : goal.returns-in-Optimal-clause-no
+returns-in-Optimal-clause-no c = grind (arith, common_steps)
+
+pub returns-in-Cut-clause-no : goal.returns-in-Cut-clause-no
+returns-in-Cut-clause-no c = grind (arith, common_steps)

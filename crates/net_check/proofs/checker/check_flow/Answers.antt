@@ -1,4 +1,5 @@
 use Rattle.std.proofs.Common.{◌≡◌, ◌-◌, List, subst, arith, rules}
+use Rattle.std.proofs.lemmas.Grind.{common_steps}
 use Rattle.std.specs.List.{AllZip}
 use Rattle.net_normal.specs.Flows.{IsFeasibleFlow, IsWithinCapacity, cost_of}
 use Rattle.net_normal.specs.declared.problem.FlowArc.{FlowArc}
@@ -37,3 +38,42 @@ returns-clause-yes c = λ e.
       cost = search rules;
       slackness = subst (λ (bs : List FlowArc). AllZip (IsComplementary potentials) bs flows) c.deref-2.ensures.value (c.check_slackness.ensures.yes e);
     }
+
+pub returns-then-flows-len-clause-yes : goal.returns-then-flows-len-clause-yes
+returns-then-flows-len-clause-yes c = grind (arith, common_steps)
+
+pub check_slackness-requires-clause-one_each : goal.check_slackness-requires-clause-one_each
+check_slackness-requires-clause-one_each c = grind (arith, common_steps)
+
+pub returns-in-Some-clause-no : goal.returns-in-Some-clause-no
+returns-in-Some-clause-no c = grind (arith, common_steps)
+
+pub returns-in-Some-first_unbalanced-clause-no : goal.returns-in-Some-first_unbalanced-clause-no
+returns-in-Some-first_unbalanced-clause-no c = grind (arith, common_steps)
+
+pub check_slackness-requires-clause-arcs : goal.check_slackness-requires-clause-arcs
+check_slackness-requires-clause-arcs c = grind (arith, common_steps)
+
+pub first_out_of_bounds-requires-clause-one_each : goal.first_out_of_bounds-requires-clause-one_each
+first_out_of_bounds-requires-clause-one_each c = grind (arith, common_steps)
+
+pub cost-requires : goal.cost-requires
+cost-requires c = grind (arith, common_steps)
+
+pub returns-then-flows-len-clause-no : goal.returns-then-flows-len-clause-no
+returns-then-flows-len-clause-no c = grind (arith, common_steps)
+
+pub returns-in-Some-first_unbalanced-clause-yes : goal.returns-in-Some-first_unbalanced-clause-yes
+returns-in-Some-first_unbalanced-clause-yes c = grind (arith, common_steps)
+
+pub check_slackness-requires-clause-few : goal.check_slackness-requires-clause-few
+check_slackness-requires-clause-few c = grind (arith, common_steps)
+
+pub first_unbalanced-requires : goal.first_unbalanced-requires
+first_unbalanced-requires c = grind (arith, common_steps)
+
+pub returns-then-value-cost-clause-yes : goal.returns-then-value-cost-clause-yes
+returns-then-value-cost-clause-yes c = grind (arith, common_steps)
+
+pub returns-in-Some-clause-yes : goal.returns-in-Some-clause-yes
+returns-in-Some-clause-yes c = grind (arith, common_steps)

@@ -1,4 +1,5 @@
 use Rattle.std.proofs.Common.{◌≡◌, ◌<◌, ◌≤◌, ◌^◌, List, length, get_or, vec_len, pos, ◌*ℤ◌, ap, ◌∙◌, arith}
+use Rattle.std.proofs.lemmas.Grind.{common_steps}
 use Rattle.net_normal.specs.Limits.{IsSized}
 use Rattle.net_normal.specs.Flows.{IsWithinCapacity}
 use Rattle.net_normal.specs.declared.problem.FlowArc.{FlowArc}
@@ -31,3 +32,15 @@ loop-index-preserved c =
     let big : IsSized (10 ^ 36) price = smaller (10 ^ 30) (10 ^ 36) price (omega arith) c.price-total.ensures.size in
     priced-next arcs flows i no_arc (pos 0) _ price _ inside inside' c.loop-index.invariant is c.price-total.ensures.size
     (sum_is _ price (price-small i _ few c.loop-index.invariant.size) big)
+
+pub overflow_add-total : goal.overflow_add-total
+overflow_add-total c = grind (arith, common_steps)
+
+pub returns : goal.returns
+returns c = grind (arith, common_steps)
+
+pub price-total-requires-clause-cost : goal.price-total-requires-clause-cost
+price-total-requires-clause-cost c = grind (arith, common_steps)
+
+pub loop-index-init : goal.loop-index-init
+loop-index-init c = grind (arith, common_steps)

@@ -1,4 +1,5 @@
 use Rattle.std.proofs.Common.{◌≡◌, ◌<◌, ◌≤◌, ◌^◌, cond, List, length, get_or, ℤ, pos, ◌-ℤ◌, ap, ◌∙◌, arith}
+use Rattle.std.proofs.lemmas.Grind.{common_steps}
 use Rattle.net_normal.specs.Limits.{IsSized}
 use Rattle.net_normal.specs.declared.problem.FlowArc.{FlowArc}
 use Rattle.net_check.specs.Certificates.{goes_out, comes_in}
@@ -21,3 +22,15 @@ loop-arc-preserved c =
     let big : IsSized (10 ^ 36) x = smaller (10 ^ 18) (10 ^ 36) x (omega arith) c.across-total.ensures.size in
     crossed-next (λ arc. arc.low) (λ arc. arc.cap) arcs flags i no_arc _ x _ inside c.loop-arc.invariant is c.across-total.ensures.size
     (sum_is _ x (total-small i _ few c.loop-arc.invariant.size) big)
+
+pub loop-arc-init : goal.loop-arc-init
+loop-arc-init c = grind (arith, common_steps)
+
+pub returns : goal.returns
+returns c = grind (arith, common_steps)
+
+pub across-total-requires-clause-into : goal.across-total-requires-clause-into
+across-total-requires-clause-into c = grind (arith, common_steps)
+
+pub across-total-requires-clause-arc : goal.across-total-requires-clause-arc
+across-total-requires-clause-arc c = grind (arith, common_steps)

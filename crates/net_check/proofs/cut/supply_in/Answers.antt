@@ -1,4 +1,5 @@
 use Rattle.std.proofs.Common.{◌≡◌, ◌+◌, ◌<◌, ◌≤◌, ◌^◌, Bool, false, cond, List, length, get_or, ℤ, pos, ◌+ℤ◌, to_z, ap, sym, ◌∙◌, arith}
+use Rattle.std.proofs.lemmas.Grind.{common_steps}
 use mir.Syntax.{w128}
 use Rattle.std.proofs.lemmas.Int.{ints}
 use Rattle.net_normal.specs.Limits.{IsSized, flow_limit}
@@ -30,3 +31,9 @@ loop-node-preserved c =
           let none : pos 0 ≡ chosen (get_or flags i false) = ap chosen (sym w.if-flags-node.false) in
           next _ (w.total-is ∙ omega (arith, ints, none))
     ]
+
+pub loop-node-init : goal.loop-node-init
+loop-node-init c = grind (arith, common_steps)
+
+pub returns : goal.returns
+returns c = grind (arith, common_steps)

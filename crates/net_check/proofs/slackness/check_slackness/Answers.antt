@@ -1,4 +1,5 @@
 use Rattle.std.proofs.Common.{◌≡◌, ◌+◌, ◌-◌, ℕ, sym, subst, arith, below_more}
+use Rattle.std.proofs.lemmas.Grind.{common_steps}
 use Rattle.net_check.specs.Certificates.{IsComplementary}
 use Rattle.net_check.specs.FirstFaults.{ArcKeeps, IsSlack}
 use Rattle.net_check.specs.declared.verdict.Reason.{Reason}
@@ -22,3 +23,12 @@ loop-index-preserved c =
 
 pub returns-clause-yes : goal.returns-clause-yes
 returns-clause-yes c e = keeps-all (IsComplementary c.args.potentials.now) c.args.arcs.now c.args.flows.now c.requires.one_each (λ k l. c.loop-index.invariant k (omega arith))
+
+pub returns-in-Some-clause-yes : goal.returns-in-Some-clause-yes
+returns-in-Some-clause-yes c = grind (arith, common_steps)
+
+pub returns-clause-no : goal.returns-clause-no
+returns-clause-no c = grind (arith, common_steps)
+
+pub returns-clause-reason : goal.returns-clause-reason
+returns-clause-reason c = grind (arith, common_steps)
