@@ -324,3 +324,129 @@ keys::holds-evaluate-requires t c = grind (arith, views)
 
 pub fitting::left_place-components-requires : goal.fitting::left_place-components-requires
 fitting::left_place-components-requires t c = grind (arith, views)
+
+pub fitting::places-bounds-members-0 : goal.fitting::places-bounds-members-0
+fitting::places-bounds-members-0 c = grind (arith, common_steps)
+
+pub fitting::places-slice_bounds-others-start : goal.fitting::places-slice_bounds-others-start
+fitting::places-slice_bounds-others-start c = grind (arith, common_steps)
+
+pub keys::walk-returns-in-empty : goal.keys::walk-returns-in-empty
+keys::walk-returns-in-empty c = grind (arith, common_steps)
+
+pub keys::through-loop-tuple-smaller : goal.keys::through-loop-tuple-smaller
+keys::through-loop-tuple-smaller c = grind (arith, common_steps)
+
+pub fitting::components-bounds-member-0 : goal.fitting::components-bounds-member-0
+fitting::components-bounds-member-0 c = grind (arith, common_steps)
+
+pub fitting::places-slice_bounds-rest-count : goal.fitting::places-slice_bounds-rest-count
+fitting::places-slice_bounds-rest-count c = grind (arith, common_steps)
+
+pub fitting::components-returns-in-empty : goal.fitting::components-returns-in-empty
+fitting::components-returns-in-empty c = grind (arith, common_steps)
+
+pub fitting::fit_all-returns-in-Err : goal.fitting::fit_all-returns-in-Err
+fitting::fit_all-returns-in-Err c = grind (arith, common_steps)
+
+pub keys::walk-bounds-items-0 : goal.keys::walk-bounds-items-0
+keys::walk-bounds-items-0 c = grind (arith, common_steps)
+
+pub eval::other_branch-returns-in-None : goal.eval::other_branch-returns-in-None
+eval::other_branch-returns-in-None c = grind (arith, common_steps)
+
+pub fitting::places-returns-in-empty : goal.fitting::places-returns-in-empty
+fitting::places-returns-in-empty c = grind (arith, common_steps)
+
+pub keys::keep-offset_bounds-rows-row-index : goal.keys::keep-offset_bounds-rows-row-index
+keys::keep-offset_bounds-rows-row-index c = grind (arith, common_steps)
+
+pub keys::index-returns-in-Empty : goal.keys::index-returns-in-Empty
+keys::index-returns-in-Empty c = grind (arith, common_steps)
+
+pub eval::joined-returns-in-Some : goal.eval::joined-returns-in-Some
+eval::joined-returns-in-Some c = grind (arith, common_steps)
+
+pub fitting::components-slice_bounds-others-start : goal.fitting::components-slice_bounds-others-start
+fitting::components-slice_bounds-others-start c = grind (arith, common_steps)
+
+pub eval::evaluate-returns-in-Leaf : goal.eval::evaluate-returns-in-Leaf
+eval::evaluate-returns-in-Leaf c = grind (arith, common_steps)
+
+pub keys::walk_item-returns : goal.keys::walk_item-returns
+keys::walk_item-returns c = grind (arith, common_steps)
+
+pub eval::evaluate-returns-in-Net : goal.eval::evaluate-returns-in-Net
+eval::evaluate-returns-in-Net c = grind (arith, common_steps)
+
+pub keys::onward-returns-in-Ok-Some : goal.keys::onward-returns-in-Ok-Some
+keys::onward-returns-in-Ok-Some c = grind (arith, common_steps)
+
+pub fitting::places-slice_bounds-rest-start : goal.fitting::places-slice_bounds-rest-start
+fitting::places-slice_bounds-rest-start c = grind (arith, common_steps)
+
+pub fitting::places-slice_bounds-others-count : goal.fitting::places-slice_bounds-others-count
+fitting::places-slice_bounds-others-count c = grind (arith, common_steps)
+
+pub eval::other_branch-returns-in-Some : goal.eval::other_branch-returns-in-Some
+eval::other_branch-returns-in-Some c = grind (arith, common_steps)
+
+pub eval::choice-returns-then-branch : goal.eval::choice-returns-then-branch
+eval::choice-returns-then-branch c = grind (arith, common_steps)
+
+pub eval::chain-returns-else-begins_range : goal.eval::chain-returns-else-begins_range
+eval::chain-returns-else-begins_range c = grind (arith, common_steps)
+
+pub eval::gather-one_more-requires : goal.eval::gather-one_more-requires
+eval::gather-one_more-requires c = grind (arith, common_steps)
+
+pub keys::holds-returns-in-None : goal.keys::holds-returns-in-None
+keys::holds-returns-in-None c = grind (arith, common_steps)
+
+pub eval::gather-offset_bounds-rows-row-index : goal.eval::gather-offset_bounds-rows-row-index
+eval::gather-offset_bounds-rows-row-index c = grind (arith, common_steps)
+
+pub eval::choice-returns-else-branch : goal.eval::choice-returns-else-branch
+eval::choice-returns-else-branch c = grind (arith, common_steps)
+
+pub fitting::fit_all-returns-in-Ok-Some : goal.fitting::fit_all-returns-in-Ok-Some
+fitting::fit_all-returns-in-Ok-Some c = grind (arith, common_steps)
+
+pub fitting::fit-returns-in-Some : goal.fitting::fit-returns-in-Some
+fitting::fit-returns-in-Some c = grind (arith, common_steps)
+
+pub keys::onward-returns-in-Err : goal.keys::onward-returns-in-Err
+keys::onward-returns-in-Err c = grind (arith, common_steps)
+
+pub keys::walk-slice_bounds-rest-count : goal.keys::walk-slice_bounds-rest-count
+keys::walk-slice_bounds-rest-count c = grind (arith, common_steps)
+
+pub eval::chained-offset_bounds-links-link-index : goal.eval::chained-offset_bounds-links-link-index
+eval::chained-offset_bounds-links-link-index c = grind (arith, common_steps)
+
+pub keys::select-same-found : goal.keys::select-same-found
+keys::select-same-found c = grind (arith, common_steps)
+
+pub fitting::components-slice_bounds-others-count : goal.fitting::components-slice_bounds-others-count
+fitting::components-slice_bounds-others-count c = grind (arith, common_steps)
+
+pub keys::onward-returns-in-Ok-None : goal.keys::onward-returns-in-Ok-None
+keys::onward-returns-in-Ok-None c = grind (arith, common_steps)
+
+pub eval::evaluate-returns-in-Braced : goal.eval::evaluate-returns-in-Braced
+eval::evaluate-returns-in-Braced c = grind (arith, common_steps)
+
+pub fitting::left_place-returns-in-Choice : goal.fitting::left_place-returns-in-Choice
+fitting::left_place-returns-in-Choice c = grind (arith, common_steps)
+
+pub fitting::alone-returns-in-Some : goal.fitting::alone-returns-in-Some
+fitting::alone-returns-in-Some c = grind (arith, common_steps)
+
+pub fitting::fit_all-returns-in-Ok-None : goal.fitting::fit_all-returns-in-Ok-None
+fitting::fit_all-returns-in-Ok-None c = grind (arith, common_steps)
+
+pub fitting::places-bounds-links-0 : goal.fitting::places-bounds-links-0
+fitting::places-bounds-links-0 c = grind (arith, common_steps)
+
+pub keys::walk-slice_bounds-rest-start : goal.keys::walk-slice_bounds-rest-start
+keys::walk-slice_bounds-rest-start c = grind (arith, common_steps)

@@ -1,4 +1,5 @@
 use Rattle.std.proofs.Common.{◌≡◌, ◌+◌, ◌-◌, sym, ap, ◌∙◌, arith, length, length-append, [], ◌∷◌}
+use Rattle.std.proofs.lemmas.Grind.{common_steps}
 use Rattle.std.proofs.lemmas.Result.{err_from_is_err_and}
 use Rattle.net_tree.specs.Level.{joins}
 use Rattle.net_tree.specs.View.{tree, links_of}
@@ -72,3 +73,207 @@ chains::links_from-loop-alloc-preserved t c =
           c.in_ok-link.ensures.value c.in_ok-push.ensures.items c.loop-alloc.invariant.read;
       room = omega (arith, more, c.in_ok-operator.ensures.shorter, c.in_ok-operand.ensures.shorter, c.loop-alloc.invariant.room);
     }
+
+pub chains::links_from-loop-alloc-init : goal.chains::links_from-loop-alloc-init
+chains::links_from-loop-alloc-init c = grind (arith, common_steps)
+
+pub choices::choice_inside-returns-clause-value : goal.choices::choice_inside-returns-clause-value
+choices::choice_inside-returns-clause-value c = grind (arith, common_steps)
+
+pub chains::chain_of-returns-clause-shorter : goal.chains::chain_of-returns-clause-shorter
+chains::chain_of-returns-clause-shorter c = grind (arith, common_steps)
+
+pub expressions::parens_from-returns-else-is_sum-clause-value : goal.expressions::parens_from-returns-else-is_sum-clause-value
+expressions::parens_from-returns-else-is_sum-clause-value c = grind (arith, common_steps)
+
+pub chains::climb_to-returns-else-place-lt2-clause-shorter : goal.chains::climb_to-returns-else-place-lt2-clause-shorter
+chains::climb_to-returns-else-place-lt2-clause-shorter c = grind (arith, common_steps)
+
+pub expressions::parens_from-returns-else-is_sum-clause-shorter : goal.expressions::parens_from-returns-else-is_sum-clause-shorter
+expressions::parens_from-returns-else-is_sum-clause-shorter c = grind (arith, common_steps)
+
+pub chains::links_from-loop-alloc-smaller : goal.chains::links_from-loop-alloc-smaller
+chains::links_from-loop-alloc-smaller c = grind (arith, common_steps)
+
+pub expressions::parens_from-returns-in_ok-more-clause-shorter : goal.expressions::parens_from-returns-in_ok-more-clause-shorter
+expressions::parens_from-returns-in_ok-more-clause-shorter c = grind (arith, common_steps)
+
+pub braces::reduced_inside-returns-clause-value : goal.braces::reduced_inside-returns-clause-value
+braces::reduced_inside-returns-clause-value c = grind (arith, common_steps)
+
+pub choices::introduced-returns-clause-mark : goal.choices::introduced-returns-clause-mark
+choices::introduced-returns-clause-mark c = grind (arith, common_steps)
+
+pub choices::otherwise_of-returns-then-not-next_is-clause-value : goal.choices::otherwise_of-returns-then-not-next_is-clause-value
+choices::otherwise_of-returns-then-not-next_is-clause-value c = grind (arith, common_steps)
+
+pub expressions::negated_inside-returns-clause-value : goal.expressions::negated_inside-returns-clause-value
+expressions::negated_inside-returns-clause-value c = grind (arith, common_steps)
+
+pub braces::items_inside-returns-clause-value : goal.braces::items_inside-returns-clause-value
+braces::items_inside-returns-clause-value c = grind (arith, common_steps)
+
+pub chains::links_from-returns-clause-shorter : goal.chains::links_from-returns-clause-shorter
+chains::links_from-returns-clause-shorter c = grind (arith, common_steps)
+
+pub braces::filter_of-returns-then-not-next_is-clause-value : goal.braces::filter_of-returns-then-not-next_is-clause-value
+braces::filter_of-returns-then-not-next_is-clause-value c = grind (arith, common_steps)
+
+pub expressions::parens_inside-returns-clause-value : goal.expressions::parens_inside-returns-clause-value
+expressions::parens_inside-returns-clause-value c = grind (arith, common_steps)
+
+pub expressions::unary_inside-returns-in-Open-clause-shorter : goal.expressions::unary_inside-returns-in-Open-clause-shorter
+expressions::unary_inside-returns-in-Open-clause-shorter c = grind (arith, common_steps)
+
+pub expressions::unary_inside-returns-in-Number-clause-value : goal.expressions::unary_inside-returns-in-Number-clause-value
+expressions::unary_inside-returns-in-Number-clause-value c = grind (arith, common_steps)
+
+pub expressions::unary_inside-returns-in-Name-clause-value : goal.expressions::unary_inside-returns-in-Name-clause-value
+expressions::unary_inside-returns-in-Name-clause-value c = grind (arith, common_steps)
+
+pub choices::otherwise_of-returns-in_default-clause-value : goal.choices::otherwise_of-returns-in_default-clause-value
+choices::otherwise_of-returns-in_default-clause-value c = grind (arith, common_steps)
+
+pub braces::braces_of-returns-then-depth-eq0-clause-shorter : goal.braces::braces_of-returns-then-depth-eq0-clause-shorter
+braces::braces_of-returns-then-depth-eq0-clause-shorter c = grind (arith, common_steps)
+
+pub braces::braces_inside-returns-then-next_is_hollow-clause-value : goal.braces::braces_inside-returns-then-next_is_hollow-clause-value
+braces::braces_inside-returns-then-next_is_hollow-clause-value c = grind (arith, common_steps)
+
+pub expressions::unary_inside-returns-in-Not-clause-value : goal.expressions::unary_inside-returns-in-Not-clause-value
+expressions::unary_inside-returns-in-Not-clause-value c = grind (arith, common_steps)
+
+pub expressions::named_inside-returns-else-next_is-clause-shorter : goal.expressions::named_inside-returns-else-next_is-clause-shorter
+expressions::named_inside-returns-else-next_is-clause-shorter c = grind (arith, common_steps)
+
+pub expressions::unary_inside-returns-in_default-clause-value : goal.expressions::unary_inside-returns-in_default-clause-value
+expressions::unary_inside-returns-in_default-clause-value c = grind (arith, common_steps)
+
+pub choices::otherwise_of-returns-clause-value : goal.choices::otherwise_of-returns-clause-value
+choices::otherwise_of-returns-clause-value c = grind (arith, common_steps)
+
+pub expressions::unary_inside-returns-in_ok-braces-in-OpenBrace-clause-value : goal.expressions::unary_inside-returns-in_ok-braces-in-OpenBrace-clause-value
+expressions::unary_inside-returns-in_ok-braces-in-OpenBrace-clause-value c = grind (arith, common_steps)
+
+pub expressions::named_inside-returns-then-next_is-clause-shorter : goal.expressions::named_inside-returns-then-next_is-clause-shorter
+expressions::named_inside-returns-then-next_is-clause-shorter c = grind (arith, common_steps)
+
+pub expressions::unary_of-returns-else-depth-eq0-clause-shorter : goal.expressions::unary_of-returns-else-depth-eq0-clause-shorter
+expressions::unary_of-returns-else-depth-eq0-clause-shorter c = grind (arith, common_steps)
+
+pub choices::if_inside-returns-in-None-clause-value : goal.choices::if_inside-returns-in-None-clause-value
+choices::if_inside-returns-in-None-clause-value c = grind (arith, common_steps)
+
+pub braces::filter_of-returns-clause-shorter : goal.braces::filter_of-returns-clause-shorter
+braces::filter_of-returns-clause-shorter c = grind (arith, common_steps)
+
+pub braces::braces_of-returns-else-depth-eq0-clause-shorter : goal.braces::braces_of-returns-else-depth-eq0-clause-shorter
+braces::braces_of-returns-else-depth-eq0-clause-shorter c = grind (arith, common_steps)
+
+pub chains::climb_to-returns-then-place-lt2-clause-shorter : goal.chains::climb_to-returns-then-place-lt2-clause-shorter
+chains::climb_to-returns-then-place-lt2-clause-shorter c = grind (arith, common_steps)
+
+pub choices::wide_of-returns-else-next_is-clause-value : goal.choices::wide_of-returns-else-next_is-clause-value
+choices::wide_of-returns-else-next_is-clause-value c = grind (arith, common_steps)
+
+pub expressions::named_inside-returns-then-next_is-clause-value : goal.expressions::named_inside-returns-then-next_is-clause-value
+expressions::named_inside-returns-then-next_is-clause-value c = grind (arith, common_steps)
+
+pub expressions::unary_inside-returns-in_default-role_of : goal.expressions::unary_inside-returns-in_default-role_of
+expressions::unary_inside-returns-in_default-role_of c = grind (arith, common_steps)
+
+pub braces::hollow_inside-returns-clause-value : goal.braces::hollow_inside-returns-clause-value
+braces::hollow_inside-returns-clause-value c = grind (arith, common_steps)
+
+pub braces::hollow_inside-returns-clause-shorter : goal.braces::hollow_inside-returns-clause-shorter
+braces::hollow_inside-returns-clause-shorter c = grind (arith, common_steps)
+
+pub choices::if_of-returns-else-depth-eq0-clause-shorter : goal.choices::if_of-returns-else-depth-eq0-clause-shorter
+choices::if_of-returns-else-depth-eq0-clause-shorter c = grind (arith, common_steps)
+
+pub chains::chain_links-returns-clause-shorter : goal.chains::chain_links-returns-clause-shorter
+chains::chain_links-returns-clause-shorter c = grind (arith, common_steps)
+
+pub choices::wide_of-returns-then-next_is-clause-shorter : goal.choices::wide_of-returns-then-next_is-clause-shorter
+choices::wide_of-returns-then-next_is-clause-shorter c = grind (arith, common_steps)
+
+pub expressions::subscripts_inside-returns-in_default-clause-value : goal.expressions::subscripts_inside-returns-in_default-clause-value
+expressions::subscripts_inside-returns-in_default-clause-value c = grind (arith, common_steps)
+
+pub choices::wide_of-returns-then-next_is-clause-value : goal.choices::wide_of-returns-then-next_is-clause-value
+choices::wide_of-returns-then-next_is-clause-value c = grind (arith, common_steps)
+
+pub expressions::subscripts_inside-returns-clause-value : goal.expressions::subscripts_inside-returns-clause-value
+expressions::subscripts_inside-returns-clause-value c = grind (arith, common_steps)
+
+pub expressions::unary_inside-returns-in-Number-clause-shorter : goal.expressions::unary_inside-returns-in-Number-clause-shorter
+expressions::unary_inside-returns-in-Number-clause-shorter c = grind (arith, common_steps)
+
+pub braces::braces_inside-returns-then-next_is_hollow-clause-shorter : goal.braces::braces_inside-returns-then-next_is_hollow-clause-shorter
+braces::braces_inside-returns-then-next_is_hollow-clause-shorter c = grind (arith, common_steps)
+
+pub choices::wide_of-returns-else-next_is-clause-shorter : goal.choices::wide_of-returns-else-next_is-clause-shorter
+choices::wide_of-returns-else-next_is-clause-shorter c = grind (arith, common_steps)
+
+pub expressions::unary_inside-returns-in-Open-clause-value : goal.expressions::unary_inside-returns-in-Open-clause-value
+expressions::unary_inside-returns-in-Open-clause-value c = grind (arith, common_steps)
+
+pub expressions::unary_inside-returns-in-Not-clause-shorter : goal.expressions::unary_inside-returns-in-Not-clause-shorter
+expressions::unary_inside-returns-in-Not-clause-shorter c = grind (arith, common_steps)
+
+pub choices::if_inside-returns-in-Some-clause-shorter : goal.choices::if_inside-returns-in-Some-clause-shorter
+choices::if_inside-returns-in-Some-clause-shorter c = grind (arith, common_steps)
+
+pub braces::filter_of-returns-in_default-clause-value : goal.braces::filter_of-returns-in_default-clause-value
+braces::filter_of-returns-in_default-clause-value c = grind (arith, common_steps)
+
+pub choices::if_inside-returns-in-Some-clause-value : goal.choices::if_inside-returns-in-Some-clause-value
+choices::if_inside-returns-in-Some-clause-value c = grind (arith, common_steps)
+
+pub expressions::unary_inside-returns-in-Reduction-clause-shorter : goal.expressions::unary_inside-returns-in-Reduction-clause-shorter
+expressions::unary_inside-returns-in-Reduction-clause-shorter c = grind (arith, common_steps)
+
+pub expressions::unary_inside-returns-in-Reduction-clause-value : goal.expressions::unary_inside-returns-in-Reduction-clause-value
+expressions::unary_inside-returns-in-Reduction-clause-value c = grind (arith, common_steps)
+
+pub choices::introduced-returns-clause-value : goal.choices::introduced-returns-clause-value
+choices::introduced-returns-clause-value c = grind (arith, common_steps)
+
+pub braces::braces_opened-returns-clause-value : goal.braces::braces_opened-returns-clause-value
+braces::braces_opened-returns-clause-value c = grind (arith, common_steps)
+
+pub expressions::unary_inside-returns-in_ok-operand-in-Sign-clause-value : goal.expressions::unary_inside-returns-in_ok-operand-in-Sign-clause-value
+expressions::unary_inside-returns-in_ok-operand-in-Sign-clause-value c = grind (arith, common_steps)
+
+pub braces::braces_inside-returns-else-next_is_hollow-clause-value : goal.braces::braces_inside-returns-else-next_is_hollow-clause-value
+braces::braces_inside-returns-else-next_is_hollow-clause-value c = grind (arith, common_steps)
+
+pub expressions::parens_from-returns-in_ok-more-clause-value : goal.expressions::parens_from-returns-in_ok-more-clause-value
+expressions::parens_from-returns-in_ok-more-clause-value c = grind (arith, common_steps)
+
+pub expressions::named_inside-returns-else-next_is-clause-value : goal.expressions::named_inside-returns-else-next_is-clause-value
+expressions::named_inside-returns-else-next_is-clause-value c = grind (arith, common_steps)
+
+pub braces::body_inside-returns-clause-shorter : goal.braces::body_inside-returns-clause-shorter
+braces::body_inside-returns-clause-shorter c = grind (arith, common_steps)
+
+pub braces::braces_opened-returns-clause-shorter : goal.braces::braces_opened-returns-clause-shorter
+braces::braces_opened-returns-clause-shorter c = grind (arith, common_steps)
+
+pub expressions::unary_of-returns-then-depth-eq0-clause-shorter : goal.expressions::unary_of-returns-then-depth-eq0-clause-shorter
+expressions::unary_of-returns-then-depth-eq0-clause-shorter c = grind (arith, common_steps)
+
+pub chains::chain_of-returns-clause-value : goal.chains::chain_of-returns-clause-value
+chains::chain_of-returns-clause-value c = grind (arith, common_steps)
+
+pub expressions::unary_inside-returns-in-Name-clause-shorter : goal.expressions::unary_inside-returns-in-Name-clause-shorter
+expressions::unary_inside-returns-in-Name-clause-shorter c = grind (arith, common_steps)
+
+pub braces::filter_of-returns-clause-value : goal.braces::filter_of-returns-clause-value
+braces::filter_of-returns-clause-value c = grind (arith, common_steps)
+
+pub braces::braces_inside-returns-else-next_is_hollow-clause-shorter : goal.braces::braces_inside-returns-else-next_is_hollow-clause-shorter
+braces::braces_inside-returns-else-next_is_hollow-clause-shorter c = grind (arith, common_steps)
+
+pub choices::if_of-returns-then-depth-eq0-clause-shorter : goal.choices::if_of-returns-then-depth-eq0-clause-shorter
+choices::if_of-returns-then-depth-eq0-clause-shorter c = grind (arith, common_steps)

@@ -1,4 +1,5 @@
-use Rattle.std.proofs.Common.{sym, ◌∙◌, true, false}
+use Rattle.std.proofs.Common.{sym, ◌∙◌, true, false, arith}
+use Rattle.std.proofs.lemmas.Grind.{common_steps}
 use Rattle.net_bind.proofs.Products.{behind_one, behind_many}
 use Rattle.net_bind.proofs.crossing.behind_cross.Goals as goal
 
@@ -10,3 +11,9 @@ returns-else-is_cross c = behind_one c.args.links.now c.link-item.result false c
 
 pub returns-in-len2-up : goal.returns-in-len2-up
 returns-in-len2-up c = behind_many c.args.links.now c.in-len2-up.len_at_least
+
+pub returns-in-empty : goal.returns-in-empty
+returns-in-empty c = grind (arith, common_steps)
+
+pub bounds-links-0 : goal.bounds-links-0
+bounds-links-0 c = grind (arith, common_steps)

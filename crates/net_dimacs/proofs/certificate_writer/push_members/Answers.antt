@@ -4,3 +4,9 @@ use Rattle.net_dimacs.proofs.certificate_writer.push_members.Goals as goal
 
 pub loop-node-preserved : goal.loop-node-preserved
 loop-node-preserved c = grind (arith, common_steps)
+
+pub overflow_add-node : goal.overflow_add-node
+overflow_add-node c = grind (arith, common_steps)
+
+pub returns : goal.returns
+returns c = grind (arith, common_steps)

@@ -4,3 +4,6 @@ use Rattle.net_dimacs.proofs.certificate_writer.push_potentials.Goals as goal
 
 pub loop-node-preserved : goal.loop-node-preserved
 loop-node-preserved c = grind (arith, common_steps)
+
+pub returns-clause-ok : goal.returns-clause-ok
+returns-clause-ok c = grind (arith, common_steps)

@@ -1,4 +1,5 @@
 use Rattle.std.proofs.Common.{◌≡◌, ◌<◌, ◌≤◌, ◌+◌, ◌-◌, [], ◌∷◌, List, ℕ, length, sym, ap, ◌∙◌, arith, take, drop}
+use Rattle.std.proofs.lemmas.Grind.{common_steps}
 use Rattle.std.proofs.lemmas.Bool.Decides.{nat_tests}
 use Rattle.std.proofs.lemmas.List.{nil_from_length}
 use Rattle.std.specs.List.{position_or_len}
@@ -35,3 +36,18 @@ returns-clause-parts c =
 
 pub split_at-requires : goal.split_at-requires
 split_at-requires c = place_within is_feed c.args.text.now c.first_feed.result c.unwrap_or-end.result c.first_feed.ensures c.unwrap_or-end.ensures
+
+pub returns-then-is_empty-clause-parts : goal.returns-then-is_empty-clause-parts
+returns-then-is_empty-clause-parts c = grind (arith, common_steps)
+
+pub slice_bounds-result-start : goal.slice_bounds-result-start
+slice_bounds-result-start c = grind (arith, common_steps)
+
+pub slice_bounds-result-count : goal.slice_bounds-result-count
+slice_bounds-result-count c = grind (arith, common_steps)
+
+pub returns-clause-shorter : goal.returns-clause-shorter
+returns-clause-shorter c = grind (arith, common_steps)
+
+pub returns-then-is_empty-2-clause-shorter : goal.returns-then-is_empty-2-clause-shorter
+returns-then-is_empty-2-clause-shorter c = grind (arith, common_steps)

@@ -1,4 +1,5 @@
 use Rattle.std.proofs.Common.{◌+◌, ◌*◌, arith, get_or, ℕ, sym, subst}
+use Rattle.std.proofs.lemmas.Grind.{common_steps}
 use Rattle.net_dimacs.proofs.DigitFronts.{HasDigits, more_digits, digits_small, digit_high}
 use Rattle.net_dimacs.proofs.number.leading_digits.Goals as goal
 
@@ -24,3 +25,6 @@ loop-count-preserved c =
 
 pub returns-clause-small : goal.returns-clause-small
 returns-clause-small c = digits_small c.args.bytes.now c.loop-count.count c.loop-count.size c.loop-count.invariant
+
+pub overflow_sub-digit : goal.overflow_sub-digit
+overflow_sub-digit c = grind (arith, common_steps)

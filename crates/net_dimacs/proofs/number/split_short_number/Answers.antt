@@ -1,4 +1,5 @@
 use Rattle.std.proofs.Common.{◌≡◌, ◌<◌, ◌∷◌, ℕ, ℤ, List, Some, length, length-drop, sym, ap, ◌∙◌, subst, arith}
+use Rattle.std.proofs.lemmas.Grind.{common_steps}
 use Rattle.std.proofs.lemmas.Int.{ints}
 use Rattle.net_dimacs.specs.Numbers.{cut, BeginsWithDigits}
 use Rattle.net_dimacs.proofs.DigitFronts.{unsigned_front, negative_front, front_uncut, negative_uncut, turned, if_some}
@@ -47,3 +48,21 @@ returns-in_default-clause-shorter c =
     if_some _ _ c.split_digits-in_default.result
     (λ p h. shorter c.args.bytes.now c.in_ok-blank.rest.now p.1.now c.in_ok-blank.blank.now p.0 c.in_ok-blank.ensures.cases.0 h)
     c.split_digits-in_default.ensures
+
+pub returns-in_err-blank-clause-small : goal.returns-in_err-blank-clause-small
+returns-in_err-blank-clause-small c = grind (arith, common_steps)
+
+pub returns-in_err-size-in-Some-clause-small : goal.returns-in_err-size-in-Some-clause-small
+returns-in_err-size-in-Some-clause-small c = grind (arith, common_steps)
+
+pub returns-in_err-blank-clause-shorter : goal.returns-in_err-blank-clause-shorter
+returns-in_err-blank-clause-shorter c = grind (arith, common_steps)
+
+pub returns-in_err-blank-clause-number : goal.returns-in_err-blank-clause-number
+returns-in_err-blank-clause-number c = grind (arith, common_steps)
+
+pub returns-in_err-size-in-Some-clause-number : goal.returns-in_err-size-in-Some-clause-number
+returns-in_err-size-in-Some-clause-number c = grind (arith, common_steps)
+
+pub returns-in_err-size-in-Some-clause-shorter : goal.returns-in_err-size-in-Some-clause-shorter
+returns-in_err-size-in-Some-clause-shorter c = grind (arith, common_steps)

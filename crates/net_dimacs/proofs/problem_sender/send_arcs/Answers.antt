@@ -1,4 +1,5 @@
-use Rattle.std.proofs.Common.{get_or, pos}
+use Rattle.std.proofs.Common.{get_or, pos, arith}
+use Rattle.std.proofs.lemmas.Grind.{common_steps}
 use Rattle.net_normal.specs.declared.problem.FlowArc.{FlowArc}
 use Rattle.net_dimacs.specs.Written.{arc_line}
 use Rattle.net_dimacs.proofs.Sending.{step, failed_in, arcs_next}
@@ -18,3 +19,9 @@ loop-arc-preserved g c =
     let k = c.loop-arc.arc-index in
     let arcs = c.args.arcs.now in
     step _ _ _ _ _ _ _ _ (arc_line (get_or arcs k none)) _ _ _ _ (arcs_next k arcs none c.loop-arc-test.true) c.loop-arc.invariant c.in_ok-send_arc.ensures.bytes c.in_ok-send_arc.ensures.flag
+
+pub loop-arc-init : goal.loop-arc-init
+loop-arc-init g c = grind (arith, common_steps)
+
+pub returns-clause-bytes : goal.returns-clause-bytes
+returns-clause-bytes g c = grind (arith, common_steps)

@@ -1,4 +1,5 @@
-use Rattle.std.proofs.Common.{sym, ◌∙◌, true, false}
+use Rattle.std.proofs.Common.{sym, ◌∙◌, true, false, arith}
+use Rattle.std.proofs.lemmas.Grind.{common_steps}
 use Rattle.net_eval.proofs.Walking.{one_link, many_links}
 use Rattle.net_eval.proofs.item.behind_in.Goals as goal
 
@@ -10,3 +11,9 @@ returns-else-is_in c = one_link c.args.links.now c.link-item.result false c.in-l
 
 pub returns-in-len2-up : goal.returns-in-len2-up
 returns-in-len2-up c = many_links c.args.links.now c.in-len2-up.len_at_least
+
+pub bounds-links-0 : goal.bounds-links-0
+bounds-links-0 c = grind (arith, common_steps)
+
+pub returns-in-empty : goal.returns-in-empty
+returns-in-empty c = grind (arith, common_steps)

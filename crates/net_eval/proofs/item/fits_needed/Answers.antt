@@ -1,4 +1,5 @@
 use Rattle.std.proofs.Common.{arith}
+use Rattle.std.proofs.lemmas.Grind.{common_steps}
 use Rattle.net_tree.proofs.Views.{views}
 use Rattle.net_eval.proofs.item.fits_needed.Goals as goal
 
@@ -16,3 +17,21 @@ returns-in-Signed c = grind (arith, views)
 
 pub returns-in-Choice : goal.returns-in-Choice
 returns-in-Choice c = grind (arith, views)
+
+pub returns-in-Choice-2 : goal.returns-in-Choice-2
+returns-in-Choice-2 c = grind (arith, common_steps, views)
+
+pub returns-in-Signed-2 : goal.returns-in-Signed-2
+returns-in-Signed-2 c = grind (arith, common_steps, views)
+
+pub returns-in-Signed-3 : goal.returns-in-Signed-3
+returns-in-Signed-3 c = grind (arith, common_steps, views)
+
+pub returns-in-Indexed-4 : goal.returns-in-Indexed-4
+returns-in-Indexed-4 c = grind (arith, common_steps, views)
+
+pub returns-in-Indexed-3 : goal.returns-in-Indexed-3
+returns-in-Indexed-3 c = grind (arith, common_steps, views)
+
+pub returns-in-Indexed-2 : goal.returns-in-Indexed-2
+returns-in-Indexed-2 c = grind (arith, common_steps, views)

@@ -10,3 +10,6 @@ loop-value-preserved c = grind (arith, common_steps)
 
 pub returns : goal.returns
 returns c = grind (arith, common_steps)
+
+pub returns-in_err-tuple : goal.returns-in_err-tuple
+returns-in_err-tuple c = grind (arith, common_steps)

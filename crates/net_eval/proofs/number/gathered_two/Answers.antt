@@ -10,3 +10,15 @@ returns-in-Min-clause-small c = grind (arith, common_steps)
 
 pub returns-in-Sum-clause-small : goal.returns-in-Sum-clause-small
 returns-in-Sum-clause-small c = grind (arith, common_steps)
+
+pub returns-in-Min-clause-value : goal.returns-in-Min-clause-value
+returns-in-Min-clause-value c = grind (arith, common_steps)
+
+pub returns-in-Max-clause-value : goal.returns-in-Max-clause-value
+returns-in-Max-clause-value c = grind (arith, common_steps)
+
+pub returns-in-Sum-clause-value : goal.returns-in-Sum-clause-value
+returns-in-Sum-clause-value c = grind (arith, common_steps)
+
+pub overflow_add-result : goal.overflow_add-result
+overflow_add-result c = grind (arith, common_steps)

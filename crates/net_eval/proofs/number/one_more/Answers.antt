@@ -1,4 +1,5 @@
-use Rattle.std.proofs.Common.{◌≡◌, rules, Ok, Some, sym, ◌∙◌}
+use Rattle.std.proofs.Common.{◌≡◌, rules, Ok, Some, sym, ◌∙◌, arith}
+use Rattle.std.proofs.lemmas.Grind.{common_steps}
 use Rattle.std.proofs.lemmas.Result.{err_from_is_err_and}
 use Rattle.net_tree.specs.Spans.{span_of}
 use Rattle.net_tree.specs.View.{tree}
@@ -23,3 +24,6 @@ returns-clause-value c wanted is =
     (c.in_ok-number.ensures wanted is)
     in
     same ∙ search rules
+
+pub returns-clause-small : goal.returns-clause-small
+returns-clause-small c = grind (arith, common_steps)

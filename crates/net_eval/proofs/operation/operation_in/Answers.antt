@@ -1,4 +1,5 @@
-use Rattle.std.proofs.Common.{◌≡◌, ◌<◌, ◌+◌, ◌∙◌, ℕ, suc, List, map, drop, get_or, length, false, refl, sym, ap, add-one, cond}
+use Rattle.std.proofs.Common.{◌≡◌, ◌<◌, ◌+◌, ◌∙◌, ℕ, suc, List, map, drop, get_or, length, false, refl, sym, ap, add-one, cond, arith}
+use Rattle.std.proofs.lemmas.Grind.{common_steps}
 use Rattle.std.proofs.Math.Seq.{drop-cons}
 use Rattle.std.specs.Borrow.{Bor}
 use Rattle.std.specs.Str.{bytes_eq}
@@ -24,3 +25,9 @@ loop-word-init c = refl
 pub loop-word-preserved : goal.loop-word-preserved
 loop-word-preserved c =
     passed c.args.table.now c.loop-word.word-index c.args.text.now _ c.loop-word-test.true (sym c.eq.ensures ∙ c.if-eq.false) ∙ c.loop-word.invariant
+
+pub returns : goal.returns
+returns c = grind (arith, common_steps)
+
+pub returns-then-eq : goal.returns-then-eq
+returns-then-eq c = grind (arith, common_steps)

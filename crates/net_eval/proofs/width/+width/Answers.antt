@@ -1,4 +1,5 @@
 use Rattle.std.proofs.Common.{ap, sym, ◌∙◌, ◌+◌, drop, arith}
+use Rattle.std.proofs.lemmas.Grind.{common_steps}
 use Rattle.net_tree.specs.View.{links_of}
 use Rattle.net_tree.proofs.Views.{next_link, views}
 use Rattle.net_eval.specs.Operations.{operation}
@@ -69,3 +70,21 @@ tree_width-chain_width-requires t c = grind (arith, views)
 
 pub braces_width-filled_width-requires : goal.braces_width-filled_width-requires
 braces_width-filled_width-requires t c = grind (arith, views)
+
+pub items_form-returns : goal.items_form-returns
+items_form-returns c = grind (arith, common_steps)
+
+pub chain_width-returns : goal.chain_width-returns
+chain_width-returns c = grind (arith, common_steps)
+
+pub chain_width-loop-link-init : goal.chain_width-loop-link-init
+chain_width-loop-link-init c = grind (arith, common_steps)
+
+pub filled_width-returns-else-is_set_form : goal.filled_width-returns-else-is_set_form
+filled_width-returns-else-is_set_form c = grind (arith, common_steps)
+
+pub chain_width-offset_bounds-more-link-index : goal.chain_width-offset_bounds-more-link-index
+chain_width-offset_bounds-more-link-index c = grind (arith, common_steps)
+
+pub items_form-bounds-more-link-index : goal.items_form-bounds-more-link-index
+items_form-bounds-more-link-index c = grind (arith, common_steps)

@@ -1,4 +1,5 @@
-use Rattle.std.proofs.Common.{ap, sym, ◌∙◌, ◌+◌, drop}
+use Rattle.std.proofs.Common.{ap, sym, ◌∙◌, ◌+◌, drop, arith}
+use Rattle.std.proofs.lemmas.Grind.{common_steps}
 use Rattle.std.proofs.lemmas.Result.{err_from_is_err_and}
 use Rattle.net_tree.specs.View.{links_of}
 use Rattle.net_eval.specs.Values.{values}
@@ -19,3 +20,9 @@ loop-link-preserved c =
     ∙ sym (goes _ _ _ _
     (values-left c.args.seen.now c.args.scope.now c.args.more.now c.loop-link.link-index c.link-item.result c.loop-link.found.items _ c.loop-link-test.true c.link-item.is c.loop-link.invariant)
     c.in_ok-value.ensures)
+
+pub loop-link-init : goal.loop-link-init
+loop-link-init c = grind (arith, common_steps)
+
+pub returns : goal.returns
+returns c = grind (arith, common_steps)

@@ -1,4 +1,5 @@
 use Rattle.std.proofs.Common.{ap, ◌∙◌, arith}
+use Rattle.std.proofs.lemmas.Grind.{common_steps}
 use Rattle.net_tree.specs.Weights.{weight}
 use Rattle.net_eval.proofs.Cases.{in_choice}
 use Rattle.net_eval.proofs.Walking.{link_lighter}
@@ -19,3 +20,21 @@ links_arc-returns-then-names_arc t c =
 pub links_arc-loop-link-preserved : goal.links_arc-loop-link-preserved
 links_arc-loop-link-preserved t c =
     any_goes c.args.arcs.now c.args.links.now c.loop-link.link-index c.link-item.result _ c.loop-link-test.true c.link-item.is c.names_arc.ensures c.if-names_arc.false ∙ c.loop-link.invariant
+
+pub any_arc-returns-then-names_arc : goal.any_arc-returns-then-names_arc
+any_arc-returns-then-names_arc c = grind (arith, common_steps)
+
+pub part_arc-returns-in-None : goal.part_arc-returns-in-None
+part_arc-returns-in-None c = grind (arith, common_steps)
+
+pub links_arc-loop-link-smaller : goal.links_arc-loop-link-smaller
+links_arc-loop-link-smaller c = grind (arith, common_steps)
+
+pub links_arc-offset_bounds-links-link-index : goal.links_arc-offset_bounds-links-link-index
+links_arc-offset_bounds-links-link-index c = grind (arith, common_steps)
+
+pub any_arc-returns-else-names_arc : goal.any_arc-returns-else-names_arc
+any_arc-returns-else-names_arc c = grind (arith, common_steps)
+
+pub links_arc-returns : goal.links_arc-returns
+links_arc-returns c = grind (arith, common_steps)

@@ -1,4 +1,5 @@
-use Rattle.std.proofs.Common.{ap, sym, ◌∙◌, ◌+◌, drop}
+use Rattle.std.proofs.Common.{ap, sym, ◌∙◌, ◌+◌, drop, arith}
+use Rattle.std.proofs.lemmas.Grind.{common_steps}
 use Rattle.net_tree.specs.View.{links_of}
 use Rattle.net_forms.specs.Objectives.{one_factor}
 use Rattle.net_forms.proofs.Naming.{factor_stops, factor_goes}
@@ -16,3 +17,9 @@ loop-link-preserved c =
     ∙ factor_goes c.args.arcs.now c.args.links.now c.loop-link.link-index c.link-item.result c.joint_of.result c.loop-link.before c.names_arc-here.result c.loop-link-test.true c.link-item.is c.joint_of.ensures c.names_arc-here.ensures
     (sym c.may_join.ensures ∙ c.if-not-may_join.false)
     ∙ c.loop-link.invariant
+
+pub offset_bounds-links-link-index : goal.offset_bounds-links-link-index
+offset_bounds-links-link-index c = grind (arith, common_steps)
+
+pub returns : goal.returns
+returns c = grind (arith, common_steps)

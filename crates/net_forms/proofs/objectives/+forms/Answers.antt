@@ -1,4 +1,5 @@
 use Rattle.std.proofs.Common.{ap, sym, ◌∙◌, ◌*◌, ◌+◌, drop, arith}
+use Rattle.std.proofs.lemmas.Grind.{common_steps}
 use Rattle.std.proofs.lemmas.Result.{err_from_is_err_and}
 use Rattle.net_tree.proofs.Views.{tree-tuple, tree-negated}
 use Rattle.net_tree.specs.Spans.{span_of}
@@ -66,3 +67,51 @@ total-loop-row-preserved t c = record {
       c.in_ok-sum.ensures.value);
   room = grown c.loop-row.row-index c.in_ok-sum.sum (c.in_ok-sum.ensures.room (c.loop-row.row-index * 1000000000000) c.loop-row.invariant.room);
 }
+
+pub chain-returns-else-is_linear : goal.chain-returns-else-is_linear
+chain-returns-else-is_linear c = grind (arith, common_steps)
+
+pub other_branch-returns-in-None : goal.other_branch-returns-in-None
+other_branch-returns-in-None c = grind (arith, common_steps)
+
+pub signed-returns : goal.signed-returns
+signed-returns c = grind (arith, common_steps)
+
+pub term_of-returns-then-names_arc : goal.term_of-returns-then-names_arc
+term_of-returns-then-names_arc c = grind (arith, common_steps)
+
+pub total-returns-in_err-term : goal.total-returns-in_err-term
+total-returns-in_err-term c = grind (arith, common_steps)
+
+pub choice-returns-then-names_arc : goal.choice-returns-then-names_arc
+choice-returns-then-names_arc c = grind (arith, common_steps)
+
+pub total-returns : goal.total-returns
+total-returns c = grind (arith, common_steps)
+
+pub choice-returns-then-holds : goal.choice-returns-then-holds
+choice-returns-then-holds c = grind (arith, common_steps)
+
+pub chain-returns-in_ok-term : goal.chain-returns-in_ok-term
+chain-returns-in_ok-term c = grind (arith, common_steps)
+
+pub reduced-returns-in_ok-keys : goal.reduced-returns-in_ok-keys
+reduced-returns-in_ok-keys c = grind (arith, common_steps)
+
+pub reduced-returns-else-is_sum : goal.reduced-returns-else-is_sum
+reduced-returns-else-is_sum c = grind (arith, common_steps)
+
+pub chained-returns : goal.chained-returns
+chained-returns c = grind (arith, common_steps)
+
+pub total-offset_bounds-rows-row-index : goal.total-offset_bounds-rows-row-index
+total-offset_bounds-rows-row-index c = grind (arith, common_steps)
+
+pub choice-returns-else-holds : goal.choice-returns-else-holds
+choice-returns-else-holds c = grind (arith, common_steps)
+
+pub chained-offset_bounds-links-link-index : goal.chained-offset_bounds-links-link-index
+chained-offset_bounds-links-link-index c = grind (arith, common_steps)
+
+pub total-returns-in_err-sum : goal.total-returns-in_err-sum
+total-returns-in_err-sum c = grind (arith, common_steps)

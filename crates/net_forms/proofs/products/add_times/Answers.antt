@@ -1,4 +1,5 @@
-use Rattle.std.proofs.Common.{ap, sym, subst, ◌∙◌, ◌&&◌}
+use Rattle.std.proofs.Common.{ap, sym, subst, ◌∙◌, ◌&&◌, arith}
+use Rattle.std.proofs.lemmas.Grind.{common_steps}
 use Rattle.std.proofs.lemmas.Int.{to_z-of_z}
 use mir.Syntax.{w128}
 use Rattle.net_forms.proofs.Adding.{IsAdding, head_small, has_room, goes_on, missing}
@@ -23,3 +24,9 @@ loop-index-preserved c = elim c.match-get_index.branch [
       w.in_ok-here.ensures.fits (ap (λ m. m.entries) w.left-is ∙ w.in_ok-here.ensures.adds))
   | in_default w ↦ missing c.args.right.now.entries c.loop-index.index c.len-index-end.result c.len-index-end.ensures.len c.loop-index-test.true w.in_default.ensures.entry
 ]
+
+pub returns-clause-adds : goal.returns-clause-adds
+returns-clause-adds c = grind (arith, common_steps)
+
+pub returns-clause-fits : goal.returns-clause-fits
+returns-clause-fits c = grind (arith, common_steps)

@@ -1,4 +1,5 @@
 use Rattle.std.proofs.Common.{◌≡◌, ◌+◌, ◌++◌, ◌∙◌, drop, length, IsUtf8, sym, ap, subst, true, false, arith}
+use Rattle.std.proofs.lemmas.Grind.{common_steps}
 use Rattle.std.proofs.lemmas.List.{nil_from_length}
 use Rattle.std.proofs.lemmas.Str.{IsUtf8-drop, IsCharBoundary-start, IsCharBoundary-past_char, drop_past_char}
 use Rattle.std.specs.Char.{encode_utf8}
@@ -44,3 +45,12 @@ returns-clause-value c =
     let empty = nil_from_length (chars_rest c.loop-c.c-iterator) c.in-None.ensures.steps.0.0 in
     let none : word_len (chars_rest c.loop-c.c-iterator) ≡ 0 = ap word_len empty ∙ word_len-nil in
     omega (arith, none, c.loop-c.invariant.value)
+
+pub overflow_add-len : goal.overflow_add-len
+overflow_add-len c = grind (arith, common_steps)
+
+pub returns-then-not-is_word_char-clause-cut : goal.returns-then-not-is_word_char-clause-cut
+returns-then-not-is_word_char-clause-cut c = grind (arith, common_steps)
+
+pub returns-clause-cut : goal.returns-clause-cut
+returns-clause-cut c = grind (arith, common_steps)

@@ -10,3 +10,9 @@ returns-then-is_ascii-clause-value c =
     let run = c.ascii_len-ascii.ensures.value ∙ ap (prefix_len in_ascii) c.as_bytes-bytes.ensures.value in
     let stop : get_or text (prefix_len in_ascii text) 0 < 128 = grind (arith, common_steps) in
     run ∙ sym (word_len-ascii text c.utf8.text stop)
+
+pub returns-then-is_ascii-clause-cut : goal.returns-then-is_ascii-clause-cut
+returns-then-is_ascii-clause-cut c = grind (arith, common_steps)
+
+pub returns-else-is_ascii-clause-cut : goal.returns-else-is_ascii-clause-cut
+returns-else-is_ascii-clause-cut c = grind (arith, common_steps)

@@ -38,3 +38,6 @@ pub returns-in-Opening : goal.returns-in-Opening
 returns-in-Opening c =
     let ended = after_gap-nil c.loop-at.place (drop c.loop-at.opened c.args.text.now) in
     record { value = grind (arith, common_steps); cut = c.loop-at.invariant.opened }
+
+pub returns-in-None-clause-cut : goal.returns-in-None-clause-cut
+returns-in-None-clause-cut c = grind (arith, common_steps)

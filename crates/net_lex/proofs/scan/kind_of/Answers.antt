@@ -1,4 +1,5 @@
-use Rattle.std.proofs.Common.{subst}
+use Rattle.std.proofs.Common.{subst, arith}
+use Rattle.std.proofs.lemmas.Grind.{common_steps}
 use Rattle.net_lex.specs.Tokens.{HasShape}
 use Rattle.net_lex.proofs.ScanLemmas.{numeral_shape_kind}
 use Rattle.net_lex.proofs.scan.kind_of.Goals as goal
@@ -7,3 +8,9 @@ pub returns-in-Numeral : goal.returns-in-Numeral
 returns-in-Numeral c =
     numeral_shape_kind c.args.language c.args.word.now c.numeral_kind.result
     (subst (λ shape. HasShape c.args.language shape c.args.word.now) c.in-Numeral.is c.requires) c.numeral_kind.ensures
+
+pub returns-in-Quoted : goal.returns-in-Quoted
+returns-in-Quoted c = grind (arith, common_steps)
+
+pub returns-in-Mark : goal.returns-in-Mark
+returns-in-Mark c = grind (arith, common_steps)

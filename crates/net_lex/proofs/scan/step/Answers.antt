@@ -1,4 +1,5 @@
 use Rattle.std.proofs.Common.{◌<◌, length, arith}
+use Rattle.std.proofs.lemmas.Grind.{common_steps}
 use Rattle.net_lex.proofs.ScanLemmas.{gap_before, gap_last, gap_open, step_token, step_fault}
 use Rattle.net_lex.proofs.scan.step.Goals as goal
 
@@ -27,3 +28,6 @@ returns-in-Err-token_at c =
     let within : c.in-Ok.n < length rest = omega (arith, c.in-Ok.ensures.cut.0) in
     step_fault c.args.language c.args.at rest c.in-Ok.n c.in-Err-token_at.fault.0 c.in-Err-token_at.fault.1 (gap_before rest c.in-Ok.n c.in-Ok.ensures.value within)
     (rw (← c.split_at.ensures.back) c.in-Err-token_at.ensures)
+
+pub split_at-requires : goal.split_at-requires
+split_at-requires c = grind (arith, common_steps)

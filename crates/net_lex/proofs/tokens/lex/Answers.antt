@@ -1,4 +1,5 @@
 use Rattle.std.proofs.Common.{◌+◌, sym, subst, refl, arith, Vec}
+use Rattle.std.proofs.lemmas.Grind.{common_steps}
 use Rattle.std.proofs.Common.{Global}
 use Rattle.std.specs.Str.{IsValidUpTo}
 use Rattle.net_lex.specs.declared.fault.Defect.TheVariants.{NotUtf8}
@@ -22,3 +23,9 @@ returns-in-Ok c =
       value = told_lexes (λ v. v.items) c.args.language c.args.text.now (omega (arith, c.text_limit.ensures)) c.in-Ok.ensures.cases.1
           c.tokens_of.result (subst (λ t. Told {V = Vec Token Global} (λ v. v.items) c.args.language t c.tokens_of.result) c.in-Ok.ensures.cases.0 c.tokens_of.ensures);
     }
+
+pub returns-then-text-text_limit : goal.returns-then-text-text_limit
+returns-then-text-text_limit c = grind (arith, common_steps)
+
+pub tokens_of-requires : goal.tokens_of-requires
+tokens_of-requires c = grind (arith, common_steps)

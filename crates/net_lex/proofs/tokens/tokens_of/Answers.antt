@@ -1,4 +1,5 @@
 use Rattle.std.proofs.Common.{◌++◌, ◌∷◌, [], ℕ, List, sym, subst, refl, arith}
+use Rattle.std.proofs.lemmas.Grind.{common_steps}
 use Rattle.net_lex.specs.Reading.{EndsInGap}
 use Rattle.net_lex.specs.Faults.{IsFault, StandSound}
 use Rattle.net_lex.specs.Limits.{limits}
@@ -35,3 +36,9 @@ returns-in_default c =
     let after = c.in-Ok-Some.after.now in
     let step : IsStep c.args.language c.tokens.at c.tokens.rest.now token after = rw c.in-Ok-Some.field-0-is at c.in-Ok-Some.ensures in
     begins c.args.language c.args.text.now c.tokens.at c.tokens.rest.now c.tokens.tokens.items token step.0 after c.tokens.invariant.value step.1
+
+pub tokens-smaller : goal.tokens-smaller
+tokens-smaller c = grind (arith, common_steps)
+
+pub tokens-init : goal.tokens-init
+tokens-init c = grind (arith, common_steps)

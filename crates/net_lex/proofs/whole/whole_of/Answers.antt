@@ -1,4 +1,5 @@
-use Rattle.std.proofs.Common.{◌≡◌, ◌==◌, ◌∙◌, [], Some, None, sym, ap, subst, rules, eqb-true}
+use Rattle.std.proofs.Common.{◌≡◌, ◌==◌, ◌∙◌, [], Some, None, sym, ap, subst, rules, eqb-true, arith}
+use Rattle.std.proofs.lemmas.Grind.{common_steps}
 use Rattle.std.proofs.lemmas.List.{nil_from_length}
 use Rattle.std.proofs.lemmas.Int.{to_z-of_z}
 use mir.Val.{SFits}
@@ -50,3 +51,6 @@ returns-in-Ok c =
     let value : signed (first text == minus) c.in-Ok.size ≡ c.with_sign.result = ap (λ b. signed (b == minus) c.in-Ok.size) (sym begins) ∙ sym c.with_sign.ensures in
     let fits : SFits w64 c.with_sign.result = search rules in
     record { value = subst (λ v. IsValue 1000000000000 text v) (value ∙ sym (to_z-of_z w64 c.with_sign.result fits)) (sized_value _ c.in-Ok.size text _ read c.in-Ok.ensures) }
+
+pub with_sign-requires : goal.with_sign-requires
+with_sign-requires c = grind (arith, common_steps)

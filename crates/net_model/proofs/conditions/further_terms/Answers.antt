@@ -1,4 +1,5 @@
 use Rattle.std.proofs.Common.{◌≡◌, ◌≤◌, ◌+◌, ◌-◌, sym, ap, ◌∙◌, arith, length, length-append, map, [], ◌∷◌, true, Ok}
+use Rattle.std.proofs.lemmas.Grind.{common_steps}
 use Rattle.std.proofs.lemmas.Result.{err_from_is_err_and}
 use Rattle.net_tree.specs.Role.{is_sign}
 use Rattle.net_tree.specs.View.{link_of}
@@ -38,3 +39,11 @@ loop-alloc-preserved c =
           (some_left is_sign c.loop-alloc.tokens on) c.loop-alloc.invariant.room on c.in_ok-link.ensures.value c.in_ok-push.ensures.items c.loop-alloc.invariant.read;
       room = omega (arith, more, c.in_ok-link.ensures.shorter, c.loop-alloc.invariant.room);
     }
+
+pub loop-alloc-smaller : goal.loop-alloc-smaller
+unfolding further_terms
+loop-alloc-smaller c = grind (arith, common_steps)
+
+pub returns-clause-shorter : goal.returns-clause-shorter
+unfolding further_terms
+returns-clause-shorter c = grind (arith, common_steps)

@@ -1,4 +1,5 @@
 use Rattle.std.proofs.Common.{◌≡◌, ◌≤◌, ◌+◌, ◌-◌, sym, ap, ◌∙◌, arith, length, length-append, map, [], ◌∷◌, true, false, refl, Ok, Option}
+use Rattle.std.proofs.lemmas.Grind.{common_steps}
 use Rattle.std.proofs.lemmas.Result.{err_from_is_err_and}
 use Rattle.net_tree.specs.View.{declaration_of}
 use Rattle.net_tree.specs.declared.declaration.Decl.{Decl}
@@ -61,3 +62,6 @@ loop-alloc-preserved c =
           (more_left c.loop-alloc.tokens on) c.loop-alloc.invariant.room on (step_read (inside c.args.depth) c.loop-alloc.tokens c.in_ok-declaration.declaration c.declaration_at.new.tokens c.in_ok-declaration.ensures.value) c.in_ok-push.ensures.items c.loop-alloc.invariant.read;
       room = omega (arith, more, c.in_ok-declaration.ensures.shorter, c.loop-alloc.invariant.room);
     }
+
+pub loop-alloc-smaller : goal.loop-alloc-smaller
+loop-alloc-smaller c = grind (arith, common_steps)

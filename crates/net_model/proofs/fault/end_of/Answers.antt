@@ -1,4 +1,5 @@
 use Rattle.std.proofs.Common.{◌≡◌, ◌-◌, ◌≤◌, ℕ, suc, List, [], ◌∷◌, length, get_or, refl, sym, ap, ◌∙◌, arith}
+use Rattle.std.proofs.lemmas.Grind.{common_steps}
 use Rattle.net_lex.specs.declared.token.Token.{Token}
 use Rattle.net_lex.specs.declared.span.Span.{Span}
 use Rattle.net_model.specs.Faults.{end_of}
@@ -16,3 +17,12 @@ last_end (t ∷ u ∷ ts) d h =
 
 pub returns-in-len1-up : goal.returns-in-len1-up
 returns-in-len1-up c = ap end_span c.last-item.is ∙ last_end c.args.tokens.now c.last-item.result c.in-len1-up.len_at_least
+
+pub overflow_sub-last : goal.overflow_sub-last
+overflow_sub-last c = grind (arith, common_steps)
+
+pub returns-in-empty : goal.returns-in-empty
+returns-in-empty c = grind (arith, common_steps)
+
+pub bounds-tokens-tokens : goal.bounds-tokens-tokens
+bounds-tokens-tokens c = grind (arith, common_steps)

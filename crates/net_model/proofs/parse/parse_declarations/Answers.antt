@@ -1,3 +1,5 @@
+use Rattle.std.proofs.Common.{arith}
+use Rattle.std.proofs.lemmas.Grind.{common_steps}
 use Rattle.net_model.proofs.Promise.{means_of, refused_stop}
 use Rattle.net_model.proofs.parse.parse_declarations.Goals as goal
 
@@ -6,3 +8,9 @@ returns-in-Ok-clause-means c = means_of c.args.tokens.now c.declarations.new.tok
 
 pub returns-in-Err-clause-refused : goal.returns-in-Err-clause-refused
 returns-in-Err-clause-refused c = rw c.told.ensures (refused_stop c.args.tokens.now c.in-Err.stop (rw (c.deepest.ensures, c.new-cursor.ensures) at c.in-Err.ensures.value))
+
+pub returns-in-Err-clause-value : goal.returns-in-Err-clause-value
+returns-in-Err-clause-value c = grind (arith, common_steps)
+
+pub returns-in-Ok-clause-value : goal.returns-in-Ok-clause-value
+returns-in-Ok-clause-value c = grind (arith, common_steps)

@@ -1,4 +1,5 @@
 use Rattle.std.proofs.Common.{◌≡◌, ◌≤◌, ◌+◌, ◌-◌, sym, ap, ◌∙◌, arith, length, length-append, map, [], ◌∷◌, true, Ok}
+use Rattle.std.proofs.lemmas.Grind.{common_steps}
 use Rattle.std.proofs.lemmas.Result.{err_from_is_err_and}
 use Rattle.net_tree.specs.View.{phrase_of}
 use Rattle.net_model.specs.Phrases.{phrase_at, phrase_next, goes_on, nothing_stood, phrases}
@@ -37,3 +38,11 @@ loop-alloc-preserved c =
           (some_left (goes_on c.args.owner c.loop-alloc.stood) c.loop-alloc.tokens on) c.loop-alloc.invariant.room on c.in_ok-phrase.ensures.value c.in_ok-push.ensures.items c.loop-alloc.invariant.read;
       room = omega (arith, more, c.in_ok-phrase.ensures.shorter, c.loop-alloc.invariant.room);
     }
+
+pub returns-clause-shorter : goal.returns-clause-shorter
+unfolding phrases
+returns-clause-shorter c = grind (arith, common_steps)
+
+pub loop-alloc-smaller : goal.loop-alloc-smaller
+unfolding phrases
+loop-alloc-smaller c = grind (arith, common_steps)

@@ -1,4 +1,5 @@
-use Rattle.std.proofs.Common.{◌++◌, ◌∷◌, [], sym, ap, ◌∙◌}
+use Rattle.std.proofs.Common.{◌++◌, ◌∷◌, [], sym, ap, ◌∙◌, arith}
+use Rattle.std.proofs.lemmas.Grind.{common_steps}
 use Rattle.net_tree.specs.View.{declaration_of}
 use Rattle.net_names.specs.Names.{with_declared}
 use Rattle.net_names.specs.Scopes.{Scope, meaning_in}
@@ -22,3 +23,6 @@ returns-in_ok-add-in-Some-clause-grown c =
     let d = declaration_of c.args.declaration.now in
     let forgot = c.forget_behind.ensures ∙ forgotten_dummies c.args.scope.now c.read_declaration.new.scope d c.len-known.result c.len-known.ensures c.in_ok-read_declaration.ensures.grown in
     c.in_ok-add-in-Some.ensures ∙ ap (λ (s : Scope). s ++ (c.in-Some.name.now.text, c.in-Some.meaning) ∷ []) forgot ∙ ap (with_declared c.args.scope.now) c.in-Some.ensures
+
+pub returns-in-None-clause-value : goal.returns-in-None-clause-value
+returns-in-None-clause-value c = grind (arith, common_steps)

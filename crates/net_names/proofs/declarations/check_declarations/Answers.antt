@@ -1,4 +1,5 @@
-use Rattle.std.proofs.Common.{ap, ◌∙◌, ◌+◌, drop, map}
+use Rattle.std.proofs.Common.{ap, ◌∙◌, ◌+◌, drop, map, arith}
+use Rattle.std.proofs.lemmas.Grind.{common_steps}
 use Rattle.std.proofs.lemmas.Result.{err_from_is_err_and}
 use Rattle.net_tree.specs.View.{declaration_of}
 use Rattle.net_names.specs.Names.{names_fault}
@@ -20,3 +21,9 @@ loop-declaration-preserved c =
     ∙ behind_none _ _ (names_fault c.args.scope.now (map declaration_of c.args.declarations.now))
     (declarations_left c.loop-declaration.scope c.args.declarations.now c.loop-declaration.declaration-index c.declaration-item.result _ c.loop-declaration-test.true c.declaration-item.is c.loop-declaration.invariant)
     c.in_ok-check_declaration.ensures.value
+
+pub offset_bounds-declarations-declaration-index : goal.offset_bounds-declarations-declaration-index
+offset_bounds-declarations-declaration-index c = grind (arith, common_steps)
+
+pub returns : goal.returns
+returns c = grind (arith, common_steps)

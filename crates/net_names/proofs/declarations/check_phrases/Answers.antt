@@ -1,4 +1,5 @@
-use Rattle.std.proofs.Common.{ap, ◌∙◌, map}
+use Rattle.std.proofs.Common.{ap, ◌∙◌, map, arith}
+use Rattle.std.proofs.lemmas.Grind.{common_steps}
 use Rattle.std.proofs.lemmas.Result.{err_from_is_err_and}
 use Rattle.net_tree.specs.View.{phrase_of}
 use Rattle.net_names.specs.Names.{phrases_fault, need_behind}
@@ -24,3 +25,15 @@ loop-phrase-preserved c = record {
       c.in_ok-check_body.ensures.value;
   kept = c.in_ok-check_body.ensures.kept ∙ c.loop-phrase.invariant.kept;
 }
+
+pub offset_bounds-phrases-phrase-index : goal.offset_bounds-phrases-phrase-index
+offset_bounds-phrases-phrase-index c = grind (arith, common_steps)
+
+pub returns-clause-value : goal.returns-clause-value
+returns-clause-value c = grind (arith, common_steps)
+
+pub loop-phrase-init : goal.loop-phrase-init
+loop-phrase-init c = grind (arith, common_steps)
+
+pub returns-clause-kept : goal.returns-clause-kept
+returns-clause-kept c = grind (arith, common_steps)

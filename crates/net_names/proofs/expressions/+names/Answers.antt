@@ -1,4 +1,5 @@
 use Rattle.std.proofs.Common.{◌≡◌, false, rules, sym, ap, ◌∙◌, ◌+◌, drop, arith}
+use Rattle.std.proofs.lemmas.Grind.{common_steps}
 use Rattle.std.proofs.lemmas.Result.{err_from_is_err_and}
 use Rattle.net_tree.specs.View.{tree, links_of, braces_of}
 use Rattle.net_tree.proofs.Views.{next_link, views}
@@ -121,3 +122,156 @@ read_components-loop-link-preserved t c = record {
       ∙ sym (ap (with_components c.loop-link.scope) (next_link c.args.links.now c.loop-link.link-index c.link-item.result c.loop-link-test.true c.link-item.is))
       ∙ c.loop-link.invariant.grown;
 }
+
+pub check_left-returns-in-Choice-clause-kept : goal.check_left-returns-in-Choice-clause-kept
+check_left-returns-in-Choice-clause-kept c = grind (arith, common_steps)
+
+pub check_part-returns-in-Some-clause-kept : goal.check_part-returns-in-Some-clause-kept
+check_part-returns-in-Some-clause-kept c = grind (arith, common_steps)
+
+pub check-returns-in-Reduced-clause-kept : goal.check-returns-in-Reduced-clause-kept
+check-returns-in-Reduced-clause-kept c = grind (arith, common_steps)
+
+pub check_part-returns-in-None-clause-value : goal.check_part-returns-in-None-clause-value
+check_part-returns-in-None-clause-value c = grind (arith, common_steps)
+
+pub read_item-returns-in-None-clause-grown : goal.read_item-returns-in-None-clause-grown
+read_item-returns-in-None-clause-grown c = grind (arith, common_steps)
+
+pub check_component-returns-else-is_new-clause-kept : goal.check_component-returns-else-is_new-clause-kept
+check_component-returns-else-is_new-clause-kept c = grind (arith, common_steps)
+
+pub check_links-loop-link-init : goal.check_links-loop-link-init
+check_links-loop-link-init c = grind (arith, common_steps)
+
+pub check_series-returns-clause-value : goal.check_series-returns-clause-value
+check_series-returns-clause-value c = grind (arith, common_steps)
+
+pub read_sides-returns-clause-value : goal.read_sides-returns-clause-value
+read_sides-returns-clause-value c = grind (arith, common_steps)
+
+pub read_more-loop-link-smaller : goal.read_more-loop-link-smaller
+read_more-loop-link-smaller c = grind (arith, common_steps)
+
+pub check_links-returns-clause-kept : goal.check_links-returns-clause-kept
+check_links-returns-clause-kept c = grind (arith, common_steps)
+
+pub check_braced-returns-clause-value : goal.check_braced-returns-clause-value
+check_braced-returns-clause-value c = grind (arith, common_steps)
+
+pub check-returns-in-Leaf-clause-kept : goal.check-returns-in-Leaf-clause-kept
+check-returns-in-Leaf-clause-kept c = grind (arith, common_steps)
+
+pub read_more-offset_bounds-links-link-index : goal.read_more-offset_bounds-links-link-index
+read_more-offset_bounds-links-link-index c = grind (arith, common_steps)
+
+pub check-returns-in-Signed-clause-kept : goal.check-returns-in-Signed-clause-kept
+check-returns-in-Signed-clause-kept c = grind (arith, common_steps)
+
+pub read_components-offset_bounds-links-link-index : goal.read_components-offset_bounds-links-link-index
+read_components-offset_bounds-links-link-index c = grind (arith, common_steps)
+
+pub check_component-returns-else-is_new-clause-value : goal.check_component-returns-else-is_new-clause-value
+check_component-returns-else-is_new-clause-value c = grind (arith, common_steps)
+
+pub check_left-returns-in-Braced-clause-kept : goal.check_left-returns-in-Braced-clause-kept
+check_left-returns-in-Braced-clause-kept c = grind (arith, common_steps)
+
+pub check_components-returns-clause-value : goal.check_components-returns-clause-value
+check_components-returns-clause-value c = grind (arith, common_steps)
+
+pub check_reduced-returns-clause-value : goal.check_reduced-returns-clause-value
+check_reduced-returns-clause-value c = grind (arith, common_steps)
+
+pub check_component-returns-then-is_new-clause-value : goal.check_component-returns-then-is_new-clause-value
+check_component-returns-then-is_new-clause-value c = grind (arith, common_steps)
+
+pub check_series-returns-clause-kept : goal.check_series-returns-clause-kept
+check_series-returns-clause-kept c = grind (arith, common_steps)
+
+pub read_components-returns-clause-value : goal.read_components-returns-clause-value
+read_components-returns-clause-value c = grind (arith, common_steps)
+
+pub check_choice-returns-clause-kept : goal.check_choice-returns-clause-kept
+check_choice-returns-clause-kept c = grind (arith, common_steps)
+
+pub check_left-returns-in-Leaf-clause-kept : goal.check_left-returns-in-Leaf-clause-kept
+check_left-returns-in-Leaf-clause-kept c = grind (arith, common_steps)
+
+pub check_choice-returns-clause-value : goal.check_choice-returns-clause-value
+check_choice-returns-clause-value c = grind (arith, common_steps)
+
+pub read_components-returns-clause-grown : goal.read_components-returns-clause-grown
+read_components-returns-clause-grown c = grind (arith, common_steps)
+
+pub check_subscripts-returns-clause-value : goal.check_subscripts-returns-clause-value
+check_subscripts-returns-clause-value c = grind (arith, common_steps)
+
+pub read_component-returns-clause-grown : goal.read_component-returns-clause-grown
+read_component-returns-clause-grown c = grind (arith, common_steps)
+
+pub check-returns-in-Parens-clause-kept : goal.check-returns-in-Parens-clause-kept
+check-returns-in-Parens-clause-kept c = grind (arith, common_steps)
+
+pub check_subscripts-returns-clause-kept : goal.check_subscripts-returns-clause-kept
+check_subscripts-returns-clause-kept c = grind (arith, common_steps)
+
+pub read_sides-returns-clause-grown : goal.read_sides-returns-clause-grown
+read_sides-returns-clause-grown c = grind (arith, common_steps)
+
+pub read_items-returns-clause-grown : goal.read_items-returns-clause-grown
+read_items-returns-clause-grown c = grind (arith, common_steps)
+
+pub read_more-returns-clause-value : goal.read_more-returns-clause-value
+read_more-returns-clause-value c = grind (arith, common_steps)
+
+pub read_more-returns-clause-grown : goal.read_more-returns-clause-grown
+read_more-returns-clause-grown c = grind (arith, common_steps)
+
+pub check_links-offset_bounds-links-link-index : goal.check_links-offset_bounds-links-link-index
+check_links-offset_bounds-links-link-index c = grind (arith, common_steps)
+
+pub read_more-loop-link-init : goal.read_more-loop-link-init
+read_more-loop-link-init c = grind (arith, common_steps)
+
+pub check_links-returns-clause-value : goal.check_links-returns-clause-value
+check_links-returns-clause-value c = grind (arith, common_steps)
+
+pub check-returns-in-Indexed-clause-kept : goal.check-returns-in-Indexed-clause-kept
+check-returns-in-Indexed-clause-kept c = grind (arith, common_steps)
+
+pub read_item-returns-in-Some-clause-value : goal.read_item-returns-in-Some-clause-value
+read_item-returns-in-Some-clause-value c = grind (arith, common_steps)
+
+pub check-returns-in-Tuple-clause-kept : goal.check-returns-in-Tuple-clause-kept
+check-returns-in-Tuple-clause-kept c = grind (arith, common_steps)
+
+pub read_components-loop-link-init : goal.read_components-loop-link-init
+read_components-loop-link-init c = grind (arith, common_steps)
+
+pub read_components-loop-link-smaller : goal.read_components-loop-link-smaller
+read_components-loop-link-smaller c = grind (arith, common_steps)
+
+pub check-returns-in-Negated-clause-kept : goal.check-returns-in-Negated-clause-kept
+check-returns-in-Negated-clause-kept c = grind (arith, common_steps)
+
+pub read_component-returns-clause-value : goal.read_component-returns-clause-value
+read_component-returns-clause-value c = grind (arith, common_steps)
+
+pub check_left-returns-in-Tuple-clause-kept : goal.check_left-returns-in-Tuple-clause-kept
+check_left-returns-in-Tuple-clause-kept c = grind (arith, common_steps)
+
+pub read_items-returns-clause-value : goal.read_items-returns-clause-value
+read_items-returns-clause-value c = grind (arith, common_steps)
+
+pub read_item-returns-in-Some-clause-grown : goal.read_item-returns-in-Some-clause-grown
+read_item-returns-in-Some-clause-grown c = grind (arith, common_steps)
+
+pub check-returns-in-Braced-clause-kept : goal.check-returns-in-Braced-clause-kept
+check-returns-in-Braced-clause-kept c = grind (arith, common_steps)
+
+pub read_item-returns-in-None-clause-value : goal.read_item-returns-in-None-clause-value
+read_item-returns-in-None-clause-value c = grind (arith, common_steps)
+
+pub check_links-loop-link-smaller : goal.check_links-loop-link-smaller
+check_links-loop-link-smaller c = grind (arith, common_steps)

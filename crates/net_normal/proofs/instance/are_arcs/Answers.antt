@@ -1,4 +1,5 @@
 use Rattle.std.proofs.Common.{IsTrue, arith, rules, pos, None}
+use Rattle.std.proofs.lemmas.Grind.{common_steps}
 use Rattle.std.proofs.lemmas.List.Elements.{All-more}
 use Rattle.net_normal.specs.Limits.{IsArcOf}
 use Rattle.net_normal.specs.declared.instance.InstArc.{InstArc}
@@ -16,3 +17,9 @@ loop-arc-preserved c =
 
 pub returns : goal.returns
 returns c = (λ _. all_taken (IsArcOf c.args.nodes) c.args.arcs.now c.loop-arc.arc-index (omega arith) c.loop-arc.invariant, λ _. search rules)
+
+pub returns-then-not-is_arc : goal.returns-then-not-is_arc
+returns-then-not-is_arc c = grind (arith, common_steps)
+
+pub loop-arc-init : goal.loop-arc-init
+loop-arc-init c = grind (arith, common_steps)

@@ -1,4 +1,5 @@
-use Rattle.std.proofs.Common.{rules, refl}
+use Rattle.std.proofs.Common.{rules, refl, arith}
+use Rattle.std.proofs.lemmas.Grind.{common_steps}
 use Rattle.net_normal.specs.Limits.{value_limit}
 use Rattle.net_normal.proofs.instance.is_arc.Goals as goal
 
@@ -15,3 +16,12 @@ returns c = (
   },
   λ fits. c.is_among-2.ensures.1 fits.head,
 )
+
+pub returns-then-not-is_sized : goal.returns-then-not-is_sized
+returns-then-not-is_sized c = grind (arith, common_steps)
+
+pub returns-then-not-is_sized-3 : goal.returns-then-not-is_sized-3
+returns-then-not-is_sized-3 c = grind (arith, common_steps)
+
+pub returns-then-not-has_end : goal.returns-then-not-has_end
+returns-then-not-has_end c = grind (arith, common_steps)

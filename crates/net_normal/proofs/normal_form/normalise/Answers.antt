@@ -1,4 +1,5 @@
 use Rattle.std.proofs.Common.{◌≡◌, ◌++◌, ◌<◌, ℕ, suc, map, List, length, sym, ◌∙◌, ap, refl, subst, arith, All, vec_len, to_z, of_z}
+use Rattle.std.proofs.lemmas.Grind.{common_steps}
 use mir.Syntax.{w128}
 use Rattle.std.proofs.lemmas.Int.{ints}
 use Rattle.net_normal.specs.Limits.{IsSized, IsFlowArcOf, flow_limit, value_limit, constant_limit}
@@ -75,3 +76,6 @@ returns-clause-corresponds c =
       constant = plain ∙ c.in_ok-arcs.ensures.constant;
       sense = refl;
     })
+
+pub of-requires-2-clause-len : goal.of-requires-2-clause-len
+of-requires-2-clause-len c = grind (arith, common_steps)

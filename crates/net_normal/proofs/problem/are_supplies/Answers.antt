@@ -1,4 +1,5 @@
 use Rattle.std.proofs.Common.{IsTrue, arith, rules, pos, refl}
+use Rattle.std.proofs.lemmas.Grind.{common_steps}
 use Rattle.std.proofs.lemmas.List.Elements.{All-more}
 use Rattle.net_normal.specs.Limits.{IsSized, flow_limit}
 use Rattle.net_normal.proofs.AllTaken.{all_taken}
@@ -11,3 +12,6 @@ loop-number-preserved c =
 
 pub returns : goal.returns
 returns c = (λ _. all_taken (IsSized flow_limit) c.args.numbers.now c.loop-number.number-index (omega arith) c.loop-number.invariant, λ _. search rules)
+
+pub returns-then-not-is_sized : goal.returns-then-not-is_sized
+returns-then-not-is_sized c = grind (arith, common_steps)

@@ -1,5 +1,6 @@
 use Rattle.std.specs.Prelude.{Err}
 use Rattle.std.proofs.Common.{◌≡◌, arith, rules}
+use Rattle.std.proofs.lemmas.Grind.{common_steps}
 use Rattle.net_sets.proofs.Crossing.{no_wider, cross_refused, cross_handed_on, length_product, ended}
 use Rattle.net_sets.proofs.operations.cross.Goals as goal
 
@@ -16,3 +17,6 @@ returns-in_err-add_beside c =
 
 pub returns : goal.returns
 returns c = (ended c.loop-tuple.all c.args.first.now c.as_slice-tuple-items.result.now c.args.second.now c.loop-tuple.tuple-index c.loop-tuple.invariant c.loop-tuple-test.false, rw (length_product c.args.first.now c.args.second.now, ← c.len.ensures.value, ← c.len-2.ensures.value) c.if-len-gt-TUPLES_LIMIT.false)
+
+pub loop-tuple-preserved : goal.loop-tuple-preserved
+loop-tuple-preserved c = grind (arith, common_steps)

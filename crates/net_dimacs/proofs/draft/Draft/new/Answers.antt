@@ -1,4 +1,5 @@
 use Rattle.std.proofs.Common.{◌≡◌, List, ℕ, ℤ, pos, All, length, replicate, to_z, of_z, w64, nat_abs, rules, sym, ap, subst, arith}
+use Rattle.std.proofs.lemmas.Grind.{common_steps}
 use Rattle.std.proofs.lemmas.Int.{ints}
 use Rattle.std.proofs.lemmas.List.{get_or-replicate, length-replicate}
 use Rattle.net_normal.specs.Limits.{IsSized, flow_limit}
@@ -22,3 +23,18 @@ invariant_of-result c =
       supplies_fit = zeros-fit _ _ zeros;
       arcs_fit = λ k d l. absurd (omega (arith, l, ap length c.in_ok-with_capacity.ensures.items));
     }
+
+pub overflow_cast-node_count : goal.overflow_cast-node_count
+overflow_cast-node_count c = grind (arith, common_steps)
+
+pub returns-in_err-vec-2 : goal.returns-in_err-vec-2
+returns-in_err-vec-2 c = grind (arith, common_steps)
+
+pub returns-then-nodes-lt1 : goal.returns-then-nodes-lt1
+returns-then-nodes-lt1 c = grind (arith, common_steps)
+
+pub returns-in_err-with_capacity : goal.returns-in_err-with_capacity
+returns-in_err-with_capacity c = grind (arith, common_steps)
+
+pub overflow_cast-arc_count : goal.overflow_cast-arc_count
+overflow_cast-arc_count c = grind (arith, common_steps)

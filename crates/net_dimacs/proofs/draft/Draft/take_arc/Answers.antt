@@ -1,4 +1,5 @@
 use Rattle.std.proofs.Common.{◌≡◌, false, length, refl, sym, ap, ◌∙◌, arith, Some, None, Ok, w64}
+use Rattle.std.proofs.lemmas.Grind.{common_steps}
 use Rattle.std.proofs.lemmas.Int.{to_z-of_z}
 use Rattle.std.specs.Prelude.{nat_le}
 use Rattle.std.proofs.lemmas.Bool.Decides.{nat_tests}
@@ -30,3 +31,15 @@ returns c =
     (to_z-of_z w64 c.args.src c.ranges.src) (to_z-of_z w64 c.args.dst c.ranges.dst) (to_z-of_z w64 c.args.low c.ranges.low) (to_z-of_z w64 c.args.cap c.ranges.cap) (to_z-of_z w64 c.args.cost c.ranges.cost)
     room c.in-Some.ensures.value c.in-Some-place_of.ensures.value c.in_default-bounds_fault.ensures.value
     ∙ ap Ok (sym c.push_arc.ensures)
+
+pub push_arc-requires-clause-room : goal.push_arc-requires-clause-room
+push_arc-requires-clause-room c = grind (arith, common_steps)
+
+pub returns-then-len-self : goal.returns-then-len-self
+returns-then-len-self c = grind (arith, common_steps)
+
+pub returns-in_default-place_of : goal.returns-in_default-place_of
+returns-in_default-place_of c = grind (arith, common_steps)
+
+pub returns-in_default : goal.returns-in_default
+returns-in_default c = grind (arith, common_steps)

@@ -1,4 +1,5 @@
 use Rattle.std.proofs.Common.{◌≡◌, ◌∷◌, List, ℕ, ◌∙◌, arith}
+use Rattle.std.proofs.lemmas.Grind.{common_steps}
 use Rattle.std.specs.Str.Lines.{lines}
 use Rattle.net_dimacs.specs.Reading.{with_said, said}
 use Rattle.net_dimacs.specs.Drafts.{state_of}
@@ -24,3 +25,6 @@ pub returns-in_err-take-clause-memory : goal.returns-in_err-take-clause-memory
 returns-in_err-take-clause-memory c =
     on_err _ c.from_residual.result (wants_memory c.args.self.now c.loop-line.self c.args.text.now c.in-Some.line.now c.loop-line.rest.now c.in-Some.after.now c.statement_of.result
     c.in-Some.ensures.parts c.statement_of.ensures c.loop-line.invariant.2 c.in_err-take.ensures.err)
+
+pub loop-line-smaller : goal.loop-line-smaller
+loop-line-smaller c = grind (arith, common_steps)

@@ -15,3 +15,12 @@ returns-clause-ok c = λ more.
     ∙ c.in_ok-take_lines.ensures.lines (lines more)
     ∙ ap (λ (l : List ℕ). reads c.args.self.now (lines l ++ lines more)) all
     ∙ ap (λ (ls : List (List ℕ)). reads c.args.self.now ls) (sym (whole_lines pending whole more some c.requires.lines))
+
+pub take_lines-requires : goal.take_lines-requires
+take_lines-requires c = grind (arith, common_steps)
+
+pub returns-then-is_empty-clause-ok : goal.returns-then-is_empty-clause-ok
+returns-then-is_empty-clause-ok c = grind (arith, common_steps)
+
+pub returns-clause-count : goal.returns-clause-count
+returns-clause-count c = grind (arith, common_steps)

@@ -1,4 +1,5 @@
-use Rattle.std.proofs.Common.{rules, ◌≡◌, length, take, ap, sym, subst, ◌∙◌}
+use Rattle.std.proofs.Common.{rules, ◌≡◌, length, take, ap, sym, subst, ◌∙◌, arith}
+use Rattle.std.proofs.lemmas.Grind.{common_steps}
 use Rattle.net_forms.specs.Kept.{IsKept}
 use Rattle.net_forms.specs.Arcs.{declared}
 use Rattle.net_forms.proofs.Keeping.{kept_more, kept_same, front_taken}
@@ -17,3 +18,6 @@ invariant_of-self-in-Err c =
     subst (λ w. IsKept w c.insert.new.places)
     (sym (c.truncate.ensures.items ∙ ap (λ w. take c.len-place.result w) c.in_ok-push.ensures.items ∙ front_taken _ _ c.len-place.result last))
     (kept_same c.self.inside.declarations.items c.self.inside.places c.insert.new.places c.self.invariant c.in-Err.ensures.err)
+
+pub returns-in-Err-clause-err : goal.returns-in-Err-clause-err
+returns-in-Err-clause-err c = grind (arith, common_steps)

@@ -1,4 +1,5 @@
 use Rattle.std.proofs.Common.{◌≡◌, ◌∙◌, ap, arith, ℤ, ◌+ℤ◌, ◌*ℤ◌, to_z, of_z, w64}
+use Rattle.std.proofs.lemmas.Grind.{common_steps}
 use Rattle.std.proofs.lemmas.Int.{ints}
 use Rattle.net_normal.specs.Limits.{IsSized, value_limit}
 use Rattle.net_normal.proofs.WholeNumbers.{constant_fits, constant_is}
@@ -17,3 +18,51 @@ returns-clause-constant c =
     let sized = c.offset-offset.ensures.size c.requires.arc.lower in
     constant_is c.args.self.now.constant c.offset_price.result c.requires.constant c.offset_price.ensures.size
     ∙ ap (λ (z : ℤ). c.args.self.now.constant +ℤ z) (c.offset_price.ensures.value ∙ ap (λ (z : ℤ). coefficient *ℤ z) (passed c.offset-offset.result sized ∙ c.offset-offset.ensures.value))
+
+pub count_arc-requires-clause-head : goal.count_arc-requires-clause-head
+count_arc-requires-clause-head c = grind (arith, common_steps)
+
+pub count_arc-requires-clause-sums : goal.count_arc-requires-clause-sums
+count_arc-requires-clause-sums c = grind (arith, common_steps)
+
+pub overflow_cast-len : goal.overflow_cast-len
+overflow_cast-len c = grind (arith, common_steps)
+
+pub count_arc-requires-clause-lower : goal.count_arc-requires-clause-lower
+count_arc-requires-clause-lower c = grind (arith, common_steps)
+
+pub flow_arc-requires-clause-coefficient : goal.flow_arc-requires-clause-coefficient
+flow_arc-requires-clause-coefficient c = grind (arith, common_steps)
+
+pub returns-clause-numbers : goal.returns-clause-numbers
+returns-clause-numbers c = grind (arith, common_steps)
+
+pub count_arc-requires-clause-upper : goal.count_arc-requires-clause-upper
+count_arc-requires-clause-upper c = grind (arith, common_steps)
+
+pub overflow_add-len : goal.overflow_add-len
+overflow_add-len c = grind (arith, common_steps)
+
+pub offset_price-requires-clause-coefficient : goal.offset_price-requires-clause-coefficient
+offset_price-requires-clause-coefficient c = grind (arith, common_steps)
+
+pub count_arc-requires-clause-tail : goal.count_arc-requires-clause-tail
+count_arc-requires-clause-tail c = grind (arith, common_steps)
+
+pub returns-clause-sums : goal.returns-clause-sums
+returns-clause-sums c = grind (arith, common_steps)
+
+pub flow_arc-requires-clause-upper : goal.flow_arc-requires-clause-upper
+flow_arc-requires-clause-upper c = grind (arith, common_steps)
+
+pub offset_price-requires-clause-offset : goal.offset_price-requires-clause-offset
+offset_price-requires-clause-offset c = grind (arith, common_steps)
+
+pub returns-clause-arcs : goal.returns-clause-arcs
+returns-clause-arcs c = grind (arith, common_steps)
+
+pub returns-clause-nodes : goal.returns-clause-nodes
+returns-clause-nodes c = grind (arith, common_steps)
+
+pub flow_arc-requires-clause-lower : goal.flow_arc-requires-clause-lower
+flow_arc-requires-clause-lower c = grind (arith, common_steps)

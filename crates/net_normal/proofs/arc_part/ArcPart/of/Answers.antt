@@ -1,4 +1,5 @@
 use Rattle.std.proofs.Common.{◌≤◌, arith, get_or, length, ap}
+use Rattle.std.proofs.lemmas.Grind.{common_steps}
 use Rattle.net_normal.proofs.ArcPasses.{has_read_next, sums-small, constant_small, none_read, all_read}
 use Rattle.net_normal.proofs.arc_part.ArcPart.of.Goals as goal
 
@@ -52,3 +53,15 @@ pub returns-clause-sums : goal.returns-clause-sums
 returns-clause-sums c =
     let past : length c.args.instance.now.arcs.items ≤ c.loop-arc.arc-index = omega (arith, c.loop-arc-test.false, ap length c.deref-arc-items.ensures.value) in
     (all_read c.args.instance.now c.loop-arc.arc-index c.loop-arc.part past c.loop-arc.invariant).sums
+
+pub offset_bounds-arc-items-arc-index : goal.offset_bounds-arc-items-arc-index
+offset_bounds-arc-items-arc-index c = grind (arith, common_steps)
+
+pub add-requires-clause-few_nodes : goal.add-requires-clause-few_nodes
+add-requires-clause-few_nodes c = grind (arith, common_steps)
+
+pub add-requires-clause-arc : goal.add-requires-clause-arc
+add-requires-clause-arc c = grind (arith, common_steps)
+
+pub add-requires-clause-few_arcs : goal.add-requires-clause-few_arcs
+add-requires-clause-few_arcs c = grind (arith, common_steps)

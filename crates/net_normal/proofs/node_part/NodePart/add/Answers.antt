@@ -1,4 +1,5 @@
 use Rattle.std.proofs.Common.{arith}
+use Rattle.std.proofs.lemmas.Grind.{common_steps}
 use Rattle.std.proofs.lemmas.Int.{ints}
 use Rattle.net_normal.proofs.node_part.NodePart.add.Goals as goal
 
@@ -10,3 +11,21 @@ returns-in_ok-push-2-clause-balance c = let small = c.own_supply-supply.ensures.
 
 pub returns-else-is_open-clause-balance : goal.returns-else-is_open-clause-balance
 returns-else-is_open-clause-balance c = let small = c.own_supply-supply.ensures.size in omega (arith, ints, c.own_supply-supply.ensures.value)
+
+pub returns-else-is_open-clause-arcs : goal.returns-else-is_open-clause-arcs
+returns-else-is_open-clause-arcs c = grind (arith, common_steps)
+
+pub own_supply-supply-requires : goal.own_supply-supply-requires
+own_supply-supply-requires c = grind (arith, common_steps)
+
+pub returns-in_ok-push-2-clause-arcs : goal.returns-in_ok-push-2-clause-arcs
+returns-in_ok-push-2-clause-arcs c = grind (arith, common_steps)
+
+pub returns-in_ok-push-2-clause-supplies : goal.returns-in_ok-push-2-clause-supplies
+returns-in_ok-push-2-clause-supplies c = grind (arith, common_steps)
+
+pub own_room-requires : goal.own_room-requires
+own_room-requires c = grind (arith, common_steps)
+
+pub returns-else-is_open-clause-supplies : goal.returns-else-is_open-clause-supplies
+returns-else-is_open-clause-supplies c = grind (arith, common_steps)

@@ -1,4 +1,5 @@
 use Rattle.std.proofs.Common.{◌≡◌, ◌≤◌, ◌<◌, ◌++◌, ◌∷◌, [], length, arith, ◌∙◌, ap, vec_len, ℤ, to_z, of_z, w64}
+use Rattle.std.proofs.lemmas.Grind.{common_steps}
 use Rattle.std.proofs.lemmas.Int.{ints}
 use Rattle.net_normal.specs.Limits.{arc_limit}
 use Rattle.net_normal.proofs.Sizes.{sums_sized}
@@ -36,3 +37,18 @@ returns-clause-supplies c =
     let plain : to_z w64 (of_z w64 c.loop-node.part.balance) ≡ c.loop-node.part.balance = omega (arith, ints) in
     all_supplies instance c.args.arcs.items c.loop-node.node c.loop-node.part c.push.new.self.items past c.loop-node.invariant
     (c.in_ok-push.ensures.items ∙ ap (λ (z : ℤ). c.loop-node.part.supplies.items ++ z ∷ []) plain)
+
+pub offset_bounds-range-items-node : goal.offset_bounds-range-items-node
+offset_bounds-range-items-node c = grind (arith, common_steps)
+
+pub returns-clause-arcs : goal.returns-clause-arcs
+returns-clause-arcs c = grind (arith, common_steps)
+
+pub bounds-sums-node : goal.bounds-sums-node
+bounds-sums-node c = grind (arith, common_steps)
+
+pub bounds-range-items-node : goal.bounds-range-items-node
+bounds-range-items-node c = grind (arith, common_steps)
+
+pub offset_bounds-sums-node : goal.offset_bounds-sums-node
+offset_bounds-sums-node c = grind (arith, common_steps)

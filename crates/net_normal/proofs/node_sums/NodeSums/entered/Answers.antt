@@ -1,4 +1,5 @@
 use Rattle.std.proofs.Common.{arith}
+use Rattle.std.proofs.lemmas.Grind.{common_steps}
 use Rattle.std.proofs.lemmas.Int.{ints}
 use Rattle.net_normal.specs.NodeSums.{entered}
 use Rattle.net_normal.proofs.ArcCounts.{same_sums}
@@ -6,3 +7,12 @@ use Rattle.net_normal.proofs.node_sums.NodeSums.entered.Goals as goal
 
 pub returns : goal.returns
 returns c = same_sums _ (entered c.args.arc.now c.args.self.now) (omega (arith, ints)) (omega (arith, ints)) (omega (arith, ints, c.offset.ensures.value, c.offset.ensures.size c.requires.lower))
+
+pub overflow_add-result-2 : goal.overflow_add-result-2
+overflow_add-result-2 c = grind (arith, common_steps)
+
+pub overflow_add-result : goal.overflow_add-result
+overflow_add-result c = grind (arith, common_steps)
+
+pub overflow_add-result-3 : goal.overflow_add-result-3
+overflow_add-result-3 c = grind (arith, common_steps)

@@ -1,5 +1,6 @@
 use Rattle.std.specs.Prelude.{◌<◌, length}
 use Rattle.std.proofs.Common.{◌≡◌, ap, subst, sym, ◌∙◌, arith, rules}
+use Rattle.std.proofs.lemmas.Grind.{common_steps}
 use Rattle.std.specs.Vec.{vec_len}
 use Rattle.net_sets.specs.Components.{IsIndexFrom}
 use Rattle.net_sets.proofs.Indexed.{chains_at, next_read, next_is, next_is_none}
@@ -30,3 +31,9 @@ returns-else-next-len c =
     next_is_none c.args.component c.args.member.now c.args.place c.index-next.result.now c.args.self.now c.requires.there
     (next_read c.args.self.now c.args.component c.args.member.now c.args.place c.index-next.result.now c.in-Some.chains.now kept c.requires.there c.index-next.ensures c.requires.alike)
     (omega arith)
+
+pub overflow_add-place : goal.overflow_add-place
+overflow_add-place c = grind (arith, common_steps)
+
+pub returns-in-None : goal.returns-in-None
+returns-in-None c = grind (arith, common_steps)

@@ -1,5 +1,6 @@
 use Rattle.std.specs.Prelude.{List, Result, Err, length, ◌++◌, ◌∷◌, []}
 use Rattle.std.proofs.Common.{sym, ◌≡◌, ap, ◌∙◌, arith}
+use Rattle.std.proofs.lemmas.Grind.{common_steps}
 use Rattle.std.proofs.lemmas.List.{length-append}
 use Rattle.net_sets.specs.declared.fault.SetFault.{SetFault}
 use Rattle.net_sets.specs.declared.fault.SetFault.TheVariants.{OutOfMemory, TooMany}
@@ -37,3 +38,15 @@ returns-in-Err-clause-many c = λ many. full_table c.in-Err.refused many c.in-Er
     full_table : (refused : SetFault) → refused_as refused ≡ refused_as TooMany → IsMade (added c.self.inside.keys c.args.key) (Err refused) → length c.args.self.now ≡ tuples_limit
     full_table OutOfMemory e made = cc
     full_table TooMany e made = rows ∙ full c.self.inside.keys c.args.key (omega arith) made
+
+pub returns-in-Err-clause-err : goal.returns-in-Err-clause-err
+returns-in-Err-clause-err c = grind (arith, common_steps)
+
+pub invariant_of-self-in-Err : goal.invariant_of-self-in-Err
+invariant_of-self-in-Err c = grind (arith, common_steps)
+
+pub invariant_of-self : goal.invariant_of-self
+invariant_of-self c = grind (arith, common_steps)
+
+pub returns-in-Ok-clause-many : goal.returns-in-Ok-clause-many
+returns-in-Ok-clause-many c = grind (arith, common_steps)

@@ -1,0 +1,9 @@
+use Rattle.std.proofs.Common.{arith}
+use Rattle.std.proofs.lemmas.Grind.{common_steps}
+use Rattle.net_bind.proofs.row.with_row.Goals as goal
+
+pub returns-then-is_some : goal.returns-then-is_some
+returns-then-is_some c = grind (arith, common_steps)
+
+pub returns-then-not-contains : goal.returns-then-not-contains
+returns-then-not-contains c = grind (arith, common_steps)

@@ -1,0 +1,9 @@
+use Rattle.std.proofs.Common.{arith}
+use Rattle.std.proofs.lemmas.Grind.{common_steps}
+use Rattle.net_bind.proofs.world.bind.Goals as goal
+
+pub returns : goal.returns
+returns c = grind (arith, common_steps)
+
+pub bind_sheets-requires : goal.bind_sheets-requires
+bind_sheets-requires c = grind (arith, common_steps)

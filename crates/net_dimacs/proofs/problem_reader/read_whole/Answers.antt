@@ -1,0 +1,12 @@
+use Rattle.std.proofs.Common.{arith}
+use Rattle.std.proofs.lemmas.Grind.{common_steps}
+use Rattle.net_dimacs.proofs.problem_reader.read_whole.Goals as goal
+
+pub returns-clause-value : goal.returns-clause-value
+returns-clause-value c = grind (arith, common_steps)
+
+pub returns-clause-memory : goal.returns-clause-memory
+returns-clause-memory c = grind (arith, common_steps)
+
+pub returns-then-text-gt-TEXT_LIMIT-clause-memory : goal.returns-then-text-gt-TEXT_LIMIT-clause-memory
+returns-then-text-gt-TEXT_LIMIT-clause-memory c = grind (arith, common_steps)

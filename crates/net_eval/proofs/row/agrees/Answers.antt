@@ -1,0 +1,12 @@
+use Rattle.std.proofs.Common.{arith}
+use Rattle.std.proofs.lemmas.Grind.{common_steps}
+use Rattle.net_eval.proofs.row.agrees.Goals as goal
+
+pub returns : goal.returns
+returns c = grind (arith, common_steps)
+
+pub returns-in-Several : goal.returns-in-Several
+returns-in-Several c = grind (arith, common_steps)
+
+pub returns-in-Many : goal.returns-in-Many
+returns-in-Many c = grind (arith, common_steps)

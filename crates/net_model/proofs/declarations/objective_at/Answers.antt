@@ -1,0 +1,8 @@
+use Rattle.std.proofs.Common.{arith}
+use Rattle.std.proofs.lemmas.Grind.{common_steps}
+use Rattle.net_model.specs.Declarations.{objective_at}
+use Rattle.net_model.proofs.declarations.objective_at.Goals as goal
+
+pub returns-clause-value : goal.returns-clause-value
+unfolding objective_at
+returns-clause-value c = grind (arith, common_steps)

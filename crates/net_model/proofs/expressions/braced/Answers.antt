@@ -1,0 +1,7 @@
+use Rattle.std.proofs.Common.{arith}
+use Rattle.std.proofs.lemmas.Grind.{common_steps}
+use Rattle.net_tree.proofs.Views.{views}
+use Rattle.net_model.proofs.expressions.braced.Goals as goal
+
+pub returns : goal.returns
+returns c = grind (arith, common_steps, views)

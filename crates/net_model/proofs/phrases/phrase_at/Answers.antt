@@ -1,0 +1,12 @@
+use Rattle.std.proofs.Common.{arith}
+use Rattle.std.proofs.lemmas.Grind.{common_steps}
+use Rattle.net_model.specs.Phrases.{phrase_at}
+use Rattle.net_model.proofs.phrases.phrase_at.Goals as goal
+
+pub returns-clause-value : goal.returns-clause-value
+unfolding phrase_at
+returns-clause-value c = grind (arith, common_steps)
+
+pub returns-clause-shorter : goal.returns-clause-shorter
+unfolding phrase_at
+returns-clause-shorter c = grind (arith, common_steps)
