@@ -1,4 +1,5 @@
-use Rattle.std.proofs.Common.{◌≡◌, ◌∙◌, ap, rules, length, get_or, pos, None, to_z, of_z, w64}
+use Rattle.std.proofs.Common.{◌≡◌, ◌∙◌, ap, rules, length, get_or, pos, None, to_z, of_z, w64, arith}
+use Rattle.std.proofs.lemmas.Grind.{common_steps}
 use Rattle.net_forms.specs.Forms.{coefficient}
 use Rattle.net_inst.specs.declared.arc.Drawn.{Drawn}
 use Rattle.net_inst.specs.Instances.{with_coefficient}
@@ -18,3 +19,12 @@ loop-arc-preserved c =
       priced-more c.args.form.now.products c.args.arcs.now c.loop-arc.arc-index no_arc c.loop-arc.all.items c.push.new.self.items _ c.with_coefficient-whole.result c.coefficient-coefficient.result c.loop-arc-test.true whole told c.in_ok-push.ensures.items c.loop-arc.invariant.0,
       sized-more c.loop-arc.all.items c.push.new.self.items c.with_coefficient-whole.result arc c.coefficient-coefficient.result whole c.coefficient-coefficient.ensures.size c.in_ok-push.ensures.items c.loop-arc.invariant.1,
     )
+
+pub returns-clause-size : goal.returns-clause-size
+returns-clause-size c = grind (arith, common_steps)
+
+pub returns-clause-value : goal.returns-clause-value
+returns-clause-value c = grind (arith, common_steps)
+
+pub loop-arc-init : goal.loop-arc-init
+loop-arc-init c = grind (arith, common_steps)

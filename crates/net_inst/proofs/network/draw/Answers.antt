@@ -1,4 +1,5 @@
-use Rattle.std.proofs.Common.{sym}
+use Rattle.std.proofs.Common.{sym, arith}
+use Rattle.std.proofs.lemmas.Grind.{common_steps}
 use Rattle.std.proofs.lemmas.Result.{err_from_is_err_and}
 use Rattle.std.specs.Prelude.{option_copied}
 use Rattle.net_inst.proofs.Steps.{goes, halts, step_up, draw-left}
@@ -19,3 +20,15 @@ loop-declaration-preserved c = (
       c.in_ok-declare.ensures.value),
   step_up _ _ _ c.loop-declaration.invariant.1 c.in_ok-declare.ensures.known,
 )
+
+pub declare-requires : goal.declare-requires
+declare-requires c = grind (arith, common_steps)
+
+pub loop-declaration-init : goal.loop-declaration-init
+loop-declaration-init c = grind (arith, common_steps)
+
+pub returns : goal.returns
+returns c = grind (arith, common_steps)
+
+pub offset_bounds-declarations-declaration-index : goal.offset_bounds-declarations-declaration-index
+offset_bounds-declarations-declaration-index c = grind (arith, common_steps)

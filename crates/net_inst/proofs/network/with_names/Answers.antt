@@ -1,4 +1,5 @@
-use Rattle.std.proofs.Common.{◌≡◌, length, rules, to_z, of_z, w64}
+use Rattle.std.proofs.Common.{◌≡◌, length, rules, to_z, of_z, w64, arith}
+use Rattle.std.proofs.lemmas.Grind.{common_steps}
 use Rattle.std.specs.Vec.{vec_len}
 use Rattle.net_forms.proofs.FormSizes.{sized_as}
 use Rattle.net_inst.proofs.Fitting.{priced_fit}
@@ -13,3 +14,9 @@ pub invariant_of-result-clause-constant_fits : goal.invariant_of-result-clause-c
 invariant_of-result-clause-constant_fits c =
     let plain : to_z w64 (of_z w64 c.constant.result) ≡ c.constant.result = search rules in
     sized_as (to_z w64 (of_z w64 c.constant.result)) c.constant.result plain c.constant.ensures.size
+
+pub invariant_of-result-clause-few_nodes : goal.invariant_of-result-clause-few_nodes
+invariant_of-result-clause-few_nodes c = grind (arith, common_steps)
+
+pub returns : goal.returns
+returns c = grind (arith, common_steps)

@@ -1,4 +1,5 @@
-use Rattle.std.proofs.Common.{sym, map}
+use Rattle.std.proofs.Common.{sym, map, arith}
+use Rattle.std.proofs.lemmas.Grind.{common_steps}
 use Rattle.std.proofs.lemmas.Result.{err_from_is_err_and}
 use Rattle.net_tree.specs.View.{condition_of}
 use Rattle.net_inst.specs.Nodes.{sides_of}
@@ -21,3 +22,6 @@ loop-row-preserved c = (
   c.push_range.ensures.few,
   one_more _ _ _ c.loop-row.invariant.2 c.in_ok-push_range.ensures.count,
 )
+
+pub returns-clause-value : goal.returns-clause-value
+returns-clause-value c = grind (arith, common_steps)

@@ -1,5 +1,13 @@
+use Rattle.std.proofs.Common.{arith}
+use Rattle.std.proofs.lemmas.Grind.{common_steps}
 use Rattle.net_inst.proofs.Steps.{place_below}
 use Rattle.net_inst.proofs.node_name.numbered.Goals as goal
 
 pub number_behind-number-requires : goal.number_behind-number-requires
 number_behind-number-requires c = place_below c.args.keys.now.index c.args.key c.in-Some.place c.in-Some.ensures
+
+pub returns-in-Some : goal.returns-in-Some
+returns-in-Some c = grind (arith, common_steps)
+
+pub returns-in-None : goal.returns-in-None
+returns-in-None c = grind (arith, common_steps)

@@ -1,4 +1,5 @@
-use Rattle.std.proofs.Common.{sym}
+use Rattle.std.proofs.Common.{sym, arith}
+use Rattle.std.proofs.lemmas.Grind.{common_steps}
 use Rattle.std.proofs.lemmas.Result.{err_from_is_err_and}
 use Rattle.net_inst.proofs.Steps.{goes, halts, prices-left}
 use Rattle.net_inst.proofs.price.add_phrases.Goals as goal
@@ -16,3 +17,9 @@ loop-phrase-preserved c =
     sym (goes _ _ _ _
     (prices-left c.args.goal.now c.args.seen.now c.args.scope.now c.args.arc c.args.phrases.now c.loop-phrase.phrase-index c.phrase-item.result c.loop-phrase.form _ c.loop-phrase-test.true c.phrase-item.is c.loop-phrase.invariant)
     c.in_ok-add_phrase.ensures)
+
+pub returns : goal.returns
+returns c = grind (arith, common_steps)
+
+pub offset_bounds-phrases-phrase-index : goal.offset_bounds-phrases-phrase-index
+offset_bounds-phrases-phrase-index c = grind (arith, common_steps)

@@ -1,4 +1,5 @@
-use Rattle.std.proofs.Common.{sym, map}
+use Rattle.std.proofs.Common.{sym, map, arith}
+use Rattle.std.proofs.lemmas.Grind.{common_steps}
 use Rattle.std.proofs.lemmas.Result.{err_from_is_err_and}
 use Rattle.net_tree.specs.View.{phrase_of}
 use Rattle.net_inst.specs.Parts.{parts_seen}
@@ -20,3 +21,6 @@ loop-row-preserved c = (
       c.in_ok-add_arc.ensures.value),
   one_more _ _ _ c.loop-row.invariant.1 c.in_ok-add_arc.ensures.count,
 )
+
+pub returns-clause-value : goal.returns-clause-value
+returns-clause-value c = grind (arith, common_steps)

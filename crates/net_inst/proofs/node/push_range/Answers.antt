@@ -1,0 +1,12 @@
+use Rattle.std.proofs.Common.{arith}
+use Rattle.std.proofs.lemmas.Grind.{common_steps}
+use Rattle.net_inst.proofs.node.push_range.Goals as goal
+
+pub returns-in_ok-push-clause-value : goal.returns-in_ok-push-clause-value
+returns-in_ok-push-clause-value c = grind (arith, common_steps)
+
+pub returns-in_err-range-clause-value : goal.returns-in_err-range-clause-value
+returns-in_err-range-clause-value c = grind (arith, common_steps)
+
+pub returns-else-len-lt-NODE_LIMIT-clause-value : goal.returns-else-len-lt-NODE_LIMIT-clause-value
+returns-else-len-lt-NODE_LIMIT-clause-value c = grind (arith, common_steps)
