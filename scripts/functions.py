@@ -4,7 +4,8 @@ of a function stands beside the first; and stubs in place of their bodies, so th
 Texts are those of rt fmt: a function ends at the first brace at its own margin. A copy goes to the end of its file, or to the
 head of its type's impl. A function can be copied where it is no method of a trait, is in no cycle of calls, and nothing but its
 own proof speaks of its goals. A stub keeps the signature and the contract, so what its callers have to show of themselves stays
-the same; its own goals cannot be proved. Functions of a cycle become stubs together, where all of them can.
+the same; its own goals cannot be proved. Functions of a cycle become stubs together, where all of them can. A stub that nothing
+names is taken out.
 """
 import pathlib
 import re
@@ -143,14 +144,53 @@ def unwrite(folder):
         pathlib.Path(folder, name).unlink(missing_ok=True)
 
 
+# An import of the crate's own names: `use a::b;` or `use a::b::{c, d};`.
+IMPORT = re.compile(r"(?m)^( *(?:pub(?:\([^)]*\))? )?use (?:\w+::)*)(\w+|\{[^{}]*\});\n")
+
+
+def without(imported, gone):
+    """A line of imports without the names that are gone."""
+    names = [it.strip() for it in imported[2].strip("{}").split(",") if it.strip()]
+    left = [it for it in names if it not in gone]
+    if left == names:
+        return imported[0]
+    return f"{imported[1]}{{{', '.join(left)}}};\n" if left else ""
+
+
+def without_functions(text, functions):
+    for function in sorted(functions, key=lambda it: -it.start):
+        text = text[:function.start] + text[function.end:]
+    return text
+
+
+def drop_unnamed(room, stubs):
+    """Takes out of the copy of the crate those of these stubs that nothing names but imports and other stubs' contracts, which name
+    no code: reading them takes time, and nothing is proved of them. A name of a module or of a trait's method stays. The stubs left."""
+    texts = {file: file.read_text(encoding="utf-8") for file in pathlib.Path(room, "src").rglob("*.rt")}
+    stand = {file: [it for it in Function.all_of(str(file.relative_to(room)), text) if STUB in it.text] for file, text in texts.items()}
+    bodies = {file: without_functions(text, stand[file]) for file, text in texts.items()}
+    named = {it for text in bodies.values() for it in re.findall(r"\w+", IMPORT.sub("", text))}
+    named |= {it.stem for it in texts} | {it.parent.name for it in texts}
+    cited = "".join(it.read_text(encoding="utf-8") for it in pathlib.Path(room).rglob("*.antt"))
+    gone = [it for it in stubs if it.name not in named and not (it.impl and it.impl[1]) and not it.mentions().search(cited)]
+    names = {it.name for it in gone}
+    names -= {it.name for it in stubs if it not in gone}
+    for file, text in texts.items():
+        text = without_functions(text, [it for it in stand[file] if it.name in names])
+        file.write_text(IMPORT.sub(lambda it: without(it, names), text), encoding="utf-8")
+    return [it for it in stubs if it.name not in names]
+
+
 def stub_all_but(room, names, crate=None):
-    """Puts stubs into the copy of the crate in place of all functions but these, as the prover tells them, and those of their cycles."""
+    """Puts stubs into the copy of the crate in place of all functions but these, as the prover tells them, and those of their cycles.
+    Stubs that nothing names are taken out."""
     texts = {file: file.read_text(encoding="utf-8") for file in pathlib.Path(room, "src").rglob("*.rt")}
     functions = {file: list(Function.all_of(str(file.relative_to(room)), text)) for file, text in texts.items()}
     every = [function for found in functions.values() for function in found]
     stays = {id(it) for it in every if it.told(it.name) in names or not it.can_be_stub()}
     # A cycle is one of functions alone where each of its attributes was found at a function.
     cycles = {name for text in texts.values() for name in CYCLE.findall(text)}
+    stubs = []
     kept = {it.cycle for it in every if id(it) in stays} | {name for name in cycles if sum(it.cycle == name for it in every) != sum(CYCLE.findall(text).count(name) for text in texts.values())}
     for file, found in functions.items():
         text = texts[file]
@@ -158,9 +198,11 @@ def stub_all_but(room, names, crate=None):
             if id(function) not in stays and (function.cycle is None or function.cycle not in kept):
                 text = text[:function.start] + function.stub() + text[function.end:]
                 unwrite(function.folder(room, function.name))
-                if crate:
-                    function.refuse_stub(room, crate)
+                stubs.append(function)
         file.write_text(text, encoding="utf-8")
     for name in cycles - kept:
         for folder in pathlib.Path(room, "proofs").rglob(f"+{name}"):
             unwrite(folder)
+    for function in drop_unnamed(room, stubs):
+        if crate:
+            function.refuse_stub(room, crate)

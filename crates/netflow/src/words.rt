@@ -1,10 +1,10 @@
 //! The command line. This file alone knows clap.
 
 ghost use Rattle.std.specs.Prelude.{◌≡◌, false, [], ◌∷◌, map, string_bytes, codes, IfOk, IfSome};
-ghost use Rattle.clap.specs.Words.{rule_of};
+ghost use Rattle.clap.specs.Words.{App, rule_of, with_subcommand};
 ghost use Rattle.clap.specs.Matches.{found_of};
 ghost use Rattle.clap.specs.Walk.{rows_of};
-ghost use Rattle.netflow.specs.CommandLine.{path_rule, objective_rule, solve_app, compile_app, min_app, check_app, netflow_app, action_word, path_names, asked_objective, given, IsApp, IsAskedBy};
+ghost use Rattle.netflow.specs.CommandLine.{path_rule, objective_rule, solve_app, compile_app, min_app, check_app, netflow_app, bare_app, action_word, path_names, asked_objective, given, IsApp, IsAskedBy};
 
 use clap::error::ErrorKind;
 use clap::{Arg, ArgAction, ArgMatches, Command, Error};
@@ -179,18 +179,34 @@ fn check_command<'a>(alloc: Global) -> Result<Command<'a>, AllocError>
         .arg(path(alloc, "CERTIFICATE", "What is said to settle it"))
 }
 
-fn command<'a>(alloc: Global) -> Result<Command<'a>, AllocError>
-    ensures { IfOk result (IsApp netflow_app) }
+/// The program's own words, without what it can be asked for.
+fn bare_command<'a>(alloc: Global) -> Command<'a>
+    ensures { IsApp bare_app result }
 {
     Command::new(alloc, "netflow")
         .about(ABOUT)
         .after_help(STATUSES)
         .subcommand_required(true)
         .arg_required_else_help(false)
-        .subcommand(compile_command(alloc)?)?
-        .subcommand(solve_command(alloc)?)?
-        .subcommand(min_command(alloc)?)?
-        .subcommand(check_command(alloc)?)
+}
+
+/// The program with one subcommand more, where there was memory for both.
+fn with_subcommand<'a>(
+    program: Result<Command<'a>, AllocError>,
+    subcommand: Result<Command<'a>, AllocError>,
+) -> Result<Command<'a>, AllocError>
+    ensures { (app inner : App) → IfOk program.entry (IsApp app) → IfOk subcommand.entry (IsApp inner) → IfOk result (IsApp (with_subcommand app inner.top)) }
+{
+    program?.subcommand(subcommand?)
+}
+
+fn command<'a>(alloc: Global) -> Result<Command<'a>, AllocError>
+    ensures { IfOk result (IsApp netflow_app) }
+{
+    let with_compile = with_subcommand(Ok(bare_command(alloc)), compile_command(alloc));
+    let with_solve = with_subcommand(with_compile, solve_command(alloc));
+    let with_min = with_subcommand(with_solve, min_command(alloc));
+    with_subcommand(with_min, check_command(alloc))
 }
 
 fn action_of(name: &str) -> Option<Action>
