@@ -1,3 +1,5 @@
+use Rattle.std.proofs.Common.{arith}
+use Rattle.std.proofs.lemmas.Grind.{common_steps}
 use Rattle.net_calls.proofs.checking.check_bytes.Goals as goal
 
 pub returns-clause-value : goal.returns-clause-value
@@ -5,3 +7,6 @@ returns-clause-value c = c.judge.ensures.value c.args.problem.now c.in-Ok.ensure
 
 pub returns-clause-refused : goal.returns-clause-refused
 returns-clause-refused c = c.judge.ensures.refused c.args.problem.now c.in-Ok.ensures.ok
+
+pub returns-in-Err-clause-refused : goal.returns-in-Err-clause-refused
+returns-in-Err-clause-refused c = grind (arith, common_steps)

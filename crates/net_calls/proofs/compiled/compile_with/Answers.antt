@@ -1,4 +1,5 @@
-use Rattle.std.proofs.Common.{sym, subst}
+use Rattle.std.proofs.Common.{sym, subst, arith}
+use Rattle.std.proofs.lemmas.Grind.{common_steps}
 use Rattle.std.specs.Option.{option_copied}
 use Rattle.net_calls.specs.Headline.{Headline}
 use Rattle.net_calls.specs.Made.{IsMade, HasSizes}
@@ -12,3 +13,6 @@ returns-clause-made c = subst (λ a. IsMade (option_copied c.args.options.object
 
 pub returns-clause-sizes : goal.returns-clause-sizes
 returns-clause-sizes c = subst HasSizes (sym c.in_ok-compiled.ensures) c.in_ok-linked.ensures.sizes
+
+pub returns-in_err-linked-clause-refused : goal.returns-in_err-linked-clause-refused
+returns-in_err-linked-clause-refused c = grind (arith, common_steps)

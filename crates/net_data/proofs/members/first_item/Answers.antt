@@ -1,4 +1,5 @@
-use Rattle.std.proofs.Common.{◌∙◌, ap, sym}
+use Rattle.std.proofs.Common.{◌∙◌, ap, sym, arith}
+use Rattle.std.proofs.lemmas.Grind.{common_steps}
 use Rattle.net_data.specs.Rows.{first_item}
 use Rattle.net_data.proofs.ItemLemmas.{first_none, first_tuple, first_alone}
 use Rattle.net_data.proofs.members.first_item.Goals as goal
@@ -15,3 +16,6 @@ pub returns-else-is_mark : goal.returns-else-is_mark
 returns-else-is_mark c =
     let told = first_alone c.args.tokens.now c.in-Some.rest.now c.in-Some.token.now c.in-Some.ensures.value (sym c.is_mark.ensures ∙ c.if-is_mark.false) in
     cc (told, c.new-in-Some.ensures, c.from_ref.ensures.value)
+
+pub split_at-requires : goal.split_at-requires
+split_at-requires c = grind (arith, common_steps)

@@ -1,4 +1,5 @@
-use Rattle.std.proofs.Common.{◌∙◌, ap, sym}
+use Rattle.std.proofs.Common.{◌∙◌, ap, sym, arith}
+use Rattle.std.proofs.lemmas.Grind.{common_steps}
 use Rattle.std.proofs.Math.Seq.{drop-length}
 use Rattle.net_data.specs.Commas.{in_set, bare}
 use Rattle.net_data.specs.Rows.{more_items}
@@ -23,3 +24,6 @@ pub returns-else-is_mark-2 : goal.returns-else-is_mark-2
 returns-else-is_mark-2 c =
     let told = more_alone c.args.tokens.now c.in-Some.rest.now c.in-Some.token.now c.in-Some.ensures.value (sym c.is_mark.ensures ∙ c.if-is_mark.false) (sym c.is_mark-in-Some.ensures ∙ c.if-is_mark-2.false) in
     cc (told, c.new-in-Some.ensures)
+
+pub split_at-requires : goal.split_at-requires
+split_at-requires c = grind (arith, common_steps)

@@ -1,3 +1,5 @@
+use Rattle.std.proofs.Common.{arith}
+use Rattle.std.proofs.lemmas.Grind.{common_steps}
 use Rattle.net_data.proofs.Turns.{leads_on, leads_stop, fails_at, count_less, ends_with}
 use Rattle.net_data.proofs.parse.statements.Goals as goal
 
@@ -18,3 +20,6 @@ statements-preserved c =
       value = leads_on c.args.tokens.now c.statements.statements.items c.push.new.self.items c.statements.unread.tokens.now c.statement.new.self.tokens.now c.in-Ok-Some.found c.statements.invariant.value told.value c.in_ok-push-in-Ok-Some.ensures.items;
       count = count_less c.args.tokens.now c.statements.unread.tokens.now c.statement.new.self.tokens.now c.statements.statements.items c.push.new.self.items c.in-Ok-Some.found c.statements.invariant.count told.shorter c.in_ok-push-in-Ok-Some.ensures.items;
     }
+
+pub statements-smaller : goal.statements-smaller
+statements-smaller c = grind (arith, common_steps)

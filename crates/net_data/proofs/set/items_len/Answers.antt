@@ -1,4 +1,5 @@
 use Rattle.std.proofs.Common.{◌∙◌, sym, arith}
+use Rattle.std.proofs.lemmas.Grind.{common_steps}
 use Rattle.net_data.proofs.Items.{items_turn, counted_over, counted_stop, counted_end, counted_open}
 use Rattle.net_data.proofs.set.items_len.Goals as goal
 
@@ -25,3 +26,6 @@ returns-then-rests-2-clause-value c =
 pub returns-clause-value : goal.returns-clause-value
 returns-clause-value c =
     counted_open c.args.tokens.now c.tokens.token-index _ c.tokens.spot c.tokens-test.false c.tokens.invariant.value (sym c.rests-2.ensures ∙ c.if-rests-2.false)
+
+pub returns-in-None-clause-within : goal.returns-in-None-clause-within
+returns-in-None-clause-within c = grind (arith, common_steps)

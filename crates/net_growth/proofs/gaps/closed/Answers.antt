@@ -1,4 +1,5 @@
 use Rattle.std.proofs.Common.{◌≡◌, ◌*◌, ◌^◌, ℤ, pos, List, length, get_or, sym, ◌∙◌, ap, subst, arith}
+use Rattle.std.proofs.lemmas.Grind.{common_steps}
 use Rattle.net_growth.specs.Pseudoflows.{AreFromTo, AreLevelsOf, IsRising, StandsIn, HasLevelOf}
 use Rattle.net_growth.proofs.Closing.{all-closer, all-sized, levels-small, plain-level}
 use Rattle.net_growth.proofs.Pushing.{pushed}
@@ -58,3 +59,6 @@ loop-potential-preserved c =
 
 pub returns-clause-len : goal.returns-clause-len
 returns-clause-len c = omega (arith, c.loop-potential.invariant.count, c.loop-potential-test.false, c.loop-potential.auto.potential-index-end)
+
+pub offset_bounds-potentials-potential-index : goal.offset_bounds-potentials-potential-index
+offset_bounds-potentials-potential-index c = grind (arith, common_steps)

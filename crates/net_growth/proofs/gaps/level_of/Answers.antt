@@ -1,7 +1,8 @@
 use Rattle.std.proofs.Common.{Ok, Err, subst, refl, sym, arith}
+use Rattle.std.proofs.lemmas.Grind.{common_steps}
 use Rattle.net_growth.proofs.Closing.{At, found, placed}
-use Rattle.net_growth.proofs.gaps.level_of.Goals as goal
 use Rattle.net_growth.proofs.gaps.level_of.Goals.{in-Ok, in-Err}
+use Rattle.net_growth.proofs.gaps.level_of.Goals as goal
 
 pub bounds-levels-place : goal.bounds-levels-place
 bounds-levels-place c =
@@ -18,3 +19,6 @@ returns c =
       | in-Err w ↦ subst (At c.args.sorted.now c.args.number.now) (sym w.place-is) (found c.args.sorted.now c.args.number.now (Err w.in-Err.place) w.in-Err.ensures.position c.requires.rising c.requires.known)
     ] in
     placed c.args.sorted.now c.args.levels.now c.args.number.now _ c.match-binary_search.place c.requires.levels c.requires.size at refl
+
+pub offset_bounds-levels-place : goal.offset_bounds-levels-place
+offset_bounds-levels-place c = grind (arith, common_steps)

@@ -60,3 +60,6 @@ loop-number-init c =
     let first : c.unwrap_or.result.now ≡ get_or sorted 0 (pos 0) = grind (arith, common_steps) in
     let last : to_z w128 (of_z w128 c.wide-last.result) ≡ get_or sorted 0 (pos 0) = omega (arith, ints, first, c.wide-last.ensures.value, size.above, size.below) in
     rw c.in_ok-levels.ensures.items (levelled-start c.args.most sorted _ c.requires.rising (record { above = omega (arith, ints, size.above, size.below); below = omega (arith, ints, size.above, size.below) }) last)
+
+pub offset_bounds-sorted-number-index : goal.offset_bounds-sorted-number-index
+offset_bounds-sorted-number-index c = grind (arith, common_steps)

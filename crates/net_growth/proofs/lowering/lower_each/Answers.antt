@@ -1,10 +1,11 @@
 use Rattle.std.proofs.Common.{◌≡◌, ◌<◌, ℤ, pos, ◌-ℤ◌, cond, length, get_or, to_z, of_z, w64, vec_len, ◌∙◌, ap, arith}
+use Rattle.std.proofs.lemmas.Grind.{common_steps}
 use Rattle.std.proofs.lemmas.List.{get_or_read}
-use Rattle.net_growth.proofs.Sinking.{lowered-fits, lowered-value, lowered-done, lowered-left, skipped-done}
 use Rattle.std.proofs.lemmas.Int.{ints}
+use Rattle.net_growth.proofs.Sinking.{lowered-fits, lowered-value, lowered-done, lowered-left, skipped-done}
 use Rattle.net_check.specs.Certificates.{is_in}
-use Rattle.net_growth.proofs.lowering.lower_each.Goals as goal
 use Rattle.net_growth.proofs.lowering.lower_each.Goals.{then-flags-node, else-flags-node}
+use Rattle.net_growth.proofs.lowering.lower_each.Goals as goal
 
 pub loop-node-preserved : goal.loop-node-preserved
 loop-node-preserved c =
@@ -46,3 +47,6 @@ returns-clause-value c = λ v l.
     let whole : to_z w64 (of_z w64 c.args.amount) ≡ c.args.amount = omega (arith, ints, size.above, size.below) in
     c.loop-node.invariant.done v (omega (arith, l, c.loop-node-test.false, c.loop-node.invariant.len))
     ∙ ap (λ (a : ℤ). get_or c.args.potentials.now.items v (pos 0) -ℤ cond (is_in c.args.flags.now v) a (pos 0)) whole
+
+pub index_mut-requires : goal.index_mut-requires
+index_mut-requires c = grind (arith, common_steps)

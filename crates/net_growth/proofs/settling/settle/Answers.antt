@@ -1,4 +1,5 @@
-use Rattle.std.proofs.Common.{◌≡◌, List, All, sym, subst}
+use Rattle.std.proofs.Common.{◌≡◌, List, All, sym, subst, arith}
+use Rattle.std.proofs.lemmas.Grind.{common_steps}
 use Rattle.net_normal.specs.Limits.{IsSized, cost_limit}
 use Rattle.net_normal.specs.declared.problem.FlowArc.{FlowArc}
 use Rattle.net_normal.specs.declared.problem.Problem.{Problem}
@@ -19,3 +20,27 @@ pub returns-clause-bounded : goal.returns-clause-bounded
 returns-clause-bounded c =
     small-certificate c.args.problem.now c.in_ok-settled.field-0 c.close_gaps.new.self.potentials.items c.greatest_cost-most.result c.in_ok-settled.ensures.same c.in_ok-close_gaps.ensures.potentials
     (λ most all. c.greatest_cost-most.ensures.least most (subst (All (λ arc. IsSized most arc.cost)) (sym c.deref.ensures.value) all))
+
+pub greatest_cost-most-requires : goal.greatest_cost-most-requires
+greatest_cost-most-requires c = grind (arith, common_steps)
+
+pub settled-requires-clause-under_way : goal.settled-requires-clause-under_way
+settled-requires-clause-under_way c = grind (arith, common_steps)
+
+pub returns-clause-certificate : goal.returns-clause-certificate
+returns-clause-certificate c = grind (arith, common_steps)
+
+pub close_gaps-requires-clause-under_way : goal.close_gaps-requires-clause-under_way
+close_gaps-requires-clause-under_way c = grind (arith, common_steps)
+
+pub balance-requires-clause-costs : goal.balance-requires-clause-costs
+balance-requires-clause-costs c = grind (arith, common_steps)
+
+pub settled-requires-clause-no_excess : goal.settled-requires-clause-no_excess
+settled-requires-clause-no_excess c = grind (arith, common_steps)
+
+pub returns-in-Some-clause-certificate : goal.returns-in-Some-clause-certificate
+returns-in-Some-clause-certificate c = grind (arith, common_steps)
+
+pub close_gaps-requires-clause-costs : goal.close_gaps-requires-clause-costs
+close_gaps-requires-clause-costs c = grind (arith, common_steps)

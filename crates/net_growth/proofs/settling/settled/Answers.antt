@@ -1,4 +1,5 @@
 use Rattle.std.proofs.Common.{◌≡◌, ◌<◌, ◌<ℤ◌, ◌≤ℤ◌, ◌∙◌, ℕ, ℤ, List, Bool, true, length, get_or, replicate, pos, FitsSigned, to_z, of_z, vec_len, refl, rules, ap, sym, subst, arith}
+use Rattle.std.proofs.lemmas.Grind.{common_steps}
 use Rattle.std.specs.Int.{w128}
 use Rattle.std.proofs.lemmas.Int.{to_z-of_z}
 use Rattle.net_normal.specs.Flows.{cost_of}
@@ -27,3 +28,6 @@ returns-clause-certificate c =
     let fits : FitsSigned w128 c.cost-value.result = search rules in
     let value : to_z w128 (of_z w128 c.cost-value.result) ≡ cost_of problem flows = to_z-of_z w128 c.cost-value.result fits ∙ c.cost-value.ensures ∙ ap (cost_of problem) c.deref-2.ensures.value in
     optimal problem _ flows c.args.state.potentials.items excess c.requires.under_way c.requires.no_excess (λ v l. least v (omega (arith, l, c.requires.under_way.excess_count))) value
+
+pub cost-value-requires : goal.cost-value-requires
+cost-value-requires c = grind (arith, common_steps)

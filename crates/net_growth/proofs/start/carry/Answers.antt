@@ -1,4 +1,5 @@
 use Rattle.std.proofs.Common.{nat_eq, arith}
+use Rattle.std.proofs.lemmas.Grind.{common_steps}
 use Rattle.net_growth.proofs.Changes.{counted, sized-on, wide-flow, wide-back}
 use Rattle.net_growth.proofs.start.carry.Goals as goal
 
@@ -15,3 +16,15 @@ returns-clause-value c = λ v l.
     (c.add_at.ensures.value v l) (c.add_at-2.ensures.value v (omega (arith, l, c.add_at.ensures.len)))
     (wide-flow c.wide-flow.result c.args.flow.now c.wide-flow.ensures.value c.requires.flow)
     (wide-back c.wide-flow.result c.args.flow.now c.wide-flow.ensures.value c.requires.flow)
+
+pub add_at-requires-clause-size : goal.add_at-requires-clause-size
+add_at-requires-clause-size c = grind (arith, common_steps)
+
+pub overflow_sub-flow : goal.overflow_sub-flow
+overflow_sub-flow c = grind (arith, common_steps)
+
+pub add_at-requires-2-clause-amount : goal.add_at-requires-2-clause-amount
+add_at-requires-2-clause-amount c = grind (arith, common_steps)
+
+pub add_at-requires-clause-amount : goal.add_at-requires-clause-amount
+add_at-requires-clause-amount c = grind (arith, common_steps)

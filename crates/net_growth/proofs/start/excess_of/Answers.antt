@@ -1,4 +1,5 @@
 use Rattle.std.proofs.Common.{◌≡◌, ◌<◌, List, ℤ, length, vec_len, get_or, pos, ◌-ℤ◌, ◌∙◌, ap, arith}
+use Rattle.std.proofs.lemmas.Grind.{common_steps}
 use Rattle.std.proofs.lemmas.Int.{ints}
 use Rattle.std.proofs.lemmas.List.{get_or_read}
 use Rattle.net_growth.proofs.Pushing.{pushed}
@@ -45,3 +46,9 @@ pub returns-clause-value : goal.returns-clause-value
 returns-clause-value c = λ v l.
     c.loop-node.invariant.value v (omega (arith, l, c.loop-node-test.false, c.deref-supply-items.ensures.len))
     ∙ ap (λ (z : ℤ). get_or c.args.problem.now.supplies.items v (pos 0) -ℤ z) (c.in_ok-sent.ensures.value v l)
+
+pub bounds-supply-items-node : goal.bounds-supply-items-node
+bounds-supply-items-node c = grind (arith, common_steps)
+
+pub offset_bounds-supply-items-node : goal.offset_bounds-supply-items-node
+offset_bounds-supply-items-node c = grind (arith, common_steps)

@@ -1,4 +1,5 @@
 use Rattle.std.proofs.Common.{◌≡◌, ◌<◌, ℤ, List, length, get_or, vec_len, pos, to_z, of_z, w64, ap, subst, arith}
+use Rattle.std.proofs.lemmas.Grind.{common_steps}
 use Rattle.std.proofs.lemmas.Int.{ints}
 use Rattle.net_check.proofs.Pairs.{within-sized}
 use Rattle.net_normal.specs.Flows.{IsWithinCapacity}
@@ -43,3 +44,15 @@ returns-clause-slackness c =
     let h = c.loop-index.invariant in
     let end : length arcs ≡ c.loop-index.index = omega (arith, c.loop-index-test.false, c.loop-index.auto.index-end, ap length c.deref-arc-items.ensures.value) in
     zipped-from (IsComplementary c.args.potentials.now) arcs c.loop-index.flows.items (omega (arith, end, h.count, c.loop-index.flows.ok.0)) (λ k l. h.slackness k (omega (arith, l, end)))
+
+pub offset_bounds-arc-items-index : goal.offset_bounds-arc-items-index
+offset_bounds-arc-items-index c = grind (arith, common_steps)
+
+pub first_flow-requires : goal.first_flow-requires
+first_flow-requires c = grind (arith, common_steps)
+
+pub bounds-arc-items-index : goal.bounds-arc-items-index
+bounds-arc-items-index c = grind (arith, common_steps)
+
+pub loop-index-init : goal.loop-index-init
+loop-index-init c = grind (arith, common_steps)

@@ -1,4 +1,5 @@
 use Rattle.std.proofs.Common.{◌≡◌, ℕ, ◌<◌, List, length, replicate, get_or, vec_len, pos, rules, sym, ◌∙◌, ap, subst, arith}
+use Rattle.std.proofs.lemmas.Grind.{common_steps}
 use Rattle.net_normal.specs.Flows.{IsWithinCapacity}
 use Rattle.net_normal.specs.Limits.{IsFlowArcOf}
 use Rattle.net_normal.specs.declared.problem.FlowArc.{FlowArc}
@@ -75,3 +76,12 @@ loop-index-init c =
     let n = vec_len problem.supplies in
     let zeros : c.in_ok-sent.sent.items ≡ replicate c.len.result (pos 0) = search rules in
     rw (zeros ∙ ap (λ (m : ℕ). replicate m (pos 0)) c.len.ensures) (carried-none n problem.arcs.items c.args.flows.now)
+
+pub offset_bounds-flows-index : goal.offset_bounds-flows-index
+offset_bounds-flows-index c = grind (arith, common_steps)
+
+pub offset_bounds-arc-items-index : goal.offset_bounds-arc-items-index
+offset_bounds-arc-items-index c = grind (arith, common_steps)
+
+pub bounds-arc-items-index : goal.bounds-arc-items-index
+bounds-arc-items-index c = grind (arith, common_steps)

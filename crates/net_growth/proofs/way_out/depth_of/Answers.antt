@@ -1,4 +1,5 @@
-use Rattle.std.proofs.Common.{of_z, w64, ap, rules}
+use Rattle.std.proofs.Common.{of_z, w64, ap, rules, arith}
+use Rattle.std.proofs.lemmas.Grind.{common_steps}
 use Rattle.net_growth.proofs.Crossing.{way-forwards, way-back, full-forwards, full-back, full-outside, full-inside, depth-is, depth-back}
 use Rattle.net_growth.proofs.way_out.depth_of.Goals as goal
 
@@ -23,3 +24,12 @@ returns-in_default-2-clause-none c = full-forwards c.args.flags.now c.args.arc.n
 
 pub returns-in_default-3-clause-none : goal.returns-in_default-3-clause-none
 returns-in_default-3-clause-none c = full-back c.args.flags.now c.args.arc.now c.args.flow.now c.in-false-true.is-0 (search rules)
+
+pub returns-in-false-true-clause-size : goal.returns-in-false-true-clause-size
+returns-in-false-true-clause-size c = grind (arith, common_steps)
+
+pub returns-in-true-false-clause-size : goal.returns-in-true-false-clause-size
+returns-in-true-false-clause-size c = grind (arith, common_steps)
+
+pub overflow_sub-result : goal.overflow_sub-result
+overflow_sub-result c = grind (arith, common_steps)

@@ -1,10 +1,11 @@
 use Rattle.std.proofs.Common.{◌≡◌, ℤ, refl, subst, sym, to_z, of_z, arith}
-use mir.Syntax.{w128}
+use Rattle.std.proofs.lemmas.Grind.{common_steps}
 use Rattle.std.proofs.lemmas.Int.{ints}
+use mir.Syntax.{w128}
 use Rattle.net_growth.specs.Pseudoflows.{IsWayOut}
 use Rattle.net_growth.proofs.Scanning.{At, scanned-full, scanned-way, none-of, clear-of, inside-of, is-of}
-use Rattle.net_growth.proofs.way_out.first_way_out.Goals as goal
 use Rattle.net_growth.proofs.way_out.first_way_out.Goals.{in-Some, in-None}
+use Rattle.net_growth.proofs.way_out.first_way_out.Goals as goal
 
 pub loop-index-preserved : goal.loop-index-preserved
 loop-index-preserved c =
@@ -33,3 +34,15 @@ returns-clause-inside c = inside-of c.args.arcs.now c.args.flows.now c.args.pote
 
 pub returns-clause-is : goal.returns-clause-is
 returns-clause-is c = is-of c.args.arcs.now c.args.flows.now c.args.potentials.now c.args.flags.now c.loop-index.index c.loop-index.first c.loop-index.invariant
+
+pub loop-index-init : goal.loop-index-init
+loop-index-init c = grind (arith, common_steps)
+
+pub overflow_cast-index : goal.overflow_cast-index
+overflow_cast-index c = grind (arith, common_steps)
+
+pub depth_of-requires-clause-arc : goal.depth_of-requires-clause-arc
+depth_of-requires-clause-arc c = grind (arith, common_steps)
+
+pub depth_of-requires-clause-flags : goal.depth_of-requires-clause-flags
+depth_of-requires-clause-flags c = grind (arith, common_steps)

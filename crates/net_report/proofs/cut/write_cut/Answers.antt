@@ -1,6 +1,7 @@
-use Rattle.std.proofs.Common.{◌≡◌, ap, ◌∙◌, ◌++◌, codes, to_z, of_z}
-use mir.Syntax.{w128}
+use Rattle.std.proofs.Common.{◌≡◌, ap, ◌∙◌, ◌++◌, codes, to_z, of_z, arith}
+use Rattle.std.proofs.lemmas.Grind.{common_steps}
 use Rattle.std.proofs.lemmas.Int.{to_z-of_z}
+use mir.Syntax.{w128}
 use Rattle.net_report.specs.Cuts as cuts
 use Rattle.net_report.specs.References.{names_in}
 use Rattle.net_check.specs.Certificates.{is_in}
@@ -24,3 +25,15 @@ returns c =
           c.in_ok-push_nodes.ensures.ok
           (c.in_ok-extend_from_slice-2.ensures.items ∙ ap (λ t. told ++ t) c.outside_line.ensures ∙ ap (λ b. told ++ cuts.outside_line b) c.is_outside_in.ensures);
     }
+
+pub supply_in-requires : goal.supply_in-requires
+supply_in-requires c = grind (arith, common_steps)
+
+pub push_nodes-requires : goal.push_nodes-requires
+push_nodes-requires c = grind (arith, common_steps)
+
+pub is_outside_in-requires : goal.is_outside_in-requires
+is_outside_in-requires c = grind (arith, common_steps)
+
+pub room-requires : goal.room-requires
+room-requires c = grind (arith, common_steps)

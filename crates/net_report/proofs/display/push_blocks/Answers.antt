@@ -1,4 +1,5 @@
 use Rattle.std.proofs.Common.{◌≡◌, ◌<◌, length, drop, get_or, ap, ◌∙◌, arith, length-drop}
+use Rattle.std.proofs.lemmas.Grind.{common_steps}
 use Rattle.net_report.proofs.Pairs.{behind, next_block}
 use Rattle.net_report.proofs.display.push_blocks.Goals as goal
 
@@ -18,3 +19,30 @@ loop-number-preserved c =
           (c.declared-item.is ∙ ap (λ xs. get_or xs l.number c.declared-item.result) all_are)
           c.in_ok-told.ensures.ok c.in_ok-told.ensures.count l.invariant.text;
     }
+
+pub slice_bounds-push_next-start : goal.slice_bounds-push_next-start
+slice_bounds-push_next-start c = grind (arith, common_steps)
+
+pub returns : goal.returns
+returns c = grind (arith, common_steps)
+
+pub offset_bounds-keys-told : goal.offset_bounds-keys-told
+offset_bounds-keys-told c = grind (arith, common_steps)
+
+pub slice_bounds-push_next-start-in-loop-number : goal.slice_bounds-push_next-start-in-loop-number
+slice_bounds-push_next-start-in-loop-number c = grind (arith, common_steps)
+
+pub overflow_add-told : goal.overflow_add-told
+overflow_add-told c = grind (arith, common_steps)
+
+pub offset_bounds-assignment-told : goal.offset_bounds-assignment-told
+offset_bounds-assignment-told c = grind (arith, common_steps)
+
+pub slice_bounds-push_next-count-in-loop-number : goal.slice_bounds-push_next-count-in-loop-number
+slice_bounds-push_next-count-in-loop-number c = grind (arith, common_steps)
+
+pub push_next-requires : goal.push_next-requires
+push_next-requires c = grind (arith, common_steps)
+
+pub slice_bounds-push_next-count : goal.slice_bounds-push_next-count
+slice_bounds-push_next-count c = grind (arith, common_steps)

@@ -4,3 +4,6 @@ use Rattle.net_report.proofs.links.push_nodes.Goals as goal
 
 pub loop-node-preserved : goal.loop-node-preserved
 loop-node-preserved c = grind (arith, common_steps)
+
+pub returns : goal.returns
+returns c = grind (arith, common_steps)

@@ -6,8 +6,7 @@ pub returns : goal.returns
 returns c =
     let named : app_of c.about.result ≡ new_app (codes "netflow") = ap app_of_fields c.about.ensures ∙ (c.new.ensures.app ∙ search rules) in
     let helped : app_of c.after_help.result ≡ new_app (codes "netflow") = ap app_of_fields c.after_help.ensures ∙ named in
-    let needed = ap app_of_fields c.subcommand_required.ensures ∙ ap (λ (a : App). record a { top = record a.top { subcommand_required = true } }) helped in
-    (
+    let needed = ap app_of_fields c.subcommand_required.ensures ∙ ap (λ (a : App). record a { top = record a.top { subcommand_required = true } }) helped in (
       ap app_of_fields c.arg_required_else_help.ensures ∙ ap (λ (a : App). record a { top = record a.top { arg_required_else_help = false } }) needed,
       ap (λ f. f.has_globals) c.arg_required_else_help.ensures ∙ (ap (λ f. f.has_globals) c.subcommand_required.ensures
           ∙ (ap (λ f. f.has_globals) c.after_help.ensures ∙ (ap (λ f. f.has_globals) c.about.ensures ∙ c.new.ensures.local))),

@@ -1,7 +1,8 @@
 use Rattle.std.proofs.Common.{◌≡◌, ℕ, ◌*◌, ◌<◌, ◌^◌, List, length, get_or, set, cond, nat_eq, Bool, true, false, ℤ, pos, ◌+ℤ◌, ◌-ℤ◌, to_z, of_z, sym, ap, subst, arith, vec_len}
-use mir.Syntax.{w128}
+use Rattle.std.proofs.lemmas.Grind.{common_steps}
 use Rattle.std.proofs.lemmas.Int.{ints}
 use Rattle.std.proofs.lemmas.List.{get_or_read}
+use mir.Syntax.{w128}
 use Rattle.net_normal.specs.Limits.{IsSized, flow_limit}
 use Rattle.net_normal.specs.Flows.{IsWithinCapacity}
 use Rattle.net_normal.specs.declared.problem.FlowArc.{FlowArc}
@@ -118,3 +119,15 @@ returns-clause-flows c =
     let problem = c.args.problem.now in
     let k = known problem c.args.self.now.flows.items _ _ c.args.index c.args.amount c.requires.under_way c.requires.index c.requires.within in
     ap (λ (y : ℤ). set c.args.self.now.flows.items c.args.index y) (added _ _ c.args.amount (get_or_read c.args.self.now.flows.items _ _ k.flow c.index_mut.ensures.value (pos 0)) k.old c.requires.amount k.new)
+
+pub add_at-requires-clause-amount : goal.add_at-requires-clause-amount
+add_at-requires-clause-amount c = grind (arith, common_steps)
+
+pub overflow_sub-amount : goal.overflow_sub-amount
+overflow_sub-amount c = grind (arith, common_steps)
+
+pub add_at-requires-2-clause-amount : goal.add_at-requires-2-clause-amount
+add_at-requires-2-clause-amount c = grind (arith, common_steps)
+
+pub add_at-requires-2-clause-node : goal.add_at-requires-2-clause-node
+add_at-requires-2-clause-node c = grind (arith, common_steps)
