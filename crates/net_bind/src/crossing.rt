@@ -84,11 +84,9 @@ fn stored<'w, 's>(
 fn set_in<'w, 's>(alloc: Global, value: Value<'w, 's>) -> Option<(Option<u8>, StoredSet<'w, 's>)>
     ensures { IfSome result (λ p. value.entry ≡ Many p.0 p.1) }
 {
-    match value {
-        Value::Many(dimension, set) => stored(alloc, dimension, set),
-        Value::One(_member) => None,
-        Value::Several(_tuple) => None,
-        Value::Truth(_) => None,
+    match value.into_set() {
+        Some((dimension, set)) => stored(alloc, dimension, set),
+        None => None,
     }
 }
 

@@ -102,14 +102,12 @@ fn within<'w, 's>(
 ) -> Result<Claim<'w, 's>, BindFault<'s>>
     ensures { Answers (phrases.claimed words.Within at value.entry) result }
 {
-    match value {
-        Value::Many(dimension, set) => {
+    match value.into_set() {
+        Some((dimension, set)) => {
             let set = StoredSet::new(alloc, set)?;
             Ok(Claim::Within(dimension, Fence::whole(set)))
         }
-        Value::One(_member) => Err(refuse(EvalDefect::KindMismatch, at)),
-        Value::Several(_tuple) => Err(refuse(EvalDefect::KindMismatch, at)),
-        Value::Truth(_) => Err(refuse(EvalDefect::KindMismatch, at)),
+        None => Err(refuse(EvalDefect::KindMismatch, at)),
     }
 }
 
@@ -120,11 +118,9 @@ fn becomes<'w, 's>(
 ) -> Result<Claim<'w, 's>, BindFault<'s>>
     ensures { Answers (phrases.claimed words.Becomes at value.entry) result }
 {
-    match value {
-        Value::Many(dimension, set) => Ok(Claim::Becomes(dimension, StoredSet::new(alloc, set)?)),
-        Value::One(_member) => Err(refuse(EvalDefect::KindMismatch, at)),
-        Value::Several(_tuple) => Err(refuse(EvalDefect::KindMismatch, at)),
-        Value::Truth(_) => Err(refuse(EvalDefect::KindMismatch, at)),
+    match value.into_set() {
+        Some((dimension, set)) => Ok(Claim::Becomes(dimension, StoredSet::new(alloc, set)?)),
+        None => Err(refuse(EvalDefect::KindMismatch, at)),
     }
 }
 

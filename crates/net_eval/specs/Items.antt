@@ -81,6 +81,11 @@ abbrev pub chosen : Span → Option ℕ → Value → Outcome (List Tuple)
 chosen at n (Many d ts) = if fits_needed d n then Ok ts else refused Arity at
 chosen at n _ = refused KindMismatch at
 
+-- the set that a value is, with the number of components of its tuples
+abbrev pub set_in : Value → Option (Option ℕ × List Tuple)
+set_in (Many d ts) = Some (d, ts)
+set_in _ = None
+
 -- the tuples of an item that is a set
 abbrev pub tuples_of : Span → Value → Outcome (List Tuple)
 tuples_of at (Many d ts) = Ok ts

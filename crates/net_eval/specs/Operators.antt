@@ -18,6 +18,27 @@ use Rattle.net_eval.specs.Sets.{shared, set_of, cross, among, inside}
 abbrev pub of_numbers : Span → (ℤ → ℤ → Outcome Value) → Value → Value → Outcome Value
 of_numbers at f x y = and_then (number at x) (λ a. and_then (number at y) (f a))
 
+-- how two numbers compare
+abbrev pub holds : Operation → ℤ → ℤ → Bool
+holds op.Less a b = int_lt a b
+holds op.AtMost a b = int_le a b
+holds op.Greater a b = int_lt b a
+holds op.AtLeast a b = int_le b a
+holds _ a b = false
+
+-- what an operator makes of two numbers
+abbrev pub of_two : Operation → Span → ℤ → ℤ → Outcome Value
+of_two op.Plus at a b = plus at a b
+of_two op.Minus at a b = less at a b
+of_two op.Times at a b = times at a b
+of_two op.Div at a b = quotient at a b
+of_two op.Mod at a b = remainder at a b
+of_two op.Less at a b = Ok (Truth (int_lt a b))
+of_two op.AtMost at a b = Ok (Truth (int_le a b))
+of_two op.Greater at a b = Ok (Truth (int_lt b a))
+of_two op.AtLeast at a b = Ok (Truth (int_le b a))
+of_two _ at a b = refused KindMismatch at
+
 -- a comparison of two numbers
 abbrev pub compared : Span → (ℤ → ℤ → Bool) → Value → Value → Outcome Value
 compared at holds x y = of_numbers at (λ a b. Ok (Truth (holds a b))) x y

@@ -9,6 +9,7 @@ ghost use Rattle.net_eval.specs.Items as items;
 ghost use Rattle.net_eval.specs.Operations as operations;
 ghost use Rattle.net_eval.specs.Outcomes.{Answers, Outcome, and_then};
 ghost use Rattle.net_eval.specs.declared.value.Value.{Value as Found};
+ghost use Rattle.net_eval.specs.declared.value.Value.TheVariants.{Many};
 ghost use Rattle.net_eval.specs.Worlds as worlds;
 
 use crate::fault::{EvalDefect, EvalFault, refuse, refuse_tree};
@@ -183,6 +184,22 @@ fn fits_size(dimension: Option<u8>, more: usize) -> bool
     }
 }
 
+/// The tuples of a set, where they have as many components as the left of `in` needs.
+fn fitting<'w, 's>(
+    item: &Expr<'_>,
+    left: &Expr<'_>,
+    dimension: Option<u8>,
+    tuples: Held<'w, 's>,
+) -> Result<Held<'w, 's>, EvalFault<'s>>
+    ensures { Answers (items.chosen (trees.span_of (tree item.now)) (items.needed (tree left.now)) (Many dimension tuples.entry)) result }
+{
+    if fits_needed(dimension, left) {
+        Ok(tuples)
+    } else {
+        Err(refuse_tree(EvalDefect::Arity, item))
+    }
+}
+
 /// The tuples of the set behind `in`.
 pub(crate) fn chosen<'w, 's>(
     item: &Expr<'_>,
@@ -191,17 +208,12 @@ pub(crate) fn chosen<'w, 's>(
 ) -> Result<Held<'w, 's>, EvalFault<'s>>
     ensures { (wanted : Outcome Found) → Answers wanted value.entry → Answers (and_then wanted (items.chosen (trees.span_of (tree item.now)) (items.needed (tree left.now)))) result }
 {
-    match value? {
-        Value::Many(dimension, tuples) => {
-            if fits_needed(dimension, left) {
-                Ok(tuples)
-            } else {
-                Err(refuse_tree(EvalDefect::Arity, item))
-            }
-        }
-        Value::One(_member) => Err(refuse_tree(EvalDefect::KindMismatch, item)),
-        Value::Several(_tuple) => Err(refuse_tree(EvalDefect::KindMismatch, item)),
-        Value::Truth(_truth) => Err(refuse_tree(EvalDefect::KindMismatch, item)),
+    match value {
+        Ok(value) => match value.into_set() {
+            Some((dimension, tuples)) => fitting(item, left, dimension, tuples),
+            None => Err(refuse_tree(EvalDefect::KindMismatch, item)),
+        },
+        Err(fault) => Err(fault),
     }
 }
 
@@ -212,11 +224,12 @@ pub(crate) fn tuples_of<'w, 's>(
 ) -> Result<Held<'w, 's>, EvalFault<'s>>
     ensures { (wanted : Outcome Found) → Answers wanted value.entry → Answers (and_then wanted (items.tuples_of at)) result }
 {
-    match value? {
-        Value::Many(_dimension, tuples) => Ok(tuples),
-        Value::One(_member) => Err(refuse(EvalDefect::KindMismatch, at)),
-        Value::Several(_tuple) => Err(refuse(EvalDefect::KindMismatch, at)),
-        Value::Truth(_truth) => Err(refuse(EvalDefect::KindMismatch, at)),
+    match value {
+        Ok(value) => match value.into_set() {
+            Some((_dimension, tuples)) => Ok(tuples),
+            None => Err(refuse(EvalDefect::KindMismatch, at)),
+        },
+        Err(fault) => Err(fault),
     }
 }
 

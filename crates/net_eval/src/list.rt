@@ -24,8 +24,7 @@ fn tuple_in<'s>(at: Span, value: &Value<'_, 's>) -> Result<Tuple<'s>, EvalFault<
     match value {
         Value::One(member) => Ok(Tuple::single(member.again())),
         Value::Several(tuple) => Ok(tuple.again()),
-        Value::Many(_, _) => Err(refuse(EvalDefect::KindMismatch, at)),
-        Value::Truth(_) => Err(refuse(EvalDefect::KindMismatch, at)),
+        _ => Err(refuse(EvalDefect::KindMismatch, at)),
     }
 }
 

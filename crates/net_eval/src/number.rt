@@ -4,13 +4,15 @@ ghost use Rattle.net_tree.specs.View.{tree};
 ghost use Rattle.net_eval.specs.Limits.{is_small};
 ghost use Rattle.net_eval.specs.Numbers as numbers;
 ghost use Rattle.net_eval.specs.Operators as operators;
-ghost use Rattle.net_eval.specs.Outcomes.{Answers, Outcome, and_then};
+ghost use Rattle.net_eval.specs.Outcomes.{Answers, Outcome, and_then, refused};
+ghost use Rattle.net_eval.specs.declared.fault.EvalDefect.TheVariants.{KindMismatch};
 ghost use Rattle.net_eval.specs.declared.value.Value.{Value as Found};
+ghost use Rattle.net_eval.specs.declared.value.Value.TheVariants.{Truth};
 ghost use Rattle.net_eval.specs.Rows as rows;
 ghost use Rattle.net_eval.specs.Values as values;
 
 use crate::fault::{EvalDefect, EvalFault, refuse_tree};
-use crate::operation::Reduction;
+use crate::operation::{Operation, Reduction};
 use crate::value::Value;
 use net_lex::{Excerpt, whole_of};
 use net_sets::Member;
@@ -44,11 +46,11 @@ fn narrow(number: &i128) -> i64
 }
 
 /// A number that arithmetic gives.
-pub(crate) fn sized<'w, 's>(whole: &Expr<'_>, number: &i128) -> Result<Value<'w, 's>, EvalFault<'s>>
-    ensures { Answers (numbers.sized (trees.span_of (tree whole.now)) number.now) result }
+pub(crate) fn sized<'w, 's>(whole: &Expr<'_>, number: i128) -> Result<Value<'w, 's>, EvalFault<'s>>
+    ensures { Answers (numbers.sized (trees.span_of (tree whole.now)) number) result }
 {
-    if is_small(number) {
-        Ok(Value::One(Member::Number(narrow(number))))
+    if is_small(&number) {
+        Ok(Value::One(Member::Number(narrow(&number))))
     } else {
         Err(refuse_tree(EvalDefect::TooLarge, whole))
     }
@@ -60,10 +62,7 @@ pub(crate) fn number_of<'s>(whole: &Expr<'_>, value: &Value<'_, 's>) -> Result<i
 {
     match value {
         Value::One(Member::Number(number)) => Ok(*number),
-        Value::One(Member::Name(_)) => Err(refuse_tree(EvalDefect::KindMismatch, whole)),
-        Value::Several(_) => Err(refuse_tree(EvalDefect::KindMismatch, whole)),
-        Value::Many(_, _) => Err(refuse_tree(EvalDefect::KindMismatch, whole)),
-        Value::Truth(_) => Err(refuse_tree(EvalDefect::KindMismatch, whole)),
+        _ => Err(refuse_tree(EvalDefect::KindMismatch, whole)),
     }
 }
 
@@ -74,12 +73,9 @@ fn number_found<'s>(
 ) -> Result<i64, EvalFault<'s>>
     ensures { (wanted : Outcome Found) → Answers wanted value.entry → Answers (and_then wanted (numbers.number (trees.span_of (tree whole.now)))) result }
 {
-    match value? {
-        Value::One(Member::Number(number)) => Ok(number),
-        Value::One(Member::Name(_name)) => Err(refuse_tree(EvalDefect::KindMismatch, whole)),
-        Value::Several(_tuple) => Err(refuse_tree(EvalDefect::KindMismatch, whole)),
-        Value::Many(_dimension, _tuples) => Err(refuse_tree(EvalDefect::KindMismatch, whole)),
-        Value::Truth(_truth) => Err(refuse_tree(EvalDefect::KindMismatch, whole)),
+    match value {
+        Ok(value) => number_of(whole, &value),
+        Err(fault) => Err(fault),
     }
 }
 
@@ -101,40 +97,22 @@ fn product_of(a: &i64, b: &i64) -> i128
     i128::from(*a) * i128::from(*b)
 }
 
-pub(crate) fn plus<'w, 's>(
-    whole: &Expr<'_>,
-    x: &Value<'_, 's>,
-    y: &Value<'_, 's>,
-) -> Result<Value<'w, 's>, EvalFault<'s>>
-    ensures { Answers (operators.of_numbers (trees.span_of (tree whole.now)) (numbers.plus (trees.span_of (tree whole.now))) x.now y.now) result }
+fn plus<'w, 's>(whole: &Expr<'_>, a: &i64, b: &i64) -> Result<Value<'w, 's>, EvalFault<'s>>
+    ensures { Answers (numbers.plus (trees.span_of (tree whole.now)) a.now b.now) result }
 {
-    let a = number_of(whole, x)?;
-    let b = number_of(whole, y)?;
-    sized(whole, &sum_of(&a, &b))
+    sized(whole, sum_of(a, b))
 }
 
-pub(crate) fn minus<'w, 's>(
-    whole: &Expr<'_>,
-    x: &Value<'_, 's>,
-    y: &Value<'_, 's>,
-) -> Result<Value<'w, 's>, EvalFault<'s>>
-    ensures { Answers (operators.of_numbers (trees.span_of (tree whole.now)) (numbers.less (trees.span_of (tree whole.now))) x.now y.now) result }
+fn minus<'w, 's>(whole: &Expr<'_>, a: &i64, b: &i64) -> Result<Value<'w, 's>, EvalFault<'s>>
+    ensures { Answers (numbers.less (trees.span_of (tree whole.now)) a.now b.now) result }
 {
-    let a = number_of(whole, x)?;
-    let b = number_of(whole, y)?;
-    sized(whole, &difference_of(&a, &b))
+    sized(whole, difference_of(a, b))
 }
 
-pub(crate) fn times<'w, 's>(
-    whole: &Expr<'_>,
-    x: &Value<'_, 's>,
-    y: &Value<'_, 's>,
-) -> Result<Value<'w, 's>, EvalFault<'s>>
-    ensures { Answers (operators.of_numbers (trees.span_of (tree whole.now)) (numbers.times (trees.span_of (tree whole.now))) x.now y.now) result }
+fn times<'w, 's>(whole: &Expr<'_>, a: &i64, b: &i64) -> Result<Value<'w, 's>, EvalFault<'s>>
+    ensures { Answers (numbers.times (trees.span_of (tree whole.now)) a.now b.now) result }
 {
-    let a = number_of(whole, x)?;
-    let b = number_of(whole, y)?;
-    sized(whole, &product_of(&a, &b))
+    sized(whole, product_of(a, b))
 }
 
 fn divides(a: &i64, b: &i64) -> bool
@@ -163,28 +141,65 @@ fn remainder<'w, 's>(whole: &Expr<'_>, a: &i64, b: &i64) -> Result<Value<'w, 's>
     }
 }
 
-pub(crate) fn div<'w, 's>(
-    whole: &Expr<'_>,
-    x: &Value<'_, 's>,
-    y: &Value<'_, 's>,
-) -> Result<Value<'w, 's>, EvalFault<'s>>
-    ensures { Answers (operators.of_numbers (trees.span_of (tree whole.now)) (numbers.quotient (trees.span_of (tree whole.now))) x.now y.now) result }
+/// Whether two numbers compare so.
+fn holds(operation: Operation, a: &i64, b: &i64) -> bool
+    ensures { result ≡ operators.holds operation a.now b.now }
 {
-    let a = number_of(whole, x)?;
-    let b = number_of(whole, y)?;
-    quotient(whole, &a, &b)
+    match operation {
+        Operation::Less => *a < *b,
+        Operation::AtMost => *a <= *b,
+        Operation::Greater => *a > *b,
+        Operation::AtLeast => *a >= *b,
+        _ => false,
+    }
 }
 
-pub(crate) fn modulo<'w, 's>(
+fn compared<'w, 's>(operation: Operation, a: &i64, b: &i64) -> Result<Value<'w, 's>, EvalFault<'s>>
+    ensures { Answers (Ok (Truth (operators.holds operation a.now b.now))) result }
+{
+    Ok(Value::Truth(holds(operation, a, b)))
+}
+
+fn of_no_numbers<'w, 's>(whole: &Expr<'_>) -> Result<Value<'w, 's>, EvalFault<'s>>
+    ensures { Answers (refused KindMismatch (trees.span_of (tree whole.now))) result }
+{
+    Err(refuse_tree(EvalDefect::KindMismatch, whole))
+}
+
+/// What an operator makes of two numbers.
+fn of_two<'w, 's>(
+    operation: Operation,
+    whole: &Expr<'_>,
+    a: &i64,
+    b: &i64,
+) -> Result<Value<'w, 's>, EvalFault<'s>>
+    ensures { Answers (operators.of_two operation (trees.span_of (tree whole.now)) a.now b.now) result }
+{
+    match operation {
+        Operation::Plus => plus(whole, a, b),
+        Operation::Minus => minus(whole, a, b),
+        Operation::Times => times(whole, a, b),
+        Operation::Div => quotient(whole, a, b),
+        Operation::Mod => remainder(whole, a, b),
+        Operation::Less | Operation::AtMost | Operation::Greater | Operation::AtLeast => {
+            compared(operation, a, b)
+        }
+        _ => of_no_numbers(whole),
+    }
+}
+
+/// What an operator makes of two values that have to be numbers.
+pub(crate) fn of_numbers<'w, 's>(
+    operation: Operation,
     whole: &Expr<'_>,
     x: &Value<'_, 's>,
     y: &Value<'_, 's>,
 ) -> Result<Value<'w, 's>, EvalFault<'s>>
-    ensures { Answers (operators.of_numbers (trees.span_of (tree whole.now)) (numbers.remainder (trees.span_of (tree whole.now))) x.now y.now) result }
+    ensures { Answers (operators.of_numbers (trees.span_of (tree whole.now)) (operators.of_two operation (trees.span_of (tree whole.now))) x.now y.now) result }
 {
     let a = number_of(whole, x)?;
     let b = number_of(whole, y)?;
-    remainder(whole, &a, &b)
+    of_two(operation, whole, &a, &b)
 }
 
 fn turned(minus: bool, number: &i64) -> i128
@@ -206,7 +221,7 @@ pub(crate) fn with_sign<'w, 's>(
     ensures { (wanted : Outcome Found) → Answers wanted value.entry → Answers (and_then wanted (values.with_sign (trees.span_of (tree whole.now)) minus)) result }
 {
     let number = number_found(whole, value)?;
-    sized(whole, &turned(minus, &number))
+    sized(whole, turned(minus, &number))
 }
 
 /// What a reduction makes of the numbers so far and one value more.
@@ -270,6 +285,6 @@ pub(crate) fn reduced_to<'w, 's>(
 {
     match so_far {
         None => nothing_reduced(whole, reduction),
-        Some(number) => sized(whole, number),
+        Some(number) => sized(whole, *number),
     }
 }

@@ -1,6 +1,6 @@
 //! What operators make of the values on their two sides.
 
-ghost use Rattle.std.specs.Prelude.{◌∷◌, [], Bool, int_lt, int_le};
+ghost use Rattle.std.specs.Prelude.{◌∷◌, [], Bool};
 ghost use Rattle.net_tree.specs.Spans as trees;
 ghost use Rattle.net_tree.specs.View.{tree};
 ghost use Rattle.net_eval.specs.Operators as operators;
@@ -8,7 +8,7 @@ ghost use Rattle.net_eval.specs.Outcomes.{Answers, Outcome, and_then};
 ghost use Rattle.net_eval.specs.declared.value.Value.{Value as Found};
 
 use crate::fault::{EvalDefect, EvalFault, refuse, refuse_tree};
-use crate::number::{div, minus, modulo, number_of, plus, times};
+use crate::number::of_numbers;
 use crate::operation::Operation;
 use crate::row::longer_by_one;
 use crate::set::{belongs, contained, cross_values, of_sets};
@@ -17,54 +17,6 @@ use net_lex::Span;
 use net_sets::{Member, Tuple};
 use net_tree::Expr;
 use std::alloc::Global;
-
-fn less<'w, 's>(
-    whole: &Expr<'_>,
-    x: &Value<'_, 's>,
-    y: &Value<'_, 's>,
-) -> Result<Value<'w, 's>, EvalFault<'s>>
-    ensures { Answers (operators.compared (trees.span_of (tree whole.now)) int_lt x.now y.now) result }
-{
-    let a = number_of(whole, x)?;
-    let b = number_of(whole, y)?;
-    Ok(Value::Truth(a < b))
-}
-
-fn at_most<'w, 's>(
-    whole: &Expr<'_>,
-    x: &Value<'_, 's>,
-    y: &Value<'_, 's>,
-) -> Result<Value<'w, 's>, EvalFault<'s>>
-    ensures { Answers (operators.compared (trees.span_of (tree whole.now)) int_le x.now y.now) result }
-{
-    let a = number_of(whole, x)?;
-    let b = number_of(whole, y)?;
-    Ok(Value::Truth(a <= b))
-}
-
-fn greater<'w, 's>(
-    whole: &Expr<'_>,
-    x: &Value<'_, 's>,
-    y: &Value<'_, 's>,
-) -> Result<Value<'w, 's>, EvalFault<'s>>
-    ensures { Answers (operators.compared (trees.span_of (tree whole.now)) (λ a b. int_lt b a) x.now y.now) result }
-{
-    let a = number_of(whole, x)?;
-    let b = number_of(whole, y)?;
-    Ok(Value::Truth(b < a))
-}
-
-fn at_least<'w, 's>(
-    whole: &Expr<'_>,
-    x: &Value<'_, 's>,
-    y: &Value<'_, 's>,
-) -> Result<Value<'w, 's>, EvalFault<'s>>
-    ensures { Answers (operators.compared (trees.span_of (tree whole.now)) (λ a b. int_le b a) x.now y.now) result }
-{
-    let a = number_of(whole, x)?;
-    let b = number_of(whole, y)?;
-    Ok(Value::Truth(b <= a))
-}
 
 /// Whether two members are the same.
 fn same<'s>(whole: &Expr<'_>, x: &Value<'_, 's>, y: &Value<'_, 's>) -> Result<bool, EvalFault<'s>>
@@ -82,9 +34,7 @@ pub(crate) fn truth<'s>(whole: &Expr<'_>, value: &Value<'_, 's>) -> Result<bool,
 {
     match value {
         Value::Truth(truth) => Ok(*truth),
-        Value::One(_) => Err(refuse_tree(EvalDefect::KindMismatch, whole)),
-        Value::Several(_) => Err(refuse_tree(EvalDefect::KindMismatch, whole)),
-        Value::Many(_, _) => Err(refuse_tree(EvalDefect::KindMismatch, whole)),
+        _ => Err(refuse_tree(EvalDefect::KindMismatch, whole)),
     }
 }
 
@@ -95,11 +45,9 @@ pub(crate) fn truth_of<'s>(
 ) -> Result<bool, EvalFault<'s>>
     ensures { (wanted : Outcome Found) → Answers wanted value.entry → Answers (and_then wanted (operators.truth (trees.span_of (tree whole.now)))) result }
 {
-    match value? {
-        Value::Truth(truth) => Ok(truth),
-        Value::One(_member) => Err(refuse_tree(EvalDefect::KindMismatch, whole)),
-        Value::Several(_tuple) => Err(refuse_tree(EvalDefect::KindMismatch, whole)),
-        Value::Many(_dimension, _tuples) => Err(refuse_tree(EvalDefect::KindMismatch, whole)),
+    match value {
+        Ok(value) => truth(whole, &value),
+        Err(fault) => Err(fault),
     }
 }
 
@@ -110,11 +58,12 @@ pub(crate) fn truth_at<'s>(
 ) -> Result<bool, EvalFault<'s>>
     ensures { (wanted : Outcome Found) → Answers wanted value.entry → Answers (and_then wanted (operators.truth at)) result }
 {
-    match value? {
-        Value::Truth(truth) => Ok(truth),
-        Value::One(_member) => Err(refuse(EvalDefect::KindMismatch, at)),
-        Value::Several(_tuple) => Err(refuse(EvalDefect::KindMismatch, at)),
-        Value::Many(_dimension, _tuples) => Err(refuse(EvalDefect::KindMismatch, at)),
+    match value {
+        Ok(value) => match &value {
+            Value::Truth(truth) => Ok(*truth),
+            _ => Err(refuse(EvalDefect::KindMismatch, at)),
+        },
+        Err(fault) => Err(fault),
     }
 }
 
@@ -187,15 +136,15 @@ pub(crate) fn apply<'w, 's>(
     ensures { Answers (operators.apply operation (trees.span_of (tree whole.now)) x.now y.now) result }
 {
     match operation {
-        Operation::Plus => plus(whole, x, y),
-        Operation::Minus => minus(whole, x, y),
-        Operation::Times => times(whole, x, y),
-        Operation::Div => div(whole, x, y),
-        Operation::Mod => modulo(whole, x, y),
-        Operation::Less => less(whole, x, y),
-        Operation::AtMost => at_most(whole, x, y),
-        Operation::Greater => greater(whole, x, y),
-        Operation::AtLeast => at_least(whole, x, y),
+        Operation::Plus
+        | Operation::Minus
+        | Operation::Times
+        | Operation::Div
+        | Operation::Mod
+        | Operation::Less
+        | Operation::AtMost
+        | Operation::Greater
+        | Operation::AtLeast => of_numbers(operation, whole, x, y),
         Operation::Cross => cross_values(alloc, whole, x, y),
         Operation::Inter | Operation::Union | Operation::Diff | Operation::Symdiff => {
             of_sets(alloc, operation, whole, x, y)
@@ -220,9 +169,7 @@ pub(crate) fn member_of<'s>(
 {
     match value {
         Value::One(member) => Ok(member.again()),
-        Value::Several(_) => Err(refuse_tree(EvalDefect::KindMismatch, whole)),
-        Value::Many(_, _) => Err(refuse_tree(EvalDefect::KindMismatch, whole)),
-        Value::Truth(_) => Err(refuse_tree(EvalDefect::KindMismatch, whole)),
+        _ => Err(refuse_tree(EvalDefect::KindMismatch, whole)),
     }
 }
 

@@ -194,6 +194,22 @@ pub(crate) fn with_key<'s>(
     Ok(Some(Place { scope, key }))
 }
 
+/// The place stays where a value is the member.
+fn agrees_with<'s>(
+    whole: &Expr<'_>,
+    member: &Member<'s>,
+    place: Place<'s>,
+    value: &Value<'_, 's>,
+) -> Result<Option<Place<'s>>, EvalFault<'s>>
+    ensures { Answers (rows.agrees (trees.span_of (tree whole.now)) member.now place.entry value.now) result }
+{
+    match value {
+        Value::One(found) if *found == *member => Ok(Some(place)),
+        Value::One(_) => Ok(None),
+        _ => Err(refuse_tree(EvalDefect::KindMismatch, whole)),
+    }
+}
+
 /// The place stays where the value of a component is the member.
 pub(crate) fn agrees<'s>(
     whole: &Expr<'_>,
@@ -203,17 +219,9 @@ pub(crate) fn agrees<'s>(
 ) -> Result<Option<Place<'s>>, EvalFault<'s>>
     ensures { (wanted : Outcome Found) → Answers wanted value.entry → Answers (and_then wanted (rows.agrees (trees.span_of (tree whole.now)) member.now place.entry)) result }
 {
-    match value? {
-        Value::One(found) => {
-            if found == *member {
-                Ok(Some(place))
-            } else {
-                Ok(None)
-            }
-        }
-        Value::Several(_tuple) => Err(refuse_tree(EvalDefect::KindMismatch, whole)),
-        Value::Many(_dimension, _tuples) => Err(refuse_tree(EvalDefect::KindMismatch, whole)),
-        Value::Truth(_truth) => Err(refuse_tree(EvalDefect::KindMismatch, whole)),
+    match value {
+        Ok(value) => agrees_with(whole, member, place, &value),
+        Err(fault) => Err(fault),
     }
 }
 
@@ -237,6 +245,25 @@ fn agrees_whole<'s>(
     }
 }
 
+/// The place stays where a value is the tuple, or the member that is alone in it.
+fn agrees_with_tuple<'s>(
+    alloc: Global,
+    whole: &Expr<'_>,
+    tuple: &Tuple<'s>,
+    place: &Place<'s>,
+    value: &Value<'_, 's>,
+) -> Result<Option<Place<'s>>, EvalFault<'s>>
+    ensures { Answers (rows.agrees_as (trees.span_of (tree whole.now)) tuple.now place.now value.now) result }
+{
+    match value {
+        Value::One(found) => {
+            agrees_whole(alloc, whole, tuple, place, &Tuple::single(found.again()))
+        }
+        Value::Several(found) => agrees_whole(alloc, whole, tuple, place, found),
+        _ => Err(refuse_tree(EvalDefect::KindMismatch, whole)),
+    }
+}
+
 /// The same of what is no tuple by its form.
 pub(crate) fn agrees_as<'s>(
     alloc: Global,
@@ -247,11 +274,9 @@ pub(crate) fn agrees_as<'s>(
 ) -> Result<Option<Place<'s>>, EvalFault<'s>>
     ensures { (wanted : Outcome Found) → Answers wanted value.entry → Answers (and_then wanted (rows.agrees_as (trees.span_of (tree whole.now)) tuple.now place.now)) result }
 {
-    match value? {
-        Value::One(member) => agrees_whole(alloc, whole, tuple, place, &Tuple::single(member)),
-        Value::Several(found) => agrees_whole(alloc, whole, tuple, place, &found),
-        Value::Many(_dimension, _tuples) => Err(refuse_tree(EvalDefect::KindMismatch, whole)),
-        Value::Truth(_truth) => Err(refuse_tree(EvalDefect::KindMismatch, whole)),
+    match value {
+        Ok(value) => agrees_with_tuple(alloc, whole, tuple, place, &value),
+        Err(fault) => Err(fault),
     }
 }
 

@@ -1,5 +1,4 @@
-use Rattle.std.proofs.Common.{ap, arith}
-use Rattle.std.proofs.lemmas.Grind.{common_steps}
+use Rattle.std.proofs.Common.{ap}
 use Rattle.net_tree.specs.Spans.{span_of}
 use Rattle.net_tree.specs.View.{tree}
 use Rattle.net_eval.specs.Operators.{apply}
@@ -29,39 +28,3 @@ returns-in-Within c =
 pub returns-in-NotWithin : goal.returns-in-NotWithin
 returns-in-NotWithin c =
     answers_by _ _ _ (ap (λ o. apply o (span_of (tree c.args.whole.now)) c.args.x.now c.args.y.now) c.in-NotWithin.is) (c.as_denial-in-NotWithin.ensures _ c.contained-in-NotWithin.ensures)
-
-pub returns-in-Minus : goal.returns-in-Minus
-returns-in-Minus c = grind (arith, common_steps)
-
-pub returns-in-Div : goal.returns-in-Div
-returns-in-Div c = grind (arith, common_steps)
-
-pub returns-in-Times : goal.returns-in-Times
-returns-in-Times c = grind (arith, common_steps)
-
-pub returns-in-Mod : goal.returns-in-Mod
-returns-in-Mod c = grind (arith, common_steps)
-
-pub returns-in-And : goal.returns-in-And
-returns-in-And c = grind (arith, common_steps)
-
-pub returns-in-Greater : goal.returns-in-Greater
-returns-in-Greater c = grind (arith, common_steps)
-
-pub returns-in-Range : goal.returns-in-Range
-returns-in-Range c = grind (arith, common_steps)
-
-pub returns-in-AtMost : goal.returns-in-AtMost
-returns-in-AtMost c = grind (arith, common_steps)
-
-pub returns-in-AtLeast : goal.returns-in-AtLeast
-returns-in-AtLeast c = grind (arith, common_steps)
-
-pub returns-in-Plus : goal.returns-in-Plus
-returns-in-Plus c = grind (arith, common_steps)
-
-pub returns-in-Cross : goal.returns-in-Cross
-returns-in-Cross c = grind (arith, common_steps)
-
-pub returns-in-Less : goal.returns-in-Less
-returns-in-Less c = grind (arith, common_steps)
