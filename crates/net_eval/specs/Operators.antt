@@ -18,13 +18,13 @@ use Rattle.net_eval.specs.Sets.{shared, set_of, cross, among, inside}
 abbrev pub of_numbers : Span → (ℤ → ℤ → Outcome Value) → Value → Value → Outcome Value
 of_numbers at f x y = and_then (number at x) (λ a. and_then (number at y) (f a))
 
--- how two numbers compare
-abbrev pub holds : Operation → ℤ → ℤ → Bool
-holds op.Less a b = int_lt a b
-holds op.AtMost a b = int_le a b
-holds op.Greater a b = int_lt b a
-holds op.AtLeast a b = int_le b a
-holds _ a b = false
+-- whether two numbers are in the order that a comparison asks for
+abbrev pub ordered : Operation → ℤ → ℤ → Bool
+ordered op.Less a b = int_lt a b
+ordered op.AtMost a b = int_le a b
+ordered op.Greater a b = int_lt b a
+ordered op.AtLeast a b = int_le b a
+ordered _ a b = false
 
 -- what an operator makes of two numbers
 abbrev pub of_two : Operation → Span → ℤ → ℤ → Outcome Value

@@ -141,9 +141,9 @@ fn remainder<'w, 's>(whole: &Expr<'_>, a: &i64, b: &i64) -> Result<Value<'w, 's>
     }
 }
 
-/// Whether two numbers compare so.
-fn holds(operation: Operation, a: &i64, b: &i64) -> bool
-    ensures { result ≡ operators.holds operation a.now b.now }
+/// Whether two numbers are in the order that a comparison asks for.
+fn ordered(operation: Operation, a: &i64, b: &i64) -> bool
+    ensures { result ≡ operators.ordered operation a.now b.now }
 {
     match operation {
         Operation::Less => *a < *b,
@@ -155,11 +155,13 @@ fn holds(operation: Operation, a: &i64, b: &i64) -> bool
 }
 
 fn compared<'w, 's>(operation: Operation, a: &i64, b: &i64) -> Result<Value<'w, 's>, EvalFault<'s>>
-    ensures { Answers (Ok (Truth (operators.holds operation a.now b.now))) result }
+    ensures { Answers (Ok (Truth (operators.ordered operation a.now b.now))) result }
 {
-    Ok(Value::Truth(holds(operation, a, b)))
+    Ok(Value::Truth(ordered(operation, a, b)))
 }
 
+/// What an operator that takes no numbers makes of them: a refusal, in a function of its own, as the borrow checker covers no
+/// join of answers that are handed on with one that is made in place.
 fn of_no_numbers<'w, 's>(whole: &Expr<'_>) -> Result<Value<'w, 's>, EvalFault<'s>>
     ensures { Answers (refused KindMismatch (trees.span_of (tree whole.now))) result }
 {
