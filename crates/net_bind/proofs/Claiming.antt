@@ -15,7 +15,7 @@ use Rattle.net_sets.proofs.Sames.{tuple_decides}
 use Rattle.net_tree.specs.Role.{role_of}
 use Rattle.net_tree.specs.Spans.{span_of}
 use Rattle.net_tree.specs.Tree.{Tree, plain, valued, priced, Body, Phrase}
-use Rattle.net_eval.specs.declared.fault.Detail.TheVariants.{Named}
+use Rattle.net_eval.specs.declared.fault.Detail.TheVariants.{Told}
 use Rattle.net_eval.specs.declared.fault.EvalDefect.TheVariants.{Arity}
 use Rattle.net_eval.specs.declared.value.Value.{Value}
 use Rattle.net_eval.specs.declared.value.Value.TheVariants.{One, Several, Many, Truth}
@@ -140,7 +140,7 @@ pub inside_all : (name : Token) (ts : List Tuple) (ps : List SetPhrase) (u : Uni
 inside_all name ts [] u h = tt
 inside_all name ts (p ∷ ps) u h = go (is_allowed ts p.claim) refl h (inside_all name ts ps u)
   where
-    go : (b : Bool) → is_allowed ts p.claim ≡ b → (if b then allowed name ts ps else refused_as Model Restriction p.at (Named name.text)) ≡ Ok u
+    go : (b : Bool) → is_allowed ts p.claim ≡ b → (if b then allowed name ts ps else refused_as Model Restriction p.at (Told name.text)) ≡ Ok u
         → (allowed name ts ps ≡ Ok u → AllByRecursion (λ (q : SetPhrase). is_allowed ts q.claim ≡ true) ps) → AllByRecursion (λ (q : SetPhrase). is_allowed ts q.claim ≡ true) (p ∷ ps)
     go true e k more = (e, more k)
     go false e k more = cc

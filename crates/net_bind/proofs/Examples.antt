@@ -1,5 +1,5 @@
 -- Worlds of models and their tables, worked out.
-use Rattle.std.specs.Prelude.{◌≡◌, ℕ, List, [], ◌∷◌, None, Some, Ok, Err, pos, codes}
+use Rattle.std.specs.Prelude.{◌≡◌, ℕ, true, List, [], ◌∷◌, None, Some, Ok, Err, pos, codes}
 use Rattle.std.proofs.Common.{refl}
 use Rattle.net_lex.specs.NumeralFront.{mantissa_at, power_at, numeral_at}
 use Rattle.net_lex.specs.Significands.{whole_value}
@@ -13,10 +13,11 @@ use Rattle.net_tree.specs.declared.expr.Operator.TheVariants as operator
 use Rattle.net_tree.specs.Role.{role_of, marks, keys}
 use Rattle.net_tree.specs.Spans.{span_of, span_between, braces_span}
 use Rattle.net_tree.specs.Tree.{leaf, none, link, absent, filled, valued, Braces, Phrase, Declaration, set, param}
-use Rattle.net_eval.specs.declared.fault.Detail.TheVariants.{Named, Keyed}
+use Rattle.net_eval.specs.declared.fault.Detail.TheVariants.{Told}
 use Rattle.net_eval.specs.declared.fault.EvalDefect.TheVariants.{OutsideSet}
 use Rattle.net_eval.specs.declared.world.Entry.TheVariants.{Set, Parameter}
 use Rattle.net_eval.specs.Limits.{is_small}
+use Rattle.net_eval.specs.References.{reference_text}
 use Rattle.net_eval.specs.Operations.{operations, operation, reduction, is_minus}
 use Rattle.net_eval.specs.Numbers.{number_in}
 use Rattle.net_bind.specs.declared.fault.BindDefect.TheVariants.{DoubleValue, NoSuchName, Value}
@@ -75,13 +76,13 @@ as_given = refl
 
 -- set S;    set S := b b;
 given_twice : world (set_s ∷ []) (given_s (name (codes "b") 9 10 ∷ name (codes "b") 11 12 ∷ []) ∷ [])
-    ≡ Err (record { defect = DoubleValue; text = texts.Data; at = record { start = 11; end = 12 }; detail = Named (codes "S") })
+    ≡ Err (record { defect = DoubleValue; text = texts.Data; at = record { start = 11; end = 12 }; detail = Told (codes "S") })
 unfolding role_of marks keys operations operation reduction is_minus is_small number_in numeral_at mantissa_at power_at whole_value span_of span_between braces_span member_in relation world
 given_twice = refl
 
 -- param p {1, 2} default 4;    set S := b;
 another_name : world (param_p ∷ []) (given_s (name (codes "b") 9 10 ∷ []) ∷ [])
-    ≡ Err (record { defect = NoSuchName; text = texts.Data; at = record { start = 4; end = 5 }; detail = Named (codes "S") })
+    ≡ Err (record { defect = NoSuchName; text = texts.Data; at = record { start = 4; end = 5 }; detail = Told (codes "S") })
 unfolding role_of marks keys operations operation reduction is_minus is_small number_in numeral_at mantissa_at power_at whole_value span_of span_between braces_span member_in relation world
 another_name = refl
 
@@ -97,6 +98,6 @@ row_and_default = refl
 
 -- param p {1, 2} default 4;    param p := 3 7;
 key_outside : world (param_p ∷ []) (given_p (number (codes "3") 11 12 ∷ number (codes "7") 13 14 ∷ []) ∷ [])
-    ≡ Err (record { defect = Value OutsideSet; text = texts.Data; at = record { start = 11; end = 12 }; detail = Keyed (codes "p") (members.Number (pos 3) ∷ []) })
+    ≡ Err (record { defect = Value OutsideSet; text = texts.Data; at = record { start = 11; end = 12 }; detail = Told (reference_text (codes "p") true (members.Number (pos 3) ∷ [])) })
 unfolding role_of marks keys operations operation reduction is_minus is_small number_in numeral_at mantissa_at power_at whole_value span_of span_between braces_span member_in relation world
 key_outside = refl

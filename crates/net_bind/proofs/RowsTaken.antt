@@ -9,7 +9,7 @@ use Rattle.net_lex.specs.declared.span.Span.{Span}
 use Rattle.net_lex.specs.declared.token.Token.{Token}
 use Rattle.net_sets.specs.Limits.{arity_limit, tuples_limit}
 use Rattle.net_sets.specs.Sets.{Tuple, same_tuple, has, added}
-use Rattle.net_eval.specs.declared.fault.Detail.TheVariants.{Named}
+use Rattle.net_eval.specs.declared.fault.Detail.TheVariants.{Told}
 use Rattle.net_eval.specs.declared.fault.EvalDefect.TheVariants.{Arity, TooMany}
 use Rattle.net_eval.proofs.Alike.{AreLong, all_added}
 use Rattle.net_eval.proofs.KeysOnce.{union_distinct}
@@ -75,7 +75,7 @@ member_more n word row ts us l h e = go (has ts (tuple_in row)) (nat_le (length 
     more : AreTaken n (added ts (tuple_in row))
     more = record { once = union_distinct ts (tuple_in row ∷ []) h.once; long = λ k. all_added (λ t. length t ≡ n) ts (tuple_in row) (h.long k) (tuple_long n row l k) }
 
-    go : (b c : Bool) → (if b then refused_as Data DoubleValue (begins_at word.span row) (Named word.text) else if c then (let o : Outcome (List Tuple) = Ok (added ts (tuple_in row)) in o) else refused_there TooMany (begins_at word.span row)) ≡ Ok us → AreTaken n us
+    go : (b c : Bool) → (if b then refused_as Data DoubleValue (begins_at word.span row) (Told word.text) else if c then (let o : Outcome (List Tuple) = Ok (added ts (tuple_in row)) in o) else refused_there TooMany (begins_at word.span row)) ≡ Ok us → AreTaken n us
     go true c i = cc
     go false true i = subst (AreTaken n) (is_ok (added ts (tuple_in row)) us i) more
     go false false i = cc

@@ -5,7 +5,7 @@ use Rattle.net_lex.specs.declared.token.Token.{Token}
 use Rattle.net_sets.specs.Operations.{is_within}
 use Rattle.net_sets.specs.Sets.{Tuple}
 use Rattle.net_tree.specs.Tree.{Phrase}
-use Rattle.net_eval.specs.declared.fault.Detail.TheVariants.{Named}
+use Rattle.net_eval.specs.declared.fault.Detail.TheVariants.{Told}
 use Rattle.net_eval.specs.declared.fault.EvalDefect.TheVariants.{NoValue}
 use Rattle.net_eval.specs.declared.world.Entry.{Entry}
 use Rattle.net_eval.specs.declared.world.Entry.TheVariants.{Set}
@@ -24,7 +24,7 @@ use Rattle.net_bind.specs.SetData.{given_set}
 abbrev pub one_of : Token → Option (List Tuple) → Option (List Tuple) → Outcome (List Tuple)
 one_of name (Some ts) found = Ok ts
 one_of name None (Some ts) = Ok ts
-one_of name None None = refused_as Model (Value NoValue) name.span (Named name.text)
+one_of name None None = refused_as Model (Value NoValue) name.span (Told name.text)
 
 abbrev pub is_allowed : List Tuple → Claim → Bool
 is_allowed ts (claims.Within d within) = is_within ts within
@@ -35,7 +35,7 @@ is_allowed ts (claims.Becomes d us) = true
 -- each set that it has to be within has its members
 abbrev pub allowed : Token → List Tuple → List SetPhrase → Outcome (Unit {0})
 allowed name ts [] = Ok tt
-allowed name ts (p ∷ ps) = if is_allowed ts p.claim then allowed name ts ps else refused_as Model Restriction p.at (Named name.text)
+allowed name ts (p ∷ ps) = if is_allowed ts p.claim then allowed name ts ps else refused_as Model Restriction p.at (Told name.text)
 
 abbrev pub set_of : List ℕ → Token → List Mention → Claims → Outcome Entry
 set_of widths name ms c =

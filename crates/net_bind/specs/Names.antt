@@ -3,7 +3,7 @@ use Rattle.std.specs.Prelude.{ℕ, ◌+◌, Bool, true, false, List, [], ◌∷�
 use Rattle.std.specs.Str.{bytes_eq}
 use Rattle.net_lex.specs.declared.language.Language.TheVariants.{Data}
 use Rattle.net_lex.specs.declared.token.Token.{Token}
-use Rattle.net_eval.specs.declared.fault.Detail.TheVariants.{Named}
+use Rattle.net_eval.specs.declared.fault.Detail.TheVariants.{Told}
 use Rattle.net_eval.specs.Worlds.{Name}
 use Rattle.net_tree.specs.Tree.{Declaration, set, param, check, node, arc, objective}
 use Rattle.net_bind.specs.declared.fault.BindDefect.TheVariants.{NoSuchName}
@@ -34,7 +34,7 @@ as_wanted true (Some p) = if p.1 then Some p.0 else None
 as_wanted false (Some p) = if p.1 then None else Some p.0
 
 abbrev pub at_place : Token → Option ℕ → Outcome ℕ
-at_place t None = refused_as Data NoSuchName t.span (Named t.text)
+at_place t None = refused_as Data NoSuchName t.span (Told t.text)
 at_place t (Some i) = Ok i
 
 -- the place of the set, or of the parameter, that a word of the data names

@@ -7,7 +7,7 @@ use Rattle.net_lex.specs.declared.token.Token.{Token}
 use Rattle.net_sets.specs.Limits.{tuples_limit}
 use Rattle.net_sets.specs.Sets.{Tuple, has, added}
 use Rattle.net_data.specs.Rows.{points, groups, first_item, begins_tuple, more_items}
-use Rattle.net_eval.specs.declared.fault.Detail.TheVariants.{Named}
+use Rattle.net_eval.specs.declared.fault.Detail.TheVariants.{Told}
 use Rattle.net_eval.specs.declared.fault.EvalDefect.TheVariants.{Arity, TooMany}
 use Rattle.net_bind.specs.declared.fault.BindDefect.TheVariants.{DoubleValue}
 use Rattle.net_bind.specs.declared.given.Given.{Given}
@@ -94,13 +94,13 @@ given_rows widths n word (given.Grid g) = Ok []
 -- a member more, which the set does not have
 abbrev pub with_member : Token → List Token → List Tuple → Outcome (List Tuple)
 with_member word row ts =
-    if has ts (tuple_in row) then refused_as Data DoubleValue (begins_at word.span row) (Named word.text)
+    if has ts (tuple_in row) then refused_as Data DoubleValue (begins_at word.span row) (Told word.text)
     else if nat_le (length (added ts (tuple_in row))) tuples_limit then Ok (added ts (tuple_in row))
     else refused_there TooMany (begins_at word.span row)
 
 -- the name of a statement gives what was given before
 abbrev pub doubled : {A : Type 0} → Token → Outcome A
-doubled word = refused_as Data DoubleValue word.span (Named word.text)
+doubled word = refused_as Data DoubleValue word.span (Told word.text)
 
 -- a statement that gives the set, unless it is given already
 abbrev pub with_statement : List ℕ → ℕ → Bool → Mention → Option (List Tuple) → Outcome (Option (List Tuple))

@@ -18,7 +18,7 @@ fn hold<'s>(
     seen: &Seen<'_, 's>,
     condition: &Expr<'s>,
     rows: &[Row<'s>],
-) -> Result<(), BindFault<'s>>
+) -> Result<(), BindFault>
     ensures { Answers (binding.hold seen.now (tree condition.now) rows.now) result }
 {
     for row in rows {
@@ -39,7 +39,7 @@ fn checked<'s>(
     seen: &Seen<'_, 's>,
     braces: &Option<Braces<'s>>,
     condition: &Expr<'s>,
-) -> Result<(), BindFault<'s>>
+) -> Result<(), BindFault>
     ensures { Answers (binding.checked seen.now (indexing_of braces.now) (tree condition.now)) result }
 {
     let keys = keys_in(alloc, seen, braces)?;
@@ -51,7 +51,7 @@ fn check_one<'s>(
     world: &World<'s>,
     decl: &Decl<'s>,
     known: usize,
-) -> Result<usize, BindFault<'s>>
+) -> Result<usize, BindFault>
     requires { known + 1 < 2 ^ 64 }
     ensures value { Answers (binding.check_one world.now (declaration_of decl.now) known) result }
     ensures few { IfOk result (λ k. k ≤ known + 1) }
@@ -74,7 +74,7 @@ pub(crate) fn all_checked<'s>(
     alloc: Global,
     world: &World<'s>,
     decls: &[Decl<'s>],
-) -> Result<usize, BindFault<'s>>
+) -> Result<usize, BindFault>
     ensures { Answers (each (binding.check_one world.now) (map declaration_of decls.now) 0) result }
 {
     let mut known = 0;

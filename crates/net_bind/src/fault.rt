@@ -1,13 +1,15 @@
-ghost use Rattle.std.specs.Prelude.{◌≡◌};
+ghost use Rattle.std.specs.Prelude.{◌≡◌, IfOk};
 ghost use Rattle.net_lex.specs.declared.language.Language.TheVariants.{Model as InModel};
-ghost use Rattle.net_eval.specs.declared.fault.Detail.TheVariants.{Nothing};
+ghost use Rattle.net_eval.specs.declared.fault.Detail.TheVariants.{Nothing, Told};
+ghost use Rattle.net_eval.specs.Worlds as worlds;
 ghost use Rattle.net_bind.specs.declared.fault.BindFault.TheVariants.{Refused};
 ghost use Rattle.net_bind.specs.declared.fault.BindDefect.TheVariants.{Value as AValue};
 ghost use Rattle.net_bind.specs.Faults.{number_of, name_of};
 
-use net_eval::{Detail, EvalDefect, EvalFault};
-use net_lex::{Language, Span};
-use std::alloc::{AllocError, AllocFailed};
+use net_eval::{Detail, EvalDefect, EvalFault, told_name, told_reference};
+use net_lex::{Excerpt, Language, Span};
+use net_sets::Tuple;
+use std::alloc::{AllocError, AllocFailed, Global};
 
 /// What is wrong with a model and its tables.
 #[derive(Clone, Copy)]
@@ -54,50 +56,50 @@ impl BindDefect {
 
 /// A fault, and the part of the model text or of the data text that has it.
 #[derive(Drop)]
-pub struct Refusal<'s> {
+pub struct Refusal {
     pub defect: BindDefect,
     /// Which of the two texts it is in.
     pub text: Language,
     pub at: Span,
-    pub detail: Detail<'s>,
+    pub detail: Detail,
 }
 
 /// Why a model and its tables have no world.
 #[derive(Drop)]
-pub enum BindFault<'s> {
+pub enum BindFault {
     OutOfMemory,
-    Refused(Refusal<'s>),
+    Refused(Refusal),
 }
 
-impl<'s> From<AllocError> for BindFault<'s> {
+impl From<AllocError> for BindFault {
     ghost use Rattle.std.specs.Prelude.{◌≡◌};
     ghost use Rattle.net_bind.specs.declared.fault.BindFault.TheVariants.{OutOfMemory};
 
     ghost from_gives = { λ _ e. e ≡ OutOfMemory };
 
-    fn from(_refused: AllocError) -> BindFault<'s> {
+    fn from(_refused: AllocError) -> BindFault {
         BindFault::OutOfMemory
     }
 }
 
-impl<'s, T: Drop> From<AllocFailed<T>> for BindFault<'s> {
+impl<T: Drop> From<AllocFailed<T>> for BindFault {
     ghost use Rattle.std.specs.Prelude.{◌≡◌};
     ghost use Rattle.net_bind.specs.declared.fault.BindFault.TheVariants.{OutOfMemory};
 
     ghost from_gives = { λ _ e. e ≡ OutOfMemory };
 
-    fn from(_refused: AllocFailed<T>) -> BindFault<'s> {
+    fn from(_refused: AllocFailed<T>) -> BindFault {
         BindFault::OutOfMemory
     }
 }
 
-impl<'s> From<EvalFault<'s>> for BindFault<'s> {
+impl From<EvalFault> for BindFault {
     ghost use Rattle.std.specs.Prelude.{◌≡◌};
     ghost use Rattle.net_bind.specs.Told.{told};
 
     ghost from_gives = { λ fault e. e ≡ told fault };
 
-    fn from(fault: EvalFault<'s>) -> BindFault<'s> {
+    fn from(fault: EvalFault) -> BindFault {
         match fault {
             EvalFault::OutOfMemory => BindFault::OutOfMemory,
             EvalFault::Refused(refusal) => BindFault::Refused(Refusal {
@@ -111,7 +113,7 @@ impl<'s> From<EvalFault<'s>> for BindFault<'s> {
 }
 
 /// A fault in the model text, of an expression there.
-pub(crate) fn refuse<'s>(defect: EvalDefect, at: Span) -> BindFault<'s>
+pub(crate) fn refuse(defect: EvalDefect, at: Span) -> BindFault
     ensures { result ≡ Refused (record { defect = AValue defect; text = InModel; at = at; detail = Nothing }) }
 {
     refuse_in(
@@ -123,13 +125,8 @@ pub(crate) fn refuse<'s>(defect: EvalDefect, at: Span) -> BindFault<'s>
 }
 
 /// A fault in one of the texts, with what is told beside its place.
-pub(crate) fn refuse_in<'s>(
-    text: Language,
-    defect: BindDefect,
-    at: Span,
-    detail: Detail<'s>,
-) -> BindFault<'s>
-    ensures { result ≡ Refused (record { defect = defect; text = text; at = at; detail = detail.entry }) }
+pub(crate) fn refuse_in(text: Language, defect: BindDefect, at: Span, detail: Detail) -> BindFault
+    ensures { result ≡ Refused (record { defect = defect; text = text; at = at; detail = detail }) }
 {
     BindFault::Refused(Refusal {
         defect,
@@ -137,4 +134,34 @@ pub(crate) fn refuse_in<'s>(
         at,
         detail,
     })
+}
+
+/// A fault of a name, or of a part of what has this name; the name is told.
+pub(crate) fn refuse_name(
+    alloc: Global,
+    text: Language,
+    defect: BindDefect,
+    at: Span,
+    name: &Excerpt<'_>,
+) -> Result<BindFault, AllocError>
+    ensures { IfOk result (λ f. f ≡ Refused (record { defect = defect; text = text; at = at; detail = Told name.now })) }
+{
+    let detail = told_name(alloc, name)?;
+    Ok(refuse_in(text, defect, at, detail))
+}
+
+/// A fault of a parameter at a key, or of its value there; the parameter is told with the key.
+pub(crate) fn refuse_key(
+    alloc: Global,
+    text: Language,
+    defect: BindDefect,
+    at: Span,
+    name: &Excerpt<'_>,
+    keys: Option<u8>,
+    key: &Tuple<'_>,
+) -> Result<BindFault, AllocError>
+    ensures { IfOk result (λ f. f ≡ Refused (record { defect = defect; text = text; at = at; detail = worlds.reference name.now keys key.now })) }
+{
+    let detail = told_reference(alloc, name, keys, key)?;
+    Ok(refuse_in(text, defect, at, detail))
 }

@@ -17,7 +17,7 @@ use net_lex::{Items, Kind, Language, Span};
 use std::alloc::{AllocError, Global};
 
 /// A fault in the data text, of the kind that expressions may have too.
-pub(crate) fn refuse_there<'s>(defect: EvalDefect, at: Span) -> BindFault<'s>
+pub(crate) fn refuse_there(defect: EvalDefect, at: Span) -> BindFault
     ensures { result ≡ Refused (record { defect = AValue defect; text = InData; at = at; detail = Nothing }) }
 {
     refuse_in(
@@ -47,7 +47,7 @@ pub(crate) fn is_point(kind: Kind) -> bool
     }
 }
 
-fn without_points<'s>(key: &[Cell<'_, 's>]) -> Result<(), BindFault<'s>>
+fn without_points(key: &[Cell<'_, '_>]) -> Result<(), BindFault>
     ensures { Answers (set_data.without_points key.now) result }
 {
     for cell in key {
@@ -72,12 +72,12 @@ fn is_whole(keys: usize, values: usize, len: usize) -> bool
     len >= keys && len - keys == values
 }
 
-fn whole_group<'s>(
+fn whole_group(
     at: Span,
     keys: usize,
     values: usize,
-    group: &[Cell<'_, 's>],
-) -> Result<(), BindFault<'s>>
+    group: &[Cell<'_, '_>],
+) -> Result<(), BindFault>
     ensures { Answers (set_data.whole_group at keys (keys + values) group.now) result }
 {
     if is_whole(keys, values, group.len()) {
@@ -145,12 +145,12 @@ pub(crate) fn cut<'c, 't, 's>(
 }
 
 /// Each group is as long as it has to be, and has no point in its key.
-pub(crate) fn whole_groups<'s>(
+pub(crate) fn whole_groups(
     at: Span,
     keys: usize,
     values: usize,
-    groups: &[Line<'_, '_, 's>],
-) -> Result<(), BindFault<'s>>
+    groups: &[Line<'_, '_, '_>],
+) -> Result<(), BindFault>
     ensures { Answers (set_data.whole_groups at keys (keys + values) groups.now) result }
 {
     for group in groups {
@@ -160,11 +160,11 @@ pub(crate) fn whole_groups<'s>(
 }
 
 /// Each row has so many members.
-pub(crate) fn all_of_size<'s>(
+pub(crate) fn all_of_size(
     at: Span,
     size: usize,
-    rows: &[Items<Cell<'_, 's>>],
-) -> Result<(), BindFault<'s>>
+    rows: &[Items<Cell<'_, '_>>],
+) -> Result<(), BindFault>
     ensures { Answers (set_data.all_of_size at size rows.now) result }
 {
     for row in rows {

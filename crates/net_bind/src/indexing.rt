@@ -17,7 +17,7 @@ use net_tree::{Braces, braces_span};
 use std::alloc::{AllocError, Global};
 
 /// One key without members, where there are no braces.
-fn lone_key<'s>(alloc: Global) -> Result<Keys<'s>, BindFault<'s>>
+fn lone_key<'s>(alloc: Global) -> Result<Keys<'s>, BindFault>
     ensures { Answers (Ok bound.lone_key) result }
 {
     let mut rows = Vec::new(alloc);
@@ -36,7 +36,7 @@ pub(crate) fn keys_in<'s>(
     alloc: Global,
     seen: &Seen<'_, 's>,
     braces: &Option<Braces<'s>>,
-) -> Result<Keys<'s>, BindFault<'s>>
+) -> Result<Keys<'s>, BindFault>
     ensures { Answers (bound.keys_in seen.now (indexing_of braces.now)) result }
 {
     match braces {
@@ -90,7 +90,7 @@ pub(crate) fn index_list<'s>(
     alloc: Global,
     at: Span,
     rows: &[Row<'s>],
-) -> Result<Boxed<TupleSet<'s>>, BindFault<'s>>
+) -> Result<Boxed<TupleSet<'s>>, BindFault>
     ensures { Answers (bound.index_list at rows.now) result }
 {
     let keys = keys_of(alloc, rows)?;

@@ -31,7 +31,7 @@ fn add<'m, 't, 's>(
     place: usize,
     mention: Mention<'m, 't, 's>,
     all: &mut Vec<Mentions<'m, 't, 's>>,
-) -> Result<(), BindFault<'s>>
+) -> Result<(), BindFault>
     ensures { Leaves (Ok (mentions.with_mention place mention.entry all.old.items)) result all.new.items }
 {
     if place < all.len() {
@@ -41,11 +41,11 @@ fn add<'m, 't, 's>(
 }
 
 /// `set S := a b;`
-fn in_set<'m, 't, 's>(
+fn in_set<'t, 's>(
     names: &Names<'s>,
     set: &SetStatement<'t, 's>,
-    all: &mut Vec<Mentions<'m, 't, 's>>,
-) -> Result<(), BindFault<'s>>
+    all: &mut Vec<Mentions<'_, 't, 's>>,
+) -> Result<(), BindFault>
     ensures { Leaves (mentions.in_statement names.now (Statements.Set set.now) all.old.items) result all.new.items }
 {
     let word = Cell::new(set.name.token());
@@ -68,7 +68,7 @@ fn in_list<'m, 't, 's>(
     list: &ListStatement<'t, 's>,
     cells: &'m [Cell<'t, 's>],
     all: &mut Vec<Mentions<'m, 't, 's>>,
-) -> Result<(), BindFault<'s>>
+) -> Result<(), BindFault>
     requires { cells.now ≡ mentions.given_cells list.now.given }
     ensures { Leaves (mentions.in_statement names.now (Statements.List list.now) all.old.items) result all.new.items }
 {
@@ -99,7 +99,7 @@ fn in_table<'m, 't, 's>(
     columns: &'m [Cell<'t, 's>],
     cells: &'m [Cell<'t, 's>],
     all: &mut Vec<Mentions<'m, 't, 's>>,
-) -> Result<(), BindFault<'s>>
+) -> Result<(), BindFault>
     requires heading { columns.now ≡ table.now.columns }
     requires cells { cells.now ≡ table.now.cells }
     ensures { Leaves (mentions.in_statement names.now (Statements.Table table.now) all.old.items) result all.new.items }
@@ -126,7 +126,7 @@ fn in_table<'m, 't, 's>(
 fn set_first<'s>(
     names: &Names<'s>,
     set: &Option<NamedSet<'_, 's>>,
-) -> Result<Option<usize>, BindFault<'s>>
+) -> Result<Option<usize>, BindFault>
     ensures { Answers (mentions.set_first names.now set.now) result }
 {
     match set {
@@ -152,7 +152,7 @@ fn first_of<'s>(
     names: &Names<'s>,
     words: &[Cell<'_, 's>],
     before: Option<usize>,
-) -> Result<Option<usize>, BindFault<'s>>
+) -> Result<Option<usize>, BindFault>
     ensures { Answers (mentions.first_of names.now words.now before) result }
 {
     let mut first = before;
@@ -169,7 +169,7 @@ fn in_heading<'m, 't, 's>(
     words: &[Cell<'t, 's>],
     cells: &'m [Cell<'t, 's>],
     all: &mut Vec<Mentions<'m, 't, 's>>,
-) -> Result<(), BindFault<'s>>
+) -> Result<(), BindFault>
     ensures { Leaves (mentions.headed names.now leader (length words.now) cells.entry.now 0 words.now all.old.items) result all.new.items }
 {
     for (place, word) in words.iter().enumerate() {
@@ -187,7 +187,7 @@ fn headed<'m, 't, 's>(
     word: &Cell<'t, 's>,
     cells: &'m [Cell<'t, 's>],
     all: &mut Vec<Mentions<'m, 't, 's>>,
-) -> Result<(), BindFault<'s>>
+) -> Result<(), BindFault>
     ensures { Leaves (mentions.mentioned names.now false word.now (λ i. mentions.mention word.now None (mentions.grouped leader values place cells.entry.now)) all.old.items) result all.new.items }
 {
     let target = names.target(false, word)?;
@@ -202,7 +202,7 @@ fn add_group<'m, 't, 's>(
     place: usize,
     cells: &'m [Cell<'t, 's>],
     all: &mut Vec<Mentions<'m, 't, 's>>,
-) -> Result<(), BindFault<'s>>
+) -> Result<(), BindFault>
     ensures { Leaves (Ok (mentions.with_mention target (mentions.mention word.entry None (mentions.grouped leader values place cells.entry.now)) all.old.items)) result all.new.items }
 {
     let given = Given::Groups(Groups {
@@ -230,7 +230,7 @@ fn set_headed<'m, 't, 's>(
     set: &Option<NamedSet<'t, 's>>,
     cells: &'m [Cell<'t, 's>],
     all: &mut Vec<Mentions<'m, 't, 's>>,
-) -> Result<(), BindFault<'s>>
+) -> Result<(), BindFault>
     ensures { Leaves (mentions.set_headed names.now leader values cells.entry.now set.now all.old.items) result all.new.items }
 {
     match set {
@@ -250,7 +250,7 @@ fn in_columns<'m, 't, 's>(
     words: &[Cell<'t, 's>],
     cells: &'m [Cell<'t, 's>],
     all: &mut Vec<Mentions<'m, 't, 's>>,
-) -> Result<(), BindFault<'s>>
+) -> Result<(), BindFault>
     ensures { Leaves (mentions.in_columns names.now set.now words.now cells.entry.now all.old.items) result all.new.items }
 {
     let before = set_first(names, set)?;
@@ -263,7 +263,7 @@ fn in_statement<'m, 't, 's>(
     names: &Names<'s>,
     sheet: &'m Laid<'m, 't, 's>,
     all: &mut Vec<Mentions<'m, 't, 's>>,
-) -> Result<(), BindFault<'s>>
+) -> Result<(), BindFault>
     ensures { Leaves (mentions.in_statement names.now sheet.entry.now all.old.items) result all.new.items }
 {
     match sheet.statement() {
@@ -298,7 +298,7 @@ pub(crate) fn said<'m, 't, 's>(
     alloc: Global,
     names: &Names<'s>,
     statements: &'m [Laid<'m, 't, 's>],
-) -> Result<Items<Mentions<'m, 't, 's>>, BindFault<'s>>
+) -> Result<Items<Mentions<'m, 't, 's>>, BindFault>
     ensures { Answers (mentions.said names.now statements.entry.now) result }
 {
     let mut all = unsaid(alloc, names)?;

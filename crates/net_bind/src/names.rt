@@ -8,8 +8,7 @@ ghost use Rattle.net_bind.specs.Names as names;
 ghost use Rattle.net_bind.specs.Outcomes.{Answers};
 
 use crate::cell::Cell;
-use crate::fault::{BindDefect, BindFault, refuse_in};
-use net_eval::Detail;
+use crate::fault::{BindDefect, BindFault, refuse_name};
 use net_lex::{Excerpt, Language};
 use net_tree::Decl;
 use std::alloc::{AllocError, Global};
@@ -20,6 +19,7 @@ use std::marker::Model;
 /// slow.
 #[derive(Drop)]
 pub(crate) struct Names<'s> {
+    alloc: Global,
     names: Vec<(Excerpt<'s>, bool)>,
     places: BTreeMap<&'s str, (usize, bool)>,
 }
@@ -69,6 +69,7 @@ impl<'s> Names<'s> {
         ensures { result ≡ [] }
     {
         Names {
+            alloc,
             names: Vec::new(alloc),
             places: BTreeMap::new(alloc),
         }
@@ -79,13 +80,18 @@ impl<'s> Names<'s> {
         ensures { IfOk result (λ all. all ≡ self.entry ++ (name.now, is_set) ∷ []) }
     {
         let Names {
+            alloc,
             mut names,
             mut places,
         } = self;
         let place = names.len();
         remember(&mut places, name, place, is_set)?;
         names.push((name.again(), is_set))?;
-        Ok(Names { names, places })
+        Ok(Names {
+            alloc,
+            names,
+            places,
+        })
     }
 
     /// The names in order.
@@ -103,18 +109,19 @@ impl<'s> Names<'s> {
     }
 
     /// The place of the set, or of the parameter, that a word of the data names.
-    pub(crate) fn target(&self, is_set: bool, word: &Cell<'_, 's>) -> Result<usize, BindFault<'s>>
+    pub(crate) fn target(&self, is_set: bool, word: &Cell<'_, 's>) -> Result<usize, BindFault>
         ensures { Answers (names.target self.now is_set word.now) result }
     {
         let token = word.token();
         match self.find(&token.text) {
             Some((place, found)) if found == is_set => Ok(place),
-            _ => Err(refuse_in(
+            _ => Err(refuse_name(
+                self.alloc,
                 Language::Data,
                 BindDefect::NoSuchName,
                 token.span,
-                Detail::Named(token.text.again()),
-            )),
+                &token.text,
+            )?),
         }
     }
 }

@@ -14,7 +14,6 @@ use crate::given::Mention;
 use crate::indexing::{index_list, key_size, keys_in, span_or};
 use crate::param_data::said_of;
 use crate::restriction::restricted;
-use crate::row::reference;
 use crate::source::{source, source_at, source_text, with_keys};
 use crate::stored::{boxed, unboxed};
 use net_eval::{Detail, Entry, EvalDefect, Row, Seen};
@@ -105,13 +104,13 @@ fn cell_of(places: &[Span], place: Option<usize>) -> Option<Span>
 }
 
 /// A text is a value only of a parameter that takes texts.
-fn fit_kind<'s>(
+fn fit_kind(
     texts: bool,
     text: Language,
     at: Span,
     cell: Option<Span>,
-    member: &Member<'s>,
-) -> Result<(), BindFault<'s>>
+    member: &Member<'_>,
+) -> Result<(), BindFault>
     ensures { Answers (bound.fit_kind texts text at cell member.now) result }
 {
     if texts || is_number(member) {
@@ -135,7 +134,7 @@ fn fit_value<'s>(
     places: &[Span],
     table: &Table<'s>,
     row: &Row<'s>,
-) -> Result<(), BindFault<'s>>
+) -> Result<(), BindFault>
     ensures { Answers (bound.fit_row seen.now name.now keys (map phrase_of phrases.now) text at places.now table.now row.now) result }
 {
     match table.get(&row.key) {
@@ -143,8 +142,7 @@ fn fit_value<'s>(
         Some(member) => {
             let cell = cell_of(places, table.keys().position(&row.key));
             fit_kind(takes_texts(phrases), text, at, cell, member)?;
-            let detail = reference(&name.text, keys, &row.key);
-            restricted(alloc, seen, &row.scope, &detail, member, phrases)
+            restricted(alloc, seen, &name.text, keys, row, member, phrases)
         }
     }
 }
@@ -161,7 +159,7 @@ fn fit_values<'s>(
     places: &[Span],
     table: &Table<'s>,
     rows: &[Row<'s>],
-) -> Result<(), BindFault<'s>>
+) -> Result<(), BindFault>
     ensures { Answers (bound.fit_values seen.now name.now keys (map phrase_of phrases.now) text at places.now table.now rows.now) result }
 {
     for row in rows {
@@ -184,7 +182,7 @@ fn with_values<'s>(
     rows: &[Row<'s>],
     places: &[Span],
     table: &mut Table<'s>,
-) -> Result<(), BindFault<'s>>
+) -> Result<(), BindFault>
     ensures { Leaves (bound.values seen.now name.now keys (map phrase_of phrases.now) (bound.as_tree (option_copied expr.entry), option_copied word.entry) rows.now (table.old, places.now)) result table.new }
 {
     with_keys(alloc, seen, name.span, expr, word, rows, table)?;
@@ -214,7 +212,7 @@ fn with_source<'s>(
     rows: &[Row<'s>],
     places: &[Span],
     table: &mut Table<'s>,
-) -> Result<(), BindFault<'s>>
+) -> Result<(), BindFault>
     ensures { Leaves (bound.values seen.now name.now keys (map phrase_of phrases.now) (bound.source (bound.phrase_value gives.Becomes (map phrase_of phrases.now)) (option_copied default.entry) (bound.phrase_value gives.Default (map phrase_of phrases.now))) rows.now (table.old, places.now)) result table.new }
 {
     let assigned = phrase_value(Gives::Becomes, phrases);
@@ -249,7 +247,7 @@ fn filled<'s>(
     rows: &[Row<'s>],
     index: &TupleSet<'s>,
     table: &mut Table<'s>,
-) -> Result<(), BindFault<'s>>
+) -> Result<(), BindFault>
     requires { table.old ≡ [] }
     ensures { Leaves (bound.filled seen.now widths.now name.now (map phrase_of phrases.now) mentions.now keys rows.now index.now) result table.new }
 {
@@ -288,7 +286,7 @@ fn with_data<'s>(
     keys: Option<u8>,
     rows: &[Row<'s>],
     index: Boxed<TupleSet<'s>>,
-) -> Result<Boxed<Entry<'s>>, BindFault<'s>>
+) -> Result<Boxed<Entry<'s>>, BindFault>
     ensures { Answers (bound.with_data seen.now widths.now name.now (map phrase_of phrases.now) mentions.now keys rows.now index.entry) result }
 {
     let mut table = Table::new(alloc);
@@ -316,7 +314,7 @@ pub(crate) fn bound_parameter<'s>(
     braces: &Option<Braces<'s>>,
     phrases: &[Phrase<'s>],
     mentions: &[Mention<'_, '_, 's>],
-) -> Result<Boxed<Entry<'s>>, BindFault<'s>>
+) -> Result<Boxed<Entry<'s>>, BindFault>
     ensures { Answers (bound.bound_parameter seen.now widths.now name.now (indexing_of braces.now) (map phrase_of phrases.now) mentions.now) result }
 {
     let keys = keys_in(alloc, seen, braces)?;

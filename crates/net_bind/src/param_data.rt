@@ -17,7 +17,7 @@ use net_lex::Span;
 use net_sets::{Table, TupleSet};
 use std::alloc::Global;
 
-fn has_two<'s>(word: &Cell<'_, 's>, keys: usize) -> Result<(), BindFault<'s>>
+fn has_two(word: &Cell<'_, '_>, keys: usize) -> Result<(), BindFault>
     ensures { Answers (rows.has_two word.now keys) result }
 {
     if keys == 2 {
@@ -39,7 +39,7 @@ fn across<'t, 's>(
     cells: &[Cell<'t, 's>],
     table: &mut Table<'s>,
     places: &mut Vec<Span>,
-) -> Result<(), BindFault<'s>>
+) -> Result<(), BindFault>
     ensures { Leaves (rows.across word.now keys index.now transposed row.now columns.now cells.now (table.old, places.old.items)) result (table.new, places.new.items) }
 {
     for (place, column) in columns.iter().enumerate() {
@@ -47,7 +47,16 @@ fn across<'t, 's>(
             return Ok(());
         };
         let key = pair_of(alloc, transposed, row, column)?;
-        with_cell(word, keys, index, key.as_slice(), cell, table, places)?;
+        with_cell(
+            alloc,
+            word,
+            keys,
+            index,
+            key.as_slice(),
+            cell,
+            table,
+            places,
+        )?;
     }
     Ok(())
 }
@@ -61,7 +70,7 @@ fn with_line<'t, 's>(
     line: &[Cell<'t, 's>],
     table: &mut Table<'s>,
     places: &mut Vec<Span>,
-) -> Result<(), BindFault<'s>>
+) -> Result<(), BindFault>
     ensures { Leaves (rows.with_line word.now keys index.now grid.now.transposed grid.now.columns line.now (table.old, places.old.items)) result (table.new, places.new.items) }
 {
     match line {
@@ -90,7 +99,7 @@ fn with_lines<'t, 's>(
     lines: &[Line<'_, 't, 's>],
     table: &mut Table<'s>,
     places: &mut Vec<Span>,
-) -> Result<(), BindFault<'s>>
+) -> Result<(), BindFault>
     ensures { Leaves (each (rows.with_line word.now keys index.now grid.now.transposed grid.now.columns) lines.now (table.old, places.old.items)) result (table.new, places.new.items) }
 {
     for line in lines {
@@ -111,16 +120,17 @@ fn grouped<'t, 's>(
     is_doubled: bool,
     table: &mut Table<'s>,
     places: &mut Vec<Span>,
-) -> Result<(), BindFault<'s>>
+) -> Result<(), BindFault>
     ensures { Leaves (rows.taken widths.now keys index.now size word.now (given.Groups groups.now) is_doubled (table.old, places.old.items)) result (table.new, places.new.items) }
 {
     agrees(word, told_by(widths, groups.leader, size), size)?;
     let cells = cut(alloc, size, groups.values, groups.cells.cells())?;
     whole_groups(word.token().span, size, groups.values, cells.as_slice())?;
     if is_doubled {
-        return Err(doubled(word));
+        return Err(doubled(alloc, word)?);
     }
     with_groups(
+        alloc,
         word,
         keys,
         index,
@@ -143,7 +153,7 @@ fn gridded<'t, 's>(
     is_doubled: bool,
     table: &mut Table<'s>,
     places: &mut Vec<Span>,
-) -> Result<(), BindFault<'s>>
+) -> Result<(), BindFault>
     ensures { Leaves (rows.taken [] keys index.now size word.now (given.Grid grid.now) is_doubled (table.old, places.old.items)) result (table.new, places.new.items) }
 {
     has_two(word, size)?;
@@ -151,7 +161,7 @@ fn gridded<'t, 's>(
     let lines = cut(alloc, 1, columns.len(), grid.cells.cells())?;
     whole_groups(word.token().span, 1, columns.len(), lines.as_slice())?;
     if is_doubled {
-        return Err(doubled(word));
+        return Err(doubled(alloc, word)?);
     }
     with_lines(
         alloc,
@@ -165,24 +175,24 @@ fn gridded<'t, 's>(
     )
 }
 
-fn taken<'t, 's>(
+fn taken<'s>(
     alloc: Global,
     widths: &[usize],
     keys: Option<u8>,
     index: &TupleSet<'s>,
     size: usize,
-    mention: &Mention<'_, 't, 's>,
+    mention: &Mention<'_, '_, 's>,
     is_doubled: bool,
     table: &mut Table<'s>,
     places: &mut Vec<Span>,
-) -> Result<(), BindFault<'s>>
+) -> Result<(), BindFault>
     ensures { Leaves (rows.taken widths.now keys index.now size mention.now.word mention.now.given is_doubled (table.old, places.old.items)) result (table.new, places.new.items) }
 {
     let word = &mention.word;
     match &mention.given {
         Given::Members(_) => {
             if is_doubled {
-                Err(doubled(word))
+                Err(doubled(alloc, word)?)
             } else {
                 Ok(())
             }
@@ -218,7 +228,7 @@ pub(crate) fn said_of<'t, 's>(
     mentions: &[Mention<'_, 't, 's>],
     table: &mut Table<'s>,
     places: &mut Vec<Span>,
-) -> Result<Option<Cell<'t, 's>>, BindFault<'s>>
+) -> Result<Option<Cell<'t, 's>>, BindFault>
     ensures { rows.Gives (each (rows.with_statement widths.now keys index.now (key_count keys) is_assigned) mentions.now ((table.old, places.old.items), None)) result (table.new, places.new.items) }
 {
     let size = key_count(keys);

@@ -6,12 +6,13 @@ ghost use Rattle.net_bind.specs.Outcomes.{Answers, evaluated};
 ghost use Rattle.net_bind.specs.Restrictions as restrictions;
 ghost use Rattle.net_eval.specs.Numbers as numbers;
 ghost use Rattle.net_eval.specs.Sets.{fits};
+ghost use Rattle.net_eval.specs.Worlds as worlds;
 ghost use Rattle.net_eval.specs.declared.value.Value.TheVariants.{One};
 ghost use Rattle.net_bind.specs.declared.restriction.Relation.TheVariants as relations;
 
-use crate::fault::{BindDefect, BindFault, refuse, refuse_in};
-use net_eval::{Detail, EvalDefect, Scope, Seen, Value, evaluate};
-use net_lex::{Language, Span, Token};
+use crate::fault::{BindDefect, BindFault, refuse, refuse_key};
+use net_eval::{EvalDefect, Row, Seen, Value, evaluate};
+use net_lex::{Excerpt, Language, Span, Token};
 use net_sets::{Member, Tuple};
 use net_tree::{Body, Expr, Phrase, span_of};
 use std::alloc::Global;
@@ -49,7 +50,7 @@ fn relation_of(word: &Token<'_>) -> Option<Relation>
     }
 }
 
-fn number_of<'s>(at: Span, member: &Member<'s>) -> Result<i64, BindFault<'s>>
+fn number_of(at: Span, member: &Member<'_>) -> Result<i64, BindFault>
     ensures { Answers (evaluated (numbers.number at (One member.now))) result }
 {
     match member {
@@ -58,7 +59,7 @@ fn number_of<'s>(at: Span, member: &Member<'s>) -> Result<i64, BindFault<'s>>
     }
 }
 
-fn number_in<'s>(at: Span, value: &Value<'_, 's>) -> Result<i64, BindFault<'s>>
+fn number_in(at: Span, value: &Value<'_, '_>) -> Result<i64, BindFault>
     ensures { Answers (evaluated (numbers.number at value.now)) result }
 {
     match value {
@@ -87,7 +88,7 @@ fn ordered<'s>(
     relation: Relation,
     member: &Member<'s>,
     value: &Value<'_, 's>,
-) -> Result<bool, BindFault<'s>>
+) -> Result<bool, BindFault>
     ensures { Answers (evaluated (restrictions.ordered at (restrictions.compared relation) member.now value.now)) result }
 {
     let first = number_of(at, member)?;
@@ -95,7 +96,7 @@ fn ordered<'s>(
     Ok(compared(relation, &first, &second))
 }
 
-fn unequal<'s>(at: Span, member: &Member<'s>, value: &Value<'_, 's>) -> Result<bool, BindFault<'s>>
+fn unequal<'s>(at: Span, member: &Member<'s>, value: &Value<'_, 's>) -> Result<bool, BindFault>
     ensures { Answers (evaluated (restrictions.related at relations.Unequal member.now value.now)) result }
 {
     match value {
@@ -115,7 +116,7 @@ fn is_single(dimension: Option<u8>) -> bool
     }
 }
 
-fn among<'s>(at: Span, member: &Member<'s>, value: &Value<'_, 's>) -> Result<bool, BindFault<'s>>
+fn among<'s>(at: Span, member: &Member<'s>, value: &Value<'_, 's>) -> Result<bool, BindFault>
     ensures { Answers (evaluated (restrictions.related at relations.Among member.now value.now)) result }
 {
     match value {
@@ -138,7 +139,7 @@ fn related<'s>(
     relation: Relation,
     member: &Member<'s>,
     value: &Value<'_, 's>,
-) -> Result<bool, BindFault<'s>>
+) -> Result<bool, BindFault>
     ensures { Answers (evaluated (restrictions.related at relation member.now value.now)) result }
 {
     match relation {
@@ -151,54 +152,56 @@ fn related<'s>(
     }
 }
 
-fn again<'s>(detail: &Detail<'s>) -> Detail<'s>
-    ensures { result ≡ detail.now }
-{
-    match detail {
-        Detail::Nothing => Detail::Nothing,
-        Detail::Named(name) => Detail::Named(name.again()),
-        Detail::Keyed(name, key) => Detail::Keyed(name.again(), key.again()),
-    }
-}
-
 fn restricted_by<'s>(
     alloc: Global,
     seen: &Seen<'_, 's>,
-    scope: &Scope<'s>,
-    detail: &Detail<'s>,
+    name: &Excerpt<'s>,
+    keys: Option<u8>,
+    row: &Row<'s>,
     member: &Member<'s>,
     relation: Option<Relation>,
     expr: &Expr<'s>,
-) -> Result<(), BindFault<'s>>
-    ensures { Answers (restrictions.restricted_by seen.now scope.now detail.now member.now relation (tree expr.now)) result }
+) -> Result<(), BindFault>
+    ensures { Answers (restrictions.restricted_by seen.now row.now.scope (worlds.reference name.now keys row.now.key) member.now relation (tree expr.now)) result }
 {
     let Some(relation) = relation else {
         return Ok(());
     };
-    let value = evaluate(alloc, seen, scope, expr)?;
+    let value = evaluate(alloc, seen, &row.scope, expr)?;
     let at = span_of(expr);
     if related(at, relation, member, &value)? {
         Ok(())
     } else {
-        Err(refuse_in(Language::Model, BindDefect::Restriction, at, again(detail)))
+        let defect = BindDefect::Restriction;
+        Err(refuse_key(alloc, Language::Model, defect, at, name, keys, &row.key)?)
     }
 }
 
 fn restricted_in<'s>(
     alloc: Global,
     seen: &Seen<'_, 's>,
-    scope: &Scope<'s>,
-    detail: &Detail<'s>,
+    name: &Excerpt<'s>,
+    keys: Option<u8>,
+    row: &Row<'s>,
     member: &Member<'s>,
     word: &Token<'s>,
     body: &Body<'s>,
-) -> Result<(), BindFault<'s>>
-    ensures { Answers (restrictions.restricted_in seen.now scope.now detail.now member.now word.now (body_of body.now)) result }
+) -> Result<(), BindFault>
+    ensures { Answers (restrictions.restricted_in seen.now row.now.scope (worlds.reference name.now keys row.now.key) member.now word.now (body_of body.now)) result }
 {
     match body {
         Body::Plain => Ok(()),
         Body::Valued(expr) => {
-            restricted_by(alloc, seen, scope, detail, member, relation_of(word), expr)
+            restricted_by(
+                alloc,
+                seen,
+                name,
+                keys,
+                row,
+                member,
+                relation_of(word),
+                expr,
+            )
         }
         Body::Priced(_, _) => Ok(()),
     }
@@ -208,19 +211,21 @@ fn restricted_in<'s>(
 pub(crate) fn restricted<'s>(
     alloc: Global,
     seen: &Seen<'_, 's>,
-    scope: &Scope<'s>,
-    detail: &Detail<'s>,
+    name: &Excerpt<'s>,
+    keys: Option<u8>,
+    row: &Row<'s>,
     member: &Member<'s>,
     phrases: &[Phrase<'s>],
-) -> Result<(), BindFault<'s>>
-    ensures { Answers (restrictions.restricted seen.now scope.now detail.now member.now (map phrase_of phrases.now)) result }
+) -> Result<(), BindFault>
+    ensures { Answers (restrictions.restricted seen.now row.now.scope (worlds.reference name.now keys row.now.key) member.now (map phrase_of phrases.now)) result }
 {
     for phrase in phrases {
         restricted_in(
             alloc,
             seen,
-            scope,
-            detail,
+            name,
+            keys,
+            row,
             member,
             &phrase.word,
             &phrase.body,

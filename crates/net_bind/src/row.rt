@@ -7,28 +7,17 @@ ghost use Rattle.net_eval.specs.declared.fault.EvalDefect.TheVariants.{TooMany};
 ghost use Rattle.net_bind.specs.declared.fault.BindFault.TheVariants.{Refused};
 ghost use Rattle.net_bind.specs.declared.fault.BindDefect.TheVariants.{Value as AValue};
 ghost use Rattle.net_sets.specs.Sets.{at_key};
-ghost use Rattle.net_eval.specs.Worlds as worlds;
 ghost use Rattle.net_bind.specs.Rows as rows;
 ghost use Rattle.net_bind.specs.Outcomes.{Leaves, each};
 
 use crate::cell::{Cell, tuple_in};
-use crate::fault::{BindDefect, BindFault, refuse_in};
+use crate::fault::{BindDefect, BindFault, refuse_in, refuse_key};
 use crate::given::Line;
 use crate::group::{begins_at, front, is_point};
 use net_eval::{Detail, EvalDefect};
-use net_lex::{Excerpt, Items, Language, Span};
+use net_lex::{Items, Language, Span};
 use net_sets::{Member, SetFault, Table, Tuple, TupleSet};
 use std::alloc::{AllocError, Global};
-
-/// A parameter with its key, as faults tell it.
-pub(crate) fn reference<'s>(name: &Excerpt<'s>, keys: Option<u8>, key: &Tuple<'s>) -> Detail<'s>
-    ensures { result ≡ worlds.reference name.now keys key.now }
-{
-    match keys {
-        None => Detail::Named(name.again()),
-        Some(_) => Detail::Keyed(name.again(), key.again()),
-    }
-}
 
 /// A value more, of which there are not too many.
 pub(crate) fn with_value<'s>(
@@ -37,7 +26,7 @@ pub(crate) fn with_value<'s>(
     key: Tuple<'s>,
     member: Member<'s>,
     table: &mut Table<'s>,
-) -> Result<(), BindFault<'s>>
+) -> Result<(), BindFault>
     requires { at_key table.old key ≡ None }
     ensures { Leaves (rows.with_value text at key.entry member.entry table.old) result table.new }
 {
@@ -52,7 +41,7 @@ pub(crate) fn with_value<'s>(
     }
 }
 
-fn too_many<'s>(text: Language, at: Span) -> BindFault<'s>
+fn too_many(text: Language, at: Span) -> BindFault
     ensures { result ≡ Refused (record { defect = AValue TooMany; text = text; at = at; detail = Nothing }) }
 {
     refuse_in(
@@ -65,6 +54,7 @@ fn too_many<'s>(text: Language, at: Span) -> BindFault<'s>
 
 /// A row for a key that has no value yet, and is in the index list.
 fn with_row<'s>(
+    alloc: Global,
     word: &Cell<'_, 's>,
     keys: Option<u8>,
     index: &TupleSet<'s>,
@@ -72,20 +62,19 @@ fn with_row<'s>(
     value: &Cell<'_, 's>,
     table: &mut Table<'s>,
     places: &mut Vec<Span>,
-) -> Result<(), BindFault<'s>>
+) -> Result<(), BindFault>
     ensures { Leaves (rows.with_row word.now keys index.now cells.now value.now (table.old, places.old.items)) result (table.new, places.new.items) }
 {
     let key = tuple_in(cells);
     let at = begins_at(value.token().span, cells);
     let name = &word.token().text;
     if table.get(&key).is_some() {
-        let detail = reference(name, keys, &key);
-        return Err(refuse_in(Language::Data, BindDefect::DoubleValue, at, detail));
+        let defect = BindDefect::DoubleValue;
+        return Err(refuse_key(alloc, Language::Data, defect, at, name, keys, &key)?);
     }
     if !index.contains(&key) {
-        let detail = reference(name, keys, &key);
         let defect = BindDefect::Value(EvalDefect::OutsideSet);
-        return Err(refuse_in(Language::Data, defect, at, detail));
+        return Err(refuse_key(alloc, Language::Data, defect, at, name, keys, &key)?);
     }
     with_value(Language::Data, at, key, value.member(), table)?;
     places.push(value.token().span)?;
@@ -94,6 +83,7 @@ fn with_row<'s>(
 
 /// A cell that gives a value; a point gives none.
 pub(crate) fn with_cell<'s>(
+    alloc: Global,
     word: &Cell<'_, 's>,
     keys: Option<u8>,
     index: &TupleSet<'s>,
@@ -101,18 +91,19 @@ pub(crate) fn with_cell<'s>(
     value: &Cell<'_, 's>,
     table: &mut Table<'s>,
     places: &mut Vec<Span>,
-) -> Result<(), BindFault<'s>>
+) -> Result<(), BindFault>
     ensures { Leaves (rows.with_cell word.now keys index.now cells.now (Some value.now) (table.old, places.old.items)) result (table.new, places.new.items) }
 {
     if is_point(value.token().kind) {
         Ok(())
     } else {
-        with_row(word, keys, index, cells, value, table, places)
+        with_row(alloc, word, keys, index, cells, value, table, places)
     }
 }
 
 /// A group: the members of a key, and values of which one is meant.
 fn with_group<'s>(
+    alloc: Global,
     word: &Cell<'_, 's>,
     keys: Option<u8>,
     index: &TupleSet<'s>,
@@ -121,12 +112,21 @@ fn with_group<'s>(
     group: &[Cell<'_, 's>],
     table: &mut Table<'s>,
     places: &mut Vec<Span>,
-) -> Result<(), BindFault<'s>>
+) -> Result<(), BindFault>
     ensures { Leaves (rows.with_group word.now keys index.now size place group.now (table.old, places.old.items)) result (table.new, places.new.items) }
 {
     match value_at(size, place, group) {
         None => Ok(()),
-        Some(value) => with_cell(word, keys, index, front(size, group), value, table, places),
+        Some(value) => with_cell(
+            alloc,
+            word,
+            keys,
+            index,
+            front(size, group),
+            value,
+            table,
+            places,
+        ),
     }
 }
 
@@ -147,6 +147,7 @@ fn value_at<'c, 't, 's>(
 
 /// A statement of groups.
 pub(crate) fn with_groups<'s>(
+    alloc: Global,
     word: &Cell<'_, 's>,
     keys: Option<u8>,
     index: &TupleSet<'s>,
@@ -155,11 +156,21 @@ pub(crate) fn with_groups<'s>(
     groups: &[Line<'_, '_, 's>],
     table: &mut Table<'s>,
     places: &mut Vec<Span>,
-) -> Result<(), BindFault<'s>>
+) -> Result<(), BindFault>
     ensures { Leaves (each (rows.with_group word.now keys index.now size place) groups.now (table.old, places.old.items)) result (table.new, places.new.items) }
 {
     for group in groups {
-        with_group(word, keys, index, size, place, group.cells(), table, places)?;
+        with_group(
+            alloc,
+            word,
+            keys,
+            index,
+            size,
+            place,
+            group.cells(),
+            table,
+            places,
+        )?;
     }
     Ok(())
 }

@@ -4,7 +4,7 @@ ghost use Rattle.std.specs.Prelude.{◌≡◌, ◌||◌, [], IfOk, is_some, map}
 ghost use Rattle.std.specs.Option.{option_copied};
 ghost use Rattle.net_eval.specs.declared.world.Entry.TheVariants.{Set as ASet};
 ghost use Rattle.net_lex.specs.declared.language.Language.TheVariants.{Data as InData};
-ghost use Rattle.net_eval.specs.declared.fault.Detail.TheVariants.{Named as AName};
+ghost use Rattle.net_eval.specs.declared.fault.Detail.TheVariants.{Told};
 ghost use Rattle.net_bind.specs.declared.fault.BindFault.TheVariants.{Refused};
 ghost use Rattle.net_bind.specs.declared.fault.BindDefect.TheVariants.{DoubleValue};
 ghost use Rattle.net_bind.specs.declared.given.Given.TheVariants as given;
@@ -14,14 +14,14 @@ ghost use Rattle.net_bind.specs.SetData as set_data;
 ghost use Rattle.net_bind.specs.Outcomes.{Answers, Leaves, each};
 
 use crate::cell::{Cell, tuple_in};
-use crate::fault::{BindDefect, BindFault, refuse_in};
+use crate::fault::{BindDefect, BindFault, refuse_name};
 use crate::given::{Given, Groups, Mention};
 use crate::group::{all_of_size, begins_at, cut, keys_of, refuse_there, whole_groups};
 use crate::item::set_rows;
 use crate::set_phrase::{Claim, Claims, SetPhrase, assigned, set_phrases};
 use crate::stored::{boxed, unboxed};
 use net_data::Members;
-use net_eval::{Detail, Entry, EvalDefect, Seen};
+use net_eval::{Entry, EvalDefect, Seen};
 use net_lex::{Boxed, Items, Language, Token};
 use net_sets::{IndexedSet, SetFault, TupleSet};
 use net_tree::Phrase;
@@ -37,7 +37,7 @@ pub(crate) fn told_by(widths: &[usize], leader: usize, own: usize) -> usize
     }
 }
 
-pub(crate) fn agrees<'s>(word: &Cell<'_, 's>, told: usize, own: usize) -> Result<(), BindFault<'s>>
+pub(crate) fn agrees(word: &Cell<'_, '_>, told: usize, own: usize) -> Result<(), BindFault>
     ensures { Answers (set_data.agrees word.now told own) result }
 {
     if told == own {
@@ -48,15 +48,16 @@ pub(crate) fn agrees<'s>(word: &Cell<'_, 's>, told: usize, own: usize) -> Result
 }
 
 /// The name of a statement gives what was given before.
-pub(crate) fn doubled<'s>(word: &Cell<'_, 's>) -> BindFault<'s>
-    ensures { result ≡ Refused (record { defect = DoubleValue; text = InData; at = word.now.span; detail = AName word.now.text }) }
+pub(crate) fn doubled(alloc: Global, word: &Cell<'_, '_>) -> Result<BindFault, AllocError>
+    ensures { IfOk result (λ f. f ≡ Refused (record { defect = DoubleValue; text = InData; at = word.now.span; detail = Told word.now.text })) }
 {
     let token = word.token();
-    refuse_in(
+    refuse_name(
+        alloc,
         Language::Data,
         BindDefect::DoubleValue,
         token.span,
-        Detail::Named(token.text.again()),
+        &token.text,
     )
 }
 
@@ -65,7 +66,7 @@ fn member_rows<'t, 's>(
     dimension: usize,
     word: &Cell<'t, 's>,
     members: &Members<'t, 's>,
-) -> Result<Items<Items<Cell<'t, 's>>>, BindFault<'s>>
+) -> Result<Items<Items<Cell<'t, 's>>>, BindFault>
     ensures { Answers (set_data.given_rows [] dimension word.now (given.Members members.now)) result }
 {
     let rows = set_rows(alloc, dimension, members)?;
@@ -79,7 +80,7 @@ fn key_rows<'t, 's>(
     dimension: usize,
     word: &Cell<'t, 's>,
     groups: &Groups<'_, 't, 's>,
-) -> Result<Items<Items<Cell<'t, 's>>>, BindFault<'s>>
+) -> Result<Items<Items<Cell<'t, 's>>>, BindFault>
     ensures { Answers (set_data.given_rows widths.now dimension word.now (given.Groups groups.now)) result }
 {
     agrees(word, told_by(widths, groups.leader, dimension), dimension)?;
@@ -98,7 +99,7 @@ fn given_rows<'t, 's>(
     widths: &[usize],
     dimension: usize,
     mention: &Mention<'_, 't, 's>,
-) -> Result<Items<Items<Cell<'t, 's>>>, BindFault<'s>>
+) -> Result<Items<Items<Cell<'t, 's>>>, BindFault>
     ensures { Answers (set_data.given_rows widths.now dimension mention.now.word mention.now.given) result }
 {
     match &mention.given {
@@ -109,22 +110,24 @@ fn given_rows<'t, 's>(
 }
 
 fn with_member<'s>(
+    alloc: Global,
     word: &Cell<'_, 's>,
     row: &[Cell<'_, 's>],
     set: &mut TupleSet<'s>,
-) -> Result<(), BindFault<'s>>
+) -> Result<(), BindFault>
     ensures { Leaves (set_data.with_member word.now row.now set.old) result set.new }
 {
     let token = word.token();
     let at = begins_at(token.span, row);
     let tuple = tuple_in(row);
     if set.contains(&tuple) {
-        return Err(refuse_in(
+        return Err(refuse_name(
+            alloc,
             Language::Data,
             BindDefect::DoubleValue,
             at,
-            Detail::Named(token.text.again()),
-        ));
+            &token.text,
+        )?);
     }
     match set.add(tuple) {
         Ok(()) => Ok(()),
@@ -137,12 +140,12 @@ fn members_of<'s>(
     alloc: Global,
     word: &Cell<'_, 's>,
     rows: &[Items<Cell<'_, 's>>],
-) -> Result<Boxed<TupleSet<'s>>, BindFault<'s>>
+) -> Result<Boxed<TupleSet<'s>>, BindFault>
     ensures { Answers (each (set_data.with_member word.now) rows.now []) result }
 {
     let mut set = TupleSet::new(alloc);
     for row in rows {
-        with_member(word, row.as_slice(), &mut set)?;
+        with_member(alloc, word, row.as_slice(), &mut set)?;
     }
     Ok(boxed(alloc, set)?)
 }
@@ -162,12 +165,12 @@ fn with_statement<'s>(
     is_assigned: bool,
     mention: &Mention<'_, '_, 's>,
     found: Option<Boxed<TupleSet<'s>>>,
-) -> Result<Option<Boxed<TupleSet<'s>>>, BindFault<'s>>
+) -> Result<Option<Boxed<TupleSet<'s>>>, BindFault>
     ensures { Answers (set_data.with_statement widths.now dimension is_assigned mention.now found.entry) result }
 {
     let rows = given_rows(alloc, widths, dimension, mention)?;
     if is_given(is_assigned, &found) {
-        Err(doubled(&mention.word))
+        Err(doubled(alloc, &mention.word)?)
     } else {
         Ok(Some(members_of(alloc, &mention.word, rows.as_slice())?))
     }
@@ -180,7 +183,7 @@ fn given_set<'s>(
     dimension: usize,
     is_assigned: bool,
     mentions: &[Mention<'_, '_, 's>],
-) -> Result<Option<Boxed<TupleSet<'s>>>, BindFault<'s>>
+) -> Result<Option<Boxed<TupleSet<'s>>>, BindFault>
     ensures { Answers (set_data.given_set widths.now dimension is_assigned mentions.now) result }
 {
     let mut found = None;
@@ -196,18 +199,19 @@ fn one_of<'s>(
     name: &Token<'s>,
     assigned: Option<&TupleSet<'s>>,
     found: Option<Boxed<TupleSet<'s>>>,
-) -> Result<Boxed<TupleSet<'s>>, BindFault<'s>>
+) -> Result<Boxed<TupleSet<'s>>, BindFault>
     ensures { Answers (bound.one_of name.now (option_copied assigned.entry) found.entry) result }
 {
     match (assigned, found) {
         (Some(set), _found) => Ok(boxed(alloc, set.again(alloc)?)?),
         (None, Some(set)) => Ok(set),
-        (None, None) => Err(refuse_in(
+        (None, None) => Err(refuse_name(
+            alloc,
             Language::Model,
             BindDefect::Value(EvalDefect::NoValue),
             name.span,
-            Detail::Named(name.text.again()),
-        )),
+            &name.text,
+        )?),
     }
 }
 
@@ -224,20 +228,22 @@ fn is_allowed<'s>(set: &TupleSet<'s>, claim: &Claim<'_, 's>) -> bool
 
 /// Each set that it has to be within has its members.
 fn allowed<'s>(
+    alloc: Global,
     name: &Token<'s>,
     set: &TupleSet<'s>,
     phrases: &[SetPhrase<'_, 's>],
-) -> Result<(), BindFault<'s>>
+) -> Result<(), BindFault>
     ensures { Answers (bound.allowed name.now set.now phrases.now) result }
 {
     for phrase in phrases {
         if !is_allowed(set, &phrase.claim) {
-            return Err(refuse_in(
+            return Err(refuse_name(
+                alloc,
                 Language::Model,
                 BindDefect::Restriction,
                 phrase.at,
-                Detail::Named(name.text.again()),
-            ));
+                &name.text,
+            )?);
         }
     }
     Ok(())
@@ -261,7 +267,7 @@ fn set_of<'s>(
     name: &Token<'s>,
     mentions: &[Mention<'_, '_, 's>],
     claims: &Claims<'_, 's>,
-) -> Result<Boxed<Entry<'s>>, BindFault<'s>>
+) -> Result<Boxed<Entry<'s>>, BindFault>
     ensures { Answers (bound.set_of widths.now name.now mentions.now claims.now) result }
 {
     let phrases = claims.phrases.as_slice();
@@ -275,19 +281,19 @@ fn set_of<'s>(
         mentions,
     )?;
     let set = one_of(alloc, name, assigned, found)?;
-    allowed(name, set.get(), phrases)?;
+    allowed(alloc, name, set.get(), phrases)?;
     Ok(set_entry(alloc, dimension, set)?)
 }
 
 /// What a declared set is: what its phrases say, then what data say, then what it is.
-pub(crate) fn bound_set<'w, 's>(
+pub(crate) fn bound_set<'s>(
     alloc: Global,
-    seen: &Seen<'w, 's>,
+    seen: &Seen<'_, 's>,
     widths: &[usize],
     name: &Token<'s>,
     phrases: &[Phrase<'s>],
     mentions: &[Mention<'_, '_, 's>],
-) -> Result<Boxed<Entry<'s>>, BindFault<'s>>
+) -> Result<Boxed<Entry<'s>>, BindFault>
     ensures { Answers (bound.bound_set seen.now widths.now name.now (map phrase_of phrases.now) mentions.now) result }
 {
     let claims = set_phrases(alloc, seen, phrases)?;

@@ -64,7 +64,7 @@ fn set_word(role: Role) -> SetWord
     }
 }
 
-fn dimension<'w, 's>(at: Span, value: &Value<'_, 's>) -> Result<Claim<'w, 's>, BindFault<'s>>
+fn dimension<'w, 's>(at: Span, value: &Value<'_, 's>) -> Result<Claim<'w, 's>, BindFault>
     ensures { Answers (phrases.dimension at value.now) result }
 {
     match value {
@@ -84,7 +84,7 @@ fn claimed<'w, 's>(
     word: SetWord,
     at: Span,
     value: Boxed<Value<'w, 's>>,
-) -> Result<Claim<'w, 's>, BindFault<'s>>
+) -> Result<Claim<'w, 's>, BindFault>
     ensures { Answers (phrases.claimed word at value.entry) result }
 {
     match word {
@@ -95,11 +95,7 @@ fn claimed<'w, 's>(
     }
 }
 
-fn within<'w, 's>(
-    alloc: Global,
-    at: Span,
-    value: Value<'w, 's>,
-) -> Result<Claim<'w, 's>, BindFault<'s>>
+fn within<'w, 's>(alloc: Global, at: Span, value: Value<'w, 's>) -> Result<Claim<'w, 's>, BindFault>
     ensures { Answers (phrases.claimed words.Within at value.entry) result }
 {
     match value.into_set() {
@@ -115,7 +111,7 @@ fn becomes<'w, 's>(
     alloc: Global,
     at: Span,
     value: Value<'w, 's>,
-) -> Result<Claim<'w, 's>, BindFault<'s>>
+) -> Result<Claim<'w, 's>, BindFault>
     ensures { Answers (phrases.claimed words.Becomes at value.entry) result }
 {
     match value.into_set() {
@@ -129,7 +125,7 @@ fn evaluated_phrase<'w, 's>(
     seen: &Seen<'w, 's>,
     word: SetWord,
     expr: &Expr<'s>,
-) -> Result<SetPhrase<'w, 's>, BindFault<'s>>
+) -> Result<SetPhrase<'w, 's>, BindFault>
     ensures { Answers (phrases.set_phrase seen.now word (tree expr.now)) result }
 {
     let value = value_of(alloc, seen, expr)?;
@@ -158,7 +154,7 @@ fn set_phrase<'w, 's>(
     seen: &Seen<'w, 's>,
     word: SetWord,
     expr: &Expr<'s>,
-) -> Result<SetPhrase<'w, 's>, BindFault<'s>>
+) -> Result<SetPhrase<'w, 's>, BindFault>
     ensures { Answers (phrases.set_phrase seen.now word (tree expr.now)) result }
 {
     match word {
@@ -182,7 +178,7 @@ fn dimension_of(claim: &Claim<'_, '_>) -> Option<u8>
 }
 
 /// The dimension that two say, who must agree.
-fn agreed<'s>(at: Span, before: Option<u8>, now: Option<u8>) -> Result<Option<u8>, BindFault<'s>>
+fn agreed(at: Span, before: Option<u8>, now: Option<u8>) -> Result<Option<u8>, BindFault>
     ensures { Answers (phrases.agreed at before now) result }
 {
     match (before, now) {
@@ -201,7 +197,7 @@ fn agreed<'s>(at: Span, before: Option<u8>, now: Option<u8>) -> Result<Option<u8
 fn with_phrase<'w, 's>(
     claims: Claims<'w, 's>,
     phrase: SetPhrase<'w, 's>,
-) -> Result<Claims<'w, 's>, BindFault<'s>>
+) -> Result<Claims<'w, 's>, BindFault>
     ensures { Answers (phrases.with_phrase claims.entry phrase.entry) result }
 {
     let Claims { dimension, phrases } = claims;
@@ -220,7 +216,7 @@ fn in_body<'w, 's>(
     word: SetWord,
     body: &Body<'s>,
     claims: Claims<'w, 's>,
-) -> Result<Claims<'w, 's>, BindFault<'s>>
+) -> Result<Claims<'w, 's>, BindFault>
     ensures { Answers (phrases.in_body seen.now word (body_of body.now) claims.entry) result }
 {
     match body {
@@ -247,7 +243,7 @@ pub(crate) fn set_phrases<'w, 's>(
     alloc: Global,
     seen: &Seen<'w, 's>,
     all: &[Phrase<'s>],
-) -> Result<Claims<'w, 's>, BindFault<'s>>
+) -> Result<Claims<'w, 's>, BindFault>
     ensures { Answers (phrases.set_phrases seen.now (map phrase_of all.now)) result }
 {
     let mut claims = unclaimed(alloc);

@@ -35,7 +35,7 @@ fn from_source<'s>(
     scope: &Scope<'s>,
     expr: Option<&Expr<'s>>,
     word: Option<&Cell<'_, 's>>,
-) -> Result<Option<Member<'s>>, BindFault<'s>>
+) -> Result<Option<Member<'s>>, BindFault>
     ensures { Answers (bound.from_source seen.now scope.now (bound.as_tree (option_copied expr.entry), option_copied word.entry)) result }
 {
     match (expr, word) {
@@ -73,7 +73,7 @@ fn with_key<'s>(
     word: Option<&Cell<'_, 's>>,
     row: &Row<'s>,
     table: &mut Table<'s>,
-) -> Result<(), BindFault<'s>>
+) -> Result<(), BindFault>
     ensures { Leaves (bound.with_key seen.now at (bound.as_tree (option_copied expr.entry), option_copied word.entry) row.now table.old) result table.new }
 {
     if table.get(&row.key).is_some() {
@@ -96,7 +96,7 @@ pub(crate) fn with_keys<'s>(
     word: Option<&Cell<'_, 's>>,
     rows: &[Row<'s>],
     table: &mut Table<'s>,
-) -> Result<(), BindFault<'s>>
+) -> Result<(), BindFault>
     ensures { Leaves (each (bound.with_key seen.now at (bound.as_tree (option_copied expr.entry), option_copied word.entry)) rows.now table.old) result table.new }
 {
     for row in rows {

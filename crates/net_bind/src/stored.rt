@@ -31,7 +31,7 @@ pub(crate) fn value_of<'w, 's>(
     alloc: Global,
     seen: &Seen<'w, 's>,
     expr: &Expr<'s>,
-) -> Result<Boxed<Value<'w, 's>>, EvalFault<'s>>
+) -> Result<Boxed<Value<'w, 's>>, EvalFault>
     ensures { Answers (value seen.now [] (tree expr.now)) result }
 {
     match evaluate(alloc, seen, &Scope::new(alloc), expr) {

@@ -39,10 +39,10 @@ fn width_of(entry: &Entry<'_>) -> usize
 /// A name that means nothing so far gets an entry, if one was made.
 fn with_entry<'s>(
     name: &Token<'s>,
-    entry: Result<Boxed<Entry<'s>>, BindFault<'s>>,
+    entry: Result<Boxed<Entry<'s>>, BindFault>,
     world: &mut World<'s>,
     widths: &mut Vec<usize>,
-) -> Result<(), BindFault<'s>>
+) -> Result<(), BindFault>
     requires fresh { entry_of world.old name.now.text ≡ None }
     requires kept { widths.old.items ≡ binding.widths world.old }
     ensures value { (wanted : Outcome AnEntry) → Answers wanted entry.entry → Leaves (and_then wanted (binding.with_entry world.old name.now)) result world.new }
@@ -62,14 +62,14 @@ fn whole<'w, 's>(world: &'w World<'s>, widths: &[usize]) -> Seen<'w, 's>
     Seen::new(world, widths.len())
 }
 
-fn entry_of_set<'m, 't, 's>(
+fn entry_of_set<'s>(
     alloc: Global,
-    given: &[Mentions<'m, 't, 's>],
+    given: &[Mentions<'_, '_, 's>],
     name: &Token<'s>,
     phrases: &[Phrase<'s>],
     world: &World<'s>,
     widths: &[usize],
-) -> Result<Boxed<Entry<'s>>, BindFault<'s>>
+) -> Result<Boxed<Entry<'s>>, BindFault>
     requires { widths.now ≡ binding.widths world.now }
     ensures { Answers (sets.bound_set world.now (binding.widths world.now) name.now (map phrase_of phrases.now) (binding.said_next given.now world.now)) result }
 {
@@ -77,21 +77,21 @@ fn entry_of_set<'m, 't, 's>(
     match given.get(widths.len()) {
         Some(mentions) => bound_set(alloc, &seen, widths, name, phrases, mentions.as_slice()),
         None => {
-            let none: Vec<Mention<'m, 't, 's>> = Vec::new(alloc);
+            let none: Vec<Mention<'_, '_, 's>> = Vec::new(alloc);
             bound_set(alloc, &seen, widths, name, phrases, none.as_slice())
         }
     }
 }
 
-fn entry_of_parameter<'m, 't, 's>(
+fn entry_of_parameter<'s>(
     alloc: Global,
-    given: &[Mentions<'m, 't, 's>],
+    given: &[Mentions<'_, '_, 's>],
     name: &Token<'s>,
     braces: &Option<Braces<'s>>,
     phrases: &[Phrase<'s>],
     world: &World<'s>,
     widths: &[usize],
-) -> Result<Boxed<Entry<'s>>, BindFault<'s>>
+) -> Result<Boxed<Entry<'s>>, BindFault>
     requires { widths.now ≡ binding.widths world.now }
     ensures { Answers (parameters.bound_parameter world.now (binding.widths world.now) name.now (indexing_of braces.now) (map phrase_of phrases.now) (binding.said_next given.now world.now)) result }
 {
@@ -107,7 +107,7 @@ fn entry_of_parameter<'m, 't, 's>(
             mentions.as_slice(),
         ),
         None => {
-            let none: Vec<Mention<'m, 't, 's>> = Vec::new(alloc);
+            let none: Vec<Mention<'_, '_, 's>> = Vec::new(alloc);
             bound_parameter(alloc, &seen, widths, name, braces, phrases, none.as_slice())
         }
     }
@@ -120,7 +120,7 @@ fn declare<'s>(
     decl: &Decl<'s>,
     world: &mut World<'s>,
     widths: &mut Vec<usize>,
-) -> Result<(), BindFault<'s>>
+) -> Result<(), BindFault>
     requires fresh { binding.IsFresh world.old (declaration_of decl.now) }
     requires kept { widths.old.items ≡ binding.widths world.old }
     ensures value { Leaves (binding.declare given.now (declaration_of decl.now) world.old) result world.new }
@@ -155,7 +155,7 @@ fn declare_all<'s>(
     alloc: Global,
     given: &[Mentions<'_, '_, 's>],
     decls: &[Decl<'s>],
-) -> Result<World<'s>, BindFault<'s>>
+) -> Result<World<'s>, BindFault>
     requires { binding.AreNew [] (map declaration_of decls.now) }
     ensures { Answers (each (binding.declare given.now) (map declaration_of decls.now) []) result }
 {
@@ -172,7 +172,7 @@ fn after_checks<'s>(
     alloc: Global,
     decls: &[Decl<'s>],
     world: World<'s>,
-) -> Result<World<'s>, BindFault<'s>>
+) -> Result<World<'s>, BindFault>
     ensures { Answers (binding.after_checks (map declaration_of decls.now) world.entry) result }
 {
     match all_checked(alloc, &world, decls) {
@@ -186,7 +186,7 @@ fn bind_given<'s>(
     alloc: Global,
     decls: &[Decl<'s>],
     given: &[Mentions<'_, '_, 's>],
-) -> Result<World<'s>, BindFault<'s>>
+) -> Result<World<'s>, BindFault>
     requires { binding.AreNew [] (map declaration_of decls.now) }
     ensures { Answers (binding.with_given (map declaration_of decls.now) given.now) result }
 {
@@ -195,11 +195,11 @@ fn bind_given<'s>(
 }
 
 #[tactic(auto, unfolding(crate::specs::Binding::world))]
-fn bind_sheets<'m, 't, 's>(
+fn bind_sheets<'m, 's>(
     alloc: Global,
     decls: &[Decl<'s>],
-    sheets: &'m [Laid<'m, 't, 's>],
-) -> Result<World<'s>, BindFault<'s>>
+    sheets: &'m [Laid<'m, '_, 's>],
+) -> Result<World<'s>, BindFault>
     requires { binding.AreNew [] (map declaration_of decls.now) }
     ensures { Answers (binding.world (map declaration_of decls.now) sheets.entry.now) result }
 {
@@ -217,7 +217,7 @@ pub fn bind<'s>(
     alloc: Global,
     model: &Model<'s>,
     tables: &Tables<'_, 's>,
-) -> Result<World<'s>, BindFault<'s>>
+) -> Result<World<'s>, BindFault>
     requires { binding.AreNew [] (view.model model.now) }
     ensures { Answers (binding.world (view.model model.now) tables.now.statements) result }
 {

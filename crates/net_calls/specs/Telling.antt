@@ -6,7 +6,7 @@ use Rattle.net_lex.specs.declared.language.Language.TheVariants as languages
 use Rattle.net_lex.specs.Places.{line_of, column_of}
 use Rattle.net_lex.specs.declared.span.Span.{Span}
 use Rattle.net_eval.specs.Worlds.{Name}
-use Rattle.net_inst.specs.References.{detail_text}
+use Rattle.net_eval.specs.References.{detail_text}
 use Rattle.net_read.specs.declared.finding.Finding.{Finding}
 use Rattle.net_read.specs.FirstFaults.{IsFirstFault}
 use Rattle.net_calls.specs.declared.fault.Fault.{Fault}

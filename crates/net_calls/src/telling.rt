@@ -6,7 +6,7 @@ ghost use Rattle.net_read.specs.FirstFaults.{IsStop};
 ghost use Rattle.net_calls.specs.Telling.{IsTold, IsRefusal, LiesIn, name_of, text_of, within};
 
 use crate::fault::{Fault, Refusal, TextName};
-use net_inst::append_detail;
+use net_eval::append_detail;
 use net_lex::{Language, Span, line_column};
 use net_read::{Finding, Stop};
 use std::alloc::{AllocError, Global};
@@ -42,13 +42,13 @@ fn within(text: &[u8], at: Span) -> Span
 }
 
 /// A finding in its text, with line and column.
-fn refusal_of(alloc: Global, text: &[u8], finding: &Finding<'_>) -> Result<Refusal, AllocError>
+fn refusal_of(alloc: Global, text: &[u8], finding: &Finding) -> Result<Refusal, AllocError>
     ensures { IfOk result (IsTold text.now finding.now) }
 {
     let span = within(text, finding.at);
     let (line, column) = line_column(text, span.start);
     let mut detail = Vec::new(alloc);
-    append_detail(alloc, &mut detail, &finding.detail)?;
+    append_detail(&mut detail, &finding.detail)?;
     Ok(Refusal {
         kind: finding.defect,
         text: name_of(finding.text),
@@ -60,7 +60,7 @@ fn refusal_of(alloc: Global, text: &[u8], finding: &Finding<'_>) -> Result<Refus
 }
 
 /// The fault that is told of two texts.
-pub(crate) fn told(alloc: Global, model: &[u8], data: &[u8], stop: &Stop<'_>) -> Fault
+pub(crate) fn told(alloc: Global, model: &[u8], data: &[u8], stop: &Stop) -> Fault
     ensures { (wanted : Option Name) → IsStop wanted model.now «data».now stop.now → IsRefusal wanted model.now «data».now result }
 {
     match stop {

@@ -9,7 +9,7 @@ use Rattle.net_tree.specs.Role.{role_of, marks, keys}
 use Rattle.net_tree.specs.Spans.{span_of, span_between, braces_span}
 use Rattle.net_tree.specs.Tree.{leaf, indexed, parens, tuple, braced, chain, choice, none, link, absent, part, empty, filled}
 use Rattle.net_eval.specs.declared.fault.EvalDefect.TheVariants as defects
-use Rattle.net_eval.specs.declared.fault.Detail.TheVariants.{Nothing, Keyed}
+use Rattle.net_eval.specs.declared.fault.Detail.TheVariants.{Nothing, Told}
 use Rattle.net_eval.specs.declared.value.Value.TheVariants.{Many}
 use Rattle.net_eval.specs.Limits.{is_small}
 use Rattle.net_eval.specs.Operations.{operations, operation, reduction, is_minus}
@@ -58,7 +58,7 @@ unfolding role_of marks keys operations operation reduction is_minus is_small nu
 nothing_is_selected = refl
 
 -- {i in CITIES, (i,j) in LINKS: cost[i,j] > 0}
-missing_under_a_condition : value cities [] (braced (filled (mark (codes "{") 0 1) (chain 7 (leaf (name (codes "i") 1 2)) (link (operator.One (key (codes "in") 3 5)) (leaf (name (codes "CITIES") 6 12)) none)) (link (operator.One (mark (codes ",") 12 13)) (chain 7 (tuple (mark (codes "(") 14 15) (leaf (name (codes "i") 15 16)) (link (operator.One (mark (codes ",") 16 17)) (leaf (name (codes "j") 17 18)) none) (mark (codes ")") 18 19)) (link (operator.One (key (codes "in") 20 22)) (leaf (name (codes "LINKS") 23 28)) none)) none) (part (mark (codes ":") 28 29) (chain 7 (indexed (name (codes "cost") 30 34) (mark (codes "[") 34 35) (leaf (name (codes "i") 35 36)) (link (operator.One (mark (codes ",") 36 37)) (leaf (name (codes "j") 37 38)) none) (mark (codes "]") 38 39)) (link (operator.One (mark (codes ">") 40 41)) (leaf (number (codes "0") 42 43)) none))) (mark (codes "}") 43 44))) ≡ Err (record { defect = defects.NoValue; at = record { start = 30; end = 39 }; detail = Keyed (codes "cost") (Name (codes "b") ∷ Name (codes "a") ∷ []) })
+missing_under_a_condition : value cities [] (braced (filled (mark (codes "{") 0 1) (chain 7 (leaf (name (codes "i") 1 2)) (link (operator.One (key (codes "in") 3 5)) (leaf (name (codes "CITIES") 6 12)) none)) (link (operator.One (mark (codes ",") 12 13)) (chain 7 (tuple (mark (codes "(") 14 15) (leaf (name (codes "i") 15 16)) (link (operator.One (mark (codes ",") 16 17)) (leaf (name (codes "j") 17 18)) none) (mark (codes ")") 18 19)) (link (operator.One (key (codes "in") 20 22)) (leaf (name (codes "LINKS") 23 28)) none)) none) (part (mark (codes ":") 28 29) (chain 7 (indexed (name (codes "cost") 30 34) (mark (codes "[") 34 35) (leaf (name (codes "i") 35 36)) (link (operator.One (mark (codes ",") 36 37)) (leaf (name (codes "j") 37 38)) none) (mark (codes "]") 38 39)) (link (operator.One (mark (codes ">") 40 41)) (leaf (number (codes "0") 42 43)) none))) (mark (codes "}") 43 44))) ≡ Err (record { defect = defects.NoValue; at = record { start = 30; end = 39 }; detail = Told (codes "cost['b','a']") })
 unfolding role_of marks keys operations operation reduction is_minus is_small number_in numeral_at mantissa_at power_at whole_value span_of span_between braces_span
 missing_under_a_condition = refl
 

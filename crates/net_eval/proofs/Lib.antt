@@ -12,6 +12,7 @@ pub mod KeysOnce
 pub mod Alike
 pub mod SetsGiven
 mod Trees
+mod ReferenceExamples
 mod NumberExamples
 mod KindExamples
 mod ConditionExamples

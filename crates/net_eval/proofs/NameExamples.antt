@@ -9,7 +9,7 @@ use Rattle.net_tree.specs.Role.{role_of, marks, keys}
 use Rattle.net_tree.specs.Spans.{span_of, span_between, braces_span}
 use Rattle.net_tree.specs.Tree.{leaf, indexed, parens, tuple, chain, none, link}
 use Rattle.net_eval.specs.declared.fault.EvalDefect.TheVariants as defects
-use Rattle.net_eval.specs.declared.fault.Detail.TheVariants.{Nothing, Named, Keyed}
+use Rattle.net_eval.specs.declared.fault.Detail.TheVariants.{Nothing, Told}
 use Rattle.net_eval.specs.declared.value.Value.TheVariants.{One, Many}
 use Rattle.net_eval.specs.Limits.{is_small}
 use Rattle.net_eval.specs.Operations.{operations, operation, reduction, is_minus}
@@ -28,12 +28,12 @@ unfolding role_of marks keys operations operation reduction is_minus is_small nu
 value_at_a_key = refl
 
 -- 1 + cost['b','a']
-no_value : value cities [] (chain 2 (leaf (number (codes "1") 0 1)) (link (operator.One (mark (codes "+") 2 3)) (indexed (name (codes "cost") 4 8) (mark (codes "[") 8 9) (leaf (string (codes "'b'") 9 12)) (link (operator.One (mark (codes ",") 12 13)) (leaf (string (codes "'a'") 13 16)) none) (mark (codes "]") 16 17)) none)) ≡ Err (record { defect = defects.NoValue; at = record { start = 4; end = 17 }; detail = Keyed (codes "cost") (Name (codes "b") ∷ Name (codes "a") ∷ []) })
+no_value : value cities [] (chain 2 (leaf (number (codes "1") 0 1)) (link (operator.One (mark (codes "+") 2 3)) (indexed (name (codes "cost") 4 8) (mark (codes "[") 8 9) (leaf (string (codes "'b'") 9 12)) (link (operator.One (mark (codes ",") 12 13)) (leaf (string (codes "'a'") 13 16)) none) (mark (codes "]") 16 17)) none)) ≡ Err (record { defect = defects.NoValue; at = record { start = 4; end = 17 }; detail = Told (codes "cost['b','a']") })
 unfolding role_of marks keys operations operation reduction is_minus is_small number_in numeral_at mantissa_at power_at whole_value span_of span_between braces_span
 no_value = refl
 
 -- cost['a','a']
-outside : value cities [] (indexed (name (codes "cost") 0 4) (mark (codes "[") 4 5) (leaf (string (codes "'a'") 5 8)) (link (operator.One (mark (codes ",") 8 9)) (leaf (string (codes "'a'") 9 12)) none) (mark (codes "]") 12 13)) ≡ Err (record { defect = defects.OutsideSet; at = record { start = 0; end = 13 }; detail = Keyed (codes "cost") (Name (codes "a") ∷ Name (codes "a") ∷ []) })
+outside : value cities [] (indexed (name (codes "cost") 0 4) (mark (codes "[") 4 5) (leaf (string (codes "'a'") 5 8)) (link (operator.One (mark (codes ",") 8 9)) (leaf (string (codes "'a'") 9 12)) none) (mark (codes "]") 12 13)) ≡ Err (record { defect = defects.OutsideSet; at = record { start = 0; end = 13 }; detail = Told (codes "cost['a','a']") })
 unfolding role_of marks keys operations operation reduction is_minus is_small number_in numeral_at mantissa_at power_at whole_value span_of span_between braces_span
 outside = refl
 
@@ -68,7 +68,7 @@ unfolding role_of marks keys operations operation reduction is_minus is_small nu
 without_braces = refl
 
 -- base
-without_value : value cities [] (leaf (name (codes "base") 0 4)) ≡ Err (record { defect = defects.NoValue; at = record { start = 0; end = 4 }; detail = Named (codes "base") })
+without_value : value cities [] (leaf (name (codes "base") 0 4)) ≡ Err (record { defect = defects.NoValue; at = record { start = 0; end = 4 }; detail = Told (codes "base") })
 unfolding role_of marks keys operations operation reduction is_minus is_small number_in numeral_at mantissa_at power_at whole_value span_of span_between braces_span
 without_value = refl
 

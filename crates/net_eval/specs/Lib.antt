@@ -1,6 +1,7 @@
 pub mod Outcomes
 pub mod Limits
 pub mod Faults
+pub mod References
 pub mod Worlds
 pub mod Kept
 pub mod Operations

@@ -6,13 +6,14 @@ use Rattle.net_sets.specs.declared.member.Member.{Member}
 use Rattle.net_sets.specs.Sets.{Tuple, has, at_key}
 use Rattle.net_eval.specs.declared.fault.EvalDefect.TheVariants.{NoValue, OutsideSet, KindMismatch, Arity}
 use Rattle.net_eval.specs.declared.fault.Detail.{Detail}
-use Rattle.net_eval.specs.declared.fault.Detail.TheVariants.{Named, Keyed}
+use Rattle.net_eval.specs.declared.fault.Detail.TheVariants.{Told}
 use Rattle.net_eval.specs.declared.value.Value.{Value}
 use Rattle.net_eval.specs.declared.value.Value.TheVariants.{One, Many}
 use Rattle.net_eval.specs.declared.world.Entry.{Entry}
 use Rattle.net_eval.specs.declared.world.Entry.TheVariants.{Set, Parameter}
 use Rattle.net_eval.specs.declared.scope.Binding.{Binding}
 use Rattle.net_eval.specs.Outcomes.{Outcome, refused, refused_of}
+use Rattle.net_eval.specs.References.{reference_text}
 
 abbrev pub Name : Type 0
 Name = List ℕ
@@ -52,8 +53,7 @@ key_count (Some n) = n
 
 -- a parameter with its key, as faults tell it
 abbrev pub reference : Name → Option ℕ → Tuple → Detail
-reference name None key = Named name
-reference name (Some n) key = Keyed name key
+reference name keys key = Told (reference_text name (is_some keys) key)
 
 -- a key without a value, by whether the index list has it
 abbrev pub missing : Span → Detail → Bool → Outcome Value

@@ -26,7 +26,7 @@ pub fn member<'s>(
     seen: &Seen<'_, 's>,
     scope: &Scope<'s>,
     expr: &Expr<'s>,
-) -> Result<Member<'s>, EvalFault<'s>>
+) -> Result<Member<'s>, EvalFault>
     ensures { Answers (and_then (values.value seen.now scope.now (tree expr.now)) (operators.member (trees.span_of (tree expr.now)))) result }
 {
     let found = evaluate(alloc, seen, scope, expr)?;
@@ -39,7 +39,7 @@ pub fn members<'w, 's>(
     seen: &Seen<'w, 's>,
     scope: &Scope<'s>,
     expr: &Expr<'s>,
-) -> Result<Held<'w, 's>, EvalFault<'s>>
+) -> Result<Held<'w, 's>, EvalFault>
     ensures { Answers (and_then (values.value seen.now scope.now (tree expr.now)) (items.tuples_of (trees.span_of (tree expr.now)))) result }
 {
     tuples_of(span_of(expr), evaluate(alloc, seen, scope, expr))
@@ -51,7 +51,7 @@ pub fn holds<'s>(
     seen: &Seen<'_, 's>,
     scope: &Scope<'s>,
     expr: &Expr<'s>,
-) -> Result<bool, EvalFault<'s>>
+) -> Result<bool, EvalFault>
     ensures { Answers (and_then (values.value seen.now scope.now (tree expr.now)) (operators.truth (trees.span_of (tree expr.now)))) result }
 {
     is_met(alloc, seen, scope, expr, expr)
@@ -63,7 +63,7 @@ pub fn index_of<'s>(
     seen: &Seen<'_, 's>,
     scope: &Scope<'s>,
     braces: &Braces<'s>,
-) -> Result<Keys<'s>, EvalFault<'s>>
+) -> Result<Keys<'s>, EvalFault>
     ensures { Answers (values.index seen.now scope.now (braces_of braces.now)) result }
 {
     index(alloc, seen, scope, braces)

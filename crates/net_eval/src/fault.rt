@@ -5,8 +5,7 @@ ghost use Rattle.net_eval.specs.declared.fault.Detail.TheVariants.{Nothing};
 ghost use Rattle.net_eval.specs.declared.fault.EvalFault.TheVariants.{Refused};
 ghost use Rattle.net_eval.specs.Faults.{number_of, name_of};
 
-use net_lex::{Excerpt, Span};
-use net_sets::Tuple;
+use net_lex::{Items, Span};
 use net_tree::{Expr, span_of};
 use std::alloc::{AllocError, AllocFailed};
 
@@ -61,55 +60,53 @@ impl EvalDefect {
     }
 }
 
-/// What a fault tells beside its place.
+/// What a fault tells beside its place. Like the fault it borrows nothing.
 #[derive(Drop)]
-pub enum Detail<'s> {
+pub enum Detail {
     Nothing,
-    /// A name that has no keys.
-    Named(Excerpt<'s>),
-    /// A name with its key.
-    Keyed(Excerpt<'s>, Tuple<'s>),
+    /// A name, with its key where it has one, as it is displayed: `Ship['PITT','NE']`.
+    Told(Items<u8>),
 }
 
 /// A fault, and the part of the model that has it.
 #[derive(Drop)]
-pub struct Refusal<'s> {
+pub struct Refusal {
     pub defect: EvalDefect,
     pub at: Span,
-    pub detail: Detail<'s>,
+    pub detail: Detail,
 }
 
 /// Why an expression has no value.
 #[derive(Drop)]
-pub enum EvalFault<'s> {
+pub enum EvalFault {
     OutOfMemory,
-    Refused(Refusal<'s>),
+    Refused(Refusal),
 }
 
-impl<'s> From<AllocError> for EvalFault<'s> {
+impl From<AllocError> for EvalFault {
     ghost use Rattle.std.specs.Prelude.{◌≡◌};
     ghost use Rattle.net_eval.specs.declared.fault.EvalFault.TheVariants.{OutOfMemory};
 
     ghost from_gives = { λ _ e. e ≡ OutOfMemory };
 
-    fn from(_refused: AllocError) -> EvalFault<'s> {
+    fn from(_refused: AllocError) -> EvalFault {
         EvalFault::OutOfMemory
     }
 }
 
-impl<'s, T: Drop> From<AllocFailed<T>> for EvalFault<'s> {
+impl<T: Drop> From<AllocFailed<T>> for EvalFault {
     ghost use Rattle.std.specs.Prelude.{◌≡◌};
     ghost use Rattle.net_eval.specs.declared.fault.EvalFault.TheVariants.{OutOfMemory};
 
     ghost from_gives = { λ _ e. e ≡ OutOfMemory };
 
-    fn from(_refused: AllocFailed<T>) -> EvalFault<'s> {
+    fn from(_refused: AllocFailed<T>) -> EvalFault {
         EvalFault::OutOfMemory
     }
 }
 
 /// A fault at a place.
-pub(crate) fn refuse<'s>(defect: EvalDefect, at: Span) -> EvalFault<'s>
+pub(crate) fn refuse(defect: EvalDefect, at: Span) -> EvalFault
     ensures { result ≡ Refused (record { defect = defect; at = at; detail = Nothing }) }
 {
     EvalFault::Refused(Refusal {
@@ -120,7 +117,7 @@ pub(crate) fn refuse<'s>(defect: EvalDefect, at: Span) -> EvalFault<'s>
 }
 
 /// A fault at a tree; its place is looked for here, and not where nothing is at fault.
-pub(crate) fn refuse_tree<'s>(defect: EvalDefect, whole: &Expr<'_>) -> EvalFault<'s>
+pub(crate) fn refuse_tree(defect: EvalDefect, whole: &Expr<'_>) -> EvalFault
     ensures { result ≡ Refused (record { defect = defect; at = trees.span_of (tree whole.now); detail = Nothing }) }
 {
     refuse(defect, span_of(whole))

@@ -20,13 +20,13 @@ use std::alloc::Global;
 
 /// Where an item leads to by a tuple of its set, if the tuple agrees.
 #[cycle(eval)]
-pub(crate) fn place_at<'w, 's>(
+pub(crate) fn place_at<'s>(
     alloc: Global,
-    seen: &Seen<'w, 's>,
+    seen: &Seen<'_, 's>,
     item: &Expr<'s>,
     tuple: &Tuple<'s>,
     place: &Place<'s>,
-) -> Result<Option<Place<'s>>, EvalFault<'s>>
+) -> Result<Option<Place<'s>>, EvalFault>
     ensures { Answers (values.place seen.now (tree item.now) tuple.now place.now) result }
 {
     match sides_of(item) {
@@ -38,14 +38,14 @@ pub(crate) fn place_at<'w, 's>(
 /// The left of `in` at a tuple: a tuple's components one by one, anything else as a whole.
 #[cycle(eval)]
 #[tactic(auto, using(net_tree::proofs::Views::views))]
-fn left_place<'w, 's>(
+fn left_place<'s>(
     alloc: Global,
-    seen: &Seen<'w, 's>,
+    seen: &Seen<'_, 's>,
     item: &Expr<'s>,
     left: &Expr<'s>,
     tuple: &Tuple<'s>,
     place: &Place<'s>,
-) -> Result<Option<Place<'s>>, EvalFault<'s>>
+) -> Result<Option<Place<'s>>, EvalFault>
     ensures { Answers (values.left_place (trees.span_of (tree item.now)) seen.now (tree left.now) (values.value seen.now place.now.scope (tree left.now)) tuple.now place.now) result }
 {
     match left {
@@ -74,14 +74,14 @@ fn left_place<'w, 's>(
 
 /// What stands alone at the left of `in`.
 #[cycle(eval)]
-fn alone<'w, 's>(
+fn alone<'s>(
     alloc: Global,
-    seen: &Seen<'w, 's>,
+    seen: &Seen<'_, 's>,
     item: &Expr<'s>,
     left: &Expr<'s>,
     tuple: &Tuple<'s>,
     place: &Place<'s>,
-) -> Result<Option<Place<'s>>, EvalFault<'s>>
+) -> Result<Option<Place<'s>>, EvalFault>
     ensures { Answers (rows.fitted_alone (trees.span_of (tree item.now)) (items.new_dummy seen.now place.now.scope (tree left.now)) (values.value seen.now place.now.scope (tree left.now)) tuple.now place.now) result }
 {
     match new_dummy(seen, &place.scope, left) {
@@ -95,16 +95,16 @@ fn alone<'w, 's>(
 
 /// The components of a tuple, up to the first that does not agree.
 #[cycle(eval)]
-fn components<'w, 's>(
+fn components<'s>(
     alloc: Global,
-    seen: &Seen<'w, 's>,
+    seen: &Seen<'_, 's>,
     item: &Expr<'s>,
     whole: &Expr<'s>,
     first: &Expr<'s>,
     more: &[Link<'s>],
     tuple: &Tuple<'s>,
     place: &Place<'s>,
-) -> Result<Option<Place<'s>>, EvalFault<'s>>
+) -> Result<Option<Place<'s>>, EvalFault>
     ensures { Answers (walks.component_places (trees.span_of (tree whole.now)) seen.now (tree first.now) (links_of more.now) tuple.now place.now) result }
 {
     match tuple.as_slice() {
@@ -117,14 +117,14 @@ fn components<'w, 's>(
 }
 
 #[cycle(eval)]
-fn places<'w, 's>(
+fn places<'s>(
     alloc: Global,
-    seen: &Seen<'w, 's>,
+    seen: &Seen<'_, 's>,
     whole: &Expr<'s>,
     links: &[Link<'s>],
     members: &[Member<'s>],
     place: Place<'s>,
-) -> Result<Option<Place<'s>>, EvalFault<'s>>
+) -> Result<Option<Place<'s>>, EvalFault>
     ensures { Answers (values.places (trees.span_of (tree whole.now)) seen.now (links_of links.now) members.now place.entry) result }
 {
     match links {
@@ -149,16 +149,16 @@ fn places<'w, 's>(
 
 /// A component, and those behind it.
 #[cycle(eval)]
-fn fit_all<'w, 's>(
+fn fit_all<'s>(
     alloc: Global,
-    seen: &Seen<'w, 's>,
+    seen: &Seen<'_, 's>,
     whole: &Expr<'s>,
     component: &Expr<'s>,
     more: &[Link<'s>],
     member: &Member<'s>,
     others: &[Member<'s>],
     place: Place<'s>,
-) -> Result<Option<Place<'s>>, EvalFault<'s>>
+) -> Result<Option<Place<'s>>, EvalFault>
     ensures { Answers (walks.component_places (trees.span_of (tree whole.now)) seen.now (tree component.now) (links_of more.now) (member.now ∷ others.now) place.entry) result }
 {
     match fit(alloc, seen, whole, component, member, place) {
@@ -170,14 +170,14 @@ fn fit_all<'w, 's>(
 
 /// A new dummy takes the member; any other component must have it for its value.
 #[cycle(eval)]
-fn fit<'w, 's>(
+fn fit<'s>(
     alloc: Global,
-    seen: &Seen<'w, 's>,
+    seen: &Seen<'_, 's>,
     whole: &Expr<'s>,
     component: &Expr<'s>,
     member: &Member<'s>,
     place: Place<'s>,
-) -> Result<Option<Place<'s>>, EvalFault<'s>>
+) -> Result<Option<Place<'s>>, EvalFault>
     ensures { Answers (rows.fitted (trees.span_of (tree whole.now)) (items.new_dummy seen.now place.entry.scope (tree component.now)) (values.value seen.now place.entry.scope (tree component.now)) member.now place.entry) result }
 {
     match new_dummy(seen, &place.scope, component) {

@@ -190,7 +190,7 @@ fn fitting<'w, 's>(
     left: &Expr<'_>,
     dimension: Option<u8>,
     tuples: Held<'w, 's>,
-) -> Result<Held<'w, 's>, EvalFault<'s>>
+) -> Result<Held<'w, 's>, EvalFault>
     ensures { Answers (items.chosen (trees.span_of (tree item.now)) (items.needed (tree left.now)) (Many dimension tuples.entry)) result }
 {
     if fits_needed(dimension, left) {
@@ -204,8 +204,8 @@ fn fitting<'w, 's>(
 pub(crate) fn chosen<'w, 's>(
     item: &Expr<'_>,
     left: &Expr<'_>,
-    value: Result<Value<'w, 's>, EvalFault<'s>>,
-) -> Result<Held<'w, 's>, EvalFault<'s>>
+    value: Result<Value<'w, 's>, EvalFault>,
+) -> Result<Held<'w, 's>, EvalFault>
     ensures { (wanted : Outcome Found) → Answers wanted value.entry → Answers (and_then wanted (items.chosen (trees.span_of (tree item.now)) (items.needed (tree left.now)))) result }
 {
     match value {
@@ -220,8 +220,8 @@ pub(crate) fn chosen<'w, 's>(
 /// The tuples of an item that is a set.
 pub(crate) fn tuples_of<'w, 's>(
     at: Span,
-    value: Result<Value<'w, 's>, EvalFault<'s>>,
-) -> Result<Held<'w, 's>, EvalFault<'s>>
+    value: Result<Value<'w, 's>, EvalFault>,
+) -> Result<Held<'w, 's>, EvalFault>
     ensures { (wanted : Outcome Found) → Answers wanted value.entry → Answers (and_then wanted (items.tuples_of at)) result }
 {
     match value {

@@ -29,12 +29,12 @@ use std::alloc::Global;
 /// The keys of braces, each with the dummies in scope at it.
 #[cycle(eval)]
 #[tactic(auto, using(net_tree::proofs::Views::views))]
-pub(crate) fn index<'w, 's>(
+pub(crate) fn index<'s>(
     alloc: Global,
-    seen: &Seen<'w, 's>,
+    seen: &Seen<'_, 's>,
     scope: &Scope<'s>,
     braces: &Braces<'s>,
-) -> Result<Keys<'s>, EvalFault<'s>>
+) -> Result<Keys<'s>, EvalFault>
     ensures { Answers (values.index seen.now scope.now (braces_of braces.now)) result }
 {
     match braces {
@@ -54,15 +54,15 @@ pub(crate) fn index<'w, 's>(
 }
 
 #[cycle(eval)]
-fn index_items<'w, 's>(
+fn index_items<'s>(
     alloc: Global,
-    seen: &Seen<'w, 's>,
+    seen: &Seen<'_, 's>,
     scope: &Scope<'s>,
     at: Span,
     item: &Expr<'s>,
     more: &[Link<'s>],
     condition: &Option<Boxed<Part<'s>>>,
-) -> Result<Keys<'s>, EvalFault<'s>>
+) -> Result<Keys<'s>, EvalFault>
     ensures { Answers (walks.index_items at seen.now scope.now (tree item.now) (links_of more.now) (option_part condition.now)) result }
 {
     match sides_of(item) {
@@ -88,7 +88,7 @@ fn open<'w, 's>(
     more: &[Link<'s>],
     condition: &Option<Boxed<Part<'s>>>,
     value: Value<'w, 's>,
-) -> Result<Keys<'s>, EvalFault<'s>>
+) -> Result<Keys<'s>, EvalFault>
     ensures { Answers (walks.opened_keys at seen.now scope.now (tree item.now) (links_of more.now) (option_part condition.now) value.entry) result }
 {
     if any_in(more) || is_set(&value) {
@@ -111,7 +111,7 @@ fn select<'w, 's>(
     more: &[Link<'s>],
     condition: &Option<Boxed<Part<'s>>>,
     tuples: Held<'w, 's>,
-) -> Result<Keys<'s>, EvalFault<'s>>
+) -> Result<Keys<'s>, EvalFault>
     ensures { Answers (walks.walked at seen.now scope.now (tree item.now) (links_of more.now) (option_part condition.now) tuples.entry) result }
 {
     let found = collect(alloc, seen, scope, at, item, more, tuples)?;
@@ -129,7 +129,7 @@ fn collect<'w, 's>(
     item: &Expr<'s>,
     more: &[Link<'s>],
     tuples: Held<'w, 's>,
-) -> Result<Items<Row<'s>>, EvalFault<'s>>
+) -> Result<Items<Row<'s>>, EvalFault>
     ensures { Answers (each (rows.onward (values.place seen.now (tree item.now)) (values.walk at seen.now (links_of more.now)) (rows.start scope.now)) tuples.entry []) result }
 {
     let place = start(alloc, scope)?;
@@ -149,7 +149,7 @@ fn through<'w, 's>(
     place: Place<'s>,
     tuples: Held<'w, 's>,
     found: &mut Vec<Row<'s>>,
-) -> Result<(), EvalFault<'s>>
+) -> Result<(), EvalFault>
     ensures { Leaves (each (rows.onward (values.place seen.now (tree item.now)) (values.walk at seen.now (links_of more.now)) place.entry) tuples.entry found.old.items) result found.new.items }
 {
     let mut left = selected(seen, &place.scope, item, &tuples);
@@ -161,16 +161,16 @@ fn through<'w, 's>(
 
 /// The rest of the walk behind one tuple, if the tuple agrees.
 #[cycle(eval)]
-fn onward<'w, 's>(
+fn onward<'s>(
     alloc: Global,
-    seen: &Seen<'w, 's>,
+    seen: &Seen<'_, 's>,
     at: Span,
     item: &Expr<'s>,
     more: &[Link<'s>],
     place: &Place<'s>,
     tuple: &Tuple<'s>,
     found: &mut Vec<Row<'s>>,
-) -> Result<(), EvalFault<'s>>
+) -> Result<(), EvalFault>
     ensures { Leaves (rows.onward (values.place seen.now (tree item.now)) (values.walk at seen.now (links_of more.now)) place.now tuple.now found.old.items) result found.new.items }
 {
     match place_at(alloc, seen, item, tuple, place) {
@@ -181,14 +181,14 @@ fn onward<'w, 's>(
 }
 
 #[cycle(eval)]
-fn walk<'w, 's>(
+fn walk<'s>(
     alloc: Global,
-    seen: &Seen<'w, 's>,
+    seen: &Seen<'_, 's>,
     at: Span,
     items: &[Link<'s>],
     place: Place<'s>,
     found: &mut Vec<Row<'s>>,
-) -> Result<(), EvalFault<'s>>
+) -> Result<(), EvalFault>
     ensures { Leaves (values.walk at seen.now (links_of items.now) place.entry found.old.items) result found.new.items }
 {
     match items {
@@ -198,15 +198,15 @@ fn walk<'w, 's>(
 }
 
 #[cycle(eval)]
-fn walk_item<'w, 's>(
+fn walk_item<'s>(
     alloc: Global,
-    seen: &Seen<'w, 's>,
+    seen: &Seen<'_, 's>,
     at: Span,
     item: &Expr<'s>,
     more: &[Link<'s>],
     place: Place<'s>,
     found: &mut Vec<Row<'s>>,
-) -> Result<(), EvalFault<'s>>
+) -> Result<(), EvalFault>
     ensures { Leaves (and_then (walks.item_tuples at seen.now place.entry.scope (tree item.now)) (λ ts. each (rows.onward (values.place seen.now (tree item.now)) (values.walk at seen.now (links_of more.now)) place.entry) ts found.old.items)) result found.new.items }
 {
     let tuples = item_tuples(alloc, seen, at, &place.scope, item)?;
@@ -220,7 +220,7 @@ fn item_tuples<'w, 's>(
     at: Span,
     scope: &Scope<'s>,
     item: &Expr<'s>,
-) -> Result<Held<'w, 's>, EvalFault<'s>>
+) -> Result<Held<'w, 's>, EvalFault>
     ensures { Answers (walks.item_tuples at seen.now scope.now (tree item.now)) result }
 {
     match sides_of(item) {
@@ -237,7 +237,7 @@ fn choose<'w, 's>(
     item: &Expr<'s>,
     left: &Expr<'s>,
     set: &Expr<'s>,
-) -> Result<Held<'w, 's>, EvalFault<'s>>
+) -> Result<Held<'w, 's>, EvalFault>
     ensures { Answers (and_then (values.value seen.now scope.now (tree set.now)) (items.chosen (trees.span_of (tree item.now)) (items.needed (tree left.now)))) result }
 {
     chosen(item, left, evaluate(alloc, seen, scope, set))
@@ -245,14 +245,14 @@ fn choose<'w, 's>(
 
 /// The keys at which the condition holds.
 #[cycle(eval)]
-fn keep<'w, 's>(
+fn keep<'s>(
     alloc: Global,
-    seen: &Seen<'w, 's>,
+    seen: &Seen<'_, 's>,
     at: Span,
     condition: &Option<Boxed<Part<'s>>>,
     width: u8,
     found: Items<Row<'s>>,
-) -> Result<Keys<'s>, EvalFault<'s>>
+) -> Result<Keys<'s>, EvalFault>
     ensures { Answers (and_then (rows.kept (λ q. values.holds at seen.now q (option_part condition.now)) found.entry []) (λ left. Ok (rows.keys width left))) result }
 {
     if !has_part(condition) {
@@ -269,13 +269,13 @@ fn keep<'w, 's>(
 
 #[cycle(eval)]
 #[tactic(auto, using(net_tree::proofs::Views::views))]
-fn holds<'w, 's>(
+fn holds<'s>(
     alloc: Global,
-    seen: &Seen<'w, 's>,
+    seen: &Seen<'_, 's>,
     at: Span,
     scope: &Scope<'s>,
     condition: &Option<Boxed<Part<'s>>>,
-) -> Result<bool, EvalFault<'s>>
+) -> Result<bool, EvalFault>
     ensures { Answers (values.holds at seen.now scope.now (option_part condition.now)) result }
 {
     match condition {

@@ -18,7 +18,7 @@ use net_sets::{Held, SetFault, Tuple, TupleSet};
 use std::alloc::{AllocError, Global};
 
 /// A member alone, or a tuple.
-fn tuple_in<'s>(at: Span, value: &Value<'_, 's>) -> Result<Tuple<'s>, EvalFault<'s>>
+fn tuple_in<'s>(at: Span, value: &Value<'_, 's>) -> Result<Tuple<'s>, EvalFault>
     ensures { Answers (rows.tuple_in at value.now) result }
 {
     match value {
@@ -32,7 +32,7 @@ fn tuples_in<'s>(
     alloc: Global,
     at: Span,
     values: &[Value<'_, 's>],
-) -> Result<Items<Tuple<'s>>, EvalFault<'s>>
+) -> Result<Items<Tuple<'s>>, EvalFault>
     ensures { Answers (rows.tuples_in at values.now []) result }
 {
     let mut found = Vec::new(alloc);
@@ -84,7 +84,7 @@ pub(crate) fn no_items<'s>(
     alloc: Global,
     at: Span,
     conditioned: bool,
-) -> Result<Keys<'s>, EvalFault<'s>>
+) -> Result<Keys<'s>, EvalFault>
     ensures { Answers (walks.no_items at conditioned) result }
 {
     if conditioned {
@@ -101,7 +101,7 @@ fn rows_once<'s>(
     scope: &Scope<'s>,
     first: &Tuple<'s>,
     tuples: &[Tuple<'s>],
-) -> Result<Keys<'s>, EvalFault<'s>>
+) -> Result<Keys<'s>, EvalFault>
     ensures { Answers (rows.keys_within at scope.now (length first.now) (union [] tuples.now)) result }
 {
     match once(alloc, tuples) {
@@ -119,7 +119,7 @@ fn listed_as<'s>(
     at: Span,
     scope: &Scope<'s>,
     tuples: &[Tuple<'s>],
-) -> Result<Keys<'s>, EvalFault<'s>>
+) -> Result<Keys<'s>, EvalFault>
     ensures { Answers (rows.listed_as at scope.now tuples.now (union [] tuples.now)) result }
 {
     match tuples {
@@ -140,8 +140,8 @@ pub(crate) fn listed<'s>(
     at: Span,
     scope: &Scope<'s>,
     conditioned: bool,
-    values: Result<Items<Value<'_, 's>>, EvalFault<'s>>,
-) -> Result<Keys<'s>, EvalFault<'s>>
+    values: Result<Items<Value<'_, 's>>, EvalFault>,
+) -> Result<Keys<'s>, EvalFault>
     ensures { (wanted : Outcome (List Found)) → Answers wanted values.entry → Answers (and_then wanted (rows.listed at scope.now conditioned)) result }
 {
     let values = values?;
@@ -168,7 +168,7 @@ pub(crate) fn as_value<'w, 's>(
     alloc: Global,
     at: Span,
     keys: &Keys<'s>,
-) -> Result<Value<'w, 's>, EvalFault<'s>>
+) -> Result<Value<'w, 's>, EvalFault>
     ensures { Answers (rows.as_set at keys.now) result }
 {
     let tuples = keys_of(alloc, keys.rows.as_slice())?;

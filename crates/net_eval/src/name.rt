@@ -11,29 +11,17 @@ ghost use Rattle.net_eval.specs.Worlds as worlds;
 
 use crate::fault::{Detail, EvalDefect, EvalFault, Refusal, refuse};
 use crate::number::number_in;
+use crate::reference::told_reference;
 use crate::scope::Scope;
 use crate::value::Value;
 use crate::world::{Entry, Seen};
 use net_lex::{Excerpt, Span, Token};
 use net_sets::{Held, Member, Table, Text, Tuple, TupleSet};
 use net_tree::{Role, role_of};
+use std::alloc::Global;
 
-/// A parameter with its key, as faults tell it.
-fn reference<'s>(name: &Excerpt<'s>, keys: Option<u8>, key: Tuple<'s>) -> Detail<'s>
-    ensures { result ≡ worlds.reference name.now keys key.entry }
-{
-    match keys {
-        None => Detail::Named(name.again()),
-        Some(_) => Detail::Keyed(name.again(), key),
-    }
-}
-
-fn missing<'w, 's>(
-    at: Span,
-    detail: Detail<'s>,
-    listed: bool,
-) -> Result<Value<'w, 's>, EvalFault<'s>>
-    ensures { Answers (worlds.missing at detail.entry listed) result }
+fn missing<'w, 's>(at: Span, detail: Detail, listed: bool) -> Result<Value<'w, 's>, EvalFault>
+    ensures { Answers (worlds.missing at detail listed) result }
 {
     let defect = if listed {
         EvalDefect::NoValue
@@ -45,20 +33,22 @@ fn missing<'w, 's>(
 
 /// The value of a parameter at a key.
 fn value_at<'w, 's>(
+    alloc: Global,
     at: Span,
     name: &Excerpt<'s>,
     keys: Option<u8>,
     index: &TupleSet<'s>,
     table: &Table<'s>,
     key: Tuple<'s>,
-) -> Result<Value<'w, 's>, EvalFault<'s>>
+) -> Result<Value<'w, 's>, EvalFault>
     ensures { Answers (worlds.value_at at (worlds.reference name.now keys key.entry) (at_key table.now key.entry) (has index.now key.entry)) result }
 {
     match table.get(&key) {
         Some(member) => Ok(Value::One(member.again())),
         None => {
             let listed = index.contains(&key);
-            missing(at, reference(name, keys, key), listed)
+            let detail = told_reference(alloc, name, keys, &key)?;
+            missing(at, detail, listed)
         }
     }
 }
@@ -74,11 +64,12 @@ fn key_count(keys: Option<u8>) -> usize
 
 /// What a declared name is at its subscripts.
 fn entry_at<'w, 's>(
+    alloc: Global,
     at: Span,
     name: &Excerpt<'s>,
     entry: Option<&'w Entry<'s>>,
     key: Tuple<'s>,
-) -> Result<Value<'w, 's>, EvalFault<'s>>
+) -> Result<Value<'w, 's>, EvalFault>
     ensures { Answers (worlds.entry_at at name.now (option_copied entry.entry) key.entry) result }
 {
     match entry {
@@ -92,7 +83,7 @@ fn entry_at<'w, 's>(
         }
         Some(Entry::Parameter(keys, index, table)) => {
             if key.len() == key_count(*keys) {
-                value_at(at, name, *keys, index, table, key)
+                value_at(alloc, at, name, *keys, index, table, key)
             } else {
                 Err(refuse(EvalDefect::Arity, at))
             }
@@ -102,16 +93,17 @@ fn entry_at<'w, 's>(
 
 /// What a name is at its subscripts; a dummy has none.
 pub(crate) fn name_at<'w, 's>(
+    alloc: Global,
     at: Span,
     seen: &Seen<'w, 's>,
     scope: &Scope<'s>,
     name: &Excerpt<'s>,
     key: Tuple<'s>,
-) -> Result<Value<'w, 's>, EvalFault<'s>>
+) -> Result<Value<'w, 's>, EvalFault>
     ensures { Answers (worlds.name_at at seen.now name.now (worlds.bound scope.now name.now) key.entry) result }
 {
     match scope.get(name) {
-        None => entry_at(at, name, seen.find(name), key),
+        None => entry_at(alloc, at, name, seen.find(name), key),
         Some(member) => {
             if key.len() == 0 {
                 Ok(Value::One(member.again()))
@@ -122,7 +114,7 @@ pub(crate) fn name_at<'w, 's>(
     }
 }
 
-fn numeral<'w, 's>(token: &Token<'s>) -> Result<Value<'w, 's>, EvalFault<'s>>
+fn numeral<'w, 's>(token: &Token<'s>) -> Result<Value<'w, 's>, EvalFault>
     ensures { Answers (values.number_value token.now.span (number_in token.now.text)) result }
 {
     match number_in(&token.text) {
@@ -133,16 +125,17 @@ fn numeral<'w, 's>(token: &Token<'s>) -> Result<Value<'w, 's>, EvalFault<'s>>
 
 /// What a leaf is.
 pub(crate) fn leaf<'w, 's>(
+    alloc: Global,
     seen: &Seen<'w, 's>,
     scope: &Scope<'s>,
     token: &Token<'s>,
-) -> Result<Value<'w, 's>, EvalFault<'s>>
+) -> Result<Value<'w, 's>, EvalFault>
     ensures { Answers (values.value seen.now scope.now (trees.leaf token.now)) result }
 {
     match role_of(token) {
         Role::Number => numeral(token),
         Role::Text => Ok(Value::One(Member::Name(Text::new(&token.text)))),
-        Role::Name => name_at(token.span, seen, scope, &token.text, Tuple::new()),
+        Role::Name => name_at(alloc, token.span, seen, scope, &token.text, Tuple::new()),
         _ => Err(refuse(EvalDefect::KindMismatch, token.span)),
     }
 }

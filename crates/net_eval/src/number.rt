@@ -46,7 +46,7 @@ fn narrow(number: &i128) -> i64
 }
 
 /// A number that arithmetic gives.
-pub(crate) fn sized<'w, 's>(whole: &Expr<'_>, number: i128) -> Result<Value<'w, 's>, EvalFault<'s>>
+pub(crate) fn sized<'w, 's>(whole: &Expr<'_>, number: i128) -> Result<Value<'w, 's>, EvalFault>
     ensures { Answers (numbers.sized (trees.span_of (tree whole.now)) number) result }
 {
     if is_small(&number) {
@@ -57,7 +57,7 @@ pub(crate) fn sized<'w, 's>(whole: &Expr<'_>, number: i128) -> Result<Value<'w, 
 }
 
 /// A value that is a number.
-pub(crate) fn number_of<'s>(whole: &Expr<'_>, value: &Value<'_, 's>) -> Result<i64, EvalFault<'s>>
+pub(crate) fn number_of(whole: &Expr<'_>, value: &Value<'_, '_>) -> Result<i64, EvalFault>
     ensures { Answers (numbers.number (trees.span_of (tree whole.now)) value.now) result }
 {
     match value {
@@ -67,10 +67,7 @@ pub(crate) fn number_of<'s>(whole: &Expr<'_>, value: &Value<'_, 's>) -> Result<i
 }
 
 /// The number that was evaluated.
-fn number_found<'s>(
-    whole: &Expr<'_>,
-    value: Result<Value<'_, 's>, EvalFault<'s>>,
-) -> Result<i64, EvalFault<'s>>
+fn number_found(whole: &Expr<'_>, value: Result<Value<'_, '_>, EvalFault>) -> Result<i64, EvalFault>
     ensures { (wanted : Outcome Found) → Answers wanted value.entry → Answers (and_then wanted (numbers.number (trees.span_of (tree whole.now)))) result }
 {
     match value {
@@ -97,19 +94,19 @@ fn product_of(a: &i64, b: &i64) -> i128
     i128::from(*a) * i128::from(*b)
 }
 
-fn plus<'w, 's>(whole: &Expr<'_>, a: &i64, b: &i64) -> Result<Value<'w, 's>, EvalFault<'s>>
+fn plus<'w, 's>(whole: &Expr<'_>, a: &i64, b: &i64) -> Result<Value<'w, 's>, EvalFault>
     ensures { Answers (numbers.plus (trees.span_of (tree whole.now)) a.now b.now) result }
 {
     sized(whole, sum_of(a, b))
 }
 
-fn minus<'w, 's>(whole: &Expr<'_>, a: &i64, b: &i64) -> Result<Value<'w, 's>, EvalFault<'s>>
+fn minus<'w, 's>(whole: &Expr<'_>, a: &i64, b: &i64) -> Result<Value<'w, 's>, EvalFault>
     ensures { Answers (numbers.less (trees.span_of (tree whole.now)) a.now b.now) result }
 {
     sized(whole, difference_of(a, b))
 }
 
-fn times<'w, 's>(whole: &Expr<'_>, a: &i64, b: &i64) -> Result<Value<'w, 's>, EvalFault<'s>>
+fn times<'w, 's>(whole: &Expr<'_>, a: &i64, b: &i64) -> Result<Value<'w, 's>, EvalFault>
     ensures { Answers (numbers.times (trees.span_of (tree whole.now)) a.now b.now) result }
 {
     sized(whole, product_of(a, b))
@@ -121,7 +118,7 @@ fn divides(a: &i64, b: &i64) -> bool
     *a >= 0 && *b >= 1
 }
 
-fn quotient<'w, 's>(whole: &Expr<'_>, a: &i64, b: &i64) -> Result<Value<'w, 's>, EvalFault<'s>>
+fn quotient<'w, 's>(whole: &Expr<'_>, a: &i64, b: &i64) -> Result<Value<'w, 's>, EvalFault>
     ensures { Answers (numbers.quotient (trees.span_of (tree whole.now)) a.now b.now) result }
 {
     if divides(a, b) {
@@ -131,7 +128,7 @@ fn quotient<'w, 's>(whole: &Expr<'_>, a: &i64, b: &i64) -> Result<Value<'w, 's>,
     }
 }
 
-fn remainder<'w, 's>(whole: &Expr<'_>, a: &i64, b: &i64) -> Result<Value<'w, 's>, EvalFault<'s>>
+fn remainder<'w, 's>(whole: &Expr<'_>, a: &i64, b: &i64) -> Result<Value<'w, 's>, EvalFault>
     ensures { Answers (numbers.remainder (trees.span_of (tree whole.now)) a.now b.now) result }
 {
     if divides(a, b) {
@@ -154,7 +151,7 @@ fn ordered(operation: Operation, a: &i64, b: &i64) -> bool
     }
 }
 
-fn compared<'w, 's>(operation: Operation, a: &i64, b: &i64) -> Result<Value<'w, 's>, EvalFault<'s>>
+fn compared<'w, 's>(operation: Operation, a: &i64, b: &i64) -> Result<Value<'w, 's>, EvalFault>
     ensures { Answers (Ok (Truth (operators.ordered operation a.now b.now))) result }
 {
     Ok(Value::Truth(ordered(operation, a, b)))
@@ -162,7 +159,7 @@ fn compared<'w, 's>(operation: Operation, a: &i64, b: &i64) -> Result<Value<'w, 
 
 /// What an operator that takes no numbers makes of them: a refusal, in a function of its own, as the borrow checker covers no
 /// join of answers that are handed on with one that is made in place.
-fn of_no_numbers<'w, 's>(whole: &Expr<'_>) -> Result<Value<'w, 's>, EvalFault<'s>>
+fn of_no_numbers<'w, 's>(whole: &Expr<'_>) -> Result<Value<'w, 's>, EvalFault>
     ensures { Answers (refused KindMismatch (trees.span_of (tree whole.now))) result }
 {
     Err(refuse_tree(EvalDefect::KindMismatch, whole))
@@ -174,7 +171,7 @@ fn of_two<'w, 's>(
     whole: &Expr<'_>,
     a: &i64,
     b: &i64,
-) -> Result<Value<'w, 's>, EvalFault<'s>>
+) -> Result<Value<'w, 's>, EvalFault>
     ensures { Answers (operators.of_two operation (trees.span_of (tree whole.now)) a.now b.now) result }
 {
     match operation {
@@ -196,7 +193,7 @@ pub(crate) fn of_numbers<'w, 's>(
     whole: &Expr<'_>,
     x: &Value<'_, 's>,
     y: &Value<'_, 's>,
-) -> Result<Value<'w, 's>, EvalFault<'s>>
+) -> Result<Value<'w, 's>, EvalFault>
     ensures { Answers (operators.of_numbers (trees.span_of (tree whole.now)) (operators.of_two operation (trees.span_of (tree whole.now))) x.now y.now) result }
 {
     let a = number_of(whole, x)?;
@@ -218,8 +215,8 @@ fn turned(minus: bool, number: &i64) -> i128
 pub(crate) fn with_sign<'w, 's>(
     whole: &Expr<'_>,
     minus: bool,
-    value: Result<Value<'_, 's>, EvalFault<'s>>,
-) -> Result<Value<'w, 's>, EvalFault<'s>>
+    value: Result<Value<'_, 's>, EvalFault>,
+) -> Result<Value<'w, 's>, EvalFault>
     ensures { (wanted : Outcome Found) → Answers wanted value.entry → Answers (and_then wanted (values.with_sign (trees.span_of (tree whole.now)) minus)) result }
 {
     let number = number_found(whole, value)?;
@@ -227,12 +224,12 @@ pub(crate) fn with_sign<'w, 's>(
 }
 
 /// What a reduction makes of the numbers so far and one value more.
-pub(crate) fn one_more<'s>(
+pub(crate) fn one_more(
     whole: &Expr<'_>,
     reduction: Reduction,
     so_far: &Option<i128>,
-    value: Result<Value<'_, 's>, EvalFault<'s>>,
-) -> Result<Option<i128>, EvalFault<'s>>
+    value: Result<Value<'_, '_>, EvalFault>,
+) -> Result<Option<i128>, EvalFault>
     requires { IfSome so_far.now (λ a. unsigned_abs a ≤ 2 ^ 127 - 2 ^ 64) }
     ensures value { (wanted : Outcome Found) → Answers wanted value.entry → Answers (and_then wanted (λ v. and_then (numbers.number (trees.span_of (tree whole.now)) v) (λ n. Ok (Some (numbers.gathered reduction so_far.now n))))) result }
     ensures small { (k : ℕ) → IfSome so_far.now (λ a. unsigned_abs a ≤ k) → IfOk result (λ o. IfSome o (λ a. unsigned_abs a ≤ k + 2 ^ 63)) }
@@ -268,7 +265,7 @@ fn gathered_two(reduction: Reduction, so_far: &i128, number: &i64) -> i128
 fn nothing_reduced<'w, 's>(
     whole: &Expr<'_>,
     reduction: Reduction,
-) -> Result<Value<'w, 's>, EvalFault<'s>>
+) -> Result<Value<'w, 's>, EvalFault>
     ensures { Answers (rows.nothing_reduced (trees.span_of (tree whole.now)) reduction) result }
 {
     match reduction {
@@ -282,7 +279,7 @@ pub(crate) fn reduced_to<'w, 's>(
     whole: &Expr<'_>,
     reduction: Reduction,
     so_far: &Option<i128>,
-) -> Result<Value<'w, 's>, EvalFault<'s>>
+) -> Result<Value<'w, 's>, EvalFault>
     ensures { Answers (rows.reduced_to (trees.span_of (tree whole.now)) reduction so_far.now) result }
 {
     match so_far {

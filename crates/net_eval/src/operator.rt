@@ -19,7 +19,7 @@ use net_tree::Expr;
 use std::alloc::Global;
 
 /// Whether two members are the same.
-fn same<'s>(whole: &Expr<'_>, x: &Value<'_, 's>, y: &Value<'_, 's>) -> Result<bool, EvalFault<'s>>
+fn same<'s>(whole: &Expr<'_>, x: &Value<'_, 's>, y: &Value<'_, 's>) -> Result<bool, EvalFault>
     ensures { Answers (operators.same (trees.span_of (tree whole.now)) x.now y.now) result }
 {
     match (x, y) {
@@ -29,7 +29,7 @@ fn same<'s>(whole: &Expr<'_>, x: &Value<'_, 's>, y: &Value<'_, 's>) -> Result<bo
 }
 
 /// The truth of a condition.
-pub(crate) fn truth<'s>(whole: &Expr<'_>, value: &Value<'_, 's>) -> Result<bool, EvalFault<'s>>
+pub(crate) fn truth(whole: &Expr<'_>, value: &Value<'_, '_>) -> Result<bool, EvalFault>
     ensures { Answers (operators.truth (trees.span_of (tree whole.now)) value.now) result }
 {
     match value {
@@ -39,10 +39,10 @@ pub(crate) fn truth<'s>(whole: &Expr<'_>, value: &Value<'_, 's>) -> Result<bool,
 }
 
 /// The truth of a condition that was evaluated.
-pub(crate) fn truth_of<'s>(
+pub(crate) fn truth_of(
     whole: &Expr<'_>,
-    value: Result<Value<'_, 's>, EvalFault<'s>>,
-) -> Result<bool, EvalFault<'s>>
+    value: Result<Value<'_, '_>, EvalFault>,
+) -> Result<bool, EvalFault>
     ensures { (wanted : Outcome Found) → Answers wanted value.entry → Answers (and_then wanted (operators.truth (trees.span_of (tree whole.now)))) result }
 {
     match value {
@@ -52,10 +52,7 @@ pub(crate) fn truth_of<'s>(
 }
 
 /// The truth of a condition behind items; the place is the braces'.
-pub(crate) fn truth_at<'s>(
-    at: Span,
-    value: Result<Value<'_, 's>, EvalFault<'s>>,
-) -> Result<bool, EvalFault<'s>>
+pub(crate) fn truth_at(at: Span, value: Result<Value<'_, '_>, EvalFault>) -> Result<bool, EvalFault>
     ensures { (wanted : Outcome Found) → Answers wanted value.entry → Answers (and_then wanted (operators.truth at)) result }
 {
     match value {
@@ -72,7 +69,7 @@ pub(crate) fn decided<'w, 's>(
     operation: Operation,
     whole: &Expr<'_>,
     value: &Value<'_, 's>,
-) -> Result<Option<Value<'w, 's>>, EvalFault<'s>>
+) -> Result<Option<Value<'w, 's>>, EvalFault>
     ensures { Answers (operators.decided operation (trees.span_of (tree whole.now)) value.now) result }
 {
     match operation {
@@ -95,18 +92,16 @@ pub(crate) fn decided<'w, 's>(
 }
 
 /// The truth of a condition as a value.
-fn as_truth<'w, 's>(found: Result<bool, EvalFault<'s>>) -> Result<Value<'w, 's>, EvalFault<'s>>
-    ensures { (wanted : Outcome Bool) → Answers wanted found.entry → Answers (operators.as_truth wanted) result }
+fn as_truth<'w, 's>(found: Result<bool, EvalFault>) -> Result<Value<'w, 's>, EvalFault>
+    ensures { (wanted : Outcome Bool) → Answers wanted found → Answers (operators.as_truth wanted) result }
 {
     let holds = found?;
     Ok(Value::Truth(holds))
 }
 
 /// Whether a condition does not hold.
-pub(crate) fn as_denial<'w, 's>(
-    found: Result<bool, EvalFault<'s>>,
-) -> Result<Value<'w, 's>, EvalFault<'s>>
-    ensures { (wanted : Outcome Bool) → Answers wanted found.entry → Answers (operators.as_denial wanted) result }
+pub(crate) fn as_denial<'w, 's>(found: Result<bool, EvalFault>) -> Result<Value<'w, 's>, EvalFault>
+    ensures { (wanted : Outcome Bool) → Answers wanted found → Answers (operators.as_denial wanted) result }
 {
     let holds = found?;
     Ok(Value::Truth(!holds))
@@ -117,7 +112,7 @@ fn right_truth<'w, 's>(
     whole: &Expr<'_>,
     x: &Value<'_, 's>,
     y: &Value<'_, 's>,
-) -> Result<Value<'w, 's>, EvalFault<'s>>
+) -> Result<Value<'w, 's>, EvalFault>
     ensures { Answers (operators.as_truth (and_then (operators.truth (trees.span_of (tree whole.now)) x.now) (λ b. operators.truth (trees.span_of (tree whole.now)) y.now))) result }
 {
     let _left = truth(whole, x)?;
@@ -132,7 +127,7 @@ pub(crate) fn apply<'w, 's>(
     whole: &Expr<'_>,
     x: &Value<'_, 's>,
     y: &Value<'_, 's>,
-) -> Result<Value<'w, 's>, EvalFault<'s>>
+) -> Result<Value<'w, 's>, EvalFault>
     ensures { Answers (operators.apply operation (trees.span_of (tree whole.now)) x.now y.now) result }
 {
     match operation {
@@ -164,7 +159,7 @@ pub(crate) fn apply<'w, 's>(
 pub(crate) fn member_of<'s>(
     whole: &Expr<'_>,
     value: &Value<'_, 's>,
-) -> Result<Member<'s>, EvalFault<'s>>
+) -> Result<Member<'s>, EvalFault>
     ensures { Answers (operators.member (trees.span_of (tree whole.now)) value.now) result }
 {
     match value {
@@ -173,7 +168,7 @@ pub(crate) fn member_of<'s>(
     }
 }
 
-fn short_enough<'s>(whole: &Expr<'_>, key: Option<Tuple<'s>>) -> Result<Tuple<'s>, EvalFault<'s>>
+fn short_enough<'s>(whole: &Expr<'_>, key: Option<Tuple<'s>>) -> Result<Tuple<'s>, EvalFault>
     ensures { Answers (operators.short_enough (trees.span_of (tree whole.now)) key.entry) result }
 {
     match key {
@@ -186,7 +181,7 @@ fn short_enough<'s>(whole: &Expr<'_>, key: Option<Tuple<'s>>) -> Result<Tuple<'s
 pub(crate) fn tuple_of<'s>(
     whole: &Expr<'_>,
     values: &[Value<'_, 's>],
-) -> Result<Tuple<'s>, EvalFault<'s>>
+) -> Result<Tuple<'s>, EvalFault>
     ensures { Answers (operators.tuple_of (trees.span_of (tree whole.now)) values.now) result }
 {
     let mut key = Some(Tuple::new());

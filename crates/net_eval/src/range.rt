@@ -35,7 +35,7 @@ fn range_within<'w, 's>(
     first: &i64,
     last: &i64,
     by: &i64,
-) -> Result<Value<'w, 's>, EvalFault<'s>>
+) -> Result<Value<'w, 's>, EvalFault>
     requires small { IsTrue (numbers.are_small first.now last.now by.now) }
     requires moves { int_lt by.now (pos 1) ≡ false }
     ensures { Answers (numbers.range_within (trees.span_of (tree whole.now)) first.now last.now by.now) result }
@@ -61,7 +61,7 @@ fn are_small(first: &i64, last: &i64, by: &i64) -> bool
 }
 
 /// The step is at least 1.
-fn check_step<'s>(whole: &Expr<'_>, by: &i64) -> Result<(), EvalFault<'s>>
+fn check_step(whole: &Expr<'_>, by: &i64) -> Result<(), EvalFault>
     ensures value { Answers (numbers.step (trees.span_of (tree whole.now)) by.now) result }
     ensures moves { OnOk result (int_lt by.now (pos 1) ≡ false) }
 {
@@ -72,7 +72,7 @@ fn check_step<'s>(whole: &Expr<'_>, by: &i64) -> Result<(), EvalFault<'s>>
     }
 }
 
-fn check_size<'s>(whole: &Expr<'_>, first: &i64, last: &i64, by: &i64) -> Result<(), EvalFault<'s>>
+fn check_size(whole: &Expr<'_>, first: &i64, last: &i64, by: &i64) -> Result<(), EvalFault>
     ensures value { Answers (numbers.size (trees.span_of (tree whole.now)) first.now last.now by.now) result }
     ensures small { OnOk result (IsTrue (numbers.are_small first.now last.now by.now)) }
 {
@@ -89,7 +89,7 @@ fn range<'w, 's>(
     first: &i64,
     last: &i64,
     by: &i64,
-) -> Result<Value<'w, 's>, EvalFault<'s>>
+) -> Result<Value<'w, 's>, EvalFault>
     ensures { Answers (numbers.range (trees.span_of (tree whole.now)) first.now last.now by.now) result }
 {
     check_step(whole, by)?;
@@ -102,7 +102,7 @@ fn range_of_two<'w, 's>(
     whole: &Expr<'_>,
     x: &Value<'_, 's>,
     y: &Value<'_, 's>,
-) -> Result<Value<'w, 's>, EvalFault<'s>>
+) -> Result<Value<'w, 's>, EvalFault>
     ensures { Answers (numbers.range_of (trees.span_of (tree whole.now)) (x.now ∷ y.now ∷ [])) result }
 {
     let first = number_of(whole, x)?;
@@ -116,7 +116,7 @@ fn range_of_three<'w, 's>(
     x: &Value<'_, 's>,
     y: &Value<'_, 's>,
     z: &Value<'_, 's>,
-) -> Result<Value<'w, 's>, EvalFault<'s>>
+) -> Result<Value<'w, 's>, EvalFault>
     ensures { Answers (numbers.range_of (trees.span_of (tree whole.now)) (x.now ∷ y.now ∷ z.now ∷ [])) result }
 {
     let first = number_of(whole, x)?;
@@ -129,7 +129,7 @@ fn range_between<'w, 's>(
     alloc: Global,
     whole: &Expr<'_>,
     values: &[Value<'_, 's>],
-) -> Result<Value<'w, 's>, EvalFault<'s>>
+) -> Result<Value<'w, 's>, EvalFault>
     ensures { Answers (numbers.range_of (trees.span_of (tree whole.now)) values.now) result }
 {
     match values {
@@ -144,8 +144,8 @@ fn range_between<'w, 's>(
 pub(crate) fn range_of<'w, 's>(
     alloc: Global,
     whole: &Expr<'_>,
-    values: Result<Items<Value<'_, 's>>, EvalFault<'s>>,
-) -> Result<Value<'w, 's>, EvalFault<'s>>
+    values: Result<Items<Value<'_, 's>>, EvalFault>,
+) -> Result<Value<'w, 's>, EvalFault>
     ensures { (wanted : Outcome (List Found)) → Answers wanted values.entry → Answers (and_then wanted (numbers.range_of (trees.span_of (tree whole.now)))) result }
 {
     let values = values?;

@@ -61,11 +61,11 @@ pub struct Keys<'s> {
 /// A row at which the condition holds stands behind those found before.
 pub(crate) fn keep_if<'s>(
     alloc: Global,
-    holds: Result<bool, EvalFault<'s>>,
+    holds: Result<bool, EvalFault>,
     row: &Row<'s>,
     found: &mut Vec<Row<'s>>,
-) -> Result<(), EvalFault<'s>>
-    ensures { (wanted : Outcome Bool) → Answers wanted holds.entry → Leaves (and_then wanted (λ b. Ok (rows.keep row.now found.old.items b))) result found.new.items }
+) -> Result<(), EvalFault>
+    ensures { (wanted : Outcome Bool) → Answers wanted holds → Leaves (and_then wanted (λ b. Ok (rows.keep row.now found.old.items b))) result found.new.items }
 {
     let holds = holds?;
     if holds {
@@ -85,7 +85,7 @@ pub(crate) fn as_keys<'s>(width: u8, found: Items<Row<'s>>) -> Keys<'s>
 }
 
 /// The place before the first item.
-pub(crate) fn start<'s>(alloc: Global, scope: &Scope<'s>) -> Result<Place<'s>, EvalFault<'s>>
+pub(crate) fn start<'s>(alloc: Global, scope: &Scope<'s>) -> Result<Place<'s>, EvalFault>
     ensures { Answers (Ok (rows.start scope.now)) result }
 {
     Ok(Place {
@@ -153,7 +153,7 @@ impl<'s> Place<'s> {
         self,
         name: &Excerpt<'s>,
         member: &Member<'s>,
-    ) -> Result<Option<Place<'s>>, EvalFault<'s>>
+    ) -> Result<Option<Place<'s>>, EvalFault>
         ensures { Answers (Ok (Some (rows.bind name.now member.now self.entry))) result }
     {
         let Place { scope, key } = self;
@@ -163,7 +163,7 @@ impl<'s> Place<'s> {
     }
 
     /// Adds a key that is complete.
-    pub(crate) fn finish(self, at: Span, found: &mut Vec<Row<'s>>) -> Result<(), EvalFault<'s>>
+    pub(crate) fn finish(self, at: Span, found: &mut Vec<Row<'s>>) -> Result<(), EvalFault>
         ensures { Leaves (rows.finished at self.entry found.old.items) result found.new.items }
     {
         let Place { scope, key } = self;
@@ -175,7 +175,7 @@ impl<'s> Place<'s> {
 }
 
 /// The same place.
-pub(crate) fn stay<'s>(alloc: Global, place: &Place<'s>) -> Result<Option<Place<'s>>, EvalFault<'s>>
+pub(crate) fn stay<'s>(alloc: Global, place: &Place<'s>) -> Result<Option<Place<'s>>, EvalFault>
     ensures { Answers (Ok (Some place.now)) result }
 {
     Ok(Some(place.again(alloc)?))
@@ -186,7 +186,7 @@ pub(crate) fn with_key<'s>(
     alloc: Global,
     tuple: &Tuple<'s>,
     place: &Place<'s>,
-) -> Result<Option<Place<'s>>, EvalFault<'s>>
+) -> Result<Option<Place<'s>>, EvalFault>
     ensures { Answers (Ok (Some (rows.with_key tuple.now place.now))) result }
 {
     let scope = place.scope.again(alloc)?;
@@ -200,7 +200,7 @@ fn agrees_with<'s>(
     member: &Member<'s>,
     place: Place<'s>,
     value: &Value<'_, 's>,
-) -> Result<Option<Place<'s>>, EvalFault<'s>>
+) -> Result<Option<Place<'s>>, EvalFault>
     ensures { Answers (rows.agrees (trees.span_of (tree whole.now)) member.now place.entry value.now) result }
 {
     match value {
@@ -215,8 +215,8 @@ pub(crate) fn agrees<'s>(
     whole: &Expr<'_>,
     member: &Member<'s>,
     place: Place<'s>,
-    value: Result<Value<'_, 's>, EvalFault<'s>>,
-) -> Result<Option<Place<'s>>, EvalFault<'s>>
+    value: Result<Value<'_, 's>, EvalFault>,
+) -> Result<Option<Place<'s>>, EvalFault>
     ensures { (wanted : Outcome Found) → Answers wanted value.entry → Answers (and_then wanted (rows.agrees (trees.span_of (tree whole.now)) member.now place.entry)) result }
 {
     match value {
@@ -231,7 +231,7 @@ fn agrees_whole<'s>(
     tuple: &Tuple<'s>,
     place: &Place<'s>,
     found: &Tuple<'s>,
-) -> Result<Option<Place<'s>>, EvalFault<'s>>
+) -> Result<Option<Place<'s>>, EvalFault>
     ensures { Answers (rows.agrees_whole (trees.span_of (tree whole.now)) tuple.now place.now found.now) result }
 {
     if found.len() == tuple.len() {
@@ -252,7 +252,7 @@ fn agrees_with_tuple<'s>(
     tuple: &Tuple<'s>,
     place: &Place<'s>,
     value: &Value<'_, 's>,
-) -> Result<Option<Place<'s>>, EvalFault<'s>>
+) -> Result<Option<Place<'s>>, EvalFault>
     ensures { Answers (rows.agrees_as (trees.span_of (tree whole.now)) tuple.now place.now value.now) result }
 {
     match value {
@@ -270,8 +270,8 @@ pub(crate) fn agrees_as<'s>(
     whole: &Expr<'_>,
     tuple: &Tuple<'s>,
     place: &Place<'s>,
-    value: Result<Value<'_, 's>, EvalFault<'s>>,
-) -> Result<Option<Place<'s>>, EvalFault<'s>>
+    value: Result<Value<'_, 's>, EvalFault>,
+) -> Result<Option<Place<'s>>, EvalFault>
     ensures { (wanted : Outcome Found) → Answers wanted value.entry → Answers (and_then wanted (rows.agrees_as (trees.span_of (tree whole.now)) tuple.now place.now)) result }
 {
     match value {
@@ -286,7 +286,7 @@ pub(crate) fn bind_first<'s>(
     name: &Excerpt<'s>,
     members: &[Member<'s>],
     place: &Place<'s>,
-) -> Result<Option<Place<'s>>, EvalFault<'s>>
+) -> Result<Option<Place<'s>>, EvalFault>
     ensures { Answers (rows.bound_first name.now members.now place.now) result }
 {
     match members {
@@ -309,7 +309,7 @@ fn add_row<'s>(
     scope: Scope<'s>,
     key: Tuple<'s>,
     found: &mut Vec<Row<'s>>,
-) -> Result<(), EvalFault<'s>>
+) -> Result<(), EvalFault>
     ensures { Leaves (rows.add_row at scope.entry key.entry found.old.items) result found.new.items }
 {
     if is_alike(&key, found.as_slice()) {

@@ -71,7 +71,7 @@ pub(crate) fn made<'w, 's>(
     whole: &Expr<'_>,
     dimension: u8,
     set: Result<TupleSet<'s>, SetFault>,
-) -> Result<Value<'w, 's>, EvalFault<'s>>
+) -> Result<Value<'w, 's>, EvalFault>
     ensures { (wanted : List Members) → IsMade wanted set.entry → Answers (sets.within_size (trees.span_of (tree whole.now)) dimension wanted) result }
 {
     match set {
@@ -114,7 +114,7 @@ fn set_of<'w, 's>(
     dimension: Option<u8>,
     first: &TupleSet<'s>,
     second: &TupleSet<'s>,
-) -> Result<Value<'w, 's>, EvalFault<'s>>
+) -> Result<Value<'w, 's>, EvalFault>
     ensures { Answers (sets.set_of (trees.span_of (tree whole.now)) dimension (sets.mixed operation first.now second.now)) result }
 {
     match dimension {
@@ -130,7 +130,7 @@ pub(crate) fn of_sets<'w, 's>(
     whole: &Expr<'_>,
     x: &Value<'_, 's>,
     y: &Value<'_, 's>,
-) -> Result<Value<'w, 's>, EvalFault<'s>>
+) -> Result<Value<'w, 's>, EvalFault>
     ensures { Answers (operators.of_sets (trees.span_of (tree whole.now)) (sets.mixed operation) x.now y.now) result }
 {
     match (x, y) {
@@ -155,7 +155,7 @@ fn crossed<'w, 's>(
     first: &TupleSet<'s>,
     e: Option<u8>,
     second: &TupleSet<'s>,
-) -> Result<Value<'w, 's>, EvalFault<'s>>
+) -> Result<Value<'w, 's>, EvalFault>
     ensures { Answers (sets.cross (trees.span_of (tree whole.now)) d first.now e second.now) result }
 {
     let size = counted(d) + counted(e);
@@ -175,7 +175,7 @@ pub(crate) fn cross_values<'w, 's>(
     whole: &Expr<'_>,
     x: &Value<'_, 's>,
     y: &Value<'_, 's>,
-) -> Result<Value<'w, 's>, EvalFault<'s>>
+) -> Result<Value<'w, 's>, EvalFault>
     ensures { Answers (operators.crossed (trees.span_of (tree whole.now)) x.now y.now) result }
 {
     match (x, y) {
@@ -191,7 +191,7 @@ fn among<'s>(
     tuple: &Tuple<'s>,
     dimension: Option<u8>,
     set: &TupleSet<'s>,
-) -> Result<bool, EvalFault<'s>>
+) -> Result<bool, EvalFault>
     ensures { Answers (sets.among (trees.span_of (tree whole.now)) tuple.now dimension set.now) result }
 {
     if fits(dimension, tuple.len()) {
@@ -206,7 +206,7 @@ pub(crate) fn belongs<'s>(
     whole: &Expr<'_>,
     x: &Value<'_, 's>,
     y: &Value<'_, 's>,
-) -> Result<bool, EvalFault<'s>>
+) -> Result<bool, EvalFault>
     ensures { Answers (operators.belongs (trees.span_of (tree whole.now)) x.now y.now) result }
 {
     match (x, y) {
@@ -225,7 +225,7 @@ fn inside<'s>(
     dimension: Option<u8>,
     first: &TupleSet<'s>,
     second: &TupleSet<'s>,
-) -> Result<bool, EvalFault<'s>>
+) -> Result<bool, EvalFault>
     ensures { Answers (sets.inside (trees.span_of (tree whole.now)) dimension first.now second.now) result }
 {
     match dimension {
@@ -239,7 +239,7 @@ pub(crate) fn contained<'s>(
     whole: &Expr<'_>,
     x: &Value<'_, 's>,
     y: &Value<'_, 's>,
-) -> Result<bool, EvalFault<'s>>
+) -> Result<bool, EvalFault>
     ensures { Answers (operators.contained (trees.span_of (tree whole.now)) x.now y.now) result }
 {
     match (x, y) {

@@ -353,7 +353,7 @@ fn with_item<'s>(
     }
 }
 
-fn width_of_form<'s>(at: Span, form: &Form<'s>) -> Result<u8, EvalFault<'s>>
+fn width_of_form(at: Span, form: &Form<'_>) -> Result<u8, EvalFault>
     ensures { Answers (widths.width_of_form at form.now) result }
 {
     if form.indexes {
@@ -374,7 +374,7 @@ fn width_by_form<'s>(
     scope: &Scope<'s>,
     item: &Expr<'s>,
     more: &[Link<'s>],
-) -> Result<u8, EvalFault<'s>>
+) -> Result<u8, EvalFault>
     ensures { Answers (widths.width_by_form at seen.now scope.now (tree item.now) (links_of more.now)) result }
 {
     let form = items_form(alloc, seen, scope, item, more)?;
@@ -390,7 +390,7 @@ pub(crate) fn width<'s>(
     item: &Expr<'s>,
     more: &[Link<'s>],
     found: &[Row<'s>],
-) -> Result<u8, EvalFault<'s>>
+) -> Result<u8, EvalFault>
     ensures { Answers (rows.width_of found.now (widths.width_by_form at seen.now scope.now (tree item.now) (links_of more.now))) result }
 {
     match found {

@@ -10,7 +10,7 @@ ghost use Rattle.net_forms.specs.Outcomes.{Answers};
 ghost use Rattle.net_forms.specs.Kept.{told, place_behind, IsKept};
 
 use crate::fault::{FormDefect, FormFault, FormRefusal, refuse};
-use net_eval::{Detail, EvalDefect};
+use net_eval::{EvalDefect, told_reference};
 use net_lex::{Excerpt, Span};
 use net_sets::{Tuple, TupleSet};
 use std::alloc::{AllocError, Global};
@@ -132,16 +132,6 @@ fn key_count(keys: Option<u8>) -> usize
     }
 }
 
-/// An arc with its key, as faults tell it.
-fn reference<'s>(name: &Excerpt<'s>, keys: Option<u8>, key: Tuple<'s>) -> Detail<'s>
-    ensures { result ≡ worlds.reference name.now keys key.entry }
-{
-    match keys {
-        None => Detail::Named(name.again()),
-        Some(_) => Detail::Keyed(name.again(), key),
-    }
-}
-
 /// The number of the arc at a place among those of its declaration.
 fn number_behind(arcs: &ArcKeys<'_>, place: usize) -> usize
     requires { place < length arcs.now.index }
@@ -154,37 +144,42 @@ fn number_behind(arcs: &ArcKeys<'_>, place: usize) -> usize
 
 /// The number of the arc at a key of a declaration.
 fn numbered<'s>(
+    alloc: Global,
     at: Span,
     name: &Excerpt<'s>,
     arcs: &ArcKeys<'s>,
     key: Tuple<'s>,
-) -> Result<usize, FormFault<'s>>
+) -> Result<usize, FormFault>
     ensures { Answers (lookup.numbered at (worlds.reference name.now arcs.now.keys key.entry) arcs.now.first (place_of arcs.now.index key.entry)) result }
 {
     match arcs.index.position(&key) {
         Some(place) => Ok(number_behind(arcs, place)),
-        None => Err(FormFault::Refused(FormRefusal {
-            defect: FormDefect::Value(EvalDefect::OutsideSet),
-            at,
-            detail: reference(name, arcs.keys, key),
-        })),
+        None => {
+            let detail = told_reference(alloc, name, arcs.keys, &key)?;
+            Err(FormFault::Refused(FormRefusal {
+                defect: FormDefect::Value(EvalDefect::OutsideSet),
+                at,
+                detail,
+            }))
+        }
     }
 }
 
 /// The number of the arc that a name has at a key.
 pub(crate) fn arc_at<'s>(
+    alloc: Global,
     at: Span,
     name: &Excerpt<'s>,
     arcs: Option<&ArcKeys<'s>>,
     key: Tuple<'s>,
-) -> Result<usize, FormFault<'s>>
+) -> Result<usize, FormFault>
     ensures { Answers (lookup.arc_at at name.now (option_copied arcs.entry) key.entry) result }
 {
     match arcs {
         None => Err(refuse(FormDefect::NotLinear, at)),
         Some(arcs) => {
             if key.len() == key_count(arcs.keys) {
-                numbered(at, name, arcs, key)
+                numbered(alloc, at, name, arcs, key)
             } else {
                 Err(refuse(FormDefect::Value(EvalDefect::Arity), at))
             }

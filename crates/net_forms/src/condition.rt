@@ -103,14 +103,14 @@ fn flipped(comparison: Comparison) -> Comparison
 }
 
 /// The net inflows for which the two sides compare so; the numbers are the sides with the net inflow as 0.
-fn solved<'s>(
+fn solved(
     at: Span,
     comparison: Option<Comparison>,
     left: NetTerm,
     right: NetTerm,
     a: &i64,
     b: &i64,
-) -> Result<Sides, FormFault<'s>>
+) -> Result<Sides, FormFault>
     requires { IsTrue (is_small a.now && is_small b.now) }
     ensures { Answers (conditions.solved at comparison left right a.now b.now) result }
 {
@@ -131,14 +131,14 @@ fn solved<'s>(
     }
 }
 
-fn solved_sides<'s>(
+fn solved_sides(
     at: Span,
     comparison: Option<Comparison>,
     left: NetTerm,
     right: NetTerm,
     a: &Option<i64>,
     b: &Option<i64>,
-) -> Result<Sides, FormFault<'s>>
+) -> Result<Sides, FormFault>
     ensures { Answers (conditions.solved_sides at comparison left right a.now b.now) result }
 {
     match (a, b) {
@@ -154,7 +154,7 @@ fn solved_sides<'s>(
 }
 
 /// The net inflows of two ranges, of which one has the low side and the other the high one.
-fn met<'s>(at: Span, first: Sides, second: Sides) -> Result<Sides, FormFault<'s>>
+fn met(at: Span, first: Sides, second: Sides) -> Result<Sides, FormFault>
     ensures { Answers (conditions.met at first second) result }
 {
     match (first.low, first.high, second.low, second.high) {
@@ -170,14 +170,14 @@ fn met<'s>(at: Span, first: Sides, second: Sides) -> Result<Sides, FormFault<'s>
     }
 }
 
-fn solved_twice<'s>(
+fn solved_twice(
     at: Span,
     comparisons: (Option<Comparison>, Option<Comparison>),
     terms: (NetTerm, NetTerm, NetTerm),
     low: &Option<i64>,
     middle: &Option<i64>,
     high: &Option<i64>,
-) -> Result<Sides, FormFault<'s>>
+) -> Result<Sides, FormFault>
     ensures { Answers (conditions.solved_twice at comparisons.0 comparisons.1 terms.0 terms.1 terms.2 low.now middle.now high.now) result }
 {
     let first = solved_sides(at, comparisons.0, terms.0, terms.1, low, middle)?;
@@ -192,7 +192,7 @@ fn one<'s>(
     left: &Expr<'s>,
     operator: &Token<'s>,
     right: &Expr<'s>,
-) -> Result<Sides, FormFault<'s>>
+) -> Result<Sides, FormFault>
     ensures { Answers (conditions.one_in seen.now scope.now (tree left.now) operator.now (tree right.now)) result }
 {
     let a = number_or_none(alloc, seen, scope, left)?;
@@ -209,7 +209,7 @@ fn between<'s>(
     left: (&Expr<'s>, &Token<'s>),
     middle: &Expr<'s>,
     right: (&Token<'s>, &Expr<'s>),
-) -> Result<Sides, FormFault<'s>>
+) -> Result<Sides, FormFault>
     ensures { Answers (conditions.between_in seen.now scope.now (tree left.entry.0.now) left.entry.1.now (tree middle.now) right.entry.0.now (tree right.entry.1.now)) result }
 {
     let low = number_or_none(alloc, seen, scope, left.0)?;
@@ -233,7 +233,7 @@ fn sides_of<'s>(
     seen: &Seen<'_, 's>,
     scope: &Scope<'s>,
     condition: &NetCond<'s>,
-) -> Result<Sides, FormFault<'s>>
+) -> Result<Sides, FormFault>
     ensures { Answers (conditions.sides_in seen.now scope.now (condition_of condition.now)) result }
 {
     match condition {
@@ -271,7 +271,7 @@ fn whole(condition: &NetCond<'_>) -> Span
 }
 
 /// The range with these sides, where some number is in it.
-fn uncrossed<'s>(at: Span, sides: &Sides) -> Result<NodeRange, FormFault<'s>>
+fn uncrossed(at: Span, sides: &Sides) -> Result<NodeRange, FormFault>
     requires { conditions.AreSides sides.now }
     ensures { conditions.AnswersRange (conditions.uncrossed at sides.now) result }
 {
@@ -290,7 +290,7 @@ fn range_of<'s>(
     seen: &Seen<'_, 's>,
     scope: &Scope<'s>,
     condition: &NetCond<'s>,
-) -> Result<NodeRange, FormFault<'s>>
+) -> Result<NodeRange, FormFault>
     ensures { conditions.AnswersRange (conditions.range_in seen.now scope.now (condition_of condition.now)) result }
 {
     let sides = sides_of(alloc, seen, scope, condition)?;
@@ -308,7 +308,7 @@ pub fn node_range<'s>(
     seen: &Seen<'_, 's>,
     scope: &Scope<'s>,
     condition: &NetCond<'s>,
-) -> Result<NodeRange, FormFault<'s>>
+) -> Result<NodeRange, FormFault>
     ensures value { conditions.AnswersRange (conditions.range_in seen.now scope.now (condition_of condition.now)) result }
     ensures exact { IfOk result (λ range. (y : ℤ) → IsInRange range y ↔ conditions.Holds seen.now scope.now (condition_of condition.now) y) }
     ensures crossed { IfErr result (λ fault. conditions.IsCrossed fault → (y : ℤ) → conditions.Holds seen.now scope.now (condition_of condition.now) y → ⊥) }

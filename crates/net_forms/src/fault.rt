@@ -49,44 +49,44 @@ impl FormDefect {
 /// A fault, and the part of the model that has it. That of a crossed condition is the condition, without details: which
 /// node has it only the caller knows.
 #[derive(Drop)]
-pub struct FormRefusal<'s> {
+pub struct FormRefusal {
     pub defect: FormDefect,
     pub at: Span,
-    pub detail: Detail<'s>,
+    pub detail: Detail,
 }
 
 /// Why a condition has no range, or an objective no coefficients.
 #[derive(Drop)]
-pub enum FormFault<'s> {
+pub enum FormFault {
     OutOfMemory,
-    Refused(FormRefusal<'s>),
+    Refused(FormRefusal),
 }
 
-impl<'s> From<AllocError> for FormFault<'s> {
+impl From<AllocError> for FormFault {
     ghost use Rattle.std.specs.Prelude.{◌≡◌};
     ghost use Rattle.net_forms.specs.declared.fault.FormFault.TheVariants.{OutOfMemory};
 
     ghost from_gives = { λ _ e. e ≡ OutOfMemory };
 
-    fn from(_refused: AllocError) -> FormFault<'s> {
+    fn from(_refused: AllocError) -> FormFault {
         FormFault::OutOfMemory
     }
 }
 
-impl<'s, T: Drop> From<AllocFailed<T>> for FormFault<'s> {
+impl<T: Drop> From<AllocFailed<T>> for FormFault {
     ghost use Rattle.std.specs.Prelude.{◌≡◌};
     ghost use Rattle.net_forms.specs.declared.fault.FormFault.TheVariants.{OutOfMemory};
 
     ghost from_gives = { λ _ e. e ≡ OutOfMemory };
 
-    fn from(_refused: AllocFailed<T>) -> FormFault<'s> {
+    fn from(_refused: AllocFailed<T>) -> FormFault {
         FormFault::OutOfMemory
     }
 }
 
 /// The fault of a value, as one of what it stands in.
-pub(crate) fn widened<'s>(fault: EvalFault<'s>) -> FormFault<'s>
-    ensures { result ≡ widened_fault fault.entry }
+pub(crate) fn widened(fault: EvalFault) -> FormFault
+    ensures { result ≡ widened_fault fault }
 {
     match fault {
         EvalFault::OutOfMemory => FormFault::OutOfMemory,
@@ -99,7 +99,7 @@ pub(crate) fn widened<'s>(fault: EvalFault<'s>) -> FormFault<'s>
 }
 
 /// A fault at a place.
-pub(crate) fn refuse<'s>(defect: FormDefect, at: Span) -> FormFault<'s>
+pub(crate) fn refuse(defect: FormDefect, at: Span) -> FormFault
     ensures { result ≡ Refused (record { defect = defect; at = at; detail = Nothing }) }
 {
     FormFault::Refused(FormRefusal {
@@ -110,7 +110,7 @@ pub(crate) fn refuse<'s>(defect: FormDefect, at: Span) -> FormFault<'s>
 }
 
 /// A fault at a tree; its place is looked for here, and not where nothing is at fault.
-pub(crate) fn refuse_tree<'s>(defect: FormDefect, whole: &Expr<'_>) -> FormFault<'s>
+pub(crate) fn refuse_tree(defect: FormDefect, whole: &Expr<'_>) -> FormFault
     ensures { result ≡ Refused (record { defect = defect; at = trees.span_of (tree whole.now); detail = Nothing }) }
 {
     refuse(defect, span_of(whole))

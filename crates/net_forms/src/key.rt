@@ -23,7 +23,7 @@ fn evaluate_each<'w, 's>(
     scope: &Scope<'s>,
     first: &Expr<'s>,
     more: &[Link<'s>],
-) -> Result<Items<Value<'w, 's>>, EvalFault<'s>>
+) -> Result<Items<Value<'w, 's>>, EvalFault>
     ensures { plain.Answers (plain.and_then (values.value seen.now scope.now (tree first.now)) (λ v. values.values seen.now scope.now (links_of more.now) (v ∷ []))) result }
 {
     let value = evaluate(alloc, seen, scope, first)?;
@@ -36,7 +36,7 @@ fn evaluate_more<'w, 's>(
     scope: &Scope<'s>,
     first: Value<'w, 's>,
     more: &[Link<'s>],
-) -> Result<Items<Value<'w, 's>>, EvalFault<'s>>
+) -> Result<Items<Value<'w, 's>>, EvalFault>
     ensures { plain.Answers (values.values seen.now scope.now (links_of more.now) (first.entry ∷ [])) result }
 {
     let mut found = Vec::new(alloc);
@@ -54,7 +54,7 @@ fn values_of<'w, 's>(
     scope: &Scope<'s>,
     first: &Expr<'s>,
     more: &[Link<'s>],
-) -> Result<Items<Value<'w, 's>>, FormFault<'s>>
+) -> Result<Items<Value<'w, 's>>, FormFault>
     ensures { Answers (from_values (plain.and_then (values.value seen.now scope.now (tree first.now)) (λ v. values.values seen.now scope.now (links_of more.now) (v ∷ [])))) result }
 {
     match evaluate_each(alloc, seen, scope, first, more) {
@@ -63,7 +63,7 @@ fn values_of<'w, 's>(
     }
 }
 
-fn member_of<'s>(whole: &Expr<'_>, value: &Value<'_, 's>) -> Result<Member<'s>, FormFault<'s>>
+fn member_of<'s>(whole: &Expr<'_>, value: &Value<'_, 's>) -> Result<Member<'s>, FormFault>
     ensures { Answers (from_values (operators.member (trees.span_of (tree whole.now)) value.now)) result }
 {
     match value {
@@ -92,7 +92,7 @@ fn longer<'s>(key: Option<Tuple<'s>>, member: Member<'s>) -> Option<Tuple<'s>>
     }
 }
 
-fn short_enough<'s>(whole: &Expr<'_>, key: Option<Tuple<'s>>) -> Result<Tuple<'s>, FormFault<'s>>
+fn short_enough<'s>(whole: &Expr<'_>, key: Option<Tuple<'s>>) -> Result<Tuple<'s>, FormFault>
     ensures { Answers (from_values (operators.short_enough (trees.span_of (tree whole.now)) key.entry)) result }
 {
     match key {
@@ -102,7 +102,7 @@ fn short_enough<'s>(whole: &Expr<'_>, key: Option<Tuple<'s>>) -> Result<Tuple<'s
 }
 
 /// The tuple of the members that some values are.
-fn tuple_of<'s>(whole: &Expr<'_>, values: &[Value<'_, 's>]) -> Result<Tuple<'s>, FormFault<'s>>
+fn tuple_of<'s>(whole: &Expr<'_>, values: &[Value<'_, 's>]) -> Result<Tuple<'s>, FormFault>
     ensures { Answers (from_values (operators.tuple_of (trees.span_of (tree whole.now)) values.now)) result }
 {
     let mut key = Some(Tuple::new());
@@ -122,7 +122,7 @@ pub fn key_of<'s>(
     whole: &Expr<'s>,
     first: &Expr<'s>,
     more: &[Link<'s>],
-) -> Result<Tuple<'s>, FormFault<'s>>
+) -> Result<Tuple<'s>, FormFault>
     ensures { Answers (objectives.key_of seen.now scope.now (trees.span_of (tree whole.now)) (tree first.now) (links_of more.now)) result }
 {
     let found = values_of(alloc, seen, scope, first, more)?;

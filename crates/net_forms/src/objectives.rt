@@ -33,10 +33,10 @@ fn arc_term<'s>(
     at: Span,
     name: &Token<'s>,
     key: Tuple<'s>,
-) -> Result<Option<Form>, FormFault<'s>>
+) -> Result<Option<Form>, FormFault>
     ensures { Answers (objectives.arc_term arcs.now at name.now.text (Ok key.entry)) result }
 {
-    let arc = arc_at(at, &name.text, arcs.get(&name.text), key)?;
+    let arc = arc_at(alloc, at, &name.text, arcs.get(&name.text), key)?;
     Ok(Some(Form::arc(alloc, arc)?))
 }
 
@@ -49,7 +49,7 @@ fn indexed<'s>(
     name: &Token<'s>,
     first: &Expr<'s>,
     more: &[Link<'s>],
-) -> Result<Option<Form>, FormFault<'s>>
+) -> Result<Option<Form>, FormFault>
     ensures { Answers (objectives.linear (trees.span_of (tree whole.now)) (not (objectives.first_or_any arcs.now (tree first.now) (links_of more.now))) (objectives.arc_term arcs.now (trees.span_of (tree whole.now)) name.now.text (objectives.key_of seen.now scope.now (trees.span_of (tree whole.now)) (tree first.now) (links_of more.now)))) result }
 {
     if any_arc(arcs, first, more) {
@@ -68,7 +68,7 @@ fn term_of<'s>(
     seen: &Seen<'_, 's>,
     scope: &Scope<'s>,
     expr: &Expr<'s>,
-) -> Result<Option<Form>, FormFault<'s>>
+) -> Result<Option<Form>, FormFault>
     ensures { Answers (objectives.objective arcs.now seen.now scope.now (tree expr.now)) result }
 {
     if names_arc(arcs, expr) {
@@ -88,7 +88,7 @@ fn arcs_term<'s>(
     seen: &Seen<'_, 's>,
     scope: &Scope<'s>,
     expr: &Expr<'s>,
-) -> Result<Option<Form>, FormFault<'s>>
+) -> Result<Option<Form>, FormFault>
     ensures { Answers (objectives.with_arcs arcs.now seen.now scope.now (tree expr.now)) result }
 {
     match expr {
@@ -153,7 +153,7 @@ fn signed<'s>(
     whole: &Expr<'s>,
     sign: &Token<'s>,
     operand: &Expr<'s>,
-) -> Result<Option<Form>, FormFault<'s>>
+) -> Result<Option<Form>, FormFault>
     ensures { Answers (and_then (objectives.objective arcs.now seen.now scope.now (tree operand.now)) (forms.turn (operations.is_minus sign.now) (trees.span_of (tree whole.now)))) result }
 {
     let term = term_of(alloc, arcs, seen, scope, operand)?;
@@ -171,7 +171,7 @@ fn reduced<'s>(
     word: &Token<'s>,
     braces: &Braces<'s>,
     body: &Expr<'s>,
-) -> Result<Option<Form>, FormFault<'s>>
+) -> Result<Option<Form>, FormFault>
     ensures { Answers (objectives.linear (trees.span_of (tree whole.now)) (objectives.is_sum (operations.reduction word.now) && not (objectives.braces_arc arcs.now (braces_of braces.now))) (and_then (from_values (values.index seen.now scope.now (braces_of braces.now))) (λ k. forms.total (trees.span_of (tree whole.now)) (λ row. objectives.objective arcs.now seen.now row.scope (tree body.now)) k.rows))) result }
 {
     if is_sum(word) && !braces_arc(arcs, braces) {
@@ -190,7 +190,7 @@ fn total<'s>(
     whole: &Expr<'s>,
     body: &Expr<'s>,
     keys: Keys<'s>,
-) -> Result<Option<Form>, FormFault<'s>>
+) -> Result<Option<Form>, FormFault>
     ensures { Answers (forms.total (trees.span_of (tree whole.now)) (λ row. objectives.objective arcs.now seen.now row.scope (tree body.now)) keys.entry.rows) result }
 {
     let mut sum = Sum::number(alloc, &0);
@@ -212,7 +212,7 @@ fn chain<'s>(
     whole: &Expr<'s>,
     first: &Expr<'s>,
     more: &[Link<'s>],
-) -> Result<Option<Form>, FormFault<'s>>
+) -> Result<Option<Form>, FormFault>
     ensures { Answers (objectives.linear (trees.span_of (tree whole.now)) (objectives.is_linear arcs.now (tree first.now) (links_of more.now)) (and_then (objectives.objective arcs.now seen.now scope.now (tree first.now)) (objectives.chained arcs.now (trees.span_of (tree whole.now)) seen.now scope.now (links_of more.now)))) result }
 {
     if is_linear(arcs, first, more) {
@@ -232,7 +232,7 @@ fn chained<'s>(
     whole: &Expr<'s>,
     links: &[Link<'s>],
     first: Option<Form>,
-) -> Result<Option<Form>, FormFault<'s>>
+) -> Result<Option<Form>, FormFault>
     ensures { Answers (objectives.chained arcs.now (trees.span_of (tree whole.now)) seen.now scope.now (links_of links.now) first) result }
 {
     let mut term = first;
@@ -252,7 +252,7 @@ fn joined<'s>(
     whole: &Expr<'s>,
     link: &Link<'s>,
     term: Option<Form>,
-) -> Result<Option<Form>, FormFault<'s>>
+) -> Result<Option<Form>, FormFault>
     ensures { Answers (and_then (objectives.objective arcs.now seen.now scope.now (tree link.now.operand)) (forms.join (joints.joint link.now.operator) (trees.span_of (tree whole.now)) term)) result }
 {
     let other = term_of(alloc, arcs, seen, scope, &link.operand)?;
@@ -269,7 +269,7 @@ fn choice<'s>(
     condition: &Expr<'s>,
     branch: &Expr<'s>,
     otherwise: &Option<Boxed<Part<'s>>>,
-) -> Result<Option<Form>, FormFault<'s>>
+) -> Result<Option<Form>, FormFault>
     ensures { Answers (objectives.linear (trees.span_of (tree whole.now)) (not (objectives.names_arc arcs.now (tree condition.now))) (and_then (objectives.condition seen.now scope.now (trees.span_of (tree whole.now)) (tree condition.now)) (λ holds. if holds then objectives.objective arcs.now seen.now scope.now (tree branch.now) else objectives.otherwise arcs.now seen.now scope.now (option_part otherwise.now)))) result }
 {
     if names_arc(arcs, condition) {
@@ -293,7 +293,7 @@ fn other_branch<'s>(
     seen: &Seen<'_, 's>,
     scope: &Scope<'s>,
     otherwise: &Option<Boxed<Part<'s>>>,
-) -> Result<Option<Form>, FormFault<'s>>
+) -> Result<Option<Form>, FormFault>
     ensures { Answers (objectives.otherwise arcs.now seen.now scope.now (option_part otherwise.now)) result }
 {
     match otherwise {
@@ -308,7 +308,7 @@ fn form_of<'s>(
     seen: &Seen<'_, 's>,
     scope: &Scope<'s>,
     expr: &Expr<'s>,
-) -> Result<Form, FormFault<'s>>
+) -> Result<Form, FormFault>
     ensures { Answers (objectives.objective_form arcs.now seen.now scope.now (tree expr.now)) result }
 {
     match term_of(alloc, arcs, seen, scope, expr)? {
@@ -330,7 +330,7 @@ pub fn objective<'s>(
     seen: &Seen<'_, 's>,
     scope: &Scope<'s>,
     expr: &Expr<'s>,
-) -> Result<Form, FormFault<'s>>
+) -> Result<Form, FormFault>
     ensures value { Answers (objectives.objective_form arcs.now seen.now scope.now (tree expr.now)) result }
     ensures worth { IfOk result (λ form. (x : ℕ → ℤ) → forms.form_at x form ≡ worth arcs.now seen.now scope.now (tree expr.now) x) }
 {

@@ -13,7 +13,7 @@ use net_eval::EvalDefect;
 use net_tree::Expr;
 use std::alloc::Global;
 
-fn or_too_large<'s>(whole: &Expr<'_>, form: Option<Form>) -> Result<Form, FormFault<'s>>
+fn or_too_large(whole: &Expr<'_>, form: Option<Form>) -> Result<Form, FormFault>
     ensures { Answers (forms.or_too_large (trees.span_of (tree whole.now)) form) result }
 {
     match form {
@@ -22,13 +22,13 @@ fn or_too_large<'s>(whole: &Expr<'_>, form: Option<Form>) -> Result<Form, FormFa
     }
 }
 
-fn priced_wide<'s>(
+fn priced_wide(
     alloc: Global,
     form: Form,
     arc: usize,
     whole: &Expr<'_>,
     price: &i128,
-) -> Result<Form, FormFault<'s>>
+) -> Result<Form, FormFault>
     ensures { Answers (forms.priced (trees.span_of (tree whole.now)) form arc price.now) result }
 {
     if is_small(price) {
@@ -40,13 +40,13 @@ fn priced_wide<'s>(
     }
 }
 
-fn priced<'s>(
+fn priced(
     alloc: Global,
     form: Form,
     arc: usize,
     whole: &Expr<'_>,
     price: &i64,
-) -> Result<Form, FormFault<'s>>
+) -> Result<Form, FormFault>
     ensures { Answers (forms.priced (trees.span_of (tree whole.now)) form arc price.now) result }
 {
     priced_wide(alloc, form, arc, whole, &i128::from(*price))
@@ -54,13 +54,13 @@ fn priced<'s>(
 
 /// The form with a price of an arc more, as a phrase `obj` gives one; several prices of an arc add up. `TooLarge` is answered
 /// at the phrase's expression, where the arc's coefficient would pass 1,000,000,000,000 in size.
-pub fn with_price<'s>(
+pub fn with_price(
     alloc: Global,
     form: Form,
     arc: usize,
     whole: &Expr<'_>,
     price: &i64,
-) -> Result<Form, FormFault<'s>>
+) -> Result<Form, FormFault>
     ensures value { Answers (forms.priced (trees.span_of (tree whole.now)) form arc price.now) result }
     ensures worth { IfOk result (λ r. (x : ℕ → ℤ) → forms.form_at x r ≡ (forms.form_at x form +ℤ price.now *ℤ x arc)) }
 {

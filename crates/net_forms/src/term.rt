@@ -17,7 +17,7 @@ use net_eval::EvalDefect;
 use net_tree::Expr;
 use std::alloc::Global;
 
-fn within<'s>(whole: &Expr<'_>, form: Option<Form>) -> Result<Option<Form>, FormFault<'s>>
+fn within(whole: &Expr<'_>, form: Option<Form>) -> Result<Option<Form>, FormFault>
     ensures { Answers (forms.within (trees.span_of (tree whole.now)) form) result }
 {
     match form {
@@ -27,11 +27,7 @@ fn within<'s>(whole: &Expr<'_>, form: Option<Form>) -> Result<Option<Form>, Form
 }
 
 /// A number alone.
-fn number_term<'s>(
-    alloc: Global,
-    whole: &Expr<'_>,
-    number: &i128,
-) -> Result<Option<Form>, FormFault<'s>>
+fn number_term(alloc: Global, whole: &Expr<'_>, number: &i128) -> Result<Option<Form>, FormFault>
     ensures { Answers (forms.sized (trees.span_of (tree whole.now)) (forms.just number.now)) result }
 {
     if is_small(number) {
@@ -42,11 +38,11 @@ fn number_term<'s>(
 }
 
 /// What no arc is part of.
-pub(crate) fn plain_term<'s>(
+pub(crate) fn plain_term(
     alloc: Global,
     whole: &Expr<'_>,
     number: &Option<i64>,
-) -> Result<Option<Form>, FormFault<'s>>
+) -> Result<Option<Form>, FormFault>
     ensures { Answers (objectives.plain_term (trees.span_of (tree whole.now)) number.now) result }
 {
     match number {
@@ -56,12 +52,12 @@ pub(crate) fn plain_term<'s>(
 }
 
 /// A form, and a factor times another.
-fn added<'s>(
+fn added(
     whole: &Expr<'_>,
     left: Form,
     factor: &i128,
     right: &Form,
-) -> Result<Option<Form>, FormFault<'s>>
+) -> Result<Option<Form>, FormFault>
     requires { is_small factor.now ≡ true }
     ensures { Answers (forms.sized (trees.span_of (tree whole.now)) (forms.combined left factor.now right.now)) result }
 {
@@ -69,24 +65,24 @@ fn added<'s>(
     within(whole, sum)
 }
 
-fn scaled<'s>(
+fn scaled(
     alloc: Global,
     whole: &Expr<'_>,
     factor: &i128,
     form: &Form,
-) -> Result<Option<Form>, FormFault<'s>>
+) -> Result<Option<Form>, FormFault>
     requires { is_small factor.now ≡ true }
     ensures { Answers (forms.scaled (trees.span_of (tree whole.now)) factor.now form.now) result }
 {
     added(whole, Form::zero(alloc), factor, form)
 }
 
-fn times<'s>(
+fn times(
     alloc: Global,
     whole: &Expr<'_>,
     left: &Form,
     right: &Form,
-) -> Result<Option<Form>, FormFault<'s>>
+) -> Result<Option<Form>, FormFault>
     ensures { Answers (forms.times (trees.span_of (tree whole.now)) left.now right.now) result }
 {
     if left.is_number() {
@@ -120,12 +116,7 @@ fn remainder_of(a: &i128, b: &i128) -> i128
     *a % *b
 }
 
-fn quotient<'s>(
-    alloc: Global,
-    whole: &Expr<'_>,
-    a: &i128,
-    b: &i128,
-) -> Result<Option<Form>, FormFault<'s>>
+fn quotient(alloc: Global, whole: &Expr<'_>, a: &i128, b: &i128) -> Result<Option<Form>, FormFault>
     ensures { Answers (forms.quotient (trees.span_of (tree whole.now)) int_div a.now b.now) result }
 {
     if divides(a, b) {
@@ -135,12 +126,7 @@ fn quotient<'s>(
     }
 }
 
-fn remainder<'s>(
-    alloc: Global,
-    whole: &Expr<'_>,
-    a: &i128,
-    b: &i128,
-) -> Result<Option<Form>, FormFault<'s>>
+fn remainder(alloc: Global, whole: &Expr<'_>, a: &i128, b: &i128) -> Result<Option<Form>, FormFault>
     ensures { Answers (forms.quotient (trees.span_of (tree whole.now)) int_rem a.now b.now) result }
 {
     if divides(a, b) {
@@ -156,12 +142,12 @@ fn are_numbers(left: &Form, right: &Form) -> bool
     left.is_number() && right.is_number()
 }
 
-fn div<'s>(
+fn div(
     alloc: Global,
     whole: &Expr<'_>,
     left: &Form,
     right: &Form,
-) -> Result<Option<Form>, FormFault<'s>>
+) -> Result<Option<Form>, FormFault>
     ensures { Answers (forms.divided (trees.span_of (tree whole.now)) int_div left.now right.now) result }
 {
     if are_numbers(left, right) {
@@ -172,12 +158,12 @@ fn div<'s>(
     }
 }
 
-fn modulo<'s>(
+fn modulo(
     alloc: Global,
     whole: &Expr<'_>,
     left: &Form,
     right: &Form,
-) -> Result<Option<Form>, FormFault<'s>>
+) -> Result<Option<Form>, FormFault>
     ensures { Answers (forms.divided (trees.span_of (tree whole.now)) int_rem left.now right.now) result }
 {
     if are_numbers(left, right) {
@@ -190,20 +176,20 @@ fn modulo<'s>(
 
 /// A form less another.
 #[tactic(auto, unfolding(net_eval::specs::Limits::is_small))]
-fn less<'s>(whole: &Expr<'_>, left: Form, right: &Form) -> Result<Option<Form>, FormFault<'s>>
+fn less(whole: &Expr<'_>, left: Form, right: &Form) -> Result<Option<Form>, FormFault>
     ensures { Answers (forms.sized (trees.span_of (tree whole.now)) (forms.combined left forms.minus_one right.now)) result }
 {
     added(whole, left, &-1, right)
 }
 
 #[tactic(auto, unfolding(net_eval::specs::Limits::is_small))]
-fn joined<'s>(
+fn joined(
     alloc: Global,
     joint: Joint,
     whole: &Expr<'_>,
     left: Form,
     right: &Form,
-) -> Result<Option<Form>, FormFault<'s>>
+) -> Result<Option<Form>, FormFault>
     ensures { Answers (forms.joined joint (trees.span_of (tree whole.now)) left right.now) result }
 {
     match joint {
@@ -217,13 +203,13 @@ fn joined<'s>(
 }
 
 /// What an operator makes of two terms.
-pub(crate) fn join<'s>(
+pub(crate) fn join(
     alloc: Global,
     joint: Joint,
     whole: &Expr<'_>,
     left: Option<Form>,
     right: &Option<Form>,
-) -> Result<Option<Form>, FormFault<'s>>
+) -> Result<Option<Form>, FormFault>
     ensures { Answers (forms.join joint (trees.span_of (tree whole.now)) left right.now) result }
 {
     match left {
@@ -236,19 +222,19 @@ pub(crate) fn join<'s>(
 }
 
 #[tactic(auto, unfolding(net_eval::specs::Limits::is_small))]
-fn turned<'s>(alloc: Global, whole: &Expr<'_>, form: &Form) -> Result<Option<Form>, FormFault<'s>>
+fn turned(alloc: Global, whole: &Expr<'_>, form: &Form) -> Result<Option<Form>, FormFault>
     ensures { Answers (forms.scaled (trees.span_of (tree whole.now)) forms.minus_one form.now) result }
 {
     scaled(alloc, whole, &-1, form)
 }
 
 /// A term behind a sign.
-pub(crate) fn turn<'s>(
+pub(crate) fn turn(
     alloc: Global,
     minus: bool,
     whole: &Expr<'_>,
     term: Option<Form>,
-) -> Result<Option<Form>, FormFault<'s>>
+) -> Result<Option<Form>, FormFault>
     ensures { Answers (forms.turn minus (trees.span_of (tree whole.now)) term) result }
 {
     match term {
@@ -264,11 +250,7 @@ pub(crate) fn turn<'s>(
 }
 
 /// A sum with one term more.
-pub(crate) fn gather<'s>(
-    whole: &Expr<'_>,
-    sum: Sum,
-    term: Option<Form>,
-) -> Result<Sum, FormFault<'s>>
+pub(crate) fn gather(whole: &Expr<'_>, sum: Sum, term: Option<Form>) -> Result<Sum, FormFault>
     requires { forms.AreWithin (2 ^ 125) sum }
     ensures value { Answers (forms.gathered (trees.span_of (tree whole.now)) sum term) result }
     ensures room { IfOk result (λ r. (n : ℕ) → forms.AreWithin n sum → forms.AreWithin (n + 1000000000000) r) }
@@ -283,7 +265,7 @@ pub(crate) fn gather<'s>(
 }
 
 /// A sum whose total is within the limit.
-pub(crate) fn sized<'s>(whole: &Expr<'_>, sum: Sum) -> Result<Option<Form>, FormFault<'s>>
+pub(crate) fn sized(whole: &Expr<'_>, sum: Sum) -> Result<Option<Form>, FormFault>
     ensures { Answers (forms.sized (trees.span_of (tree whole.now)) sum) result }
 {
     within(whole, Form::of(sum))

@@ -22,7 +22,7 @@ pub(crate) fn value_of<'w, 's>(
     seen: &Seen<'w, 's>,
     scope: &Scope<'s>,
     expr: &Expr<'s>,
-) -> Result<Value<'w, 's>, FormFault<'s>>
+) -> Result<Value<'w, 's>, FormFault>
     ensures { Answers (from_values (values.value seen.now scope.now (tree expr.now))) result }
 {
     match evaluate(alloc, seen, scope, expr) {
@@ -50,14 +50,14 @@ pub(crate) fn number_or_none<'s>(
     seen: &Seen<'_, 's>,
     scope: &Scope<'s>,
     expr: &Expr<'s>,
-) -> Result<Option<i64>, FormFault<'s>>
+) -> Result<Option<i64>, FormFault>
     ensures { Answers (number_or_none seen.now scope.now (tree expr.now)) result }
 {
     let value = value_of(alloc, seen, scope, expr)?;
     Ok(number_in(&value))
 }
 
-fn truth<'s>(whole: &Expr<'_>, value: &Value<'_, 's>) -> Result<bool, FormFault<'s>>
+fn truth(whole: &Expr<'_>, value: &Value<'_, '_>) -> Result<bool, FormFault>
     ensures { Answers (from_values (operators.truth (trees.span_of (tree whole.now)) value.now)) result }
 {
     match value {
@@ -75,7 +75,7 @@ pub(crate) fn truth_of<'s>(
     scope: &Scope<'s>,
     whole: &Expr<'s>,
     condition: &Expr<'s>,
-) -> Result<bool, FormFault<'s>>
+) -> Result<bool, FormFault>
     ensures { Answers (objectives.condition seen.now scope.now (trees.span_of (tree whole.now)) (tree condition.now)) result }
 {
     let value = value_of(alloc, seen, scope, condition)?;
@@ -88,7 +88,7 @@ pub(crate) fn keys_of<'s>(
     seen: &Seen<'_, 's>,
     scope: &Scope<'s>,
     braces: &Braces<'s>,
-) -> Result<Keys<'s>, FormFault<'s>>
+) -> Result<Keys<'s>, FormFault>
     ensures { Answers (from_values (values.index seen.now scope.now (braces_of braces.now))) result }
 {
     match index_of(alloc, seen, scope, braces) {

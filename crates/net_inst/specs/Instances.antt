@@ -5,7 +5,7 @@ use Rattle.net_lex.specs.declared.token.Token.{Token}
 use Rattle.net_tree.specs.Tree.{Declaration, set, param, check, node, arc, objective}
 use Rattle.net_normal.specs.declared.instance.InstArc.{InstArc}
 use Rattle.net_normal.specs.declared.instance.Sense.{Sense}
-use Rattle.net_eval.specs.declared.fault.Detail.TheVariants.{Nothing, Named}
+use Rattle.net_eval.specs.declared.fault.Detail.TheVariants.{Nothing, Told}
 use Rattle.net_eval.specs.Worlds.{Name, World}
 use Rattle.net_forms.specs.declared.condition.Sides.{Sides}
 use Rattle.net_forms.specs.Forms.{Products, coefficient}
@@ -47,7 +47,7 @@ network_of ns xs g = record {
 -- where no objective is declared, or not the one of the given name
 abbrev pub without_goal : {A : Type 0} → Option Name → Span → Bool → Outcome A
 without_goal wanted at false = refused NoObjective at Nothing
-without_goal wanted at true = refused NoSuchObjective at (Named (unwrap_or wanted []))
+without_goal wanted at true = refused NoSuchObjective at (Told (unwrap_or wanted []))
 
 abbrev pub finished : Option Name → Span → Drawing → Option Goal → Outcome Network
 finished wanted at d (Some g) = Ok (network_of d.nodes d.arcs g)

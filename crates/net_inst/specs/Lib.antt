@@ -1,6 +1,5 @@
 pub mod Faults
 pub mod Outcomes
-pub mod References
 pub mod Lists
 pub mod Indexings
 pub mod Groups

@@ -8,7 +8,7 @@ use Rattle.net_tree.specs.Tree.{Tree, Links, leaf, indexed, Braces, Condition}
 use Rattle.net_normal.specs.declared.instance.NodeRange.{NodeRange}
 use Rattle.net_normal.specs.Limits.{node_limit}
 use Rattle.net_eval.specs.declared.fault.Detail.{Detail}
-use Rattle.net_eval.specs.declared.fault.Detail.TheVariants.{Named}
+use Rattle.net_eval.specs.declared.fault.Detail.TheVariants.{Told}
 use Rattle.net_eval.specs.declared.fault.EvalDefect.TheVariants.{KindMismatch, Arity}
 use Rattle.net_eval.specs.declared.row.Row.{Row}
 use Rattle.net_eval.specs.Worlds.{Name, World, Scope, key_count, reference}
@@ -76,7 +76,7 @@ numbered count at d first (Some place) = among count at d (first + place)
 
 -- the node that a name has at a key
 abbrev pub node_at : ℕ → Span → Name → Option ArcKeys → Tuple → Outcome ℕ
-node_at count at name None key = refused NoSuchNode at (Named name)
+node_at count at name None key = refused NoSuchNode at (Told name)
 node_at count at name (Some k) key =
     if nat_eq (length key) (key_count k.keys) then numbered count at (reference name k.keys key) k.first (place_of k.index key) else refused_form (defects.Value Arity) at
 

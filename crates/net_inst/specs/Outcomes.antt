@@ -3,7 +3,7 @@ use Rattle.std.specs.Prelude.{◌≡◌, Result, Ok, Err, ⊤}
 use Rattle.net_lex.specs.declared.span.Span.{Span}
 use Rattle.net_lex.specs.declared.token.Token.{Token}
 use Rattle.net_eval.specs.declared.fault.Detail.{Detail}
-use Rattle.net_eval.specs.declared.fault.Detail.TheVariants.{Nothing, Named}
+use Rattle.net_eval.specs.declared.fault.Detail.TheVariants.{Nothing, Told}
 use Rattle.net_eval.specs.Outcomes as values
 use Rattle.net_forms.specs.declared.fault.FormDefect.{FormDefect}
 use Rattle.net_forms.specs.declared.fault.FormFault.{FormFault}
@@ -29,7 +29,7 @@ refused d at x = Err (record { defect = d; at = at; detail = x })
 
 -- what is wrong with a declaration stands at its name and tells it
 abbrev pub refused_name : {A : Type 0} → InstDefect → Token → Outcome A
-refused_name d n = refused d n.span (Named n.text)
+refused_name d n = refused d n.span (Told n.text)
 
 -- what is wrong with an expression, a condition or a form
 abbrev pub refused_form : {A : Type 0} → FormDefect → Span → Outcome A

@@ -11,11 +11,11 @@ ghost use Rattle.net_inst.specs.Outcomes.{Answers};
 ghost use Rattle.net_inst.specs.Parts.{parts_seen};
 
 use crate::fault::{InstDefect, InstFault, refuse};
-use crate::node::{NodeDraft, reference};
+use crate::node::NodeDraft;
 use crate::node_name::node_named;
 use crate::number::number_of;
 use crate::phrases::ArcParts;
-use net_eval::{Row, Scope, Seen};
+use net_eval::{Row, Scope, Seen, told_reference};
 use net_forms::Form;
 use net_lex::Token;
 use net_normal::InstArc;
@@ -47,7 +47,7 @@ fn end_at<'s>(
     scope: &Scope<'s>,
     nodes: &NodeDraft<'s>,
     end: &Option<&Expr<'s>>,
-) -> Result<Option<u32>, InstFault<'s>>
+) -> Result<Option<u32>, InstFault>
     ensures { Answers (found.end_at nodes.now seen.now scope.now (option_map tree (option_copied end.now))) result }
 {
     match end {
@@ -68,7 +68,7 @@ fn with_ends<'s>(
     parts: &ArcParts<'_, 's>,
     lower: i64,
     upper: i64,
-) -> Result<Drawn, InstFault<'s>>
+) -> Result<Drawn, InstFault>
     ensures { Answers (found.with_ends nodes.now seen.now scope.now (parts_seen parts.now) lower upper) result }
 {
     let tail = end_at(alloc, seen, scope, nodes, &parts.tail)?;
@@ -90,18 +90,15 @@ pub(crate) fn arc_at<'s>(
     count: &Option<u8>,
     parts: &ArcParts<'_, 's>,
     row: &Row<'s>,
-) -> Result<Drawn, InstFault<'s>>
+) -> Result<Drawn, InstFault>
     ensures { Answers (found.drawn nodes.now seen.now name.now count.now (parts_seen parts.now) row.now) result }
 {
     let scope = &row.scope;
     let lower = number_of(alloc, seen, scope, parts.lower)?;
     let upper = number_of(alloc, seen, scope, parts.upper)?;
     if upper < lower {
-        Err(refuse(
-            InstDefect::ArcCrossed,
-            name.span,
-            reference(name, count, row),
-        ))
+        let detail = told_reference(alloc, &name.text, *count, &row.key)?;
+        Err(refuse(InstDefect::ArcCrossed, name.span, detail))
     } else {
         with_ends(alloc, seen, scope, nodes, parts, lower, upper)
     }

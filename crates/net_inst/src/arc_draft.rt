@@ -75,7 +75,7 @@ impl<'s> ArcDraft<'s> {
         text: &ArcText<'_, 's>,
         count: &Option<u8>,
         row: &Row<'s>,
-    ) -> Result<(), InstFault<'s>>
+    ) -> Result<(), InstFault>
         ensures value { Leaves (found.next_arc goal.now nodes.now seen.now text.now.name.now count.now (parts_seen text.now.parts) (map phrase_of text.now.phrases.now) row.now self.old) result self.new }
         ensures count { OnOk result (length self.new.arcs ≡ length self.old.arcs + 1) }
     {
@@ -94,7 +94,7 @@ impl<'s> ArcDraft<'s> {
             self.arcs.push(new)?;
             Ok(())
         } else {
-            Err(refuse_name(InstDefect::TooManyArcs, text.name))
+            Err(refuse_name(alloc, InstDefect::TooManyArcs, text.name)?)
         }
     }
 
@@ -108,7 +108,7 @@ impl<'s> ArcDraft<'s> {
         text: &ArcText<'_, 's>,
         count: &Option<u8>,
         rows: &[Row<'s>],
-    ) -> Result<(), InstFault<'s>>
+    ) -> Result<(), InstFault>
         ensures value { Leaves (found.arcs_at goal.now nodes.now seen.now text.now.name.now count.now (parts_seen text.now.parts) (map phrase_of text.now.phrases.now) rows.now self.old) result self.new }
         ensures few { OnOk result (length rows.now ≤ length self.new.arcs) }
     {
@@ -141,7 +141,7 @@ impl<'s> ArcDraft<'s> {
         nodes: &NodeDraft<'s>,
         text: &ArcText<'_, 's>,
         indexing: &Indexing<'s>,
-    ) -> Result<(), InstFault<'s>>
+    ) -> Result<(), InstFault>
         ensures { Leaves (found.arcs_by goal.now nodes.now seen.now text.now.name.now (map phrase_of text.now.phrases.now) self.old (parts_seen text.now.parts) indexing.now) result self.new }
     {
         let first = self.len() as u32;
@@ -160,7 +160,7 @@ impl<'s> ArcDraft<'s> {
         nodes: &NodeDraft<'s>,
         text: &ArcText<'_, 's>,
         braces: &Option<Braces<'s>>,
-    ) -> Result<(), InstFault<'s>>
+    ) -> Result<(), InstFault>
         ensures { Leaves (and_then (indexing_in seen.now (indexing_of braces.now)) (found.arcs_by goal.now nodes.now seen.now text.now.name.now (map phrase_of text.now.phrases.now) self.old (parts_seen text.now.parts))) result self.new }
     {
         let indexing = indexing_of(alloc, seen, braces)?;
@@ -178,10 +178,10 @@ impl<'s> ArcDraft<'s> {
         name: &Token<'s>,
         braces: &Option<Braces<'s>>,
         phrases: &[Phrase<'s>],
-    ) -> Result<(), InstFault<'s>>
+    ) -> Result<(), InstFault>
         ensures { Leaves (found.with_arcs goal.now nodes.now seen.now name.now (indexing_of braces.now) (map phrase_of phrases.now) self.old) result self.new }
     {
-        let parts = parts_of(name, phrases)?;
+        let parts = parts_of(alloc, name, phrases)?;
         let text = ArcText {
             name,
             parts,
@@ -204,7 +204,7 @@ impl<'s> ArcDraft<'s> {
         alloc: Global,
         seen: &Seen<'_, 's>,
         part: &Option<Part<'s>>,
-    ) -> Result<(), InstFault<'s>>
+    ) -> Result<(), InstFault>
         ensures { Leaves (and_then (said_form self.old.group.numbers seen.now (option_part part.now)) (λ f. Ok (found.formed self.old f))) result self.new }
     {
         self.form = said_form(alloc, &self.group.numbers, seen, part)?;

@@ -52,17 +52,18 @@ fn sense_of(word: &Token<'_>) -> Sense
 
 /// Whether an objective is the chosen one.
 fn is_chosen<'s>(
+    alloc: Global,
     wanted: &Option<&'s str>,
     goal: &Option<Goal<'s>>,
     name: &Token<'s>,
-) -> Result<bool, InstFault<'s>>
+) -> Result<bool, InstFault>
     ensures { Answers (found.is_chosen (option_copied wanted.now) goal.now name.now) result }
 {
     match wanted {
         Some(wanted) => Ok(*wanted == name.text.as_str()),
         None => match goal {
             None => Ok(true),
-            Some(_) => Err(refuse_name(InstDefect::TwoObjectives, name)),
+            Some(_) => Err(refuse_name(alloc, InstDefect::TwoObjectives, name)?),
         },
     }
 }
@@ -89,7 +90,7 @@ impl<'s> Draft<'s> {
         word: &Token<'s>,
         name: &Token<'s>,
         part: &Option<Part<'s>>,
-    ) -> Result<(), InstFault<'s>>
+    ) -> Result<(), InstFault>
         ensures { Leaves (found.with_goal seen.now word.now name.now (option_part part.now) self.old) result self.new }
     {
         self.arcs.begin_form(alloc, seen, part)?;
@@ -110,10 +111,10 @@ impl<'s> Draft<'s> {
         word: &Token<'s>,
         name: &Token<'s>,
         part: &Option<Part<'s>>,
-    ) -> Result<(), InstFault<'s>>
+    ) -> Result<(), InstFault>
         ensures { Leaves (found.with_objective (option_copied wanted.now) seen.now word.now name.now (option_part part.now) self.old) result self.new }
     {
-        if is_chosen(wanted, &self.goal, name)? {
+        if is_chosen(alloc, wanted, &self.goal, name)? {
             self.aim(alloc, seen, word, name, part)
         } else {
             self.aims = true;
@@ -129,7 +130,7 @@ impl<'s> Draft<'s> {
         name: &Token<'s>,
         braces: &Option<Braces<'s>>,
         condition: &NetCond<'s>,
-    ) -> Result<(), InstFault<'s>>
+    ) -> Result<(), InstFault>
         ensures { Leaves (found.with_node_declaration seen.now name.now (indexing_of braces.now) (condition_of condition.now) self.old) result self.new }
     {
         self.nodes.declare(alloc, seen, name, braces, condition)
@@ -143,7 +144,7 @@ impl<'s> Draft<'s> {
         name: &Token<'s>,
         braces: &Option<Braces<'s>>,
         phrases: &[Phrase<'s>],
-    ) -> Result<(), InstFault<'s>>
+    ) -> Result<(), InstFault>
         ensures { Leaves (found.with_arc_declaration seen.now name.now (indexing_of braces.now) (map phrase_of phrases.now) self.old) result self.new }
     {
         self.arcs.declare(alloc, &self.goal, seen, &self.nodes, name, braces, phrases)
@@ -164,7 +165,7 @@ impl<'s> Draft<'s> {
         wanted: &Option<&'s str>,
         world: &World<'s>,
         declaration: &Decl<'s>,
-    ) -> Result<(), InstFault<'s>>
+    ) -> Result<(), InstFault>
         requires { self.now.known < 2 ^ 63 }
         ensures value { Leaves (found.declare (option_copied wanted.now) world.now (declaration_of declaration.now) self.old) result self.new }
         ensures known { OnOk result (self.new.known ≤ self.old.known + 1) }

@@ -1,17 +1,17 @@
-ghost use Rattle.std.specs.Prelude.{◌≡◌};
+ghost use Rattle.std.specs.Prelude.{◌≡◌, IfOk};
 ghost use Rattle.net_tree.specs.Spans as trees;
 ghost use Rattle.net_tree.specs.View.{tree};
-ghost use Rattle.net_eval.specs.declared.fault.Detail.TheVariants.{Nothing as NoDetail, Named as ByName};
+ghost use Rattle.net_eval.specs.declared.fault.Detail.TheVariants.{Nothing as NoDetail, Told};
 ghost use Rattle.net_inst.specs.declared.fault.InstDefect.TheVariants as defects;
 ghost use Rattle.net_inst.specs.declared.fault.InstFault.TheVariants.{Refused};
 ghost use Rattle.net_inst.specs.Outcomes.{widened_fault};
 ghost use Rattle.net_inst.specs.Faults.{number_of, name_of};
 
-use net_eval::{Detail, EvalFault, Refusal};
+use net_eval::{Detail, EvalFault, Refusal, told_name};
 use net_forms::{FormDefect, FormFault, FormRefusal};
 use net_lex::{Span, Token};
 use net_tree::{Expr, span_of};
-use std::alloc::{AllocError, AllocFailed};
+use std::alloc::{AllocError, AllocFailed, Global};
 
 /// What is wrong with a model's nodes, arcs or objective.
 #[derive(Clone, Copy)]
@@ -82,48 +82,48 @@ impl InstDefect {
 
 /// A fault, the part of the model that has it, and what is told beside: a name, or a node or an arc with its key.
 #[derive(Drop)]
-pub struct InstRefusal<'s> {
+pub struct InstRefusal {
     pub defect: InstDefect,
     pub at: Span,
-    pub detail: Detail<'s>,
+    pub detail: Detail,
 }
 
 /// Why a model has no network.
 #[derive(Drop)]
-pub enum InstFault<'s> {
+pub enum InstFault {
     OutOfMemory,
-    Refused(InstRefusal<'s>),
+    Refused(InstRefusal),
 }
 
-impl<'s> From<AllocError> for InstFault<'s> {
+impl From<AllocError> for InstFault {
     ghost use Rattle.std.specs.Prelude.{◌≡◌};
     ghost use Rattle.net_inst.specs.declared.fault.InstFault.TheVariants.{OutOfMemory};
 
     ghost from_gives = { λ _ e. e ≡ OutOfMemory };
 
-    fn from(_refused: AllocError) -> InstFault<'s> {
+    fn from(_refused: AllocError) -> InstFault {
         InstFault::OutOfMemory
     }
 }
 
-impl<'s, T: Drop> From<AllocFailed<T>> for InstFault<'s> {
+impl<T: Drop> From<AllocFailed<T>> for InstFault {
     ghost use Rattle.std.specs.Prelude.{◌≡◌};
     ghost use Rattle.net_inst.specs.declared.fault.InstFault.TheVariants.{OutOfMemory};
 
     ghost from_gives = { λ _ e. e ≡ OutOfMemory };
 
-    fn from(_refused: AllocFailed<T>) -> InstFault<'s> {
+    fn from(_refused: AllocFailed<T>) -> InstFault {
         InstFault::OutOfMemory
     }
 }
 
-impl<'s> From<FormFault<'s>> for InstFault<'s> {
+impl From<FormFault> for InstFault {
     ghost use Rattle.std.specs.Prelude.{◌≡◌};
     ghost use Rattle.net_inst.specs.Outcomes.{widened_fault};
 
     ghost from_gives = { λ f e. e ≡ widened_fault f };
 
-    fn from(fault: FormFault<'s>) -> InstFault<'s> {
+    fn from(fault: FormFault) -> InstFault {
         match fault {
             FormFault::OutOfMemory => InstFault::OutOfMemory,
             FormFault::Refused(FormRefusal { defect, at, detail }) => {
@@ -137,14 +137,14 @@ impl<'s> From<FormFault<'s>> for InstFault<'s> {
     }
 }
 
-impl<'s> From<EvalFault<'s>> for InstFault<'s> {
+impl From<EvalFault> for InstFault {
     ghost use Rattle.std.specs.Prelude.{◌≡◌};
     ghost use Rattle.net_forms.specs.Outcomes as forms;
     ghost use Rattle.net_inst.specs.Outcomes.{widened_fault};
 
     ghost from_gives = { λ f e. e ≡ widened_fault (forms.widened_fault f) };
 
-    fn from(fault: EvalFault<'s>) -> InstFault<'s> {
+    fn from(fault: EvalFault) -> InstFault {
         match fault {
             EvalFault::OutOfMemory => InstFault::OutOfMemory,
             EvalFault::Refused(Refusal { defect, at, detail }) => InstFault::Refused(InstRefusal {
@@ -157,28 +157,33 @@ impl<'s> From<EvalFault<'s>> for InstFault<'s> {
 }
 
 /// The fault of a form, as one of the model.
-pub(crate) fn widened<'s>(fault: FormFault<'s>) -> InstFault<'s>
-    ensures { result ≡ widened_fault fault.entry }
+pub(crate) fn widened(fault: FormFault) -> InstFault
+    ensures { result ≡ widened_fault fault }
 {
     InstFault::from(fault)
 }
 
 /// A fault with its place and what is told beside.
-pub(crate) fn refuse<'s>(defect: InstDefect, at: Span, detail: Detail<'s>) -> InstFault<'s>
-    ensures { result ≡ Refused (record { defect = defect; at = at; detail = detail.entry }) }
+pub(crate) fn refuse(defect: InstDefect, at: Span, detail: Detail) -> InstFault
+    ensures { result ≡ Refused (record { defect = defect; at = at; detail = detail }) }
 {
     InstFault::Refused(InstRefusal { defect, at, detail })
 }
 
 /// What is wrong with a declaration, at its name.
-pub(crate) fn refuse_name<'s>(defect: InstDefect, name: &Token<'s>) -> InstFault<'s>
-    ensures { result ≡ Refused (record { defect = defect; at = name.now.span; detail = ByName name.now.text }) }
+pub(crate) fn refuse_name(
+    alloc: Global,
+    defect: InstDefect,
+    name: &Token<'_>,
+) -> Result<InstFault, AllocError>
+    ensures { IfOk result (λ f. f ≡ Refused (record { defect = defect; at = name.now.span; detail = Told name.now.text })) }
 {
-    refuse(defect, name.span, Detail::Named(name.text.again()))
+    let detail = told_name(alloc, &name.text)?;
+    Ok(refuse(defect, name.span, detail))
 }
 
 /// What is wrong with an expression, at it.
-pub(crate) fn refuse_tree<'s>(defect: FormDefect, whole: &Expr<'_>) -> InstFault<'s>
+pub(crate) fn refuse_tree(defect: FormDefect, whole: &Expr<'_>) -> InstFault
     ensures { result ≡ Refused (record { defect = defects.Form defect; at = trees.span_of (tree whole.now); detail = NoDetail }) }
 {
     refuse(InstDefect::Form(defect), span_of(whole), Detail::Nothing)

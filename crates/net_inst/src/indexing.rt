@@ -60,7 +60,7 @@ pub(crate) fn indexing_of<'s>(
     alloc: Global,
     seen: &Seen<'_, 's>,
     braces: &Option<Braces<'s>>,
-) -> Result<Indexing<'s>, InstFault<'s>>
+) -> Result<Indexing<'s>, InstFault>
     ensures { Answers (indexings.indexing_in seen.now (indexing_of braces.now)) result }
 {
     match braces {

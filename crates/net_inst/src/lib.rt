@@ -17,7 +17,6 @@ mod number;
 mod objective_form;
 mod phrases;
 mod price;
-mod reference;
 
 pub use fault::{InstDefect, InstFault, InstRefusal};
 pub use laws::{
@@ -27,4 +26,3 @@ pub use laws::{
 };
 pub use names::{Declared, Key, NameList, Names};
 pub use network::{Named, instantiate, instantiate_for};
-pub use reference::{append_detail, append_member, append_reference};

@@ -1,6 +1,6 @@
 //! Networks of models.
 
-ghost use Rattle.std.specs.Prelude.{◌≡◌, All, None, Ok, Err, length, map};
+ghost use Rattle.std.specs.Prelude.{◌≡◌, All, None, Ok, Err, IfOk, length, map};
 ghost use Rattle.std.specs.Option.{option_copied};
 ghost use Rattle.net_tree.specs.View.{declaration_of, model as declared_in};
 ghost use Rattle.net_inst.specs.Drafts as drafts;
@@ -15,11 +15,11 @@ use crate::fault::{InstDefect, InstFault, refuse};
 use crate::goal::Goal;
 use crate::names::Names;
 use crate::node::NodeDraft;
-use net_eval::{Detail, World};
+use net_eval::{Detail, World, told_name};
 use net_lex::{Excerpt, Span, Token};
 use net_normal::Instance;
 use net_tree::{Decl, Model};
-use std::alloc::Global;
+use std::alloc::{AllocError, Global};
 
 /// A network of nodes and arcs by number, and the names that lead back to the model.
 #[derive(Drop)]
@@ -60,7 +60,7 @@ fn draw<'s>(
     world: &World<'s>,
     declarations: &[Decl<'s>],
     draft: &mut Draft<'s>,
-) -> Result<(), InstFault<'s>>
+) -> Result<(), InstFault>
     requires { draft.now.known ≡ 0 }
     ensures { Leaves (drafts.draw (option_copied wanted.now) world.now (map declaration_of declarations.now) draft.old) result draft.new }
 {
@@ -76,7 +76,7 @@ fn with_names<'s>(
     nodes: &mut NodeDraft<'s>,
     arcs: &mut ArcDraft<'s>,
     goal: &Goal<'s>,
-) -> Result<Named<'s>, InstFault<'s>>
+) -> Result<Named<'s>, InstFault>
     requires { All (IsDrawnOf (length nodes.now.ranges)) arcs.now.arcs }
     ensures { AnswersNetwork (Ok (found.network_of nodes.old arcs.old goal.now)) result }
 {
@@ -98,17 +98,23 @@ fn with_names<'s>(
 }
 
 /// That there is no objective at all, or not the one of the given name.
-fn without_goal<'s>(wanted: &Option<&'s str>, at: Span, aims: bool) -> InstFault<'s>
-    ensures { AnswersNetwork (found.without_goal (option_copied wanted.now) at aims) (Err result) }
+fn without_goal(
+    alloc: Global,
+    wanted: &Option<&str>,
+    at: Span,
+    aims: bool,
+) -> Result<InstFault, AllocError>
+    ensures { IfOk result (λ f. AnswersNetwork (found.without_goal (option_copied wanted.now) at aims) (Err f)) }
 {
     if !aims {
-        return refuse(InstDefect::NoObjective, at, Detail::Nothing);
+        return Ok(refuse(InstDefect::NoObjective, at, Detail::Nothing));
     }
     let name = match wanted {
         Some(name) => Excerpt::new(name),
         None => Excerpt::new(""),
     };
-    refuse(InstDefect::NoSuchObjective, at, Detail::Named(name))
+    let detail = told_name(alloc, &name)?;
+    Ok(refuse(InstDefect::NoSuchObjective, at, detail))
 }
 
 /// What the declarations come to, once all are drawn.
@@ -117,13 +123,16 @@ fn finished<'s>(
     wanted: &Option<&'s str>,
     end: usize,
     draft: &mut Draft<'s>,
-) -> Result<Named<'s>, InstFault<'s>>
+) -> Result<Named<'s>, InstFault>
     requires { All (IsDrawnOf (length draft.now.nodes.ranges)) draft.now.arcs.arcs }
     ensures { AnswersNetwork (found.finished (option_copied wanted.now) (found.point end) draft.old draft.old.goal) result }
 {
     match &draft.goal {
         Some(goal) => with_names(alloc, &mut draft.nodes, &mut draft.arcs, goal),
-        None => Err(without_goal(wanted, Span { start: end, end }, draft.aims)),
+        None => {
+            let at = Span { start: end, end };
+            Err(without_goal(alloc, wanted, at, draft.aims)?)
+        }
     }
 }
 
@@ -135,7 +144,7 @@ fn network_on<'s>(
     world: &World<'s>,
     declarations: &[Decl<'s>],
     draft: &mut Draft<'s>,
-) -> Result<Named<'s>, InstFault<'s>>
+) -> Result<Named<'s>, InstFault>
     requires { draft.now ≡ drafts.nothing }
     ensures { AnswersNetwork (found.network (option_copied wanted.now) world.now (map declaration_of declarations.now)) result }
 {
@@ -149,7 +158,7 @@ fn network_of<'s>(
     wanted: &Option<&'s str>,
     world: &World<'s>,
     model: &Model<'s>,
-) -> Result<Named<'s>, InstFault<'s>>
+) -> Result<Named<'s>, InstFault>
     ensures { AnswersNetwork (found.network (option_copied wanted.now) world.now (declared_in model.now)) result }
 {
     let declarations = model.declarations.as_slice();
@@ -168,7 +177,7 @@ pub fn instantiate_for<'s>(
     model: &Model<'s>,
     world: &World<'s>,
     objective: Option<&'s str>,
-) -> Result<Named<'s>, InstFault<'s>>
+) -> Result<Named<'s>, InstFault>
     ensures { AnswersNetwork (found.network (option_copied objective.entry) world.now (declared_in model.now)) result }
 {
     network_of(alloc, &objective, world, model)
@@ -179,7 +188,7 @@ pub fn instantiate<'s>(
     alloc: Global,
     model: &Model<'s>,
     world: &World<'s>,
-) -> Result<Named<'s>, InstFault<'s>>
+) -> Result<Named<'s>, InstFault>
     ensures { AnswersNetwork (found.network None world.now (declared_in model.now)) result }
 {
     instantiate_for(alloc, model, world, None)

@@ -15,7 +15,7 @@ use crate::fault::{InstDefect, InstFault, InstRefusal, refuse, refuse_name};
 use crate::group::Group;
 use crate::indexing::{Indexing, indexing_of};
 use crate::names::NameList;
-use net_eval::{Detail, Row, Seen};
+use net_eval::{Detail, Row, Seen, told_reference};
 use net_forms::{ArcKeys, FormDefect, FormFault, FormRefusal, node_range};
 use net_lex::{Excerpt, Span, Token};
 use net_normal::NodeRange;
@@ -46,19 +46,9 @@ impl<'s> Model for NodeDraft<'s> {
     ghost invariant = { λ d. length d.ranges.items ≤ node_limit };
 }
 
-/// A node with its key, as faults tell it.
-pub(crate) fn reference<'s>(name: &Token<'s>, count: &Option<u8>, row: &Row<'s>) -> Detail<'s>
-    ensures { result ≡ reference name.now.text count.now row.now.key }
-{
-    match count {
-        None => Detail::Named(name.text.again()),
-        Some(_) => Detail::Keyed(name.text.again(), row.key.again()),
-    }
-}
-
 /// A fault of a condition; that no net inflow meets it is told of the node, at its declared name.
-fn told_of<'s>(at: Span, detail: Detail<'s>, refusal: FormRefusal<'s>) -> InstRefusal<'s>
-    ensures { result ≡ nodes.told_of at detail.entry refusal.entry.defect (widened refusal.entry) }
+fn told_of(at: Span, detail: Detail, refusal: FormRefusal) -> InstRefusal
+    ensures { result ≡ nodes.told_of at detail refusal.defect (widened refusal) }
 {
     match refusal.defect {
         FormDefect::NodeCrossed => InstRefusal {
@@ -82,17 +72,16 @@ fn range_at<'s>(
     count: &Option<u8>,
     condition: &NetCond<'s>,
     row: &Row<'s>,
-) -> Result<NodeRange, InstFault<'s>>
+) -> Result<NodeRange, InstFault>
     ensures { AnswersAs sides_of (nodes.of_node name.now.span (reference name.now.text count.now row.now.key) (range_in seen.now row.now.scope (condition_of condition.now))) result }
 {
     match node_range(alloc, seen, &row.scope, condition) {
         Ok(range) => Ok(range),
         Err(FormFault::OutOfMemory) => Err(InstFault::OutOfMemory),
-        Err(FormFault::Refused(refusal)) => Err(InstFault::Refused(told_of(
-            name.span,
-            reference(name, count, row),
-            refusal,
-        ))),
+        Err(FormFault::Refused(refusal)) => {
+            let detail = told_reference(alloc, &name.text, *count, &row.key)?;
+            Err(InstFault::Refused(told_of(name.span, detail, refusal)))
+        }
     }
 }
 
@@ -105,7 +94,7 @@ fn push_range<'s>(
     condition: &NetCond<'s>,
     row: &Row<'s>,
     ranges: &mut Vec<NodeRange>,
-) -> Result<(), InstFault<'s>>
+) -> Result<(), InstFault>
     requires { length ranges.now.items ≤ node_limit }
     ensures value { Leaves (nodes.next_range seen.now name.now count.now (condition_of condition.now) row.now (map sides_of ranges.old.items)) result (map sides_of ranges.new.items) }
     ensures count { OnOk result (length ranges.new.items ≡ length ranges.old.items + 1) }
@@ -116,7 +105,7 @@ fn push_range<'s>(
         ranges.push(range)?;
         Ok(())
     } else {
-        Err(refuse_name(InstDefect::TooManyNodes, name))
+        Err(refuse_name(alloc, InstDefect::TooManyNodes, name)?)
     }
 }
 
@@ -129,7 +118,7 @@ fn push_ranges<'s>(
     condition: &NetCond<'s>,
     rows: &[Row<'s>],
     ranges: &mut Vec<NodeRange>,
-) -> Result<(), InstFault<'s>>
+) -> Result<(), InstFault>
     requires { length ranges.now.items ≤ node_limit }
     ensures value { Leaves (nodes.ranges_at seen.now name.now count.now (condition_of condition.now) rows.now (map sides_of ranges.old.items)) result (map sides_of ranges.new.items) }
     ensures count { OnOk result (length rows.now ≤ node_limit) }
@@ -182,7 +171,7 @@ impl<'s> NodeDraft<'s> {
         name: &Token<'s>,
         condition: &NetCond<'s>,
         indexing: &Indexing<'s>,
-    ) -> Result<(), InstFault<'s>>
+    ) -> Result<(), InstFault>
         ensures { Leaves (nodes.nodes_by seen.now name.now (condition_of condition.now) self.old indexing.now) result self.new }
     {
         let first = self.next_number();
@@ -208,7 +197,7 @@ impl<'s> NodeDraft<'s> {
         name: &Token<'s>,
         braces: &Option<Braces<'s>>,
         condition: &NetCond<'s>,
-    ) -> Result<(), InstFault<'s>>
+    ) -> Result<(), InstFault>
         ensures { Leaves (nodes.with_nodes seen.now name.now (indexing_of braces.now) (condition_of condition.now) self.old) result self.new }
     {
         let indexing = indexing_of(alloc, seen, braces)?;

@@ -1,6 +1,6 @@
 //! The nodes that `from` and `to` name.
 
-ghost use Rattle.std.specs.Prelude.{◌≡◌, ◌+◌, ◌<◌, ◌≤◌, ◌^◌, [], option_map, length};
+ghost use Rattle.std.specs.Prelude.{◌≡◌, ◌+◌, ◌<◌, ◌≤◌, ◌^◌, [], option_map, length, IfOk};
 ghost use Rattle.std.specs.Option.{option_copied};
 ghost use Rattle.net_sets.specs.Sets.{place_of};
 ghost use Rattle.net_tree.specs.Spans as trees;
@@ -8,17 +8,19 @@ ghost use Rattle.net_tree.specs.View.{tree, links_of};
 ghost use Rattle.net_normal.specs.Limits.{node_limit};
 ghost use Rattle.net_eval.specs.Worlds as worlds;
 ghost use Rattle.net_forms.specs.Arcs.{declared};
+ghost use Rattle.net_inst.specs.declared.fault.InstDefect.TheVariants.{NoSuchNode};
+ghost use Rattle.net_inst.specs.declared.fault.InstFault.TheVariants.{Refused};
 ghost use Rattle.net_inst.specs.Nodes as found;
 ghost use Rattle.net_inst.specs.Outcomes.{Answers};
 
 use crate::fault::{InstDefect, InstFault, refuse, refuse_tree};
 use crate::node::NodeDraft;
-use net_eval::{Detail, EvalDefect, Scope, Seen};
+use net_eval::{EvalDefect, Scope, Seen, told_name, told_reference};
 use net_forms::{ArcKeys, FormDefect, key_of};
 use net_lex::{Excerpt, Span, Token};
 use net_sets::Tuple;
 use net_tree::{Expr, Link, span_of};
-use std::alloc::Global;
+use std::alloc::{AllocError, Global};
 
 fn key_count(count: Option<u8>) -> usize
     ensures { result ≡ worlds.key_count count }
@@ -29,14 +31,18 @@ fn key_count(count: Option<u8>) -> usize
     }
 }
 
-/// A node with its key, as faults tell it.
-fn reference<'s>(name: &Excerpt<'s>, count: Option<u8>, key: Tuple<'s>) -> Detail<'s>
-    ensures { result ≡ worlds.reference name.now count key.entry }
+/// The fault of a node that there is none of, told with its key.
+fn no_such_node(
+    alloc: Global,
+    at: Span,
+    name: &Excerpt<'_>,
+    count: Option<u8>,
+    key: &Tuple<'_>,
+) -> Result<InstFault, AllocError>
+    ensures { IfOk result (λ f. f ≡ Refused (record { defect = NoSuchNode; at = at; detail = worlds.reference name.now count key.now })) }
 {
-    match count {
-        None => Detail::Named(name.again()),
-        Some(_) => Detail::Keyed(name.again(), key),
-    }
+    let detail = told_reference(alloc, name, count, key)?;
+    Ok(refuse(InstDefect::NoSuchNode, at, detail))
 }
 
 /// The number of the node at a place of a declaration.
@@ -50,62 +56,66 @@ fn number_behind(keys: &ArcKeys<'_>, place: usize) -> usize
 }
 
 /// A number, where it is that of one of so many nodes.
-fn among<'s>(
+fn among(
+    alloc: Global,
     count: usize,
     at: Span,
-    detail: Detail<'s>,
+    name: &Excerpt<'_>,
+    keys: Option<u8>,
+    key: &Tuple<'_>,
     number: usize,
-) -> Result<u32, InstFault<'s>>
+) -> Result<u32, InstFault>
     requires { count ≤ node_limit }
-    ensures value { Answers (found.among count at detail.entry number) result }
+    ensures value { Answers (found.among count at (worlds.reference name.now keys key.now) number) result }
 {
     if number < count {
         Ok(number as u32)
     } else {
-        Err(refuse(InstDefect::NoSuchNode, at, detail))
+        Err(no_such_node(alloc, at, name, keys, key)?)
     }
 }
 
 /// The node at a key of a declaration.
 fn numbered<'s>(
+    alloc: Global,
     count: usize,
     at: Span,
     name: &Excerpt<'s>,
     keys: &ArcKeys<'s>,
     key: Tuple<'s>,
-) -> Result<u32, InstFault<'s>>
+) -> Result<u32, InstFault>
     requires { count ≤ node_limit }
     ensures value { Answers (found.numbered count at (worlds.reference name.now keys.now.keys key.entry) keys.now.first (place_of keys.now.index key.entry)) result }
 {
     match keys.index.position(&key) {
         Some(place) => {
             let number = number_behind(keys, place);
-            among(count, at, reference(name, keys.keys, key), number)
+            among(alloc, count, at, name, keys.keys, &key, number)
         }
-        None => Err(refuse(InstDefect::NoSuchNode, at, reference(name, keys.keys, key))),
+        None => Err(no_such_node(alloc, at, name, keys.keys, &key)?),
     }
 }
 
 /// The node that a name has at a key.
 fn node_at<'s>(
+    alloc: Global,
     count: usize,
     whole: &Expr<'s>,
     name: &Excerpt<'s>,
     keys: Option<&ArcKeys<'s>>,
     key: Tuple<'s>,
-) -> Result<u32, InstFault<'s>>
+) -> Result<u32, InstFault>
     requires { count ≤ node_limit }
     ensures value { Answers (found.node_at count (trees.span_of (tree whole.now)) name.now (option_copied keys.entry) key.entry) result }
 {
     match keys {
-        None => Err(refuse(
-            InstDefect::NoSuchNode,
-            span_of(whole),
-            Detail::Named(name.again()),
-        )),
+        None => {
+            let detail = told_name(alloc, name)?;
+            Err(refuse(InstDefect::NoSuchNode, span_of(whole), detail))
+        }
         Some(keys) => {
             if key.len() == key_count(keys.keys) {
-                numbered(count, span_of(whole), name, keys, key)
+                numbered(alloc, count, span_of(whole), name, keys, key)
             } else {
                 Err(refuse_tree(FormDefect::Value(EvalDefect::Arity), whole))
             }
@@ -115,14 +125,15 @@ fn node_at<'s>(
 
 /// The node of a name without subscripts.
 fn plain_node<'s>(
+    alloc: Global,
     nodes: &NodeDraft<'s>,
     whole: &Expr<'s>,
     name: &Token<'s>,
-) -> Result<u32, InstFault<'s>>
+) -> Result<u32, InstFault>
     ensures value { Answers (found.node_at (length nodes.now.ranges) (trees.span_of (tree whole.now)) name.now.text (declared nodes.now.group.numbers name.now.text) []) result }
 {
     let keys = nodes.keys_of(&name.text);
-    node_at(nodes.len(), whole, &name.text, keys, Tuple::new())
+    node_at(alloc, nodes.len(), whole, &name.text, keys, Tuple::new())
 }
 
 /// The node of a name with subscripts.
@@ -134,12 +145,12 @@ fn indexed_node<'s>(
     whole: &Expr<'s>,
     name: &Token<'s>,
     subscripts: (&Expr<'s>, &[Link<'s>]),
-) -> Result<u32, InstFault<'s>>
+) -> Result<u32, InstFault>
     ensures value { Answers (found.indexed_node nodes.now seen.now scope.now (trees.span_of (tree whole.now)) name.now (tree subscripts.entry.0.now) (links_of subscripts.entry.1.now)) result }
 {
     let key = key_of(alloc, seen, scope, whole, subscripts.0, subscripts.1)?;
     let keys = nodes.keys_of(&name.text);
-    node_at(nodes.len(), whole, &name.text, keys, key)
+    node_at(alloc, nodes.len(), whole, &name.text, keys, key)
 }
 
 /// A name, and its subscripts where it has any.
@@ -168,12 +179,12 @@ pub(crate) fn node_named<'s>(
     scope: &Scope<'s>,
     nodes: &NodeDraft<'s>,
     expr: &Expr<'s>,
-) -> Result<u32, InstFault<'s>>
+) -> Result<u32, InstFault>
     ensures value { Answers (found.node_named nodes.now seen.now scope.now (tree expr.now)) result }
 {
     match name_in(expr) {
         None => Err(refuse_tree(FormDefect::Value(EvalDefect::KindMismatch), expr)),
-        Some((name, None)) => plain_node(nodes, expr, name),
+        Some((name, None)) => plain_node(alloc, nodes, expr, name),
         Some((name, Some((first, more)))) => {
             indexed_node(alloc, seen, scope, nodes, expr, name, (first, more))
         }

@@ -25,7 +25,7 @@ fn is_small(number: &i64) -> bool
 }
 
 /// The number that a member is, where it is within the limit.
-fn number_in<'s>(whole: &Expr<'_>, member: &Member<'s>) -> Result<i64, InstFault<'s>>
+fn number_in(whole: &Expr<'_>, member: &Member<'_>) -> Result<i64, InstFault>
     ensures { Answers (numbers.number_in (trees.span_of (tree whole.now)) member.now) result }
 {
     match member {
@@ -46,7 +46,7 @@ pub(crate) fn number_of<'s>(
     seen: &Seen<'_, 's>,
     scope: &Scope<'s>,
     expr: &Expr<'s>,
-) -> Result<i64, InstFault<'s>>
+) -> Result<i64, InstFault>
     ensures { Answers (numbers.number seen.now scope.now (tree expr.now)) result }
 {
     let member = member(alloc, seen, scope, expr)?;

@@ -16,7 +16,7 @@ fn form_of<'s>(
     arcs: &ArcNames<'s>,
     seen: &Seen<'_, 's>,
     expr: &Expr<'s>,
-) -> Result<Form, InstFault<'s>>
+) -> Result<Form, InstFault>
     ensures { Answers (found.said_tree arcs.now seen.now (tree expr.now)) result }
 {
     let scope = Scope::new(alloc);
@@ -33,7 +33,7 @@ pub(crate) fn said_form<'s>(
     arcs: &ArcNames<'s>,
     seen: &Seen<'_, 's>,
     part: &Option<Part<'s>>,
-) -> Result<Form, InstFault<'s>>
+) -> Result<Form, InstFault>
     ensures { Answers (found.said_form arcs.now seen.now (option_part part.now)) result }
 {
     match part {

@@ -11,6 +11,7 @@ ghost use Rattle.net_inst.specs.Outcomes.{AnswersAs};
 use crate::fault::{InstDefect, InstFault, refuse_name};
 use net_lex::Token;
 use net_tree::{Begins, Body, Expr, Phrase, Relates, Role, role_of};
+use std::alloc::Global;
 
 /// The words of an arc's phrases that stand at most once.
 #[derive(Clone, Copy)]
@@ -68,18 +69,19 @@ fn said<'a, 's>(word: ArcWord, phrases: &'a [Phrase<'s>]) -> Option<&'a Expr<'s>
 
 /// Both bounds have to be there, and one end.
 fn parts_from<'a, 's>(
+    alloc: Global,
     name: &Token<'s>,
     lower: Option<&'a Expr<'s>>,
     upper: Option<&'a Expr<'s>>,
     tail: Option<&'a Expr<'s>>,
     head: Option<&'a Expr<'s>>,
-) -> Result<ArcParts<'a, 's>, InstFault<'s>>
+) -> Result<ArcParts<'a, 's>, InstFault>
     ensures { AnswersAs parts_seen (saying.parts_from name.now (option_map tree (option_copied lower.entry)) (option_map tree (option_copied upper.entry)) (option_map tree (option_copied tail.entry)) (option_map tree (option_copied head.entry))) result }
 {
     match (lower, upper, tail, head) {
-        (None, _, _, _) => Err(refuse_name(InstDefect::NoLower, name)),
-        (Some(_), None, _, _) => Err(refuse_name(InstDefect::NoUpper, name)),
-        (Some(_), Some(_), None, None) => Err(refuse_name(InstDefect::NoEnds, name)),
+        (None, _, _, _) => Err(refuse_name(alloc, InstDefect::NoLower, name)?),
+        (Some(_), None, _, _) => Err(refuse_name(alloc, InstDefect::NoUpper, name)?),
+        (Some(_), Some(_), None, None) => Err(refuse_name(alloc, InstDefect::NoEnds, name)?),
         (Some(lower), Some(upper), tail, head) => Ok(ArcParts {
             lower,
             upper,
@@ -91,14 +93,15 @@ fn parts_from<'a, 's>(
 
 /// What the phrases of an arc say; the first that is lacking is told at the declared name.
 pub(crate) fn parts_of<'a, 's>(
+    alloc: Global,
     name: &Token<'s>,
     phrases: &'a [Phrase<'s>],
-) -> Result<ArcParts<'a, 's>, InstFault<'s>>
+) -> Result<ArcParts<'a, 's>, InstFault>
     ensures { AnswersAs parts_seen (saying.parts_of name.now (map phrase_of phrases.entry.now)) result }
 {
     let lower = said(ArcWord::AtLeast, phrases);
     let upper = said(ArcWord::AtMost, phrases);
     let tail = said(ArcWord::From, phrases);
     let head = said(ArcWord::To, phrases);
-    parts_from(name, lower, upper, tail, head)
+    parts_from(alloc, name, lower, upper, tail, head)
 }

@@ -28,13 +28,13 @@ fn is_goal<'s>(goal: &Option<Goal<'s>>, name: &Excerpt<'s>) -> bool
 }
 
 /// Adds a price of an arc.
-fn add_price<'s>(
+fn add_price(
     alloc: Global,
     arc: usize,
     whole: &Expr<'_>,
     price: &i64,
     form: &mut Form,
-) -> Result<(), InstFault<'s>>
+) -> Result<(), InstFault>
     ensures { Leaves (from_forms (forms.priced (trees.span_of (tree whole.now)) form.old arc price.now)) result form.new }
 {
     let before = mem::replace(form, Form::zero(alloc));
@@ -55,7 +55,7 @@ fn add_value<'s>(
     arc: usize,
     expr: &Expr<'s>,
     form: &mut Form,
-) -> Result<(), InstFault<'s>>
+) -> Result<(), InstFault>
     ensures { Leaves (found.priced_by seen.now scope.now arc (tree expr.now) form.old) result form.new }
 {
     let price = number_of(alloc, seen, scope, expr)?;
@@ -71,7 +71,7 @@ fn add_phrase<'s>(
     arc: usize,
     body: &Body<'s>,
     form: &mut Form,
-) -> Result<(), InstFault<'s>>
+) -> Result<(), InstFault>
     ensures { Leaves (found.price_in goal.now seen.now scope.now arc (body_of body.now) form.old) result form.new }
 {
     match body {
@@ -96,7 +96,7 @@ pub(crate) fn add_phrases<'s>(
     arc: usize,
     phrases: &[Phrase<'s>],
     form: &mut Form,
-) -> Result<(), InstFault<'s>>
+) -> Result<(), InstFault>
     ensures { Leaves (found.prices_in goal.now seen.now scope.now arc (map phrase_of phrases.now) form.old) result form.new }
 {
     for phrase in phrases {

@@ -11,7 +11,7 @@ use Rattle.net_model.specs.declared.fault.ModelFault.TheVariants as models
 use Rattle.net_data.specs.declared.fault.DataFault.{DataFault}
 use Rattle.net_data.specs.declared.fault.DataFault.TheVariants as datas
 use Rattle.net_eval.specs.declared.fault.Detail.{Detail}
-use Rattle.net_eval.specs.declared.fault.Detail.TheVariants.{Nothing, Named}
+use Rattle.net_eval.specs.declared.fault.Detail.TheVariants.{Nothing, Told}
 use Rattle.net_bind.specs.declared.fault.BindFault.{BindFault}
 use Rattle.net_bind.specs.declared.fault.BindFault.TheVariants as binds
 use Rattle.net_bind.specs.declared.fault.Refusal.{Refusal}
@@ -30,7 +30,7 @@ bare text d at = record { defect = d; text = text; at = at; detail = Nothing }
 
 abbrev pub detail_of : Option (List ℕ) → Detail
 detail_of None = Nothing
-detail_of (Some word) = Named word
+detail_of (Some word) = Told word
 
 abbrev pub told : ModelDefect → Span → Option (List ℕ) → Finding
 told d at word = record { defect = Model d; text = languages.Model; at = at; detail = detail_of word }

@@ -1,35 +1,36 @@
 //! What is found wrong, and why there is no network.
 
-ghost use Rattle.std.specs.Prelude.{◌≡◌};
+ghost use Rattle.std.specs.Prelude.{◌≡◌, IfOk};
 ghost use Rattle.net_read.specs.Findings as findings;
 
 use crate::defect::Defect;
 use net_bind::{BindFault, Refusal};
 use net_data::DataFault;
-use net_eval::Detail;
+use net_eval::{Detail, told_name};
 use net_inst::{InstFault, InstRefusal};
 use net_lex::{Excerpt, Language, LexFault, Span};
 use net_model::ModelFault;
+use std::alloc::{AllocError, Global};
 
 /// What is wrong, in which text and where, and what is told beside the place.
 #[derive(Drop)]
-pub struct Finding<'s> {
+pub struct Finding {
     pub defect: Defect,
     pub text: Language,
     /// From the first byte to behind the last one, counted from 0.
     pub at: Span,
-    pub detail: Detail<'s>,
+    pub detail: Detail,
 }
 
 /// Why there is no network.
 #[derive(Drop)]
-pub enum Stop<'s> {
+pub enum Stop {
     OutOfMemory,
-    At(Finding<'s>),
+    At(Finding),
 }
 
 /// A finding that tells nothing beside its place.
-fn bare<'s>(text: Language, defect: Defect, at: Span) -> Stop<'s>
+fn bare(text: Language, defect: Defect, at: Span) -> Stop
     ensures { result ≡ Stop.At (findings.bare text defect at) }
 {
     Stop::At(Finding {
@@ -41,7 +42,7 @@ fn bare<'s>(text: Language, defect: Defect, at: Span) -> Stop<'s>
 }
 
 /// A fault of a token in a text.
-pub(crate) fn of_token<'s>(text: Language, fault: LexFault) -> Stop<'s>
+pub(crate) fn of_token(text: Language, fault: LexFault) -> Stop
     ensures { result ≡ findings.of_token text fault }
 {
     match fault {
@@ -50,32 +51,35 @@ pub(crate) fn of_token<'s>(text: Language, fault: LexFault) -> Stop<'s>
     }
 }
 
-fn detail_of<'s>(word: Option<Excerpt<'s>>) -> Detail<'s>
-    ensures { result ≡ findings.detail_of word.entry }
+fn detail_of(alloc: Global, word: &Option<Excerpt<'_>>) -> Result<Detail, AllocError>
+    ensures { IfOk result (λ d. d ≡ findings.detail_of word.now) }
 {
     match word {
-        None => Detail::Nothing,
-        Some(word) => Detail::Named(word),
+        None => Ok(Detail::Nothing),
+        Some(word) => told_name(alloc, word),
     }
 }
 
 /// A fault of the grammar or the names of a model.
-pub(crate) fn of_model<'s>(fault: ModelFault<'s>) -> Stop<'s>
-    ensures { result ≡ findings.of_model fault.entry }
+pub(crate) fn of_model(alloc: Global, fault: &ModelFault<'_>) -> Result<Stop, AllocError>
+    ensures { IfOk result (λ s. s ≡ findings.of_model fault.now) }
 {
     match fault {
-        ModelFault::OutOfMemory => Stop::OutOfMemory,
-        ModelFault::At(defect, at, word) => Stop::At(Finding {
-            defect: Defect::Model(defect),
-            text: Language::Model,
-            at,
-            detail: detail_of(word),
-        }),
+        ModelFault::OutOfMemory => Ok(Stop::OutOfMemory),
+        ModelFault::At(defect, at, word) => {
+            let detail = detail_of(alloc, word)?;
+            Ok(Stop::At(Finding {
+                defect: Defect::Model(*defect),
+                text: Language::Model,
+                at: *at,
+                detail,
+            }))
+        }
     }
 }
 
 /// A fault of data statements.
-pub(crate) fn of_data<'s>(fault: DataFault) -> Stop<'s>
+pub(crate) fn of_data(fault: DataFault) -> Stop
     ensures { result ≡ findings.of_data fault }
 {
     match fault {
@@ -84,8 +88,8 @@ pub(crate) fn of_data<'s>(fault: DataFault) -> Stop<'s>
     }
 }
 
-fn bound<'s>(refusal: Refusal<'s>) -> Stop<'s>
-    ensures { result ≡ Stop.At (findings.bound refusal.entry) }
+fn bound(refusal: Refusal) -> Stop
+    ensures { result ≡ Stop.At (findings.bound refusal) }
 {
     let Refusal {
         defect,
@@ -102,8 +106,8 @@ fn bound<'s>(refusal: Refusal<'s>) -> Stop<'s>
 }
 
 /// A fault of binding.
-pub(crate) fn of_binding<'s>(fault: BindFault<'s>) -> Stop<'s>
-    ensures { result ≡ findings.of_binding fault.entry }
+pub(crate) fn of_binding(fault: BindFault) -> Stop
+    ensures { result ≡ findings.of_binding fault }
 {
     match fault {
         BindFault::OutOfMemory => Stop::OutOfMemory,
@@ -111,8 +115,8 @@ pub(crate) fn of_binding<'s>(fault: BindFault<'s>) -> Stop<'s>
     }
 }
 
-fn drawn<'s>(refusal: InstRefusal<'s>) -> Stop<'s>
-    ensures { result ≡ Stop.At (findings.drawn refusal.entry) }
+fn drawn(refusal: InstRefusal) -> Stop
+    ensures { result ≡ Stop.At (findings.drawn refusal) }
 {
     let InstRefusal { defect, at, detail } = refusal;
     Stop::At(Finding {
@@ -124,8 +128,8 @@ fn drawn<'s>(refusal: InstRefusal<'s>) -> Stop<'s>
 }
 
 /// A fault of the network.
-pub(crate) fn of_network<'s>(fault: InstFault<'s>) -> Stop<'s>
-    ensures { result ≡ findings.of_network fault.entry }
+pub(crate) fn of_network(fault: InstFault) -> Stop
+    ensures { result ≡ findings.of_network fault }
 {
     match fault {
         InstFault::OutOfMemory => Stop::OutOfMemory,

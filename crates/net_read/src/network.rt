@@ -24,7 +24,7 @@ fn network_of<'s>(
     model: &Model<'s>,
     tables: &Tables<'_, 's>,
     objective: Option<&'s str>,
-) -> Result<Named<'s>, Stop<'s>>
+) -> Result<Named<'s>, Stop>
     requires { AreNew [] (view.model model.now) }
     ensures ok { IfOk result (λ n. ComeTo (option_copied objective.entry) (view.model model.now) tables.now (seen_as n)) }
     ensures refused { IfErr result (IsNetworkStop (option_copied objective.entry) (view.model model.now) tables.now) }
@@ -45,7 +45,7 @@ fn network_with<'s>(
     declared: &Model<'s>,
     data: &'s [u8],
     objective: Option<&'s str>,
-) -> Result<Named<'s>, Stop<'s>>
+) -> Result<Named<'s>, Stop>
     requires { AreNew [] (view.model declared.now) }
     ensures ok { (text : List ℕ) → IsModel text (view.model declared.now) → IfOk result (λ n. IsNetworkOf (option_copied objective.entry) text «data».entry.now (seen_as n)) }
     ensures refused { (text : List ℕ) → IsModel text (view.model declared.now) → IfErr result (IsStop (option_copied objective.entry) text «data».entry.now) }
@@ -73,7 +73,7 @@ pub fn read_network<'s>(
     model: &'s [u8],
     data: &'s [u8],
     objective: Option<&'s str>,
-) -> Result<Named<'s>, Stop<'s>>
+) -> Result<Named<'s>, Stop>
     ensures ok { IfOk result (λ n. IsNetworkOf (option_copied objective.entry) model.entry.now «data».entry.now (seen_as n)) }
     ensures refused { IfErr result (IsStop (option_copied objective.entry) model.entry.now «data».entry.now) }
 {

@@ -14,7 +14,7 @@ use net_tree::Model;
 use std::alloc::Global;
 
 /// The declarations of a model text.
-pub(crate) fn read_model<'s>(alloc: Global, text: &'s [u8]) -> Result<Model<'s>, Stop<'s>>
+pub(crate) fn read_model<'s>(alloc: Global, text: &'s [u8]) -> Result<Model<'s>, Stop>
     ensures ok { IfOk result (λ m. IsModel text.entry.now (view.model m)) }
     ensures new { IfOk result (λ m. AreNew [] (view.model m)) }
     ensures refused { IfErr result (IsModelStop text.entry.now) }
@@ -29,6 +29,9 @@ pub(crate) fn read_model<'s>(alloc: Global, text: &'s [u8]) -> Result<Model<'s>,
             well_named_are_new();
             Ok(model)
         }
-        Err(fault) => Err(of_model(fault)),
+        Err(fault) => match of_model(alloc, &fault) {
+            Ok(stop) => Err(stop),
+            Err(_) => Err(Stop::OutOfMemory),
+        },
     }
 }

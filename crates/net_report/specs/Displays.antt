@@ -3,7 +3,7 @@ use Rattle.std.specs.Prelude.{ℕ, suc, Bool, ℤ, List, [], ◌∷◌, ◌++◌
 use Rattle.std.specs.Fmt.{signed_decimal}
 use Rattle.std.specs.List.{zip, flat_map, filter, take_while, prefix_len}
 use Rattle.net_sets.specs.Sets.{Tuple}
-use Rattle.net_inst.specs.References.{member_text}
+use Rattle.net_eval.specs.References.{member_text}
 use Rattle.net_inst.specs.declared.names.Declared.{Declared}
 use Rattle.net_inst.specs.declared.names.Key.{Key}
 use Rattle.net_inst.specs.declared.names.Names.{Names}

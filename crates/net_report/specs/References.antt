@@ -1,7 +1,7 @@
 -- What nodes and arcs are called in texts:  Move    Ship['PITT','NE']
 use Rattle.std.specs.Prelude.{ℕ, List, [], map, Option, None, Some, slice_get}
 use Rattle.net_sets.specs.Sets.{Tuple}
-use Rattle.net_inst.specs.References.{reference_text}
+use Rattle.net_eval.specs.References.{reference_text}
 use Rattle.net_inst.specs.Lists.{Listed}
 use Rattle.net_inst.specs.declared.names.Declared.{Declared}
 use Rattle.net_inst.specs.declared.names.Key.{Key}

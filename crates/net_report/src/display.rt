@@ -7,7 +7,8 @@ ghost use Rattle.net_report.specs.Displays as displays;
 
 use itoa::Buffer;
 use net_check::wide::wide;
-use net_inst::{Declared, Key, NameList, Names, append_member};
+use net_eval::append_member;
+use net_inst::{Declared, Key, NameList, Names};
 use net_lex::Excerpt;
 use net_sets::Tuple;
 use std::alloc::{AllocError, Global};

@@ -3,7 +3,8 @@
 ghost use Rattle.std.specs.Prelude.{◌≡◌, ◌++◌, OnOk};
 ghost use Rattle.net_report.specs.References.{name_in};
 
-use net_inst::{Key, NameList, append_reference};
+use net_eval::append_reference;
+use net_inst::{Key, NameList};
 use std::alloc::{AllocError, Global};
 
 /// Appends the name of a node or an arc, with its key in brackets where braces index it.

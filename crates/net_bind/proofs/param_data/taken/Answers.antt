@@ -7,6 +7,3 @@ returns-in-Groups c = grind (arith, common_steps)
 
 pub returns-in-Grid : goal.returns-in-Grid
 returns-in-Grid c = grind (arith, common_steps)
-
-pub returns-then-is_doubled : goal.returns-then-is_doubled
-returns-then-is_doubled c = grind (arith, common_steps)

@@ -5,6 +5,3 @@ use Rattle.net_forms.proofs.arc.numbered.Goals as goal
 
 pub number_behind-requires : goal.number_behind-requires
 number_behind-requires c = place_below c.args.arcs.now.index c.args.key c.in-Some.place c.in-Some.ensures
-
-pub returns-in-None : goal.returns-in-None
-returns-in-None c = grind (arith, common_steps)

@@ -7,10 +7,6 @@ pub returns-in-Minus : goal.returns-in-Minus
 unfolding is_small
 returns-in-Minus c = grind (arith, common_steps)
 
-pub returns : goal.returns
-unfolding is_small
-returns c = grind (arith, common_steps)
-
 pub returns-in-Times : goal.returns-in-Times
 unfolding is_small
 returns-in-Times c = grind (arith, common_steps)

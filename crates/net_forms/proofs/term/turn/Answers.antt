@@ -2,9 +2,6 @@ use Rattle.std.proofs.Common.{arith}
 use Rattle.std.proofs.lemmas.Grind.{common_steps}
 use Rattle.net_forms.proofs.term.turn.Goals as goal
 
-pub returns : goal.returns
-returns c = grind (arith, common_steps)
-
 pub returns-in-None : goal.returns-in-None
 returns-in-None c = grind (arith, common_steps)
 

@@ -4,6 +4,3 @@ use Rattle.net_inst.proofs.network.finished.Goals as goal
 
 pub returns-in-Some : goal.returns-in-Some
 returns-in-Some c = grind (arith, common_steps)
-
-pub returns-in-None : goal.returns-in-None
-returns-in-None c = grind (arith, common_steps)

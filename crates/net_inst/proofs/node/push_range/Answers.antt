@@ -7,6 +7,3 @@ returns-in_ok-push-clause-value c = grind (arith, common_steps)
 
 pub returns-in_err-range-clause-value : goal.returns-in_err-range-clause-value
 returns-in_err-range-clause-value c = grind (arith, common_steps)
-
-pub returns-else-len-lt-NODE_LIMIT-clause-value : goal.returns-else-len-lt-NODE_LIMIT-clause-value
-returns-else-len-lt-NODE_LIMIT-clause-value c = grind (arith, common_steps)

@@ -7,6 +7,3 @@ returns-then-len-key_count c = grind (arith, common_steps)
 
 pub returns-else-len-key_count : goal.returns-else-len-key_count
 returns-else-len-key_count c = grind (arith, common_steps)
-
-pub returns-in-None : goal.returns-in-None
-returns-in-None c = grind (arith, common_steps)

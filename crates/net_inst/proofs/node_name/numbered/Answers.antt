@@ -8,6 +8,3 @@ number_behind-number-requires c = place_below c.args.keys.now.index c.args.key c
 
 pub returns-in-Some : goal.returns-in-Some
 returns-in-Some c = grind (arith, common_steps)
-
-pub returns-in-None : goal.returns-in-None
-returns-in-None c = grind (arith, common_steps)

@@ -7,8 +7,8 @@ use Rattle.net_read.proofs.texts.read_model.Goals as goal
 pub returns-in-Err-clause-refused : goal.returns-in-Err-clause-refused
 returns-in-Err-clause-refused c = model_token c.args.text.now c.in-Err.fault c.of_token.result c.in-Err.ensures.value.refused c.of_token.ensures
 
-pub returns-clause-refused : goal.returns-clause-refused
-returns-clause-refused c =
+pub returns-in-Ok-of_model-clause-refused : goal.returns-in-Ok-of_model-clause-refused
+returns-in-Ok-of_model-clause-refused c =
     let fault = c.in-Err-parse_model.fault in
     let parsed = subst (λ (t : List Token). Parses (Err fault) (meant t)) c.deref.ensures.value c.in-Err-parse_model.ensures.value in
-    model_parse c.args.text.now c.in-Ok.tokens.items fault c.of_model.result c.in-Ok.ensures.value.ok parsed c.of_model.ensures
+    model_parse c.args.text.now c.in-Ok.tokens.items fault c.in-Ok-of_model.stop c.in-Ok.ensures.value.ok parsed c.in-Ok-of_model.ensures

@@ -2,9 +2,6 @@ use Rattle.std.proofs.Common.{arith}
 use Rattle.std.proofs.lemmas.Grind.{common_steps}
 use Rattle.net_inst.proofs.arc_draft.ArcDraft.add_arc.Goals as goal
 
-pub returns-else-arc-lt-ARC_LIMIT-clause-value : goal.returns-else-arc-lt-ARC_LIMIT-clause-value
-returns-else-arc-lt-ARC_LIMIT-clause-value c = grind (arith, common_steps)
-
 pub returns-in_ok-push-clause-count : goal.returns-in_ok-push-clause-count
 returns-in_ok-push-clause-count c = grind (arith, common_steps)
 

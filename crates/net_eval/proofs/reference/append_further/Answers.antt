@@ -1,6 +1,6 @@
 use Rattle.std.proofs.Common.{arith}
 use Rattle.std.proofs.lemmas.Grind.{common_steps}
-use Rattle.net_inst.proofs.reference.append_further.Goals as goal
+use Rattle.net_eval.proofs.reference.append_further.Goals as goal
 
 pub loop-member-preserved : goal.loop-member-preserved
 loop-member-preserved c = grind (arith, common_steps)

@@ -5,7 +5,7 @@ use Rattle.net_sets.specs.declared.member.Member.{Member}
 use Rattle.net_sets.specs.declared.member.Member.TheVariants.{Number, Name}
 use Rattle.net_sets.specs.Sets.{Tuple}
 use Rattle.net_eval.specs.declared.fault.Detail.{Detail}
-use Rattle.net_eval.specs.declared.fault.Detail.TheVariants.{Nothing, Named, Keyed}
+use Rattle.net_eval.specs.declared.fault.Detail.TheVariants.{Nothing, Told}
 
 -- each single quote twice
 abbrev pub doubled : List ℕ → List ℕ
@@ -38,5 +38,4 @@ reference_text name true key = name ++ (91 ∷ (members_text key ++ 93 ∷ []))
 -- what a fault tells beside its place
 abbrev pub detail_text : Detail → List ℕ
 detail_text Nothing = []
-detail_text (Named name) = name
-detail_text (Keyed name key) = reference_text name true key
+detail_text (Told text) = text

@@ -1,12 +1,14 @@
 //! The texts of names with their keys, as faults and all printed texts tell them.
 
-ghost use Rattle.std.specs.Prelude.{◌≡◌, ◌++◌, OnOk};
+ghost use Rattle.std.specs.Prelude.{◌≡◌, ◌++◌, OnOk, IfOk};
 ghost use Rattle.std.specs.Fmt.{signed_decimal};
-ghost use Rattle.net_inst.specs.References as texts;
+ghost use Rattle.net_eval.specs.References as texts;
+ghost use Rattle.net_eval.specs.Worlds as worlds;
+ghost use Rattle.net_eval.specs.declared.fault.Detail.TheVariants.{Told};
 
+use crate::fault::Detail;
 use itoa::Buffer;
-use net_eval::Detail;
-use net_lex::Excerpt;
+use net_lex::{Excerpt, Items};
 use net_sets::{Member, Text, Tuple};
 use std::alloc::{AllocError, Global};
 
@@ -109,17 +111,35 @@ pub fn append_reference(
     Ok(())
 }
 
-/// Appends what a fault tells beside its place. Where memory is short the first bytes may have been appended.
-pub fn append_detail(
+/// A name, as faults tell it.
+pub fn told_name(alloc: Global, name: &Excerpt<'_>) -> Result<Detail, AllocError>
+    ensures { IfOk result (λ d. d ≡ Told name.now) }
+{
+    let mut text = Vec::new(alloc);
+    text.extend_from_slice(name.as_str().as_bytes())?;
+    Ok(Detail::Told(Items::new(text)))
+}
+
+/// A parameter, a node or an arc, as faults tell it: where it is indexed, with its key.
+pub fn told_reference(
     alloc: Global,
-    out: &mut Vec<u8>,
-    detail: &Detail<'_>,
-) -> Result<(), AllocError>
+    name: &Excerpt<'_>,
+    keys: Option<u8>,
+    key: &Tuple<'_>,
+) -> Result<Detail, AllocError>
+    ensures { IfOk result (λ d. d ≡ worlds.reference name.now keys key.now) }
+{
+    let mut text = Vec::new(alloc);
+    append_reference(alloc, &mut text, name, keys.is_some(), key)?;
+    Ok(Detail::Told(Items::new(text)))
+}
+
+/// Appends what a fault tells beside its place. Where memory is short the first bytes may have been appended.
+pub fn append_detail(out: &mut Vec<u8>, detail: &Detail) -> Result<(), AllocError>
     ensures { OnOk result (out.new.items ≡ out.old.items ++ texts.detail_text detail.now) }
 {
     match detail {
         Detail::Nothing => Ok(()),
-        Detail::Named(name) => out.extend_from_slice(name.as_str().as_bytes()),
-        Detail::Keyed(name, key) => append_reference(alloc, out, name, true, key),
+        Detail::Told(text) => out.extend_from_slice(text.as_slice()),
     }
 }

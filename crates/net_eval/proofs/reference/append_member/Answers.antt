@@ -1,6 +1,6 @@
 use Rattle.std.proofs.Common.{arith}
 use Rattle.std.proofs.lemmas.Grind.{common_steps}
-use Rattle.net_inst.proofs.reference.append_member.Goals as goal
+use Rattle.net_eval.proofs.reference.append_member.Goals as goal
 
 pub returns-in-Name : goal.returns-in-Name
 returns-in-Name c = grind (arith, common_steps)

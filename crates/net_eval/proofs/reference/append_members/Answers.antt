@@ -1,6 +1,6 @@
 use Rattle.std.proofs.Common.{arith}
 use Rattle.std.proofs.lemmas.Grind.{common_steps}
-use Rattle.net_inst.proofs.reference.append_members.Goals as goal
+use Rattle.net_eval.proofs.reference.append_members.Goals as goal
 
 pub bounds-members-0 : goal.bounds-members-0
 bounds-members-0 c = grind (arith, common_steps)

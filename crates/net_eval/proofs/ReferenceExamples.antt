@@ -2,13 +2,12 @@
 use Rattle.std.specs.Prelude.{◌≡◌, true, false, [], ◌∷◌, codes}
 use Rattle.std.proofs.Common.{refl}
 use Rattle.net_sets.specs.declared.member.Member.TheVariants.{Name}
-use Rattle.net_eval.specs.declared.fault.Detail.TheVariants.{Keyed}
-use Rattle.net_inst.specs.References.{reference_text, detail_text}
+use Rattle.net_eval.specs.References.{reference_text}
 
 two_members : reference_text (codes "Ship") true (Name (codes "PITT") ∷ Name (codes "NE") ∷ []) ≡ codes "Ship['PITT','NE']"
 two_members = refl
 
-quote_doubled : detail_text (Keyed (codes "N") (Name (codes "it's") ∷ [])) ≡ codes "N['it''s']"
+quote_doubled : reference_text (codes "N") true (Name (codes "it's") ∷ []) ≡ codes "N['it''s']"
 quote_doubled = refl
 
 empty_key : reference_text (codes "N") true [] ≡ codes "N[]"
