@@ -324,3 +324,27 @@ keys::holds-evaluate-requires t c = grind (arith, views)
 
 pub fitting::left_place-components-requires : goal.fitting::left_place-components-requires
 fitting::left_place-components-requires t c = grind (arith, views)
+
+pub eval::evaluate-returns-in-Braced : goal.eval::evaluate-returns-in-Braced
+eval::evaluate-returns-in-Braced t c = grind (arith, views)
+
+pub eval::evaluate-returns-in-Leaf : goal.eval::evaluate-returns-in-Leaf
+eval::evaluate-returns-in-Leaf t c = grind (arith, views)
+
+pub eval::evaluate-returns-in-Net : goal.eval::evaluate-returns-in-Net
+eval::evaluate-returns-in-Net t c = grind (arith, views)
+
+pub eval::other_branch-returns-in-Some : goal.eval::other_branch-returns-in-Some
+eval::other_branch-returns-in-Some t c = grind (arith, views)
+
+pub fitting::left_place-returns-in-Choice : goal.fitting::left_place-returns-in-Choice
+fitting::left_place-returns-in-Choice t c = grind (arith, views)
+
+pub fitting::places-returns-in-empty : goal.fitting::places-returns-in-empty
+fitting::places-returns-in-empty t c = grind (arith, common_steps)
+
+pub keys::index-returns-in-Empty : goal.keys::index-returns-in-Empty
+keys::index-returns-in-Empty t c = grind (arith, views)
+
+pub keys::walk-returns-in-empty : goal.keys::walk-returns-in-empty
+keys::walk-returns-in-empty t c = grind (arith, common_steps)

@@ -2,10 +2,13 @@ use Rattle.std.proofs.Common.{◌≡◌, ◌+◌, ◌-◌, sym, ap, ◌∙◌, a
 use Rattle.std.proofs.lemmas.Result.{err_from_is_err_and}
 use Rattle.net_tree.specs.Level.{joins}
 use Rattle.net_tree.specs.View.{tree, links_of}
-use Rattle.net_model.specs.Expressions.{inside, climb, unary, links}
+use Rattle.net_model.specs.Expressions.{inside, climb, unary, links, part_at, present_at, inner_of, choice_at, items_at, hollow_at}
 use Rattle.net_model.specs.Reading.{next_is, read_as}
 use Rattle.net_model.proofs.Steps.{inside-none, inside-some, climb-low, climb-high}
 use Rattle.net_model.proofs.Turning.{all_read, one_read, no_operator, no_operand}
+use Rattle.std.proofs.lemmas.Grind.{common_steps}
+use Rattle.net_tree.proofs.Views.{views}
+use Rattle.net_model.proofs.Making.{makings}
 use Rattle.net_model.proofs.+parser.Goals as goal
 
 pub braces::braces_of-returns-then-depth-eq0-clause-value : goal.braces::braces_of-returns-then-depth-eq0-clause-value
@@ -72,3 +75,37 @@ chains::links_from-loop-alloc-preserved t c =
           c.in_ok-link.ensures.value c.in_ok-push.ensures.items c.loop-alloc.invariant.read;
       room = omega (arith, more, c.in_ok-operator.ensures.shorter, c.in_ok-operand.ensures.shorter, c.loop-alloc.invariant.room);
     }
+
+pub choices::introduced-returns-clause-mark : goal.choices::introduced-returns-clause-mark
+choices::introduced-returns-clause-mark t c = grind (arith, views)
+
+pub choices::introduced-returns-clause-value : goal.choices::introduced-returns-clause-value
+choices::introduced-returns-clause-value t c = grind (arith, views)
+
+pub choices::otherwise_of-returns-clause-value : goal.choices::otherwise_of-returns-clause-value
+unfolding part_at present_at inner_of
+choices::otherwise_of-returns-clause-value t c = grind (arith, views)
+
+pub choices::choice_inside-returns-clause-value : goal.choices::choice_inside-returns-clause-value
+unfolding choice_at inner_of
+choices::choice_inside-returns-clause-value t c = grind (arith, views)
+
+pub braces::items_inside-returns-clause-value : goal.braces::items_inside-returns-clause-value
+unfolding items_at inner_of
+braces::items_inside-returns-clause-value t c = grind (arith, makings)
+
+pub braces::hollow_inside-returns-clause-value : goal.braces::hollow_inside-returns-clause-value
+unfolding hollow_at
+braces::hollow_inside-returns-clause-value t c = grind (arith, views)
+
+pub braces::items_inside-returns-clause-shorter : goal.braces::items_inside-returns-clause-shorter
+braces::items_inside-returns-clause-shorter t c = grind (arith)
+
+pub choices::choice_inside-returns-clause-shorter : goal.choices::choice_inside-returns-clause-shorter
+choices::choice_inside-returns-clause-shorter t c = grind (arith)
+
+pub chains::chain_of-returns-clause-shorter : goal.chains::chain_of-returns-clause-shorter
+chains::chain_of-returns-clause-shorter t c = grind (arith)
+
+pub expressions::subscripts_inside-returns-clause-shorter : goal.expressions::subscripts_inside-returns-clause-shorter
+expressions::subscripts_inside-returns-clause-shorter t c = grind (arith)

@@ -22,3 +22,15 @@ returns-in-Parens t c = grind (arith, views)
 
 pub returns-in-Reduced : goal.returns-in-Reduced
 returns-in-Reduced t c = grind (arith, views)
+
+pub returns-in-Indexed-2 : goal.returns-in-Indexed-2
+returns-in-Indexed-2 t c = grind (arith, views)
+
+pub returns-in-Indexed-3 : goal.returns-in-Indexed-3
+returns-in-Indexed-3 t c = grind (arith, views)
+
+pub returns-in-Indexed-4 : goal.returns-in-Indexed-4
+returns-in-Indexed-4 t c = grind (arith, views)
+
+pub returns-in-Reduced-2 : goal.returns-in-Reduced-2
+returns-in-Reduced-2 t c = grind (arith, views)

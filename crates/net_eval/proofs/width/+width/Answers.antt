@@ -88,3 +88,12 @@ chain_width-offset_bounds-more-link-index c = grind (arith, common_steps)
 
 pub items_form-bounds-more-link-index : goal.items_form-bounds-more-link-index
 items_form-bounds-more-link-index c = grind (arith, common_steps)
+
+pub tree_width-returns-in-Indexed-2 : goal.tree_width-returns-in-Indexed-2
+tree_width-returns-in-Indexed-2 t c = grind (arith, views)
+
+pub tree_width-returns-in-Indexed-3 : goal.tree_width-returns-in-Indexed-3
+tree_width-returns-in-Indexed-3 t c = grind (arith, views)
+
+pub tree_width-returns-in-Reduced-2 : goal.tree_width-returns-in-Reduced-2
+tree_width-returns-in-Reduced-2 t c = grind (arith, views)

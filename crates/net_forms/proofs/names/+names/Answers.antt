@@ -1,3 +1,4 @@
+use Rattle.net_tree.proofs.Views.{views}
 use Rattle.std.proofs.Common.{ap, ◌∙◌, arith}
 use Rattle.std.proofs.lemmas.Grind.{common_steps}
 use Rattle.net_tree.specs.Weights.{weight}
@@ -38,3 +39,102 @@ any_arc-returns-else-names_arc c = grind (arith, common_steps)
 
 pub links_arc-returns : goal.links_arc-returns
 links_arc-returns c = grind (arith, common_steps)
+
+pub braces_arc-any_arc-requires : goal.braces_arc-any_arc-requires
+braces_arc-any_arc-requires t c = grind (arith, views)
+
+pub braces_arc-part_arc-requires : goal.braces_arc-part_arc-requires
+braces_arc-part_arc-requires t c = grind (arith, views)
+
+pub braces_arc-part_arc-requires-else-any_arc : goal.braces_arc-part_arc-requires-else-any_arc
+braces_arc-part_arc-requires-else-any_arc t c = grind (arith, views)
+
+pub braces_arc-returns-else-any_arc : goal.braces_arc-returns-else-any_arc
+braces_arc-returns-else-any_arc t c = grind (arith, views)
+
+pub braces_arc-returns-in-Empty : goal.braces_arc-returns-in-Empty
+braces_arc-returns-in-Empty t c = grind (arith, views)
+
+pub braces_arc-returns-then-any_arc : goal.braces_arc-returns-then-any_arc
+braces_arc-returns-then-any_arc t c = grind (arith, views)
+
+pub names_arc-any_arc-requires : goal.names_arc-any_arc-requires
+names_arc-any_arc-requires t c = grind (arith, views)
+
+pub names_arc-any_arc-requires-in-Chain : goal.names_arc-any_arc-requires-in-Chain
+names_arc-any_arc-requires-in-Chain t c = grind (arith, views)
+
+pub names_arc-any_arc-requires-in-Tuple : goal.names_arc-any_arc-requires-in-Tuple
+names_arc-any_arc-requires-in-Tuple t c = grind (arith, views)
+
+pub names_arc-braces_arc-requires : goal.names_arc-braces_arc-requires
+names_arc-braces_arc-requires t c = grind (arith, views)
+
+pub names_arc-braces_arc-requires-in-Reduced : goal.names_arc-braces_arc-requires-in-Reduced
+names_arc-braces_arc-requires-in-Reduced t c = grind (arith, views)
+
+pub names_arc-names_arc-requires : goal.names_arc-names_arc-requires
+names_arc-names_arc-requires t c = grind (arith, views)
+
+pub names_arc-names_arc-requires-else-braces_arc : goal.names_arc-names_arc-requires-else-braces_arc
+names_arc-names_arc-requires-else-braces_arc t c = grind (arith, views)
+
+pub names_arc-names_arc-requires-in-Choice : goal.names_arc-names_arc-requires-in-Choice
+names_arc-names_arc-requires-in-Choice t c = grind (arith, views)
+
+pub names_arc-names_arc-requires-in-Negated : goal.names_arc-names_arc-requires-in-Negated
+names_arc-names_arc-requires-in-Negated t c = grind (arith, views)
+
+pub names_arc-names_arc-requires-in-Signed : goal.names_arc-names_arc-requires-in-Signed
+names_arc-names_arc-requires-in-Signed t c = grind (arith, views)
+
+pub names_arc-part_arc-requires : goal.names_arc-part_arc-requires
+names_arc-part_arc-requires t c = grind (arith, views)
+
+pub names_arc-returns-else-braces_arc : goal.names_arc-returns-else-braces_arc
+names_arc-returns-else-braces_arc t c = grind (arith, views)
+
+pub names_arc-returns-else-has : goal.names_arc-returns-else-has
+names_arc-returns-else-has t c = grind (arith, views)
+
+pub names_arc-returns-else-names_arc-2 : goal.names_arc-returns-else-names_arc-2
+names_arc-returns-else-names_arc-2 t c = grind (arith, views)
+
+pub names_arc-returns-in-Braced : goal.names_arc-returns-in-Braced
+names_arc-returns-in-Braced t c = grind (arith, views)
+
+pub names_arc-returns-in-Chain : goal.names_arc-returns-in-Chain
+names_arc-returns-in-Chain t c = grind (arith, views)
+
+pub names_arc-returns-in-Leaf : goal.names_arc-returns-in-Leaf
+names_arc-returns-in-Leaf t c = grind (arith, views)
+
+pub names_arc-returns-in-Negated : goal.names_arc-returns-in-Negated
+names_arc-returns-in-Negated t c = grind (arith, views)
+
+pub names_arc-returns-in-Net : goal.names_arc-returns-in-Net
+names_arc-returns-in-Net t c = grind (arith, views)
+
+pub names_arc-returns-in-Parens : goal.names_arc-returns-in-Parens
+names_arc-returns-in-Parens t c = grind (arith, views)
+
+pub names_arc-returns-in-Signed : goal.names_arc-returns-in-Signed
+names_arc-returns-in-Signed t c = grind (arith, views)
+
+pub names_arc-returns-in-Tuple : goal.names_arc-returns-in-Tuple
+names_arc-returns-in-Tuple t c = grind (arith, views)
+
+pub names_arc-returns-then-braces_arc : goal.names_arc-returns-then-braces_arc
+names_arc-returns-then-braces_arc t c = grind (arith, views)
+
+pub names_arc-returns-then-has : goal.names_arc-returns-then-has
+names_arc-returns-then-has t c = grind (arith, views)
+
+pub names_arc-returns-then-names_arc-2 : goal.names_arc-returns-then-names_arc-2
+names_arc-returns-then-names_arc-2 t c = grind (arith, views)
+
+pub part_arc-names_arc-requires : goal.part_arc-names_arc-requires
+part_arc-names_arc-requires t c = grind (arith, views)
+
+pub part_arc-returns-in-Some : goal.part_arc-returns-in-Some
+part_arc-returns-in-Some t c = grind (arith, views)

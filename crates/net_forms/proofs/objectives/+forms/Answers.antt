@@ -1,7 +1,7 @@
 use Rattle.std.proofs.Common.{ap, sym, ◌∙◌, ◌*◌, ◌+◌, drop, arith}
 use Rattle.std.proofs.lemmas.Grind.{common_steps}
 use Rattle.std.proofs.lemmas.Result.{err_from_is_err_and}
-use Rattle.net_tree.proofs.Views.{tree-tuple, tree-negated}
+use Rattle.net_tree.proofs.Views.{tree-tuple, tree-negated, views}
 use Rattle.net_tree.specs.Spans.{span_of}
 use Rattle.net_tree.specs.View.{tree}
 use Rattle.net_eval.specs.declared.row.Row.{Row}
@@ -115,3 +115,36 @@ chained-offset_bounds-links-link-index c = grind (arith, common_steps)
 
 pub total-returns-in_err-sum : goal.total-returns-in_err-sum
 total-returns-in_err-sum c = grind (arith, common_steps)
+
+pub arcs_term-chain-requires : goal.arcs_term-chain-requires
+arcs_term-chain-requires t c = grind (arith, views)
+
+pub arcs_term-choice-requires : goal.arcs_term-choice-requires
+arcs_term-choice-requires t c = grind (arith, views)
+
+pub arcs_term-reduced-requires : goal.arcs_term-reduced-requires
+arcs_term-reduced-requires t c = grind (arith, views)
+
+pub arcs_term-returns-in-Braced : goal.arcs_term-returns-in-Braced
+arcs_term-returns-in-Braced t c = grind (arith, views)
+
+pub arcs_term-returns-in-Chain : goal.arcs_term-returns-in-Chain
+arcs_term-returns-in-Chain t c = grind (arith, views)
+
+pub arcs_term-returns-in-Leaf : goal.arcs_term-returns-in-Leaf
+arcs_term-returns-in-Leaf t c = grind (arith, views)
+
+pub arcs_term-returns-in-Net : goal.arcs_term-returns-in-Net
+arcs_term-returns-in-Net t c = grind (arith, views)
+
+pub arcs_term-signed-requires : goal.arcs_term-signed-requires
+arcs_term-signed-requires t c = grind (arith, views)
+
+pub arcs_term-term_of-requires : goal.arcs_term-term_of-requires
+arcs_term-term_of-requires t c = grind (arith, views)
+
+pub other_branch-returns-in-Some : goal.other_branch-returns-in-Some
+other_branch-returns-in-Some t c = grind (arith, views)
+
+pub other_branch-term_of-requires : goal.other_branch-term_of-requires
+other_branch-term_of-requires t c = grind (arith, views)

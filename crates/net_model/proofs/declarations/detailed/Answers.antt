@@ -1,3 +1,4 @@
+use Rattle.std.proofs.Common.{arith}
 use Rattle.std.proofs.lemmas.Result.{err_from_is_err_and}
 use Rattle.net_tree.specs.View.{indexing_of}
 use Rattle.net_model.proofs.Storing.{stored}
@@ -11,3 +12,6 @@ returns-in_err-phrased-clause-value c made =
 pub returns-clause-value : goal.returns-clause-value
 returns-clause-value c made =
     stored _ c.new.result c.new.ensures.value c.new.ensures.memory (rw c.into_inner.ensures (rw c.into_inner-said.ensures (rw c.in_ok-name.ensures.value (rw c.in_ok-indexing.ensures.value (c.in_ok-phrased.ensures.value (λ s e. made c.in_ok-name.name (indexing_of c.in_ok-indexing.indexing) s e))))))
+
+pub returns-clause-shorter : goal.returns-clause-shorter
+returns-clause-shorter c = grind (arith)

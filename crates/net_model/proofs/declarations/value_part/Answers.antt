@@ -15,3 +15,7 @@ returns-in_default-clause-value c = grind (arith, common_steps, views)
 pub returns-then-not-next_is-clause-shorter : goal.returns-then-not-next_is-clause-shorter
 unfolding part_at present_at
 returns-then-not-next_is-clause-shorter c = grind (arith, common_steps, views)
+
+pub returns-clause-value : goal.returns-clause-value
+unfolding part_at present_at
+returns-clause-value c = grind (arith, views)

@@ -11,3 +11,6 @@ returns-in-Nothing-clause-value c = grind (arith, common_steps, views)
 
 pub returns-in-Nothing-clause-shorter : goal.returns-in-Nothing-clause-shorter
 returns-in-Nothing-clause-shorter c = grind (arith, common_steps, views)
+
+pub returns-in_ok-number-in-Number-clause-value : goal.returns-in_ok-number-in-Number-clause-value
+returns-in_ok-number-in-Number-clause-value c = grind (arith, views)

@@ -5,3 +5,6 @@ use Rattle.net_model.proofs.trees.linked.Goals as goal
 
 pub returns-clause-memory : goal.returns-clause-memory
 returns-clause-memory c = grind (arith, common_steps, link_made)
+
+pub returns-clause-value : goal.returns-clause-value
+returns-clause-value c = grind (arith, link_made)
