@@ -348,3 +348,69 @@ keys::index-returns-in-Empty t c = grind (arith, views)
 
 pub keys::walk-returns-in-empty : goal.keys::walk-returns-in-empty
 keys::walk-returns-in-empty t c = grind (arith, common_steps)
+
+pub eval::braced-returns : goal.eval::braced-returns
+eval::braced-returns t c = grind (arith)
+
+pub eval::chain-returns-else-begins_range : goal.eval::chain-returns-else-begins_range
+eval::chain-returns-else-begins_range t c = grind (arith)
+
+pub eval::choice-returns-else-branch : goal.eval::choice-returns-else-branch
+eval::choice-returns-else-branch t c = grind (arith)
+
+pub eval::choice-returns-then-branch : goal.eval::choice-returns-then-branch
+eval::choice-returns-then-branch t c = grind (arith)
+
+pub eval::evaluate_all-returns : goal.eval::evaluate_all-returns
+eval::evaluate_all-returns t c = grind (arith)
+
+pub eval::joined-returns-in_ok-other-in-None : goal.eval::joined-returns-in_ok-other-in-None
+eval::joined-returns-in_ok-other-in-None t c = grind (arith)
+
+pub eval::reduced-returns : goal.eval::reduced-returns
+eval::reduced-returns t c = grind (arith)
+
+pub eval::subscripted-returns : goal.eval::subscripted-returns
+eval::subscripted-returns t c = grind (arith)
+
+pub fitting::components-returns-in-empty : goal.fitting::components-returns-in-empty
+fitting::components-returns-in-empty t c = grind (arith)
+
+pub fitting::fit-returns-in-Some : goal.fitting::fit-returns-in-Some
+fitting::fit-returns-in-Some t c = grind (arith)
+
+pub fitting::fit_all-returns-in-Err : goal.fitting::fit_all-returns-in-Err
+fitting::fit_all-returns-in-Err t c = grind (arith)
+
+pub fitting::fit_all-returns-in-Ok-Some : goal.fitting::fit_all-returns-in-Ok-Some
+fitting::fit_all-returns-in-Ok-Some t c = grind (arith)
+
+pub fitting::place_at-returns-in-None : goal.fitting::place_at-returns-in-None
+fitting::place_at-returns-in-None t c = grind (arith)
+
+pub fitting::places-returns-in-empty-members : goal.fitting::places-returns-in-empty-members
+fitting::places-returns-in-empty-members t c = grind (arith)
+
+pub keys::index_items-choose-requires : goal.keys::index_items-choose-requires
+keys::index_items-choose-requires t c = grind (arith)
+
+pub keys::index_items-returns-in_ok-tuples-in-Some : goal.keys::index_items-returns-in_ok-tuples-in-Some
+keys::index_items-returns-in_ok-tuples-in-Some t c = grind (arith)
+
+pub keys::index_items-returns-in_ok-value-in-None : goal.keys::index_items-returns-in_ok-value-in-None
+keys::index_items-returns-in_ok-value-in-None t c = grind (arith)
+
+pub keys::item_tuples-choose-requires : goal.keys::item_tuples-choose-requires
+keys::item_tuples-choose-requires t c = grind (arith)
+
+pub keys::item_tuples-returns-in-Some : goal.keys::item_tuples-returns-in-Some
+keys::item_tuples-returns-in-Some t c = grind (arith)
+
+pub keys::onward-returns-in-Ok-Some : goal.keys::onward-returns-in-Ok-Some
+keys::onward-returns-in-Ok-Some t c = grind (arith)
+
+pub keys::through-loop-tuple-smaller : goal.keys::through-loop-tuple-smaller
+keys::through-loop-tuple-smaller t c = grind (arith)
+
+pub keys::walk_item-returns : goal.keys::walk_item-returns
+keys::walk_item-returns t c = grind (arith)

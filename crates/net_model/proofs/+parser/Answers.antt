@@ -2,7 +2,7 @@ use Rattle.std.proofs.Common.{◌≡◌, ◌+◌, ◌-◌, sym, ap, ◌∙◌, a
 use Rattle.std.proofs.lemmas.Result.{err_from_is_err_and}
 use Rattle.net_tree.specs.Level.{joins}
 use Rattle.net_tree.specs.View.{tree, links_of}
-use Rattle.net_model.specs.Expressions.{inside, climb, unary, links, part_at, present_at, inner_of, choice_at, items_at, hollow_at}
+use Rattle.net_model.specs.Expressions.{inside, climb, unary, links, part_at, present_at, inner_of, choice_at, items_at, hollow_at, braces_at, braces, reduced_at, chain_at, if_at, wide, named_at, negated_at, parens_from, parens_at, subscripts_at, unary_at}
 use Rattle.net_model.specs.Reading.{next_is, read_as}
 use Rattle.net_model.proofs.Steps.{inside-none, inside-some, climb-low, climb-high}
 use Rattle.net_model.proofs.Turning.{all_read, one_read, no_operator, no_operand}
@@ -109,3 +109,160 @@ chains::chain_of-returns-clause-shorter t c = grind (arith)
 
 pub expressions::subscripts_inside-returns-clause-shorter : goal.expressions::subscripts_inside-returns-clause-shorter
 expressions::subscripts_inside-returns-clause-shorter t c = grind (arith)
+
+pub braces::braces_inside-returns-else-next_is_hollow-clause-value : goal.braces::braces_inside-returns-else-next_is_hollow-clause-value
+unfolding braces_at
+braces::braces_inside-returns-else-next_is_hollow-clause-value t c = grind (arith)
+
+pub braces::braces_inside-returns-then-next_is_hollow-clause-value : goal.braces::braces_inside-returns-then-next_is_hollow-clause-value
+unfolding braces_at
+braces::braces_inside-returns-then-next_is_hollow-clause-value t c = grind (arith)
+
+pub braces::braces_opened-returns-clause-shorter : goal.braces::braces_opened-returns-clause-shorter
+braces::braces_opened-returns-clause-shorter t c = grind (arith)
+
+pub braces::braces_opened-returns-clause-value : goal.braces::braces_opened-returns-clause-value
+unfolding braces
+braces::braces_opened-returns-clause-value t c = grind (arith)
+
+pub braces::filter_of-returns-clause-shorter : goal.braces::filter_of-returns-clause-shorter
+braces::filter_of-returns-clause-shorter t c = grind (arith)
+
+pub braces::filter_of-returns-clause-value : goal.braces::filter_of-returns-clause-value
+unfolding part_at present_at inner_of
+braces::filter_of-returns-clause-value t c = grind (arith, views)
+
+pub braces::filter_of-returns-in_default-clause-value : goal.braces::filter_of-returns-in_default-clause-value
+unfolding part_at present_at inner_of
+braces::filter_of-returns-in_default-clause-value t c = grind (arith, views)
+
+pub braces::filter_of-returns-then-not-next_is-clause-value : goal.braces::filter_of-returns-then-not-next_is-clause-value
+unfolding part_at present_at inner_of
+braces::filter_of-returns-then-not-next_is-clause-value t c = grind (arith, views)
+
+pub braces::hollow_inside-returns-clause-shorter : goal.braces::hollow_inside-returns-clause-shorter
+braces::hollow_inside-returns-clause-shorter t c = grind (arith)
+
+pub braces::reduced_inside-returns-clause-shorter : goal.braces::reduced_inside-returns-clause-shorter
+braces::reduced_inside-returns-clause-shorter t c = grind (arith)
+
+pub braces::reduced_inside-returns-clause-value : goal.braces::reduced_inside-returns-clause-value
+unfolding reduced_at inner_of
+braces::reduced_inside-returns-clause-value t c = grind (arith)
+
+pub chains::chain_of-returns-clause-value : goal.chains::chain_of-returns-clause-value
+unfolding chain_at
+chains::chain_of-returns-clause-value t c = grind (arith)
+
+pub chains::links_from-loop-alloc-init : goal.chains::links_from-loop-alloc-init
+chains::links_from-loop-alloc-init t c = grind (arith)
+
+pub chains::links_from-loop-alloc-smaller : goal.chains::links_from-loop-alloc-smaller
+chains::links_from-loop-alloc-smaller t c = grind (arith)
+
+pub choices::if_inside-returns-in-None-clause-value : goal.choices::if_inside-returns-in-None-clause-value
+unfolding if_at
+choices::if_inside-returns-in-None-clause-value t c = grind (arith)
+
+pub choices::introduced-returns-clause-shorter : goal.choices::introduced-returns-clause-shorter
+choices::introduced-returns-clause-shorter t c = grind (arith)
+
+pub choices::otherwise_of-returns-clause-shorter : goal.choices::otherwise_of-returns-clause-shorter
+choices::otherwise_of-returns-clause-shorter t c = grind (arith)
+
+pub choices::otherwise_of-returns-in_default-clause-value : goal.choices::otherwise_of-returns-in_default-clause-value
+unfolding part_at present_at inner_of
+choices::otherwise_of-returns-in_default-clause-value t c = grind (arith, views)
+
+pub choices::otherwise_of-returns-then-not-next_is-clause-value : goal.choices::otherwise_of-returns-then-not-next_is-clause-value
+unfolding part_at present_at inner_of
+choices::otherwise_of-returns-then-not-next_is-clause-value t c = grind (arith, views)
+
+pub choices::wide_of-returns-then-next_is-clause-value : goal.choices::wide_of-returns-then-next_is-clause-value
+unfolding wide
+choices::wide_of-returns-then-next_is-clause-value t c = grind (arith)
+
+pub expressions::named_inside-returns-else-next_is-clause-shorter : goal.expressions::named_inside-returns-else-next_is-clause-shorter
+expressions::named_inside-returns-else-next_is-clause-shorter t c = grind (arith)
+
+pub expressions::named_inside-returns-else-next_is-clause-value : goal.expressions::named_inside-returns-else-next_is-clause-value
+unfolding named_at
+expressions::named_inside-returns-else-next_is-clause-value t c = grind (arith, views)
+
+pub expressions::named_inside-returns-then-next_is-clause-value : goal.expressions::named_inside-returns-then-next_is-clause-value
+unfolding named_at
+expressions::named_inside-returns-then-next_is-clause-value t c = grind (arith, views)
+
+pub expressions::negated_inside-returns-clause-shorter : goal.expressions::negated_inside-returns-clause-shorter
+expressions::negated_inside-returns-clause-shorter t c = grind (arith)
+
+pub expressions::negated_inside-returns-clause-value : goal.expressions::negated_inside-returns-clause-value
+unfolding negated_at inner_of
+expressions::negated_inside-returns-clause-value t c = grind (arith)
+
+pub expressions::parens_from-returns-else-is_sum-clause-value : goal.expressions::parens_from-returns-else-is_sum-clause-value
+unfolding parens_from inner_of
+expressions::parens_from-returns-else-is_sum-clause-value t c = grind (arith)
+
+pub expressions::parens_from-returns-in_ok-more-clause-shorter : goal.expressions::parens_from-returns-in_ok-more-clause-shorter
+expressions::parens_from-returns-in_ok-more-clause-shorter t c = grind (arith)
+
+pub expressions::parens_from-returns-in_ok-more-clause-value : goal.expressions::parens_from-returns-in_ok-more-clause-value
+unfolding parens_from inner_of
+expressions::parens_from-returns-in_ok-more-clause-value t c = grind (arith)
+
+pub expressions::parens_inside-returns-clause-shorter : goal.expressions::parens_inside-returns-clause-shorter
+expressions::parens_inside-returns-clause-shorter t c = grind (arith)
+
+pub expressions::parens_inside-returns-clause-value : goal.expressions::parens_inside-returns-clause-value
+unfolding parens_at inner_of
+expressions::parens_inside-returns-clause-value t c = grind (arith)
+
+pub expressions::subscripts_inside-returns-clause-value : goal.expressions::subscripts_inside-returns-clause-value
+unfolding subscripts_at inner_of
+expressions::subscripts_inside-returns-clause-value t c = grind (arith)
+
+pub expressions::subscripts_inside-returns-in_default-clause-value : goal.expressions::subscripts_inside-returns-in_default-clause-value
+unfolding subscripts_at inner_of
+expressions::subscripts_inside-returns-in_default-clause-value t c = grind (arith)
+
+pub expressions::unary_inside-returns-in-Name-clause-shorter : goal.expressions::unary_inside-returns-in-Name-clause-shorter
+expressions::unary_inside-returns-in-Name-clause-shorter t c = grind (arith)
+
+pub expressions::unary_inside-returns-in-Not-clause-shorter : goal.expressions::unary_inside-returns-in-Not-clause-shorter
+expressions::unary_inside-returns-in-Not-clause-shorter t c = grind (arith)
+
+pub expressions::unary_inside-returns-in-Number-clause-shorter : goal.expressions::unary_inside-returns-in-Number-clause-shorter
+expressions::unary_inside-returns-in-Number-clause-shorter t c = grind (arith)
+
+pub expressions::unary_inside-returns-in-Number-clause-value : goal.expressions::unary_inside-returns-in-Number-clause-value
+unfolding unary unary_at inner_of
+expressions::unary_inside-returns-in-Number-clause-value t c = grind (arith, views)
+
+pub expressions::unary_inside-returns-in-Open-clause-shorter : goal.expressions::unary_inside-returns-in-Open-clause-shorter
+expressions::unary_inside-returns-in-Open-clause-shorter t c = grind (arith)
+
+pub expressions::unary_inside-returns-in-Reduction-clause-shorter : goal.expressions::unary_inside-returns-in-Reduction-clause-shorter
+expressions::unary_inside-returns-in-Reduction-clause-shorter t c = grind (arith)
+
+pub expressions::unary_inside-returns-in_default-clause-value : goal.expressions::unary_inside-returns-in_default-clause-value
+unfolding unary unary_at inner_of
+expressions::unary_inside-returns-in_default-clause-value t c = grind (arith, views)
+
+pub expressions::unary_inside-returns-in_default-role_of : goal.expressions::unary_inside-returns-in_default-role_of
+unfolding unary unary_at inner_of
+expressions::unary_inside-returns-in_default-role_of t c = grind (arith, views)
+
+pub expressions::unary_inside-returns-in_ok-braces-in-OpenBrace-clause-shorter : goal.expressions::unary_inside-returns-in_ok-braces-in-OpenBrace-clause-shorter
+expressions::unary_inside-returns-in_ok-braces-in-OpenBrace-clause-shorter t c = grind (arith)
+
+pub expressions::unary_inside-returns-in_ok-braces-in-OpenBrace-clause-value : goal.expressions::unary_inside-returns-in_ok-braces-in-OpenBrace-clause-value
+unfolding unary unary_at inner_of
+expressions::unary_inside-returns-in_ok-braces-in-OpenBrace-clause-value t c = grind (arith, views)
+
+pub expressions::unary_inside-returns-in_ok-operand-in-Sign-clause-shorter : goal.expressions::unary_inside-returns-in_ok-operand-in-Sign-clause-shorter
+expressions::unary_inside-returns-in_ok-operand-in-Sign-clause-shorter t c = grind (arith)
+
+pub expressions::unary_inside-returns-in_ok-operand-in-Sign-clause-value : goal.expressions::unary_inside-returns-in_ok-operand-in-Sign-clause-value
+unfolding unary unary_at inner_of
+expressions::unary_inside-returns-in_ok-operand-in-Sign-clause-value t c = grind (arith, views)

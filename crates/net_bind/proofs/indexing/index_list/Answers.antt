@@ -4,3 +4,6 @@ use Rattle.net_bind.proofs.indexing.index_list.Goals as goal
 
 pub returns : goal.returns
 returns c = grind (arith, common_steps)
+
+pub returns-in-Ok : goal.returns-in-Ok
+returns-in-Ok c = grind (arith)

@@ -10,3 +10,6 @@ same-index c = grind (arith, common_steps)
 
 pub filled-requires : goal.filled-requires
 filled-requires c = grind (arith, common_steps)
+
+pub returns : goal.returns
+returns c = grind (arith)

@@ -10,3 +10,6 @@ same-set c = grind (arith, common_steps)
 
 pub returns-in_err-allowed : goal.returns-in_err-allowed
 returns-in_err-allowed c = grind (arith, common_steps)
+
+pub returns : goal.returns
+returns c = grind (arith)

@@ -7,3 +7,6 @@ returns-in-Plain c = grind (arith, common_steps)
 
 pub returns-in-Priced : goal.returns-in-Priced
 returns-in-Priced c = grind (arith, common_steps)
+
+pub returns-in_ok-phrase-in-Valued : goal.returns-in_ok-phrase-in-Valued
+returns-in_ok-phrase-in-Valued c = grind (arith)

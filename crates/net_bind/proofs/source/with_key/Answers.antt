@@ -10,3 +10,6 @@ returns-in-None c = grind (arith, common_steps)
 
 pub returns-in-Some : goal.returns-in-Some
 returns-in-Some c = grind (arith, common_steps)
+
+pub with_value-requires : goal.with_value-requires
+with_value-requires c = grind (arith)

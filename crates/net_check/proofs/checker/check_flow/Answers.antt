@@ -77,3 +77,6 @@ returns-then-value-cost-clause-yes c = grind (arith, common_steps)
 
 pub returns-in-Some-clause-yes : goal.returns-in-Some-clause-yes
 returns-in-Some-clause-yes c = grind (arith, common_steps)
+
+pub returns-then-value-cost-clause-no : goal.returns-then-value-cost-clause-no
+returns-then-value-cost-clause-no c = grind (arith)

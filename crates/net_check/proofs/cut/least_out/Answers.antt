@@ -34,3 +34,6 @@ across-total-requires-clause-into c = grind (arith, common_steps)
 
 pub across-total-requires-clause-arc : goal.across-total-requires-clause-arc
 across-total-requires-clause-arc c = grind (arith, common_steps)
+
+pub across-total-requires-clause-out : goal.across-total-requires-clause-out
+across-total-requires-clause-out c = grind (arith)

@@ -34,3 +34,6 @@ across-total-requires-clause-out c = grind (arith, common_steps)
 
 pub loop-arc-init : goal.loop-arc-init
 loop-arc-init c = grind (arith, common_steps)
+
+pub across-total-requires-clause-into : goal.across-total-requires-clause-into
+across-total-requires-clause-into c = grind (arith)

@@ -45,3 +45,12 @@ returns-then-count-eq0-clause-flag g c = search rules
 
 pub unreachable-requires : goal.unreachable-requires
 unreachable-requires g c = search rules
+
+pub loop-init : goal.loop-init
+loop-init c = grind (arith)
+
+pub returns-in_err-count-clause-failed : goal.returns-in_err-count-clause-failed
+returns-in_err-count-clause-failed c = grind (arith)
+
+pub returns-in_err-extend_from_slice-clause-flag : goal.returns-in_err-extend_from_slice-clause-flag
+returns-in_err-extend_from_slice-clause-flag c = grind (arith)

@@ -7,3 +7,9 @@ returns-in-None c = grind (arith, common_steps)
 
 pub returns-else-len-eq0 : goal.returns-else-len-eq0
 returns-else-len-eq0 c = grind (arith, common_steps)
+
+pub returns-else-len-key_count : goal.returns-else-len-key_count
+returns-else-len-key_count c = grind (arith)
+
+pub returns-then-len-key_count : goal.returns-then-len-key_count
+returns-then-len-key_count c = grind (arith)

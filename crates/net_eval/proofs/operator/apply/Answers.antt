@@ -1,4 +1,4 @@
-use Rattle.std.proofs.Common.{ap}
+use Rattle.std.proofs.Common.{ap, arith}
 use Rattle.net_tree.specs.Spans.{span_of}
 use Rattle.net_tree.specs.View.{tree}
 use Rattle.net_eval.specs.Operators.{apply}
@@ -28,3 +28,6 @@ returns-in-Within c =
 pub returns-in-NotWithin : goal.returns-in-NotWithin
 returns-in-NotWithin c =
     answers_by _ _ _ (ap (λ o. apply o (span_of (tree c.args.whole.now)) c.args.x.now c.args.y.now) c.in-NotWithin.is) (c.as_denial-in-NotWithin.ensures _ c.contained-in-NotWithin.ensures)
+
+pub returns-in-Plus : goal.returns-in-Plus
+returns-in-Plus c = grind (arith)

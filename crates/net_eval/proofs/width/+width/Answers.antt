@@ -97,3 +97,9 @@ tree_width-returns-in-Indexed-3 t c = grind (arith, views)
 
 pub tree_width-returns-in-Reduced-2 : goal.tree_width-returns-in-Reduced-2
 tree_width-returns-in-Reduced-2 t c = grind (arith, views)
+
+pub filled_width-returns-in_ok-form : goal.filled_width-returns-in_ok-form
+filled_width-returns-in_ok-form t c = grind (arith)
+
+pub with_item-returns-in-Some : goal.with_item-returns-in-Some
+with_item-returns-in-Some t c = grind (arith)

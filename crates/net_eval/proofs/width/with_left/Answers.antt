@@ -12,3 +12,9 @@ returns-in-Tuple c =
 
 pub returns-in-Choice : goal.returns-in-Choice
 returns-in-Choice c = grind (arith, common_steps, views)
+
+pub returns-in-Braced : goal.returns-in-Braced
+returns-in-Braced c = grind (arith, views)
+
+pub returns-in-Leaf : goal.returns-in-Leaf
+returns-in-Leaf c = grind (arith, views)

@@ -148,3 +148,12 @@ other_branch-returns-in-Some t c = grind (arith, views)
 
 pub other_branch-term_of-requires : goal.other_branch-term_of-requires
 other_branch-term_of-requires t c = grind (arith, views)
+
+pub joined-returns : goal.joined-returns
+joined-returns t c = grind (arith)
+
+pub term_of-returns-in_ok-number : goal.term_of-returns-in_ok-number
+term_of-returns-in_ok-number t c = grind (arith)
+
+pub total-gather-requires : goal.total-gather-requires
+total-gather-requires t c = grind (arith)

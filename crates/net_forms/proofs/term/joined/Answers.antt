@@ -18,3 +18,11 @@ returns-in-Mod c = grind (arith, common_steps)
 pub returns-in-Div : goal.returns-in-Div
 unfolding is_small
 returns-in-Div c = grind (arith, common_steps)
+
+pub returns-in-Other : goal.returns-in-Other
+unfolding is_small
+returns-in-Other c = grind (arith)
+
+pub returns-in-Plus : goal.returns-in-Plus
+unfolding is_small
+returns-in-Plus c = grind (arith)

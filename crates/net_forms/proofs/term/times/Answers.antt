@@ -10,3 +10,9 @@ scaled-requires-then-is_number-2 c = grind (arith, common_steps)
 
 pub returns-else-is_number-2 : goal.returns-else-is_number-2
 returns-else-is_number-2 c = grind (arith, common_steps)
+
+pub returns-then-is_number : goal.returns-then-is_number
+returns-then-is_number c = grind (arith)
+
+pub returns-then-is_number-2 : goal.returns-then-is_number-2
+returns-then-is_number-2 c = grind (arith)

@@ -14,3 +14,7 @@ finished-requires c = drawn_fit (option_copied c.args.wanted.now) c.args.world.n
 pub draw-requires : goal.draw-requires
 unfolding network
 draw-requires c = grind (arith, common_steps)
+
+pub returns : goal.returns
+unfolding network
+returns c = grind (arith)

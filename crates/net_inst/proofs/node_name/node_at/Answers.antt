@@ -7,3 +7,6 @@ returns-then-len-key_count c = grind (arith, common_steps)
 
 pub returns-else-len-key_count : goal.returns-else-len-key_count
 returns-else-len-key_count c = grind (arith, common_steps)
+
+pub returns-in_ok-detail-in-None : goal.returns-in_ok-detail-in-None
+returns-in_ok-detail-in-None c = grind (arith)

@@ -4,3 +4,9 @@ use Rattle.net_inst.proofs.node_name.node_named.Goals as goal
 
 pub returns-in-None : goal.returns-in-None
 returns-in-None c = grind (arith, common_steps)
+
+pub returns-in-Some-default-None : goal.returns-in-Some-default-None
+returns-in-Some-default-None c = grind (arith)
+
+pub returns-in-Some-default-Some : goal.returns-in-Some-default-Some
+returns-in-Some-default-Some c = grind (arith)

@@ -10,3 +10,6 @@ returns-else-is_goal c = grind (arith, common_steps)
 
 pub returns-in-Valued : goal.returns-in-Valued
 returns-in-Valued c = grind (arith, common_steps)
+
+pub returns-then-is_goal : goal.returns-then-is_goal
+returns-then-is_goal c = grind (arith)

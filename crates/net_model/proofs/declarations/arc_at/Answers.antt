@@ -2,6 +2,7 @@ use Rattle.std.proofs.lemmas.Result.{err_from_is_err_and}
 use Rattle.net_tree.specs.Tree.{arc}
 use Rattle.net_model.specs.Declarations.{arc_at}
 use Rattle.net_model.proofs.Storing.{stored}
+use Rattle.std.proofs.Common.{arith}
 use Rattle.net_model.proofs.declarations.arc_at.Goals as goal
 
 pub returns-in_err-detailed-clause-value : goal.returns-in_err-detailed-clause-value
@@ -14,3 +15,6 @@ pub returns-clause-value : goal.returns-clause-value
 unfolding arc_at
 returns-clause-value c =
     stored _ c.new.result c.new.ensures.value c.new.ensures.memory (rw c.into_inner-name.ensures (c.in_ok-detailed.ensures.value (λ n b s e. arc c.args.word n b s e)))
+
+pub returns-clause-shorter : goal.returns-clause-shorter
+returns-clause-shorter c = grind (arith)

@@ -19,3 +19,6 @@ returns-then-not-next_is-clause-shorter c = grind (arith, common_steps, views)
 pub returns-clause-value : goal.returns-clause-value
 unfolding part_at present_at
 returns-clause-value c = grind (arith, views)
+
+pub returns-clause-shorter : goal.returns-clause-shorter
+returns-clause-shorter c = grind (arith)

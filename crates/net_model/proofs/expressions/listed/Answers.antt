@@ -12,3 +12,6 @@ returns-then-is_none-clause-value c = grind (arith, common_steps, views, makings
 
 pub returns-then-is_none-clause-shorter : goal.returns-then-is_none-clause-shorter
 returns-then-is_none-clause-shorter c = grind (arith, common_steps, views, makings)
+
+pub returns-clause-shorter : goal.returns-clause-shorter
+returns-clause-shorter c = grind (arith)

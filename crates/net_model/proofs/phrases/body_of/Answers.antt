@@ -14,3 +14,33 @@ returns-in-Nothing-clause-shorter c = grind (arith, common_steps, views)
 
 pub returns-in_ok-number-in-Number-clause-value : goal.returns-in_ok-number-in-Number-clause-value
 returns-in_ok-number-in-Number-clause-value c = grind (arith, views)
+
+pub returns-in_ok-climb_to-in-Set-clause-shorter : goal.returns-in_ok-climb_to-in-Set-clause-shorter
+returns-in_ok-climb_to-in-Set-clause-shorter c = grind (arith)
+
+pub returns-in_ok-climb_to-in-Set-clause-value : goal.returns-in_ok-climb_to-in-Set-clause-value
+returns-in_ok-climb_to-in-Set-clause-value c = grind (arith, views)
+
+pub returns-in_ok-climb_to-in-Sum-clause-shorter : goal.returns-in_ok-climb_to-in-Sum-clause-shorter
+returns-in_ok-climb_to-in-Sum-clause-shorter c = grind (arith)
+
+pub returns-in_ok-climb_to-in-Sum-clause-value : goal.returns-in_ok-climb_to-in-Sum-clause-value
+returns-in_ok-climb_to-in-Sum-clause-value c = grind (arith, views)
+
+pub returns-in_ok-named_of-in-Node-clause-shorter : goal.returns-in_ok-named_of-in-Node-clause-shorter
+returns-in_ok-named_of-in-Node-clause-shorter c = grind (arith)
+
+pub returns-in_ok-named_of-in-Node-clause-value : goal.returns-in_ok-named_of-in-Node-clause-value
+returns-in_ok-named_of-in-Node-clause-value c = grind (arith, views)
+
+pub returns-in_ok-price-in-Price-clause-shorter : goal.returns-in_ok-price-in-Price-clause-shorter
+returns-in_ok-price-in-Price-clause-shorter c = grind (arith)
+
+pub returns-in_ok-price-in-Price-clause-value : goal.returns-in_ok-price-in-Price-clause-value
+returns-in_ok-price-in-Price-clause-value c = grind (arith, views)
+
+pub returns-in_ok-wide_of-in-Value-clause-shorter : goal.returns-in_ok-wide_of-in-Value-clause-shorter
+returns-in_ok-wide_of-in-Value-clause-shorter c = grind (arith)
+
+pub returns-in_ok-wide_of-in-Value-clause-value : goal.returns-in_ok-wide_of-in-Value-clause-value
+returns-in_ok-wide_of-in-Value-clause-value c = grind (arith, views)

@@ -79,3 +79,9 @@ returns-clause-corresponds c =
 
 pub of-requires-2-clause-len : goal.of-requires-2-clause-len
 of-requires-2-clause-len c = grind (arith, common_steps)
+
+pub of-requires-2-clause-sums : goal.of-requires-2-clause-sums
+of-requires-2-clause-sums c = grind (arith)
+
+pub returns-clause-value : goal.returns-clause-value
+returns-clause-value c = grind (arith)

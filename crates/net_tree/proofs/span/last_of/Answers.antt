@@ -12,3 +12,12 @@ returns-in-len1-up-clause-last c = last_is c.args.links.now c.link-item.result _
 
 pub returns-in-len1-up-clause-lighter : goal.returns-in-len1-up-clause-lighter
 returns-in-len1-up-clause-lighter c = omega (arith, last_lighter c.args.links.now c.link-item.result c.in-len1-up.len_at_least c.link-item.is)
+
+pub bounds-links-links : goal.bounds-links-links
+bounds-links-links c = grind (arith)
+
+pub offset_bounds-links-links : goal.offset_bounds-links-links
+offset_bounds-links-links c = grind (arith)
+
+pub overflow_sub-link : goal.overflow_sub-link
+overflow_sub-link c = grind (arith)

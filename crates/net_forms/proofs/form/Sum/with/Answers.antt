@@ -20,3 +20,12 @@ add_times-requires-clause-left c = grind (arith, common_steps)
 
 pub next_constant-constant-requires-clause-other : goal.next_constant-constant-requires-clause-other
 next_constant-constant-requires-clause-other c = grind (arith, common_steps)
+
+pub next_constant-constant-requires-clause-constant : goal.next_constant-constant-requires-clause-constant
+next_constant-constant-requires-clause-constant c = grind (arith)
+
+pub returns-clause-fits : goal.returns-clause-fits
+returns-clause-fits c = grind (arith)
+
+pub returns-clause-value : goal.returns-clause-value
+returns-clause-value c = grind (arith)

@@ -10,3 +10,15 @@ returns-in_err-new-clause-value c = grind (arith, common_steps)
 
 pub returns-in_ok-push-clause-value : goal.returns-in_ok-push-clause-value
 returns-in_ok-push-clause-value c = grind (arith, common_steps)
+
+pub invariant_of-self : goal.invariant_of-self
+invariant_of-self c = grind (arith)
+
+pub invariant_of-self-in_err-push : goal.invariant_of-self-in_err-push
+invariant_of-self-in_err-push c = grind (arith)
+
+pub invariant_of-self-then-arc-lt-ARC_LIMIT : goal.invariant_of-self-then-arc-lt-ARC_LIMIT
+invariant_of-self-then-arc-lt-ARC_LIMIT c = grind (arith)
+
+pub returns-in_ok-refuse_name-clause-value : goal.returns-in_ok-refuse_name-clause-value
+returns-in_ok-refuse_name-clause-value c = grind (arith)

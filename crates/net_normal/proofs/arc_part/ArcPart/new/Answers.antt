@@ -10,3 +10,9 @@ returns-clause-constant c = grind (arith, common_steps)
 
 pub returns-clause-arcs : goal.returns-clause-arcs
 returns-clause-arcs c = grind (arith, common_steps)
+
+pub returns-clause-numbers : goal.returns-clause-numbers
+returns-clause-numbers c = grind (arith)
+
+pub returns-clause-sums : goal.returns-clause-sums
+returns-clause-sums c = grind (arith)

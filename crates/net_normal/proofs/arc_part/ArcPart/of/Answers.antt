@@ -65,3 +65,6 @@ add-requires-clause-arc c = grind (arith, common_steps)
 
 pub add-requires-clause-few_arcs : goal.add-requires-clause-few_arcs
 add-requires-clause-few_arcs c = grind (arith, common_steps)
+
+pub add-requires-clause-constant : goal.add-requires-clause-constant
+add-requires-clause-constant c = grind (arith)

@@ -1,0 +1,5 @@
+use Rattle.std.proofs.Common.{arith}
+use Rattle.net_inst.proofs.arc.arc_at.Goals as goal
+
+pub returns-in_ok-detail : goal.returns-in_ok-detail
+returns-in_ok-detail c = grind (arith)

@@ -1,0 +1,5 @@
+use Rattle.std.proofs.Common.{arith}
+use Rattle.net_inst.proofs.arc_draft.ArcDraft.declare.Goals as goal
+
+pub returns : goal.returns
+returns c = grind (arith)
