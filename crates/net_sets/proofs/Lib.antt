@@ -7,6 +7,7 @@ pub mod Choosing
 pub mod Unions
 pub mod Crossing
 pub mod Steps
+pub mod Counted
 pub mod Listing
 pub mod InRange
 pub mod Chaining

@@ -90,3 +90,10 @@ come_next way ts (Some p) place after t e walk is here =
     one_to_come way ts p there
     ∙ ap (λ x. x ∷ filter (passes way) (drop (p + 1) ts)) (get_or_default ts p [] t there.0 ∙ ap (λ j. get_or ts j t) same ∙ sym here)
     ∙ ap (◌∷◌ t) (ap (λ j. filter (passes way) (drop (j + 1) ts)) same ∙ sym (all_to_come way ts (place + 1) after is))
+
+-- one that all have is
+pub before_narrowest : (wanted : Option (ℕ × Member)) (k : ℕ) (m : Member) (n : ℕ) (ts : List Tuple) → wanted ≡ Some (k, m) → n ≡ narrowest ts → k < n → filter (agrees k m) ts ≡ sought wanted ts
+before_narrowest wanted k m n ts e is before = rw e (ap (λ b. cond b (filter (agrees k m) ts) ts) (sym some))
+  where
+    some : nat_lt k (narrowest ts) ≡ true
+    some = grind (arith, nat_tests)

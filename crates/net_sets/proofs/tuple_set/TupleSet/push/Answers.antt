@@ -1,4 +1,4 @@
-use Rattle.std.specs.Prelude.{cond, Some, length, ◌<◌}
+use Rattle.std.specs.Prelude.{cond, Some, length, ◌<◌, ◌++◌, ◌∷◌, []}
 use Rattle.std.specs.Ordering.{is_eq}
 use Rattle.std.proofs.Common.{◌≡◌, ap, sym, subst, ◌∙◌, rules, arith}
 use Rattle.std.proofs.lemmas.Grind.{common_steps}
@@ -23,3 +23,6 @@ returns-in-Err-clause-err c = grind (arith, common_steps)
 
 pub invariant_of-self-in-Err : goal.invariant_of-self-in-Err
 invariant_of-self-in-Err c = grind (arith, common_steps)
+
+pub returns-in-Ok-clause-ok : goal.returns-in-Ok-clause-ok
+returns-in-Ok-clause-ok c = c.in_ok-push.ensures.items ∙ ap (λ ts. ts ++ c.args.tuple ∷ []) c.self.view_is
