@@ -70,13 +70,9 @@ pub(crate) fn chains_of<'s>(
     ensures { IfOk result (IsIndexFrom component tuples.now 0) }
 {
     let size = tuples.len();
-    let mut next = Vec::with_capacity(alloc, size)?;
-    for _ in 0..size {
-        next.push(size)?;
-    }
     let mut chains = Chains {
         first: BTreeMap::new(alloc),
-        next,
+        next: vec![in alloc; size; size]?,
     };
     for indexed in 0..size {
         take_in(&mut chains, component, tuples, size - 1 - indexed)?;
