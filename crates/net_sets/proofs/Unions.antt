@@ -1,7 +1,7 @@
 -- Tuples that are added one after the other.
-use Rattle.std.specs.Prelude.{◌≡◌, ℕ, suc, Result, Err, ◌<◌, ◌≤◌, Bool, true, false, not, cond, filter, ◌&&◌, List, [], ◌∷◌, ◌++◌, ◌||◌, length, drop, get_or}
+use Rattle.std.specs.Prelude.{◌≡◌, ℕ, ◌+◌, suc, Result, Err, ◌<◌, ◌≤◌, Bool, true, false, not, cond, filter, ◌&&◌, List, [], ◌∷◌, ◌++◌, ◌||◌, length, drop, get_or}
 use Rattle.std.specs.List.{IsDistinct, AllByRecursion}
-use Rattle.std.proofs.Common.{refl, ap, sym, ◌∙◌, arith, append_assoc, append-nil}
+use Rattle.std.proofs.Common.{refl, ap, sym, ◌∙◌, arith, add-one, append_assoc, append-nil}
 use Rattle.std.proofs.lemmas.List.{length-append}
 use Rattle.std.proofs.lemmas.Map.Keys.{IsDistinct-head, IsDistinct-tail}
 use Rattle.std.proofs.Math.Seq.{drop-cons}
@@ -111,3 +111,9 @@ both_differences xs ys ds es first second distinct = all_last ds es distinct apa
     apart t h =
         let there : (has ys t && not (has xs t)) ≡ true = sym (has_passing (λ q. not (has xs q)) ys t) ∙ (sym (ap (λ ts. has ts t) second) ∙ h) in
         ap (λ ts. has ts t) first ∙ (has_passing (λ q. not (has ys q)) xs t ∙ none (has xs t) (has ys t) (left (has ys t) (not (has xs t)) there))
+
+-- the turn of the loop that adds
+pub added_in_turn : (wanted all new ts : List Tuple) (i : ℕ) (item t : Tuple) → union all (drop i ts) ≡ wanted → i < length ts → item ≡ get_or ts i item → t ≡ item → new ≡ added all t → union new (drop (i + 1) ts) ≡ wanted
+added_in_turn wanted all new ts i item t goes_on h is same put =
+    let next : drop i ts ≡ item ∷ drop (suc i) ts = drop-cons ts i item h ∙ ap (λ (x : Tuple). x ∷ drop (suc i) ts) (sym is) in
+    ap (λ xs. union xs (drop (i + 1) ts)) (put ∙ ap (added all) same) ∙ (ap (λ j. union (added all item) (drop j ts)) (add-one i) ∙ (sym (ap (union all) next) ∙ goes_on))

@@ -1,7 +1,7 @@
-use Rattle.std.proofs.Common.{subst, ◌∙◌, arith}
+use Rattle.std.proofs.Common.{subst, sym, ◌∙◌, arith}
 use Rattle.std.proofs.lemmas.Grind.{common_steps}
-use Rattle.net_sets.specs.Components.{IsIndexFrom}
-use Rattle.net_sets.proofs.Indexed.{one_indexed}
+use Rattle.net_sets.specs.Components.{IsIndexFrom, AreIndexed}
+use Rattle.net_sets.proofs.Indexed.{none_indexed, one_indexed, all_indexed}
 use Rattle.net_sets.proofs.indexed_set.IndexedSet.new.Goals as goal
 
 pub loop-component-preserved : goal.loop-component-preserved
@@ -12,3 +12,10 @@ loop-component-preserved c =
 
 pub returns : goal.returns
 returns c = grind (arith, common_steps)
+
+pub loop-component-init : goal.loop-component-init
+loop-component-init c = none_indexed c.args.set _ c.new-components.ensures.items
+
+pub invariant_of-result : goal.invariant_of-result
+invariant_of-result c =
+    subst (λ ts. AreIndexed ts c.narrowest-narrowest.result c.loop-component.components.items) (sym c.shrink_to_fit.ensures) (all_indexed _ _ _ _ c.loop-component.invariant c.narrowest-narrowest.ensures)
