@@ -10,6 +10,7 @@ pub mod StringLemmas
 pub mod WordLemmas
 pub mod GapReading
 pub mod Tables
+pub mod MarkLengths
 pub mod FormLemmas
 pub mod FrontTold
 pub mod WordReading

@@ -1,9 +1,9 @@
-ghost use Rattle.std.specs.Prelude.{◌≡◌, ◌==◌, map};
+ghost use Rattle.std.specs.Prelude.{◌≡◌, ◌==◌, [], ◌∷◌, map};
 ghost use Rattle.std.specs.List.{filter};
 ghost use Rattle.net_lex.specs.Bytes.{first};
-ghost use Rattle.net_lex.specs.Words.{reserved, is_reserved, model_mark_len, data_mark_len};
+ghost use Rattle.net_lex.specs.Words.{reserved, is_among, is_reserved, model_marks, model_mark_len, data_mark_len};
 
-use crate::cursor::first;
+use crate::cursor::{first, second};
 
 /// The reserved words of model text that begin with this letter.
 fn reserved_with(letter: u8) -> &'static [&'static [u8]]
@@ -51,22 +51,39 @@ pub(crate) fn data_mark_len(text: &[u8]) -> usize
     }
 }
 
+/// Whether two bytes are a mark of model text.
+fn is_model_pair(front: u8, next: u8) -> bool
+    ensures { result ≡ is_among model_marks (front ∷ next ∷ []) }
+{
+    match next {
+        b'=' => matches!(front, b':' | b'<' | b'>' | b'=' | b'!'),
+        b'>' => front == b'<',
+        b'.' | b'*' | b'&' | b'|' => front == next,
+        _ => false,
+    }
+}
+
+/// Whether a byte alone is a mark of model text.
+fn is_model_mark(byte: u8) -> bool
+    ensures { result ≡ is_among model_marks (byte ∷ []) }
+{
+    match byte {
+        b';' | b':' | b',' | b'.' | b'(' | b')' | b'{' | b'}' | b'[' | b']' => true,
+        b'+' | b'-' | b'*' | b'/' | b'^' | b'&' | b'!' | b'<' | b'>' | b'=' => true,
+        _ => false,
+    }
+}
+
 /// The length of the mark of model text at the front, or 0.
-#[tactic(auto, unfolding(crate::specs::Words::model_mark_len))]
 pub(crate) fn model_mark_len(text: &[u8]) -> usize
     ensures { result ≡ model_mark_len text.now }
 {
-    match text {
-        [b':' | b'<' | b'>' | b'=' | b'!', b'=', ..] | [b'<', b'>', ..] => 2,
-        [b'.', b'.', ..] | [b'*', b'*', ..] | [b'&', b'&', ..] | [b'|', b'|', ..] => 2,
-        [
-            b';' | b':' | b',' | b'.' | b'(' | b')' | b'{' | b'}' | b'[' | b']',
-            ..
-        ] => 1,
-        [
-            b'+' | b'-' | b'*' | b'/' | b'^' | b'&' | b'!' | b'<' | b'>' | b'=',
-            ..
-        ] => 1,
-        _ => 0,
+    let front = first(text);
+    if is_model_pair(front, second(text)) {
+        2
+    } else if is_model_mark(front) {
+        1
+    } else {
+        0
     }
 }
