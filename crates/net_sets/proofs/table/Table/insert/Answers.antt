@@ -1,4 +1,5 @@
 use Rattle.std.specs.Prelude.{List, Result, Err, length, ◌++◌, ◌∷◌, []}
+use Rattle.std.specs.List.{zip}
 use Rattle.std.proofs.Common.{sym, ◌≡◌, ap, ◌∙◌, arith}
 use Rattle.std.proofs.lemmas.Grind.{common_steps}
 use Rattle.std.proofs.lemmas.List.{length-append}
@@ -9,7 +10,7 @@ use Rattle.net_sets.specs.Made.{IsMade}
 use Rattle.net_sets.specs.declared.member.Member.{Member}
 use Rattle.net_sets.specs.Sets.{Tuple, at_key, added}
 use Rattle.net_sets.proofs.Distinct.{put_last, full}
-use Rattle.net_sets.proofs.Rows.{no_row, row_more, length_rows}
+use Rattle.net_sets.proofs.Rows.{no_row, row_more, length_rows, taken_back}
 use Rattle.net_sets.proofs.table.Table.insert.Goals as goal
 
 pub invariant_of-self-in-Ok : goal.invariant_of-self-in-Ok
@@ -40,10 +41,14 @@ returns-in-Err-clause-many c = λ many. full_table c.in-Err.refused many c.in-Er
     full_table TooMany e made = rows ∙ full c.self.inside.keys c.args.key (omega arith) made
 
 pub returns-in-Err-clause-err : goal.returns-in-Err-clause-err
-returns-in-Err-clause-err c = grind (arith, common_steps)
+returns-in-Err-clause-err c =
+    let back = taken_back c.self.inside.members.items c.push.new.self.items c.truncate.new.self.items c.args.member _ c.self.inside.keys c.self.invariant c.in_ok-push.ensures.items c.len-rows.ensures.value c.truncate.ensures.items in
+    ap (λ (keys : List Tuple). zip keys c.truncate.new.self.items) c.in-Err.ensures.err ∙ (ap (zip c.self.inside.keys) back ∙ c.self.view_is)
 
 pub invariant_of-self-in-Err : goal.invariant_of-self-in-Err
-invariant_of-self-in-Err c = grind (arith, common_steps)
+invariant_of-self-in-Err c =
+    let back = taken_back c.self.inside.members.items c.push.new.self.items c.truncate.new.self.items c.args.member _ c.self.inside.keys c.self.invariant c.in_ok-push.ensures.items c.len-rows.ensures.value c.truncate.ensures.items in
+    ap length back ∙ (c.self.invariant ∙ ap length (sym c.in-Err.ensures.err))
 
 pub invariant_of-self : goal.invariant_of-self
 invariant_of-self c = grind (arith, common_steps)
