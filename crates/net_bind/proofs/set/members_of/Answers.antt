@@ -7,6 +7,3 @@ returns c = grind (arith, common_steps)
 
 pub loop-row-preserved : goal.loop-row-preserved
 loop-row-preserved c = grind (arith, common_steps)
-
-pub returns-in_err-with_member : goal.returns-in_err-with_member
-returns-in_err-with_member c = grind (arith)

@@ -1,4 +1,4 @@
-use Rattle.std.proofs.Common.{◌≡◌, List, Ok, Err, subst}
+use Rattle.std.proofs.Common.{◌≡◌, List, Ok, Err, subst, arith}
 use Rattle.net_tree.specs.View as view
 use Rattle.net_lex.specs.declared.token.Token.{Token}
 use Rattle.net_data.specs.Meaning.{Mean}
@@ -28,3 +28,6 @@ returns-clause-refused c text is =
       meant = subst (λ (t : List Token). data_reading.tables t ≡ Ok tables) c.deref.ensures.value told.place;
     } in
     network_stop _ text c.args.data.now (view.model c.args.declared.now) tables c.in-Err-network_of.stop is statements c.in-Err-network_of.ensures.refused
+
+pub returns-in-Ok-network_of-clause-ok : goal.returns-in-Ok-network_of-clause-ok
+returns-in-Ok-network_of-clause-ok c = grind (arith)

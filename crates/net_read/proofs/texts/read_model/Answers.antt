@@ -1,4 +1,4 @@
-use Rattle.std.proofs.Common.{List, Err, subst}
+use Rattle.std.proofs.Common.{List, Err, subst, arith}
 use Rattle.net_lex.specs.declared.token.Token.{Token}
 use Rattle.net_model.specs.Models.{meant, Parses}
 use Rattle.net_read.proofs.Stops.{model_token, model_parse}
@@ -12,3 +12,9 @@ returns-in-Ok-of_model-clause-refused c =
     let fault = c.in-Err-parse_model.fault in
     let parsed = subst (λ (t : List Token). Parses (Err fault) (meant t)) c.deref.ensures.value c.in-Err-parse_model.ensures.value in
     model_parse c.args.text.now c.in-Ok.tokens.items fault c.in-Ok-of_model.stop c.in-Ok.ensures.value.ok parsed c.in-Ok-of_model.ensures
+
+pub returns-in-Ok-parse_model-clause-new : goal.returns-in-Ok-parse_model-clause-new
+returns-in-Ok-parse_model-clause-new c = grind (arith)
+
+pub returns-in-Ok-parse_model-clause-ok : goal.returns-in-Ok-parse_model-clause-ok
+returns-in-Ok-parse_model-clause-ok c = grind (arith)

@@ -24,8 +24,5 @@ next_constant-constant-requires-clause-other c = grind (arith, common_steps)
 pub next_constant-constant-requires-clause-constant : goal.next_constant-constant-requires-clause-constant
 next_constant-constant-requires-clause-constant c = grind (arith)
 
-pub returns-clause-fits : goal.returns-clause-fits
-returns-clause-fits c = grind (arith)
-
 pub returns-clause-value : goal.returns-clause-value
 returns-clause-value c = grind (arith)
