@@ -5,7 +5,9 @@ use Rattle.net_lex.specs.declared.token.Token.{Token}
 use Rattle.net_data.specs.declared.statement.Statement.{Statement}
 use Rattle.net_data.specs.declared.stop.Stop.{Stop}
 use Rattle.net_data.specs.declared.fault.DataFault.{DataFault}
-use Rattle.net_data.specs.Reading.{Read, statement, statements, with_statement, fault_of, Fails}
+use Rattle.net_data.specs.declared.statement_stop.StatementStop.{StatementStop}
+use Rattle.net_data.specs.declared.statement_stop.StatementStop.TheVariants as statement_stops
+use Rattle.net_data.specs.Reading.{Read, statement, statements, with_statement, fault_of, statement_fault, Stops, Fails}
 
 -- these statements, and then what is read
 abbrev pub with_statements : List Statement → Read (List Statement) → Read (List Statement)
@@ -51,15 +53,21 @@ leads_end tokens found rest leads le h =
     let n = turns_left tokens rest found le in
     ap (λ k. statements k tokens) n.1 ∙ leads (suc n.0) ∙ ap (with_statements found) (ends n.0 rest h) ∙ ap (λ z. let r : Read (List Statement) = Ok (z, rest) in r) (append-nil found)
 
-pub leads_stop : (tokens : List Token) (found : List Statement) (rest : List Token) (e : Stop) → LeadsTo tokens found rest → length found + length rest ≤ length tokens → statement rest ≡ Err e
+leads_stop : (tokens : List Token) (found : List Statement) (rest : List Token) (e : Stop) → LeadsTo tokens found rest → length found + length rest ≤ length tokens → statement rest ≡ Err e
     → statements (suc (length tokens)) tokens ≡ Err e
 leads_stop tokens found rest e leads le h =
     let n = turns_left tokens rest found le in
     ap (λ k. statements k tokens) n.1 ∙ leads (suc n.0) ∙ ap (with_statements found) (stops n.0 rest e h)
 
 -- what stops the reading is the fault
-pub fails_at : {A : Type 0} (end : ℕ) (read : Result A Stop) (e : Stop) (fault : DataFault) → read ≡ Err e → fault ≡ fault_of end e → Fails end read fault
+fails_at : {A : Type 0} (end : ℕ) (read : Result A Stop) (e : Stop) (fault : DataFault) → read ≡ Err e → fault ≡ fault_of end e → Fails end read fault
 fails_at end read e fault h is = let P : DataFault → Type 0 = λ f. Fails end read f in subst P (sym is) (e, h, refl)
+
+-- what keeps a statement from being read is the fault
+pub statement_fails : (end : ℕ) (tokens : List Token) (found : List Statement) (rest : List Token) (stop : StatementStop) (fault : DataFault) → LeadsTo tokens found rest → length found + length rest ≤ length tokens
+    → Stops (statement rest) stop → fault ≡ statement_fault end stop → Fails end (statements (suc (length tokens)) tokens) fault
+statement_fails end tokens found rest statement_stops.OutOfMemory fault leads le h is = let P : DataFault → Type 0 = λ f. Fails end (statements (suc (length tokens)) tokens) f in subst P (sym is) tt
+statement_fails end tokens found rest (statement_stops.Reading e) fault leads le h is = fails_at end _ e fault (leads_stop tokens found rest e leads le h) is
 
 -- one statement more, and fewer tokens
 pub count_less : (tokens rest after : List Token) (found more : List Statement) (x : Statement) → length found + length rest ≤ length tokens → length after < length rest → more ≡ found ++ x ∷ []

@@ -10,6 +10,8 @@ use Rattle.net_data.specs.declared.fault.DataDefect.TheVariants.{Syntax, RowWidt
 use Rattle.net_data.specs.declared.fault.DataFault.{DataFault}
 use Rattle.net_data.specs.declared.fault.DataFault.TheVariants.{OutOfMemory, At}
 use Rattle.net_data.specs.declared.stop.Stop.{Stop}
+use Rattle.net_data.specs.declared.statement_stop.StatementStop.{StatementStop}
+use Rattle.net_data.specs.declared.statement_stop.StatementStop.TheVariants as statement_stops
 use Rattle.net_data.specs.declared.statement.DefaultValue.{DefaultValue}
 use Rattle.net_data.specs.declared.statement.Given.{Given}
 use Rattle.net_data.specs.declared.statement.Transposed.{Transposed}
@@ -54,10 +56,24 @@ ReadsOption read (Ok None) = read ≡ Ok None
 ReadsOption read (Ok (Some x)) = read ≡ Ok (Some (x.0, x.1.now))
 ReadsOption read (Err e) = read ≡ Err e
 
-abbrev pub ReadsOn : {A : Type 0} → Result (Option (A × List Token)) Stop → List Token → Result (Option A) Stop → Type 0
+-- the same, unless memory ran out
+abbrev pub Stops : {A : Type 0} → Result A Stop → StatementStop → Type 0
+Stops read statement_stops.OutOfMemory = Unit {0}
+Stops read (statement_stops.Reading e) = read ≡ Err e
+
+abbrev pub ReadsStated : {A : Type 0} → Read A → Result (A × Bor (List Token)) StatementStop → Type 0
+ReadsStated read (Ok x) = read ≡ Ok (x.0, x.1.now)
+ReadsStated read (Err e) = Stops read e
+
+abbrev pub ReadsOn : {A : Type 0} → Result (Option (A × List Token)) Stop → List Token → Result (Option A) StatementStop → Type 0
 ReadsOn read rest (Ok None) = read ≡ Ok None
 ReadsOn read rest (Ok (Some x)) = read ≡ Ok (Some (x, rest))
-ReadsOn read rest (Err e) = read ≡ Err e
+ReadsOn read rest (Err e) = Stops read e
+
+-- what was read, where what followed it is what is left
+abbrev pub GoesBehind : {A : Type 0} → Result (A × Bor (List Token)) StatementStop → List Token → Result (Option A) StatementStop → Type 0
+GoesBehind (Ok x) rest result = (result ≡ Ok (Some x.0)) × (rest ≡ x.1.now)
+GoesBehind (Err e) rest result = result ≡ Err e
 
 -- the end of the last token
 abbrev pub end_at : Option Token → ℕ
@@ -74,6 +90,10 @@ span_or_end end (Some span) = span
 
 abbrev pub fault_of : ℕ → Stop → DataFault
 fault_of end stop = At stop.defect (span_or_end end stop.at)
+
+abbrev pub statement_fault : ℕ → StatementStop → DataFault
+statement_fault end statement_stops.OutOfMemory = OutOfMemory
+statement_fault end (statement_stops.Reading stop) = fault_of end stop
 
 -- what a function returned is what is read, or the fault that stops it, unless memory ran out
 abbrev pub Fails : ℕ → {A : Type 0} → Result A Stop → DataFault → Type 0

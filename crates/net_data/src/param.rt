@@ -1,23 +1,23 @@
 //! `param` statements: lists, tables and columns.
 ghost use Rattle.std.specs.Prelude.{◌≡◌, ◌<◌, ◌≤◌, length, IfOk, IfSome};
 ghost use Rattle.net_data.specs.Tests.{is_name, is_member};
-ghost use Rattle.net_data.specs.Reading.{table, turned, given, list, body, default, named, named_set, columns, param, Reads};
+ghost use Rattle.net_data.specs.Reading.{table, turned, given, list, body, default, named, named_set, columns, param, Reads, ReadsStated};
 
 use crate::cursor::{
     mark_met, mark_wanted, member_wanted, name_met, name_wanted, word_met, word_wanted,
 };
 use crate::heading::{cells, filled, member_heading, name_heading};
 use crate::runs::cells_at;
+use crate::stated::{Stated, stated};
 use crate::statement::{
     ColumnsStatement, DefaultValue, Given, ListStatement, NamedSet, Statement, TableStatement,
     Transposed,
 };
+use crate::statement_stop::StatementStop;
 use crate::stop::Stop;
 use crate::word::Word;
 use net_lex::Token;
-
-/// A statement, and what follows it.
-pub(crate) type Stated<'t, 's> = (Statement<'t, 's>, &'t [Token<'s>]);
+use std::alloc::Global;
 
 /// What stands before the cells of a parameter.
 #[derive(Drop)]
@@ -30,12 +30,13 @@ struct Parameter<'t, 's> {
 /// What follows the colon of a table.
 #[tactic(auto, unfolding(crate::specs::Reading::table))]
 fn table<'t, 's>(
+    alloc: Global,
     parameter: Parameter<'t, 's>,
     transposed: Option<Transposed<'t, 's>>,
     colon: Word<'t, 's>,
     tokens: &'t [Token<'s>],
-) -> Result<Stated<'t, 's>, Stop>
-    ensures value { Reads (table parameter.entry.keyword parameter.entry.name parameter.entry.default transposed.entry colon.entry tokens.entry.now) result }
+) -> Result<Stated<'t, 's>, StatementStop>
+    ensures value { ReadsStated (table parameter.entry.keyword parameter.entry.name parameter.entry.default transposed.entry colon.entry tokens.entry.now) result }
     ensures shorter { IfOk result (λ x. length x.1.now < length tokens.entry.now) }
 {
     let (columns, assign, rest) = member_heading(tokens)?;
@@ -57,17 +58,18 @@ fn table<'t, 's>(
         cells,
         end,
     };
-    Ok((Statement::Table(statement), rest))
+    stated(alloc, Statement::Table(statement), rest)
 }
 
 /// What follows the `(` of `(tr)`.
 #[tactic(auto, unfolding(crate::specs::Reading::turned))]
 fn turned<'t, 's>(
+    alloc: Global,
     parameter: Parameter<'t, 's>,
     opening: Word<'t, 's>,
     tokens: &'t [Token<'s>],
-) -> Result<Stated<'t, 's>, Stop>
-    ensures value { Reads (turned parameter.entry.keyword parameter.entry.name parameter.entry.default opening.entry tokens.entry.now) result }
+) -> Result<Stated<'t, 's>, StatementStop>
+    ensures value { ReadsStated (turned parameter.entry.keyword parameter.entry.name parameter.entry.default opening.entry tokens.entry.now) result }
     ensures shorter { IfOk result (λ x. length x.1.now < length tokens.entry.now) }
 {
     let (word, rest) = word_wanted(b"tr", tokens)?;
@@ -78,7 +80,7 @@ fn turned<'t, 's>(
         word,
         closing,
     };
-    table(parameter, Some(transposed), colon, rest)
+    table(alloc, parameter, Some(transposed), colon, rest)
 }
 
 /// The cells of a list, if there are any, and what follows them.
@@ -100,10 +102,11 @@ fn given<'t, 's>(tokens: &'t [Token<'s>]) -> (Option<Given<'t, 's>>, &'t [Token<
 /// What follows the name and the default of a list.
 #[tactic(auto, unfolding(crate::specs::Reading::list))]
 fn list<'t, 's>(
+    alloc: Global,
     parameter: Parameter<'t, 's>,
     tokens: &'t [Token<'s>],
-) -> Result<Stated<'t, 's>, Stop>
-    ensures value { Reads (list parameter.entry.keyword parameter.entry.name parameter.entry.default tokens.entry.now) result }
+) -> Result<Stated<'t, 's>, StatementStop>
+    ensures value { ReadsStated (list parameter.entry.keyword parameter.entry.name parameter.entry.default tokens.entry.now) result }
     ensures shorter { IfOk result (λ x. length x.1.now < length tokens.entry.now) }
 {
     let (given, rest) = given(tokens);
@@ -120,24 +123,25 @@ fn list<'t, 's>(
         given,
         end,
     };
-    Ok((Statement::List(statement), rest))
+    stated(alloc, Statement::List(statement), rest)
 }
 
 /// What follows the name and the default of a parameter.
 #[tactic(auto, unfolding(crate::specs::Reading::body))]
 fn body<'t, 's>(
+    alloc: Global,
     parameter: Parameter<'t, 's>,
     tokens: &'t [Token<'s>],
-) -> Result<Stated<'t, 's>, Stop>
-    ensures value { Reads (body parameter.entry.keyword parameter.entry.name parameter.entry.default tokens.entry.now) result }
+) -> Result<Stated<'t, 's>, StatementStop>
+    ensures value { ReadsStated (body parameter.entry.keyword parameter.entry.name parameter.entry.default tokens.entry.now) result }
     ensures shorter { IfOk result (λ x. length x.1.now < length tokens.entry.now) }
 {
     if let Some((opening, rest)) = mark_met(b"(", tokens) {
-        return turned(parameter, Word::new(opening), rest);
+        return turned(alloc, parameter, Word::new(opening), rest);
     }
     match mark_met(b":", tokens) {
-        Some((colon, rest)) => table(parameter, None, Word::new(colon), rest),
-        None => list(parameter, tokens),
+        Some((colon, rest)) => table(alloc, parameter, None, Word::new(colon), rest),
+        None => list(alloc, parameter, tokens),
     }
 }
 
@@ -161,8 +165,12 @@ fn default<'t, 's>(
 
 /// What follows the word `param` where no colon does.
 #[tactic(auto, unfolding(crate::specs::Reading::named))]
-fn named<'t, 's>(keyword: Word<'t, 's>, tokens: &'t [Token<'s>]) -> Result<Stated<'t, 's>, Stop>
-    ensures value { Reads (named keyword.entry tokens.entry.now) result }
+fn named<'t, 's>(
+    alloc: Global,
+    keyword: Word<'t, 's>,
+    tokens: &'t [Token<'s>],
+) -> Result<Stated<'t, 's>, StatementStop>
+    ensures value { ReadsStated (named keyword.entry tokens.entry.now) result }
     ensures shorter { IfOk result (λ x. length x.1.now < length tokens.entry.now) }
 {
     let (name, rest) = name_wanted(tokens)?;
@@ -172,7 +180,7 @@ fn named<'t, 's>(keyword: Word<'t, 's>, tokens: &'t [Token<'s>]) -> Result<State
         name,
         default,
     };
-    body(parameter, rest)
+    body(alloc, parameter, rest)
 }
 
 /// The name of a set and a colon, if they come next, and what follows them.
@@ -197,11 +205,12 @@ fn named_set<'t, 's>(tokens: &'t [Token<'s>]) -> (Option<NamedSet<'t, 's>>, &'t 
 /// What follows the word `param` and a colon.
 #[tactic(auto, unfolding(crate::specs::Reading::columns))]
 fn columns<'t, 's>(
+    alloc: Global,
     keyword: Word<'t, 's>,
     colon: Word<'t, 's>,
     tokens: &'t [Token<'s>],
-) -> Result<Stated<'t, 's>, Stop>
-    ensures value { Reads (columns keyword.entry colon.entry tokens.entry.now) result }
+) -> Result<Stated<'t, 's>, StatementStop>
+    ensures value { ReadsStated (columns keyword.entry colon.entry tokens.entry.now) result }
     ensures shorter { IfOk result (λ x. length x.1.now < length tokens.entry.now) }
 {
     let (set, rest) = named_set(tokens);
@@ -216,20 +225,21 @@ fn columns<'t, 's>(
         cells,
         end,
     };
-    Ok((Statement::Columns(statement), rest))
+    stated(alloc, Statement::Columns(statement), rest)
 }
 
 /// What follows the word `param`.
 #[tactic(auto, unfolding(crate::specs::Reading::param))]
 pub(crate) fn param<'t, 's>(
+    alloc: Global,
     keyword: Word<'t, 's>,
     tokens: &'t [Token<'s>],
-) -> Result<Stated<'t, 's>, Stop>
-    ensures value { Reads (param keyword.entry tokens.entry.now) result }
+) -> Result<Stated<'t, 's>, StatementStop>
+    ensures value { ReadsStated (param keyword.entry tokens.entry.now) result }
     ensures shorter { IfOk result (λ x. length x.1.now < length tokens.entry.now) }
 {
     match mark_met(b":", tokens) {
-        Some((colon, rest)) => columns(keyword, Word::new(colon), rest),
-        None => named(keyword, tokens),
+        Some((colon, rest)) => columns(alloc, keyword, Word::new(colon), rest),
+        None => named(alloc, keyword, tokens),
     }
 }

@@ -1,6 +1,6 @@
 //! The statements of a data text.
 ghost use Rattle.std.specs.Prelude.{◌≡◌, ◌<◌, ◌≤◌, length, suc, IfOk, IfErr, IfSome, IfNone, codes};
-ghost use Rattle.net_data.specs.Reading.{statement, statements, lone, finished, tables, end_of, fault_of, Reads, ReadsOption, ReadsOn, Answers, AnswersRest};
+ghost use Rattle.net_data.specs.Reading.{statement, statements, lone, finished, tables, end_of, fault_of, statement_fault, Reads, GoesBehind, ReadsOn, Answers, AnswersRest};
 ghost use Rattle.net_data.specs.Meaning.{Mean, all_judged, checked};
 ghost use Rattle.net_data.specs.Refusals.{IsRefusal};
 ghost use Rattle.net_data.specs.declared.tables.Tables.{Tables};
@@ -9,11 +9,13 @@ use crate::cursor::{front, mark_wanted, same, word_met};
 use crate::fault::{DataDefect, DataFault};
 use crate::param::param;
 use crate::set::set;
+use crate::stated::{Stated, push};
 use crate::statement::Statement;
+use crate::statement_stop::StatementStop;
 use crate::stop::Stop;
 use crate::tables::{Lone, Tables};
 use crate::word::Word;
-use net_lex::{Items, Span, Token};
+use net_lex::{Boxed, Items, Span, Token};
 use std::alloc::Global;
 
 /// The end of the last token.
@@ -36,6 +38,16 @@ fn fault_of(stop: Stop, end: usize) -> DataFault
     }
 }
 
+/// The fault that keeps a statement from being read, in a text that ends there.
+fn statement_fault(stop: StatementStop, end: usize) -> DataFault
+    ensures { result ≡ statement_fault end stop }
+{
+    match stop {
+        StatementStop::OutOfMemory => DataFault::OutOfMemory,
+        StatementStop::Reading(stop) => fault_of(stop, end),
+    }
+}
+
 /// The tokens that are not yet read.
 #[derive(Drop)]
 struct Unread<'t, 's> {
@@ -43,25 +55,34 @@ struct Unread<'t, 's> {
 }
 
 impl<'t, 's> Unread<'t, 's> {
+    /// The statement that was read, behind which reading goes on.
+    fn behind(
+        &mut self,
+        stated: Result<Stated<'t, 's>, StatementStop>,
+    ) -> Result<Option<Boxed<Statement<'t, 's>>>, StatementStop>
+        ensures { GoesBehind stated.entry self.new.tokens.now result }
+    {
+        let (found, rest) = stated?;
+        self.tokens = same(rest);
+        Ok(Some(found))
+    }
+
     /// Reads the statement that comes next, if one does.
     #[tactic(auto, unfolding(crate::specs::Reading::statement))]
-    fn statement(&mut self) -> Result<Option<Statement<'t, 's>>, Stop>
+    fn statement(
+        &mut self,
+        alloc: Global,
+    ) -> Result<Option<Boxed<Statement<'t, 's>>>, StatementStop>
         ensures value { ReadsOn (statement self.old.tokens.now) self.new.tokens.now result }
         ensures left { IfOk result (λ o. IfNone o (self.new.tokens.now ≡ self.old.tokens.now)) }
         ensures shorter { IfOk result (λ o. IfSome o (λ x. length self.new.tokens.now < length self.old.tokens.now)) }
     {
         if let Some((keyword, rest)) = word_met(b"set", self.tokens) {
-            let (found, rest) = set(Word::new(keyword), rest)?;
-            self.tokens = same(rest);
-            return Ok(Some(found));
+            return self.behind(set(alloc, Word::new(keyword), rest));
         }
         match word_met(b"param", self.tokens) {
             None => Ok(None),
-            Some((keyword, rest)) => {
-                let (found, rest) = param(Word::new(keyword), rest)?;
-                self.tokens = same(rest);
-                Ok(Some(found))
-            }
+            Some((keyword, rest)) => self.behind(param(alloc, Word::new(keyword), rest)),
         }
     }
 }
@@ -77,10 +98,10 @@ fn statements<'t, 's>(
     let mut statements = Vec::new(alloc);
     let mut unread = Unread { tokens };
     'statements: loop {
-        match unread.statement() {
-            Err(stop) => return Err(fault_of(stop, end)),
+        match unread.statement(alloc) {
+            Err(stop) => return Err(statement_fault(stop, end)),
             Ok(None) => return Ok((Items::new(statements), unread.tokens)),
-            Ok(Some(found)) => statements.push(found)?,
+            Ok(Some(found)) => push(&mut statements, found)?,
         }
     }
 }

@@ -1,16 +1,19 @@
 //! `set NAME := items ;`
 ghost use Rattle.std.specs.Prelude.{◌≡◌, ◌+◌, ◌<◌, ◌≤◌, length, Result, Ok, Err, IfOk};
 ghost use Rattle.net_data.specs.Spots.{outside};
-ghost use Rattle.net_data.specs.Reading.{items, items_from, set, Reads, CountsItems};
+ghost use Rattle.net_data.specs.Reading.{items, items_from, set, Reads, ReadsStated, CountsItems};
 
 use crate::cursor::{mark_wanted, name_wanted};
 use crate::fault::DataDefect;
 use crate::members::Members;
 use crate::spot::Spot;
+use crate::stated::{Stated, stated};
 use crate::statement::{SetStatement, Statement};
+use crate::statement_stop::StatementStop;
 use crate::stop::Stop;
 use crate::word::Word;
 use net_lex::Token;
+use std::alloc::Global;
 
 /// How many tokens the members and tuples at the front have, with the commas among them.
 fn items_len(tokens: &[Token<'_>]) -> Result<usize, Stop>
@@ -58,10 +61,11 @@ fn items_at<'t, 's>(tokens: &'t [Token<'s>]) -> Result<(Members<'t, 's>, &'t [To
 /// What follows the word `set`.
 #[tactic(auto, unfolding(crate::specs::Reading::set))]
 pub(crate) fn set<'t, 's>(
+    alloc: Global,
     keyword: Word<'t, 's>,
     tokens: &'t [Token<'s>],
-) -> Result<(Statement<'t, 's>, &'t [Token<'s>]), Stop>
-    ensures value { Reads (set keyword.entry tokens.entry.now) result }
+) -> Result<Stated<'t, 's>, StatementStop>
+    ensures value { ReadsStated (set keyword.entry tokens.entry.now) result }
     ensures shorter { IfOk result (λ x. length x.1.now < length tokens.entry.now) }
 {
     let (name, rest) = name_wanted(tokens)?;
@@ -75,5 +79,5 @@ pub(crate) fn set<'t, 's>(
         items,
         end,
     };
-    Ok((Statement::Set(statement), rest))
+    stated(alloc, Statement::Set(statement), rest)
 }

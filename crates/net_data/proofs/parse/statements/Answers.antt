@@ -1,12 +1,11 @@
 use Rattle.std.proofs.Common.{arith}
 use Rattle.std.proofs.lemmas.Grind.{common_steps}
-use Rattle.net_data.proofs.Turns.{leads_on, leads_stop, fails_at, count_less, ends_with}
+use Rattle.net_data.proofs.Turns.{leads_on, statement_fails, count_less, ends_with}
 use Rattle.net_data.proofs.parse.statements.Goals as goal
 
 pub returns-in-Err : goal.returns-in-Err
 returns-in-Err c =
-    fails_at c.args.end _ c.in-Err.stop c.fault_of.result
-    (leads_stop c.args.tokens.now c.statements.statements.items c.statements.unread.tokens.now c.in-Err.stop c.statements.invariant.value c.statements.invariant.count c.in-Err.ensures.value) c.fault_of.ensures
+    statement_fails c.args.end c.args.tokens.now c.statements.statements.items c.statements.unread.tokens.now c.in-Err.stop c.statement_fault.result c.statements.invariant.value c.statements.invariant.count c.in-Err.ensures.value c.statement_fault.ensures
 
 pub returns-in-Ok-None : goal.returns-in-Ok-None
 returns-in-Ok-None c =
@@ -17,8 +16,8 @@ pub statements-preserved : goal.statements-preserved
 statements-preserved c =
     let told = rw c.in-Ok-Some.field-0-is at c.in-Ok-Some.ensures in
     record {
-      value = leads_on c.args.tokens.now c.statements.statements.items c.push.new.self.items c.statements.unread.tokens.now c.statement.new.self.tokens.now c.in-Ok-Some.found c.statements.invariant.value told.value c.in_ok-push-in-Ok-Some.ensures.items;
-      count = count_less c.args.tokens.now c.statements.unread.tokens.now c.statement.new.self.tokens.now c.statements.statements.items c.push.new.self.items c.in-Ok-Some.found c.statements.invariant.count told.shorter c.in_ok-push-in-Ok-Some.ensures.items;
+      value = leads_on c.args.tokens.now c.statements.statements.items c.push.new.statements.items c.statements.unread.tokens.now c.statement.new.self.tokens.now c.in-Ok-Some.found c.statements.invariant.value told.value c.in_ok-push-in-Ok-Some.ensures.items;
+      count = count_less c.args.tokens.now c.statements.unread.tokens.now c.statement.new.self.tokens.now c.statements.statements.items c.push.new.statements.items c.in-Ok-Some.found c.statements.invariant.count told.shorter c.in_ok-push-in-Ok-Some.ensures.items;
     }
 
 pub statements-smaller : goal.statements-smaller

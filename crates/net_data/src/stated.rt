@@ -1,0 +1,38 @@
+//! A value in a box, and what follows it.
+ghost use Rattle.std.specs.Prelude.{◌≡◌, [], ◌∷◌, ◌++◌, OnOk, IfOk, IfErr};
+ghost use Rattle.net_data.specs.declared.fault.DataFault.TheVariants.{OutOfMemory};
+ghost use Rattle.net_data.specs.declared.statement_stop.StatementStop.TheVariants as statement_stops;
+
+use crate::fault::DataFault;
+use crate::statement::Statement;
+use crate::statement_stop::StatementStop;
+use net_lex::{Boxed, Token};
+use std::alloc::Global;
+
+/// A statement, and what follows it.
+pub(crate) type Stated<'t, 's> = (Boxed<Statement<'t, 's>>, &'t [Token<'s>]);
+
+/// A statement that was read is put into a box, as it has many forms.
+pub(crate) fn stated<'t, 's, T: Drop>(
+    alloc: Global,
+    statement: T,
+    tokens: &'t [Token<'s>],
+) -> Result<(Boxed<T>, &'t [Token<'s>]), StatementStop>
+    ensures value { IfOk result (λ x. x.0 ≡ statement) }
+    ensures rest { IfOk result (λ x. x.1.now ≡ tokens.entry.now) }
+    ensures memory { IfErr result (λ e. e ≡ statement_stops.OutOfMemory) }
+{
+    match Box::new(alloc, statement) {
+        Ok(boxed) => Ok((Boxed::new(boxed), tokens)),
+        Err(_) => Err(StatementStop::OutOfMemory),
+    }
+}
+
+/// Takes in a statement behind the others.
+pub(crate) fn push<T: Drop>(statements: &mut Vec<T>, statement: Boxed<T>) -> Result<(), DataFault>
+    ensures items { OnOk result (statements.new.items ≡ statements.old.items ++ (statement ∷ [])) }
+    ensures memory { IfErr result (λ e. e ≡ OutOfMemory) }
+{
+    statements.push(Box::into_inner(statement.into_box()))?;
+    Ok(())
+}

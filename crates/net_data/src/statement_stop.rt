@@ -1,0 +1,29 @@
+//! Why no statement is read.
+ghost use Rattle.std.specs.Prelude.{◌≡◌};
+ghost use Rattle.net_data.specs.declared.statement_stop.StatementStop.TheVariants as statement_stops;
+
+use crate::stop::Stop;
+use std::alloc::AllocFailed;
+
+/// Why no statement is read: memory runs out, or reading stops at a defect.
+#[derive(Clone, Copy)]
+pub enum StatementStop {
+    OutOfMemory,
+    Reading(Stop),
+}
+
+impl From<Stop> for StatementStop {
+    ghost from_gives = { λ stop e. e ≡ statement_stops.Reading stop };
+
+    fn from(stop: Stop) -> StatementStop {
+        StatementStop::Reading(stop)
+    }
+}
+
+impl<T: Drop> From<AllocFailed<T>> for StatementStop {
+    ghost from_gives = { λ _ e. e ≡ statement_stops.OutOfMemory };
+
+    fn from(_refused: AllocFailed<T>) -> StatementStop {
+        StatementStop::OutOfMemory
+    }
+}
