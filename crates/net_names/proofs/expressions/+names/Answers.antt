@@ -7,7 +7,7 @@ use Rattle.net_names.specs.Dummies.{with_items, with_components}
 use Rattle.net_names.specs.Items.{left_fault}
 use Rattle.net_names.specs.Names.{tree_fault, links_fault, items_fault, further_fault, is_tuple}
 use Rattle.net_names.proofs.Cases.{in_indexed, in_parens, in_tuple, in_negated, in_signed, in_reduced, in_choice}
-use Rattle.net_names.proofs.Walking.{tells_by, left_other, forgotten_braces, link_lighter, links_left, items_left, components_left, behind_none, stops_first}
+use Rattle.net_names.proofs.Walking.{walking, tells_by, left_other, forgotten_braces, forgotten_components, link_lighter, links_left, items_left, components_left, behind_none, stops_first}
 use Rattle.net_names.proofs.expressions.+names.Goals as goal
 
 pub check-returns-in-Indexed-clause-value : goal.check-returns-in-Indexed-clause-value
@@ -275,3 +275,82 @@ read_item-returns-in-None-clause-value c = grind (arith, common_steps)
 
 pub check_links-loop-link-smaller : goal.check_links-loop-link-smaller
 check_links-loop-link-smaller c = grind (arith, common_steps)
+
+pub check_left-returns-in-Choice-clause-value : goal.check_left-returns-in-Choice-clause-value
+check_left-returns-in-Choice-clause-value c = grind (arith, common_steps, views, walking)
+
+pub check-check_choice-requires : goal.check-check_choice-requires
+check-check_choice-requires c = grind (arith, common_steps, views, walking)
+
+pub check-check_series-requires : goal.check-check_series-requires
+check-check_series-requires c = grind (arith, common_steps, views, walking)
+
+pub check-check_series-requires-in-Chain : goal.check-check_series-requires-in-Chain
+check-check_series-requires-in-Chain c = grind (arith, common_steps, views, walking)
+
+pub check-check_subscripts-requires : goal.check-check_subscripts-requires
+check-check_subscripts-requires c = grind (arith, common_steps, views, walking)
+
+pub check-check_reduced-requires : goal.check-check_reduced-requires
+check-check_reduced-requires c = grind (arith, common_steps, views, walking)
+
+pub read_braces-read_items-requires : goal.read_braces-read_items-requires
+read_braces-read_items-requires c = grind (arith, common_steps, views, walking)
+
+pub check_left-check_components-requires : goal.check_left-check_components-requires
+check_left-check_components-requires c = grind (arith, common_steps, views, walking)
+
+pub check_components-returns-clause-kept : goal.check_components-returns-clause-kept
+check_components-returns-clause-kept t c =
+    c.forget_behind.ensures
+    ∙ forgotten_components c.args.scope.now c.read_component.new.scope c.read_components.new.scope (tree c.args.component.now) (links_of c.args.more.now) c.len-before.result c.len-before.ensures c.in_ok-read_component.ensures.grown c.in_ok-read_components.ensures.grown
+
+pub check_reduced-returns-clause-kept : goal.check_reduced-returns-clause-kept
+check_reduced-returns-clause-kept t c =
+    c.forget_behind.ensures
+    ∙ forgotten_braces c.args.scope.now c.check.new.scope (braces_of c.args.braces.now) c.len-outside.result c.len-outside.ensures (c.in_ok-check.ensures.kept ∙ c.in_ok-read_braces.ensures.grown)
+
+pub check-check-requires-in-Negated : goal.check-check-requires-in-Negated
+check-check-requires-in-Negated c = grind (arith, common_steps, views, walking)
+
+pub check-check-requires-in-Signed : goal.check-check-requires-in-Signed
+check-check-requires-in-Signed c = grind (arith, common_steps, views, walking)
+
+pub check-check-requires : goal.check-check-requires
+check-check-requires c = grind (arith, common_steps, views, walking)
+
+pub check-check_braced-requires : goal.check-check_braced-requires
+check-check_braced-requires c = grind (arith, common_steps, views, walking)
+
+pub read_braces-check_part-requires : goal.read_braces-check_part-requires
+read_braces-check_part-requires c = grind (arith, common_steps, views, walking)
+
+pub check-returns-in-Net-clause-value : goal.check-returns-in-Net-clause-value
+check-returns-in-Net-clause-value c = grind (arith, common_steps, views, walking)
+
+pub check_part-check-requires : goal.check_part-check-requires
+check_part-check-requires c = grind (arith, common_steps, views, walking)
+
+pub check-returns-in-Chain-clause-value : goal.check-returns-in-Chain-clause-value
+check-returns-in-Chain-clause-value c = grind (arith, common_steps, views, walking)
+
+pub read_braces-returns-in-Filled-clause-grown : goal.read_braces-returns-in-Filled-clause-grown
+read_braces-returns-in-Filled-clause-grown c = grind (arith, common_steps, views, walking)
+
+pub read_braces-returns-in-Filled-clause-value : goal.read_braces-returns-in-Filled-clause-value
+read_braces-returns-in-Filled-clause-value c = grind (arith, common_steps, views, walking)
+
+pub check-returns-in-Braced-clause-value : goal.check-returns-in-Braced-clause-value
+check-returns-in-Braced-clause-value c = grind (arith, common_steps, views, walking)
+
+pub check-returns-in-Leaf-clause-value : goal.check-returns-in-Leaf-clause-value
+check-returns-in-Leaf-clause-value c = grind (arith, common_steps, views, walking)
+
+pub read_braces-returns-in-Empty-clause-grown : goal.read_braces-returns-in-Empty-clause-grown
+read_braces-returns-in-Empty-clause-grown c = grind (arith, common_steps, views, walking)
+
+pub read_braces-returns-in-Empty-clause-value : goal.read_braces-returns-in-Empty-clause-value
+read_braces-returns-in-Empty-clause-value c = grind (arith, common_steps, views, walking)
+
+pub check_part-returns-in-Some-clause-value : goal.check_part-returns-in-Some-clause-value
+check_part-returns-in-Some-clause-value c = grind (arith, common_steps, views, walking)
