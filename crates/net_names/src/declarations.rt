@@ -76,6 +76,33 @@ fn check_phrases<'s>(scope: &mut Scope<'s>, phrases: &[Phrase<'s>]) -> Result<()
     Ok(())
 }
 
+/// The two sides of a comparison.
+fn check_sides<'s>(
+    scope: &mut Scope<'s>,
+    left: &Expr<'s>,
+    right: &Expr<'s>,
+) -> Result<(), NameFault<'s>>
+    ensures value { Tells (told.first (names.tree_fault needs.Value scope.old (view.tree left.now)) (names.tree_fault needs.Value scope.old (view.tree right.now))) result }
+    ensures kept { OnOk result (scope.new ≡ scope.old) }
+{
+    check(Need::Value, scope, left)?;
+    check(Need::Value, scope, right)
+}
+
+/// The three sides of a comparison with two marks.
+fn check_between<'s>(
+    scope: &mut Scope<'s>,
+    low: &Expr<'s>,
+    middle: &Expr<'s>,
+    high: &Expr<'s>,
+) -> Result<(), NameFault<'s>>
+    ensures value { Tells (told.first (names.tree_fault needs.Value scope.old (view.tree low.now)) (told.first (names.tree_fault needs.Value scope.old (view.tree middle.now)) (names.tree_fault needs.Value scope.old (view.tree high.now)))) result }
+    ensures kept { OnOk result (scope.new ≡ scope.old) }
+{
+    check(Need::Value, scope, low)?;
+    check_sides(scope, middle, high)
+}
+
 /// What is said of a node's net flow.
 fn check_condition<'s>(scope: &mut Scope<'s>, condition: &NetCond<'s>) -> Result<(), NameFault<'s>>
     ensures value { Tells (names.condition_fault scope.old (condition_of condition.now)) result }
@@ -83,15 +110,8 @@ fn check_condition<'s>(scope: &mut Scope<'s>, condition: &NetCond<'s>) -> Result
 {
     match condition {
         NetCond::Absent => Ok(()),
-        NetCond::One(_, left, _, right) => {
-            check(Need::Value, scope, left)?;
-            check(Need::Value, scope, right)
-        }
-        NetCond::Between(_, low, _, middle, _, high) => {
-            check(Need::Value, scope, low)?;
-            check(Need::Value, scope, middle)?;
-            check(Need::Value, scope, high)
-        }
+        NetCond::One(_, left, _, right) => check_sides(scope, left, right),
+        NetCond::Between(_, low, _, middle, _, high) => check_between(scope, low, middle, high),
     }
 }
 

@@ -1,6 +1,7 @@
 use Rattle.std.proofs.Common.{arith}
 use Rattle.std.proofs.lemmas.Grind.{common_steps}
 use Rattle.net_tree.proofs.Views.{views}
+use Rattle.net_names.proofs.Cases.{in_tuple}
 use Rattle.net_names.proofs.dummies.add_left.Goals as goal
 
 pub returns-in-Signed-2 : goal.returns-in-Signed-2
@@ -32,3 +33,6 @@ returns-in-Choice-2 c = grind (arith, common_steps, views)
 
 pub returns-in-Indexed-2 : goal.returns-in-Indexed-2
 returns-in-Indexed-2 c = grind (arith, common_steps, views)
+
+pub returns-in-Tuple : goal.returns-in-Tuple
+returns-in-Tuple c = rw (in_tuple c.args.left.now c.in-Tuple.parts c.get.result.now c.as_slice.result.now c.in-Tuple.is c.get.ensures c.as_slice.ensures) c.add_tuple.ensures
