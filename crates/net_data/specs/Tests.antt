@@ -4,6 +4,8 @@ use Rattle.std.specs.Str.{bytes_eq}
 use Rattle.net_lex.specs.declared.token.Kind.{Kind}
 use Rattle.net_lex.specs.declared.token.Kind.TheVariants.{Name, Num, Str, Mark, Dot}
 use Rattle.net_lex.specs.declared.token.Token.{Token}
+use Rattle.net_data.specs.declared.sort.Sort.{Sort}
+use Rattle.net_data.specs.declared.sort.Sort.TheVariants as sorts
 
 abbrev pub names : Kind → Bool
 names Name = true
@@ -36,6 +38,12 @@ is_member token = stands_for_member token.kind
 
 abbrev pub is_cell : Token → Bool
 is_cell token = fills_cell token.kind
+
+-- a token of this sort
+abbrev pub is_of : Sort → Token → Bool
+is_of sorts.Name = is_name
+is_of sorts.Member = is_member
+is_of sorts.Cell = is_cell
 
 -- the name that is spelled so
 abbrev pub is_word : List ℕ → Token → Bool

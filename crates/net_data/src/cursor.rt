@@ -1,12 +1,13 @@
 //! The next token, with commas skipped.
 ghost use Rattle.std.specs.Prelude.{◌≡◌, ◌<◌, ◌≤◌, length, MatchOption, IfSome, IfOk};
 ghost use Rattle.std.specs.List.{prefix_len};
-ghost use Rattle.net_data.specs.Tests.{is_comma, is_name, is_member, is_word, is_mark};
+ghost use Rattle.net_data.specs.Tests.{is_comma, is_of, is_word, is_mark};
 ghost use Rattle.net_data.specs.Reading.{front, met, wanted, refused, Reads, Finds};
 
 use crate::fault::DataDefect;
+use crate::sort::Sort;
 use crate::stop::Stop;
-use crate::test::{is_comma, is_mark, is_member, is_name, is_word};
+use crate::test::{is_comma, is_mark, is_of, is_word};
 use crate::word::Word;
 use net_lex::Token;
 
@@ -69,34 +70,16 @@ pub(crate) fn word_met<'t, 's>(text: &[u8], tokens: &'t [Token<'s>]) -> Option<N
     }
 }
 
-/// The next token, if it is a name.
+/// The next token, if it is of this sort.
 #[tactic(auto, unfolding(crate::specs::Reading::met))]
-pub(crate) fn name_met<'t, 's>(tokens: &'t [Token<'s>]) -> Option<Next<'t, 's>>
-    ensures value { Finds (met is_name tokens.entry.now) result }
+pub(crate) fn met<'t, 's>(sort: Sort, tokens: &'t [Token<'s>]) -> Option<Next<'t, 's>>
+    ensures value { Finds (met (is_of sort) tokens.entry.now) result }
     ensures shorter { IfSome result (λ x. length x.1.now < length tokens.entry.now) }
 {
     match front(tokens) {
         None => None,
         Some((token, after)) => {
-            if is_name(token) {
-                Some((token, after))
-            } else {
-                None
-            }
-        }
-    }
-}
-
-/// The next token, if it is a member.
-#[tactic(auto, unfolding(crate::specs::Reading::met))]
-pub(crate) fn member_met<'t, 's>(tokens: &'t [Token<'s>]) -> Option<Next<'t, 's>>
-    ensures value { Finds (met is_member tokens.entry.now) result }
-    ensures shorter { IfSome result (λ x. length x.1.now < length tokens.entry.now) }
-{
-    match front(tokens) {
-        None => None,
-        Some((token, after)) => {
-            if is_member(token) {
+            if is_of(sort, token) {
                 Some((token, after))
             } else {
                 None
@@ -150,25 +133,13 @@ pub(crate) fn word_wanted<'t, 's>(
     }
 }
 
-/// The next token, which has to be a name.
+/// The next token, which has to be of this sort.
 #[tactic(auto, unfolding(crate::specs::Reading::wanted))]
-pub(crate) fn name_wanted<'t, 's>(tokens: &'t [Token<'s>]) -> Result<Kept<'t, 's>, Stop>
-    ensures value { Reads (wanted is_name tokens.entry.now) result }
+pub(crate) fn wanted<'t, 's>(sort: Sort, tokens: &'t [Token<'s>]) -> Result<Kept<'t, 's>, Stop>
+    ensures value { Reads (wanted (is_of sort) tokens.entry.now) result }
     ensures shorter { IfOk result (λ x. length x.1.now < length tokens.entry.now) }
 {
-    match name_met(tokens) {
-        Some((token, after)) => Ok((Word::new(token), after)),
-        None => Err(refused(tokens)),
-    }
-}
-
-/// The next token, which has to be a member.
-#[tactic(auto, unfolding(crate::specs::Reading::wanted))]
-pub(crate) fn member_wanted<'t, 's>(tokens: &'t [Token<'s>]) -> Result<Kept<'t, 's>, Stop>
-    ensures value { Reads (wanted is_member tokens.entry.now) result }
-    ensures shorter { IfOk result (λ x. length x.1.now < length tokens.entry.now) }
-{
-    match member_met(tokens) {
+    match met(sort, tokens) {
         Some((token, after)) => Ok((Word::new(token), after)),
         None => Err(refused(tokens)),
     }

@@ -1,12 +1,13 @@
 //! The heading and the cells of a table.
 ghost use Rattle.std.specs.Prelude.{◌≡◌, ◌<◌, ◌≤◌, ◌+◌, ◌^◌, length, IfOk, Result, Ok, Err};
-ghost use Rattle.net_data.specs.Tests.{is_name, is_member};
+ghost use Rattle.net_data.specs.Tests.{is_of};
 ghost use Rattle.net_data.specs.Reading.{cells, heading, headed, filled, Reads, ReadsPair};
 
 use crate::cells::Cells;
 use crate::cursor::mark_wanted;
 use crate::fault::DataDefect;
-use crate::runs::{cells_at, members_at, names_at};
+use crate::runs::run;
+use crate::sort::Sort;
 use crate::stop::Stop;
 use crate::word::Word;
 use net_lex::Token;
@@ -32,26 +33,15 @@ fn headed<'t, 's>(
     Ok((columns, assign, tokens))
 }
 
-/// A heading of members.
+/// A heading of tokens of a sort.
 #[tactic(auto, unfolding(crate::specs::Reading::heading))]
-pub(crate) fn member_heading<'t, 's>(tokens: &'t [Token<'s>]) -> Result<Row<'t, 's>, Stop>
-    ensures value { ReadsPair (heading is_member tokens.entry.now) result }
+pub(crate) fn heading<'t, 's>(sort: Sort, tokens: &'t [Token<'s>]) -> Result<Row<'t, 's>, Stop>
+    ensures value { ReadsPair (heading (is_of sort) tokens.entry.now) result }
     ensures shorter { IfOk result (λ x. length x.2.now < length tokens.entry.now) }
 {
-    let (columns, rest) = members_at(tokens);
+    let (columns, rest) = run(sort, tokens);
     let (assign, rest) = mark_wanted(b":=", rest)?;
     headed(columns, assign, rest)
-}
-
-/// A heading of names.
-#[tactic(auto, unfolding(crate::specs::Reading::heading))]
-pub(crate) fn name_heading<'t, 's>(tokens: &'t [Token<'s>]) -> Result<Row<'t, 's>, Stop>
-    ensures value { ReadsPair (heading is_name tokens.entry.now) result }
-    ensures shorter { IfOk result (λ x. length x.2.now < length tokens.entry.now) }
-{
-    let (names, rest) = names_at(tokens);
-    let (assign, rest) = mark_wanted(b":=", rest)?;
-    headed(names, assign, rest)
 }
 
 /// Cells up to the semicolon.
@@ -60,7 +50,7 @@ pub(crate) fn cells<'t, 's>(tokens: &'t [Token<'s>]) -> Result<Row<'t, 's>, Stop
     ensures value { ReadsPair (cells tokens.entry.now) result }
     ensures shorter { IfOk result (λ x. length x.2.now < length tokens.entry.now) }
 {
-    let (cells, rest) = cells_at(tokens);
+    let (cells, rest) = run(Sort::Cell, tokens);
     let (end, rest) = mark_wanted(b";", rest)?;
     Ok((cells, end, rest))
 }

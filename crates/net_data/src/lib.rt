@@ -11,6 +11,7 @@ mod param;
 mod parse;
 mod runs;
 mod set;
+mod sort;
 mod spot;
 mod stated;
 mod statement;

@@ -3,11 +3,10 @@ ghost use Rattle.std.specs.Prelude.{◌≡◌, ◌<◌, ◌≤◌, length, IfOk,
 ghost use Rattle.net_data.specs.Tests.{is_name, is_member};
 ghost use Rattle.net_data.specs.Reading.{table, turned, given, list, body, default, named, named_set, columns, param, Reads, ReadsStated};
 
-use crate::cursor::{
-    mark_met, mark_wanted, member_wanted, name_met, name_wanted, word_met, word_wanted,
-};
-use crate::heading::{cells, filled, member_heading, name_heading};
-use crate::runs::cells_at;
+use crate::cursor::{mark_met, mark_wanted, met, wanted, word_met, word_wanted};
+use crate::heading::{cells, filled, heading};
+use crate::runs::run;
+use crate::sort::Sort;
 use crate::stated::{Stated, stated};
 use crate::statement::{
     ColumnsStatement, DefaultValue, Given, ListStatement, NamedSet, Statement, TableStatement,
@@ -39,7 +38,7 @@ fn table<'t, 's>(
     ensures value { ReadsStated (table parameter.entry.keyword parameter.entry.name parameter.entry.default transposed.entry colon.entry tokens.entry.now) result }
     ensures shorter { IfOk result (λ x. length x.1.now < length tokens.entry.now) }
 {
-    let (columns, assign, rest) = member_heading(tokens)?;
+    let (columns, assign, rest) = heading(Sort::Member, tokens)?;
     let (cells, end, rest) = cells(rest)?;
     filled(&columns, &cells)?;
     let Parameter {
@@ -92,7 +91,7 @@ fn given<'t, 's>(tokens: &'t [Token<'s>]) -> (Option<Given<'t, 's>>, &'t [Token<
     match mark_met(b":=", tokens) {
         None => (None, tokens),
         Some((assign, rest)) => {
-            let (cells, rest) = cells_at(rest);
+            let (cells, rest) = run(Sort::Cell, rest);
             let assign = Word::new(assign);
             (Some(Given { assign, cells }), rest)
         }
@@ -156,7 +155,7 @@ fn default<'t, 's>(
     match word_met(b"default", tokens) {
         None => Ok((None, tokens)),
         Some((keyword, rest)) => {
-            let (value, rest) = member_wanted(rest)?;
+            let (value, rest) = wanted(Sort::Member, rest)?;
             let keyword = Word::new(keyword);
             Ok((Some(DefaultValue { keyword, value }), rest))
         }
@@ -173,7 +172,7 @@ fn named<'t, 's>(
     ensures value { ReadsStated (named keyword.entry tokens.entry.now) result }
     ensures shorter { IfOk result (λ x. length x.1.now < length tokens.entry.now) }
 {
-    let (name, rest) = name_wanted(tokens)?;
+    let (name, rest) = wanted(Sort::Name, tokens)?;
     let (default, rest) = default(rest)?;
     let parameter = Parameter {
         keyword,
@@ -189,7 +188,7 @@ fn named_set<'t, 's>(tokens: &'t [Token<'s>]) -> (Option<NamedSet<'t, 's>>, &'t 
     ensures value { (result.0, result.1.now) ≡ named_set tokens.entry.now }
     ensures within { length result.1.now ≤ length tokens.entry.now }
 {
-    match name_met(tokens) {
+    match met(Sort::Name, tokens) {
         None => (None, tokens),
         Some((name, rest)) => match mark_met(b":", rest) {
             None => (None, tokens),
@@ -214,7 +213,7 @@ fn columns<'t, 's>(
     ensures shorter { IfOk result (λ x. length x.1.now < length tokens.entry.now) }
 {
     let (set, rest) = named_set(tokens);
-    let (names, assign, rest) = name_heading(rest)?;
+    let (names, assign, rest) = heading(Sort::Name, rest)?;
     let (cells, end, rest) = cells(rest)?;
     let statement = ColumnsStatement {
         keyword,

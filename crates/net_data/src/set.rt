@@ -3,9 +3,10 @@ ghost use Rattle.std.specs.Prelude.{◌≡◌, ◌+◌, ◌<◌, ◌≤◌, leng
 ghost use Rattle.net_data.specs.Spots.{outside};
 ghost use Rattle.net_data.specs.Reading.{items, items_from, set, Reads, ReadsStated, CountsItems};
 
-use crate::cursor::{mark_wanted, name_wanted};
+use crate::cursor::{mark_wanted, wanted};
 use crate::fault::DataDefect;
 use crate::members::Members;
+use crate::sort::Sort;
 use crate::spot::Spot;
 use crate::stated::{Stated, stated};
 use crate::statement::{SetStatement, Statement};
@@ -68,7 +69,7 @@ pub(crate) fn set<'t, 's>(
     ensures value { ReadsStated (set keyword.entry tokens.entry.now) result }
     ensures shorter { IfOk result (λ x. length x.1.now < length tokens.entry.now) }
 {
-    let (name, rest) = name_wanted(tokens)?;
+    let (name, rest) = wanted(Sort::Name, tokens)?;
     let (assign, rest) = mark_wanted(b":=", rest)?;
     let (items, rest) = items_at(rest)?;
     let (end, rest) = mark_wanted(b";", rest)?;

@@ -1,10 +1,11 @@
 //! What a token is for the grammar of data.
 ghost use Rattle.std.specs.Prelude.{◌≡◌};
-ghost use Rattle.net_data.specs.Tests.{is_name, is_member, is_cell, is_word, is_mark, is_comma};
+ghost use Rattle.net_data.specs.Tests.{is_name, is_member, is_cell, is_word, is_mark, is_comma, is_of};
 
+use crate::sort::Sort;
 use net_lex::{Kind, Token};
 
-pub(crate) fn is_name(token: &Token<'_>) -> bool
+fn is_name(token: &Token<'_>) -> bool
     ensures { result ≡ is_name token.now }
 {
     match token.kind {
@@ -24,12 +25,23 @@ pub(crate) fn is_member(token: &Token<'_>) -> bool
 }
 
 /// Whether it is a member or the point.
-pub(crate) fn is_cell(token: &Token<'_>) -> bool
+fn is_cell(token: &Token<'_>) -> bool
     ensures { result ≡ is_cell token.now }
 {
     match token.kind {
         Kind::Name | Kind::Num | Kind::Str | Kind::Dot => true,
         Kind::Key | Kind::Mark => false,
+    }
+}
+
+/// Whether it is of this sort.
+pub(crate) fn is_of(sort: Sort, token: &Token<'_>) -> bool
+    ensures { result ≡ is_of sort token.now }
+{
+    match sort {
+        Sort::Name => is_name(token),
+        Sort::Member => is_member(token),
+        Sort::Cell => is_cell(token),
     }
 }
 
