@@ -285,13 +285,16 @@ fn check_left<'s>(need: Need, scope: &mut Scope<'s>, left: &Expr<'s>) -> Result<
             let series = &parts.get().1;
             check_components(need, scope, &series.first, series.more.as_slice())
         }
-        Expr::Leaf(_) | Expr::Indexed(_) | Expr::Parens(_) | Expr::Negated(_) => {
-            check_component(need, scope, left)
-        }
-        Expr::Braced(_) | Expr::Signed(_) | Expr::Reduced(_, _) | Expr::Chain(_, _) => {
-            check_component(need, scope, left)
-        }
-        Expr::Choice(_, _, _) | Expr::Net(_) => check_component(need, scope, left),
+        Expr::Leaf(_)
+        | Expr::Indexed(_)
+        | Expr::Parens(_)
+        | Expr::Negated(_)
+        | Expr::Braced(_)
+        | Expr::Signed(_)
+        | Expr::Reduced(_, _)
+        | Expr::Chain(_, _)
+        | Expr::Choice(_, _, _)
+        | Expr::Net(_) => check_component(need, scope, left),
     }
 }
 

@@ -68,12 +68,7 @@ check_left-returns-in-Tuple-clause-value t c =
 pub check_left-returns-in-Leaf-clause-value : goal.check_left-returns-in-Leaf-clause-value
 check_left-returns-in-Leaf-clause-value t c =
     let other : is_tuple (tree c.args.left.now) ≡ false = search (rules, views) in
-    tells_by _ _ _ (left_other c.args.need c.args.scope.now (tree c.args.left.now) other) c.check_component-in-Leaf.ensures.value
-
-pub check_left-returns-in-Braced-clause-value : goal.check_left-returns-in-Braced-clause-value
-check_left-returns-in-Braced-clause-value t c =
-    let other : is_tuple (tree c.args.left.now) ≡ false = search (rules, views) in
-    tells_by _ _ _ (left_other c.args.need c.args.scope.now (tree c.args.left.now) other) c.check_component-in-Braced.ensures.value
+    tells_by _ _ _ (left_other c.args.need c.args.scope.now (tree c.args.left.now) other) c.check_component.ensures.value
 
 pub read_more-read_item-requires : goal.read_more-read_item-requires
 read_more-read_item-requires t c = omega (arith, link_lighter c.args.links.now c.loop-link.link-index c.link-item.result c.loop-link-test.true c.link-item.is)
@@ -123,9 +118,6 @@ read_components-loop-link-preserved t c = record {
       ∙ c.loop-link.invariant.grown;
 }
 
-pub check_left-returns-in-Choice-clause-kept : goal.check_left-returns-in-Choice-clause-kept
-check_left-returns-in-Choice-clause-kept c = grind (arith, common_steps)
-
 pub check_part-returns-in-Some-clause-kept : goal.check_part-returns-in-Some-clause-kept
 check_part-returns-in-Some-clause-kept c = grind (arith, common_steps)
 
@@ -173,9 +165,6 @@ read_components-offset_bounds-links-link-index c = grind (arith, common_steps)
 
 pub check_component-returns-else-is_new-clause-value : goal.check_component-returns-else-is_new-clause-value
 check_component-returns-else-is_new-clause-value c = grind (arith, common_steps)
-
-pub check_left-returns-in-Braced-clause-kept : goal.check_left-returns-in-Braced-clause-kept
-check_left-returns-in-Braced-clause-kept c = grind (arith, common_steps)
 
 pub check_components-returns-clause-value : goal.check_components-returns-clause-value
 check_components-returns-clause-value c = grind (arith, common_steps)
@@ -275,9 +264,6 @@ read_item-returns-in-None-clause-value c = grind (arith, common_steps)
 
 pub check_links-loop-link-smaller : goal.check_links-loop-link-smaller
 check_links-loop-link-smaller c = grind (arith, common_steps)
-
-pub check_left-returns-in-Choice-clause-value : goal.check_left-returns-in-Choice-clause-value
-check_left-returns-in-Choice-clause-value c = grind (arith, common_steps, views, walking)
 
 pub check-check_choice-requires : goal.check-check_choice-requires
 check-check_choice-requires c = grind (arith, common_steps, views, walking)
