@@ -39,12 +39,6 @@ is_member token = stands_for_member token.kind
 abbrev pub is_cell : Token → Bool
 is_cell token = fills_cell token.kind
 
--- a token of this sort
-abbrev pub is_of : Sort → Token → Bool
-is_of sorts.Name = is_name
-is_of sorts.Member = is_member
-is_of sorts.Cell = is_cell
-
 -- the name that is spelled so
 abbrev pub is_word : List ℕ → Token → Bool
 is_word text token = names token.kind && bytes_eq text token.text
@@ -55,3 +49,20 @@ is_mark text token = marks token.kind && bytes_eq text token.text
 
 abbrev pub is_comma : Token → Bool
 is_comma = is_mark (codes ",")
+
+-- a token of this sort
+abbrev pub is_of : Sort → Token → Bool
+is_of sorts.Name = is_name
+is_of sorts.Member = is_member
+is_of sorts.Cell = is_cell
+is_of sorts.Assign = is_mark (codes ":=")
+is_of sorts.Colon = is_mark (codes ":")
+is_of sorts.Semicolon = is_mark (codes ";")
+is_of sorts.Opening = is_mark (codes "(")
+is_of sorts.Closing = is_mark (codes ")")
+is_of sorts.Data = is_word (codes "data")
+is_of sorts.End = is_word (codes "end")
+is_of sorts.Set = is_word (codes "set")
+is_of sorts.Param = is_word (codes "param")
+is_of sorts.Default = is_word (codes "default")
+is_of sorts.Transposed = is_word (codes "tr")

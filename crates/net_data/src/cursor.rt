@@ -1,13 +1,13 @@
 //! The next token, with commas skipped.
 ghost use Rattle.std.specs.Prelude.{◌≡◌, ◌<◌, ◌≤◌, length, MatchOption, IfSome, IfOk};
 ghost use Rattle.std.specs.List.{prefix_len};
-ghost use Rattle.net_data.specs.Tests.{is_comma, is_of, is_word, is_mark};
+ghost use Rattle.net_data.specs.Tests.{is_comma, is_of};
 ghost use Rattle.net_data.specs.Reading.{front, met, wanted, refused, Reads, Finds};
 
 use crate::fault::DataDefect;
 use crate::sort::Sort;
 use crate::stop::Stop;
-use crate::test::{is_comma, is_mark, is_of, is_word};
+use crate::test::{is_comma, is_of};
 use crate::word::Word;
 use net_lex::Token;
 
@@ -32,42 +32,6 @@ fn commas_len(tokens: &[Token<'_>]) -> usize
     ensures within { result ≤ length tokens.now }
 {
     tokens.iter().take_while(|token| is_comma(token)).count()
-}
-
-/// The next token, if it is this mark.
-#[tactic(auto, unfolding(crate::specs::Reading::met))]
-pub(crate) fn mark_met<'t, 's>(text: &[u8], tokens: &'t [Token<'s>]) -> Option<Next<'t, 's>>
-    ensures value { Finds (met (is_mark text.now) tokens.entry.now) result }
-    ensures shorter { IfSome result (λ x. length x.1.now < length tokens.entry.now) }
-{
-    match front(tokens) {
-        None => None,
-        Some((token, after)) => {
-            if is_mark(text, token) {
-                Some((token, after))
-            } else {
-                None
-            }
-        }
-    }
-}
-
-/// The next token, if it is this word.
-#[tactic(auto, unfolding(crate::specs::Reading::met))]
-pub(crate) fn word_met<'t, 's>(text: &[u8], tokens: &'t [Token<'s>]) -> Option<Next<'t, 's>>
-    ensures value { Finds (met (is_word text.now) tokens.entry.now) result }
-    ensures shorter { IfSome result (λ x. length x.1.now < length tokens.entry.now) }
-{
-    match front(tokens) {
-        None => None,
-        Some((token, after)) => {
-            if is_word(text, token) {
-                Some((token, after))
-            } else {
-                None
-            }
-        }
-    }
 }
 
 /// The next token, if it is of this sort.
@@ -100,36 +64,6 @@ pub(crate) fn refused(tokens: &[Token<'_>]) -> Stop
     Stop {
         defect: DataDefect::Syntax,
         at,
-    }
-}
-
-/// The next token, which has to be this mark.
-#[tactic(auto, unfolding(crate::specs::Reading::wanted))]
-pub(crate) fn mark_wanted<'t, 's>(
-    text: &[u8],
-    tokens: &'t [Token<'s>],
-) -> Result<Kept<'t, 's>, Stop>
-    ensures value { Reads (wanted (is_mark text.now) tokens.entry.now) result }
-    ensures shorter { IfOk result (λ x. length x.1.now < length tokens.entry.now) }
-{
-    match mark_met(text, tokens) {
-        Some((token, after)) => Ok((Word::new(token), after)),
-        None => Err(refused(tokens)),
-    }
-}
-
-/// The next token, which has to be this word.
-#[tactic(auto, unfolding(crate::specs::Reading::wanted))]
-pub(crate) fn word_wanted<'t, 's>(
-    text: &[u8],
-    tokens: &'t [Token<'s>],
-) -> Result<Kept<'t, 's>, Stop>
-    ensures value { Reads (wanted (is_word text.now) tokens.entry.now) result }
-    ensures shorter { IfOk result (λ x. length x.1.now < length tokens.entry.now) }
-{
-    match word_met(text, tokens) {
-        Some((token, after)) => Ok((Word::new(token), after)),
-        None => Err(refused(tokens)),
     }
 }
 

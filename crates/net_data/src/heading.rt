@@ -4,7 +4,7 @@ ghost use Rattle.net_data.specs.Tests.{is_of};
 ghost use Rattle.net_data.specs.Reading.{cells, heading, headed, filled, Reads, ReadsPair};
 
 use crate::cells::Cells;
-use crate::cursor::mark_wanted;
+use crate::cursor::wanted;
 use crate::fault::DataDefect;
 use crate::runs::run;
 use crate::sort::Sort;
@@ -40,7 +40,7 @@ pub(crate) fn heading<'t, 's>(sort: Sort, tokens: &'t [Token<'s>]) -> Result<Row
     ensures shorter { IfOk result (λ x. length x.2.now < length tokens.entry.now) }
 {
     let (columns, rest) = run(sort, tokens);
-    let (assign, rest) = mark_wanted(b":=", rest)?;
+    let (assign, rest) = wanted(Sort::Assign, rest)?;
     headed(columns, assign, rest)
 }
 
@@ -51,7 +51,7 @@ pub(crate) fn cells<'t, 's>(tokens: &'t [Token<'s>]) -> Result<Row<'t, 's>, Stop
     ensures shorter { IfOk result (λ x. length x.2.now < length tokens.entry.now) }
 {
     let (cells, rest) = run(Sort::Cell, tokens);
-    let (end, rest) = mark_wanted(b";", rest)?;
+    let (end, rest) = wanted(Sort::Semicolon, rest)?;
     Ok((cells, end, rest))
 }
 

@@ -3,7 +3,7 @@ ghost use Rattle.std.specs.Prelude.{◌≡◌, ◌<◌, ◌≤◌, length, IfOk,
 ghost use Rattle.net_data.specs.Tests.{is_name, is_member};
 ghost use Rattle.net_data.specs.Reading.{table, turned, given, list, body, default, named, named_set, columns, param, Reads, ReadsStated};
 
-use crate::cursor::{mark_met, mark_wanted, met, wanted, word_met, word_wanted};
+use crate::cursor::{met, wanted};
 use crate::heading::{cells, filled, heading};
 use crate::runs::run;
 use crate::sort::Sort;
@@ -71,9 +71,9 @@ fn turned<'t, 's>(
     ensures value { ReadsStated (turned parameter.entry.keyword parameter.entry.name parameter.entry.default opening.entry tokens.entry.now) result }
     ensures shorter { IfOk result (λ x. length x.1.now < length tokens.entry.now) }
 {
-    let (word, rest) = word_wanted(b"tr", tokens)?;
-    let (closing, rest) = mark_wanted(b")", rest)?;
-    let (colon, rest) = mark_wanted(b":", rest)?;
+    let (word, rest) = wanted(Sort::Transposed, tokens)?;
+    let (closing, rest) = wanted(Sort::Closing, rest)?;
+    let (colon, rest) = wanted(Sort::Colon, rest)?;
     let transposed = Transposed {
         opening,
         word,
@@ -88,7 +88,7 @@ fn given<'t, 's>(tokens: &'t [Token<'s>]) -> (Option<Given<'t, 's>>, &'t [Token<
     ensures value { (result.0, result.1.now) ≡ given tokens.entry.now }
     ensures within { length result.1.now ≤ length tokens.entry.now }
 {
-    match mark_met(b":=", tokens) {
+    match met(Sort::Assign, tokens) {
         None => (None, tokens),
         Some((assign, rest)) => {
             let (cells, rest) = run(Sort::Cell, rest);
@@ -109,7 +109,7 @@ fn list<'t, 's>(
     ensures shorter { IfOk result (λ x. length x.1.now < length tokens.entry.now) }
 {
     let (given, rest) = given(tokens);
-    let (end, rest) = mark_wanted(b";", rest)?;
+    let (end, rest) = wanted(Sort::Semicolon, rest)?;
     let Parameter {
         keyword,
         name,
@@ -135,10 +135,10 @@ fn body<'t, 's>(
     ensures value { ReadsStated (body parameter.entry.keyword parameter.entry.name parameter.entry.default tokens.entry.now) result }
     ensures shorter { IfOk result (λ x. length x.1.now < length tokens.entry.now) }
 {
-    if let Some((opening, rest)) = mark_met(b"(", tokens) {
+    if let Some((opening, rest)) = met(Sort::Opening, tokens) {
         return turned(alloc, parameter, Word::new(opening), rest);
     }
-    match mark_met(b":", tokens) {
+    match met(Sort::Colon, tokens) {
         Some((colon, rest)) => table(alloc, parameter, None, Word::new(colon), rest),
         None => list(alloc, parameter, tokens),
     }
@@ -152,7 +152,7 @@ fn default<'t, 's>(
     ensures value { Reads (default tokens.entry.now) result }
     ensures within { IfOk result (λ x. length x.1.now ≤ length tokens.entry.now) }
 {
-    match word_met(b"default", tokens) {
+    match met(Sort::Default, tokens) {
         None => Ok((None, tokens)),
         Some((keyword, rest)) => {
             let (value, rest) = wanted(Sort::Member, rest)?;
@@ -190,7 +190,7 @@ fn named_set<'t, 's>(tokens: &'t [Token<'s>]) -> (Option<NamedSet<'t, 's>>, &'t 
 {
     match met(Sort::Name, tokens) {
         None => (None, tokens),
-        Some((name, rest)) => match mark_met(b":", rest) {
+        Some((name, rest)) => match met(Sort::Colon, rest) {
             None => (None, tokens),
             Some((colon, rest)) => {
                 let name = Word::new(name);
@@ -237,7 +237,7 @@ pub(crate) fn param<'t, 's>(
     ensures value { ReadsStated (param keyword.entry tokens.entry.now) result }
     ensures shorter { IfOk result (λ x. length x.1.now < length tokens.entry.now) }
 {
-    match mark_met(b":", tokens) {
+    match met(Sort::Colon, tokens) {
         Some((colon, rest)) => columns(alloc, keyword, Word::new(colon), rest),
         None => named(alloc, keyword, tokens),
     }

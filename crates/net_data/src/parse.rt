@@ -1,14 +1,16 @@
 //! The statements of a data text.
 ghost use Rattle.std.specs.Prelude.{◌≡◌, ◌<◌, ◌≤◌, length, suc, IfOk, IfErr, IfSome, IfNone, codes};
-ghost use Rattle.net_data.specs.Reading.{statement, statements, lone, finished, tables, end_of, fault_of, statement_fault, Reads, GoesBehind, ReadsOn, Answers, AnswersRest};
+ghost use Rattle.net_data.specs.Reading.{statement, statements, lone_by, met, finished, tables, end_of, fault_of, statement_fault, Reads, GoesBehind, ReadsOn, Answers, AnswersRest};
+ghost use Rattle.net_data.specs.Tests.{is_of};
 ghost use Rattle.net_data.specs.Meaning.{Mean, all_judged, checked};
 ghost use Rattle.net_data.specs.Refusals.{IsRefusal};
 ghost use Rattle.net_data.specs.declared.tables.Tables.{Tables};
 
-use crate::cursor::{front, mark_wanted, same, word_met};
+use crate::cursor::{front, met, same, wanted};
 use crate::fault::{DataDefect, DataFault};
 use crate::param::param;
 use crate::set::set;
+use crate::sort::Sort;
 use crate::stated::{Stated, push};
 use crate::statement::Statement;
 use crate::statement_stop::StatementStop;
@@ -77,10 +79,10 @@ impl<'t, 's> Unread<'t, 's> {
         ensures left { IfOk result (λ o. IfNone o (self.new.tokens.now ≡ self.old.tokens.now)) }
         ensures shorter { IfOk result (λ o. IfSome o (λ x. length self.new.tokens.now < length self.old.tokens.now)) }
     {
-        if let Some((keyword, rest)) = word_met(b"set", self.tokens) {
+        if let Some((keyword, rest)) = met(Sort::Set, self.tokens) {
             return self.behind(set(alloc, Word::new(keyword), rest));
         }
-        match word_met(b"param", self.tokens) {
+        match met(Sort::Param, self.tokens) {
             None => Ok(None),
             Some((keyword, rest)) => self.behind(param(alloc, Word::new(keyword), rest)),
         }
@@ -107,17 +109,16 @@ fn statements<'t, 's>(
 }
 
 /// A word with its semicolon, if it comes next, and what follows them.
-#[tactic(auto, unfolding(crate::specs::Reading::lone))]
 fn lone<'t, 's>(
-    text: &[u8],
+    sort: Sort,
     tokens: &'t [Token<'s>],
 ) -> Result<(Option<Lone<'t, 's>>, &'t [Token<'s>]), Stop>
-    ensures { Reads (lone text.now tokens.entry.now) result }
+    ensures { Reads (lone_by tokens.entry.now (met (is_of sort) tokens.entry.now)) result }
 {
-    match word_met(text, tokens) {
+    match met(sort, tokens) {
         None => Ok((None, tokens)),
         Some((word, rest)) => {
-            let (end, rest) = mark_wanted(b";", rest)?;
+            let (end, rest) = wanted(Sort::Semicolon, rest)?;
             let word = Word::new(word);
             Ok((Some(Lone { word, end }), rest))
         }
@@ -139,7 +140,7 @@ fn finished(tokens: &[Token<'_>]) -> Result<(), Stop>
 }
 
 /// The statements of a data text whose end is given.
-#[tactic(auto, unfolding(crate::specs::Reading::tables))]
+#[tactic(auto, unfolding(crate::specs::Reading::tables, crate::specs::Reading::lone))]
 fn tables<'t, 's>(
     alloc: Global,
     end: usize,
@@ -147,12 +148,12 @@ fn tables<'t, 's>(
 ) -> Result<Tables<'t, 's>, DataFault>
     ensures { Answers end (tables tokens.entry.now) result }
 {
-    let (opening, rest) = match lone(b"data", tokens) {
+    let (opening, rest) = match lone(Sort::Data, tokens) {
         Ok(found) => found,
         Err(stop) => return Err(fault_of(stop, end)),
     };
     let (statements, rest) = statements(alloc, end, rest)?;
-    let (ending, rest) = match lone(b"end", rest) {
+    let (ending, rest) = match lone(Sort::End, rest) {
         Ok(found) => found,
         Err(stop) => return Err(fault_of(stop, end)),
     };

@@ -3,7 +3,7 @@ ghost use Rattle.std.specs.Prelude.{◌≡◌, ◌+◌, ◌<◌, ◌≤◌, leng
 ghost use Rattle.net_data.specs.Spots.{outside};
 ghost use Rattle.net_data.specs.Reading.{items, items_from, set, Reads, ReadsStated, CountsItems};
 
-use crate::cursor::{mark_wanted, wanted};
+use crate::cursor::wanted;
 use crate::fault::DataDefect;
 use crate::members::Members;
 use crate::sort::Sort;
@@ -70,9 +70,9 @@ pub(crate) fn set<'t, 's>(
     ensures shorter { IfOk result (λ x. length x.1.now < length tokens.entry.now) }
 {
     let (name, rest) = wanted(Sort::Name, tokens)?;
-    let (assign, rest) = mark_wanted(b":=", rest)?;
+    let (assign, rest) = wanted(Sort::Assign, rest)?;
     let (items, rest) = items_at(rest)?;
-    let (end, rest) = mark_wanted(b";", rest)?;
+    let (end, rest) = wanted(Sort::Semicolon, rest)?;
     let statement = SetStatement {
         keyword,
         name,

@@ -1,4 +1,4 @@
-/// Which tokens may stand in a place that is not one mark's or one word's.
+/// What a token may have to be.
 #[derive(Clone, Copy)]
 pub enum Sort {
     /// A name.
@@ -7,4 +7,26 @@ pub enum Sort {
     Member,
     /// A member or the point.
     Cell,
+    /// `:=`
+    Assign,
+    /// `:`
+    Colon,
+    /// `;`
+    Semicolon,
+    /// `(`
+    Opening,
+    /// `)`
+    Closing,
+    /// `data`
+    Data,
+    /// `end`
+    End,
+    /// `set`
+    Set,
+    /// `param`
+    Param,
+    /// `default`
+    Default,
+    /// `tr`
+    Transposed,
 }

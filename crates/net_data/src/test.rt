@@ -42,6 +42,17 @@ pub(crate) fn is_of(sort: Sort, token: &Token<'_>) -> bool
         Sort::Name => is_name(token),
         Sort::Member => is_member(token),
         Sort::Cell => is_cell(token),
+        Sort::Assign => is_mark(b":=", token),
+        Sort::Colon => is_mark(b":", token),
+        Sort::Semicolon => is_mark(b";", token),
+        Sort::Opening => is_mark(b"(", token),
+        Sort::Closing => is_mark(b")", token),
+        Sort::Data => is_word(b"data", token),
+        Sort::End => is_word(b"end", token),
+        Sort::Set => is_word(b"set", token),
+        Sort::Param => is_word(b"param", token),
+        Sort::Default => is_word(b"default", token),
+        Sort::Transposed => is_word(b"tr", token),
     }
 }
 

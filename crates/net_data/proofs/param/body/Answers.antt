@@ -3,13 +3,13 @@ use Rattle.std.proofs.lemmas.Grind.{common_steps}
 use Rattle.net_data.specs.Reading.{body}
 use Rattle.net_data.proofs.param.body.Goals as goal
 
-pub returns-in-Some-mark_met-clause-value : goal.returns-in-Some-mark_met-clause-value
+pub returns-in-Some-met-clause-value : goal.returns-in-Some-met-clause-value
 unfolding body
-returns-in-Some-mark_met-clause-value c = grind (arith, common_steps)
+returns-in-Some-met-clause-value c = grind (arith, common_steps)
 
-pub returns-in-Some-mark_met-clause-shorter : goal.returns-in-Some-mark_met-clause-shorter
+pub returns-in-Some-met-clause-shorter : goal.returns-in-Some-met-clause-shorter
 unfolding body
-returns-in-Some-mark_met-clause-shorter c = grind (arith, common_steps)
+returns-in-Some-met-clause-shorter c = grind (arith, common_steps)
 
 pub returns-in-None-clause-value : goal.returns-in-None-clause-value
 unfolding body

@@ -1,8 +1,6 @@
 use Rattle.std.proofs.Common.{arith}
 use Rattle.std.proofs.lemmas.Grind.{common_steps}
-use Rattle.net_data.specs.Reading.{lone}
 use Rattle.net_data.proofs.parse.lone.Goals as goal
 
 pub returns-in_ok-end-in-Some : goal.returns-in_ok-end-in-Some
-unfolding lone
 returns-in_ok-end-in-Some c = grind (arith, common_steps)

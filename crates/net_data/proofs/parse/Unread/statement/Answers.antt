@@ -7,17 +7,17 @@ pub returns-in-Some-clause-shorter : goal.returns-in-Some-clause-shorter
 unfolding statement
 returns-in-Some-clause-shorter c = grind (arith, common_steps)
 
-pub returns-in-Some-word_met-clause-value : goal.returns-in-Some-word_met-clause-value
+pub returns-in-Some-met-clause-value : goal.returns-in-Some-met-clause-value
 unfolding statement
-returns-in-Some-word_met-clause-value c = grind (arith, common_steps)
+returns-in-Some-met-clause-value c = grind (arith, common_steps)
 
 pub returns-in-None-clause-left : goal.returns-in-None-clause-left
 unfolding statement
 returns-in-None-clause-left c = grind (arith, common_steps)
 
-pub returns-in-Some-word_met-clause-shorter : goal.returns-in-Some-word_met-clause-shorter
+pub returns-in-Some-met-clause-shorter : goal.returns-in-Some-met-clause-shorter
 unfolding statement
-returns-in-Some-word_met-clause-shorter c = grind (arith, common_steps)
+returns-in-Some-met-clause-shorter c = grind (arith, common_steps)
 
 pub returns-in-Some-clause-value : goal.returns-in-Some-clause-value
 unfolding statement
