@@ -1,6 +1,5 @@
 //! `param` statements: lists, tables and columns.
 ghost use Rattle.std.specs.Prelude.{◌≡◌, ◌<◌, ◌≤◌, length, IfOk, IfSome};
-ghost use Rattle.net_data.specs.Tests.{is_name, is_member};
 ghost use Rattle.net_data.specs.Reading.{table, turned, given, list, body, default, named, named_set, columns, param, Reads, ReadsStated};
 
 use crate::cursor::{met, wanted};

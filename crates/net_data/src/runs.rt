@@ -1,5 +1,5 @@
 //! Runs of tokens, with commas among them.
-ghost use Rattle.std.specs.Prelude.{◌≡◌, ◌+◌, ◌<◌, ◌≤◌, length, IfOk, Result};
+ghost use Rattle.std.specs.Prelude.{◌≡◌, ◌≤◌, length};
 ghost use Rattle.net_data.specs.Tests.{is_of};
 ghost use Rattle.net_data.specs.Reading.{run, run_len};
 
