@@ -20,17 +20,12 @@ fn add_room(rooms: &mut Vec<i128>, node: u32, room: i128) {
 
 fn rooms_of(alloc: Global, problem: &Problem) -> Result<Rooms, AllocError> {
     let count = problem.supplies.len();
-    let mut rooms = Rooms {
-        out: vec![in alloc; 0i128; count]?,
-        into: vec![in alloc; 0i128; count]?,
+    let out = vec![in alloc; 0i128; count]?;
+    let Ok(into) = vec![in alloc; 0i128; count] else {
+        return Err(AllocError);
     };
-    for arc in &problem.arcs {
-        if arc.src != arc.dst {
-            let room = i128::from(arc.cap) - i128::from(arc.low);
-            add_room(&mut rooms.out, arc.src, room);
-            add_room(&mut rooms.into, arc.dst, room);
-        }
-    }
+    let mut rooms = Rooms { out, into };
+    rooms.add_arcs(problem);
     Ok(rooms)
 }
 
@@ -41,21 +36,36 @@ struct Neck {
     side: Side,
 }
 
+impl Rooms {
+    /// Adds what each arc that leads to another node can carry more.
+    fn add_arcs(&mut self, problem: &Problem) {
+        for arc in &problem.arcs {
+            if arc.src != arc.dst {
+                let room = i128::from(arc.cap).wrapping_sub(i128::from(arc.low));
+                add_room(&mut self.out, arc.src, room);
+                add_room(&mut self.into, arc.dst, room);
+            }
+        }
+    }
+
+    /// The side on which a node with this excess is a cut by itself.
+    fn side(&self, node: u32, excess: i128) -> Option<Side> {
+        if excess > at(&self.out, node, 0) {
+            Some(Side::Over)
+        } else if excess.saturating_add(at(&self.into, node, 0)) < 0 {
+            Some(Side::Under)
+        } else {
+            None
+        }
+    }
+}
+
 /// The first node that is a cut by itself.
 fn first_neck(rooms: &Rooms, excess: &[i128]) -> Option<Neck> {
     let mut node = 0u32;
-    for ((excess, out), into) in excess.iter().zip(&rooms.out).zip(&rooms.into) {
-        if excess > out {
-            return Some(Neck {
-                node,
-                side: Side::Over,
-            });
-        }
-        if excess.saturating_add(*into) < 0 {
-            return Some(Neck {
-                node,
-                side: Side::Under,
-            });
+    for excess in excess {
+        if let Some(side) = rooms.side(node, *excess) {
+            return Some(Neck { node, side });
         }
         node = node.wrapping_add(1);
     }

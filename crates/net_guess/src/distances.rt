@@ -76,7 +76,9 @@ impl Scaling {
         for node in 0..index(count) {
             if self.excess(node) < 0 {
                 put(&mut distances, node, 0);
-                waiting.push(Reverse((0u32, node)))?;
+                let Ok(()) = waiting.push(Reverse((0u32, node))) else {
+                    return Err(AllocError);
+                };
             }
         }
         for _ in 0..self.costs.len().saturating_add(count) {
@@ -84,7 +86,16 @@ impl Scaling {
                 break;
             };
             if at(&distances, node, FAR) == distance {
-                self.reach_back(&mut distances, &mut waiting, node, distance, epsilon)?;
+                let reached = self.reach_back(
+                    &mut distances,
+                    &mut waiting,
+                    node,
+                    distance,
+                    epsilon,
+                );
+                let Ok(()) = reached else {
+                    return Err(AllocError);
+                };
             }
         }
         self.work = self.work.wrapping_add(self.costs.len() as u64);
@@ -115,7 +126,9 @@ impl Scaling {
             let farther = distance.wrapping_add(steps_of(reduced, epsilon));
             if farther < known {
                 put(distances, arc.head, farther);
-                waiting.push(Reverse((farther, arc.head)))?;
+                let Ok(()) = waiting.push(Reverse((farther, arc.head))) else {
+                    return Err(AllocError);
+                };
             }
         }
         Ok(())

@@ -34,22 +34,31 @@ pub fn find_guess(alloc: Global, problem: &Problem) -> Result<Guess, AllocError>
 fn guessed(alloc: Global, problem: &Problem) -> Result<Guess, Halt> {
     let total = supplies_sum(problem)?;
     if total != 0 {
-        let side = if total > 0 { Side::Over } else { Side::Under };
-        let flags = vec![in alloc; true; problem.supplies.len()]?;
-        return Ok(Guess::Cut { flags, side });
+        return whole_cut(alloc, problem, total);
     }
     let excess = excess_at_lows(alloc, problem)?;
-    if let Some(guess) = bottleneck(alloc, problem, &excess)? {
-        return Ok(guess);
+    match bottleneck(alloc, problem, &excess) {
+        Ok(Some(guess)) => return Ok(guess),
+        Ok(None) => {}
+        Err(AllocError) => return Err(Halt::OutOfMemory),
     }
-    if let Some(guess) = probed(alloc, problem, &excess)? {
-        return Ok(guess);
+    match probed(alloc, problem, &excess) {
+        Ok(Some(guess)) => return Ok(guess),
+        Ok(None) => {}
+        Err(halt) => return Err(halt),
     }
     match by_simplex(alloc, problem, &excess) {
         Ok(Some(guess)) => Ok(guess),
         Ok(None) | Err(Halt::OutOfRange) => scaled(alloc, problem, &excess),
         Err(Halt::OutOfMemory) => Err(Halt::OutOfMemory),
     }
+}
+
+/// All nodes as a cut, where their supplies come to this sum, which is not 0.
+fn whole_cut(alloc: Global, problem: &Problem, total: i128) -> Result<Guess, Halt> {
+    let flags = vec![in alloc; true; problem.supplies.len()]?;
+    let side = if total > 0 { Side::Over } else { Side::Under };
+    Ok(Guess::Cut { flags, side })
 }
 
 /// The sum of all supplies.
@@ -72,27 +81,57 @@ fn size_of(problem: &Problem) -> u64 {
 fn probed(alloc: Global, problem: &Problem, excess: &[i128]) -> Result<Option<Guess>, Halt> {
     let limit = PROBE_LOOKS.saturating_mul(size_of(problem));
     let mut probe = Probe::new(alloc, problem, excess, limit)?;
-    match probe.run(alloc)? {
-        Seen::Cut(flags) => Ok(Some(Guess::Cut {
-            flags,
-            side: Side::Over,
-        })),
-        Seen::Flow if problem.arcs.iter().all(|arc| arc.cost == 0) => {
-            let flows = probe.incidence.flows(alloc, problem)?;
-            let potentials = vec![in alloc; 0i64; problem.supplies.len()]?;
+    seen_by(&mut probe, alloc, problem)
+}
+
+/// What a probe says that has not begun.
+fn seen_by(probe: &mut Probe, alloc: Global, problem: &Problem) -> Result<Option<Guess>, Halt> {
+    match probe.run()? {
+        Seen::Cut => {
+            let Ok(flags) = probe.reached(alloc) else {
+                return Err(Halt::OutOfMemory);
+            };
+            let side = Side::Over;
+            Ok(Some(Guess::Cut { flags, side }))
+        }
+        Seen::Flow if is_free(problem) => {
+            let Ok(flows) = probe.incidence.flows(alloc, problem) else {
+                return Err(Halt::OutOfMemory);
+            };
+            let Ok(potentials) = vec![in alloc; 0i64; problem.supplies.len()] else {
+                return Err(Halt::OutOfMemory);
+            };
             Ok(Some(Guess::Flow { flows, potentials }))
         }
         Seen::Flow | Seen::Unknown => Ok(None),
     }
 }
 
+/// Whether no arc costs anything.
+fn is_free(problem: &Problem) -> bool {
+    problem.arcs.iter().all(|arc| arc.cost == 0)
+}
+
 /// What a network simplex says, where it ends at a flow.
 fn by_simplex(alloc: Global, problem: &Problem, excess: &[i128]) -> Result<Option<Guess>, Halt> {
     let mut simplex = Simplex::new(alloc, problem, excess)?;
+    ended_at(&mut simplex, alloc, problem)
+}
+
+/// What a network simplex says that has not begun, where it ends at a flow.
+fn ended_at(
+    simplex: &mut Simplex,
+    alloc: Global,
+    problem: &Problem,
+) -> Result<Option<Guess>, Halt> {
     match simplex.run(problem, SIMPLEX_LOOKS.saturating_mul(size_of(problem)))? {
         Ended::Optimal => {
-            let flows = simplex.flows(alloc, problem)?;
-            let potentials = simplex.potentials(alloc, problem)?;
+            let Ok(flows) = simplex.flows(alloc, problem) else {
+                return Err(Halt::OutOfMemory);
+            };
+            let Ok(potentials) = simplex.potentials(alloc, problem) else {
+                return Err(Halt::OutOfMemory);
+            };
             Ok(Some(Guess::Flow { flows, potentials }))
         }
         Ended::Infeasible => Ok(None),

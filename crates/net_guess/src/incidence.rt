@@ -1,6 +1,6 @@
 //! The arcs at each node, those out of it and those into it, with the room for flow on them both ways.
 
-use crate::places::{at, index, put, row_at};
+use crate::places::{at, put, row_at};
 use crate::rows::row_ends;
 use net_normal::Problem;
 use std::alloc::{AllocError, Global};
@@ -36,38 +36,38 @@ impl Incidence {
     pub fn at_lows(alloc: Global, problem: &Problem) -> Result<Incidence, AllocError> {
         let count = problem.arcs.len().saturating_mul(2);
         let none = Incident { head: 0, place: 0 };
-        let mut incidence = Incidence {
-            starts: row_ends(alloc, problem)?,
-            ends: vec![in alloc; none; count]?,
-            rooms: Vec::with_capacity(alloc, count)?,
+        let starts = row_ends(alloc, problem)?;
+        let Ok(ends) = vec![in alloc; none; count] else {
+            return Err(AllocError);
         };
-        for arc in &problem.arcs {
-            let place = index(incidence.rooms.len());
-            incidence.rooms.push(arc.cap.wrapping_sub(arc.low))?;
-            incidence.rooms.push(0)?;
-            incidence.add(
-                arc.src,
-                Incident {
-                    head: arc.dst,
-                    place,
-                },
-            );
-            incidence.add(
-                arc.dst,
-                Incident {
-                    head: arc.src,
-                    place: back_of(place),
-                },
-            );
-        }
+        let Ok(rooms) = vec![in alloc; 0i64; count] else {
+            return Err(AllocError);
+        };
+        let mut incidence = Incidence {
+            starts,
+            ends,
+            rooms,
+        };
+        incidence.add_arcs(problem);
         Ok(incidence)
     }
 
+    /// Takes in the arcs of a problem, in their order.
+    fn add_arcs(&mut self, problem: &Problem) {
+        let mut place = 0u32;
+        for arc in &problem.arcs {
+            put(&mut self.rooms, place, arc.cap.wrapping_sub(arc.low));
+            self.add(arc.src, arc.dst, place);
+            self.add(arc.dst, arc.src, back_of(place));
+            place = place.wrapping_add(2);
+        }
+    }
+
     /// Takes the last free place at a node.
-    fn add(&mut self, node: u32, incident: Incident) {
+    fn add(&mut self, node: u32, head: u32, place: u32) {
         let free = at(&self.starts, node, 0).wrapping_sub(1);
         put(&mut self.starts, node, free);
-        put(&mut self.ends, free, incident);
+        put(&mut self.ends, free, Incident { head, place });
     }
 
     /// The places of the arcs at a node.

@@ -6,6 +6,7 @@
 
 use crate::halt::Halt;
 use net_normal::{FlowArc, Problem};
+use std::alloc::{AllocError, Global};
 use std::ops::Range;
 
 /// What stands at a place, or what stands for nothing where the list has no such place.
@@ -52,6 +53,22 @@ pub fn index(place: usize) -> u32 {
 pub fn put<T: Copy>(items: &mut Vec<T>, place: u32, item: T) {
     if let Some(slot) = items.get_mut(place as usize) {
         *slot = item;
+    }
+}
+
+/// Lets a list be one item so many times.
+pub fn fill<T: Copy>(
+    alloc: Global,
+    items: &mut Vec<T>,
+    item: T,
+    count: usize,
+) -> Result<(), AllocError> {
+    match vec![in alloc; item; count] {
+        Ok(made) => {
+            *items = made;
+            Ok(())
+        }
+        Err(fault) => Err(fault),
     }
 }
 

@@ -4,7 +4,7 @@
 
 use crate::halt::Halt;
 use crate::incidence::{Incidence, back_of};
-use crate::places::{at, index, put};
+use crate::places::{at, fill, index, put};
 use net_normal::Problem;
 use std::alloc::{AllocError, Global};
 
@@ -25,12 +25,12 @@ struct Step {
 }
 
 /// What a probe says.
-#[derive(Drop)]
+#[derive(Clone, Copy)]
 pub enum Seen {
     /// The flow meets all supplies.
     Flow,
-    /// Nothing leaves these nodes any more, and they have excess.
-    Cut(Vec<bool>),
+    /// Nothing leaves the nodes any more that are reached from those with excess.
+    Cut,
     /// It ran out of work.
     Unknown,
 }
@@ -44,7 +44,10 @@ pub struct Probe {
     levels: Vec<u32>,
     /// The residual arc out of each node at which the search for a way goes on.
     current: Vec<u32>,
+    /// Nodes to be looked at, in the order in which they came: there is room for all, and each comes at most once.
     queue: Vec<u32>,
+    /// How many places of the queue are taken.
+    queued: u32,
     /// The way from a node with excess on.
     path: Vec<Step>,
     work: u64,
@@ -59,29 +62,49 @@ impl Probe {
         excess: &[i128],
         limit: u64,
     ) -> Result<Probe, Halt> {
-        let count = excess.len();
-        let mut left = Vec::with_capacity(alloc, count)?;
-        left.extend_from_slice(excess)?;
-        Ok(Probe {
-            incidence: Incidence::at_lows(alloc, problem)?,
-            excess: left,
-            levels: vec![in alloc; NO_LEVEL; count]?,
-            current: vec![in alloc; 0u32; count]?,
-            queue: Vec::with_capacity(alloc, count)?,
+        let Ok(incidence) = Incidence::at_lows(alloc, problem) else {
+            return Err(Halt::OutOfMemory);
+        };
+        let mut probe = Probe {
+            incidence,
+            excess: Vec::new(alloc),
+            levels: Vec::new(alloc),
+            current: Vec::new(alloc),
+            queue: Vec::new(alloc),
+            queued: 0,
             path: Vec::new(alloc),
             work: 0,
             limit,
-        })
+        };
+        let Ok(()) = probe.make_room(alloc, excess) else {
+            return Err(Halt::OutOfMemory);
+        };
+        Ok(probe)
+    }
+
+    /// Takes the excess of each node, and makes room for what is kept of each.
+    fn make_room(&mut self, alloc: Global, excess: &[i128]) -> Result<(), AllocError> {
+        let count = excess.len();
+        let Ok(()) = self.excess.extend_from_slice(excess) else {
+            return Err(AllocError);
+        };
+        let Ok(()) = fill(alloc, &mut self.levels, NO_LEVEL, count) else {
+            return Err(AllocError);
+        };
+        let Ok(()) = fill(alloc, &mut self.current, 0, count) else {
+            return Err(AllocError);
+        };
+        fill(alloc, &mut self.queue, NO_NODE, count)
     }
 
     /// Sends flow until all is sent, or a cut is seen, or there was too much work.
-    pub fn run(&mut self, alloc: Global) -> Result<Seen, Halt> {
+    pub fn run(&mut self) -> Result<Seen, Halt> {
         for round in 0..self.limit {
             if self.excess.iter().all(|excess| *excess <= 0) {
                 return Ok(Seen::Flow);
             }
-            if !self.set_levels(round < SHORT_ROUNDS)? {
-                return Ok(Seen::Cut(self.reached(alloc)?));
+            if !self.set_levels(round < SHORT_ROUNDS) {
+                return Ok(Seen::Cut);
             }
             for place in 0..index(self.levels.len()) {
                 self.send_from(place)?;
@@ -93,30 +116,46 @@ impl Probe {
         Ok(Seen::Unknown)
     }
 
+    /// Puts a node at the end of the queue.
+    #[inline]
+    fn enqueue(&mut self, node: u32) {
+        put(&mut self.queue, self.queued, node);
+        self.queued = self.queued.wrapping_add(1);
+    }
+
+    /// The node at a place of the queue, or none past its end.
+    #[inline]
+    fn queued(&self, place: u32) -> u32 {
+        if place < self.queued {
+            at(&self.queue, place, NO_NODE)
+        } else {
+            NO_NODE
+        }
+    }
+
     /// The nodes that excess can still be sent to, those where it is among them. Where no excess reaches a deficit, nothing leaves them.
-    fn reached(&mut self, alloc: Global) -> Result<Vec<bool>, AllocError> {
+    pub fn reached(&mut self, alloc: Global) -> Result<Vec<bool>, AllocError> {
         let mut flags = vec![in alloc; false; self.levels.len()]?;
-        self.begin_reached(&mut flags)?;
+        self.begin_reached(&mut flags);
         for place in 0..index(self.levels.len()) {
-            let node = at(&self.queue, place, NO_NODE);
+            let node = self.queued(place);
             if node == NO_NODE {
                 break;
             }
-            self.reach_on(node, &mut flags)?;
+            self.reach_on(node, &mut flags);
         }
         Ok(flags)
     }
 
     /// Takes in the nodes with excess.
-    fn begin_reached(&mut self, flags: &mut Vec<bool>) -> Result<(), AllocError> {
-        self.queue.clear();
+    fn begin_reached(&mut self, flags: &mut Vec<bool>) {
+        self.queued = 0;
         for node in 0..index(self.excess.len()) {
             if self.excess(node) > 0 {
                 put(flags, node, true);
-                self.queue.push(node)?;
+                self.enqueue(node);
             }
         }
-        Ok(())
     }
 
     /// A node's excess that is left.
@@ -131,71 +170,69 @@ impl Probe {
     }
 
     /// Takes in the nodes to which an arc with room leads from this one.
-    fn reach_on(&mut self, node: u32, flags: &mut Vec<bool>) -> Result<(), AllocError> {
+    fn reach_on(&mut self, node: u32, flags: &mut Vec<bool>) {
         let row = self.incidence.row(node);
         for place in row.start..row.end {
             let arc = self.incidence.end(place);
             if !at(flags, arc.head, true) && self.incidence.room(arc.place) > 0 {
                 put(flags, arc.head, true);
-                self.queue.push(arc.head)?;
+                self.enqueue(arc.head);
             }
         }
-        Ok(())
     }
 
     /// Gives nodes their levels, from the deficits back; a short round ends one level behind the first node with excess.
     /// Answers whether such a node has a level.
-    fn set_levels(&mut self, is_short: bool) -> Result<bool, AllocError> {
-        self.begin_levels()?;
+    fn set_levels(&mut self, is_short: bool) -> bool {
+        self.begin_levels();
         let mut last = NO_LEVEL - 1;
         let mut is_met = false;
         for place in 0..index(self.levels.len()) {
-            let node = at(&self.queue, place, NO_NODE);
+            let node = self.queued(place);
             let level = self.level(node);
             if level >= last {
                 break;
             }
-            if self.reach_back(node, level.wrapping_add(1))? && !is_met {
+            if self.reach_back(node, level.wrapping_add(1)) && !is_met {
                 is_met = true;
                 if is_short {
                     last = level.wrapping_add(2);
                 }
             }
         }
-        Ok(is_met)
+        is_met
     }
 
     /// The nodes with a deficit have level 0, and all others none.
-    fn begin_levels(&mut self) -> Result<(), AllocError> {
-        self.queue.clear();
+    fn begin_levels(&mut self) {
+        self.queued = 0;
         for place in 0..index(self.levels.len()) {
             let start = at(&self.incidence.starts, place, 0);
             put(&mut self.current, place, start);
             if self.excess(place) < 0 {
                 put(&mut self.levels, place, 0);
-                self.queue.push(place)?;
+                self.enqueue(place);
             } else {
                 put(&mut self.levels, place, NO_LEVEL);
             }
         }
         let looked = self.levels.len() as u64;
         self.work = self.work.wrapping_add(looked.saturating_mul(8));
-        Ok(())
     }
 
     /// Gives this level to the nodes from which a residual arc leads to this one. Answers whether one of them has excess.
-    fn reach_back(&mut self, node: u32, level: u32) -> Result<bool, AllocError> {
+    fn reach_back(&mut self, node: u32, level: u32) -> bool {
         let mut is_met = false;
         let row = self.incidence.row(node);
         for place in row.start..row.end {
             let arc = self.incidence.end(place);
             if self.level(arc.head) == NO_LEVEL && self.incidence.room(back_of(arc.place)) > 0 {
                 put(&mut self.levels, arc.head, level);
-                self.queue.push(arc.head)?;
+                self.enqueue(arc.head);
                 is_met = is_met || self.excess(arc.head) > 0;
             }
         }
-        Ok(is_met)
+        is_met
     }
 
     /// Sends what a node has too much of, as far as ways lead down the levels.

@@ -4,9 +4,9 @@ use crate::places::{at, put};
 use net_normal::Problem;
 use std::alloc::{AllocError, Global};
 
-/// How many arcs are at each node: each arc of the problem is at both of its ends.
+/// How many arcs are at each node, and none behind all nodes: each arc of the problem is at both of its ends.
 fn degrees(alloc: Global, problem: &Problem) -> Result<Vec<u32>, AllocError> {
-    let mut counts = vec![in alloc; 0u32; problem.supplies.len()]?;
+    let mut counts = vec![in alloc; 0u32; problem.supplies.len().saturating_add(1)]?;
     for arc in &problem.arcs {
         let leaving = at(&counts, arc.src, 0).wrapping_add(1);
         put(&mut counts, arc.src, leaving);
@@ -18,13 +18,11 @@ fn degrees(alloc: Global, problem: &Problem) -> Result<Vec<u32>, AllocError> {
 
 /// Where the arcs at each node end, if they stand in the order of their nodes, and where those of all end.
 pub fn row_ends(alloc: Global, problem: &Problem) -> Result<Vec<u32>, AllocError> {
-    let counts = degrees(alloc, problem)?;
-    let mut ends = Vec::with_capacity(alloc, counts.len().saturating_add(1))?;
+    let mut ends = degrees(alloc, problem)?;
     let mut end = 0u32;
-    for count in &counts {
+    for count in &mut ends {
         end = end.wrapping_add(*count);
-        ends.push(end)?;
+        *count = end;
     }
-    ends.push(end)?;
     Ok(ends)
 }

@@ -9,7 +9,7 @@
 use crate::guess::Guess;
 use crate::halt::Halt;
 use crate::incidence::{Incidence, Incident};
-use crate::places::{at, index, put};
+use crate::places::{at, fill, index, put};
 use crate::starting::greatest_cost;
 use net_check::Side;
 use net_normal::Problem;
@@ -57,37 +57,67 @@ pub fn scaled(alloc: Global, problem: &Problem, excess: &[i128]) -> Result<Guess
     }
 }
 
-/// What a unit on each arc costs, ahead and back, multiplied.
-fn costs_of(alloc: Global, problem: &Problem, factor: i64) -> Result<Vec<i64>, AllocError> {
-    let mut costs = Vec::with_capacity(alloc, problem.arcs.len().saturating_mul(2))?;
+/// Adds what a unit on each arc costs, ahead and back, multiplied.
+fn push_costs(costs: &mut Vec<i64>, problem: &Problem, factor: i64) -> Result<(), AllocError> {
     for arc in &problem.arcs {
         let cost = arc.cost.wrapping_mul(factor);
-        costs.push(cost)?;
-        costs.push(cost.wrapping_neg())?;
+        let Ok(()) = costs.extend_from_slice(&[cost, cost.wrapping_neg()]) else {
+            return Err(AllocError);
+        };
     }
-    Ok(costs)
+    Ok(())
 }
 
 impl Scaling {
     fn new(alloc: Global, problem: &Problem, excess: &[i128]) -> Result<Scaling, Halt> {
         let count = excess.len();
         let size = (count as u64).saturating_add(problem.arcs.len() as u64);
-        let factor = (count as i64).saturating_add(1);
-        let mut left = Vec::with_capacity(alloc, count)?;
-        left.extend_from_slice(excess)?;
-        Ok(Scaling {
-            incidence: Incidence::at_lows(alloc, problem)?,
-            costs: costs_of(alloc, problem, factor)?,
-            excess: left,
-            potentials: vec![in alloc; 0i128; count]?,
-            current: vec![in alloc; 0u32; count]?,
+        let Ok(incidence) = Incidence::at_lows(alloc, problem) else {
+            return Err(Halt::OutOfMemory);
+        };
+        let mut scaling = Scaling {
+            incidence,
+            costs: Vec::new(alloc),
+            excess: Vec::new(alloc),
+            potentials: Vec::new(alloc),
+            current: Vec::new(alloc),
             queue: VecDeque::new(alloc),
-            is_queued: vec![in alloc; false; count]?,
-            factor,
+            is_queued: Vec::new(alloc),
+            factor: (count as i64).saturating_add(1),
             work: 0,
             limit: LOOKS.saturating_mul(size),
             relabels: 0,
-        })
+        };
+        let Ok(()) = scaling.begin(alloc, problem, excess) else {
+            return Err(Halt::OutOfMemory);
+        };
+        Ok(scaling)
+    }
+
+    /// Takes the excess of each node and the cost of each arc, and makes room for what is kept of each node.
+    fn begin(
+        &mut self,
+        alloc: Global,
+        problem: &Problem,
+        excess: &[i128],
+    ) -> Result<(), AllocError> {
+        let count = excess.len();
+        let Ok(()) = self.excess.extend_from_slice(excess) else {
+            return Err(AllocError);
+        };
+        let Ok(()) = self.costs.reserve(problem.arcs.len().saturating_mul(2)) else {
+            return Err(AllocError);
+        };
+        let Ok(()) = push_costs(&mut self.costs, problem, self.factor) else {
+            return Err(AllocError);
+        };
+        let Ok(()) = fill(alloc, &mut self.potentials, 0, count) else {
+            return Err(AllocError);
+        };
+        let Ok(()) = fill(alloc, &mut self.current, 0, count) else {
+            return Err(AllocError);
+        };
+        fill(alloc, &mut self.is_queued, false, count)
     }
 
     /// All phases.

@@ -8,8 +8,8 @@
 use crate::block::Block;
 use crate::excess::lows_of;
 use crate::halt::Halt;
-use crate::places::{arc_at, at, index, put, try_at};
-use crate::simplex_arc::{PricedArc, Status, priced_arcs, priced_order};
+use crate::places::{arc_at, at, fill, index, put, try_at};
+use crate::simplex_arc::{PricedArc, Status, push_priced_arcs, push_priced_order};
 use crate::starting::first_tree;
 use crate::tree::Tree;
 use net_normal::{FlowArc, Problem};
@@ -52,23 +52,39 @@ impl Simplex {
     /// Before its first change of the tree, where each node with its excess at the lower bounds hangs below the root, but for
     /// those that want flow: they hang by the cheapest arc into them.
     pub fn new(alloc: Global, problem: &Problem, excess: &[i128]) -> Result<Simplex, Halt> {
-        let numbers = priced_order(alloc, problem)?;
-        let arcs = priced_arcs(alloc, problem, &numbers)?;
-        let statuses = vec![in alloc; Status::AtLower; arcs.len()]?;
-        let block = Block::new(arcs.len(), is_bipartite(alloc, problem)?);
+        let Ok(is_bipartite) = is_bipartite(alloc, problem) else {
+            return Err(Halt::OutOfMemory);
+        };
+        let tree = first_tree(alloc, problem, excess)?;
         let mut simplex = Simplex {
-            arcs,
-            numbers,
-            statuses,
-            tree: first_tree(alloc, problem, excess)?,
+            arcs: Vec::new(alloc),
+            numbers: Vec::new(alloc),
+            statuses: Vec::new(alloc),
+            tree,
             next: 0,
-            block,
+            block: Block::new(problem.arcs.len(), is_bipartite),
             work: 0,
             turned: Vec::new(alloc),
             is_short: false,
         };
-        simplex.enter_cheapest(alloc, problem)?;
-        Ok(simplex)
+        match simplex.begin(alloc, problem) {
+            Ok(()) => Ok(simplex),
+            Err(halt) => Err(halt),
+        }
+    }
+
+    /// Takes in the arcs of a problem, each at its lower bound, and lets the cheapest into nodes that want flow come in.
+    fn begin(&mut self, alloc: Global, problem: &Problem) -> Result<(), Halt> {
+        let Ok(()) = push_priced_order(&mut self.numbers, problem) else {
+            return Err(Halt::OutOfMemory);
+        };
+        let Ok(()) = push_priced_arcs(&mut self.arcs, problem, &self.numbers) else {
+            return Err(Halt::OutOfMemory);
+        };
+        let Ok(()) = fill(alloc, &mut self.statuses, Status::AtLower, self.arcs.len()) else {
+            return Err(Halt::OutOfMemory);
+        };
+        self.enter_cheapest(alloc, problem)
     }
 
     /// What a unit of flow over an arc, and through the tree back, costs.
@@ -105,7 +121,13 @@ impl Simplex {
 
     /// Lets the cheapest arc into each node that wants flow come in, where that saves something.
     fn enter_cheapest(&mut self, alloc: Global, problem: &Problem) -> Result<(), Halt> {
-        for place in &self.cheapest(alloc, problem)? {
+        let cheapest = self.cheapest(alloc, problem)?;
+        self.enter_each(problem, &cheapest)
+    }
+
+    /// Lets the arcs at these places come in, where that saves something.
+    fn enter_each(&mut self, problem: &Problem, places: &[u32]) -> Result<(), Halt> {
+        for place in places {
             if self.price(&self.arc(*place))? < 0 {
                 self.enter(problem, *place)?;
             }
@@ -169,9 +191,9 @@ impl Simplex {
     /// The potential of each node of the problem.
     pub fn potentials(&self, alloc: Global, problem: &Problem) -> Result<Vec<i64>, AllocError> {
         let count = problem.supplies.len();
-        let mut potentials = Vec::with_capacity(alloc, count)?;
-        for potential in self.tree.potentials.iter().take(count) {
-            potentials.push(*potential)?;
+        let mut potentials = Vec::new(alloc);
+        if let Some(known) = self.tree.potentials.get(..count) {
+            potentials.extend_from_slice(known)?;
         }
         Ok(potentials)
     }

@@ -1,9 +1,8 @@
 //! The arcs of a problem as a network simplex prices them.
 
-use crate::halt::Halt;
 use crate::places::{arc_at, index};
 use net_normal::{FlowArc, Problem};
-use std::alloc::Global;
+use std::alloc::AllocError;
 
 /// Where the flow on an arc is.
 #[derive(Clone, Copy)]
@@ -60,13 +59,13 @@ pub fn root_of(number: usize) -> usize {
     root
 }
 
-/// The indices of a problem's arcs in the order in which they are priced: the list, from its end, is cut into as many parts as a node has
+/// Adds the indices of a problem's arcs in the order in which they are priced: the list, from its end, is cut into as many parts as a node has
 /// arcs, about, and one of each part comes in turn, as files often list all arcs out of one node together.
-pub fn priced_order(alloc: Global, problem: &Problem) -> Result<Vec<u32>, Halt> {
+pub fn push_priced_order(numbers: &mut Vec<u32>, problem: &Problem) -> Result<(), AllocError> {
     let count = problem.arcs.len();
     let parts = (count / problem.supplies.len().max(1)).max(3);
     let length = count / parts + 1;
-    let mut numbers = Vec::with_capacity(alloc, count)?;
+    numbers.reserve(count)?;
     for place in 0..length {
         let mut behind = place;
         for _ in 0..parts {
@@ -76,18 +75,18 @@ pub fn priced_order(alloc: Global, problem: &Problem) -> Result<Vec<u32>, Halt> 
             behind = behind.saturating_add(length);
         }
     }
-    Ok(numbers)
+    Ok(())
 }
 
-/// Arcs at their lower bounds, in this order.
-pub fn priced_arcs(
-    alloc: Global,
+/// Adds arcs at their lower bounds, in this order.
+pub fn push_priced_arcs(
+    arcs: &mut Vec<PricedArc>,
     problem: &Problem,
     numbers: &[u32],
-) -> Result<Vec<PricedArc>, Halt> {
-    let mut arcs = Vec::with_capacity(alloc, numbers.len())?;
+) -> Result<(), AllocError> {
+    arcs.reserve(numbers.len())?;
     for number in numbers {
         arcs.push(PricedArc::of(&arc_at(problem, *number), Status::AtLower))?;
     }
-    Ok(arcs)
+    Ok(())
 }

@@ -4,7 +4,7 @@ use crate::halt::Halt;
 use crate::places::index;
 use crate::tree::{NO_NODE, Thread, Tree, TreeArc, TreeNode};
 use net_normal::Problem;
-use std::alloc::Global;
+use std::alloc::{AllocError, Global};
 
 /// The room of an arc to the root. Greater numbers than half of it are not taken on.
 pub const ROOT_ROOM: i64 = 1 << 61;
@@ -54,7 +54,9 @@ fn root_arc(number: u32, excess: i64) -> TreeArc {
 pub fn first_tree(alloc: Global, problem: &Problem, excess: &[i128]) -> Result<Tree, Halt> {
     let cost = root_cost(problem)?;
     let root = index(excess.len());
-    let mut tree = Tree::with_room(alloc, excess.len())?;
+    let Ok(mut tree) = Tree::with_room(alloc, excess.len()) else {
+        return Err(Halt::OutOfMemory);
+    };
     for (place, excess) in excess.iter().enumerate() {
         let node = index(place);
         let amount = match i64::try_from(*excess) {
@@ -67,16 +69,26 @@ pub fn first_tree(alloc: Global, problem: &Problem, excess: &[i128]) -> Result<T
             last: node,
             arc: root_arc(index(problem.arcs.len()).wrapping_add(node), amount),
         };
-        let thread = Thread {
-            next: node.wrapping_add(1),
-            previous: if node == 0 {
-                root
-            } else {
-                node.wrapping_sub(1)
-            },
+        let potential = if amount >= 0 { 0 } else { cost };
+        let Ok(()) = tree.add(leaf, thread_at(node, root), potential) else {
+            return Err(Halt::OutOfMemory);
         };
-        tree.add(leaf, thread, if amount >= 0 { 0 } else { cost })?;
     }
+    match add_root(&mut tree, root) {
+        Ok(()) => Ok(tree),
+        Err(AllocError) => Err(Halt::OutOfMemory),
+    }
+}
+
+/// A node's neighbours where all stand in their order, behind the root.
+fn thread_at(node: u32, root: u32) -> Thread {
+    let previous = if node == 0 { root } else { node - 1 };
+    let next = node.wrapping_add(1);
+    Thread { next, previous }
+}
+
+/// Adds the root, whose number this is, behind all nodes of the problem.
+fn add_root(tree: &mut Tree, root: u32) -> Result<(), AllocError> {
     let last = root.wrapping_sub(1);
     let top = TreeNode {
         parent: NO_NODE,
@@ -88,6 +100,5 @@ pub fn first_tree(alloc: Global, problem: &Problem, excess: &[i128]) -> Result<T
         next: 0,
         previous: last,
     };
-    tree.add(top, thread, 0)?;
-    Ok(tree)
+    tree.add(top, thread, 0)
 }
