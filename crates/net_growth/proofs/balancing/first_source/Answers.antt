@@ -13,3 +13,12 @@ returns-then-amount-gt0-clause-some c = grind (arith, common_steps)
 
 pub loop-node-preserved : goal.loop-node-preserved
 loop-node-preserved c = grind (arith, common_steps)
+
+pub bounds-excess-node : goal.bounds-excess-node
+bounds-excess-node c = grind (arith, common_steps)
+
+pub offset_bounds-excess-node : goal.offset_bounds-excess-node
+offset_bounds-excess-node c = grind (arith, common_steps)
+
+pub overflow_cast-result : goal.overflow_cast-result
+overflow_cast-result c = grind (arith, common_steps)

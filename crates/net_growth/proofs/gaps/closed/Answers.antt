@@ -62,3 +62,9 @@ returns-clause-len c = omega (arith, c.loop-potential.invariant.count, c.loop-po
 
 pub offset_bounds-potentials-potential-index : goal.offset_bounds-potentials-potential-index
 offset_bounds-potentials-potential-index c = grind (arith, common_steps)
+
+pub levels_of-requires-clause-most : goal.levels_of-requires-clause-most
+levels_of-requires-clause-most c = grind (arith, common_steps)
+
+pub levels_of-requires-clause-few : goal.levels_of-requires-clause-few
+levels_of-requires-clause-few c = grind (arith, common_steps)

@@ -50,3 +50,9 @@ returns-clause-value c = λ v l.
 
 pub index_mut-requires : goal.index_mut-requires
 index_mut-requires c = grind (arith, common_steps)
+
+pub bounds-flags-node : goal.bounds-flags-node
+bounds-flags-node c = grind (arith, common_steps)
+
+pub returns-clause-len : goal.returns-clause-len
+returns-clause-len c = grind (arith, common_steps)

@@ -1,4 +1,5 @@
 use Rattle.std.proofs.Common.{◌≡◌, ◌∙◌, ℤ, get_or, to_z, of_z, w64, ap, subst, arith}
+use Rattle.std.proofs.lemmas.Grind.{common_steps}
 use lib.IntN.{nat_abs}
 use Rattle.std.proofs.lemmas.Int.{ints}
 use Rattle.std.proofs.lemmas.List.{get_or_default}
@@ -27,3 +28,6 @@ returns-clause-bounds c = λ k d l. subst (λ (a : FlowArc). IsSized c.loop-arc.
 
 pub returns-clause-least : goal.returns-clause-least
 returns-clause-least c = λ most all. c.loop-arc.invariant.least most (λ k l. all k no_arc (omega (arith, l, c.loop-arc.auto.arc-index-end)))
+
+pub offset_bounds-arcs-arc-index : goal.offset_bounds-arcs-arc-index
+offset_bounds-arcs-arc-index c = grind (arith, common_steps)

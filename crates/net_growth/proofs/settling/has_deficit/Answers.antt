@@ -19,3 +19,6 @@ returns-clause-some c = grind (arith, common_steps)
 
 pub returns-then-amount-lt0-clause-some : goal.returns-then-amount-lt0-clause-some
 returns-then-amount-lt0-clause-some c = grind (arith, common_steps)
+
+pub offset_bounds-excess-amount-index : goal.offset_bounds-excess-amount-index
+offset_bounds-excess-amount-index c = grind (arith, common_steps)

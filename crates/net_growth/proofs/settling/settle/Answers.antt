@@ -44,3 +44,6 @@ returns-in-Some-clause-certificate c = grind (arith, common_steps)
 
 pub close_gaps-requires-clause-costs : goal.close_gaps-requires-clause-costs
 close_gaps-requires-clause-costs c = grind (arith, common_steps)
+
+pub returns-in-Some-clause-bounded : goal.returns-in-Some-clause-bounded
+returns-in-Some-clause-bounded c = grind (arith, common_steps)

@@ -31,3 +31,6 @@ returns-clause-certificate c =
 
 pub cost-value-requires : goal.cost-value-requires
 cost-value-requires c = grind (arith, common_steps)
+
+pub returns-then-has_deficit-clause-same : goal.returns-then-has_deficit-clause-same
+returns-then-has_deficit-clause-same c = grind (arith, common_steps)

@@ -28,3 +28,9 @@ add_at-requires-2-clause-amount c = grind (arith, common_steps)
 
 pub add_at-requires-clause-amount : goal.add_at-requires-clause-amount
 add_at-requires-clause-amount c = grind (arith, common_steps)
+
+pub add_at-requires-2-clause-node : goal.add_at-requires-2-clause-node
+add_at-requires-2-clause-node c = grind (arith, common_steps)
+
+pub returns-clause-len : goal.returns-clause-len
+returns-clause-len c = grind (arith, common_steps)

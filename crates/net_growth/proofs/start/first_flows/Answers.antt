@@ -56,3 +56,6 @@ bounds-arc-items-index c = grind (arith, common_steps)
 
 pub loop-index-init : goal.loop-index-init
 loop-index-init c = grind (arith, common_steps)
+
+pub get-requires : goal.get-requires
+get-requires c = grind (arith, common_steps)

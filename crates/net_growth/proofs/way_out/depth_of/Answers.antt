@@ -33,3 +33,12 @@ returns-in-true-false-clause-size c = grind (arith, common_steps)
 
 pub overflow_sub-result : goal.overflow_sub-result
 overflow_sub-result c = grind (arith, common_steps)
+
+pub bounds-flags-arc : goal.bounds-flags-arc
+bounds-flags-arc c = grind (arith, common_steps)
+
+pub bounds-flags-arc-2 : goal.bounds-flags-arc-2
+bounds-flags-arc-2 c = grind (arith, common_steps)
+
+pub reduced_cost-reduced-requires : goal.reduced_cost-reduced-requires
+reduced_cost-reduced-requires c = grind (arith, common_steps)

@@ -46,3 +46,15 @@ depth_of-requires-clause-arc c = grind (arith, common_steps)
 
 pub depth_of-requires-clause-flags : goal.depth_of-requires-clause-flags
 depth_of-requires-clause-flags c = grind (arith, common_steps)
+
+pub bounds-flows-index : goal.bounds-flows-index
+bounds-flows-index c = grind (arith, common_steps)
+
+pub offset_bounds-flows-index : goal.offset_bounds-flows-index
+offset_bounds-flows-index c = grind (arith, common_steps)
+
+pub bounds-arcs-index : goal.bounds-arcs-index
+bounds-arcs-index c = grind (arith, common_steps)
+
+pub offset_bounds-arcs-index : goal.offset_bounds-arcs-index
+offset_bounds-arcs-index c = grind (arith, common_steps)

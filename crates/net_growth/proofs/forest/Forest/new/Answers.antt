@@ -10,3 +10,9 @@ returns-clause-places c = grind (arith, common_steps)
 
 pub returns-clause-flags : goal.returns-clause-flags
 returns-clause-flags c = grind (arith, common_steps)
+
+pub overflow_cast-root : goal.overflow_cast-root
+overflow_cast-root c = grind (arith, common_steps)
+
+pub index_mut-requires : goal.index_mut-requires
+index_mut-requires c = grind (arith, common_steps)

@@ -1,4 +1,5 @@
 use Rattle.std.proofs.Common.{◌≡◌, ◌<◌, ◌-◌, ℕ, Bool, true, false, List, length, get_or, set, replicate, ℤ, pos, ◌≤ℤ◌, ◌<ℤ◌, vec_len, All, refl, sym, ◌∙◌, ap, subst, arith}
+use Rattle.std.proofs.lemmas.Grind.{common_steps}
 use Rattle.std.specs.List.{AllZip}
 use Rattle.std.proofs.lemmas.List.{get_or_read}
 use Rattle.net_normal.specs.Limits.{IsFlowArcOf}
@@ -147,3 +148,30 @@ pull-requires-clause-place c = omega (arith, c.len-place.ensures, c.reach.new.fo
 pub returns-then-index-lt0-clause-sent : goal.returns-then-index-lt0-clause-sent
 returns-then-index-lt0-clause-sent c =
     subst (λ (xs : List ℤ). too_much c.pull.new.self.excess.items < too_much xs) (c.in_ok-reach-in-Some.ensures.same_excess ∙ c.joins.invariant.same_excess) c.pull.ensures.sent
+
+pub returns-then-index-lt0-clause-stuck : goal.returns-then-index-lt0-clause-stuck
+returns-then-index-lt0-clause-stuck c = grind (arith, common_steps)
+
+pub returns-in-None-clause-sent : goal.returns-in-None-clause-sent
+returns-in-None-clause-sent c = grind (arith, common_steps)
+
+pub returns-then-index-lt0-clause-under_way : goal.returns-then-index-lt0-clause-under_way
+returns-then-index-lt0-clause-under_way c = grind (arith, common_steps)
+
+pub reach-requires-clause-grown : goal.reach-requires-clause-grown
+reach-requires-clause-grown c = grind (arith, common_steps)
+
+pub returns-in-None-clause-under_way : goal.returns-in-None-clause-under_way
+returns-in-None-clause-under_way c = grind (arith, common_steps)
+
+pub new-requires : goal.new-requires
+new-requires c = grind (arith, common_steps)
+
+pub reach-requires-clause-inside : goal.reach-requires-clause-inside
+reach-requires-clause-inside c = grind (arith, common_steps)
+
+pub reach-requires-clause-under_way : goal.reach-requires-clause-under_way
+reach-requires-clause-under_way c = grind (arith, common_steps)
+
+pub pull-requires-clause-under_way : goal.pull-requires-clause-under_way
+pull-requires-clause-under_way c = grind (arith, common_steps)

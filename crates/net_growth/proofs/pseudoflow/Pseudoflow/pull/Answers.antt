@@ -1,4 +1,5 @@
 use Rattle.std.proofs.Common.{◌≡◌, get_or, ℤ, pos, ◌≤ℤ◌, ◌<ℤ◌, vec_len, ◌∙◌, refl, arith}
+use Rattle.std.proofs.lemmas.Grind.{common_steps}
 use Rattle.std.proofs.lemmas.Int.{ints}
 use Rattle.std.proofs.lemmas.List.{get_or_read}
 use Rattle.net_growth.specs.Forests.{joined_at}
@@ -54,3 +55,51 @@ returns-then-is_source-clause-sent c =
     let some : pos 0 <ℤ get_or now u (pos 0) = is-source c.index.result.now (get_or now u (pos 0)) size read c.if-is_source.true in
     let less = moved-less (vec_len problem.supplies) u (joined_at all place).node d now next h.under_way.excess_count c.send.ensures.under_way.excess_count s.up s.apart c.send.ensures.positive c.send.ensures.wanted some s.moves in
     omega (arith, less, h.measure)
+
+pub bounds-all-joined : goal.bounds-all-joined
+bounds-all-joined c = grind (arith, common_steps)
+
+pub offset_bounds-all-place : goal.offset_bounds-all-place
+offset_bounds-all-place c = grind (arith, common_steps)
+
+pub send-requires-clause-room : goal.send-requires-clause-room
+send-requires-clause-room c = grind (arith, common_steps)
+
+pub index-requires : goal.index-requires
+index-requires c = grind (arith, common_steps)
+
+pub up-smaller : goal.up-smaller
+up-smaller c = grind (arith, common_steps)
+
+pub offset_bounds-all-joined : goal.offset_bounds-all-joined
+offset_bounds-all-joined c = grind (arith, common_steps)
+
+pub returns-then-is_source-clause-under_way : goal.returns-then-is_source-clause-under_way
+returns-then-is_source-clause-under_way c = grind (arith, common_steps)
+
+pub send-requires-clause-level : goal.send-requires-clause-level
+send-requires-clause-level c = grind (arith, common_steps)
+
+pub overflow_cast-joined : goal.overflow_cast-joined
+overflow_cast-joined c = grind (arith, common_steps)
+
+pub send-requires-clause-deficit : goal.send-requires-clause-deficit
+send-requires-clause-deficit c = grind (arith, common_steps)
+
+pub bounds-all-place : goal.bounds-all-place
+bounds-all-place c = grind (arith, common_steps)
+
+pub send-requires-clause-index : goal.send-requires-clause-index
+send-requires-clause-index c = grind (arith, common_steps)
+
+pub overflow_cast-tail-in-up : goal.overflow_cast-tail-in-up
+overflow_cast-tail-in-up c = grind (arith, common_steps)
+
+pub send-requires-clause-head : goal.send-requires-clause-head
+send-requires-clause-head c = grind (arith, common_steps)
+
+pub overflow_cast-tail : goal.overflow_cast-tail
+overflow_cast-tail c = grind (arith, common_steps)
+
+pub send-requires-clause-under_way : goal.send-requires-clause-under_way
+send-requires-clause-under_way c = grind (arith, common_steps)

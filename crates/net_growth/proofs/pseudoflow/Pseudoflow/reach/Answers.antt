@@ -1,4 +1,5 @@
 use Rattle.std.proofs.Common.{[], ◌∷◌, ◌++◌, ◌≡◌, ◌<◌, ◌≤◌, ◌^◌, ◌+◌, ℕ, List, Bool, length, get_or, set, ℤ, to_z, of_z, w64, vec_len, sym, ◌∙◌, ap, subst, arith, All, true}
+use Rattle.std.proofs.lemmas.Grind.{common_steps}
 use Rattle.std.specs.Int.{w128}
 use Rattle.std.specs.List.{AllZip}
 use Rattle.std.proofs.lemmas.Int.{ints}
@@ -182,3 +183,12 @@ returns-clause-under_way c =
     let state = c.args.self.now in
     under-way c.args.problem.now state.flows.items c.deref-2.result.now state.potentials.items c.lower.new.potentials.items state.excess.items c.deref.result.now _ c.deref.ensures.value c.deref-2.ensures.value
     (sym c.lower.new.potentials.ok.0) (omega (arith, c.lower.ensures.len, c.requires.under_way.potentials_count, state.potentials.ok.0)) c.lower.ensures.slackness c.requires.under_way
+
+pub index-requires : goal.index-requires
+index-requires c = grind (arith, common_steps)
+
+pub overflow_cast-way-2 : goal.overflow_cast-way-2
+overflow_cast-way-2 c = grind (arith, common_steps)
+
+pub returns-clause-same_excess : goal.returns-clause-same_excess
+returns-clause-same_excess c = grind (arith, common_steps)

@@ -1,4 +1,5 @@
 use Rattle.std.proofs.Common.{◌≡◌, ℕ, Bool, cond, List, get_or, ℤ, pos, neg_ℤ, ◌+ℤ◌, ◌-ℤ◌, ◌<ℤ◌, ◌≤ℤ◌, to_z, of_z, w64, vec_len, sym, ◌∙◌, ap, subst, arith}
+use Rattle.std.proofs.lemmas.Grind.{common_steps}
 use Rattle.std.proofs.lemmas.Int.{ints}
 use Rattle.std.proofs.lemmas.List.{get_or_read, get_or-set_other}
 use Rattle.net_normal.specs.Limits.{IsSized, IsFlowArcOf, flow_limit}
@@ -136,3 +137,24 @@ returns-clause-wanted c =
 
 pub returns-clause-others : goal.returns-clause-others
 returns-clause-others c = λ k ne. ap (λ (xs : List ℤ). get_or xs k (pos 0)) c.push.ensures.flows ∙ get_or-set_other c.args.self.now.flows.items c.args.joined.now.index k _ (pos 0) ne
+
+pub returns-clause-potentials : goal.returns-clause-potentials
+returns-clause-potentials c = grind (arith, common_steps)
+
+pub push-requires-clause-level : goal.push-requires-clause-level
+push-requires-clause-level c = grind (arith, common_steps)
+
+pub ahead-requires : goal.ahead-requires
+ahead-requires c = grind (arith, common_steps)
+
+pub push-requires-clause-index : goal.push-requires-clause-index
+push-requires-clause-index c = grind (arith, common_steps)
+
+pub returns-clause-under_way : goal.returns-clause-under_way
+returns-clause-under_way c = grind (arith, common_steps)
+
+pub index-requires : goal.index-requires
+index-requires c = grind (arith, common_steps)
+
+pub push-requires-clause-under_way : goal.push-requires-clause-under_way
+push-requires-clause-under_way c = grind (arith, common_steps)
