@@ -71,8 +71,7 @@ fn push_value(text: &mut Vec<u8>, value: i128) -> Result<(), AllocError>
     let mut buffer = Buffer::new();
     text.extend_from_slice(b"s ")?;
     text.extend_from_slice(buffer.format(value).as_bytes())?;
-    text.push(b'\n')?;
-    Ok(())
+    text.extend_from_slice(b"\n")
 }
 
 fn push_flows(text: &mut Vec<u8>, arcs: &[FlowArc], flows: &[i64]) -> Result<(), AllocError>

@@ -76,6 +76,5 @@ pub fn push_line(text: &mut Vec<u8>, kind: &[u8], numbers: &[i64]) -> Result<(),
         text.push(b' ')?;
         text.extend_from_slice(buffer.format(*number).as_bytes())?;
     }
-    text.push(b'\n')?;
-    Ok(())
+    text.extend_from_slice(b"\n")
 }

@@ -83,5 +83,5 @@ pub fn settle(
         });
     }
     state.close_gaps(alloc, problem, most)?;
-    Ok(settled(alloc, problem, state)?)
+    settled(alloc, problem, state)
 }

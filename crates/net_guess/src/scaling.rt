@@ -8,7 +8,7 @@
 
 use crate::guess::Guess;
 use crate::halt::Halt;
-use crate::incidence::{Incidence, Incident};
+use crate::incidence::{Incidence, Incident, back_of};
 use crate::places::{at, fill, index, put};
 use crate::starting::greatest_cost;
 use net_check::Side;
@@ -57,15 +57,15 @@ pub fn scaled(alloc: Global, problem: &Problem, excess: &[i128]) -> Result<Guess
     }
 }
 
-/// Adds what a unit on each arc costs, ahead and back, multiplied.
-fn push_costs(costs: &mut Vec<i64>, problem: &Problem, factor: i64) -> Result<(), AllocError> {
+/// Puts what a unit on each arc costs, ahead and back, multiplied.
+fn put_costs(costs: &mut Vec<i64>, problem: &Problem, factor: i64) {
+    let mut place = 0u32;
     for arc in &problem.arcs {
         let cost = arc.cost.wrapping_mul(factor);
-        let Ok(()) = costs.extend_from_slice(&[cost, cost.wrapping_neg()]) else {
-            return Err(AllocError);
-        };
+        put(costs, place, cost);
+        put(costs, back_of(place), cost.wrapping_neg());
+        place = place.wrapping_add(2);
     }
-    Ok(())
 }
 
 impl Scaling {
@@ -105,12 +105,11 @@ impl Scaling {
         let Ok(()) = self.excess.extend_from_slice(excess) else {
             return Err(AllocError);
         };
-        let Ok(()) = self.costs.reserve(problem.arcs.len().saturating_mul(2)) else {
+        let arc_ends = problem.arcs.len().saturating_mul(2);
+        let Ok(()) = fill(alloc, &mut self.costs, 0, arc_ends) else {
             return Err(AllocError);
         };
-        let Ok(()) = push_costs(&mut self.costs, problem, self.factor) else {
-            return Err(AllocError);
-        };
+        put_costs(&mut self.costs, problem, self.factor);
         let Ok(()) = fill(alloc, &mut self.potentials, 0, count) else {
             return Err(AllocError);
         };
@@ -272,9 +271,10 @@ impl Scaling {
     /// Puts a node with excess at the end of the queue.
     fn enqueue(&mut self, node: u32) -> Result<(), Halt> {
         if self.excess(node) > 0 {
-            self.wait(node)?;
+            self.wait(node)
+        } else {
+            Ok(())
         }
-        Ok(())
     }
 
     /// One phase: pushes and relabels until no node has excess.

@@ -9,7 +9,7 @@ use crate::block::Block;
 use crate::excess::lows_of;
 use crate::halt::Halt;
 use crate::places::{arc_at, at, fill, index, put, try_at};
-use crate::simplex_arc::{PricedArc, Status, push_priced_arcs, push_priced_order};
+use crate::simplex_arc::{PricedArc, Status, put_priced_arcs, put_priced_order};
 use crate::starting::first_tree;
 use crate::tree::Tree;
 use net_normal::{FlowArc, Problem};
@@ -75,15 +75,18 @@ impl Simplex {
 
     /// Takes in the arcs of a problem, each at its lower bound, and lets the cheapest into nodes that want flow come in.
     fn begin(&mut self, alloc: Global, problem: &Problem) -> Result<(), Halt> {
-        let Ok(()) = push_priced_order(&mut self.numbers, problem) else {
+        let count = problem.arcs.len();
+        let Ok(()) = fill(alloc, &mut self.numbers, NO_PLACE, count) else {
             return Err(Halt::OutOfMemory);
         };
-        let Ok(()) = push_priced_arcs(&mut self.arcs, problem, &self.numbers) else {
+        let Ok(()) = fill(alloc, &mut self.arcs, PricedArc::NONE, count) else {
             return Err(Halt::OutOfMemory);
         };
-        let Ok(()) = fill(alloc, &mut self.statuses, Status::AtLower, self.arcs.len()) else {
+        let Ok(()) = fill(alloc, &mut self.statuses, Status::AtLower, count) else {
             return Err(Halt::OutOfMemory);
         };
+        put_priced_order(&mut self.numbers, problem.supplies.len());
+        put_priced_arcs(&mut self.arcs, problem, &self.numbers);
         self.enter_cheapest(alloc, problem)
     }
 

@@ -1,8 +1,7 @@
 //! The arcs of a problem as a network simplex prices them.
 
-use crate::places::{arc_at, index};
+use crate::places::{arc_at, index, put};
 use net_normal::{FlowArc, Problem};
-use std::alloc::AllocError;
 
 /// Where the flow on an arc is.
 #[derive(Clone, Copy)]
@@ -59,34 +58,31 @@ pub fn root_of(number: usize) -> usize {
     root
 }
 
-/// Adds the indices of a problem's arcs in the order in which they are priced: the list, from its end, is cut into as many parts as a node has
-/// arcs, about, and one of each part comes in turn, as files often list all arcs out of one node together.
-pub fn push_priced_order(numbers: &mut Vec<u32>, problem: &Problem) -> Result<(), AllocError> {
-    let count = problem.arcs.len();
-    let parts = (count / problem.supplies.len().max(1)).max(3);
+/// Puts the indices of a problem's arcs in the order in which they are priced: the list, from its end, is cut into as many parts as a
+/// node has arcs, about, and one of each part comes in turn, as files often list all arcs out of one node together.
+pub fn put_priced_order(numbers: &mut Vec<u32>, node_count: usize) {
+    let count = numbers.len();
+    let parts = (count / node_count.max(1)).max(3);
     let length = count / parts + 1;
-    numbers.reserve(count)?;
+    let mut taken = 0u32;
     for place in 0..length {
         let mut behind = place;
         for _ in 0..parts {
             if behind < count {
-                numbers.push(index(count - 1 - behind))?;
+                put(numbers, taken, index(count - 1 - behind));
+                taken = taken.wrapping_add(1);
             }
             behind = behind.saturating_add(length);
         }
     }
-    Ok(())
 }
 
-/// Adds arcs at their lower bounds, in this order.
-pub fn push_priced_arcs(
-    arcs: &mut Vec<PricedArc>,
-    problem: &Problem,
-    numbers: &[u32],
-) -> Result<(), AllocError> {
-    arcs.reserve(numbers.len())?;
+/// Puts arcs at their lower bounds, in this order.
+pub fn put_priced_arcs(arcs: &mut Vec<PricedArc>, problem: &Problem, numbers: &[u32]) {
+    let mut place = 0u32;
     for number in numbers {
-        arcs.push(PricedArc::of(&arc_at(problem, *number), Status::AtLower))?;
+        let arc = arc_at(problem, *number);
+        put(arcs, place, PricedArc::of(&arc, Status::AtLower));
+        place = place.wrapping_add(1);
     }
-    Ok(())
 }

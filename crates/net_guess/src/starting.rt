@@ -4,7 +4,7 @@ use crate::halt::Halt;
 use crate::places::index;
 use crate::tree::{NO_NODE, Thread, Tree, TreeArc, TreeNode};
 use net_normal::Problem;
-use std::alloc::{AllocError, Global};
+use std::alloc::Global;
 
 /// The room of an arc to the root. Greater numbers than half of it are not taken on.
 pub const ROOT_ROOM: i64 = 1 << 61;
@@ -54,7 +54,7 @@ fn root_arc(number: u32, excess: i64) -> TreeArc {
 pub fn first_tree(alloc: Global, problem: &Problem, excess: &[i128]) -> Result<Tree, Halt> {
     let cost = root_cost(problem)?;
     let root = index(excess.len());
-    let Ok(mut tree) = Tree::with_room(alloc, excess.len()) else {
+    let Ok(mut tree) = Tree::of_size(alloc, excess.len().saturating_add(1)) else {
         return Err(Halt::OutOfMemory);
     };
     for (place, excess) in excess.iter().enumerate() {
@@ -70,14 +70,10 @@ pub fn first_tree(alloc: Global, problem: &Problem, excess: &[i128]) -> Result<T
             arc: root_arc(index(problem.arcs.len()).wrapping_add(node), amount),
         };
         let potential = if amount >= 0 { 0 } else { cost };
-        let Ok(()) = tree.add(leaf, thread_at(node, root), potential) else {
-            return Err(Halt::OutOfMemory);
-        };
+        tree.put_whole(node, leaf, thread_at(node, root), potential);
     }
-    match add_root(&mut tree, root) {
-        Ok(()) => Ok(tree),
-        Err(AllocError) => Err(Halt::OutOfMemory),
-    }
+    put_root(&mut tree, root);
+    Ok(tree)
 }
 
 /// A node's neighbours where all stand in their order, behind the root.
@@ -87,8 +83,8 @@ fn thread_at(node: u32, root: u32) -> Thread {
     Thread { next, previous }
 }
 
-/// Adds the root, whose number this is, behind all nodes of the problem.
-fn add_root(tree: &mut Tree, root: u32) -> Result<(), AllocError> {
+/// Puts the root, whose number this is, above all nodes of the problem.
+fn put_root(tree: &mut Tree, root: u32) {
     let last = root.wrapping_sub(1);
     let top = TreeNode {
         parent: NO_NODE,
@@ -100,5 +96,5 @@ fn add_root(tree: &mut Tree, root: u32) -> Result<(), AllocError> {
         next: 0,
         previous: last,
     };
-    tree.add(top, thread, 0)
+    tree.put_whole(root, top, thread, 0);
 }

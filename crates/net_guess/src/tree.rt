@@ -52,11 +52,34 @@ pub struct TreeNode {
     pub arc: TreeArc,
 }
 
+impl TreeNode {
+    /// What stands for no node: it has no parent and no arc.
+    pub const NONE: TreeNode = TreeNode {
+        parent: NO_NODE,
+        size: 0,
+        last: NO_NODE,
+        arc: TreeArc {
+            number: u32::MAX,
+            is_up: true,
+            room_up: 0,
+            room_down: 0,
+        },
+    };
+}
+
 /// A node's neighbours in the cyclic order.
 #[derive(Clone, Copy)]
 pub struct Thread {
     pub next: u32,
     pub previous: u32,
+}
+
+impl Thread {
+    /// The neighbours of no node.
+    pub const NONE: Thread = Thread {
+        next: NO_NODE,
+        previous: NO_NODE,
+    };
 }
 
 /// The nodes of a problem and a root above them, whose number is that of the problem's nodes.
@@ -68,27 +91,29 @@ pub struct Tree {
 }
 
 impl Tree {
-    /// The root alone would be the parent of each node: room for so many, and the root.
-    pub fn with_room(alloc: Global, node_count: usize) -> Result<Tree, AllocError> {
-        let room = node_count.saturating_add(1);
+    /// So many nodes, the root among them, each still to be put in its place.
+    pub fn of_size(alloc: Global, count: usize) -> Result<Tree, AllocError> {
+        let Ok(nodes) = vec![in alloc; TreeNode::NONE; count] else {
+            return Err(AllocError);
+        };
+        let Ok(threads) = vec![in alloc; Thread::NONE; count] else {
+            return Err(AllocError);
+        };
+        let Ok(potentials) = vec![in alloc; 0i64; count] else {
+            return Err(AllocError);
+        };
         Ok(Tree {
-            nodes: Vec::with_capacity(alloc, room)?,
-            threads: Vec::with_capacity(alloc, room)?,
-            potentials: Vec::with_capacity(alloc, room)?,
+            nodes,
+            threads,
+            potentials,
         })
     }
 
-    /// Adds the next node, with its neighbours in the cyclic order and its potential.
-    pub fn add(
-        &mut self,
-        node: TreeNode,
-        thread: Thread,
-        potential: i64,
-    ) -> Result<(), AllocError> {
-        self.nodes.push(node)?;
-        self.threads.push(thread)?;
-        self.potentials.push(potential)?;
-        Ok(())
+    /// Puts a node in its place, with its neighbours in the cyclic order and its potential.
+    pub fn put_whole(&mut self, place: u32, node: TreeNode, thread: Thread, potential: i64) {
+        put(&mut self.nodes, place, node);
+        put(&mut self.threads, place, thread);
+        put(&mut self.potentials, place, potential);
     }
 
     /// A node by its number, or one that has no parent and no arc.
@@ -96,17 +121,7 @@ impl Tree {
     pub fn node(&self, node: u32) -> TreeNode {
         match self.nodes.get(node as usize) {
             Some(node) => *node,
-            None => TreeNode {
-                parent: NO_NODE,
-                size: 0,
-                last: NO_NODE,
-                arc: TreeArc {
-                    number: u32::MAX,
-                    is_up: true,
-                    room_up: 0,
-                    room_down: 0,
-                },
-            },
+            None => TreeNode::NONE,
         }
     }
 
@@ -114,10 +129,7 @@ impl Tree {
     pub fn thread(&self, node: u32) -> Thread {
         match self.threads.get(node as usize) {
             Some(thread) => *thread,
-            None => Thread {
-                next: NO_NODE,
-                previous: NO_NODE,
-            },
+            None => Thread::NONE,
         }
     }
 

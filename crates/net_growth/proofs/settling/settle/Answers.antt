@@ -1,5 +1,6 @@
 use Rattle.std.proofs.Common.{◌≡◌, List, All, sym, subst, arith}
 use Rattle.std.proofs.lemmas.Grind.{common_steps}
+use Rattle.std.proofs.lemmas.Result.{IfOk-weaker}
 use Rattle.net_normal.specs.Limits.{IsSized, cost_limit}
 use Rattle.net_normal.specs.declared.problem.FlowArc.{FlowArc}
 use Rattle.net_normal.specs.declared.problem.Problem.{Problem}
@@ -18,8 +19,9 @@ close_gaps-requires-clause-most c = c.greatest_cost-most.ensures.least cost_limi
 
 pub returns-clause-bounded : goal.returns-clause-bounded
 returns-clause-bounded c =
-    small-certificate c.args.problem.now c.in_ok-settled.field-0 c.close_gaps.new.self.potentials.items c.greatest_cost-most.result c.in_ok-settled.ensures.same c.in_ok-close_gaps.ensures.potentials
-    (λ most all. c.greatest_cost-most.ensures.least most (subst (All (λ arc. IsSized most arc.cost)) (sym c.deref.ensures.value) all))
+    IfOk-weaker c.settled.result _ _ (λ certificate same.
+    small-certificate c.args.problem.now certificate c.close_gaps.new.self.potentials.items c.greatest_cost-most.result same c.in_ok-close_gaps.ensures.potentials
+    (λ most all. c.greatest_cost-most.ensures.least most (subst (All (λ arc. IsSized most arc.cost)) (sym c.deref.ensures.value) all))) c.settled.ensures.same
 
 pub greatest_cost-most-requires : goal.greatest_cost-most-requires
 greatest_cost-most-requires c = grind (arith, common_steps)
