@@ -3,8 +3,7 @@
 //! A phase often ends at a flow of least cost before epsilon is 1. Then there are whole potentials over whose residual arcs nothing is
 //! saved, near those of the phase, and they are found by lowering; else a cycle saves something, around which lowering never ends.
 
-use crate::halt::Halt;
-use crate::places::{at, index, put};
+use crate::places::{index, put};
 use crate::scaling::Scaling;
 
 /// How much is looked at, for each node and each end of an arc, before the next phase follows instead.
@@ -17,26 +16,25 @@ impl Scaling {
     /// and as heads are lowered, nothing still is. So where none waits, the flow costs least and the potentials fit it; they are whole,
     /// as the costs by which they are lowered are. Where some are left waiting, the next phase takes them first: those without excess
     /// it passes over.
-    pub fn fit(&mut self) -> Result<bool, Halt> {
-        self.make_whole()?;
+    pub fn fit(&mut self) -> bool {
+        self.make_whole();
         let size = (self.costs.len() as u64).saturating_add(self.potentials.len() as u64);
         let looks = PASSES.saturating_mul(size);
         let last = self.work.saturating_add(looks);
         for _ in 0..looks {
-            let Some(node) = self.queue.pop_front() else {
-                return Ok(true);
+            let Some(node) = self.queue.pop() else {
+                return true;
             };
-            put(&mut self.is_queued, node, false);
-            self.lower_heads(node)?;
+            self.lower_heads(node);
             if self.work > last {
                 break;
             }
         }
-        Ok(false)
+        false
     }
 
     /// Rounds all potentials down to whole units of the problem's costs, and lets all nodes wait.
-    fn make_whole(&mut self) -> Result<(), Halt> {
+    fn make_whole(&mut self) {
         let factor = i128::from(self.factor);
         for node in 0..index(self.potentials.len()) {
             let whole = self
@@ -45,13 +43,12 @@ impl Scaling {
                 .unwrap_or(0)
                 .wrapping_mul(factor);
             put(&mut self.potentials, node, whole);
-            self.wait(node)?;
+            self.queue.push(node);
         }
-        Ok(())
     }
 
     /// Lowers the heads of a node's residual arcs of negative reduced cost by as much, and lets them wait.
-    fn lower_heads(&mut self, node: u32) -> Result<(), Halt> {
+    fn lower_heads(&mut self, node: u32) {
         let tail = self.potential(node);
         let row = self.incidence.row(node);
         for place in row.start..row.end {
@@ -60,19 +57,9 @@ impl Scaling {
             if reduced < 0 && self.incidence.room(arc.place) > 0 {
                 let lower = self.potential(arc.head).wrapping_add(reduced);
                 put(&mut self.potentials, arc.head, lower);
-                self.wait(arc.head)?;
+                self.queue.push(arc.head);
             }
             self.work = self.work.wrapping_add(1);
         }
-        Ok(())
-    }
-
-    /// Puts a node at the end of the queue, where it is not in it.
-    pub fn wait(&mut self, node: u32) -> Result<(), Halt> {
-        if !at(&self.is_queued, node, true) {
-            put(&mut self.is_queued, node, true);
-            self.queue.push_back(node)?;
-        }
-        Ok(())
     }
 }

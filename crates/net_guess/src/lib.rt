@@ -12,6 +12,7 @@ mod guess;
 mod guessing;
 mod halt;
 mod incidence;
+mod node_queue;
 mod pivoting;
 mod places;
 mod pricing;

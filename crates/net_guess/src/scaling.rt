@@ -9,12 +9,12 @@
 use crate::guess::Guess;
 use crate::halt::Halt;
 use crate::incidence::{Incidence, Incident, back_of};
+use crate::node_queue::NodeQueue;
 use crate::places::{at, fill, index, put};
 use crate::starting::greatest_cost;
 use net_check::Side;
 use net_normal::Problem;
 use std::alloc::{AllocError, Global};
-use std::collections::VecDeque;
 
 /// How much is looked at, for each node and arc.
 const LOOKS: u64 = 4000;
@@ -38,9 +38,8 @@ pub struct Scaling {
     pub potentials: Vec<i128>,
     /// The residual arc out of each node at which the search for a push goes on.
     current: Vec<u32>,
-    /// Nodes with excess, first in, first out, and whether each node is among them.
-    pub queue: VecDeque<u32>,
-    pub is_queued: Vec<bool>,
+    /// Nodes that are to be looked at, as those with excess.
+    pub queue: NodeQueue,
     /// What costs are multiplied by.
     pub factor: i64,
     pub work: u64,
@@ -75,14 +74,16 @@ impl Scaling {
         let Ok(incidence) = Incidence::at_lows(alloc, problem) else {
             return Err(Halt::OutOfMemory);
         };
+        let Ok(queue) = NodeQueue::with_room(alloc, count) else {
+            return Err(Halt::OutOfMemory);
+        };
         let mut scaling = Scaling {
             incidence,
             costs: Vec::new(alloc),
             excess: Vec::new(alloc),
             potentials: Vec::new(alloc),
             current: Vec::new(alloc),
-            queue: VecDeque::new(alloc),
-            is_queued: Vec::new(alloc),
+            queue,
             factor: (count as i64).saturating_add(1),
             work: 0,
             limit: LOOKS.saturating_mul(size),
@@ -113,10 +114,7 @@ impl Scaling {
         let Ok(()) = fill(alloc, &mut self.potentials, 0, count) else {
             return Err(AllocError);
         };
-        let Ok(()) = fill(alloc, &mut self.current, 0, count) else {
-            return Err(AllocError);
-        };
-        fill(alloc, &mut self.is_queued, false, count)
+        fill(alloc, &mut self.current, 0, count)
     }
 
     /// All phases.
@@ -125,7 +123,7 @@ impl Scaling {
         for _ in 0..64 {
             self.saturate();
             self.refine(alloc, epsilon)?;
-            if epsilon == 1 || (epsilon <= self.factor && self.fit()?) {
+            if epsilon == 1 || (epsilon <= self.factor && self.fit()) {
                 return Ok(());
             }
             epsilon = (epsilon / FACTOR).max(1);
@@ -269,11 +267,9 @@ impl Scaling {
     }
 
     /// Puts a node with excess at the end of the queue.
-    fn enqueue(&mut self, node: u32) -> Result<(), Halt> {
+    fn enqueue(&mut self, node: u32) {
         if self.excess(node) > 0 {
-            self.wait(node)
-        } else {
-            Ok(())
+            self.queue.push(node);
         }
     }
 
@@ -281,16 +277,15 @@ impl Scaling {
     fn refine(&mut self, alloc: Global, epsilon: i64) -> Result<(), Halt> {
         self.lower_by_distance(alloc, epsilon)?;
         for node in 0..index(self.potentials.len()) {
-            self.enqueue(node)?;
+            self.enqueue(node);
         }
         let often = self.potentials.len() as u64;
         let mut last = self.relabels;
         for _ in 0..self.limit {
-            let Some(node) = self.queue.pop_front() else {
+            let Some(node) = self.queue.pop() else {
                 return Ok(());
             };
-            put(&mut self.is_queued, node, false);
-            self.discharge(node, epsilon)?;
+            self.discharge(node, epsilon);
             if self.work > self.limit {
                 return Err(Halt::OutOfRange);
             }
@@ -303,21 +298,20 @@ impl Scaling {
     }
 
     /// Pushes all of a node's excess away, on ways of a few arcs.
-    fn discharge(&mut self, node: u32, epsilon: i64) -> Result<(), Halt> {
+    fn discharge(&mut self, node: u32, epsilon: i64) {
         for _ in 0..self.limit {
             if self.excess(node) <= 0 || self.work > self.limit {
                 break;
             }
-            let end = self.push_way(node, epsilon)?;
+            let end = self.push_way(node, epsilon);
             if end != node {
-                self.enqueue(end)?;
+                self.enqueue(end);
             }
         }
-        Ok(())
     }
 
     /// Pushes from a node on, as far as nodes have excess. Answers where that ends.
-    fn push_way(&mut self, from: u32, epsilon: i64) -> Result<u32, Halt> {
+    fn push_way(&mut self, from: u32, epsilon: i64) -> u32 {
         let mut node = from;
         let mut length = 0u32;
         for _ in 0..self.limit {
@@ -333,12 +327,12 @@ impl Scaling {
             }
             self.push_most(node, arc);
             if node != from {
-                self.enqueue(node)?;
+                self.enqueue(node);
             }
             node = arc.head;
             length = length.wrapping_add(1);
         }
-        Ok(node)
+        node
     }
 
     /// Pushes what a node has over an arc, as far as there is room.
