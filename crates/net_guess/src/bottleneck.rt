@@ -78,10 +78,21 @@ pub fn bottleneck(
     problem: &Problem,
     excess: &[i128],
 ) -> Result<Option<Guess>, AllocError> {
-    let Some(Neck { node, side }) = first_neck(&rooms_of(alloc, problem)?, excess) else {
-        return Ok(None);
+    let Ok(rooms) = rooms_of(alloc, problem) else {
+        return Err(AllocError);
     };
-    let mut flags = vec![in alloc; false; problem.supplies.len()]?;
-    put(&mut flags, node, true);
+    match first_neck(&rooms, excess) {
+        Some(neck) => cut_at(alloc, problem, neck),
+        None => Ok(None),
+    }
+}
+
+/// The cut that a node is by itself.
+fn cut_at(alloc: Global, problem: &Problem, neck: Neck) -> Result<Option<Guess>, AllocError> {
+    let Ok(mut flags) = vec![in alloc; false; problem.supplies.len()] else {
+        return Err(AllocError);
+    };
+    put(&mut flags, neck.node, true);
+    let side = neck.side;
     Ok(Some(Guess::Cut { flags, side }))
 }

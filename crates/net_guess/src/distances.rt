@@ -56,8 +56,12 @@ impl Scaling {
 
     /// Whether each node is one from which no deficit is reached, where one of them has excess: nothing leaves them any more.
     pub fn stuck(&mut self, alloc: Global) -> Result<Option<Vec<bool>>, AllocError> {
-        let distances = self.distances(alloc, 1)?;
-        let mut flags = vec![in alloc; false; distances.len()]?;
+        let Ok(distances) = self.distances(alloc, 1) else {
+            return Err(AllocError);
+        };
+        let Ok(mut flags) = vec![in alloc; false; distances.len()] else {
+            return Err(AllocError);
+        };
         let mut is_stuck = false;
         for node in 0..index(distances.len()) {
             if at(&distances, node, 0) >= FAR {

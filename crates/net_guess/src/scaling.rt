@@ -133,16 +133,25 @@ impl Scaling {
 
     /// The nodes from which no deficit is reached, where one of them has excess; else the flow.
     fn guess(&mut self, alloc: Global, problem: &Problem) -> Result<Guess, Halt> {
-        if let Some(flags) = self.stuck(alloc)? {
-            return Ok(Guess::Cut {
-                flags,
-                side: Side::Over,
-            });
+        match self.stuck(alloc) {
+            Ok(Some(flags)) => {
+                let side = Side::Over;
+                Ok(Guess::Cut { flags, side })
+            }
+            Ok(None) => self.flow(alloc, problem),
+            Err(AllocError) => Err(Halt::OutOfMemory),
         }
-        Ok(Guess::Flow {
-            flows: self.incidence.flows(alloc, problem)?,
-            potentials: self.whole_potentials(alloc)?,
-        })
+    }
+
+    /// The flow, with potentials.
+    fn flow(&self, alloc: Global, problem: &Problem) -> Result<Guess, Halt> {
+        let Ok(flows) = self.incidence.flows(alloc, problem) else {
+            return Err(Halt::OutOfMemory);
+        };
+        let Ok(potentials) = self.whole_potentials(alloc) else {
+            return Err(Halt::OutOfMemory);
+        };
+        Ok(Guess::Flow { flows, potentials })
     }
 
     /// The potentials in the problem's costs, complementary to the flow where whole ones fit it or epsilon came to 1.
@@ -151,14 +160,19 @@ impl Scaling {
     /// that none of them has, so that rounding down takes off 1 to `factor - 1`: with the 1, a rise grows by less than a unit of the
     /// problem's costs. Whole ones have one residue, so that each comes out lower by the same unit.
     fn whole_potentials(&self, alloc: Global) -> Result<Vec<i64>, AllocError> {
-        let free = self.free_residue(alloc)?;
-        let mut potentials = Vec::with_capacity(alloc, self.potentials.len())?;
-        for potential in &self.potentials {
-            let whole = potential
+        let Ok(free) = self.free_residue(alloc) else {
+            return Err(AllocError);
+        };
+        let Ok(mut potentials) = vec![in alloc; 0i64; self.potentials.len()] else {
+            return Err(AllocError);
+        };
+        for node in 0..index(self.potentials.len()) {
+            let whole = self
+                .potential(node)
                 .wrapping_sub(free)
                 .checked_div_euclid(i128::from(self.factor))
                 .unwrap_or(0);
-            potentials.push(i64::try_from(whole).unwrap_or(0))?;
+            put(&mut potentials, node, i64::try_from(whole).unwrap_or(0));
         }
         Ok(potentials)
     }
