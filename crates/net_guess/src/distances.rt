@@ -56,12 +56,8 @@ impl Scaling {
 
     /// Whether each node is one from which no deficit is reached, where one of them has excess: nothing leaves them any more.
     pub fn stuck(&mut self, alloc: Global) -> Result<Option<Vec<bool>>, AllocError> {
-        let Ok(distances) = self.distances(alloc, 1) else {
-            return Err(AllocError);
-        };
-        let Ok(mut flags) = vec![in alloc; false; distances.len()] else {
-            return Err(AllocError);
-        };
+        let distances = self.distances(alloc, 1)?;
+        let mut flags = vec![in alloc; false; distances.len()]?;
         let mut is_stuck = false;
         for node in 0..index(distances.len()) {
             if at(&distances, node, 0) >= FAR {
@@ -80,9 +76,7 @@ impl Scaling {
         for node in 0..index(count) {
             if self.excess(node) < 0 {
                 put(&mut distances, node, 0);
-                let Ok(()) = waiting.push(Reverse((0u32, node))) else {
-                    return Err(AllocError);
-                };
+                waiting.push(Reverse((0u32, node)))?;
             }
         }
         for _ in 0..self.costs.len().saturating_add(count) {
@@ -90,16 +84,7 @@ impl Scaling {
                 break;
             };
             if at(&distances, node, FAR) == distance {
-                let reached = self.reach_back(
-                    &mut distances,
-                    &mut waiting,
-                    node,
-                    distance,
-                    epsilon,
-                );
-                let Ok(()) = reached else {
-                    return Err(AllocError);
-                };
+                self.reach_back(&mut distances, &mut waiting, node, distance, epsilon)?;
             }
         }
         self.work = self.work.wrapping_add(self.costs.len() as u64);
@@ -130,9 +115,7 @@ impl Scaling {
             let farther = distance.wrapping_add(steps_of(reduced, epsilon));
             if farther < known {
                 put(distances, arc.head, farther);
-                let Ok(()) = waiting.push(Reverse((farther, arc.head))) else {
-                    return Err(AllocError);
-                };
+                waiting.push(Reverse((farther, arc.head)))?;
             }
         }
         Ok(())

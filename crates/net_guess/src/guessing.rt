@@ -34,31 +34,22 @@ pub fn find_guess(alloc: Global, problem: &Problem) -> Result<Guess, AllocError>
 fn guessed(alloc: Global, problem: &Problem) -> Result<Guess, Halt> {
     let total = supplies_sum(problem)?;
     if total != 0 {
-        return whole_cut(alloc, problem, total);
+        let side = if total > 0 { Side::Over } else { Side::Under };
+        let flags = vec![in alloc; true; problem.supplies.len()]?;
+        return Ok(Guess::Cut { flags, side });
     }
     let excess = excess_at_lows(alloc, problem)?;
-    match bottleneck(alloc, problem, &excess) {
-        Ok(Some(guess)) => return Ok(guess),
-        Ok(None) => {}
-        Err(AllocError) => return Err(Halt::OutOfMemory),
+    if let Some(guess) = bottleneck(alloc, problem, &excess)? {
+        return Ok(guess);
     }
-    match probed(alloc, problem, &excess) {
-        Ok(Some(guess)) => return Ok(guess),
-        Ok(None) => {}
-        Err(halt) => return Err(halt),
+    if let Some(guess) = probed(alloc, problem, &excess)? {
+        return Ok(guess);
     }
     match by_simplex(alloc, problem, &excess) {
         Ok(Some(guess)) => Ok(guess),
         Ok(None) | Err(Halt::OutOfRange) => scaled(alloc, problem, &excess),
         Err(Halt::OutOfMemory) => Err(Halt::OutOfMemory),
     }
-}
-
-/// All nodes as a cut, where their supplies come to this sum, which is not 0.
-fn whole_cut(alloc: Global, problem: &Problem, total: i128) -> Result<Guess, Halt> {
-    let flags = vec![in alloc; true; problem.supplies.len()]?;
-    let side = if total > 0 { Side::Over } else { Side::Under };
-    Ok(Guess::Cut { flags, side })
 }
 
 /// The sum of all supplies.

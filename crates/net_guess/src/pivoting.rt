@@ -40,15 +40,6 @@ struct Narrow {
     node: Option<u32>,
 }
 
-impl Narrow {
-    /// Takes in the room above a node.
-    #[inline]
-    fn take(&mut self, room: i64, node: u32) {
-        self.room = room;
-        self.node = Some(node);
-    }
-}
-
 impl Simplex {
     /// Lets the arc at this place come in.
     pub fn enter(&mut self, problem: &Problem, place: u32) -> Result<(), Halt> {
@@ -91,34 +82,30 @@ impl Simplex {
             node: None,
         };
         let mut behind = before;
-        let Ok(mut left) = try_at(&self.tree.nodes, low) else {
-            return Err(Halt::OutOfRange);
-        };
-        let Ok(mut right) = try_at(&self.tree.nodes, high) else {
-            return Err(Halt::OutOfRange);
-        };
+        let mut left = try_at(&self.tree.nodes, low)?;
+        let mut right = try_at(&self.tree.nodes, high)?;
         for _ in 0..=self.tree.nodes.len().saturating_mul(2) {
             if low == high {
                 return Ok(narrowest(first, second, low, room, before, behind));
             }
             if left.size < right.size {
                 if left.arc.room_down < before.room {
-                    before.take(left.arc.room_down, low);
+                    before = Narrow {
+                        room: left.arc.room_down,
+                        node: Some(low),
+                    };
                 }
                 low = left.parent;
-                left = match try_at(&self.tree.nodes, low) {
-                    Ok(node) => node,
-                    Err(halt) => return Err(halt),
-                };
+                left = try_at(&self.tree.nodes, low)?;
             } else {
                 if right.arc.room_up <= behind.room {
-                    behind.take(right.arc.room_up, high);
+                    behind = Narrow {
+                        room: right.arc.room_up,
+                        node: Some(high),
+                    };
                 }
                 high = right.parent;
-                right = match try_at(&self.tree.nodes, high) {
-                    Ok(node) => node,
-                    Err(halt) => return Err(halt),
-                };
+                right = try_at(&self.tree.nodes, high)?;
             }
         }
         Err(Halt::OutOfRange)
