@@ -414,3 +414,87 @@ keys::through-loop-tuple-smaller t c = grind (arith)
 
 pub keys::walk_item-returns : goal.keys::walk_item-returns
 keys::walk_item-returns t c = grind (arith)
+
+pub eval::chained-loop-link-smaller : goal.eval::chained-loop-link-smaller
+eval::chained-loop-link-smaller t c = grind (arith)
+
+pub eval::chained-offset_bounds-links-link-index : goal.eval::chained-offset_bounds-links-link-index
+eval::chained-offset_bounds-links-link-index t c = grind (arith)
+
+pub eval::evaluate_more-loop-link-smaller : goal.eval::evaluate_more-loop-link-smaller
+eval::evaluate_more-loop-link-smaller t c = grind (arith)
+
+pub eval::evaluate_more-offset_bounds-more-link-index : goal.eval::evaluate_more-offset_bounds-more-link-index
+eval::evaluate_more-offset_bounds-more-link-index t c = grind (arith)
+
+pub eval::gather-loop-row-smaller : goal.eval::gather-loop-row-smaller
+eval::gather-loop-row-smaller t c = grind (arith)
+
+pub eval::gather-one_more-requires : goal.eval::gather-one_more-requires
+eval::gather-one_more-requires t c = grind (arith)
+
+pub eval::joined-returns-in-Some : goal.eval::joined-returns-in-Some
+eval::joined-returns-in-Some t c = grind (arith)
+
+pub eval::tupled-returns : goal.eval::tupled-returns
+eval::tupled-returns t c = grind (arith)
+
+pub fitting::alone-returns-in-Some : goal.fitting::alone-returns-in-Some
+fitting::alone-returns-in-Some t c = grind (arith)
+
+pub fitting::components-bounds-member-0 : goal.fitting::components-bounds-member-0
+fitting::components-bounds-member-0 t c = grind (arith)
+
+pub fitting::components-slice_bounds-others-count : goal.fitting::components-slice_bounds-others-count
+fitting::components-slice_bounds-others-count t c = grind (arith)
+
+pub fitting::components-slice_bounds-others-start : goal.fitting::components-slice_bounds-others-start
+fitting::components-slice_bounds-others-start t c = grind (arith)
+
+pub fitting::fit_all-returns-in-Ok-None : goal.fitting::fit_all-returns-in-Ok-None
+fitting::fit_all-returns-in-Ok-None t c = grind (arith)
+
+pub fitting::place_at-left_place-requires : goal.fitting::place_at-left_place-requires
+fitting::place_at-left_place-requires t c = grind (arith)
+
+pub fitting::places-bounds-links-0 : goal.fitting::places-bounds-links-0
+fitting::places-bounds-links-0 t c = grind (arith)
+
+pub fitting::places-bounds-members-0 : goal.fitting::places-bounds-members-0
+fitting::places-bounds-members-0 t c = grind (arith)
+
+pub fitting::places-slice_bounds-others-count : goal.fitting::places-slice_bounds-others-count
+fitting::places-slice_bounds-others-count t c = grind (arith)
+
+pub fitting::places-slice_bounds-others-start : goal.fitting::places-slice_bounds-others-start
+fitting::places-slice_bounds-others-start t c = grind (arith)
+
+pub fitting::places-slice_bounds-rest-count : goal.fitting::places-slice_bounds-rest-count
+fitting::places-slice_bounds-rest-count t c = grind (arith)
+
+pub fitting::places-slice_bounds-rest-start : goal.fitting::places-slice_bounds-rest-start
+fitting::places-slice_bounds-rest-start t c = grind (arith)
+
+pub keys::keep-loop-row-smaller : goal.keys::keep-loop-row-smaller
+keys::keep-loop-row-smaller t c = grind (arith)
+
+pub keys::keep-offset_bounds-rows-row-index : goal.keys::keep-offset_bounds-rows-row-index
+keys::keep-offset_bounds-rows-row-index t c = grind (arith)
+
+pub keys::onward-returns-in-Err : goal.keys::onward-returns-in-Err
+keys::onward-returns-in-Err t c = grind (arith)
+
+pub keys::onward-returns-in-Ok-None : goal.keys::onward-returns-in-Ok-None
+keys::onward-returns-in-Ok-None t c = grind (arith)
+
+pub keys::select-same-found : goal.keys::select-same-found
+keys::select-same-found t c = grind (arith)
+
+pub keys::walk-bounds-items-0 : goal.keys::walk-bounds-items-0
+keys::walk-bounds-items-0 t c = grind (arith)
+
+pub keys::walk-slice_bounds-rest-count : goal.keys::walk-slice_bounds-rest-count
+keys::walk-slice_bounds-rest-count t c = grind (arith)
+
+pub keys::walk-slice_bounds-rest-start : goal.keys::walk-slice_bounds-rest-start
+keys::walk-slice_bounds-rest-start t c = grind (arith)

@@ -266,3 +266,39 @@ expressions::unary_inside-returns-in_ok-operand-in-Sign-clause-shorter t c = gri
 pub expressions::unary_inside-returns-in_ok-operand-in-Sign-clause-value : goal.expressions::unary_inside-returns-in_ok-operand-in-Sign-clause-value
 unfolding unary unary_at inner_of
 expressions::unary_inside-returns-in_ok-operand-in-Sign-clause-value t c = grind (arith, views)
+
+pub chains::links_from-returns-clause-shorter : goal.chains::links_from-returns-clause-shorter
+chains::links_from-returns-clause-shorter t c = grind (arith)
+
+pub choices::if_inside-returns-in-Some-clause-shorter : goal.choices::if_inside-returns-in-Some-clause-shorter
+choices::if_inside-returns-in-Some-clause-shorter t c = grind (arith)
+
+pub choices::if_inside-returns-in-Some-clause-value : goal.choices::if_inside-returns-in-Some-clause-value
+unfolding if_at
+choices::if_inside-returns-in-Some-clause-value t c = grind (arith)
+
+pub choices::wide_of-returns-else-next_is-clause-value : goal.choices::wide_of-returns-else-next_is-clause-value
+unfolding wide
+choices::wide_of-returns-else-next_is-clause-value t c = grind (arith)
+
+pub expressions::named_inside-returns-then-next_is-clause-shorter : goal.expressions::named_inside-returns-then-next_is-clause-shorter
+expressions::named_inside-returns-then-next_is-clause-shorter t c = grind (arith)
+
+pub expressions::parens_from-returns-else-is_sum-clause-shorter : goal.expressions::parens_from-returns-else-is_sum-clause-shorter
+expressions::parens_from-returns-else-is_sum-clause-shorter t c = grind (arith)
+
+pub expressions::unary_inside-returns-in-Name-clause-value : goal.expressions::unary_inside-returns-in-Name-clause-value
+unfolding unary unary_at inner_of
+expressions::unary_inside-returns-in-Name-clause-value t c = grind (arith, views)
+
+pub expressions::unary_inside-returns-in-Not-clause-value : goal.expressions::unary_inside-returns-in-Not-clause-value
+unfolding unary unary_at inner_of
+expressions::unary_inside-returns-in-Not-clause-value t c = grind (arith, views)
+
+pub expressions::unary_inside-returns-in-Open-clause-value : goal.expressions::unary_inside-returns-in-Open-clause-value
+unfolding unary unary_at inner_of
+expressions::unary_inside-returns-in-Open-clause-value t c = grind (arith, views)
+
+pub expressions::unary_inside-returns-in-Reduction-clause-value : goal.expressions::unary_inside-returns-in-Reduction-clause-value
+unfolding unary unary_at inner_of
+expressions::unary_inside-returns-in-Reduction-clause-value t c = grind (arith, views)

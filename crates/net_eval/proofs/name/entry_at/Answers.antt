@@ -13,3 +13,6 @@ returns-else-len-key_count c = grind (arith)
 
 pub returns-then-len-key_count : goal.returns-then-len-key_count
 returns-then-len-key_count c = grind (arith)
+
+pub returns-then-len-eq0 : goal.returns-then-len-eq0
+returns-then-len-eq0 c = grind (arith)

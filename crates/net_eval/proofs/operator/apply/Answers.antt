@@ -31,3 +31,15 @@ returns-in-NotWithin c =
 
 pub returns-in-Plus : goal.returns-in-Plus
 returns-in-Plus c = grind (arith)
+
+pub returns-in-And : goal.returns-in-And
+returns-in-And c = grind (arith)
+
+pub returns-in-Cross : goal.returns-in-Cross
+returns-in-Cross c = grind (arith)
+
+pub returns-in-Inter : goal.returns-in-Inter
+returns-in-Inter c = grind (arith)
+
+pub returns-in-Range : goal.returns-in-Range
+returns-in-Range c = grind (arith)

@@ -10,3 +10,6 @@ returns-in_ok-intersection-in-Inter c = grind (arith, common_steps)
 
 pub returns-in_default : goal.returns-in_default
 returns-in_default c = grind (arith, common_steps)
+
+pub returns-in_ok-again-in-Union : goal.returns-in_ok-again-in-Union
+returns-in_ok-again-in-Union c = grind (arith)

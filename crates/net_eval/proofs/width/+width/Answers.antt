@@ -103,3 +103,18 @@ filled_width-returns-in_ok-form t c = grind (arith)
 
 pub with_item-returns-in-Some : goal.with_item-returns-in-Some
 with_item-returns-in-Some t c = grind (arith)
+
+pub chain_width-loop-link-smaller : goal.chain_width-loop-link-smaller
+chain_width-loop-link-smaller t c = grind (arith)
+
+pub items_form-loop-link-init : goal.items_form-loop-link-init
+items_form-loop-link-init t c = grind (arith)
+
+pub items_form-loop-link-smaller : goal.items_form-loop-link-smaller
+items_form-loop-link-smaller t c = grind (arith)
+
+pub items_form-offset_bounds-more-link-index : goal.items_form-offset_bounds-more-link-index
+items_form-offset_bounds-more-link-index t c = grind (arith)
+
+pub with_item-returns-in_ok-dimension-in-None : goal.with_item-returns-in_ok-dimension-in-None
+with_item-returns-in_ok-dimension-in-None t c = grind (arith)

@@ -47,3 +47,7 @@ loop-alloc-smaller c = grind (arith, common_steps)
 pub returns-clause-shorter : goal.returns-clause-shorter
 unfolding further_terms
 returns-clause-shorter c = grind (arith, common_steps)
+
+pub loop-alloc-init : goal.loop-alloc-init
+unfolding further_terms
+loop-alloc-init c = grind (arith)

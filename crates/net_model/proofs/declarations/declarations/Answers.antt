@@ -65,3 +65,6 @@ loop-alloc-preserved c =
 
 pub loop-alloc-smaller : goal.loop-alloc-smaller
 loop-alloc-smaller c = grind (arith, common_steps)
+
+pub loop-alloc-init : goal.loop-alloc-init
+loop-alloc-init c = grind (arith)

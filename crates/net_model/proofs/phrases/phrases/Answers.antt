@@ -46,3 +46,7 @@ returns-clause-shorter c = grind (arith, common_steps)
 pub loop-alloc-smaller : goal.loop-alloc-smaller
 unfolding phrases
 loop-alloc-smaller c = grind (arith, common_steps)
+
+pub loop-alloc-init : goal.loop-alloc-init
+unfolding phrases
+loop-alloc-init c = grind (arith)

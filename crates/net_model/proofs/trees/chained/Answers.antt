@@ -8,3 +8,6 @@ returns-then-is_none-clause-value c = grind (arith, common_steps, makings)
 
 pub returns-clause-value : goal.returns-clause-value
 returns-clause-value c = grind (arith, common_steps, makings)
+
+pub returns-clause-memory : goal.returns-clause-memory
+returns-clause-memory c = grind (arith, makings)

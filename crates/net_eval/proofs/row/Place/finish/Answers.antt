@@ -4,3 +4,6 @@ use Rattle.net_eval.proofs.row.Place.finish.Goals as goal
 
 pub returns-in-None : goal.returns-in-None
 returns-in-None c = grind (arith, common_steps)
+
+pub returns-in-Some : goal.returns-in-Some
+returns-in-Some c = grind (arith)
