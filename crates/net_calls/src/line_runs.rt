@@ -1,7 +1,9 @@
 //! Runs over texts of lines: a problem is read by pieces and a certificate whole, then the answer is computed whole, then it is written.
 
 ghost use Rattle.std.specs.Prelude.{◌≡◌, ◌⊎◌, ◌↔◌, List, ℕ, true, false, IfOk, IfErr, IsErrOf};
+ghost use Rattle.net_dimacs.specs.Limits.{text_limit};
 ghost use Rattle.net_dimacs.specs.Scans.{Stands};
+ghost use Rattle.net_ends.specs.Ends.{ReadsToLimit};
 ghost use Rattle.net_calls.specs.Checked.{Judges, IsLineRefusal, IsProblemRefusal, ending_of};
 ghost use Rattle.net_calls.specs.Settled.{Settles, settled_ending};
 ghost use Rattle.net_calls.specs.Runs.{IfRefused, IfUnread, WritesVerdict, WritesFrontOfVerdict, RefusesLines, WritesCertificate, WritesFrontOfCertificate, RefusesProblem};
@@ -34,6 +36,16 @@ fn settled_ending(settled: &Settled) -> Ending
         Settled::Optimal { .. } => Ending::Done,
         Settled::Cut { .. } => Ending::Refuted,
     }
+}
+
+/// The text of a certificate, or one byte past the limit.
+fn read_certificate<C: Source>(alloc: Global, certificate: &mut C) -> Result<Vec<u8>, Fault>
+    ensures value { IfOk result (λ text. ReadsToLimit text_limit (C.remaining certificate.old) (C.remaining certificate.new) text.items) }
+    ensures err { IfErr result (λ fault. (fault ≡ Fault.OutOfMemory)
+        ⊎ ((fault ≡ Fault.Unread TextName.Certificate) × (C.failed certificate.new ≡ true))) }
+    ensures flag { C.failed certificate.new ≡ true → (C.failed certificate.old ≡ true) ⊎ (result ≡ Err (Fault.Unread TextName.Certificate)) }
+{
+    read_text(alloc, certificate, TEXT_LIMIT, TextName::Certificate)
 }
 
 /// The verdict on a certificate's text of the problem that was read.
@@ -94,7 +106,7 @@ pub fn run_check<P: Source, C: Source, W: Sink>(
     ensures first { P.failed problem.new ≡ true → certificate.new ≡ certificate.old }
 {
     let reading = read_problem_from(alloc, problem)?;
-    let certificate_text = read_text(alloc, certificate, TEXT_LIMIT, TextName::Certificate)?;
+    let certificate_text = read_certificate(alloc, certificate)?;
     let verdict = check_read(alloc, reading, &certificate_text)?;
     let ending = ending_of(&verdict);
     let line = verdict_line(alloc, verdict)?;

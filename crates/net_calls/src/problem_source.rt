@@ -1,6 +1,6 @@
 //! Problems that sources give by pieces.
 
-ghost use Rattle.std.specs.Prelude.{◌≡◌, ◌⊎◌, List, ℕ, true, IfOk, IfErr, IsErrOf};
+ghost use Rattle.std.specs.Prelude.{◌≡◌, ◌==◌, ◌⊎◌, List, ℕ, true, IfOk, IfErr, IsErrOf};
 ghost use Rattle.net_dimacs.specs.Scans.{Stands};
 ghost use Rattle.net_calls.specs.Checked.{IsProblemRefusal};
 ghost use Rattle.net_calls.specs.LineTexts.{IsProblemOf};
@@ -31,6 +31,13 @@ pub(crate) fn read_problem_from<S: Source>(alloc: Global, source: &mut S) -> Res
     }
 }
 
+/// Whether a read that gave so many bytes met the end. One that gave few did not.
+fn is_end(count: usize) -> bool
+    ensures { result ≡ (count == 0) }
+{
+    count == 0
+}
+
 fn read_pieces<S: Source>(alloc: Global, source: &mut S) -> Result<Reading, ReadFault>
     ensures value { IfOk result (GivesText (record { old = S.remaining source.old; new = S.remaining source.new })) }
     ensures failed { IsErrOf result ReadFault.Failed → S.failed source.new ≡ true }
@@ -42,7 +49,7 @@ fn read_pieces<S: Source>(alloc: Global, source: &mut S) -> Result<Reading, Read
     while length <= TEXT_LIMIT {
         let room = PIECE.min(TEXT_LIMIT + 1 - length);
         let count = source.read(&mut piece[..room])?;
-        if count == 0 {
+        if is_end(count) {
             return Ok(reading);
         }
         reading = reading.feed(&piece[..count])?;
