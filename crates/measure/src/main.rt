@@ -71,11 +71,8 @@ fn tables<R: AllocGlobal + CpuClock>(rt: &R, text: &[u8]) -> Option<Told> {
         return None;
     };
     let parsed = now(rt);
-    let counts = (
-        tokens.len(),
-        tables.statements.as_slice().len(),
-        tokens.capacity(),
-    );
+    let count = tables.statements.as_slice().len();
+    let counts = (tokens.len(), count, tokens.capacity());
     Some(Told {
         counts,
         times: (lexed.saturating_sub(start), parsed.saturating_sub(lexed)),
@@ -93,11 +90,8 @@ fn model<R: AllocGlobal + CpuClock>(rt: &R, text: &[u8]) -> Option<Told> {
         return None;
     };
     let parsed = now(rt);
-    let counts = (
-        tokens.len(),
-        model.declarations.as_slice().len(),
-        tokens.capacity(),
-    );
+    let count = model.declarations.as_slice().len();
+    let counts = (tokens.len(), count, tokens.capacity());
     free_model(model);
     Some(Told {
         counts,
@@ -105,36 +99,25 @@ fn model<R: AllocGlobal + CpuClock>(rt: &R, text: &[u8]) -> Option<Told> {
     })
 }
 
-/// Counts on standard output.
-fn tell_counts<R: Print>(rt: &R, what: &str, told: &Told) -> io::Result<()> {
-    let (first, second, third) = told.counts;
+/// What was counted and what was done, for each kind of text.
+fn words_of(what: &str) -> [&'static str; 5] {
     match what {
-        "problem" => rt.println(format_args!("{first} nodes, {second} arcs, {third} bytes")),
-        "data" => rt.println(format_args!("{first} tokens")),
-        "tables" => rt.println(format_args!("{first} tokens, {second} statements")),
-        _ => rt.println(format_args!("{first} tokens, {second} declarations")),
+        "problem" => ["nodes", "arcs", "bytes", "read", "write"],
+        "model" => ["tokens", "declarations", "places", "lex", "parse"],
+        _ => ["tokens", "statements", "places", "lex", "parse"],
     }
 }
 
-/// Times on standard error, and how much room there was.
-fn tell_times<R: Eprint>(rt: &R, what: &str, told: &Told) -> io::Result<()> {
-    let (one, two) = told.times;
-    let room = told.counts.2;
-    match what {
-        "problem" => rt.eprintln(format_args!("read {one} us, write {two} us")),
-        "data" => rt.eprintln(format_args!("lex {one} us, room for {room} tokens")),
-        "tables" => rt.eprintln(format_args!("lex {one} us, parse {two} us")),
-        _ => rt.eprintln(format_args!("lex {one} us, parse {two} us, room for {room} tokens")),
-    }
-}
-
-/// Counts and times, where there are any.
+/// Counts on standard output, and times on standard error, where there are any.
 fn tell<R: Print + Eprint>(rt: &R, what: &str, told: Option<Told>) -> io::Result<bool> {
     let Some(told) = told else {
         return Ok(false);
     };
-    tell_counts(rt, what, &told)?;
-    tell_times(rt, what, &told)?;
+    let (first, second, third) = told.counts;
+    let (one, two) = told.times;
+    let [a, b, c, d, e] = words_of(what);
+    rt.println(format_args!("{first} {a}, {second} {b}, {third} {c}"))?;
+    rt.eprintln(format_args!("{d} {one} us, {e} {two} us"))?;
     Ok(true)
 }
 
@@ -221,6 +204,22 @@ fn measured<R: AllocGlobal + CpuClock + Print + Eprint>(
     }
 }
 
+/// Measures what is asked for; how the program ends.
+fn run<R: AllocGlobal + CpuClock + Print + Eprint>(
+    rt: &R,
+    what: &str,
+    text: &[u8],
+    seed: u64,
+) -> io::Result<ExitCode> {
+    let _clock = rt.thread_cpu_time()?;
+    if measured(rt, what, text, seed)? {
+        Ok(ExitCode::SUCCESS)
+    } else {
+        rt.eprintln("measure: the text was refused, or no memory")?;
+        Ok(ExitCode::FAILURE)
+    }
+}
+
 fn main(rt: HostRuntime) -> io::Result<ExitCode> {
     let mut words = env::args(&rt)?;
     let _program = words.next();
@@ -232,12 +231,6 @@ fn main(rt: HostRuntime) -> io::Result<ExitCode> {
         Some(word) => word.as_str().parse::<u64>().unwrap_or(0),
         None => 0,
     };
-    let _clock = rt.thread_cpu_time()?;
     let text = fs::read(&rt, path.as_str())?;
-    if measured(&rt, what.as_str(), text.as_slice(), seed)? {
-        Ok(ExitCode::SUCCESS)
-    } else {
-        rt.eprintln("measure: the text was refused, or no memory")?;
-        Ok(ExitCode::FAILURE)
-    }
+    run(&rt, what.as_str(), text.as_slice(), seed)
 }
