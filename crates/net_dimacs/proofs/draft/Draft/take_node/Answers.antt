@@ -2,9 +2,6 @@ use Rattle.std.proofs.Common.{arith}
 use Rattle.std.proofs.lemmas.Grind.{common_steps}
 use Rattle.net_dimacs.proofs.draft.Draft.take_node.Goals as goal
 
-pub returns-then-index : goal.returns-then-index
-returns-then-index c = grind (arith, common_steps)
-
 pub overflow_cast-place : goal.overflow_cast-place
 overflow_cast-place c = grind (arith, common_steps)
 
