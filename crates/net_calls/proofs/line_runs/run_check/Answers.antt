@@ -1,5 +1,4 @@
 use Rattle.std.proofs.Common.{rules, arith}
-use Rattle.std.proofs.lemmas.Grind.{common_steps}
 use Rattle.net_calls.specs.Checked.{Judges}
 use Rattle.net_calls.proofs.Reading.{read_whole}
 use Rattle.net_calls.proofs.line_runs.run_check.Goals as goal
@@ -36,43 +35,43 @@ returns-clause-front g c =
     }
 
 pub returns-in-Ok-clause-front : goal.returns-in-Ok-clause-front
-returns-in-Ok-clause-front g c = grind (arith, common_steps)
+returns-in-Ok-clause-front g c = grind (arith)
 
 pub returns-in-Ok-clause-first : goal.returns-in-Ok-clause-first
-returns-in-Ok-clause-first g c = grind (arith, common_steps)
+returns-in-Ok-clause-first g c = grind (arith)
 
 pub returns-in_err-certificate_text-clause-front : goal.returns-in_err-certificate_text-clause-front
-returns-in_err-certificate_text-clause-front g c = grind (arith, common_steps)
+returns-in_err-certificate_text-clause-front g c = grind (arith)
 
 pub returns-in-Ok-clause-certificate : goal.returns-in-Ok-clause-certificate
-returns-in-Ok-clause-certificate g c = grind (arith, common_steps)
+returns-in-Ok-clause-certificate g c = grind (arith)
 
 pub returns-clause-output : goal.returns-clause-output
-returns-clause-output g c = grind (arith, common_steps)
+returns-clause-output g c = grind (arith)
 
 pub returns-clause-problem : goal.returns-clause-problem
-returns-clause-problem g c = grind (arith, common_steps)
+returns-clause-problem g c = grind (arith)
 
 pub returns-clause-certificate : goal.returns-clause-certificate
-returns-clause-certificate g c = grind (arith, common_steps)
+returns-clause-certificate g c = grind (arith)
 
 pub returns-in-Ok-clause-output : goal.returns-in-Ok-clause-output
-returns-in-Ok-clause-output g c = grind (arith, common_steps)
+returns-in-Ok-clause-output g c = grind (arith)
 
 pub returns-clause-first : goal.returns-clause-first
-returns-clause-first g c = grind (arith, common_steps)
+returns-clause-first g c = grind (arith)
 
 pub returns-clause-refused : goal.returns-clause-refused
-returns-clause-refused g c = grind (arith, common_steps)
+returns-clause-refused g c = grind (arith)
 
 pub returns-in-Ok-clause-problem : goal.returns-in-Ok-clause-problem
-returns-in-Ok-clause-problem g c = grind (arith, common_steps)
+returns-in-Ok-clause-problem g c = grind (arith)
 
 pub returns-in_err-verdict-clause-told : goal.returns-in_err-verdict-clause-told
-returns-in_err-verdict-clause-told g c = grind (arith, common_steps)
+returns-in_err-verdict-clause-told g c = grind (arith)
 
 pub returns-in_err-line-clause-refused : goal.returns-in_err-line-clause-refused
-returns-in_err-line-clause-refused g c = grind (arith, common_steps)
+returns-in_err-line-clause-refused g c = grind (arith)
 
 pub returns-in_err-line-clause-output : goal.returns-in_err-line-clause-output
-returns-in_err-line-clause-output g c = grind (arith, common_steps)
+returns-in_err-line-clause-output g c = grind (arith)

@@ -1,5 +1,4 @@
 use Rattle.std.proofs.Common.{rules, arith}
-use Rattle.std.proofs.lemmas.Grind.{common_steps}
 use Rattle.net_calls.specs.Settled.{Settles}
 use Rattle.net_calls.proofs.Reading.{read_whole}
 use Rattle.net_calls.proofs.line_runs.run_min.Goals as goal
@@ -32,22 +31,22 @@ returns-clause-front g c =
     }
 
 pub returns-in-Ok-clause-output : goal.returns-in-Ok-clause-output
-returns-in-Ok-clause-output g c = grind (arith, common_steps)
+returns-in-Ok-clause-output g c = grind (arith)
 
 pub returns-clause-problem : goal.returns-clause-problem
-returns-clause-problem g c = grind (arith, common_steps)
+returns-clause-problem g c = grind (arith)
 
 pub returns-in-Ok-clause-front : goal.returns-in-Ok-clause-front
-returns-in-Ok-clause-front g c = grind (arith, common_steps)
+returns-in-Ok-clause-front g c = grind (arith)
 
 pub returns-in-Ok-clause-problem : goal.returns-in-Ok-clause-problem
-returns-in-Ok-clause-problem g c = grind (arith, common_steps)
+returns-in-Ok-clause-problem g c = grind (arith)
 
 pub returns-clause-output : goal.returns-clause-output
-returns-clause-output g c = grind (arith, common_steps)
+returns-clause-output g c = grind (arith)
 
 pub returns-clause-refused : goal.returns-clause-refused
-returns-clause-refused g c = grind (arith, common_steps)
+returns-clause-refused g c = grind (arith)
 
 pub returns-in_err-settled-clause-refused : goal.returns-in_err-settled-clause-refused
-returns-in_err-settled-clause-refused g c = grind (arith, common_steps)
+returns-in_err-settled-clause-refused g c = grind (arith)

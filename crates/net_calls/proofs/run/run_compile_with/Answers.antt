@@ -1,5 +1,4 @@
 use Rattle.std.proofs.Common.{rules, arith}
-use Rattle.std.proofs.lemmas.Grind.{common_steps}
 use Rattle.net_calls.specs.Headline.{Headline}
 use Rattle.net_calls.specs.Linked.{whole}
 use Rattle.net_calls.proofs.Reading.{read_whole}
@@ -42,61 +41,61 @@ returns-clause-front g c =
     }
 
 pub returns-in-Ok-clause-told : goal.returns-in-Ok-clause-told
-returns-in-Ok-clause-told g c = grind (arith, common_steps)
+returns-in-Ok-clause-told g c = grind (arith)
 
 pub returns-in-Ok-clause-data : goal.returns-in-Ok-clause-data
-returns-in-Ok-clause-data g c = grind (arith, common_steps)
+returns-in-Ok-clause-data g c = grind (arith)
 
 pub returns-in-Ok-clause-output : goal.returns-in-Ok-clause-output
-returns-in-Ok-clause-output g c = grind (arith, common_steps)
+returns-in-Ok-clause-output g c = grind (arith)
 
 pub returns-in_err-model_text-clause-front : goal.returns-in_err-model_text-clause-front
-returns-in_err-model_text-clause-front g c = grind (arith, common_steps)
+returns-in_err-model_text-clause-front g c = grind (arith)
 
 pub returns-in-Ok-clause-ends : goal.returns-in-Ok-clause-ends
-returns-in-Ok-clause-ends g c = grind (arith, common_steps)
+returns-in-Ok-clause-ends g c = grind (arith)
 
 pub returns-in-Ok-clause-refused : goal.returns-in-Ok-clause-refused
-returns-in-Ok-clause-refused g c = grind (arith, common_steps)
+returns-in-Ok-clause-refused g c = grind (arith)
 
 pub returns-in-Ok-clause-first : goal.returns-in-Ok-clause-first
-returns-in-Ok-clause-first g c = grind (arith, common_steps)
+returns-in-Ok-clause-first g c = grind (arith)
 
 pub returns-clause-model : goal.returns-clause-model
-returns-clause-model g c = grind (arith, common_steps)
+returns-clause-model g c = grind (arith)
 
 pub returns-clause-refused : goal.returns-clause-refused
-returns-clause-refused g c = grind (arith, common_steps)
+returns-clause-refused g c = grind (arith)
 
 pub returns-clause-data : goal.returns-clause-data
-returns-clause-data g c = grind (arith, common_steps)
+returns-clause-data g c = grind (arith)
 
 pub returns-in_err-data_text-clause-front : goal.returns-in_err-data_text-clause-front
-returns-in_err-data_text-clause-front g c = grind (arith, common_steps)
+returns-in_err-data_text-clause-front g c = grind (arith)
 
 pub returns-in-Ok-clause-front : goal.returns-in-Ok-clause-front
-returns-in-Ok-clause-front g c = grind (arith, common_steps)
+returns-in-Ok-clause-front g c = grind (arith)
 
 pub returns-clause-ok : goal.returns-clause-ok
-returns-clause-ok g c = grind (arith, common_steps)
+returns-clause-ok g c = grind (arith)
 
 pub returns-in-Ok-clause-model : goal.returns-in-Ok-clause-model
-returns-in-Ok-clause-model g c = grind (arith, common_steps)
+returns-in-Ok-clause-model g c = grind (arith)
 
 pub returns-clause-output : goal.returns-clause-output
-returns-clause-output g c = grind (arith, common_steps)
+returns-clause-output g c = grind (arith)
 
 pub returns-clause-told : goal.returns-clause-told
-returns-clause-told g c = grind (arith, common_steps)
+returns-clause-told g c = grind (arith)
 
 pub returns-clause-ends : goal.returns-clause-ends
-returns-clause-ends g c = grind (arith, common_steps)
+returns-clause-ends g c = grind (arith)
 
 pub returns-clause-first : goal.returns-clause-first
-returns-clause-first g c = grind (arith, common_steps)
+returns-clause-first g c = grind (arith)
 
 pub returns-in_err-model_text-clause-first : goal.returns-in_err-model_text-clause-first
-returns-in_err-model_text-clause-first g c = grind (arith, common_steps)
+returns-in_err-model_text-clause-first g c = grind (arith)
 
 pub returns-in_err-linked-clause-told : goal.returns-in_err-linked-clause-told
-returns-in_err-linked-clause-told g c = grind (arith, common_steps)
+returns-in_err-linked-clause-told g c = grind (arith)
