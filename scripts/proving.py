@@ -8,6 +8,9 @@ import time
 
 # What `rt ci` says of a crate whose library may be read from then on.
 PROVED = re.compile(r"rt: (\w+) (?:proved$|is kept: )")
+# What a check has spent soon after it began, in seconds. The shell that `rt` keeps beside its checks, to end them with itself,
+# waits and spends nothing.
+SPENT = 0.1
 
 
 class Proving:
@@ -54,22 +57,24 @@ class Proving:
 
     def checks(self):
         """How many checks it runs: the greater number of two looks, as it takes a moment from one check to the next."""
-        looks = [children(self.running.pid)]
+        looks = [at_work(self.running.pid)]
         if self.status is None:
             time.sleep(2)
-            looks.append(children(self.running.pid))
+            looks.append(at_work(self.running.pid))
         return max(looks) if self.status is None else 0
 
 
-def children(parent):
-    """How many processes this one has started and not yet waited for."""
+def at_work(parent):
+    """How many of the processes that this one has started and not yet waited for have spent processor time."""
     found = 0
     for name in filter(str.isdigit, os.listdir("/proc")):
         try:
             with open(f"/proc/{name}/stat", encoding="utf-8", errors="replace") as told:
-                # Behind the command's name, which stands in brackets: its state and its parent.
-                found += int(told.read().rpartition(")")[2].split()[1]) == parent
+                # Behind the command's name, which stands in brackets: its state and its parent, and its times as the 12th and 13th.
+                fields = told.read().rpartition(")")[2].split()
         except OSError:
             # It has ended meanwhile.
             continue
+        spent = (int(fields[11]) + int(fields[12])) / os.sysconf("SC_CLK_TCK")
+        found += int(fields[1]) == parent and spent >= SPENT
     return found
