@@ -3,3 +3,6 @@ use Rattle.net_eval.proofs.row.add_row.Goals as goal
 
 pub returns-else-is_alike : goal.returns-else-is_alike
 returns-else-is_alike c = grind (arith)
+
+pub returns-in_ok-push : goal.returns-in_ok-push
+returns-in_ok-push c = grind (arith)

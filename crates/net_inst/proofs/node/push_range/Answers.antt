@@ -7,3 +7,6 @@ returns-in_ok-push-clause-value c = grind (arith, common_steps)
 
 pub returns-in_err-range-clause-value : goal.returns-in_err-range-clause-value
 returns-in_err-range-clause-value c = grind (arith, common_steps)
+
+pub returns-in_ok-push-clause-few : goal.returns-in_ok-push-clause-few
+returns-in_ok-push-clause-few c = grind (arith)

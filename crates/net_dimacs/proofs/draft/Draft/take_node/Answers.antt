@@ -19,3 +19,6 @@ set_supply-requires-clause-within c = grind (arith, common_steps)
 
 pub overflow_cast-place-2 : goal.overflow_cast-place-2
 overflow_cast-place-2 c = grind (arith, common_steps)
+
+pub returns : goal.returns
+returns c = grind (arith)
