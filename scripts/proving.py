@@ -53,7 +53,8 @@ class Proving:
         return self.status not in (None, 0)
 
     def has_built_below(self, crate):
-        return self.status == 0 or all(below.name in self.proved for below in crate.below())
+        # Before the first proof it has no checks to count yet, and keeps the processors busy all the same.
+        return self.status == 0 or bool(self.proved) and all(below.name in self.proved for below in crate.below())
 
     def checks(self):
         """How many checks it runs: the greater number of two looks, as it takes a moment from one check to the next."""
