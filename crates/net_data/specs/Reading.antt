@@ -1,5 +1,5 @@
 -- The statements that tokens are read as, or the first fault.
-use Rattle.std.specs.Prelude.{◌≡◌, slice_get, ◌-◌, ℕ, suc, zero, ◌+◌, ◌%◌, ◌==◌, Bool, ◌||◌, List, [], ◌∷◌, length, take, drop, if◌then◌else◌, codes, Option, Some, None, Result, Ok, Err}
+use Rattle.std.specs.Prelude.{◌≡◌, slice_get, ◌-◌, ℕ, suc, zero, ◌+◌, ◌%◌, ◌==◌, Bool, ◌||◌, List, [], ◌∷◌, length, take, drop, if◌then◌else◌, codes, Option, Some, None, Result, Ok, Err, IsOk}
 use Rattle.std.specs.List.{prefix_len}
 use Rattle.std.specs.Borrow.{Bor}
 use Rattle.std.specs.Option.{option_map}
@@ -58,7 +58,7 @@ ReadsOption read (Err e) = read ≡ Err e
 
 -- the same, unless memory ran out
 abbrev pub Stops : {A : Type 0} → Result A Stop → StatementStop → Type 0
-Stops read statement_stops.OutOfMemory = Unit {0}
+Stops read statement_stops.OutOfMemory = IsOk read
 Stops read (statement_stops.Reading e) = read ≡ Err e
 
 abbrev pub ReadsStated : {A : Type 0} → Read A → Result (A × Bor (List Token)) StatementStop → Type 0

@@ -33,6 +33,12 @@ Answers wanted (Ok x) = wanted ≡ Ok x
 Answers wanted (Err OutOfMemory) = ⊤
 Answers wanted (Err (Refused r)) = wanted ≡ Err r
 
+-- the same of code that takes no memory
+abbrev pub Decides : {A : Type 0} → Outcome A → Result A EvalFault → Type 0
+Decides wanted (Ok x) = wanted ≡ Ok x
+Decides wanted (Err OutOfMemory) = ⊥
+Decides wanted (Err (Refused r)) = wanted ≡ Err r
+
 -- the same of code that changes a value in place
 abbrev pub Leaves : {A : Type 0} → Outcome A → Result (Unit {0}) EvalFault → A → Type 0
 Leaves wanted (Ok x) new = wanted ≡ Ok new

@@ -7,7 +7,7 @@ ghost use Rattle.net_tree.specs.Tree.{leaf};
 ghost use Rattle.net_tree.specs.View.{tree, links_of, option_part};
 ghost use Rattle.net_eval.specs.Items as items;
 ghost use Rattle.net_eval.specs.Operations as operations;
-ghost use Rattle.net_eval.specs.Outcomes.{Answers, Outcome, and_then};
+ghost use Rattle.net_eval.specs.Outcomes.{Answers, Outcome, and_then, Decides};
 ghost use Rattle.net_eval.specs.declared.value.Value.{Value as Found};
 ghost use Rattle.net_eval.specs.declared.value.Value.TheVariants.{Many};
 ghost use Rattle.net_eval.specs.Worlds as worlds;
@@ -191,7 +191,7 @@ fn fitting<'w, 's>(
     dimension: Option<u8>,
     tuples: Held<'w, 's>,
 ) -> Result<Held<'w, 's>, EvalFault>
-    ensures { Answers (items.chosen (trees.span_of (tree item.now)) (items.needed (tree left.now)) (Many dimension tuples.entry)) result }
+    ensures { Decides (items.chosen (trees.span_of (tree item.now)) (items.needed (tree left.now)) (Many dimension tuples.entry)) result }
 {
     if fits_needed(dimension, left) {
         Ok(tuples)

@@ -3,7 +3,7 @@
 ghost use Rattle.std.specs.Prelude.{◌≡◌, ◌++◌, ◌∷◌, [], List, Ok, IfOk, length};
 ghost use Rattle.net_sets.specs.Made.{IsMade};
 ghost use Rattle.net_sets.specs.Operations.{union};
-ghost use Rattle.net_eval.specs.Outcomes.{Answers, Outcome, and_then};
+ghost use Rattle.net_eval.specs.Outcomes.{Answers, Outcome, and_then, Decides};
 ghost use Rattle.net_eval.specs.declared.value.Value.{Value as Found};
 ghost use Rattle.net_eval.specs.Rows as rows;
 ghost use Rattle.net_eval.specs.Walks as walks;
@@ -19,7 +19,7 @@ use std::alloc::{AllocError, Global};
 
 /// A member alone, or a tuple.
 fn tuple_in<'s>(at: Span, value: &Value<'_, 's>) -> Result<Tuple<'s>, EvalFault>
-    ensures { Answers (rows.tuple_in at value.now) result }
+    ensures { Decides (rows.tuple_in at value.now) result }
 {
     match value {
         Value::One(member) => Ok(Tuple::single(member.again())),

@@ -5,7 +5,7 @@ ghost use Rattle.std.specs.Option.{option_copied};
 ghost use Rattle.net_sets.specs.Sets.{has, at_key};
 ghost use Rattle.net_tree.specs.Tree as trees;
 ghost use Rattle.net_eval.specs.Numbers.{number_in};
-ghost use Rattle.net_eval.specs.Outcomes.{Answers};
+ghost use Rattle.net_eval.specs.Outcomes.{Answers, Decides};
 ghost use Rattle.net_eval.specs.Values as values;
 ghost use Rattle.net_eval.specs.Worlds as worlds;
 
@@ -21,7 +21,7 @@ use net_tree::{Role, role_of};
 use std::alloc::Global;
 
 fn missing<'w, 's>(at: Span, detail: Detail, listed: bool) -> Result<Value<'w, 's>, EvalFault>
-    ensures { Answers (worlds.missing at detail listed) result }
+    ensures { Decides (worlds.missing at detail listed) result }
 {
     let defect = if listed {
         EvalDefect::NoValue
@@ -115,7 +115,7 @@ pub(crate) fn name_at<'w, 's>(
 }
 
 fn numeral<'w, 's>(token: &Token<'s>) -> Result<Value<'w, 's>, EvalFault>
-    ensures { Answers (values.number_value token.now.span (number_in token.now.text)) result }
+    ensures { Decides (values.number_value token.now.span (number_in token.now.text)) result }
 {
     match number_in(&token.text) {
         None => Err(refuse(EvalDefect::TooLarge, token.span)),

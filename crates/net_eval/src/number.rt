@@ -4,7 +4,7 @@ ghost use Rattle.net_tree.specs.View.{tree};
 ghost use Rattle.net_eval.specs.Limits.{is_small};
 ghost use Rattle.net_eval.specs.Numbers as numbers;
 ghost use Rattle.net_eval.specs.Operators as operators;
-ghost use Rattle.net_eval.specs.Outcomes.{Answers, Outcome, and_then, refused};
+ghost use Rattle.net_eval.specs.Outcomes.{Answers, Outcome, and_then, refused, Decides};
 ghost use Rattle.net_eval.specs.declared.fault.EvalDefect.TheVariants.{KindMismatch};
 ghost use Rattle.net_eval.specs.declared.value.Value.{Value as Found};
 ghost use Rattle.net_eval.specs.declared.value.Value.TheVariants.{Truth};
@@ -47,7 +47,7 @@ fn narrow(number: &i128) -> i64
 
 /// A number that arithmetic gives.
 pub(crate) fn sized<'w, 's>(whole: &Expr<'_>, number: i128) -> Result<Value<'w, 's>, EvalFault>
-    ensures { Answers (numbers.sized (trees.span_of (tree whole.now)) number) result }
+    ensures { Decides (numbers.sized (trees.span_of (tree whole.now)) number) result }
 {
     if is_small(&number) {
         Ok(Value::One(Member::Number(narrow(&number))))
@@ -58,7 +58,7 @@ pub(crate) fn sized<'w, 's>(whole: &Expr<'_>, number: i128) -> Result<Value<'w, 
 
 /// A value that is a number.
 pub(crate) fn number_of(whole: &Expr<'_>, value: &Value<'_, '_>) -> Result<i64, EvalFault>
-    ensures { Answers (numbers.number (trees.span_of (tree whole.now)) value.now) result }
+    ensures { Decides (numbers.number (trees.span_of (tree whole.now)) value.now) result }
 {
     match value {
         Value::One(Member::Number(number)) => Ok(*number),
@@ -95,19 +95,19 @@ fn product_of(a: &i64, b: &i64) -> i128
 }
 
 fn plus<'w, 's>(whole: &Expr<'_>, a: &i64, b: &i64) -> Result<Value<'w, 's>, EvalFault>
-    ensures { Answers (numbers.plus (trees.span_of (tree whole.now)) a.now b.now) result }
+    ensures { Decides (numbers.plus (trees.span_of (tree whole.now)) a.now b.now) result }
 {
     sized(whole, sum_of(a, b))
 }
 
 fn minus<'w, 's>(whole: &Expr<'_>, a: &i64, b: &i64) -> Result<Value<'w, 's>, EvalFault>
-    ensures { Answers (numbers.less (trees.span_of (tree whole.now)) a.now b.now) result }
+    ensures { Decides (numbers.less (trees.span_of (tree whole.now)) a.now b.now) result }
 {
     sized(whole, difference_of(a, b))
 }
 
 fn times<'w, 's>(whole: &Expr<'_>, a: &i64, b: &i64) -> Result<Value<'w, 's>, EvalFault>
-    ensures { Answers (numbers.times (trees.span_of (tree whole.now)) a.now b.now) result }
+    ensures { Decides (numbers.times (trees.span_of (tree whole.now)) a.now b.now) result }
 {
     sized(whole, product_of(a, b))
 }
@@ -119,7 +119,7 @@ fn divides(a: &i64, b: &i64) -> bool
 }
 
 fn quotient<'w, 's>(whole: &Expr<'_>, a: &i64, b: &i64) -> Result<Value<'w, 's>, EvalFault>
-    ensures { Answers (numbers.quotient (trees.span_of (tree whole.now)) a.now b.now) result }
+    ensures { Decides (numbers.quotient (trees.span_of (tree whole.now)) a.now b.now) result }
 {
     if divides(a, b) {
         Ok(Value::One(Member::Number(*a / *b)))
@@ -129,7 +129,7 @@ fn quotient<'w, 's>(whole: &Expr<'_>, a: &i64, b: &i64) -> Result<Value<'w, 's>,
 }
 
 fn remainder<'w, 's>(whole: &Expr<'_>, a: &i64, b: &i64) -> Result<Value<'w, 's>, EvalFault>
-    ensures { Answers (numbers.remainder (trees.span_of (tree whole.now)) a.now b.now) result }
+    ensures { Decides (numbers.remainder (trees.span_of (tree whole.now)) a.now b.now) result }
 {
     if divides(a, b) {
         Ok(Value::One(Member::Number(*a % *b)))
@@ -152,7 +152,7 @@ fn ordered(operation: Operation, a: &i64, b: &i64) -> bool
 }
 
 fn compared<'w, 's>(operation: Operation, a: &i64, b: &i64) -> Result<Value<'w, 's>, EvalFault>
-    ensures { Answers (Ok (Truth (operators.ordered operation a.now b.now))) result }
+    ensures { Decides (Ok (Truth (operators.ordered operation a.now b.now))) result }
 {
     Ok(Value::Truth(ordered(operation, a, b)))
 }
@@ -160,7 +160,7 @@ fn compared<'w, 's>(operation: Operation, a: &i64, b: &i64) -> Result<Value<'w, 
 /// What an operator that takes no numbers makes of them: a refusal, in a function of its own, as the borrow checker covers no
 /// join of answers that are handed on with one that is made in place.
 fn of_no_numbers<'w, 's>(whole: &Expr<'_>) -> Result<Value<'w, 's>, EvalFault>
-    ensures { Answers (refused KindMismatch (trees.span_of (tree whole.now))) result }
+    ensures { Decides (refused KindMismatch (trees.span_of (tree whole.now))) result }
 {
     Err(refuse_tree(EvalDefect::KindMismatch, whole))
 }
@@ -172,7 +172,7 @@ fn of_two<'w, 's>(
     a: &i64,
     b: &i64,
 ) -> Result<Value<'w, 's>, EvalFault>
-    ensures { Answers (operators.of_two operation (trees.span_of (tree whole.now)) a.now b.now) result }
+    ensures { Decides (operators.of_two operation (trees.span_of (tree whole.now)) a.now b.now) result }
 {
     match operation {
         Operation::Plus => plus(whole, a, b),
@@ -194,7 +194,7 @@ pub(crate) fn of_numbers<'w, 's>(
     x: &Value<'_, 's>,
     y: &Value<'_, 's>,
 ) -> Result<Value<'w, 's>, EvalFault>
-    ensures { Answers (operators.of_numbers (trees.span_of (tree whole.now)) (operators.of_two operation (trees.span_of (tree whole.now))) x.now y.now) result }
+    ensures { Decides (operators.of_numbers (trees.span_of (tree whole.now)) (operators.of_two operation (trees.span_of (tree whole.now))) x.now y.now) result }
 {
     let a = number_of(whole, x)?;
     let b = number_of(whole, y)?;
@@ -266,7 +266,7 @@ fn nothing_reduced<'w, 's>(
     whole: &Expr<'_>,
     reduction: Reduction,
 ) -> Result<Value<'w, 's>, EvalFault>
-    ensures { Answers (rows.nothing_reduced (trees.span_of (tree whole.now)) reduction) result }
+    ensures { Decides (rows.nothing_reduced (trees.span_of (tree whole.now)) reduction) result }
 {
     match reduction {
         Reduction::Sum => Ok(Value::One(Member::Number(0))),
@@ -280,7 +280,7 @@ pub(crate) fn reduced_to<'w, 's>(
     reduction: Reduction,
     so_far: &Option<i128>,
 ) -> Result<Value<'w, 's>, EvalFault>
-    ensures { Answers (rows.reduced_to (trees.span_of (tree whole.now)) reduction so_far.now) result }
+    ensures { Decides (rows.reduced_to (trees.span_of (tree whole.now)) reduction so_far.now) result }
 {
     match so_far {
         None => nothing_reduced(whole, reduction),

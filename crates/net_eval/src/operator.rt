@@ -4,7 +4,7 @@ ghost use Rattle.std.specs.Prelude.{◌∷◌, [], Bool};
 ghost use Rattle.net_tree.specs.Spans as trees;
 ghost use Rattle.net_tree.specs.View.{tree};
 ghost use Rattle.net_eval.specs.Operators as operators;
-ghost use Rattle.net_eval.specs.Outcomes.{Answers, Outcome, and_then};
+ghost use Rattle.net_eval.specs.Outcomes.{Answers, Outcome, and_then, Decides};
 ghost use Rattle.net_eval.specs.declared.value.Value.{Value as Found};
 
 use crate::fault::{EvalDefect, EvalFault, refuse, refuse_tree};
@@ -30,7 +30,7 @@ fn same<'s>(whole: &Expr<'_>, x: &Value<'_, 's>, y: &Value<'_, 's>) -> Result<bo
 
 /// The truth of a condition.
 pub(crate) fn truth(whole: &Expr<'_>, value: &Value<'_, '_>) -> Result<bool, EvalFault>
-    ensures { Answers (operators.truth (trees.span_of (tree whole.now)) value.now) result }
+    ensures { Decides (operators.truth (trees.span_of (tree whole.now)) value.now) result }
 {
     match value {
         Value::Truth(truth) => Ok(*truth),
@@ -70,7 +70,7 @@ pub(crate) fn decided<'w, 's>(
     whole: &Expr<'_>,
     value: &Value<'_, 's>,
 ) -> Result<Option<Value<'w, 's>>, EvalFault>
-    ensures { Answers (operators.decided operation (trees.span_of (tree whole.now)) value.now) result }
+    ensures { Decides (operators.decided operation (trees.span_of (tree whole.now)) value.now) result }
 {
     match operation {
         Operation::And => {
@@ -113,7 +113,7 @@ fn right_truth<'w, 's>(
     x: &Value<'_, 's>,
     y: &Value<'_, 's>,
 ) -> Result<Value<'w, 's>, EvalFault>
-    ensures { Answers (operators.as_truth (and_then (operators.truth (trees.span_of (tree whole.now)) x.now) (λ b. operators.truth (trees.span_of (tree whole.now)) y.now))) result }
+    ensures { Decides (operators.as_truth (and_then (operators.truth (trees.span_of (tree whole.now)) x.now) (λ b. operators.truth (trees.span_of (tree whole.now)) y.now))) result }
 {
     let _left = truth(whole, x)?;
     let holds = truth(whole, y)?;
@@ -160,7 +160,7 @@ pub(crate) fn member_of<'s>(
     whole: &Expr<'_>,
     value: &Value<'_, 's>,
 ) -> Result<Member<'s>, EvalFault>
-    ensures { Answers (operators.member (trees.span_of (tree whole.now)) value.now) result }
+    ensures { Decides (operators.member (trees.span_of (tree whole.now)) value.now) result }
 {
     match value {
         Value::One(member) => Ok(member.again()),
@@ -169,7 +169,7 @@ pub(crate) fn member_of<'s>(
 }
 
 fn short_enough<'s>(whole: &Expr<'_>, key: Option<Tuple<'s>>) -> Result<Tuple<'s>, EvalFault>
-    ensures { Answers (operators.short_enough (trees.span_of (tree whole.now)) key.entry) result }
+    ensures { Decides (operators.short_enough (trees.span_of (tree whole.now)) key.entry) result }
 {
     match key {
         None => Err(refuse_tree(EvalDefect::Arity, whole)),
@@ -182,7 +182,7 @@ pub(crate) fn tuple_of<'s>(
     whole: &Expr<'_>,
     values: &[Value<'_, 's>],
 ) -> Result<Tuple<'s>, EvalFault>
-    ensures { Answers (operators.tuple_of (trees.span_of (tree whole.now)) values.now) result }
+    ensures { Decides (operators.tuple_of (trees.span_of (tree whole.now)) values.now) result }
 {
     let mut key = Some(Tuple::new());
     for value in values {

@@ -5,7 +5,7 @@ ghost use Rattle.net_tree.specs.Spans as trees;
 ghost use Rattle.net_tree.specs.View.{tree};
 ghost use Rattle.net_eval.specs.Limits.{is_small};
 ghost use Rattle.net_eval.specs.Numbers as numbers;
-ghost use Rattle.net_eval.specs.Outcomes.{Answers, Outcome, and_then};
+ghost use Rattle.net_eval.specs.Outcomes.{Answers, Outcome, and_then, Decides};
 ghost use Rattle.net_eval.specs.declared.value.Value.{Value as Found};
 
 use crate::fault::{EvalDefect, EvalFault, refuse_tree};
@@ -62,7 +62,7 @@ fn are_small(first: &i64, last: &i64, by: &i64) -> bool
 
 /// The step is at least 1.
 fn check_step(whole: &Expr<'_>, by: &i64) -> Result<(), EvalFault>
-    ensures value { Answers (numbers.step (trees.span_of (tree whole.now)) by.now) result }
+    ensures value { Decides (numbers.step (trees.span_of (tree whole.now)) by.now) result }
     ensures moves { OnOk result (int_lt by.now (pos 1) ≡ false) }
 {
     if *by < 1 {
@@ -73,7 +73,7 @@ fn check_step(whole: &Expr<'_>, by: &i64) -> Result<(), EvalFault>
 }
 
 fn check_size(whole: &Expr<'_>, first: &i64, last: &i64, by: &i64) -> Result<(), EvalFault>
-    ensures value { Answers (numbers.size (trees.span_of (tree whole.now)) first.now last.now by.now) result }
+    ensures value { Decides (numbers.size (trees.span_of (tree whole.now)) first.now last.now by.now) result }
     ensures small { OnOk result (IsTrue (numbers.are_small first.now last.now by.now)) }
 {
     if are_small(first, last, by) {

@@ -5,7 +5,7 @@ ghost use Rattle.net_tree.specs.Spans as trees;
 ghost use Rattle.net_tree.specs.View.{tree};
 ghost use Rattle.net_eval.specs.Operators as operators;
 ghost use Rattle.net_eval.specs.Rows as rows;
-ghost use Rattle.net_eval.specs.Outcomes.{Answers, Leaves, Outcome, and_then};
+ghost use Rattle.net_eval.specs.Outcomes.{Answers, Leaves, Outcome, and_then, Decides};
 ghost use Rattle.net_eval.specs.declared.value.Value.{Value as Found};
 
 use crate::fault::{EvalDefect, EvalFault, refuse, refuse_tree};
@@ -201,7 +201,7 @@ fn agrees_with<'s>(
     place: Place<'s>,
     value: &Value<'_, 's>,
 ) -> Result<Option<Place<'s>>, EvalFault>
-    ensures { Answers (rows.agrees (trees.span_of (tree whole.now)) member.now place.entry value.now) result }
+    ensures { Decides (rows.agrees (trees.span_of (tree whole.now)) member.now place.entry value.now) result }
 {
     match value {
         Value::One(found) if *found == *member => Ok(Some(place)),

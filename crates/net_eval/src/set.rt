@@ -9,7 +9,7 @@ ghost use Rattle.net_lex.specs.declared.span.Span.{Span as Place};
 ghost use Rattle.net_tree.specs.Spans as trees;
 ghost use Rattle.net_tree.specs.View.{tree};
 ghost use Rattle.net_eval.specs.Operators as operators;
-ghost use Rattle.net_eval.specs.Outcomes.{Answers};
+ghost use Rattle.net_eval.specs.Outcomes.{Answers, Decides};
 ghost use Rattle.net_eval.specs.Sets as sets;
 
 use crate::fault::{EvalDefect, EvalFault, refuse_tree};
@@ -192,7 +192,7 @@ fn among<'s>(
     dimension: Option<u8>,
     set: &TupleSet<'s>,
 ) -> Result<bool, EvalFault>
-    ensures { Answers (sets.among (trees.span_of (tree whole.now)) tuple.now dimension set.now) result }
+    ensures { Decides (sets.among (trees.span_of (tree whole.now)) tuple.now dimension set.now) result }
 {
     if fits(dimension, tuple.len()) {
         Ok(set.contains(tuple))
@@ -226,7 +226,7 @@ fn inside<'s>(
     first: &TupleSet<'s>,
     second: &TupleSet<'s>,
 ) -> Result<bool, EvalFault>
-    ensures { Answers (sets.inside (trees.span_of (tree whole.now)) dimension first.now second.now) result }
+    ensures { Decides (sets.inside (trees.span_of (tree whole.now)) dimension first.now second.now) result }
 {
     match dimension {
         None => Err(refuse_tree(EvalDefect::Arity, whole)),

@@ -5,7 +5,7 @@ ghost use Rattle.std.specs.Option.{option_copied, option_map};
 ghost use Rattle.net_tree.specs.View.{tree, braces_of, links_of};
 ghost use Rattle.net_eval.specs.Items as items;
 ghost use Rattle.net_eval.specs.Operations.{operation};
-ghost use Rattle.net_eval.specs.Outcomes.{Answers};
+ghost use Rattle.net_eval.specs.Outcomes.{Answers, Decides};
 ghost use Rattle.net_eval.specs.Rows as rows;
 ghost use Rattle.net_eval.specs.Sets.{counted};
 ghost use Rattle.net_eval.specs.Widths as widths;
@@ -354,7 +354,7 @@ fn with_item<'s>(
 }
 
 fn width_of_form(at: Span, form: &Form<'_>) -> Result<u8, EvalFault>
-    ensures { Answers (widths.width_of_form at form.now) result }
+    ensures { Decides (widths.width_of_form at form.now) result }
 {
     if form.indexes {
         if form.count <= 4 {

@@ -37,3 +37,9 @@ abbrev pub Tells : Option Fault → Result (Unit {0}) NameFault → Type 0
 Tells f (Ok u) = f ≡ None
 Tells f (Err faults.OutOfMemory) = Unit {0}
 Tells f (Err (faults.At d t)) = f ≡ Some (d, t)
+
+-- the same of what takes no memory
+abbrev pub Decides : Option Fault → Result (Unit {0}) NameFault → Type 0
+Decides f (Ok u) = f ≡ None
+Decides f (Err faults.OutOfMemory) = ⊥
+Decides f (Err (faults.At d t)) = f ≡ Some (d, t)

@@ -7,7 +7,7 @@ ghost use Rattle.net_names.specs.Dummies.{with_indexing};
 ghost use Rattle.net_names.specs.Items as items;
 ghost use Rattle.net_names.specs.Names as names;
 ghost use Rattle.net_names.specs.Scopes as scopes;
-ghost use Rattle.net_names.specs.Told.{Tells, declared_before};
+ghost use Rattle.net_names.specs.Told.{Tells, declared_before, Decides};
 ghost use Rattle.net_names.specs.Told as told;
 
 use crate::expressions::{check, check_name, read_braces};
@@ -20,7 +20,7 @@ use std::alloc::Global;
 
 /// A name that is declared.
 fn check_declared<'s>(scope: &Scope<'s>, name: &Token<'s>) -> Result<(), NameFault<'s>>
-    ensures { Tells (declared_before (scopes.meaning_in name.now.text scope.now) name.now) result }
+    ensures { Decides (declared_before (scopes.meaning_in name.now.text scope.now) name.now) result }
 {
     match scope.meaning(&name.text) {
         None => Ok(()),

@@ -7,7 +7,7 @@ ghost use Rattle.net_names.specs.Items as items;
 ghost use Rattle.net_names.specs.Meanings.{in_subscripts};
 ghost use Rattle.net_names.specs.Names as names;
 ghost use Rattle.net_names.specs.Told as told;
-ghost use Rattle.net_names.specs.Told.{Tells, name_fault};
+ghost use Rattle.net_names.specs.Told.{Tells, name_fault, Decides};
 ghost use Rattle.net_tree.specs.Tree as trees;
 
 use crate::dummies::{add_component, add_left, is_new, sides_of};
@@ -23,7 +23,7 @@ pub(crate) fn check_name<'s>(
     scope: &Scope<'s>,
     name: &Token<'s>,
 ) -> Result<(), NameFault<'s>>
-    ensures { Tells (name_fault need scope.now name.now) result }
+    ensures { Decides (name_fault need scope.now name.now) result }
 {
     match scope.meaning(&name.text) {
         None => Err(NameFault::At(NameDefect::Undeclared, name.again())),
@@ -35,7 +35,7 @@ pub(crate) fn check_name<'s>(
 }
 
 fn check_leaf<'s>(need: Need, scope: &Scope<'s>, leaf: &Token<'s>) -> Result<(), NameFault<'s>>
-    ensures { Tells (names.tree_fault need scope.now (trees.leaf leaf.now)) result }
+    ensures { Decides (names.tree_fault need scope.now (trees.leaf leaf.now)) result }
 {
     match role_of(leaf) {
         Role::Name => check_name(need, scope, leaf),
