@@ -55,7 +55,7 @@ def check_plan(text, model):
     return value
 
 
-def check_cut(text, model):
+def check_cut(text, model, form):
     """The set of nodes supplies what is said, and its arcs allow what is said, which is too little or too much."""
     lines = text.split("\n")
     wanted(lines[0] == "infeasible" and lines[-1] == "" and len(lines) > 2, "no cut")
@@ -67,37 +67,38 @@ def check_cut(text, model):
         wanted(line in names and names.index(line) > last, f"{line!r} is no node, or not in its order")
         last = names.index(line)
         places.add(last)
-    supply, most, least = model.normal.across(places)
+    supply, most, least = form.across(places)
     said, room = number_of(found[2]), number_of(found[3])
     wanted(said == supply, f"the set supplies {supply}, not {said}")
     wanted(room == (most if found[1] == "over" else least), f"the arcs allow {most} at most and {least} at least, not {room}")
     wanted(supply > most if found[1] == "over" else supply < least, f"{lines[1]!r} shows nothing")
 
 
-def check_solve(call, model, best):
-    """`best` is the value that is right, or None where there is no plan."""
-    status, text, told = call(["solve", "model.mod", "model.dat", *model.words()])
+def check_solve(call, model, best, form, words):
+    """`best` is the value that is right, or None where there is no plan; `words` ask for the form of the problem."""
+    status, text, told = call(["solve", "model.mod", "model.dat", *model.words(), *words])
     wanted(status in (0, 2) and not told, f"solve: status {status}: {told.strip()}")
     said = "no plan" if best is None else best
     wanted((status == 0) == (best is not None), f"solve: status {status}, where glpsol finds {said}")
     if status == 2:
-        check_cut(text, model)
+        check_cut(text, model, form)
         return
     value = check_plan(text, model)
     wanted(value == best, f"solve: {value}, where glpsol finds {best}")
 
 
-def check_compile(call, model, best, keep):
-    """The text is the model's problem, line by line; and what `min` finds of it leads to the same value."""
-    status, text, told = call(["compile", "model.mod", "model.dat", *model.words()])
+def check_compile(call, model, best, form, words, keep):
+    """The text is the model's problem in this form, line by line; and what `min` finds of it leads to the same value."""
+    status, text, told = call(["compile", "model.mod", "model.dat", *model.words(), *words])
     wanted(status == 0 and not told, f"compile: status {status}: {told.strip()}")
     keep("model.min", text)
-    for line, right in zip(text.split("\n"), (model.normal.links(model.instance) + model.normal.text()).split("\n")):
+    whole = form.links(model.instance) + form.text()
+    for line, right in zip(text.split("\n"), whole.split("\n")):
         wanted(line == right, f"compile: {line!r}, where {right!r} is right")
-    wanted(text == model.normal.links(model.instance) + model.normal.text(), "compile: a text of another length")
+    wanted(text == whole, "compile: a text of another length")
     status, text, told = call(["min", "model.min"])
     wanted(status == (2 if best is None else 0) and not told, f"min: status {status}: {told.strip()}")
     if best is not None:
         cost = behind(text.split("\n")[0], "s ")
-        value = model.normal.constant + model.normal.sign * cost
+        value = form.constant + form.sign * cost
         wanted(value == best, f"min: the cost {cost} leads to {value}, where glpsol finds {best}")

@@ -89,16 +89,20 @@ class Instance:
 
 
 class Normal:
-    """The problem of docs/NORMAL_FORM.md: supplies by node, the outside last, and arcs as (src, dst, low, cap, cost)."""
+    """The problem of docs/NORMAL_FORM.md, or its lean form: supplies by node, the outside last, and arcs as (src, dst, low, cap,
+    cost); and for each arc of the model its offset and its number, which is 0 where it is left out."""
 
-    def __init__(self, instance):
+    def __init__(self, instance, lean=False):
         outside, sign = len(instance.nodes), 1 if instance.sense == "minimize" else -1
-        self.sign, self.offsets = sign, [min(0, arc.low) for arc in instance.arcs]
+        self.sign, self.offsets = sign, [arc.low if lean else min(0, arc.low) for arc in instance.arcs]
+        self.numbers = []
         self.constant = instance.worth(self.offsets)
         self.supplies, self.arcs, most, least = instance.inflows(self.offsets), [], [0] * outside, [0] * outside
         for arc, offset in zip(instance.arcs, self.offsets):
             ends = [outside if it is None else it for it in (arc.src, arc.dst)]
-            self.arcs.append((*ends, arc.low - offset, arc.high - offset, sign * arc.price))
+            if not lean or arc.low < arc.high:
+                self.arcs.append((*ends, arc.low - offset, arc.high - offset, sign * arc.price))
+            self.numbers.append(0 if lean and arc.low == arc.high else len(self.arcs))
             if arc.dst is not None:
                 most[arc.dst] += arc.high
                 least[arc.dst] += arc.low
@@ -122,8 +126,8 @@ class Normal:
     def links(self, instance):
         lines = [f"c constant {self.constant}", f"c sign {self.sign}"]
         lines += [f"c node {place} {reference(node)}" for place, node in enumerate(instance.nodes, 1)]
-        lines += [f"c arc {place} {offset} {reference(arc)}"
-                  for place, (arc, offset) in enumerate(zip(instance.arcs, self.offsets), 1)]
+        lines += [f"c arc {number} {offset} {reference(arc)}"
+                  for number, arc, offset in zip(self.numbers, instance.arcs, self.offsets)]
         return "".join(line + "\n" for line in lines)
 
     def across(self, places):

@@ -26,7 +26,7 @@ class Model:
         self.instance.take_ranges()
         self.chosen = self.rng.choice(self.layout.objectives)
         self.instance.take_objective(self.chosen, self.layout)
-        self.normal = Normal(self.instance)
+        self.normal, self.lean = Normal(self.instance), Normal(self.instance, lean=True)
         self.is_named = len(self.layout.objectives) > 1 or self.rng.random() < 0.1
 
     def declare(self):

@@ -6,7 +6,7 @@ _netflow() {
     elif [ "${COMP_WORDS[1]}" = help ]; then
         COMPREPLY=($(compgen -W "solve compile min check" -- "$word"))
     else
-        COMPREPLY=($(compgen -W "--help --objective" -- "$word") $(compgen -f -- "$word"))
+        COMPREPLY=($(compgen -W "--help --objective --lean" -- "$word") $(compgen -f -- "$word"))
     fi
 }
 complete -o filenames -F _netflow netflow

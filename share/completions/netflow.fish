@@ -6,4 +6,5 @@ complete -c netflow -n __fish_use_subcommand -f -a check -d "Check a certificate
 complete -c netflow -n __fish_use_subcommand -f -a help -d "Print help"
 complete -c netflow -n "__fish_seen_subcommand_from help" -f -a "solve compile min check"
 complete -c netflow -n "__fish_seen_subcommand_from solve compile" -l objective -x -d "The objective, where the model has several"
+complete -c netflow -n "__fish_seen_subcommand_from solve compile" -l lean -f -d "No lower bounds, and no arcs of equal bounds, in the problem"
 complete -c netflow -s h -l help -d "Print help"

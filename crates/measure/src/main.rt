@@ -7,11 +7,14 @@ use net_dimacs::{read_problem, write_problem};
 use net_growth::settle;
 use net_lex::{lex_data, lex_model};
 use net_model::{free_model, parse_model};
-use net_solve::{Plain, Settled, solve};
+use net_solve::{Plain, Scaling, ScalingRun, Settled, Solver, find_guess, solve};
 use std::alloc::{AllocError, Global};
 use std::process::ExitCode;
 use std::time::CpuClock;
 use std::{env, fs, io};
+
+/// The solver that the program asks first.
+const FIRST: Scaling = Scaling { budget: 10_000_000 };
 
 /// How much processor time there was until now, in microseconds; 0 where the clock fails, which main has read before.
 fn now<R: CpuClock>(rt: &R) -> u128 {
@@ -158,13 +161,17 @@ fn grown<R: AllocGlobal + CpuClock + Print>(rt: &R, text: &[u8], seed: u64) -> O
     told.is_ok().then_some(end.saturating_sub(start))
 }
 
-/// A problem, settled by `Plain`: what it takes in microseconds; its value or a cut is told.
-fn solved<R: AllocGlobal + CpuClock + Print>(rt: &R, text: &[u8]) -> Option<u128> {
+/// A problem, settled by a solver that is asked first: what it takes in microseconds; its value or a cut is told.
+fn solved<R: AllocGlobal + CpuClock + Print, S: Solver>(
+    rt: &R,
+    solver: &S,
+    text: &[u8],
+) -> Option<u128> {
     let Ok(problem) = read_problem(rt.alloc(), text) else {
         return None;
     };
     let start = now(rt);
-    let Ok(settled) = solve(rt.alloc(), &Plain, &problem) else {
+    let Ok(settled) = solve(rt.alloc(), solver, &problem) else {
         return None;
     };
     let end = now(rt);
@@ -173,6 +180,49 @@ fn solved<R: AllocGlobal + CpuClock + Print>(rt: &R, text: &[u8]) -> Option<u128
         Settled::Cut { side, .. } => rt.println(format_args!("cut {side:?}")),
     };
     told.is_ok().then_some(end.saturating_sub(start))
+}
+
+/// What a run of cost scaling came to: its value, a cut or none, and its counts.
+fn tell_run<R: Print>(rt: &R, run: &ScalingRun) -> io::Result<()> {
+    match &run.answer {
+        Some(Certificate::Optimal { value, .. }) => rt.println(format_args!("s {value}"))?,
+        Some(Certificate::Cut { side, .. }) => rt.println(format_args!("cut {side:?}"))?,
+        None => rt.println("none")?,
+    }
+    rt.println(format_args!("{} phases, {} steps", run.phases, run.steps))
+}
+
+/// A run of cost scaling with a budget: what its guess takes in microseconds, and what it takes itself.
+fn scaled<R: AllocGlobal + CpuClock + Print>(
+    rt: &R,
+    text: &[u8],
+    budget: u64,
+) -> Option<(u128, u128)> {
+    let Ok(problem) = read_problem(rt.alloc(), text) else {
+        return None;
+    };
+    let start = now(rt);
+    let Ok(guess) = find_guess(rt.alloc(), &problem) else {
+        return None;
+    };
+    let guessed = now(rt);
+    let Ok(run) = Scaling { budget }.run_from(rt.alloc(), &problem, &guess) else {
+        return None;
+    };
+    let end = now(rt);
+    let times = (guessed.saturating_sub(start), end.saturating_sub(guessed));
+    tell_run(rt, &run).is_ok().then_some(times)
+}
+
+/// The times of a guess and of a run on standard error.
+fn tell_times<R: Eprint>(rt: &R, times: Option<(u128, u128)>) -> io::Result<bool> {
+    match times {
+        None => Ok(false),
+        Some((guess, run)) => {
+            rt.eprintln(format_args!("guess {guess} us, run {run} us"))?;
+            Ok(true)
+        }
+    }
 }
 
 /// A time on standard error.
@@ -191,15 +241,17 @@ fn measured<R: AllocGlobal + CpuClock + Print + Eprint>(
     rt: &R,
     what: &str,
     text: &[u8],
-    seed: u64,
+    number: u64,
 ) -> io::Result<bool> {
     match what {
         "problem" => tell(rt, what, problem(rt, text)),
         "data" => tell(rt, what, data(rt, text)),
         "tables" => tell(rt, what, tables(rt, text)),
         "model" => tell(rt, what, model(rt, text)),
-        "solve" => tell_time(rt, what, solved(rt, text)),
-        "grow" => tell_time(rt, what, grown(rt, text, seed)),
+        "solve" => tell_time(rt, what, solved(rt, &FIRST, text)),
+        "plain" => tell_time(rt, what, solved(rt, &Plain, text)),
+        "scale" => tell_times(rt, scaled(rt, text, number)),
+        "grow" => tell_time(rt, what, grown(rt, text, number)),
         _ => Ok(false),
     }
 }
@@ -209,10 +261,10 @@ fn run<R: AllocGlobal + CpuClock + Print + Eprint>(
     rt: &R,
     what: &str,
     text: &[u8],
-    seed: u64,
+    number: u64,
 ) -> io::Result<ExitCode> {
     let _clock = rt.thread_cpu_time()?;
-    if measured(rt, what, text, seed)? {
+    if measured(rt, what, text, number)? {
         Ok(ExitCode::SUCCESS)
     } else {
         rt.eprintln("measure: the text was refused, or no memory")?;
@@ -224,13 +276,15 @@ fn main(rt: HostRuntime) -> io::Result<ExitCode> {
     let mut words = env::args(&rt)?;
     let _program = words.next();
     let (Some(what), Some(path)) = (words.next(), words.next()) else {
-        rt.eprintln("usage: measure problem|data|tables|model|solve|grow PATH [SEED]")?;
+        rt.eprintln(
+            "usage: measure problem|data|tables|model|solve|plain|scale|grow PATH [BUDGET|SEED]",
+        )?;
         return Ok(ExitCode::from(64));
     };
-    let seed = match words.next() {
+    let number = match words.next() {
         Some(word) => word.as_str().parse::<u64>().unwrap_or(0),
         None => 0,
     };
     let text = fs::read(&rt, path.as_str())?;
-    run(&rt, what.as_str(), text.as_slice(), seed)
+    run(&rt, what.as_str(), text.as_slice(), number)
 }

@@ -13,3 +13,4 @@ pub mod Products
 pub mod Claiming
 pub mod HeldParameters
 pub mod HeldEntries
+pub mod ValuesAt

@@ -1,12 +1,26 @@
--- Parameters have values at keys of their braces alone, and one at most at each.
-use Rattle.std.specs.Prelude.{◌≡◌, ℕ, true, List, Option, Some}
-use Rattle.std.specs.List.{AllByRecursion, IsDistinct}
+-- Parameters have values at keys of their braces alone, and one at most at each; and what gives the value at a key.
+use Rattle.std.specs.Prelude.{◌≡◌, ℕ, ◌+◌, true, Bool, List, [], ◌∷◌, length, map, take, slice_get, Option, None, Some, Ok}
+use Rattle.std.specs.List.{AllByRecursion, IsDistinct, flat_map, zip}
+use Rattle.net_lex.specs.declared.token.Token.{Token}
+use Rattle.net_data.specs.Rows.{Row as DataRow, row_of}
 use Rattle.net_sets.specs.declared.member.Member.{Member}
-use Rattle.net_sets.specs.Sets.{Tuple, same_tuple, has}
+use Rattle.net_sets.specs.Sets.{Tuple, same_tuple, has, at_key}
+use Rattle.net_tree.specs.Tree.{Braces, Phrase}
+use Rattle.net_eval.specs.declared.row.Row.{Row}
+use Rattle.net_eval.specs.declared.row.Keys.{Keys}
+use Rattle.net_eval.specs.declared.world.Entry.{Entry}
 use Rattle.net_eval.specs.declared.world.Entry.TheVariants.{Parameter}
-use Rattle.net_eval.specs.Worlds.{Name, World, entry_of}
-use Rattle.net_bind.specs.BoundParameters.{keys_with}
-use Rattle.net_bind.specs.Rows.{Table}
+use Rattle.net_eval.specs.SetValues.{HasSets}
+use Rattle.net_eval.specs.Worlds.{Name, World, entry_of, key_count}
+use Rattle.net_bind.specs.declared.given.Given.{Given}
+use Rattle.net_bind.specs.declared.given.Given.TheVariants as given
+use Rattle.net_bind.specs.declared.given.Mention.{Mention}
+use Rattle.net_bind.specs.declared.param.Gives.TheVariants as gives
+use Rattle.net_bind.specs.BoundParameters.{keys_with, keys_in, key_size, phrase_value, Source, source, from_source, bound_parameter}
+use Rattle.net_bind.specs.Cells.{member_in, tuple_in}
+use Rattle.net_bind.specs.Outcomes.{Outcome}
+use Rattle.net_bind.specs.Rows.{Table, either, pair_of}
+use Rattle.net_bind.specs.SetData.{cut}
 
 -- no key stands twice in the index list, each value has a key of it, and no two values have one key
 pub record IsParameterOf (index : List Tuple) (t : Table) : Type 0 where
@@ -17,3 +31,54 @@ pub record IsParameterOf (index : List Tuple) (t : Table) : Type 0 where
 -- the declared parameters are so
 abbrev pub HasParameters : World → Type 0
 HasParameters w = (name : Name) (n : Option ℕ) (index : List Tuple) (t : Table) → entry_of w name ≡ Some (Parameter n index t) → IsParameterOf index t
+
+-- ---- what gives the value at a key
+
+-- the cells of a table's row: for each column the row's member, the column's, and the cell
+abbrev pub rows_across : Bool → List Token → List Token → List DataRow
+rows_across turned columns [] = []
+rows_across turned columns (row ∷ cells) = flat_map (λ pair. row_of (pair_of turned row pair.0) (Some pair.1)) (zip columns cells)
+
+-- the rows of what a statement gives, for a number of keys; a point gives none
+abbrev pub rows_given : ℕ → Given → List DataRow
+rows_given size (given.Members ts) = []
+rows_given size (given.Groups g) = flat_map (λ group. row_of (take size group) (slice_get group (size + g.place))) (cut (size + g.values) g.cells)
+rows_given size (given.Grid g) = flat_map (rows_across g.transposed g.columns) (cut (1 + length g.columns) g.cells)
+
+-- the key of a row with its member
+abbrev pub row_value : DataRow → Tuple × Member
+row_value r = (tuple_in r.keys, member_in r.value)
+
+-- what all statements of a parameter give, row by row
+abbrev pub values_given : ℕ → List Mention → Table
+values_given size ms = map row_value (flat_map (λ (m : Mention). rows_given size m.given) ms)
+
+-- the default that data say: the first one
+abbrev pub default_given : List Mention → Option Token
+default_given [] = None
+default_given (m ∷ ms) = either m.default (default_given ms)
+
+-- what a key has where no row gives it: what stands behind `:=`, else the data's default, else what stands behind `default`, else nothing
+abbrev pub source_of : List Phrase → List Mention → Source
+source_of ps ms = source (phrase_value gives.Becomes ps) (default_given ms) (phrase_value gives.Default ps)
+
+-- the value is that of the data's row, else that of the source
+abbrev pub IsValue : Option Member → Outcome (Option Member) → Option Member → Type 0
+IsValue (Some m) later found = found ≡ Some m
+IsValue None later found = later ≡ Ok found
+
+abbrev pub IsValueAt : World → List Phrase → Table → List Mention → Table → Row → Type 0
+IsValueAt w ps said ms t r = IsValue (at_key said r.key) (from_source w r.scope (source_of ps ms)) (at_key t r.key)
+
+-- a parameter that is bound has at each key of its braces the value of the data's row with this key; where there is no such row, what
+-- stands behind `:=`, the data's default, or what stands behind `default`; and where there is none of these, none
+pub record IsValued (w : World) (b : Option Braces) (ps : List Phrase) (ms : List Mention) (e : Entry) : Type 0 where
+  pub keys : Keys
+  pub indexed : keys_in w b ≡ Ok keys
+  pub index : List Tuple
+  pub table : Table
+  pub is : e ≡ Parameter (key_size b keys) index table
+  pub at : AllByRecursion (IsValueAt w ps (values_given (key_count (key_size b keys)) ms) ms table) keys.rows
+
+abbrev pub AreValued : Type 0
+AreValued = (w : World) (widths : List ℕ) (name : Token) (b : Option Braces) (ps : List Phrase) (ms : List Mention) (e : Entry) → HasSets w → bound_parameter w widths name b ps ms ≡ Ok e → IsValued w b ps ms e

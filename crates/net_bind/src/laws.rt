@@ -9,7 +9,7 @@ ghost use Rattle.net_names.specs.Names.{IsWellNamed};
 ghost use Rattle.net_bind.specs.Binding as binding;
 ghost use Rattle.net_bind.specs.Binding.{AreNew};
 ghost use Rattle.net_bind.specs.DataRows as rows;
-ghost use Rattle.net_bind.specs.ParameterValues.{HasParameters};
+ghost use Rattle.net_bind.specs.ParameterValues.{HasParameters, AreValued};
 
 /// A model whose names are as they should be can be bound.
 pub fn well_named_are_new()
@@ -35,4 +35,10 @@ pub fn statements_are_taken_by_rows()
     ensures columns { rows.TakesColumns }
     ensures members { rows.TakesMembers }
     ensures keys { rows.TakesKeys }
+{}
+
+/// A parameter that is bound has at each key of its braces the value of the data's row with this key; where no row has it, what
+/// stands behind `:=`, else the data's default, else what stands behind `default`; and where there is none of these, none.
+pub fn rows_come_before_sources()
+    ensures value { AreValued }
 {}

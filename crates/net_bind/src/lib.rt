@@ -26,7 +26,7 @@ mod world;
 
 pub use fault::{BindDefect, BindFault, Refusal};
 pub use laws::{
-    bound_worlds_have_parameters, bound_worlds_have_sets, statements_are_taken_by_rows,
-    well_named_are_new,
+    bound_worlds_have_parameters, bound_worlds_have_sets, rows_come_before_sources,
+    statements_are_taken_by_rows, well_named_are_new,
 };
 pub use world::bind;

@@ -1,13 +1,16 @@
 -- As many names as nodes and arcs.
-use Rattle.std.proofs.Common.{◌≡◌, ℕ, suc, ◌+◌, ◌≤◌, List, [], ◌∷◌, length, map, vec_len, Option, Ok, refl, sym, ap, ◌∙◌, arith, length-append}
+use Rattle.std.proofs.Common.{◌≡◌, ℕ, suc, true, false, if◌then◌else◌, ◌+◌, ◌≤◌, List, [], ◌∷◌, length, map, vec_len, Option, Ok, refl, sym, ap, ◌∙◌, arith, length-append}
 use Rattle.std.specs.List.{AllByRecursion, AllZip, flat_map}
 use Rattle.std.proofs.lemmas.List.{length-map}
 use Rattle.net_tree.specs.Tree.{Declaration}
 use Rattle.net_eval.specs.Worlds.{Name, World}
-use Rattle.net_normal.specs.NormalForm.{numbers_from, supplies_from, flow_arc_of, room_arcs_from, flow_arcs_of}
+use Rattle.net_normal.specs.NormalForm.{numbers_from, supplies_from, is_left_out, flow_arc_of, written_arcs, room_arcs_from, flow_arcs_of}
 use Rattle.net_normal.specs.declared.instance.Instance.{Instance}
 use Rattle.net_normal.specs.declared.instance.InstArc.{InstArc}
 use Rattle.net_normal.specs.declared.instance.NodeRange.{NodeRange}
+use Rattle.net_normal.specs.declared.instance.Sense.{Sense}
+use Rattle.net_normal.specs.declared.problem.FlowArc.{FlowArc}
+use Rattle.net_normal.specs.declared.profile.Profile.{Profile}
 use Rattle.net_inst.specs.AsWritten.{nodes, arcs, node_declared, arc_declared}
 use Rattle.net_inst.specs.Instances.{Network, network, seen_as}
 use Rattle.net_inst.specs.Laws.{HaveNames, HaveBounds, HaveExactRanges, IsKeyOf, IsBoundedAs, IsRangeOf}
@@ -35,23 +38,26 @@ arc_count wanted w ds n names bounds e =
     ∙ length-map (arcs w ds) (λ a. a.label)
     ∙ zip_length IsBoundedAs (arcs w ds) n.instance.arcs.items (bounds wanted w ds (seen_as n) e)
 
-pub number_count : (k : ℕ) (xs : List InstArc) → length (numbers_from k xs) ≡ length xs
-number_count k [] = refl
-number_count k (x ∷ xs) = ap suc (number_count (suc k) xs)
+pub supply_count : (p : Profile) (xs : List InstArc) (v : ℕ) (rs : List NodeRange) → length (supplies_from p xs v rs) ≡ length rs
+supply_count p xs v [] = refl
+supply_count p xs v (r ∷ rs) = ap suc (supply_count p xs (suc v) rs)
 
-pub supply_count : (xs : List InstArc) (v : ℕ) (rs : List NodeRange) → length (supplies_from xs v rs) ≡ length rs
-supply_count xs v [] = refl
-supply_count xs v (r ∷ rs) = ap suc (supply_count xs (suc v) rs)
+-- numbers from k on are at most k and as many as the arcs that are written
+pub numbers_within : (p : Profile) (sense : Sense) (outside k : ℕ) (xs : List InstArc) (most : ℕ) → k + length (written_arcs p sense outside xs) ≤ most + 1 → AllByRecursion (λ n. n ≤ most) (numbers_from p k xs)
+numbers_within p sense outside k [] most h = tt
+numbers_within p sense outside k (x ∷ xs) most h =
+    let rest = written_arcs p sense outside xs in
+    let go : k + length (written_arcs p sense outside (x ∷ xs)) ≤ most + 1 → AllByRecursion (λ n. n ≤ most) (numbers_from p k (x ∷ xs)) =
+    elim (is_left_out p x) as (λ b. k + length (if b then rest else flow_arc_of p sense outside x ∷ rest) ≤ most + 1 → AllByRecursion (λ n. n ≤ most) (if b then 0 ∷ numbers_from p k xs else k ∷ numbers_from p (suc k) xs)) [
+      | true ↦ λ few. (omega arith, numbers_within p sense outside k xs most few)
+      | false ↦ λ few. (omega (arith, few), numbers_within p sense outside (suc k) xs most (omega (arith, few)))
+    ] in
+    go h
 
--- numbers from k on are at most k and as many as the arcs
-pub numbers_within : (k : ℕ) (xs : List InstArc) (most : ℕ) → k + length xs ≤ most + 1 → AllByRecursion (λ n. n ≤ most) (numbers_from k xs)
-numbers_within k [] most h = tt
-numbers_within k (x ∷ xs) most h = (omega (arith, h), numbers_within (suc k) xs most (omega (arith, h)))
-
--- the problem has an arc for each of the network's, at least
-pub flow_arc_count : (instance : Instance) → length instance.arcs.items ≤ length (flow_arcs_of instance)
-flow_arc_count instance =
+-- the problem has an arc for each of the network's that is written, at least
+pub flow_arc_count : (p : Profile) (instance : Instance) → length (written_arcs p instance.sense (vec_len instance.nodes) instance.arcs.items) ≤ length (flow_arcs_of p instance)
+flow_arc_count p instance =
     let outside = vec_len instance.nodes in
-    let own = map (flow_arc_of instance.sense outside) instance.arcs.items in
+    let own = written_arcs p instance.sense outside instance.arcs.items in
     let room = room_arcs_from instance.arcs.items outside 0 instance.nodes.items in
-    omega (arith, length-append own room, length-map instance.arcs.items (flow_arc_of instance.sense outside))
+    omega (arith, length-append own room)

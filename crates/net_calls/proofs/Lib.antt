@@ -8,3 +8,4 @@ pub mod Reading
 mod Writing
 mod Pieces
 pub mod Accepted
+pub mod OneAnswer

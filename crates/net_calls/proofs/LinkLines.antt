@@ -8,12 +8,13 @@ use Rattle.std.proofs.lemmas.Int.{ints}
 use Rattle.std.proofs.lemmas.List.Elements.{recursion_from_All}
 use Rattle.net_lex.specs.Characters.{continues_name}
 use Rattle.net_normal.specs.Limits.{IsSized, value_limit, constant_limit}
-use Rattle.net_normal.specs.NormalForm.{numbers_from}
+use Rattle.net_normal.specs.NormalForm.{is_left_out, numbers_from}
 use Rattle.net_normal.specs.declared.instance.InstArc.{InstArc}
 use Rattle.net_normal.specs.declared.instance.Sense.{Sense}
 use Rattle.net_normal.specs.declared.instance.Sense.TheVariants.{Minimise, Maximise}
 use Rattle.net_normal.specs.declared.link.Link.{Link}
 use Rattle.net_normal.specs.declared.problem.FlowArc.{FlowArc}
+use Rattle.net_normal.specs.declared.profile.Profile.{Profile}
 use Rattle.net_dimacs.specs.Problems.{statements_of, IsProblemText, IsOnlyProblem}
 use Rattle.net_dimacs.proofs.Comments.{comment_skipped}
 use Rattle.net_dimacs.proofs.Decimals.{IsPrintable, IsSolid, solid_decimal}
@@ -138,9 +139,13 @@ links_skipped link nodes arcs rest few numbers =
     ∙ nodes_skipped 0 nodes (last ++ rest) (omega (arith, few))
     ∙ arcs_skipped link.numbers.items link.offsets.items arcs rest numbers offsets
 
-pub numbers_small : (k : ℕ) (arcs : List InstArc) → k + length arcs < 2 ^ 128 → AllByRecursion (λ n. n < 2 ^ 128) (numbers_from k arcs)
-numbers_small k [] h = tt
-numbers_small k (a ∷ arcs) h = (omega (arith, h), numbers_small (suc k) arcs (omega (arith, h)))
+pub numbers_small : (p : Profile) (k : ℕ) (arcs : List InstArc) → k + length arcs < 2 ^ 128 → AllByRecursion (λ n. n < 2 ^ 128) (numbers_from p k arcs)
+numbers_small p k [] h = tt
+numbers_small p k (a ∷ arcs) h =
+    elim (is_left_out p a) as (λ b. AllByRecursion (λ n. n < 2 ^ 128) (if b then 0 ∷ numbers_from p k arcs else k ∷ numbers_from p (suc k) arcs)) [
+      | true ↦ (omega arith, numbers_small p k arcs (omega (arith, h)))
+      | false ↦ (omega (arith, h), numbers_small p (suc k) arcs (omega (arith, h)))
+    ]
 
 -- what says the same is the same problem's text
 pub same_problem : (text other : List ℕ) (supplies : List ℤ) (arcs : List FlowArc) → statements_of text ≡ statements_of other → IsProblemText other supplies arcs → IsProblemText text supplies arcs

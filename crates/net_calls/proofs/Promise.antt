@@ -1,5 +1,5 @@
 -- The promise of a compiled model, from what its parts promise.
-use Rattle.std.proofs.Common.{◌≡◌, ℕ, ◌<◌, ◌≤◌, ◌^◌, List, [], ◌∷◌, ◌++◌, length, map, vec_len, Option, Some, Ok, neg_ℤ, sym, ap, subst, ◌∙◌, arith, length-append}
+use Rattle.std.proofs.Common.{◌≡◌, ℕ, Bool, ◌<◌, ◌≤◌, ◌^◌, List, [], ◌∷◌, ◌++◌, length, map, vec_len, Option, Some, Ok, neg_ℤ, sym, ap, subst, ◌∙◌, arith, length-append}
 use Rattle.std.specs.List.{AllByRecursion, flat_map}
 use Rattle.std.proofs.lemmas.List.{length-map}
 use Rattle.net_dimacs.specs.Problems.{statements_of}
@@ -9,21 +9,21 @@ use Rattle.net_inst.specs.declared.names.Names.{Names}
 use Rattle.net_inst.specs.AsWritten.{nodes, arcs, node_declared, arc_declared}
 use Rattle.net_inst.specs.ByName.{CorrespondsByName, CorrespondAsWritten}
 use Rattle.net_inst.specs.Instances.{seen_as}
-use Rattle.net_inst.specs.Laws.{AreNames, HaveNames, HaveExactRanges, HaveBounds, HaveObjective, IsObjectiveOf}
+use Rattle.net_inst.specs.Laws.{AreNames, HaveNames, HaveExactRanges, HaveBounds, HaveObjective}
 use Rattle.net_inst.specs.Readings.{Objective, objectives, chosen}
 use Rattle.net_normal.specs.NormalForm.{supplies_from}
 use Rattle.net_normal.specs.Sums.{sum_of}
-use Rattle.net_model.proofs.NamedModels.{meant_well_named}
+use Rattle.net_normal.proofs.Written.{length-numbers}
 use Rattle.net_read.proofs.Apart.{bound_apart}
 use Rattle.net_report.specs.References.{name_in, names_in}
 use Rattle.net_calls.specs.declared.compiled.Compiled.{Compiled}
 use Rattle.net_calls.specs.Headline.{Headline}
-use Rattle.net_calls.specs.Made.{IsMade, HasSizes}
-use Rattle.net_calls.proofs.Counts.{node_count, arc_count, number_count, supply_count, numbers_within, flow_arc_count}
+use Rattle.net_calls.specs.Made.{IsMade, HasSizes, profile_of}
+use Rattle.net_calls.proofs.Counts.{node_count, arc_count, supply_count, numbers_within, flow_arc_count}
 use Rattle.net_calls.proofs.LinkLines.{links_skipped, numbers_small, same_problem, same_only}
 
-few_names : (wanted : Option Name) (m d : List ℕ) (c : Compiled) → HaveNames → HaveExactRanges → IsMade wanted m d c → length (names_in c.names.nodes) < 2 ^ 127
-few_names wanted m d c names ranges made =
+few_names : (lean : Bool) (wanted : Option Name) (m d : List ℕ) (c : Compiled) → HaveNames → HaveExactRanges → IsMade lean wanted m d c → length (names_in c.names.nodes) < 2 ^ 127
+few_names lean wanted m d c names ranges made =
     let is = made.network in
     let count = node_count wanted is.network.world is.declarations made.named names ranges is.network.network in
     let keys = ap (λ (x : Names). length x.nodes.keys) made.names in
@@ -32,21 +32,43 @@ few_names wanted m d c names ranges made =
     omega (arith, length-map c.names.nodes.keys (name_in c.names.nodes.declarations), keys, count, instance.nodes.ok.0, few)
 
 -- the text is the link lines, which say nothing, and the problem's
-says : (wanted : Option Name) (m d : List ℕ) (c : Compiled) → HaveNames → HaveExactRanges → IsMade wanted m d c
+says : (lean : Bool) (wanted : Option Name) (m d : List ℕ) (c : Compiled) → HaveNames → HaveExactRanges → IsMade lean wanted m d c
     → statements_of c.text.items ≡ statements_of (problem_text c.problem.supplies.items c.problem.arcs.items)
-says wanted m d c names ranges made =
+says lean wanted m d c names ranges made =
     let instance = made.named.instance in
     let few = instance.few_arcs in
     ap statements_of made.text
     ∙ links_skipped c.link (names_in c.names.nodes) (names_in c.names.arcs) (problem_text c.problem.supplies.items c.problem.arcs.items)
-    (few_names wanted m d c names ranges made)
-    (subst (AllByRecursion (λ k. k < 2 ^ 128)) (sym made.normal.numbers) (numbers_small 1 instance.arcs.items (omega (arith, instance.arcs.ok.0, few))))
+    (few_names lean wanted m d c names ranges made)
+    (subst (AllByRecursion (λ k. k < 2 ^ 128)) (sym made.normal.numbers) (numbers_small (profile_of lean) 1 instance.arcs.items (omega (arith, instance.arcs.ok.0, few))))
 
-some_same : (o : Option Objective) (x y : Objective) → o ≡ Some x → o ≡ Some y → x ≡ y
+sizes_of : (lean : Bool) (wanted : Option Name) (m d : List ℕ) (c : Compiled) → HaveNames → HaveExactRanges → HaveBounds → IsMade lean wanted m d c → HasSizes c
+sizes_of lean wanted m d c names ranges bounds made =
+    let is = made.network in
+    let n = made.named in
+    let normal = made.normal in
+    let nodes_named = node_count wanted is.network.world is.declarations n names ranges is.network.network in
+    let arcs_named = arc_count wanted is.network.world is.declarations n names bounds is.network.network in
+    let node_keys = ap (λ (x : Names). length x.nodes.keys) made.names in
+    let arc_keys = ap (λ (x : Names). length x.arcs.keys) made.names in
+    let inner = supplies_from (profile_of lean) n.instance.arcs.items 0 n.instance.nodes.items in
+    let supplies = ap length normal.supplies in
+    let joined = length-append inner (neg_ℤ (sum_of inner) ∷ []) in
+    let counted = supply_count (profile_of lean) n.instance.arcs.items 0 n.instance.nodes.items in
+    let arcs_made = ap length normal.arcs in
+    let arcs_whole = flow_arc_count (profile_of lean) n.instance in
+    record {
+      nodes = omega (arith, c.problem.supplies.ok.0, nodes_named, node_keys, supplies, joined, counted);
+      arcs = omega (arith, c.link.numbers.ok.0, arcs_named, arc_keys, ap length normal.numbers, length-numbers (profile_of lean) 1 n.instance.arcs.items);
+      numbers = subst (AllByRecursion (λ k. k ≤ vec_len c.problem.arcs)) (sym normal.numbers)
+          (numbers_within (profile_of lean) n.instance.sense (vec_len n.instance.nodes) 1 n.instance.arcs.items (vec_len c.problem.arcs) (omega (arith, c.problem.arcs.ok.0, arcs_made, arcs_whole)));
+    }
+
+pub some_same : (o : Option Objective) (x y : Objective) → o ≡ Some x → o ≡ Some y → x ≡ y
 some_same o x y p q = let both : ◌≡◌ {A = Option Objective} (Some x) (Some y) = sym p ∙ q in cc
 
-pub headline_of : (wanted : Option Name) (m d : List ℕ) (c : Compiled) → HaveNames → HaveExactRanges → HaveObjective → CorrespondAsWritten → IsMade wanted m d c → Headline wanted m d c
-headline_of wanted m d c names ranges objective correspond made =
+pub headline_of : (lean : Bool) (wanted : Option Name) (m d : List ℕ) (c : Compiled) → HaveNames → HaveExactRanges → HaveBounds → HaveObjective → CorrespondAsWritten → IsMade lean wanted m d c → Headline lean wanted m d c
+headline_of lean wanted m d c names ranges bounds objective correspond made =
     let is = made.network in
     let ds = is.declarations in
     let w = is.network.world in
@@ -58,6 +80,11 @@ headline_of wanted m d c names ranges objective correspond made =
       declarations = ds;
       world = w;
       accepts = record { model = is.model; tables = is.tables; statements = is.statements; world = is.network.bound };
+      made = n;
+      has_network = is.network.network;
+      names = made.names;
+      normal = made.normal;
+      sizes = sizes_of lean wanted m d c names ranges bounds made;
       objective = aim.0;
       is_chosen = aim.1;
       named = ap (λ (x : Names). x.objective) made.names ∙ aim.2.name;
@@ -65,38 +92,10 @@ headline_of wanted m d c names ranges objective correspond made =
       node_names = subst (λ (x : Names). AreNames (flat_map node_declared ds) (map (λ v. v.label) (nodes w ds)) x.nodes) (sym made.names) called.nodes;
       arc_names = subst (λ (x : Names). AreNames (flat_map arc_declared ds) (map (λ a. a.label) (arcs w ds)) x.arcs) (sym made.names) called.arcs;
       text = made.text;
-      problem = same_problem c.text.items lines c.problem.supplies.items c.problem.arcs.items (says wanted m d c names ranges made) made.problem;
-      only = same_only c.text.items lines c.problem.supplies.items c.problem.arcs.items (says wanted m d c names ranges made) made.only;
+      problem = same_problem c.text.items lines c.problem.supplies.items c.problem.arcs.items (says lean wanted m d c names ranges made) made.problem;
+      only = same_only c.text.items lines c.problem.supplies.items c.problem.arcs.items (says lean wanted m d c names ranges made) made.only;
       corresponds =
-          let apart = bound_apart ds is.tables.statements w (meant_well_named is.model.tokens ds is.model.meant) is.network.bound in
+          let apart = bound_apart ds is.tables.statements w is.model.named is.network.bound in
           let by = correspond wanted w ds n c.problem c.link is.network.network apart made.corresponds in
           subst (λ o. CorrespondsByName (nodes w ds) (arcs w ds) o c.problem c.link) (some_same (chosen wanted (objectives w ds)) by.0 aim.0 by.1 aim.1) by.2;
-    }
-
--- the network's sum is the value of the promised objective
-pub aim_of : (wanted : Option Name) (m d : List ℕ) (c : Compiled) (names : HaveNames) (ranges : HaveExactRanges) (objective : HaveObjective) (correspond : CorrespondAsWritten) (made : IsMade wanted m d c)
-    → let promise = headline_of wanted m d c names ranges objective correspond made in IsObjectiveOf promise.objective (seen_as made.named) (arcs promise.world promise.declarations)
-unfolding headline_of
-aim_of wanted m d c names ranges objective correspond made = (objective wanted made.network.network.world made.network.declarations (seen_as made.named) made.network.network.network).2
-
-pub sizes_of : (wanted : Option Name) (m d : List ℕ) (c : Compiled) → HaveNames → HaveExactRanges → HaveBounds → IsMade wanted m d c → HasSizes c
-sizes_of wanted m d c names ranges bounds made =
-    let is = made.network in
-    let n = made.named in
-    let normal = made.normal in
-    let nodes_named = node_count wanted is.network.world is.declarations n names ranges is.network.network in
-    let arcs_named = arc_count wanted is.network.world is.declarations n names bounds is.network.network in
-    let node_keys = ap (λ (x : Names). length x.nodes.keys) made.names in
-    let arc_keys = ap (λ (x : Names). length x.arcs.keys) made.names in
-    let inner = supplies_from n.instance.arcs.items 0 n.instance.nodes.items in
-    let supplies = ap length normal.supplies in
-    let joined = length-append inner (neg_ℤ (sum_of inner) ∷ []) in
-    let counted = supply_count n.instance.arcs.items 0 n.instance.nodes.items in
-    let arcs_made = ap length normal.arcs in
-    let arcs_whole = flow_arc_count n.instance in
-    record {
-      nodes = omega (arith, c.problem.supplies.ok.0, nodes_named, node_keys, supplies, joined, counted);
-      arcs = omega (arith, c.link.numbers.ok.0, arcs_named, arc_keys, ap length normal.numbers, number_count 1 n.instance.arcs.items);
-      numbers = subst (AllByRecursion (λ k. k ≤ vec_len c.problem.arcs)) (sym normal.numbers)
-          (numbers_within 1 n.instance.arcs.items (vec_len c.problem.arcs) (omega (arith, c.problem.arcs.ok.0, arcs_made, arcs_whole)));
     }

@@ -14,7 +14,7 @@ use Rattle.net_normal.specs.declared.link.Link.{Link}
 use Rattle.net_normal.specs.declared.problem.FlowArc.{FlowArc}
 use Rattle.net_normal.specs.declared.problem.Problem.{Problem}
 use Rattle.net_normal.proofs.WholeNumbers.{sized-mul}
-use Rattle.net_report.specs.Lifts.{IsCarried}
+use Rattle.net_report.specs.Lifts.{IsCarried, AreCarried}
 use Rattle.net_calls.specs.declared.compiled.Compiled.{Compiled}
 use Rattle.net_calls.specs.Answers.{IsAsGood}
 use Rattle.net_calls.specs.Made.{HasSizes}
@@ -38,15 +38,15 @@ small_at nodes (a ∷ arcs) (y ∷ flows) zero h w =
     record { least = omega (arith, ints, low, above); most = omega (arith, ints, cap, below) }
 small_at nodes (a ∷ arcs) (y ∷ flows) (suc k) h w = small_at nodes arcs flows k h.1 w.1
 
-carried_all : (problem : Problem) (flows : List ℤ) (numbers : List ℕ) → IsFeasibleFlow problem flows → AllByRecursion (λ n. n ≤ vec_len problem.arcs) numbers → AllByRecursion (IsCarried flows) numbers
+carried_all : (problem : Problem) (flows : List ℤ) (numbers : List ℕ) → IsFeasibleFlow problem flows → AllByRecursion (λ n. n ≤ vec_len problem.arcs) numbers → AllByRecursion (λ n. 0 < n → IsCarried flows n) numbers
 carried_all problem flows [] feasible h = tt
 carried_all problem flows (n ∷ numbers) feasible h =
     let small = small_at (vec_len problem.supplies) problem.arcs.items flows (n - 1) (recursion_from_All (IsFlowArcOf (vec_len problem.supplies)) problem.arcs.items problem.arcs_fit) feasible.capacity in
     let count = zip_length IsWithinCapacity problem.arcs.items flows feasible.capacity in
-    (record { there = omega (arith, h.0, count, problem.arcs.ok.0); least = small.least; most = small.most }, carried_all problem flows numbers feasible h.1)
+    (λ _. record { there = omega (arith, h.0, count, problem.arcs.ok.0); least = small.least; most = small.most }, carried_all problem flows numbers feasible h.1)
 
-pub carried : (c : Compiled) (flows : List ℤ) → HasSizes c → IsFeasibleFlow c.problem flows → All (IsCarried flows) c.link.numbers.items
-carried c flows sizes feasible = All-from_recursion (IsCarried flows) c.link.numbers.items (carried_all c.problem flows c.link.numbers.items feasible sizes.numbers)
+pub carried : (c : Compiled) (flows : List ℤ) → HasSizes c → IsFeasibleFlow c.problem flows → AreCarried flows c.link.numbers.items
+carried c flows sizes feasible = All-from_recursion (λ n. 0 < n → IsCarried flows n) c.link.numbers.items (carried_all c.problem flows c.link.numbers.items feasible sizes.numbers)
 
 -- ---- and so are their costs
 

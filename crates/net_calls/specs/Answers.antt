@@ -26,8 +26,9 @@ IsAsGood Maximise value other = other ≤ℤ value
 abbrev pub by_arc : List Arc → List ℤ → Assignment
 by_arc all numbers = by_label (map (λ a. a.label) all) numbers
 
--- the assignment is feasible and this is its value, and no feasible assignment has a better one
+-- there is a number for each arc, they are feasible and this is their value, and no feasible assignment has a better one
 pub record IsBestPlan (ns : List Node) (all : List Arc) (o : Objective) (numbers : List ℤ) (value : ℤ) : Type 0 where
+  pub each : length numbers ≡ length all
   pub feasible : IsFeasible ns all (by_arc all numbers)
   pub is_value : value_of o (by_arc all numbers) ≡ value
   pub none_better : (x : Assignment) → IsFeasible ns all x → IsAsGood o.sense value (value_of o x)
@@ -48,8 +49,8 @@ IsOutcome c ns all o (Displayed text numbers value) = IsDisplay c ns all o text.
 IsOutcome c ns all o (Infeasible text flags side) = IsCut c ns all text.items flags.items side
 
 -- the model is compiled, and the outcome is a best plan of it or a cut
-pub record Answers (wanted : Option Name) (model_text data_text : List ℕ) (a : Answer) : Type 0 where
-  pub compiled : Headline wanted model_text data_text a.compiled
+pub record Answers (lean : Bool) (wanted : Option Name) (model_text data_text : List ℕ) (a : Answer) : Type 0 where
+  pub compiled : Headline lean wanted model_text data_text a.compiled
   pub outcome : IsOutcome a.compiled (nodes compiled.world compiled.declarations) (arcs compiled.world compiled.declarations) compiled.objective a.outcome
 
 -- the text that is written

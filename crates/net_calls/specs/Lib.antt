@@ -12,3 +12,4 @@ pub mod Settled
 pub mod Runs
 pub mod ProblemSources
 pub mod Accepted
+pub mod OneAnswer

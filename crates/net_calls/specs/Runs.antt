@@ -1,5 +1,5 @@
 -- What a run reads and writes (the words of Rust's std::io, Read and Write).
-use Rattle.std.specs.Prelude.{◌≡◌, ℕ, List, Option}
+use Rattle.std.specs.Prelude.{◌≡◌, ℕ, Bool, List, Option}
 use Rattle.std.specs.Io.KnownBytes.{Appends, Consumes, IsAtEnd}
 use Rattle.net_lex.specs.declared.language.Language.TheVariants as languages
 use Rattle.net_lex.specs.Limits.{text_limit}
@@ -40,44 +40,44 @@ abbrev pub ReadsUpTo : ℕ → Course → List ℕ → Type 0
 ReadsUpTo limit source text = ReadsToLimit limit source.old source.new text
 
 -- the two texts were read to their ends, and the answer keeps the promise for them
-pub record Compiles (wanted : Option Name) (model data' : Course) (answer : Compiled) : Type 0 where
+pub record Compiles (lean : Bool) (wanted : Option Name) (model data' : Course) (answer : Compiled) : Type 0 where
   pub model_text : List ℕ
   pub data_text : List ℕ
   pub model_read : ReadsWhole model model_text
   pub data_read : ReadsWhole data' data_text
-  pub compiled : Headline wanted model_text data_text answer
+  pub compiled : Headline lean wanted model_text data_text answer
 
 -- the answer's text was written, and nothing else
-pub record WritesAnswer (wanted : Option Name) (model data' output : Course) : Type 0 where
+pub record WritesAnswer (lean : Bool) (wanted : Option Name) (model data' output : Course) : Type 0 where
   pub answer : Compiled
-  pub made : Compiles wanted model data' answer
+  pub made : Compiles lean wanted model data' answer
   pub written : Appends output.old output.new answer.text.items
 
 -- a front of the answer's text was written, and nothing else
-pub record WritesFrontOfAnswer (wanted : Option Name) (model data' output : Course) : Type 0 where
+pub record WritesFrontOfAnswer (lean : Bool) (wanted : Option Name) (model data' output : Course) : Type 0 where
   pub answer : Compiled
-  pub made : Compiles wanted model data' answer
+  pub made : Compiles lean wanted model data' answer
   pub written : WritesFront output.old output.new answer.text.items
 
 -- the two texts were read to their ends, and the answer is one to them
-pub record Solves (wanted : Option Name) (model data' : Course) (answer : Answer) : Type 0 where
+pub record Solves (lean : Bool) (wanted : Option Name) (model data' : Course) (answer : Answer) : Type 0 where
   pub model_text : List ℕ
   pub data_text : List ℕ
   pub model_read : ReadsWhole model model_text
   pub data_read : ReadsWhole data' data_text
-  pub solved : Answers wanted model_text data_text answer
+  pub solved : Answers lean wanted model_text data_text answer
 
 -- the plan or the cut was written, and nothing else
-pub record WritesOutcome (wanted : Option Name) (model data' output : Course) (ending : Ending) : Type 0 where
+pub record WritesOutcome (lean : Bool) (wanted : Option Name) (model data' output : Course) (ending : Ending) : Type 0 where
   pub answer : Answer
-  pub made : Solves wanted model data' answer
+  pub made : Solves lean wanted model data' answer
   pub ends : ending ≡ answers.ending_of answer.outcome
   pub written : Appends output.old output.new (text_of answer.outcome)
 
 -- a front of it was written, and nothing else
-pub record WritesFrontOfOutcome (wanted : Option Name) (model data' output : Course) : Type 0 where
+pub record WritesFrontOfOutcome (lean : Bool) (wanted : Option Name) (model data' output : Course) : Type 0 where
   pub answer : Answer
-  pub made : Solves wanted model data' answer
+  pub made : Solves lean wanted model data' answer
   pub written : WritesFront output.old output.new (text_of answer.outcome)
 
 -- the two texts were read up to their limits, and this is what is wrong with them

@@ -1,6 +1,6 @@
 //! The answer to a model with its data.
 
-ghost use Rattle.std.specs.Prelude.{◌≡◌, None, IfOk, IfErr};
+ghost use Rattle.std.specs.Prelude.{◌≡◌, None, false, IfOk, IfErr};
 ghost use Rattle.std.specs.Option.{option_copied};
 ghost use Rattle.net_check.specs.Certificates.{IsViolatedCut};
 ghost use Rattle.net_normal.specs.Flows.{IsFeasibleFlow, cost_of};
@@ -13,9 +13,7 @@ ghost use Rattle.net_calls.specs.Telling.{IsRefusal};
 use crate::compiled::{Compiled, Options, compile_with};
 use crate::fault::Fault;
 use net_check::Side;
-use net_inst::{
-    flows_stand_for_assignments, names_are_declared, objective_is_written, ranges_are_conditions,
-};
+use net_inst::objective_is_written;
 use net_report::{lift, write_cut, write_display};
 use net_solve::{Settled, Silent, solve};
 use std::alloc::{AllocError, Global};
@@ -64,29 +62,34 @@ pub struct Answer<'s> {
 
 /// Solves a model with its data, with the model's only objective.
 pub fn solve_model<'s>(alloc: Global, model: &'s [u8], data: &'s [u8]) -> Result<Answer<'s>, Fault>
-    ensures value { IfOk result (Answers None model.entry.now «data».entry.now) }
+    ensures value { IfOk result (Answers false None model.entry.now «data».entry.now) }
     ensures refused { IfErr result (IsRefusal None model.entry.now «data».entry.now) }
 {
-    solve_model_with(alloc, Options { objective: None }, model, data)
+    solve_model_with(
+        alloc,
+        Options {
+            objective: None,
+            lean: false,
+        },
+        model,
+        data,
+    )
 }
 
-/// Solves a model with its data, with the objective that is chosen. Faults are those of [`compile_with`].
+/// Solves a model with its data, with what is chosen. Faults are those of [`compile_with`].
 pub fn solve_model_with<'s>(
     alloc: Global,
     options: Options<'s>,
     model: &'s [u8],
     data: &'s [u8],
 ) -> Result<Answer<'s>, Fault>
-    ensures value { IfOk result (Answers (option_copied options.entry.objective) model.entry.now «data».entry.now) }
+    ensures value { IfOk result (Answers options.entry.lean (option_copied options.entry.objective) model.entry.now «data».entry.now) }
     ensures refused { IfErr result (IsRefusal (option_copied options.entry.objective) model.entry.now «data».entry.now) }
 {
     let compiled = compile_with(alloc, options, model, data)?;
     let settled = solve(alloc, &Silent, &compiled.problem)?;
     let outcome = outcome_of(alloc, &compiled, settled)?;
-    names_are_declared();
-    ranges_are_conditions();
     objective_is_written();
-    flows_stand_for_assignments();
     Ok(Answer { compiled, outcome })
 }
 

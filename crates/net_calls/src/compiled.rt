@@ -1,9 +1,8 @@
 //! From a model text and a data text to a problem text.
 
-ghost use Rattle.std.specs.Prelude.{◌≡◌, None, IfOk, IfErr};
+ghost use Rattle.std.specs.Prelude.{◌≡◌, None, false, IfOk, IfErr};
 ghost use Rattle.std.specs.Option.{option_copied};
 ghost use Rattle.net_calls.specs.Linked.{whole};
-ghost use Rattle.net_calls.specs.Made.{IsMade, HasSizes};
 ghost use Rattle.net_calls.specs.Telling.{IsRefusal};
 ghost use Rattle.net_calls.specs.Headline.{Headline};
 
@@ -20,6 +19,8 @@ use std::alloc::{AllocError, Global};
 pub struct Options<'s> {
     /// The name of the objective; none where the model has only one.
     pub objective: Option<&'s str>,
+    /// Whether the problem is the lean form of the network: no arc has a lower bound, and an arc of equal bounds is left out.
+    pub lean: bool,
 }
 
 /// A model compiled: its problem, the way back, its names, and the text of all three.
@@ -32,15 +33,23 @@ pub struct Compiled<'s> {
     pub names: Names<'s>,
 }
 
-/// Compiles a model with its data, with the model's only objective.
+/// Compiles a model with its data, with the model's only objective, in the normal form.
 pub fn compile<'s>(alloc: Global, model: &'s [u8], data: &'s [u8]) -> Result<Compiled<'s>, Fault>
-    ensures value { IfOk result (Headline None model.entry.now «data».entry.now) }
+    ensures value { IfOk result (Headline false None model.entry.now «data».entry.now) }
     ensures refused { IfErr result (IsRefusal None model.entry.now «data».entry.now) }
 {
-    compile_with(alloc, Options { objective: None }, model, data)
+    compile_with(
+        alloc,
+        Options {
+            objective: None,
+            lean: false,
+        },
+        model,
+        data,
+    )
 }
 
-/// Compiles a model with its data, with the objective that is chosen.
+/// Compiles a model with its data, with what is chosen.
 ///
 /// The first fault is told, in the order of tokens, grammar and names of the model, tokens and statements of the data,
 /// binding with the checks, and the network; and want of memory.
@@ -50,12 +59,10 @@ pub fn compile_with<'s>(
     model: &'s [u8],
     data: &'s [u8],
 ) -> Result<Compiled<'s>, Fault>
-    ensures value { IfOk result (Headline (option_copied options.entry.objective) model.entry.now «data».entry.now) }
-    ensures made { IfOk result (IsMade (option_copied options.entry.objective) model.entry.now «data».entry.now) }
-    ensures sizes { IfOk result HasSizes }
+    ensures value { IfOk result (Headline options.entry.lean (option_copied options.entry.objective) model.entry.now «data».entry.now) }
     ensures refused { IfErr result (IsRefusal (option_copied options.entry.objective) model.entry.now «data».entry.now) }
 {
-    let linked = link_model(alloc, options.objective, model, data)?;
+    let linked = link_model(alloc, options, model, data)?;
     let compiled = with_text(alloc, linked)?;
     Ok(compiled)
 }

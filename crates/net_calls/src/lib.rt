@@ -21,7 +21,7 @@ pub use checking::check_bytes;
 pub use compiled::{Compiled, Options, compile, compile_with};
 pub use ending::Ending;
 pub use fault::{Fault, LineRefusal, Refusal, TextName};
-pub use laws::answers_are_accepted;
+pub use laws::{answers_are_accepted, texts_have_one_answer};
 pub use line_runs::{run_check, run_min};
 pub use run::{run_compile, run_compile_with};
 pub use settling::solve_min;

@@ -12,7 +12,7 @@ use net_ends::{ReadFault, Sink, Source, read_to_limit};
 use net_lex::{DATA_LIMIT, MODEL_LIMIT};
 use std::alloc::Global;
 
-/// Compiles what the two sources give, with the model's only objective, and writes the text of the answer.
+/// Compiles what the two sources give, with the model's only objective, in the normal form, and writes the text of the answer.
 pub fn run_compile<M: Source, D: Source, W: Sink>(
     alloc: Global,
     model: &mut M,
@@ -22,7 +22,7 @@ pub fn run_compile<M: Source, D: Source, W: Sink>(
     requires model_unread { M.failed model.old ≡ false }
     requires data_unread { D.failed «data».old ≡ false }
     requires unwritten { W.failed output.old ≡ false }
-    ensures ok { OnOk result (WritesAnswer None
+    ensures ok { OnOk result (WritesAnswer false None
         (record { old = M.remaining model.old; new = M.remaining model.new })
         (record { old = D.remaining «data».old; new = D.remaining «data».new })
         (record { old = W.taken output.old; new = W.taken output.new })) }
@@ -32,7 +32,7 @@ pub fn run_compile<M: Source, D: Source, W: Sink>(
     ensures told { IfErr result (λ fault. IfRefused fault (Refuses None
         (record { old = M.remaining model.old; new = M.remaining model.new })
         (record { old = D.remaining «data».old; new = D.remaining «data».new }) fault)) }
-    ensures front { IsErrOf result Fault.Unwritten → WritesFrontOfAnswer None
+    ensures front { IsErrOf result Fault.Unwritten → WritesFrontOfAnswer false None
         (record { old = M.remaining model.old; new = M.remaining model.new })
         (record { old = D.remaining «data».old; new = D.remaining «data».new })
         (record { old = W.taken output.old; new = W.taken output.new }) }
@@ -44,10 +44,19 @@ pub fn run_compile<M: Source, D: Source, W: Sink>(
     ensures ends { IfErr result (λ fault. IfUnread fault (λ text. (text ≡ TextName.Model) ⊎ (text ≡ TextName.Data))) }
     ensures first { M.failed model.new ≡ true → «data».new ≡ «data».old }
 {
-    run_compile_with(alloc, Options { objective: None }, model, data, output)
+    run_compile_with(
+        alloc,
+        Options {
+            objective: None,
+            lean: false,
+        },
+        model,
+        data,
+        output,
+    )
 }
 
-/// Compiles what the two sources give, with the objective that is chosen, and writes the text of the answer.
+/// Compiles what the two sources give, with what is chosen, and writes the text of the answer.
 pub fn run_compile_with<'o, M: Source, D: Source, W: Sink>(
     alloc: Global,
     options: Options<'o>,
@@ -58,7 +67,7 @@ pub fn run_compile_with<'o, M: Source, D: Source, W: Sink>(
     requires model_unread { M.failed model.old ≡ false }
     requires data_unread { D.failed «data».old ≡ false }
     requires unwritten { W.failed output.old ≡ false }
-    ensures ok { OnOk result (WritesAnswer (option_copied options.entry.objective)
+    ensures ok { OnOk result (WritesAnswer options.entry.lean (option_copied options.entry.objective)
         (record { old = M.remaining model.old; new = M.remaining model.new })
         (record { old = D.remaining «data».old; new = D.remaining «data».new })
         (record { old = W.taken output.old; new = W.taken output.new })) }
@@ -68,7 +77,7 @@ pub fn run_compile_with<'o, M: Source, D: Source, W: Sink>(
     ensures told { IfErr result (λ fault. IfRefused fault (Refuses (option_copied options.entry.objective)
         (record { old = M.remaining model.old; new = M.remaining model.new })
         (record { old = D.remaining «data».old; new = D.remaining «data».new }) fault)) }
-    ensures front { IsErrOf result Fault.Unwritten → WritesFrontOfAnswer (option_copied options.entry.objective)
+    ensures front { IsErrOf result Fault.Unwritten → WritesFrontOfAnswer options.entry.lean (option_copied options.entry.objective)
         (record { old = M.remaining model.old; new = M.remaining model.new })
         (record { old = D.remaining «data».old; new = D.remaining «data».new })
         (record { old = W.taken output.old; new = W.taken output.new }) }
@@ -82,7 +91,7 @@ pub fn run_compile_with<'o, M: Source, D: Source, W: Sink>(
 {
     let model_text = read_text(alloc, model, MODEL_LIMIT, TextName::Model)?;
     let data_text = read_text(alloc, data, DATA_LIMIT, TextName::Data)?;
-    let linked = link_model(alloc, options.objective, &model_text, &data_text)?;
+    let linked = link_model(alloc, options, &model_text, &data_text)?;
     match write_linked(output, &linked) {
         Ok(()) => Ok(()),
         Err(_) => Err(Fault::Unwritten),

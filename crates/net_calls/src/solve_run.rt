@@ -33,7 +33,7 @@ pub fn run_solve<M: Source, D: Source, W: Sink>(
     requires model_unread { M.failed model.old ≡ false }
     requires data_unread { D.failed «data».old ≡ false }
     requires unwritten { W.failed output.old ≡ false }
-    ensures ok { IfOk result (WritesOutcome None
+    ensures ok { IfOk result (WritesOutcome false None
         (record { old = M.remaining model.old; new = M.remaining model.new })
         (record { old = D.remaining «data».old; new = D.remaining «data».new })
         (record { old = W.taken output.old; new = W.taken output.new })) }
@@ -43,7 +43,7 @@ pub fn run_solve<M: Source, D: Source, W: Sink>(
     ensures told { IfErr result (λ fault. IfRefused fault (Refuses None
         (record { old = M.remaining model.old; new = M.remaining model.new })
         (record { old = D.remaining «data».old; new = D.remaining «data».new }) fault)) }
-    ensures front { IsErrOf result Fault.Unwritten → WritesFrontOfOutcome None
+    ensures front { IsErrOf result Fault.Unwritten → WritesFrontOfOutcome false None
         (record { old = M.remaining model.old; new = M.remaining model.new })
         (record { old = D.remaining «data».old; new = D.remaining «data».new })
         (record { old = W.taken output.old; new = W.taken output.new }) }
@@ -55,10 +55,19 @@ pub fn run_solve<M: Source, D: Source, W: Sink>(
     ensures ends { IfErr result (λ fault. IfUnread fault (λ text. (text ≡ TextName.Model) ⊎ (text ≡ TextName.Data))) }
     ensures first { M.failed model.new ≡ true → «data».new ≡ «data».old }
 {
-    run_solve_with(alloc, Options { objective: None }, model, data, output)
+    run_solve_with(
+        alloc,
+        Options {
+            objective: None,
+            lean: false,
+        },
+        model,
+        data,
+        output,
+    )
 }
 
-/// Solves what the two sources give, with the objective that is chosen, and writes the plan, or the cut that shows why there is none.
+/// Solves what the two sources give, with what is chosen, and writes the plan, or the cut that shows why there is none.
 pub fn run_solve_with<'o, M: Source, D: Source, W: Sink>(
     alloc: Global,
     options: Options<'o>,
@@ -69,7 +78,7 @@ pub fn run_solve_with<'o, M: Source, D: Source, W: Sink>(
     requires model_unread { M.failed model.old ≡ false }
     requires data_unread { D.failed «data».old ≡ false }
     requires unwritten { W.failed output.old ≡ false }
-    ensures ok { IfOk result (WritesOutcome (option_copied options.entry.objective)
+    ensures ok { IfOk result (WritesOutcome options.entry.lean (option_copied options.entry.objective)
         (record { old = M.remaining model.old; new = M.remaining model.new })
         (record { old = D.remaining «data».old; new = D.remaining «data».new })
         (record { old = W.taken output.old; new = W.taken output.new })) }
@@ -79,7 +88,7 @@ pub fn run_solve_with<'o, M: Source, D: Source, W: Sink>(
     ensures told { IfErr result (λ fault. IfRefused fault (Refuses (option_copied options.entry.objective)
         (record { old = M.remaining model.old; new = M.remaining model.new })
         (record { old = D.remaining «data».old; new = D.remaining «data».new }) fault)) }
-    ensures front { IsErrOf result Fault.Unwritten → WritesFrontOfOutcome (option_copied options.entry.objective)
+    ensures front { IsErrOf result Fault.Unwritten → WritesFrontOfOutcome options.entry.lean (option_copied options.entry.objective)
         (record { old = M.remaining model.old; new = M.remaining model.new })
         (record { old = D.remaining «data».old; new = D.remaining «data».new })
         (record { old = W.taken output.old; new = W.taken output.new }) }

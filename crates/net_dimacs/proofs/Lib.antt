@@ -1,6 +1,7 @@
 mod DraftSteps
 mod DigitFronts
 mod Scanning
+mod Shortening
 mod Words
 mod Saying
 mod Cutting

@@ -1,6 +1,6 @@
 -- Lines, fields and numbers of a DIMACS text (First DIMACS Implementation Challenge, minimum-cost flow).
-use Rattle.std.specs.Prelude.{◌≡◌, ◌<◌, length, slice_index, ℕ, ◌+◌, ◌-◌, ◌*◌, Bool, true, false, ◌||◌, ◌&&◌, ◌==◌, if◌then◌else◌, List, [], ◌∷◌, codes, filter, ℤ, pos, neg_ℤ, Option, Some, None}
-use Rattle.std.specs.List.{slice_split}
+use Rattle.std.specs.Prelude.{◌≡◌, ◌<◌, length, slice_index, ℕ, ◌+◌, ◌-◌, ◌*◌, Bool, true, false, ◌||◌, ◌&&◌, ◌==◌, if◌then◌else◌, List, [], ◌∷◌, codes, filter, ℤ, pos, neg_ℤ, Option, Some, None, is_some, not, take}
+use Rattle.std.specs.List.{slice_split, position}
 use Rattle.std.specs.Option.{option_map}
 use Rattle.std.specs.Str.{all_ascii_digits}
 use Rattle.net_dimacs.specs.Words.{Word}
@@ -9,6 +9,18 @@ use Rattle.net_dimacs.specs.Words as words
 -- blanks and tabs separate fields
 abbrev pub is_blank : ℕ → Bool
 is_blank b = b == 32 || b == 9
+
+abbrev pub is_feed : ℕ → Bool
+is_feed b = b == 10
+
+-- bytes that begin with `c` and have no LF: whatever follows, their line is a comment
+abbrev pub is_open_comment : List ℕ → Bool
+is_open_comment [] = false
+is_open_comment (b ∷ bs) = b == 99 && not (is_some (position is_feed bs))
+
+-- of an open comment its first byte
+abbrev pub shortened : List ℕ → List ℕ
+shortened bytes = if is_open_comment bytes then take 1 bytes else bytes
 
 -- the last byte is LF, if there is one
 abbrev pub EndsLine : List ℕ → Type 0

@@ -36,7 +36,7 @@ pub fn after_last_feed(bytes: &[u8]) -> usize
 }
 
 /// Where the first LF stands.
-fn first_feed(text: &[u8]) -> Option<usize>
+pub fn first_feed(text: &[u8]) -> Option<usize>
     ensures { result ≡ position (λ b. b == 10) text.now }
 {
     text.iter().position(|byte| *byte == b'\n')

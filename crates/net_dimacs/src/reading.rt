@@ -1,15 +1,16 @@
 //! Reading a problem text in pieces.
 
 ghost use Rattle.std.specs.Prelude.{◌≡◌, ℕ, ◌+◌, ◌<◌, ◌≤◌, ◌⊎◌, List, [], ◌++◌, IfOk, length, vec_len};
+ghost use Rattle.net_dimacs.specs.Lines.{shortened};
 
 use crate::fields::after_last_feed;
 use crate::limits::TEXT_LIMIT;
 use crate::problem_fault::{LineFault, ProblemFault};
-use crate::scan::Scan;
+use crate::scan::{Scan, shorten};
 use net_normal::Problem;
 use std::alloc::{AllocError, Global};
 
-/// A problem text that is being read. Of the text, only a line that is not whole yet is kept.
+/// A problem text that is being read. Of the text, only a line that is not whole yet is kept, and of a comment none.
 #[derive(Drop)]
 pub struct Reading {
     alloc: Global,
@@ -20,6 +21,7 @@ pub struct Reading {
     /// The bytes behind the last LF.
     pending: Vec<u8>,
     ghost few_lines: { scan.line + vec_len pending ≤ length + 1 },
+    ghost no_comment: { shortened pending.items ≡ pending.items },
 }
 
 impl Reading {
@@ -56,6 +58,7 @@ impl Reading {
             let (whole, rest) = piece.split_at(after_last_feed(piece));
             scan.take_whole(alloc, &mut pending, whole)?;
             pending.extend_from_slice(rest)?;
+            shorten(&mut pending);
         }
         Ok(Reading {
             alloc,

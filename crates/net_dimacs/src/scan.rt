@@ -2,8 +2,9 @@
 
 ghost use Rattle.std.specs.Prelude.{◌≡◌, ◌+◌, ◌-◌, ◌<◌, ◌≤◌, ◌^◌, ◌++◌, ℕ, List, length, vec_len, OnOk, OnErr, IsErrOf};
 ghost use Rattle.std.specs.Str.Lines.{lines};
+ghost use Rattle.net_dimacs.specs.Lines.{is_open_comment, shortened};
 
-use crate::fields::split_line;
+use crate::fields::{first_feed, split_line};
 use crate::problem_fault::ProblemFault;
 use crate::progress::Progress;
 use crate::statement::statement_of;
@@ -81,5 +82,24 @@ impl Scan {
     {
         self.take_lines(alloc, rest)?;
         self.progress.finished(self.line)
+    }
+}
+
+/// Whether bytes are the front of a comment, whatever follows.
+fn is_open_comment(bytes: &[u8]) -> bool
+    ensures { result ≡ is_open_comment bytes.now }
+{
+    match bytes {
+        [b'c', more @ ..] => first_feed(more).is_none(),
+        _ => false,
+    }
+}
+
+/// Of a comment that is not whole yet its first byte is enough, so that none is held however long it is.
+pub fn shorten(pending: &mut Vec<u8>)
+    ensures { pending.new.items ≡ shortened pending.old.items }
+{
+    if is_open_comment(pending) {
+        pending.truncate(1);
     }
 }

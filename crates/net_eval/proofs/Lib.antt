@@ -4,6 +4,7 @@ pub mod Cases
 pub mod Walking
 pub mod Ranging
 pub mod Passing
+pub mod Framing
 pub mod Scoping
 pub mod Parting
 pub mod Distinct

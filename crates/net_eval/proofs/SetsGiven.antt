@@ -1,6 +1,6 @@
 -- In a world whose declared sets are sets, values that are sets have their tuples once and of their dimension.
-use Rattle.std.specs.Prelude.{◌≡◌, ◌+◌, ◌&&◌, ◌||◌, not, ℕ, zero, suc, Bool, true, false, List, [], ◌∷◌, ◌++◌, length, map, filter, nat_eq, nat_le, int_lt, Option, None, Some, if◌then◌else◌, Ok, Err, ℤ, pos, ◌+ℤ◌, ◌<ℤ◌, ◌≤ℤ◌}
-use Rattle.std.specs.List.{AllByRecursion, IsDistinct, flat_map}
+use Rattle.std.specs.Prelude.{◌≡◌, ◌+◌, ◌&&◌, ◌||◌, not, ℕ, zero, suc, Bool, true, false, List, [], ◌∷◌, ◌++◌, length, filter, nat_eq, nat_le, int_lt, Option, None, Some, if◌then◌else◌, Ok, Err, ℤ, pos, ◌+ℤ◌, ◌<ℤ◌, ◌≤ℤ◌}
+use Rattle.std.specs.List.{AllByRecursion, IsDistinct}
 use Rattle.std.specs.Ordering.{int_eq}
 use Rattle.std.proofs.Common.{refl, ap, sym, ◌∙◌, subst, arith}
 use Rattle.std.proofs.lemmas.Bool.{eqb-true}
@@ -16,14 +16,13 @@ use Rattle.net_sets.specs.Limits.{arity_limit, tuples_limit}
 use Rattle.net_sets.specs.Operations.{union, widest, behind, product, difference, intersection, symmetric_difference}
 use Rattle.net_sets.specs.Ranges.{range_size, singles, numbers_by}
 use Rattle.net_sets.specs.Sets.{Tuple, same_tuple, has}
-use Rattle.net_sets.specs.Texts.{text_of}
 use Rattle.net_tree.specs.declared.role.Role.{Role}
 use Rattle.net_tree.specs.declared.role.Role.TheVariants as roles
 use Rattle.net_tree.specs.Role.{role_of}
 use Rattle.net_tree.specs.Spans.{span_of, braces_span}
-use Rattle.net_tree.specs.Tree.{Tree, Links, Part, Braces, leaf, indexed, parens, tuple, negated, braced, signed, reduced, chain, choice, net, none, link, absent, part}
+use Rattle.net_tree.specs.Tree.{Tree, Links, Part, leaf, indexed, parens, tuple, negated, braced, signed, reduced, chain, choice, net, none, link, absent, part}
 use Rattle.net_eval.specs.declared.fault.Detail.{Detail}
-use Rattle.net_eval.specs.declared.fault.EvalDefect.TheVariants.{KindMismatch, Arity, TooMany, TooLarge, DivMod, NoValue}
+use Rattle.net_eval.specs.declared.fault.EvalDefect.TheVariants.{DivMod}
 use Rattle.net_eval.specs.declared.operation.Operation.{Operation}
 use Rattle.net_eval.specs.declared.operation.Operation.TheVariants as op
 use Rattle.net_eval.specs.declared.operation.Reduction.{Reduction}
@@ -35,18 +34,17 @@ use Rattle.net_eval.specs.declared.world.Entry.{Entry}
 use Rattle.net_eval.specs.declared.world.Entry.TheVariants.{Set, Parameter}
 use Rattle.net_eval.specs.Items.{begins_range}
 use Rattle.net_eval.specs.Limits.{is_small}
-use Rattle.net_eval.specs.Numbers.{number_in, number, sized, divides, turned, plus, less, times, quotient, remainder, step, size, range, range_within, range_of}
+use Rattle.net_eval.specs.Numbers.{number_in, number, sized, divides, plus, less, times, quotient, remainder, step, size, range, range_of}
 use Rattle.net_eval.specs.Operations.{operation, reduction, is_minus}
-use Rattle.net_eval.specs.Operators.{of_numbers, compared, same, of_sets, crossed, belongs, contained, truth, as_truth, as_denial, apply, decided, tuple_of}
+use Rattle.net_eval.specs.Operators.{of_numbers, same, of_sets, crossed, belongs, contained, truth, as_truth, as_denial, apply, decided, tuple_of}
 use Rattle.net_eval.specs.Outcomes.{Outcome, and_then, refused}
 use Rattle.net_eval.specs.Rows.{as_set, keys_of, reduce, gathered_over, reduced_to}
-use Rattle.net_eval.specs.Sets.{counted, fits, shared, within_size, set_of, cross}
-use Rattle.net_eval.specs.SetValues.{IsSetOf, GivesSets, HasSets, KeepsSets}
+use Rattle.net_eval.specs.Sets.{counted, shared, set_of}
+use Rattle.net_eval.specs.SetValues.{IsSetOf, HasSets, KeepsSets}
 use Rattle.net_eval.specs.Values.{number_value, token_value, subscripted, tupled, with_sign, either, value, otherwise, values, chained, index}
-use Rattle.net_eval.specs.Worlds.{Name, World, Scope, key_count, reference, bound, entry_of, missing, value_at, entry_at, name_at}
+use Rattle.net_eval.specs.Worlds.{Name, World, Scope, key_count, bound, entry_of, value_at, entry_at, name_at}
 use Rattle.net_eval.proofs.Alike.{AreLong, AreKeys, all_union, keys_long}
 use Rattle.net_eval.proofs.KeysOnce.{union_distinct}
-use Rattle.net_eval.proofs.Parting.{then_ok, is_ok}
 use Rattle.net_eval.proofs.Walked.{none_there, all_join, all_as}
 
 abbrev IsSetValue : Value → Type 0

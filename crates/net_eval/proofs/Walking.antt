@@ -75,17 +75,10 @@ any_left ls i l b h e f = ap any_in (next_link ls i l h e) ∙ ap (λ c. c || an
 pub answers_by : {A : Type 0} (o wanted : Outcome A) (r : Result A EvalFault) → wanted ≡ o → Answers o r → Answers wanted r
 answers_by o wanted r e h = subst (λ k. Answers k r) (sym e) h
 
-pub leaves_by : {A : Type 0} (o wanted : Outcome A) (r : Result (Unit {0}) EvalFault) (new : A) → wanted ≡ o → Leaves o r new → Leaves wanted r new
-leaves_by o wanted r new e h = subst (λ k. Leaves k r new) (sym e) h
-
 -- a fault of the first step is a fault of all
 pub stops : {A B : Type 0} (o : Outcome A) (f : A → Outcome B) (wanted : Outcome B) (e : EvalFault) → wanted ≡ and_then o f → Answers o (Err e) → Answers wanted (Err e)
 stops o f wanted faults.OutOfMemory e h = tt
 stops o f wanted (faults.Refused r) e h = e ∙ ap (λ k. and_then k f) h
-
-pub stops_leaving : {A B : Type 0} (o : Outcome A) (f : A → Outcome B) (wanted : Outcome B) (e : EvalFault) (new : A) (last : B) → wanted ≡ and_then o f → Leaves o (Err e) new → Leaves wanted (Err e) last
-stops_leaving o f wanted faults.OutOfMemory new last e h = tt
-stops_leaving o f wanted (faults.Refused r) new last e h = e ∙ ap (λ k. and_then k f) h
 
 -- behind the first step the rest is left
 pub goes : {A B : Type 0} (o : Outcome A) (f : A → Outcome B) (wanted : Outcome B) (x : A) → wanted ≡ and_then o f → o ≡ Ok x → wanted ≡ f x

@@ -14,4 +14,5 @@ pub mod Widths
 pub mod Rows
 pub mod Values
 pub mod Walks
+pub mod Frames
 pub mod SetValues

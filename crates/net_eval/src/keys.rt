@@ -1,17 +1,22 @@
 //! The keys of braces, found by walks over their items.
 
-ghost use Rattle.std.specs.Prelude.{[], Ok};
+ghost use Rattle.std.specs.Prelude.{◌≡◌, ◌≤◌, [], Ok, IfOk, IfSome};
+ghost use Rattle.net_sets.specs.Components.{sought};
 ghost use Rattle.net_tree.specs.Spans as trees;
 ghost use Rattle.net_tree.specs.View.{tree, braces_of, links_of, option_part};
+ghost use Rattle.net_tree.specs.Weights.{weights};
+ghost use Rattle.net_eval.specs.Frames as frames;
 ghost use Rattle.net_eval.specs.Items as items;
 ghost use Rattle.net_eval.specs.Outcomes.{Answers, Leaves, and_then, each};
 ghost use Rattle.net_eval.specs.Rows as rows;
+ghost use Rattle.net_eval.specs.Selecting as select;
 ghost use Rattle.net_eval.specs.Values as values;
 ghost use Rattle.net_eval.specs.Walks as walks;
 
 use crate::eval::{evaluate, evaluate_more};
 use crate::fault::EvalFault;
 use crate::fitting::place_at;
+use crate::frame::Frame;
 use crate::item::{any_in, chosen, has_part, is_set, sides_of, tuples_of};
 use crate::list::{listed, no_items};
 use crate::operator::truth_at;
@@ -22,7 +27,7 @@ use crate::value::Value;
 use crate::width::width;
 use crate::world::Seen;
 use net_lex::{Boxed, Items, Span};
-use net_sets::{Held, Tuple};
+use net_sets::Held;
 use net_tree::{Braces, Expr, Link, Part, span_between};
 use std::alloc::Global;
 
@@ -133,84 +138,102 @@ fn collect<'w, 's>(
     ensures { Answers (each (rows.onward (values.place seen.now (tree item.now)) (values.walk at seen.now (links_of more.now)) (rows.start scope.now)) tuples.entry []) result }
 {
     let place = start(alloc, scope)?;
+    let left = selected(seen, &place.scope, item, tuples);
+    let first = Frame {
+        item,
+        more,
+        place,
+        left,
+    };
     let mut found = Vec::new(alloc);
-    through(alloc, seen, at, item, more, place, tuples, &mut found)?;
+    walk(alloc, seen, at, first, &mut found)?;
     Ok(Items::new(found))
 }
 
-/// The rest of the walk behind each tuple of an item's set. Those that the dummies in scope leave out are passed by.
+/// What an item has still to give. Each further item is entered at each place that those before it lead to; where they are
+/// left stands in a list, as braces may have more items than the stack has room for.
 #[cycle(eval)]
-fn through<'w, 's>(
+fn walk<'a, 'w, 's>(
     alloc: Global,
     seen: &Seen<'w, 's>,
     at: Span,
-    item: &Expr<'s>,
-    more: &[Link<'s>],
-    place: Place<'s>,
-    tuples: Held<'w, 's>,
+    first: Frame<'a, 'w, 's>,
     found: &mut Vec<Row<'s>>,
 ) -> Result<(), EvalFault>
-    ensures { Leaves (each (rows.onward (values.place seen.now (tree item.now)) (values.walk at seen.now (links_of more.now)) place.entry) tuples.entry found.old.items) result found.new.items }
+    ensures { Leaves (frames.still at seen.now first.entry found.old.items) result found.new.items }
 {
-    let mut left = selected(seen, &place.scope, item, &tuples);
-    while let Some(tuple) = left.next() {
-        onward(alloc, seen, at, item, more, &place, tuple, found)?;
-    }
-    Ok(())
-}
-
-/// The rest of the walk behind one tuple, if the tuple agrees.
-#[cycle(eval)]
-fn onward<'s>(
-    alloc: Global,
-    seen: &Seen<'_, 's>,
-    at: Span,
-    item: &Expr<'s>,
-    more: &[Link<'s>],
-    place: &Place<'s>,
-    tuple: &Tuple<'s>,
-    found: &mut Vec<Row<'s>>,
-) -> Result<(), EvalFault>
-    ensures { Leaves (rows.onward (values.place seen.now (tree item.now)) (values.walk at seen.now (links_of more.now)) place.now tuple.now found.old.items) result found.new.items }
-{
-    match place_at(alloc, seen, item, tuple, place) {
-        Ok(None) => Ok(()),
-        Ok(Some(next)) => walk(alloc, seen, at, more, next, found),
-        Err(fault) => Err(fault),
+    let mut top = first;
+    let mut below = Vec::new(alloc);
+    'tuples: loop {
+        match top.left.first() {
+            None => match below.pop() {
+                None => return Ok(()),
+                Some(frame) => top = frame,
+            },
+            Some(tuple) => {
+                let next = place_at(alloc, seen, top.item, tuple, &top.place)?;
+                top.left.pass();
+                match onward(alloc, seen, at, top.more, next, found)? {
+                    None => {}
+                    Some(deeper) => {
+                        below.push(top)?;
+                        top = deeper;
+                    }
+                }
+            }
+        }
     }
 }
 
+/// The rest of a walk behind a tuple, if the tuple agrees: the next item, or a key where there is none.
 #[cycle(eval)]
-fn walk<'s>(
+fn onward<'a, 'w, 's>(
     alloc: Global,
-    seen: &Seen<'_, 's>,
+    seen: &Seen<'w, 's>,
     at: Span,
-    items: &[Link<'s>],
-    place: Place<'s>,
+    items: &'a [Link<'s>],
+    place: Option<Place<'s>>,
     found: &mut Vec<Row<'s>>,
-) -> Result<(), EvalFault>
-    ensures { Leaves (values.walk at seen.now (links_of items.now) place.entry found.old.items) result found.new.items }
+) -> Result<Option<Frame<'a, 'w, 's>>, EvalFault>
+    ensures leads { frames.Leads at seen.now (rows.go_on (values.walk at seen.now (links_of items.entry.now)) found.old.items place.entry) result found.new.items }
+    ensures lighter { IfOk result (λ next. IfSome next (λ f. frames.weight_of f ≤ weights (links_of items.entry.now))) }
+    ensures steps { IfOk result (λ next. IfSome next (λ f. frames.steps_still at seen.now f ≡ frames.steps_next (frames.steps at seen.now (links_of items.entry.now)) (Ok place.entry))) }
 {
-    match items {
-        [] => place.finish(at, found),
-        [link, rest @ ..] => walk_item(alloc, seen, at, &link.operand, rest, place, found),
+    match place {
+        None => Ok(None),
+        Some(place) => match items {
+            [] => {
+                place.finish(at, found)?;
+                Ok(None)
+            }
+            [link, rest @ ..] => {
+                let frame = entered(alloc, seen, at, &link.operand, rest, place)?;
+                Ok(Some(frame))
+            }
+        },
     }
 }
 
+/// An item at a place.
 #[cycle(eval)]
-fn walk_item<'s>(
+fn entered<'a, 'w, 's>(
     alloc: Global,
-    seen: &Seen<'_, 's>,
+    seen: &Seen<'w, 's>,
     at: Span,
-    item: &Expr<'s>,
-    more: &[Link<'s>],
+    item: &'a Expr<'s>,
+    more: &'a [Link<'s>],
     place: Place<'s>,
-    found: &mut Vec<Row<'s>>,
-) -> Result<(), EvalFault>
-    ensures { Leaves (and_then (walks.item_tuples at seen.now place.entry.scope (tree item.now)) (λ ts. each (rows.onward (values.place seen.now (tree item.now)) (values.walk at seen.now (links_of more.now)) place.entry) ts found.old.items)) result found.new.items }
+) -> Result<Frame<'a, 'w, 's>, EvalFault>
+    ensures { Answers (and_then (walks.item_tuples at seen.now place.entry.scope (tree item.entry.now)) (λ ts. Ok (record { item = item.entry; more = more.entry; place = place.entry; left = sought (select.selecting seen.now place.entry.scope (tree item.entry.now)) ts }))) result }
 {
     let tuples = item_tuples(alloc, seen, at, &place.scope, item)?;
-    through(alloc, seen, at, item, more, place, tuples, found)
+    let left = selected(seen, &place.scope, item, tuples);
+    Ok(Frame {
+        item,
+        more,
+        place,
+        left,
+    })
 }
 
 #[cycle(eval)]

@@ -5,6 +5,7 @@ mod calls;
 mod eval;
 mod fault;
 mod fitting;
+mod frame;
 mod item;
 mod keys;
 mod laws;

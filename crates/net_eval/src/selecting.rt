@@ -107,13 +107,13 @@ pub(crate) fn selecting<'s>(
 }
 
 /// The tuples of an item's set, without those that the dummies in scope leave out.
-pub(crate) fn selected<'a, 's>(
+pub(crate) fn selected<'w, 's>(
     seen: &Seen<'_, 's>,
     scope: &Scope<'s>,
     item: &Expr<'s>,
-    tuples: &'a Held<'_, 's>,
-) -> Walk<'a, 's>
-    ensures { result ≡ sought (select.selecting seen.now scope.now (tree item.now)) tuples.now }
+    tuples: Held<'w, 's>,
+) -> Walk<'w, 's>
+    ensures { result ≡ sought (select.selecting seen.now scope.now (tree item.now)) tuples.entry }
 {
     tuples.walk(selecting(seen, scope, item))
 }

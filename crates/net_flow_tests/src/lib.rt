@@ -1,4 +1,4 @@
-//! Tests of what the program cannot show of the flow half: ends that fail at each call, guesses and solvers that are given, and
+//! Tests of what the program cannot show of the flow half: ends that fail at each call, guesses and solvers that are given, counted runs, and
 //! certificates that no text can be. All else stands in `examples/rows`, which the program is tried on.
 #![tactic(auto)]
 
@@ -6,6 +6,8 @@
 mod ends;
 #[cfg(test)]
 mod guesses;
+#[cfg(test)]
+mod runs;
 #[cfg(test)]
 mod shapes;
 #[cfg(test)]

@@ -5,7 +5,7 @@ use net_check::{Certificate, Verdict, check};
 use net_dimacs::read_problem;
 use net_expect::expect;
 use net_normal::Problem;
-use net_solve::{Solver, solve};
+use net_solve::{Guess, Solver, solve};
 use std::alloc::{AllocError, Global};
 use std::test::Fail;
 
@@ -24,6 +24,15 @@ impl Solver for Known {
             Verdict::Yes => Ok(Some(certificate)),
             Verdict::No(..) => Ok(None),
         }
+    }
+
+    fn answer_from(
+        &self,
+        alloc: Global,
+        problem: &Problem,
+        _guess: &Guess,
+    ) -> Result<Option<Certificate>, AllocError> {
+        self.answer(alloc, problem)
     }
 }
 

@@ -13,4 +13,6 @@ mod settling;
 mod start;
 mod way_out;
 
+pub use pseudoflow::add_at;
 pub use settling::settle;
+pub use start::excess_of;

@@ -88,7 +88,7 @@ fn outflows(alloc: Global, problem: &Problem, flows: &[i64]) -> Result<Vec<i128>
 }
 
 /// Each node's supply less what a flow sends out of it.
-fn excess_of(alloc: Global, problem: &Problem, flows: &[i64]) -> Result<Vec<i128>, AllocError>
+pub fn excess_of(alloc: Global, problem: &Problem, flows: &[i64]) -> Result<Vec<i128>, AllocError>
     requires { AllZip IsWithinCapacity problem.now.arcs.items flows.now }
     ensures len { IfOk result (λ excess. vec_len excess ≡ vec_len problem.now.supplies) }
     ensures value { IfOk result (λ excess. (v : ℕ) → v < vec_len problem.now.supplies → slice_index_or excess.items v (pos 0) ≡ slice_index_or problem.now.supplies.items v (pos 0) -ℤ net_outflow problem.now.arcs.items flows.now v) }

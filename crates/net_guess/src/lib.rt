@@ -26,3 +26,4 @@ mod tree;
 
 pub use guess::Guess;
 pub use guessing::find_guess;
+pub use node_queue::NodeQueue;

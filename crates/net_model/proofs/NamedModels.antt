@@ -1,13 +1,18 @@
--- A model that tokens are has names that are as they should be.
+-- A model that tokens are has names that are as they should be, and tokens that mean such a model are that model.
 use Rattle.std.specs.Prelude.{◌≡◌, List, [], Option, None, Some, Result, Ok, Err}
-use Rattle.std.proofs.Common.{refl, ap, subst}
+use Rattle.std.proofs.Common.{refl, ap, sym, ◌∙◌, subst}
 use Rattle.net_tree.specs.Tree.{Declaration}
+use Rattle.net_names.specs.declared.fault.NameFault.{NameFault}
+use Rattle.net_names.specs.declared.fault.NameFault.TheVariants as name_faults
 use Rattle.net_names.specs.Names.{names_fault, IsWellNamed}
-use Rattle.net_names.specs.Told.{Fault}
+use Rattle.net_names.specs.Told.{Fault, Tells}
 use Rattle.net_model.specs.declared.fault.ModelFault.{ModelFault}
+use Rattle.net_model.specs.declared.fault.ModelFault.TheVariants as faults
 use Rattle.net_model.specs.Declarations.{model_at, nesting_limit}
-use Rattle.net_model.specs.Models.{unless_fault, meant_by, meant}
+use Rattle.net_model.specs.Meaning.{Means}
+use Rattle.net_model.specs.Models.{unless_fault, meant_by, meant, name_told, IsFault, of_grammar, of_names}
 use Rattle.net_model.specs.Reading.{Tokens, Read}
+use Rattle.net_model.proofs.ModelLaws.{model-complete}
 
 abbrev declarations_of : Result (List Declaration) ModelFault → List Declaration
 declarations_of (Ok ds) = ds
@@ -23,3 +28,14 @@ read_named ts (Err s) ds h = cc
 
 pub meant_well_named : (ts : Tokens) (ds : List Declaration) → meant ts ≡ Ok ds → IsWellNamed ds
 meant_well_named ts ds h = read_named ts (model_at nesting_limit ts) ds h
+
+-- with names that are as they should be, what is meant is what is read
+pub named_meant : (ts : Tokens) (ds : List Declaration) → Means ts ds → IsWellNamed ds → meant ts ≡ Ok ds
+named_meant ts ds means well =
+    let read : model_at nesting_limit ts ≡ Ok ((ds, tt), []) = subst (λ us. model_at nesting_limit us ≡ Ok ((ds, tt), [])) means.printed (model-complete nesting_limit ds means.level means.shallow) in
+    ap (meant_by ts) read ∙ ap (unless_fault ds) well
+
+-- what is told of the names is told of a model that the tokens mean
+pub named_fault : (ts : Tokens) (ds : List Declaration) (f : NameFault) (g : ModelFault) → Means ts ds → Tells (names_fault [] ds) (Err f) → g ≡ name_told f → IsFault ts g
+named_fault ts ds name_faults.OutOfMemory g means told is = subst (IsFault ts) (sym is) (of_grammar faults.OutOfMemory tt)
+named_fault ts ds (name_faults.At d t) g means told is = subst (IsFault ts) (sym is) (of_names ds d t means told)

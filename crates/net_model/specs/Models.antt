@@ -17,6 +17,7 @@ use Rattle.net_model.specs.declared.fault.ModelFault.TheVariants as faults
 use Rattle.net_model.specs.Reading.{Tokens, Read}
 use Rattle.net_model.specs.Faults.{told}
 use Rattle.net_model.specs.Declarations.{model_at, nesting_limit}
+use Rattle.net_model.specs.Meaning.{Means, IsRefused}
 
 abbrev pub defect_of_name : NameDefect → ModelDefect
 defect_of_name name_defects.Undeclared = defects.Undeclared
@@ -50,3 +51,9 @@ abbrev pub Parses : Result Model ModelFault → Result (List Declaration) ModelF
 Parses (Ok m) w = w ≡ Ok (model m)
 Parses (Err faults.OutOfMemory) w = Unit {0}
 Parses (Err (faults.At d p n)) w = w ≡ Err (faults.At d p n)
+
+-- what a text is refused for: no model goes on with the token at that place, or the tokens mean a model, and this is the first fault of
+-- its names
+pub data IsFault (tokens : Tokens) : ModelFault → Type 0 where
+  of_grammar : (fault : ModelFault) → IsRefused tokens fault → IsFault tokens fault
+  of_names : (ds : List Declaration) (d : NameDefect) (t : Token) → Means tokens ds → names_fault [] ds ≡ Some (d, t) → IsFault tokens (at_name d t)

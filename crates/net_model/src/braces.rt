@@ -1,6 +1,7 @@
 //! Braces, and reductions over them.
 
-ghost use Rattle.std.specs.Prelude.{◌≡◌, ◌<◌, ◌≤◌, Some, None, length, IfOk};
+ghost use Rattle.std.specs.Prelude.{◌≡◌, ◌<◌, ◌≤◌, Some, None, length, IfOk, IfErr};
+ghost use Rattle.net_model.specs.declared.stop.Stop.TheVariants.{OutOfMemory};
 ghost use Rattle.net_tree.specs.Tree.{reduced};
 ghost use Rattle.net_tree.specs.View.{tree, braces_of, option_part};
 ghost use Rattle.net_model.specs.Expressions as grammar;
@@ -41,6 +42,8 @@ pub(crate) fn braces_of<'t, 's>(
 fn shut_braces<'t, 's>(tokens: &mut Cursor<'t, 's>) -> Result<Stored<Braces<'s>>, Stop>
     ensures value { Gives braces_of result tokens.new (grammar.braces None tokens.old) }
     ensures shorter { IfOk result (λ x. length tokens.new < length tokens.old) }
+    // What takes no memory wants none.
+    ensures sure { IfErr result (λ e. e ≡ OutOfMemory → ⊥) }
 {
     if tokens.next_is(Sort::OpenBrace) {
         Err(Stop::TooDeep(tokens.len()))

@@ -1,6 +1,7 @@
 //! `if` with its branches, where one may stand.
 
-ghost use Rattle.std.specs.Prelude.{◌≡◌, ◌<◌, ◌≤◌, Some, None, length, IfOk};
+ghost use Rattle.std.specs.Prelude.{◌≡◌, ◌<◌, ◌≤◌, Some, None, length, IfOk, IfErr};
+ghost use Rattle.net_model.specs.declared.stop.Stop.TheVariants.{OutOfMemory};
 ghost use Rattle.net_tree.specs.View.{tree, option_part, part_of};
 ghost use Rattle.net_model.specs.Expressions as grammar;
 ghost use Rattle.net_model.specs.Expressions.{inside, inner_of, unary};
@@ -57,6 +58,8 @@ fn if_of<'t, 's>(
 fn shut_if<'t, 's>(tokens: &mut Cursor<'t, 's>) -> Result<Stored<Expr<'s>>, Stop>
     ensures value { Gives tree result tokens.new (grammar.if_at None tokens.old) }
     ensures shorter { IfOk result (λ x. length tokens.new < length tokens.old) }
+    // What takes no memory wants none.
+    ensures sure { IfErr result (λ e. e ≡ OutOfMemory → ⊥) }
 {
     Err(Stop::TooDeep(tokens.len()))
 }

@@ -1,4 +1,5 @@
-ghost use Rattle.std.specs.Prelude.{◌≡◌, ◌<◌, ◌∷◌, [], length, IfOk, MatchOption};
+ghost use Rattle.std.specs.Prelude.{◌≡◌, ◌<◌, ◌∷◌, [], length, IfOk, IfErr, MatchOption};
+ghost use Rattle.net_model.specs.declared.stop.Stop.TheVariants.{OutOfMemory};
 ghost use Rattle.net_tree.specs.Level.{joins};
 ghost use Rattle.net_model.specs.Conditions.{signed_net_next};
 ghost use Rattle.net_model.specs.Declarations.{any_left};
@@ -134,6 +135,8 @@ pub(crate) fn expect<'t, 's>(
 ) -> Result<Token<'s>, Stop>
     ensures value { Gives (λ t. t) result tokens.new (expect sort awaiting tokens.old) }
     ensures shorter { IfOk result (λ x. length tokens.new < length tokens.old) }
+    // What takes no memory wants none.
+    ensures sure { IfErr result (λ e. e ≡ OutOfMemory → ⊥) }
 {
     let left = tokens.len();
     match tokens.next() {

@@ -1,7 +1,8 @@
 //! Expressions. `depth` says how many nestings may still be opened; a function `.._inside` stands one further in than its
 //! caller. A `place` is the rank that a tree may have there.
 
-ghost use Rattle.std.specs.Prelude.{◌≡◌, ◌<◌, ◌≤◌, Some, None, length, IfOk};
+ghost use Rattle.std.specs.Prelude.{◌≡◌, ◌<◌, ◌≤◌, Some, None, length, IfOk, IfErr};
+ghost use Rattle.net_model.specs.declared.stop.Stop.TheVariants.{OutOfMemory};
 ghost use Rattle.net_tree.specs.Tree.{braced, indexed, negated, signed};
 ghost use Rattle.net_tree.specs.View.{tree, braces_of, links_of};
 ghost use Rattle.net_model.specs.Expressions as grammar;
@@ -80,6 +81,8 @@ fn name_shut<'t, 's>(
 fn not_shut<'t, 's>(tokens: &mut Cursor<'t, 's>) -> Result<Stored<Expr<'s>>, Stop>
     ensures value { Gives tree result tokens.new (grammar.not_shut tokens.old) }
     ensures shorter { IfOk result (λ x. length tokens.new ≤ length tokens.old) }
+    // What takes no memory wants none.
+    ensures sure { IfErr result (λ e. e ≡ OutOfMemory → ⊥) }
 {
     if tokens.next_is(Sort::Open) {
         Err(Stop::TooDeep(tokens.len()))

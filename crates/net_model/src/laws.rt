@@ -6,6 +6,7 @@ ghost use Rattle.net_tree.specs.Level.{IsLevel};
 ghost use Rattle.net_tree.specs.Declarations.{AreDeclarations};
 ghost use Rattle.net_names.specs.Names.{IsWellNamed};
 ghost use Rattle.net_model.specs.Declarations.{model_at};
+ghost use Rattle.net_model.specs.Meaning.{Means};
 ghost use Rattle.net_model.specs.Models.{meant};
 ghost use Rattle.net_model.specs.Reading.{Tokens};
 ghost use Rattle.net_model.specs.declared.stop.Stop.TheVariants.{TooDeep};
@@ -17,9 +18,11 @@ pub fn one_tree()
 {}
 
 /// A law alone: the tokens of each model that is written as the grammar wants are read as that model, with any limit of nestings
-/// that it keeps, and up to a nesting too many with any that it does not keep.
+/// that it keeps, and up to a nesting too many with any that it does not keep. So tokens that mean a model whose names are as they
+/// should be are that model.
 pub fn read_back()
     ensures kept { (limit : ℕ) (x : List Declaration) → AreDeclarations x → model_depth x ≤ limit → model_at limit (print x) ≡ Ok ((x, tt), []) }
+    ensures meant { (ts : Tokens) (ds : List Declaration) → Means ts ds → IsWellNamed ds → meant ts ≡ Ok ds }
     ensures exceeded { (limit : ℕ) (x : List Declaration) → AreDeclarations x → limit < model_depth x → (left : ℕ) × (model_at limit (print x) ≡ Err (TooDeep left)) }
 {}
 

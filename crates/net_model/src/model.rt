@@ -1,7 +1,8 @@
-ghost use Rattle.std.specs.Prelude.{◌≡◌, [], Ok};
+ghost use Rattle.std.specs.Prelude.{◌≡◌, [], Ok, IfOk, IfErr};
 ghost use Rattle.net_tree.specs.View as view;
 ghost use Rattle.net_model.specs.Declarations.{model_at, nesting_limit};
-ghost use Rattle.net_model.specs.Models.{Parses, meant};
+ghost use Rattle.net_model.specs.Meaning.{Means};
+ghost use Rattle.net_model.specs.Models.{Parses, meant, IsFault};
 ghost use Rattle.net_model.specs.Models as models;
 
 use crate::fault::{ModelDefect, ModelFault};
@@ -41,7 +42,10 @@ fn named<'s>(
     model: Model<'s>,
 ) -> Result<Model<'s>, ModelFault<'s>>
     requires read { model_at nesting_limit tokens.now ≡ Ok ((view.model model, tt), []) }
+    requires means { Means tokens.now (view.model model) }
     ensures value { Parses result (meant tokens.now) }
+    ensures means { IfOk result (λ m. Means tokens.now (view.model m)) }
+    ensures refused { IfErr result (IsFault tokens.now) }
 {
     match check_names(alloc, &model) {
         Ok(()) => Ok(model),
@@ -61,6 +65,10 @@ pub fn free_model(_model: Model<'_>) {}
 /// refused: E12, E13, or E14 of an `obj` phrase, at the name and with it.
 pub fn parse_model<'s>(alloc: Global, tokens: &[Token<'s>]) -> Result<Model<'s>, ModelFault<'s>>
     ensures value { Parses result (meant tokens.now) }
+    // The tokens are the printing of the model, which is written as the grammar wants and not nested too deep.
+    ensures means { IfOk result (λ m. Means tokens.now (view.model m)) }
+    // The grammar's fault, or the first of the names where there is none of the grammar.
+    ensures refused { IfErr result (IsFault tokens.now) }
 {
     match parse_declarations(alloc, tokens) {
         Ok(model) => named(alloc, tokens, model),

@@ -196,6 +196,8 @@ fn body_of<'t, 's>(
 fn comma_at<'t, 's>(tokens: &mut Cursor<'t, 's>) -> Result<Option<Token<'s>>, Stop>
     ensures value { Gives (λ c. c) result tokens.new (grammar.comma_at tokens.old) }
     ensures shorter { IfOk result (λ x. length tokens.new ≤ length tokens.old) }
+    // What takes no memory wants none.
+    ensures sure { IfErr result (λ e. e ≡ OutOfMemory → ⊥) }
 {
     if tokens.next_is(Sort::Comma) {
         Ok(tokens.next())
@@ -303,6 +305,8 @@ pub(crate) fn phrases_end<'t, 's>(
 ) -> Result<Token<'s>, Stop>
     ensures value { Gives (λ t. t) result tokens.new (grammar.phrases_end owner stood tokens.old) }
     ensures shorter { IfOk result (λ x. length tokens.new < length tokens.old) }
+    // What takes no memory wants none.
+    ensures sure { IfErr result (λ e. e ≡ OutOfMemory → ⊥) }
 {
     let left = tokens.len();
     match tokens.next() {

@@ -5,11 +5,12 @@ use Rattle.net_normal.specs.Limits.{IsSized, range_limit}
 use Rattle.net_normal.specs.Sums.{price_of}
 use Rattle.net_normal.specs.Assignments.{net_inflow}
 use Rattle.net_normal.specs.Links.{lifted_by}
-use Rattle.net_normal.specs.NormalForm.{offsets_of, numbers_from, flow_arc_of, supplies_from, room_arcs_from}
+use Rattle.net_normal.specs.NormalForm.{offsets_of, numbers_from, flow_arc_of, written_arcs, supplies_from, room_arcs_from}
 use Rattle.net_normal.specs.declared.instance.Sense.TheVariants.{Minimise}
 use Rattle.net_normal.specs.declared.instance.InstArc.{InstArc}
 use Rattle.net_normal.specs.declared.instance.NodeRange.{NodeRange}
 use Rattle.net_normal.specs.declared.problem.FlowArc.{FlowArc}
+use Rattle.net_normal.specs.declared.profile.Profile.TheVariants.{Plain, Lean}
 
 sized : (low high : ℤ) → IsSized range_limit low → (x : ℤ) → Some low ≡ Some x → IsSized range_limit x
 sized low high h x e = let same : low ≡ x = cc in subst (IsSized range_limit) same h
@@ -59,19 +60,19 @@ move_arcs = move ∷ []
 abbrev move_nodes : List NodeRange
 move_nodes = exactly (negsuc 1) (record { above = omega (arith, ints); below = omega (arith, ints) }) ∷ exactly (pos 2) (record { above = omega (arith, ints); below = omega (arith, ints) }) ∷ []
 
-move_supplies : supplies_from move_arcs 0 move_nodes ≡ pos 5 ∷ negsuc 4 ∷ []
+move_supplies : supplies_from Plain move_arcs 0 move_nodes ≡ pos 5 ∷ negsuc 4 ∷ []
 move_supplies = refl
 
-move_made : map (flow_arc_of Minimise 2) move_arcs ≡ flow_arc 0 1 (pos 0) (pos 8) (pos 4) ∷ []
+move_made : map (flow_arc_of Plain Minimise 2) move_arcs ≡ flow_arc 0 1 (pos 0) (pos 8) (pos 4) ∷ []
 move_made = refl
 
 move_rooms : room_arcs_from move_arcs 2 0 move_nodes ≡ []
 move_rooms = refl
 
-move_constant : price_of (λ (arc : InstArc). arc.coefficient) move_arcs (offsets_of move_arcs) ≡ negsuc 11
+move_constant : price_of (λ (arc : InstArc). arc.coefficient) move_arcs (offsets_of Plain move_arcs) ≡ negsuc 11
 move_constant = refl
 
-move_lifted : lifted_by (numbers_from 1 move_arcs) (offsets_of move_arcs) (pos 5 ∷ []) ≡ pos 2 ∷ []
+move_lifted : lifted_by (numbers_from Plain 1 move_arcs) (offsets_of Plain move_arcs) (pos 5 ∷ []) ≡ pos 2 ∷ []
 move_lifted = refl
 
 move_inflow_0 : net_inflow move_arcs (pos 2 ∷ []) 0 ≡ negsuc 1
@@ -93,19 +94,19 @@ feed_arcs = feed ∷ []
 abbrev feed_nodes : List NodeRange
 feed_nodes = between (pos 1) (pos 4) (record { above = omega (arith, ints); below = omega (arith, ints) }) (record { above = omega (arith, ints); below = omega (arith, ints) }) (omega (arith, ints)) ∷ []
 
-feed_supplies : supplies_from feed_arcs 0 feed_nodes ≡ negsuc 0 ∷ []
+feed_supplies : supplies_from Plain feed_arcs 0 feed_nodes ≡ negsuc 0 ∷ []
 feed_supplies = refl
 
-feed_made : map (flow_arc_of Minimise 1) feed_arcs ≡ flow_arc 1 0 (pos 0) (pos 9) (pos 2) ∷ []
+feed_made : map (flow_arc_of Plain Minimise 1) feed_arcs ≡ flow_arc 1 0 (pos 0) (pos 9) (pos 2) ∷ []
 feed_made = refl
 
 feed_rooms : room_arcs_from feed_arcs 1 0 feed_nodes ≡ flow_arc 0 1 (pos 0) (pos 3) (pos 0) ∷ []
 feed_rooms = refl
 
-feed_constant : price_of (λ (arc : InstArc). arc.coefficient) feed_arcs (offsets_of feed_arcs) ≡ pos 0
+feed_constant : price_of (λ (arc : InstArc). arc.coefficient) feed_arcs (offsets_of Plain feed_arcs) ≡ pos 0
 feed_constant = refl
 
-feed_lifted : lifted_by (numbers_from 1 feed_arcs) (offsets_of feed_arcs) (pos 1 ∷ pos 0 ∷ []) ≡ pos 1 ∷ []
+feed_lifted : lifted_by (numbers_from Plain 1 feed_arcs) (offsets_of Plain feed_arcs) (pos 1 ∷ pos 0 ∷ []) ≡ pos 1 ∷ []
 feed_lifted = refl
 
 feed_inflow_0 : net_inflow feed_arcs (pos 1 ∷ []) 0 ≡ pos 1
@@ -124,19 +125,19 @@ out_arcs = out ∷ []
 abbrev out_nodes : List NodeRange
 out_nodes = between (negsuc 3) (negsuc 1) (record { above = omega (arith, ints); below = omega (arith, ints) }) (record { above = omega (arith, ints); below = omega (arith, ints) }) (omega (arith, ints)) ∷ []
 
-out_supplies : supplies_from out_arcs 0 out_nodes ≡ pos 4 ∷ []
+out_supplies : supplies_from Plain out_arcs 0 out_nodes ≡ pos 4 ∷ []
 out_supplies = refl
 
-out_made : map (flow_arc_of Minimise 1) out_arcs ≡ flow_arc 0 1 (pos 0) (pos 10) (pos 1) ∷ []
+out_made : map (flow_arc_of Plain Minimise 1) out_arcs ≡ flow_arc 0 1 (pos 0) (pos 10) (pos 1) ∷ []
 out_made = refl
 
 out_rooms : room_arcs_from out_arcs 1 0 out_nodes ≡ flow_arc 0 1 (pos 0) (pos 2) (pos 0) ∷ []
 out_rooms = refl
 
-out_constant : price_of (λ (arc : InstArc). arc.coefficient) out_arcs (offsets_of out_arcs) ≡ pos 0
+out_constant : price_of (λ (arc : InstArc). arc.coefficient) out_arcs (offsets_of Plain out_arcs) ≡ pos 0
 out_constant = refl
 
-out_lifted : lifted_by (numbers_from 1 out_arcs) (offsets_of out_arcs) (pos 2 ∷ pos 2 ∷ []) ≡ pos 2 ∷ []
+out_lifted : lifted_by (numbers_from Plain 1 out_arcs) (offsets_of Plain out_arcs) (pos 2 ∷ pos 2 ∷ []) ≡ pos 2 ∷ []
 out_lifted = refl
 
 out_inflow_0 : net_inflow out_arcs (pos 2 ∷ []) 0 ≡ negsuc 1
@@ -155,19 +156,19 @@ loop_arcs = loop ∷ []
 abbrev loop_nodes : List NodeRange
 loop_nodes = exactly (pos 0) (record { above = omega (arith, ints); below = omega (arith, ints) }) ∷ []
 
-loop_supplies : supplies_from loop_arcs 0 loop_nodes ≡ pos 0 ∷ []
+loop_supplies : supplies_from Plain loop_arcs 0 loop_nodes ≡ pos 0 ∷ []
 loop_supplies = refl
 
-loop_made : map (flow_arc_of Minimise 1) loop_arcs ≡ flow_arc 0 0 (pos 0) (pos 5) (negsuc 1) ∷ []
+loop_made : map (flow_arc_of Plain Minimise 1) loop_arcs ≡ flow_arc 0 0 (pos 0) (pos 5) (negsuc 1) ∷ []
 loop_made = refl
 
 loop_rooms : room_arcs_from loop_arcs 1 0 loop_nodes ≡ []
 loop_rooms = refl
 
-loop_constant : price_of (λ (arc : InstArc). arc.coefficient) loop_arcs (offsets_of loop_arcs) ≡ pos 0
+loop_constant : price_of (λ (arc : InstArc). arc.coefficient) loop_arcs (offsets_of Plain loop_arcs) ≡ pos 0
 loop_constant = refl
 
-loop_lifted : lifted_by (numbers_from 1 loop_arcs) (offsets_of loop_arcs) (pos 5 ∷ []) ≡ pos 5 ∷ []
+loop_lifted : lifted_by (numbers_from Plain 1 loop_arcs) (offsets_of Plain loop_arcs) (pos 5 ∷ []) ≡ pos 5 ∷ []
 loop_lifted = refl
 
 loop_inflow_0 : net_inflow loop_arcs (pos 5 ∷ []) 0 ≡ pos 0
@@ -189,19 +190,19 @@ side_arcs = side_x ∷ side_y ∷ []
 abbrev side_nodes : List NodeRange
 side_nodes = at_least (pos 3) (record { above = omega (arith, ints); below = omega (arith, ints) }) ∷ []
 
-side_supplies : supplies_from side_arcs 0 side_nodes ≡ negsuc 10 ∷ []
+side_supplies : supplies_from Plain side_arcs 0 side_nodes ≡ negsuc 10 ∷ []
 side_supplies = refl
 
-side_made : map (flow_arc_of Minimise 1) side_arcs ≡ flow_arc 1 0 (pos 0) (pos 8) (pos 1) ∷ flow_arc 1 0 (pos 0) (pos 8) (pos 2) ∷ []
+side_made : map (flow_arc_of Plain Minimise 1) side_arcs ≡ flow_arc 1 0 (pos 0) (pos 8) (pos 1) ∷ flow_arc 1 0 (pos 0) (pos 8) (pos 2) ∷ []
 side_made = refl
 
 side_rooms : room_arcs_from side_arcs 1 0 side_nodes ≡ flow_arc 0 1 (pos 0) (pos 5) (pos 0) ∷ []
 side_rooms = refl
 
-side_constant : price_of (λ (arc : InstArc). arc.coefficient) side_arcs (offsets_of side_arcs) ≡ negsuc 11
+side_constant : price_of (λ (arc : InstArc). arc.coefficient) side_arcs (offsets_of Plain side_arcs) ≡ negsuc 11
 side_constant = refl
 
-side_lifted : lifted_by (numbers_from 1 side_arcs) (offsets_of side_arcs) (pos 8 ∷ pos 3 ∷ pos 0 ∷ []) ≡ pos 4 ∷ negsuc 0 ∷ []
+side_lifted : lifted_by (numbers_from Plain 1 side_arcs) (offsets_of Plain side_arcs) (pos 8 ∷ pos 3 ∷ pos 0 ∷ []) ≡ pos 4 ∷ negsuc 0 ∷ []
 side_lifted = refl
 
 side_inflow_0 : net_inflow side_arcs (pos 4 ∷ negsuc 0 ∷ []) 0 ≡ pos 3
@@ -214,7 +215,7 @@ side_value = refl
 abbrev past_nodes : List NodeRange
 past_nodes = at_least (pos 20) (record { above = omega (arith, ints); below = omega (arith, ints) }) ∷ []
 
-past_supplies : supplies_from side_arcs 0 past_nodes ≡ negsuc 27 ∷ []
+past_supplies : supplies_from Plain side_arcs 0 past_nodes ≡ negsuc 27 ∷ []
 past_supplies = refl
 
 past_rooms : room_arcs_from side_arcs 1 0 past_nodes ≡ flow_arc 0 1 (pos 0) (pos 0) (pos 0) ∷ []
@@ -224,8 +225,50 @@ past_rooms = refl
 abbrev high_nodes : List NodeRange
 high_nodes = at_most (pos 3) (record { above = omega (arith, ints); below = omega (arith, ints) }) ∷ []
 
-high_supplies : supplies_from side_arcs 0 high_nodes ≡ pos 0 ∷ []
+high_supplies : supplies_from Plain side_arcs 0 high_nodes ≡ pos 0 ∷ []
 high_supplies = refl
 
 high_rooms : room_arcs_from side_arcs 1 0 high_nodes ≡ flow_arc 0 1 (pos 0) (pos 11) (pos 0) ∷ []
 high_rooms = refl
+
+-- the lean form of a fixed arc beside a free one: `node A: net_out = 7; node B: net_in = 7; arc P >= 2, <= 2, from A, to B, obj Cost 5;
+-- arc Q >= 1, <= 9, from A, to B, obj Cost 3;`
+abbrev fixed_p : InstArc
+fixed_p = record { lower = pos 2; upper = pos 2; coefficient = pos 5; tail = Some 0; head = Some 1 }
+
+abbrev free_q : InstArc
+free_q = record { lower = pos 1; upper = pos 9; coefficient = pos 3; tail = Some 0; head = Some 1 }
+
+abbrev lean_arcs : List InstArc
+lean_arcs = fixed_p ∷ free_q ∷ []
+
+abbrev lean_nodes : List NodeRange
+lean_nodes = exactly (negsuc 6) (record { above = omega (arith, ints); below = omega (arith, ints) }) ∷ exactly (pos 7) (record { above = omega (arith, ints); below = omega (arith, ints) }) ∷ []
+
+lean_supplies : supplies_from Lean lean_arcs 0 lean_nodes ≡ pos 4 ∷ negsuc 3 ∷ []
+lean_supplies = refl
+
+lean_written : written_arcs Lean Minimise 2 lean_arcs ≡ flow_arc 0 1 (pos 0) (pos 8) (pos 3) ∷ []
+lean_written = refl
+
+lean_numbers : numbers_from Lean 1 lean_arcs ≡ 0 ∷ 1 ∷ []
+lean_numbers = refl
+
+lean_constant : price_of (λ (arc : InstArc). arc.coefficient) lean_arcs (offsets_of Lean lean_arcs) ≡ pos 13
+lean_constant = refl
+
+lean_lifted : lifted_by (numbers_from Lean 1 lean_arcs) (offsets_of Lean lean_arcs) (pos 4 ∷ []) ≡ pos 2 ∷ pos 5 ∷ []
+lean_lifted = refl
+
+-- and the normal form of the same
+plain_supplies : supplies_from Plain lean_arcs 0 lean_nodes ≡ pos 7 ∷ negsuc 6 ∷ []
+plain_supplies = refl
+
+plain_written : written_arcs Plain Minimise 2 lean_arcs ≡ flow_arc 0 1 (pos 2) (pos 2) (pos 5) ∷ flow_arc 0 1 (pos 1) (pos 9) (pos 3) ∷ []
+plain_written = refl
+
+plain_numbers : numbers_from Plain 1 lean_arcs ≡ 1 ∷ 2 ∷ []
+plain_numbers = refl
+
+plain_constant : price_of (λ (arc : InstArc). arc.coefficient) lean_arcs (offsets_of Plain lean_arcs) ≡ pos 0
+plain_constant = refl

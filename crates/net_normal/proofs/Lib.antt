@@ -6,7 +6,9 @@ pub mod RoomArcs
 pub mod Surplus
 pub mod Supplies
 pub mod ArcLifts
+pub mod Written
 pub mod OneToOne
+pub mod Profiles
 pub mod Sizes
 pub mod ArcCounts
 pub mod FlowArcs

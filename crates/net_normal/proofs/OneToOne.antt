@@ -8,7 +8,7 @@ use Rattle.net_normal.specs.Sums.{price_of, sum_of}
 use Rattle.net_normal.specs.Assignments.{enters, leaves, net_inflow, IsWithinBounds, IsFeasibleAssignment, value_of}
 use Rattle.net_normal.specs.Flows.{net_outflow, IsWithinCapacity, IsFeasibleFlow, cost_of}
 use Rattle.net_normal.specs.Links.{signed, lifted, lifted_by, value_at}
-use Rattle.net_normal.specs.NormalForm.{offsets_of, numbers_from, flow_arc_of, least_inflow, most_inflow, shift_of, supply_of, supplies_from, room_arcs_from, IsNormalForm}
+use Rattle.net_normal.specs.NormalForm.{offsets_of, numbers_from, flow_arc_of, written_arcs, least_inflow, most_inflow, shift_of, supply_of, supplies_from, room_arcs_from, IsFormIn}
 use Rattle.net_normal.specs.Correspondence.{CorrespondsOneToOne}
 use Rattle.net_normal.specs.declared.instance.Instance.{Instance}
 use Rattle.net_normal.specs.declared.instance.InstArc.{InstArc}
@@ -19,98 +19,97 @@ use lib.IntN.{neg_ℤ-neg_ℤ}
 use Rattle.net_normal.specs.declared.problem.FlowArc.{FlowArc}
 use Rattle.net_normal.specs.declared.problem.Problem.{Problem}
 use Rattle.net_normal.specs.declared.link.Link.{Link}
-use Rattle.net_normal.proofs.ArcSums.{added, lessened, flow_on-append, flow_on-added, flow_on-le, flow_on-ge, price_of-append, price_of-added, zipped_parts, zipped_whole, zipped-weaker, zipped-length, added-lessened, lessened-added, length-lessened}
+use Rattle.net_normal.specs.declared.profile.Profile.{Profile}
+use Rattle.net_normal.proofs.ArcSums.{added, lessened, flow_on-append, flow_on-added, flow_on-le, flow_on-ge, price_of-append, price_of-added, zipped_parts, zipped_whole, zipped-weaker, zipped-length, added-lessened, lessened-added}
 use Rattle.net_normal.proofs.NodeRuns.{EachNode, each-get_from_zero, each-from_get_zero, slice_get-inside, sum_over_last}
 use Rattle.net_normal.proofs.RangeSides.{within_sides, from_low_side, from_high_side}
 use Rattle.net_normal.proofs.RoomArcs.{room_out, room_in-none, room_price-zero, surplus_from}
 use Rattle.net_normal.proofs.Surplus.{IsBetween, CarriesOff, surplus_determined, surplus_serves}
 use Rattle.net_normal.proofs.Supplies.{length-supplies_from, each_supply, supply_at, sum-supplies, outflows-sum}
-use Rattle.net_normal.proofs.ArcLifts.{length-offsets, lifted_is, added-within, lessened-within, made_outflow, made_price}
-
-length_mapped : (sense : Sense) (outside : ℕ) (arcs : List InstArc) → length (map (flow_arc_of sense outside) arcs) ≡ length arcs
-length_mapped sense outside [] = refl
-length_mapped sense outside (a ∷ arcs) = ap suc (length_mapped sense outside arcs)
+use Rattle.net_normal.proofs.ArcLifts.{length-offsets, added-within, lessened-within}
+use Rattle.net_normal.proofs.Written.{spread, kept, length-spread, written_outflow, written_price, spread-within, kept-within, spread-kept, kept-spread, lifted_is}
 
 -- what a node of the network sends out by all arcs of the problem
-node_outflow : (sense : Sense) (outside : ℕ) (arcs : List InstArc) (ranges : List NodeRange) (xs ys : List ℤ) (u : ℕ) → outside ≢ u → length arcs ≡ length xs →
-    net_outflow (map (flow_arc_of sense outside) arcs ++ room_arcs_from arcs outside 0 ranges) (xs ++ ys) u ≡ room_out arcs outside 0 ranges ys u -ℤ net_inflow arcs xs u
-node_outflow sense outside arcs ranges xs ys u apart h =
-    let same : length (map (flow_arc_of sense outside) arcs) ≡ length xs = length_mapped sense outside arcs ∙ h in
+node_outflow : (p : Profile) (sense : Sense) (outside : ℕ) (arcs : List InstArc) (ranges : List NodeRange) (xs ys : List ℤ) (u : ℕ) → outside ≢ u → length (written_arcs p sense outside arcs) ≡ length xs →
+    net_outflow (written_arcs p sense outside arcs ++ room_arcs_from arcs outside 0 ranges) (xs ++ ys) u ≡ room_out arcs outside 0 ranges ys u -ℤ net_inflow arcs (spread p arcs xs) u
+node_outflow p sense outside arcs ranges xs ys u apart same =
     omega (
       arith,
       ints,
-      flow_on-append (λ (a : FlowArc). nat_eq a.src u) (map (flow_arc_of sense outside) arcs) (room_arcs_from arcs outside 0 ranges) xs ys same,
-      flow_on-append (λ (a : FlowArc). nat_eq a.dst u) (map (flow_arc_of sense outside) arcs) (room_arcs_from arcs outside 0 ranges) xs ys same,
-      made_outflow sense outside u apart arcs xs,
+      flow_on-append (λ (a : FlowArc). nat_eq a.src u) (written_arcs p sense outside arcs) (room_arcs_from arcs outside 0 ranges) xs ys same,
+      flow_on-append (λ (a : FlowArc). nat_eq a.dst u) (written_arcs p sense outside arcs) (room_arcs_from arcs outside 0 ranges) xs ys same,
+      written_outflow p sense outside u apart arcs xs,
       room_in-none arcs outside 0 ranges ys u apart,
     )
 
 -- the offsets shift each net inflow
-inflow-added : (arcs : List InstArc) (xs : List ℤ) (u : ℕ) → length arcs ≡ length xs → net_inflow arcs (added xs (offsets_of arcs)) u ≡ net_inflow arcs xs u +ℤ shift_of arcs u
-inflow-added arcs xs u h =
-    let k : length arcs ≡ length (offsets_of arcs) = sym (length-offsets arcs) in
-    omega (arith, ints, flow_on-added (enters u) arcs xs (offsets_of arcs) h k, flow_on-added (leaves u) arcs xs (offsets_of arcs) h k)
+inflow-added : (p : Profile) (arcs : List InstArc) (xs : List ℤ) (u : ℕ) → length arcs ≡ length xs → net_inflow arcs (added xs (offsets_of p arcs)) u ≡ net_inflow arcs xs u +ℤ shift_of p arcs u
+inflow-added p arcs xs u h =
+    let k : length arcs ≡ length (offsets_of p arcs) = sym (length-offsets p arcs) in
+    omega (arith, ints, flow_on-added (enters u) arcs xs (offsets_of p arcs) h k, flow_on-added (leaves u) arcs xs (offsets_of p arcs) h k)
 
--- what a feasible flow of a normal form is made of
-record Reading (instance : Instance) (problem : Problem) (link : Link) (flows : List ℤ) : Type 0 where
-  first : List ℤ
+-- what a feasible flow of a form is made of
+record Reading (p : Profile) (instance : Instance) (problem : Problem) (link : Link) (flows : List ℤ) : Type 0 where
+  own : List ℤ
   others : List ℤ
-  parts : flows ≡ first ++ others
-  one_each : length instance.arcs.items ≡ length first
-  lift : lifted link flows ≡ added first (offsets_of instance.arcs.items)
-  bounds : AllZip IsWithinBounds instance.arcs.items (added first (offsets_of instance.arcs.items))
-  surplus : others ≡ surplus_from instance.arcs.items (net_inflow instance.arcs.items (added first (offsets_of instance.arcs.items))) 0 instance.nodes.items
-  between : EachNode (IsBetween instance.arcs.items (net_inflow instance.arcs.items (added first (offsets_of instance.arcs.items)))) 0 instance.nodes.items
+  parts : flows ≡ own ++ others
+  written : length (written_arcs p instance.sense (vec_len instance.nodes) instance.arcs.items) ≡ length own
+  lift : lifted link flows ≡ added (spread p instance.arcs.items own) (offsets_of p instance.arcs.items)
+  bounds : AllZip IsWithinBounds instance.arcs.items (added (spread p instance.arcs.items own) (offsets_of p instance.arcs.items))
+  surplus : others ≡ surplus_from instance.arcs.items (net_inflow instance.arcs.items (added (spread p instance.arcs.items own) (offsets_of p instance.arcs.items))) 0 instance.nodes.items
+  between : EachNode (IsBetween instance.arcs.items (net_inflow instance.arcs.items (added (spread p instance.arcs.items own) (offsets_of p instance.arcs.items)))) 0 instance.nodes.items
 
 -- a node of the network sends out its supply, so its surplus is carried off
-carries_off : (instance : Instance) (xs ys : List ℤ) → length instance.arcs.items ≡ length xs →
-    ((u : ℕ) (r : NodeRange) → slice_get instance.nodes.items u ≡ Some r → net_outflow (map (flow_arc_of instance.sense (vec_len instance.nodes)) instance.arcs.items ++ room_arcs_from instance.arcs.items (vec_len instance.nodes) 0 instance.nodes.items) (xs ++ ys) u ≡ supply_of instance.arcs.items u r) →
-    EachNode (CarriesOff instance.arcs.items (net_inflow instance.arcs.items (added xs (offsets_of instance.arcs.items))) (room_arcs_from instance.arcs.items (vec_len instance.nodes) 0 instance.nodes.items) ys) 0 instance.nodes.items
-carries_off instance xs ys count balance =
+carries_off : (p : Profile) (instance : Instance) (xs ys : List ℤ) → length (written_arcs p instance.sense (vec_len instance.nodes) instance.arcs.items) ≡ length xs →
+    ((u : ℕ) (r : NodeRange) → slice_get instance.nodes.items u ≡ Some r → net_outflow (written_arcs p instance.sense (vec_len instance.nodes) instance.arcs.items ++ room_arcs_from instance.arcs.items (vec_len instance.nodes) 0 instance.nodes.items) (xs ++ ys) u ≡ supply_of p instance.arcs.items u r) →
+    EachNode (CarriesOff instance.arcs.items (net_inflow instance.arcs.items (added (spread p instance.arcs.items xs) (offsets_of p instance.arcs.items))) (room_arcs_from instance.arcs.items (vec_len instance.nodes) 0 instance.nodes.items) ys) 0 instance.nodes.items
+carries_off p instance xs ys count balance =
     let arcs = instance.arcs.items in
     let ranges = instance.nodes.items in
     let outside = vec_len instance.nodes in
-    each-from_get_zero (CarriesOff arcs (net_inflow arcs (added xs (offsets_of arcs))) (room_arcs_from arcs outside 0 ranges) ys) ranges
+    let zs = spread p arcs xs in
+    each-from_get_zero (CarriesOff arcs (net_inflow arcs (added zs (offsets_of p arcs))) (room_arcs_from arcs outside 0 ranges) ys) ranges
     (λ u r e.
     let apart : outside ≢ u = λ same. omega (arith, slice_get-inside ranges u r e, instance.nodes.ok.0, same) in
-    omega (arith, ints, balance u r e, node_outflow instance.sense outside arcs ranges xs ys u apart count, inflow-added arcs xs u count))
+    omega (arith, ints, balance u r e, node_outflow p instance.sense outside arcs ranges xs ys u apart count, inflow-added p arcs zs u (sym (length-spread p arcs xs))))
 
-reading : (instance : Instance) (problem : Problem) (link : Link) → IsNormalForm instance problem link → (flows : List ℤ) → IsFeasibleFlow problem flows → Reading instance problem link flows
-reading instance problem link form flows feasible =
+reading : (p : Profile) (instance : Instance) (problem : Problem) (link : Link) → IsFormIn p instance problem link → (flows : List ℤ) → IsFeasibleFlow problem flows → Reading p instance problem link flows
+reading p instance problem link form flows feasible =
     let arcs = instance.arcs.items in
     let ranges = instance.nodes.items in
     let outside = vec_len instance.nodes in
-    let made = map (flow_arc_of instance.sense outside) arcs in
+    let written = written_arcs p instance.sense outside arcs in
     let rooms = room_arcs_from arcs outside 0 ranges in
-    let inner = supplies_from arcs 0 ranges in
-    let zipped : AllZip IsWithinCapacity (made ++ rooms) flows = subst (λ (all : List FlowArc). AllZip IsWithinCapacity all flows) form.arcs feasible.capacity in
-    let parts = zipped_parts IsWithinCapacity made rooms flows zipped in
+    let inner = supplies_from p arcs 0 ranges in
+    let zipped : AllZip IsWithinCapacity (written ++ rooms) flows = subst (λ (all : List FlowArc). AllZip IsWithinCapacity all flows) form.arcs feasible.capacity in
+    let parts = zipped_parts IsWithinCapacity written rooms flows zipped in
     let xs = parts.0 in
     let ys = parts.1 in
-    let count : length arcs ≡ length xs = sym (length_mapped instance.sense outside arcs) ∙ zipped-length IsWithinCapacity made xs parts.3 in
-    let f = net_inflow arcs (added xs (offsets_of arcs)) in
-    let told : (u : ℕ) (s : ℤ) → slice_get (inner ++ neg_ℤ (sum_of inner) ∷ []) u ≡ Some s → net_outflow (made ++ rooms) (xs ++ ys) u ≡ s
-    = λ u s e. ap (λ (all : List FlowArc). net_outflow all (xs ++ ys) u) (sym form.arcs) ∙ ap (λ (zs : List ℤ). net_outflow problem.arcs.items zs u) (sym parts.2) ∙ feasible.balance u s (ap (λ (ss : List ℤ). slice_get ss u) form.supplies ∙ e) in
-    let balance : EachNode (λ u r. net_outflow (made ++ rooms) (xs ++ ys) u ≡ supply_of arcs u r) 0 ranges
-    = each_supply arcs (λ u s. net_outflow (made ++ rooms) (xs ++ ys) u ≡ s) 0 ranges (neg_ℤ (sum_of inner) ∷ [])
-    (λ u s e. let at : u ≡ 0 + u = omega arith in subst (λ (w : ℕ). net_outflow (made ++ rooms) (xs ++ ys) w ≡ s) at (told u s e)) in
-    let carries = carries_off instance xs ys count (each-get_from_zero (λ u r. net_outflow (made ++ rooms) (xs ++ ys) u ≡ supply_of arcs u r) ranges balance) in
+    let count : length written ≡ length xs = zipped-length IsWithinCapacity written xs parts.3 in
+    let zs = spread p arcs xs in
+    let f = net_inflow arcs (added zs (offsets_of p arcs)) in
+    let told : (u : ℕ) (s : ℤ) → slice_get (inner ++ neg_ℤ (sum_of inner) ∷ []) u ≡ Some s → net_outflow (written ++ rooms) (xs ++ ys) u ≡ s
+    = λ u s e. ap (λ (all : List FlowArc). net_outflow all (xs ++ ys) u) (sym form.arcs) ∙ ap (λ (ws : List ℤ). net_outflow problem.arcs.items ws u) (sym parts.2) ∙ feasible.balance u s (ap (λ (ss : List ℤ). slice_get ss u) form.supplies ∙ e) in
+    let balance : EachNode (λ u r. net_outflow (written ++ rooms) (xs ++ ys) u ≡ supply_of p arcs u r) 0 ranges
+    = each_supply p arcs (λ u s. net_outflow (written ++ rooms) (xs ++ ys) u ≡ s) 0 ranges (neg_ℤ (sum_of inner) ∷ [])
+    (λ u s e. let at : u ≡ 0 + u = omega arith in subst (λ (w : ℕ). net_outflow (written ++ rooms) (xs ++ ys) w ≡ s) at (told u s e)) in
+    let carries = carries_off p instance xs ys count (each-get_from_zero (λ u r. net_outflow (written ++ rooms) (xs ++ ys) u ≡ supply_of p arcs u r) ranges balance) in
     let found = surplus_determined arcs outside f 0 ranges ys parts.4 carries in
     record {
-      first = xs;
+      own = xs;
       others = ys;
       parts = parts.2;
-      one_each = count;
-      lift = ap (λ (ns : List ℕ). lifted_by ns link.offsets.items flows) form.numbers ∙ ap (λ (os : List ℤ). lifted_by (numbers_from 1 arcs) os flows) form.offsets ∙ lifted_is arcs 0 flows xs ys parts.2 count;
-      bounds = added-within instance.sense outside arcs xs parts.3;
+      written = count;
+      lift = ap (λ (ns : List ℕ). lifted_by ns link.offsets.items flows) form.numbers ∙ ap (λ (os : List ℤ). lifted_by (numbers_from p 1 arcs) os flows) form.offsets ∙ lifted_is p instance.sense outside arcs 0 flows xs ys parts.2 count;
+      bounds = added-within p instance.sense outside arcs zs (spread-within p instance.sense outside arcs xs parts.3);
       surplus = found.0;
       between = found.1;
     }
 
-forward : (instance : Instance) (problem : Problem) (link : Link) (flows : List ℤ) → Reading instance problem link flows → IsFeasibleAssignment instance (lifted link flows)
-forward instance problem link flows r =
+forward : (p : Profile) (instance : Instance) (problem : Problem) (link : Link) (flows : List ℤ) → Reading p instance problem link flows → IsFeasibleAssignment instance (lifted link flows)
+forward p instance problem link flows r =
     let arcs = instance.arcs.items in
-    let x = added r.first (offsets_of arcs) in
+    let x = added (spread p arcs r.own) (offsets_of p arcs) in
     let feasible : IsFeasibleAssignment instance x = record {
       bounds = r.bounds;
       ranges = λ v range e.
@@ -122,39 +121,43 @@ forward instance problem link flows r =
     } in
     subst (IsFeasibleAssignment instance) (sym r.lift) feasible
 
-injective : (instance : Instance) (problem : Problem) (link : Link) (flows others : List ℤ) → Reading instance problem link flows → Reading instance problem link others → lifted link flows ≡ lifted link others → flows ≡ others
-injective instance problem link flows others r s e =
+injective : (p : Profile) (instance : Instance) (problem : Problem) (link : Link) (flows others : List ℤ) → Reading p instance problem link flows → Reading p instance problem link others → lifted link flows ≡ lifted link others → flows ≡ others
+injective p instance problem link flows others r s e =
     let arcs = instance.arcs.items in
-    let offsets = offsets_of arcs in
-    let same : added r.first offsets ≡ added s.first offsets = sym r.lift ∙ e ∙ s.lift in
-    let m : length r.first ≡ length offsets = sym r.one_each ∙ sym (length-offsets arcs) in
-    let n : length s.first ≡ length offsets = sym s.one_each ∙ sym (length-offsets arcs) in
-    let first : r.first ≡ s.first = sym (lessened-added r.first offsets m) ∙ ap (λ (zs : List ℤ). lessened zs offsets) same ∙ lessened-added s.first offsets n in
+    let outside = vec_len instance.nodes in
+    let offsets = offsets_of p arcs in
+    let rs = spread p arcs r.own in
+    let ss = spread p arcs s.own in
+    let same : added rs offsets ≡ added ss offsets = sym r.lift ∙ e ∙ s.lift in
+    let m : length rs ≡ length offsets = length-spread p arcs r.own ∙ sym (length-offsets p arcs) in
+    let n : length ss ≡ length offsets = length-spread p arcs s.own ∙ sym (length-offsets p arcs) in
+    let all : rs ≡ ss = sym (lessened-added rs offsets m) ∙ ap (λ (zs : List ℤ). lessened zs offsets) same ∙ lessened-added ss offsets n in
+    let own : r.own ≡ s.own = sym (kept-spread p instance.sense outside arcs r.own r.written) ∙ ap (kept p arcs) all ∙ kept-spread p instance.sense outside arcs s.own s.written in
     let rest : r.others ≡ s.others = r.surplus ∙ ap (λ (zs : List ℤ). surplus_from arcs (net_inflow arcs zs) 0 instance.nodes.items) same ∙ sym s.surplus in
-    r.parts ∙ ap (λ (zs : List ℤ). zs ++ r.others) first ∙ ap (λ (zs : List ℤ). s.first ++ zs) rest ∙ sym s.parts
+    r.parts ∙ ap (λ (zs : List ℤ). zs ++ r.others) own ∙ ap (λ (zs : List ℤ). s.own ++ zs) rest ∙ sym s.parts
 
 signed_twice : (sense : Sense) (z : ℤ) → signed sense (signed sense z) ≡ z
 signed_twice Minimise z = refl
 signed_twice Maximise z = neg_ℤ-neg_ℤ z
 
-value : (instance : Instance) (problem : Problem) (link : Link) → IsNormalForm instance problem link → (flows : List ℤ) → Reading instance problem link flows → value_of instance (lifted link flows) ≡ value_at link (cost_of problem flows)
-value instance problem link form flows r =
+value : (p : Profile) (instance : Instance) (problem : Problem) (link : Link) → IsFormIn p instance problem link → (flows : List ℤ) → Reading p instance problem link flows → value_of instance (lifted link flows) ≡ value_at link (cost_of problem flows)
+value p instance problem link form flows r =
     let arcs = instance.arcs.items in
     let ranges = instance.nodes.items in
     let outside = vec_len instance.nodes in
-    let offsets = offsets_of arcs in
-    let made = map (flow_arc_of instance.sense outside) arcs in
+    let offsets = offsets_of p arcs in
+    let written = written_arcs p instance.sense outside arcs in
     let rooms = room_arcs_from arcs outside 0 ranges in
+    let zs = spread p arcs r.own in
     let price : List ℤ → ℤ = price_of (λ (a : InstArc). a.coefficient) arcs in
-    let at : value_of instance (lifted link flows) ≡ instance.constant +ℤ price (added r.first offsets) = ap (value_of instance) r.lift in
-    let sums : price (added r.first offsets) ≡ price r.first +ℤ price offsets = price_of-added (λ (a : InstArc). a.coefficient) arcs r.first offsets r.one_each (sym (length-offsets arcs)) in
-    let whole : cost_of problem flows ≡ price_of (λ (a : FlowArc). a.cost) (made ++ rooms) (r.first ++ r.others) = ap (λ (all : List FlowArc). price_of (λ (a : FlowArc). a.cost) all flows) form.arcs ∙ ap (price_of (λ (a : FlowArc). a.cost) (made ++ rooms)) r.parts in
-    let same : length made ≡ length r.first = length_mapped instance.sense outside arcs ∙ r.one_each in
-    let split = price_of-append (λ (a : FlowArc). a.cost) made rooms r.first r.others same in
+    let at : value_of instance (lifted link flows) ≡ instance.constant +ℤ price (added zs offsets) = ap (value_of instance) r.lift in
+    let sums : price (added zs offsets) ≡ price zs +ℤ price offsets = price_of-added (λ (a : InstArc). a.coefficient) arcs zs offsets (sym (length-spread p arcs r.own)) (sym (length-offsets p arcs)) in
+    let whole : cost_of problem flows ≡ price_of (λ (a : FlowArc). a.cost) (written ++ rooms) (r.own ++ r.others) = ap (λ (all : List FlowArc). price_of (λ (a : FlowArc). a.cost) all flows) form.arcs ∙ ap (price_of (λ (a : FlowArc). a.cost) (written ++ rooms)) r.parts in
+    let split = price_of-append (λ (a : FlowArc). a.cost) written rooms r.own r.others r.written in
     let none : price_of (λ (a : FlowArc). a.cost) rooms r.others ≡ pos 0 = room_price-zero arcs outside 0 ranges r.others in
-    let costs : price_of (λ (a : FlowArc). a.cost) made r.first ≡ signed instance.sense (price r.first) = made_price instance.sense outside arcs r.first in
-    let cost : cost_of problem flows ≡ signed instance.sense (price r.first) = whole ∙ split ∙ omega (arith, ints, none, costs) in
-    let back : signed link.sense (cost_of problem flows) ≡ price r.first = ap (λ (s : Sense). signed s (cost_of problem flows)) form.sense ∙ ap (signed instance.sense) cost ∙ signed_twice instance.sense (price r.first) in
+    let costs : price_of (λ (a : FlowArc). a.cost) written r.own ≡ signed instance.sense (price zs) = written_price p instance.sense outside arcs r.own in
+    let cost : cost_of problem flows ≡ signed instance.sense (price zs) = whole ∙ split ∙ omega (arith, ints, none, costs) in
+    let back : signed link.sense (cost_of problem flows) ≡ price zs = ap (λ (s : Sense). signed s (cost_of problem flows)) form.sense ∙ ap (signed instance.sense) cost ∙ signed_twice instance.sense (price zs) in
     at ∙ omega (arith, ints, sums, form.constant, back)
 
 -- the net inflow lies between what the bounds allow at least and at most
@@ -177,52 +180,57 @@ between_sides instance x feasible =
     (λ u r e. let inside = feasible.ranges u r e in
     within_sides r.low r.high (least_inflow arcs u) (most_inflow arcs u) (net_inflow arcs x u) r.given inside.low inside.high (inflow_least arcs x u feasible.bounds) (inflow_most arcs x u feasible.bounds))
 
-onto : (instance : Instance) (problem : Problem) (link : Link) → IsNormalForm instance problem link → (x : List ℤ) → IsFeasibleAssignment instance x → (flows : List ℤ) × IsFeasibleFlow problem flows × (lifted link flows ≡ x)
-onto instance problem link form x feasible =
+onto : (p : Profile) (instance : Instance) (problem : Problem) (link : Link) → IsFormIn p instance problem link → (x : List ℤ) → IsFeasibleAssignment instance x → (flows : List ℤ) × IsFeasibleFlow problem flows × (lifted link flows ≡ x)
+onto p instance problem link form x feasible =
     let arcs = instance.arcs.items in
     let ranges = instance.nodes.items in
     let outside = vec_len instance.nodes in
-    let offsets = offsets_of arcs in
-    let made = map (flow_arc_of instance.sense outside) arcs in
+    let offsets = offsets_of p arcs in
+    let made = map (flow_arc_of p instance.sense outside) arcs in
+    let written = written_arcs p instance.sense outside arcs in
     let rooms = room_arcs_from arcs outside 0 ranges in
-    let inner = supplies_from arcs 0 ranges in
+    let inner = supplies_from p arcs 0 ranges in
     let f = net_inflow arcs x in
-    let xs = lessened x offsets in
+    let zs = lessened x offsets in
+    let xs = kept p arcs zs in
     let ys = surplus_from arcs f 0 ranges in
     let flows = xs ++ ys in
     let count : length arcs ≡ length x = zipped-length IsWithinBounds arcs x feasible.bounds in
-    let even : length x ≡ length offsets = sym count ∙ sym (length-offsets arcs) in
-    let each : length arcs ≡ length xs = count ∙ sym (length-lessened x offsets even) in
-    let back : added xs offsets ≡ x = added-lessened x offsets even in
+    let even : length x ≡ length offsets = sym count ∙ sym (length-offsets p arcs) in
+    let within : AllZip IsWithinCapacity made zs = lessened-within p instance.sense outside arcs x feasible.bounds in
+    let held : AllZip IsWithinCapacity written xs = kept-within p instance.sense outside arcs zs within in
+    let each : length written ≡ length xs = zipped-length IsWithinCapacity written xs held in
+    let all : spread p arcs xs ≡ zs = spread-kept p instance.sense outside arcs zs within in
+    let back : added (spread p arcs xs) offsets ≡ x = ap (λ (ws : List ℤ). added ws offsets) all ∙ added-lessened x offsets even in
     let serves = surplus_serves arcs outside f 0 ranges (between_sides instance x feasible) in
-    let capacity : AllZip IsWithinCapacity (made ++ rooms) flows = zipped_whole IsWithinCapacity made rooms xs ys (lessened-within instance.sense outside arcs x feasible.bounds) serves.0 in
-    let inside : EachNode (λ u r. net_outflow (made ++ rooms) flows u ≡ supply_of arcs u r) 0 ranges = each-from_get_zero (λ u r. net_outflow (made ++ rooms) flows u ≡ supply_of arcs u r) ranges
+    let capacity : AllZip IsWithinCapacity (written ++ rooms) flows = zipped_whole IsWithinCapacity written rooms xs ys held serves.0 in
+    let inside : EachNode (λ u r. net_outflow (written ++ rooms) flows u ≡ supply_of p arcs u r) 0 ranges = each-from_get_zero (λ u r. net_outflow (written ++ rooms) flows u ≡ supply_of p arcs u r) ranges
     (λ u r e.
     let apart : outside ≢ u = λ same. omega (arith, slice_get-inside ranges u r e, instance.nodes.ok.0, same) in
     let carried : CarriesOff arcs f rooms ys u r = each-get_from_zero (CarriesOff arcs f rooms ys) ranges serves.1 u r e in
-    let moved : f u ≡ net_inflow arcs (added xs offsets) u = ap (λ (zs : List ℤ). net_inflow arcs zs u) (sym back) in
-    omega (arith, ints, carried, moved, node_outflow instance.sense outside arcs ranges xs ys u apart each, inflow-added arcs xs u each)) in
-    let size : vec_len problem.supplies ≡ suc (length ranges) = problem.supplies.ok.0 ∙ ap length form.supplies ∙ omega (arith, length-append inner (neg_ℤ (sum_of inner) ∷ []), length-supplies_from arcs 0 ranges) in
-    let fits : All (IsFlowArcOf (suc (length ranges))) (made ++ rooms) = subst (λ (all : List FlowArc). All (IsFlowArcOf (suc (length ranges))) all) form.arcs (subst (λ (n : ℕ). All (IsFlowArcOf n) problem.arcs.items) size problem.arcs_fit) in
-    let sources = recursion_from_All (λ (a : FlowArc). a.src < suc (length ranges)) (made ++ rooms) (All-weaker (IsFlowArcOf (suc (length ranges))) (λ a. a.src < suc (length ranges)) (λ a p. p.src) (made ++ rooms) fits) in
-    let targets = recursion_from_All (λ (a : FlowArc). a.dst < suc (length ranges)) (made ++ rooms) (All-weaker (IsFlowArcOf (suc (length ranges))) (λ a. a.dst < suc (length ranges)) (λ a p. p.dst) (made ++ rooms) fits) in
-    let last : net_outflow (made ++ rooms) flows (0 + length ranges) ≡ neg_ℤ (sum_of inner)
-    = omega (arith, ints, outflows-sum (suc (length ranges)) (made ++ rooms) flows sources targets, sum_over_last (net_outflow (made ++ rooms) flows) 0 (length ranges), sum-supplies arcs (net_outflow (made ++ rooms) flows) 0 ranges inside) in
-    let balance : (u : ℕ) (s : ℤ) → slice_get (inner ++ neg_ℤ (sum_of inner) ∷ []) u ≡ Some s → net_outflow (made ++ rooms) flows u ≡ s
-    = λ u s e. let at : 0 + u ≡ u = omega arith in subst (λ (w : ℕ). net_outflow (made ++ rooms) flows w ≡ s) at (supply_at arcs (λ w t. net_outflow (made ++ rooms) flows w ≡ t) 0 ranges (neg_ℤ (sum_of inner)) inside last u s e) in (
+    let moved : f u ≡ net_inflow arcs (added (spread p arcs xs) offsets) u = ap (λ (ws : List ℤ). net_inflow arcs ws u) (sym back) in
+    omega (arith, ints, carried, moved, node_outflow p instance.sense outside arcs ranges xs ys u apart each, inflow-added p arcs (spread p arcs xs) u (sym (length-spread p arcs xs)))) in
+    let size : vec_len problem.supplies ≡ suc (length ranges) = problem.supplies.ok.0 ∙ ap length form.supplies ∙ omega (arith, length-append inner (neg_ℤ (sum_of inner) ∷ []), length-supplies_from p arcs 0 ranges) in
+    let fits : All (IsFlowArcOf (suc (length ranges))) (written ++ rooms) = subst (λ (them : List FlowArc). All (IsFlowArcOf (suc (length ranges))) them) form.arcs (subst (λ (n : ℕ). All (IsFlowArcOf n) problem.arcs.items) size problem.arcs_fit) in
+    let sources = recursion_from_All (λ (a : FlowArc). a.src < suc (length ranges)) (written ++ rooms) (All-weaker (IsFlowArcOf (suc (length ranges))) (λ a. a.src < suc (length ranges)) (λ a h. h.src) (written ++ rooms) fits) in
+    let targets = recursion_from_All (λ (a : FlowArc). a.dst < suc (length ranges)) (written ++ rooms) (All-weaker (IsFlowArcOf (suc (length ranges))) (λ a. a.dst < suc (length ranges)) (λ a h. h.dst) (written ++ rooms) fits) in
+    let last : net_outflow (written ++ rooms) flows (0 + length ranges) ≡ neg_ℤ (sum_of inner)
+    = omega (arith, ints, outflows-sum (suc (length ranges)) (written ++ rooms) flows sources targets, sum_over_last (net_outflow (written ++ rooms) flows) 0 (length ranges), sum-supplies p arcs (net_outflow (written ++ rooms) flows) 0 ranges inside) in
+    let balance : (u : ℕ) (s : ℤ) → slice_get (inner ++ neg_ℤ (sum_of inner) ∷ []) u ≡ Some s → net_outflow (written ++ rooms) flows u ≡ s
+    = λ u s e. let at : 0 + u ≡ u = omega arith in subst (λ (w : ℕ). net_outflow (written ++ rooms) flows w ≡ s) at (supply_at p arcs (λ w t. net_outflow (written ++ rooms) flows w ≡ t) 0 ranges (neg_ℤ (sum_of inner)) inside last u s e) in (
       flows,
       record {
-        capacity = subst (λ (all : List FlowArc). AllZip IsWithinCapacity all flows) (sym form.arcs) capacity;
-        balance = λ u s e. ap (λ (all : List FlowArc). net_outflow all flows u) form.arcs ∙ balance u s (ap (λ (ss : List ℤ). slice_get ss u) (sym form.supplies) ∙ e);
+        capacity = subst (λ (them : List FlowArc). AllZip IsWithinCapacity them flows) (sym form.arcs) capacity;
+        balance = λ u s e. ap (λ (them : List FlowArc). net_outflow them flows u) form.arcs ∙ balance u s (ap (λ (ss : List ℤ). slice_get ss u) (sym form.supplies) ∙ e);
       },
-      ap (λ (ns : List ℕ). lifted_by ns link.offsets.items flows) form.numbers ∙ ap (λ (os : List ℤ). lifted_by (numbers_from 1 arcs) os flows) form.offsets ∙ lifted_is arcs 0 flows xs ys refl each ∙ back,
+      ap (λ (ns : List ℕ). lifted_by ns link.offsets.items flows) form.numbers ∙ ap (λ (os : List ℤ). lifted_by (numbers_from p 1 arcs) os flows) form.offsets ∙ lifted_is p instance.sense outside arcs 0 flows xs ys refl each ∙ back,
     )
 
 -- the theorem
-pub normal_form-corresponds : (instance : Instance) (problem : Problem) (link : Link) → IsNormalForm instance problem link → CorrespondsOneToOne instance problem link
-normal_form-corresponds instance problem link form = record {
-  forward = λ flows feasible. forward instance problem link flows (reading instance problem link form flows feasible);
-  onto = onto instance problem link form;
-  injective = λ flows others feasible feasible_too. injective instance problem link flows others (reading instance problem link form flows feasible) (reading instance problem link form others feasible_too);
-  value = λ flows feasible. value instance problem link form flows (reading instance problem link form flows feasible);
+pub form-corresponds : (p : Profile) (instance : Instance) (problem : Problem) (link : Link) → IsFormIn p instance problem link → CorrespondsOneToOne instance problem link
+form-corresponds p instance problem link form = record {
+  forward = λ flows feasible. forward p instance problem link flows (reading p instance problem link form flows feasible);
+  onto = onto p instance problem link form;
+  injective = λ flows others feasible feasible_too. injective p instance problem link flows others (reading p instance problem link form flows feasible) (reading p instance problem link form others feasible_too);
+  value = λ flows feasible. value p instance problem link form flows (reading p instance problem link form flows feasible);
 }

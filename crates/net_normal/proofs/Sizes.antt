@@ -13,6 +13,8 @@ use Rattle.net_normal.specs.declared.instance.InstArc.{InstArc}
 use Rattle.net_normal.specs.NodeSums.{AreSized, AreSumsAt}
 use Rattle.net_normal.specs.declared.instance.NodeRange.{NodeRange}
 use Rattle.net_normal.specs.declared.node_sums.NodeSums.{NodeSums}
+use Rattle.net_normal.specs.declared.profile.Profile.{Profile}
+use Rattle.net_normal.specs.declared.profile.Profile.TheVariants.{Plain, Lean}
 use Rattle.net_normal.proofs.WholeNumbers.{choice-le, choice_within}
 use Rattle.net_normal.proofs.NodeRuns.{sum_over, sum_over-add, sum_over-zero, standing, standing_on, standing_off, sum_over-before}
 
@@ -106,8 +108,9 @@ supply_bounds-sum arcs n few short =
 sizes_of : (nodes : ℕ) (g : InstArc → ℤ) → ((a : InstArc) → IsArcOf nodes a → IsSized value_limit (g a)) → (arcs : List InstArc) → All (IsArcOf nodes) arcs → AllByRecursion (λ a. IsSized value_limit (g a)) arcs
 sizes_of nodes g f arcs fit = recursion_from_All (λ a. IsSized value_limit (g a)) arcs (All-weaker (IsArcOf nodes) (λ a. IsSized value_limit (g a)) f arcs fit)
 
-pub offset_sized : (a : InstArc) → IsSized value_limit a.lower → IsSized value_limit (offset_of a)
-offset_sized a h = record { above = omega (arith, ints, clamps, h.above); below = omega (arith, ints, clamps, h.below) }
+pub offset_sized : (p : Profile) (a : InstArc) → IsSized value_limit a.lower → IsSized value_limit (offset_of p a)
+offset_sized Lean a h = h
+offset_sized Plain a h = record { above = omega (arith, ints, clamps, h.above); below = omega (arith, ints, clamps, h.below) }
 
 least_within : (nodes : ℕ) (arcs : List InstArc) (v : ℕ) → All (IsArcOf nodes) arcs → (neg_ℤ (reach value_limit arcs v) ≤ℤ least_inflow arcs v) × (least_inflow arcs v ≤ℤ reach value_limit arcs v)
 least_within nodes arcs v fit =
@@ -121,11 +124,11 @@ most_within nodes arcs v fit =
     let out = flow_within value_limit (leaves v) (λ a. a.lower) arcs (sizes_of nodes (λ a. a.lower) (λ a p. p.lower) arcs fit) in
     (omega (arith, ints, inn.0, out.1), omega (arith, ints, inn.1, out.0))
 
-shift_within : (nodes : ℕ) (arcs : List InstArc) (v : ℕ) → All (IsArcOf nodes) arcs → (neg_ℤ (reach value_limit arcs v) ≤ℤ shift_of arcs v) × (shift_of arcs v ≤ℤ reach value_limit arcs v)
-shift_within nodes arcs v fit =
-    let offsets = sizes_of nodes offset_of (λ a p. offset_sized a p.lower) arcs fit in
-    let inn = flow_within value_limit (enters v) offset_of arcs offsets in
-    let out = flow_within value_limit (leaves v) offset_of arcs offsets in
+shift_within : (p : Profile) (nodes : ℕ) (arcs : List InstArc) (v : ℕ) → All (IsArcOf nodes) arcs → (neg_ℤ (reach value_limit arcs v) ≤ℤ shift_of p arcs v) × (shift_of p arcs v ≤ℤ reach value_limit arcs v)
+shift_within p nodes arcs v fit =
+    let offsets = sizes_of nodes (offset_of p) (λ a h. offset_sized p a h.lower) arcs fit in
+    let inn = flow_within value_limit (enters v) (offset_of p) arcs offsets in
+    let out = flow_within value_limit (leaves v) (offset_of p) arcs offsets in
     (omega (arith, ints, inn.0, out.1), omega (arith, ints, inn.1, out.0))
 
 low_side_within : (low high : Option ℤ) (least r : ℤ) → ForSome low (IsSized range_limit) → ForSome high (IsSized range_limit) → pos 0 ≤ℤ r → neg_ℤ r ≤ℤ least → least ≤ℤ r →
@@ -151,19 +154,19 @@ high_within nodes arcs v r fit =
     let most = most_within nodes arcs v fit in
     high_side_within r.low r.high (most_inflow arcs v) (reach value_limit arcs v) r.low_fits r.high_fits (reach-small value_limit arcs v).0 most.0 most.1
 
-pub supply_within : (nodes : ℕ) (arcs : List InstArc) (v : ℕ) (r : NodeRange) → All (IsArcOf nodes) arcs → (neg_ℤ (supply_bound arcs v) ≤ℤ supply_of arcs v r) × (supply_of arcs v r ≤ℤ supply_bound arcs v)
-supply_within nodes arcs v r fit =
+pub supply_within : (p : Profile) (nodes : ℕ) (arcs : List InstArc) (v : ℕ) (r : NodeRange) → All (IsArcOf nodes) arcs → (neg_ℤ (supply_bound arcs v) ≤ℤ supply_of p arcs v r) × (supply_of p arcs v r ≤ℤ supply_bound arcs v)
+supply_within p nodes arcs v r fit =
     let low = low_within nodes arcs v r fit in
-    let shift = shift_within nodes arcs v fit in
+    let shift = shift_within p nodes arcs v fit in
     (omega (arith, ints, low.1, shift.0), omega (arith, ints, low.0, shift.1))
 
 -- what the code sums of a node
-pub sums_sized : (nodes : ℕ) (arcs : List InstArc) (v : ℕ) (sums : NodeSums) → All (IsArcOf nodes) arcs → length arcs ≤ arc_limit → AreSumsAt arcs v sums → AreSized sum_limit sums
-sums_sized nodes arcs v sums fit few is =
+pub sums_sized : (p : Profile) (nodes : ℕ) (arcs : List InstArc) (v : ℕ) (sums : NodeSums) → All (IsArcOf nodes) arcs → length arcs ≤ arc_limit → AreSumsAt p arcs v sums → AreSized sum_limit sums
+sums_sized p nodes arcs v sums fit few is =
     let small = reach-small value_limit arcs v in
     let least = least_within nodes arcs v fit in
     let most = most_within nodes arcs v fit in
-    let shift = shift_within nodes arcs v fit in
+    let shift = shift_within p nodes arcs v fit in
     record {
       least = record { above = omega (arith, ints, is.least, least.0, small.1); below = omega (arith, ints, is.least, least.1, small.1) };
       most = record { above = omega (arith, ints, is.most, most.0, small.1); below = omega (arith, ints, is.most, most.1, small.1) };

@@ -1,4 +1,5 @@
 pub mod Limits
+pub mod Numbers
 pub mod Sums
 pub mod Assignments
 pub mod Flows
@@ -6,3 +7,4 @@ pub mod Links
 pub mod NormalForm
 pub mod Correspondence
 pub mod NodeSums
+pub mod Laws

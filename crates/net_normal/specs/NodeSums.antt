@@ -6,6 +6,7 @@ use Rattle.net_normal.specs.NormalForm.{offset_of, least_inflow, most_inflow, sh
 use Rattle.net_normal.specs.declared.instance.NodeRange.{NodeRange}
 use Rattle.net_normal.specs.declared.problem.FlowArc.{FlowArc}
 use Rattle.net_normal.specs.declared.instance.InstArc.{InstArc}
+use Rattle.net_normal.specs.declared.profile.Profile.{Profile}
 use Rattle.net_normal.specs.declared.node_sums.NodeSums.{NodeSums}
 
 -- of a node without arcs
@@ -13,11 +14,11 @@ abbrev pub no_sums : NodeSums
 no_sums = record { least = pos 0; most = pos 0; shift = pos 0 }
 
 -- the sums of node v when an arc has come to it, and when one has left it
-abbrev pub entered : InstArc → NodeSums → NodeSums
-entered arc sums = record { least = sums.least +ℤ arc.lower; most = sums.most +ℤ arc.upper; shift = sums.shift +ℤ offset_of arc }
+abbrev pub entered : Profile → InstArc → NodeSums → NodeSums
+entered p arc sums = record { least = sums.least +ℤ arc.lower; most = sums.most +ℤ arc.upper; shift = sums.shift +ℤ offset_of p arc }
 
-abbrev pub left : InstArc → NodeSums → NodeSums
-left arc sums = record { least = sums.least -ℤ arc.upper; most = sums.most -ℤ arc.lower; shift = sums.shift -ℤ offset_of arc }
+abbrev pub left : Profile → InstArc → NodeSums → NodeSums
+left p arc sums = record { least = sums.least -ℤ arc.upper; most = sums.most -ℤ arc.lower; shift = sums.shift -ℤ offset_of p arc }
 
 -- at most n in size, each of them
 pub record AreSized (n : ℕ) (sums : NodeSums) : Type 0 where
@@ -26,30 +27,34 @@ pub record AreSized (n : ℕ) (sums : NodeSums) : Type 0 where
   pub shift : IsSized n sums.shift
 
 -- the sums of node v over these arcs, and no others
-pub record AreSumsAt (arcs : List InstArc) (v : ℕ) (sums : NodeSums) : Type 0 where
+pub record AreSumsAt (p : Profile) (arcs : List InstArc) (v : ℕ) (sums : NodeSums) : Type 0 where
   pub least : sums.least ≡ least_inflow arcs v
   pub most : sums.most ≡ most_inflow arcs v
-  pub shift : sums.shift ≡ shift_of arcs v
+  pub shift : sums.shift ≡ shift_of p arcs v
 
 -- the same of each node
-abbrev pub AreSumsOf : List InstArc → List NodeSums → Type 0
-AreSumsOf arcs all = (v : ℕ) (d : NodeSums) → v < length all → AreSumsAt arcs v (slice_index_or all v d)
+abbrev pub AreSumsOf : Profile → List InstArc → List NodeSums → Type 0
+AreSumsOf p arcs all = (v : ℕ) (d : NodeSums) → v < length all → AreSumsAt p arcs v (slice_index_or all v d)
+
+-- in one of the profiles
+abbrev pub AreSumsOfEither : List InstArc → List NodeSums → Type 0
+AreSumsOfEither arcs all = (p : Profile) × AreSumsOf p arcs all
 
 -- the arc counts at the node that it leads to, and at the one that it leads from
-abbrev pub counted_head : InstArc → ℕ → NodeSums → NodeSums
-counted_head arc v sums = if enters v arc then entered arc sums else sums
+abbrev pub counted_head : Profile → InstArc → ℕ → NodeSums → NodeSums
+counted_head p arc v sums = if enters v arc then entered p arc sums else sums
 
-abbrev pub counted_tail : InstArc → ℕ → NodeSums → NodeSums
-counted_tail arc v sums = if leaves v arc then left arc sums else sums
+abbrev pub counted_tail : Profile → InstArc → ℕ → NodeSums → NodeSums
+counted_tail p arc v sums = if leaves v arc then left p arc sums else sums
 
-abbrev pub CountsHead : InstArc → List NodeSums → List NodeSums → Type 0
-CountsHead arc old new = (v : ℕ) (d : NodeSums) → v < length old → slice_index_or new v d ≡ counted_head arc v (slice_index_or old v d)
+abbrev pub CountsHead : Profile → InstArc → List NodeSums → List NodeSums → Type 0
+CountsHead p arc old new = (v : ℕ) (d : NodeSums) → v < length old → slice_index_or new v d ≡ counted_head p arc v (slice_index_or old v d)
 
-abbrev pub CountsTail : InstArc → List NodeSums → List NodeSums → Type 0
-CountsTail arc old new = (v : ℕ) (d : NodeSums) → v < length old → slice_index_or new v d ≡ counted_tail arc v (slice_index_or old v d)
+abbrev pub CountsTail : Profile → InstArc → List NodeSums → List NodeSums → Type 0
+CountsTail p arc old new = (v : ℕ) (d : NodeSums) → v < length old → slice_index_or new v d ≡ counted_tail p arc v (slice_index_or old v d)
 
-abbrev pub CountsArc : InstArc → List NodeSums → List NodeSums → Type 0
-CountsArc arc old new = (v : ℕ) (d : NodeSums) → v < length old → slice_index_or new v d ≡ counted_tail arc v (counted_head arc v (slice_index_or old v d))
+abbrev pub CountsArc : Profile → InstArc → List NodeSums → List NodeSums → Type 0
+CountsArc p arc old new = (v : ℕ) (d : NodeSums) → v < length old → slice_index_or new v d ≡ counted_tail p arc v (counted_head p arc v (slice_index_or old v d))
 
 -- a node's supply and the arc for its room, by its own sums
 abbrev pub own_supply : NodeRange → NodeSums → ℤ

@@ -1,7 +1,8 @@
--- The normal form of a network as netflow lays it down: which problem and which link an instance has. Nodes keep their numbers, and the
--- outside node, which stands for the arcs' missing ends and for the room in the nodes' ranges, comes after them.
-use Rattle.std.specs.Prelude.{◌≡◌, ℕ, suc, Bool, true, List, [], ◌∷◌, ◌++◌, map, Option, Some, None, ℤ, pos, ◌+ℤ◌, ◌-ℤ◌, neg_ℤ, int_lt, vec_len, unwrap_or, if◌then◌else◌}
+-- The normal form of a network as netflow lays it down, and its lean form: which problem and which link an instance has. Nodes keep
+-- their numbers, and the outside node, which stands for the arcs' missing ends and for the room in the nodes' ranges, comes after them.
+use Rattle.std.specs.Prelude.{◌≡◌, ℕ, suc, Bool, true, false, List, [], ◌∷◌, ◌++◌, map, Option, Some, None, ℤ, pos, ◌+ℤ◌, ◌-ℤ◌, neg_ℤ, int_lt, vec_len, unwrap_or, if◌then◌else◌}
 use Rattle.std.specs.Int.{int_min, int_max}
+use Rattle.std.specs.Ordering.{int_eq}
 use Rattle.net_normal.specs.Sums.{flow_on, price_of, sum_of}
 use Rattle.net_normal.specs.Assignments.{enters, leaves, net_inflow}
 use Rattle.net_normal.specs.Links.{signed}
@@ -12,28 +13,43 @@ use Rattle.net_normal.specs.declared.instance.Instance.{Instance}
 use Rattle.net_normal.specs.declared.problem.FlowArc.{FlowArc}
 use Rattle.net_normal.specs.declared.problem.Problem.{Problem}
 use Rattle.net_normal.specs.declared.link.Link.{Link}
+use Rattle.net_normal.specs.declared.profile.Profile.{Profile}
+use Rattle.net_normal.specs.declared.profile.Profile.TheVariants.{Plain, Lean}
 
--- a negative lower bound is moved to 0
-abbrev pub offset_of : InstArc → ℤ
-offset_of arc = int_min arc.lower (pos 0)
+-- a negative lower bound is moved to 0, in the lean form each lower bound
+abbrev pub offset_of : Profile → InstArc → ℤ
+offset_of Plain arc = int_min arc.lower (pos 0)
+offset_of Lean arc = arc.lower
 
-abbrev pub offsets_of : List InstArc → List ℤ
-offsets_of arcs = map offset_of arcs
+abbrev pub offsets_of : Profile → List InstArc → List ℤ
+offsets_of p arcs = map (offset_of p) arcs
 
--- counted from this number
-abbrev pub numbers_from : ℕ → List InstArc → List ℕ
-numbers_from n [] = []
-numbers_from n (arc ∷ arcs) = n ∷ numbers_from (suc n) arcs
+-- the lean form has no arc for one of equal bounds
+abbrev pub is_left_out : Profile → InstArc → Bool
+is_left_out Plain arc = false
+is_left_out Lean arc = int_eq arc.lower arc.upper
 
-abbrev pub flow_arc_of : Sense → ℕ → InstArc → FlowArc
-flow_arc_of sense outside arc =
+-- counted from this number; 0 for an arc that is left out
+abbrev pub numbers_from : Profile → ℕ → List InstArc → List ℕ
+numbers_from p n [] = []
+numbers_from p n (arc ∷ arcs) = if is_left_out p arc then 0 ∷ numbers_from p n arcs else n ∷ numbers_from p (suc n) arcs
+
+abbrev pub flow_arc_of : Profile → Sense → ℕ → InstArc → FlowArc
+flow_arc_of p sense outside arc =
     record {
       src = unwrap_or arc.tail outside;
       dst = unwrap_or arc.head outside;
-      low = arc.lower -ℤ offset_of arc;
-      cap = arc.upper -ℤ offset_of arc;
+      low = arc.lower -ℤ offset_of p arc;
+      cap = arc.upper -ℤ offset_of p arc;
       cost = signed sense arc.coefficient;
     }
+
+-- one for each arc that is not left out
+abbrev pub written_arcs : Profile → Sense → ℕ → List InstArc → List FlowArc
+written_arcs p sense outside [] = []
+written_arcs p sense outside (arc ∷ arcs) =
+    if is_left_out p arc then written_arcs p sense outside arcs
+    else flow_arc_of p sense outside arc ∷ written_arcs p sense outside arcs
 
 -- the greatest net inflow that the bounds allow
 abbrev pub most_inflow : List InstArc → ℕ → ℤ
@@ -44,8 +60,8 @@ abbrev pub least_inflow : List InstArc → ℕ → ℤ
 least_inflow arcs v = flow_on (enters v) arcs (map (λ arc. arc.lower) arcs) -ℤ flow_on (leaves v) arcs (map (λ arc. arc.upper) arcs)
 
 -- what the offsets bring into a node
-abbrev pub shift_of : List InstArc → ℕ → ℤ
-shift_of arcs v = net_inflow arcs (offsets_of arcs) v
+abbrev pub shift_of : Profile → List InstArc → ℕ → ℤ
+shift_of p arcs v = net_inflow arcs (offsets_of p arcs) v
 
 -- a missing low side is the lesser of the high side and the least inflow
 abbrev pub low_side : Option ℤ → Option ℤ → ℤ → ℤ
@@ -71,13 +87,13 @@ is_open (Some low) (Some high) = int_lt low high
 is_open (Some low) None = true
 is_open None high = true
 
-abbrev pub supply_of : List InstArc → ℕ → NodeRange → ℤ
-supply_of arcs v range = shift_of arcs v -ℤ low_of arcs v range
+abbrev pub supply_of : Profile → List InstArc → ℕ → NodeRange → ℤ
+supply_of p arcs v range = shift_of p arcs v -ℤ low_of arcs v range
 
 -- of the nodes from number v on
-abbrev pub supplies_from : List InstArc → ℕ → List NodeRange → List ℤ
-supplies_from arcs v [] = []
-supplies_from arcs v (range ∷ ranges) = supply_of arcs v range ∷ supplies_from arcs (suc v) ranges
+abbrev pub supplies_from : Profile → List InstArc → ℕ → List NodeRange → List ℤ
+supplies_from p arcs v [] = []
+supplies_from p arcs v (range ∷ ranges) = supply_of p arcs v range ∷ supplies_from p arcs (suc v) ranges
 
 -- the arc that takes what a node receives above its low side to the outside node
 abbrev pub room_arc : List InstArc → ℕ → ℕ → NodeRange → FlowArc
@@ -90,23 +106,29 @@ room_arcs_from arcs outside v (range ∷ ranges) =
     else room_arcs_from arcs outside (suc v) ranges
 
 -- the outside node makes the supplies sum to 0
-abbrev pub supplies_of : Instance → List ℤ
-supplies_of instance = let inner = supplies_from instance.arcs.items 0 instance.nodes.items in inner ++ neg_ℤ (sum_of inner) ∷ []
+abbrev pub supplies_of : Profile → Instance → List ℤ
+supplies_of p instance = let inner = supplies_from p instance.arcs.items 0 instance.nodes.items in inner ++ neg_ℤ (sum_of inner) ∷ []
 
--- the network's arcs in order, then one arc for each node with an open range, in the nodes' order
-abbrev pub flow_arcs_of : Instance → List FlowArc
-flow_arcs_of instance =
+-- those of the network's arcs in order, then one arc for each node with an open range, in the nodes' order
+abbrev pub flow_arcs_of : Profile → Instance → List FlowArc
+flow_arcs_of p instance =
     let outside = vec_len instance.nodes in
-    map (flow_arc_of instance.sense outside) instance.arcs.items ++ room_arcs_from instance.arcs.items outside 0 instance.nodes.items
+    written_arcs p instance.sense outside instance.arcs.items ++ room_arcs_from instance.arcs.items outside 0 instance.nodes.items
 
 -- the constant, and what the offsets cost
-abbrev pub constant_of : Instance → ℤ
-constant_of instance = instance.constant +ℤ price_of (λ arc. arc.coefficient) instance.arcs.items (offsets_of instance.arcs.items)
+abbrev pub constant_of : Profile → Instance → ℤ
+constant_of p instance = instance.constant +ℤ price_of (λ arc. arc.coefficient) instance.arcs.items (offsets_of p instance.arcs.items)
 
-pub record IsNormalForm (instance : Instance) (problem : Problem) (link : Link) : Type 0 where
-  pub supplies : problem.supplies.items ≡ supplies_of instance
-  pub arcs : problem.arcs.items ≡ flow_arcs_of instance
-  pub numbers : link.numbers.items ≡ numbers_from 1 instance.arcs.items
-  pub offsets : link.offsets.items ≡ offsets_of instance.arcs.items
-  pub constant : link.constant ≡ constant_of instance
+pub record IsFormIn (p : Profile) (instance : Instance) (problem : Problem) (link : Link) : Type 0 where
+  pub supplies : problem.supplies.items ≡ supplies_of p instance
+  pub arcs : problem.arcs.items ≡ flow_arcs_of p instance
+  pub numbers : link.numbers.items ≡ numbers_from p 1 instance.arcs.items
+  pub offsets : link.offsets.items ≡ offsets_of p instance.arcs.items
+  pub constant : link.constant ≡ constant_of p instance
   pub sense : link.sense ≡ instance.sense
+
+abbrev pub IsNormalForm : Instance → Problem → Link → Type 0
+IsNormalForm = IsFormIn Plain
+
+abbrev pub IsLeanForm : Instance → Problem → Link → Type 0
+IsLeanForm = IsFormIn Lean

@@ -7,47 +7,48 @@ ghost use Rattle.net_normal.specs.NodeSums.{AreSized, CountsHead, CountsTail, Co
 
 use crate::instance::InstArc;
 use crate::node_sums::NodeSums;
+use crate::profile::Profile;
 
 /// Counts an arc at the node that it leads to, where there is one.
-fn count_head(sums: &mut Vec<NodeSums>, arc: &InstArc)
+fn count_head(sums: &mut Vec<NodeSums>, profile: Profile, arc: &InstArc)
     requires sums { All (AreSized flow_limit) sums.old.items }
     requires head { ForSome arc.now.head (λ v. v < vec_len sums.old) }
     requires lower { IsSized value_limit arc.now.lower }
     requires upper { IsSized value_limit arc.now.upper }
     ensures len { vec_len sums.new ≡ vec_len sums.old }
-    ensures value { CountsHead arc.now sums.old.items sums.new.items }
+    ensures value { CountsHead profile arc.now sums.old.items sums.new.items }
 {
     if let Some(head) = arc.head {
         let node = head as usize;
-        sums[node] = sums[node].entered(arc);
+        sums[node] = sums[node].entered(profile, arc);
     }
 }
 
 /// Counts an arc at the node that it leads from, where there is one.
-fn count_tail(sums: &mut Vec<NodeSums>, arc: &InstArc)
+fn count_tail(sums: &mut Vec<NodeSums>, profile: Profile, arc: &InstArc)
     requires sums { All (AreSized flow_limit) sums.old.items }
     requires tail { ForSome arc.now.tail (λ v. v < vec_len sums.old) }
     requires lower { IsSized value_limit arc.now.lower }
     requires upper { IsSized value_limit arc.now.upper }
     ensures len { vec_len sums.new ≡ vec_len sums.old }
-    ensures value { CountsTail arc.now sums.old.items sums.new.items }
+    ensures value { CountsTail profile arc.now sums.old.items sums.new.items }
 {
     if let Some(tail) = arc.tail {
         let node = tail as usize;
-        sums[node] = sums[node].left(arc);
+        sums[node] = sums[node].left(profile, arc);
     }
 }
 
 /// Counts an arc at both its ends, where they are nodes. A loop counts at its node as it comes and as it goes.
-pub fn count_arc(sums: &mut Vec<NodeSums>, arc: &InstArc)
+pub fn count_arc(sums: &mut Vec<NodeSums>, profile: Profile, arc: &InstArc)
     requires sums { All (AreSized sum_limit) sums.old.items }
     requires tail { ForSome arc.now.tail (λ v. v < vec_len sums.old) }
     requires head { ForSome arc.now.head (λ v. v < vec_len sums.old) }
     requires lower { IsSized value_limit arc.now.lower }
     requires upper { IsSized value_limit arc.now.upper }
     ensures len { vec_len sums.new ≡ vec_len sums.old }
-    ensures value { CountsArc arc.now sums.old.items sums.new.items }
+    ensures value { CountsArc profile arc.now sums.old.items sums.new.items }
 {
-    count_head(sums, arc);
-    count_tail(sums, arc);
+    count_head(sums, profile, arc);
+    count_tail(sums, profile, arc);
 }

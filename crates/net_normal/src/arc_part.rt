@@ -1,24 +1,25 @@
 //! The part of a normal form that the arcs of a network make, in their order.
 
-ghost use Rattle.std.specs.Prelude.{◌≡◌, ◌*◌, ◌+◌, ◌+ℤ◌, ◌*ℤ◌, ◌^◌, ◌<◌, ◌≤◌, ◌++◌, ◌∷◌, [], map, All, IfOk, OnOk, replicate, vec_len};
+ghost use Rattle.std.specs.Prelude.{◌≡◌, ◌*◌, ◌+◌, ◌+ℤ◌, ◌*ℤ◌, ◌^◌, ◌<◌, ◌≤◌, ◌++◌, ◌∷◌, [], All, IfOk, OnOk, replicate, vec_len, if◌then◌else◌};
 ghost use Rattle.net_normal.specs.Links.{signed};
 ghost use Rattle.net_normal.specs.Limits.{IsSized, IsArcOf, value_limit, node_limit, arc_limit, sum_limit, constant_limit};
-ghost use Rattle.net_normal.specs.NormalForm.{offset_of, offsets_of, numbers_from, flow_arc_of, constant_of};
+ghost use Rattle.net_normal.specs.NormalForm.{offset_of, is_left_out, offsets_of, numbers_from, flow_arc_of, written_arcs, constant_of};
 
 use crate::arc_count::count_arc;
 use crate::instance::{InstArc, Instance, Sense};
 use crate::node_sums::NodeSums;
 use crate::problem::FlowArc;
+use crate::profile::Profile;
 use std::alloc::{AllocError, Global};
 
 /// What the arcs make.
 #[derive(Drop)]
 pub struct ArcPart {
-    /// One arc of the problem for each arc of the network.
+    /// An arc of the problem for each arc of the network that the profile does not leave out.
     pub arcs: Vec<FlowArc>,
-    /// Their numbers, counted from 1.
+    /// For each arc of the network, the number of that arc, counted from 1, or 0 where it is left out.
     pub numbers: Vec<u32>,
-    /// Their offsets.
+    /// For each arc of the network, its offset.
     pub offsets: Vec<i64>,
     /// The objective's constant with what the offsets cost.
     pub constant: i128,
@@ -38,13 +39,13 @@ fn cost(sense: Sense, coefficient: &i64) -> i64
 }
 
 /// The arc of the problem for an arc of the network; a missing end is at the outside node.
-fn flow_arc(sense: Sense, outside: u32, arc: &InstArc) -> FlowArc
+fn flow_arc(profile: Profile, sense: Sense, outside: u32, arc: &InstArc) -> FlowArc
     requires lower { IsSized value_limit arc.now.lower }
     requires upper { IsSized value_limit arc.now.upper }
     requires coefficient { IsSized value_limit arc.now.coefficient }
-    ensures { result ≡ flow_arc_of sense outside arc.now }
+    ensures { result ≡ flow_arc_of profile sense outside arc.now }
 {
-    let offset = arc.offset();
+    let offset = profile.offset(arc);
     FlowArc {
         src: arc.tail.unwrap_or(outside),
         dst: arc.head.unwrap_or(outside),
@@ -52,6 +53,29 @@ fn flow_arc(sense: Sense, outside: u32, arc: &InstArc) -> FlowArc
         cap: arc.upper - offset,
         cost: cost(sense, &arc.coefficient),
     }
+}
+
+/// Adds the arc of the problem for an arc of the network and answers its number; an arc that is left out has none, and the
+/// answer is 0.
+fn write_arc(
+    arcs: &mut Vec<FlowArc>,
+    profile: Profile,
+    sense: Sense,
+    outside: u32,
+    arc: &InstArc,
+) -> Result<u32, AllocError>
+    requires few { vec_len arcs.old < arc_limit }
+    requires lower { IsSized value_limit arc.now.lower }
+    requires upper { IsSized value_limit arc.now.upper }
+    requires coefficient { IsSized value_limit arc.now.coefficient }
+    ensures arcs { OnOk result (arcs.new.items ≡ arcs.old.items ++ (if is_left_out profile arc.now then [] else flow_arc_of profile sense outside arc.now ∷ [])) }
+    ensures number { IfOk result (λ number. number ≡ (if is_left_out profile arc.now then 0 else vec_len arcs.old + 1)) }
+{
+    if profile.leaves_out(arc) {
+        return Ok(0);
+    }
+    arcs.push(flow_arc(profile, sense, outside, arc))?;
+    Ok(arcs.len() as u32)
 }
 
 /// What an offset costs.
@@ -87,42 +111,42 @@ impl ArcPart {
     }
 
     /// Takes the next arc.
-    fn add(&mut self, sense: Sense, arc: &InstArc) -> Result<(), AllocError>
+    fn add(&mut self, profile: Profile, sense: Sense, arc: &InstArc) -> Result<(), AllocError>
         requires arc { IsArcOf (vec_len self.old.sums) arc.now }
         requires few_nodes { vec_len self.old.sums ≤ node_limit }
-        requires few_arcs { vec_len self.old.numbers < arc_limit }
+        requires few_arcs { vec_len self.old.arcs < arc_limit }
         requires constant { IsSized (10 ^ 29 + 10 ^ 12) self.old.constant }
         requires sums { All (AreSized sum_limit) self.old.sums.items }
-        ensures arcs { OnOk result (self.new.arcs.items ≡ self.old.arcs.items ++ flow_arc_of sense (vec_len self.old.sums) arc.now ∷ []) }
-        ensures numbers { OnOk result (self.new.numbers.items ≡ self.old.numbers.items ++ (vec_len self.old.numbers + 1) ∷ []) }
-        ensures offsets { OnOk result (self.new.offsets.items ≡ self.old.offsets.items ++ offset_of arc.now ∷ []) }
-        ensures constant { OnOk result (self.new.constant ≡ self.old.constant +ℤ arc.now.coefficient *ℤ offset_of arc.now) }
+        ensures arcs { OnOk result (self.new.arcs.items ≡ self.old.arcs.items ++ (if is_left_out profile arc.now then [] else flow_arc_of profile sense (vec_len self.old.sums) arc.now ∷ [])) }
+        ensures numbers { OnOk result (self.new.numbers.items ≡ self.old.numbers.items ++ (if is_left_out profile arc.now then 0 else vec_len self.old.arcs + 1) ∷ []) }
+        ensures offsets { OnOk result (self.new.offsets.items ≡ self.old.offsets.items ++ offset_of profile arc.now ∷ []) }
+        ensures constant { OnOk result (self.new.constant ≡ self.old.constant +ℤ arc.now.coefficient *ℤ offset_of profile arc.now) }
         ensures nodes { OnOk result (vec_len self.new.sums ≡ vec_len self.old.sums) }
-        ensures sums { OnOk result (CountsArc arc.now self.old.sums.items self.new.sums.items) }
+        ensures sums { OnOk result (CountsArc profile arc.now self.old.sums.items self.new.sums.items) }
     {
         let outside = self.sums.len() as u32;
-        let offset = arc.offset();
-        self.arcs.push(flow_arc(sense, outside, arc))?;
-        self.numbers.push(self.numbers.len() as u32 + 1)?;
+        let offset = profile.offset(arc);
+        let number = write_arc(&mut self.arcs, profile, sense, outside, arc)?;
+        self.numbers.push(number)?;
         self.offsets.push(offset)?;
         self.constant += offset_price(&arc.coefficient, &offset);
-        count_arc(&mut self.sums, arc);
+        count_arc(&mut self.sums, profile, arc);
         Ok(())
     }
 
     /// Takes all arcs of a network, in one pass.
-    pub fn of(alloc: Global, instance: &Instance) -> Result<ArcPart, AllocError>
-        ensures arcs { IfOk result (λ part. part.arcs.items ≡ map (flow_arc_of instance.now.sense (vec_len instance.now.nodes)) instance.now.arcs.items) }
-        ensures numbers { IfOk result (λ part. part.numbers.items ≡ numbers_from 1 instance.now.arcs.items) }
-        ensures offsets { IfOk result (λ part. part.offsets.items ≡ offsets_of instance.now.arcs.items) }
-        ensures constant { IfOk result (λ part. part.constant ≡ constant_of instance.now) }
+    pub fn of(alloc: Global, profile: Profile, instance: &Instance) -> Result<ArcPart, AllocError>
+        ensures arcs { IfOk result (λ part. part.arcs.items ≡ written_arcs profile instance.now.sense (vec_len instance.now.nodes) instance.now.arcs.items) }
+        ensures numbers { IfOk result (λ part. part.numbers.items ≡ numbers_from profile 1 instance.now.arcs.items) }
+        ensures offsets { IfOk result (λ part. part.offsets.items ≡ offsets_of profile instance.now.arcs.items) }
+        ensures constant { IfOk result (λ part. part.constant ≡ constant_of profile instance.now) }
         ensures size { IfOk result (λ part. IsSized constant_limit part.constant) }
         ensures nodes { IfOk result (λ part. vec_len part.sums ≡ vec_len instance.now.nodes) }
-        ensures sums { IfOk result (λ part. AreSumsOf instance.now.arcs.items part.sums.items) }
+        ensures sums { IfOk result (λ part. AreSumsOf profile instance.now.arcs.items part.sums.items) }
     {
         let mut part = ArcPart::new(alloc, instance)?;
         for arc in &instance.arcs {
-            part.add(instance.sense, arc)?;
+            part.add(profile, instance.sense, arc)?;
         }
         Ok(part)
     }

@@ -1,23 +1,25 @@
 //! The way back from the flows of a problem to the assignments of its network.
 
-ghost use Rattle.std.specs.Prelude.{◌≡◌, ◌<◌, All, vec_len};
+ghost use Rattle.std.specs.Prelude.{◌≡◌, All, vec_len};
 ghost use Rattle.net_normal.specs.Limits.{IsSized, value_limit, constant_limit, total_cost_limit};
+ghost use Rattle.net_normal.specs.Numbers.{CountUp};
 
 use crate::instance::Sense;
 
 /// What leads from a flow to an assignment, and from its cost to the objective's value.
 #[derive(Drop)]
 pub struct Link {
-    /// For each arc of the network, the number of its arc in the problem, counted from 1.
+    /// For each arc of the network, the number of its arc in the problem, counted from 1, or 0 where it has none. Those that
+    /// have one come in the order of their numbers, and no number is left out before the last.
     pub numbers: Vec<u32>,
-    /// For each arc of the network, what its flow is short of its number in the assignment.
+    /// For each arc of the network, what its flow is short of its number in the assignment: all of it where it has no arc.
     pub offsets: Vec<i64>,
     /// The value of an assignment whose flow costs nothing.
     pub constant: i128,
     /// What is wanted of the objective.
     pub sense: Sense,
     pub ghost paired: { vec_len numbers ≡ vec_len offsets },
-    pub ghost numbered: { All (λ n. 0 < n) numbers.items },
+    pub ghost numbered: { CountUp numbers.items },
     pub ghost offsets_fit: { All (IsSized value_limit) offsets.items },
     pub ghost constant_fits: { IsSized constant_limit constant },
 }

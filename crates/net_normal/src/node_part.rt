@@ -3,7 +3,8 @@
 ghost use Rattle.std.specs.Prelude.{◌≡◌, ◌<◌, ◌≤◌, ◌+◌, ◌*◌, ◌^◌, ◌++◌, ◌∷◌, [], pos, ◌-ℤ◌, ◌≤ℤ◌, length, IfOk, OnOk, vec_len, if◌then◌else◌};
 ghost use Rattle.net_normal.specs.Limits.{IsSized, node_limit, range_limit, flow_limit, sum_limit};
 ghost use Rattle.net_normal.specs.NormalForm.{low_side, high_side, is_open, supplies_of, room_arcs_from};
-ghost use Rattle.net_normal.specs.NodeSums.{AreSized, AreSumsOf, own_supply, own_room};
+ghost use Rattle.net_normal.specs.declared.profile.Profile.{Profile};
+ghost use Rattle.net_normal.specs.NodeSums.{AreSized, AreSumsOf, AreSumsOfEither, own_supply, own_room};
 
 use crate::instance::{Instance, NodeRange};
 use crate::node_sums::NodeSums;
@@ -72,8 +73,8 @@ impl NodePart {
         sums: &[NodeSums],
     ) -> Result<NodePart, AllocError>
         requires len { length sums.now ≡ vec_len instance.now.nodes }
-        requires sums { AreSumsOf instance.now.arcs.items sums.now }
-        ensures supplies { IfOk result (λ part. part.supplies.items ≡ supplies_of instance.now) }
+        requires sums { AreSumsOfEither instance.now.arcs.items sums.now }
+        ensures supplies { IfOk result (λ part. (p : Profile) → AreSumsOf p instance.now.arcs.items sums.now → part.supplies.items ≡ supplies_of p instance.now) }
         ensures arcs { IfOk result (λ part. part.arcs.items ≡ arcs.items ++ room_arcs_from instance.now.arcs.items (vec_len instance.now.nodes) 0 instance.now.nodes.items) }
     {
         let outside = instance.nodes.len() as u32;

@@ -5,6 +5,7 @@ ghost use Rattle.std.specs.Option.{ForSome};
 ghost use Rattle.net_normal.specs.Limits.{IsSized, value_limit, flow_limit};
 
 use crate::instance::InstArc;
+use crate::profile::Profile;
 
 /// Sums over the arcs that lead to a node, less sums over those that lead from it.
 #[derive(Clone, Copy)]
@@ -15,18 +16,6 @@ pub struct NodeSums {
     pub most: i64,
     /// What the offsets bring in.
     pub shift: i64,
-}
-
-impl InstArc {
-    ghost use Rattle.net_normal.specs.NormalForm.{offset_of};
-
-    /// What a negative lower bound is moved by to 0, or else 0.
-    pub(crate) fn offset(&self) -> i64
-        ensures value { result ≡ offset_of self.now }
-        ensures size { IsSized value_limit self.now.lower → IsSized value_limit result }
-    {
-        self.lower.min(0)
-    }
 }
 
 impl NodeSums {
@@ -40,30 +29,30 @@ impl NodeSums {
     };
 
     /// With an arc that leads to the node.
-    pub fn entered(&self, arc: &InstArc) -> NodeSums
+    pub fn entered(&self, profile: Profile, arc: &InstArc) -> NodeSums
         requires sums { AreSized flow_limit self.now }
         requires lower { IsSized value_limit arc.now.lower }
         requires upper { IsSized value_limit arc.now.upper }
-        ensures { result ≡ entered arc.now self.now }
+        ensures { result ≡ entered profile arc.now self.now }
     {
         NodeSums {
             least: self.least + arc.lower,
             most: self.most + arc.upper,
-            shift: self.shift + arc.offset(),
+            shift: self.shift + profile.offset(arc),
         }
     }
 
     /// With an arc that leads from the node.
-    pub fn left(&self, arc: &InstArc) -> NodeSums
+    pub fn left(&self, profile: Profile, arc: &InstArc) -> NodeSums
         requires sums { AreSized flow_limit self.now }
         requires lower { IsSized value_limit arc.now.lower }
         requires upper { IsSized value_limit arc.now.upper }
-        ensures { result ≡ left arc.now self.now }
+        ensures { result ≡ left profile arc.now self.now }
     {
         NodeSums {
             least: self.least - arc.upper,
             most: self.most - arc.lower,
-            shift: self.shift - arc.offset(),
+            shift: self.shift - profile.offset(arc),
         }
     }
 }

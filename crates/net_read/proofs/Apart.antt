@@ -3,7 +3,6 @@ use Rattle.std.specs.Prelude.{◌≡◌, ℕ, List, Option, Ok}
 use Rattle.net_data.specs.declared.statement.Statement.{Statement}
 use Rattle.net_tree.specs.Tree.{Declaration}
 use Rattle.net_names.specs.Names.{IsWellNamed}
-use Rattle.net_model.proofs.NamedModels.{meant_well_named}
 use Rattle.net_eval.specs.Worlds.{Name, World}
 use Rattle.net_bind.specs.Binding as binding
 use Rattle.net_bind.proofs.HeldEntries.{have_sets}
@@ -17,4 +16,4 @@ pub bound_apart : (ds : List Declaration) (ss : List Statement) (w : World) → 
 bound_apart ds ss w named bound = are_distinct_in_sets w ds (have_sets ds ss w bound) (nodes_once ds named) (arcs_once ds named)
 
 pub read_apart : (wanted : Option Name) (m d : List ℕ) (n : Network) (x : IsNetworkOf wanted m d n) → AreDistinct (nodes x.network.world x.declarations) (arcs x.network.world x.declarations)
-read_apart wanted m d n x = bound_apart x.declarations x.tables.statements x.network.world (meant_well_named x.model.tokens x.declarations x.model.meant) x.network.bound
+read_apart wanted m d n x = bound_apart x.declarations x.tables.statements x.network.world x.model.named x.network.bound

@@ -1,3 +1,4 @@
+pub mod Meant
 pub mod OneFault
 pub mod Stops
 pub mod NamesOnce

@@ -24,6 +24,7 @@ use Rattle.net_read.specs.declared.defect.Defect.TheVariants.{Token as TokenDefe
 use Rattle.net_read.specs.declared.finding.Finding.{Finding}
 use Rattle.net_read.specs.Findings.{bare, told, bound, drawn}
 use Rattle.net_read.specs.Reading.{IsModel, IsData, ComeTo, IsNetworkOf}
+use Rattle.net_read.proofs.Meant.{model_meant, data_meant}
 use Rattle.net_read.specs.FirstFaults as faults
 use Rattle.net_read.specs.FirstFaults.{IsModelFault, IsDataFault, IsNetworkFault, IsFirstFault, place_of}
 
@@ -40,21 +41,21 @@ same_tokens : (language : Language) (text : List ℕ) (ts us : List Token) → A
 same_tokens language text ts us t u = reads_same language 0 text ts us t.read u.read
 
 same_model : (text : List ℕ) (ds es : List Declaration) → IsModel text ds → IsModel text es → ds ≡ es
-same_model text ds es a b = ok_same (meant a.tokens) ds es a.meant (ap meant (same_tokens languages.Model text a.tokens b.tokens a.read b.read) ∙ b.meant)
+same_model text ds es a b = ok_same (meant a.tokens) ds es (model_meant text ds a) (ap meant (same_tokens languages.Model text a.tokens b.tokens a.read b.read) ∙ model_meant text es b)
 
 same_data : (text : List ℕ) (x y : Tables) → IsData text x → IsData text y → x ≡ y
-same_data text x y a b = ok_same (data_reading.tables a.tokens) x y a.meant (ap data_reading.tables (same_tokens languages.Data text a.tokens b.tokens a.read b.read) ∙ b.meant)
+same_data text x y a b = ok_same (data_reading.tables a.tokens) x y (data_meant text x a) (ap data_reading.tables (same_tokens languages.Data text a.tokens b.tokens a.read b.read) ∙ data_meant text y b)
 
 -- a text that is a model has no fault
 no_model_fault : (text : List ℕ) (ds : List Declaration) (f : Finding) → IsModel text ds → IsModelFault text f → ⊥
 no_model_fault text ds _ is (faults.token d at fault) = lexer.read_or_refused languages.Model text is.tokens d at is.read fault
 no_model_fault text ds _ is (faults.grammar ts d at word read found) =
-    ok_err (meant is.tokens) ds (models.At d at word) is.meant (ap meant (same_tokens languages.Model text is.tokens ts is.read read) ∙ found)
+    ok_err (meant is.tokens) ds (models.At d at word) (model_meant text ds is) (ap meant (same_tokens languages.Model text is.tokens ts is.read read) ∙ found)
 
 no_data_fault : (text : List ℕ) (x : Tables) (f : Finding) → IsData text x → IsDataFault text f → ⊥
 no_data_fault text x _ is (faults.IsDataFault.token d at fault) = lexer.read_or_refused languages.Data text is.tokens d at is.read fault
 no_data_fault text x _ is (faults.statement ts s read found) =
-    ok_err (data_reading.tables is.tokens) x s is.meant (ap data_reading.tables (same_tokens languages.Data text is.tokens ts is.read read) ∙ found)
+    ok_err (data_reading.tables is.tokens) x s (data_meant text x is) (ap data_reading.tables (same_tokens languages.Data text is.tokens ts is.read read) ∙ found)
 
 no_network_fault : (wanted : Option Name) (ds : List Declaration) (x : Tables) (n : Network) (f : Finding) → ComeTo wanted ds x n → IsNetworkFault wanted ds x f → ⊥
 no_network_fault wanted ds x n _ is (faults.unbound r found) = ok_err (binding.world ds x.statements) is.world r is.bound found

@@ -56,6 +56,14 @@ offset_below_0 : links.arc_lines (1 ∷ 2 ∷ []) (negsuc 2 ∷ pos 0 ∷ []) (c
 unfolding digits
 offset_below_0 = refl
 
+-- an arc without a number in the problem, beside one that has one
+no_number : links.arc_lines (0 ∷ 1 ∷ []) (pos 2 ∷ pos 1 ∷ []) (codes "P" ∷ codes "Q" ∷ []) ≡ codes "c arc 0 2 P" ++ feed ++ codes "c arc 1 1 Q" ++ feed
+unfolding digits
+no_number = refl
+
+lifted_to_its_offset : lifted_by (0 ∷ 1 ∷ []) (pos 2 ∷ pos 1 ∷ []) (pos 4 ∷ []) ≡ pos 2 ∷ pos 5 ∷ []
+lifted_to_its_offset = refl
+
 -- the flow of 5 on arc 1 is 2 above the offset of -3
 lifted_by_the_offset : lifted_by (1 ∷ []) (negsuc 2 ∷ []) (pos 5 ∷ []) ≡ pos 2 ∷ []
 lifted_by_the_offset = refl

@@ -13,7 +13,8 @@ use std::alloc::{AllocError, Global};
 /// The comment lines above a problem: the constant and the sign that lead from a cost to the objective's value, and what
 /// each number is called.
 ///
-/// Each arc name has its number and offset in the link. Fails only where memory runs out.
+/// Each arc name has its number and offset in the link; number 0 is that of an arc which the problem leaves out. Fails only
+/// where memory runs out.
 pub fn write_links(alloc: Global, names: &Names<'_>, link: &Link) -> Result<Vec<u8>, AllocError>
     requires { vec_len link.now.numbers ≡ length names.now.arcs.keys }
     ensures value { IfOk result (λ text. text.items ≡ lines.link_text names.now link.now) }

@@ -9,8 +9,8 @@ use mathlib.Core.Logic.{◌⊎◌, inl, inr}
 use Rattle.net_sets.specs.declared.member.Member.{Member}
 use Rattle.net_sets.specs.declared.component_index.Chains.{Chains}
 use Rattle.net_sets.specs.Sets.{Tuple}
-use Rattle.net_sets.specs.Operations.{narrowest}
-use Rattle.net_sets.specs.Components.{agrees, next_place, IsIndexFrom, AreIndexedTo, AreIndexed}
+use Rattle.net_sets.specs.Operations.{narrowest, widest}
+use Rattle.net_sets.specs.Components.{agrees, next_place, indexed_components, IsIndexFrom, AreIndexedTo, AreIndexed}
 use Rattle.net_sets.proofs.Reading.{item_at}
 
 -- the place that is found is one of them
@@ -63,8 +63,8 @@ one_indexed ts many indices more new kept is put = record {
     step k c (inl there) = kept.each k c there
     step k c (inr last) = subst (λ j. IsIndexFrom j ts 0 c) (sym (last.0 ∙ kept.size)) (subst (λ (x : Chains). IsIndexFrom many ts 0 x) last.1 is)
 
-pub all_indexed : (ts : List Tuple) (many least : ℕ) (indices : List Chains) → AreIndexedTo ts many indices → least ≡ narrowest ts → AreIndexed ts least indices
-all_indexed ts many least indices kept narrow = record { narrow = narrow; each = kept.each }
+pub all_indexed : (ts : List Tuple) (many least : ℕ) (indices : List Chains) → AreIndexedTo ts many indices → least ≡ narrowest ts → many ≡ indexed_components (widest ts) → AreIndexed ts least indices
+all_indexed ts many least indices kept narrow many_are = record { narrow = narrow; size = kept.size ∙ many_are; each = kept.each }
 
 pub chains_at : (indices given : List Chains) (k : ℕ) (r : Option (Bor Chains)) (x : Bor Chains) → given ≡ indices → is_some r ≡ ltb k (length given) → IfSome r (λ y. y.now ≡ slice_index_or given k y.now) → r ≡ Some x → slice_get indices k ≡ Some x.now
 chains_at indices given k r x same some value is = ap (λ cs. slice_get cs k) (sym same) ∙ (sym (item_at r given k some value) ∙ ap option_copied is)

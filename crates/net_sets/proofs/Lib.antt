@@ -16,3 +16,4 @@ pub mod Walking
 pub mod Onward
 pub mod Rows
 mod Examples
+pub mod ProductsOnce

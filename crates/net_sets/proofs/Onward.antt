@@ -4,7 +4,7 @@ use Rattle.std.specs.List.{position_from}
 use Rattle.std.proofs.Common.{refl, ap, sym, ◌∙◌, arith, add-one}
 use Rattle.std.proofs.Math.Seq.{drop-cons}
 use Rattle.std.proofs.lemmas.Bool.Decides.{nat_tests}
-use Rattle.std.proofs.lemmas.List.{drop_all, get_or_default}
+use Rattle.std.proofs.lemmas.List.{drop_all}
 use Rattle.net_sets.specs.declared.member.Member.{Member}
 use Rattle.net_sets.specs.declared.walk.Way.{Way}
 use Rattle.net_sets.specs.declared.walk.Way.TheVariants.{Each}
@@ -80,16 +80,14 @@ past_narrowest wanted k m n ts e is past = rw e (step (nat_lt k (narrowest ts)) 
     step true h = cc
     step false h = refl
 
--- the tuple at the next place, and what comes behind it
-pub come_next : (way : Way) (ts : List Tuple) (next : Option ℕ) (place : ℕ) (after : Option ℕ) (t : Tuple) → next ≡ Some place → IsWalk way ts next → after ≡ next_on way (place + 1) ts → t ≡ get_or ts place t
-    → to_come way ts next ≡ t ∷ to_come way ts after
-come_next way ts None place after t e walk is here = cc
-come_next way ts (Some p) place after t e walk is here =
+-- behind the next tuple
+pub passed : (way : Way) (ts : List Tuple) (next : Option ℕ) (place : ℕ) (after : Option ℕ) → next ≡ Some place → IsWalk way ts next → after ≡ next_on way (place + 1) ts → to_come way ts after ≡ drop 1 (to_come way ts next)
+passed way ts None place after e walk is = cc
+passed way ts (Some p) place after e walk is =
     let same : p ≡ place = cc in
-    let there = walk.here in
-    one_to_come way ts p there
-    ∙ ap (λ x. x ∷ filter (passes way) (drop (p + 1) ts)) (get_or_default ts p [] t there.0 ∙ ap (λ j. get_or ts j t) same ∙ sym here)
-    ∙ ap (◌∷◌ t) (ap (λ j. filter (passes way) (drop (j + 1) ts)) same ∙ sym (all_to_come way ts (place + 1) after is))
+    all_to_come way ts (place + 1) after is
+    ∙ ap (λ j. filter (passes way) (drop (j + 1) ts)) (sym same)
+    ∙ sym (ap (λ (us : List Tuple). drop 1 us) (one_to_come way ts p walk.here))
 
 -- one that all have is
 pub before_narrowest : (wanted : Option (ℕ × Member)) (k : ℕ) (m : Member) (n : ℕ) (ts : List Tuple) → wanted ≡ Some (k, m) → n ≡ narrowest ts → k < n → filter (agrees k m) ts ≡ sought wanted ts

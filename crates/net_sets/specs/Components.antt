@@ -5,7 +5,7 @@ use Rattle.std.specs.BTreeMap.{BTreeMap, get_by}
 use Rattle.net_sets.specs.declared.member.Member.{Member}
 use Rattle.net_sets.specs.declared.component_index.Chains.{Chains}
 use Rattle.net_sets.specs.Sets.{Tuple, same_member}
-use Rattle.net_sets.specs.Operations.{narrowest}
+use Rattle.net_sets.specs.Operations.{narrowest, widest}
 use Rattle.net_sets.specs.Orders.{member_order}
 
 abbrev pub is_member : Member → Option Member → Bool
@@ -35,9 +35,14 @@ pub record AreIndexedTo (ts : List Tuple) (many : ℕ) (indices : List Chains) :
   pub size : length indices ≡ many
   pub each : (component : ℕ) (chains : Chains) → slice_get indices component ≡ Some chains → IsIndexFrom component ts 0 chains
 
--- the indices that there are, and how many members each tuple has at least
+-- of how many components an index is made: of each, where tuples have two or more
+abbrev pub indexed_components : ℕ → ℕ
+indexed_components width = if nat_lt width 2 then 0 else width
+
+-- the indices, one for each component, and how many members each tuple has at least
 pub record AreIndexed (ts : List Tuple) (least : ℕ) (indices : List Chains) : Type 0 where
   pub narrow : least ≡ narrowest ts
+  pub size : length indices ≡ indexed_components (widest ts)
   pub each : (component : ℕ) (chains : Chains) → slice_get indices component ≡ Some chains → IsIndexFrom component ts 0 chains
 
 -- the tuples that are sought: where a component and a member are given, and each tuple has the component, those that have the

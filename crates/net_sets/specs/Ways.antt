@@ -1,5 +1,5 @@
 -- How a walk goes through the tuples of a set.
-use Rattle.std.specs.Prelude.{◌≡◌, ℕ, ◌<◌, Bool, true, List, [], ◌∷◌, length, drop, filter, get_or, Option, None, Some, ⊤}
+use Rattle.std.specs.Prelude.{◌≡◌, ℕ, ◌<◌, Bool, true, List, [], length, drop, filter, get_or, Option, None, Some, ⊤}
 use Rattle.std.specs.List.{position_from}
 use Rattle.std.specs.Option.{IfSome}
 use Rattle.net_sets.specs.declared.walk.Way.{Way}
@@ -30,8 +30,3 @@ IsOf _ ts = ⊤
 pub record IsWalk (way : Way) (ts : List Tuple) (next : Option ℕ) : Type 0 where
   pub of : IsOf way ts
   pub here : IfSome next (λ p. (p < length ts) × (passes way (get_or ts p []) ≡ true))
-
--- a tuple before others, if there is one, and else nothing
-abbrev pub before : Option Tuple → List Tuple → List Tuple
-before None ts = []
-before (Some t) ts = t ∷ ts

@@ -69,7 +69,7 @@ impl<'w, 's> Held<'w, 's> {
         }
     }
 
-    fn index(&self) -> Option<&IndexedSet<'s>>
+    fn index(&self) -> Option<&'w IndexedSet<'s>>
         ensures { IfSome result (λ set. set.now ≡ self.now) }
     {
         match &self.keeping {
@@ -78,7 +78,7 @@ impl<'w, 's> Held<'w, 's> {
         }
     }
 
-    fn way(&self, wanted: Option<(usize, Member<'s>)>) -> Way<'_, 's>
+    fn way(&self, wanted: Option<(usize, Member<'s>)>) -> Way<'w, 's>
         ensures of { IsOf result self.now }
         ensures passes { filter (passes result) self.now ≡ sought wanted.entry self.now }
     {
@@ -99,10 +99,10 @@ impl<'w, 's> Held<'w, 's> {
 
     /// A walk through the tuples, all of them; or, where a component, counted from 0, and a member are wanted and each tuple has
     /// the component, through those that have the member there. A set that is lent is not looked through for them.
-    pub fn walk(&self, wanted: Option<(usize, Member<'s>)>) -> Walk<'_, 's>
-        ensures { result ≡ sought wanted.entry self.now }
+    pub fn walk(self, wanted: Option<(usize, Member<'s>)>) -> Walk<'w, 's>
+        ensures { result ≡ sought wanted.entry self.entry }
     {
         let way = self.way(wanted);
-        Walk::new(self.get().as_slice(), way)
+        Walk::new(self, way)
     }
 }

@@ -1,5 +1,5 @@
 ghost use Rattle.std.specs.Prelude.{◌≡◌, ◌<◌, ◌+◌, [], true, List, get_or, length, IfOk};
-ghost use Rattle.net_sets.specs.Components.{agrees, next_place};
+ghost use Rattle.net_sets.specs.Components.{agrees, indexed_components, next_place};
 ghost use Rattle.net_sets.specs.Operations.{narrowest};
 
 use crate::component_index::{Chains, chains_of};
@@ -31,12 +31,18 @@ impl<'s> Model for IndexedSet<'s> {
     ghost invariant = { λ s. AreIndexed s.set s.narrowest s.components.items };
 }
 
+/// Of how many components an index is made, where the longest tuple has so many members.
+fn indexed_components(width: usize) -> usize
+    ensures { result ≡ indexed_components width }
+{
+    if width < 2 { 0 } else { width }
+}
+
 impl<'s> IndexedSet<'s> {
     pub fn new(alloc: Global, set: TupleSet<'s>) -> Result<IndexedSet<'s>, AllocError>
         ensures { IfOk result (λ indexed. indexed ≡ set.entry) }
     {
-        let width = widest(&set);
-        let indexed = if width < 2 { 0 } else { width };
+        let indexed = indexed_components(widest(&set));
         let narrowest = narrowest(&set);
         let mut set = set;
         set.shrink_to_fit();

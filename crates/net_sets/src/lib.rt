@@ -18,7 +18,7 @@ mod walk;
 pub use fault::SetFault;
 pub use held::Held;
 pub use indexed_set::IndexedSet;
-pub use laws::{range_has_what_it_lists, walks_those_that_agree};
+pub use laws::{products_are_lists, range_has_what_it_lists, walks_those_that_agree};
 pub use member::Member;
 pub use operations::{
     cross, difference, intersection, is_within, narrowest, symmetric_difference, union, widest,

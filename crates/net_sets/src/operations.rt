@@ -1,8 +1,8 @@
 //! What is made of two sets of tuples.
-ghost use Rattle.std.specs.Prelude.{◌≡◌, ◌<◌, ◌+◌, ◌≤◌, ◌++◌, ◌∷◌, [], false, if◌then◌else◌, length, IfOk, OnOk};
+ghost use Rattle.std.specs.Prelude.{◌≡◌, ◌<◌, ◌+◌, ◌≤◌, ◌++◌, ◌∷◌, [], false, if◌then◌else◌, length, IfOk, OnOk, IsErrOf};
 ghost use Rattle.net_sets.specs.Limits.{arity_limit, tuples_limit};
 ghost use Rattle.net_sets.specs.Made.{IsMade, IsCrossed, with_set};
-ghost use Rattle.net_sets.specs.Operations.{union, difference, intersection, symmetric_difference, is_within, is_chosen, chosen, behind, widest, narrowest};
+ghost use Rattle.net_sets.specs.Operations.{union, product, difference, intersection, symmetric_difference, is_within, is_chosen, chosen, behind, widest, narrowest};
 ghost use Rattle.net_sets.specs.Sets.{has};
 
 use crate::fault::SetFault;
@@ -155,7 +155,9 @@ pub fn cross<'s>(
     second: &TupleSet<'s>,
 ) -> Result<TupleSet<'s>, SetFault>
     requires { widest first.now + widest second.now ≤ arity_limit }
-    ensures { IsCrossed first.now second.now result }
+    ensures value { IsCrossed first.now second.now result }
+    // Too many are told so.
+    ensures memory { IsErrOf result SetFault.OutOfMemory → length (product first.now second.now) ≤ tuples_limit }
 {
     if first.len() * second.len() > TUPLES_LIMIT {
         return Err(SetFault::TooMany);

@@ -1,4 +1,5 @@
-ghost use Rattle.std.specs.Prelude.{◌≡◌, ◌<◌};
+ghost use Rattle.std.specs.Prelude.{◌≡◌, ◌<◌, ◌≤◌, length, IsErrOf};
+ghost use Rattle.net_sets.specs.Limits.{tuples_limit};
 ghost use Rattle.net_sets.specs.Made.{IsMade};
 ghost use Rattle.net_sets.specs.Ranges.{IsRange, in_range, number_at, range, range_size, singles, way_on};
 
@@ -64,7 +65,9 @@ impl Range {
 
     /// The numbers as a set, each alone in a tuple. `TooMany` comes before one is made.
     pub fn listed<'s>(&self, alloc: Global) -> Result<TupleSet<'s>, SetFault>
-        ensures { IsMade (singles (range self.now.first self.now.last self.now.by)) result }
+        ensures value { IsMade (singles (range self.now.first self.now.last self.now.by)) result }
+        // Too many are told so.
+        ensures memory { IsErrOf result SetFault.OutOfMemory → length (singles (range self.now.first self.now.last self.now.by)) ≤ tuples_limit }
     {
         let size = self.len();
         if size > TUPLES_LIMIT as u64 {

@@ -1,4 +1,4 @@
-ghost use Rattle.std.specs.Prelude.{◌≡◌, ◌<◌, ◌≤◌, ◌++◌, ◌∷◌, [], List, Some, false, if◌then◌else◌, length, slice_get, IfOk, OnOk, OnErr};
+ghost use Rattle.std.specs.Prelude.{◌≡◌, ◌<◌, ◌≤◌, ◌++◌, ◌∷◌, [], List, Some, false, if◌then◌else◌, length, slice_get, IfOk, OnOk, OnErr, IsErrOf};
 ghost use Rattle.std.specs.Option.{option_copied};
 ghost use Rattle.std.specs.Ordering.{is_eq};
 ghost use Rattle.std.specs.List.{IsDistinct};
@@ -136,6 +136,8 @@ impl<'s> TupleSet<'s> {
         ensures ok { OnOk result (self.new ≡ added self.old tuple.entry) }
         ensures err { OnErr result (self.new ≡ self.old) }
         ensures made { IsMade (added self.old tuple.entry) (with_set result self.new) }
+        // A set that would be too large is told so.
+        ensures memory { IsErrOf result SetFault.OutOfMemory → length (added self.old tuple.entry) ≤ tuples_limit }
     {
         let has_room = self.len() < TUPLES_LIMIT;
         if self.contains(&tuple) {

@@ -1,9 +1,10 @@
 //! Walks through the tuples of a set, all of them or those with a member at one component.
-ghost use Rattle.std.specs.Prelude.{◌≡◌, ◌<◌, ◌+◌, [], true, filter, get_or, length};
+ghost use Rattle.std.specs.Prelude.{◌≡◌, ◌<◌, ◌+◌, [], true, drop, filter, get_or, length, slice_get};
 ghost use Rattle.std.specs.Option.{option_copied};
 ghost use Rattle.net_sets.specs.Components.{agrees, next_place};
-ghost use Rattle.net_sets.specs.Ways.{before, next_on, passes, IsOf};
+ghost use Rattle.net_sets.specs.Ways.{next_on, passes, IsOf};
 
+use crate::held::Held;
 use crate::indexed_set::IndexedSet;
 use crate::member::Member;
 use crate::tuple::Tuple;
@@ -19,24 +20,24 @@ pub(crate) enum Way<'a, 's> {
     Indexed(&'a IndexedSet<'s>, usize, Member<'s>),
 }
 
-/// The tuples that are still to come, in the order of the set.
+/// The tuples of a set that are still to come, in the order of the set, which the walk has with it.
 #[derive(Drop)]
-pub struct Walk<'a, 's> {
-    tuples: &'a [Tuple<'s>],
-    way: Way<'a, 's>,
+pub struct Walk<'w, 's> {
+    set: Held<'w, 's>,
+    way: Way<'w, 's>,
     next: Option<usize>,
 }
 
-impl<'a, 's> Model for Walk<'a, 's> {
+impl<'w, 's> Model for Walk<'w, 's> {
     ghost use Rattle.std.specs.Prelude.{List};
     ghost use Rattle.net_sets.specs.declared.member.Member.{Member};
     ghost use Rattle.net_sets.specs.Ways.{IsWalk, to_come};
 
     ghost Value = { List (List Member) };
 
-    ghost view = { λ w. to_come w.way w.tuples.now w.next };
+    ghost view = { λ w. to_come w.way w.set w.next };
 
-    ghost invariant = { λ w. IsWalk w.way w.tuples.now w.next };
+    ghost invariant = { λ w. IsWalk w.way w.set w.next };
 }
 
 fn is_alike<'s>(component: usize, member: &Member<'s>, tuple: &Tuple<'s>) -> bool
@@ -103,26 +104,38 @@ impl<'a, 's> Way<'a, 's> {
     }
 }
 
-impl<'a, 's> Walk<'a, 's> {
+impl<'w, 's> Walk<'w, 's> {
     /// From the first on.
-    pub(crate) fn new(tuples: &'a [Tuple<'s>], way: Way<'a, 's>) -> Walk<'a, 's>
-        requires { IsOf way tuples.now }
-        ensures { result ≡ filter (passes way.entry) tuples.entry.now }
+    pub(crate) fn new(set: Held<'w, 's>, way: Way<'w, 's>) -> Walk<'w, 's>
+        requires { IsOf way set }
+        ensures { result ≡ filter (passes way.entry) set.entry }
     {
-        let next = way.first(tuples);
-        Walk { tuples, way, next }
+        let next = way.first(set.get().as_slice());
+        Walk { set, way, next }
     }
 
-    /// The next tuple.
-    pub fn next(&mut self) -> Option<&'a Tuple<'s>>
-        ensures { self.old ≡ before (option_copied result) self.new }
+    /// The next tuple, which is still to come; none at the end.
+    pub fn first(&self) -> Option<&Tuple<'s>>
+        ensures { option_copied result ≡ slice_get self.now 0 }
     {
         match self.next {
             None => None,
             Some(place) => {
-                let tuples = self.tuples;
-                self.next = self.way.after(place, tuples);
+                let tuples = self.set.get().as_slice();
                 Some(&tuples[place])
+            }
+        }
+    }
+
+    /// Goes past the next tuple, if there is one.
+    pub fn pass(&mut self)
+        ensures { self.new ≡ drop 1 self.old }
+    {
+        match self.next {
+            None => {}
+            Some(place) => {
+                let tuples = self.set.get().as_slice();
+                self.next = self.way.after(place, tuples);
             }
         }
     }

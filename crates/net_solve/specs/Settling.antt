@@ -1,9 +1,11 @@
 -- What it means that a problem is settled.
-use Rattle.std.specs.Prelude.{◌≡◌, ◌⊎◌, ℤ, ◌≤ℤ◌, List, Option, Some, None}
+use Rattle.std.specs.Prelude.{◌≡◌, ◌⊎◌, ℕ, ℤ, ◌≤ℤ◌, List, Option, Some, None}
 use Rattle.net_normal.specs.Flows.{IsFeasibleFlow, cost_of}
 use Rattle.net_normal.specs.declared.problem.Problem.{Problem}
 use Rattle.net_check.specs.Certificates.{IsOptimal, IsViolatedCut}
 use Rattle.net_growth.specs.Bounds.{HasSmallPotentials}
+use Rattle.net_scaling.specs.ScalingRuns.{IsScalingRun}
+use Rattle.net_scaling.specs.declared.scaling.ScalingRun.{ScalingRun}
 use Rattle.net_check.specs.declared.certificate.Certificate.{Certificate}
 use Rattle.net_check.specs.declared.certificate.Certificate.TheVariants as certificates
 use Rattle.net_solve.specs.declared.settled.Settled.{Settled}
@@ -38,6 +40,10 @@ settled_by (certificates.Cut flags side) = Cut flags side
 abbrev pub IsSmallAnswer : Problem → Option Certificate → Type 0
 IsSmallAnswer problem None = ⊥
 IsSmallAnswer problem (Some certificate) = HasSmallPotentials problem certificate
+
+-- the answer of a run of cost scaling with this budget
+abbrev pub IsRunAnswer : Problem → ℕ → Option Certificate → Type 0
+IsRunAnswer problem budget answer = (run : ScalingRun) × IsScalingRun problem budget run × (run.answer ≡ answer)
 
 -- of a solver that may answer this: what is settled is its answer; or it had none to give, and the potentials are small
 abbrev pub IsOwnAnswer : Problem → (Option Certificate → Type 0) → Settled → Type 0

@@ -7,6 +7,7 @@ ghost use Rattle.net_solve.specs.Settling.{IsSettledBy, BoundsEachFlow, LeavesNo
 use crate::settled::Settled;
 use crate::solver::{Plain, Solver};
 use net_check::{Certificate, least_cost, no_flow};
+use net_guess::find_guess;
 use net_normal::Problem;
 use std::alloc::{AllocError, Global};
 
@@ -23,16 +24,18 @@ fn settled(problem: &Problem, certificate: Certificate) -> Settled
     Settled::by(certificate)
 }
 
-/// Settles a problem by the solver that is given, and by `Plain` where that answers none. The one error is want of memory.
+/// Settles a problem by the solver that is given, and by `Plain` where that answers none; both follow one guess. The one error is want of
+/// memory.
 pub fn solve<S: Solver>(alloc: Global, solver: &S, problem: &Problem) -> Result<Settled, AllocError>
     ensures certificate { IfOk result (IsSettledBy problem.now) }
     ensures optimal { IfOk result (BoundsEachFlow problem.now) }
     ensures cut { IfOk result (LeavesNoFlow problem.now) }
     ensures asked { IfOk result (IsOwnAnswer problem.now (S.may_answer solver.now problem.now)) }
 {
-    if let Some(certificate) = solver.answer(alloc, problem)? {
+    let guess = find_guess(alloc, problem)?;
+    if let Some(certificate) = solver.answer_from(alloc, problem, &guess)? {
         return Ok(settled(problem, certificate));
     }
-    let certificate = Plain.certificate(alloc, problem)?;
+    let certificate = Plain.certificate(alloc, problem, &guess)?;
     Ok(settled(problem, certificate))
 }

@@ -1,10 +1,11 @@
 -- The command line: which words ask for what, in clap's own terms of a simple command.
-use Rattle.std.specs.Prelude.{◌≡◌, ◌∷◌, [], List, ℕ, Option, None, Some, map, codes, true, false, string_bytes, option_map, slice_get, unwrap_or}
-use Rattle.std.specs.Option.{option_copied}
+use Rattle.std.specs.Prelude.{◌≡◌, ◌∷◌, [], List, ℕ, Bool, Option, None, Some, map, codes, true, false, string_bytes, option_map, slice_get, unwrap_or}
+use Rattle.std.specs.Option.{option_copied, option_map_or}
+use Rattle.std.specs.Str.{bytes_eq}
 use Rattle.clap.specs.Words.{App, Row, Rule, Text, app_of, first_of, new_app, new_rule, subcommand_of, with_rule, with_subcommand}
 use Rattle.clap.specs.declared.builder.command.Command.{Command}
 use Rattle.clap.specs.declared.builder.command.Command.TheViews.{out-Command}
-use Rattle.clap.specs.declared.builder.ArgAction.TheVariants.{Set}
+use Rattle.clap.specs.declared.builder.ArgAction.TheVariants.{Set, SetTrue}
 use Rattle.netflow.specs.declared.words.Action.{Action}
 use Rattle.netflow.specs.declared.words.Action.TheVariants.{Compile, Solve, Min, Check}
 use Rattle.netflow.specs.declared.words.Words.{Words}
@@ -19,8 +20,12 @@ path_rule name = record (new_rule name) { required = true; action = Some Set }
 abbrev pub objective_rule : Rule
 objective_rule = record (new_rule (codes "NAME")) { long = Some (codes "objective"); action = Some Set }
 
+-- `--lean`, which has no value
+abbrev pub lean_rule : Rule
+lean_rule = record (new_rule (codes "lean")) { long = Some (codes "lean"); action = Some SetTrue }
+
 abbrev pub model_app : Text → App
-model_app name = with_rule (with_rule (with_rule (new_app name) (path_rule (codes "MODEL"))) (path_rule (codes "DATA"))) objective_rule
+model_app name = with_rule (with_rule (with_rule (with_rule (new_app name) (path_rule (codes "MODEL"))) (path_rule (codes "DATA"))) objective_rule) lean_rule
 
 abbrev pub compile_app : App
 compile_app = model_app (codes "compile")
@@ -62,32 +67,41 @@ IsApp app command = (app_of command ≡ app) × ((out-Command command).has_globa
 abbrev pub given : List Row → Text → Text
 given rows name = unwrap_or (first_of name rows) []
 
--- the objective that was given to a command that takes one
-abbrev pub asked_objective : Action → List Row → Text
-asked_objective Compile rows = given rows (codes "NAME")
-asked_objective Solve rows = given rows (codes "NAME")
-asked_objective Min rows = []
-asked_objective Check rows = []
+-- the name that was given with `--objective`, if one was, to a command that takes one; an empty name is a name
+abbrev pub asked_objective : Action → List Row → Option Text
+asked_objective Compile rows = first_of (codes "NAME") rows
+asked_objective Solve rows = first_of (codes "NAME") rows
+asked_objective Min rows = None
+asked_objective Check rows = None
+
+-- the flag was given: clap's value of it is `true`
+abbrev pub is_set : List Row → Text → Bool
+is_set rows name = option_map_or (λ value. bytes_eq value (codes "true")) (first_of name rows) false
+
+-- the lean form was asked for, of a command that takes the flag
+abbrev pub asked_lean : Action → List Row → Bool
+asked_lean Compile rows = is_set rows (codes "lean")
+asked_lean Solve rows = is_set rows (codes "lean")
+asked_lean Min rows = false
+asked_lean Check rows = false
 
 -- the subcommand that clap reads in these words, and the values that it has for its paths, in order
 pub record IsAskedBy (words : List Text) (asked : Words) : Type 0 where
   pub rows : List Row
   pub subcommand : subcommand_of netflow_app words ≡ Some (action_word asked.command, rows)
   pub paths : map string_bytes asked.paths.items ≡ map (given rows) (path_names asked.command)
-  pub objective : string_bytes asked.objective ≡ asked_objective asked.command rows
+  pub objective : option_map string_bytes asked.objective ≡ asked_objective asked.command rows
+  pub lean : asked.lean ≡ asked_lean asked.command rows
 
 -- the path at this place
 abbrev pub path_at : Words → ℕ → Text
 path_at asked at = unwrap_or (option_map string_bytes (slice_get asked.paths.items at)) []
 
--- no objective where no name was given
-abbrev pub objective_in : Text → Option Text
-objective_in [] = None
-objective_in (byte ∷ bytes) = Some (byte ∷ bytes)
-
 -- the call of the words' command, on their paths in order
 abbrev pub IsCallOf : Words → Call → Type 0
-IsCallOf asked (calls.Compile model other objective) = (asked.command ≡ Compile) × (model.now ≡ path_at asked 0) × (other.now ≡ path_at asked 1) × (option_copied objective ≡ objective_in (string_bytes asked.objective))
-IsCallOf asked (calls.Solve model other objective) = (asked.command ≡ Solve) × (model.now ≡ path_at asked 0) × (other.now ≡ path_at asked 1) × (option_copied objective ≡ objective_in (string_bytes asked.objective))
+IsCallOf asked (calls.Compile model other options) =
+    (asked.command ≡ Compile) × (model.now ≡ path_at asked 0) × (other.now ≡ path_at asked 1) × (options.lean ≡ asked.lean) × (option_copied options.objective ≡ option_map string_bytes asked.objective)
+IsCallOf asked (calls.Solve model other options) =
+    (asked.command ≡ Solve) × (model.now ≡ path_at asked 0) × (other.now ≡ path_at asked 1) × (options.lean ≡ asked.lean) × (option_copied options.objective ≡ option_map string_bytes asked.objective)
 IsCallOf asked (calls.Min problem) = (asked.command ≡ Min) × (problem.now ≡ path_at asked 0)
 IsCallOf asked (calls.Check problem certificate) = (asked.command ≡ Check) × (problem.now ≡ path_at asked 0) × (certificate.now ≡ path_at asked 1)

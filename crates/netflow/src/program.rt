@@ -15,7 +15,7 @@ fn compile_files<R: Runtime + AllocGlobal>(
     rt: &R,
     model: &str,
     data: &str,
-    objective: Option<&str>,
+    options: Options<'_>,
 ) -> Result<Ending, Fault> {
     let Ok(model) = fs::open(rt, model) else {
         return Err(Fault::Unread(TextName::Model));
@@ -26,13 +26,7 @@ fn compile_files<R: Runtime + AllocGlobal>(
     let mut model = OfRead::new(model);
     let mut data = OfRead::new(data);
     let mut output = OfWrite::new(io::writer(rt));
-    run_compile_with(
-        rt.alloc(),
-        Options { objective },
-        &mut model,
-        &mut data,
-        &mut output,
-    )?;
+    run_compile_with(rt.alloc(), options, &mut model, &mut data, &mut output)?;
     Ok(Ending::Done)
 }
 
@@ -40,7 +34,7 @@ fn solve_files<R: Runtime + AllocGlobal>(
     rt: &R,
     model: &str,
     data: &str,
-    objective: Option<&str>,
+    options: Options<'_>,
 ) -> Result<Ending, Fault> {
     let Ok(model) = fs::open(rt, model) else {
         return Err(Fault::Unread(TextName::Model));
@@ -51,13 +45,7 @@ fn solve_files<R: Runtime + AllocGlobal>(
     let mut model = OfRead::new(model);
     let mut data = OfRead::new(data);
     let mut output = OfWrite::new(io::writer(rt));
-    run_solve_with(
-        rt.alloc(),
-        Options { objective },
-        &mut model,
-        &mut data,
-        &mut output,
-    )
+    run_solve_with(rt.alloc(), options, &mut model, &mut data, &mut output)
 }
 
 fn min_file<R: Runtime + AllocGlobal>(rt: &R, problem: &str) -> Result<Ending, Fault> {
@@ -89,8 +77,8 @@ fn check_files<R: Runtime + AllocGlobal>(
 /// Runs a call on its files.
 fn run_call<R: Runtime + AllocGlobal>(rt: &R, call: Call<'_>) -> Result<Ending, Fault> {
     match call {
-        Call::Compile(model, data, objective) => compile_files(rt, model, data, objective),
-        Call::Solve(model, data, objective) => solve_files(rt, model, data, objective),
+        Call::Compile(model, data, options) => compile_files(rt, model, data, options),
+        Call::Solve(model, data, options) => solve_files(rt, model, data, options),
         Call::Min(problem) => min_file(rt, problem),
         Call::Check(problem, certificate) => check_files(rt, problem, certificate),
     }

@@ -1,10 +1,10 @@
 //! The command line. This file alone knows clap.
 
-ghost use Rattle.std.specs.Prelude.{◌≡◌, false, [], ◌∷◌, map, string_bytes, codes, IfOk, IfSome};
-ghost use Rattle.clap.specs.Words.{App, rule_of, with_subcommand};
+ghost use Rattle.std.specs.Prelude.{◌≡◌, false, [], ◌∷◌, map, option_map, string_bytes, codes, IfOk, IfSome};
+ghost use Rattle.clap.specs.Words.{App, first_of, rule_of, with_subcommand};
 ghost use Rattle.clap.specs.Matches.{found_of};
 ghost use Rattle.clap.specs.Walk.{rows_of};
-ghost use Rattle.netflow.specs.CommandLine.{path_rule, objective_rule, solve_app, compile_app, min_app, check_app, netflow_app, bare_app, action_word, path_names, asked_objective, given, IsApp, IsAskedBy};
+ghost use Rattle.netflow.specs.CommandLine.{path_rule, objective_rule, lean_rule, solve_app, compile_app, min_app, check_app, netflow_app, bare_app, action_word, path_names, asked_objective, asked_lean, is_set, given, IsApp, IsAskedBy};
 
 use clap::error::ErrorKind;
 use clap::{Arg, ArgAction, ArgMatches, Command, Error};
@@ -29,8 +29,10 @@ pub struct Words {
     pub command: Action,
     /// The paths, in order.
     pub paths: Vec<String>,
-    /// The name of the objective; empty where none was given.
-    pub objective: String,
+    /// The name that stands behind `--objective`, also an empty one; none where it was left out.
+    pub objective: Option<String>,
+    /// Whether the lean form of the problem is asked for.
+    pub lean: bool,
 }
 
 /// Why words ask for nothing that is there.
@@ -72,7 +74,8 @@ const COMPILE_HELP: &str = "The text begins with comment lines that say what eac
 
 Example:
   netflow compile transport.mod transport.dat > transport.min
-  netflow compile transport.mod /dev/null";
+  netflow compile transport.mod /dev/null
+  netflow compile transport.mod transport.dat --lean > transport.min";
 
 const SOLVE_ABOUT: &str = "Solves a model and writes its plan, or why there is none";
 
@@ -122,6 +125,17 @@ fn objective<'a>(alloc: Global) -> Arg<'a>
         .help("The objective, where the model has several")
 }
 
+/// The flag that asks for the lean form.
+fn lean<'a>(alloc: Global) -> Arg<'a>
+    ensures rule { rule_of result ≡ lean_rule }
+    ensures local { result.global ≡ false }
+{
+    Arg::new(alloc, "lean")
+        .long("lean")
+        .action(ArgAction::SetTrue)
+        .help("No lower bounds, and no arcs of equal bounds, in the problem")
+}
+
 fn compile_command<'a>(alloc: Global) -> Result<Command<'a>, AllocError>
     ensures { IfOk result (IsApp compile_app) }
 {
@@ -134,7 +148,8 @@ fn compile_command<'a>(alloc: Global) -> Result<Command<'a>, AllocError>
             "DATA",
             "The model's data; /dev/null where it has none",
         ))?
-        .arg(objective(alloc))
+        .arg(objective(alloc))?
+        .arg(lean(alloc))
 }
 
 fn solve_command<'a>(alloc: Global) -> Result<Command<'a>, AllocError>
@@ -149,7 +164,8 @@ fn solve_command<'a>(alloc: Global) -> Result<Command<'a>, AllocError>
             "DATA",
             "The model's data; /dev/null where it has none",
         ))?
-        .arg(objective(alloc))
+        .arg(objective(alloc))?
+        .arg(lean(alloc))
 }
 
 fn min_command<'a>(alloc: Global) -> Result<Command<'a>, AllocError>
@@ -269,17 +285,49 @@ fn paths_of(
     }
 }
 
-/// The name of the objective of an action that takes one; empty where none was given.
+/// The name that was given with `--objective`.
+#[tactic(auto, using(crate::proofs::Rows::first_given))]
+fn name_of(alloc: Global, matches: &ArgMatches<'_>) -> Result<Option<String>, AllocError>
+    ensures { IfOk result (λ name. option_map string_bytes name ≡ first_of (codes "NAME") (rows_of (found_of matches.now))) }
+{
+    match matches.get_str("NAME") {
+        None => Ok(None),
+        Some(name) => Ok(Some(String::from_str(alloc, name)?)),
+    }
+}
+
+/// The name of the objective of an action that takes one.
 fn objective_of(
     alloc: Global,
     action: Action,
     matches: &ArgMatches<'_>,
-) -> Result<String, AllocError>
-    ensures { IfOk result (λ name. string_bytes name ≡ asked_objective action (rows_of (found_of matches.now))) }
+) -> Result<Option<String>, AllocError>
+    ensures { IfOk result (λ name. option_map string_bytes name ≡ asked_objective action (rows_of (found_of matches.now))) }
 {
     match action {
-        Action::Compile | Action::Solve => path_of(alloc, matches, "NAME"),
-        Action::Min | Action::Check => Ok(String::new(alloc)),
+        Action::Compile | Action::Solve => name_of(alloc, matches),
+        Action::Min | Action::Check => Ok(None),
+    }
+}
+
+/// Whether a flag is set; one that is left out has no value, or `false`.
+#[tactic(auto, using(crate::proofs::Rows::first_given))]
+fn flag_of(matches: &ArgMatches<'_>, name: &str) -> bool
+    ensures { result ≡ is_set (rows_of (found_of matches.now)) name.now }
+{
+    match matches.get_str(name) {
+        Some(value) => value == "true",
+        None => false,
+    }
+}
+
+/// Whether the lean form is asked for, of an action that has two.
+fn lean_of(action: Action, matches: &ArgMatches<'_>) -> bool
+    ensures { result ≡ asked_lean action (rows_of (found_of matches.now)) }
+{
+    match action {
+        Action::Compile | Action::Solve => flag_of(matches, "lean"),
+        Action::Min | Action::Check => false,
     }
 }
 
@@ -304,9 +352,11 @@ pub fn words_of(alloc: Global, words: &[String]) -> Result<Words, WordsFault>
     };
     let paths = paths_of(alloc, command, found)?;
     let objective = objective_of(alloc, command, found)?;
+    let lean = lean_of(command, found);
     Ok(Words {
         command,
         paths,
         objective,
+        lean,
     })
 }

@@ -1,4 +1,5 @@
-use Rattle.std.proofs.Common.{◌≡◌, ◌*◌, ◌^◌, ◌∷◌, false, rules, refl, Ok, length, take, ◌-◌, sym, ap, ◌∙◌, ◌+◌, drop, arith}
+use Rattle.std.specs.Option.{option_copied}
+use Rattle.std.proofs.Common.{◌≡◌, ◌*◌, ◌^◌, ◌∷◌, ◌++◌, [], false, rules, refl, Ok, length, take, ◌-◌, sym, subst, ap, ◌∙◌, ◌+◌, drop, arith}
 use Rattle.std.proofs.lemmas.Grind.{common_steps}
 use Rattle.std.proofs.lemmas.Result.{err_from_is_err_and}
 use Rattle.net_tree.specs.declared.expr.Series.{out-Series}
@@ -6,13 +7,15 @@ use Rattle.net_tree.specs.View.{tree, links_of, braces_of, option_part}
 use Rattle.net_tree.proofs.Views.{views}
 use Rattle.net_tree.specs.Spans.{span_of}
 use Rattle.net_eval.specs.Outcomes.{and_then}
-use Rattle.net_eval.specs.Rows.{fitted, fitted_alone, reduce, reduced_to, kept, keys}
-use Rattle.net_eval.specs.Values.{value, values, index, walk, places, holds, with_sign}
+use Rattle.net_eval.specs.Rows.{fitted, fitted_alone, reduce, reduced_to, keys}
+use Rattle.net_eval.specs.Values.{value, values, index, places, holds, with_sign}
 use Rattle.net_tree.specs.Tree.{link}
 use Rattle.net_tree.specs.Weights.{weights}
 use Rattle.net_eval.specs.Walks.{by_sides, index_items, component_places}
 use Rattle.net_eval.proofs.Cases.{in_indexed, in_parens, in_tuple, in_negated, in_signed, in_reduced, in_chain, in_choice, in_filled}
-use Rattle.net_eval.proofs.Walking.{answers_by, is_tuple, value-indexed, value-tuple, value-negated, value-signed, value-reduced, value-chain, value-choice, index-filled, left-tuple, left-other, place-sides, link_lighter, stops, goes, leaves_by, leaves_answers, from_start, ok_same, split_first, rest_first, walk-step, chained-left, values-left, kept-left, gathered-left, if_some_by, unconditioned}
+use Rattle.net_eval.proofs.Walking.{answers_by, is_tuple, value-indexed, value-tuple, value-negated, value-signed, value-reduced, value-chain, value-choice, index-filled, left-tuple, left-other, place-sides, link_lighter, stops, goes, leaves_answers, from_start, ok_same, split_first, rest_first, chained-left, values-left, kept-left, gathered-left, if_some_by, unconditioned}
+use Rattle.net_eval.specs.Frames.{weight_of}
+use Rattle.net_eval.proofs.Framing.{AreLight, none_to_come, one_to_come, no_frames, light_last, light_apart, lighter_still, behind_first, entering_stops, entering_leads, entering_lighter, entering_steps, ended, gives_way, led, to_item, fault_of_place, way_shorter, item_shorter}
 use Rattle.net_eval.proofs.Passing.{selected_from}
 use Rattle.net_eval.proofs.+eval.Goals as goal
 
@@ -106,18 +109,88 @@ eval::evaluate_more-loop-link-preserved t c =
     (values-left c.args.seen.now c.args.scope.now c.args.more.now c.loop-link.link-index c.link-item.result c.loop-link.found.items _ c.loop-link-test.true c.link-item.is c.loop-link.invariant)
     c.in_ok-value.ensures)
 
-pub keys::collect-returns-in_err-through : goal.keys::collect-returns-in_err-through
-keys::collect-returns-in_err-through t c =
-    let y = err_from_is_err_and c.from_residual-in_err-through.result c.from_residual-in_err-through.ensures.1 in
+pub keys::onward-entered-requires : goal.keys::onward-entered-requires
+keys::onward-entered-requires t c = omega (arith, ap weights (rest_first c.args.items.now c.link-item.result c.in-len1-up.len_at_least c.link-item.is))
+
+pub keys::onward-returns-in_err-frame-in-len1-up-clause-leads : goal.keys::onward-returns-in_err-frame-in-len1-up-clause-leads
+keys::onward-returns-in_err-frame-in-len1-up-clause-leads t c =
+    let y = err_from_is_err_and c.from_residual-in_err-frame-in-len1-up.result c.from_residual-in_err-frame-in-len1-up.ensures.1 in
     rw y.1 (rw y.2
-    (leaves_answers _ _ c.in_err-through.field-0.0 _
-    (from_start c.args.at c.args.seen.now (tree c.args.item.now) (links_of c.args.more.now) c.args.scope.now c.in_ok-place.place c.args.tuples _ (ok_same _ _ _ _ refl refl c.in_ok-place.ensures) c.new-found.ensures.items)
-    c.in_err-through.ensures))
+    (entering_stops c.args.at c.args.seen.now c.args.items.now c.link-item.result c.args.place c.in-Some.place c.args.found.now.items _ c.in_err-frame-in-len1-up.field-0.0 c.in-Some.is c.in-len1-up.len_at_least c.link-item.is c.in_err-frame-in-len1-up.ensures))
+
+pub keys::onward-returns-in_ok-frame-in-len1-up-clause-leads : goal.keys::onward-returns-in_ok-frame-in-len1-up-clause-leads
+keys::onward-returns-in_ok-frame-in-len1-up-clause-leads t c =
+    entering_leads c.args.at c.args.seen.now c.args.items.now c.link-item.result c.args.place c.in-Some.place c.args.found.now.items _ c.in_ok-frame-in-len1-up.frame c.in-Some.is c.in-len1-up.len_at_least c.link-item.is (λ ts. refl) c.in_ok-frame-in-len1-up.ensures
+
+pub keys::onward-returns-in_ok-frame-in-len1-up-clause-lighter : goal.keys::onward-returns-in_ok-frame-in-len1-up-clause-lighter
+keys::onward-returns-in_ok-frame-in-len1-up-clause-lighter t c =
+    entering_lighter c.args.at c.args.seen.now c.args.items.now c.link-item.result c.in-Some.place _ c.in_ok-frame-in-len1-up.frame c.in-len1-up.len_at_least c.link-item.is (λ ts. refl) c.in_ok-frame-in-len1-up.ensures
+
+pub keys::onward-returns-in_ok-frame-in-len1-up-clause-steps : goal.keys::onward-returns-in_ok-frame-in-len1-up-clause-steps
+keys::onward-returns-in_ok-frame-in-len1-up-clause-steps t c =
+    entering_steps c.args.at c.args.seen.now c.args.items.now c.link-item.result c.args.place c.in-Some.place _ c.in_ok-frame-in-len1-up.frame c.in-Some.is c.in-len1-up.len_at_least c.link-item.is (λ ts. refl) c.in_ok-frame-in-len1-up.ensures
+
+pub keys::walk-returns-in-None-pop : goal.keys::walk-returns-in-None-pop
+keys::walk-returns-in-None-pop t c =
+    ended c.args.at c.args.seen.now c.tuples.top c.tuples.below.items c.tuples.found.items _ c.tuples.invariant.same
+    (none_to_come c.tuples.top.left _ c.first.ensures (ap option_copied c.in-None.is))
+    (no_frames c.tuples.below.items (sym c.tuples.below.ok.0 ∙ c.in-None-pop.ensures.cases.0))
+
+pub keys::walk-tuples-smaller-in-Some-pop : goal.keys::walk-tuples-smaller-in-Some-pop
+keys::walk-tuples-smaller-in-Some-pop t c =
+    way_shorter c.args.at c.args.seen.now c.tuples.top c.in-Some-pop.frame c.tuples.below.items c.pop.new.self.items
+    (none_to_come c.tuples.top.left _ c.first.ensures (ap option_copied c.in-None.is))
+    c.in-Some-pop.ensures.items
+
+pub keys::walk-tuples-preserved-in-Some-pop : goal.keys::walk-tuples-preserved-in-Some-pop
+keys::walk-tuples-preserved-in-Some-pop t c =
+    let apart = light_apart (weight_of c.args.first) c.pop.new.self.items c.in-Some-pop.frame (subst (AreLight (weight_of c.args.first)) c.in-Some-pop.ensures.items c.tuples.invariant.below) in
+    record {
+      same = gives_way c.args.at c.args.seen.now c.tuples.top c.in-Some-pop.frame c.tuples.below.items c.pop.new.self.items c.tuples.found.items _ c.tuples.invariant.same (none_to_come c.tuples.top.left _ c.first.ensures (ap option_copied c.in-None.is)) c.in-Some-pop.ensures.items;
+      light = apart.1;
+      below = apart.0;
+    }
+
+pub keys::walk-returns-in_err-next-in-Some : goal.keys::walk-returns-in_err-next-in-Some
+keys::walk-returns-in_err-next-in-Some t c =
+    let y = err_from_is_err_and c.from_residual.result c.from_residual.ensures.1 in
+    rw y.1 (rw y.2
+    (fault_of_place c.args.at c.args.seen.now c.tuples.top c.in-Some.tuple.now c.tuples.below.items c.tuples.found.items _ _ c.in_err-next-in-Some.field-0.0 c.tuples.invariant.same
+    (one_to_come c.tuples.top.left _ c.in-Some.tuple.now c.first.ensures (ap option_copied c.in-Some.is))
+    c.in_err-next-in-Some.ensures))
+
+pub keys::walk-tuples-smaller : goal.keys::walk-tuples-smaller
+keys::walk-tuples-smaller t c =
+    item_shorter c.args.at c.args.seen.now c.tuples.top c.in-Some-2.deeper c.in-Some.tuple.now c.in_ok-next-in-Some.next c.in_ok-onward-in-Some.field-0 c.tuples.below.items c.push.new.self.items
+    (one_to_come c.tuples.top.left _ c.in-Some.tuple.now c.first.ensures (ap option_copied c.in-Some.is))
+    c.in_ok-next-in-Some.ensures c.in_ok-onward-in-Some.ensures.steps c.in-Some-2.is
+    (c.in_ok-push-in-Some-2.ensures.items ∙ ap (λ left. c.tuples.below.items ++ (record c.tuples.top { left = left }) ∷ []) c.pass.ensures)
+
+pub keys::walk-tuples-preserved : goal.keys::walk-tuples-preserved
+keys::walk-tuples-preserved t c =
+    let pushed = c.in_ok-push-in-Some-2.ensures.items ∙ ap (λ left. c.tuples.below.items ++ (record c.tuples.top { left = left }) ∷ []) c.pass.ensures in
+    record {
+      same = to_item c.args.at c.args.seen.now (behind_first c.tuples.top) c.in-Some-2.deeper _ c.in_ok-onward-in-Some.field-0 c.tuples.below.items c.push.new.self.items c.onward.new.found.items _
+          (led c.args.at c.args.seen.now c.tuples.top c.in-Some.tuple.now c.in_ok-next-in-Some.next c.tuples.below.items c.tuples.found.items _ c.tuples.invariant.same (one_to_come c.tuples.top.left _ c.in-Some.tuple.now c.first.ensures (ap option_copied c.in-Some.is)) c.in_ok-next-in-Some.ensures)
+          c.in_ok-onward-in-Some.ensures.leads c.in-Some-2.is pushed;
+      light = lighter_still (weight_of c.args.first) c.tuples.top c.in-Some-2.deeper c.in_ok-onward-in-Some.field-0 c.tuples.invariant.light c.in_ok-onward-in-Some.ensures.lighter c.in-Some-2.is;
+      below = subst (AreLight (weight_of c.args.first)) (sym pushed) (light_last (weight_of c.args.first) c.tuples.below.items (behind_first c.tuples.top) c.tuples.invariant.below c.tuples.invariant.light);
+    }
+
+pub keys::collect-returns-in_err-walk : goal.keys::collect-returns-in_err-walk
+keys::collect-returns-in_err-walk t c =
+    let y = err_from_is_err_and c.from_residual-in_err-walk.result c.from_residual-in_err-walk.ensures.1 in
+    rw y.1 (rw y.2
+    (leaves_answers _ _ c.in_err-walk.field-0.0 _
+    (from_start c.args.at c.args.seen.now (tree c.args.item.now) (links_of c.args.more.now) c.args.scope.now c.in_ok-place.place c.args.tuples _ (ok_same _ _ _ _ refl refl c.in_ok-place.ensures) c.new-found.ensures.items
+    ∙ sym (selected_from c.args.seen.now (tree c.args.item.now) _ c.in_ok-place.place c.args.tuples c.selected-left.result _ c.selected-left.ensures))
+    c.in_err-walk.ensures))
 
 pub keys::collect-returns : goal.keys::collect-returns
 keys::collect-returns t c =
     from_start c.args.at c.args.seen.now (tree c.args.item.now) (links_of c.args.more.now) c.args.scope.now c.in_ok-place.place c.args.tuples _ (ok_same _ _ _ _ refl refl c.in_ok-place.ensures) c.new-found.ensures.items
-    ∙ c.in_ok-through.ensures ∙ ap Ok (sym c.new.ensures)
+    ∙ sym (selected_from c.args.seen.now (tree c.args.item.now) _ c.in_ok-place.place c.args.tuples c.selected-left.result _ c.selected-left.ensures)
+    ∙ c.in_ok-walk.ensures ∙ ap Ok (sym c.new.ensures)
 
 pub fitting::places-fit_all-requires : goal.fitting::places-fit_all-requires
 fitting::places-fit_all-requires t c = omega (arith, ap weights (rest_first c.args.links.now c.link-item.result c.in-len1-up.len_at_least c.link-item.is))
@@ -130,23 +203,9 @@ fitting::places-returns-in-len1-up-members t c =
     (split_first c.args.members.now c.member-item.result c.in-len1-up-members.len_at_least c.member-item.is))
     c.fit_all.ensures
 
-pub keys::walk-walk_item-requires : goal.keys::walk-walk_item-requires
-keys::walk-walk_item-requires t c = omega (arith, ap weights (rest_first c.args.items.now c.link-item.result c.in-len1-up.len_at_least c.link-item.is))
-
-pub keys::walk-returns-in-len1-up : goal.keys::walk-returns-in-len1-up
-keys::walk-returns-in-len1-up t c =
-    leaves_by _ _ _ _
-    (ap (λ k. walk c.args.at c.args.seen.now k c.args.place c.args.found.now.items) (rest_first c.args.items.now c.link-item.result c.in-len1-up.len_at_least c.link-item.is)
-    ∙ walk-step c.args.at c.args.seen.now c.link-item.result.operator (tree c.link-item.result.operand) (links_of (take (length c.args.items.now - 1) (drop 1 c.args.items.now))) c.args.place c.args.found.now.items)
-    c.walk_item.ensures
-
 pub fitting::place_at-returns-in-Some : goal.fitting::place_at-returns-in-Some
 fitting::place_at-returns-in-Some t c =
     answers_by _ _ _ (place-sides c.args.seen.now (tree c.args.item.now) (tree c.in-Some.left.now) _ c.args.tuple.now c.args.place.now c.in-Some.ensures) c.left_place.ensures
-
-pub keys::through-loop-tuple-init : goal.keys::through-loop-tuple-init
-keys::through-loop-tuple-init t c =
-    selected_from c.args.seen.now (tree c.args.item.now) _ c.args.place c.args.tuples c.selected-left.result c.args.found.now.items c.selected-left.ensures
 
 pub keys::keep-loop-row-preserved : goal.keys::keep-loop-row-preserved
 keys::keep-loop-row-preserved t c =
@@ -268,15 +327,6 @@ keys::keep-loop-row-init t c = grind (arith, common_steps)
 pub keys::keep-returns : goal.keys::keep-returns
 keys::keep-returns t c = grind (arith, common_steps)
 
-pub keys::through-loop-tuple-preserved : goal.keys::through-loop-tuple-preserved
-keys::through-loop-tuple-preserved t c = grind (arith, common_steps)
-
-pub keys::through-returns : goal.keys::through-returns
-keys::through-returns t c = grind (arith, common_steps)
-
-pub keys::through-returns-in_err-onward : goal.keys::through-returns-in_err-onward
-keys::through-returns-in_err-onward t c = grind (arith, common_steps)
-
 pub keys::select-returns : goal.keys::select-returns
 keys::select-returns t c = grind (arith, common_steps)
 
@@ -346,9 +396,6 @@ fitting::places-returns-in-empty t c = grind (arith, common_steps)
 pub keys::index-returns-in-Empty : goal.keys::index-returns-in-Empty
 keys::index-returns-in-Empty t c = grind (arith, views)
 
-pub keys::walk-returns-in-empty : goal.keys::walk-returns-in-empty
-keys::walk-returns-in-empty t c = grind (arith, common_steps)
-
 pub eval::braced-returns : goal.eval::braced-returns
 eval::braced-returns t c = grind (arith)
 
@@ -405,15 +452,6 @@ keys::item_tuples-choose-requires t c = grind (arith)
 
 pub keys::item_tuples-returns-in-Some : goal.keys::item_tuples-returns-in-Some
 keys::item_tuples-returns-in-Some t c = grind (arith)
-
-pub keys::onward-returns-in-Ok-Some : goal.keys::onward-returns-in-Ok-Some
-keys::onward-returns-in-Ok-Some t c = grind (arith)
-
-pub keys::through-loop-tuple-smaller : goal.keys::through-loop-tuple-smaller
-keys::through-loop-tuple-smaller t c = grind (arith)
-
-pub keys::walk_item-returns : goal.keys::walk_item-returns
-keys::walk_item-returns t c = grind (arith)
 
 pub eval::chained-loop-link-smaller : goal.eval::chained-loop-link-smaller
 eval::chained-loop-link-smaller t c = grind (arith)
@@ -481,20 +519,5 @@ keys::keep-loop-row-smaller t c = grind (arith)
 pub keys::keep-offset_bounds-rows-row-index : goal.keys::keep-offset_bounds-rows-row-index
 keys::keep-offset_bounds-rows-row-index t c = grind (arith)
 
-pub keys::onward-returns-in-Err : goal.keys::onward-returns-in-Err
-keys::onward-returns-in-Err t c = grind (arith)
-
-pub keys::onward-returns-in-Ok-None : goal.keys::onward-returns-in-Ok-None
-keys::onward-returns-in-Ok-None t c = grind (arith)
-
 pub keys::select-same-found : goal.keys::select-same-found
 keys::select-same-found t c = grind (arith)
-
-pub keys::walk-bounds-items-0 : goal.keys::walk-bounds-items-0
-keys::walk-bounds-items-0 t c = grind (arith)
-
-pub keys::walk-slice_bounds-rest-count : goal.keys::walk-slice_bounds-rest-count
-keys::walk-slice_bounds-rest-count t c = grind (arith)
-
-pub keys::walk-slice_bounds-rest-start : goal.keys::walk-slice_bounds-rest-start
-keys::walk-slice_bounds-rest-start t c = grind (arith)

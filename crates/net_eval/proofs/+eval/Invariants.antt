@@ -1,10 +1,12 @@
-use Rattle.std.specs.Prelude.{◌≡◌, ◌≤◌, ◌+◌, ◌*◌, ◌^◌, drop, [], ◌∷◌, length, None, IfSome, unsigned_abs}
+use Rattle.std.specs.Prelude.{◌≡◌, ◌≤◌, ◌+◌, ◌*◌, ◌^◌, drop, [], ◌∷◌, None, IfSome, unsigned_abs}
 use Rattle.net_tree.specs.View.{tree, links_of, braces_of, option_part}
 use Rattle.net_tree.specs.Weights.{weight, weights, braces_weight, part_weight}
 use Rattle.net_tree.specs.Spans.{span_of}
-use Rattle.net_eval.specs.Outcomes.{each}
-use Rattle.net_eval.specs.Rows.{onward, kept, gathered_over}
+use Rattle.net_eval.specs.Frames.{still, steps_still, weight_of}
+use Rattle.net_eval.specs.Outcomes.{and_then}
+use Rattle.net_eval.specs.Rows.{kept, gathered_over}
 use Rattle.net_eval.specs.Values as values
+use Rattle.net_eval.proofs.Framing.{still_below, steps_below, AreLight}
 use Rattle.net_eval.proofs.+eval.Given as goal
 
 abbrev pub decreases-eval::evaluate : goal.decreases-eval::evaluate
@@ -70,17 +72,14 @@ decreases-keys::collect l = 12 * (weight (tree l.item.now) + weights (links_of l
 abbrev pub decreases-fitting::fit_all : goal.decreases-fitting::fit_all
 decreases-fitting::fit_all l = 12 * (weight (tree l.component.now) + weights (links_of l.more.now)) + 2
 
-abbrev pub decreases-keys::through : goal.decreases-keys::through
-decreases-keys::through l = 12 * (weight (tree l.item.now) + weights (links_of l.more.now)) + 7
+abbrev pub decreases-keys::walk : goal.decreases-keys::walk
+decreases-keys::walk l = 12 * weight_of l.first + 7
 
 abbrev pub decreases-keys::onward : goal.decreases-keys::onward
-decreases-keys::onward l = 12 * (weight (tree l.item.now) + weights (links_of l.more.now)) + 6
+decreases-keys::onward l = 12 * weights (links_of l.items.now) + 6
 
-abbrev pub decreases-keys::walk : goal.decreases-keys::walk
-decreases-keys::walk l = 12 * weights (links_of l.items.now)
-
-abbrev pub decreases-keys::walk_item : goal.decreases-keys::walk_item
-decreases-keys::walk_item l = 12 * (weight (tree l.item.now) + weights (links_of l.more.now)) + 9
+abbrev pub decreases-keys::entered : goal.decreases-keys::entered
+decreases-keys::entered l = 12 * weight (tree l.item.now) + 3
 
 abbrev pub decreases-keys::item_tuples : goal.decreases-keys::item_tuples
 decreases-keys::item_tuples l = 12 * weight (tree l.item.now) + 2
@@ -124,13 +123,16 @@ abbrev pub invariant-eval::chained-loop-link : goal.invariant-eval::chained-loop
 invariant-eval::chained-loop-link l =
     values.chained (span_of (tree l.fn.whole)) l.fn.seen l.fn.scope (links_of (drop l.link-index l.links)) l.value ≡ values.chained (span_of (tree l.fn.whole)) l.fn.seen l.fn.scope (links_of l.fn.links) l.fn.value
 
-abbrev pub invariant-keys::through-loop-tuple : goal.invariant-keys::through-loop-tuple
-invariant-keys::through-loop-tuple l =
-    each (onward (values.place l.fn.seen (tree l.fn.item)) (values.walk l.fn.at l.fn.seen (links_of l.fn.more)) l.fn.place) l.left l.found.items
-    ≡ each (onward (values.place l.fn.seen (tree l.fn.item)) (values.walk l.fn.at l.fn.seen (links_of l.fn.more)) l.fn.place) l.fn.tuples l.fn.found.items
+-- what the item has still to give, and then those that were left before it, comes to the same as all
+abbrev pub invariant-keys::walk-tuples : goal.invariant-keys::walk-tuples
+invariant-keys::walk-tuples l = record {
+  same : and_then (still l.fn.at l.fn.seen l.top l.found.items) (still_below l.fn.at l.fn.seen l.below.items) ≡ still l.fn.at l.fn.seen l.fn.first l.fn.found.items;
+  light : weight_of l.top ≤ weight_of l.fn.first;
+  below : AreLight (weight_of l.fn.first) l.below.items;
+}
 
-abbrev pub decreases-keys::through-loop-tuple : goal.decreases-keys::through-loop-tuple
-decreases-keys::through-loop-tuple l = length l.left
+abbrev pub decreases-keys::walk-tuples : goal.decreases-keys::walk-tuples
+decreases-keys::walk-tuples l = steps_still l.fn.at l.fn.seen l.top + steps_below l.fn.at l.fn.seen l.below.items
 
 abbrev pub invariant-keys::keep-loop-row : goal.invariant-keys::keep-loop-row
 invariant-keys::keep-loop-row l =

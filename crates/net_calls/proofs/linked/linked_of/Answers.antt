@@ -1,7 +1,9 @@
 use Rattle.std.proofs.Common.{refl, ap, length, arith, ◌++◌}
 use Rattle.net_dimacs.proofs.WriteLaws.{text_is, text_only}
 use Rattle.net_dimacs.specs.Written.{problem_text}
-use Rattle.net_calls.proofs.Counts.{arc_count, number_count}
+use Rattle.net_calls.specs.Made.{profile_of}
+use Rattle.net_normal.proofs.Written.{length-numbers}
+use Rattle.net_calls.proofs.Counts.{arc_count}
 use Rattle.net_calls.proofs.linked.linked_of.Goals as goal
 
 pub returns-in-Err-clause-refused : goal.returns-in-Err-clause-refused
@@ -16,7 +18,7 @@ write_links-requires c =
       arith,
       numbers.ok.0,
       ap length c.in_ok-problem.ensures.value.numbers,
-      number_count 1 n.instance.arcs.items,
+      length-numbers (profile_of c.args.options.lean) 1 n.instance.arcs.items,
       arc_count _ is.network.world is.declarations n c.names_are_declared.ensures.value c.arcs_are_written.ensures.bounds is.network.network,
     )
 

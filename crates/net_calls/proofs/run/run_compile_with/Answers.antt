@@ -9,7 +9,7 @@ returns-in-Ok-clause-ok g c =
     let m = c.in_ok-model_text.model_text.items in
     let d = c.in_ok-data_text.data_text.items in
     let answer = whole c.in_ok-linked.linked in
-    let promise : Headline _ m d answer = search rules in
+    let promise : Headline _ _ m d answer = search rules in
     record {
       answer = answer;
       made = record {
@@ -27,7 +27,7 @@ returns-clause-front g c =
     let m = c.in_ok-model_text.model_text.items in
     let d = c.in_ok-data_text.data_text.items in
     let answer = whole c.in_ok-linked.linked in
-    let promise : Headline _ m d answer = search rules in
+    let promise : Headline _ _ m d answer = search rules in
     λ fault. record {
       answer = answer;
       made = record {

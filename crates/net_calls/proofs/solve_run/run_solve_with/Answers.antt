@@ -7,7 +7,7 @@ pub returns-in-Ok-clause-ok : goal.returns-in-Ok-clause-ok
 returns-in-Ok-clause-ok g c =
     let m = c.in_ok-model_text.model_text.items in
     let d = c.in_ok-data_text.data_text.items in
-    let solved : Answers _ m d c.in_ok-answer.answer = search rules in
+    let solved : Answers _ _ m d c.in_ok-answer.answer = search rules in
     let accepts = solved.compiled.accepts in
     record {
       answer = c.in_ok-answer.answer;
@@ -26,7 +26,7 @@ pub returns-clause-front : goal.returns-clause-front
 returns-clause-front g c =
     let m = c.in_ok-model_text.model_text.items in
     let d = c.in_ok-data_text.data_text.items in
-    let solved : Answers _ m d c.in_ok-answer.answer = search rules in
+    let solved : Answers _ _ m d c.in_ok-answer.answer = search rules in
     let accepts = solved.compiled.accepts in
     λ fault. record {
       answer = c.in_ok-answer.answer;

@@ -17,7 +17,7 @@ returns c =
     let d : SFits w64 c.args.by.now = search rules in
     answers_by _ _ _
     (range_made (span_of (tree c.args.whole.now)) c.args.first.now c.args.last.now c.args.by.now _ _ _ (to_z-of_z w64 c.args.first.now a) (to_z-of_z w64 c.args.last.now b) (to_z-of_z w64 c.args.by.now d))
-    (c.made.ensures _ c.listed.ensures)
+    (c.made.ensures _ c.listed.ensures.value)
 
 pub invariant_of-range : goal.invariant_of-range
 unfolding is_small

@@ -5,7 +5,7 @@ use Rattle.net_normal.proofs.arc_count.count_arc.Goals as goal
 
 pub count_tail-requires-clause-sums : goal.count_tail-requires-clause-sums
 count_tail-requires-clause-sums c =
-    head_sized c.args.arc.now c.args.sums.now.items c.count_head.new.sums.items c.requires.lower c.requires.upper
+    head_sized c.args.profile c.args.arc.now c.args.sums.now.items c.count_head.new.sums.items c.requires.lower c.requires.upper
     (sym c.count_head.new.sums.ok.0 ∙ (c.count_head.ensures.len ∙ c.args.sums.now.ok.0))
     c.requires.sums c.count_head.ensures.value
 

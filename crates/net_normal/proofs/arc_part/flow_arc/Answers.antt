@@ -8,7 +8,7 @@ use Rattle.net_normal.proofs.arc_part.flow_arc.Goals as goal
 pub returns : goal.returns
 returns c =
     let sized = c.offset-offset.ensures.size c.requires.lower in
-    same_arc _ (flow_arc_of c.args.sense c.args.outside c.args.arc.now) c.unwrap_or.ensures c.unwrap_or-2.ensures
+    same_arc _ (flow_arc_of c.args.profile c.args.sense c.args.outside c.args.arc.now) c.unwrap_or.ensures c.unwrap_or-2.ensures
     (omega (arith, ints, c.offset-offset.ensures.value))
     (omega (arith, ints, c.offset-offset.ensures.value))
     (omega (arith, ints, c.cost.ensures))

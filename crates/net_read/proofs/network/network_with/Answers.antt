@@ -1,4 +1,4 @@
-use Rattle.std.proofs.Common.{◌≡◌, List, Ok, Err, subst, arith}
+use Rattle.std.proofs.Common.{List, Err, subst, arith}
 use Rattle.net_tree.specs.View as view
 use Rattle.net_lex.specs.declared.token.Token.{Token}
 use Rattle.net_data.specs.Meaning.{Mean}
@@ -25,7 +25,7 @@ returns-clause-refused c text is =
       tokens = c.in-Ok.tokens.items;
       read = c.in-Ok.ensures.value.ok;
       written = subst (λ (t : List Token). Mean t tables) c.deref.ensures.value told.ok;
-      meant = subst (λ (t : List Token). data_reading.tables t ≡ Ok tables) c.deref.ensures.value told.place;
+      full = told.full;
     } in
     network_stop _ text c.args.data.now (view.model c.args.declared.now) tables c.in-Err-network_of.stop is statements c.in-Err-network_of.ensures.refused
 

@@ -1,6 +1,8 @@
 use Rattle.std.proofs.Common.{List, Err, subst, arith}
 use Rattle.net_lex.specs.declared.token.Token.{Token}
+use Rattle.net_model.specs.Meaning.{Means}
 use Rattle.net_model.specs.Models.{meant, Parses}
+use Rattle.net_tree.specs.View as view
 use Rattle.net_read.proofs.Stops.{model_token, model_parse}
 use Rattle.net_read.proofs.texts.read_model.Goals as goal
 
@@ -17,4 +19,12 @@ pub returns-in-Ok-parse_model-clause-new : goal.returns-in-Ok-parse_model-clause
 returns-in-Ok-parse_model-clause-new c = grind (arith)
 
 pub returns-in-Ok-parse_model-clause-ok : goal.returns-in-Ok-parse_model-clause-ok
-returns-in-Ok-parse_model-clause-ok c = grind (arith)
+returns-in-Ok-parse_model-clause-ok c =
+    let ds = view.model c.in-Ok-parse_model.model in
+    let told = c.in-Ok-parse_model.ensures in
+    record {
+      tokens = c.in-Ok.tokens.items;
+      read = c.in-Ok.ensures.value.ok;
+      means = subst (λ (t : List Token). Means t ds) c.deref.ensures.value told.means;
+      named = c.well_named.ensures.value _ ds told.value;
+    }

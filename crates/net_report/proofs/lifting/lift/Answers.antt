@@ -14,9 +14,6 @@ loop-arc-init c = grind (arith, common_steps)
 pub number_of-requires-clause-offset : goal.number_of-requires-clause-offset
 number_of-requires-clause-offset c = grind (arith, common_steps)
 
-pub number_of-requires-clause-number : goal.number_of-requires-clause-number
-number_of-requires-clause-number c = grind (arith, common_steps)
-
 pub index-requires : goal.index-requires
 index-requires c = grind (arith, common_steps)
 

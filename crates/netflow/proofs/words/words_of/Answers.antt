@@ -10,5 +10,6 @@ returns c = record {
     subcommand = search rules;
     paths = c.in_ok-paths.ensures;
     objective = c.in_ok-objective.ensures;
+    lean = c.lean_of-lean.ensures;
   };
 }

@@ -25,23 +25,14 @@ count_arc-requires-clause-head c = grind (arith, common_steps)
 pub count_arc-requires-clause-sums : goal.count_arc-requires-clause-sums
 count_arc-requires-clause-sums c = grind (arith, common_steps)
 
-pub overflow_cast-len : goal.overflow_cast-len
-overflow_cast-len c = grind (arith, common_steps)
-
 pub count_arc-requires-clause-lower : goal.count_arc-requires-clause-lower
 count_arc-requires-clause-lower c = grind (arith, common_steps)
-
-pub flow_arc-requires-clause-coefficient : goal.flow_arc-requires-clause-coefficient
-flow_arc-requires-clause-coefficient c = grind (arith, common_steps)
 
 pub returns-clause-numbers : goal.returns-clause-numbers
 returns-clause-numbers c = grind (arith, common_steps)
 
 pub count_arc-requires-clause-upper : goal.count_arc-requires-clause-upper
 count_arc-requires-clause-upper c = grind (arith, common_steps)
-
-pub overflow_add-len : goal.overflow_add-len
-overflow_add-len c = grind (arith, common_steps)
 
 pub offset_price-requires-clause-coefficient : goal.offset_price-requires-clause-coefficient
 offset_price-requires-clause-coefficient c = grind (arith, common_steps)
@@ -52,9 +43,6 @@ count_arc-requires-clause-tail c = grind (arith, common_steps)
 pub returns-clause-sums : goal.returns-clause-sums
 returns-clause-sums c = grind (arith, common_steps)
 
-pub flow_arc-requires-clause-upper : goal.flow_arc-requires-clause-upper
-flow_arc-requires-clause-upper c = grind (arith, common_steps)
-
 pub offset_price-requires-clause-offset : goal.offset_price-requires-clause-offset
 offset_price-requires-clause-offset c = grind (arith, common_steps)
 
@@ -63,6 +51,3 @@ returns-clause-arcs c = grind (arith, common_steps)
 
 pub returns-clause-nodes : goal.returns-clause-nodes
 returns-clause-nodes c = grind (arith, common_steps)
-
-pub flow_arc-requires-clause-lower : goal.flow_arc-requires-clause-lower
-flow_arc-requires-clause-lower c = grind (arith, common_steps)

@@ -6,7 +6,7 @@ use Rattle.net_normal.proofs.ArcCounts.{same_sums}
 use Rattle.net_normal.proofs.node_sums.NodeSums.entered.Goals as goal
 
 pub returns : goal.returns
-returns c = same_sums _ (entered c.args.arc.now c.args.self.now) (omega (arith, ints)) (omega (arith, ints)) (omega (arith, ints, c.offset.ensures.value, c.offset.ensures.size c.requires.lower))
+returns c = same_sums _ (entered c.args.profile c.args.arc.now c.args.self.now) (omega (arith, ints)) (omega (arith, ints)) (omega (arith, ints, c.offset.ensures.value, c.offset.ensures.size c.requires.lower))
 
 pub overflow_add-result-2 : goal.overflow_add-result-2
 overflow_add-result-2 c = grind (arith, common_steps)

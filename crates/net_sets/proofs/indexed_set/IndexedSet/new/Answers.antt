@@ -1,6 +1,6 @@
-use Rattle.std.proofs.Common.{subst, sym, ◌∙◌, arith}
+use Rattle.std.proofs.Common.{◌≡◌, ap, subst, sym, ◌∙◌, arith}
 use Rattle.std.proofs.lemmas.Grind.{common_steps}
-use Rattle.net_sets.specs.Components.{IsIndexFrom, AreIndexed}
+use Rattle.net_sets.specs.Components.{IsIndexFrom, AreIndexed, indexed_components}
 use Rattle.net_sets.proofs.Indexed.{none_indexed, one_indexed, all_indexed}
 use Rattle.net_sets.proofs.indexed_set.IndexedSet.new.Goals as goal
 
@@ -18,4 +18,7 @@ loop-component-init c = none_indexed c.args.set _ c.new-components.ensures.items
 
 pub invariant_of-result : goal.invariant_of-result
 invariant_of-result c =
-    subst (λ ts. AreIndexed ts c.narrowest-narrowest.result c.loop-component.components.items) (sym c.shrink_to_fit.ensures) (all_indexed _ _ _ _ c.loop-component.invariant c.narrowest-narrowest.ensures)
+    let end : c.loop-component.component ≡ c.indexed_components-indexed.result = omega arith in
+    let many = end ∙ c.indexed_components-indexed.ensures ∙ ap indexed_components c.widest.ensures.value in
+    subst (λ ts. AreIndexed ts c.narrowest-narrowest.result c.loop-component.components.items) (sym c.shrink_to_fit.ensures)
+    (all_indexed _ _ _ _ c.loop-component.invariant c.narrowest-narrowest.ensures many)

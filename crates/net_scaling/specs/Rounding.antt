@@ -1,0 +1,37 @@
+-- From potentials for multiplied costs to potentials for the costs themselves: of one number more than there are nodes, one is left by no
+-- potential. Counted from there, rounding takes off less than would make a reduced cost negative.
+use Rattle.std.specs.Prelude.{◌≡◌, ◌≢◌, ℕ, ◌+◌, ◌-◌, ◌/◌, ◌%◌, ◌<◌, ◌≤◌, Bool, false, List, length, nat_abs, ℤ, pos, ◌-ℤ◌, ◌≤ℤ◌, slice_index_or}
+
+abbrev pub is_taken : List Bool → ℕ → Bool
+is_taken taken residue = slice_index_or taken residue false
+
+-- no potential's depth leaves this number
+pub record IsFree (potentials : List ℤ) (free : ℕ) : Type 0 where
+  pub inside : free < length potentials + 1
+  pub not_taken : (v : ℕ) → v < length potentials → nat_abs (slice_index_or potentials v (pos 0)) % (length potentials + 1) ≢ free
+
+-- how many whole units a potential lies below 0, where the free number has become the greatest
+abbrev pub level : ℕ → ℕ → ℤ → ℕ
+level factor free x = (nat_abs x + (factor - 1 - free)) / factor
+
+abbrev pub level_at : List ℤ → ℕ → ℕ → ℕ
+level_at potentials free v = level (length potentials + 1) free (slice_index_or potentials v (pos 0))
+
+-- whole potentials are as far from each other as the levels
+pub record IsRounded (potentials whole : List ℤ) : Type 0 where
+  pub free : ℕ
+  pub top : ℕ
+  pub is_free : IsFree potentials free
+  pub count : length whole ≡ length potentials
+  pub each : (v : ℕ) → v < length potentials → slice_index_or whole v (pos 0) ≡ pos top -ℤ pos (level_at potentials free v)
+
+-- no node lies lower
+abbrev pub IsLowest : List ℤ → ℕ → ℕ → Type 0
+IsLowest potentials free lowest = (v : ℕ) → v < length potentials → level_at potentials free v ≤ level_at potentials free lowest
+
+-- the least of them is 0
+pub record AreFromZero (potentials : List ℤ) : Type 0 where
+  pub least : (v : ℕ) → v < length potentials → pos 0 ≤ℤ slice_index_or potentials v (pos 0)
+  pub place : ℕ
+  pub inside : place < length potentials
+  pub none : slice_index_or potentials place (pos 0) ≡ pos 0
