@@ -84,6 +84,7 @@ headline_of lean wanted m d c names ranges bounds objective correspond made =
       has_network = is.network.network;
       names = made.names;
       normal = made.normal;
+      by_number = made.corresponds;
       sizes = sizes_of lean wanted m d c names ranges bounds made;
       objective = aim.0;
       is_chosen = aim.1;

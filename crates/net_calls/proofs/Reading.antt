@@ -2,11 +2,14 @@
 use Rattle.std.proofs.Common.{◌≡◌, ℕ, ◌≤◌, Bool, true, false, nat_lt, if◌then◌else◌, List, length, Result, Ok, Err, refl, inl, inr, arith}
 use Rattle.std.proofs.lemmas.Bool.Decides.{nat_tests}
 use Rattle.net_normal.specs.declared.problem.FlowArc.{FlowArc}
+use Rattle.net_normal.specs.declared.problem.Problem.{Problem}
 use Rattle.net_dimacs.specs.CertificateReading as certificates
 use Rattle.net_dimacs.specs.Certificates.{Account}
 use Rattle.net_dimacs.specs.Reading as problems
 use Rattle.net_dimacs.specs.Limits.{text_limit}
+use Rattle.net_dimacs.proofs.Complete.{begins}
 use Rattle.net_ends.specs.Ends.{ReadsToLimit}
+use Rattle.net_calls.specs.LineTexts.{IsProblemOf, MayBeProblem}
 use Rattle.net_calls.specs.Runs.{Course, ReadsWhole}
 
 short : {A B : Type 0} (limit n : ℕ) (refused : B) (read : Result A B) (x : A) → (if nat_lt limit n then Err refused else read) ≡ Ok x → n ≤ limit
@@ -28,3 +31,13 @@ read_whole limit source text read few = elim read.stop [
   | inl within ↦ record { bytes = read.bytes; at_end = within.1 }
   | inr past ↦ absurd (omega (arith, past, few))
 ]
+
+pub may_be : (text : List ℕ) (problem : Problem) → IsProblemOf text problem → MayBeProblem text
+may_be text problem is =
+    let some = problem.some_node in
+    let nodes = problem.few_nodes in
+    let arcs = problem.few_arcs in
+    record {
+      short = is.short;
+      begins = begins text problem.supplies.items problem.arcs.items (omega (arith, problem.supplies.ok.0, some)) (omega (arith, problem.supplies.ok.0, nodes)) (omega (arith, problem.arcs.ok.0, arcs)) is.is;
+    }

@@ -14,6 +14,7 @@ use Rattle.net_inst.specs.Laws.{AreNames}
 use Rattle.net_inst.specs.ByName.{CorrespondsByName}
 use Rattle.net_inst.specs.Instances.{network, seen_as}
 use Rattle.net_inst.specs.declared.network.Named.{Named}
+use Rattle.net_normal.specs.Correspondence.{CorrespondsOneToOne}
 use Rattle.net_normal.specs.NormalForm.{IsFormIn}
 use Rattle.net_read.specs.Reading.{IsModel, IsData}
 use Rattle.net_report.specs.Links.{link_text}
@@ -40,6 +41,8 @@ pub record Headline (lean : Bool) (wanted : Option Name) (model_text data_text :
   -- for, so a printed number is that of the name beside it, whether there is a feasible flow or none
   pub names : c.names ≡ made.names
   pub normal : IsFormIn (profile_of lean) made.instance c.problem c.link
+  -- by number, each feasible flow of the problem stands for a feasible assignment of the network's arcs, none is lost and none is there twice
+  pub by_number : CorrespondsOneToOne made.instance c.problem c.link
   pub sizes : HasSizes c
   -- the objective is the wanted one, or the only one; the names are those that the model declares, in order
   pub objective : Objective

@@ -7,7 +7,7 @@ use Rattle.net_check.specs.declared.certificate.Certificate.{Certificate}
 use Rattle.net_dimacs.specs.declared.problem_fault.LineFault.{LineFault}
 use Rattle.net_dimacs.specs.Certificates.{account_of, IsCertificateText, IsOnlyCertificate, IsNoCertificateText}
 use Rattle.net_dimacs.specs.CertificateReading as certificates
-use Rattle.net_dimacs.specs.Problems.{IsProblemText, IsOnlyProblem, IsNoProblemText}
+use Rattle.net_dimacs.specs.Problems.{IsProblemText, IsOnlyProblem, IsNoProblemText, BeginsProblem, statements_of}
 use Rattle.net_dimacs.specs.Reading as problems
 use Rattle.net_dimacs.specs.Limits.{text_limit}
 
@@ -16,6 +16,11 @@ pub record IsProblemOf (text : List ℕ) (problem : Problem) : Type 0 where
   pub short : length text ≤ text_limit
   pub is : IsProblemText text problem.supplies.items problem.arcs.items
   pub only : IsOnlyProblem text problem.supplies.items problem.arcs.items
+
+-- what a text is that memory is asked for: short enough, and its first line that says something is a `p` line of counts within the limits
+pub record MayBeProblem (text : List ℕ) : Type 0 where
+  pub short : length text ≤ text_limit
+  pub begins : BeginsProblem (statements_of text)
 
 -- the text is short enough, and is this certificate of the problem and no other
 pub record IsCertificateOf (problem : Problem) (text : List ℕ) (certificate : Certificate) : Type 0 where

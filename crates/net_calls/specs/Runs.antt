@@ -1,5 +1,5 @@
 -- What a run reads and writes (the words of Rust's std::io, Read and Write).
-use Rattle.std.specs.Prelude.{◌≡◌, ℕ, Bool, List, Option}
+use Rattle.std.specs.Prelude.{◌≡◌, ◌≤◌, ℕ, ◌+◌, Bool, List, Option}
 use Rattle.std.specs.Io.KnownBytes.{Appends, Consumes, IsAtEnd}
 use Rattle.net_lex.specs.declared.language.Language.TheVariants as languages
 use Rattle.net_lex.specs.Limits.{text_limit}
@@ -22,7 +22,7 @@ use Rattle.net_calls.specs.Answers as answers
 use Rattle.net_calls.specs.Headline.{Headline}
 
 -- the most bytes of a problem text and of a certificate text
-abbrev lines_limit : ℕ
+abbrev pub lines_limit : ℕ
 lines_limit = dimacs.text_limit
 
 -- what a source had, and has left
@@ -38,6 +38,16 @@ pub record ReadsWhole (source : Course) (text : List ℕ) : Type 0 where
 -- a source was read to its end or to one byte past the limit
 abbrev pub ReadsUpTo : ℕ → Course → List ℕ → Type 0
 ReadsUpTo limit source text = ReadsToLimit limit source.old source.new text
+
+-- a source is asked for bytes at most once more than its text may have bytes, however few it gives at once
+abbrev pub IsAskedFew : (limit before after : ℕ) → Type 0
+IsAskedFew limit before after = after ≤ before + (limit + 1)
+
+abbrev pub model_limit : ℕ
+model_limit = text_limit languages.Model
+
+abbrev pub data_limit : ℕ
+data_limit = text_limit languages.Data
 
 -- the two texts were read to their ends, and the answer keeps the promise for them
 pub record Compiles (lean : Bool) (wanted : Option Name) (model data' : Course) (answer : Compiled) : Type 0 where

@@ -1,7 +1,7 @@
 //! Certificates of problems, from text to verdict.
 
-ghost use Rattle.std.specs.Prelude.{◌≡◌, ◌++◌, List, ℕ, IfOk, IfErr, OnOk};
-ghost use Rattle.net_calls.specs.LineTexts.{IsProblemOf, IsCertificateOf};
+ghost use Rattle.std.specs.Prelude.{◌≡◌, ◌++◌, List, ℕ, IfOk, IfErr, OnOk, IsErrOf};
+ghost use Rattle.net_calls.specs.LineTexts.{IsProblemOf, IsCertificateOf, MayBeProblem};
 ghost use Rattle.net_calls.specs.Checked.{Judges, IsLineRefusal, IsProblemRefusal, IsCertificateStop, fault_of, reason_word, verdict_line};
 
 use crate::fault::{Fault, LineRefusal, TextName};
@@ -15,6 +15,9 @@ use std::alloc::{AllocError, Global};
 pub fn check_bytes(alloc: Global, problem: &[u8], certificate: &[u8]) -> Result<Verdict, Fault>
     ensures value { IfOk result (Judges problem.now certificate.now) }
     ensures refused { IfErr result (IsLineRefusal problem.now certificate.now) }
+
+    // Memory is asked for where the problem's text begins a problem, and else not.
+    ensures memory { IsErrOf result Fault.OutOfMemory → MayBeProblem problem.now }
 {
     let network = match problem_of(alloc, problem) {
         Ok(network) => network,
@@ -40,6 +43,7 @@ pub(crate) fn judge(alloc: Global, network: &Problem, certificate: &[u8]) -> Res
 pub(crate) fn problem_of(alloc: Global, text: &[u8]) -> Result<Problem, Fault>
     ensures ok { IfOk result (IsProblemOf text.now) }
     ensures refused { IfErr result (IsProblemRefusal text.now) }
+    ensures memory { IsErrOf result Fault.OutOfMemory → MayBeProblem text.now }
 {
     match read_problem(alloc, text) {
         Ok(problem) => Ok(problem),

@@ -6,7 +6,7 @@ ghost use Rattle.net_dimacs.specs.Scans.{Stands};
 ghost use Rattle.net_ends.specs.Ends.{ReadsToLimit};
 ghost use Rattle.net_calls.specs.Checked.{Judges, IsLineRefusal, IsProblemRefusal, ending_of};
 ghost use Rattle.net_calls.specs.Settled.{Settles, settled_ending};
-ghost use Rattle.net_calls.specs.Runs.{IfRefused, IfUnread, WritesVerdict, WritesFrontOfVerdict, RefusesLines, WritesCertificate, WritesFrontOfCertificate, RefusesProblem};
+ghost use Rattle.net_calls.specs.Runs.{IfRefused, IfUnread, WritesVerdict, WritesFrontOfVerdict, RefusesLines, WritesCertificate, WritesFrontOfCertificate, RefusesProblem, IsAskedFew, lines_limit};
 
 use crate::checking::{judge, verdict_line};
 use crate::ending::Ending;
@@ -44,6 +44,7 @@ fn read_certificate<C: Source>(alloc: Global, certificate: &mut C) -> Result<Vec
     ensures err { IfErr result (λ fault. (fault ≡ Fault.OutOfMemory)
         ⊎ ((fault ≡ Fault.Unread TextName.Certificate) × (C.failed certificate.new ≡ true))) }
     ensures flag { C.failed certificate.new ≡ true → (C.failed certificate.old ≡ true) ⊎ (result ≡ Err (Fault.Unread TextName.Certificate)) }
+    ensures reads { IsAskedFew lines_limit (C.reads certificate.old) (C.reads certificate.new) }
 {
     read_text(alloc, certificate, TEXT_LIMIT, TextName::Certificate)
 }
@@ -104,6 +105,10 @@ pub fn run_check<P: Source, C: Source, W: Sink>(
     ensures output { IsErrOf result Fault.Unwritten ↔ (W.failed output.new ≡ true) }
     ensures ends { IfErr result (λ fault. IfUnread fault (λ text. (text ≡ TextName.Problem) ⊎ (text ≡ TextName.Certificate))) }
     ensures first { P.failed problem.new ≡ true → certificate.new ≡ certificate.old }
+
+    // However few bytes a source gives at once, it is asked for no more than its text may have, and once to see its end.
+    ensures problem_reads { IsAskedFew lines_limit (P.reads problem.old) (P.reads problem.new) }
+    ensures certificate_reads { IsAskedFew lines_limit (C.reads certificate.old) (C.reads certificate.new) }
 {
     let reading = read_problem_from(alloc, problem)?;
     let certificate_text = read_certificate(alloc, certificate)?;
@@ -140,6 +145,9 @@ pub fn run_min<P: Source, W: Sink>(
     ensures problem { IsErrOf result (Fault.Unread TextName.Problem) ↔ (P.failed problem.new ≡ true) }
     ensures ends { IfErr result (λ fault. IfUnread fault (λ text. text ≡ TextName.Problem)) }
     ensures output { IsErrOf result Fault.Unwritten ↔ (W.failed output.new ≡ true) }
+
+    // However few bytes the source gives at once, it is asked for no more than its text may have, and once to see its end.
+    ensures problem_reads { IsAskedFew lines_limit (P.reads problem.old) (P.reads problem.new) }
 {
     let reading = read_problem_from(alloc, problem)?;
     let (settled, text) = solve_read(alloc, reading)?;

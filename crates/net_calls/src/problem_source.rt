@@ -5,6 +5,7 @@ ghost use Rattle.net_dimacs.specs.Scans.{Stands};
 ghost use Rattle.net_calls.specs.Checked.{IsProblemRefusal};
 ghost use Rattle.net_calls.specs.LineTexts.{IsProblemOf};
 ghost use Rattle.net_calls.specs.ProblemSources.{GivesText};
+ghost use Rattle.net_calls.specs.Runs.{IsAskedFew, lines_limit};
 
 use crate::checking::fault_of;
 use crate::fault::{Fault, TextName};
@@ -23,6 +24,7 @@ pub(crate) fn read_problem_from<S: Source>(alloc: Global, source: &mut S) -> Res
     ensures err { IfErr result (λ fault. (fault ≡ Fault.OutOfMemory)
         ⊎ ((fault ≡ Fault.Unread TextName.Problem) × (S.failed source.new ≡ true))) }
     ensures flag { S.failed source.new ≡ true → (S.failed source.old ≡ true) ⊎ (result ≡ Err (Fault.Unread TextName.Problem)) }
+    ensures reads { IsAskedFew lines_limit (S.reads source.old) (S.reads source.new) }
 {
     match read_pieces(alloc, source) {
         Ok(reading) => Ok(reading),
@@ -42,6 +44,7 @@ fn read_pieces<S: Source>(alloc: Global, source: &mut S) -> Result<Reading, Read
     ensures value { IfOk result (GivesText (record { old = S.remaining source.old; new = S.remaining source.new })) }
     ensures failed { IsErrOf result ReadFault.Failed → S.failed source.new ≡ true }
     ensures flag { S.failed source.new ≡ true → (S.failed source.old ≡ true) ⊎ (result ≡ Err ReadFault.Failed) }
+    ensures reads { IsAskedFew lines_limit (S.reads source.old) (S.reads source.new) }
 {
     let mut reading = Reading::new(alloc);
     let mut piece = [0; PIECE];

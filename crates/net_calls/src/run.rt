@@ -3,7 +3,7 @@
 ghost use Rattle.std.specs.Prelude.{◌≡◌, ◌+◌, ◌^◌, ◌<◌, ◌⊎◌, ◌↔◌, None, true, false, OnOk, IfOk, IfErr, IsErrOf};
 ghost use Rattle.std.specs.Option.{option_copied};
 ghost use Rattle.net_ends.specs.Ends.{ReadsToLimit};
-ghost use Rattle.net_calls.specs.Runs.{WritesAnswer, WritesFrontOfAnswer, Refuses, IfRefused, IfUnread};
+ghost use Rattle.net_calls.specs.Runs.{WritesAnswer, WritesFrontOfAnswer, Refuses, IfRefused, IfUnread, IsAskedFew, model_limit, data_limit};
 
 use crate::compiled::Options;
 use crate::fault::{Fault, TextName};
@@ -43,6 +43,10 @@ pub fn run_compile<M: Source, D: Source, W: Sink>(
     ensures output { IsErrOf result Fault.Unwritten ↔ (W.failed output.new ≡ true) }
     ensures ends { IfErr result (λ fault. IfUnread fault (λ text. (text ≡ TextName.Model) ⊎ (text ≡ TextName.Data))) }
     ensures first { M.failed model.new ≡ true → «data».new ≡ «data».old }
+
+    // However few bytes a source gives at once, it is asked for no more than its text may have, and once to see its end.
+    ensures model_reads { IsAskedFew model_limit (M.reads model.old) (M.reads model.new) }
+    ensures data_reads { IsAskedFew data_limit (D.reads «data».old) (D.reads «data».new) }
 {
     run_compile_with(
         alloc,
@@ -88,6 +92,10 @@ pub fn run_compile_with<'o, M: Source, D: Source, W: Sink>(
     ensures output { IsErrOf result Fault.Unwritten ↔ (W.failed output.new ≡ true) }
     ensures ends { IfErr result (λ fault. IfUnread fault (λ text. (text ≡ TextName.Model) ⊎ (text ≡ TextName.Data))) }
     ensures first { M.failed model.new ≡ true → «data».new ≡ «data».old }
+
+    // However few bytes a source gives at once, it is asked for no more than its text may have, and once to see its end.
+    ensures model_reads { IsAskedFew model_limit (M.reads model.old) (M.reads model.new) }
+    ensures data_reads { IsAskedFew data_limit (D.reads «data».old) (D.reads «data».new) }
 {
     let model_text = read_text(alloc, model, MODEL_LIMIT, TextName::Model)?;
     let data_text = read_text(alloc, data, DATA_LIMIT, TextName::Data)?;
@@ -110,6 +118,7 @@ pub(crate) fn read_text<S: Source>(
     ensures err { IfErr result (λ fault. (fault ≡ Fault.OutOfMemory)
         ⊎ ((fault ≡ Fault.Unread name) × (S.failed source.new ≡ true))) }
     ensures flag { S.failed source.new ≡ true → (S.failed source.old ≡ true) ⊎ (result ≡ Err (Fault.Unread name)) }
+    ensures reads { IsAskedFew limit (S.reads source.old) (S.reads source.new) }
 {
     match read_to_limit(alloc, source, limit) {
         Ok(text) => Ok(text),

@@ -1,10 +1,10 @@
 //! Problems, from text to certificate.
 
-ghost use Rattle.std.specs.Prelude.{◌≡◌, List, ℕ, IfOk, IfErr};
+ghost use Rattle.std.specs.Prelude.{◌≡◌, List, ℕ, IfOk, IfErr, IsErrOf};
 ghost use Rattle.net_check.specs.Certificates.{IsCertificate};
 ghost use Rattle.net_solve.specs.Settling.{IsSettledBy, certificate_of};
 ghost use Rattle.net_calls.specs.Checked.{IsProblemRefusal};
-ghost use Rattle.net_calls.specs.LineTexts.{IsProblemOf};
+ghost use Rattle.net_calls.specs.LineTexts.{IsProblemOf, MayBeProblem};
 ghost use Rattle.net_calls.specs.Settled.{Settles, IsAnswerText};
 
 use crate::checking::problem_of;
@@ -18,6 +18,9 @@ use std::alloc::{AllocError, Global};
 pub fn solve_min(alloc: Global, problem: &[u8]) -> Result<(Settled, Vec<u8>), Fault>
     ensures value { IfOk result (λ answer. Settles problem.now answer.0 answer.1.items) }
     ensures refused { IfErr result (IsProblemRefusal problem.now) }
+
+    // Memory is asked for where the text begins a problem, and else not.
+    ensures memory { IsErrOf result Fault.OutOfMemory → MayBeProblem problem.now }
 {
     let network = match problem_of(alloc, problem) {
         Ok(network) => network,

@@ -3,7 +3,7 @@
 ghost use Rattle.std.specs.Prelude.{◌≡◌, ◌⊎◌, ◌↔◌, None, true, false, IfOk, IfErr, IsErrOf};
 ghost use Rattle.std.specs.Option.{option_copied};
 ghost use Rattle.net_calls.specs.Answers.{ending_of};
-ghost use Rattle.net_calls.specs.Runs.{WritesOutcome, WritesFrontOfOutcome, Refuses, IfRefused, IfUnread};
+ghost use Rattle.net_calls.specs.Runs.{WritesOutcome, WritesFrontOfOutcome, Refuses, IfRefused, IfUnread, IsAskedFew, model_limit, data_limit};
 
 use crate::answer::{Outcome, solve_model_with};
 use crate::compiled::Options;
@@ -54,6 +54,10 @@ pub fn run_solve<M: Source, D: Source, W: Sink>(
     ensures output { IsErrOf result Fault.Unwritten ↔ (W.failed output.new ≡ true) }
     ensures ends { IfErr result (λ fault. IfUnread fault (λ text. (text ≡ TextName.Model) ⊎ (text ≡ TextName.Data))) }
     ensures first { M.failed model.new ≡ true → «data».new ≡ «data».old }
+
+    // However few bytes a source gives at once, it is asked for no more than its text may have, and once to see its end.
+    ensures model_reads { IsAskedFew model_limit (M.reads model.old) (M.reads model.new) }
+    ensures data_reads { IsAskedFew data_limit (D.reads «data».old) (D.reads «data».new) }
 {
     run_solve_with(
         alloc,
@@ -99,6 +103,10 @@ pub fn run_solve_with<'o, M: Source, D: Source, W: Sink>(
     ensures output { IsErrOf result Fault.Unwritten ↔ (W.failed output.new ≡ true) }
     ensures ends { IfErr result (λ fault. IfUnread fault (λ text. (text ≡ TextName.Model) ⊎ (text ≡ TextName.Data))) }
     ensures first { M.failed model.new ≡ true → «data».new ≡ «data».old }
+
+    // However few bytes a source gives at once, it is asked for no more than its text may have, and once to see its end.
+    ensures model_reads { IsAskedFew model_limit (M.reads model.old) (M.reads model.new) }
+    ensures data_reads { IsAskedFew data_limit (D.reads «data».old) (D.reads «data».new) }
 {
     let model_text = read_text(alloc, model, MODEL_LIMIT, TextName::Model)?;
     let data_text = read_text(alloc, data, DATA_LIMIT, TextName::Data)?;

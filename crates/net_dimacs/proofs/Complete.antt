@@ -1,6 +1,6 @@
 -- What a text says is read.
 use Rattle.std.proofs.Common.{◌≡◌, ◌≢◌, ◌≤◌, ◌<◌, ℕ, ◌+◌, ◌-◌, ◌==◌, Bool, true, false, cond, ◌&&◌, ◌||◌, List, [], ◌∷◌, ◌++◌, ℤ, pos, neg_ℤ, Some, None, Ok, Err, refl, sym, ap, subst, ◌∙◌, length, replicate, get_or, set, map, arith, append-nil, append_assoc, length-append}
-use Rattle.std.specs.Prelude.{Option, Result, filter_map, int_lt, int_le, nat_lt, nat_le}
+use Rattle.std.specs.Prelude.{Option, Result, IsOk, filter_map, int_lt, int_le, nat_lt, nat_le}
 use Rattle.std.specs.List.{AllByRecursion, cons_option}
 use Rattle.std.specs.Str.Lines.{lines}
 use Rattle.std.proofs.lemmas.Bool.Decides.{nat_tests}
@@ -15,7 +15,7 @@ use Rattle.net_dimacs.specs.declared.problem_fault.Refusal.{Refusal}
 use Rattle.net_dimacs.specs.declared.problem_fault.LineFault.{LineFault}
 use Rattle.net_dimacs.specs.declared.problem_fault.LineFault.TheVariants.{LineOrder, Count}
 use Rattle.net_dimacs.specs.Reading.{Sketch, place_of, is_past, new_sketch, with_node, with_node_at, with_arc, with_arc_at, with_arc_or, bounds_fault, State, Start, Open, kept, with_statement, with_said, said, Numbers, finished, read_lines}
-use Rattle.net_dimacs.specs.Problems.{Named, node_statement, arc_statement, AreDistinct, supply_after, IsProblemText}
+use Rattle.net_dimacs.specs.Problems.{Named, node_statement, arc_statement, AreDistinct, supply_after, IsProblemText, BeginsProblem, statements_of}
 use Rattle.net_normal.specs.Limits.{IsWithinLimits}
 use Rattle.net_dimacs.proofs.Lists.{all_map, all_both}
 use Rattle.net_dimacs.proofs.Steps.{marked, with_one, first_sketch, set_supply}
@@ -168,6 +168,11 @@ new_taken : (n m : ℕ) → 1 ≤ n → n ≤ flow_node_limit → m ≤ flow_arc
 new_taken n m some few_nodes few_arcs =
     new_passes (int_lt (pos n) (pos 1)) (int_lt (pos m) (pos 0)) (int_lt (pos flow_node_limit) (pos n)) (int_lt (pos flow_arc_limit) (pos m)) n m
     (grind (arith, nat_tests)) (grind (arith, nat_tests)) (grind (arith, nat_tests)) (grind (arith, nat_tests))
+
+-- the text of a problem within the limits begins one
+pub begins : (text : List ℕ) (s : List ℤ) (a : List FlowArc) → 1 ≤ length s → length s ≤ flow_node_limit → length a ≤ flow_arc_limit → IsProblemText text s a → BeginsProblem (statements_of text)
+begins text s a some few_nodes few_arcs is =
+    subst BeginsProblem (sym is.says) (subst (λ (made : Result Sketch LineFault). IsOk made) (sym (new_taken (length s) (length a) some few_nodes few_arcs)) refl)
 
 abbrev RestGives : List Statement → ℕ → ℕ → List ℤ → List FlowArc → Type 0
 RestGives says n m s a = (line : ℕ) (ls : List (List ℕ)) → filter_map said ls ≡ says → Gives line (Open (first_sketch n m)) ls s a

@@ -14,7 +14,7 @@ mod CertificateReadLaws
 pub mod Lists
 mod Steps
 mod Sound
-mod Complete
+pub mod Complete
 mod ReadLaws
 pub mod Decimals
 pub mod WrittenLines
