@@ -1,5 +1,5 @@
 -- How the first fault of two texts is told.
-use Rattle.std.specs.Prelude.{◌≡◌, ◌≤◌, ℕ, ◌||◌, ◌==◌, if◌then◌else◌, List, Option, length, map, min, max, take, string_bytes}
+use Rattle.std.specs.Prelude.{◌≡◌, ◌≤◌, ℕ, List, Option, length, min, max, take, string_bytes}
 use Rattle.std.specs.Str.Lossy.{utf8_lossy}
 use Rattle.net_lex.specs.declared.language.Language.{Language}
 use Rattle.net_lex.specs.declared.language.Language.TheVariants as languages
@@ -9,6 +9,7 @@ use Rattle.net_eval.specs.Worlds.{Name}
 use Rattle.net_eval.specs.References.{detail_text}
 use Rattle.net_read.specs.declared.finding.Finding.{Finding}
 use Rattle.net_read.specs.FirstFaults.{IsFirstFault}
+use Rattle.net_report.specs.Links.{in_line}
 use Rattle.net_calls.specs.declared.fault.Fault.{Fault}
 use Rattle.net_calls.specs.declared.fault.Fault.TheVariants.{OutOfMemory, Refused, RefusedLine, Unread, Unwritten}
 use Rattle.net_calls.specs.declared.fault.Refusal.{Refusal}
@@ -31,13 +32,6 @@ pub record LiesIn (size : ℕ) (at : Span) : Type 0 where
   pub forward : at.start ≤ at.end
   pub inside : at.end ≤ size
 
--- a byte of one line: a blank for what ends a line, LF or CR
-abbrev pub in_line : ℕ → ℕ
-in_line byte = if byte == 10 || byte == 13 then 32 else byte
-
-abbrev pub in_one_line : List ℕ → List ℕ
-in_one_line = map in_line
-
 -- a finding in a text, with the line and the column of its start, and as a text of one line what is told beside the place
 pub record IsTold (text : List ℕ) (finding : Finding) (r : Refusal) : Type 0 where
   pub kind : r.kind ≡ finding.defect
@@ -46,7 +40,7 @@ pub record IsTold (text : List ℕ) (finding : Finding) (r : Refusal) : Type 0 w
   pub lies : LiesIn (length text) r.span
   pub line : r.line ≡ line_of (take r.span.start text)
   pub column : r.column ≡ column_of (take r.span.start text)
-  pub detail : string_bytes r.detail ≡ utf8_lossy (in_one_line (detail_text finding.detail))
+  pub detail : string_bytes r.detail ≡ utf8_lossy (in_line (detail_text finding.detail))
 
 -- the first fault, told with its place in its text, or want of memory
 abbrev pub IsRefusal : Option Name → (model_text data_text : List ℕ) → Fault → Type 0

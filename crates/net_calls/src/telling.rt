@@ -3,12 +3,13 @@
 ghost use Rattle.std.specs.Prelude.{◌≡◌, Option, IfOk, length};
 ghost use Rattle.net_eval.specs.Worlds.{Name};
 ghost use Rattle.net_read.specs.FirstFaults.{IsStop};
-ghost use Rattle.net_calls.specs.Telling.{IsTold, IsRefusal, LiesIn, in_line, in_one_line, name_of, text_of, within};
+ghost use Rattle.net_calls.specs.Telling.{IsTold, IsRefusal, LiesIn, name_of, text_of, within};
 
 use crate::fault::{Fault, Refusal, TextName};
 use net_eval::append_detail;
 use net_lex::{Language, Span, line_column};
 use net_read::{Finding, Stop};
+use net_report::push_in_line;
 use std::alloc::{AllocError, Global};
 
 fn name_of(text: Language) -> TextName
@@ -41,37 +42,16 @@ fn within(text: &[u8], at: Span) -> Span
     }
 }
 
-/// A byte of one line: a blank for what ends a line.
-fn in_line(byte: u8) -> u8
-    ensures { result ≡ in_line byte }
-{
-    if byte == b'\n' || byte == b'\r' {
-        b' '
-    } else {
-        byte
-    }
-}
-
-/// A text in one line.
-fn in_one_line(alloc: Global, text: &[u8]) -> Result<Vec<u8>, AllocError>
-    ensures { IfOk result (λ line. line.items ≡ in_one_line text.now) }
-{
-    let mut line = Vec::new(alloc);
-    for byte in text {
-        line.push(in_line(*byte))?;
-    }
-    Ok(line)
-}
-
 /// A finding in its text, with line and column.
 fn refusal_of(alloc: Global, text: &[u8], finding: &Finding) -> Result<Refusal, AllocError>
     ensures { IfOk result (IsTold text.now finding.now) }
 {
     let span = within(text, finding.at);
     let (line, column) = line_column(text, span.start);
+    let mut told = Vec::new(alloc);
+    append_detail(&mut told, &finding.detail)?;
     let mut detail = Vec::new(alloc);
-    append_detail(&mut detail, &finding.detail)?;
-    let detail = in_one_line(alloc, &detail)?;
+    push_in_line(&mut detail, &told)?;
     Ok(Refusal {
         kind: finding.defect,
         text: name_of(finding.text),

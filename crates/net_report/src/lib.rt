@@ -10,4 +10,4 @@ mod reference;
 pub use cut::write_cut;
 pub use display::write_display;
 pub use lifting::lift;
-pub use links::write_links;
+pub use links::{push_in_line, write_links};

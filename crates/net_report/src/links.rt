@@ -124,7 +124,8 @@ fn push_name(
     push_in_line(text, &name)
 }
 
-fn push_in_line(text: &mut Vec<u8>, name: &[u8]) -> Result<(), AllocError>
+/// Appends a name, or another text, as it stands in a line: with a blank for each byte that ends one, LF or CR.
+pub fn push_in_line(text: &mut Vec<u8>, name: &[u8]) -> Result<(), AllocError>
     ensures ok { OnOk result (text.new.items ≡ text.old.items ++ lines.in_line name.now) }
 {
     for byte in name {
