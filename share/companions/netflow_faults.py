@@ -1,0 +1,237 @@
+"""What a fault line means: its place in the text, what docs/FAULTS.md says of its number, and what the texts let one guess.
+
+A guess may be wrong, so each is told as a question, and none is told where the texts give no sign of it.
+"""
+import difflib
+import os
+import re
+import unicodedata
+
+from netflow_calls import HERE
+
+LINE = re.compile(r"(E\d\d) (\w+)(?: (model|data|problem|certificate)(?: (\d+)(?::(\d+))?(?: (.*))?)?)?")
+TEXTS = {"solve": ("model", "data"), "compile": ("model", "data"), "min": ("problem",), "check": ("problem", "certificate")}
+DECLARING = {"set", "param", "check", "node", "arc", "minimize", "maximize"}
+TOKEN = re.compile(r"#[^\n]*|/\*.*?\*/|'(?:[^'\n]|'')*'|\"(?:[^\"\n]|\"\")*\"|:=|[\w.+-]+|\S", re.S)
+ODD = {"\ufeff": "a byte order mark, which cannot be seen: is the file saved as UTF-8 without it?", "=": "is := meant?"}
+
+
+class Token:
+    def __init__(self, text, row):
+        self.text, self.row = text, row
+
+    def bare(self):
+        quote = self.text[:1]
+        return self.text[1:-1].replace(quote * 2, quote) if quote in ("'", '"') and len(self.text) > 1 else self.text
+
+
+def tokens(text):
+    """The words of a text, without remarks, each with its row."""
+    row, last = 1, 0
+    for found in TOKEN.finditer(text):
+        row, last = row + text.count("\n", last, found.start()), found.start()
+        if not found[0].startswith(("#", "/*")):
+            yield Token(found[0], row)
+
+
+class Fault:
+    """A fault line beside the texts of its call, which lie in `paths` and are called `names` by the user."""
+
+    def __init__(self, line, command, paths, names):
+        found = LINE.fullmatch(line)
+        self.number, self.name, self.text = found[1], found[2], found[3]
+        self.row, self.column, self.detail = int(found[4] or 0), int(found[5] or 0), found[6] or ""
+        kinds = TEXTS.get(command, ())
+        self.path, self.called = dict(zip(kinds, paths)).get(self.text), dict(zip(kinds, names)).get(self.text)
+        self.texts = {kind: read(path) for kind, path in zip(kinds, paths)}
+        lines = self.texts.get(self.text, "").split("\n")
+        self.shown = lines[self.row - 1].rstrip("\r") if 0 < self.row <= len(lines) else ""
+        raw = self.shown.encode("utf-8", "surrogateescape")
+        self.before = raw[:max(self.column - 1, 0)].decode("utf-8", "surrogateescape")
+
+    def at(self):
+        return self.shown[len(self.before):]
+
+    def word(self):
+        found = TOKEN.match(self.at())
+        return found[0] if found else ""
+
+    def statement(self):
+        """The tokens of the statement that the place lies in: from behind the last `;` before it to the next one."""
+        whole = []
+        for token in tokens(self.texts.get(self.text, "")):
+            if whole and whole[-1].text == ";":
+                if token.row > self.row or whole[-1].row >= self.row:
+                    break
+                whole = []
+            whole.append(token)
+        return whole
+
+    def words(self, kind):
+        return [it.bare() for it in tokens(self.texts.get(kind, ""))]
+
+
+def read(path):
+    """A file's text, bytes that are no characters kept; nothing of a file that cannot be read."""
+    try:
+        with open(path, "rb") as file:
+            return file.read().decode("utf-8", "surrogateescape") if os.path.isfile(path) else ""
+    except OSError:
+        return ""
+
+
+def catalogue(number):
+    """The first paragraph that docs/FAULTS.md has of the number, and its `To mend:`; nothing where the page is not there."""
+    for path in ("../doc/netflow/FAULTS.md", "../../docs/FAULTS.md"):
+        found = re.search(rf"(?ms)^## {number} \w+\n\n(.*?)(?=^## |\Z)", read(os.path.join(HERE, path)))
+        if found:
+            said = [it.replace("\n", " ") for it in found[1].split("\n\n")]
+            mend = next((it.removeprefix("To mend: ") for it in said if it.startswith("To mend: ")), "")
+            return [plain(it) for it in (said[0], mend)]
+    return ["", ""]
+
+
+def plain(text):
+    """A paragraph without the marks of links and code."""
+    return re.sub(r"\[([^\]]*)\]\(([^)]*)\)", r"\1", text).replace("`", "")
+
+
+def guesses(fault):
+    for numbers, guess in GUESSES:
+        if fault.number in numbers:
+            yield from (it for it in guess(fault) if it)
+
+
+def unreadable(fault):
+    try:
+        with open(fault.path, "rb") as file:
+            file.read(1)
+    except OSError as problem:
+        yield f"the system says of {fault.called}: {problem.strerror}"
+
+
+def odd_character(fault):
+    character = fault.at()[:1]
+    if character in ODD and (character != "=" or fault.text == "data"):
+        yield ODD[character]
+    elif character and not character.isascii():
+        yield f"the character is {unicodedata.name(character, 'one without a name')} (U+{ord(character):04X})"
+
+
+def last_row(rows, before):
+    return max((it for it in rows if it < before), default=0)
+
+
+def unended_declaration(fault):
+    if fault.text == "model" and fault.word() in DECLARING:
+        found = last_row((it.row for it in tokens(fault.texts["model"])), fault.row)
+        yield f"is a ; missing at the end of line {found}?" if found else ""
+
+
+def exchanged(fault):
+    shaping = {"node", "arc", "minimize", "maximize"}
+    if fault.text == "model" and not shaping & set(fault.words("model")) and shaping & set(fault.words("data")):
+        yield "are the two files exchanged? The model comes first"
+
+
+def misplaced(fault):
+    """Words of the model that are right elsewhere."""
+    before = fault.before.rstrip()
+    if fault.word() == "if":
+        yield "an if inside a sum stands in parentheses: (if .. then .. else ..)"
+    if fault.word() == "=" and any(it.text == "arc" for it in fault.statement()):
+        yield "an arc has a lower and an upper bound: are >= and <= meant?"
+    if before.endswith(",") and re.search(r"\bfrom\b[^,]*(\[[^\]]*\])?,$", before):
+        yield f"is a to missing before {fault.detail or fault.word()}?"
+
+
+def unended_statement(fault):
+    """A line that begins as a statement inside another one."""
+    whole = fault.statement() if fault.text == "data" else []
+    first = whole[0].row if whole else 0
+    for here, token in enumerate(whole):
+        if token.text in ("set", "param") and token.row > first and whole[here - 1].row < token.row:
+            yield f"is a ; missing at the end of line {whole[here - 1].row}?"
+            return
+
+
+def uneven(fault):
+    """Rows of a table or list with another number of cells than is wanted, or than most have."""
+    whole = fault.statement() if fault.text == "data" else []
+    cut = next((here for here, it in enumerate(whole) if it.text == ":="), None)
+    if cut is None:
+        return
+    rows = {}
+    for it in whole[cut + 1:]:
+        if it.text not in ";":
+            rows.setdefault(it.row, []).append(it.text)
+    cells = {row: sum(it != "," for it in line) for row, line in rows.items()}
+    counts = sorted(cells.values())
+    usual = wanted_cells(whole[:cut]) or max(counts, key=counts.count, default=0)
+    for row in [row for row, count in cells.items() if count != usual][:3]:
+        comma = cells[row] > usual and "," in rows[row]
+        yield f"line {row} has {cells[row]} cells, and {usual} are wanted" + (": is a comma part of a number?" if comma else "")
+
+
+def wanted_cells(head):
+    """The cells of a row of `param NAME: COLUMN .. :=`; 0 where the heading does not say."""
+    marks = [here for here, it in enumerate(head) if it.text == ":"]
+    named = len(marks) == 1 and marks[0] > 1
+    return sum(it.text != "," for it in head[marks[0] + 1:]) + 1 if named else 0
+
+
+def respelled(fault):
+    """Names near one that is not known: of a key those of its members that stand almost nowhere."""
+    name, _, key = fault.detail.partition("[")
+    known = fault.words("model") + (fault.words("data") if fault.number in ("E33", "E50") else [])
+    wanted = [name] if fault.number in ("E12", "E30", "E61") else [it[1:-1].replace("''", "'") for it in re.findall(r"'(?:[^']|'')*'", key)]
+    for it in wanted:
+        others = [other for other in dict.fromkeys(known) if other != it and other not in DECLARING and other[:1].isalnum()]
+        near = [other for other in others if other.lower() == it.lower()] or difflib.get_close_matches(it, others, 1, 0.7)
+        if near and (len(wanted) == 1 or known.count(it) <= 1):
+            yield f"{it}: is {near[0]} meant?"
+
+
+def turned(fault):
+    """A key of two members that stand in the model's and the data's other statements both: perhaps the other way round."""
+    members = [it.strip("'") for it in re.findall(r"'(?:[^']|'')*'|-?\d+", fault.detail.partition("[")[2])]
+    if fault.text == "data" and len(members) == 2 and all(fault.words("data").count(it) > 1 for it in members):
+        yield "are the two members exchanged? In a table (tr) before the : turns rows and columns"
+
+
+def almost_number(fault):
+    word = fault.word().rstrip(";")
+    meant = word.translate(str.maketrans("OoIl", "0011"))
+    if fault.text == "data" and meant != word and meant.isdigit():
+        yield f"{word}: is {meant} meant?"
+
+
+def speaking(fault):
+    """The lines of the data that name what the detail names."""
+    name, _, key = fault.detail.partition("[")
+    members = {it[1:-1].replace("''", "'") if it[:1] == "'" else it for it in re.findall(r"'(?:[^']|'')*'|-?\d+", key)}
+    if fault.text != "model" or not name or not fault.texts.get("data"):
+        return
+    named, inside, found = [], False, []
+    for token in tokens(fault.texts["data"]):
+        inside = token.text != ";" and (inside or token.text == name)
+        named += [token.row] if token.text == name else []
+        found += [token.row] if inside and token.bare() in members else []
+    if named:
+        rows = ", ".join(map(str, dict.fromkeys([*named[:2], *found[:4]])))
+        yield f"the data speak of {name} in line {rows}"
+
+
+GUESSES = (
+    (("E90",), unreadable),
+    (("E01",), odd_character),
+    (("E10", "E14"), unended_declaration),
+    (("E10", "E14"), exchanged),
+    (("E10", "E14"), misplaced),
+    (("E20",), unended_statement),
+    (("E21", "E36", "E37"), uneven),
+    (("E36",), almost_number),
+    (("E12", "E30", "E33", "E50", "E61"), respelled),
+    (("E33",), turned),
+    (("E31", "E32", "E34", "E53", "E54"), speaking),
+)
