@@ -88,7 +88,7 @@ class Words(argparse.ArgumentParser):
     def __init__(self, usage, **others):
         summary, _, more = usage.partition("\n\n")
         super().__init__(usage=summary.removeprefix("usage: "), description=more, formatter_class=argparse.RawDescriptionHelpFormatter,
-                         allow_abbrev=False, **others)
+                         **{"allow_abbrev": False, **others})
 
     def error(self, message):
         self.print_usage(sys.stderr)

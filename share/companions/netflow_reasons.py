@@ -32,6 +32,29 @@ class Reason:
     helps: list
     idle: list
 
+    def words(self):
+        """What its two lists are called, what is said where nothing helps, and which way the idle arcs lead."""
+        if self.side == "under":
+            return "needed", "can come, at most", "no arc leads in, and nothing else helps", "these lead out"
+        return "to send out", "can leave, or stay, at most", "no arc leads out, and nothing else helps", "these lead in"
+
+    def who(self, net):
+        count = len(self.nodes)
+        if count == 1:
+            return net.nodes[self.nodes[0]].text
+        return f"{'All' if count == len(net.nodes) else 'These'} {count} places together"
+
+    def headline(self, net):
+        """One sentence: who needs what, what can come, what is short."""
+        needed, given, short = self.needed(), self.given(), self.short()
+        if self.side == "under":
+            return f"{self.who(net)}: {needed} needed, {given} can come at most: {short} short"
+        return f"{self.who(net)}: {needed} to send out, room for {given} at most: {short} too much"
+
+    def quiet(self, net):
+        """The places of the set that pass on what they get."""
+        return [net.nodes[it].text for it in self.nodes if net.nodes[it].low == net.nodes[it].high == 0]
+
     def needed(self):
         return sum(it.amount for it in self.asks)
 
@@ -120,12 +143,15 @@ class Cuts:
             is_inward = arc.dst in nodes
             amount = self.carried(arc, is_inward)
             is_way = is_inward == self.is_under
-            (asks if amount < 0 else helps if amount > 0 or is_way else idle).append(Part(abs(amount), self.way(arc, is_inward)))
+            if amount or is_way:
+                (asks if amount < 0 else helps).append(Part(abs(amount), "by " + self.way(arc, is_inward)))
+            else:
+                idle.append(Part(0, self.way(arc, is_inward)))
         return Reason(self.side, sorted(nodes), *(sorted(it, key=lambda part: -part.amount) for it in (asks, helps, idle)))
 
     def way(self, arc, is_inward):
         other = f"from {self.net.end(arc.src)}" if is_inward else f"to {self.net.end(arc.dst)}"
-        return f"by {arc.text} {other}, which carries {arc.lower} to {arc.upper}"
+        return f"{arc.text} {other}, which carries {arc.lower} to {arc.upper}"
 
 
 def reasons(net, side, nodes):
@@ -197,10 +223,8 @@ def moves_of_nodes(net):
 
 
 def least_change(net, moves):
-    """The moves of least total with which there is a plan; None where no such moves are enough, or where they are too many."""
+    """The moves of least total with which there is a plan; None where no such moves are enough."""
     arcs = [it for it in net.lines if it.startswith("a ")]
-    if len(arcs) + len(moves) > LARGEST:
-        return None
     lines = [f"p min {len(net.nodes) + 1} {len(arcs) + len(moves)}", *(it for it in net.lines if it.startswith("n "))]
     lines += [it.rsplit(" ", 1)[0] + " 0" for it in arcs]
     lines += [f"a {it.ends} 0 {FAR} 1" for it in moves]
@@ -209,3 +233,20 @@ def least_change(net, moves):
         return None
     flows = [int(it.split(" ")[3]) for it in answer.text.splitlines() if it.startswith("f ")][len(arcs):]
     return [move.change(flow) for move, flow in zip(moves, flows) if flow]
+
+
+def least_changes(net):
+    """What kind of bounds is moved, and the least change of that kind, None where none is enough; of both kinds where that is
+    less than each alone. The second answer says whether the model was too large to ask."""
+    nodes, arcs = list(moves_of_nodes(net)), list(moves_of_arcs(net))
+    if len(net.lines) + len(nodes) + len(arcs) > LARGEST:
+        return {}, True
+    found = {"of what places need and give": least_change(net, nodes), "of what arcs may carry": least_change(net, arcs)}
+    totals, both = [total(it) for it in found.values() if it], least_change(net, nodes + arcs)
+    if both and (not totals or total(both) < min(totals)):
+        found["of both"] = both
+    return found, False
+
+
+def total(changes):
+    return sum(it.amount for it in changes)
