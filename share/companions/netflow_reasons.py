@@ -184,6 +184,9 @@ class Change:
     what: str
 
     def told(self):
+        if self.becomes < 0 and self.what in ("needs", "gives"):
+            other, doing = ("gives at most", "needing") if self.what == "needs" else ("takes at most", "giving")
+            return f"{self.text}: {other} {-self.becomes} in place of {doing} {self.was}"
         return f"{self.text}: {self.what} {self.becomes} in place of {self.was}"
 
 
