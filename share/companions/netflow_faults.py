@@ -118,14 +118,15 @@ def odd_character(fault):
         yield f"the character is {unicodedata.name(character, 'one without a name')} (U+{ord(character):04X})"
 
 
-def last_row(rows, before):
-    return max((it for it in rows if it < before), default=0)
-
-
 def unended_declaration(fault):
-    if fault.text == "model" and fault.word() in DECLARING:
-        found = last_row((it.row for it in tokens(fault.texts["model"])), fault.row)
-        yield f"is a ; missing at the end of line {found}?" if found else ""
+    if fault.text != "model" or fault.word() not in DECLARING:
+        return
+    before = [it for it in TOKEN.findall(fault.before) if not it.startswith(("#", "/*"))]
+    above = max((it.row for it in tokens(fault.texts["model"]) if it.row < fault.row), default=0)
+    if before and before[-1] not in DECLARING:
+        yield f"is a ; missing before {fault.word()}?"
+    elif not before and above:
+        yield f"is a ; missing at the end of line {above}?"
 
 
 def exchanged(fault):
@@ -153,6 +154,8 @@ def unended_statement(fault):
         if token.text in ("set", "param") and token.row > first and whole[here - 1].row < token.row:
             yield f"is a ; missing at the end of line {whole[here - 1].row}?"
             return
+    if whole and whole[0].row == fault.row and whole[0].text == fault.word() and whole[0].text not in ("set", "param", ";"):
+        yield f"is set or param missing before {whole[0].text}?"
 
 
 def uneven(fault):
@@ -163,13 +166,15 @@ def uneven(fault):
         return
     rows = {}
     for it in whole[cut + 1:]:
-        if it.text not in ";":
-            rows.setdefault(it.row, []).append(it.text)
-    cells = {row: sum(it != "," for it in line) for row, line in rows.items()}
+        if it.text != ";":
+            rows.setdefault(it.row, []).append(it)
+    cells = {row: sum(it.text != "," for it in line) for row, line in rows.items()}
     counts = sorted(cells.values())
-    usual = wanted_cells(whole[:cut]) or max(counts, key=counts.count, default=0)
-    for row in [row for row, count in cells.items() if count != usual][:3]:
-        comma = cells[row] > usual and "," in rows[row]
+    usual = wanted_cells(whole[:cut]) or next((it for it in counts if 2 * counts.count(it) > len(counts) > 2), 0)
+    if not usual:
+        yield misfit(whole[:cut], [it for line in rows.values() for it in line if it.text != ","])
+    for row in [row for row, count in cells.items() if usual not in (0, count)][:3]:
+        comma = cells[row] > usual and any(it.text == "," for it in rows[row])
         yield f"line {row} has {cells[row]} cells, and {usual} are wanted" + (": is a comma part of a number?" if comma else "")
 
 
@@ -178,6 +183,46 @@ def wanted_cells(head):
     marks = [here for here, it in enumerate(head) if it.text == ":"]
     named = len(marks) == 1 and marks[0] > 1
     return sum(it.text != "," for it in head[marks[0] + 1:]) + 1 if named else 0
+
+
+def misfit(head, cells):
+    """In a list whose rows do not stand one a line: the first row with a text in a number's place, at that number of keys with
+    which the rows go on longest."""
+    marks = [here for here, it in enumerate(head) if it.text == ":"]
+    values = sum(it.text != "," for it in head[marks[-1] + 1:]) if marks else 1
+    found = [first_misfit(cells, keys, values) for keys in range(1, 5)]
+    if None in found or not found or head[0].text != "param":
+        return ""
+    row = cells[max(found):]
+    return f"in line {row[0].row} the cells from {row[0].text} on do not fit: is a cell missing there, or one too many before?"
+
+
+def first_misfit(cells, keys, values):
+    """Where the first row begins whose values are not all numbers; None where all are."""
+    for here in range(0, len(cells), keys + values):
+        row = cells[here:here + keys + values]
+        if len(row) < keys + values or not all(re.fullmatch(r"[+-]?[0-9.]+", it.text) for it in row[keys:]):
+            return here
+    return None
+
+
+def doubled(fault):
+    """A word that stands twice side by side."""
+    words = [it[0] for it in TOKEN.finditer(fault.before)][-2:]
+    here = fault.word()
+    if here == ";" and words[-1:] == [";"]:
+        yield "is this ; one too many?"
+    elif here and words[-1:] == [here] and re.match(r"\w", here):
+        yield f"does {here} stand there twice?"
+    elif len(words) == 2 and words[0] == words[1] and re.match(r"\w", words[0]):
+        yield f"does {words[0]} stand there twice?"
+
+
+def uncoloned(fault):
+    """A node's condition without its colon."""
+    before = fault.before.rstrip()
+    if fault.word() in ("net_in", "net_out") and re.search(r"\bnode\s+\w+\s*(\{[^{}]*\})?$", before):
+        yield f"is a : missing before {fault.word()}?"
 
 
 def respelled(fault):
@@ -192,10 +237,26 @@ def respelled(fault):
             yield f"{it}: is {near[0]} meant?"
 
 
+def named(fault):
+    """The words of the data that name members elsewhere than in the fault's line: of sets, of headings, and at the front of rows."""
+    found, word, is_heading, last = set(), "", False, 0
+    for it in tokens(fault.texts.get("data", "")):
+        if it.text == ";":
+            word = ""
+        elif not word:
+            word, is_heading = it.text, False
+        else:
+            is_heading = (is_heading or it.text == ":") and it.text != ":="
+            if it.row != fault.row and (word == "set" or is_heading or it.row != last):
+                found.add(it.bare())
+        last = it.row
+    return found
+
+
 def turned(fault):
-    """A key of two members that stand in the model's and the data's other statements both: perhaps the other way round."""
+    """A key whose two members are named elsewhere: perhaps the other way round."""
     members = [it.strip("'") for it in re.findall(r"'(?:[^']|'')*'|-?\d+", fault.detail.partition("[")[2])]
-    if fault.text == "data" and len(members) == 2 and all(fault.words("data").count(it) > 1 for it in members):
+    if fault.text == "data" and len(members) == 2 and set(members) <= named(fault):
         yield "are the two members exchanged? In a table (tr) before the : turns rows and columns"
 
 
@@ -207,19 +268,22 @@ def almost_number(fault):
 
 
 def speaking(fault):
-    """The lines of the data that name what the detail names."""
+    """The lines of the data that name what the detail names: those with its whole key, where there are such."""
     name, _, key = fault.detail.partition("[")
     members = {it[1:-1].replace("''", "'") if it[:1] == "'" else it for it in re.findall(r"'(?:[^']|'')*'|-?\d+", key)}
     if fault.text != "model" or not name or not fault.texts.get("data"):
         return
-    named, inside, found = [], False, []
+    rows, inside, first = {}, False, 0
     for token in tokens(fault.texts["data"]):
         inside = token.text != ";" and (inside or token.text == name)
-        named += [token.row] if token.text == name else []
-        found += [token.row] if inside and token.bare() in members else []
-    if named:
-        rows = ", ".join(map(str, dict.fromkeys([*named[:2], *found[:4]])))
-        yield f"the data speak of {name} in line {rows}"
+        first = first or (token.row if inside else 0)
+        if inside:
+            rows.setdefault(token.row, set()).add(token.bare())
+    whole = [row for row, words in rows.items() if members and members <= words]
+    some = [row for row, words in rows.items() if members & words]
+    if rows:
+        told = dict.fromkeys(whole[:3] or [first, *some[:3]])
+        yield f"the data speak of {name} in line {', '.join(map(str, told))}"
 
 
 GUESSES = (
@@ -228,6 +292,8 @@ GUESSES = (
     (("E10", "E14"), unended_declaration),
     (("E10", "E14"), exchanged),
     (("E10", "E14"), misplaced),
+    (("E10", "E14", "E20"), doubled),
+    (("E10", "E16"), uncoloned),
     (("E20",), unended_statement),
     (("E21", "E36", "E37"), uneven),
     (("E36",), almost_number),
