@@ -34,9 +34,10 @@ class Reason:
 
     def words(self):
         """What its two lists are called, what is said where nothing helps, and which way the idle arcs lead."""
+        doubt = "" if self.helps else " (is one the wrong way round?)"
         if self.side == "under":
-            return "needed", "can come, at most", "no arc leads in, and nothing else helps", "these lead out"
-        return "to send out", "can leave, or stay, at most", "no arc leads out, and nothing else helps", "these lead in"
+            return "needed", "can come, at most", "no arc leads in, and nothing else helps", f"these lead out{doubt}"
+        return "to send out", "room, at most", "no arc leads out, and nothing else helps", f"these lead in{doubt}"
 
     def who(self, net):
         count = len(self.nodes)
