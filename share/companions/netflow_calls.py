@@ -74,7 +74,8 @@ class Session:
 def call(words, text=None):
     """Runs the program; what it refuses ends the companion."""
     try:
-        done = subprocess.run([program(), *words], input=text, capture_output=True, encoding="utf-8", **({} if text else {"stdin": subprocess.DEVNULL}))
+        source = {"stdin": subprocess.DEVNULL} if text is None else {"input": text}
+        done = subprocess.run([program(), *words], capture_output=True, encoding="utf-8", **source)
     except OSError as problem:
         raise Ended(USAGE, f"{program()}: {problem.strerror}\n") from None
     if done.returncode not in (0, 2):
@@ -87,8 +88,8 @@ class Words(argparse.ArgumentParser):
 
     def __init__(self, usage, **others):
         summary, _, more = usage.partition("\n\n")
-        super().__init__(usage=summary.removeprefix("usage: "), description=more, formatter_class=argparse.RawDescriptionHelpFormatter,
-                         **{"allow_abbrev": False, **others})
+        words = {"usage": summary.replace("usage: ", "", 1), "description": more, "formatter_class": argparse.RawDescriptionHelpFormatter}
+        super().__init__(**words, **{"allow_abbrev": False, **others})
 
     def error(self, message):
         self.print_usage(sys.stderr)

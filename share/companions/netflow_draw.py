@@ -257,16 +257,21 @@ class Picture:
     def node_svg(self, number):
         x, y, wide, lines = self.x[number], self.y[number], self.wide[number], self.label(number)
         node = self.net.nodes[number]
-        kind = "marked" if number in self.marked else "gives" if node.wish().startswith("gives") else "needs" if node.wish().startswith("needs") else "plain"
+        wish = node.wish().partition(" ")[0]
+        kind = "marked" if number in self.marked else wish if wish in ("gives", "needs") else "plain"
         first = y + 4 - 7.5 * (len(lines) - 1)
         texts = "".join(f'<text class="line{here}" x="{x:.0f}" y="{first + 15 * here:.0f}">{escape(it)}</text>' for here, it in enumerate(lines))
         said = f"{node.text}: {node.wish() or 'passes on what it gets'}"
         return (f'<g class="node {kind}" id="n{number}" tabindex="0"><title>{escape(said)}</title><rect x="{x - wide / 2:.0f}" y="{y - self.high / 2:.0f}" '
                 f'width="{wide:.0f}" height="{self.high}" rx="5"/>{texts}</g>')
 
+    def box(self, number):
+        x, y, wide, high = self.x[number], self.y[number], self.wide[number] / 2, self.high / 2
+        return x - wide, y - high, x + wide, y + high
+
     def svg(self):
         most = max([abs(it.flow or 0) for it in self.arcs] + [1])
-        self.boxes = [(self.x[it] - self.wide[it] / 2, self.y[it] - self.high / 2, self.x[it] + self.wide[it] / 2, self.y[it] + self.high / 2) for it in self.nodes]
+        self.boxes = [self.box(it) for it in self.nodes]
         wide, high = (math.ceil(it) for it in self.sheet)
         heads = "".join(f'<marker id="{it}" class="head {it}" viewBox="0 0 8 8" refX="6" refY="4" markerUnits="userSpaceOnUse" markerWidth="9" '
                         'markerHeight="9" orient="auto"><path d="M0,0L8,4L0,8z"/></marker>' for it in ("idle", "used", "full", "across"))

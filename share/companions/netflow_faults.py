@@ -86,7 +86,7 @@ def catalogue(number):
         found = re.search(rf"(?ms)^## {number} \w+\n\n(.*?)(?=^## |\Z)", read(os.path.join(HERE, path)))
         if found:
             said = [it.replace("\n", " ") for it in found[1].split("\n\n")]
-            mend = next((it.removeprefix("To mend: ") for it in said if it.startswith("To mend: ")), "")
+            mend = next((it[len("To mend: "):] for it in said if it.startswith("To mend: ")), "")
             return [plain(it) for it in (said[0], mend)]
     return ["", ""]
 

@@ -45,8 +45,7 @@ class Arcs:
         return titles + ([(f"a unit past the bound {better} at most", "number wrap")] if self.has_worth else [])
 
     def row(self, arc):
-        cells = [*arc.key, *([""] * (max(len(it.key) for it in self.arcs) - len(arc.key)) if len(self.arcs) == 1 else [])]
-        cells += [self.net.end(arc.src), self.net.end(arc.dst)] + ([arc.flow] if self.has_plan else [])
+        cells = [*arc.key, self.net.end(arc.src), self.net.end(arc.dst)] + ([arc.flow] if self.has_plan else [])
         cells += ([arc.lower] if self.has_least else []) + [arc.upper] + ([arc.price] if self.has_price else [])
         cells += [arc.flow * arc.price] if self.has_plan and self.has_price else []
         cells += [self.gain(arc) or ""] if self.has_worth else []
@@ -59,7 +58,8 @@ class Arcs:
             return f"{count} {arcs_word(count)}, {sum(id(it) in self.lead for it in self.arcs)} of them across the line."
         full, lowest = sum(it.is_full() for it in self.arcs), sum(it.is_lowest() for it in self.arcs)
         spent = f" Flow × price: {sum(it.flow * it.price for it in self.arcs)}." if self.has_price else ""
-        marks = "".join(f', {many} <span class="{kind}">at the {what}</span>' for many, kind, what in ((full, "full", "most"), (lowest, "lowest", "least")) if many)
+        bounds = (full, "full", "most"), (lowest, "lowest", "least")
+        marks = "".join(f', {many} <span class="{kind}">at the {what}</span>' for many, kind, what in bounds if many)
         return f"{count} {arcs_word(count)}, {used} in use{marks}.{spent}"
 
     def html(self):
@@ -92,7 +92,8 @@ def capital(words):
 def reason_html(net, reason, most):
     """A set of places that is short, in words and two tables."""
     asked, helping, none, other = reason.words()
-    lines = [f'<p class="reason">{text(capital(reason.headline(net)))}.</p><div class="pair"><div>', parts_table(asked, reason.needed(), reason.asks, most), "</div><div>"]
+    lines = [f'<p class="reason">{text(capital(reason.headline(net)))}.</p>']
+    lines += ['<div class="pair"><div>', parts_table(asked, reason.needed(), reason.asks, most), "</div><div>"]
     lines.append(parts_table(helping, reason.given(), reason.helps, most) if reason.helps else f"<p>{text(none)}.</p>")
     if reason.idle:
         lines.append(f"<h3>{text(other)}</h3>" + bullets([it.text for it in reason.idle[:most]]))
@@ -135,30 +136,42 @@ def page(title, head, sections):
 STYLE = """
 :root{color-scheme:light dark;--ink:#1d2530;--dim:#667180;--back:#fff;--soft:#f2f4f7;--line:#d9dee5;--used:#2f74b5;--full:#c9660a;--across:#c0282d;
 --full-back:#fdf0e1;--low-back:#e8f1fb;--idle:#c3cad3;--node:#fff;--gives:#e5f3ea;--needs:#e8f0fb;--marked:#fbe6e6}
-@media (prefers-color-scheme:dark){:root{--ink:#e4e8ee;--dim:#98a3b2;--back:#151a21;--soft:#1f2630;--line:#37414e;--used:#69abe8;--full:#f0a04b;--across:#ff7276;
---full-back:#3a2a17;--low-back:#1c2d42;--idle:#4b5664;--node:#1f2630;--gives:#1c3326;--needs:#1d2c42;--marked:#44201f}}
-*{box-sizing:border-box}body{font:15px/1.5 system-ui,sans-serif;color:var(--ink);background:var(--back);margin:0 auto;max-width:1240px;padding:20px 16px 40px}
+@media (prefers-color-scheme:dark){:root{--ink:#e4e8ee;--dim:#98a3b2;--back:#151a21;--soft:#1f2630;--line:#37414e;
+
+--used:#69abe8;--full:#f0a04b;--across:#ff7276;--full-back:#3a2a17;--low-back:#1c2d42;--idle:#4b5664;--node:#1f2630;--gives:#1c3326;--needs:#1d2c42;--marked:#44201f}}
+*{box-sizing:border-box}
+body{font:15px/1.5 system-ui,sans-serif;color:var(--ink);background:var(--back);margin:0 auto;max-width:1240px;padding:20px 16px 40px}
 h1{font-size:1.4rem;margin:0 0 4px}h2{font-size:1.15rem;margin:32px 0 6px}h3{font-size:1rem;margin:14px 0 4px}p{margin:4px 0 8px}
-.value{font-size:1.75rem;font-weight:650;overflow-wrap:anywhere}.none{color:var(--across)}.reason{font-size:1.1rem;font-weight:600}footer,.dim{color:var(--dim)}footer{margin-top:36px;font-size:.85rem}
+.value{font-size:1.75rem;font-weight:650;overflow-wrap:anywhere}.none{color:var(--across)}.reason{font-size:1.1rem;font-weight:600}
+footer,.dim{color:var(--dim)}footer{margin-top:36px;font-size:.85rem}
 .scroll{max-height:30rem;overflow:auto;border:1px solid var(--line);border-radius:6px;width:fit-content;max-width:100%}
-table{border-collapse:collapse;font-variant-numeric:tabular-nums}th{position:sticky;top:0;background:var(--soft);padding:0;text-align:left;white-space:nowrap}
-th button{all:unset;cursor:pointer;padding:4px 12px;display:block;font-weight:600}th.number button{text-align:right}th button:focus-visible{outline:2px solid var(--used);outline-offset:-2px}
+table{border-collapse:collapse;font-variant-numeric:tabular-nums}
+th{position:sticky;top:0;background:var(--soft);padding:0;text-align:left;white-space:nowrap}
+th button{all:unset;cursor:pointer;padding:4px 12px;display:block;font-weight:600}th.number button{text-align:right}
+th button:focus-visible{outline:2px solid var(--used);outline-offset:-2px}
 th[aria-sort=ascending] button::after{content:" \\2191"}th[aria-sort=descending] button::after{content:" \\2193"}
 td{padding:3px 12px;border-top:1px solid var(--line)}td.number{text-align:right;white-space:nowrap}td.flow{font-weight:600}td.end{color:var(--dim)}
-tr.full td{background:var(--full-back)}tr.lowest td{background:var(--low-back)}span.full{background:var(--full-back);padding:0 5px;border-radius:3px}span.lowest{background:var(--low-back);padding:0 5px;border-radius:3px}
+tr.full td{background:var(--full-back)}tr.lowest td{background:var(--low-back)}
+span.full{background:var(--full-back);padding:0 5px;border-radius:3px}
+span.lowest{background:var(--low-back);padding:0 5px;border-radius:3px}
 tr.more,.later{display:none}section.all tr.more{display:table-row}section.all .later{display:block}
 th.wrap{white-space:normal;min-width:9rem}
-.toggle,.tools button{font:inherit;font-size:.9rem;color:inherit;background:var(--soft);border:1px solid var(--line);border-radius:5px;padding:2px 10px;cursor:pointer}
+.toggle,.tools button{font:inherit;font-size:.9rem;color:inherit;background:var(--soft);border:1px solid var(--line);
+border-radius:5px;padding:2px 10px;cursor:pointer}
 .pair{display:flex;flex-wrap:wrap;gap:8px 32px}.pair>div{max-width:100%}
 .picture{border:1px solid var(--line);border-radius:6px;overflow:auto;max-height:80vh;background:var(--back)}svg{display:block;margin:0 auto}
-svg text{font:13px system-ui,sans-serif;fill:var(--ink);text-anchor:middle}.node rect{fill:var(--node);stroke:var(--dim)}.node.gives rect{fill:var(--gives)}.node.needs rect{fill:var(--needs)}
+svg text{font:13px system-ui,sans-serif;fill:var(--ink);text-anchor:middle}.node rect{fill:var(--node);stroke:var(--dim)}
+.node.gives rect{fill:var(--gives)}.node.needs rect{fill:var(--needs)}
 .node.marked rect{fill:var(--marked);stroke:var(--across);stroke-width:2}.node .line1{fill:var(--dim);font-size:12px}
 .arc path{fill:none}.arc text{font-size:12px;font-weight:600;paint-order:stroke;stroke:var(--back);stroke-width:4px}
 .idle path{stroke:var(--idle);stroke-dasharray:3 3}.used path{stroke:var(--used)}.full path{stroke:var(--full)}.across path{stroke:var(--across)}
-.head path{stroke:none;stroke-dasharray:none}.head.idle path{fill:var(--idle)}.head.used path{fill:var(--used)}.head.full path{fill:var(--full)}.head.across path{fill:var(--across)}
+.head path{stroke:none;stroke-dasharray:none}.head.idle path{fill:var(--idle)}.head.used path{fill:var(--used)}
+.head.full path{fill:var(--full)}.head.across path{fill:var(--across)}
 .arc.faint{opacity:.07}.node:focus{outline:none}.node:focus rect,.node:hover rect{stroke:var(--ink);stroke-width:2}
-.key{display:flex;flex-wrap:wrap;gap:4px 18px;align-items:center}.key i{display:inline-block;width:26px;height:0;border-top:4px solid;margin-right:6px;vertical-align:middle}
-.key .idle{border-top:2px dashed var(--idle)}.key .used{border-color:var(--used)}.key .full{border-color:var(--full)}.key .across{border-color:var(--across)}
+.key{display:flex;flex-wrap:wrap;gap:4px 18px;align-items:center}
+.key i{display:inline-block;width:26px;height:0;border-top:4px solid;margin-right:6px;vertical-align:middle}
+.key .idle{border-top:2px dashed var(--idle)}.key .used{border-color:var(--used)}.key .full{border-color:var(--full)}
+.key .across{border-color:var(--across)}
 @media (max-width:700px){td,th button{padding-left:7px;padding-right:7px}th.end,td.end{display:none}}
 @media print{.scroll,.picture{max-height:none;overflow:visible}.toggle,.tools{display:none}}
 """
