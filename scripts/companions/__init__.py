@@ -1,0 +1,1 @@
+"""Checks of the programs in share/companions, which scripts/check_companions runs."""

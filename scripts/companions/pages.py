@@ -1,0 +1,141 @@
+"""The pages of netflow-report: well-formed, whole, and in a browser."""
+import html
+import html.parser
+import json
+import random
+import re
+import shutil
+import subprocess
+
+from companions import mistakes
+from companions.common import EXAMPLES, TOP, question, run, write
+
+
+class Page(html.parser.HTMLParser):
+    """Whether a page's tags are closed as they were opened, and what it asks for from elsewhere."""
+
+    VOID = {"meta", "br", "hr", "img", "input", "link"}
+
+    def __init__(self, text):
+        super().__init__()
+        self.open, self.faults, self.count = [], [], {}
+        self.feed(text)
+        self.faults += [f"{it} is not closed" for it in self.open]
+
+    def handle_starttag(self, tag, attrs):
+        self.count[tag] = self.count.get(tag, 0) + 1
+        self.faults += [f"{name}={it} leads elsewhere" for name, it in attrs if name in ("src", "href", "xlink:href", "action") and not str(it).startswith("#")]
+        if tag not in self.VOID:
+            self.open.append(tag)
+
+    def handle_endtag(self, tag):
+        if not self.open or self.open.pop() != tag:
+            self.faults.append(f"</{tag}> closes nothing")
+
+    def handle_startendtag(self, tag, attrs):
+        self.count[tag] = self.count.get(tag, 0) + 1
+
+
+def transport(depots, shops, is_short):
+    """A model of so many depots and shops, with a name that wants to be told apart from marks."""
+    dice = random.Random(f"{depots} {shops}")
+    need = [dice.randint(5, 40) for _ in range(shops)]
+    has = sum(need) // depots + (-2 if is_short else 12)
+    names = ["<b>&\"'", *(f"shop {it}" for it in range(1, shops))]
+    quoted = [mistakes.quoted(it) for it in names]
+    rows = "\n".join(f"d{it} " + " ".join(str(dice.randint(3, 60)) for _ in names) for it in range(depots))
+    model = """set D; set S; param wants {S}; param cost {D, S}; param has;
+minimize Total; node Depot {d in D}: net_out <= has; node Shop {s in S}: net_in = wants[s];
+arc Drive {d in D, s in S} >= 0, <= 40, from Depot[d], to Shop[s], obj Total cost[d,s];
+"""
+    data = f"set D := {' '.join(f'd{it}' for it in range(depots))};\nset S := {' '.join(quoted)};\nparam has := {has};\n"
+    data += f"param wants := {', '.join(f'{it} {number}' for it, number in zip(quoted, need))};\nparam cost: {' '.join(quoted)} :=\n{rows}\n;\n"
+    return model, data
+
+
+SIZES = ((2, 5), (5, 20), (20, 50))
+
+
+def pages(folder):
+    """The name of a page, its words, and its text."""
+    for depots, shops in SIZES:
+        for is_short in (False, True):
+            name = f"{depots * shops}{'_short' if is_short else ''}"
+            model, data = transport(depots, shops, is_short)
+            words = write(folder, f"{name}.mod", model), write(folder, f"{name}.dat", data)
+            yield name, words, run("netflow-report", *words)
+    for name in ("storage", "crews", "week", "two_objectives", "max_flow"):
+        words = EXAMPLES.words_of(TOP / "examples" / name)
+        yield name, words, run("netflow-report", *words)
+
+
+def overlapping(svg):
+    """Pairs of nodes that are drawn one on the other."""
+    boxes = [tuple(map(float, it)) for it in re.findall(r'<rect x="([-\d.]+)" y="([-\d.]+)" width="([\d.]+)" height="([\d.]+)"', svg)]
+    return [(a, b) for here, a in enumerate(boxes) for b in boxes[:here]
+            if a[0] < b[0] + b[2] and b[0] < a[0] + a[2] and a[1] < b[1] + b[3] and b[1] < a[1] + a[3]]
+
+
+def check_pages(complaints, folder):
+    for name, words, (status, text, told) in pages(folder):
+        net, wanted, _ = question(*words)
+        complaints.same(f"report {name}: status", (wanted, ""), (status, told))
+        page = Page(text)
+        complaints.same(f"report {name}: tags", [], page.faults)
+        complaints.want("url(" not in re.sub(r"url\(#\w+\)", "", text), f"report {name}: something is fetched")
+        tables = re.findall(r"<section><h2>([^<]*)</h2>\n<p>(\d+) arcs?,.*?</section>", text, re.S)
+        complaints.same(f"report {name}: arcs", {it: len(arcs) for it, arcs in net.declared().items()}, {it: int(count) for it, count in tables})
+        rows = sum(part.count("<tr") - 1 for part in re.findall(r"<section><h2>[^<]*</h2>\n<p>\d+ arcs?,(.*?)</section>", text, re.S))
+        complaints.same(f"report {name}: rows", len(net.arcs), rows)
+        complaints.same(f"report {name}: nodes on one another", [], overlapping(text))
+        complaints.want(status == 0 or re.search(r'class="reason">[^<]* (short|too much)\.', text), f"report {name}: no reason")
+        complaints.want(status or f"{net.objective} = {net.value}<" in text, f"report {name}: no value")
+
+
+# In a browser
+
+TRIAL = """<script>
+addEventListener('error',function(it){document.body.dataset.error=it.message});
+addEventListener('load',function(){var said={};
+ var button=document.querySelector('.toggle'),section=button?button.closest('section'):Array.from(document.querySelectorAll('section')).pop();
+ if(button)button.click();
+ var heads=Array.from(section.querySelectorAll('th')),place=heads.findIndex(function(it){return it.textContent==='most'});
+ function rows(){return Array.from(section.querySelectorAll('tbody tr')).map(function(it){return it.cells[place].textContent})}
+ heads[place].firstChild.click();said.up=rows();heads[place].firstChild.click();said.down=rows();
+ said.shown=Array.from(section.querySelectorAll('tbody tr')).filter(function(it){return it.getClientRects().length}).length;said.rows=rows().length;
+ said.overflow=document.documentElement.scrollWidth-document.documentElement.clientWidth;
+ said.dark=matchMedia('(prefers-color-scheme:dark)').matches;
+ var texts=Array.from(document.querySelectorAll('svg .node')).filter(function(it){var box=it.querySelector('rect').getBBox();
+  return Array.from(it.querySelectorAll('text')).some(function(t){var b=t.getBBox();return b.x<box.x||b.x+b.width>box.x+box.width})});said.wide=texts.length;
+ document.body.dataset.said=JSON.stringify(said)})</script>"""
+
+
+def opened(browser, path, width, is_dark):
+    """What the page's trial says in a window of this width, and the errors of its console."""
+    dark = ["--blink-settings=preferredColorScheme=0"] if is_dark else []
+    words = [browser, "--headless=new", "--no-sandbox", "--disable-gpu", "--enable-logging=stderr", "--v=0", "--virtual-time-budget=3000",
+             f"--window-size={width},900", *dark, "--dump-dom", path.as_uri()]
+    done = subprocess.run(words, capture_output=True, encoding="utf-8", errors="replace", timeout=120)
+    found = re.search(r'data-said="([^"]*)"', done.stdout)
+    errors = re.findall(r"CONSOLE.*", done.stderr) + re.findall(r'data-error="[^"]*"', done.stdout)
+    return (html.unescape(found[1]) if found else None), errors
+
+
+def check_browser(complaints, folder):
+    browser = shutil.which("chromium") or shutil.which("chromium-browser") or shutil.which("google-chrome")
+    if not browser:
+        complaints.append("no chromium is on the PATH")
+        return
+    for name, _, (_, text, _) in pages(folder):
+        path = write(folder, f"{name}.html", text.replace("</body>", f"{TRIAL}</body>"))
+        for width, is_dark in ((1200, False), (500, True)):
+            said, errors = opened(browser, path, width, is_dark)
+            complaints.same(f"{name} at {width}: errors", [], errors)
+            said = json.loads(said) if said else complaints.append(f"{name} at {width}: nothing is said")
+            if said:
+                complaints.same(f"{name} at {width}: sorted", sorted(said["up"], key=int), said["up"])
+                complaints.same(f"{name} at {width}: sorted down", sorted(said["up"], key=int, reverse=True), said["down"])
+                complaints.same(f"{name} at {width}: rows shown", said["rows"], said["shown"])
+                complaints.same(f"{name} at {width}: wider than the window", 0, said["overflow"])
+                complaints.same(f"{name} at {width}: dark", is_dark, said["dark"])
+                complaints.same(f"{name} at {width}: names wider than their nodes", 0, said["wide"])
