@@ -39,9 +39,9 @@ min_app = with_rule (new_app (codes "min")) (path_rule (codes "PROBLEM"))
 abbrev pub check_app : App
 check_app = with_rule (with_rule (new_app (codes "check")) (path_rule (codes "PROBLEM"))) (path_rule (codes "CERTIFICATE"))
 
--- one subcommand has to be given
+-- one subcommand has to be given; the program has a version, so `--version` and `-V` ask for it
 abbrev pub bare_app : App
-bare_app = record (new_app (codes "netflow")) { top = record (new_app (codes "netflow")).top { subcommand_required = true } }
+bare_app = record (new_app (codes "netflow")) { top = record (new_app (codes "netflow")).top { subcommand_required = true; has_version = true } }
 
 abbrev pub netflow_app : App
 netflow_app = with_subcommand (with_subcommand (with_subcommand (with_subcommand bare_app compile_app.top) solve_app.top) min_app.top) check_app.top

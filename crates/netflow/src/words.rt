@@ -39,7 +39,7 @@ pub struct Words {
 #[derive(Drop)]
 pub enum WordsFault {
     OutOfMemory,
-    /// Wrong words, or help that was asked for.
+    /// Wrong words, or help or the version that was asked for.
     Usage(Error),
     /// No subcommand that this program has.
     NoCommand,
@@ -50,6 +50,9 @@ impl From<AllocError> for WordsFault {
         WordsFault::OutOfMemory
     }
 }
+
+/// The version that `--version` tells: that of CHANGELOG.md.
+const VERSION: &str = "0.9.0";
 
 const ABOUT: &str = "Minimum-cost flow: models in AMPL's words solved and compiled, DIMACS problems
 solved, certificates checked";
@@ -200,6 +203,7 @@ fn bare_command<'a>(alloc: Global) -> Command<'a>
     ensures { IsApp bare_app result }
 {
     Command::new(alloc, "netflow")
+        .version(VERSION)
         .about(ABOUT)
         .after_help(STATUSES)
         .subcommand_required(true)
@@ -332,7 +336,7 @@ fn lean_of(action: Action, matches: &ArgMatches<'_>) -> bool
 }
 
 /// What these words ask for; the first is the program's name. `Usage` is what clap says of words that ask for nothing
-/// that is there, or for help; `NoCommand` is a subcommand of clap's own.
+/// that is there, or for help or the version; `NoCommand` is a subcommand of clap's own.
 pub fn words_of(alloc: Global, words: &[String]) -> Result<Words, WordsFault>
     ensures value { IfOk result (IsAskedBy (map string_bytes words.now)) }
 {
