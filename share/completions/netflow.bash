@@ -2,7 +2,7 @@
 _netflow() {
     local word=${COMP_WORDS[COMP_CWORD]}
     if [ "$COMP_CWORD" -eq 1 ]; then
-        COMPREPLY=($(compgen -W "solve compile min check help --help" -- "$word"))
+        COMPREPLY=($(compgen -W "solve compile min check help --help --version" -- "$word"))
     elif [ "${COMP_WORDS[1]}" = help ]; then
         COMPREPLY=($(compgen -W "solve compile min check" -- "$word"))
     else

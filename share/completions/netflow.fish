@@ -8,6 +8,7 @@ complete -c netflow -n "__fish_seen_subcommand_from help" -f -a "solve compile m
 complete -c netflow -n "__fish_seen_subcommand_from solve compile" -l objective -x -d "The objective, where the model has several"
 complete -c netflow -n "__fish_seen_subcommand_from solve compile" -l lean -f -d "No lower bounds, and no arcs of equal bounds, in the problem"
 complete -c netflow -s h -l help -d "Print help"
+complete -c netflow -n __fish_use_subcommand -s V -l version -d "Print the version"
 complete -c netflow-why -l objective -x -d "The objective, where the model has several"
 complete -c netflow-why -l all -d "Every line of each list"
 complete -c netflow-report -l objective -x -d "The objective, where the model has several"
