@@ -1,5 +1,5 @@
 -- A tuple more at the end, and the maps that tell the places.
-use Rattle.std.specs.Prelude.{◌≡◌, ℕ, zero, suc, ◌+◌, ◌<◌, Bool, true, false, cond, List, [], ◌∷◌, ◌++◌, ◌||◌, length, is_some, Option, None, Some, slice_get}
+use Rattle.std.specs.Prelude.{◌≡◌, ℕ, zero, suc, ◌+◌, ◌<◌, Bool, true, false, cond, List, [], ◌∷◌, ◌++◌, ◌||◌, length, is_some, Option, None, Some, slice_get, Result, Ok, Err, OnOk, OnErr}
 use Rattle.std.specs.List.{position_from, IsDistinct}
 use Rattle.std.specs.BTreeMap.{BTreeMap, insert_entry, is_at}
 use Rattle.std.specs.Global.{Vec}
@@ -8,7 +8,7 @@ use Rattle.std.specs.declared.cmp.Ordering.{Ordering}
 use Rattle.std.specs.declared.cmp.Ordering.TheVariants.{Less, Equal, Greater}
 use Rattle.std.specs.Ordering.{is_eq, match_ordering, nat_cmp}
 use Rattle.std.specs.Cmp.{IsEquivalence}
-use Rattle.std.proofs.Common.{refl, ap, sym, ◌∙◌, arith}
+use Rattle.std.proofs.Common.{refl, ap, sym, subst, ◌∙◌, arith}
 use Rattle.std.proofs.lemmas.Bool.Decides.{Decides-eqb}
 use Rattle.std.proofs.lemmas.List.{length-append}
 use Rattle.std.proofs.lemmas.Map.Keys.{IsDistinct-push}
@@ -184,6 +184,22 @@ kept_same ts marks new_marks others new_others kept same = record {
   distinct = kept.distinct;
   few = kept.few;
 }
+
+-- what is answered says whether a tuple was put at the end
+pub kept_put : {X E : Type 0} (r : Result X E) (ts new_ts : List Tuple) (t : Tuple) (marks new_marks : BTreeMap ℕ ℕ) (others new_others : BTreeMap (Vec Member) ℕ) (first : Option ℕ)
+    → IsKept ts marks others → has ts t ≡ false → length ts < tuples_limit → first ≡ marked marks (mark_of t)
+    → OnOk r (new_ts ≡ ts ++ t ∷ []) → OnOk r (IsEntered first t (length ts) marks new_marks others new_others) → OnErr r (new_ts ≡ ts) → OnErr r (IsSame marks new_marks others new_others)
+    → IsKept new_ts new_marks new_others
+kept_put (Ok x) ts new_ts t marks new_marks others new_others first kept fresh room is last entered items maps =
+    rw last (kept_more ts t marks new_marks others new_others kept fresh room (subst (λ o. IsEntered o t (length ts) marks new_marks others new_others) is entered))
+kept_put (Err e) ts new_ts t marks new_marks others new_others first kept fresh room is last entered items maps =
+    rw items (kept_same ts marks new_marks others new_others kept maps)
+
+-- whether a tuple is found says whether it is there
+pub found_there : (ts slice : List Tuple) (t : Tuple) (marks : BTreeMap ℕ ℕ) (others : BTreeMap (Vec Member) ℕ) (first place : Option ℕ) (mark : ℕ) → IsKept ts marks others
+    → mark ≡ mark_of t → first ≡ marked marks mark → slice ≡ ts → place ≡ found slice first (told others t) t → is_some place ≡ has ts t
+found_there ts slice t marks others first place mark kept m f s p =
+    ap is_some (p ∙ (ap (λ all. found all first (told others t) t) s ∙ (ap (λ o. found ts o (told others t) t) (f ∙ ap (marked marks) m) ∙ kept.tells t))) ∙ has_place t 0 ts
 
 alike_of : (s t : Tuple) → is_eq (tuple_order s t) ≡ true → s ≡ t
 alike_of s t h = (tuple_decides s t).0 (sym (order_equal s t) ∙ h)

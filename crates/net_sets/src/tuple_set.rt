@@ -3,7 +3,7 @@ ghost use Rattle.std.specs.Option.{option_copied};
 ghost use Rattle.std.specs.Ordering.{is_eq, nat_cmp};
 ghost use Rattle.std.specs.List.{IsDistinct};
 ghost use Rattle.net_sets.specs.declared.member.Member.{Member};
-ghost use Rattle.net_sets.specs.Kept.{told, marked, stands_at, IsEntered, IsSame};
+ghost use Rattle.net_sets.specs.Kept.{told, marked, stands_at, found, IsEntered, IsSame};
 ghost use Rattle.net_sets.specs.Limits.{tuples_limit};
 ghost use Rattle.net_sets.specs.Made.{IsMade, with_set};
 ghost use Rattle.net_sets.specs.Marks.{mark_of};
@@ -89,6 +89,22 @@ fn stands_at<'s>(tuples: &[Tuple<'s>], place: Option<usize>, tuple: &Tuple<'s>) 
     }
 }
 
+/// The place of a tuple, where that of the first with its mark is known.
+fn find<'s>(
+    tuples: &[Tuple<'s>],
+    others: &BTreeMap<Vec<Member<'s>>, usize>,
+    first: Option<usize>,
+    tuple: &Tuple<'s>,
+) -> Option<usize>
+    ensures { result ≡ found tuples.now first (told others.now tuple.now) tuple.now }
+{
+    if stands_at(tuples, first, tuple) {
+        first
+    } else {
+        others.get(tuple.as_slice()).copied()
+    }
+}
+
 /// Tells the place of the first tuple with a mark.
 fn insert_mark(marks: &mut BTreeMap<u64, usize>, mark: u64, place: usize) -> Result<(), AllocError>
     ensures ok { OnOk result ((m : ℕ) → marked marks.new m ≡ if is_eq (nat_cmp mark m) then Some place else marked marks.old m) }
@@ -105,20 +121,45 @@ fn enter<'s>(
     alloc: Global,
     marks: &mut BTreeMap<u64, usize>,
     others: &mut BTreeMap<Vec<Member<'s>>, usize>,
+    mark: u64,
+    first: Option<usize>,
     tuple: &Tuple<'s>,
     place: usize,
 ) -> Result<(), AllocError>
-    ensures ok { OnOk result (IsEntered (marked marks.old (mark_of tuple.now)) tuple.now place marks.old marks.new others.old others.new) }
+    requires mark { mark ≡ mark_of tuple.now }
+    ensures ok { OnOk result (IsEntered first tuple.now place marks.old marks.new others.old others.new) }
     ensures err { OnErr result (IsSame marks.old marks.new others.old others.new) }
 {
-    let mark = tuple.mark();
-    match first_marked(marks, mark) {
+    match first {
         None => insert_mark(marks, mark, place),
         Some(_) => {
             let members = members_of(alloc, tuple)?;
             insert(others, members, place)
         }
     }
+}
+
+/// Puts a tuple at the end, and tells its place.
+fn put<'s>(
+    tuples: &mut Vec<Tuple<'s>>,
+    marks: &mut BTreeMap<u64, usize>,
+    others: &mut BTreeMap<Vec<Member<'s>>, usize>,
+    mark: u64,
+    first: Option<usize>,
+    tuple: Tuple<'s>,
+) -> Result<(), AllocError>
+    requires mark { mark ≡ mark_of tuple }
+    ensures last { OnOk result (tuples.new.items ≡ tuples.old.items ++ tuple.entry ∷ []) }
+    ensures entered { OnOk result (IsEntered first tuple.entry (length tuples.old.items) marks.old marks.new others.old others.new) }
+    ensures items { OnErr result (tuples.new.items ≡ tuples.old.items) }
+    ensures maps { OnErr result (IsSame marks.old marks.new others.old others.new) }
+{
+    let alloc = *tuples.allocator();
+    let place = tuples.len();
+    tuples.reserve(1)?;
+    enter(alloc, marks, others, mark, first, &tuple, place)?;
+    tuples.push_reserved(tuple);
+    Ok(())
 }
 
 impl<'s> TupleSet<'s> {
@@ -152,12 +193,8 @@ impl<'s> TupleSet<'s> {
     pub fn position(&self, tuple: &Tuple<'s>) -> Option<usize>
         ensures { result ≡ place_of self.now tuple.now }
     {
-        let place = first_marked(&self.marks, tuple.mark());
-        if stands_at(self.tuples.as_slice(), place, tuple) {
-            place
-        } else {
-            self.others.get(tuple.as_slice()).copied()
-        }
+        let first = first_marked(&self.marks, tuple.mark());
+        find(self.tuples.as_slice(), &self.others, first, tuple)
     }
 
     pub fn contains(&self, tuple: &Tuple<'s>) -> bool
@@ -179,12 +216,16 @@ impl<'s> TupleSet<'s> {
         ensures ok { OnOk result (self.new ≡ self.old ++ tuple.entry ∷ []) }
         ensures err { OnErr result (self.new ≡ self.old) }
     {
-        let alloc = *self.tuples.allocator();
-        let place = self.tuples.len();
-        self.tuples.reserve(1)?;
-        enter(alloc, &mut self.marks, &mut self.others, &tuple, place)?;
-        self.tuples.push_reserved(tuple);
-        Ok(())
+        let mark = tuple.mark();
+        let first = first_marked(&self.marks, mark);
+        put(
+            &mut self.tuples,
+            &mut self.marks,
+            &mut self.others,
+            mark,
+            first,
+            tuple,
+        )
     }
 
     /// Puts a tuple at the end, or leaves the set as it is where it has the tuple. `TooMany` is answered where the set has as
@@ -196,11 +237,20 @@ impl<'s> TupleSet<'s> {
         // A set that would be too large is told so.
         ensures memory { IsErrOf result SetFault.OutOfMemory → length (added self.old tuple.entry) ≤ tuples_limit }
     {
-        let has_room = self.len() < TUPLES_LIMIT;
-        if self.contains(&tuple) {
+        let mark = tuple.mark();
+        let first = first_marked(&self.marks, mark);
+        let place = find(self.tuples.as_slice(), &self.others, first, &tuple);
+        if place.is_some() {
             Ok(())
-        } else if has_room {
-            self.push(tuple)?;
+        } else if self.tuples.len() < TUPLES_LIMIT {
+            put(
+                &mut self.tuples,
+                &mut self.marks,
+                &mut self.others,
+                mark,
+                first,
+                tuple,
+            )?;
             Ok(())
         } else {
             Err(SetFault::TooMany)
