@@ -1,8 +1,9 @@
 -- Texts, sets and ranges that are worked out.
-use Rattle.std.specs.Prelude.{◌≡◌, ℕ, true, false, [], ◌∷◌, None, Some, pos, negsuc, codes}
+use Rattle.std.specs.Prelude.{◌≡◌, ℕ, true, false, [], ◌∷◌, None, Some, fold, pos, negsuc, codes}
 use Rattle.std.proofs.Common.{refl}
 use Rattle.net_sets.specs.declared.member.Member.TheVariants.{Number, Name}
 use Rattle.net_sets.specs.Texts.{text_of}
+use Rattle.net_sets.specs.Marks.{stirred}
 use Rattle.net_sets.specs.Sets.{Tuple, same_member}
 use Rattle.net_sets.specs.Operations.{union, difference, intersection, symmetric_difference, product, is_within, narrowest}
 use Rattle.net_sets.specs.Components.{sought}
@@ -32,6 +33,11 @@ empty = refl
 
 five : same_member (Number (pos 5)) (Name (text_of (codes "'5'"))) ≡ false
 five = refl
+
+-- a published value of FNV-1a
+marked : fold stirred 14695981039346656037 (codes "foobar") ≡ 9625390261332436968
+unfolding stirred
+marked = refl
 
 n : ℕ → Tuple
 n k = Number (pos k) ∷ []

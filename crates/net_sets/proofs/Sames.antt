@@ -44,7 +44,7 @@ lists_equal R E h [] (y ∷ ys) = refl
 lists_equal R E h (x ∷ xs) [] = refl
 lists_equal R E h (x ∷ xs) (y ∷ ys) = rw (is_eq_then, h x y, lists_equal R E h xs ys)
 
-nat_equal : (x y : ℕ) → is_eq (nat_cmp x y) ≡ nat_eq x y
+pub nat_equal : (x y : ℕ) → is_eq (nat_cmp x y) ≡ nat_eq x y
 nat_equal x y = grind (arith, nat_tests)
 
 int_equal : (x y : ℤ) → is_eq (int_cmp x y) ≡ int_eq x y

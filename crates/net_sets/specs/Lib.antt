@@ -2,6 +2,7 @@ pub mod Limits
 pub mod Texts
 pub mod Sets
 pub mod Orders
+pub mod Marks
 pub mod Kept
 pub mod Held
 pub mod Operations

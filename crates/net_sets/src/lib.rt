@@ -6,6 +6,7 @@ mod fault;
 mod held;
 mod indexed_set;
 mod laws;
+mod mark;
 mod member;
 mod operations;
 mod range;

@@ -1,5 +1,7 @@
 ghost use Rattle.std.specs.Prelude.{◌≡◌};
+ghost use Rattle.net_sets.specs.Marks.{with_member};
 
+use crate::mark::stirred;
 use crate::text::Text;
 
 /// A whole number or a text. `5` and `'5'` differ.
@@ -10,6 +12,16 @@ pub enum Member<'s> {
 }
 
 impl<'s> Member<'s> {
+    /// A mark with this member more.
+    pub(crate) fn stirred_into(&self, mark: u64) -> u64
+        ensures { result ≡ with_member mark self.now }
+    {
+        match self {
+            Member::Number(number) => stirred(mark, number.cast_unsigned()),
+            Member::Name(text) => text.stirred_into(mark),
+        }
+    }
+
     /// The same member once more; no byte is copied.
     pub fn again(&self) -> Member<'s>
         ensures { result ≡ self.now }

@@ -1,9 +1,11 @@
-ghost use Rattle.std.specs.Prelude.{◌≡◌, ◌<◌, ◌+◌, ◌-◌, ◌∷◌, [], ◌++◌, length, take, IsTrue, MatchOption, OnOk};
+ghost use Rattle.std.specs.Prelude.{◌≡◌, ◌<◌, ◌+◌, ◌-◌, ◌∷◌, [], ◌++◌, fold, length, take, IsTrue, MatchOption, OnOk};
 ghost use Rattle.std.specs.Ordering.{nat_cmp};
 ghost use Rattle.std.specs.Cmp.Lexicographic.{slice_cmp};
 ghost use Rattle.net_lex.specs.Characters.{is_quote};
+ghost use Rattle.net_sets.specs.Marks.{stirred};
 ghost use Rattle.net_sets.specs.Texts.{text_of, spelled, single, same_text};
 
+use crate::mark::{stirred, stirred_bytes};
 use net_lex::Excerpt;
 use std::alloc::AllocError;
 use std::cmp::Ordering;
@@ -108,6 +110,19 @@ fn shortest(token: &[u8]) -> &[u8]
     }
 }
 
+/// A mark with the bytes of a spelling more.
+fn stirred_spelling(mark: u64, spelling: (&[u8], Option<u8>)) -> u64
+    ensures { result ≡ fold stirred mark (spelled spelling.entry.1 spelling.entry.0.now) }
+{
+    let (mut left, doubled) = spelling;
+    let mut mark = mark;
+    while let Some((byte, behind)) = first(left, doubled) {
+        mark = stirred(mark, u64::from(byte));
+        left = behind;
+    }
+    mark
+}
+
 impl<'s> Text<'s> {
     /// The text of a token that is a name or a string.
     pub fn new(token: &Excerpt<'s>) -> Text<'s>
@@ -129,6 +144,18 @@ impl<'s> Text<'s> {
             left = behind;
         }
         Ok(())
+    }
+
+    /// A mark with this text more, behind a byte that no text has.
+    pub(crate) fn stirred_into(&self, mark: u64) -> u64
+        ensures { result ≡ fold stirred (stirred mark 255) self.now }
+    {
+        let begun = stirred(mark, 255);
+        if is_plain(self.bytes) {
+            stirred_bytes(begun, self.bytes)
+        } else {
+            stirred_spelling(begun, spelling(self.bytes))
+        }
     }
 
     /// The same text once more; no byte is copied.

@@ -1,9 +1,13 @@
 ghost use Rattle.std.specs.Prelude.{◌≡◌, ◌<◌, ◌+◌, ◌≤◌, ◌↔◌, IsTrue, [], ◌∷◌, ◌++◌, length};
 ghost use Rattle.net_sets.specs.Limits.{arity_limit};
+ghost use Rattle.net_sets.specs.Marks.{mark_of};
 
 use crate::member::Member;
 use arrayvec::ArrayVec;
 use std::marker::Model;
+
+/// The mark of the tuple without members, from which FNV-1a begins.
+const NO_MEMBERS: u64 = 14695981039346656037;
 
 /// Up to four members, which contracts see as their list.
 #[derive(PartialEq, Eq, PartialOrd, Ord, Drop)]
@@ -78,6 +82,18 @@ impl<'s> Tuple<'s> {
             both.add(member.again());
         }
         both
+    }
+
+    /// A number by which the tuple is found, which others may have too.
+    #[tactic(auto, unfolding(crate::specs::Marks::mark_of))]
+    pub(crate) fn mark(&self) -> u64
+        ensures { result ≡ mark_of self.now }
+    {
+        let mut mark = NO_MEMBERS;
+        for member in self.as_slice() {
+            mark = member.stirred_into(mark);
+        }
+        mark
     }
 
     /// The same tuple once more.

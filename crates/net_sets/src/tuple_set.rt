@@ -1,11 +1,12 @@
-ghost use Rattle.std.specs.Prelude.{◌≡◌, ◌<◌, ◌≤◌, ◌++◌, ◌∷◌, [], List, Some, false, if◌then◌else◌, length, slice_get, IfOk, OnOk, OnErr, IsErrOf};
+ghost use Rattle.std.specs.Prelude.{◌≡◌, ◌<◌, ◌≤◌, ◌++◌, ◌∷◌, [], ℕ, List, Some, false, if◌then◌else◌, length, slice_get, IfOk, OnOk, OnErr, IsErrOf};
 ghost use Rattle.std.specs.Option.{option_copied};
-ghost use Rattle.std.specs.Ordering.{is_eq};
+ghost use Rattle.std.specs.Ordering.{is_eq, nat_cmp};
 ghost use Rattle.std.specs.List.{IsDistinct};
 ghost use Rattle.net_sets.specs.declared.member.Member.{Member};
-ghost use Rattle.net_sets.specs.Kept.{told};
+ghost use Rattle.net_sets.specs.Kept.{told, marked, stands_at, found, IsEntered, IsSame};
 ghost use Rattle.net_sets.specs.Limits.{tuples_limit};
 ghost use Rattle.net_sets.specs.Made.{IsMade, with_set};
+ghost use Rattle.net_sets.specs.Marks.{mark_of};
 ghost use Rattle.net_sets.specs.Orders.{tuple_order};
 ghost use Rattle.net_sets.specs.Sets.{has, added, place_of, same_tuple};
 
@@ -20,12 +21,14 @@ use std::marker::Model;
 pub(crate) const TUPLES_LIMIT: usize = 1_000_000;
 
 /// Distinct tuples in the order of their first appearance, which contracts see as their list. They are found in an ordered
-/// map, which no text can make slow.
+/// map by their marks, and those whose mark an earlier tuple has in one by their members, so that no text can make it slow.
 #[derive(Drop)]
 pub struct TupleSet<'s> {
     tuples: Vec<Tuple<'s>>,
-    /// The place of each tuple, by its members.
-    places: BTreeMap<Vec<Member<'s>>, usize>,
+    /// The place of the first tuple with each mark.
+    marks: BTreeMap<u64, usize>,
+    /// The place of each tuple whose mark an earlier one has, by its members.
+    others: BTreeMap<Vec<Member<'s>>, usize>,
 }
 
 impl<'s> Model for TupleSet<'s> {
@@ -37,7 +40,7 @@ impl<'s> Model for TupleSet<'s> {
 
     ghost view = { λ s. s.tuples.items };
 
-    ghost invariant = { λ s. IsKept s.tuples.items s.places };
+    ghost invariant = { λ s. IsKept s.tuples.items s.marks s.others };
 }
 
 /// The members of a tuple, in no more memory than they take.
@@ -66,6 +69,99 @@ fn insert<'s>(
     }
 }
 
+/// The place of the first tuple with a mark.
+fn first_marked(marks: &BTreeMap<u64, usize>, mark: u64) -> Option<usize>
+    ensures { result ≡ marked marks.now mark }
+{
+    marks.get(&mark).copied()
+}
+
+/// Whether a tuple stands at a place.
+fn stands_at<'s>(tuples: &[Tuple<'s>], place: Option<usize>, tuple: &Tuple<'s>) -> bool
+    ensures { result ≡ stands_at tuples.now place tuple.now }
+{
+    match place {
+        None => false,
+        Some(place) => match tuples.get(place) {
+            None => false,
+            Some(found) => *tuple == *found,
+        },
+    }
+}
+
+/// The place of a tuple, where that of the first with its mark is known.
+fn find<'s>(
+    tuples: &[Tuple<'s>],
+    others: &BTreeMap<Vec<Member<'s>>, usize>,
+    first: Option<usize>,
+    tuple: &Tuple<'s>,
+) -> Option<usize>
+    ensures { result ≡ found tuples.now first (told others.now tuple.now) tuple.now }
+{
+    if stands_at(tuples, first, tuple) {
+        first
+    } else {
+        others.get(tuple.as_slice()).copied()
+    }
+}
+
+/// Tells the place of the first tuple with a mark.
+fn insert_mark(marks: &mut BTreeMap<u64, usize>, mark: u64, place: usize) -> Result<(), AllocError>
+    ensures ok { OnOk result ((m : ℕ) → marked marks.new m ≡ if is_eq (nat_cmp mark m) then Some place else marked marks.old m) }
+    ensures err { OnErr result ((m : ℕ) → marked marks.new m ≡ marked marks.old m) }
+{
+    match marks.insert(mark, place) {
+        Ok(_) => Ok(()),
+        Err(_) => Err(AllocError),
+    }
+}
+
+/// Tells the place of a tuple, by its mark where no tuple has this yet.
+fn enter<'s>(
+    alloc: Global,
+    marks: &mut BTreeMap<u64, usize>,
+    others: &mut BTreeMap<Vec<Member<'s>>, usize>,
+    mark: u64,
+    first: Option<usize>,
+    tuple: &Tuple<'s>,
+    place: usize,
+) -> Result<(), AllocError>
+    requires mark { mark ≡ mark_of tuple.now }
+    ensures ok { OnOk result (IsEntered first tuple.now place marks.old marks.new others.old others.new) }
+    ensures err { OnErr result (IsSame marks.old marks.new others.old others.new) }
+{
+    match first {
+        None => insert_mark(marks, mark, place),
+        Some(_) => {
+            let members = members_of(alloc, tuple)?;
+            insert(others, members, place)
+        }
+    }
+}
+
+/// Puts a tuple at the end, and tells its place.
+fn put<'s>(
+    tuples: &mut Vec<Tuple<'s>>,
+    marks: &mut BTreeMap<u64, usize>,
+    others: &mut BTreeMap<Vec<Member<'s>>, usize>,
+    mark: u64,
+    first: Option<usize>,
+    tuple: Tuple<'s>,
+) -> Result<(), AllocError>
+    requires mark { mark ≡ mark_of tuple }
+    ensures last { OnOk result (tuples.new.items ≡ tuples.old.items ++ tuple.entry ∷ []) }
+    ensures entered { OnOk result (IsEntered first tuple.entry (length tuples.old.items) marks.old marks.new others.old others.new) }
+    ensures items { OnErr result (tuples.new.items ≡ tuples.old.items) }
+    ensures maps { OnErr result (IsSame marks.old marks.new others.old others.new) }
+{
+    let alloc = *tuples.allocator();
+    let place = tuples.len();
+    tuples.reserve(1)?;
+    enter(alloc, marks, others, mark, first, &tuple, place)?;
+    tuples.push_reserved(tuple);
+    Ok(())
+}
+
 impl<'s> TupleSet<'s> {
     /// The set without tuples.
     pub fn new(alloc: Global) -> TupleSet<'s>
@@ -73,7 +169,8 @@ impl<'s> TupleSet<'s> {
     {
         TupleSet {
             tuples: Vec::new(alloc),
-            places: BTreeMap::new(alloc),
+            marks: BTreeMap::new(alloc),
+            others: BTreeMap::new(alloc),
         }
     }
 
@@ -96,7 +193,8 @@ impl<'s> TupleSet<'s> {
     pub fn position(&self, tuple: &Tuple<'s>) -> Option<usize>
         ensures { result ≡ place_of self.now tuple.now }
     {
-        self.places.get(tuple.as_slice()).copied()
+        let first = first_marked(&self.marks, tuple.mark());
+        find(self.tuples.as_slice(), &self.others, first, tuple)
     }
 
     pub fn contains(&self, tuple: &Tuple<'s>) -> bool
@@ -118,16 +216,16 @@ impl<'s> TupleSet<'s> {
         ensures ok { OnOk result (self.new ≡ self.old ++ tuple.entry ∷ []) }
         ensures err { OnErr result (self.new ≡ self.old) }
     {
-        let place = self.tuples.len();
-        let members = members_of(*self.tuples.allocator(), &tuple)?;
-        self.tuples.push(tuple)?;
-        match insert(&mut self.places, members, place) {
-            Ok(()) => Ok(()),
-            Err(refused) => {
-                self.tuples.truncate(place);
-                Err(refused)
-            }
-        }
+        let mark = tuple.mark();
+        let first = first_marked(&self.marks, mark);
+        put(
+            &mut self.tuples,
+            &mut self.marks,
+            &mut self.others,
+            mark,
+            first,
+            tuple,
+        )
     }
 
     /// Puts a tuple at the end, or leaves the set as it is where it has the tuple. `TooMany` is answered where the set has as
@@ -139,11 +237,20 @@ impl<'s> TupleSet<'s> {
         // A set that would be too large is told so.
         ensures memory { IsErrOf result SetFault.OutOfMemory → length (added self.old tuple.entry) ≤ tuples_limit }
     {
-        let has_room = self.len() < TUPLES_LIMIT;
-        if self.contains(&tuple) {
+        let mark = tuple.mark();
+        let first = first_marked(&self.marks, mark);
+        let place = find(self.tuples.as_slice(), &self.others, first, &tuple);
+        if place.is_some() {
             Ok(())
-        } else if has_room {
-            self.push(tuple)?;
+        } else if self.tuples.len() < TUPLES_LIMIT {
+            put(
+                &mut self.tuples,
+                &mut self.marks,
+                &mut self.others,
+                mark,
+                first,
+                tuple,
+            )?;
             Ok(())
         } else {
             Err(SetFault::TooMany)
