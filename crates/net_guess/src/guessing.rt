@@ -28,6 +28,7 @@ pub fn find_guess(alloc: Global, problem: &Problem) -> Result<Guess, AllocError>
         Err(Halt::OutOfRange) => Ok(Guess::Flow {
             flows: Vec::new(alloc),
             potentials: Vec::new(alloc),
+            looks: 0,
         }),
         Err(Halt::OutOfMemory) => Err(AllocError),
     }
@@ -114,7 +115,11 @@ fn seen_by(probe: &mut Probe, alloc: Global, problem: &Problem) -> Result<Option
             let Ok(potentials) = vec![in alloc; 0i64; problem.supplies.len()] else {
                 return Err(Halt::OutOfMemory);
             };
-            Ok(Some(Guess::Flow { flows, potentials }))
+            Ok(Some(Guess::Flow {
+                flows,
+                potentials,
+                looks: probe.work,
+            }))
         }
         Seen::Flow | Seen::Unknown => Ok(None),
     }
@@ -145,7 +150,11 @@ fn ended_at(
             let Ok(potentials) = simplex.potentials(alloc, problem) else {
                 return Err(Halt::OutOfMemory);
             };
-            Ok(Some(Guess::Flow { flows, potentials }))
+            Ok(Some(Guess::Flow {
+                flows,
+                potentials,
+                looks: simplex.work,
+            }))
         }
         Ended::Infeasible => Ok(None),
     }
