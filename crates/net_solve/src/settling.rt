@@ -25,7 +25,7 @@ fn settled(problem: &Problem, certificate: Certificate) -> Settled
     Settled::by(certificate)
 }
 
-/// The solver that the program asks first. Where it answers none, there is `Plain`.
+/// The solver that a program is to ask first. Where it answers none, there is `Plain`.
 pub fn first_asked() -> Scaling
     ensures { result.budget ≡ 10000000 }
 {
