@@ -6,9 +6,9 @@ use crate::simplex_arc::root_of;
 const LEAST: usize = 40;
 
 /// The length at first, and the greatest, where nodes have arcs both in and out.
-const FIRST: usize = 120;
+const FIRST: usize = 150;
 
-const GREATEST: usize = 150;
+const GREATEST: usize = 200;
 
 /// Both, where none has.
 const BIPARTITE: usize = 200;

@@ -11,6 +11,8 @@ pub enum Guess {
         flows: Vec<i64>,
         /// The potential of each node.
         potentials: Vec<i64>,
+        /// How many arcs and nodes were looked at for it, about.
+        looks: u64,
     },
     /// A set of nodes whose supply is past what its arcs allow.
     Cut {

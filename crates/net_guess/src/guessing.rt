@@ -11,7 +11,10 @@ use net_check::Side;
 use net_normal::Problem;
 use std::alloc::{AllocError, Global};
 
-/// How much a probe looks at, for each node and arc.
+/// How much a probe looks at before a network simplex, for each node and arc: most cuts are seen by then.
+const SHORT_LOOKS: u64 = 8;
+
+/// How much it looks at where nothing costs anything, and where a network simplex has left excess.
 const PROBE_LOOKS: u64 = 40;
 
 /// How much a network simplex looks at, for each node and arc.
@@ -25,6 +28,7 @@ pub fn find_guess(alloc: Global, problem: &Problem) -> Result<Guess, AllocError>
         Err(Halt::OutOfRange) => Ok(Guess::Flow {
             flows: Vec::new(alloc),
             potentials: Vec::new(alloc),
+            looks: 0,
         }),
         Err(Halt::OutOfMemory) => Err(AllocError),
     }
@@ -42,13 +46,27 @@ fn guessed(alloc: Global, problem: &Problem) -> Result<Guess, Halt> {
     if let Some(guess) = bottleneck(alloc, problem, &excess)? {
         return Ok(guess);
     }
-    if let Some(guess) = probed(alloc, problem, &excess)? {
+    let looks = if is_free(problem) {
+        PROBE_LOOKS
+    } else {
+        SHORT_LOOKS
+    };
+    if let Some(guess) = probed(alloc, problem, &excess, looks)? {
         return Ok(guess);
     }
     match by_simplex(alloc, problem, &excess) {
         Ok(Some(guess)) => Ok(guess),
-        Ok(None) | Err(Halt::OutOfRange) => scaled(alloc, problem, &excess),
+        Ok(None) => short_of_flow(alloc, problem, &excess),
+        Err(Halt::OutOfRange) => scaled(alloc, problem, &excess),
         Err(Halt::OutOfMemory) => Err(Halt::OutOfMemory),
+    }
+}
+
+/// Where a network simplex has left excess: a longer probe, and then cost scaling.
+fn short_of_flow(alloc: Global, problem: &Problem, excess: &[i128]) -> Result<Guess, Halt> {
+    match probed(alloc, problem, excess, PROBE_LOOKS)? {
+        Some(guess) => Ok(guess),
+        None => scaled(alloc, problem, excess),
     }
 }
 
@@ -69,8 +87,13 @@ fn size_of(problem: &Problem) -> u64 {
 }
 
 /// What a probe says: a cut, or where nothing costs anything, the flow.
-fn probed(alloc: Global, problem: &Problem, excess: &[i128]) -> Result<Option<Guess>, Halt> {
-    let limit = PROBE_LOOKS.saturating_mul(size_of(problem));
+fn probed(
+    alloc: Global,
+    problem: &Problem,
+    excess: &[i128],
+    looks: u64,
+) -> Result<Option<Guess>, Halt> {
+    let limit = looks.saturating_mul(size_of(problem));
     let mut probe = Probe::new(alloc, problem, excess, limit)?;
     seen_by(&mut probe, alloc, problem)
 }
@@ -92,7 +115,11 @@ fn seen_by(probe: &mut Probe, alloc: Global, problem: &Problem) -> Result<Option
             let Ok(potentials) = vec![in alloc; 0i64; problem.supplies.len()] else {
                 return Err(Halt::OutOfMemory);
             };
-            Ok(Some(Guess::Flow { flows, potentials }))
+            Ok(Some(Guess::Flow {
+                flows,
+                potentials,
+                looks: probe.work,
+            }))
         }
         Seen::Flow | Seen::Unknown => Ok(None),
     }
@@ -123,7 +150,11 @@ fn ended_at(
             let Ok(potentials) = simplex.potentials(alloc, problem) else {
                 return Err(Halt::OutOfMemory);
             };
-            Ok(Some(Guess::Flow { flows, potentials }))
+            Ok(Some(Guess::Flow {
+                flows,
+                potentials,
+                looks: simplex.work,
+            }))
         }
         Ended::Infeasible => Ok(None),
     }

@@ -5,8 +5,10 @@
 mod attaching;
 mod block;
 mod bottleneck;
+mod cheapest_ways;
 mod distances;
 mod excess;
+mod first_forest;
 mod fitting;
 mod guess;
 mod guessing;
@@ -15,6 +17,7 @@ mod incidence;
 mod node_queue;
 mod pivoting;
 mod places;
+mod prices;
 mod pricing;
 mod probe;
 mod rows;

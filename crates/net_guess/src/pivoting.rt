@@ -5,7 +5,6 @@ use crate::halt::Halt;
 use crate::places::{at, index, put, try_at};
 use crate::simplex::Simplex;
 use crate::simplex_arc::{PricedArc, Status};
-use crate::starting::ROOT_ROOM;
 use crate::tree::TreeArc;
 use net_normal::{FlowArc, Problem};
 
@@ -43,7 +42,7 @@ struct Narrow {
 impl Simplex {
     /// Lets the arc at this place come in.
     pub fn enter(&mut self, problem: &Problem, place: u32) -> Result<(), Halt> {
-        let arc = self.arc(place);
+        let arc = self.prices.arc(place);
         let known = self.known(problem, place);
         let cycle = self.cycle(arc.src, arc.dst, known.cap.wrapping_sub(known.low))?;
         if cycle.amount > 0 {
@@ -63,14 +62,19 @@ impl Simplex {
     }
 
     /// Where the flow on the arc at a place is.
-    fn status(&self, place: u32) -> Status {
+    pub fn status(&self, place: u32) -> Status {
         at(&self.statuses, place, Status::Basic)
     }
 
     /// Gives an arc a status, and what it is priced by.
-    fn set_status(&mut self, problem: &Problem, place: u32, status: Status) {
+    pub fn set_status(&mut self, problem: &Problem, place: u32, status: Status) {
         let arc = self.known(problem, place);
-        put(&mut self.arcs, place, PricedArc::of(&arc, status));
+        self.prices.put_arc(place, PricedArc::of(&arc, status));
+        self.put_status(place, status);
+    }
+
+    /// Gives an arc a status alone.
+    pub fn put_status(&mut self, place: u32, status: Status) {
         put(&mut self.statuses, place, status);
     }
 
@@ -141,8 +145,8 @@ impl Simplex {
         } else {
             known.cost
         };
-        let above = self.tree.potential(parent);
-        let below = self.tree.potential(stem);
+        let above = self.prices.potential(parent);
+        let below = self.prices.potential(stem);
         self.lift(stem, above.wrapping_add(cost).wrapping_sub(below))
     }
 
@@ -150,7 +154,7 @@ impl Simplex {
     fn leave(&mut self, problem: &Problem, node: u32) {
         let arc = self.tree.node(node).arc;
         let at_low = arc.flow() == 0;
-        if (arc.number as usize) < self.arcs.len() {
+        if (arc.number as usize) < self.numbers.len() {
             let status = if at_low {
                 Status::AtLower
             } else {
@@ -168,12 +172,13 @@ impl Simplex {
         self.work = self.work.wrapping_add(u64::from(node.size));
         let all = index(self.tree.nodes.len());
         let others = all.saturating_sub(node.size);
-        let root = self.tree.potential(all.wrapping_sub(1));
-        if others < node.size && root.wrapping_abs() < ROOT_ROOM / 4 {
+        if others < node.size && self.prices.may_move(all.wrapping_sub(1)) {
             let first = self.tree.thread(node.last).next;
-            self.tree.raise(first, others, amount.wrapping_neg())
+            self.prices
+                .raise(&self.tree.threads, first, others, amount.wrapping_neg())
         } else {
-            self.tree.raise(top, node.size, amount)
+            self.prices
+                .raise(&self.tree.threads, top, node.size, amount)
         }
     }
 }
@@ -188,7 +193,7 @@ fn other(status: Status) -> Status {
 }
 
 /// An arc that comes into the tree with this change of its flow, seen from the end that is below.
-fn tree_arc(arc: &FlowArc, status: Status, number: u32, amount: i64, stem: u32) -> TreeArc {
+pub fn tree_arc(arc: &FlowArc, status: Status, number: u32, amount: i64, stem: u32) -> TreeArc {
     let room = arc.cap.wrapping_sub(arc.low);
     let ahead = match status {
         Status::AtUpper => amount,

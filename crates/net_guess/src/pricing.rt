@@ -1,20 +1,12 @@
 //! Which arc comes into the tree of a network simplex: the dearest of a block.
 
 use crate::halt::Halt;
-use crate::places::index;
 use crate::simplex::Simplex;
-
-/// An arc by its place, and its price.
-#[derive(Clone, Copy)]
-struct Priced {
-    price: i64,
-    place: Option<usize>,
-}
 
 impl Simplex {
     /// The arc of the most negative price in the first block that has one, from where the search ended last.
     pub fn dearest(&mut self) -> Result<Option<u32>, Halt> {
-        let count = self.arcs.len();
+        let count = self.numbers.len();
         let mut left = count;
         for turn in 0..=count {
             let from = self.next.min(count);
@@ -22,7 +14,7 @@ impl Simplex {
                 .saturating_add(self.block.length().min(left))
                 .min(count);
             let looked = to.saturating_sub(from);
-            let found = self.dearest_between(from, to)?;
+            let found = self.prices.dearest_between(from, to)?;
             self.work = self.work.wrapping_add(looked as u64);
             left = left.saturating_sub(looked);
             self.next = if to == count { 0 } else { to };
@@ -36,27 +28,5 @@ impl Simplex {
             }
         }
         Err(Halt::OutOfRange)
-    }
-
-    /// The arc of the most negative price among those at these places.
-    #[inline(never)]
-    fn dearest_between(&self, from: usize, to: usize) -> Result<Option<u32>, Halt> {
-        let Some(block) = self.arcs.get(from..to) else {
-            return Err(Halt::OutOfRange);
-        };
-        let mut best = Priced {
-            price: 0,
-            place: None,
-        };
-        for (offset, arc) in block.iter().enumerate() {
-            let price = self.price(arc)?;
-            if price < best.price {
-                best = Priced {
-                    price,
-                    place: Some(from.saturating_add(offset)),
-                };
-            }
-        }
-        Ok(best.place.map(index))
     }
 }

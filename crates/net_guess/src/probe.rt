@@ -50,7 +50,7 @@ pub struct Probe {
     queued: u32,
     /// The way from a node with excess on.
     path: Vec<Step>,
-    work: u64,
+    pub work: u64,
     limit: u64,
 }
 

@@ -151,7 +151,11 @@ impl Scaling {
         let Ok(potentials) = self.whole_potentials(alloc) else {
             return Err(Halt::OutOfMemory);
         };
-        Ok(Guess::Flow { flows, potentials })
+        Ok(Guess::Flow {
+            flows,
+            potentials,
+            looks: self.work,
+        })
     }
 
     /// The potentials in the problem's costs, complementary to the flow where whole ones fit it or epsilon came to 1.

@@ -6,25 +6,24 @@
 //! Ahuja, Magnanti, Orlin: Network Flows, chapter 11).
 
 use crate::block::Block;
-use crate::excess::lows_of;
+use crate::cheapest_ways::NO_PLACE;
+use crate::excess::{excess_at_start, full_limit, lows_of, starts_full};
 use crate::halt::Halt;
-use crate::places::{arc_at, at, fill, index, put, try_at};
-use crate::simplex_arc::{PricedArc, Status, put_priced_arcs, put_priced_order};
-use crate::starting::first_tree;
+use crate::places::{arc_at, at, fill, index, put};
+use crate::prices::Prices;
+use crate::simplex_arc::{Status, put_priced_order};
+use crate::starting::{first_tree, root_cost};
 use crate::tree::Tree;
 use net_normal::{FlowArc, Problem};
 use std::alloc::{AllocError, Global};
 
-/// The place of no arc.
-const NO_PLACE: u32 = u32::MAX;
-
 /// A network simplex under way.
 #[derive(Drop)]
 pub struct Simplex {
-    /// The problem's arcs, in an order of their own.
-    pub arcs: Vec<PricedArc>,
-    /// The index in the problem of each.
+    /// The index in the problem of each arc, in the order in which they are priced.
     pub numbers: Vec<u32>,
+    /// The arcs in that order, and the potentials of the nodes.
+    pub prices: Prices,
     pub statuses: Vec<Status>,
     pub tree: Tree,
     /// Where the next block of arcs to be priced begins.
@@ -49,16 +48,26 @@ pub enum Ended {
 }
 
 impl Simplex {
-    /// Before its first change of the tree, where each node with its excess at the lower bounds hangs below the root, but for
-    /// those that want flow: they hang by the cheapest arc into them.
+    /// Before its first change of the tree: arcs of negative cost are at their capacities where `starts_full` says so, all others at
+    /// their lower bounds. Each node with excess then hangs below the root, and the others by the cheapest arcs or ways to those that
+    /// want flow.
     pub fn new(alloc: Global, problem: &Problem, excess: &[i128]) -> Result<Simplex, Halt> {
         let Ok(is_bipartite) = is_bipartite(alloc, problem) else {
             return Err(Halt::OutOfMemory);
         };
-        let tree = first_tree(alloc, problem, excess)?;
+        let cost = root_cost(problem)?;
+        let nodes = excess.len().saturating_add(1);
+        let Ok(mut prices) = Prices::with_room(alloc, cost, nodes, problem.arcs.len()) else {
+            return Err(Halt::OutOfMemory);
+        };
+        let limit = full_limit(excess);
+        let Ok(excess) = excess_at_start(alloc, problem, excess, limit) else {
+            return Err(Halt::OutOfMemory);
+        };
+        let tree = first_tree(alloc, problem, &excess, &mut prices, cost)?;
         let mut simplex = Simplex {
-            arcs: Vec::new(alloc),
             numbers: Vec::new(alloc),
+            prices,
             statuses: Vec::new(alloc),
             tree,
             next: 0,
@@ -67,40 +76,34 @@ impl Simplex {
             turned: Vec::new(alloc),
             is_short: false,
         };
-        match simplex.begin(alloc, problem) {
-            Ok(()) => Ok(simplex),
-            Err(halt) => Err(halt),
+        simplex.take_arcs(alloc, problem, limit)?;
+        if is_bipartite {
+            simplex.enter_cheapest(alloc, problem, &excess)?;
+        } else {
+            simplex.hang_by_ways(alloc, problem, &excess)?;
         }
+        Ok(simplex)
     }
 
-    /// Takes in the arcs of a problem, each at its lower bound, and lets the cheapest into nodes that want flow come in.
-    fn begin(&mut self, alloc: Global, problem: &Problem) -> Result<(), Halt> {
+    /// Takes in the arcs of a problem, each at the bound where it starts.
+    fn take_arcs(&mut self, alloc: Global, problem: &Problem, limit: i64) -> Result<(), Halt> {
         let count = problem.arcs.len();
         let Ok(()) = fill(alloc, &mut self.numbers, NO_PLACE, count) else {
-            return Err(Halt::OutOfMemory);
-        };
-        let Ok(()) = fill(alloc, &mut self.arcs, PricedArc::NONE, count) else {
             return Err(Halt::OutOfMemory);
         };
         let Ok(()) = fill(alloc, &mut self.statuses, Status::AtLower, count) else {
             return Err(Halt::OutOfMemory);
         };
         put_priced_order(&mut self.numbers, problem.supplies.len());
-        put_priced_arcs(&mut self.arcs, problem, &self.numbers);
-        self.enter_cheapest(alloc, problem)
-    }
-
-    /// What a unit of flow over an arc, and through the tree back, costs.
-    #[inline]
-    pub fn price(&self, arc: &PricedArc) -> Result<i64, Halt> {
-        let src = try_at(&self.tree.potentials, arc.src)?;
-        let dst = try_at(&self.tree.potentials, arc.dst)?;
-        Ok(arc.cost.wrapping_add(src).wrapping_sub(dst))
-    }
-
-    /// The arc at a place.
-    pub fn arc(&self, place: u32) -> PricedArc {
-        at(&self.arcs, place, PricedArc::NONE)
+        for place in 0..index(count) {
+            let status = if starts_full(&self.known(problem, place), limit) {
+                Status::AtUpper
+            } else {
+                Status::AtLower
+            };
+            self.set_status(problem, place, status);
+        }
+        Ok(())
     }
 
     /// What the problem says of the arc at a place.
@@ -109,13 +112,18 @@ impl Simplex {
     }
 
     /// The cheapest arc into each node that wants flow.
-    fn cheapest(&self, alloc: Global, problem: &Problem) -> Result<Vec<u32>, Halt> {
-        let mut best = vec![in alloc; NO_PLACE; problem.supplies.len()]?;
-        for (place, arc) in self.arcs.iter().enumerate() {
-            if at(&problem.supplies, arc.dst, 0) < 0 {
+    fn cheapest(&self, alloc: Global, excess: &[i128]) -> Result<Vec<u32>, Halt> {
+        let mut best = vec![in alloc; NO_PLACE; excess.len()]?;
+        for place in 0..index(self.numbers.len()) {
+            let arc = self.prices.arc(place);
+            let wants = match excess.get(arc.dst as usize) {
+                Some(amount) => *amount < 0,
+                None => false,
+            };
+            if wants {
                 let other = at(&best, arc.dst, NO_PLACE);
-                if other == NO_PLACE || arc.cost < self.arc(other).cost {
-                    put(&mut best, arc.dst, index(place));
+                if other == NO_PLACE || arc.cost < self.prices.arc(other).cost {
+                    put(&mut best, arc.dst, place);
                 }
             }
         }
@@ -123,15 +131,15 @@ impl Simplex {
     }
 
     /// Lets the cheapest arc into each node that wants flow come in, where that saves something.
-    fn enter_cheapest(&mut self, alloc: Global, problem: &Problem) -> Result<(), Halt> {
-        let cheapest = self.cheapest(alloc, problem)?;
-        self.enter_each(problem, &cheapest)
-    }
-
-    /// Lets the arcs at these places come in, where that saves something.
-    fn enter_each(&mut self, problem: &Problem, places: &[u32]) -> Result<(), Halt> {
-        for place in places {
-            if self.price(&self.arc(*place))? < 0 {
+    fn enter_cheapest(
+        &mut self,
+        alloc: Global,
+        problem: &Problem,
+        excess: &[i128],
+    ) -> Result<(), Halt> {
+        let cheapest = self.cheapest(alloc, excess)?;
+        for place in &cheapest {
+            if self.prices.price(*place) < 0 {
                 self.enter(problem, *place)?;
             }
         }
@@ -154,7 +162,7 @@ impl Simplex {
 
     /// Whether flow is left on arcs to the root.
     fn ended(&self) -> Ended {
-        let count = self.arcs.len();
+        let count = self.numbers.len();
         let left = self.tree.nodes.iter().any(|node| node.arc.number as usize >= count
             && node.arc.flow() != 0);
         if left || self.is_short {
@@ -193,10 +201,9 @@ impl Simplex {
 
     /// The potential of each node of the problem.
     pub fn potentials(&self, alloc: Global, problem: &Problem) -> Result<Vec<i64>, AllocError> {
-        let count = problem.supplies.len();
-        let mut potentials = Vec::new(alloc);
-        if let Some(known) = self.tree.potentials.get(..count) {
-            potentials.extend_from_slice(known)?;
+        let mut potentials = Vec::with_capacity(alloc, problem.supplies.len())?;
+        for node in 0..index(problem.supplies.len()) {
+            potentials.push(self.prices.potential(node))?;
         }
         Ok(potentials)
     }

@@ -1,7 +1,7 @@
 //! The arcs of a problem as a network simplex prices them.
 
-use crate::places::{arc_at, index, put};
-use net_normal::{FlowArc, Problem};
+use crate::places::{index, put};
+use net_normal::FlowArc;
 
 /// Where the flow on an arc is.
 #[derive(Clone, Copy)]
@@ -74,15 +74,5 @@ pub fn put_priced_order(numbers: &mut Vec<u32>, node_count: usize) {
             }
             behind = behind.saturating_add(length);
         }
-    }
-}
-
-/// Puts arcs at their lower bounds, in this order.
-pub fn put_priced_arcs(arcs: &mut Vec<PricedArc>, problem: &Problem, numbers: &[u32]) {
-    let mut place = 0u32;
-    for number in numbers {
-        let arc = arc_at(problem, *number);
-        put(arcs, place, PricedArc::of(&arc, Status::AtLower));
-        place = place.wrapping_add(1);
     }
 }

@@ -2,6 +2,7 @@
 
 use crate::halt::Halt;
 use crate::places::index;
+use crate::prices::Prices;
 use crate::tree::{NO_NODE, Thread, Tree, TreeArc, TreeNode};
 use net_normal::Problem;
 use std::alloc::Global;
@@ -22,7 +23,7 @@ pub fn greatest_cost(problem: &Problem) -> i64 {
 }
 
 /// What a unit from the root costs: more than any way through the problem.
-fn root_cost(problem: &Problem) -> Result<i64, Halt> {
+pub fn root_cost(problem: &Problem) -> Result<i64, Halt> {
     let greatest = greatest_cost(problem);
     let nodes = problem.supplies.len() as i64;
     match greatest.wrapping_add(1).checked_mul(nodes) {
@@ -50,9 +51,14 @@ fn root_arc(number: u32, excess: i64) -> TreeArc {
     }
 }
 
-/// Each node below the root: what it has too much of goes up, what it lacks comes down at a cost past all others.
-pub fn first_tree(alloc: Global, problem: &Problem, excess: &[i128]) -> Result<Tree, Halt> {
-    let cost = root_cost(problem)?;
+/// Each node below the root: what it has too much of goes up, what it lacks comes down at this cost, which is past all others.
+pub fn first_tree(
+    alloc: Global,
+    problem: &Problem,
+    excess: &[i128],
+    prices: &mut Prices,
+    cost: i64,
+) -> Result<Tree, Halt> {
     let root = index(excess.len());
     let Ok(mut tree) = Tree::of_size(alloc, excess.len().saturating_add(1)) else {
         return Err(Halt::OutOfMemory);
@@ -69,8 +75,8 @@ pub fn first_tree(alloc: Global, problem: &Problem, excess: &[i128]) -> Result<T
             last: node,
             arc: root_arc(index(problem.arcs.len()).wrapping_add(node), amount),
         };
-        let potential = if amount >= 0 { 0 } else { cost };
-        tree.put_whole(node, leaf, thread_at(node, root), potential);
+        prices.put_potential(node, if amount >= 0 { 0 } else { cost });
+        tree.put_whole(node, leaf, thread_at(node, root));
     }
     put_root(&mut tree, root);
     Ok(tree)
@@ -96,5 +102,5 @@ fn put_root(tree: &mut Tree, root: u32) {
         next: 0,
         previous: last,
     };
-    tree.put_whole(root, top, thread, 0);
+    tree.put_whole(root, top, thread);
 }

@@ -1,7 +1,7 @@
 //! The spanning tree of a network simplex, with its nodes in a cyclic order in which each subtree stands together.
 
 use crate::halt::Halt;
-use crate::places::{at, put, try_at};
+use crate::places::put;
 use std::alloc::{AllocError, Global};
 
 /// No node.
@@ -87,7 +87,6 @@ impl Thread {
 pub struct Tree {
     pub nodes: Vec<TreeNode>,
     pub threads: Vec<Thread>,
-    pub potentials: Vec<i64>,
 }
 
 impl Tree {
@@ -99,21 +98,13 @@ impl Tree {
         let Ok(threads) = vec![in alloc; Thread::NONE; count] else {
             return Err(AllocError);
         };
-        let Ok(potentials) = vec![in alloc; 0i64; count] else {
-            return Err(AllocError);
-        };
-        Ok(Tree {
-            nodes,
-            threads,
-            potentials,
-        })
+        Ok(Tree { nodes, threads })
     }
 
-    /// Puts a node in its place, with its neighbours in the cyclic order and its potential.
-    pub fn put_whole(&mut self, place: u32, node: TreeNode, thread: Thread, potential: i64) {
+    /// Puts a node in its place, with its neighbours in the cyclic order.
+    pub fn put_whole(&mut self, place: u32, node: TreeNode, thread: Thread) {
         put(&mut self.nodes, place, node);
         put(&mut self.threads, place, thread);
-        put(&mut self.potentials, place, potential);
     }
 
     /// A node by its number, or one that has no parent and no arc.
@@ -131,11 +122,6 @@ impl Tree {
             Some(thread) => *thread,
             None => Thread::NONE,
         }
-    }
-
-    #[inline]
-    pub fn potential(&self, node: u32) -> i64 {
-        at(&self.potentials, node, 0)
     }
 
     #[inline]
@@ -197,16 +183,31 @@ impl Tree {
         Err(Halt::OutOfRange)
     }
 
-    /// Adds to the potentials of so many nodes, from one on in the cyclic order.
-    pub fn raise(&mut self, from: u32, count: u32, amount: i64) -> Result<(), Halt> {
-        let mut place = from;
-        for _ in 0..count {
-            match self.potentials.get_mut(place as usize) {
-                Some(potential) => *potential = potential.wrapping_add(amount),
-                None => return Err(Halt::OutOfRange),
-            }
-            place = try_at(&self.threads, place)?.next;
+    /// Hangs a leaf of the root below another node, as the first behind it. Sizes and last nodes are left to `count_below_parent`.
+    pub fn hang_leaf(&mut self, node: u32, parent: u32, arc: TreeArc) {
+        let own = self.thread(node);
+        self.follow(own.previous, own.next);
+        let behind = self.thread(parent).next;
+        self.follow(node, behind);
+        self.follow(parent, node);
+        self.set_parent(node, parent);
+        if let Some(node) = self.nodes.get_mut(node as usize) {
+            node.arc = arc;
         }
-        Ok(())
+    }
+
+    /// Counts a node's subtree in its parent's, which ends where the first of those that were hung there ends: it is to be counted last.
+    pub fn count_below_parent(&mut self, node: u32) {
+        let own = self.node(node);
+        if let Some(parent) = self.nodes.get_mut(own.parent as usize) {
+            parent.size = parent.size.wrapping_add(own.size);
+            parent.last = own.last;
+        }
+    }
+
+    /// Lets the root's subtree end before the root.
+    pub fn end_at_last(&mut self, root: u32) {
+        let last = self.thread(root).previous;
+        self.set_last(root, last);
     }
 }

@@ -7,6 +7,8 @@ mod ending;
 mod laws;
 mod lowering;
 mod machine;
+mod moves;
+mod patience;
 mod phase_loop;
 mod pushing;
 mod reduced;
@@ -20,5 +22,6 @@ mod scanning;
 mod starting;
 mod steering;
 mod targets;
+mod waves;
 
 pub use scaling::{Scaling, ScalingRun};

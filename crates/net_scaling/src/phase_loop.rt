@@ -8,6 +8,7 @@ ghost use Rattle.net_scaling.specs.ScalingRuns.{IsEnded};
 
 use crate::ending::is_balanced;
 use crate::machine::Machine;
+use crate::moves::Moves;
 use crate::rows::Rows;
 use crate::targets::Targets;
 use net_guess::NodeQueue;
@@ -30,6 +31,7 @@ impl Machine {
         problem: &Problem,
         rows: &Rows,
         targets: &Targets,
+        moves: &mut Moves,
         waiting: &mut NodeQueue,
         scale: u64,
     ) -> bool
@@ -43,13 +45,21 @@ impl Machine {
         ensures ended { result ≡ true → IsEnded problem.now self.new }
     {
         for _ in 0..PHASES {
+            let before = self.steps;
             self.begin(problem, scale);
+            if !self.move_in_waves(problem, rows, targets, moves, waiting) {
+                return false;
+            }
             self.refine(problem, rows, targets, waiting);
             if !is_balanced(&self.carried.excess) {
                 return false;
             }
             if self.is_last() {
                 return true;
+            }
+            let last = self.steps.saturating_sub(before);
+            if targets.patience.ends_early(self.phases, self.steps, last) {
+                return false;
             }
         }
         false

@@ -6,6 +6,8 @@ ghost use Rattle.net_scaling.specs.Machines.{IsStanding};
 ghost use Rattle.net_scaling.specs.ScalingRuns.{IsEnded, IsScalingRun};
 
 use crate::machine::Machine;
+use crate::moves::Moves;
+use crate::patience::Patience;
 use crate::reduced::greatest_cost;
 use crate::row_building::rows_of;
 use crate::targets::Targets;
@@ -83,27 +85,35 @@ impl Scaling {
         }
     }
 
-    /// A run towards the flow and the potentials of a guess, which may be wrong in any way; by itself where there is none.
+    /// A run towards the flow and the potentials of a guess that looked at so many arcs and nodes, and which may be wrong in any way; by
+    /// itself where there is none.
     fn run_towards(
         &self,
         alloc: Global,
         problem: &Problem,
         flows: &[i64],
         potentials: &[i64],
+        looks: u64,
     ) -> Result<ScalingRun, AllocError>
         ensures { IfOk result (IsScalingRun problem.now self.now.budget) }
     {
-        let targets = Targets::of(alloc, problem, flows, potentials)?;
+        let scale = greatest_cost(&problem.arcs) * (problem.supplies.len() as u64 + 1);
+        let patience = if flows.is_empty() {
+            Patience::ENDLESS
+        } else {
+            Patience::beside(problem, looks, scale)
+        };
+        let targets = Targets::of(alloc, problem, flows, potentials, patience)?;
         let mut waiting = NodeQueue::with_room(alloc, problem.supplies.len())?;
         let mut machine = Machine::start(alloc, problem, self.budget)?;
-        let scale = greatest_cost(&problem.arcs) * (problem.supplies.len() as u64 + 1);
         if targets.are_too_far(scale / 2, self.budget) {
             return Ok(machine.broken_off());
         }
         let Some(rows) = rows_of(alloc, problem)? else {
             return Ok(machine.broken_off());
         };
-        if !machine.run_phases(problem, &rows, &targets, &mut waiting, scale) {
+        let mut moves = Moves::with_room(alloc, problem.supplies.len(), problem.arcs.len())?;
+        if !machine.run_phases(problem, &rows, &targets, &mut moves, &mut waiting, scale) {
             return Ok(machine.broken_off());
         }
         machine.ended(alloc, problem)
@@ -120,12 +130,14 @@ impl Scaling {
         ensures { IfOk result (IsScalingRun problem.now self.now.budget) }
     {
         match guess {
-            Guess::Flow { flows, potentials } => {
-                self.run_towards(alloc, problem, flows, potentials)
-            }
+            Guess::Flow {
+                flows,
+                potentials,
+                looks,
+            } => self.run_towards(alloc, problem, flows, potentials, *looks),
             Guess::Cut { flags, side } => match self.cut_off(alloc, problem, flags, *side)? {
                 Some(run) => Ok(run),
-                None => self.run_towards(alloc, problem, &[], &[]),
+                None => self.run_towards(alloc, problem, &[], &[], 0),
             },
         }
     }

@@ -34,7 +34,7 @@ impl Machine {
 
     /// Whether a node has excess.
     #[inline]
-    fn has_excess(&self, node: u32) -> bool {
+    pub fn has_excess(&self, node: u32) -> bool {
         match self.carried.excess.get(node as usize) {
             Some(excess) => *excess > 0,
             None => false,
@@ -91,7 +91,7 @@ impl Machine {
     }
 
     /// Pushes over all arcs out of a node over which flow saves.
-    fn push_rest(&mut self, problem: &Problem, rows: &Rows, waiting: &mut NodeQueue, node: u32)
+    pub fn push_rest(&mut self, problem: &Problem, rows: &Rows, waiting: &mut NodeQueue, node: u32)
         requires node { node < vec_len problem.now.supplies }
         requires rows { AreRows problem.now rows.now.starts.items rows.now.entries.items }
         requires running { IsRunning problem.now self.old }
@@ -178,6 +178,9 @@ impl Machine {
             self.push_out(problem, rows, targets, waiting, node);
             if !self.has_excess(node) {
                 return true;
+            }
+            if self.steps >= targets.patience.steps() {
+                return false;
             }
             let least = self.least_out(problem, rows, node);
             let amount = self.depth(rows, targets, node, least);

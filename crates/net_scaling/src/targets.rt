@@ -1,5 +1,6 @@
 //! Where a run is steered to. Nothing is proved of it: it says which steps to try, and each step tests itself.
 
+use crate::patience::Patience;
 use crate::rows::Entry;
 use net_normal::Problem;
 use std::alloc::{AllocError, Global};
@@ -20,6 +21,8 @@ pub struct Targets {
     flows: Vec<i64>,
     /// How far below 0 each node is to sink, for multiplied costs; none where nothing is guessed.
     depths: Vec<i64>,
+    /// How long the run may last.
+    pub patience: Patience,
 }
 
 impl Targets {
@@ -29,6 +32,7 @@ impl Targets {
         problem: &Problem,
         flows: &[i64],
         potentials: &[i64],
+        patience: Patience,
     ) -> Result<Targets, AllocError> {
         let factor = (problem.supplies.len() as i64).saturating_add(1);
         let greatest = potentials.iter().copied().max().unwrap_or(0);
@@ -40,7 +44,13 @@ impl Targets {
         Ok(Targets {
             flows: Vec::from_slice(alloc, flows)?,
             depths,
+            patience,
         })
+    }
+
+    /// The flow of each arc that a run is to come to.
+    pub fn flows(&self) -> &[i64] {
+        self.flows.as_slice()
     }
 
     /// Whether there are none.
@@ -67,8 +77,8 @@ impl Targets {
             .saturating_sub(at(&self.depths, node))
     }
 
-    /// Whether a run would hardly get there within its budget: nodes sink by about `epsilon` in a step of the first phase, and a third of
-    /// the budget is for those steps; or a potential would leave its range.
+    /// Whether a run would hardly get there within its budget or in time: nodes sink by about `epsilon` in a step of the first phase, and a
+    /// third of the budget is for those steps; or a potential would leave its range.
     pub fn are_too_far(&self, epsilon: u64, budget: u64) -> bool {
         let mut steps = 0_u64;
         for depth in &self.depths {
@@ -78,6 +88,6 @@ impl Targets {
             let own = depth.unsigned_abs().checked_div(epsilon).unwrap_or(0);
             steps = steps.saturating_add(own);
         }
-        steps > budget / 3
+        steps > budget / 3 || self.patience.is_too_short(steps)
     }
 }

@@ -8,5 +8,5 @@ mod solver;
 pub use net_guess::{Guess, find_guess};
 pub use net_scaling::{Scaling, ScalingRun};
 pub use settled::Settled;
-pub use settling::solve;
+pub use settling::{first_asked, solve};
 pub use solver::{Plain, Silent, Solver};

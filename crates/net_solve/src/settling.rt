@@ -9,6 +9,7 @@ use crate::solver::{Plain, Solver};
 use net_check::{Certificate, least_cost, no_flow};
 use net_guess::find_guess;
 use net_normal::Problem;
+use net_scaling::Scaling;
 use std::alloc::{AllocError, Global};
 
 /// What a certificate of a problem settles, and what that means.
@@ -22,6 +23,13 @@ fn settled(problem: &Problem, certificate: Certificate) -> Settled
     least_cost();
     no_flow();
     Settled::by(certificate)
+}
+
+/// The solver that a program is to ask first. Where it answers none, there is `Plain`.
+pub fn first_asked() -> Scaling
+    ensures { result.budget ≡ 10000000 }
+{
+    Scaling { budget: 10_000_000 }
 }
 
 /// Settles a problem by the solver that is given, and by `Plain` where that answers none; both follow one guess. The one error is want of

@@ -53,7 +53,11 @@ impl Plain {
         ensures bounded { IfOk result (HasSmallPotentials problem.now) }
     {
         match guess {
-            Guess::Flow { flows, potentials } => settle(alloc, problem, flows, potentials),
+            Guess::Flow {
+                flows,
+                potentials,
+                ..
+            } => settle(alloc, problem, flows, potentials),
             Guess::Cut { flags, side } => {
                 let flags = Vec::from_slice(alloc, flags)?;
                 let cut = Certificate::Cut { flags, side: *side };

@@ -1,0 +1,242 @@
+//! What arcs are priced by in a network simplex: the cost of a unit on each, and the potential of each node.
+//!
+//! Pricing takes most of the time, and most of that goes into reading. So where all numbers fit, they stand in 32 bits, of which twice
+//! as many are near the processor at a time.
+
+use crate::halt::Halt;
+use crate::places::{at, fill, index, put, try_at};
+use crate::simplex_arc::PricedArc;
+use crate::tree::Thread;
+use std::alloc::{AllocError, Global};
+
+/// The greatest cost of a unit from the root with which no potential and no price passes 32 bits.
+const NARROW_LIMIT: i64 = 1 << 29;
+
+/// How far from 0 the potential of the root may be moved, in 32 and in 64 bits.
+const NARROW_DRIFT: i64 = 1 << 29;
+
+const WIDE_DRIFT: i64 = 1 << 59;
+
+/// An arc as it is priced, in 32 bits.
+#[derive(Clone, Copy)]
+struct NarrowArc {
+    src: u32,
+    dst: u32,
+    cost: i32,
+}
+
+impl NarrowArc {
+    /// What stands for no arc: nothing is saved over it.
+    const NONE: NarrowArc = NarrowArc {
+        src: 0,
+        dst: 0,
+        cost: 0,
+    };
+}
+
+/// A number in 32 bits; one that does not fit is nothing there.
+#[inline]
+fn narrow(number: i64) -> i32 {
+    i32::try_from(number).unwrap_or(0)
+}
+
+/// The arcs and the potentials: the lists in 32 bits or those in 64 are there, and the others empty.
+#[derive(Drop)]
+pub struct Prices {
+    is_narrow: bool,
+    narrow_arcs: Vec<NarrowArc>,
+    narrow_potentials: Vec<i32>,
+    wide_arcs: Vec<PricedArc>,
+    wide_potentials: Vec<i64>,
+}
+
+impl Prices {
+    /// Of so many nodes, the root among them, and so many arcs, where a unit from the root costs this.
+    pub fn with_room(
+        alloc: Global,
+        root_cost: i64,
+        node_count: usize,
+        arc_count: usize,
+    ) -> Result<Prices, AllocError> {
+        let mut prices = Prices {
+            is_narrow: root_cost <= NARROW_LIMIT,
+            narrow_arcs: Vec::new(alloc),
+            narrow_potentials: Vec::new(alloc),
+            wide_arcs: Vec::new(alloc),
+            wide_potentials: Vec::new(alloc),
+        };
+        match prices.make_room(alloc, node_count, arc_count) {
+            Ok(()) => Ok(prices),
+            Err(fault) => Err(fault),
+        }
+    }
+
+    fn make_room(
+        &mut self,
+        alloc: Global,
+        node_count: usize,
+        arc_count: usize,
+    ) -> Result<(), AllocError> {
+        if self.is_narrow {
+            let Ok(()) = fill(alloc, &mut self.narrow_arcs, NarrowArc::NONE, arc_count) else {
+                return Err(AllocError);
+            };
+            fill(alloc, &mut self.narrow_potentials, 0, node_count)
+        } else {
+            let Ok(()) = fill(alloc, &mut self.wide_arcs, PricedArc::NONE, arc_count) else {
+                return Err(AllocError);
+            };
+            fill(alloc, &mut self.wide_potentials, 0, node_count)
+        }
+    }
+
+    /// The arc at a place.
+    #[inline]
+    pub fn arc(&self, place: u32) -> PricedArc {
+        if self.is_narrow {
+            let arc = at(&self.narrow_arcs, place, NarrowArc::NONE);
+            PricedArc {
+                src: arc.src,
+                dst: arc.dst,
+                cost: i64::from(arc.cost),
+            }
+        } else {
+            at(&self.wide_arcs, place, PricedArc::NONE)
+        }
+    }
+
+    /// Puts an arc at a place.
+    #[inline]
+    pub fn put_arc(&mut self, place: u32, arc: PricedArc) {
+        if self.is_narrow {
+            let own = NarrowArc {
+                src: arc.src,
+                dst: arc.dst,
+                cost: narrow(arc.cost),
+            };
+            put(&mut self.narrow_arcs, place, own);
+        } else {
+            put(&mut self.wide_arcs, place, arc);
+        }
+    }
+
+    /// A node's potential.
+    #[inline]
+    pub fn potential(&self, node: u32) -> i64 {
+        if self.is_narrow {
+            i64::from(at(&self.narrow_potentials, node, 0))
+        } else {
+            at(&self.wide_potentials, node, 0)
+        }
+    }
+
+    /// Gives a node a potential.
+    #[inline]
+    pub fn put_potential(&mut self, node: u32, potential: i64) {
+        if self.is_narrow {
+            put(&mut self.narrow_potentials, node, narrow(potential));
+        } else {
+            put(&mut self.wide_potentials, node, potential);
+        }
+    }
+
+    /// Whether the potential of the root is near enough to 0 to be moved.
+    pub fn may_move(&self, root: u32) -> bool {
+        let drift = if self.is_narrow {
+            NARROW_DRIFT
+        } else {
+            WIDE_DRIFT
+        };
+        self.potential(root).wrapping_abs() < drift
+    }
+
+    /// What a unit of flow over an arc, and through the tree back, costs.
+    pub fn price(&self, place: u32) -> i64 {
+        let arc = self.arc(place);
+        arc.cost
+            .wrapping_add(self.potential(arc.src))
+            .wrapping_sub(self.potential(arc.dst))
+    }
+
+    /// Adds to the potentials of so many nodes, from one on in the cyclic order.
+    pub fn raise(
+        &mut self,
+        threads: &Vec<Thread>,
+        from: u32,
+        count: u32,
+        amount: i64,
+    ) -> Result<(), Halt> {
+        if self.is_narrow {
+            return self.raise_narrow(threads, from, count, narrow(amount));
+        }
+        let mut place = from;
+        for _ in 0..count {
+            match self.wide_potentials.get_mut(place as usize) {
+                Some(potential) => *potential = potential.wrapping_add(amount),
+                None => return Err(Halt::OutOfRange),
+            }
+            place = try_at(threads, place)?.next;
+        }
+        Ok(())
+    }
+
+    fn raise_narrow(
+        &mut self,
+        threads: &Vec<Thread>,
+        from: u32,
+        count: u32,
+        amount: i32,
+    ) -> Result<(), Halt> {
+        let mut place = from;
+        for _ in 0..count {
+            match self.narrow_potentials.get_mut(place as usize) {
+                Some(potential) => *potential = potential.wrapping_add(amount),
+                None => return Err(Halt::OutOfRange),
+            }
+            place = try_at(threads, place)?.next;
+        }
+        Ok(())
+    }
+
+    /// The place of the arc of the most negative price among those at these places.
+    #[inline(never)]
+    pub fn dearest_between(&self, from: usize, to: usize) -> Result<Option<u32>, Halt> {
+        if self.is_narrow {
+            return self.dearest_narrow(from, to);
+        }
+        let Some(block) = self.wide_arcs.get(from..to) else {
+            return Err(Halt::OutOfRange);
+        };
+        let mut least = 0i64;
+        let mut found = None;
+        for (offset, arc) in block.iter().enumerate() {
+            let src = try_at(&self.wide_potentials, arc.src)?;
+            let dst = try_at(&self.wide_potentials, arc.dst)?;
+            let price = arc.cost.wrapping_add(src).wrapping_sub(dst);
+            if price < least {
+                least = price;
+                found = Some(offset);
+            }
+        }
+        Ok(found.map(|offset| index(from.saturating_add(offset))))
+    }
+
+    #[inline(never)]
+    fn dearest_narrow(&self, from: usize, to: usize) -> Result<Option<u32>, Halt> {
+        let Some(block) = self.narrow_arcs.get(from..to) else {
+            return Err(Halt::OutOfRange);
+        };
+        let mut least = 0i32;
+        let mut found = None;
+        for (offset, arc) in block.iter().enumerate() {
+            let src = try_at(&self.narrow_potentials, arc.src)?;
+            let dst = try_at(&self.narrow_potentials, arc.dst)?;
+            let price = arc.cost.wrapping_add(src).wrapping_sub(dst);
+            if price < least {
+                least = price;
+                found = Some(offset);
+            }
+        }
+        Ok(found.map(|offset| index(from.saturating_add(offset))))
+    }
+}
