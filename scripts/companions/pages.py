@@ -89,6 +89,9 @@ def check_pages(complaints, folder):
         complaints.same(f"report {name}: rows", len(net.arcs), rows)
         complaints.same(f"report {name}: nodes on one another", [], overlapping(text))
         complaints.want(status == 0 or re.search(r'class="reason">[^<]* (short|too much)\.', text), f"report {name}: no reason")
+        drawn = run("netflow-report", *words, "--svg")[1].strip()
+        complaints.same(f"report {name}: the drawing's tags", [], Page(drawn).faults if drawn else [])
+        complaints.want(drawn.startswith("<svg ") and "<style>" in drawn or "so none is drawn" in text, f"report {name}: no drawing")
         complaints.want(status or f"{net.objective} = {net.value}<" in text, f"report {name}: no value")
 
 
