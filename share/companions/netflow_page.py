@@ -71,10 +71,26 @@ class Arcs:
         note = f'<button type="button" class="toggle" aria-expanded="false">show {what}</button>' if hidden else ""
         if hidden and len(self.net.arcs) > HIDDEN_FROM:
             shown, note = shown[:len(shown) - hidden], f"{capital(what)} are left out of this page; netflow-sheet writes them all."
-        made = table(self.head(), [self.row(it) for it in shown]) if shown else ""
+        made = table(self.head(), [self.row(it) for it in shown], "numbers") if shown else ""
         # Where every row waits, the heading waits too.
         made = made if hidden < len(self.arcs) else f'<div class="later">{made}</div>'
         return section(self.name, f"<p>{self.summary()} {note}</p>{made}")
+
+
+def places_html(net):
+    """What comes into each place and goes out of it, and what a unit more there is worth."""
+    came, went = [0] * len(net.nodes), [0] * len(net.nodes)
+    for arc in net.arcs:
+        for counts, number, is_forward in ((came, arc.dst, arc.flow > 0), (went, arc.src, arc.flow > 0)):
+            if number is not None:
+                (counts if is_forward else went if counts is came else came)[number] += abs(arc.flow)
+    has_worth = any(it.worth for it in net.nodes)
+    head = [("place", ""), ("needs or gives", ""), ("comes in", "number flow"), ("goes out", "number flow")]
+    head += [(f"a unit more that has to come {'costs' if net.sign > 0 else 'takes'} at least", "number wrap")] * has_worth
+    rows = [("", [it.text, it.wish(), came[number], went[number], *[it.worth] * has_worth]) for number, it in enumerate(net.nodes)]
+    rows, count = rows[:HIDDEN_FROM], len(rows)
+    note = f" The first {HIDDEN_FROM} are shown." if count > HIDDEN_FROM else ""
+    return section("Places", f"<p>{count} {'place' if count == 1 else 'places'}.{note}</p>{table(head, rows, 'numbers')}") if rows else ""
 
 
 def arcs_word(count):
@@ -152,7 +168,7 @@ tr.full td{background:var(--full-back)}tr.lowest td{background:var(--low-back)}
 span.full{background:var(--full-back);padding:0 5px;border-radius:3px}
 span.lowest{background:var(--low-back);padding:0 5px;border-radius:3px}
 tr.more,.later{display:none}section.all tr.more{display:table-row}section.all .later{display:block}
-th.wrap{white-space:normal;min-width:9rem}
+th.wrap button{white-space:normal;min-width:8rem;max-width:11rem;margin-left:auto}.numbers td{white-space:nowrap}
 .toggle,.tools button{font:inherit;font-size:.9rem;color:inherit;background:var(--soft);border:1px solid var(--line);
 border-radius:5px;padding:2px 10px;cursor:pointer}
 .pair{display:flex;flex-wrap:wrap;gap:8px 32px}.pair>div{max-width:100%}
