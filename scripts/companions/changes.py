@@ -104,3 +104,42 @@ def check_prices(complaints, folder, seeds):
 def check_price(complaints, name, found, least):
     complaints.want(found is None or found >= least, f"{name}: the changed plan is worth {found}, and {least} at least was told")
     return found is not None
+
+
+# The usual shapes of models without a plan, and what has to be told of each, worked out by hand.
+SHAPES = (
+    ("too little in all", """minimize C; node Depot {d in 1..2}: net_out <= (if d = 1 then 200 else 120);
+node Shop {s in 1..3}: net_in = (if s = 1 then 200 else if s = 2 then 160 else 100);
+arc X {d in 1..2, s in 1..3} >= 0, <= 900, from Depot[d], to Shop[s];
+""", ("All 5 places together: 460 needed, 320 can come at most: 140 short", "200 Depot[1]", "need and give: 140 in all",
+      "carry: none is enough")),
+    ("a closed way", """minimize C; node Depot: net_out <= 90; node Shop: net_in = 15;
+arc X {i in 1..2} >= 0, <= 0, from Depot, to Shop;
+""", ("Shop: 15 needed, 0 can come at most: 15 short", "0 by X[1] from Depot, which carries 0 to 0", "arcs may carry: 15 in all")),
+    ("lower bounds that clash", """minimize C; node A: net_out >= 0; node Store: 0 <= net_in <= 60;
+arc X >= 35, <= 40, from A, to Store; arc Y >= 30, <= 50, from A, to Store;
+""", ("Store: 65 there at least, room for 60 at most: 5 too much", "35 by X from A, which carries 35 to 40",
+      "5 Store: takes at most 65 in place of 60")),
+    ("an arc the wrong way round", """minimize C; node Depot: net_out <= 50; node Shop: net_in = 50;
+arc X >= 0, <= 70, from Shop, to Depot;
+""", ("Shop: 50 needed, 0 can come at most: 50 short", "no arc leads in, and nothing else helps", "is one the wrong way round?", "X to Depot")),
+    ("two units", """minimize C; node Depot: net_out <= 10; node Shop: net_in = 5000;
+arc X >= 0, <= 6, from Depot, to Shop; arc Y >= 0, <= 4, from Depot, to Shop;
+""", ("Shop: 5000 needed, 10 can come at most: 4990 short", "6 by X from Depot")),
+    ("two shortages", """minimize C; node Depot: net_out <= 100; node Shop {s in 1..2}: net_in = 40;
+arc X {s in 1..2} >= 0, <= 10 * s, from Depot, to Shop[s];
+""", ("arcs may carry: 50 in all", "30 X[1]: at most 40 in place of 10", "20 X[2]: at most 40 in place of 20")),
+    ("a contract that cannot be met", """minimize C; node Plant: net_out <= 100; node Hall; node Shop: net_in <= 100;
+arc X >= 0, <= 1, from Plant, to Hall; arc Y >= 2, <= 9, from Hall, to Shop;
+""", ("Hall: 2 needed, 1 can come at most: 1 short", "2 by Y to Shop, which carries 2 to 9", "1 by X from Plant, which carries 0 to 1",
+      "pass on what they get: Hall")),
+)
+
+
+def check_shapes(complaints, folder):
+    for name, model, wanted in SHAPES:
+        status, text, told = run("netflow-why", write(folder, "shape.mod", model), "/dev/null")
+        complaints.same(f"why, {name}: status", (2, ""), (status, told))
+        found = " ".join(text.split())
+        for it in wanted:
+            complaints.want(it in found, f"why, {name}: no {it!r} in {found}")

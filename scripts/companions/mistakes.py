@@ -97,5 +97,8 @@ MISTAKES = [Mistake(*it) for it in (
     ("no ; inside a line", "model", "set SHOPS;", "set SHOPS param x;", "E14 LeftOut model 2:11", "is a ; missing before param?"),
     ("a word twice", "data", "param last", "param param last", "E20 Syntax data 3:13", "does param stand there twice?"),
     ("a cell missing in a list", "data", "Linz 90\nGraz 100;", "Linz 90 Graz;", "E37 Arity data 5:9", "the cells from Graz on do not fit"),
+    ("a bracket that is not closed", "model", "wants[s,t];", "wants[s,t;", "E10 Syntax model 10:57", "is the [ before it not closed?"),
+    ("a bracket too many", "model", "<= has[d];", "<= has[d]];", "E10 Syntax model 9:44", "does a [ for it stand nowhere?"),
+    ("two words exchanged", "model", "param last;", "last param;", "E14 LeftOut model 3:1 last", "are last and param the wrong way round?"),
     ("no objective", "model", "minimize Total;\n", "", "E12 Undeclared model 11:38 Total", "declare it in an earlier declaration"),
 )]

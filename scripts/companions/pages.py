@@ -89,6 +89,14 @@ def check_pages(complaints, folder):
         complaints.same(f"report {name}: rows", len(net.arcs), rows)
         complaints.same(f"report {name}: nodes on one another", [], overlapping(text))
         complaints.want(status == 0 or re.search(r'class="reason">[^<]* (short|too much)\.', text), f"report {name}: no reason")
+        drawn = run("netflow-report", *words, "--svg")[1].strip()
+        complaints.same(f"report {name}: the drawing's tags", [], Page(drawn).faults if drawn else [])
+        complaints.want(drawn.startswith("<svg ") and "<style>" in drawn or "so none is drawn" in text, f"report {name}: no drawing")
+        if status == 0 and net.nodes:
+            cells = re.findall(r"<td[^>]*>([^<]*)</td>", re.search(r"<h2>Places</h2>(.*?)</section>", text, re.S)[1])
+            each = len(cells) // len(net.nodes)
+            inflows = [int(cells[it + 2]) - int(cells[it + 3]) for it in range(0, len(cells), each)]
+            complaints.same(f"report {name}: what comes in less what goes out", [it.inflow for it in net.nodes], inflows)
         complaints.want(status or f"{net.objective} = {net.value}<" in text, f"report {name}: no value")
 
 
@@ -97,7 +105,8 @@ def check_pages(complaints, folder):
 TRIAL = """<script>
 addEventListener('error',function(it){document.body.dataset.error=it.message});
 addEventListener('load',function(){var said={};
- var button=document.querySelector('.toggle'),section=button?button.closest('section'):Array.from(document.querySelectorAll('section')).pop();
+ function has(it){return Array.from(it.querySelectorAll('th')).some(function(head){return head.textContent==='most'})}
+ var button=document.querySelector('.toggle'),section=button?button.closest('section'):Array.from(document.querySelectorAll('section')).filter(has).pop();
  if(button)button.click();
  var heads=Array.from(section.querySelectorAll('th')),place=heads.findIndex(function(it){return it.textContent==='most'});
  function rows(){return Array.from(section.querySelectorAll('tbody tr')).map(function(it){return it.cells[place].textContent})}

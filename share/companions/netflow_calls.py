@@ -8,8 +8,11 @@ import subprocess
 import sys
 import tempfile
 
+from netflow_texts import Unreadable
+
 HERE = os.path.dirname(os.path.realpath(__file__))
 USAGE, REFUSED, UNREADABLE = 64, 3, 70
+UNLIKE = "what netflow printed is not as docs/OUTPUT.md has it; is the program of another version?"
 
 
 class Ended(Exception):
@@ -119,5 +122,8 @@ def run(main):
     except Ended as end:
         sys.stderr.write(end.told)
         sys.exit(end.status)
+    except Unreadable as fault:
+        sys.stderr.write(f"{os.path.basename(sys.argv[0])}: {UNLIKE} {fault}\n")
+        sys.exit(UNREADABLE)
     except KeyboardInterrupt:
         sys.exit(130)

@@ -9,6 +9,22 @@ from html import escape
 LETTER, LABELLED = 7.2, 60
 SWEEPS, SETTLINGS = 24, 16
 LANE, STUB = 9, 34
+# Colours in light and in dark, and how what is drawn looks.
+STYLE = """
+:root{color-scheme:light dark;--ink:#1d2530;--dim:#667180;--back:#fff;--soft:#f2f4f7;--line:#d9dee5;--used:#2f74b5;--full:#c9660a;
+--across:#c0282d;--full-back:#fdf0e1;--low-back:#e8f1fb;--idle:#c3cad3;--node:#fff;--gives:#e5f3ea;--needs:#e8f0fb;--marked:#fbe6e6}
+@media (prefers-color-scheme:dark){:root{--ink:#e4e8ee;--dim:#98a3b2;--back:#151a21;--soft:#1f2630;--line:#37414e;--used:#69abe8;
+--full:#f0a04b;--across:#ff7276;--full-back:#3a2a17;--low-back:#1c2d42;--idle:#4b5664;--node:#1f2630;--gives:#1c3326;--needs:#1d2c42;
+--marked:#44201f}}
+svg text{font:13px system-ui,sans-serif;fill:var(--ink);text-anchor:middle}.node rect{fill:var(--node);stroke:var(--dim)}
+.node.gives rect{fill:var(--gives)}.node.needs rect{fill:var(--needs)}
+.node.marked rect{fill:var(--marked);stroke:var(--across);stroke-width:2}.node .line1{fill:var(--dim);font-size:12px}
+.arc path{fill:none}.arc text{font-size:12px;font-weight:600;paint-order:stroke;stroke:var(--back);stroke-width:4px}
+.idle path{stroke:var(--idle);stroke-dasharray:3 3}.used path{stroke:var(--used)}.full path{stroke:var(--full)}.across path{stroke:var(--across)}
+.head path{stroke:none;stroke-dasharray:none}.head.idle path{fill:var(--idle)}.head.used path{fill:var(--used)}
+.head.full path{fill:var(--full)}.head.across path{fill:var(--across)}
+.arc.faint{opacity:.07}.node:focus{outline:none}.node:focus rect,.node:hover rect{stroke:var(--ink);stroke-width:2}
+"""
 
 
 class Bend:
@@ -125,8 +141,16 @@ class Picture:
 
     def stub_room(self, number):
         """The width that the arcs from outside, or to it, take at a node of a small picture."""
-        each = [len(self.stubs.get(ends, [])) for ends in ((None, number), (number, None))]
-        return max(each) * (STUB + 8) - 8 if self.is_small and max(each) > 1 else 0
+        each = [(len(self.stubs.get(ends, [])) - 1) * self.stub_step(ends) for ends in ((None, number), (number, None))]
+        return max(each) + 8 if self.is_small and max(each) > 0 else 0
+
+    def stub_step(self, ends):
+        """How far two arcs from outside stand apart: by the numbers beside them."""
+        return STUB + LETTER * max((len(self.number(it)) for it in self.stubs.get(ends, [])), default=0)
+
+    def number(self, arc):
+        """What stands on an arc of a small picture: what it carries, or across a cut what it may carry."""
+        return str(arc.flow) if arc.flow else f"{arc.lower}..{arc.upper}" if id(arc) in self.across else ""
 
     def label(self, number):
         """The name, and in a small picture below it what the node needs or gives."""
@@ -193,7 +217,7 @@ class Picture:
         alike = self.stubs[arc.src, arc.dst]
         here = [id(it) for it in alike].index(id(arc)) - (len(alike) - 1) / 2
         if self.is_small:
-            x, side = self.x[number] + here * (STUB + 8), -1 if is_in else 1
+            x, side = self.x[number] + here * self.stub_step((arc.src, arc.dst)), -1 if is_in else 1
             y = self.y[number] + side * self.high / 2
             ends = [(x, y + side * (STUB - 2)), (x, y + side * 3)]
         else:
@@ -228,6 +252,9 @@ class Picture:
     def text_place(self, arc, text, curves):
         """A place on the arc for its number, clear of the nodes and of the numbers before, if there is one."""
         wide, best = LETTER * columns(text) + 6, None
+        if None in (arc.src, arc.dst):
+            (x, y), _, _, (_, w) = curves[0]
+            return x + 4 + wide / 2, (y + w) / 2
         for part in (0.5, 0.4, 0.6, 0.3, 0.7, 0.22, 0.78, 0.15, 0.85):
             here = min(int(part * len(curves)), len(curves) - 1)
             x, y = along(curves[here], part * len(curves) - here)
@@ -248,7 +275,7 @@ class Picture:
         ends = " ".join(f"n{it}" for it in {arc.src, arc.dst} - {None})
         said = f"{arc.text}: {self.net.end(arc.src)} to {self.net.end(arc.dst)}, {arc.flow} of {arc.lower} to {arc.upper}, price {arc.price}"
         lines = [f'<g class="arc {kind} {ends}"><title>{escape(said)}</title><path d="{path}" stroke-width="{width:.1f}" marker-end="url(#{kind})"/>']
-        text = str(arc.flow) if flow else f"{arc.lower}..{arc.upper}" if kind == "across" else ""
+        text = self.number(arc)
         if text and self.is_small:
             x, y = self.text_place(arc, text, curves)
             lines.append(f'<text x="{x:.0f}" y="{y + 4:.0f}">{text}</text>')
@@ -262,14 +289,15 @@ class Picture:
         first = y + 4 - 7.5 * (len(lines) - 1)
         texts = "".join(f'<text class="line{here}" x="{x:.0f}" y="{first + 15 * here:.0f}">{escape(it)}</text>' for here, it in enumerate(lines))
         said = f"{node.text}: {node.wish() or 'passes on what it gets'}"
-        return (f'<g class="node {kind}" id="n{number}" tabindex="0"><title>{escape(said)}</title><rect x="{x - wide / 2:.0f}" y="{y - self.high / 2:.0f}" '
-                f'width="{wide:.0f}" height="{self.high}" rx="5"/>{texts}</g>')
+        rect = f'<rect x="{x - wide / 2:.0f}" y="{y - self.high / 2:.0f}" width="{wide:.0f}" height="{self.high}" rx="5"/>'
+        return f'<g class="node {kind}" id="n{number}" tabindex="0"><title>{escape(said)}</title>{rect}{texts}</g>'
 
     def box(self, number):
         x, y, wide, high = self.x[number], self.y[number], self.wide[number] / 2, self.high / 2
         return x - wide, y - high, x + wide, y + high
 
-    def svg(self):
+    def svg(self, is_alone=False):
+        """The text of the picture; one that stands alone has its style in it, which a page has for itself."""
         most = max([abs(it.flow or 0) for it in self.arcs] + [1])
         self.boxes = [self.box(it) for it in self.nodes]
         wide, high = (math.ceil(it) for it in self.sheet)
@@ -278,8 +306,10 @@ class Picture:
         drawn = sorted(self.arcs, key=lambda it: (id(it) in self.across, abs(it.flow or 0)))
         # Numbers are placed from the largest flow on, and drawn in the order of the arcs.
         arcs = {id(it): self.arc_svg(it, most) for it in reversed(drawn)}
-        return (f'<svg xmlns="http://www.w3.org/2000/svg" role="img" aria-label="the network" width="{wide}" height="{high}" viewBox="0 0 {wide} {high}">'
-                f"<defs>{heads}</defs>" + "\n".join([*(arcs[id(it)] for it in drawn), *map(self.node_svg, self.nodes)]) + "</svg>")
+        sheet = f'width="{wide}" height="{high}" viewBox="0 0 {wide} {high}"'
+        return (f'<svg xmlns="http://www.w3.org/2000/svg" role="img" aria-label="the network" {sheet}>'
+                f"{f'<style>{STYLE}</style>' * is_alone}<defs>{heads}</defs>"
+                + "\n".join([*(arcs[id(it)] for it in drawn), *map(self.node_svg, self.nodes)]) + "</svg>")
 
 
 def columns(text):

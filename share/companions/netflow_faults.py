@@ -171,9 +171,10 @@ def uneven(fault):
     cells = {row: sum(it.text != "," for it in line) for row, line in rows.items()}
     counts = sorted(cells.values())
     usual = wanted_cells(whole[:cut]) or next((it for it in counts if 2 * counts.count(it) > len(counts) > 2), 0)
-    if not usual:
+    if not usual or counts[-1] > 2 * usual - 2 > 0:
         yield misfit(whole[:cut], [it for line in rows.values() for it in line if it.text != ","])
-    for row in [row for row, count in cells.items() if usual not in (0, count)][:3]:
+        return
+    for row in [row for row, count in cells.items() if count != usual][:3]:
         comma = cells[row] > usual and any(it.text == "," for it in rows[row])
         yield f"line {row} has {cells[row]} cells, and {usual} are wanted" + (": is a comma part of a number?" if comma else "")
 
@@ -187,23 +188,31 @@ def wanted_cells(head):
 
 def misfit(head, cells):
     """In a list whose rows do not stand one a line: the first row with a text in a number's place, at that number of keys with
-    which the rows go on longest."""
+    which most cells are in rows that fit, counted from the front and from the end."""
     marks = [here for here, it in enumerate(head) if it.text == ":"]
     values = sum(it.text != "," for it in head[marks[-1] + 1:]) if marks else 1
-    found = [first_misfit(cells, keys, values) for keys in range(1, 5)]
-    if None in found or not found or head[0].text != "param":
+    if head[0].text != "param" or len(cells) < 3:
         return ""
-    row = cells[max(found):]
-    return f"in line {row[0].row} the cells from {row[0].text} on do not fit: is a cell missing there, or one too many before?"
+    fits = []
+    for keys in [1] if wanted_cells(head) else range(1, 5):
+        size = keys + values
+        front = fitting([cells[it:it + size] for it in range(0, len(cells), size)], keys, size)
+        back = fitting([cells[max(0, it - size):it] for it in range(len(cells), 0, -size)], keys, size)
+        fits.append((min(front + back, len(cells)), -keys, front))
+    first = max(fits)[2]
+    if first == len(cells):
+        return ""
+    return f"in line {cells[first].row} the cells from {cells[first].text} on do not fit: is a cell missing there, or one too many before?"
 
 
-def first_misfit(cells, keys, values):
-    """Where the first row begins whose values are not all numbers; None where all are."""
-    for here in range(0, len(cells), keys + values):
-        row = cells[here:here + keys + values]
-        if len(row) < keys + values or not all(re.fullmatch(r"[+-]?[0-9.]+", it.text) for it in row[keys:]):
-            return here
-    return None
+def fitting(rows, keys, size):
+    """How many cells stand in the rows before the first that is short or has a text for a value."""
+    count = 0
+    for row in rows:
+        if len(row) < size or not all(re.fullmatch(r"[+-]?[0-9.]+", it.text) for it in row[keys:]):
+            break
+        count += size
+    return count
 
 
 def doubled(fault):
@@ -286,6 +295,36 @@ def speaking(fault):
         yield f"the data speak of {name} in line {', '.join(map(str, told))}"
 
 
+PAIRS = {")": "(", "]": "[", "}": "{"}
+
+
+def unclosed(fault):
+    """A bracket that stands open where the declaration ends, or where another kind is closed."""
+    if fault.text != "model":
+        return
+    text = "\n".join([*fault.texts["model"].split("\n")[:fault.row - 1], fault.before])
+    open_at, here = [], fault.word()
+    for it in tokens(text):
+        if it.text in PAIRS.values():
+            open_at.append(it.text)
+        elif it.text in PAIRS and open_at[-1:] == [PAIRS[it.text]]:
+            open_at.pop()
+        elif it.text == ";":
+            open_at = []
+    if open_at and (here == ";" or here in PAIRS and PAIRS[here] != open_at[-1]):
+        yield f"is the {open_at[-1]} before it not closed?"
+    elif here in PAIRS and not open_at:
+        yield f"does a {PAIRS[here]} for it stand nowhere?"
+
+
+def exchanged_words(fault):
+    """A name before the word that declares it."""
+    if fault.text == "model" and fault.before.strip() == "":
+        words = TOKEN.findall(fault.at())[:2]
+        if len(words) == 2 and words[1] in DECLARING:
+            yield f"are {words[0]} and {words[1]} the wrong way round?"
+
+
 GUESSES = (
     (("E90",), unreadable),
     (("E01",), odd_character),
@@ -293,6 +332,8 @@ GUESSES = (
     (("E10", "E14"), exchanged),
     (("E10", "E14"), misplaced),
     (("E10", "E14", "E20"), doubled),
+    (("E10", "E14"), unclosed),
+    (("E14",), exchanged_words),
     (("E10", "E16"), uncoloned),
     (("E20",), unended_statement),
     (("E21", "E36", "E37"), uneven),

@@ -1,6 +1,8 @@
 """The HTML page of netflow-report: tables of arcs, reasons in words, and the picture. It needs nothing beside it."""
 from html import escape
 
+import netflow_draw
+
 HIDDEN_FROM = 5_000
 
 
@@ -69,10 +71,26 @@ class Arcs:
         note = f'<button type="button" class="toggle" aria-expanded="false">show {what}</button>' if hidden else ""
         if hidden and len(self.net.arcs) > HIDDEN_FROM:
             shown, note = shown[:len(shown) - hidden], f"{capital(what)} are left out of this page; netflow-sheet writes them all."
-        made = table(self.head(), [self.row(it) for it in shown]) if shown else ""
+        made = table(self.head(), [self.row(it) for it in shown], "numbers") if shown else ""
         # Where every row waits, the heading waits too.
         made = made if hidden < len(self.arcs) else f'<div class="later">{made}</div>'
         return section(self.name, f"<p>{self.summary()} {note}</p>{made}")
+
+
+def places_html(net):
+    """What comes into each place and goes out of it, and what a unit more there is worth."""
+    came, went = [0] * len(net.nodes), [0] * len(net.nodes)
+    for arc in net.arcs:
+        for counts, number, is_forward in ((came, arc.dst, arc.flow > 0), (went, arc.src, arc.flow > 0)):
+            if number is not None:
+                (counts if is_forward else went if counts is came else came)[number] += abs(arc.flow)
+    has_worth = any(it.worth for it in net.nodes)
+    head = [("place", ""), ("needs or gives", ""), ("comes in", "number flow"), ("goes out", "number flow")]
+    head += [(f"a unit more that has to come {'costs' if net.sign > 0 else 'takes'} at least", "number wrap")] * has_worth
+    rows = [("", [it.text, it.wish(), came[number], went[number], *[it.worth] * has_worth]) for number, it in enumerate(net.nodes)]
+    rows, count = rows[:HIDDEN_FROM], len(rows)
+    note = f" The first {HIDDEN_FROM} are shown." if count > HIDDEN_FROM else ""
+    return section("Places", f"<p>{count} {'place' if count == 1 else 'places'}.{note}</p>{table(head, rows, 'numbers')}") if rows else ""
 
 
 def arcs_word(count):
@@ -133,12 +151,7 @@ def page(title, head, sections):
 """
 
 
-STYLE = """
-:root{color-scheme:light dark;--ink:#1d2530;--dim:#667180;--back:#fff;--soft:#f2f4f7;--line:#d9dee5;--used:#2f74b5;--full:#c9660a;--across:#c0282d;
---full-back:#fdf0e1;--low-back:#e8f1fb;--idle:#c3cad3;--node:#fff;--gives:#e5f3ea;--needs:#e8f0fb;--marked:#fbe6e6}
-@media (prefers-color-scheme:dark){:root{--ink:#e4e8ee;--dim:#98a3b2;--back:#151a21;--soft:#1f2630;--line:#37414e;
-
---used:#69abe8;--full:#f0a04b;--across:#ff7276;--full-back:#3a2a17;--low-back:#1c2d42;--idle:#4b5664;--node:#1f2630;--gives:#1c3326;--needs:#1d2c42;--marked:#44201f}}
+STYLE = netflow_draw.STYLE + """
 *{box-sizing:border-box}
 body{font:15px/1.5 system-ui,sans-serif;color:var(--ink);background:var(--back);margin:0 auto;max-width:1240px;padding:20px 16px 40px}
 h1{font-size:1.4rem;margin:0 0 4px}h2{font-size:1.15rem;margin:32px 0 6px}h3{font-size:1rem;margin:14px 0 4px}p{margin:4px 0 8px}
@@ -155,19 +168,11 @@ tr.full td{background:var(--full-back)}tr.lowest td{background:var(--low-back)}
 span.full{background:var(--full-back);padding:0 5px;border-radius:3px}
 span.lowest{background:var(--low-back);padding:0 5px;border-radius:3px}
 tr.more,.later{display:none}section.all tr.more{display:table-row}section.all .later{display:block}
-th.wrap{white-space:normal;min-width:9rem}
+th.wrap button{white-space:normal;min-width:8rem;max-width:11rem;margin-left:auto}.numbers td{white-space:nowrap}
 .toggle,.tools button{font:inherit;font-size:.9rem;color:inherit;background:var(--soft);border:1px solid var(--line);
 border-radius:5px;padding:2px 10px;cursor:pointer}
 .pair{display:flex;flex-wrap:wrap;gap:8px 32px}.pair>div{max-width:100%}
 .picture{border:1px solid var(--line);border-radius:6px;overflow:auto;max-height:80vh;background:var(--back)}svg{display:block;margin:0 auto}
-svg text{font:13px system-ui,sans-serif;fill:var(--ink);text-anchor:middle}.node rect{fill:var(--node);stroke:var(--dim)}
-.node.gives rect{fill:var(--gives)}.node.needs rect{fill:var(--needs)}
-.node.marked rect{fill:var(--marked);stroke:var(--across);stroke-width:2}.node .line1{fill:var(--dim);font-size:12px}
-.arc path{fill:none}.arc text{font-size:12px;font-weight:600;paint-order:stroke;stroke:var(--back);stroke-width:4px}
-.idle path{stroke:var(--idle);stroke-dasharray:3 3}.used path{stroke:var(--used)}.full path{stroke:var(--full)}.across path{stroke:var(--across)}
-.head path{stroke:none;stroke-dasharray:none}.head.idle path{fill:var(--idle)}.head.used path{fill:var(--used)}
-.head.full path{fill:var(--full)}.head.across path{fill:var(--across)}
-.arc.faint{opacity:.07}.node:focus{outline:none}.node:focus rect,.node:hover rect{stroke:var(--ink);stroke-width:2}
 .key{display:flex;flex-wrap:wrap;gap:4px 18px;align-items:center}
 .key i{display:inline-block;width:26px;height:0;border-top:4px solid;margin-right:6px;vertical-align:middle}
 .key .idle{border-top:2px dashed var(--idle)}.key .used{border-color:var(--used)}.key .full{border-color:var(--full)}

@@ -37,12 +37,12 @@ class Reason:
         doubt = "" if self.helps else " (is one the wrong way round?)"
         if self.side == "under":
             return "needed", "can come, at most", "no arc leads in, and nothing else helps", f"these lead out{doubt}"
-        return "to send out", "room, at most", "no arc leads out, and nothing else helps", f"these lead in{doubt}"
+        return "there, at least", "room, at most", "no arc leads out, and nothing else helps", f"these lead in{doubt}"
 
     def who(self, net):
         count = len(self.nodes)
-        if count == 1:
-            return net.nodes[self.nodes[0]].text
+        if count <= 3 < len(net.nodes) or count == 1:
+            return ", ".join(net.nodes[it].text for it in self.nodes) + " together" * (count > 1)
         return f"{'All' if count == len(net.nodes) else 'These'} {count} places together"
 
     def headline(self, net):
@@ -50,7 +50,7 @@ class Reason:
         needed, given, short = self.needed(), self.given(), self.short()
         if self.side == "under":
             return f"{self.who(net)}: {needed} needed, {given} can come at most: {short} short"
-        return f"{self.who(net)}: {needed} to send out, room for {given} at most: {short} too much"
+        return f"{self.who(net)}: {needed} there at least, room for {given} at most: {short} too much"
 
     def quiet(self, net):
         """The places of the set that pass on what they get."""

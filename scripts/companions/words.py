@@ -1,0 +1,30 @@
+"""The companions' words beside their manual page and completions, and how scripts/first_look hands files on."""
+import pathlib
+import re
+
+from companions.common import COMPANIONS, TOP, run, script, write
+
+LOOK = script(TOP / "scripts" / "first_look")
+
+
+def check_words(complaints):
+    """Each companion and each of its options stands in the manual page and in the completions, and is installed."""
+    manual = (TOP / "share" / "netflow-companions.1").read_text(encoding="utf-8").replace("\\-", "-")
+    completions = [(TOP / "share" / "completions" / it).read_text(encoding="utf-8") for it in ("netflow.bash", "netflow.fish", "_netflow-companions")]
+    installed = re.search(r"for companion in (.*); do", (TOP / "scripts" / "install").read_text(encoding="utf-8"))[1].split()
+    names = sorted(it.name for it in COMPANIONS.iterdir() if it.name.startswith("netflow-"))
+    complaints.same("what scripts/install installs", names, sorted(f"netflow-{it}" for it in installed))
+    for name in names:
+        usage = run(name, "--help")[1].partition("\n\n")[0]
+        complaints.want(f".B {name}" in manual and all(name in it for it in completions), f"{name}: not in the manual page or a completion")
+        for option in set(re.findall(r"--[a-z]+", usage)):
+            told = [option in manual, option in completions[0], f"-l {option[2:]}" in completions[1], option in completions[2]]
+            complaints.want(all(told), f"{name} {option}: not in the manual page or a completion: {told}")
+
+
+def check_look(complaints, folder):
+    """Files go to the run under names without blanks; what is no file stays as it is."""
+    path = write(folder, "a model.mod", "node ;\n")
+    words = ["solve", str(path), "/dev/null", "--objective", str(path), "/nowhere/x"]
+    staged = LOOK.staged(words, pathlib.Path(folder))
+    complaints.same("first_look: words", ["--data", f"text1={path.resolve()}", "--", "solve", "text1", *words[2:]], staged)
