@@ -15,7 +15,7 @@ use crate::fault::Fault;
 use net_check::Side;
 use net_inst::objective_is_written;
 use net_report::{lift, write_cut, write_display};
-use net_solve::{Settled, Silent, solve};
+use net_solve::{Settled, first_asked, solve};
 use std::alloc::{AllocError, Global};
 
 /// What comes out of a model.
@@ -87,7 +87,7 @@ pub fn solve_model_with<'s>(
     ensures refused { IfErr result (IsRefusal (option_copied options.entry.objective) model.entry.now «data».entry.now) }
 {
     let compiled = compile_with(alloc, options, model, data)?;
-    let settled = solve(alloc, &Silent, &compiled.problem)?;
+    let settled = solve(alloc, &first_asked(), &compiled.problem)?;
     let outcome = outcome_of(alloc, &compiled, settled)?;
     objective_is_written();
     Ok(Answer { compiled, outcome })

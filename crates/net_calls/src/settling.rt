@@ -11,7 +11,7 @@ use crate::checking::problem_of;
 use crate::fault::Fault;
 use net_dimacs::write_certificate;
 use net_normal::Problem;
-use net_solve::{Settled, Silent, solve};
+use net_solve::{Settled, first_asked, solve};
 use std::alloc::{AllocError, Global};
 
 /// Settles the problem of a text. The second part is the text of its certificate.
@@ -34,7 +34,7 @@ pub fn solve_min(alloc: Global, problem: &[u8]) -> Result<(Settled, Vec<u8>), Fa
 pub(crate) fn settle(alloc: Global, network: &Problem) -> Result<(Settled, Vec<u8>), AllocError>
     ensures { (problem : List ℕ) → IsProblemOf problem network.now → IfOk result (λ answer. Settles problem answer.0 answer.1.items) }
 {
-    let settled = solve(alloc, &Silent, network)?;
+    let settled = solve(alloc, &first_asked(), network)?;
     let (settled, text) = with_text(alloc, network, settled)?;
     Ok((settled, text))
 }
