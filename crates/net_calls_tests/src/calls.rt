@@ -67,7 +67,10 @@ fn models_are_solved(rt: HostRuntime) -> Result<(), Fail> {
 }
 
 /// Problems, with the certificate or the fault.
-const MIN: &[(&[u8], &str)] = &[(PROBLEM, CERTIFICATE), (b"p min 0 0\n", "E75 Count problem 1")];
+const MIN: &[(&[u8], &str)] = &[
+    (PROBLEM, CERTIFICATE),
+    (b"p min 0 0\n", "E75 Count problem 1"),
+];
 
 #[test]
 fn problems_are_settled(rt: HostRuntime) -> Result<(), Fail> {
@@ -80,7 +83,10 @@ fn problems_are_settled(rt: HostRuntime) -> Result<(), Fail> {
 /// Certificates of the problem, with the verdict or the fault.
 const CHECK: &[(&str, &str)] = &[
     (CERTIFICATE, "Yes"),
-    ("s 9\nf 1 2 4\nf 1 3 0\nf 2 3 4\nv 1 0\nv 2 1\nv 3 2\n", "No(Value, 0)"),
+    (
+        "s 9\nf 1 2 4\nf 1 3 0\nf 2 3 4\nv 1 0\nv 2 1\nv 3 2\n",
+        "No(Value, 0)",
+    ),
     ("s nine\n", "E78 Certificate certificate 1"),
 ];
 

@@ -7,9 +7,17 @@ use std::test::Fail;
 
 /// The runs, with what their first and their second source are called where they cannot be read.
 const RUNS: &[(Run, &str, &str)] = &[
-    (Run::Compile, "E90 ReadFault model: ", "E90 ReadFault data: "),
+    (
+        Run::Compile,
+        "E90 ReadFault model: ",
+        "E90 ReadFault data: ",
+    ),
     (Run::Solve, "E90 ReadFault model: ", "E90 ReadFault data: "),
-    (Run::Check, "E90 ReadFault problem: ", "E90 ReadFault certificate: "),
+    (
+        Run::Check,
+        "E90 ReadFault problem: ",
+        "E90 ReadFault certificate: ",
+    ),
 ];
 
 const ALL: &[Run] = &[Run::Compile, Run::Solve, Run::Check, Run::Min];
@@ -30,7 +38,11 @@ fn whole(alloc: Global, run: Run) -> Result<String, AllocError> {
 fn a_byte_at_a_time_changes_nothing(rt: HostRuntime) -> Result<(), Fail> {
     for run in ALL {
         let wanted = whole(rt.alloc(), *run)?;
-        expect("byte by byte", ran(rt.alloc(), Trial::of(*run, Pace::Bytes)), wanted.as_str())?;
+        expect(
+            "byte by byte",
+            ran(rt.alloc(), Trial::of(*run, Pace::Bytes)),
+            wanted.as_str(),
+        )?;
     }
     Ok(())
 }
@@ -47,7 +59,11 @@ fn the_first_text_fails_at_each_read(rt: HostRuntime) -> Result<(), Fail> {
     for (run, wanted, _) in RUNS {
         let (text, _) = texts_of(*run);
         for reads in 0..text.len() + 1 {
-            expect("a read of the first text", first_fails(rt.alloc(), *run, reads), wanted)?;
+            expect(
+                "a read of the first text",
+                first_fails(rt.alloc(), *run, reads),
+                wanted,
+            )?;
         }
     }
     Ok(())
@@ -57,7 +73,11 @@ fn the_first_text_fails_at_each_read(rt: HostRuntime) -> Result<(), Fail> {
 fn the_problem_of_min_fails_at_each_read(rt: HostRuntime) -> Result<(), Fail> {
     let (text, _) = texts_of(Run::Min);
     for reads in 0..text.len() + 1 {
-        expect("a read of the problem", first_fails(rt.alloc(), Run::Min, reads), "E90 ReadFault problem: ")?;
+        expect(
+            "a read of the problem",
+            first_fails(rt.alloc(), Run::Min, reads),
+            "E90 ReadFault problem: ",
+        )?;
     }
     Ok(())
 }
@@ -74,7 +94,11 @@ fn the_second_text_fails_at_each_read(rt: HostRuntime) -> Result<(), Fail> {
     for (run, _, wanted) in RUNS {
         let (_, text) = texts_of(*run);
         for reads in 0..text.len() + 1 {
-            expect("a read of the second text", second_fails(rt.alloc(), *run, reads), wanted)?;
+            expect(
+                "a read of the second text",
+                second_fails(rt.alloc(), *run, reads),
+                wanted,
+            )?;
         }
     }
     Ok(())
@@ -99,7 +123,11 @@ fn the_output_fails_at_each_write(rt: HostRuntime) -> Result<(), Fail> {
     for run in ALL {
         for writes in 0..answer_of(*run).len() {
             let wanted = front(rt.alloc(), *run, writes)?;
-            expect("a write", output_fails(rt.alloc(), *run, writes), wanted.as_str())?;
+            expect(
+                "a write",
+                output_fails(rt.alloc(), *run, writes),
+                wanted.as_str(),
+            )?;
         }
     }
     Ok(())
