@@ -65,7 +65,8 @@ SHOWN = (
     ("docs/COMPANIONS.md", "netflow-why bread.mod bread.dat", SHORT),
     ("docs/COMPANIONS.md", "netflow-explain solve bread.mod bread.dat", {"mill 25;": "mill 25"}),
     ("docs/COMPANIONS.md", "netflow-sheet plan bread.mod bread.dat --grid", {}),
-    ("docs/PRICES.md", f"netflow-why {TOP}/examples/storage/storage.mod {TOP}/examples/storage/storage.dat", {}),
+    # Of this one the prices are unique: the arcs between their bounds lead to all places.
+    ("docs/PRICES.md", "netflow-why bread.mod bread.dat", {"south 50": "south 90", "hill 30": "hill 45"}),
 )
 
 
