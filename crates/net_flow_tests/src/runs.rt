@@ -79,3 +79,18 @@ fn plain_answers_where_a_run_has_none(rt: HostRuntime) -> Result<(), Fail> {
     }
     Ok(())
 }
+
+/// A problem of which a run takes more than five steps, and comes to its budget where an arc still saves.
+const SAVES: &str =
+    "p min 3 8\nn 1 305303620614998992\nn 2 489773721715027685\nn 3 -795077342330026677\n\
+a 3 2 0 560316048550173035 7\na 2 3 0 791495754330639556 1\na 2 3 0 646105778759037955 -2\n\
+a 1 1 589940373000860599 802475759670104337 -3\na 2 2 345376310568905180 535814401860405208 -7\n\
+a 1 3 592545443310188970 694161579424858396 4\na 1 3 0 785873331033867090 3\na 3 1 0 931495707295388255 -6\n";
+
+#[test]
+fn a_run_ends_at_its_budget(rt: HostRuntime) -> Result<(), Fail> {
+    for budget in 1..6 {
+        expect(SAVES, ran(rt.alloc(), SAVES, budget), "none, steps")?;
+    }
+    Ok(())
+}

@@ -95,11 +95,15 @@ impl Machine {
             if self.steps >= targets.patience.steps() {
                 return false;
             }
+            let before = self.steps;
             let least = self.least_out(problem, rows, node);
             let amount = self.sinking(targets, moves, node, least);
             if least < 0 {
                 self.push_rest(problem, rows, waiting, node);
-            } else if !self.lower(problem, node, &least, &amount) {
+            } else {
+                self.lower(problem, node, &least, &amount);
+            }
+            if self.steps == before {
                 return false;
             }
         }
