@@ -89,8 +89,5 @@ a 1 3 592545443310188970 694161579424858396 4\na 1 3 0 785873331033867090 3\na 3
 
 #[test]
 fn a_run_ends_at_its_budget(rt: HostRuntime) -> Result<(), Fail> {
-    for budget in 1..6 {
-        expect(SAVES, ran(rt.alloc(), SAVES, budget), "none, steps")?;
-    }
-    Ok(())
+    expect(SAVES, ran(rt.alloc(), SAVES, 5), "none, steps")
 }
