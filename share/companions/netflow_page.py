@@ -57,7 +57,7 @@ class Arcs:
     def summary(self):
         used, count = sum(it.flow != 0 for it in self.arcs), len(self.arcs)
         if not self.has_plan:
-            return f"{count} {arcs_word(count)}, {sum(id(it) in self.lead for it in self.arcs)} of them across the line."
+            return f"{count} {arcs_word(count)}, {sum(id(it) in self.lead for it in self.arcs)} of them to or from the places in red."
         full, lowest = sum(it.is_full() for it in self.arcs), sum(it.is_lowest() for it in self.arcs)
         spent = f" Flow × price: {sum(it.flow * it.price for it in self.arcs)}." if self.has_price else ""
         bounds = (full, "full", "most"), (lowest, "lowest", "least")

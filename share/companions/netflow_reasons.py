@@ -34,7 +34,7 @@ class Reason:
 
     def words(self):
         """What its two lists are called, what is said where nothing helps, and which way the idle arcs lead."""
-        doubt = "" if self.helps else " (is one the wrong way round?)"
+        doubt = "" if self.helps else " (is one the wrong way round? or net_in for net_out?)"
         if self.side == "under":
             return "needed", "can come, at most", "no arc leads in, and nothing else helps", f"these lead out{doubt}"
         return "there, at least", "room, at most", "no arc leads out, and nothing else helps", f"these lead in{doubt}"
