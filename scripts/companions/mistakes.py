@@ -6,15 +6,15 @@ MODEL = """set DEPOTS;
 set SHOPS;
 param last;
 param has {DEPOTS} >= 0;
-param wants {SHOPS, 1..last} >= 0;
-param cost {DEPOTS, SHOPS};
+param wants {SHOPS, 1..last} >= 0; param room;
+param cost {DEPOTS, SHOPS}; set NEAR within DEPOTS cross SHOPS;
 
 minimize Total;
 node Depot {d in DEPOTS}: net_out <= has[d];
 node Shop {s in SHOPS, t in 1..last}: net_in = wants[s,t];
 arc Drive {d in DEPOTS, s in SHOPS, t in 1..last} >= 0, <= 40,
     from Depot[d], to Shop[s,t], obj Total cost[d,s];
-arc Keep {s in SHOPS, t in 1..last - 1} >= 0, <= 9,
+arc Keep {s in SHOPS, t in 1..last - 1} >= 0, <= room,
     from Shop[s,t], to Shop[s,t + 1], obj Total 1;
 """
 
@@ -31,6 +31,8 @@ Enns 15 30
 param cost: Wien Enns 'Sankt Veit' :=
 Linz 3 1 9
 Graz 5 6 4;
+param room := 9;
+set NEAR := (Linz, Wien) (Graz, Enns);
 """
 
 
@@ -84,9 +86,11 @@ MISTAKES = [Mistake(*it) for it in (
     ("no data for a set", "data", "set SHOPS := Wien Enns 'Sankt Veit';\n", "", "E32 NoValue model 2:5", "give the row in the data"),
     ("a row twice", "data", "Graz 100;", "Graz 100 Linz 5;", "E31 DoubleValue data 6:10 has['Linz']", "take one of the two away"),
     ("below 0", "data", "Linz 90", "Linz -90", "E34 Restriction model 4:23 has['Linz']", "the data speak of has in line 5"),
+    ("a pair of no set", "data", "(Graz, Enns)", "(Graz, Ens)", "E34 Restriction model 6:46 NEAR", "line 15 of the data has Ens, which SHOPS has not"),
     ("an arc too far", "model", "t in 1..last - 1} >=", "t in 1..last} >=", "E50 NoSuchNode model 14:24 Shop['Wien',3]", "its braces end one period earlier"),
-    ("no upper bound", "model", ">= 0, <= 9,", ">= 0,", "E52 NoUpper model 13:5 Keep", "write a number that no plan reaches"),
-    ("= as a bound", "model", ">= 0, <= 9,", "= 9,", "E14 LeftOut model 13:41 =", "are >= and <= meant?"),
+    ("no upper bound", "model", ">= 0, <= room,", ">= 0,", "E52 NoUpper model 13:5 Keep",
+     "room is declared and used nowhere: is the bound meant to be it?"),
+    ("= as a bound", "model", ">= 0, <= room,", "= room,", "E14 LeftOut model 13:41 =", "are >= and <= meant?"),
     ("from without to", "model", "from Shop[s,t], to Shop", "from Shop[s,t], Shop", "E14 LeftOut model 14:21 Shop", "is a to missing before Shop?"),
     ("if in a sum", "model", "net_in = wants[s,t]", "net_in = wants[s,t] - if t = 1 then 1", "E10 Syntax model 10:61",
      "an if inside a sum stands in parentheses"),

@@ -85,7 +85,7 @@ def check_pages(complaints, folder):
         complaints.want("url(" not in re.sub(r"url\(#\w+\)", "", text), f"report {name}: something is fetched")
         tables = re.findall(r"<section><h2>([^<]*)</h2>\n<p>(\d+) arcs?,.*?</section>", text, re.S)
         complaints.same(f"report {name}: arcs", {it: len(arcs) for it, arcs in net.declared().items()}, {it: int(count) for it, count in tables})
-        rows = sum(part.count("<tr") - 1 for part in re.findall(r"<section><h2>[^<]*</h2>\n<p>\d+ arcs?,(.*?)</section>", text, re.S))
+        rows = sum(part.count("<tr") - 1 for part in re.findall(r"<section><h2>[^<]*</h2>\n<p>\d+ arcs?,(.*?)(?:<details>|</section>)", text, re.S))
         complaints.same(f"report {name}: rows", len(net.arcs), rows)
         complaints.same(f"report {name}: nodes on one another", [], overlapping(text))
         complaints.want(status == 0 or re.search(r'class="reason">[^<]* (short|too much)\.', text), f"report {name}: no reason")
@@ -98,6 +98,18 @@ def check_pages(complaints, folder):
             inflows = [int(cells[it + 2]) - int(cells[it + 3]) for it in range(0, len(cells), each)]
             complaints.same(f"report {name}: what comes in less what goes out", [it.inflow for it in net.nodes], inflows)
         complaints.want(status or f"{net.objective} = {net.value}<" in text, f"report {name}: no value")
+        check_totals(complaints, name, net, text)
+
+
+def check_totals(complaints, name, net, text):
+    """The totals of the first declaration: of each part of its keys they come to what flows in all."""
+    found = re.search(r"<summary>totals</summary>(.*?)</details>", text, re.S)
+    if found:
+        declared = re.findall(r"<h2>([^<]*)</h2>", text[:found.start()])[-1]
+        flows = sum(it.flow for it in net.declared()[declared])
+        for table in re.findall(r"<tbody>(.*?)</tbody>", found[1], re.S):
+            cells = re.findall(r'<td class="number flow">([^<]*)</td>', table)
+            complaints.same(f"report {name}: totals of {declared}", flows, sum(map(int, cells)))
 
 
 # In a browser
@@ -109,9 +121,13 @@ addEventListener('load',function(){var said={};
  var button=document.querySelector('.toggle'),section=button?button.closest('section'):Array.from(document.querySelectorAll('section')).filter(has).pop();
  if(button)button.click();
  var heads=Array.from(section.querySelectorAll('th')),place=heads.findIndex(function(it){return it.textContent==='most'});
- function rows(){return Array.from(section.querySelectorAll('tbody tr')).map(function(it){return it.cells[place].textContent})}
+ function rows(){return Array.from(section.querySelector('tbody').rows).map(function(it){return it.cells[place].textContent})}
  heads[place].firstChild.click();said.up=rows();heads[place].firstChild.click();said.down=rows();
- said.shown=Array.from(section.querySelectorAll('tbody tr')).filter(function(it){return it.getClientRects().length}).length;said.rows=rows().length;
+ var find=section.querySelector('[type=search]');
+ if(find){find.value=section.querySelector('tbody td').textContent;find.oninput();
+  said.found=Array.from(section.querySelector('tbody').rows).every(function(it){
+   return Boolean(it.getClientRects().length)===it.textContent.toLowerCase().includes(find.value.toLowerCase())});find.value='';find.oninput()}
+ said.shown=Array.from(section.querySelector('tbody').rows).filter(function(it){return it.getClientRects().length}).length;said.rows=rows().length;
  said.overflow=document.documentElement.scrollWidth-document.documentElement.clientWidth;
  said.dark=matchMedia('(prefers-color-scheme:dark)').matches;
  var texts=Array.from(document.querySelectorAll('svg .node')).filter(function(it){var box=it.querySelector('rect').getBBox();
@@ -144,6 +160,7 @@ def check_browser(complaints, folder):
             if said:
                 complaints.same(f"{name} at {width}: sorted", sorted(said["up"], key=int), said["up"])
                 complaints.same(f"{name} at {width}: sorted down", sorted(said["up"], key=int, reverse=True), said["down"])
+                complaints.same(f"{name} at {width}: rows found", True, said.get("found", True))
                 complaints.same(f"{name} at {width}: rows shown", said["rows"], said["shown"])
                 complaints.same(f"{name} at {width}: wider than the window", 0, said["overflow"])
                 complaints.same(f"{name} at {width}: dark", is_dark, said["dark"])

@@ -23,7 +23,7 @@ svg text{font:13px system-ui,sans-serif;fill:var(--ink);text-anchor:middle}.node
 .idle path{stroke:var(--idle);stroke-dasharray:3 3}.used path{stroke:var(--used)}.full path{stroke:var(--full)}.across path{stroke:var(--across)}
 .head path{stroke:none;stroke-dasharray:none}.head.idle path{fill:var(--idle)}.head.used path{fill:var(--used)}
 .head.full path{fill:var(--full)}.head.across path{fill:var(--across)}
-.arc.faint{opacity:.07}.node:focus{outline:none}.node:focus rect,.node:hover rect{stroke:var(--ink);stroke-width:2}
+.large .arc text{display:none}.large .arc.near text{display:inline}.arc.faint{opacity:.07}.node:focus{outline:none}.node:focus rect,.node:hover rect{stroke:var(--ink);stroke-width:2}
 """
 
 
@@ -149,7 +149,7 @@ class Picture:
         return STUB + LETTER * max((len(self.number(it)) for it in self.stubs.get(ends, [])), default=0)
 
     def number(self, arc):
-        """What stands on an arc of a small picture: what it carries, or across a cut what it may carry."""
+        """What stands on an arc: what it carries, or across a cut what it may carry."""
         return str(arc.flow) if arc.flow else f"{arc.lower}..{arc.upper}" if id(arc) in self.across else ""
 
     def label(self, number):
@@ -276,8 +276,9 @@ class Picture:
         said = f"{arc.text}: {self.net.end(arc.src)} to {self.net.end(arc.dst)}, {arc.flow} of {arc.lower} to {arc.upper}, price {arc.price}"
         lines = [f'<g class="arc {kind} {ends}"><title>{escape(said)}</title><path d="{path}" stroke-width="{width:.1f}" marker-end="url(#{kind})"/>']
         text = self.number(arc)
-        if text and self.is_small:
-            x, y = self.text_place(arc, text, curves)
+        if text:
+            # In a large picture the numbers are shown of the arcs of a place that is pointed at.
+            x, y = self.text_place(arc, text, curves) if self.is_small else along(curves[len(curves) // 2], 0.5)
             lines.append(f'<text x="{x:.0f}" y="{y + 4:.0f}">{text}</text>')
         return "".join([*lines, "</g>"])
 
@@ -307,7 +308,7 @@ class Picture:
         # Numbers are placed from the largest flow on, and drawn in the order of the arcs.
         arcs = {id(it): self.arc_svg(it, most) for it in reversed(drawn)}
         sheet = f'width="{wide}" height="{high}" viewBox="0 0 {wide} {high}"'
-        return (f'<svg xmlns="http://www.w3.org/2000/svg" role="img" aria-label="the network" {sheet}>'
+        return (f'<svg xmlns="http://www.w3.org/2000/svg" role="img" aria-label="the network"{' class="large"' * (not self.is_small)} {sheet}>'
                 f"{f'<style>{STYLE}</style>' * is_alone}<defs>{heads}</defs>"
                 + "\n".join([*(arcs[id(it)] for it in drawn), *map(self.node_svg, self.nodes)]) + "</svg>")
 

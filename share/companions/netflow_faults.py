@@ -8,30 +8,12 @@ import re
 import unicodedata
 
 from netflow_calls import HERE
+from netflow_words import TOKEN, read, tokens
 
 LINE = re.compile(r"(E\d\d) (\w+)(?: (model|data|problem|certificate)(?: (\d+)(?::(\d+))?(?: (.*))?)?)?")
 TEXTS = {"solve": ("model", "data"), "compile": ("model", "data"), "min": ("problem",), "check": ("problem", "certificate")}
 DECLARING = {"set", "param", "check", "node", "arc", "minimize", "maximize"}
-TOKEN = re.compile(r"#[^\n]*|/\*.*?\*/|'(?:[^'\n]|'')*'|\"(?:[^\"\n]|\"\")*\"|:=|[\w.+-]+|\S", re.S)
 ODD = {"\ufeff": "a byte order mark, which cannot be seen: is the file saved as UTF-8 without it?", "=": "is := meant?"}
-
-
-class Token:
-    def __init__(self, text, row):
-        self.text, self.row = text, row
-
-    def bare(self):
-        quote = self.text[:1]
-        return self.text[1:-1].replace(quote * 2, quote) if quote in ("'", '"') and len(self.text) > 1 else self.text
-
-
-def tokens(text):
-    """The words of a text, without remarks, each with its row."""
-    row, last = 1, 0
-    for found in TOKEN.finditer(text):
-        row, last = row + text.count("\n", last, found.start()), found.start()
-        if not found[0].startswith(("#", "/*")):
-            yield Token(found[0], row)
 
 
 class Fault:
@@ -69,15 +51,6 @@ class Fault:
 
     def words(self, kind):
         return [it.bare() for it in tokens(self.texts.get(kind, ""))]
-
-
-def read(path):
-    """A file's text, bytes that are no characters kept; nothing of a file that cannot be read."""
-    try:
-        with open(path, "rb") as file:
-            return file.read().decode("utf-8", "surrogateescape") if os.path.isfile(path) else ""
-    except OSError:
-        return ""
 
 
 def catalogue(number):
@@ -295,6 +268,34 @@ def speaking(fault):
         yield f"the data speak of {name} in line {', '.join(map(str, told))}"
 
 
+def members_of(fault, name):
+    """What the data list of a set, without the marks between; nothing where it is said otherwise."""
+    found, words = [], list(tokens(fault.texts.get("data", "")))
+    for here in range(len(words) - 2):
+        if (words[here].text, words[here + 1].text, words[here + 2].text) == ("set", name, ":="):
+            for it in words[here + 3:]:
+                if it.text == ";":
+                    break
+                found += [it] if it.text not in "(),*" else []
+    return found
+
+
+def outside(fault):
+    """Members of a set that is to lie within others, which none of those has."""
+    name = re.escape(fault.detail)
+    found = re.search(rf"\bset\s+{name}\b[^;]*?\bwithin\s+([^;,]*)", fault.texts.get("model", ""))
+    if fault.text != "model" or not found:
+        return
+    sets = re.split(r"\s+cross\s+", found[1].strip(" ()"))
+    known = [{it.bare() for it in members_of(fault, it)} for it in sets]
+    listed = members_of(fault, fault.detail)
+    if not all(known) or len(listed) % len(sets):
+        return
+    wrong = [(it, here % len(sets)) for here, it in enumerate(listed) if it.bare() not in known[here % len(sets)]]
+    for it, part in wrong[:3]:
+        yield f"line {it.row} of the data has {it.text}, which {sets[part]} has not"
+
+
 PAIRS = {")": "(", "]": "[", "}": "{"}
 
 
@@ -315,6 +316,15 @@ def unclosed(fault):
         yield f"is the {open_at[-1]} before it not closed?"
     elif here in PAIRS and not open_at:
         yield f"does a {PAIRS[here]} for it stand nowhere?"
+
+
+def unused_parameter(fault):
+    """A parameter that is declared and stands nowhere else, which may be the bound that was forgotten."""
+    words = fault.words("model")
+    names = [words[here + 1] for here, it in enumerate(words[:-1]) if it == "param"]
+    unused = [it for it in names if words.count(it) == 1]
+    if fault.text == "model" and unused:
+        yield f"{', '.join(unused[:3])} {'is' if len(unused) == 1 else 'are'} declared and used nowhere: is the bound meant to be {'it' if len(unused) == 1 else 'one'}?"
 
 
 def exchanged_words(fault):
@@ -341,4 +351,6 @@ GUESSES = (
     (("E12", "E30", "E33", "E50", "E61"), respelled),
     (("E33",), turned),
     (("E31", "E32", "E34", "E53", "E54"), speaking),
+    (("E34",), outside),
+    (("E51", "E52"), unused_parameter),
 )

@@ -2,8 +2,11 @@
 from html import escape
 
 import netflow_draw
+from netflow_reasons import leaves_nothing, total
 
 HIDDEN_FROM = 5_000
+# From how many rows on a table has a line to find some of them, and how many totals it has at most.
+FOUND_FROM, TOTALS = 15, 200
 
 
 def text(it):
@@ -27,10 +30,11 @@ def bullets(lines):
 
 
 class Arcs:
-    """The table of one declaration's arcs. `lead` are the arcs that are shown first; the others wait behind a button."""
+    """The table of one declaration's arcs, `keys` what the parts of its keys are called. `lead` are the arcs that are shown first;
+    the others wait behind a button."""
 
-    def __init__(self, net, name, arcs, lead, has_plan):
-        self.net, self.name, self.arcs, self.lead, self.has_plan = net, name, arcs, lead, has_plan
+    def __init__(self, net, name, keys, arcs, lead, has_plan):
+        self.net, self.name, self.keys, self.arcs, self.lead, self.has_plan = net, name, keys, arcs, lead, has_plan
         self.has_least = any(it.lower for it in arcs)
         self.has_worth = has_plan and any(self.gain(it) for it in arcs)
         self.has_price = any(it.price for it in arcs)
@@ -39,7 +43,7 @@ class Arcs:
         return max(0, -arc.worth if arc.is_full() else arc.worth if arc.is_lowest() else 0)
 
     def head(self):
-        titles = [(f"key {it + 1}", "") for it in range(max(len(arc.key) for arc in self.arcs))]
+        titles = [(it, "") for it in self.keys]
         titles += [("from", "end"), ("to", "end")] + ([("flow", "number flow")] if self.has_plan else [])
         titles += ([("least", "number")] if self.has_least else []) + [("most", "number")] + ([("price", "number")] if self.has_price else [])
         titles += [("flow × price", "number")] if self.has_plan and self.has_price else []
@@ -64,6 +68,31 @@ class Arcs:
         marks = "".join(f', {many} <span class="{kind}">at the {what}</span>' for many, kind, what in bounds if many)
         return f"{count} {arcs_word(count)}, {used} in use{marks}.{spent}"
 
+    def finding(self, count):
+        """A line to find rows by what stands in them, and the full ones alone."""
+        if count < FOUND_FROM:
+            return ""
+        full = '<label><input type="checkbox"> full only</label>' if self.has_plan and any(it.is_full() for it in self.arcs) else ""
+        return f'<p class="find"><label>find <input type="search"></label>{full}<span class="dim"></span></p>'
+
+    def totals(self):
+        """What flows in all, by each part of the keys."""
+        if not self.has_plan or len(self.keys) < 2:
+            return ""
+        made = [self.total(place, title) for place, title in enumerate(self.keys)]
+        made = [it for it in made if it]
+        return f'<details><summary>totals</summary><div class="pair">{"".join(made)}</div></details>' if made else ""
+
+    def total(self, place, title):
+        sums = {}
+        for arc in self.arcs:
+            flow, spent = sums.get(arc.key[place], (0, 0))
+            sums[arc.key[place]] = flow + arc.flow, spent + arc.flow * arc.price
+        if not 1 < len(sums) <= TOTALS or len(sums) == len(self.arcs):
+            return ""
+        head = [(title, ""), ("flow", "number flow")] + [("flow × price", "number")] * self.has_price
+        return f'<div>{table(head, [("", [member, *pair][:len(head)]) for member, pair in sums.items()])}</div>'
+
     def html(self):
         shown = sorted(self.arcs, key=lambda it: id(it) not in self.lead)
         hidden = sum(id(it) not in self.lead for it in self.arcs)
@@ -74,7 +103,7 @@ class Arcs:
         made = table(self.head(), [self.row(it) for it in shown], "numbers") if shown else ""
         # Where every row waits, the heading waits too.
         made = made if hidden < len(self.arcs) else f'<div class="later">{made}</div>'
-        return section(self.name, f"<p>{self.summary()} {note}</p>{made}")
+        return section(self.name, f"<p>{self.summary()} {note}</p>{self.finding(len(shown))}{made}{self.totals()}")
 
 
 def places_html(net):
@@ -130,10 +159,12 @@ def changes_html(found, is_large, most):
         if changes is None:
             lines.append(f"<p>{text(capital(what))}: none is enough.</p>")
             continue
+        if leaves_nothing(changes):
+            lines.append(f"<p>{text(capital(what))}: {total(changes)} in all, which is all that {len(changes)} places ask for.</p>")
+            continue
         rows = [("", [it.amount, it.told()]) for it in sorted(changes, key=lambda it: -it.amount)[:most]]
-        total = sum(it.amount for it in changes)
         more = f"<p>and {len(changes) - most} more</p>" if len(changes) > most else ""
-        lines.append(f"<h3>{text(capital(what))}: {total} in all</h3>" + table([("by", "number"), ("change", "")], rows) + more)
+        lines.append(f"<h3>{text(capital(what))}: {total(changes)} in all</h3>" + table([("by", "number"), ("change", "")], rows) + more)
     return "".join(lines) + "<p>Each unit counts the same, and other changes may be as small.</p>"
 
 
@@ -167,7 +198,10 @@ td{padding:3px 12px;border-top:1px solid var(--line)}td.number{text-align:right;
 tr.full td{background:var(--full-back)}tr.lowest td{background:var(--low-back)}
 span.full{background:var(--full-back);padding:0 5px;border-radius:3px}
 span.lowest{background:var(--low-back);padding:0 5px;border-radius:3px}
-tr.more,.later{display:none}section.all tr.more{display:table-row}section.all .later{display:block}
+tr.more,.later{display:none}section.all tr.more,section.found tr.more{display:table-row}section.all .later,section.found .later{display:block}
+section.found tr.out{display:none}.find{display:flex;flex-wrap:wrap;gap:4px 18px;align-items:center}
+input[type=search]{font:inherit;color:inherit;background:var(--back);border:1px solid var(--line);border-radius:5px;padding:2px 8px;width:13rem}
+summary{cursor:pointer;margin:8px 0}
 th.wrap button{white-space:normal;min-width:8rem;max-width:11rem;margin-left:auto}.numbers td{white-space:nowrap}
 .toggle,.tools button{font:inherit;font-size:.9rem;color:inherit;background:var(--soft);border:1px solid var(--line);
 border-radius:5px;padding:2px 10px;cursor:pointer}
@@ -178,7 +212,7 @@ border-radius:5px;padding:2px 10px;cursor:pointer}
 .key .idle{border-top:2px dashed var(--idle)}.key .used{border-color:var(--used)}.key .full{border-color:var(--full)}
 .key .across{border-color:var(--across)}
 @media (max-width:700px){td,th button{padding-left:7px;padding-right:7px}th.end,td.end{display:none}}
-@media print{.scroll,.picture{max-height:none;overflow:visible}.toggle,.tools{display:none}}
+@media print{.scroll,.picture{max-height:none;overflow:visible}.toggle,.tools,.find{display:none}}
 """
 
 SCRIPT = """
@@ -192,6 +226,15 @@ document.querySelectorAll('th button').forEach(function(button){button.onclick=f
 document.querySelectorAll('.toggle').forEach(function(button){button.onclick=function(){
  var all=button.closest('section').classList.toggle('all');button.setAttribute('aria-expanded',all);
  button.textContent=button.textContent.replace(/^(show|hide)/,all?'hide':'show')}});
+document.querySelectorAll('.find').forEach(function(line){
+ var section=line.closest('section'),rows=Array.from(section.querySelector('tbody').rows),words=line.querySelector('[type=search]');
+ var full=line.querySelector('[type=checkbox]'),told=line.querySelector('span');
+ function find(){var all=words.value.toLowerCase().split(' ').filter(Boolean),count=0,on=all.length>0||full&&full.checked;
+  rows.forEach(function(row){var text=Array.from(row.cells).map(function(it){return it.textContent.toLowerCase()}).join('\\n');
+   var hit=all.every(function(it){return text.includes(it)})&&!(full&&full.checked&&!row.classList.contains('full'));
+   row.classList.toggle('out',!hit);count+=hit});
+  section.classList.toggle('found',on);told.textContent=on?count+' of '+rows.length:''}
+ words.oninput=find;if(full)full.onchange=find});
 (function(){var svg=document.querySelector('.picture svg');if(!svg)return;
  var wide=+svg.getAttribute('width'),high=+svg.getAttribute('height'),scale=1,arcs=Array.from(svg.querySelectorAll('.arc'));
  function size(to){scale=Math.min(4,Math.max(.1,to));svg.setAttribute('width',wide*scale);svg.setAttribute('height',high*scale)}
@@ -200,6 +243,7 @@ document.querySelectorAll('.toggle').forEach(function(button){button.onclick=fun
  document.querySelectorAll('.tools button').forEach(function(button){button.onclick=function(){
   var to=button.dataset.scale;size(to==='fit'?fit():scale*to)}});
  svg.querySelectorAll('.node').forEach(function(node){
-  function show(on){return function(){arcs.forEach(function(arc){arc.classList.toggle('faint',on&&!arc.classList.contains(node.id))})}}
+  function show(on){return function(){arcs.forEach(function(arc){var its=arc.classList.contains(node.id);
+   arc.classList.toggle('faint',on&&!its);arc.classList.toggle('near',on&&its)})}}
   node.onmouseenter=node.onfocus=show(true);node.onmouseleave=node.onblur=show(false)})})();
 """

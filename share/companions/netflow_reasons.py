@@ -252,5 +252,10 @@ def least_changes(net):
     return found, False
 
 
+def leaves_nothing(changes):
+    """Whether the changes take from several places all that they ask for, which is no advice."""
+    return bool(changes) and len(changes) > 1 and all(it.becomes == 0 and it.what in ("needs", "gives") for it in changes)
+
+
 def total(changes):
     return sum(it.amount for it in changes)

@@ -17,9 +17,6 @@ use Rattle.net_dimacs.specs.Certificates.{Account, Optimal, Cut, account_of, IsC
 use Rattle.net_dimacs.specs.Limits.{text_limit}
 use Rattle.net_dimacs.specs.declared.problem_fault.LineFault.{LineFault}
 use Rattle.net_dimacs.proofs.Lengths.{certificates_short}
-use Rattle.net_solve.specs.Settling.{IsSettledBy, certificate_of}
-use Rattle.net_solve.specs.declared.settled.Settled.{Settled}
-use Rattle.net_solve.specs.declared.settled.Settled.TheVariants as outcomes
 use Rattle.net_calls.specs.Accepted.{AreAnswersAccepted}
 use Rattle.net_calls.specs.Checked.{Judges, IsFirstLineFault, IsLineRefusal}
 use Rattle.net_calls.specs.LineTexts.{IsProblemOf}
@@ -62,11 +59,11 @@ limits_of p = record {
   arcs_fit = subst (λ (n : ℕ). All (IsFlowArcOf n) p.arcs.items) (node_count p) p.arcs_fit;
 }
 
-by_numbers : (p : Problem) (settled : Settled) → IsSettledBy p settled → IsBy p.supplies.items p.arcs.items (account_of (certificate_of settled))
-by_numbers p (outcomes.Optimal value flows potentials) h =
+by_numbers : (p : Problem) (settled : Certificate) → IsCertificate p settled → IsBy p.supplies.items p.arcs.items (account_of settled)
+by_numbers p (certificates.Optimal value flows potentials) h =
     record { one_a_node = h.one_a_node ∙ node_count p; capacity = h.feasible.capacity; balance = h.feasible.balance; cost = h.cost; slackness = h.slackness }
-by_numbers p (outcomes.Cut flags Over) h = record { one_a_node = h.one_a_node ∙ node_count p; violated = h.violated }
-by_numbers p (outcomes.Cut flags Under) h = record { one_a_node = h.one_a_node ∙ node_count p; violated = h.violated }
+by_numbers p (certificates.Cut flags Over) h = record { one_a_node = h.one_a_node ∙ node_count p; violated = h.violated }
+by_numbers p (certificates.Cut flags Under) h = record { one_a_node = h.one_a_node ∙ node_count p; violated = h.violated }
 
 from_numbers : (p : Problem) (c : Certificate) → IsBy p.supplies.items p.arcs.items (account_of c) → IsCertificate p c
 from_numbers p (certificates.Optimal value flows potentials) h =
@@ -80,20 +77,20 @@ same_problem : (text : List ℕ) (p q : Problem) → IsProblemOf text p → IsPr
 same_problem text p q h k = h.only q.supplies.items q.arcs.items (limits_of q) k.is
 
 -- the answer is that certificate's text for whichever problem the text is read as
-text_for : (text answer : List ℕ) (settled : Settled) (s : Settles text settled answer) (q : Problem) → IsProblemOf text q → IsCertificateText answer (length q.supplies.items) q.arcs.items (account_of (certificate_of settled))
+text_for : (text answer : List ℕ) (settled : Certificate) (s : Settles text settled answer) (q : Problem) → IsProblemOf text q → IsCertificateText answer (length q.supplies.items) q.arcs.items (account_of settled)
 text_for text answer settled s q k =
     let same = same_problem text s.problem q s.is_problem k in
-    subst (λ arcs. IsCertificateText answer (length q.supplies.items) arcs (account_of (certificate_of settled))) (sym same.1)
-    (subst (λ (supplies : List ℤ). IsCertificateText answer (length supplies) s.problem.arcs.items (account_of (certificate_of settled))) (sym same.0) s.answer.1)
+    subst (λ arcs. IsCertificateText answer (length q.supplies.items) arcs (account_of settled)) (sym same.1)
+    (subst (λ (supplies : List ℤ). IsCertificateText answer (length supplies) s.problem.arcs.items (account_of settled)) (sym same.0) s.answer.1)
 
-certifies : (text answer : List ℕ) (settled : Settled) → Settles text settled answer → (verdict : Verdict) (j : Judges text answer verdict) → IsCertificate j.problem j.certificate
+certifies : (text answer : List ℕ) (settled : Certificate) → Settles text settled answer → (verdict : Verdict) (j : Judges text answer verdict) → IsCertificate j.problem j.certificate
 certifies text answer settled s verdict j =
     let same = same_problem text s.problem j.problem s.is_problem j.is_problem in
-    let one = j.is_certificate.only (account_of (certificate_of settled)) (text_for text answer settled s j.problem j.is_problem) in
+    let one = j.is_certificate.only (account_of settled) (text_for text answer settled s j.problem j.is_problem) in
     from_numbers j.problem j.certificate
     (subst (IsBy j.problem.supplies.items j.problem.arcs.items) one
-    (subst (λ arcs. IsBy j.problem.supplies.items arcs (account_of (certificate_of settled))) (sym same.1)
-    (subst (λ supplies. IsBy supplies s.problem.arcs.items (account_of (certificate_of settled))) (sym same.0)
+    (subst (λ arcs. IsBy j.problem.supplies.items arcs (account_of settled)) (sym same.1)
+    (subst (λ supplies. IsBy supplies s.problem.arcs.items (account_of settled)) (sym same.0)
     (by_numbers s.problem settled s.certificate))))
 
 -- ---- neither text is refused
@@ -101,14 +98,14 @@ certifies text answer settled s verdict j =
 past : (n : ℕ) → n ≤ text_limit → text_limit < n → ⊥
 past n l k = absurd (omega (arith, l, k))
 
-answer_short : (text answer : List ℕ) (settled : Settled) → Settles text settled answer → length answer ≤ text_limit
+answer_short : (text answer : List ℕ) (settled : Certificate) → Settles text settled answer → length answer ≤ text_limit
 answer_short text answer settled s =
     let p = s.problem in
     let limits = limits_of p in
     subst (λ (t : List ℕ). length t ≤ text_limit) (sym s.answer.0)
-    (certificates_short (length p.supplies.items) p.arcs.items (account_of (certificate_of settled)) s.answer.1.size limits.few_nodes limits.few_arcs)
+    (certificates_short (length p.supplies.items) p.arcs.items (account_of settled) s.answer.1.size limits.few_nodes limits.few_arcs)
 
-no_fault : (text answer : List ℕ) (settled : Settled) → Settles text settled answer → (name : TextName) (fault : LineFault) (line : ℕ) → IsFirstLineFault text answer name fault line → ⊥
+no_fault : (text answer : List ℕ) (settled : Certificate) → Settles text settled answer → (name : TextName) (fault : LineFault) (line : ℕ) → IsFirstLineFault text answer name fault line → ⊥
 no_fault text answer settled s texts.Model fault line h = h
 no_fault text answer settled s texts.Data fault line h = h
 no_fault text answer settled s texts.Problem fault line h = elim h.none [
@@ -117,10 +114,10 @@ no_fault text answer settled s texts.Problem fault line h = elim h.none [
 ]
 no_fault text answer settled s texts.Certificate fault line (q, k, h) = elim h.none [
   | inl long ↦ past (length answer) (answer_short text answer settled s) long
-  | inr none ↦ none (account_of (certificate_of settled)) (text_for text answer settled s q k)
+  | inr none ↦ none (account_of settled) (text_for text answer settled s q k)
 ]
 
-not_refused : (text answer : List ℕ) (settled : Settled) → Settles text settled answer → (fault : Fault) → IsLineRefusal text answer fault → fault ≡ OutOfMemory
+not_refused : (text answer : List ℕ) (settled : Certificate) → Settles text settled answer → (fault : Fault) → IsLineRefusal text answer fault → fault ≡ OutOfMemory
 not_refused text answer settled s OutOfMemory h = refl
 not_refused text answer settled s (Refused r) h = absurd h
 not_refused text answer settled s (RefusedLine r) h = absurd (no_fault text answer settled s r.text r.fault r.line h)

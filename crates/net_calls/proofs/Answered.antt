@@ -2,7 +2,7 @@
 use Rattle.std.proofs.Common.{◌≡◌, ℕ, suc, List, [], ◌∷◌, length, map, Bool, Option, Some, Ok, ℤ, ◌≤ℤ◌, refl, sym, ap, subst, ◌∙◌, arith}
 use Rattle.std.specs.List.{flat_map}
 use Rattle.std.proofs.lemmas.List.{length-map}
-use Rattle.net_check.specs.Certificates.{IsViolatedCut}
+use Rattle.net_check.specs.Certificates.{IsCertificate, IsViolatedCut}
 use Rattle.net_check.specs.declared.certificate.Side.{Side}
 use Rattle.net_eval.specs.Worlds.{Name}
 use Rattle.net_inst.specs.AsWritten.{Node, Arc, nodes, arcs, arc_declared, AreDistinct, Assignment, numbers_on, IsFeasible}
@@ -15,9 +15,9 @@ use Rattle.net_normal.specs.Links.{lifted_by, value_at}
 use Rattle.net_read.proofs.Apart.{bound_apart}
 use Rattle.net_report.specs.Cuts.{cut_text}
 use Rattle.net_report.proofs.InOrder.{shows_all}
-use Rattle.net_solve.specs.Settling.{IsSettledBy, BoundsEachFlow, LeavesNoFlow}
-use Rattle.net_solve.specs.declared.settled.Settled.{Settled}
-use Rattle.net_solve.specs.declared.settled.Settled.TheVariants.{Optimal, Cut}
+use Rattle.net_solve.specs.Settling.{BoundsEachFlow, LeavesNoFlow}
+use Rattle.net_check.specs.declared.certificate.Certificate.{Certificate}
+use Rattle.net_check.specs.declared.certificate.Certificate.TheVariants.{Optimal, Cut}
 use Rattle.net_calls.specs.declared.answer.Answer.{Answer}
 use Rattle.net_calls.specs.declared.answer.Outcome.{Outcome}
 use Rattle.net_calls.specs.declared.answer.Outcome.TheVariants.{Displayed, Infeasible}
@@ -73,8 +73,8 @@ aim_of lean wanted m d c objective promise =
     let aim = objective wanted w ds (seen_as promise.made) promise.has_network in
     subst (λ o. IsObjectiveOf o (seen_as promise.made) (arcs w ds)) (some_same (chosen wanted (objectives w ds)) aim.0 promise.objective aim.1 promise.is_chosen) aim.2
 
-pub answers_of : (lean : Bool) (wanted : Option Name) (m d : List ℕ) (c : Compiled) (settled : Settled) (outcome : Outcome) → HaveObjective → (promise : Headline lean wanted m d c)
-    → IsSettledBy c.problem settled → BoundsEachFlow c.problem settled → LeavesNoFlow c.problem settled → IsOutcomeOf c settled outcome → Answers lean wanted m d (record { compiled = c; outcome = outcome })
+pub answers_of : (lean : Bool) (wanted : Option Name) (m d : List ℕ) (c : Compiled) (settled : Certificate) (outcome : Outcome) → HaveObjective → (promise : Headline lean wanted m d c)
+    → IsCertificate c.problem settled → BoundsEachFlow c.problem settled → LeavesNoFlow c.problem settled → IsOutcomeOf c settled outcome → Answers lean wanted m d (record { compiled = c; outcome = outcome })
 answers_of lean wanted m d c settled outcome objective promise by bounds leaves is =
     record { compiled = promise; outcome = go settled outcome by bounds leaves is }
   where
@@ -84,7 +84,7 @@ answers_of lean wanted m d c settled outcome objective promise by bounds leaves 
     apart : AreDistinct (nodes promise.world promise.declarations) (arcs promise.world promise.declarations)
     apart = bound_apart promise.declarations promise.accepts.tables.statements promise.world promise.accepts.model.named promise.accepts.world
 
-    go : (s : Settled) (o : Outcome) → IsSettledBy c.problem s → BoundsEachFlow c.problem s → LeavesNoFlow c.problem s → IsOutcomeOf c s o
+    go : (s : Certificate) (o : Outcome) → IsCertificate c.problem s → BoundsEachFlow c.problem s → LeavesNoFlow c.problem s → IsOutcomeOf c s o
         → IsOutcome c (nodes promise.world promise.declarations) (arcs promise.world promise.declarations) promise.objective o
     go (Optimal cost flows potentials) (Displayed text numbers value) f g h k =
         record {

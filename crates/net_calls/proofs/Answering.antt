@@ -2,34 +2,23 @@
 use Rattle.std.proofs.Common.{◌≡◌, ℕ, List, sym, subst, ◌∙◌}
 use Rattle.net_normal.specs.Flows.{IsWithinCapacity}
 use Rattle.net_normal.specs.declared.problem.Problem.{Problem}
-use Rattle.net_check.specs.declared.certificate.Certificate.{Certificate}
 use Rattle.net_check.specs.declared.certificate.Certificate.TheVariants as certificates
 use Rattle.net_check.specs.Certificates.{IsCertificate, HasShape}
 use Rattle.net_calls.specs.LineTexts.{IsProblemOf}
-use Rattle.net_solve.specs.Settling.{IsSettledBy, BoundsEachFlow, LeavesNoFlow, certificate_of}
-use Rattle.net_solve.specs.declared.settled.Settled.{Settled}
-use Rattle.net_solve.specs.declared.settled.Settled.TheVariants.{Optimal, Cut}
+use Rattle.net_check.specs.declared.certificate.Certificate.{Certificate}
 use Rattle.net_calls.specs.declared.fault.Fault.{Fault}
 use Rattle.net_calls.specs.declared.fault.Fault.TheVariants as faults
 use Rattle.net_calls.specs.Checked.{IsFirstLineFault, IsLineRefusal, IsCertificateStop}
-use Rattle.net_calls.specs.Settled.{Settles, IsAnswerText}
 use Rattle.net_calls.proofs.Counts.{zip_length}
 
 -- a certificate has its problem's size
-certificate_shape : (problem : Problem) (certificate : Certificate) → IsCertificate problem certificate → HasShape problem certificate
+pub certificate_shape : (problem : Problem) (certificate : Certificate) → IsCertificate problem certificate → HasShape problem certificate
 certificate_shape problem (certificates.Optimal value flows potentials) h =
     record {
       one_an_arc = sym (zip_length IsWithinCapacity problem.arcs.items flows.items h.feasible.capacity) ∙ sym problem.arcs.ok.0;
       one_a_node = h.one_a_node;
     }
 certificate_shape problem (certificates.Cut flags side) h = h.one_a_node
-
-settled_certificate : (problem : Problem) (settled : Settled) → IsSettledBy problem settled → IsCertificate problem (certificate_of settled)
-settled_certificate problem (Optimal value flows potentials) h = h
-settled_certificate problem (Cut flags side) h = h
-
-pub settled_shape : (problem : Problem) (settled : Settled) (certificate : Certificate) → IsSettledBy problem settled → certificate ≡ certificate_of settled → HasShape problem certificate
-settled_shape problem settled certificate h e = subst (HasShape problem) (sym e) (certificate_shape problem (certificate_of settled) (settled_certificate problem settled h))
 
 pub certificate_refusal : (problem_text certificate_text : List ℕ) (problem : Problem) (fault : Fault) → IsProblemOf problem_text problem
     → IsCertificateStop problem certificate_text fault → IsLineRefusal problem_text certificate_text fault
@@ -38,8 +27,3 @@ certificate_refusal p c problem (faults.Refused r) read stop = absurd stop
 certificate_refusal p c problem (faults.RefusedLine r) read stop = subst (λ name. IsFirstLineFault p c name r.fault r.line) (sym stop.0) (problem, read, stop.1)
 certificate_refusal p c problem (faults.Unread name) read stop = absurd stop
 certificate_refusal p c problem faults.Unwritten read stop = absurd stop
-
-pub settles : (problem_text : List ℕ) (problem : Problem) (found told : Settled) (text : List ℕ) → IsProblemOf problem_text problem
-    → IsSettledBy problem found → BoundsEachFlow problem found → LeavesNoFlow problem found → told ≡ found → IsAnswerText problem (certificate_of found) text → Settles problem_text told text
-settles problem_text problem found told text is by bounds leaves same answer =
-    subst (λ s. Settles problem_text s text) (sym same) (record { problem = problem; is_problem = is; certificate = by; optimal = bounds; cut = leaves; answer = answer })

@@ -2,7 +2,7 @@
 use Rattle.std.specs.Prelude.{◌≡◌, ℕ, List}
 use Rattle.net_check.specs.declared.verdict.Verdict.{Verdict}
 use Rattle.net_check.specs.declared.verdict.Verdict.TheVariants.{Yes}
-use Rattle.net_solve.specs.declared.settled.Settled.{Settled}
+use Rattle.net_check.specs.declared.certificate.Certificate.{Certificate}
 use Rattle.net_calls.specs.declared.fault.Fault.{Fault}
 use Rattle.net_calls.specs.declared.fault.Fault.TheVariants.{OutOfMemory}
 use Rattle.net_calls.specs.Checked.{Judges, IsLineRefusal}
@@ -14,4 +14,4 @@ pub record IsAccepted (problem_text answer : List ℕ) : Type 0 where
   pub taken : (fault : Fault) → IsLineRefusal problem_text answer fault → fault ≡ OutOfMemory
 
 abbrev pub AreAnswersAccepted : Type 0
-AreAnswersAccepted = (problem_text answer : List ℕ) (settled : Settled) → Settles problem_text settled answer → IsAccepted problem_text answer
+AreAnswersAccepted = (problem_text answer : List ℕ) (settled : Certificate) → Settles problem_text settled answer → IsAccepted problem_text answer

@@ -4,8 +4,8 @@ use Rattle.net_check.specs.declared.certificate.Side.{Side}
 use Rattle.net_normal.specs.Links.{lifted, value_at}
 use Rattle.net_report.specs.Cuts.{cut_text}
 use Rattle.net_report.specs.Displays.{display_text}
-use Rattle.net_solve.specs.declared.settled.Settled.{Settled}
-use Rattle.net_solve.specs.declared.settled.Settled.TheVariants.{Optimal, Cut}
+use Rattle.net_check.specs.declared.certificate.Certificate.{Certificate}
+use Rattle.net_check.specs.declared.certificate.Certificate.TheVariants.{Optimal, Cut}
 use Rattle.net_calls.specs.declared.answer.Outcome.{Outcome}
 use Rattle.net_calls.specs.declared.answer.Outcome.TheVariants.{Displayed, Infeasible}
 use Rattle.net_calls.specs.declared.compiled.Compiled.{Compiled}
@@ -30,6 +30,6 @@ abbrev pub IsCutOf : Compiled → List Bool → Side → Outcome → Type 0
 IsCutOf c flags side (Displayed text assignment value) = ⊥
 IsCutOf c flags side (Infeasible text set on) = IsToldCut c flags side text.items set.items on
 
-abbrev pub IsOutcomeOf : Compiled → Settled → Outcome → Type 0
+abbrev pub IsOutcomeOf : Compiled → Certificate → Outcome → Type 0
 IsOutcomeOf c (Optimal cost flows potentials) outcome = IsDisplayOf c flows.items cost outcome
 IsOutcomeOf c (Cut flags side) outcome = IsCutOf c flags.items side outcome

@@ -13,7 +13,7 @@ use Rattle.net_calls.specs.declared.fault.TextName.{TextName}
 use Rattle.net_calls.specs.declared.fault.Fault.TheVariants.{OutOfMemory, Refused, RefusedLine, Unread, Unwritten}
 use Rattle.net_calls.specs.Telling.{IsRefusal}
 use Rattle.net_check.specs.declared.verdict.Verdict.{Verdict}
-use Rattle.net_solve.specs.declared.settled.Settled.{Settled}
+use Rattle.net_check.specs.declared.certificate.Certificate.{Certificate}
 use Rattle.net_calls.specs.declared.ending.Ending.{Ending}
 use Rattle.net_calls.specs.Checked.{Judges, IsLineRefusal, IsProblemRefusal, ending_of, verdict_line}
 use Rattle.net_calls.specs.Settled.{Settles, settled_ending}
@@ -145,7 +145,7 @@ pub record RefusesLines (problem certificate : Course) (fault : Fault) : Type 0 
 pub record WritesCertificate (problem output : Course) (ending : Ending) : Type 0 where
   pub problem_text : List ℕ
   pub problem_read : ReadsWhole problem problem_text
-  pub settled : Settled
+  pub settled : Certificate
   pub text : List ℕ
   pub settles : Settles problem_text settled text
   pub ends : ending ≡ settled_ending settled
@@ -154,7 +154,7 @@ pub record WritesCertificate (problem output : Course) (ending : Ending) : Type 
 pub record WritesFrontOfCertificate (problem output : Course) : Type 0 where
   pub problem_text : List ℕ
   pub problem_read : ReadsWhole problem problem_text
-  pub settled : Settled
+  pub settled : Certificate
   pub text : List ℕ
   pub settles : Settles problem_text settled text
   pub written : WritesFront output.old output.new text

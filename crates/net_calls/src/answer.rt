@@ -4,7 +4,7 @@ ghost use Rattle.std.specs.Prelude.{◌≡◌, None, false, IfOk, IfErr};
 ghost use Rattle.std.specs.Option.{option_copied};
 ghost use Rattle.net_check.specs.Certificates.{IsViolatedCut};
 ghost use Rattle.net_normal.specs.Flows.{IsFeasibleFlow, cost_of};
-ghost use Rattle.net_solve.specs.Settling.{IsSettledBy};
+ghost use Rattle.net_check.specs.Certificates.{IsCertificate};
 ghost use Rattle.net_calls.specs.Answers.{Answers, text_of};
 ghost use Rattle.net_calls.specs.Made.{HasSizes};
 ghost use Rattle.net_calls.specs.Outcomes.{IsOutcomeOf, IsDisplayOf, IsCutOf};
@@ -100,7 +100,7 @@ fn outcome_of(
     settled: Settled,
 ) -> Result<Outcome, AllocError>
     requires sizes { HasSizes compiled.now }
-    requires settled { IsSettledBy compiled.now.problem settled }
+    requires settled { IsCertificate compiled.now.problem settled }
     ensures { IfOk result (IsOutcomeOf compiled.now settled) }
 {
     match settled {

@@ -1,11 +1,9 @@
 //! Problems, from text to certificate.
 
-ghost use Rattle.std.specs.Prelude.{◌≡◌, List, ℕ, IfOk, IfErr, IsErrOf};
-ghost use Rattle.net_check.specs.Certificates.{IsCertificate};
-ghost use Rattle.net_solve.specs.Settling.{IsSettledBy, certificate_of};
+ghost use Rattle.std.specs.Prelude.{List, ℕ, IfOk, IfErr, IsErrOf};
 ghost use Rattle.net_calls.specs.Checked.{IsProblemRefusal};
 ghost use Rattle.net_calls.specs.LineTexts.{IsProblemOf, MayBeProblem};
-ghost use Rattle.net_calls.specs.Settled.{Settles, IsAnswerText};
+ghost use Rattle.net_calls.specs.Settled.{Settles};
 
 use crate::checking::problem_of;
 use crate::fault::Fault;
@@ -35,21 +33,6 @@ pub(crate) fn settle(alloc: Global, network: &Problem) -> Result<(Settled, Vec<u
     ensures { (problem : List ℕ) → IsProblemOf problem network.now → IfOk result (λ answer. Settles problem answer.0 answer.1.items) }
 {
     let settled = solve(alloc, &first_asked(), network)?;
-    let (settled, text) = with_text(alloc, network, settled)?;
+    let text = write_certificate(alloc, network, &settled)?;
     Ok((settled, text))
-}
-
-/// What is settled, with the text of its certificate.
-fn with_text(
-    alloc: Global,
-    problem: &Problem,
-    settled: Settled,
-) -> Result<(Settled, Vec<u8>), AllocError>
-    requires { IsSettledBy problem.now settled }
-    ensures same { IfOk result (λ answer. answer.0 ≡ settled) }
-    ensures text { IfOk result (λ answer. IsAnswerText problem.now (certificate_of settled) answer.1.items) }
-{
-    let certificate = settled.certificate();
-    let text = write_certificate(alloc, problem, &certificate)?;
-    Ok((Settled::by(certificate), text))
 }

@@ -2,9 +2,8 @@
 
 ghost use Rattle.std.specs.Prelude.{◌≡◌, IfOk};
 ghost use Rattle.net_check.specs.Certificates.{IsCertificate};
-ghost use Rattle.net_solve.specs.Settling.{IsSettledBy, BoundsEachFlow, LeavesNoFlow, IsOwnAnswer, settled_by};
+ghost use Rattle.net_solve.specs.Settling.{BoundsEachFlow, LeavesNoFlow, IsOwnAnswer};
 
-use crate::settled::Settled;
 use crate::solver::{Plain, Solver};
 use net_check::{Certificate, least_cost, no_flow};
 use net_guess::find_guess;
@@ -12,17 +11,16 @@ use net_normal::Problem;
 use net_scaling::Scaling;
 use std::alloc::{AllocError, Global};
 
-/// What a certificate of a problem settles, and what that means.
-fn settled(problem: &Problem, certificate: Certificate) -> Settled
+/// A certificate, and what it means that it is one.
+fn settled(problem: &Problem, certificate: Certificate) -> Certificate
     requires { IsCertificate problem.now certificate }
-    ensures value { result ≡ settled_by certificate }
-    ensures certificate { IsSettledBy problem.now result }
+    ensures same { result ≡ certificate }
     ensures optimal { BoundsEachFlow problem.now result }
     ensures cut { LeavesNoFlow problem.now result }
 {
     least_cost();
     no_flow();
-    Settled::by(certificate)
+    certificate
 }
 
 /// The solver that a program is to ask first. Where it answers none, there is `Plain`.
@@ -34,8 +32,12 @@ pub fn first_asked() -> Scaling
 
 /// Settles a problem by the solver that is given, and by `Plain` where that answers none; both follow one guess. The one error is want of
 /// memory.
-pub fn solve<S: Solver>(alloc: Global, solver: &S, problem: &Problem) -> Result<Settled, AllocError>
-    ensures certificate { IfOk result (IsSettledBy problem.now) }
+pub fn solve<S: Solver>(
+    alloc: Global,
+    solver: &S,
+    problem: &Problem,
+) -> Result<Certificate, AllocError>
+    ensures certificate { IfOk result (IsCertificate problem.now) }
     ensures optimal { IfOk result (BoundsEachFlow problem.now) }
     ensures cut { IfOk result (LeavesNoFlow problem.now) }
     ensures asked { IfOk result (IsOwnAnswer problem.now (S.may_answer solver.now problem.now)) }

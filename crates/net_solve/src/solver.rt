@@ -1,6 +1,6 @@
 //! Solvers of minimum-cost flow problems.
 
-ghost use Rattle.std.specs.Prelude.{◌≡◌, IfOk, Option, None};
+ghost use Rattle.std.specs.Prelude.{IfOk, Option};
 ghost use Rattle.std.specs.Option.{ForSome};
 ghost use Rattle.net_check.specs.Certificates.{IsCertificate};
 ghost use Rattle.net_check.specs.declared.certificate.Certificate.{Certificate};
@@ -104,30 +104,5 @@ impl Solver for Scaling {
         guess: &Guess,
     ) -> Result<Option<Certificate>, AllocError> {
         Ok(self.run_from(alloc, problem, guess)?.answer)
-    }
-}
-
-/// A solver that never answers: `solve`, given this one, asks `Plain` alone.
-#[derive(Clone, Copy, Debug, PartialEq, Eq)]
-pub struct Silent;
-
-impl Solver for Silent {
-    ghost may_answer = { λ _ _ answer. answer ≡ None };
-
-    fn answer(
-        &self,
-        _alloc: Global,
-        _problem: &Problem,
-    ) -> Result<Option<Certificate>, AllocError> {
-        Ok(None)
-    }
-
-    fn answer_from(
-        &self,
-        _alloc: Global,
-        _problem: &Problem,
-        _guess: &Guess,
-    ) -> Result<Option<Certificate>, AllocError> {
-        Ok(None)
     }
 }

@@ -1,0 +1,549 @@
+// usage: floor MODEL DATA
+//
+// The job of `netflow compile` done plainly, as a measure of what it must cost at least: tokens, sets, parameters, nodes and arcs, and the
+// same text. It reads what the models of bench/make_planner and bench/make_pairs use and no more, stops at the first thing that is wrong
+// without saying where, and has a hash that a sender of texts could choose against.
+#include <cstdint>
+#include <cstdio>
+#include <cstdlib>
+#include <cstring>
+#include <functional>
+#include <memory>
+#include <string>
+#include <string_view>
+#include <unordered_map>
+#include <vector>
+
+using std::string_view;
+using std::vector;
+
+[[noreturn]] static void fail(const char *what) { std::fprintf(stderr, "floor: %s\n", what); std::exit(1); }
+
+static void want(bool holds, const char *what) { if (!holds) fail(what); }
+
+// A member: twice a number, or twice a word's number and one.
+using Member = int64_t;
+constexpr Member nothing = INT64_MIN;
+static Member of_number(int64_t number) { return number * 2; }
+static int64_t number_of(Member member) { want((member & 1) == 0, "a name where a number is needed"); return member / 2; }
+
+static uint64_t mixed(uint64_t hash, uint64_t value) {
+    unsigned __int128 product = (unsigned __int128)(hash ^ 0x9E3779B97F4A7C15) * (value ^ 0xD1B54A32D192ED03);
+    return uint64_t(product) ^ uint64_t(product >> 64);
+}
+
+// Places by hash, counted from 1; what stands at one is asked of the caller.
+struct Places {
+    vector<uint32_t> table = vector<uint32_t>(8);
+    template <class Same> long find(uint64_t hash, Same same) const {
+        size_t mask = table.size() - 1;
+        for (size_t slot = hash & mask; table[slot]; slot = (slot + 1) & mask)
+            if (same(table[slot] - 1)) return table[slot] - 1;
+        return -1;
+    }
+    void enter(uint64_t hash, size_t place) {
+        size_t mask = table.size() - 1, slot = hash & mask;
+        while (table[slot]) slot = (slot + 1) & mask;
+        table[slot] = place + 1;
+    }
+    // Takes in the last of so many.
+    template <class Hash> void add(size_t count, Hash hash) {
+        bool is_full = count * 8 > table.size() * 5;
+        if (is_full) table.assign(table.size() * 2, 0);
+        for (size_t place = is_full ? 0 : count - 1; place < count; place++) enter(hash(place), place);
+    }
+};
+
+struct Words {
+    Places places;
+    vector<string_view> texts;
+    static uint64_t hash(string_view text) {
+        uint64_t sum = text.size(), part;
+        for (; text.size() >= 8; text.remove_prefix(8)) std::memcpy(&part, text.data(), 8), sum = mixed(sum, part);
+        part = 0;
+        std::memcpy(&part, text.data(), text.size());
+        return mixed(sum, part);
+    }
+    int64_t place(string_view text) {
+        long found = places.find(hash(text), [&](size_t it) { return texts[it] == text; });
+        if (found >= 0) return found;
+        texts.push_back(text);
+        places.add(texts.size(), [&](size_t it) { return hash(texts[it]); });
+        return texts.size() - 1;
+    }
+};
+
+enum class Kind : uint8_t { word, quoted, number, mark, end };
+struct Token { Kind kind; int64_t value; };
+// A mark of two characters is told by both.
+constexpr int64_t both(char one, char two) { return one + 256 * two; }
+
+static bool in_word(unsigned char it) { return std::isalnum(it) || it == '_' || it >= 128; }
+
+static Token number_at(string_view text, size_t from, size_t to) {
+    int64_t value = 0;
+    for (size_t at = from + !std::isdigit(text[from]); at < to; at++) value = value * 10 + (text[at] - '0');
+    return {Kind::number, text[from] == '-' ? -value : value};
+}
+
+static vector<Token> tokens_of(string_view text, Words &words, bool is_data) {
+    vector<Token> found;
+    for (size_t at = 0; at < text.size();) {
+        char it = text[at], next = at + 1 < text.size() ? text[at + 1] : 0;
+        size_t from = at++;
+        if (it == '#') { while (at < text.size() && text[at] != '\n') at++; continue; }
+        if (it >= 0 && it <= ' ') continue;
+        bool is_signed = is_data && (it == '-' || it == '+') && std::isdigit((unsigned char)next);
+        if (in_word(it) || is_signed) {
+            bool is_number = is_signed || std::isdigit((unsigned char)it);
+            for (; at < text.size() && in_word(text[at]); at++) is_number = is_number && std::isdigit((unsigned char)text[at]);
+            found.push_back(is_number ? number_at(text, from, at) : Token{Kind::word, words.place(text.substr(from, at - from))});
+        } else if (it == '\'') {
+            while (text[at] != '\'') at++;
+            found.push_back({Kind::quoted, words.place(text.substr(from + 1, at++ - from - 1))});
+        } else {
+            bool is_double = (next == '=' && (it == ':' || it == '<' || it == '>')) || (it == '.' && next == '.');
+            found.push_back({Kind::mark, is_double ? both(it, next) : it});
+            at += is_double;
+        }
+    }
+    found.push_back({Kind::end, 0});
+    return found;
+}
+
+// Tuples of one length in the order of their coming.
+struct Set {
+    size_t size;
+    vector<Member> members;
+    Places places;
+    // Of each component the places of the tuples that have a member there; made where it is first asked for.
+    mutable vector<std::unordered_map<Member, vector<uint32_t>>> by;
+
+    explicit Set(size_t size) : size(size) {}
+    size_t count() const { return members.size() / size; }
+    const Member *at(size_t place) const { return &members[place * size]; }
+    uint64_t hash(const Member *key) const {
+        uint64_t sum = size;
+        for (size_t part = 0; part < size; part++) sum = mixed(sum, key[part]);
+        return sum;
+    }
+    bool is_at(size_t place, const Member *key) const { return std::equal(key, key + size, at(place)); }
+    long find(const Member *key) const { return places.find(hash(key), [&](size_t it) { return is_at(it, key); }); }
+    bool add(const Member *key) {
+        if (find(key) >= 0) return false;
+        members.insert(members.end(), key, key + size);
+        places.add(count(), [&](size_t it) { return hash(at(it)); });
+        return true;
+    }
+    const vector<uint32_t> *with(size_t part, Member member) const {
+        if (by.empty()) by.resize(size);
+        if (by[part].empty()) for (size_t place = 0; place < count(); place++) by[part][at(place)[part]].push_back(place);
+        auto found = by[part].find(member);
+        return found == by[part].end() ? nullptr : &found->second;
+    }
+};
+
+// Values by the places of a declared set, or of keys of its own.
+struct Param { size_t keys = 0; int of = -1; vector<int> sets; Set own{1}; vector<Member> values; Member otherwise = nothing; };
+
+enum class Form : uint8_t { number, dummy, param, set, sum, range, cross, add, subtract, multiply, less, greater, at_most, at_least, equal };
+struct Item;
+struct Expr {
+    Form form;
+    int64_t value = 0;
+    vector<Expr> parts = {};
+    vector<Item> items = {};
+};
+// A component of an item is a new dummy, or it has to be equal to what stands there.
+struct Component { bool is_new; size_t slot; Expr value; };
+struct Item { vector<Component> components; vector<Expr> set; };
+struct Braces { vector<Item> items; vector<Expr> condition; };
+
+// What data say of a name: the cells, how many values stand behind a key and which is meant, and a default.
+struct Given { size_t from = 0, to = 0, values = 0, place = 0; };
+
+struct Declared { enum { none, set, param } kind = none; int place = 0; };
+
+using Dummies = vector<Member>;
+using Visit = std::function<void(const vector<Member> &, Dummies &)>;
+
+struct World {
+    Words words;
+    vector<Token> model, data;
+    vector<Set> sets;
+    vector<Param> params;
+    vector<Declared> declared;
+    std::unordered_map<int64_t, Given> given;
+    vector<int64_t> scope;
+
+    // ---- reading expressions
+    size_t at = 0;
+    Token peek() const { return model[at]; }
+    Token next() { return model[at++]; }
+    bool mark(int64_t it) { bool is = peek().kind == Kind::mark && peek().value == it; at += is; return is; }
+    bool word(string_view it) { bool is = peek().kind == Kind::word && words.texts[peek().value] == it; at += is; return is; }
+    void need(int64_t it) { want(mark(it), "a mark is missing"); }
+    int64_t name() { want(peek().kind == Kind::word, "a name is missing"); return next().value; }
+
+    // An operator by its mark, or by its word where it has none, from the loosest level to the tightest.
+    struct Operator { int level; int64_t mark; Form form; };
+    static constexpr Operator operators[] = {
+        {0, both('<', '='), Form::at_most}, {0, both('>', '='), Form::at_least}, {0, '<', Form::less}, {0, '>', Form::greater}, {0, '=', Form::equal},
+        {1, '+', Form::add}, {1, '-', Form::subtract}, {1, both('.', '.'), Form::range}, {2, '*', Form::multiply}, {2, 0, Form::cross}};
+    Expr expression(int level = 0) {
+        if (level == 3) return operand();
+        Expr left = expression(level + 1);
+        for (bool is_found = true; is_found;) {
+            is_found = false;
+            for (const Operator &it : operators)
+                if (!is_found && it.level == level && (it.mark ? mark(it.mark) : word("cross"))) {
+                    Expr made{it.form};
+                    made.parts.push_back(std::move(left)), made.parts.push_back(expression(level + 1));
+                    left = std::move(made), is_found = true;
+                }
+        }
+        return left;
+    }
+    Expr sum() { return expression(1); }
+    Expr product() { return expression(2); }
+    vector<Expr> subscripts() {
+        vector<Expr> found;
+        if (!mark('[')) return found;
+        do found.push_back(expression()); while (mark(','));
+        need(']');
+        return found;
+    }
+    Expr operand() {
+        if (mark('-')) { Expr made{Form::subtract}; made.parts.push_back(Expr{Form::number}), made.parts.push_back(operand()); return made; }
+        if (mark('(')) { Expr inner = expression(); need(')'); return inner; }
+        if (peek().kind == Kind::number) return Expr{Form::number, next().value};
+        if (word("sum")) {
+            size_t outer = scope.size();
+            Braces braces = this->braces();
+            Expr made{Form::sum};
+            made.items = std::move(braces.items);
+            made.parts.push_back(product());
+            for (auto &it : braces.condition) made.parts.push_back(std::move(it));
+            scope.resize(outer);
+            return made;
+        }
+        int64_t it = name();
+        for (size_t slot = 0; slot < scope.size(); slot++) if (scope[slot] == it) return Expr{Form::dummy, int64_t(slot)};
+        want(declared[it].kind != Declared::none, "a name is not declared");
+        Expr made{declared[it].kind == Declared::set ? Form::set : Form::param, declared[it].place};
+        made.parts = subscripts();
+        return made;
+    }
+    Component component(Token it) {
+        if (it.kind == Kind::number) return {false, 0, Expr{Form::number, it.value}};
+        for (size_t slot = 0; slot < scope.size(); slot++) if (scope[slot] == it.value) return {false, slot, Expr{Form::dummy, int64_t(slot)}};
+        scope.push_back(it.value);
+        return {true, scope.size() - 1, Expr{Form::number}};
+    }
+    Item item() {
+        size_t from = at;
+        vector<Token> parts;
+        if (mark('(')) { do parts.push_back(next()); while (mark(',')); at += peek().value == ')'; } else parts.push_back(next());
+        Item made;
+        if (!word("in")) { at = from; made.set.push_back(sum()); return made; }
+        made.set.push_back(sum());
+        for (Token it : parts) made.components.push_back(component(it));
+        return made;
+    }
+    Braces braces() {
+        Braces made;
+        if (!mark('{')) return made;
+        do made.items.push_back(item()); while (mark(','));
+        if (mark(':')) made.condition.push_back(expression());
+        need('}');
+        return made;
+    }
+
+    // ---- values
+    Member param_at(const Param &param, const Member *key) const {
+        if (param.keys == 0) return param.values.at(0);
+        long place = (param.of >= 0 ? sets[param.of] : param.own).find(key);
+        if (place >= 0 && param.values[place] != nothing) return param.values[place];
+        want(param.otherwise != nothing, "no value");
+        if (param.of >= 0) want(place >= 0, "outside the set");
+        for (size_t part = 0; part < param.sets.size(); part++) want(sets[param.sets[part]].find(key + part) >= 0, "outside the set");
+        return param.otherwise;
+    }
+    int64_t number(const Expr &it, Dummies &dummies) const { return number_of(value(it, dummies)); }
+    Member value(const Expr &it, Dummies &dummies) const {
+        Member key[4];
+        int64_t total = 0, left, right;
+        switch (it.form) {
+            case Form::number: return of_number(it.value);
+            case Form::dummy: return dummies[it.value];
+            case Form::param:
+                for (size_t part = 0; part < it.parts.size(); part++) key[part] = value(it.parts[part], dummies);
+                return param_at(params[it.value], key);
+            case Form::sum:
+                walk(it.items, it.parts.size() > 1 ? &it.parts[1] : nullptr, dummies, [&](const vector<Member> &, Dummies &now) { total += number(it.parts[0], now); });
+                return of_number(total);
+            default: break;
+        }
+        left = value(it.parts[0], dummies), right = value(it.parts[1], dummies);
+        if (it.form == Form::equal) return of_number(left == right);
+        left = number_of(left), right = number_of(right);
+        switch (it.form) {
+            case Form::add: return of_number(left + right);
+            case Form::subtract: return of_number(left - right);
+            case Form::multiply: return of_number(left * right);
+            case Form::less: return of_number(left < right);
+            case Form::greater: return of_number(left > right);
+            case Form::at_most: return of_number(left <= right);
+            case Form::at_least: return of_number(left >= right);
+            default: fail("a set where a number is needed");
+        }
+    }
+    void walk(const vector<Item> &items, const Expr *condition, Dummies &dummies, const Visit &visit) const {
+        vector<Member> key;
+        walk_from(items, 0, condition, key, dummies, visit);
+    }
+    void walk_from(const vector<Item> &items, size_t place, const Expr *condition, vector<Member> &key, Dummies &dummies, const Visit &visit) const {
+        if (place == items.size()) {
+            if (!condition || number(*condition, dummies)) visit(key, dummies);
+            return;
+        }
+        const Item &item = items[place];
+        auto take = [&](const Member *tuple, size_t size) {
+            size_t before = key.size();
+            for (size_t part = 0; part < item.components.size(); part++) {
+                const Component &it = item.components[part];
+                if (it.is_new) dummies[it.slot] = tuple[part], key.push_back(tuple[part]);
+                else if (value(it.value, dummies) != tuple[part]) return key.resize(before);
+            }
+            if (item.components.empty()) key.insert(key.end(), tuple, tuple + size);
+            walk_from(items, place + 1, condition, key, dummies, visit);
+            key.resize(before);
+        };
+        const Expr &of = item.set[0];
+        if (of.form == Form::range) {
+            int64_t last = number(of.parts[1], dummies);
+            for (int64_t it = number(of.parts[0], dummies); it <= last; it++) { Member tuple = of_number(it); take(&tuple, 1); }
+            return;
+        }
+        want(of.form == Form::set, "no set");
+        const Set &set = sets[of.value];
+        for (size_t part = 0; part < item.components.size(); part++) {
+            if (item.components[part].is_new) continue;
+            if (auto found = set.with(part, value(item.components[part].value, dummies))) for (uint32_t it : *found) take(set.at(it), set.size);
+            return;
+        }
+        for (size_t it = 0; it < set.count(); it++) take(set.at(it), set.size);
+    }
+
+    // ---- data
+    Member cell(size_t place) const { return data[place].kind == Kind::number ? of_number(data[place].value) : data[place].value * 2 + 1; }
+    void read_data() {
+        for (size_t here = 0; data[here].kind != Kind::end;) {
+            bool is_set = words.texts[data[here++].value] == "set";
+            vector<int64_t> heads;
+            int64_t leader = -1;
+            for (; data[here].kind != Kind::mark || (data[here].value != both(':', '=') && data[here].value != ';'); here++) {
+                if (data[here].kind == Kind::word) heads.push_back(data[here].value);
+                else if (data[here].value == ':' && !heads.empty()) leader = heads.back(), heads.pop_back();
+            }
+            size_t from = ++here;
+            while (data[here].kind != Kind::mark || data[here].value != ';') here++;
+            if (leader >= 0) given[leader] = {from, here, heads.size(), 0};
+            for (size_t place = 0; place < heads.size(); place++) given[heads[place]] = {from, here, is_set ? 0 : heads.size(), place};
+            here++;
+        }
+    }
+    size_t rows_of(const Given &given, size_t size) const { want((given.to - given.from) % size == 0, "a row is short"); return (given.to - given.from) / size; }
+
+    // ---- declarations
+    Dummies none = Dummies(64);
+    void declare_set() {
+        int64_t it = name();
+        size_t size = 1;
+        vector<Expr> of, within;
+        while (!mark(';')) {
+            if (word("dimen")) size = next().value;
+            else if (word("within")) within.push_back(product()), size = within[0].form == Form::cross ? 2 : size;
+            else if (mark(both(':', '='))) of.push_back(expression());
+            else want(mark(','), "no phrase of a set");
+        }
+        Set set(size);
+        if (!of.empty()) walk({Item{{}, std::move(of)}}, nullptr, none, [&](const vector<Member> &key, Dummies &) { set.add(key.data()); });
+        else if (auto found = given.find(it); found != given.end()) {
+            size_t width = size + found->second.values, rows = rows_of(found->second, width);
+            set.members.reserve(rows * size);
+            Member key[4];
+            for (size_t row = 0; row < rows; row++) {
+                for (size_t part = 0; part < size; part++) key[part] = cell(found->second.from + row * width + part);
+                want(set.add(key), "a member twice");
+            }
+        }
+        for (auto &cross : within)
+            for (size_t place = 0; place < set.count(); place++)
+                for (size_t part = 0; part < size; part++) want(sets[cross.parts[part].value].find(set.at(place) + part) >= 0, "outside the set");
+        declared[it] = {Declared::set, int(sets.size())};
+        sets.push_back(std::move(set));
+    }
+    void declare_param() {
+        int64_t it = name();
+        Param param;
+        vector<std::pair<int64_t, Expr>> bounds;
+        for (auto &item : braces().items) param.sets.push_back(int(item.set[0].value));
+        scope.clear();
+        for (int set : param.sets) param.keys += sets[set].size;
+        while (!mark(';')) {
+            if (word("integer") || mark(',')) continue;
+            if (word("default")) { Expr at = sum(); param.otherwise = value(at, none); continue; }
+            int64_t bound = next().value;
+            bounds.emplace_back(bound, sum());
+        }
+        if (param.sets.size() == 1) param.of = param.sets[0], param.sets.clear(), param.values.assign(sets[param.of].count(), nothing);
+        param.own = Set(param.keys ? param.keys : 1);
+        if (auto found = given.find(it); found != given.end()) fill(param, found->second);
+        for (Member at : param.values)
+            for (auto &[bound, side] : bounds) {
+                int64_t other = number(side, none), own = at == nothing ? other : number_of(at);
+                want(at == nothing || (bound == both('>', '=') ? own >= other : bound == both('<', '=') ? own <= other : bound == '<' ? own < other : own > other), "a bound");
+            }
+        declared[it] = {Declared::param, int(params.size())};
+        params.push_back(std::move(param));
+    }
+    void fill(Param &param, const Given &given) {
+        size_t width = param.keys + given.values, rows = rows_of(given, width);
+        Member key[4];
+        for (size_t row = 0; row < rows; row++) {
+            size_t from = given.from + row * width;
+            for (size_t part = 0; part < param.keys; part++) key[part] = cell(from + part);
+            Member value = cell(from + param.keys + given.place);
+            if (param.of >= 0) {
+                const Set &set = sets[param.of];
+                long place = row < set.count() && set.is_at(row, key) ? long(row) : set.find(key);
+                want(place >= 0 && param.values[place] == nothing, "outside the set, or twice");
+                param.values[place] = value;
+            } else {
+                for (size_t part = 0; part < param.sets.size(); part++) want(sets[param.sets[part]].find(key + part) >= 0, "outside the set");
+                want(param.keys == 0 || param.own.add(key), "a value twice");
+                param.values.push_back(value);
+            }
+        }
+    }
+    void check() {
+        Braces over = braces();
+        need(':');
+        Expr holds = expression();
+        need(';');
+        scope.clear();
+        walk(over.items, over.condition.empty() ? nullptr : &over.condition[0], none, [&](const vector<Member> &, Dummies &now) { want(number(holds, now), "a check"); });
+    }
+
+    // ---- nodes, arcs and the text
+    struct Nodes { std::unique_ptr<Set> keys; size_t first; };
+    std::unordered_map<int64_t, Nodes> nodes;
+    vector<int64_t> supplies;
+    struct Line { int64_t src, dst, low, cap, cost; };
+    vector<Line> lines;
+    std::string node_names, arc_names;
+
+    void tell(std::string &text, int64_t declared_as, const vector<Member> &key) const {
+        text += words.texts[declared_as];
+        for (size_t part = 0; part < key.size(); part++) {
+            text += part ? ',' : '[';
+            if (key[part] & 1) text += '\'', text += words.texts[key[part] / 2], text += '\'';
+            else text += std::to_string(number_of(key[part]));
+        }
+        text += key.empty() ? "\n" : "]\n";
+    }
+    void declare_node() {
+        int64_t it = name();
+        Braces over = braces();
+        need(':');
+        want(word("net_out"), "net_out");
+        need('=');
+        Expr supply = sum();
+        need(';');
+        scope.clear();
+        Nodes &made = nodes[it];
+        made.first = supplies.size();
+        walk(over.items, over.condition.empty() ? nullptr : &over.condition[0], none, [&](const vector<Member> &key, Dummies &now) {
+            if (!made.keys) made.keys = std::make_unique<Set>(key.empty() ? 1 : key.size());
+            want(key.empty() || made.keys->add(key.data()), "a node twice");
+            supplies.push_back(number(supply, now));
+            tell(node_names.append("c node ").append(std::to_string(supplies.size())).append(" "), it, key);
+        });
+    }
+    struct End { int64_t name; vector<Expr> subscripts; };
+    int64_t node_of(const End &end, Dummies &dummies) const {
+        const Nodes &of = nodes.at(end.name);
+        Member key[4];
+        for (size_t part = 0; part < end.subscripts.size(); part++) key[part] = value(end.subscripts[part], dummies);
+        long place = end.subscripts.empty() ? 0 : of.keys->find(key);
+        want(place >= 0, "no such node");
+        return of.first + place;
+    }
+    void declare_arc() {
+        int64_t it = name();
+        Braces over = braces();
+        Expr low{Form::number}, cap{Form::number}, cost{Form::number};
+        End from{}, to{};
+        while (!mark(';')) {
+            if (mark(both('>', '='))) low = sum();
+            else if (mark(both('<', '='))) cap = sum();
+            else if (word("from")) from.name = name(), from.subscripts = subscripts();
+            else if (word("to")) to.name = name(), to.subscripts = subscripts();
+            else if (word("obj")) name(), cost = sum();
+            else want(mark(','), "no phrase of an arc");
+        }
+        scope.clear();
+        walk(over.items, over.condition.empty() ? nullptr : &over.condition[0], none, [&](const vector<Member> &key, Dummies &now) {
+            lines.push_back({node_of(from, now), node_of(to, now), number(low, now), number(cap, now), number(cost, now)});
+            tell(arc_names.append("c arc ").append(std::to_string(lines.size())).append(" 0 "), it, key);
+        });
+    }
+    void declare_all() {
+        while (peek().kind != Kind::end) {
+            if (word("set")) declare_set();
+            else if (word("param")) declare_param();
+            else if (word("check")) check();
+            else if (word("node")) declare_node();
+            else if (word("arc")) declare_arc();
+            else want(word("minimize"), "no declaration"), name(), need(';');
+        }
+    }
+    void write() const {
+        std::string text = "c constant 0\nc sign 1\n";
+        for (auto it : {string_view(text), string_view(node_names), string_view(arc_names)}) std::fwrite(it.data(), 1, it.size(), stdout);
+        text.clear();
+        auto line = [&](char letter, std::initializer_list<int64_t> numbers) {
+            text += letter;
+            for (int64_t it : numbers) text += ' ', text += std::to_string(it);
+            text += '\n';
+            if (text.size() > 1 << 16) std::fwrite(text.data(), 1, text.size(), stdout), text.clear();
+        };
+        text += "p min " + std::to_string(supplies.size() + 1) + " " + std::to_string(lines.size()) + "\n";
+        for (size_t it = 0; it < supplies.size(); it++) if (supplies[it]) line('n', {int64_t(it) + 1, supplies[it]});
+        for (const Line &it : lines) line('a', {it.src + 1, it.dst + 1, it.low, it.cap, it.cost});
+        std::fwrite(text.data(), 1, text.size(), stdout);
+    }
+};
+
+static std::string text_of(const char *path) {
+    std::FILE *file = std::fopen(path, "rb");
+    want(file, "a file cannot be read");
+    std::string text;
+    char piece[1 << 16];
+    for (size_t count; (count = std::fread(piece, 1, sizeof piece, file)) > 0;) text.append(piece, count);
+    std::fclose(file);
+    return text;
+}
+
+int main(int count, char **paths) {
+    want(count == 3, "usage: floor MODEL DATA");
+    std::string model = text_of(paths[1]), data = text_of(paths[2]);
+    World world;
+    world.model = tokens_of(model, world.words, false);
+    world.data = tokens_of(data, world.words, true);
+    world.declared.resize(world.words.texts.size());
+    world.read_data();
+    world.declare_all();
+    world.write();
+}
