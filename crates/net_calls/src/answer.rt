@@ -1,17 +1,21 @@
 //! The answer to a model with its data.
 
-ghost use Rattle.std.specs.Prelude.{◌≡◌, None, false, IfOk, IfErr};
+ghost use Rattle.std.specs.Prelude.{◌≡◌, ℕ, List, Bool, Option, None, false, IfOk, IfErr};
 ghost use Rattle.std.specs.Option.{option_copied};
 ghost use Rattle.net_check.specs.Certificates.{IsViolatedCut};
 ghost use Rattle.net_normal.specs.Flows.{IsFeasibleFlow, cost_of};
 ghost use Rattle.net_check.specs.Certificates.{IsCertificate};
 ghost use Rattle.net_calls.specs.Answers.{Answers, text_of};
+ghost use Rattle.net_calls.specs.Headline.{Headline};
+ghost use Rattle.net_calls.specs.Linked.{written};
 ghost use Rattle.net_calls.specs.Made.{HasSizes};
+ghost use Rattle.net_eval.specs.Worlds.{Name};
 ghost use Rattle.net_calls.specs.Outcomes.{IsOutcomeOf, IsDisplayOf, IsCutOf};
 ghost use Rattle.net_calls.specs.Telling.{IsRefusal};
 
-use crate::compiled::{Compiled, Options, compile_with};
+use crate::compiled::{Compiled, Options, with_text};
 use crate::fault::Fault;
+use crate::unwritten::{Unwritten, read_model};
 use net_check::Side;
 use net_inst::objective_is_written;
 use net_report::{lift, write_cut, write_display};
@@ -76,7 +80,7 @@ pub fn solve_model<'s>(alloc: Global, model: &'s [u8], data: &'s [u8]) -> Result
     )
 }
 
-/// Solves a model with its data, with what is chosen. Faults are those of [`compile_with`].
+/// Solves a model with its data, with what is chosen. Faults are those of [`crate::compile_with`].
 pub fn solve_model_with<'s>(
     alloc: Global,
     options: Options<'s>,
@@ -86,44 +90,58 @@ pub fn solve_model_with<'s>(
     ensures value { IfOk result (Answers options.entry.lean (option_copied options.entry.objective) model.entry.now «data».entry.now) }
     ensures refused { IfErr result (IsRefusal (option_copied options.entry.objective) model.entry.now «data».entry.now) }
 {
-    let compiled = compile_with(alloc, options, model, data)?;
-    let settled = solve(alloc, &first_asked(), &compiled.problem)?;
-    let outcome = outcome_of(alloc, &compiled, settled)?;
-    objective_is_written();
+    let unwritten = read_model(alloc, options, model, data)?;
+    let outcome = solve_unwritten(alloc, &unwritten)?;
+    let compiled = with_text(alloc, unwritten)?;
     Ok(Answer { compiled, outcome })
+}
+
+/// What comes out of a model that is compiled; its text is not needed for it.
+pub(crate) fn solve_unwritten(
+    alloc: Global,
+    unwritten: &Unwritten<'_>,
+) -> Result<Outcome, AllocError>
+    requires { HasSizes (written unwritten.now) }
+    ensures { (lean : Bool) (wanted : Option Name) (m d : List ℕ) → Headline lean wanted m d (written unwritten.now)
+        → IfOk result (λ outcome. Answers lean wanted m d (record { compiled = written unwritten.now; outcome = outcome })) }
+{
+    let settled = solve(alloc, &first_asked(), &unwritten.problem)?;
+    let outcome = outcome_of(alloc, unwritten, settled)?;
+    objective_is_written();
+    Ok(outcome)
 }
 
 /// What a problem's certificate tells of its model.
 fn outcome_of(
     alloc: Global,
-    compiled: &Compiled<'_>,
+    unwritten: &Unwritten<'_>,
     settled: Settled,
 ) -> Result<Outcome, AllocError>
-    requires sizes { HasSizes compiled.now }
-    requires settled { IsCertificate compiled.now.problem settled }
-    ensures { IfOk result (IsOutcomeOf compiled.now settled) }
+    requires sizes { HasSizes (written unwritten.now) }
+    requires settled { IsCertificate unwritten.now.problem settled }
+    ensures { IfOk result (IsOutcomeOf (written unwritten.now) settled) }
 {
     match settled {
-        Settled::Optimal { value, flows, .. } => displayed(alloc, compiled, value, &flows),
-        Settled::Cut { flags, side } => infeasible(alloc, compiled, flags, side),
+        Settled::Optimal { value, flows, .. } => displayed(alloc, unwritten, value, &flows),
+        Settled::Cut { flags, side } => infeasible(alloc, unwritten, flags, side),
     }
 }
 
 /// The plan that a feasible flow stands for.
 fn displayed(
     alloc: Global,
-    compiled: &Compiled<'_>,
+    unwritten: &Unwritten<'_>,
     cost: i128,
     flows: &[i64],
 ) -> Result<Outcome, AllocError>
-    requires sizes { HasSizes compiled.now }
-    requires feasible { IsFeasibleFlow compiled.now.problem flows.now }
-    requires cost { cost ≡ cost_of compiled.now.problem flows.now }
-    ensures { IfOk result (IsDisplayOf compiled.now flows.now cost) }
+    requires sizes { HasSizes (written unwritten.now) }
+    requires feasible { IsFeasibleFlow unwritten.now.problem flows.now }
+    requires cost { cost ≡ cost_of unwritten.now.problem flows.now }
+    ensures { IfOk result (IsDisplayOf (written unwritten.now) flows.now cost) }
 {
-    let assignment = lift(alloc, &compiled.link, flows)?;
-    let value = compiled.link.value(cost);
-    let text = write_display(alloc, &compiled.names, &assignment, value)?;
+    let assignment = lift(alloc, &unwritten.link, flows)?;
+    let value = unwritten.link.value(cost);
+    let text = write_display(alloc, &unwritten.names, &assignment, value)?;
     Ok(Outcome::Displayed {
         text,
         assignment,
@@ -134,14 +152,14 @@ fn displayed(
 /// Why there is no plan, by a violated cut.
 fn infeasible(
     alloc: Global,
-    compiled: &Compiled<'_>,
+    unwritten: &Unwritten<'_>,
     flags: Vec<bool>,
     side: Side,
 ) -> Result<Outcome, AllocError>
-    requires sizes { HasSizes compiled.now }
-    requires violated { IsViolatedCut compiled.now.problem flags.items side }
-    ensures { IfOk result (IsCutOf compiled.now flags.items side) }
+    requires sizes { HasSizes (written unwritten.now) }
+    requires violated { IsViolatedCut unwritten.now.problem flags.items side }
+    ensures { IfOk result (IsCutOf (written unwritten.now) flags.items side) }
 {
-    let text = write_cut(alloc, &compiled.names, &compiled.problem, &flags, side)?;
+    let text = write_cut(alloc, &unwritten.names, &unwritten.problem, &flags, side)?;
     Ok(Outcome::Infeasible { text, flags, side })
 }

@@ -2,16 +2,18 @@
 
 ghost use Rattle.std.specs.Prelude.{◌≡◌, None, false, IfOk, IfErr};
 ghost use Rattle.std.specs.Option.{option_copied};
-ghost use Rattle.net_calls.specs.Linked.{whole};
+ghost use Rattle.net_calls.specs.Linked.{written};
+ghost use Rattle.net_calls.specs.Made.{HasSizes};
 ghost use Rattle.net_calls.specs.Telling.{IsRefusal};
 ghost use Rattle.net_calls.specs.Headline.{Headline};
 
 use crate::fault::Fault;
-use crate::linked::{Linked, link_model};
 use crate::text::Text;
+use crate::unwritten::{Unwritten, read_model};
 use net_dimacs::write_problem;
 use net_inst::Names;
 use net_normal::{Link, Problem};
+use net_report::write_links;
 use std::alloc::{AllocError, Global};
 
 /// What a caller may choose.
@@ -62,21 +64,22 @@ pub fn compile_with<'s>(
     ensures value { IfOk result (Headline options.entry.lean (option_copied options.entry.objective) model.entry.now «data».entry.now) }
     ensures refused { IfErr result (IsRefusal (option_copied options.entry.objective) model.entry.now «data».entry.now) }
 {
-    let linked = link_model(alloc, options, model, data)?;
-    let compiled = with_text(alloc, linked)?;
+    let unwritten = read_model(alloc, options, model, data)?;
+    let compiled = with_text(alloc, unwritten)?;
     Ok(compiled)
 }
 
-/// The problem's lines behind the link lines.
-fn with_text(alloc: Global, linked: Linked<'_>) -> Result<Compiled<'_>, AllocError>
-    ensures { IfOk result (λ compiled. compiled ≡ whole linked.entry) }
+/// The model compiled with its text: the link lines, then the problem's lines.
+pub(crate) fn with_text(alloc: Global, unwritten: Unwritten<'_>) -> Result<Compiled<'_>, AllocError>
+    requires { HasSizes (written unwritten.entry) }
+    ensures { IfOk result (λ compiled. compiled ≡ written unwritten.entry) }
 {
-    let Linked {
-        mut lines,
+    let Unwritten {
         problem,
         link,
         names,
-    } = linked;
+    } = unwritten;
+    let mut lines = write_links(alloc, &names, &link)?;
     let problem_lines = write_problem(alloc, &problem)?;
     lines.extend_from_slice(&problem_lines)?;
     Ok(Compiled {

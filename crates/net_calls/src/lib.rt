@@ -15,6 +15,7 @@ mod settling;
 mod solve_run;
 mod telling;
 mod text;
+mod unwritten;
 
 pub use answer::{Answer, Outcome, solve_model, solve_model_with};
 pub use checking::check_bytes;

@@ -4,26 +4,19 @@ ghost use Rattle.std.specs.Prelude.{◌≡◌, ◌||◌, IfOk, IfErr, OnOk, OnEr
 ghost use Rattle.std.specs.Option.{option_copied};
 ghost use Rattle.std.specs.Io.KnownBytes.{Appends};
 ghost use Rattle.net_ends.specs.Ends.{WritesFront};
-ghost use Rattle.net_normal.specs.NormalForm.{IsFormIn};
-ghost use Rattle.net_normal.specs.Correspondence.{CorrespondsOneToOne};
 ghost use Rattle.net_calls.specs.Headline.{Headline};
 ghost use Rattle.net_calls.specs.Linked.{whole};
-ghost use Rattle.net_calls.specs.Made.{IsMade, profile_of};
 ghost use Rattle.net_calls.specs.Telling.{IsRefusal};
 
 use crate::compiled::Options;
 use crate::fault::Fault;
-use crate::telling::told;
+use crate::unwritten::{Unwritten, read_model};
 use net_dimacs::write_problem_to;
 use net_ends::{Failed, Sink, write_whole};
-use net_inst::{
-    Names, arcs_are_written, flows_stand_for_assignments, names_are_declared, objective_is_written,
-    ranges_are_conditions,
-};
-use net_normal::{Instance, Link, Problem, normalise, normalise_lean};
-use net_read::read_network;
+use net_inst::Names;
+use net_normal::{Link, Problem};
 use net_report::write_links;
-use std::alloc::{AllocError, Global};
+use std::alloc::Global;
 
 /// A model compiled, and of its text the link lines. The problem's lines stand behind them.
 #[derive(Drop)]
@@ -44,49 +37,18 @@ pub(crate) fn link_model<'s>(
     ensures value { IfOk result (λ l. Headline options.entry.lean (option_copied options.entry.objective) model.entry.now «data».entry.now (whole l)) }
     ensures refused { IfErr result (IsRefusal (option_copied options.entry.objective) model.entry.now «data».entry.now) }
 {
-    let linked = linked_of(alloc, options, model, data)?;
-    names_are_declared();
-    arcs_are_written();
-    ranges_are_conditions();
-    objective_is_written();
-    flows_stand_for_assignments();
-    Ok(linked)
-}
-
-/// The normal form of a network, or its lean form.
-fn form_of(alloc: Global, lean: bool, instance: &Instance) -> Result<(Problem, Link), AllocError>
-    ensures value { IfOk result (λ made. IsFormIn (profile_of lean) instance.now made.0 made.1) }
-    ensures corresponds { IfOk result (λ made. CorrespondsOneToOne instance.now made.0 made.1) }
-{
-    if lean {
-        normalise_lean(alloc, instance)
-    } else {
-        normalise(alloc, instance)
-    }
-}
-
-fn linked_of<'s>(
-    alloc: Global,
-    options: Options<'s>,
-    model: &'s [u8],
-    data: &'s [u8],
-) -> Result<Linked<'s>, Fault>
-    ensures made { IfOk result (λ l. IsMade options.entry.lean (option_copied options.entry.objective) model.entry.now «data».entry.now (whole l)) }
-    ensures refused { IfErr result (IsRefusal (option_copied options.entry.objective) model.entry.now «data».entry.now) }
-{
-    let named = match read_network(alloc, model, data, options.objective) {
-        Ok(named) => named,
-        Err(stop) => return Err(told(alloc, model, data, &stop)),
-    };
-    let (problem, link) = form_of(alloc, options.lean, &named.instance)?;
-    names_are_declared();
-    arcs_are_written();
-    let lines = write_links(alloc, &named.names, &link)?;
+    let unwritten = read_model(alloc, options, model, data)?;
+    let lines = write_links(alloc, &unwritten.names, &unwritten.link)?;
+    let Unwritten {
+        problem,
+        link,
+        names,
+    } = unwritten;
     Ok(Linked {
         lines,
         problem,
         link,
-        names: named.names,
+        names,
     })
 }
 

@@ -1,15 +1,16 @@
-//! Runs that solve models: texts are read whole, then the answer is computed whole, then it is written.
+//! Runs that solve models: texts are read whole, then the answer is computed whole, then it is written. The problem's text is never made.
 
 ghost use Rattle.std.specs.Prelude.{◌≡◌, ◌⊎◌, ◌↔◌, None, true, false, IfOk, IfErr, IsErrOf};
 ghost use Rattle.std.specs.Option.{option_copied};
 ghost use Rattle.net_calls.specs.Answers.{ending_of};
 ghost use Rattle.net_calls.specs.Runs.{WritesOutcome, WritesFrontOfOutcome, Refuses, IfRefused, IfUnread, IsAskedFew, model_limit, data_limit};
 
-use crate::answer::{Outcome, solve_model_with};
+use crate::answer::{Outcome, solve_unwritten};
 use crate::compiled::Options;
 use crate::ending::Ending;
 use crate::fault::{Fault, TextName};
 use crate::run::read_text;
+use crate::unwritten::read_model;
 use net_ends::{Sink, Source, write_whole};
 use net_lex::{DATA_LIMIT, MODEL_LIMIT};
 use std::alloc::Global;
@@ -110,9 +111,10 @@ pub fn run_solve_with<'o, M: Source, D: Source, W: Sink>(
 {
     let model_text = read_text(alloc, model, MODEL_LIMIT, TextName::Model)?;
     let data_text = read_text(alloc, data, DATA_LIMIT, TextName::Data)?;
-    let answer = solve_model_with(alloc, options, &model_text, &data_text)?;
-    let ending = ending_of(&answer.outcome);
-    match write_whole(output, answer.outcome.text()) {
+    let unwritten = read_model(alloc, options, &model_text, &data_text)?;
+    let outcome = solve_unwritten(alloc, &unwritten)?;
+    let ending = ending_of(&outcome);
+    match write_whole(output, outcome.text()) {
         Ok(()) => Ok(ending),
         Err(_) => Err(Fault::Unwritten),
     }

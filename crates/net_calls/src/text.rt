@@ -28,6 +28,7 @@ impl Text {
         Text { bytes }
     }
 
+    /// The bytes of the text.
     pub fn as_bytes(&self) -> &[u8]
         ensures { result.now ≡ self.now.items }
     {

@@ -7,6 +7,7 @@ use net_calls::{Fault, run_check, run_compile, run_min, run_solve};
 use net_ends::{MemorySink, MemorySource};
 use std::alloc::{AllocError, Global};
 
+/// Which of the four runs is tried.
 #[derive(Clone, Copy)]
 pub enum Run {
     Compile,

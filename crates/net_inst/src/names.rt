@@ -58,6 +58,7 @@ impl<'s> NameList<'s> {
         }
     }
 
+    /// The declared names, in the model's order, each with what is declared by it.
     pub fn declarations(&self) -> &[Declared<'s>]
         ensures { result.now ≡ self.now.declarations }
     {

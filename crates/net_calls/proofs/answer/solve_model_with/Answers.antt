@@ -1,15 +1,15 @@
-use Rattle.std.proofs.Common.{arith}
-use Rattle.std.proofs.lemmas.Grind.{common_steps}
-use Rattle.net_calls.proofs.Answered.{answers_of}
+use Rattle.std.proofs.Common.{sym, subst}
+use Rattle.std.specs.Option.{option_copied}
+use Rattle.net_calls.specs.Answers.{Answers}
 use Rattle.net_calls.proofs.answer.solve_model_with.Goals as goal
+
+pub solve_unwritten-requires : goal.solve_unwritten-requires
+solve_unwritten-requires c = c.in_ok-unwritten.ensures.value.sizes
+
+pub with_text-requires : goal.with_text-requires
+with_text-requires c = c.in_ok-unwritten.ensures.value.sizes
 
 pub returns-clause-value : goal.returns-clause-value
 returns-clause-value c =
-    answers_of _ _ c.args.model.now c.args.data.now c.in_ok-compiled.compiled c.in_ok-settled.settled c.in_ok-outcome.outcome c.objective_is_written.ensures.value c.in_ok-compiled.ensures.value
-    c.in_ok-settled.ensures.certificate c.in_ok-settled.ensures.optimal c.in_ok-settled.ensures.cut c.in_ok-outcome.ensures
-
-pub outcome_of-requires-clause-sizes : goal.outcome_of-requires-clause-sizes
-outcome_of-requires-clause-sizes c = c.in_ok-compiled.ensures.value.sizes
-
-pub outcome_of-requires-clause-settled : goal.outcome_of-requires-clause-settled
-outcome_of-requires-clause-settled c = grind (arith, common_steps)
+    subst (λ compiled. Answers c.args.options.lean (option_copied c.args.options.objective) c.args.model.now c.args.data.now (record { compiled = compiled; outcome = c.in_ok-outcome.outcome }))
+    (sym c.in_ok-compiled.ensures) (c.in_ok-outcome.ensures _ _ _ _ c.in_ok-unwritten.ensures.value)

@@ -1,8 +1,15 @@
-use Rattle.net_calls.specs.Linked.{whole}
-use Rattle.net_calls.proofs.Promise.{headline_of}
+use Rattle.std.proofs.Common.{sym, subst, ◌++◌}
+use Rattle.std.specs.Option.{option_copied}
+use Rattle.net_dimacs.specs.Written.{problem_text}
+use Rattle.net_calls.specs.Headline.{Headline}
 use Rattle.net_calls.proofs.linked.link_model.Goals as goal
+
+pub write_links-requires : goal.write_links-requires
+write_links-requires c = c.in_ok-unwritten.ensures.value.sizes.arcs
 
 pub returns-clause-value : goal.returns-clause-value
 returns-clause-value c =
-    headline_of _ _ c.args.model.now c.args.data.now (whole c.in_ok-linked.linked) c.names_are_declared.ensures.value c.ranges_are_conditions.ensures.value
-    c.arcs_are_written.ensures.bounds c.objective_is_written.ensures.value c.flows_stand_for_assignments.ensures.value c.in_ok-linked.ensures.made
+    let u = c.in_ok-unwritten.unwritten in
+    subst (λ lines. Headline c.args.options.lean (option_copied c.args.options.objective) c.args.model.now c.args.data.now
+    (record { text = record { items = lines ++ problem_text u.problem.supplies.items u.problem.arcs.items }; problem = u.problem; link = u.link; names = u.names }))
+    (sym c.in_ok-lines.ensures.value) c.in_ok-unwritten.ensures.value

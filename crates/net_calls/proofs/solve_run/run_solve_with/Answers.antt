@@ -1,5 +1,5 @@
 use Rattle.std.proofs.Common.{rules, arith}
-use Rattle.net_calls.specs.Answers.{Answers}
+use Rattle.net_calls.specs.Linked.{written}
 use Rattle.net_calls.proofs.Reading.{read_whole}
 use Rattle.net_calls.proofs.solve_run.run_solve_with.Goals as goal
 
@@ -7,10 +7,11 @@ pub returns-in-Ok-clause-ok : goal.returns-in-Ok-clause-ok
 returns-in-Ok-clause-ok g c =
     let m = c.in_ok-model_text.model_text.items in
     let d = c.in_ok-data_text.data_text.items in
-    let solved : Answers _ _ m d c.in_ok-answer.answer = search rules in
-    let accepts = solved.compiled.accepts in
+    let promise = c.in_ok-unwritten.ensures.value in
+    let solved = c.in_ok-outcome.ensures _ _ m d promise in
+    let accepts = promise.accepts in
     record {
-      answer = c.in_ok-answer.answer;
+      answer = record { compiled = written c.in_ok-unwritten.unwritten; outcome = c.in_ok-outcome.outcome };
       made = record {
         model_text = m;
         data_text = d;
@@ -26,10 +27,11 @@ pub returns-clause-front : goal.returns-clause-front
 returns-clause-front g c =
     let m = c.in_ok-model_text.model_text.items in
     let d = c.in_ok-data_text.data_text.items in
-    let solved : Answers _ _ m d c.in_ok-answer.answer = search rules in
-    let accepts = solved.compiled.accepts in
+    let promise = c.in_ok-unwritten.ensures.value in
+    let solved = c.in_ok-outcome.ensures _ _ m d promise in
+    let accepts = promise.accepts in
     λ fault. record {
-      answer = c.in_ok-answer.answer;
+      answer = record { compiled = written c.in_ok-unwritten.unwritten; outcome = c.in_ok-outcome.outcome };
       made = record {
         model_text = m;
         data_text = d;
