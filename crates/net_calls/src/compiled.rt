@@ -71,7 +71,7 @@ pub fn compile_with<'s>(
 
 /// The model compiled with its text: the link lines, then the problem's lines.
 pub(crate) fn with_text(alloc: Global, unwritten: Unwritten<'_>) -> Result<Compiled<'_>, AllocError>
-    requires { HasSizes (written unwritten.entry) }
+    requires { HasSizes (written unwritten) }
     ensures { IfOk result (λ compiled. compiled ≡ written unwritten.entry) }
 {
     let Unwritten {

@@ -1,4 +1,5 @@
 use Rattle.std.proofs.Common.{rules, arith}
+use Rattle.net_calls.specs.Headline.{Headline}
 use Rattle.net_calls.specs.Linked.{written}
 use Rattle.net_calls.proofs.Reading.{read_whole}
 use Rattle.net_calls.proofs.solve_run.run_solve_with.Goals as goal
@@ -7,7 +8,7 @@ pub returns-in-Ok-clause-ok : goal.returns-in-Ok-clause-ok
 returns-in-Ok-clause-ok g c =
     let m = c.in_ok-model_text.model_text.items in
     let d = c.in_ok-data_text.data_text.items in
-    let promise = c.in_ok-unwritten.ensures.value in
+    let promise : Headline _ _ m d (written c.in_ok-unwritten.unwritten) = search rules in
     let solved = c.in_ok-outcome.ensures _ _ m d promise in
     let accepts = promise.accepts in
     record {
@@ -27,7 +28,7 @@ pub returns-clause-front : goal.returns-clause-front
 returns-clause-front g c =
     let m = c.in_ok-model_text.model_text.items in
     let d = c.in_ok-data_text.data_text.items in
-    let promise = c.in_ok-unwritten.ensures.value in
+    let promise : Headline _ _ m d (written c.in_ok-unwritten.unwritten) = search rules in
     let solved = c.in_ok-outcome.ensures _ _ m d promise in
     let accepts = promise.accepts in
     λ fault. record {
