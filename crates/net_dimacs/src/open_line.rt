@@ -1,9 +1,9 @@
 //! What is kept of a line that is not whole yet.
 
-ghost use Rattle.std.specs.Prelude.{◌≡◌, ◌+◌, ◌-◌, ◌^◌, ◌<◌, ◌≤◌, [], ◌∷◌, ◌++◌, OnOk, length, vec_len};
+ghost use Rattle.std.specs.Prelude.{◌≡◌, ◌+◌, ◌<◌, ◌≤◌, ◌++◌, OnOk, length, vec_len};
 ghost use Rattle.arrayvec.specs.ArrayVec.{array_vec_len};
 ghost use Rattle.net_dimacs.specs.Limits.{open_line_limit};
-ghost use Rattle.net_dimacs.specs.Lines.{is_blank, is_feed, HasNone};
+ghost use Rattle.net_dimacs.specs.Lines.{is_feed, HasNone};
 ghost use Rattle.net_dimacs.specs.OpenLines.{IsSaidAlike, short_field, short_long_field, short_number};
 ghost use Rattle.net_dimacs.specs.Scans.{IsReadAlike};
 
@@ -13,10 +13,10 @@ use arrayvec::ArrayVec;
 use itoa::Buffer;
 use std::alloc::AllocError;
 
-/// No more bytes of a line that is not whole yet are kept.
+/// No more bytes of a line that is not whole yet are kept: seven fields, a blank behind each, and its last byte.
 const OPEN_LINE: usize = 155;
 
-/// No field that is longer is kept as it is.
+/// No field that is longer is kept as it is: a sign and a number of 64 bits have as many bytes.
 const OPEN_FIELD: usize = 21;
 
 /// No line that says something has as many fields.
