@@ -18,7 +18,7 @@ use std::alloc::Global;
 const PIECE: usize = 4096;
 
 /// Reads the text of a problem from a source, to its end or to one byte past the limit. Whether the text is a problem is told by
-/// [`finished`]; of the text itself only a line that is not whole yet is in memory.
+/// [`finished`]; of the text itself only a piece is in memory, and what decides of a line that is not whole yet.
 pub(crate) fn read_problem_from<S: Source>(alloc: Global, source: &mut S) -> Result<Reading, Fault>
     ensures value { IfOk result (GivesText (record { old = S.remaining source.old; new = S.remaining source.new })) }
     ensures err { IfErr result (λ fault. (fault ≡ Fault.OutOfMemory)

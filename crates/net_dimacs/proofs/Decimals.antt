@@ -18,13 +18,13 @@ own = numerals_by_fold _ (search rules) value_after (search rules)
 
 -- ---- a number of 128 bits
 
-are_digits : (n : ℕ) → n < 2 ^ 128 → all_ascii_digits (decimal n) ≡ true
+pub are_digits : (n : ℕ) → n < 2 ^ 128 → all_ascii_digits (decimal n) ≡ true
 are_digits n small = own.from (decimal n) (decimal_is_IsNumeral_wide n (omega arith)).0.1
 
-digits_value : (n : ℕ) → n < 2 ^ 128 → value_after 0 (decimal n) ≡ n
+pub digits_value : (n : ℕ) → n < 2 ^ 128 → value_after 0 (decimal n) ≡ n
 digits_value n small = own.same (decimal n) (decimal_is_IsNumeral_wide n (omega arith)).0.1 ∙ (decimal_is_IsNumeral_wide n (omega arith)).1
 
-some_digit : (n : ℕ) → n < 2 ^ 128 → 0 < length (decimal n)
+pub some_digit : (n : ℕ) → n < 2 ^ 128 → 0 < length (decimal n)
 some_digit n small = (decimal_is_IsNumeral_wide n (omega arith)).0.0
 
 both_true : (s t : Bool) → (s && t) ≡ true → (s ≡ true) × (t ≡ true)
@@ -122,7 +122,7 @@ solid_digit b e =
       no_return = other_byte b 13 (omega arith);
     }
 
-solid_digits : (ds : List ℕ) → all_ascii_digits ds ≡ true → AllByRecursion IsSolid ds
+pub solid_digits : (ds : List ℕ) → all_ascii_digits ds ≡ true → AllByRecursion IsSolid ds
 solid_digits [] all = tt
 solid_digits (b ∷ bs) all = let p = both_true (is_ascii_digit b) (all_ascii_digits bs) all in (solid_digit b p.0, solid_digits bs p.1)
 

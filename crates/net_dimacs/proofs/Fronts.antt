@@ -102,7 +102,7 @@ begins_other (x ∷ xs) h =
     ]
     in by h
 
-some_field : (xs : List ℕ) (fs : List (List ℕ)) → 0 < length xs → filter has_byte (xs ∷ fs) ≡ xs ∷ filter has_byte fs
+pub some_field : (xs : List ℕ) (fs : List (List ℕ)) → 0 < length xs → filter has_byte (xs ∷ fs) ≡ xs ∷ filter has_byte fs
 some_field [] fs h = absurd (omega arith)
 some_field (x ∷ xs) fs h = refl
 

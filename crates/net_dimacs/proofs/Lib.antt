@@ -1,6 +1,10 @@
 mod DraftSteps
 mod DigitFronts
 mod Scanning
+mod FirstFields
+mod Views
+mod ShortFields
+mod OpenFronts
 mod Shortening
 mod Words
 mod Saying

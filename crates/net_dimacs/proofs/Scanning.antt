@@ -22,7 +22,7 @@ use Rattle.net_dimacs.proofs.Cutting.{IsSmall, said_cut, new_cut}
 abbrev pub IsUnbegun : Scan → List ℕ → Scan → List ℕ → Type 0
 IsUnbegun first text now rest = state_of now.progress ≡ Start → (state_of first.progress ≡ Start) × (statements_of rest ≡ statements_of text)
 
-small_state : (p : Progress) → IsSmall (state_of p)
+pub small_state : (p : Progress) → IsSmall (state_of p)
 small_state progresses.Start = tt
 small_state (progresses.Open d) = omega (arith, d.few_nodes, d.supplies.ok.0)
 small_state (progresses.Refused r) = tt

@@ -1,114 +1,93 @@
--- A comment that is not whole yet reads like its first byte, whatever comes behind it.
-use Rattle.std.proofs.Common.{◌≡◌, ◌≤◌, ◌<◌, ℕ, zero, suc, ◌+◌, ◌-◌, ◌==◌, not, Bool, true, false, cond, List, [], ◌∷◌, ◌++◌, Some, None, refl, sym, ap, ◌∙◌, length, take, drop, append_assoc, arith}
-use Rattle.std.specs.Prelude.{Option, Result, ◌&&◌, is_some, filter, map, nat_lt, slice_index, if◌then◌else◌}
-use Rattle.std.specs.List.{slice_split, onto_first, position, position_or_len}
+-- A line reads the same behind what is kept of its front as behind the front.
+use Rattle.std.proofs.Common.{◌≡◌, ◌≤◌, ◌<◌, ℕ, suc, ◌+◌, ◌-◌, ◌==◌, Bool, true, false, List, [], ◌∷◌, ◌++◌, refl, sym, ap, ◌∙◌, length, take, drop, append_assoc, arith}
+use Rattle.std.specs.Prelude.{Result, slice_index, if◌then◌else◌}
+use Rattle.std.specs.List.{slice_split}
 use Rattle.std.specs.Str.Lines.{lines, lines_of_parts, strip_carriage_return}
 use Rattle.std.proofs.lemmas.Bool.Decides.{nat_tests}
 use Rattle.std.proofs.lemmas.List.{take-append-drop, length-append}
 use Rattle.net_dimacs.specs.declared.problem_fault.Refusal.{Refusal}
 use Rattle.net_dimacs.specs.declared.scan.Scan.{Scan}
-use Rattle.net_dimacs.specs.declared.statement.Statement.{Statement}
 use Rattle.net_dimacs.specs.Limits.{text_limit}
-use Rattle.net_dimacs.specs.Lines.{is_blank, has_byte, word_of, is_feed, is_open_comment, shortened}
-use Rattle.net_dimacs.specs.Reading.{State, Numbers, with_said, read_lines, said_by, said}
-use Rattle.net_dimacs.specs.Scans.{reads}
+use Rattle.net_dimacs.specs.Lines.{is_feed, HasNone}
+use Rattle.net_dimacs.specs.OpenLines.{IsSaidAlike}
+use Rattle.net_dimacs.specs.Reading.{Numbers, State, with_said, read_lines, said}
+use Rattle.net_dimacs.specs.Drafts.{state_of}
+use Rattle.net_dimacs.specs.Scans.{reads, IsReadAlike}
+use Rattle.net_dimacs.proofs.Cutting.{said_cut}
+use Rattle.net_dimacs.proofs.OpenFronts.{some_part, front_part}
+use Rattle.net_dimacs.proofs.Scanning.{small_state}
 
-none_there : (bytes : List ℕ) → position is_feed bytes ≡ None → length bytes ≤ position_or_len is_feed bytes
-none_there bytes e = go (nat_lt (position_or_len is_feed bytes) (length bytes)) refl e
-  where
-    go : (b : Bool) → nat_lt (position_or_len is_feed bytes) (length bytes) ≡ b → cond b (Some (position_or_len is_feed bytes)) None ≡ None → length bytes ≤ position_or_len is_feed bytes
-    go true h f = cc
-    go false h f = grind (arith, nat_tests)
+-- ---- the return at the end of a line
 
--- bytes without a line feed are the front of the first part
-front_part : (front more part : List ℕ) (parts : List (List ℕ)) → length front ≤ position_or_len is_feed front → slice_split is_feed more ≡ part ∷ parts → slice_split is_feed (front ++ more) ≡ (front ++ part) ∷ parts
-front_part [] more part parts h e = e
-front_part (x ∷ front) more part parts h e = step (is_feed x) h (λ k. front_part front more part parts k e)
-  where
-    step : (b : Bool) → suc (length front) ≤ cond (not b) (1 + position_or_len is_feed front) 0 → (length front ≤ position_or_len is_feed front → slice_split is_feed (front ++ more) ≡ (front ++ part) ∷ parts)
-        → cond b ([] ∷ slice_split is_feed (front ++ more)) (onto_first x (slice_split is_feed (front ++ more))) ≡ (x ∷ (front ++ part)) ∷ parts
-    step true k r = absurd (omega (arith, k))
-    step false k r = ap (onto_first x) (r (omega (arith, k)))
+strip_by : (x y : ℕ) (ys : List ℕ) (t : Bool) → (if t then take (length (x ∷ y ∷ ys) - 1) (x ∷ y ∷ ys) else x ∷ y ∷ ys) ≡ x ∷ (if t then take (length (y ∷ ys) - 1) (y ∷ ys) else y ∷ ys)
+strip_by x y ys true =
+    ap (λ (n : ℕ). take n (x ∷ y ∷ ys)) (let e : length (x ∷ y ∷ ys) - 1 ≡ suc (length ys) = omega arith in e)
+    ∙ sym (ap (λ (n : ℕ). x ∷ take n (y ∷ ys)) (let e : length (y ∷ ys) - 1 ≡ length ys = omega arith in e))
+strip_by x y ys false = refl
 
-some_part : (test : ℕ → Bool) (bytes : List ℕ) → (part : List ℕ) × (parts : List (List ℕ)) × (slice_split test bytes ≡ part ∷ parts)
-some_part test [] = ([], [], refl)
-some_part test (x ∷ bytes) = step (test x) (some_part test bytes)
-  where
-    step : (b : Bool) → (part : List ℕ) × (parts : List (List ℕ)) × (slice_split test bytes ≡ part ∷ parts)
-        → (part : List ℕ) × (parts : List (List ℕ)) × (cond b ([] ∷ slice_split test bytes) (onto_first x (slice_split test bytes)) ≡ part ∷ parts)
-    step true p = ([], slice_split test bytes, refl)
-    step false p = (x ∷ p.0, p.1, ap (onto_first x) p.2)
+strip_one : (x y : ℕ) (ys : List ℕ) → strip_carriage_return (x ∷ y ∷ ys) ≡ x ∷ strip_carriage_return (y ∷ ys)
+strip_one x y ys =
+    let last : slice_index (x ∷ y ∷ ys) (length (x ∷ y ∷ ys) - 1) ≡ slice_index (y ∷ ys) (length (y ∷ ys) - 1) =
+    ap (slice_index (x ∷ y ∷ ys)) (let e : length (x ∷ y ∷ ys) - 1 ≡ suc (length ys) = omega arith in e)
+    ∙ sym (ap (slice_index (y ∷ ys)) (let e : length (y ∷ ys) - 1 ≡ length ys = omega arith in e)) in
+    ap (λ (b : ℕ). if b == 13 then take (length (x ∷ y ∷ ys) - 1) (x ∷ y ∷ ys) else x ∷ y ∷ ys) last
+    ∙ strip_by x y ys (slice_index (y ∷ ys) (length (y ∷ ys) - 1) == 13)
 
--- a line that begins with `c` says nothing
-says_nothing : (line : List ℕ) → said (99 ∷ line) ≡ None
-says_nothing line =
-    let p = some_part is_blank line in
-    ap (λ (fs : List (List ℕ)). said_by (map word_of (filter has_byte (onto_first 99 fs)))) p.2
+-- it is behind a byte that stays
+strip_behind : (front : List ℕ) (b : ℕ) (more : List ℕ) → strip_carriage_return (front ++ b ∷ more) ≡ front ++ strip_carriage_return (b ∷ more)
+strip_behind [] b more = refl
+strip_behind (x ∷ []) b more = strip_one x b more
+strip_behind (x ∷ y ∷ front) b more = strip_one x y (front ++ b ∷ more) ∙ ap (λ (l : List ℕ). x ∷ l) (strip_behind (y ∷ front) b more)
 
-stripped : (line : List ℕ) → (rest : List ℕ) × (strip_carriage_return (99 ∷ line) ≡ 99 ∷ rest)
-stripped [] = ([], refl)
-stripped (x ∷ line) = go (slice_index (99 ∷ x ∷ line) (length (99 ∷ x ∷ line) - 1) == 13)
-  where
-    go : (b : Bool) → (rest : List ℕ) × ((if b then take (length (99 ∷ x ∷ line) - 1) (99 ∷ x ∷ line) else 99 ∷ x ∷ line) ≡ 99 ∷ rest)
-    go true =
-        let size : length (99 ∷ x ∷ line) - 1 ≡ suc (length line) = omega arith in
-        (take (length line) (x ∷ line), ap (λ n. take n (99 ∷ x ∷ line)) size)
-    go false = (x ∷ line, refl)
+-- ---- one line
 
--- what is read behind the first part
-behind_first : ℕ → State → List (List ℕ) → Result Numbers Refusal
-behind_first number state [] = read_lines (number + 1) state []
-behind_first number state (part ∷ parts) = read_lines (number + 1) state (lines_of_parts (part ∷ parts))
+some_bytes : (front : List ℕ) (b : ℕ) (more : List ℕ) → (length (front ++ b ∷ more) == 0) ≡ false
+some_bytes front b more = let e = length-append front (b ∷ more) in let some : 0 < length (front ++ b ∷ more) = omega (arith, e) in grind (arith, nat_tests)
 
-comment_read : (number : ℕ) (state : State) (line : List ℕ) (parts : List (List ℕ)) → read_lines number state (lines_of_parts ((99 ∷ line) ∷ parts)) ≡ behind_first number state parts
-unfolding behind_first
-comment_read number state line [] = go (length (99 ∷ line) == 0) refl
-  where
-    go : (b : Bool) → length (99 ∷ line) == 0 ≡ b → read_lines number state (if b then [] else (99 ∷ line) ∷ []) ≡ read_lines (number + 1) state []
-    go true h = let none : length (99 ∷ line) ≡ 0 = grind (arith, nat_tests) in absurd (omega (arith, none))
-    go false h = ap (λ (o : Option Statement). read_lines (number + 1) (with_said number state o) []) (says_nothing line)
-comment_read number state line (part ∷ parts) =
-    let p = stripped line in
-    ap (λ (o : Option Statement). read_lines (number + 1) (with_said number state o) (lines_of_parts (part ∷ parts))) (ap said p.1 ∙ says_nothing p.0)
+-- what is read of a line that may be the last, and of what follows it
+line_of_parts : (n : ℕ) (state : State) (front : List ℕ) (b : ℕ) (more : List ℕ) (parts : List (List ℕ)) → Result Numbers Refusal
+line_of_parts n state front b more [] = read_lines (n + 1) (with_said n state (said (front ++ b ∷ more))) []
+line_of_parts n state front b more (part ∷ parts) = read_lines (n + 1) (with_said n state (said (front ++ strip_carriage_return (b ∷ more)))) (lines_of_parts (part ∷ parts))
 
--- of an open comment the first byte is enough
-pub shortened_reads : (now : Scan) (bytes more : List ℕ) → reads now (lines (shortened bytes ++ more)) ≡ reads now (lines (bytes ++ more))
-shortened_reads now [] more = refl
-shortened_reads now (b ∷ bytes) more = go (b == 99) refl (position is_feed bytes) refl
-  where
-    same_front : (c : ℕ) → c ≡ 99 → position is_feed bytes ≡ None → reads now (lines ((c ∷ []) ++ more)) ≡ reads now (lines ((c ∷ bytes) ++ more))
-    same_front c e none =
-        let p = some_part is_feed more in
-        rw e
-        (ap (λ (fs : List (List ℕ)). reads now (lines_of_parts (onto_first 99 fs))) p.2
-        ∙ comment_read now.line _ p.0 p.1
-        ∙ sym (comment_read now.line _ (bytes ++ p.0) p.1)
-        ∙ sym (ap (λ (fs : List (List ℕ)). reads now (lines_of_parts (onto_first 99 fs))) (front_part bytes more p.0 p.1 (none_there bytes none) p.2)))
+parts_read : (n : ℕ) (state : State) (front : List ℕ) (b : ℕ) (more : List ℕ) (parts : List (List ℕ)) → read_lines n state (lines_of_parts ((front ++ b ∷ more) ∷ parts)) ≡ line_of_parts n state front b more parts
+unfolding line_of_parts
+parts_read n state front b more [] = ap (λ (t : Bool). read_lines n state (if t then [] else (front ++ b ∷ more) ∷ [])) (some_bytes front b more)
+parts_read n state front b more (part ∷ parts) = ap (λ (l : List ℕ). read_lines (n + 1) (with_said n state (said l)) (lines_of_parts (part ∷ parts))) (strip_behind front b more)
 
-    go : (t : Bool) → b == 99 ≡ t → (o : Option ℕ) → position is_feed bytes ≡ o → reads now (lines ((if t && not (is_some o) then take 1 (b ∷ bytes) else b ∷ bytes) ++ more)) ≡ reads now (lines ((b ∷ bytes) ++ more))
-    go false e o h = refl
-    go true e (Some i) h = refl
-    go true e None h = let is : b ≡ 99 = grind (arith, nat_tests) in same_front b is h
+-- the same line behind two fronts that say alike
+said_same : (scan : Scan) (front line more : List ℕ) → IsSaidAlike front line → with_said scan.line (state_of scan.progress) (said (front ++ more)) ≡ with_said scan.line (state_of scan.progress) (said (line ++ more))
+said_same scan front line more alike =
+    let state = state_of scan.progress in
+    sym (said_cut scan.line state (said (front ++ more)) (small_state scan.progress))
+    ∙ ap (with_said scan.line state) (alike more)
+    ∙ said_cut scan.line state (said (line ++ more)) (small_state scan.progress)
 
-pub shortened_once : (bytes : List ℕ) → shortened (shortened bytes) ≡ shortened bytes
-shortened_once [] = refl
-shortened_once (b ∷ bytes) = go (b == 99) refl (position is_feed bytes) refl
-  where
-    go : (t : Bool) → b == 99 ≡ t → (o : Option ℕ) → position is_feed bytes ≡ o
-        → shortened (if t && not (is_some o) then take 1 (b ∷ bytes) else b ∷ bytes) ≡ (if t && not (is_some o) then take 1 (b ∷ bytes) else b ∷ bytes)
-    go false e o h = ap (λ (t : Bool). if t && not (is_some (position is_feed bytes)) then take 1 (b ∷ bytes) else b ∷ bytes) e
-    go true e (Some i) h = ap (λ (p : Option ℕ). if (b == 99) && not (is_some p) then take 1 (b ∷ bytes) else b ∷ bytes) h ∙ kept (b == 99)
-      where
-        kept : (t : Bool) → (if t && false then take 1 (b ∷ bytes) else b ∷ bytes) ≡ b ∷ bytes
-        kept true = refl
-        kept false = refl
-    go true e None h = short (b == 99)
-      where
-        short : (t : Bool) → (if t && true then take 1 (b ∷ []) else b ∷ []) ≡ b ∷ []
-        short true = refl
-        short false = refl
+line_same : (scan : Scan) (front line : List ℕ) (b : ℕ) (more : List ℕ) (parts : List (List ℕ)) → IsSaidAlike front line
+    → line_of_parts scan.line (state_of scan.progress) front b more parts ≡ line_of_parts scan.line (state_of scan.progress) line b more parts
+unfolding line_of_parts
+line_same scan front line b more [] alike = ap (λ (s : State). read_lines (scan.line + 1) s []) (said_same scan front line (b ∷ more) alike)
+line_same scan front line b more (part ∷ parts) alike =
+    ap (λ (s : State). read_lines (scan.line + 1) s (lines_of_parts (part ∷ parts))) (said_same scan front line (strip_carriage_return (b ∷ more)) alike)
 
--- the two parts of a piece, with what comes behind them
+-- ---- what follows
+
+joined_parts : (front more part : List ℕ) (b : ℕ) (parts : List (List ℕ)) → HasNone is_feed (front ++ b ∷ []) → slice_split is_feed more ≡ part ∷ parts
+    → lines ((front ++ b ∷ []) ++ more) ≡ lines_of_parts ((front ++ b ∷ part) ∷ parts)
+joined_parts front more part b parts none e =
+    ap lines_of_parts (front_part is_feed (front ++ b ∷ []) more part parts none e)
+    ∙ ap (λ (l : List ℕ). lines_of_parts (l ∷ parts)) (append_assoc front (b ∷ []) part)
+
+pub read_alike : (front line : List ℕ) (b : ℕ) → HasNone is_feed (front ++ b ∷ []) → HasNone is_feed (line ++ b ∷ []) → IsSaidAlike front line → IsReadAlike (front ++ b ∷ []) (line ++ b ∷ [])
+read_alike front line b open_front open_line alike scan more =
+    let p = some_part is_feed more in
+    ap (reads scan) (joined_parts front more p.0 b p.1 open_front p.2)
+    ∙ parts_read scan.line (state_of scan.progress) front b p.0 p.1
+    ∙ line_same scan front line b p.0 p.1 alike
+    ∙ sym (parts_read scan.line (state_of scan.progress) line b p.0 p.1)
+    ∙ sym (ap (reads scan) (joined_parts line more p.0 b p.1 open_line p.2))
+
+-- ---- the two parts of a piece, with what comes behind them
+
 pub cut_joined : (at : ℕ) (piece whole rest more : List ℕ) → whole ≡ take at piece → rest ≡ drop at piece → whole ++ (rest ++ more) ≡ piece ++ more
 cut_joined at piece whole rest more e f =
     sym (append_assoc whole rest more)

@@ -7,6 +7,7 @@ pub mod Faults
 pub mod Reading
 pub mod Numbers
 pub mod Problems
+pub mod OpenLines
 pub mod Drafts
 pub mod Scans
 pub mod Claims

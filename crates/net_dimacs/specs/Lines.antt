@@ -1,6 +1,6 @@
 -- Lines, fields and numbers of a DIMACS text (First DIMACS Implementation Challenge, minimum-cost flow).
-use Rattle.std.specs.Prelude.{◌≡◌, ◌<◌, length, slice_index, ℕ, ◌+◌, ◌-◌, ◌*◌, Bool, true, false, ◌||◌, ◌&&◌, ◌==◌, if◌then◌else◌, List, [], ◌∷◌, codes, filter, ℤ, pos, neg_ℤ, Option, Some, None, is_some, not, take}
-use Rattle.std.specs.List.{slice_split, position}
+use Rattle.std.specs.Prelude.{◌≡◌, ◌<◌, length, slice_index, ℕ, ◌+◌, ◌-◌, ◌*◌, Bool, true, false, ◌||◌, ◌&&◌, ◌==◌, if◌then◌else◌, List, [], ◌∷◌, ◌++◌, codes, filter, ℤ, pos, neg_ℤ, Option, Some, None}
+use Rattle.std.specs.List.{slice_split, AllByRecursion}
 use Rattle.std.specs.Option.{option_map}
 use Rattle.std.specs.Str.{all_ascii_digits}
 use Rattle.net_dimacs.specs.Words.{Word}
@@ -13,14 +13,9 @@ is_blank b = b == 32 || b == 9
 abbrev pub is_feed : ℕ → Bool
 is_feed b = b == 10
 
--- bytes that begin with `c` and have no LF: whatever follows, their line is a comment
-abbrev pub is_open_comment : List ℕ → Bool
-is_open_comment [] = false
-is_open_comment (b ∷ bs) = b == 99 && not (is_some (position is_feed bs))
-
--- of an open comment its first byte
-abbrev pub shortened : List ℕ → List ℕ
-shortened bytes = if is_open_comment bytes then take 1 bytes else bytes
+-- no byte passes
+abbrev pub HasNone : (ℕ → Bool) → List ℕ → Type 0
+HasNone test bytes = AllByRecursion (λ b. test b ≡ false) bytes
 
 -- the last byte is LF, if there is one
 abbrev pub EndsLine : List ℕ → Type 0
@@ -33,6 +28,20 @@ has_byte (b ∷ bs) = true
 -- what stands between blanks and tabs
 abbrev pub fields_of : List ℕ → List (List ℕ)
 fields_of line = filter has_byte (slice_split is_blank line)
+
+-- a blank stands in front, or nothing is left
+abbrev pub BeginsBlank : List ℕ → Type 0
+BeginsBlank [] = Unit {0}
+BeginsBlank (b ∷ bs) = is_blank b ≡ true
+
+-- the first field of some bytes, and what follows it
+pub record IsFirstField (bytes field after : List ℕ) : Type 0 where
+  pub blanks : List ℕ
+  pub whole : bytes ≡ blanks ++ (field ++ after)
+  pub before : AllByRecursion (λ b. is_blank b ≡ true) blanks
+  pub some : 0 < length field
+  pub solid : HasNone is_blank field
+  pub behind : BeginsBlank after
 
 -- n, and then these digits
 abbrev pub value_after : ℕ → List ℕ → ℕ

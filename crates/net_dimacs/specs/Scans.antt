@@ -12,6 +12,10 @@ use Rattle.net_dimacs.specs.Drafts.{state_of}
 abbrev pub reads : Scan → List (List ℕ) → Result Numbers Refusal
 reads scan more = read_lines scan.line (state_of scan.progress) more
 
+-- however a line goes on from these bytes, it is read as going on from those
+abbrev pub IsReadAlike : List ℕ → List ℕ → Type 0
+IsReadAlike front line = (scan : Scan) (more : List ℕ) → reads scan (lines (front ++ more)) ≡ reads scan (lines (line ++ more))
+
 -- a reading stands for a text: it counts the bytes, and whatever follows is read as behind the text, unless they pass the limit
 pub record Stands (reading : Reading) (text : List ℕ) : Type 0 where
   pub counted : reading.length ≡ min (length text) (2 ^ 64 - 1)

@@ -1,9 +1,9 @@
 //! The front of a text, line by line, and of a line, field by field.
 
-ghost use Rattle.std.specs.Prelude.{◌≡◌, ◌==◌, not, ◌-◌, ◌<◌, ◌≤◌, slice_index, ◌∷◌, [], length, IfSome, MatchOption};
-ghost use Rattle.std.specs.List.{position};
+ghost use Rattle.std.specs.Prelude.{◌≡◌, ◌==◌, not, true, ◌-◌, ◌<◌, ◌≤◌, slice_index, ◌∷◌, [], length, drop, IfSome, MatchOption};
+ghost use Rattle.std.specs.List.{position, AllByRecursion};
 ghost use Rattle.std.specs.Str.Lines.{lines, strip_carriage_return};
-ghost use Rattle.net_dimacs.specs.Lines.{is_blank, fields_of};
+ghost use Rattle.net_dimacs.specs.Lines.{is_blank, is_feed, fields_of, HasNone, IsFirstField};
 
 /// The first line of a text and the text after it, if a line is left.
 ///
@@ -27,6 +27,7 @@ pub fn split_line(text: &[u8]) -> Option<(&[u8], &[u8])>
 pub fn after_last_feed(bytes: &[u8]) -> usize
     ensures within { result ≤ length bytes.now }
     ensures feed { 0 < result → slice_index bytes.now (result - 1) ≡ 10 }
+    ensures no_feed { HasNone is_feed (drop result bytes.now) }
 {
     let mut end = bytes.len();
     while end > 0 && bytes[end - 1] != b'\n' {
@@ -55,6 +56,7 @@ fn without_return(line: &[u8]) -> &[u8]
 /// The first field of some bytes and the bytes after it, if a field is left.
 pub fn split_field(bytes: &[u8]) -> Option<(&[u8], &[u8])>
     ensures parts { MatchOption result (fields_of bytes.now ≡ []) (λ p. fields_of bytes.now ≡ p.0.now ∷ fields_of p.1.now) }
+    ensures cut { MatchOption result (AllByRecursion (λ b. is_blank b ≡ true) bytes.now) (λ p. IsFirstField bytes.now p.0.now p.1.now) }
     ensures shorter { IfSome result (λ p. length p.1.now < length bytes.now) }
 {
     let start = first_other(bytes).unwrap_or(bytes.len());

@@ -12,6 +12,7 @@ mod laws;
 mod limits;
 mod line_stop;
 mod number;
+mod open_line;
 mod page;
 mod problem_fault;
 mod problem_reader;

@@ -1,16 +1,19 @@
 //! Reading a problem text in pieces.
 
 ghost use Rattle.std.specs.Prelude.{◌≡◌, ℕ, ◌+◌, ◌<◌, ◌≤◌, ◌⊎◌, List, [], ◌++◌, IfOk, length, vec_len};
-ghost use Rattle.net_dimacs.specs.Lines.{shortened};
+ghost use Rattle.std.proofs.Props.{props};
+ghost use Rattle.net_dimacs.specs.Limits.{open_line_limit};
+ghost use Rattle.net_dimacs.specs.Lines.{is_feed, HasNone};
 
 use crate::fields::after_last_feed;
 use crate::limits::TEXT_LIMIT;
+use crate::open_line::shorten;
 use crate::problem_fault::{LineFault, ProblemFault};
-use crate::scan::{Scan, shorten};
+use crate::scan::Scan;
 use net_normal::Problem;
 use std::alloc::{AllocError, Global};
 
-/// A problem text that is being read. Of the text, only a line that is not whole yet is kept, and of a comment none.
+/// A problem text that is being read. Of the text nothing is kept but, of a line that is not whole yet, what decides of it.
 #[derive(Drop)]
 pub struct Reading {
     alloc: Global,
@@ -18,10 +21,11 @@ pub struct Reading {
     length: usize,
     /// What the whole lines said, unless the text passes the limit.
     scan: Scan,
-    /// The bytes behind the last LF.
+    /// The bytes behind the last LF, or what decides of them.
     pending: Vec<u8>,
     ghost few_lines: { scan.line + vec_len pending ≤ length + 1 },
-    ghost no_comment: { shortened pending.items ≡ pending.items },
+    ghost no_feed: { HasNone is_feed pending.items } by { Prim.hlevel props },
+    ghost short: { vec_len pending ≤ open_line_limit },
 }
 
 impl Reading {
@@ -58,7 +62,7 @@ impl Reading {
             let (whole, rest) = piece.split_at(after_last_feed(piece));
             scan.take_whole(alloc, &mut pending, whole)?;
             pending.extend_from_slice(rest)?;
-            shorten(&mut pending);
+            shorten(&mut pending)?;
         }
         Ok(Reading {
             alloc,

@@ -2,9 +2,8 @@
 
 ghost use Rattle.std.specs.Prelude.{◌≡◌, ◌+◌, ◌-◌, ◌<◌, ◌≤◌, ◌^◌, ◌++◌, ℕ, List, length, vec_len, OnOk, OnErr, IsErrOf};
 ghost use Rattle.std.specs.Str.Lines.{lines};
-ghost use Rattle.net_dimacs.specs.Lines.{is_open_comment, shortened};
 
-use crate::fields::{first_feed, split_line};
+use crate::fields::split_line;
 use crate::problem_fault::ProblemFault;
 use crate::progress::Progress;
 use crate::statement::statement_of;
@@ -21,7 +20,7 @@ pub struct Scan {
 }
 
 impl Scan {
-    ghost use Rattle.net_dimacs.specs.Lines.{EndsLine};
+    ghost use Rattle.net_dimacs.specs.Lines.{EndsLine, HasNone, is_feed};
     ghost use Rattle.net_dimacs.specs.Drafts.{state_of};
     ghost use Rattle.net_dimacs.specs.Scans.{reads};
     ghost use Rattle.net_dimacs.specs.Reading.{Start, Gives};
@@ -64,6 +63,7 @@ impl Scan {
         ensures ok { OnOk result ((more : List ℕ) →
             reads self.new (lines (pending.new.items ++ more)) ≡ reads self.old (lines (pending.old.items ++ (whole.now ++ more)))) }
         ensures count { OnOk result (self.new.line + vec_len pending.new ≤ self.old.line + vec_len pending.old + length whole.now) }
+        ensures no_feed { OnOk result (HasNone is_feed pending.old.items → HasNone is_feed pending.new.items) }
     {
         if whole.is_empty() {
             return Ok(());
@@ -82,24 +82,5 @@ impl Scan {
     {
         self.take_lines(alloc, rest)?;
         self.progress.finished(self.line)
-    }
-}
-
-/// Whether bytes are the front of a comment, whatever follows.
-fn is_open_comment(bytes: &[u8]) -> bool
-    ensures { result ≡ is_open_comment bytes.now }
-{
-    match bytes {
-        [b'c', more @ ..] => first_feed(more).is_none(),
-        _ => false,
-    }
-}
-
-/// Of a comment that is not whole yet its first byte is enough, so that none is held however long it is.
-pub fn shorten(pending: &mut Vec<u8>)
-    ensures { pending.new.items ≡ shortened pending.old.items }
-{
-    if is_open_comment(pending) {
-        pending.truncate(1);
     }
 }
