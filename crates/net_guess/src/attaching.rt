@@ -2,7 +2,7 @@
 //! makes it cheap is from Barr, Glover and Klingman (1979); see also Ahuja, Magnanti, Orlin: Network Flows, section 11.3.
 
 use crate::halt::Halt;
-use crate::tree::{NO_NODE, Tree, TreeArc};
+use crate::tree::{NO_NODE, Rooms, Tree};
 
 /// How a subtree is hung up anew.
 #[derive(Clone, Copy)]
@@ -13,8 +13,9 @@ pub struct Attachment {
     pub stem: u32,
     /// The node, outside the subtree, below which it comes.
     pub parent: u32,
-    /// The arc to that node.
-    pub arc: TreeArc,
+    /// The arc to that node, and what it takes.
+    pub arc: u32,
+    pub rooms: Rooms,
     /// The nearest node above both parents.
     pub join: u32,
 }
@@ -71,6 +72,7 @@ impl Tree {
         node.parent = attachment.parent;
         node.arc = attachment.arc;
         self.put_node(root, node);
+        self.put_rooms(root, attachment.rooms);
         if self.thread(attachment.parent).next == root {
             return;
         }
@@ -164,8 +166,10 @@ impl Tree {
             let mut below = self.node(node.parent);
             size = size.wrapping_add(node.size).wrapping_sub(below.size);
             node.size = size;
-            node.arc = below.arc.turned();
+            node.arc = below.arc;
             self.put_node(place, node);
+            let rooms = self.rooms(node.parent);
+            self.put_rooms(place, rooms.turned());
             below.last = last;
             self.put_node(node.parent, below);
             place = node.parent;
@@ -174,6 +178,7 @@ impl Tree {
         stem.arc = attachment.arc;
         stem.size = before.size;
         self.put_node(attachment.stem, stem);
+        self.put_rooms(attachment.stem, attachment.rooms);
     }
 
     /// Gives the nodes above both places their new last nodes.

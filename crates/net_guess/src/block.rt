@@ -18,6 +18,8 @@ const GROWTH: usize = 1;
 
 const LOSS: usize = 12;
 
+const CHEAP_LOSS: usize = 2;
+
 /// The length of a block, which follows what is found: where nearly every block has an arc that saves something, longer ones
 /// find better arcs; where many have none, shorter ones leave less to be priced.
 #[derive(Clone, Copy)]
@@ -27,6 +29,8 @@ pub struct Block {
     /// The length in hundredths of that, and the most that it may be.
     share: usize,
     greatest: usize,
+    /// About 64 times the number of nodes whose potential a change of the tree moves.
+    moved: u64,
 }
 
 impl Block {
@@ -40,6 +44,16 @@ impl Block {
             root: root_of(arc_count),
             share,
             greatest,
+            moved: 0,
+        }
+    }
+
+    /// After a change of the tree that moved so many potentials, and a search with so many looks for it: where such changes are far less
+    /// work than the searches, shorter blocks save more looks than they cost changes.
+    pub fn take_move(&mut self, nodes: u32, looks: u64) {
+        self.moved = (self.moved - self.moved / 64).wrapping_add(u64::from(nodes));
+        if self.moved < looks {
+            self.share = self.share.saturating_sub(CHEAP_LOSS).max(LEAST);
         }
     }
 

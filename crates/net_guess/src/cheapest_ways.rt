@@ -12,6 +12,9 @@ pub const NO_PLACE: u32 = u32::MAX;
 /// What a way costs that there is not.
 const FAR: i64 = i64::MAX;
 
+/// What the way costs of a node to which none is searched for.
+const BARRED: i64 = i64::MIN;
+
 /// An arc into a node.
 #[derive(Clone, Copy)]
 struct Arrival {
@@ -118,6 +121,9 @@ impl CheapestWays {
     pub fn find(&mut self, excess: &[i128]) -> Result<(), AllocError> {
         for (place, amount) in excess.iter().enumerate() {
             let node = index(place);
+            if *amount > 0 {
+                put(&mut self.costs, node, BARRED);
+            }
             if *amount < 0 {
                 put(&mut self.costs, node, 0);
                 self.waiting.push(Reverse((0i64, node)))?;
@@ -129,22 +135,18 @@ impl CheapestWays {
             };
             if at(&self.costs, node, FAR) == cost {
                 self.order.push(node)?;
-                self.reach_back(excess, node, cost)?;
+                self.reach_back(node, cost)?;
             }
         }
         Ok(())
     }
 
     /// Finds cheaper ways over the arcs into a node.
-    fn reach_back(&mut self, excess: &[i128], node: u32, cost: i64) -> Result<(), AllocError> {
+    fn reach_back(&mut self, node: u32, cost: i64) -> Result<(), AllocError> {
         for place in row_at(&self.starts, node) {
             let arrival = at(&self.arrivals, place, Arrival::NONE);
             let own = cost.wrapping_add(arrival.cost);
-            let is_free = match excess.get(arrival.tail as usize) {
-                Some(amount) => *amount == 0,
-                None => false,
-            };
-            if is_free && own < at(&self.costs, arrival.tail, 0) {
+            if own < at(&self.costs, arrival.tail, 0) {
                 put(&mut self.costs, arrival.tail, own);
                 put(&mut self.firsts, arrival.tail, arrival.place);
                 self.waiting.push(Reverse((own, arrival.tail)))?;

@@ -4,26 +4,19 @@
 
 use crate::cheapest_ways::{CheapestWays, NO_PLACE};
 use crate::halt::Halt;
-use crate::pivoting::tree_arc;
-use crate::places::index;
+use crate::places::{at, index};
 use crate::simplex::Simplex;
-use crate::simplex_arc::{PricedArc, Status};
-use net_normal::Problem;
+use crate::tree::Rooms;
 use std::alloc::{AllocError, Global};
 
 impl Simplex {
     /// Hangs nodes without excess below those that want flow, each by its cheapest way.
-    pub fn hang_by_ways(
-        &mut self,
-        alloc: Global,
-        problem: &Problem,
-        excess: &[i128],
-    ) -> Result<(), Halt> {
-        let Ok(ways) = self.ways(alloc, problem, excess) else {
+    pub fn hang_by_ways(&mut self, alloc: Global, excess: &[i128]) -> Result<(), Halt> {
+        let Ok(ways) = self.ways(alloc, excess) else {
             return Err(Halt::OutOfMemory);
         };
         for node in &ways.order {
-            self.hang(problem, *node, ways.first(*node));
+            self.hang(*node, ways.first(*node));
         }
         for node in ways.order.iter().rev() {
             if ways.first(*node) != NO_PLACE {
@@ -35,12 +28,7 @@ impl Simplex {
     }
 
     /// The cheapest ways over arcs with room.
-    fn ways(
-        &self,
-        alloc: Global,
-        problem: &Problem,
-        excess: &[i128],
-    ) -> Result<CheapestWays, AllocError> {
+    fn ways(&self, alloc: Global, excess: &[i128]) -> Result<CheapestWays, AllocError> {
         let count = self.numbers.len();
         let Ok(mut ways) = CheapestWays::with_room(alloc, excess.len(), count) else {
             return Err(AllocError);
@@ -50,10 +38,7 @@ impl Simplex {
         }
         ways.end_count();
         for place in 0..index(count) {
-            let known = self.known(problem, place);
-            if known.cap > known.low {
-                ways.put_arrival(place, self.prices.arc(place));
-            }
+            ways.put_arrival(place, self.prices.arc(place));
         }
         match ways.find(excess) {
             Ok(()) => Ok(ways),
@@ -62,17 +47,17 @@ impl Simplex {
     }
 
     /// Hangs a node that is a leaf at the root by the arc at a place, without flow.
-    fn hang(&mut self, problem: &Problem, node: u32, place: u32) {
+    fn hang(&mut self, node: u32, place: u32) {
         if place == NO_PLACE {
             return;
         }
         let arc = self.prices.arc(place);
-        let known = self.known(problem, place);
-        let above = tree_arc(&known, self.status(place), place, 0, node);
-        self.tree.hang_leaf(node, arc.dst, above);
+        let rooms = Rooms {
+            up: at(&self.rooms, place, 0),
+            down: 0,
+        };
+        self.tree.hang_leaf(node, arc.dst, place, rooms);
         let potential = self.prices.potential(arc.dst).wrapping_sub(arc.cost);
         self.prices.put_potential(node, potential);
-        self.put_status(place, Status::Basic);
-        self.prices.put_arc(place, PricedArc::NONE);
     }
 }

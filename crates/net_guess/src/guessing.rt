@@ -142,7 +142,7 @@ fn ended_at(
     alloc: Global,
     problem: &Problem,
 ) -> Result<Option<Guess>, Halt> {
-    match simplex.run(problem, SIMPLEX_LOOKS.saturating_mul(size_of(problem)))? {
+    match simplex.run(SIMPLEX_LOOKS.saturating_mul(size_of(problem)))? {
         Ended::Optimal => {
             let Ok(flows) = simplex.flows(alloc, problem) else {
                 return Err(Halt::OutOfMemory);

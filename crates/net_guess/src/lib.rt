@@ -22,6 +22,7 @@ mod pricing;
 mod probe;
 mod rows;
 mod scaling;
+mod search;
 mod simplex;
 mod simplex_arc;
 mod starting;

@@ -2,11 +2,10 @@
 
 use crate::attaching::Attachment;
 use crate::halt::Halt;
-use crate::places::{at, index, put, try_at};
+use crate::places::{at, index, try_at};
+use crate::prices::Part;
 use crate::simplex::Simplex;
-use crate::simplex_arc::{PricedArc, Status};
-use crate::tree::TreeArc;
-use net_normal::{FlowArc, Problem};
+use crate::tree::Rooms;
 
 /// Which arc of a cycle goes.
 #[derive(Clone, Copy)]
@@ -32,19 +31,12 @@ struct Cycle {
     going: Going,
 }
 
-/// The least room on a way, and the node above which it is.
-#[derive(Clone, Copy)]
-struct Narrow {
-    room: i64,
-    node: Option<u32>,
-}
-
 impl Simplex {
     /// Lets the arc at this place come in.
-    pub fn enter(&mut self, problem: &Problem, place: u32) -> Result<(), Halt> {
+    pub fn enter(&mut self, place: u32) -> Result<(), Halt> {
         let arc = self.prices.arc(place);
-        let known = self.known(problem, place);
-        let cycle = self.cycle(arc.src, arc.dst, known.cap.wrapping_sub(known.low))?;
+        let room = at(&self.rooms, place, 0);
+        let cycle = self.cycle(arc.src, arc.dst, room)?;
         if cycle.amount > 0 {
             self.tree.send_down(cycle.join, cycle.first, cycle.amount)?;
             self.tree
@@ -52,116 +44,117 @@ impl Simplex {
         }
         match cycle.going {
             Going::Itself => {
-                self.set_status(problem, place, other(self.status(place)));
+                self.prices.put_arc(place, arc.turned());
                 Ok(())
             }
-            Going::Before(node) | Going::Behind(node) => {
-                self.exchange(problem, place, &cycle, node)
+            Going::Before(node) => {
+                let rooms = Rooms {
+                    up: room.wrapping_sub(cycle.amount),
+                    down: cycle.amount,
+                };
+                let ends = (cycle.first, cycle.second);
+                self.exchange(place, &cycle, node, ends, rooms)?;
+                let saved = self.prices.price(place).wrapping_neg();
+                self.lift(cycle.first, saved)
+            }
+            Going::Behind(node) => {
+                let rooms = Rooms {
+                    up: cycle.amount,
+                    down: room.wrapping_sub(cycle.amount),
+                };
+                let ends = (cycle.second, cycle.first);
+                self.exchange(place, &cycle, node, ends, rooms)?;
+                let saved = self.prices.price(place);
+                self.lift(cycle.second, saved)
             }
         }
     }
 
-    /// Where the flow on the arc at a place is.
-    pub fn status(&self, place: u32) -> Status {
-        at(&self.statuses, place, Status::Basic)
-    }
-
-    /// Gives an arc a status, and what it is priced by.
-    pub fn set_status(&mut self, problem: &Problem, place: u32, status: Status) {
-        let arc = self.known(problem, place);
-        self.prices.put_arc(place, PricedArc::of(&arc, status));
-        self.put_status(place, status);
-    }
-
-    /// Gives an arc a status alone.
-    pub fn put_status(&mut self, place: u32, status: Status) {
-        put(&mut self.statuses, place, status);
-    }
-
     /// The cycle that an arc between these nodes closes, with this room.
-    fn cycle(&self, first: u32, second: u32, room: i64) -> Result<Cycle, Halt> {
-        let (mut low, mut high) = (first, second);
-        let mut before = Narrow {
-            room: i64::MAX,
-            node: None,
+    fn cycle(&mut self, first: u32, second: u32, room: i64) -> Result<Cycle, Halt> {
+        let join = self.tree.join(first, second)?;
+        let mut cycle = Cycle {
+            first,
+            second,
+            join,
+            amount: room,
+            going: Going::Itself,
         };
-        let mut behind = before;
-        let mut left = try_at(&self.tree.nodes, low)?;
-        let mut right = try_at(&self.tree.nodes, high)?;
-        for _ in 0..=self.tree.nodes.len().saturating_mul(2) {
-            if low == high {
-                return Ok(narrowest(first, second, low, room, before, behind));
+        self.narrow_behind(&mut cycle)?;
+        if cycle.amount > 0 {
+            self.narrow_before(&mut cycle)?;
+        }
+        Ok(cycle)
+    }
+
+    /// Narrows a cycle to the least room on the way from where the flow ends up to the join. Of several the last goes, and before the
+    /// arc itself.
+    fn narrow_behind(&self, cycle: &mut Cycle) -> Result<(), Halt> {
+        let mut node = cycle.second;
+        for _ in 0..self.tree.nodes.len() {
+            if node == cycle.join {
+                return Ok(());
             }
-            if left.size < right.size {
-                if left.arc.room_down < before.room {
-                    before = Narrow {
-                        room: left.arc.room_down,
-                        node: Some(low),
-                    };
-                }
-                low = left.parent;
-                left = try_at(&self.tree.nodes, low)?;
-            } else {
-                if right.arc.room_up <= behind.room {
-                    behind = Narrow {
-                        room: right.arc.room_up,
-                        node: Some(high),
-                    };
-                }
-                high = right.parent;
-                right = try_at(&self.tree.nodes, high)?;
+            let room = try_at(&self.tree.rooms, node)?.up;
+            if room <= cycle.amount {
+                cycle.amount = room;
+                cycle.going = Going::Behind(node);
             }
+            node = try_at(&self.tree.nodes, node)?.parent;
         }
         Err(Halt::OutOfRange)
     }
 
-    /// Exchanges the arc above a node for the one that comes: the part of the tree below that node is hung up at its end of that arc,
-    /// below the other end.
+    /// Narrows it to what is less on the way from the join down to where the flow starts. Of several the last goes, which is seen first.
+    fn narrow_before(&self, cycle: &mut Cycle) -> Result<(), Halt> {
+        let mut node = cycle.first;
+        for _ in 0..self.tree.nodes.len() {
+            if node == cycle.join || cycle.amount == 0 {
+                return Ok(());
+            }
+            let room = try_at(&self.tree.rooms, node)?.down;
+            if room < cycle.amount {
+                cycle.amount = room;
+                cycle.going = Going::Before(node);
+            }
+            node = try_at(&self.tree.nodes, node)?.parent;
+        }
+        Err(Halt::OutOfRange)
+    }
+
+    /// Exchanges the arc above a node for the one that comes: the part of the tree below that node is hung up at its end of that arc, the
+    /// first of these ends, below the other.
     fn exchange(
         &mut self,
-        problem: &Problem,
         place: u32,
         cycle: &Cycle,
         leaving: u32,
+        ends: (u32, u32),
+        rooms: Rooms,
     ) -> Result<(), Halt> {
-        let (stem, parent) = match cycle.going {
-            Going::Behind(_node) => (cycle.second, cycle.first),
-            Going::Before(_) | Going::Itself => (cycle.first, cycle.second),
-        };
-        self.leave(problem, leaving);
-        let known = self.known(problem, place);
-        let arc = tree_arc(&known, self.status(place), place, cycle.amount, stem);
-        self.set_status(problem, place, Status::Basic);
+        self.leave(leaving);
+        let (stem, parent) = ends;
         let attachment = Attachment {
             leaving,
             stem,
             parent,
-            arc,
+            arc: place,
+            rooms,
             join: cycle.join,
         };
-        self.tree.attach(&attachment, &mut self.turned)?;
-        let cost = if arc.is_up {
-            known.cost.wrapping_neg()
-        } else {
-            known.cost
-        };
-        let above = self.prices.potential(parent);
-        let below = self.prices.potential(stem);
-        self.lift(stem, above.wrapping_add(cost).wrapping_sub(below))
+        self.tree.attach(&attachment, &mut self.turned)
     }
 
-    /// Puts the arc above a node at the bound that it has reached.
-    fn leave(&mut self, problem: &Problem, node: u32) {
-        let arc = self.tree.node(node).arc;
-        let at_low = arc.flow() == 0;
-        if (arc.number as usize) < self.numbers.len() {
-            let status = if at_low {
-                Status::AtLower
-            } else {
-                Status::AtUpper
-            };
-            self.set_status(problem, arc.number, status);
-        } else if !at_low {
+    /// Lets the arc above a node be priced from the end from which it takes flow.
+    fn leave(&mut self, node: u32) {
+        let place = self.tree.node(node).arc;
+        if (place as usize) < self.rooms.len() {
+            let arc = self.prices.arc(place);
+            let takes_up = self.tree.rooms(node).up != 0;
+            if takes_up != (arc.src == node) {
+                self.prices.put_arc(place, arc.turned());
+            }
+        } else if self.root_flow(node, place) != 0 {
             self.is_short = true;
         }
     }
@@ -172,72 +165,22 @@ impl Simplex {
         self.work = self.work.wrapping_add(u64::from(node.size));
         let all = index(self.tree.nodes.len());
         let others = all.saturating_sub(node.size);
+        self.block.take_move(node.size.min(others), self.looked);
         if others < node.size && self.prices.may_move(all.wrapping_sub(1)) {
-            let first = self.tree.thread(node.last).next;
-            self.prices
-                .raise(&self.tree.threads, first, others, amount.wrapping_neg())
+            let part = Part {
+                first: self.tree.thread(node.last).next,
+                last: self.tree.thread(top).previous,
+                count: others,
+            };
+            let amount = amount.wrapping_neg();
+            self.prices.raise(&self.tree.threads, part, amount)
         } else {
-            self.prices
-                .raise(&self.tree.threads, top, node.size, amount)
+            let part = Part {
+                first: top,
+                last: node.last,
+                count: node.size,
+            };
+            self.prices.raise(&self.tree.threads, part, amount)
         }
-    }
-}
-
-/// The bound opposite to this one.
-fn other(status: Status) -> Status {
-    match status {
-        Status::AtLower => Status::AtUpper,
-        Status::AtUpper => Status::AtLower,
-        Status::Basic => Status::Basic,
-    }
-}
-
-/// An arc that comes into the tree with this change of its flow, seen from the end that is below.
-pub fn tree_arc(arc: &FlowArc, status: Status, number: u32, amount: i64, stem: u32) -> TreeArc {
-    let room = arc.cap.wrapping_sub(arc.low);
-    let ahead = match status {
-        Status::AtUpper => amount,
-        Status::AtLower | Status::Basic => room.wrapping_sub(amount),
-    };
-    let back = room.wrapping_sub(ahead);
-    let is_up = arc.src == stem;
-    let (room_up, room_down) = if is_up { (ahead, back) } else { (back, ahead) };
-    TreeArc {
-        number,
-        is_up,
-        room_up,
-        room_down,
-    }
-}
-
-/// The cycle, where this much room is on the arc that closes it and on the two ways to the join.
-fn narrowest(
-    first: u32,
-    second: u32,
-    join: u32,
-    room: i64,
-    before: Narrow,
-    behind: Narrow,
-) -> Cycle {
-    let mut amount = room;
-    let mut going = Going::Itself;
-    if let Some(node) = before.node {
-        if before.room < amount {
-            amount = before.room;
-            going = Going::Before(node);
-        }
-    }
-    if let Some(node) = behind.node {
-        if behind.room <= amount {
-            amount = behind.room;
-            going = Going::Behind(node);
-        }
-    }
-    Cycle {
-        first,
-        second,
-        join,
-        amount,
-        going,
     }
 }

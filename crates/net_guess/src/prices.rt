@@ -10,7 +10,7 @@ use crate::tree::Thread;
 use std::alloc::{AllocError, Global};
 
 /// The greatest cost of a unit from the root with which no potential and no price passes 32 bits.
-const NARROW_LIMIT: i64 = 1 << 29;
+pub const NARROW_LIMIT: i64 = 1 << 29;
 
 /// How far from 0 the potential of the root may be moved, in 32 and in 64 bits.
 const NARROW_DRIFT: i64 = 1 << 29;
@@ -38,6 +38,46 @@ impl NarrowArc {
 #[inline]
 fn narrow(number: i64) -> i32 {
     i32::try_from(number).unwrap_or(0)
+}
+
+/// Adds to a node's potential.
+#[inline]
+fn add_narrow(potentials: &mut Vec<i32>, node: u32, amount: i32) -> Result<(), Halt> {
+    match potentials.get_mut(node as usize) {
+        Some(potential) => {
+            *potential = potential.wrapping_add(amount);
+            Ok(())
+        }
+        None => Err(Halt::OutOfRange),
+    }
+}
+
+#[inline]
+fn add_wide(potentials: &mut Vec<i64>, node: u32, amount: i64) -> Result<(), Halt> {
+    match potentials.get_mut(node as usize) {
+        Some(potential) => {
+            *potential = potential.wrapping_add(amount);
+            Ok(())
+        }
+        None => Err(Halt::OutOfRange),
+    }
+}
+
+/// The place of the arc at an offset of a block of this length that begins there, or none where the offset is past its end.
+fn place_in(length: usize, from: usize, offset: usize) -> Option<u32> {
+    if offset < length {
+        Some(index(from.saturating_add(offset)))
+    } else {
+        None
+    }
+}
+
+/// Nodes that stand together in the cyclic order: the first and the last of them, and how many there are.
+#[derive(Clone, Copy)]
+pub struct Part {
+    pub first: u32,
+    pub last: u32,
+    pub count: u32,
 }
 
 /// The arcs and the potentials: the lists in 32 bits or those in 64 are there, and the others empty.
@@ -158,47 +198,39 @@ impl Prices {
             .wrapping_sub(self.potential(arc.dst))
     }
 
-    /// Adds to the potentials of so many nodes, from one on in the cyclic order.
-    pub fn raise(
-        &mut self,
-        threads: &Vec<Thread>,
-        from: u32,
-        count: u32,
-        amount: i64,
-    ) -> Result<(), Halt> {
+    /// Adds to the potentials of nodes that stand together: from both ends, as each step waits for the one before it.
+    pub fn raise(&mut self, threads: &Vec<Thread>, part: Part, amount: i64) -> Result<(), Halt> {
         if self.is_narrow {
-            return self.raise_narrow(threads, from, count, narrow(amount));
+            return self.raise_narrow(threads, part, narrow(amount));
         }
-        let mut place = from;
-        for _ in 0..count {
-            match self.wide_potentials.get_mut(place as usize) {
-                Some(potential) => *potential = potential.wrapping_add(amount),
-                None => return Err(Halt::OutOfRange),
-            }
-            place = try_at(threads, place)?.next;
+        let (mut first, mut last) = (part.first, part.last);
+        for _ in 0..part.count / 2 {
+            add_wide(&mut self.wide_potentials, first, amount)?;
+            add_wide(&mut self.wide_potentials, last, amount)?;
+            first = try_at(threads, first)?.next;
+            last = try_at(threads, last)?.previous;
         }
-        Ok(())
-    }
-
-    fn raise_narrow(
-        &mut self,
-        threads: &Vec<Thread>,
-        from: u32,
-        count: u32,
-        amount: i32,
-    ) -> Result<(), Halt> {
-        let mut place = from;
-        for _ in 0..count {
-            match self.narrow_potentials.get_mut(place as usize) {
-                Some(potential) => *potential = potential.wrapping_add(amount),
-                None => return Err(Halt::OutOfRange),
-            }
-            place = try_at(threads, place)?.next;
+        if part.count % 2 == 1 {
+            add_wide(&mut self.wide_potentials, first, amount)?;
         }
         Ok(())
     }
 
-    /// The place of the arc of the most negative price among those at these places.
+    fn raise_narrow(&mut self, threads: &Vec<Thread>, part: Part, amount: i32) -> Result<(), Halt> {
+        let (mut first, mut last) = (part.first, part.last);
+        for _ in 0..part.count / 2 {
+            add_narrow(&mut self.narrow_potentials, first, amount)?;
+            add_narrow(&mut self.narrow_potentials, last, amount)?;
+            first = try_at(threads, first)?.next;
+            last = try_at(threads, last)?.previous;
+        }
+        if part.count % 2 == 1 {
+            add_narrow(&mut self.narrow_potentials, first, amount)?;
+        }
+        Ok(())
+    }
+
+    /// The place of the arc of the most negative price among those at these places. One test, of the greater end, does for both.
     #[inline(never)]
     pub fn dearest_between(&self, from: usize, to: usize) -> Result<Option<u32>, Halt> {
         if self.is_narrow {
@@ -208,17 +240,20 @@ impl Prices {
             return Err(Halt::OutOfRange);
         };
         let mut least = 0i64;
-        let mut found = None;
+        let mut found = block.len();
         for (offset, arc) in block.iter().enumerate() {
+            if arc.src.max(arc.dst) as usize >= self.wide_potentials.len() {
+                return Err(Halt::OutOfRange);
+            }
             let src = try_at(&self.wide_potentials, arc.src)?;
             let dst = try_at(&self.wide_potentials, arc.dst)?;
             let price = arc.cost.wrapping_add(src).wrapping_sub(dst);
             if price < least {
                 least = price;
-                found = Some(offset);
+                found = offset;
             }
         }
-        Ok(found.map(|offset| index(from.saturating_add(offset))))
+        Ok(place_in(block.len(), from, found))
     }
 
     #[inline(never)]
@@ -227,16 +262,19 @@ impl Prices {
             return Err(Halt::OutOfRange);
         };
         let mut least = 0i32;
-        let mut found = None;
+        let mut found = block.len();
         for (offset, arc) in block.iter().enumerate() {
+            if arc.src.max(arc.dst) as usize >= self.narrow_potentials.len() {
+                return Err(Halt::OutOfRange);
+            }
             let src = try_at(&self.narrow_potentials, arc.src)?;
             let dst = try_at(&self.narrow_potentials, arc.dst)?;
             let price = arc.cost.wrapping_add(src).wrapping_sub(dst);
             if price < least {
                 least = price;
-                found = Some(offset);
+                found = offset;
             }
         }
-        Ok(found.map(|offset| index(from.saturating_add(offset))))
+        Ok(place_in(block.len(), from, found))
     }
 }

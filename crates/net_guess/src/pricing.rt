@@ -8,6 +8,7 @@ impl Simplex {
     pub fn dearest(&mut self) -> Result<Option<u32>, Halt> {
         let count = self.numbers.len();
         let mut left = count;
+        self.looked = 0;
         for turn in 0..=count {
             let from = self.next.min(count);
             let to = from
@@ -16,6 +17,7 @@ impl Simplex {
             let looked = to.saturating_sub(from);
             let found = self.prices.dearest_between(from, to)?;
             self.work = self.work.wrapping_add(looked as u64);
+            self.looked = self.looked.wrapping_add(looked as u64);
             left = left.saturating_sub(looked);
             self.next = if to == count { 0 } else { to };
             if found.is_none() {

@@ -1,10 +1,12 @@
 //! A look at whether a problem has a flow at all, whatever it costs: blocking flows (Dinic 1970) towards the nodes with deficits.
 //!
-//! Where no excess that is left can reach a deficit, the nodes that it can reach are the guess at a cut.
+//! Where few nodes have excess, a way to a deficit is searched for from each by itself. Where there is none, the nodes that were reached
+//! are the guess at a cut.
 
 use crate::halt::Halt;
 use crate::incidence::{Incidence, back_of};
 use crate::places::{at, fill, index, put};
+use crate::search::Reach;
 use net_normal::Problem;
 use std::alloc::{AllocError, Global};
 
@@ -17,11 +19,15 @@ const NO_NODE: u32 = u32::MAX;
 /// So many rounds end their levels early.
 const SHORT_ROUNDS: u64 = 6;
 
-/// One step of a way: from a node over the arc at it that stands at this place.
+/// So many nodes are few, where they are one in so many or fewer.
+const FEW: usize = 64;
+
+/// One step of a way: from a node over the arc at it that stands at `end`, whose room stands at `place`.
 #[derive(Clone, Copy)]
-struct Step {
-    tail: u32,
-    place: u32,
+pub struct Step {
+    pub tail: u32,
+    pub end: u32,
+    pub place: u32,
 }
 
 /// What a probe says.
@@ -39,19 +45,22 @@ pub enum Seen {
 #[derive(Drop)]
 pub struct Probe {
     pub incidence: Incidence,
-    excess: Vec<i128>,
+    pub excess: Vec<i128>,
     /// How many residual arcs it is from each node to the next deficit.
-    levels: Vec<u32>,
+    pub levels: Vec<u32>,
     /// The residual arc out of each node at which the search for a way goes on.
-    current: Vec<u32>,
+    pub current: Vec<u32>,
     /// Nodes to be looked at, in the order in which they came: there is room for all, and each comes at most once.
     queue: Vec<u32>,
     /// How many places of the queue are taken.
-    queued: u32,
+    pub queued: u32,
     /// The way from a node with excess on.
-    path: Vec<Step>,
+    pub path: Vec<Step>,
+    /// Where a search for a way came to, from its start ahead and from the deficits back.
+    pub ahead: Vec<Reach>,
+    pub back: Vec<Reach>,
     pub work: u64,
-    limit: u64,
+    pub limit: u64,
 }
 
 impl Probe {
@@ -73,6 +82,8 @@ impl Probe {
             queue: Vec::new(alloc),
             queued: 0,
             path: Vec::new(alloc),
+            ahead: Vec::new(alloc),
+            back: Vec::new(alloc),
             work: 0,
             limit,
         };
@@ -100,11 +111,8 @@ impl Probe {
     /// Sends flow until all is sent, or a cut is seen, or there was too much work.
     pub fn run(&mut self) -> Result<Seen, Halt> {
         for round in 0..self.limit {
-            if self.excess.iter().all(|excess| *excess <= 0) {
-                return Ok(Seen::Flow);
-            }
-            if !self.set_levels(round < SHORT_ROUNDS) {
-                return Ok(Seen::Cut);
+            if self.has_few() || !self.set_levels(round < SHORT_ROUNDS) {
+                return self.send_singly();
             }
             for place in 0..index(self.levels.len()) {
                 self.send_from(place)?;
@@ -116,16 +124,22 @@ impl Probe {
         Ok(Seen::Unknown)
     }
 
+    /// Whether so few nodes have excess that ways are searched for from each by itself.
+    fn has_few(&self) -> bool {
+        let count = self.excess.iter().filter(|excess| **excess > 0).count();
+        count <= (self.excess.len() / FEW).min(FEW)
+    }
+
     /// Puts a node at the end of the queue.
     #[inline]
-    fn enqueue(&mut self, node: u32) {
+    pub fn enqueue(&mut self, node: u32) {
         put(&mut self.queue, self.queued, node);
         self.queued = self.queued.wrapping_add(1);
     }
 
     /// The node at a place of the queue, or none past its end.
     #[inline]
-    fn queued(&self, place: u32) -> u32 {
+    pub fn queued(&self, place: u32) -> u32 {
         if place < self.queued {
             at(&self.queue, place, NO_NODE)
         } else {
@@ -133,52 +147,15 @@ impl Probe {
         }
     }
 
-    /// The nodes that excess can still be sent to, those where it is among them. Where no excess reaches a deficit, nothing leaves them.
-    pub fn reached(&mut self, alloc: Global) -> Result<Vec<bool>, AllocError> {
-        let mut flags = vec![in alloc; false; self.levels.len()]?;
-        self.begin_reached(&mut flags);
-        for place in 0..index(self.levels.len()) {
-            let node = self.queued(place);
-            if node == NO_NODE {
-                break;
-            }
-            self.reach_on(node, &mut flags);
-        }
-        Ok(flags)
-    }
-
-    /// Takes in the nodes with excess.
-    fn begin_reached(&mut self, flags: &mut Vec<bool>) {
-        self.queued = 0;
-        for node in 0..index(self.excess.len()) {
-            if self.excess(node) > 0 {
-                put(flags, node, true);
-                self.enqueue(node);
-            }
-        }
-    }
-
     /// A node's excess that is left.
-    fn excess(&self, node: u32) -> i128 {
+    pub fn excess(&self, node: u32) -> i128 {
         at(&self.excess, node, 0)
     }
 
     /// A node's level.
     #[inline]
-    fn level(&self, node: u32) -> u32 {
+    pub fn level(&self, node: u32) -> u32 {
         at(&self.levels, node, NO_LEVEL)
-    }
-
-    /// Takes in the nodes to which an arc with room leads from this one.
-    fn reach_on(&mut self, node: u32, flags: &mut Vec<bool>) {
-        let row = self.incidence.row(node);
-        for place in row.start..row.end {
-            let arc = self.incidence.end(place);
-            if !at(flags, arc.head, true) && self.incidence.room(arc.place) > 0 {
-                put(flags, arc.head, true);
-                self.enqueue(arc.head);
-            }
-        }
     }
 
     /// Gives nodes their levels, from the deficits back; a short round ends one level behind the first node with excess.
@@ -261,9 +238,15 @@ impl Probe {
                 return Ok(Some(node));
             }
             match self.next_down(node) {
-                Some(place) => {
-                    self.path.push(Step { tail: node, place })?;
-                    node = self.incidence.end(place).head;
+                Some(end) => {
+                    let arc = self.incidence.end(end);
+                    let step = Step {
+                        tail: node,
+                        end,
+                        place: arc.place,
+                    };
+                    self.path.push(step)?;
+                    node = arc.head;
                 }
                 None => match self.step_back(node) {
                     Some(tail) => node = tail,
@@ -278,7 +261,7 @@ impl Probe {
     fn step_back(&mut self, node: u32) -> Option<u32> {
         put(&mut self.levels, node, NO_LEVEL);
         let step = self.path.pop()?;
-        put(&mut self.current, step.tail, step.place.wrapping_add(1));
+        put(&mut self.current, step.tail, step.end.wrapping_add(1));
         Some(step.tail)
     }
 
@@ -308,15 +291,14 @@ impl Probe {
     }
 
     /// Sends over the path what its start has, its end lacks and its arcs take.
-    fn send_along(&mut self, from: u32, to: u32) -> Result<(), Halt> {
+    pub fn send_along(&mut self, from: u32, to: u32) -> Result<(), Halt> {
         let wanted = self.excess(to).wrapping_neg();
         let amount = self.room_of_path().min(self.excess(from)).min(wanted);
         let Ok(sent) = i64::try_from(amount) else {
             return Err(Halt::OutOfRange);
         };
         for step in &self.path {
-            let place = self.incidence.end(step.place).place;
-            self.incidence.send(place, sent);
+            self.incidence.send(step.place, sent);
         }
         self.work = self.work.wrapping_add(self.path.len() as u64);
         self.add_to(from, amount.wrapping_neg());
@@ -328,8 +310,7 @@ impl Probe {
     fn room_of_path(&self) -> i128 {
         let mut least = i128::MAX;
         for step in &self.path {
-            let place = self.incidence.end(step.place).place;
-            least = least.min(i128::from(self.incidence.room(place)));
+            least = least.min(i128::from(self.incidence.room(step.place)));
         }
         least
     }

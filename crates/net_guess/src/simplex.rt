@@ -11,7 +11,7 @@ use crate::excess::{excess_at_start, full_limit, lows_of, starts_full};
 use crate::halt::Halt;
 use crate::places::{arc_at, at, fill, index, put};
 use crate::prices::Prices;
-use crate::simplex_arc::{Status, put_priced_order};
+use crate::simplex_arc::{PricedArc, put_priced_order};
 use crate::starting::{first_tree, root_cost};
 use crate::tree::Tree;
 use net_normal::{FlowArc, Problem};
@@ -24,12 +24,15 @@ pub struct Simplex {
     pub numbers: Vec<u32>,
     /// The arcs in that order, and the potentials of the nodes.
     pub prices: Prices,
-    pub statuses: Vec<Status>,
+    /// The room on each, in the same order.
+    pub rooms: Vec<i64>,
     pub tree: Tree,
     /// Where the next block of arcs to be priced begins.
     pub next: usize,
     /// How many arcs are priced together.
     pub block: Block,
+    /// How many arcs the last search looked at.
+    pub looked: u64,
     /// How many arcs and nodes were looked at.
     pub work: u64,
     /// Room to work in.
@@ -68,40 +71,44 @@ impl Simplex {
         let mut simplex = Simplex {
             numbers: Vec::new(alloc),
             prices,
-            statuses: Vec::new(alloc),
+            rooms: Vec::new(alloc),
             tree,
             next: 0,
             block: Block::new(problem.arcs.len(), is_bipartite),
+            looked: 0,
             work: 0,
             turned: Vec::new(alloc),
             is_short: false,
         };
         simplex.take_arcs(alloc, problem, limit)?;
         if is_bipartite {
-            simplex.enter_cheapest(alloc, problem, &excess)?;
+            simplex.enter_cheapest(alloc, &excess)?;
         } else {
-            simplex.hang_by_ways(alloc, problem, &excess)?;
+            simplex.hang_by_ways(alloc, &excess)?;
         }
         Ok(simplex)
     }
 
-    /// Takes in the arcs of a problem, each at the bound where it starts.
+    /// Takes in the arcs of a problem, each at the bound where it starts. One with no room stays out: nothing is saved over it.
     fn take_arcs(&mut self, alloc: Global, problem: &Problem, limit: i64) -> Result<(), Halt> {
         let count = problem.arcs.len();
         let Ok(()) = fill(alloc, &mut self.numbers, NO_PLACE, count) else {
             return Err(Halt::OutOfMemory);
         };
-        let Ok(()) = fill(alloc, &mut self.statuses, Status::AtLower, count) else {
+        let Ok(()) = fill(alloc, &mut self.rooms, 0, count) else {
             return Err(Halt::OutOfMemory);
         };
         put_priced_order(&mut self.numbers, problem.supplies.len());
         for place in 0..index(count) {
-            let status = if starts_full(&self.known(problem, place), limit) {
-                Status::AtUpper
-            } else {
-                Status::AtLower
-            };
-            self.set_status(problem, place, status);
+            let arc = self.known(problem, place);
+            let room = arc.cap.wrapping_sub(arc.low);
+            if room != 0 {
+                let ahead = PricedArc::of(&arc);
+                let is_full = starts_full(&arc, limit);
+                self.prices
+                    .put_arc(place, if is_full { ahead.turned() } else { ahead });
+                put(&mut self.rooms, place, room);
+            }
         }
         Ok(())
     }
@@ -131,26 +138,21 @@ impl Simplex {
     }
 
     /// Lets the cheapest arc into each node that wants flow come in, where that saves something.
-    fn enter_cheapest(
-        &mut self,
-        alloc: Global,
-        problem: &Problem,
-        excess: &[i128],
-    ) -> Result<(), Halt> {
+    fn enter_cheapest(&mut self, alloc: Global, excess: &[i128]) -> Result<(), Halt> {
         let cheapest = self.cheapest(alloc, excess)?;
         for place in &cheapest {
             if self.prices.price(*place) < 0 {
-                self.enter(problem, *place)?;
+                self.enter(*place)?;
             }
         }
         Ok(())
     }
 
     /// Changes the tree until no arc's price is negative, with at most so much work.
-    pub fn run(&mut self, problem: &Problem, limit: u64) -> Result<Ended, Halt> {
+    pub fn run(&mut self, limit: u64) -> Result<Ended, Halt> {
         for _ in 0..limit {
             match self.dearest()? {
-                Some(place) => self.enter(problem, place)?,
+                Some(place) => self.enter(place)?,
                 None => return Ok(self.ended()),
             }
             if self.work > limit {
@@ -162,13 +164,28 @@ impl Simplex {
 
     /// Whether flow is left on arcs to the root.
     fn ended(&self) -> Ended {
-        let count = self.numbers.len();
-        let left = self.tree.nodes.iter().any(|node| node.arc.number as usize >= count
-            && node.arc.flow() != 0);
-        if left || self.is_short {
+        let mut ended = Ended::Optimal;
+        for node in 0..index(self.tree.nodes.len()) {
+            let number = self.tree.node(node).arc;
+            if number as usize >= self.numbers.len() && self.root_flow(node, number) != 0 {
+                ended = Ended::Infeasible;
+            }
+        }
+        if self.is_short {
             Ended::Infeasible
         } else {
-            Ended::Optimal
+            ended
+        }
+    }
+
+    /// The flow over a node's arc to or from the root, whose number is this: those from it have the greater ones.
+    pub fn root_flow(&self, node: u32, number: u32) -> i64 {
+        let first_down = self.numbers.len().saturating_add(self.tree.nodes.len());
+        let rooms = self.tree.rooms(node);
+        if (number as usize).saturating_add(1) < first_down {
+            rooms.down
+        } else {
+            rooms.up
         }
     }
 
@@ -176,25 +193,31 @@ impl Simplex {
     pub fn flows(&self, alloc: Global, problem: &Problem) -> Result<Vec<i64>, AllocError> {
         let mut flows = lows_of(alloc, problem)?;
         self.add_bounds(problem, &mut flows);
-        self.add_tree(&mut flows);
+        self.add_tree(problem, &mut flows);
         Ok(flows)
     }
 
-    /// Puts arcs at their capacities that are there.
+    /// Puts arcs at their capacities that are turned: those with no room are there as well.
     fn add_bounds(&self, problem: &Problem, flows: &mut Vec<i64>) {
-        for (number, status) in self.numbers.iter().zip(&self.statuses) {
-            if let Status::AtUpper = status {
-                put(flows, *number, arc_at(problem, *number).cap);
+        let mut place = 0u32;
+        for number in &self.numbers {
+            let arc = arc_at(problem, *number);
+            if !self.prices.arc(place).is_ahead(&arc) {
+                put(flows, *number, arc.cap);
             }
+            place = place.wrapping_add(1);
         }
     }
 
-    /// Adds the flow on the arcs of the tree.
-    fn add_tree(&self, flows: &mut Vec<i64>) {
-        for node in &self.tree.nodes {
-            if let Some(number) = self.numbers.get(node.arc.number as usize) {
-                let low = at(flows, *number, 0);
-                put(flows, *number, low.wrapping_add(node.arc.flow()));
+    /// Puts the flow on the arcs of the tree.
+    fn add_tree(&self, problem: &Problem, flows: &mut Vec<i64>) {
+        for (place, node) in self.tree.nodes.iter().enumerate() {
+            if let Some(number) = self.numbers.get(node.arc as usize) {
+                let arc = arc_at(problem, *number);
+                let rooms = self.tree.rooms(index(place));
+                let is_up = arc.src == index(place);
+                let more = if is_up { rooms.down } else { rooms.up };
+                put(flows, *number, arc.low.wrapping_add(more));
             }
         }
     }

@@ -3,17 +3,8 @@
 use crate::places::{index, put};
 use net_normal::FlowArc;
 
-/// Where the flow on an arc is.
-#[derive(Clone, Copy)]
-pub enum Status {
-    AtLower,
-    AtUpper,
-    /// The arc is in the tree.
-    Basic,
-}
-
-/// An arc as it is priced: flow on it changes from its source to its target. One at its capacity is turned, and one in the tree is
-/// nothing, so that whatever has a negative price saves something.
+/// An arc as it is priced: flow on it changes from its source to its target. One at its capacity is turned, so that whatever has a
+/// negative price saves something; one in the tree has the price 0 either way.
 #[derive(Clone, Copy)]
 pub struct PricedArc {
     pub src: u32,
@@ -29,20 +20,27 @@ impl PricedArc {
         cost: 0,
     };
 
-    pub fn of(arc: &FlowArc, status: Status) -> PricedArc {
-        match status {
-            Status::AtLower => PricedArc {
-                src: arc.src,
-                dst: arc.dst,
-                cost: arc.cost,
-            },
-            Status::AtUpper => PricedArc {
-                src: arc.dst,
-                dst: arc.src,
-                cost: arc.cost.wrapping_neg(),
-            },
-            Status::Basic => PricedArc::NONE,
+    /// An arc at its lower bound.
+    pub fn of(arc: &FlowArc) -> PricedArc {
+        PricedArc {
+            src: arc.src,
+            dst: arc.dst,
+            cost: arc.cost,
         }
+    }
+
+    /// The same arc at its other bound.
+    pub fn turned(self) -> PricedArc {
+        PricedArc {
+            src: self.dst,
+            dst: self.src,
+            cost: self.cost.wrapping_neg(),
+        }
+    }
+
+    /// Whether this is the arc at its lower bound.
+    pub fn is_ahead(&self, arc: &FlowArc) -> bool {
+        self.src == arc.src && self.dst == arc.dst && self.cost == arc.cost
     }
 }
 

@@ -2,8 +2,8 @@
 
 use crate::halt::Halt;
 use crate::places::index;
-use crate::prices::Prices;
-use crate::tree::{NO_NODE, Thread, Tree, TreeArc, TreeNode};
+use crate::prices::{NARROW_LIMIT, Prices};
+use crate::tree::{NO_NODE, Rooms, Thread, Tree, TreeNode};
 use net_normal::Problem;
 use std::alloc::Global;
 
@@ -12,6 +12,9 @@ pub const ROOT_ROOM: i64 = 1 << 61;
 
 /// The greatest cost that an arc from the root may have.
 const ROOT_COST_LIMIT: i64 = 1 << 58;
+
+/// More arcs than a way of least cost has in most problems.
+const LONG_WAY: i64 = 2000;
 
 /// The greatest size of a cost.
 pub fn greatest_cost(problem: &Problem) -> i64 {
@@ -22,32 +25,40 @@ pub fn greatest_cost(problem: &Problem) -> i64 {
     greatest
 }
 
-/// What a unit from the root costs: more than any way through the problem.
+/// What a unit from the root costs: more than any way through the problem, or where that is the difference between 32 bits and 64, than any
+/// that is not very long.
 pub fn root_cost(problem: &Problem) -> Result<i64, Halt> {
     let greatest = greatest_cost(problem);
     let nodes = problem.supplies.len() as i64;
+    let dear = greatest.wrapping_add(1).saturating_mul(LONG_WAY);
     match greatest.wrapping_add(1).checked_mul(nodes) {
+        Some(cost) if dear <= NARROW_LIMIT => Ok(cost.min(NARROW_LIMIT)),
         Some(cost) if cost <= ROOT_COST_LIMIT => Ok(cost),
         _ => Err(Halt::OutOfRange),
     }
 }
 
-/// The arc between a node with this excess and the root.
-fn root_arc(number: u32, excess: i64) -> TreeArc {
+/// What the arc between a node with this excess and the root takes.
+fn root_rooms(excess: i64) -> Rooms {
     if excess >= 0 {
-        TreeArc {
-            number,
-            is_up: true,
-            room_up: ROOT_ROOM.wrapping_sub(excess),
-            room_down: excess,
+        Rooms {
+            up: ROOT_ROOM.wrapping_sub(excess),
+            down: excess,
         }
     } else {
-        TreeArc {
-            number,
-            is_up: false,
-            room_up: excess.wrapping_neg(),
-            room_down: ROOT_ROOM.wrapping_add(excess),
+        Rooms {
+            up: excess.wrapping_neg(),
+            down: ROOT_ROOM.wrapping_add(excess),
         }
+    }
+}
+
+/// The number of that arc, with these many arcs and nodes: those from nodes to the root come first, and then those from it.
+fn root_number(arcs: u32, nodes: u32, node: u32, excess: i64) -> u32 {
+    if excess >= 0 {
+        arcs.wrapping_add(node)
+    } else {
+        arcs.wrapping_add(nodes).wrapping_add(node)
     }
 }
 
@@ -73,10 +84,10 @@ pub fn first_tree(
             parent: root,
             size: 1,
             last: node,
-            arc: root_arc(index(problem.arcs.len()).wrapping_add(node), amount),
+            arc: root_number(index(problem.arcs.len()), root, node, amount),
         };
         prices.put_potential(node, if amount >= 0 { 0 } else { cost });
-        tree.put_whole(node, leaf, thread_at(node, root));
+        tree.put_whole(node, leaf, root_rooms(amount), thread_at(node, root));
     }
     put_root(&mut tree, root);
     Ok(tree)
@@ -96,11 +107,11 @@ fn put_root(tree: &mut Tree, root: u32) {
         parent: NO_NODE,
         size: root.wrapping_add(1),
         last,
-        arc: root_arc(u32::MAX, 0),
+        arc: u32::MAX,
     };
     let thread = Thread {
         next: 0,
         previous: last,
     };
-    tree.put_whole(root, top, thread);
+    tree.put_whole(root, top, Rooms::NONE, thread);
 }

@@ -1,42 +1,30 @@
 //! The spanning tree of a network simplex, with its nodes in a cyclic order in which each subtree stands together.
 
 use crate::halt::Halt;
-use crate::places::put;
+use crate::places::{at, put, try_at};
 use std::alloc::{AllocError, Global};
 
 /// No node.
 pub const NO_NODE: u32 = u32::MAX;
 
-/// The arc between a node and its parent, seen from the node.
+/// How much more flow the arc between a node and its parent takes.
 #[derive(Clone, Copy)]
-pub struct TreeArc {
-    /// Its number; that of an arc to the root that no problem has is past those of the problem's.
-    pub number: u32,
-    /// Whether it leads to the parent.
-    pub is_up: bool,
-    /// How much more flow it takes to the parent.
-    pub room_up: i64,
-    /// How much more flow it takes from the parent.
-    pub room_down: i64,
+pub struct Rooms {
+    /// To the parent.
+    pub up: i64,
+    /// From the parent.
+    pub down: i64,
 }
 
-impl TreeArc {
-    /// The same arc, seen from the other end.
-    pub fn turned(self) -> TreeArc {
-        TreeArc {
-            number: self.number,
-            is_up: !self.is_up,
-            room_up: self.room_down,
-            room_down: self.room_up,
-        }
-    }
+impl Rooms {
+    /// Of no arc.
+    pub const NONE: Rooms = Rooms { up: 0, down: 0 };
 
-    /// The flow on it above its lower bound.
-    pub fn flow(&self) -> i64 {
-        if self.is_up {
-            self.room_down
-        } else {
-            self.room_up
+    /// The same, seen from the other end.
+    pub fn turned(self) -> Rooms {
+        Rooms {
+            up: self.down,
+            down: self.up,
         }
     }
 }
@@ -49,7 +37,8 @@ pub struct TreeNode {
     pub size: u32,
     /// The last node of its subtree in the cyclic order.
     pub last: u32,
-    pub arc: TreeArc,
+    /// The number of the arc to its parent; those of arcs to and from the root that no problem has are past those of the problem's.
+    pub arc: u32,
 }
 
 impl TreeNode {
@@ -58,12 +47,7 @@ impl TreeNode {
         parent: NO_NODE,
         size: 0,
         last: NO_NODE,
-        arc: TreeArc {
-            number: u32::MAX,
-            is_up: true,
-            room_up: 0,
-            room_down: 0,
-        },
+        arc: u32::MAX,
     };
 }
 
@@ -82,10 +66,15 @@ impl Thread {
     };
 }
 
-/// The nodes of a problem and a root above them, whose number is that of the problem's nodes.
+/// The nodes of a problem and a root above them, whose number is that of the problem's nodes. Ways to the root are read most, so that
+/// rooms stand apart.
 #[derive(Drop)]
 pub struct Tree {
     pub nodes: Vec<TreeNode>,
+    pub rooms: Vec<Rooms>,
+    /// The mark that was last put on each node, and on any.
+    marks: Vec<u32>,
+    mark: u32,
     pub threads: Vec<Thread>,
 }
 
@@ -95,15 +84,28 @@ impl Tree {
         let Ok(nodes) = vec![in alloc; TreeNode::NONE; count] else {
             return Err(AllocError);
         };
+        let Ok(rooms) = vec![in alloc; Rooms::NONE; count] else {
+            return Err(AllocError);
+        };
+        let Ok(marks) = vec![in alloc; 0u32; count] else {
+            return Err(AllocError);
+        };
         let Ok(threads) = vec![in alloc; Thread::NONE; count] else {
             return Err(AllocError);
         };
-        Ok(Tree { nodes, threads })
+        Ok(Tree {
+            nodes,
+            rooms,
+            marks,
+            mark: 0,
+            threads,
+        })
     }
 
     /// Puts a node in its place, with its neighbours in the cyclic order.
-    pub fn put_whole(&mut self, place: u32, node: TreeNode, thread: Thread) {
+    pub fn put_whole(&mut self, place: u32, node: TreeNode, rooms: Rooms, thread: Thread) {
         put(&mut self.nodes, place, node);
+        put(&mut self.rooms, place, rooms);
         put(&mut self.threads, place, thread);
     }
 
@@ -114,6 +116,17 @@ impl Tree {
             Some(node) => *node,
             None => TreeNode::NONE,
         }
+    }
+
+    /// What the arc above a node takes.
+    #[inline]
+    pub fn rooms(&self, node: u32) -> Rooms {
+        at(&self.rooms, node, Rooms::NONE)
+    }
+
+    #[inline]
+    pub fn put_rooms(&mut self, node: u32, rooms: Rooms) {
+        put(&mut self.rooms, node, rooms);
     }
 
     #[inline]
@@ -164,6 +177,32 @@ impl Tree {
         }
     }
 
+    /// The nearest node above both of these, or one of them. Both ways up are gone at once, each step marked, so that neither waits for the
+    /// other: the first node that is marked by the other way is it.
+    pub fn join(&mut self, first: u32, second: u32) -> Result<u32, Halt> {
+        let own = self.mark.wrapping_add(1);
+        let others = self.mark.wrapping_add(2);
+        self.mark = others;
+        let (mut low, mut high) = (first, second);
+        for _ in 0..self.nodes.len() {
+            if let Some(mark) = self.marks.get_mut(low as usize) {
+                if *mark == others {
+                    return Ok(low);
+                }
+                *mark = own;
+                low = try_at(&self.nodes, low)?.parent;
+            }
+            if let Some(mark) = self.marks.get_mut(high as usize) {
+                if *mark == own {
+                    return Ok(high);
+                }
+                *mark = others;
+                high = try_at(&self.nodes, high)?.parent;
+            }
+        }
+        Err(Halt::OutOfRange)
+    }
+
     /// Sends an amount down from a node's ancestor to it, or where it is negative, up.
     pub fn send_down(&mut self, ancestor: u32, from: u32, amount: i64) -> Result<(), Halt> {
         let mut place = from;
@@ -171,26 +210,27 @@ impl Tree {
             if place == ancestor {
                 return Ok(());
             }
-            match self.nodes.get_mut(place as usize) {
-                Some(node) => {
-                    node.arc.room_down = node.arc.room_down.wrapping_sub(amount);
-                    node.arc.room_up = node.arc.room_up.wrapping_add(amount);
-                    place = node.parent;
+            match self.rooms.get_mut(place as usize) {
+                Some(rooms) => {
+                    rooms.down = rooms.down.wrapping_sub(amount);
+                    rooms.up = rooms.up.wrapping_add(amount);
                 }
                 None => return Err(Halt::OutOfRange),
             }
+            place = try_at(&self.nodes, place)?.parent;
         }
         Err(Halt::OutOfRange)
     }
 
     /// Hangs a leaf of the root below another node, as the first behind it. Sizes and last nodes are left to `count_below_parent`.
-    pub fn hang_leaf(&mut self, node: u32, parent: u32, arc: TreeArc) {
+    pub fn hang_leaf(&mut self, node: u32, parent: u32, arc: u32, rooms: Rooms) {
         let own = self.thread(node);
         self.follow(own.previous, own.next);
         let behind = self.thread(parent).next;
         self.follow(node, behind);
         self.follow(parent, node);
         self.set_parent(node, parent);
+        put(&mut self.rooms, node, rooms);
         if let Some(node) = self.nodes.get_mut(node as usize) {
             node.arc = arc;
         }
