@@ -86,7 +86,7 @@ MISTAKES = [Mistake(*it) for it in (
     ("no data for a set", "data", "set SHOPS := Wien Enns 'Sankt Veit';\n", "", "E32 NoValue model 2:5", "give the row in the data"),
     ("a row twice", "data", "Graz 100;", "Graz 100 Linz 5;", "E31 DoubleValue data 6:10 has['Linz']", "take one of the two away"),
     ("below 0", "data", "Linz 90", "Linz -90", "E34 Restriction model 4:23 has['Linz']", "the data speak of has in line 5"),
-    ("a pair of no set", "data", "(Graz, Enns)", "(Graz, Ens)", "E34 Restriction model 6:46 NEAR", "line 15 of the data has Ens, which SHOPS has not"),
+    ("a pair of no set", "data", "(Graz, Enns)", "(Graz, Ens)", "E34 Restriction model 6:45 NEAR", "line 15 of the data has Ens, which SHOPS has not"),
     ("an arc too far", "model", "t in 1..last - 1} >=", "t in 1..last} >=", "E50 NoSuchNode model 14:24 Shop['Wien',3]", "its braces end one period earlier"),
     ("no upper bound", "model", ">= 0, <= room,", ">= 0,", "E52 NoUpper model 13:5 Keep",
      "room is declared and used nowhere: is the bound meant to be it?"),

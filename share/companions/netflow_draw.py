@@ -307,8 +307,9 @@ class Picture:
         drawn = sorted(self.arcs, key=lambda it: (id(it) in self.across, abs(it.flow or 0)))
         # Numbers are placed from the largest flow on, and drawn in the order of the arcs.
         arcs = {id(it): self.arc_svg(it, most) for it in reversed(drawn)}
-        sheet = f'width="{wide}" height="{high}" viewBox="0 0 {wide} {high}"'
-        return (f'<svg xmlns="http://www.w3.org/2000/svg" role="img" aria-label="the network"{' class="large"' * (not self.is_small)} {sheet}>'
+        large = "" if self.is_small else 'class="large" '
+        sheet = f'{large}width="{wide}" height="{high}" viewBox="0 0 {wide} {high}"'
+        return (f'<svg xmlns="http://www.w3.org/2000/svg" role="img" aria-label="the network" {sheet}>'
                 f"{f'<style>{STYLE}</style>' * is_alone}<defs>{heads}</defs>"
                 + "\n".join([*(arcs[id(it)] for it in drawn), *map(self.node_svg, self.nodes)]) + "</svg>")
 

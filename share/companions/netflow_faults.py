@@ -320,7 +320,7 @@ def unclosed(fault):
 
 def unused_parameter(fault):
     """A parameter that is declared and stands nowhere else, which may be the bound that was forgotten."""
-    words = fault.words("model")
+    words = [name for it in fault.words("model") for name in re.findall(r"[A-Za-z_]\w*", it)]
     names = [words[here + 1] for here, it in enumerate(words[:-1]) if it == "param"]
     unused = [it for it in names if words.count(it) == 1]
     if fault.text == "model" and unused:
