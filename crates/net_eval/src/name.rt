@@ -83,7 +83,7 @@ fn entry_at<'w, 's>(
         }
         Some(Entry::Parameter(keys, index, table)) => {
             if key.len() == key_count(*keys) {
-                value_at(alloc, at, name, *keys, index, table, key)
+                value_at(alloc, at, name, *keys, index.get(), table, key)
             } else {
                 Err(refuse(EvalDefect::Arity, at))
             }

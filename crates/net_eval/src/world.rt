@@ -5,7 +5,7 @@ ghost use Rattle.net_eval.specs.Worlds.{entry_of, place_behind};
 ghost use Rattle.net_eval.specs.Kept.{told, IsKept};
 
 use net_lex::Excerpt;
-use net_sets::{IndexedSet, Table, TupleSet};
+use net_sets::{IndexedSet, SharedSet, Table};
 use std::alloc::{AllocError, Global};
 use std::collections::BTreeMap;
 use std::marker::Model;
@@ -16,7 +16,7 @@ pub enum Entry<'s> {
     /// A set: the number of components of its tuples, and these.
     Set(u8, IndexedSet<'s>),
     /// A parameter: the number of its keys, none where it has no braces; its index list, and the values at keys of this.
-    Parameter(Option<u8>, TupleSet<'s>, Table<'s>),
+    Parameter(Option<u8>, SharedSet<'s>, Table<'s>),
 }
 
 /// The declared sets and parameters in order. They are found in an ordered map, which no text can make slow.

@@ -14,7 +14,7 @@ use Rattle.net_sets.specs.Components.{agrees, next_place, indexed_components, Is
 use Rattle.net_sets.proofs.Reading.{item_at}
 
 -- the place that is found is one of them
-found_within : (test : Tuple → Bool) (i j : ℕ) (ts : List Tuple) → position_from test i ts ≡ Some j → j < i + length ts
+pub found_within : (test : Tuple → Bool) (i j : ℕ) (ts : List Tuple) → position_from test i ts ≡ Some j → j < i + length ts
 found_within test i j [] e = cc
 found_within test i j (t ∷ ts) e = step (test t) e (found_within test (i + 1) j ts)
   where

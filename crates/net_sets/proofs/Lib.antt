@@ -15,5 +15,7 @@ pub mod Indexed
 pub mod Walking
 pub mod Onward
 pub mod Rows
+pub mod Near
+pub mod Laying
 mod Examples
 pub mod ProductsOnce

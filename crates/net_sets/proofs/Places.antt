@@ -29,18 +29,18 @@ has_place t i (x ∷ xs) = step (same_tuple t x) (has_place t (i + 1) xs)
     step true more = refl
     step false more = more
 
-no_place : (t : Tuple) (ts : List Tuple) → has ts t ≡ false → place_of ts t ≡ None
+pub no_place : (t : Tuple) (ts : List Tuple) → has ts t ≡ false → place_of ts t ≡ None
 no_place t ts h = none (place_of ts t) (has_place t 0 ts ∙ h)
   where
     none : (o : Option ℕ) → is_some o ≡ false → o ≡ None
     none None e = refl
     none (Some k) e = cc
 
-abbrev or_else : Option ℕ → Option ℕ → Option ℕ
+abbrev pub or_else : Option ℕ → Option ℕ → Option ℕ
 or_else None b = b
 or_else (Some a) b = Some a
 
-at_end : (q t : Tuple) (i : ℕ) (ts : List Tuple) → position_from (same_tuple q) i (ts ++ t ∷ []) ≡ or_else (position_from (same_tuple q) i ts) (cond (same_tuple q t) (Some (i + length ts)) None)
+pub at_end : (q t : Tuple) (i : ℕ) (ts : List Tuple) → position_from (same_tuple q) i (ts ++ t ∷ []) ≡ or_else (position_from (same_tuple q) i ts) (cond (same_tuple q t) (Some (i + length ts)) None)
 at_end q t i [] = ap (λ k. cond (same_tuple q t) (Some k) None) (omega arith)
 at_end q t i (x ∷ xs) = step (same_tuple q x) (at_end q t (i + 1) xs)
   where
@@ -89,7 +89,7 @@ stays_at ts t q (Some place) h = ap (is_one q) (get_before ts t place (h place r
 stands_last : (ts : List Tuple) (t q : Tuple) → stands_at (ts ++ t ∷ []) (Some (length ts)) q ≡ same_tuple q t
 stands_last ts t q = ap (is_one q) (get_last ts t)
 
-otherwise : (o : Option ℕ) → o ≡ or_else o None
+pub otherwise : (o : Option ℕ) → o ≡ or_else o None
 otherwise None = refl
 otherwise (Some k) = refl
 

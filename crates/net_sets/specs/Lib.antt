@@ -5,6 +5,7 @@ pub mod Orders
 pub mod Marks
 pub mod Kept
 pub mod Held
+pub mod Laid
 pub mod Operations
 pub mod Components
 pub mod Ways

@@ -18,6 +18,6 @@ IsCrossed xs ys (Err TooMany) = tuples_limit < length (product xs ys)
 IsCrossed xs ys (Err OutOfMemory) = Unit {0}
 
 -- a set that was written in place
-abbrev pub with_set : Result (Unit {0}) SetFault → List Tuple → Result (List Tuple) SetFault
+abbrev pub with_set : {A : Type 0} → Result A SetFault → List Tuple → Result (List Tuple) SetFault
 with_set (Ok _) set = Ok set
 with_set (Err refused) set = Err refused

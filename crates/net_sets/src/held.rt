@@ -35,6 +35,7 @@ impl<'w, 's> Model for Held<'w, 's> {
 }
 
 impl<'w, 's> Held<'w, 's> {
+    /// A set that is held itself.
     pub fn own(set: TupleSet<'s>) -> Held<'w, 's>
         ensures { result ≡ set.entry }
     {
@@ -43,6 +44,7 @@ impl<'w, 's> Held<'w, 's> {
         }
     }
 
+    /// A declared set, which stands elsewhere.
     pub fn lent(set: &'w IndexedSet<'s>) -> Held<'w, 's>
         ensures { result ≡ set.entry.now }
     {
@@ -51,6 +53,7 @@ impl<'w, 's> Held<'w, 's> {
         }
     }
 
+    /// The set.
     pub fn get(&self) -> &TupleSet<'s>
         ensures { result.now ≡ self.now }
     {

@@ -5,6 +5,7 @@ ghost use Rattle.net_sets.specs.Operations.{narrowest};
 use crate::component_index::{Chains, chains_of};
 use crate::member::Member;
 use crate::operations::{narrowest, widest};
+use crate::shared_set::SharedSet;
 use crate::tuple_set::TupleSet;
 use crate::walk::place_from;
 use std::alloc::{AllocError, Global};
@@ -14,7 +15,7 @@ use std::marker::Model;
 /// as the set. Where no tuple has two members there is nothing to find so, and no index is made.
 #[derive(Drop)]
 pub struct IndexedSet<'s> {
-    set: TupleSet<'s>,
+    set: SharedSet<'s>,
     narrowest: usize,
     components: Vec<Chains<'s>>,
 }
@@ -39,6 +40,7 @@ fn indexed_components(width: usize) -> usize
 }
 
 impl<'s> IndexedSet<'s> {
+    /// The set with an index of its tuples by each component; one of single members needs none.
     pub fn new(alloc: Global, set: TupleSet<'s>) -> Result<IndexedSet<'s>, AllocError>
         ensures { IfOk result (λ indexed. indexed ≡ set.entry) }
     {
@@ -51,16 +53,24 @@ impl<'s> IndexedSet<'s> {
             components.push(chains_of(alloc, component, set.as_slice())?)?;
         }
         Ok(IndexedSet {
-            set,
+            set: SharedSet::new(alloc, set)?,
             narrowest,
             components,
         })
     }
 
+    /// The set without its index.
     pub fn set(&self) -> &TupleSet<'s>
         ensures { result.now ≡ self.now }
     {
-        &self.set
+        self.set.get()
+    }
+
+    /// The set alone, for one more who has it; no tuple is copied.
+    pub fn shared(&self) -> Result<SharedSet<'s>, AllocError>
+        ensures { IfOk result (λ shared. shared ≡ self.now) }
+    {
+        self.set.again()
     }
 
     /// How many members each tuple has at least, 4 where there is none.
@@ -75,7 +85,7 @@ impl<'s> IndexedSet<'s> {
         ensures { result ≡ next_place component member.now 0 self.now }
     {
         match self.components.get(component) {
-            None => place_from(component, member, 0, self.set.as_slice()),
+            None => place_from(component, member, 0, self.set().as_slice()),
             Some(chains) => chains.first(member),
         }
     }
@@ -88,12 +98,12 @@ impl<'s> IndexedSet<'s> {
     {
         match self.components.get(component) {
             None => {
-                let tuples = self.set.as_slice();
+                let tuples = self.set().as_slice();
                 place_from(component, member, place + 1, tuples)
             }
             Some(chains) => {
                 let next = chains.next[place];
-                if next < self.set.len() {
+                if next < self.set().len() {
                     Some(next)
                 } else {
                     None

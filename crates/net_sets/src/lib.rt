@@ -10,6 +10,7 @@ mod mark;
 mod member;
 mod operations;
 mod range;
+mod shared_set;
 mod table;
 mod text;
 mod tuple;
@@ -25,6 +26,7 @@ pub use operations::{
     cross, difference, intersection, is_within, narrowest, symmetric_difference, union, widest,
 };
 pub use range::Range;
+pub use shared_set::SharedSet;
 pub use table::Table;
 pub use text::Text;
 pub use tuple::Tuple;

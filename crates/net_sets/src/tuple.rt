@@ -36,6 +36,7 @@ impl<'s> Tuple<'s> {
         }
     }
 
+    /// The tuple of one member.
     pub fn single(member: Member<'s>) -> Tuple<'s>
         ensures { result ≡ member.entry ∷ [] }
     {
@@ -44,6 +45,7 @@ impl<'s> Tuple<'s> {
         tuple
     }
 
+    /// How many members it has, from 0 to 4.
     pub fn len(&self) -> usize
         ensures value { result ≡ length self.now }
         ensures fits { result ≤ arity_limit }
@@ -58,6 +60,7 @@ impl<'s> Tuple<'s> {
         !self.members.is_full()
     }
 
+    /// Puts a member behind the others.
     pub fn add(&mut self, member: Member<'s>)
         requires { length self.old < arity_limit }
         ensures { self.new ≡ self.old ++ member.entry ∷ [] }
@@ -65,6 +68,7 @@ impl<'s> Tuple<'s> {
         self.members.push(member);
     }
 
+    /// The members in order.
     pub fn as_slice(&self) -> &[Member<'s>]
         ensures members { result.now ≡ self.now }
         ensures fits { length result.now ≤ arity_limit }

@@ -1,4 +1,4 @@
-ghost use Rattle.std.specs.Prelude.{◌≡◌, ◌<◌, ◌≤◌, ◌++◌, ◌∷◌, [], ℕ, List, Some, false, if◌then◌else◌, length, slice_get, IfOk, OnOk, OnErr, IsErrOf};
+ghost use Rattle.std.specs.Prelude.{◌≡◌, ◌<◌, ◌≤◌, ◌++◌, ◌∷◌, [], ℕ, List, Some, false, if◌then◌else◌, length, slice_get, not, IfOk, OnOk, OnErr, IsErrOf};
 ghost use Rattle.std.specs.Option.{option_copied};
 ghost use Rattle.std.specs.Ordering.{is_eq, nat_cmp};
 ghost use Rattle.std.specs.List.{IsDistinct};
@@ -174,6 +174,7 @@ impl<'s> TupleSet<'s> {
         }
     }
 
+    /// How many tuples it has.
     pub fn len(&self) -> usize
         ensures value { result ≡ length self.now }
         ensures few { result ≤ tuples_limit }
@@ -181,6 +182,7 @@ impl<'s> TupleSet<'s> {
         self.tuples.len()
     }
 
+    /// The tuples in the order of their first appearance.
     pub fn as_slice(&self) -> &[Tuple<'s>]
         ensures value { result.now ≡ self.now }
         ensures distinct { IsDistinct same_tuple result.now }
@@ -197,12 +199,26 @@ impl<'s> TupleSet<'s> {
         find(self.tuples.as_slice(), &self.others, first, tuple)
     }
 
+    /// The same, where the tuple probably stands at a place: this is looked at first, and only where it has another the set is
+    /// searched.
+    pub fn position_near(&self, near: usize, tuple: &Tuple<'s>) -> Option<usize>
+        ensures { result ≡ place_of self.now tuple.now }
+    {
+        if stands_at(self.tuples.as_slice(), Some(near), tuple) {
+            Some(near)
+        } else {
+            self.position(tuple)
+        }
+    }
+
+    /// Whether it has a tuple.
     pub fn contains(&self, tuple: &Tuple<'s>) -> bool
         ensures { result ≡ has self.now tuple.now }
     {
         self.position(tuple).is_some()
     }
 
+    /// The tuple at a place, counted from 0.
     pub fn get(&self, place: usize) -> Option<&Tuple<'s>>
         ensures { option_copied result ≡ slice_get self.now place }
     {
@@ -228,9 +244,10 @@ impl<'s> TupleSet<'s> {
         )
     }
 
-    /// Puts a tuple at the end, or leaves the set as it is where it has the tuple. `TooMany` is answered where the set has as
-    /// many tuples as it may have, and not this one.
-    pub fn add(&mut self, tuple: Tuple<'s>) -> Result<(), SetFault>
+    /// Puts a tuple at the end, or leaves the set as it is where it has the tuple, and tells whether it was new. `TooMany` is
+    /// answered where the set has as many tuples as it may have, and not this one.
+    pub fn add_new(&mut self, tuple: Tuple<'s>) -> Result<bool, SetFault>
+        ensures new { IfOk result (λ is_new. is_new ≡ not (has self.old tuple.entry)) }
         ensures ok { OnOk result (self.new ≡ added self.old tuple.entry) }
         ensures err { OnErr result (self.new ≡ self.old) }
         ensures made { IsMade (added self.old tuple.entry) (with_set result self.new) }
@@ -241,7 +258,7 @@ impl<'s> TupleSet<'s> {
         let first = first_marked(&self.marks, mark);
         let place = find(self.tuples.as_slice(), &self.others, first, &tuple);
         if place.is_some() {
-            Ok(())
+            Ok(false)
         } else if self.tuples.len() < TUPLES_LIMIT {
             put(
                 &mut self.tuples,
@@ -251,9 +268,22 @@ impl<'s> TupleSet<'s> {
                 first,
                 tuple,
             )?;
-            Ok(())
+            Ok(true)
         } else {
             Err(SetFault::TooMany)
+        }
+    }
+
+    /// The same where nobody asks whether the tuple was new.
+    pub fn add(&mut self, tuple: Tuple<'s>) -> Result<(), SetFault>
+        ensures ok { OnOk result (self.new ≡ added self.old tuple.entry) }
+        ensures err { OnErr result (self.new ≡ self.old) }
+        ensures made { IsMade (added self.old tuple.entry) (with_set result self.new) }
+        ensures memory { IsErrOf result SetFault.OutOfMemory → length (added self.old tuple.entry) ≤ tuples_limit }
+    {
+        match self.add_new(tuple) {
+            Ok(_) => Ok(()),
+            Err(refused) => Err(refused),
         }
     }
 

@@ -20,5 +20,5 @@ pub invariant_of-result : goal.invariant_of-result
 invariant_of-result c =
     let end : c.loop-component.component ≡ c.indexed_components-indexed.result = omega arith in
     let many = end ∙ c.indexed_components-indexed.ensures ∙ ap indexed_components c.widest.ensures.value in
-    subst (λ ts. AreIndexed ts c.narrowest-narrowest.result c.loop-component.components.items) (sym c.shrink_to_fit.ensures)
+    subst (λ ts. AreIndexed ts c.narrowest-narrowest.result c.loop-component.components.items) (sym (c.in_ok-new.ensures ∙ c.shrink_to_fit.ensures))
     (all_indexed _ _ _ _ c.loop-component.invariant c.narrowest-narrowest.ensures many)
