@@ -2,6 +2,7 @@ pub mod Cells
 pub mod Naming
 pub mod Items
 pub mod Lists
+pub mod Listed
 pub mod Fresh
 pub mod Turns
 mod Examples

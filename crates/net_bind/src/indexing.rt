@@ -1,18 +1,18 @@
 //! The keys that braces index by, and the index list that they make.
 
-ghost use Rattle.std.specs.Prelude.{◌≡◌, [], IfOk, Ok};
+ghost use Rattle.std.specs.Prelude.{◌≡◌, [], IfOk, IsTrue, Ok};
 ghost use Rattle.net_sets.specs.Made.{IsMade};
 ghost use Rattle.net_sets.specs.Operations.{union};
+ghost use Rattle.net_sets.specs.Sets.{same_tuple};
 ghost use Rattle.net_tree.specs.View.{indexing_of};
 ghost use Rattle.net_eval.specs.Rows.{keys_of};
 ghost use Rattle.net_bind.specs.BoundParameters as bound;
 ghost use Rattle.net_bind.specs.Outcomes.{Answers};
 
 use crate::fault::{BindFault, refuse};
-use crate::stored::boxed;
-use net_eval::{EvalDefect, Keys, Row, Scope, Seen, index_of};
-use net_lex::{Boxed, Items, Span};
-use net_sets::{SetFault, Tuple, TupleSet};
+use net_eval::{EvalDefect, Keys, Row, Scope, Seen, index_of, set_of_braces};
+use net_lex::{Items, Span};
+use net_sets::{IndexedSet, SetFault, SharedSet, Tuple, TupleSet};
 use net_tree::{Braces, braces_span};
 use std::alloc::{AllocError, Global};
 
@@ -85,18 +85,68 @@ fn once<'s>(alloc: Global, tuples: &[Tuple<'s>]) -> Result<TupleSet<'s>, SetFaul
     Ok(all)
 }
 
-/// The index list: the keys, each once.
-pub(crate) fn index_list<'s>(
-    alloc: Global,
-    at: Span,
-    rows: &[Row<'s>],
-) -> Result<Boxed<TupleSet<'s>>, BindFault>
+fn is_key<'s>(row: &Row<'s>, tuple: &Tuple<'s>) -> bool
+    ensures { result ≡ same_tuple row.now.key tuple.now }
+{
+    row.key == *tuple
+}
+
+/// Whether the keys are the tuples of a set, in its order.
+fn are_tuples<'s>(rows: &[Row<'s>], tuples: &[Tuple<'s>]) -> bool
+    ensures { IsTrue result → keys_of rows.now ≡ tuples.now }
+{
+    if rows.len() != tuples.len() {
+        return false;
+    }
+    for place in 0..rows.len() {
+        if !is_key(&rows[place], &tuples[place]) {
+            return false;
+        }
+    }
+    true
+}
+
+/// The index list as a set of its own.
+fn listed<'s>(alloc: Global, at: Span, rows: &[Row<'s>]) -> Result<SharedSet<'s>, BindFault>
     ensures { Answers (bound.index_list at rows.now) result }
 {
     let keys = keys_of(alloc, rows)?;
     match once(alloc, keys.as_slice()) {
-        Ok(all) => Ok(boxed(alloc, all)?),
+        Ok(all) => Ok(SharedSet::new(alloc, all)?),
         Err(SetFault::OutOfMemory) => Err(BindFault::OutOfMemory),
         Err(SetFault::TooMany) => Err(refuse(EvalDefect::TooMany, at)),
+    }
+}
+
+fn source_of<'w, 's>(
+    seen: &Seen<'w, 's>,
+    braces: &Option<Braces<'s>>,
+) -> Option<&'w IndexedSet<'s>> {
+    match braces {
+        None => None,
+        Some(braces) => set_of_braces(seen, braces),
+    }
+}
+
+/// The index list: the keys, each once. Where these are the tuples of a declared set, in its order, it is that set, which then
+/// stands once.
+pub(crate) fn index_list<'s>(
+    alloc: Global,
+    seen: &Seen<'_, 's>,
+    at: Span,
+    braces: &Option<Braces<'s>>,
+    rows: &[Row<'s>],
+) -> Result<SharedSet<'s>, BindFault>
+    ensures { Answers (bound.index_list at rows.now) result }
+{
+    match source_of(seen, braces) {
+        None => listed(alloc, at, rows),
+        Some(set) => {
+            if are_tuples(rows, set.set().as_slice()) {
+                Ok(set.shared()?)
+            } else {
+                listed(alloc, at, rows)
+            }
+        }
     }
 }

@@ -15,10 +15,10 @@ use crate::indexing::{index_list, key_size, keys_in, span_or};
 use crate::param_data::said_of;
 use crate::restriction::restricted;
 use crate::source::{source, source_at, source_text, with_keys};
-use crate::stored::{boxed, unboxed};
+use crate::stored::boxed;
 use net_eval::{Detail, Entry, EvalDefect, Row, Seen};
 use net_lex::{Boxed, Language, Span, Token};
-use net_sets::{Member, Table, TupleSet};
+use net_sets::{Member, SharedSet, Table, TupleSet};
 use net_tree::{Begins, Body, Braces, Expr, Phrase, Role, role_of};
 use std::alloc::{AllocError, Global};
 
@@ -123,6 +123,7 @@ fn fit_kind(
     }
 }
 
+/// What is asked of the value of a key, which is probably at this place of the index list.
 fn fit_value<'s>(
     alloc: Global,
     seen: &Seen<'_, 's>,
@@ -132,15 +133,16 @@ fn fit_value<'s>(
     text: Language,
     at: Span,
     places: &[Span],
+    near: usize,
     table: &Table<'s>,
     row: &Row<'s>,
 ) -> Result<(), BindFault>
     ensures { Answers (bound.fit_row seen.now name.now keys (map phrase_of phrases.now) text at places.now table.now row.now) result }
 {
-    match table.get(&row.key) {
+    match table.get_near(near, &row.key) {
         None => Ok(()),
         Some(member) => {
-            let cell = cell_of(places, table.keys().position(&row.key));
+            let cell = cell_of(places, table.row_near(near, &row.key));
             fit_kind(takes_texts(phrases), text, at, cell, member)?;
             restricted(alloc, seen, &name.text, keys, row, member, phrases)
         }
@@ -162,10 +164,12 @@ fn fit_values<'s>(
 ) -> Result<(), BindFault>
     ensures { Answers (bound.fit_values seen.now name.now keys (map phrase_of phrases.now) text at places.now table.now rows.now) result }
 {
+    let mut near: usize = 0;
     for row in rows {
         fit_value(
-            alloc, seen, name, keys, phrases, text, at, places, table, row,
+            alloc, seen, name, keys, phrases, text, at, places, near, table, row,
         )?;
+        near = near.wrapping_add(1);
     }
     Ok(())
 }
@@ -227,12 +231,12 @@ fn with_source<'s>(
 fn parameter_entry<'s>(
     alloc: Global,
     keys: Option<u8>,
-    index: Boxed<TupleSet<'s>>,
+    index: SharedSet<'s>,
     table: Table<'s>,
 ) -> Result<Boxed<Entry<'s>>, AllocError>
     ensures { IfOk result (λ e. e ≡ AParameter keys index.entry table.entry) }
 {
-    boxed(alloc, Entry::Parameter(keys, unboxed(index), table))
+    boxed(alloc, Entry::Parameter(keys, index, table))
 }
 
 /// What data say, and then its values, in a table that has none yet.
@@ -285,11 +289,11 @@ fn with_data<'s>(
     mentions: &[Mention<'_, '_, 's>],
     keys: Option<u8>,
     rows: &[Row<'s>],
-    index: Boxed<TupleSet<'s>>,
+    index: SharedSet<'s>,
 ) -> Result<Boxed<Entry<'s>>, BindFault>
     ensures { Answers (bound.with_data seen.now widths.now name.now (map phrase_of phrases.now) mentions.now keys rows.now index.entry) result }
 {
-    let mut table = Table::new(alloc);
+    let mut table = Table::over(alloc, index.again()?)?;
     filled(
         alloc,
         seen,
@@ -319,7 +323,7 @@ pub(crate) fn bound_parameter<'s>(
 {
     let keys = keys_in(alloc, seen, braces)?;
     let rows = keys.rows.as_slice();
-    let index = index_list(alloc, span_or(name.span, braces), rows)?;
+    let index = index_list(alloc, seen, span_or(name.span, braces), braces, rows)?;
     with_data(
         alloc,
         seen,

@@ -16,26 +16,23 @@ use crate::given::Line;
 use crate::group::{begins_at, front, is_point};
 use net_eval::{Detail, EvalDefect};
 use net_lex::{Items, Language, Span};
-use net_sets::{Member, SetFault, Table, Tuple, TupleSet};
+use net_sets::{Member, Table, Tuple, TupleSet};
 use std::alloc::{AllocError, Global};
 
-/// A value more, of which there are not too many.
+/// A value more, of which there are not too many; its key is probably at this place of the index list.
 pub(crate) fn with_value<'s>(
     text: Language,
     at: Span,
-    key: Tuple<'s>,
+    near: usize,
+    key: &Tuple<'s>,
     member: Member<'s>,
     table: &mut Table<'s>,
 ) -> Result<(), BindFault>
-    requires { at_key table.old key ≡ None }
-    ensures { Leaves (rows.with_value text at key.entry member.entry table.old) result table.new }
+    requires { at_key table.old key.now ≡ None }
+    ensures { Leaves (rows.with_value text at key.now member.entry table.old) result table.new }
 {
     if table.len() < 1_000_000 {
-        match table.insert(key, member) {
-            Ok(()) => Ok(()),
-            Err(SetFault::OutOfMemory) => Err(BindFault::OutOfMemory),
-            Err(SetFault::TooMany) => Err(too_many(text, at)),
-        }
+        Ok(table.insert_near(near, key, member)?)
     } else {
         Err(too_many(text, at))
     }
@@ -68,15 +65,17 @@ fn with_row<'s>(
     let key = tuple_in(cells);
     let at = begins_at(value.token().span, cells);
     let name = &word.token().text;
-    if table.get(&key).is_some() {
+    let place = index.position_near(table.next(), &key);
+    let near = place.unwrap_or(0);
+    if table.get_near(near, &key).is_some() {
         let defect = BindDefect::DoubleValue;
         return Err(refuse_key(alloc, Language::Data, defect, at, name, keys, &key)?);
     }
-    if !index.contains(&key) {
+    if place.is_none() {
         let defect = BindDefect::Value(EvalDefect::OutsideSet);
         return Err(refuse_key(alloc, Language::Data, defect, at, name, keys, &key)?);
     }
-    with_value(Language::Data, at, key, value.member(), table)?;
+    with_value(Language::Data, at, near, &key, value.member(), table)?;
     places.push(value.token().span)?;
     Ok(())
 }

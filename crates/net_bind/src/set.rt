@@ -119,18 +119,16 @@ fn with_member<'s>(
 {
     let token = word.token();
     let at = begins_at(token.span, row);
-    let tuple = tuple_in(row);
-    if set.contains(&tuple) {
-        return Err(refuse_name(
+    let _few = set.len();
+    match set.add_new(tuple_in(row)) {
+        Ok(true) => Ok(()),
+        Ok(false) => Err(refuse_name(
             alloc,
             Language::Data,
             BindDefect::DoubleValue,
             at,
             &token.text,
-        )?);
-    }
-    match set.add(tuple) {
-        Ok(()) => Ok(()),
+        )?),
         Err(SetFault::OutOfMemory) => Err(BindFault::OutOfMemory),
         Err(SetFault::TooMany) => Err(refuse_there(EvalDefect::TooMany, at)),
     }

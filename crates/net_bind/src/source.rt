@@ -64,26 +64,27 @@ pub(crate) fn source_at(at: Span, expr: Option<&Expr<'_>>, word: Option<&Cell<'_
     }
 }
 
-/// A key that has no value yet takes one from the source.
+/// A key that has no value yet takes one from the source; it is probably at this place of the index list.
 fn with_key<'s>(
     alloc: Global,
     seen: &Seen<'_, 's>,
     at: Span,
     expr: Option<&Expr<'s>>,
     word: Option<&Cell<'_, 's>>,
+    near: usize,
     row: &Row<'s>,
     table: &mut Table<'s>,
 ) -> Result<(), BindFault>
     ensures { Leaves (bound.with_key seen.now at (bound.as_tree (option_copied expr.entry), option_copied word.entry) row.now table.old) result table.new }
 {
-    if table.get(&row.key).is_some() {
+    if table.get_near(near, &row.key).is_some() {
         return Ok(());
     }
     match from_source(alloc, seen, &row.scope, expr, word)? {
         None => Ok(()),
         Some(member) => {
             let at = source_at(at, expr, word);
-            with_value(source_text(word), at, row.key.again(), member, table)
+            with_value(source_text(word), at, near, &row.key, member, table)
         }
     }
 }
@@ -99,8 +100,10 @@ pub(crate) fn with_keys<'s>(
 ) -> Result<(), BindFault>
     ensures { Leaves (each (bound.with_key seen.now at (bound.as_tree (option_copied expr.entry), option_copied word.entry)) rows.now table.old) result table.new }
 {
+    let mut near: usize = 0;
     for row in rows {
-        with_key(alloc, seen, at, expr, word, row, table)?;
+        with_key(alloc, seen, at, expr, word, near, row, table)?;
+        near = near.wrapping_add(1);
     }
     Ok(())
 }

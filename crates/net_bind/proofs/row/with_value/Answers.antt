@@ -4,6 +4,3 @@ use Rattle.net_bind.proofs.row.with_value.Goals as goal
 
 pub returns-else-len-lt1000000 : goal.returns-else-len-lt1000000
 returns-else-len-lt1000000 c = grind (arith, common_steps)
-
-pub returns-in-Err-TooMany : goal.returns-in-Err-TooMany
-returns-in-Err-TooMany c = grind (arith, common_steps)
