@@ -39,10 +39,7 @@ fn ran(alloc: Global, text: &str, budget: u64) -> Result<String, AllocError> {
 /// What settles a problem, where such a run is asked first.
 fn settled(alloc: Global, text: &str, budget: u64) -> Result<String, AllocError> {
     match read_problem(alloc, text.as_bytes()) {
-        Ok(problem) => told(
-            alloc,
-            &solve(alloc, &Scaling { budget }, &problem)?.certificate(),
-        ),
+        Ok(problem) => told(alloc, &solve(alloc, &Scaling { budget }, &problem)?),
         Err(_) => Err(AllocError),
     }
 }

@@ -42,7 +42,7 @@ const PARALLEL: &str = "p min 3 2\nn 1 5\nn 2 -5\na 1 2 0 3 1\na 1 2 0 3 1\n";
 /// What settles the problem, where the solver knows these flows.
 fn answer(alloc: Global, flows: [i64; 2]) -> Result<String, AllocError> {
     match read_problem(alloc, PARALLEL.as_bytes()) {
-        Ok(problem) => told(alloc, &solve(alloc, &Known(flows), &problem)?.certificate()),
+        Ok(problem) => told(alloc, &solve(alloc, &Known(flows), &problem)?),
         Err(_) => Err(AllocError),
     }
 }
