@@ -5,9 +5,6 @@ use Rattle.net_bind.proofs.param.with_data.Goals as goal
 pub returns-in_err-filled : goal.returns-in_err-filled
 returns-in_err-filled c = grind (arith, common_steps)
 
-pub same-index : goal.same-index
-same-index c = grind (arith, common_steps)
-
 pub filled-requires : goal.filled-requires
 filled-requires c = grind (arith, common_steps)
 

@@ -14,3 +14,6 @@ returns c = grind (arith, common_steps, has_place c.tuple_in-key.result 0 c.args
 
 pub with_value-requires : goal.with_value-requires
 with_value-requires c = grind (arith)
+
+pub returns-in_err-with_value : goal.returns-in_err-with_value
+returns-in_err-with_value c = grind (arith, common_steps, has_place c.tuple_in-key.result 0 c.args.index.now)
