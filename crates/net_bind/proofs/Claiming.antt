@@ -4,8 +4,8 @@ use Rattle.std.specs.List.{AllByRecursion}
 use Rattle.std.proofs.Common.{refl, ap, sym, ◌∙◌, subst, arith}
 use Rattle.std.proofs.lemmas.Bool.{eqb-true}
 use Rattle.std.proofs.lemmas.Int.{ints}
-use Rattle.net_lex.specs.declared.language.Language.TheVariants.{Model}
-use Rattle.net_lex.specs.declared.span.Span.{Span}
+use Rattle.net_fault.specs.declared.language.Language.TheVariants.{Model}
+use Rattle.net_fault.specs.declared.span.Span.{Span}
 use Rattle.net_lex.specs.declared.token.Token.{Token}
 use Rattle.net_sets.specs.declared.member.Member.TheVariants.{Number, Name}
 use Rattle.net_sets.specs.Limits.{arity_limit}
@@ -15,24 +15,22 @@ use Rattle.net_sets.proofs.Sames.{tuple_decides}
 use Rattle.net_tree.specs.Role.{role_of}
 use Rattle.net_tree.specs.Spans.{span_of}
 use Rattle.net_tree.specs.Tree.{Tree, plain, valued, priced, Body, Phrase}
-use Rattle.net_eval.specs.declared.fault.Detail.TheVariants.{Told}
-use Rattle.net_eval.specs.declared.fault.EvalDefect.TheVariants.{Arity}
+use Rattle.net_fault.specs.declared.detail.Detail.TheVariants.{Told}
+use Rattle.net_fault.specs.declared.defect.Defect.TheVariants.{Arity, Restriction}
 use Rattle.net_eval.specs.declared.value.Value.{Value}
 use Rattle.net_eval.specs.declared.value.Value.TheVariants.{One, Several, Many, Truth}
-use Rattle.net_eval.specs.Outcomes as eval
 use Rattle.net_eval.specs.SetValues.{IsSetOf, GivesSets}
 use Rattle.net_eval.specs.Values.{value}
 use Rattle.net_eval.specs.Worlds.{World}
 use Rattle.net_eval.proofs.Alike.{AreLong}
 use Rattle.net_eval.proofs.Walked.{none_there}
-use Rattle.net_bind.specs.declared.fault.BindDefect.TheVariants.{Restriction}
 use Rattle.net_bind.specs.declared.set_phrase.SetWord.{SetWord}
 use Rattle.net_bind.specs.declared.set_phrase.SetWord.TheVariants as words
 use Rattle.net_bind.specs.declared.set_phrase.Claim.{Claim}
 use Rattle.net_bind.specs.declared.set_phrase.Claim.TheVariants as claims
 use Rattle.net_bind.specs.declared.set_phrase.SetPhrase.{SetPhrase}
 use Rattle.net_bind.specs.declared.set_phrase.Claims.{Claims}
-use Rattle.net_bind.specs.Outcomes.{Outcome, and_then, each, evaluated, refused, refused_as}
+use Rattle.net_fault.specs.Outcomes.{Outcome, and_then, each, refused, refused_as}
 use Rattle.net_bind.specs.SetPhrases.{set_word, is_dimension, claimed, set_phrase, dimension_of, agreed, with_phrase, in_body, unclaimed, set_phrases, becomes, assigned}
 use Rattle.net_bind.specs.BoundSets.{is_allowed, allowed}
 use Rattle.net_bind.proofs.RowsTaken.{then_ok, is_ok}
@@ -43,10 +41,6 @@ IsClaim claims.Nothing = Unit {0}
 IsClaim (claims.Dimension d) = d ≤ arity_limit
 IsClaim (claims.Within d ts) = IsSetOf d ts
 IsClaim (claims.Becomes d ts) = IsSetOf d ts
-
-pub value_ok : {A : Type 0} (o : eval.Outcome A) (a : A) → evaluated o ≡ Ok a → o ≡ Ok a
-value_ok (Ok b) a e = cc
-value_ok (Err r) a e = cc
 
 few : (n : ℤ) → is_dimension n ≡ true → unsigned_abs n ≤ arity_limit
 few (pos n) e = go (int_le (pos n) (pos 4)) (int_le (pos 1) (pos n)) refl e
@@ -79,9 +73,9 @@ is_claim words.Other at v c g e = subst IsClaim (is_ok claims.Nothing c e) tt
 
 phrase_claims : (w : World) → GivesSets w → (word : SetWord) (x : Tree) (p : SetPhrase) → set_phrase w word x ≡ Ok p → IsClaim p.claim
 phrase_claims w g word x p h =
-    then_ok (evaluated (value w [] x)) (λ v. and_then (claimed word (span_of x) v) (λ c. Ok (record { at = span_of x; claim = c }))) p h (λ v e k.
+    then_ok (value w [] x) (λ v. and_then (claimed word (span_of x) v) (λ c. Ok (record { at = span_of x; claim = c }))) p h (λ v e k.
     then_ok (claimed word (span_of x) v) (λ c. Ok (record { at = span_of x; claim = c })) p k (λ c i l.
-    subst (λ (q : SetPhrase). IsClaim q.claim) (is_ok (record { at = span_of x; claim = c }) p l) (is_claim word (span_of x) v c (λ d ts s. g [] x d ts (value_ok (value w [] x) v e ∙ ap (λ u. Ok u) s)) i)))
+    subst (λ (q : SetPhrase). IsClaim q.claim) (is_ok (record { at = span_of x; claim = c }) p l) (is_claim word (span_of x) v c (λ d ts s. g [] x d ts (e ∙ ap (λ u. Ok u) s)) i)))
 
 -- ---- dimensions in which phrases agree
 

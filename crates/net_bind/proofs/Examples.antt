@@ -3,7 +3,7 @@ use Rattle.std.specs.Prelude.{◌≡◌, ℕ, true, List, [], ◌∷◌, None, S
 use Rattle.std.proofs.Common.{refl}
 use Rattle.net_lex.specs.NumeralFront.{mantissa_at, power_at, numeral_at}
 use Rattle.net_lex.specs.Significands.{whole_value}
-use Rattle.net_lex.specs.declared.language.Language.TheVariants as texts
+use Rattle.net_fault.specs.declared.language.Language.TheVariants as texts
 use Rattle.net_lex.specs.declared.token.Token.{Token}
 use Rattle.net_lex.specs.declared.token.Kind.TheVariants as kinds
 use Rattle.net_data.specs.declared.statement.Statement.{Statement}
@@ -13,14 +13,13 @@ use Rattle.net_tree.specs.declared.expr.Operator.TheVariants as operator
 use Rattle.net_tree.specs.Role.{role_of, marks, keys}
 use Rattle.net_tree.specs.Spans.{span_of, span_between, braces_span}
 use Rattle.net_tree.specs.Tree.{leaf, none, link, absent, filled, valued, Braces, Phrase, Declaration, set, param}
-use Rattle.net_eval.specs.declared.fault.Detail.TheVariants.{Told}
-use Rattle.net_eval.specs.declared.fault.EvalDefect.TheVariants.{OutsideSet}
+use Rattle.net_fault.specs.declared.detail.Detail.TheVariants.{Told}
+use Rattle.net_fault.specs.declared.defect.Defect.TheVariants.{OutsideSet, DoubleValue, NoSuchName}
 use Rattle.net_eval.specs.declared.world.Entry.TheVariants.{Set, Parameter}
 use Rattle.net_eval.specs.Limits.{is_small}
 use Rattle.net_eval.specs.References.{reference_text}
 use Rattle.net_eval.specs.Operations.{operations, operation, reduction, is_minus}
 use Rattle.net_eval.specs.Numbers.{number_in}
-use Rattle.net_bind.specs.declared.fault.BindDefect.TheVariants.{DoubleValue, NoSuchName, Value}
 use Rattle.net_bind.specs.Binding.{world}
 use Rattle.net_bind.specs.Cells.{member_in}
 use Rattle.net_bind.specs.Restrictions.{relation}
@@ -98,6 +97,6 @@ row_and_default = refl
 
 -- param p {1, 2} default 4;    param p := 3 7;
 key_outside : world (param_p ∷ []) (given_p (number (codes "3") 11 12 ∷ number (codes "7") 13 14 ∷ []) ∷ [])
-    ≡ Err (record { defect = Value OutsideSet; text = texts.Data; at = record { start = 11; end = 12 }; detail = Told (reference_text (codes "p") true (members.Number (pos 3) ∷ [])) })
+    ≡ Err (record { defect = OutsideSet; text = texts.Data; at = record { start = 11; end = 12 }; detail = Told (reference_text (codes "p") true (members.Number (pos 3) ∷ [])) })
 unfolding role_of marks keys operations operation reduction is_minus is_small number_in numeral_at mantissa_at power_at whole_value span_of span_between braces_span member_in relation world
 key_outside = refl

@@ -15,7 +15,7 @@ use Rattle.net_eval.proofs.SetsGiven.{keeps_sets}
 use Rattle.net_bind.specs.declared.given.Mention.{Mention}
 use Rattle.net_bind.specs.declared.param.Gives.TheVariants as gives
 use Rattle.net_bind.specs.declared.set_phrase.Claims.{Claims}
-use Rattle.net_bind.specs.Outcomes.{Outcome, and_then, each}
+use Rattle.net_fault.specs.Outcomes.{Outcome, and_then, each}
 use Rattle.net_bind.specs.Binding as binding
 use Rattle.net_bind.specs.Binding.{widths, said_next, with_entry, declare, check_one, after_checks, with_given}
 use Rattle.net_bind.specs.BoundParameters.{keys_in, key_size, span_or, index_list, source, said_of, phrase_value, filled, with_data, bound_parameter}

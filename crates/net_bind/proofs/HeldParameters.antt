@@ -2,9 +2,9 @@
 use Rattle.std.specs.Prelude.{◌≡◌, ◌||◌, ◌&&◌, ◌+◌, ℕ, Bool, true, false, cond, List, [], ◌∷◌, ◌++◌, length, take, slice_get, nat_lt, nat_le, is_some, Option, None, Some, if◌then◌else◌, Ok, Err}
 use Rattle.std.specs.List.{AllByRecursion, IsDistinct}
 use Rattle.std.proofs.Common.{refl, ap, sym, ◌∙◌, subst}
-use Rattle.net_lex.specs.declared.language.Language.{Language}
-use Rattle.net_lex.specs.declared.language.Language.TheVariants.{Data}
-use Rattle.net_lex.specs.declared.span.Span.{Span}
+use Rattle.net_fault.specs.declared.language.Language.{Language}
+use Rattle.net_fault.specs.declared.language.Language.TheVariants.{Data}
+use Rattle.net_fault.specs.declared.span.Span.{Span}
 use Rattle.net_lex.specs.declared.token.Token.{Token}
 use Rattle.net_sets.specs.declared.member.Member.{Member}
 use Rattle.net_sets.specs.Limits.{tuples_limit}
@@ -18,13 +18,13 @@ use Rattle.net_eval.specs.Rows.{keys_of}
 use Rattle.net_eval.specs.Worlds.{World, key_count}
 use Rattle.net_eval.proofs.KeysOnce.{union_distinct}
 use Rattle.net_eval.proofs.Walked.{none_there, all_join}
-use Rattle.net_bind.specs.declared.fault.Refusal.{Refusal}
+use Rattle.net_fault.specs.declared.finding.Finding.{Finding}
 use Rattle.net_bind.specs.declared.given.Given.{Given}
 use Rattle.net_bind.specs.declared.given.Given.TheVariants as given
 use Rattle.net_bind.specs.declared.given.Mention.{Mention}
 use Rattle.net_bind.specs.BoundParameters.{keys_with, index_list, Source, source_text, source_at, from_source, with_found, with_key, fit_values, untaken, said_of, valued_by, values}
 use Rattle.net_bind.specs.Cells.{member_in, tuple_in}
-use Rattle.net_bind.specs.Outcomes.{Outcome, and_then, each}
+use Rattle.net_fault.specs.Outcomes.{Outcome, and_then, each}
 use Rattle.net_bind.specs.ParameterValues.{IsParameterOf}
 use Rattle.net_bind.specs.Rows.{Table, Taken, All, with_value, with_row, with_cell, with_group, across, pair_of, with_line, shaped, with_rows, taken, either, with_statement}
 use Rattle.net_bind.specs.SetData.{cut, begins_at, doubled}
@@ -58,7 +58,7 @@ value_more index text at key m t u h there free e = go _ (nat_lt (length t) tupl
       once = subst (IsDistinct same_tuple) (sym (keys_more t (key, m))) fresh;
     }
 
-    go : (x : Refusal) (b : Bool) → (if b then (let o : Outcome Table = Ok (t ++ (key, m) ∷ []) in o) else Err x) ≡ Ok u → IsParameterOf index u
+    go : (x : Finding) (b : Bool) → (if b then (let o : Outcome Table = Ok (t ++ (key, m) ∷ []) in o) else Err x) ≡ Ok u → IsParameterOf index u
     go x true i = subst (IsParameterOf index) (is_ok (t ++ (key, m) ∷ []) u i) more
     go x false i = cc
 
@@ -79,7 +79,7 @@ row_keeps word n index key value t u h e = go _ _ (at_key t.0 (tuple_in key)) re
     next : Table → Outcome Taken
     next v = Ok (v, t.1 ++ value.span ∷ [])
 
-    go : (x y : Refusal) (o : Option Member) → at_key t.0 (tuple_in key) ≡ o → (b : Bool) → has index (tuple_in key) ≡ b
+    go : (x y : Finding) (o : Option Member) → at_key t.0 (tuple_in key) ≡ o → (b : Bool) → has index (tuple_in key) ≡ b
         → (if is_some o then Err x else if b then and_then (with_value Data (begins_at value.span key) (tuple_in key) (member_in value) t.0) next else Err y) ≡ Ok u → IsSaid index u
     go x y (Some m) i b k l = cc
     go x y None i false k l = cc
@@ -193,7 +193,7 @@ index_is at rows index e = go _ (nat_le (length (union [] (keys_of rows))) tuple
     whole : IsIndex rows (union [] (keys_of rows))
     whole = record { once = union_distinct [] (keys_of rows) none_there; among = among_index rows }
 
-    go : (x : Refusal) (b : Bool) → (if b then (let o : Outcome (List Tuple) = Ok (union [] (keys_of rows)) in o) else Err x) ≡ Ok index → IsIndex rows index
+    go : (x : Finding) (b : Bool) → (if b then (let o : Outcome (List Tuple) = Ok (union [] (keys_of rows)) in o) else Err x) ≡ Ok index → IsIndex rows index
     go x true i = subst (IsIndex rows) (is_ok (union [] (keys_of rows)) index i) whole
     go x false i = cc
 

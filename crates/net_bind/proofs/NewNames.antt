@@ -4,12 +4,12 @@ use Rattle.std.specs.Str.{bytes_eq}
 use Rattle.std.proofs.Common.{refl, ap, ◌∙◌}
 use Rattle.net_lex.specs.declared.token.Token.{Token}
 use Rattle.net_tree.specs.Tree.{Declaration, Part, set, param, check, node, arc, objective}
-use Rattle.net_names.specs.declared.meaning.Meaning.{Meaning}
-use Rattle.net_names.specs.declared.meaning.Meaning.TheVariants as meanings
-use Rattle.net_names.specs.Names.{declaration_fault, indexing_fault, phrases_fault, objective_meaning, names_fault, with_declaration, IsWellNamed}
-use Rattle.net_names.specs.Dummies.{with_indexing}
-use Rattle.net_names.specs.Scopes.{Name, Scope, meaning_in}
-use Rattle.net_names.specs.Told.{Fault, first, declared_before}
+use Rattle.net_resolve.specs.declared.meaning.Meaning.{Meaning}
+use Rattle.net_resolve.specs.declared.meaning.Meaning.TheVariants as meanings
+use Rattle.net_resolve.specs.Names.{declaration_fault, indexing_fault, phrases_fault, objective_meaning, names_fault, with_declaration, IsWellNamed}
+use Rattle.net_resolve.specs.Dummies.{with_indexing}
+use Rattle.net_resolve.specs.Scopes.{Name, Scope, meaning_in}
+use Rattle.net_resolve.specs.Told.{Fault, first, declared_before}
 use Rattle.net_bind.specs.Binding.{is_among, AreNew}
 
 pub firsts : (a b : Option Fault) → first a b ≡ None → (a ≡ None) × (b ≡ None)

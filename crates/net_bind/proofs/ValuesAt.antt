@@ -4,9 +4,9 @@ use Rattle.std.specs.List.{AllByRecursion, IsDistinct, flat_map, zip}
 use Rattle.std.proofs.Common.{refl, ap, sym, ◌∙◌, subst, append_assoc, append-nil}
 use Rattle.std.proofs.lemmas.List.{map-append}
 use Rattle.std.proofs.lemmas.Map.Keys.{IsDistinct-head, IsDistinct-tail, IsDistinct-cons}
-use Rattle.net_lex.specs.declared.language.Language.{Language}
-use Rattle.net_lex.specs.declared.language.Language.TheVariants.{Data}
-use Rattle.net_lex.specs.declared.span.Span.{Span}
+use Rattle.net_fault.specs.declared.language.Language.{Language}
+use Rattle.net_fault.specs.declared.language.Language.TheVariants.{Data}
+use Rattle.net_fault.specs.declared.span.Span.{Span}
 use Rattle.net_lex.specs.declared.token.Token.{Token}
 use Rattle.net_sets.specs.declared.member.Member.{Member}
 use Rattle.net_sets.specs.Limits.{tuples_limit}
@@ -19,7 +19,6 @@ use Rattle.net_eval.specs.declared.row.Keys.{Keys}
 use Rattle.net_eval.specs.declared.row.Row.{Row}
 use Rattle.net_eval.specs.declared.world.Entry.{Entry}
 use Rattle.net_eval.specs.declared.world.Entry.TheVariants.{Parameter}
-use Rattle.net_eval.specs.Outcomes as eval
 use Rattle.net_eval.specs.Rows.{keys_of}
 use Rattle.net_eval.specs.SetValues.{HasSets}
 use Rattle.net_eval.specs.Values.{index}
@@ -27,14 +26,14 @@ use Rattle.net_eval.specs.Worlds.{World, key_count}
 use Rattle.net_eval.proofs.KeysOnce.{have_distinct_keys}
 use Rattle.net_eval.proofs.SetsGiven.{keeps_sets}
 use Rattle.net_eval.proofs.Walked.{none_there}
-use Rattle.net_bind.specs.declared.fault.Refusal.{Refusal}
+use Rattle.net_fault.specs.declared.finding.Finding.{Finding}
 use Rattle.net_bind.specs.declared.given.Given.{Given}
 use Rattle.net_bind.specs.declared.given.Given.TheVariants as given
 use Rattle.net_bind.specs.declared.given.Mention.{Mention}
 use Rattle.net_bind.specs.declared.param.Gives.TheVariants as gives
 use Rattle.net_bind.specs.BoundParameters.{lone_key, keys_in, key_size, span_or, index_list, phrase_value, Source, source, source_text, source_at, from_source, with_found, with_key, fit_values, untaken, said_of, valued_by, values, filled, with_data, bound_parameter}
 use Rattle.net_bind.specs.Cells.{member_in, tuple_in}
-use Rattle.net_bind.specs.Outcomes.{Outcome, and_then, each, evaluated}
+use Rattle.net_fault.specs.Outcomes.{Outcome, and_then, each}
 use Rattle.net_bind.specs.ParameterValues.{rows_across, rows_given, row_value, values_given, default_given, source_of, IsValue, IsValueAt, IsValued}
 use Rattle.net_bind.specs.Rows.{Table, Taken, All, with_value, with_row, with_cell, with_group, across, pair_of, with_line, shaped, with_rows, taken, either, with_statement}
 use Rattle.net_bind.specs.SetData.{cut, begins_at, doubled}
@@ -62,7 +61,7 @@ each_adds f rows adds (x ∷ xs) t u e =
 value_adds : (text : Language) (at : Span) (key : Tuple) (m : Member) (t u : Table) → with_value text at key m t ≡ Ok u → u ≡ t ++ (key, m) ∷ []
 value_adds text at key m t u e = go _ (nat_lt (length t) tuples_limit) e
   where
-    go : (x : Refusal) (b : Bool) → (if b then (let o : Outcome Table = Ok (t ++ (key, m) ∷ []) in o) else Err x) ≡ Ok u → u ≡ t ++ (key, m) ∷ []
+    go : (x : Finding) (b : Bool) → (if b then (let o : Outcome Table = Ok (t ++ (key, m) ∷ []) in o) else Err x) ≡ Ok u → u ≡ t ++ (key, m) ∷ []
     go x true i = sym (is_ok (t ++ (key, m) ∷ []) u i)
     go x false i = cc
 
@@ -72,7 +71,7 @@ row_adds word n index key value t u e = go _ _ (at_key t.0 (tuple_in key)) (has 
     next : Table → Outcome Taken
     next v = Ok (v, t.1 ++ value.span ∷ [])
 
-    go : (x y : Refusal) (o : Option Member) (b : Bool)
+    go : (x y : Finding) (o : Option Member) (b : Bool)
         → (if is_some o then Err x else if b then and_then (with_value Data (begins_at value.span key) (tuple_in key) (member_in value) t.0) next else Err y) ≡ Ok u
         → u.0 ≡ t.0 ++ (tuple_in key, member_in value) ∷ []
     go x y (Some m) b l = cc
@@ -252,13 +251,9 @@ values_filled w name n ps x rows said t once e =
 
 -- ---- the parameter
 
-as_evaluated : {A : Type 0} (o : eval.Outcome A) (x : A) → evaluated o ≡ Ok x → o ≡ Ok x
-as_evaluated (Ok y) x e = ap Ok (is_ok y x e)
-as_evaluated (Err r) x e = absurd (cc)
-
 keys_once : (w : World) (b : Option Braces) (k : Keys) → HasSets w → keys_in w b ≡ Ok k → IsDistinct same_tuple (keys_of k.rows)
 keys_once w None k sets e = subst (λ (z : Keys). IsDistinct same_tuple (keys_of z.rows)) (is_ok lone_key k e) (IsDistinct-cons same_tuple [] [] tt none_there)
-keys_once w (Some b) k sets e = have_distinct_keys w [] b k (keeps_sets w sets) (as_evaluated (index w [] b) k e)
+keys_once w (Some b) k sets e = have_distinct_keys w [] b k (keeps_sets w sets) e
 
 table_valued : (w : World) (ws : List ℕ) (name : Token) (ps : List Phrase) (ms : List Mention) (n : Option ℕ) (rows : List Row) (index : List Tuple) (t : Table) → IsDistinct same_tuple (keys_of rows)
     → filled w ws name ps ms n rows index ≡ Ok t → AllByRecursion (IsValueAt w ps (values_given (key_count n) ms) ms t) rows

@@ -2,21 +2,20 @@
 -- before it, and then its checks.
 use Rattle.std.specs.Prelude.{◌≡◌, ℕ, ◌+◌, ◌||◌, Bool, false, List, [], ◌∷◌, ◌++◌, length, map, slice_index_or, take, Option, None, if◌then◌else◌, Ok}
 use Rattle.std.specs.Str.{bytes_eq}
-use Rattle.net_lex.specs.declared.language.Language.TheVariants.{Model}
+use Rattle.net_fault.specs.declared.language.Language.TheVariants.{Model}
 use Rattle.net_lex.specs.declared.token.Token.{Token}
 use Rattle.net_data.specs.declared.statement.Statement.{Statement}
 use Rattle.net_tree.specs.Spans.{span_of}
 use Rattle.net_tree.specs.Tree.{Tree, Braces, Declaration, set, param, check, node, arc, objective}
-use Rattle.net_eval.specs.declared.fault.Detail.TheVariants.{Nothing}
+use Rattle.net_fault.specs.declared.detail.Detail.TheVariants.{Nothing}
 use Rattle.net_eval.specs.declared.row.Row.{Row}
 use Rattle.net_eval.specs.declared.world.Entry.{Entry}
 use Rattle.net_eval.specs.declared.world.Entry.TheVariants.{Set, Parameter}
 use Rattle.net_eval.specs.Operators.{truth}
-use Rattle.net_eval.specs.Outcomes as eval
 use Rattle.net_eval.specs.Values.{value}
 use Rattle.net_eval.specs.Worlds.{Name, World, key_count, entry_of}
-use Rattle.net_bind.specs.declared.fault.BindDefect.TheVariants.{CheckFailed}
-use Rattle.net_bind.specs.Outcomes.{Outcome, and_then, each, evaluated, refused_as}
+use Rattle.net_fault.specs.declared.defect.Defect.TheVariants.{CheckFailed}
+use Rattle.net_fault.specs.Outcomes.{Outcome, and_then, each, refused_as}
 use Rattle.net_bind.specs.declared.given.Mention.{Mention}
 use Rattle.net_bind.specs.Names.{declared}
 use Rattle.net_bind.specs.Mentions.{Sorted, said}
@@ -53,7 +52,7 @@ judged x b = if b then Ok tt else refused_as Model CheckFailed (span_of x) Nothi
 -- a condition holds at each key
 abbrev pub hold : World → Tree → List Row → Outcome (Unit {0})
 hold w x [] = Ok tt
-hold w x (r ∷ rows) = and_then (and_then (evaluated (eval.and_then (value w r.scope x) (truth (span_of x)))) (judged x)) (λ u. hold w x rows)
+hold w x (r ∷ rows) = and_then (and_then (and_then (value w r.scope x) (truth (span_of x))) (judged x)) (λ u. hold w x rows)
 
 abbrev pub checked : World → Option Braces → Tree → Outcome (Unit {0})
 checked w b x = and_then (keys_in w b) (λ k. hold w x k.rows)

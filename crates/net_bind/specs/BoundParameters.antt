@@ -1,8 +1,8 @@
 -- A declared parameter: its index list, what data say, its value at each key, and what its phrases ask of these.
 use Rattle.std.specs.Prelude.{ℕ, Bool, true, false, ◌||◌, List, [], ◌∷◌, length, map, nat_le, slice_get, is_some, Option, None, Some, if◌then◌else◌, Ok}
-use Rattle.net_lex.specs.declared.language.Language.{Language}
-use Rattle.net_lex.specs.declared.language.Language.TheVariants.{Model, Data}
-use Rattle.net_lex.specs.declared.span.Span.{Span}
+use Rattle.net_fault.specs.declared.language.Language.{Language}
+use Rattle.net_fault.specs.declared.language.Language.TheVariants.{Model, Data}
+use Rattle.net_fault.specs.declared.span.Span.{Span}
 use Rattle.net_lex.specs.declared.token.Token.{Token}
 use Rattle.net_sets.specs.declared.member.Member.{Member}
 use Rattle.net_sets.specs.declared.member.Member.TheVariants.{Number, Name}
@@ -17,24 +17,22 @@ use Rattle.net_tree.specs.View.{tree}
 use Rattle.net_tree.specs.Role.{role_of}
 use Rattle.net_tree.specs.Spans.{span_of, braces_span}
 use Rattle.net_tree.specs.Tree.{Tree, Braces, Body, plain, valued, priced, Phrase}
-use Rattle.net_eval.specs.declared.fault.Detail.TheVariants.{Nothing}
-use Rattle.net_eval.specs.declared.fault.EvalDefect.TheVariants.{KindMismatch, TooMany}
+use Rattle.net_fault.specs.declared.detail.Detail.TheVariants.{Nothing}
+use Rattle.net_fault.specs.declared.defect.Defect.TheVariants.{KindMismatch, TooMany}
 use Rattle.net_eval.specs.declared.row.Row.{Row}
 use Rattle.net_eval.specs.declared.row.Keys.{Keys}
 use Rattle.net_eval.specs.declared.world.Entry.{Entry}
 use Rattle.net_eval.specs.declared.world.Entry.TheVariants.{Parameter}
 use Rattle.net_eval.specs.Operators.{member}
-use Rattle.net_eval.specs.Outcomes as eval
 use Rattle.net_eval.specs.Rows.{keys_of}
 use Rattle.net_eval.specs.Sets.{counted}
 use Rattle.net_eval.specs.Values.{value, index}
 use Rattle.net_eval.specs.Worlds.{World, Scope, key_count, reference}
-use Rattle.net_bind.specs.declared.fault.BindDefect.TheVariants.{Value}
 use Rattle.net_bind.specs.declared.given.Mention.{Mention}
 use Rattle.net_bind.specs.declared.param.Gives.{Gives}
 use Rattle.net_bind.specs.declared.param.Gives.TheVariants as gives
 use Rattle.net_bind.specs.Cells.{member_in}
-use Rattle.net_bind.specs.Outcomes.{Outcome, and_then, each, evaluated, refused, refused_as}
+use Rattle.net_fault.specs.Outcomes.{Outcome, and_then, each, refused, refused_as}
 use Rattle.net_bind.specs.Restrictions.{restricted}
 use Rattle.net_bind.specs.Rows.{Table, Taken, All, with_value, with_statement}
 
@@ -74,7 +72,7 @@ lone_key = record { width = None; rows = (record { key = []; scope = [] }) ∷ [
 -- the keys that braces index by
 abbrev pub keys_in : World → Option Braces → Outcome Keys
 keys_in w None = Ok lone_key
-keys_in w (Some b) = evaluated (index w [] b)
+keys_in w (Some b) = (index w [] b)
 
 -- how many members a key has; none where there are no braces
 abbrev pub key_size : Option Braces → Keys → Option ℕ
@@ -115,7 +113,7 @@ abbrev pub some : Member → Outcome (Option Member)
 some m = Ok (Some m)
 
 abbrev pub member_by : World → Scope → Option Tree → Option Token → Outcome (Option Member)
-member_by w s (Some x) c = and_then (evaluated (eval.and_then (value w s x) (member (span_of x)))) some
+member_by w s (Some x) c = and_then (and_then (value w s x) (member (span_of x))) some
 member_by w s None (Some c) = Ok (Some (member_in c))
 member_by w s None None = Ok None
 
@@ -141,8 +139,8 @@ cell_of cells None = None
 cell_of cells (Some i) = slice_get cells i
 
 abbrev pub no_text : Language → Span → Option Span → Outcome (Unit {0})
-no_text text at None = refused_as text (Value KindMismatch) at Nothing
-no_text text at (Some cell) = refused_as Data (Value KindMismatch) cell Nothing
+no_text text at None = refused_as text KindMismatch at Nothing
+no_text text at (Some cell) = refused_as Data KindMismatch cell Nothing
 
 -- a text is a value only of a parameter that takes texts; its place is the cell that gave it, or else that of the source
 abbrev pub fit_kind : Bool → Language → Span → Option Span → Member → Outcome (Unit {0})

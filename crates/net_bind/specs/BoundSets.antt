@@ -1,22 +1,21 @@
 -- A declared set: what its phrases say, then what data say, then what it is.
 use Rattle.std.specs.Prelude.{ℕ, Bool, true, List, [], ◌∷◌, is_some, unwrap_or, Option, None, Some, if◌then◌else◌, Ok}
-use Rattle.net_lex.specs.declared.language.Language.TheVariants.{Model}
+use Rattle.net_fault.specs.declared.language.Language.TheVariants.{Model}
 use Rattle.net_lex.specs.declared.token.Token.{Token}
 use Rattle.net_sets.specs.Operations.{is_within}
 use Rattle.net_sets.specs.Sets.{Tuple}
 use Rattle.net_tree.specs.Tree.{Phrase}
-use Rattle.net_eval.specs.declared.fault.Detail.TheVariants.{Told}
-use Rattle.net_eval.specs.declared.fault.EvalDefect.TheVariants.{NoValue}
+use Rattle.net_fault.specs.declared.detail.Detail.TheVariants.{Told}
+use Rattle.net_fault.specs.declared.defect.Defect.TheVariants.{NoValue, Restriction}
 use Rattle.net_eval.specs.declared.world.Entry.{Entry}
 use Rattle.net_eval.specs.declared.world.Entry.TheVariants.{Set}
 use Rattle.net_eval.specs.Worlds.{World}
-use Rattle.net_bind.specs.declared.fault.BindDefect.TheVariants.{Restriction, Value}
 use Rattle.net_bind.specs.declared.given.Mention.{Mention}
 use Rattle.net_bind.specs.declared.set_phrase.Claim.{Claim}
 use Rattle.net_bind.specs.declared.set_phrase.Claim.TheVariants as claims
 use Rattle.net_bind.specs.declared.set_phrase.SetPhrase.{SetPhrase}
 use Rattle.net_bind.specs.declared.set_phrase.Claims.{Claims}
-use Rattle.net_bind.specs.Outcomes.{Outcome, and_then, refused_as}
+use Rattle.net_fault.specs.Outcomes.{Outcome, and_then, refused_as}
 use Rattle.net_bind.specs.SetPhrases.{set_phrases, assigned}
 use Rattle.net_bind.specs.SetData.{given_set}
 
@@ -24,7 +23,7 @@ use Rattle.net_bind.specs.SetData.{given_set}
 abbrev pub one_of : Token → Option (List Tuple) → Option (List Tuple) → Outcome (List Tuple)
 one_of name (Some ts) found = Ok ts
 one_of name None (Some ts) = Ok ts
-one_of name None None = refused_as Model (Value NoValue) name.span (Told name.text)
+one_of name None None = refused_as Model NoValue name.span (Told name.text)
 
 abbrev pub is_allowed : List Tuple → Claim → Bool
 is_allowed ts (claims.Within d within) = is_within ts within

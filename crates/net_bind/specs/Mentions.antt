@@ -10,7 +10,7 @@ use Rattle.net_data.specs.declared.statement.Statement.TheVariants.{Set, List as
 use Rattle.net_bind.specs.declared.given.Given.{Given}
 use Rattle.net_bind.specs.declared.given.Given.TheVariants as given
 use Rattle.net_bind.specs.declared.given.Mention.{Mention}
-use Rattle.net_bind.specs.Outcomes.{Outcome, and_then, each}
+use Rattle.net_fault.specs.Outcomes.{Outcome, and_then, each}
 use Rattle.net_bind.specs.Names.{Declared, target}
 
 -- for each declared name, in order, what is said of it

@@ -1,13 +1,13 @@
 -- The sets and parameters that a model declares, and how data name them.
 use Rattle.std.specs.Prelude.{ℕ, ◌+◌, Bool, true, false, List, [], ◌∷◌, Option, None, Some, if◌then◌else◌, Ok}
 use Rattle.std.specs.Str.{bytes_eq}
-use Rattle.net_lex.specs.declared.language.Language.TheVariants.{Data}
+use Rattle.net_fault.specs.declared.language.Language.TheVariants.{Data}
 use Rattle.net_lex.specs.declared.token.Token.{Token}
-use Rattle.net_eval.specs.declared.fault.Detail.TheVariants.{Told}
+use Rattle.net_fault.specs.declared.detail.Detail.TheVariants.{Told}
 use Rattle.net_eval.specs.Worlds.{Name}
 use Rattle.net_tree.specs.Tree.{Declaration, set, param, check, node, arc, objective}
-use Rattle.net_bind.specs.declared.fault.BindDefect.TheVariants.{NoSuchName}
-use Rattle.net_bind.specs.Outcomes.{Outcome, refused_as}
+use Rattle.net_fault.specs.declared.defect.Defect.TheVariants.{NoSuchName}
+use Rattle.net_fault.specs.Outcomes.{Outcome, refused_as}
 
 -- the declared names in order, each with whether it is a set's
 abbrev pub Declared : Type 0

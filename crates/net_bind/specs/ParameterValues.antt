@@ -18,7 +18,7 @@ use Rattle.net_bind.specs.declared.given.Mention.{Mention}
 use Rattle.net_bind.specs.declared.param.Gives.TheVariants as gives
 use Rattle.net_bind.specs.BoundParameters.{keys_with, keys_in, key_size, phrase_value, Source, source, from_source, bound_parameter}
 use Rattle.net_bind.specs.Cells.{member_in, tuple_in}
-use Rattle.net_bind.specs.Outcomes.{Outcome}
+use Rattle.net_fault.specs.Outcomes.{Outcome}
 use Rattle.net_bind.specs.Rows.{Table, either, pair_of}
 use Rattle.net_bind.specs.SetData.{cut}
 

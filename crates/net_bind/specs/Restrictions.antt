@@ -1,24 +1,23 @@
 -- What a parameter's phrases ask of its values.
 use Rattle.std.specs.Prelude.{Bool, true, not, List, [], ◌∷◌, Option, None, Some, codes, if◌then◌else◌, Ok, ℤ, int_lt, int_le}
 use Rattle.std.specs.Str.{bytes_eq}
-use Rattle.net_lex.specs.declared.language.Language.TheVariants.{Model}
-use Rattle.net_lex.specs.declared.span.Span.{Span}
+use Rattle.net_fault.specs.declared.language.Language.TheVariants.{Model}
+use Rattle.net_fault.specs.declared.span.Span.{Span}
 use Rattle.net_lex.specs.declared.token.Token.{Token}
 use Rattle.net_sets.specs.declared.member.Member.{Member}
 use Rattle.net_tree.specs.Spans.{span_of}
 use Rattle.net_tree.specs.Tree.{Tree, Body, plain, valued, priced, Phrase}
-use Rattle.net_eval.specs.declared.fault.Detail.{Detail}
+use Rattle.net_fault.specs.declared.detail.Detail.{Detail}
 use Rattle.net_eval.specs.declared.value.Value.{Value}
 use Rattle.net_eval.specs.declared.value.Value.TheVariants.{One}
 use Rattle.net_eval.specs.Numbers.{number}
 use Rattle.net_eval.specs.Operators.{same, belongs}
-use Rattle.net_eval.specs.Outcomes as eval
 use Rattle.net_eval.specs.Values.{value}
 use Rattle.net_eval.specs.Worlds.{World, Scope}
-use Rattle.net_bind.specs.declared.fault.BindDefect.TheVariants.{Restriction}
+use Rattle.net_fault.specs.declared.defect.Defect.TheVariants.{Restriction}
 use Rattle.net_bind.specs.declared.restriction.Relation.{Relation}
 use Rattle.net_bind.specs.declared.restriction.Relation.TheVariants as relations
-use Rattle.net_bind.specs.Outcomes.{Outcome, and_then, evaluated, refused_as}
+use Rattle.net_fault.specs.Outcomes.{Outcome, and_then, refused_as}
 
 -- how the word of a phrase relates a value to that of its expression, if it does
 unfoldable pub relation : Token → Option Relation
@@ -32,8 +31,8 @@ relation t =
     else if bytes_eq (codes "in") t.text then Some relations.Among
     else None
 
-abbrev pub ordered : Span → (ℤ → ℤ → Bool) → Member → Value → eval.Outcome Bool
-ordered at holds m v = eval.and_then (number at (One m)) (λ a. eval.and_then (number at v) (λ b. Ok (holds a b)))
+abbrev pub ordered : Span → (ℤ → ℤ → Bool) → Member → Value → Outcome Bool
+ordered at holds m v = and_then (number at (One m)) (λ a. and_then (number at v) (λ b. Ok (holds a b)))
 
 -- whether two numbers are in this order
 abbrev pub compared : Relation → ℤ → ℤ → Bool
@@ -45,12 +44,12 @@ compared relations.Unequal a b = true
 compared relations.Among a b = true
 
 -- whether a value is related so to another; comparisons of size need numbers
-abbrev pub related : Span → Relation → Member → Value → eval.Outcome Bool
+abbrev pub related : Span → Relation → Member → Value → Outcome Bool
 related at relations.Less m v = ordered at (compared relations.Less) m v
 related at relations.AtMost m v = ordered at (compared relations.AtMost) m v
 related at relations.Greater m v = ordered at (compared relations.Greater) m v
 related at relations.AtLeast m v = ordered at (compared relations.AtLeast) m v
-related at relations.Unequal m v = eval.and_then (same at (One m) v) (λ b. Ok (not b))
+related at relations.Unequal m v = and_then (same at (One m) v) (λ b. Ok (not b))
 related at relations.Among m v = belongs at (One m) v
 
 abbrev pub holding : Span → Detail → Bool → Outcome (Unit {0})
@@ -59,7 +58,7 @@ holding at detail b = if b then Ok tt else refused_as Model Restriction at detai
 abbrev pub restricted_by : World → Scope → Detail → Member → Option Relation → Tree → Outcome (Unit {0})
 restricted_by w s detail m None x = Ok tt
 restricted_by w s detail m (Some r) x =
-    and_then (evaluated (value w s x)) (λ v. and_then (evaluated (related (span_of x) r m v)) (holding (span_of x) detail))
+    and_then (value w s x) (λ v. and_then (related (span_of x) r m v) (holding (span_of x) detail))
 
 abbrev pub restricted_in : World → Scope → Detail → Member → Token → Body → Outcome (Unit {0})
 restricted_in w s detail m word plain = Ok tt

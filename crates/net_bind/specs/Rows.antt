@@ -1,24 +1,23 @@
 -- What data statements say of a parameter: rows, each a key and its value.
 use Rattle.std.specs.Prelude.{ℕ, ◌+◌, Bool, true, false, ◌&&◌, ◌||◌, List, [], ◌∷◌, ◌++◌, length, nat_eq, nat_lt, slice_get, take, is_some, Option, None, Some, if◌then◌else◌, Result, Ok, Err, ⊤, ◌≡◌}
-use Rattle.net_lex.specs.declared.language.Language.{Language}
-use Rattle.net_lex.specs.declared.language.Language.TheVariants.{Data}
-use Rattle.net_lex.specs.declared.span.Span.{Span}
+use Rattle.net_fault.specs.declared.language.Language.{Language}
+use Rattle.net_fault.specs.declared.language.Language.TheVariants.{Data}
+use Rattle.net_fault.specs.declared.span.Span.{Span}
 use Rattle.net_lex.specs.declared.token.Token.{Token}
 use Rattle.net_sets.specs.declared.member.Member.{Member}
 use Rattle.net_sets.specs.Limits.{tuples_limit}
 use Rattle.net_sets.specs.Sets.{Tuple, has, at_key}
 use Rattle.net_data.specs.Rows.{points}
-use Rattle.net_eval.specs.declared.fault.Detail.TheVariants.{Nothing}
-use Rattle.net_eval.specs.declared.fault.EvalDefect.TheVariants.{Arity, OutsideSet, TooMany}
+use Rattle.net_fault.specs.declared.detail.Detail.TheVariants.{Nothing}
+use Rattle.net_fault.specs.declared.defect.Defect.TheVariants.{Arity, OutsideSet, TooMany, DoubleValue}
 use Rattle.net_eval.specs.Worlds.{reference}
-use Rattle.net_bind.specs.declared.fault.BindDefect.TheVariants.{DoubleValue, Value}
-use Rattle.net_bind.specs.declared.fault.BindFault.{BindFault}
-use Rattle.net_bind.specs.declared.fault.BindFault.TheVariants.{OutOfMemory, Refused}
+use Rattle.net_fault.specs.declared.fault.Fault.{Fault}
+use Rattle.net_fault.specs.declared.fault.Fault.TheVariants.{OutOfMemory, At}
 use Rattle.net_bind.specs.declared.given.Given.{Given}
 use Rattle.net_bind.specs.declared.given.Given.TheVariants as given
 use Rattle.net_bind.specs.declared.given.Mention.{Mention}
 use Rattle.net_bind.specs.Cells.{member_in, tuple_in}
-use Rattle.net_bind.specs.Outcomes.{Outcome, and_then, each, refused_as, refused_there}
+use Rattle.net_fault.specs.Outcomes.{Outcome, and_then, each, refused_as, refused_there}
 use Rattle.net_bind.specs.SetData.{begins_at, whole_groups, cut, told_by, agrees, doubled}
 
 -- the values of a parameter, each with its key, and where the values that data give stand
@@ -31,14 +30,14 @@ Taken = Table × List Span
 
 -- a value more, of which there are not too many
 abbrev pub with_value : Language → Span → Tuple → Member → Table → Outcome Table
-with_value text at key m t = if nat_lt (length t) tuples_limit then Ok (t ++ (key, m) ∷ []) else refused_as text (Value TooMany) at Nothing
+with_value text at key m t = if nat_lt (length t) tuples_limit then Ok (t ++ (key, m) ∷ []) else refused_as text TooMany at Nothing
 
 -- a row for a key that has no value yet, and is in the index list
 abbrev pub with_row : Token → Option ℕ → List Tuple → List Token → Token → Taken → Outcome Taken
 with_row word n index key value t =
     if is_some (at_key t.0 (tuple_in key)) then refused_as Data DoubleValue (begins_at value.span key) (reference word.text n (tuple_in key))
     else if has index (tuple_in key) then and_then (with_value Data (begins_at value.span key) (tuple_in key) (member_in value) t.0) (λ u. Ok (u, t.1 ++ value.span ∷ []))
-    else refused_as Data (Value OutsideSet) (begins_at value.span key) (reference word.text n (tuple_in key))
+    else refused_as Data OutsideSet (begins_at value.span key) (reference word.text n (tuple_in key))
 
 -- a cell that gives a value; a point gives none
 abbrev pub with_cell : Token → Option ℕ → List Tuple → List Token → Option Token → Taken → Outcome Taken
@@ -101,7 +100,7 @@ with_statement widths n index size is_assigned m all =
     and_then (taken widths n index size m.word m.given (is_assigned || (is_some m.default && is_some all.1)) all.0) (λ t. Ok (t, either all.1 m.default))
 
 -- the code answers the default, and leaves the values
-abbrev pub Gives : Outcome All → Result (Option Token) BindFault → Taken → Type 0
+abbrev pub Gives : Outcome All → Result (Option Token) Fault → Taken → Type 0
 Gives wanted (Ok default) new = wanted ≡ Ok (new, default)
 Gives wanted (Err OutOfMemory) new = ⊤
-Gives wanted (Err (Refused r)) new = wanted ≡ Err r
+Gives wanted (Err (At r)) new = wanted ≡ Err r

@@ -1,22 +1,21 @@
 -- What data statements say of a set.
 use Rattle.std.specs.Prelude.{ℕ, zero, suc, ◌+◌, Bool, ◌||◌, List, [], ◌∷◌, ◌++◌, length, map, take, nat_eq, nat_le, is_some, slice_get, unwrap_or, Option, None, Some, if◌then◌else◌, Ok}
 use Rattle.std.specs.List.{fold}
-use Rattle.net_lex.specs.declared.language.Language.TheVariants.{Data}
-use Rattle.net_lex.specs.declared.span.Span.{Span}
+use Rattle.net_fault.specs.declared.language.Language.TheVariants.{Data}
+use Rattle.net_fault.specs.declared.span.Span.{Span}
 use Rattle.net_lex.specs.declared.token.Token.{Token}
 use Rattle.net_sets.specs.Limits.{tuples_limit}
 use Rattle.net_sets.specs.Sets.{Tuple, has, added}
 use Rattle.net_data.specs.Rows.{points, groups, first_item, begins_tuple, more_items}
-use Rattle.net_eval.specs.declared.fault.Detail.TheVariants.{Told}
-use Rattle.net_eval.specs.declared.fault.EvalDefect.TheVariants.{Arity, TooMany}
-use Rattle.net_bind.specs.declared.fault.BindDefect.TheVariants.{DoubleValue}
+use Rattle.net_fault.specs.declared.detail.Detail.TheVariants.{Told}
+use Rattle.net_fault.specs.declared.defect.Defect.TheVariants.{Arity, TooMany, DoubleValue}
 use Rattle.net_bind.specs.declared.given.Given.{Given}
 use Rattle.net_bind.specs.declared.given.Given.TheVariants as given
 use Rattle.net_bind.specs.declared.given.Mention.{Mention}
 use Rattle.net_bind.specs.declared.item.Item.{Item}
 use Rattle.net_bind.specs.declared.item.Rows.{Rows}
 use Rattle.net_bind.specs.Cells.{tuple_in}
-use Rattle.net_bind.specs.Outcomes.{Outcome, and_then, each, refused_as, refused_there}
+use Rattle.net_fault.specs.Outcomes.{Outcome, and_then, each, refused_as, refused_there}
 
 -- the items of a set: tuples, and members that stand alone
 abbrev pub items_from : ℕ → List Token → List Item

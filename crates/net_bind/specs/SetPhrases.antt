@@ -1,6 +1,6 @@
 -- What the phrases of a set's declaration say: its dimension, the sets that it is within, the set that it is.
 use Rattle.std.specs.Prelude.{ℕ, ◌&&◌, Bool, List, [], ◌∷◌, ◌++◌, Option, None, Some, if◌then◌else◌, Ok, ℤ, pos, int_le, nat_eq, unsigned_abs}
-use Rattle.net_lex.specs.declared.span.Span.{Span}
+use Rattle.net_fault.specs.declared.span.Span.{Span}
 use Rattle.net_sets.specs.declared.member.Member.TheVariants.{Number}
 use Rattle.net_sets.specs.Sets.{Tuple}
 use Rattle.net_tree.specs.declared.role.Begins.TheVariants as begins
@@ -10,7 +10,7 @@ use Rattle.net_tree.specs.declared.role.Role.TheVariants as roles
 use Rattle.net_tree.specs.Role.{role_of}
 use Rattle.net_tree.specs.Spans.{span_of}
 use Rattle.net_tree.specs.Tree.{Tree, plain, valued, priced, Body, Phrase}
-use Rattle.net_eval.specs.declared.fault.EvalDefect.TheVariants.{KindMismatch, Arity}
+use Rattle.net_fault.specs.declared.defect.Defect.TheVariants.{KindMismatch, Arity}
 use Rattle.net_eval.specs.declared.value.Value.{Value}
 use Rattle.net_eval.specs.declared.value.Value.TheVariants.{One, Many}
 use Rattle.net_eval.specs.Values.{value}
@@ -21,7 +21,7 @@ use Rattle.net_bind.specs.declared.set_phrase.Claim.{Claim}
 use Rattle.net_bind.specs.declared.set_phrase.Claim.TheVariants as claims
 use Rattle.net_bind.specs.declared.set_phrase.SetPhrase.{SetPhrase}
 use Rattle.net_bind.specs.declared.set_phrase.Claims.{Claims}
-use Rattle.net_bind.specs.Outcomes.{Outcome, and_then, evaluated, refused, each}
+use Rattle.net_fault.specs.Outcomes.{Outcome, and_then, refused, each}
 
 abbrev pub set_word : Role → SetWord
 set_word (roles.Phrase begins.Dimen) = words.Dimension
@@ -49,7 +49,7 @@ claimed words.Becomes at v = as_set claims.Becomes at v
 claimed words.Other at v = Ok claims.Nothing
 
 abbrev pub set_phrase : World → SetWord → Tree → Outcome SetPhrase
-set_phrase w word x = and_then (evaluated (value w [] x)) (λ v. and_then (claimed word (span_of x) v) (λ c. Ok (record { at = span_of x; claim = c })))
+set_phrase w word x = and_then (value w [] x) (λ v. and_then (claimed word (span_of x) v) (λ c. Ok (record { at = span_of x; claim = c })))
 
 -- the dimension that is said; `{}` says none
 abbrev pub dimension_of : Claim → Option ℕ

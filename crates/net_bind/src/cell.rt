@@ -4,8 +4,9 @@ ghost use Rattle.std.specs.Prelude.{◌≡◌};
 ghost use Rattle.net_eval.specs.Numbers.{number_in};
 ghost use Rattle.net_bind.specs.Cells.{member_in, tuple_in, number_or_name as wanted_number_or_name};
 
-use net_lex::{Excerpt, Kind, Token, whole_of};
+use net_lex::{Kind, Token, whole_of};
 use net_sets::{Member, Text, Tuple};
+use net_views::Excerpt;
 use std::marker::Model;
 
 /// A token of a data text, which contracts see as that token.

@@ -3,12 +3,11 @@
 ghost use Rattle.std.specs.Prelude.{◌≡◌, ◌+◌, ◌<◌, ◌≤◌, ◌^◌, IfOk, map};
 ghost use Rattle.net_tree.specs.View.{tree, declaration_of, indexing_of};
 ghost use Rattle.net_bind.specs.Binding as binding;
-ghost use Rattle.net_bind.specs.Outcomes.{Answers, each};
+ghost use Rattle.net_fault.specs.Outcomes.{Answers, each};
 
-use crate::fault::{BindDefect, BindFault, refuse_in};
 use crate::indexing::keys_in;
-use net_eval::{Detail, Row, Seen, World, holds};
-use net_lex::Language;
+use net_eval::{Row, Seen, World, holds};
+use net_fault::{Defect, Detail, Fault, Language};
 use net_tree::{Braces, Decl, Expr, span_of};
 use std::alloc::Global;
 
@@ -18,14 +17,14 @@ fn hold<'s>(
     seen: &Seen<'_, 's>,
     condition: &Expr<'s>,
     rows: &[Row<'s>],
-) -> Result<(), BindFault>
+) -> Result<(), Fault>
     ensures { Answers (binding.hold seen.now (tree condition.now) rows.now) result }
 {
     for row in rows {
         if !holds(alloc, seen, &row.scope, condition)? {
-            return Err(refuse_in(
+            return Err(Fault::of_text(
                 Language::Model,
-                BindDefect::CheckFailed,
+                Defect::CheckFailed,
                 span_of(condition),
                 Detail::Nothing,
             ));
@@ -39,7 +38,7 @@ fn checked<'s>(
     seen: &Seen<'_, 's>,
     braces: &Option<Braces<'s>>,
     condition: &Expr<'s>,
-) -> Result<(), BindFault>
+) -> Result<(), Fault>
     ensures { Answers (binding.checked seen.now (indexing_of braces.now) (tree condition.now)) result }
 {
     let keys = keys_in(alloc, seen, braces)?;
@@ -51,7 +50,7 @@ fn check_one<'s>(
     world: &World<'s>,
     decl: &Decl<'s>,
     known: usize,
-) -> Result<usize, BindFault>
+) -> Result<usize, Fault>
     requires { known + 1 < 2 ^ 64 }
     ensures value { Answers (binding.check_one world.now (declaration_of decl.now) known) result }
     ensures few { IfOk result (λ k. k ≤ known + 1) }
@@ -74,7 +73,7 @@ pub(crate) fn all_checked<'s>(
     alloc: Global,
     world: &World<'s>,
     decls: &[Decl<'s>],
-) -> Result<usize, BindFault>
+) -> Result<usize, Fault>
     ensures { Answers (each (binding.check_one world.now) (map declaration_of decls.now) 0) result }
 {
     let mut known = 0;

@@ -2,7 +2,7 @@
 
 ghost use Rattle.std.specs.Prelude.{◌≡◌, [], Ok, Some};
 ghost use Rattle.std.specs.Option.{option_map, IfSome};
-ghost use Rattle.net_lex.specs.declared.span.Span.{Span as Place};
+ghost use Rattle.net_fault.specs.declared.span.Span.{Span as Place};
 ghost use Rattle.net_tree.specs.View.{tree, links_of};
 ghost use Rattle.net_eval.specs.Sets as sets;
 ghost use Rattle.net_eval.specs.Values.{value as value_of};

@@ -1,32 +1,19 @@
 //! Groups of cells: the members of a key, and values behind it.
 
 ghost use Rattle.std.specs.Prelude.{◌≡◌, ◌<◌, ◌≤◌, ◌+◌, min, map, nat_eq, length, take, drop, IfOk};
-ghost use Rattle.net_lex.specs.declared.language.Language.TheVariants.{Data as InData};
-ghost use Rattle.net_eval.specs.declared.fault.Detail.TheVariants.{Nothing};
-ghost use Rattle.net_bind.specs.declared.fault.BindFault.TheVariants.{Refused};
-ghost use Rattle.net_bind.specs.declared.fault.BindDefect.TheVariants.{Value as AValue};
+ghost use Rattle.net_fault.specs.declared.language.Language.TheVariants.{Data as InData};
+ghost use Rattle.net_fault.specs.declared.detail.Detail.TheVariants.{Nothing};
+ghost use Rattle.net_fault.specs.declared.fault.Fault.TheVariants.{At};
 ghost use Rattle.net_data.specs.Rows.{points, groups};
 ghost use Rattle.net_bind.specs.SetData as set_data;
-ghost use Rattle.net_bind.specs.Outcomes.{Answers};
+ghost use Rattle.net_fault.specs.Outcomes.{Answers};
 
 use crate::cell::Cell;
-use crate::fault::{BindDefect, BindFault, refuse_in};
 use crate::given::Line;
-use net_eval::{Detail, EvalDefect};
-use net_lex::{Items, Kind, Language, Span};
+use net_fault::{Defect, Detail, Fault, Language, Span};
+use net_lex::Kind;
+use net_views::Items;
 use std::alloc::{AllocError, Global};
-
-/// A fault in the data text, of the kind that expressions may have too.
-pub(crate) fn refuse_there(defect: EvalDefect, at: Span) -> BindFault
-    ensures { result ≡ Refused (record { defect = AValue defect; text = InData; at = at; detail = Nothing }) }
-{
-    refuse_in(
-        Language::Data,
-        BindDefect::Value(defect),
-        at,
-        Detail::Nothing,
-    )
-}
 
 /// Where a row begins.
 pub(crate) fn begins_at(at: Span, row: &[Cell<'_, '_>]) -> Span
@@ -47,13 +34,13 @@ pub(crate) fn is_point(kind: Kind) -> bool
     }
 }
 
-fn without_points(key: &[Cell<'_, '_>]) -> Result<(), BindFault>
+fn without_points(key: &[Cell<'_, '_>]) -> Result<(), Fault>
     ensures { Answers (set_data.without_points key.now) result }
 {
     for cell in key {
         let token = cell.token();
         if is_point(token.kind) {
-            return Err(refuse_there(EvalDefect::Arity, token.span));
+            return Err(Fault::of_data(Defect::Arity, token.span));
         }
     }
     Ok(())
@@ -72,18 +59,13 @@ fn is_whole(keys: usize, values: usize, len: usize) -> bool
     len >= keys && len - keys == values
 }
 
-fn whole_group(
-    at: Span,
-    keys: usize,
-    values: usize,
-    group: &[Cell<'_, '_>],
-) -> Result<(), BindFault>
+fn whole_group(at: Span, keys: usize, values: usize, group: &[Cell<'_, '_>]) -> Result<(), Fault>
     ensures { Answers (set_data.whole_group at keys (keys + values) group.now) result }
 {
     if is_whole(keys, values, group.len()) {
         without_points(front(keys, group))
     } else {
-        Err(refuse_there(EvalDefect::Arity, begins_at(at, group)))
+        Err(Fault::of_data(Defect::Arity, begins_at(at, group)))
     }
 }
 
@@ -150,7 +132,7 @@ pub(crate) fn whole_groups(
     keys: usize,
     values: usize,
     groups: &[Line<'_, '_, '_>],
-) -> Result<(), BindFault>
+) -> Result<(), Fault>
     ensures { Answers (set_data.whole_groups at keys (keys + values) groups.now) result }
 {
     for group in groups {
@@ -160,17 +142,13 @@ pub(crate) fn whole_groups(
 }
 
 /// Each row has so many members.
-pub(crate) fn all_of_size(
-    at: Span,
-    size: usize,
-    rows: &[Items<Cell<'_, '_>>],
-) -> Result<(), BindFault>
+pub(crate) fn all_of_size(at: Span, size: usize, rows: &[Items<Cell<'_, '_>>]) -> Result<(), Fault>
     ensures { Answers (set_data.all_of_size at size rows.now) result }
 {
     for row in rows {
         let cells = row.as_slice();
         if cells.len() != size {
-            return Err(refuse_there(EvalDefect::Arity, begins_at(at, cells)));
+            return Err(Fault::of_data(Defect::Arity, begins_at(at, cells)));
         }
     }
     Ok(())

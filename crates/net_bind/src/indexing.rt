@@ -7,17 +7,17 @@ ghost use Rattle.net_sets.specs.Sets.{same_tuple};
 ghost use Rattle.net_tree.specs.View.{indexing_of};
 ghost use Rattle.net_eval.specs.Rows.{keys_of};
 ghost use Rattle.net_bind.specs.BoundParameters as bound;
-ghost use Rattle.net_bind.specs.Outcomes.{Answers};
+ghost use Rattle.net_fault.specs.Outcomes.{Answers};
 
-use crate::fault::{BindFault, refuse};
-use net_eval::{EvalDefect, Keys, Row, Scope, Seen, index_of, set_of_braces};
-use net_lex::{Items, Span};
+use net_eval::{Keys, Row, Scope, Seen, index_of, set_of_braces};
+use net_fault::{Defect, Fault, Span};
 use net_sets::{IndexedSet, SetFault, SharedSet, Tuple, TupleSet};
 use net_tree::{Braces, braces_span};
+use net_views::Items;
 use std::alloc::{AllocError, Global};
 
 /// One key without members, where there are no braces.
-fn lone_key<'s>(alloc: Global) -> Result<Keys<'s>, BindFault>
+fn lone_key<'s>(alloc: Global) -> Result<Keys<'s>, Fault>
     ensures { Answers (Ok bound.lone_key) result }
 {
     let mut rows = Vec::new(alloc);
@@ -36,7 +36,7 @@ pub(crate) fn keys_in<'s>(
     alloc: Global,
     seen: &Seen<'_, 's>,
     braces: &Option<Braces<'s>>,
-) -> Result<Keys<'s>, BindFault>
+) -> Result<Keys<'s>, Fault>
     ensures { Answers (bound.keys_in seen.now (indexing_of braces.now)) result }
 {
     match braces {
@@ -107,14 +107,14 @@ fn are_tuples<'s>(rows: &[Row<'s>], tuples: &[Tuple<'s>]) -> bool
 }
 
 /// The index list as a set of its own.
-fn listed<'s>(alloc: Global, at: Span, rows: &[Row<'s>]) -> Result<SharedSet<'s>, BindFault>
+fn listed<'s>(alloc: Global, at: Span, rows: &[Row<'s>]) -> Result<SharedSet<'s>, Fault>
     ensures { Answers (bound.index_list at rows.now) result }
 {
     let keys = keys_of(alloc, rows)?;
     match once(alloc, keys.as_slice()) {
         Ok(all) => Ok(SharedSet::new(alloc, all)?),
-        Err(SetFault::OutOfMemory) => Err(BindFault::OutOfMemory),
-        Err(SetFault::TooMany) => Err(refuse(EvalDefect::TooMany, at)),
+        Err(SetFault::OutOfMemory) => Err(Fault::OutOfMemory),
+        Err(SetFault::TooMany) => Err(Fault::of_model(Defect::TooMany, at)),
     }
 }
 
@@ -136,7 +136,7 @@ pub(crate) fn index_list<'s>(
     at: Span,
     braces: &Option<Braces<'s>>,
     rows: &[Row<'s>],
-) -> Result<SharedSet<'s>, BindFault>
+) -> Result<SharedSet<'s>, Fault>
     ensures { Answers (bound.index_list at rows.now) result }
 {
     match source_of(seen, braces) {

@@ -6,7 +6,7 @@ ghost use Rattle.net_bind.specs.SetData as set_data;
 use crate::cell::Cell;
 use crate::laid::cells_of;
 use net_data::{Cells, Members};
-use net_lex::Items;
+use net_views::Items;
 use std::alloc::{AllocError, Global};
 
 /// A tuple of a set, or a member that stands alone.

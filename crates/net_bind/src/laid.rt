@@ -5,7 +5,7 @@ ghost use Rattle.net_bind.specs.Mentions.{heading, body, given_cells};
 
 use crate::cell::Cell;
 use net_data::{Cells, Given, Statement};
-use net_lex::Items;
+use net_views::Items;
 use std::alloc::{AllocError, Global};
 use std::marker::Model;
 

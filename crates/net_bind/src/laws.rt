@@ -5,7 +5,7 @@ ghost use Rattle.net_data.specs.declared.statement.Statement.{Statement};
 ghost use Rattle.net_eval.specs.SetValues.{HasSets};
 ghost use Rattle.net_eval.specs.Worlds.{World};
 ghost use Rattle.net_tree.specs.Tree.{Declaration};
-ghost use Rattle.net_names.specs.Names.{IsWellNamed};
+ghost use Rattle.net_resolve.specs.Names.{IsWellNamed};
 ghost use Rattle.net_bind.specs.Binding as binding;
 ghost use Rattle.net_bind.specs.Binding.{AreNew};
 ghost use Rattle.net_bind.specs.DataRows as rows;

@@ -22,9 +22,9 @@ mod set;
 mod set_phrase;
 mod source;
 mod stored;
+mod walked;
 mod world;
 
-pub use fault::{BindDefect, BindFault, Refusal};
 pub use laws::{
     bound_worlds_have_parameters, bound_worlds_have_sets, rows_come_before_sources,
     statements_are_taken_by_rows, well_named_are_new,

@@ -2,11 +2,11 @@
 
 ghost use Rattle.std.specs.Prelude.{◌≡◌, false, IfOk, None, Ok, length};
 ghost use Rattle.net_data.specs.declared.statement.Statement.TheVariants as Statements;
+ghost use Rattle.net_bind.specs.declared.given.Given.TheVariants as given;
 ghost use Rattle.net_bind.specs.Mentions as mentions;
-ghost use Rattle.net_bind.specs.Outcomes.{Answers, Leaves};
+ghost use Rattle.net_fault.specs.Outcomes.{Answers, Leaves};
 
 use crate::cell::Cell;
-use crate::fault::BindFault;
 use crate::given::{Given, Grid, Groups, Line, Mention, Mentions};
 use crate::laid::Laid;
 use crate::names::Names;
@@ -14,7 +14,8 @@ use net_data::{
     ColumnsStatement, DefaultValue, ListStatement, NamedSet, SetStatement, Statement,
     TableStatement,
 };
-use net_lex::Items;
+use net_fault::Fault;
+use net_views::Items;
 use std::alloc::{AllocError, Global};
 
 fn default_word<'t, 's>(default: &Option<DefaultValue<'t, 's>>) -> Option<Cell<'t, 's>>
@@ -31,7 +32,7 @@ fn add<'m, 't, 's>(
     place: usize,
     mention: Mention<'m, 't, 's>,
     all: &mut Vec<Mentions<'m, 't, 's>>,
-) -> Result<(), BindFault>
+) -> Result<(), Fault>
     ensures { Leaves (Ok (mentions.with_mention place mention.entry all.old.items)) result all.new.items }
 {
     if place < all.len() {
@@ -45,7 +46,7 @@ fn in_set<'t, 's>(
     names: &Names<'s>,
     set: &SetStatement<'t, 's>,
     all: &mut Vec<Mentions<'_, 't, 's>>,
-) -> Result<(), BindFault>
+) -> Result<(), Fault>
     ensures { Leaves (mentions.in_statement names.now (Statements.Set set.now) all.old.items) result all.new.items }
 {
     let word = Cell::new(set.name.token());
@@ -68,7 +69,7 @@ fn in_list<'m, 't, 's>(
     list: &ListStatement<'t, 's>,
     cells: &'m [Cell<'t, 's>],
     all: &mut Vec<Mentions<'m, 't, 's>>,
-) -> Result<(), BindFault>
+) -> Result<(), Fault>
     requires { cells.now ≡ mentions.given_cells list.now.given }
     ensures { Leaves (mentions.in_statement names.now (Statements.List list.now) all.old.items) result all.new.items }
 {
@@ -99,7 +100,7 @@ fn in_table<'m, 't, 's>(
     columns: &'m [Cell<'t, 's>],
     cells: &'m [Cell<'t, 's>],
     all: &mut Vec<Mentions<'m, 't, 's>>,
-) -> Result<(), BindFault>
+) -> Result<(), Fault>
     requires heading { columns.now ≡ table.now.columns }
     requires cells { cells.now ≡ table.now.cells }
     ensures { Leaves (mentions.in_statement names.now (Statements.Table table.now) all.old.items) result all.new.items }
@@ -123,10 +124,7 @@ fn in_table<'m, 't, 's>(
     )
 }
 
-fn set_first<'s>(
-    names: &Names<'s>,
-    set: &Option<NamedSet<'_, 's>>,
-) -> Result<Option<usize>, BindFault>
+fn set_first<'s>(names: &Names<'s>, set: &Option<NamedSet<'_, 's>>) -> Result<Option<usize>, Fault>
     ensures { Answers (mentions.set_first names.now set.now) result }
 {
     match set {
@@ -152,7 +150,7 @@ fn first_of<'s>(
     names: &Names<'s>,
     words: &[Cell<'_, 's>],
     before: Option<usize>,
-) -> Result<Option<usize>, BindFault>
+) -> Result<Option<usize>, Fault>
     ensures { Answers (mentions.first_of names.now words.now before) result }
 {
     let mut first = before;
@@ -169,54 +167,49 @@ fn in_heading<'m, 't, 's>(
     words: &[Cell<'t, 's>],
     cells: &'m [Cell<'t, 's>],
     all: &mut Vec<Mentions<'m, 't, 's>>,
-) -> Result<(), BindFault>
+) -> Result<(), Fault>
     ensures { Leaves (mentions.headed names.now leader (length words.now) cells.entry.now 0 words.now all.old.items) result all.new.items }
 {
     for (place, word) in words.iter().enumerate() {
-        headed(names, leader, words.len(), place, word, cells, all)?;
+        let groups = Groups {
+            leader,
+            values: words.len(),
+            place,
+            cells: Line::new(cells),
+        };
+        headed(names, word, groups, all)?;
     }
     Ok(())
 }
 
-/// A parameter of a heading.
+/// A parameter of a heading, and its groups.
 fn headed<'m, 't, 's>(
     names: &Names<'s>,
-    leader: usize,
-    values: usize,
-    place: usize,
     word: &Cell<'t, 's>,
-    cells: &'m [Cell<'t, 's>],
+    groups: Groups<'m, 't, 's>,
     all: &mut Vec<Mentions<'m, 't, 's>>,
-) -> Result<(), BindFault>
-    ensures { Leaves (mentions.mentioned names.now false word.now (λ i. mentions.mention word.now None (mentions.grouped leader values place cells.entry.now)) all.old.items) result all.new.items }
+) -> Result<(), Fault>
+    ensures { Leaves (mentions.mentioned names.now false word.now (λ i. mentions.mention word.now None (given.Groups groups.entry)) all.old.items)
+        result all.new.items }
 {
     let target = names.target(false, word)?;
-    add_group(target, word.again(), leader, values, place, cells, all)
+    add_groups(target, word.again(), groups, all)
 }
 
-fn add_group<'m, 't, 's>(
+fn add_groups<'m, 't, 's>(
     target: usize,
     word: Cell<'t, 's>,
-    leader: usize,
-    values: usize,
-    place: usize,
-    cells: &'m [Cell<'t, 's>],
+    groups: Groups<'m, 't, 's>,
     all: &mut Vec<Mentions<'m, 't, 's>>,
-) -> Result<(), BindFault>
-    ensures { Leaves (Ok (mentions.with_mention target (mentions.mention word.entry None (mentions.grouped leader values place cells.entry.now)) all.old.items)) result all.new.items }
+) -> Result<(), Fault>
+    ensures { Leaves (Ok (mentions.with_mention target (mentions.mention word.entry None (given.Groups groups.entry)) all.old.items)) result all.new.items }
 {
-    let given = Given::Groups(Groups {
-        leader,
-        values,
-        place,
-        cells: Line::new(cells),
-    });
     add(
         target,
         Mention {
             word,
             default: None,
-            given,
+            given: Given::Groups(groups),
         },
         all,
     )
@@ -230,7 +223,7 @@ fn set_headed<'m, 't, 's>(
     set: &Option<NamedSet<'t, 's>>,
     cells: &'m [Cell<'t, 's>],
     all: &mut Vec<Mentions<'m, 't, 's>>,
-) -> Result<(), BindFault>
+) -> Result<(), Fault>
     ensures { Leaves (mentions.set_headed names.now leader values cells.entry.now set.now all.old.items) result all.new.items }
 {
     match set {
@@ -238,7 +231,13 @@ fn set_headed<'m, 't, 's>(
         Some(set) => {
             let word = Cell::new(set.name.token());
             let target = names.target(true, &word)?;
-            add_group(target, word, leader, values, 0, cells, all)
+            let groups = Groups {
+                leader,
+                values,
+                place: 0,
+                cells: Line::new(cells),
+            };
+            add_groups(target, word, groups, all)
         }
     }
 }
@@ -250,7 +249,7 @@ fn in_columns<'m, 't, 's>(
     words: &[Cell<'t, 's>],
     cells: &'m [Cell<'t, 's>],
     all: &mut Vec<Mentions<'m, 't, 's>>,
-) -> Result<(), BindFault>
+) -> Result<(), Fault>
     ensures { Leaves (mentions.in_columns names.now set.now words.now cells.entry.now all.old.items) result all.new.items }
 {
     let before = set_first(names, set)?;
@@ -263,7 +262,7 @@ fn in_statement<'m, 't, 's>(
     names: &Names<'s>,
     sheet: &'m Laid<'m, 't, 's>,
     all: &mut Vec<Mentions<'m, 't, 's>>,
-) -> Result<(), BindFault>
+) -> Result<(), Fault>
     ensures { Leaves (mentions.in_statement names.now sheet.entry.now all.old.items) result all.new.items }
 {
     match sheet.statement() {
@@ -298,7 +297,7 @@ pub(crate) fn said<'m, 't, 's>(
     alloc: Global,
     names: &Names<'s>,
     statements: &'m [Laid<'m, 't, 's>],
-) -> Result<Items<Mentions<'m, 't, 's>>, BindFault>
+) -> Result<Items<Mentions<'m, 't, 's>>, Fault>
     ensures { Answers (mentions.said names.now statements.entry.now) result }
 {
     let mut all = unsaid(alloc, names)?;

@@ -5,12 +5,13 @@ ghost use Rattle.std.specs.Str.{bytes_eq};
 ghost use Rattle.net_tree.specs.View.{model, declaration_of};
 ghost use Rattle.net_bind.specs.Kept.{told, or_else};
 ghost use Rattle.net_bind.specs.Names as names;
-ghost use Rattle.net_bind.specs.Outcomes.{Answers};
+ghost use Rattle.net_fault.specs.Outcomes.{Answers};
 
 use crate::cell::Cell;
-use crate::fault::{BindDefect, BindFault, refuse_name};
-use net_lex::{Excerpt, Language};
+use crate::fault::refuse_name;
+use net_fault::{Defect, Fault, Language};
 use net_tree::Decl;
+use net_views::Excerpt;
 use std::alloc::{AllocError, Global};
 use std::collections::BTreeMap;
 use std::marker::Model;
@@ -109,7 +110,7 @@ impl<'s> Names<'s> {
     }
 
     /// The place of the set, or of the parameter, that a word of the data names.
-    pub(crate) fn target(&self, is_set: bool, word: &Cell<'_, 's>) -> Result<usize, BindFault>
+    pub(crate) fn target(&self, is_set: bool, word: &Cell<'_, 's>) -> Result<usize, Fault>
         ensures { Answers (names.target self.now is_set word.now) result }
     {
         let token = word.token();
@@ -118,7 +119,7 @@ impl<'s> Names<'s> {
             _ => Err(refuse_name(
                 self.alloc,
                 Language::Data,
-                BindDefect::NoSuchName,
+                Defect::NoSuchName,
                 token.span,
                 &token.text,
             )?),

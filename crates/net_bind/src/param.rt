@@ -6,20 +6,21 @@ ghost use Rattle.net_tree.specs.View.{body_of, phrase_of, indexing_of};
 ghost use Rattle.net_eval.specs.declared.world.Entry.TheVariants.{Parameter as AParameter};
 ghost use Rattle.net_bind.specs.BoundParameters as bound;
 ghost use Rattle.net_bind.specs.declared.param.Gives.TheVariants as gives;
-ghost use Rattle.net_bind.specs.Outcomes.{Answers, Leaves};
+ghost use Rattle.net_fault.specs.Outcomes.{Answers, Leaves};
 
 use crate::cell::Cell;
-use crate::fault::{BindDefect, BindFault, refuse_in};
 use crate::given::Mention;
 use crate::indexing::{index_list, key_size, keys_in, span_or};
 use crate::param_data::said_of;
 use crate::restriction::restricted;
 use crate::source::{source, source_at, source_text, with_keys};
 use crate::stored::boxed;
-use net_eval::{Detail, Entry, EvalDefect, Row, Seen};
-use net_lex::{Boxed, Language, Span, Token};
+use net_eval::{Entry, Row, Seen};
+use net_fault::{Defect, Detail, Fault, Language, Span};
+use net_lex::Token;
 use net_sets::{Member, SharedSet, Table, TupleSet};
 use net_tree::{Begins, Body, Braces, Expr, Phrase, Role, role_of};
+use net_views::Boxed;
 use std::alloc::{AllocError, Global};
 
 /// The word of a phrase that gives values.
@@ -110,16 +111,16 @@ fn fit_kind(
     at: Span,
     cell: Option<Span>,
     member: &Member<'_>,
-) -> Result<(), BindFault>
+) -> Result<(), Fault>
     ensures { Answers (bound.fit_kind texts text at cell member.now) result }
 {
     if texts || is_number(member) {
         return Ok(());
     }
-    let defect = BindDefect::Value(EvalDefect::KindMismatch);
+    let defect = Defect::KindMismatch;
     match cell {
-        None => Err(refuse_in(text, defect, at, Detail::Nothing)),
-        Some(cell) => Err(refuse_in(Language::Data, defect, cell, Detail::Nothing)),
+        None => Err(Fault::of_text(text, defect, at, Detail::Nothing)),
+        Some(cell) => Err(Fault::of_text(Language::Data, defect, cell, Detail::Nothing)),
     }
 }
 
@@ -136,7 +137,7 @@ fn fit_value<'s>(
     near: usize,
     table: &Table<'s>,
     row: &Row<'s>,
-) -> Result<(), BindFault>
+) -> Result<(), Fault>
     ensures { Answers (bound.fit_row seen.now name.now keys (map phrase_of phrases.now) text at places.now table.now row.now) result }
 {
     match table.get_near(near, &row.key) {
@@ -161,7 +162,7 @@ fn fit_values<'s>(
     places: &[Span],
     table: &Table<'s>,
     rows: &[Row<'s>],
-) -> Result<(), BindFault>
+) -> Result<(), Fault>
     ensures { Answers (bound.fit_values seen.now name.now keys (map phrase_of phrases.now) text at places.now table.now rows.now) result }
 {
     let mut near: usize = 0;
@@ -186,8 +187,12 @@ fn with_values<'s>(
     rows: &[Row<'s>],
     places: &[Span],
     table: &mut Table<'s>,
-) -> Result<(), BindFault>
-    ensures { Leaves (bound.values seen.now name.now keys (map phrase_of phrases.now) (bound.as_tree (option_copied expr.entry), option_copied word.entry) rows.now (table.old, places.now)) result table.new }
+) -> Result<(), Fault>
+    ensures { Leaves (bound.values seen.now name.now keys (map phrase_of phrases.now) (
+      bound.as_tree (option_copied expr.entry),
+      option_copied
+          word.entry,
+    ) rows.now (table.old, places.now)) result table.new }
 {
     with_keys(alloc, seen, name.span, expr, word, rows, table)?;
     let at = source_at(name.span, expr, word);
@@ -216,8 +221,10 @@ fn with_source<'s>(
     rows: &[Row<'s>],
     places: &[Span],
     table: &mut Table<'s>,
-) -> Result<(), BindFault>
-    ensures { Leaves (bound.values seen.now name.now keys (map phrase_of phrases.now) (bound.source (bound.phrase_value gives.Becomes (map phrase_of phrases.now)) (option_copied default.entry) (bound.phrase_value gives.Default (map phrase_of phrases.now))) rows.now (table.old, places.now)) result table.new }
+) -> Result<(), Fault>
+    ensures { Leaves (bound.values seen.now name.now keys (map phrase_of phrases.now) (bound.source
+        (bound.phrase_value gives.Becomes (map phrase_of phrases.now)) (option_copied default.entry) (bound.phrase_value gives.Default
+        (map phrase_of phrases.now))) rows.now (table.old, places.now)) result table.new }
 {
     let assigned = phrase_value(Gives::Becomes, phrases);
     let otherwise = phrase_value(Gives::Default, phrases);
@@ -251,7 +258,7 @@ fn filled<'s>(
     rows: &[Row<'s>],
     index: &TupleSet<'s>,
     table: &mut Table<'s>,
-) -> Result<(), BindFault>
+) -> Result<(), Fault>
     requires { table.old ≡ [] }
     ensures { Leaves (bound.filled seen.now widths.now name.now (map phrase_of phrases.now) mentions.now keys rows.now index.now) result table.new }
 {
@@ -290,7 +297,7 @@ fn with_data<'s>(
     keys: Option<u8>,
     rows: &[Row<'s>],
     index: SharedSet<'s>,
-) -> Result<Boxed<Entry<'s>>, BindFault>
+) -> Result<Boxed<Entry<'s>>, Fault>
     ensures { Answers (bound.with_data seen.now widths.now name.now (map phrase_of phrases.now) mentions.now keys rows.now index.entry) result }
 {
     let mut table = Table::over(alloc, index.again()?)?;
@@ -318,7 +325,7 @@ pub(crate) fn bound_parameter<'s>(
     braces: &Option<Braces<'s>>,
     phrases: &[Phrase<'s>],
     mentions: &[Mention<'_, '_, 's>],
-) -> Result<Boxed<Entry<'s>>, BindFault>
+) -> Result<Boxed<Entry<'s>>, Fault>
     ensures { Answers (bound.bound_parameter seen.now widths.now name.now (indexing_of braces.now) (map phrase_of phrases.now) mentions.now) result }
 {
     let keys = keys_in(alloc, seen, braces)?;

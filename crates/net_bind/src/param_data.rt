@@ -4,26 +4,24 @@ ghost use Rattle.std.specs.Prelude.{◌≡◌, [], None};
 ghost use Rattle.net_eval.specs.Worlds.{key_count};
 ghost use Rattle.net_bind.specs.declared.given.Given.TheVariants as given;
 ghost use Rattle.net_bind.specs.Rows as rows;
-ghost use Rattle.net_bind.specs.Outcomes.{Answers, Leaves, each};
+ghost use Rattle.net_fault.specs.Outcomes.{Answers, Leaves, each};
 
 use crate::cell::Cell;
-use crate::fault::BindFault;
 use crate::given::{Given, Grid, Groups, Line, Mention};
-use crate::group::{cut, refuse_there, whole_groups};
+use crate::group::{cut, whole_groups};
 use crate::row::{pair_of, with_cell, with_groups};
 use crate::set::{agrees, doubled, told_by};
-use net_eval::EvalDefect;
-use net_lex::Span;
+use net_fault::{Defect, Fault, Span};
 use net_sets::{Table, TupleSet};
 use std::alloc::Global;
 
-fn has_two(word: &Cell<'_, '_>, keys: usize) -> Result<(), BindFault>
+fn has_two(word: &Cell<'_, '_>, keys: usize) -> Result<(), Fault>
     ensures { Answers (rows.has_two word.now keys) result }
 {
     if keys == 2 {
         Ok(())
     } else {
-        Err(refuse_there(EvalDefect::Arity, word.token().span))
+        Err(Fault::of_data(Defect::Arity, word.token().span))
     }
 }
 
@@ -39,8 +37,11 @@ fn across<'t, 's>(
     cells: &[Cell<'t, 's>],
     table: &mut Table<'s>,
     places: &mut Vec<Span>,
-) -> Result<(), BindFault>
-    ensures { Leaves (rows.across word.now keys index.now transposed row.now columns.now cells.now (table.old, places.old.items)) result (table.new, places.new.items) }
+) -> Result<(), Fault>
+    ensures { Leaves (rows.across word.now keys index.now transposed row.now columns.now cells.now (table.old, places.old.items)) result (
+      table.new,
+      places.new.items,
+    ) }
 {
     for (place, column) in columns.iter().enumerate() {
         let Some(cell) = cells.get(place) else {
@@ -70,8 +71,9 @@ fn with_line<'t, 's>(
     line: &[Cell<'t, 's>],
     table: &mut Table<'s>,
     places: &mut Vec<Span>,
-) -> Result<(), BindFault>
-    ensures { Leaves (rows.with_line word.now keys index.now grid.now.transposed grid.now.columns line.now (table.old, places.old.items)) result (table.new, places.new.items) }
+) -> Result<(), Fault>
+    ensures { Leaves (rows.with_line word.now keys index.now grid.now.transposed grid.now.columns line.now (table.old, places.old.items)) result
+        (table.new, places.new.items) }
 {
     match line {
         [] => Ok(()),
@@ -99,8 +101,9 @@ fn with_lines<'t, 's>(
     lines: &[Line<'_, 't, 's>],
     table: &mut Table<'s>,
     places: &mut Vec<Span>,
-) -> Result<(), BindFault>
-    ensures { Leaves (each (rows.with_line word.now keys index.now grid.now.transposed grid.now.columns) lines.now (table.old, places.old.items)) result (table.new, places.new.items) }
+) -> Result<(), Fault>
+    ensures { Leaves (each (rows.with_line word.now keys index.now grid.now.transposed grid.now.columns) lines.now (table.old, places.old.items))
+        result (table.new, places.new.items) }
 {
     for line in lines {
         with_line(alloc, word, keys, index, grid, line.cells(), table, places)?;
@@ -120,8 +123,9 @@ fn grouped<'t, 's>(
     is_doubled: bool,
     table: &mut Table<'s>,
     places: &mut Vec<Span>,
-) -> Result<(), BindFault>
-    ensures { Leaves (rows.taken widths.now keys index.now size word.now (given.Groups groups.now) is_doubled (table.old, places.old.items)) result (table.new, places.new.items) }
+) -> Result<(), Fault>
+    ensures { Leaves (rows.taken widths.now keys index.now size word.now (given.Groups groups.now) is_doubled (table.old, places.old.items)) result
+        (table.new, places.new.items) }
 {
     agrees(word, told_by(widths, groups.leader, size), size)?;
     let cells = cut(alloc, size, groups.values, groups.cells.cells())?;
@@ -153,8 +157,11 @@ fn gridded<'t, 's>(
     is_doubled: bool,
     table: &mut Table<'s>,
     places: &mut Vec<Span>,
-) -> Result<(), BindFault>
-    ensures { Leaves (rows.taken [] keys index.now size word.now (given.Grid grid.now) is_doubled (table.old, places.old.items)) result (table.new, places.new.items) }
+) -> Result<(), Fault>
+    ensures { Leaves (rows.taken [] keys index.now size word.now (given.Grid grid.now) is_doubled (table.old, places.old.items)) result (
+      table.new,
+      places.new.items,
+    ) }
 {
     has_two(word, size)?;
     let columns = grid.columns.cells();
@@ -185,8 +192,9 @@ fn taken<'s>(
     is_doubled: bool,
     table: &mut Table<'s>,
     places: &mut Vec<Span>,
-) -> Result<(), BindFault>
-    ensures { Leaves (rows.taken widths.now keys index.now size mention.now.word mention.now.given is_doubled (table.old, places.old.items)) result (table.new, places.new.items) }
+) -> Result<(), Fault>
+    ensures { Leaves (rows.taken widths.now keys index.now size mention.now.word mention.now.given is_doubled (table.old, places.old.items)) result
+        (table.new, places.new.items) }
 {
     let word = &mention.word;
     match &mention.given {
@@ -228,8 +236,9 @@ pub(crate) fn said_of<'t, 's>(
     mentions: &[Mention<'_, 't, 's>],
     table: &mut Table<'s>,
     places: &mut Vec<Span>,
-) -> Result<Option<Cell<'t, 's>>, BindFault>
-    ensures { rows.Gives (each (rows.with_statement widths.now keys index.now (key_count keys) is_assigned) mentions.now ((table.old, places.old.items), None)) result (table.new, places.new.items) }
+) -> Result<Option<Cell<'t, 's>>, Fault>
+    ensures { rows.Gives (each (rows.with_statement widths.now keys index.now (key_count keys) is_assigned) mentions.now
+        ((table.old, places.old.items), None)) result (table.new, places.new.items) }
 {
     let size = key_count(keys);
     let mut default: Option<Cell<'t, 's>> = None;

@@ -2,7 +2,7 @@
 
 ghost use Rattle.std.specs.Prelude.{◌≡◌, map};
 ghost use Rattle.net_tree.specs.View.{tree, body_of, phrase_of};
-ghost use Rattle.net_bind.specs.Outcomes.{Answers, evaluated};
+ghost use Rattle.net_fault.specs.Outcomes.{Answers};
 ghost use Rattle.net_bind.specs.Restrictions as restrictions;
 ghost use Rattle.net_eval.specs.Numbers as numbers;
 ghost use Rattle.net_eval.specs.Sets.{fits};
@@ -10,11 +10,13 @@ ghost use Rattle.net_eval.specs.Worlds as worlds;
 ghost use Rattle.net_eval.specs.declared.value.Value.TheVariants.{One};
 ghost use Rattle.net_bind.specs.declared.restriction.Relation.TheVariants as relations;
 
-use crate::fault::{BindDefect, BindFault, refuse, refuse_key};
-use net_eval::{EvalDefect, Row, Seen, Value, evaluate};
-use net_lex::{Excerpt, Language, Span, Token};
+use crate::fault::refuse_key;
+use net_eval::{Row, Seen, Value, evaluate};
+use net_fault::{Defect, Fault, Language, Span};
+use net_lex::Token;
 use net_sets::{Member, Tuple};
 use net_tree::{Body, Expr, Phrase, span_of};
+use net_views::Excerpt;
 use std::alloc::Global;
 
 /// How a phrase relates a value to that of its expression.
@@ -50,23 +52,23 @@ fn relation_of(word: &Token<'_>) -> Option<Relation>
     }
 }
 
-fn number_of(at: Span, member: &Member<'_>) -> Result<i64, BindFault>
-    ensures { Answers (evaluated (numbers.number at (One member.now))) result }
+fn number_of(at: Span, member: &Member<'_>) -> Result<i64, Fault>
+    ensures { Answers (numbers.number at (One member.now)) result }
 {
     match member {
         Member::Number(number) => Ok(*number),
-        Member::Name(_) => Err(refuse(EvalDefect::KindMismatch, at)),
+        Member::Name(_) => Err(Fault::of_model(Defect::KindMismatch, at)),
     }
 }
 
-fn number_in(at: Span, value: &Value<'_, '_>) -> Result<i64, BindFault>
-    ensures { Answers (evaluated (numbers.number at value.now)) result }
+fn number_in(at: Span, value: &Value<'_, '_>) -> Result<i64, Fault>
+    ensures { Answers (numbers.number at value.now) result }
 {
     match value {
         Value::One(member) => number_of(at, member),
-        Value::Several(_) => Err(refuse(EvalDefect::KindMismatch, at)),
-        Value::Many(_, _) => Err(refuse(EvalDefect::KindMismatch, at)),
-        Value::Truth(_) => Err(refuse(EvalDefect::KindMismatch, at)),
+        Value::Several(_) => Err(Fault::of_model(Defect::KindMismatch, at)),
+        Value::Many(_, _) => Err(Fault::of_model(Defect::KindMismatch, at)),
+        Value::Truth(_) => Err(Fault::of_model(Defect::KindMismatch, at)),
     }
 }
 
@@ -88,22 +90,22 @@ fn ordered<'s>(
     relation: Relation,
     member: &Member<'s>,
     value: &Value<'_, 's>,
-) -> Result<bool, BindFault>
-    ensures { Answers (evaluated (restrictions.ordered at (restrictions.compared relation) member.now value.now)) result }
+) -> Result<bool, Fault>
+    ensures { Answers (restrictions.ordered at (restrictions.compared relation) member.now value.now) result }
 {
     let first = number_of(at, member)?;
     let second = number_in(at, value)?;
     Ok(compared(relation, &first, &second))
 }
 
-fn unequal<'s>(at: Span, member: &Member<'s>, value: &Value<'_, 's>) -> Result<bool, BindFault>
-    ensures { Answers (evaluated (restrictions.related at relations.Unequal member.now value.now)) result }
+fn unequal<'s>(at: Span, member: &Member<'s>, value: &Value<'_, 's>) -> Result<bool, Fault>
+    ensures { Answers (restrictions.related at relations.Unequal member.now value.now) result }
 {
     match value {
         Value::One(other) => Ok(!(*member == *other)),
-        Value::Several(_) => Err(refuse(EvalDefect::KindMismatch, at)),
-        Value::Many(_, _) => Err(refuse(EvalDefect::KindMismatch, at)),
-        Value::Truth(_) => Err(refuse(EvalDefect::KindMismatch, at)),
+        Value::Several(_) => Err(Fault::of_model(Defect::KindMismatch, at)),
+        Value::Many(_, _) => Err(Fault::of_model(Defect::KindMismatch, at)),
+        Value::Truth(_) => Err(Fault::of_model(Defect::KindMismatch, at)),
     }
 }
 
@@ -116,20 +118,20 @@ fn is_single(dimension: Option<u8>) -> bool
     }
 }
 
-fn among<'s>(at: Span, member: &Member<'s>, value: &Value<'_, 's>) -> Result<bool, BindFault>
-    ensures { Answers (evaluated (restrictions.related at relations.Among member.now value.now)) result }
+fn among<'s>(at: Span, member: &Member<'s>, value: &Value<'_, 's>) -> Result<bool, Fault>
+    ensures { Answers (restrictions.related at relations.Among member.now value.now) result }
 {
     match value {
         Value::Many(dimension, set) => {
             if is_single(*dimension) {
                 Ok(set.get().contains(&Tuple::single(member.again())))
             } else {
-                Err(refuse(EvalDefect::Arity, at))
+                Err(Fault::of_model(Defect::Arity, at))
             }
         }
-        Value::One(_) => Err(refuse(EvalDefect::KindMismatch, at)),
-        Value::Several(_) => Err(refuse(EvalDefect::KindMismatch, at)),
-        Value::Truth(_) => Err(refuse(EvalDefect::KindMismatch, at)),
+        Value::One(_) => Err(Fault::of_model(Defect::KindMismatch, at)),
+        Value::Several(_) => Err(Fault::of_model(Defect::KindMismatch, at)),
+        Value::Truth(_) => Err(Fault::of_model(Defect::KindMismatch, at)),
     }
 }
 
@@ -139,8 +141,8 @@ fn related<'s>(
     relation: Relation,
     member: &Member<'s>,
     value: &Value<'_, 's>,
-) -> Result<bool, BindFault>
-    ensures { Answers (evaluated (restrictions.related at relation member.now value.now)) result }
+) -> Result<bool, Fault>
+    ensures { Answers (restrictions.related at relation member.now value.now) result }
 {
     match relation {
         Relation::Less => ordered(at, relation, member, value),
@@ -161,8 +163,9 @@ fn restricted_by<'s>(
     member: &Member<'s>,
     relation: Option<Relation>,
     expr: &Expr<'s>,
-) -> Result<(), BindFault>
-    ensures { Answers (restrictions.restricted_by seen.now row.now.scope (worlds.reference name.now keys row.now.key) member.now relation (tree expr.now)) result }
+) -> Result<(), Fault>
+    ensures { Answers (restrictions.restricted_by seen.now row.now.scope (worlds.reference name.now keys row.now.key) member.now relation (tree
+        expr.now)) result }
 {
     let Some(relation) = relation else {
         return Ok(());
@@ -172,7 +175,7 @@ fn restricted_by<'s>(
     if related(at, relation, member, &value)? {
         Ok(())
     } else {
-        let defect = BindDefect::Restriction;
+        let defect = Defect::Restriction;
         Err(refuse_key(alloc, Language::Model, defect, at, name, keys, &row.key)?)
     }
 }
@@ -186,8 +189,9 @@ fn restricted_in<'s>(
     member: &Member<'s>,
     word: &Token<'s>,
     body: &Body<'s>,
-) -> Result<(), BindFault>
-    ensures { Answers (restrictions.restricted_in seen.now row.now.scope (worlds.reference name.now keys row.now.key) member.now word.now (body_of body.now)) result }
+) -> Result<(), Fault>
+    ensures { Answers (restrictions.restricted_in seen.now row.now.scope (worlds.reference name.now keys row.now.key) member.now word.now (body_of
+        body.now)) result }
 {
     match body {
         Body::Plain => Ok(()),
@@ -216,8 +220,9 @@ pub(crate) fn restricted<'s>(
     row: &Row<'s>,
     member: &Member<'s>,
     phrases: &[Phrase<'s>],
-) -> Result<(), BindFault>
-    ensures { Answers (restrictions.restricted seen.now row.now.scope (worlds.reference name.now keys row.now.key) member.now (map phrase_of phrases.now)) result }
+) -> Result<(), Fault>
+    ensures { Answers (restrictions.restricted seen.now row.now.scope (worlds.reference name.now keys row.now.key) member.now (map phrase_of
+        phrases.now)) result }
 {
     for phrase in phrases {
         restricted_in(

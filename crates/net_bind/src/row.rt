@@ -2,21 +2,19 @@
 
 ghost use Rattle.std.specs.Prelude.{◌≡◌, ◌+◌, IfOk, None, Some, slice_get};
 ghost use Rattle.std.specs.Option.{option_copied};
-ghost use Rattle.net_eval.specs.declared.fault.Detail.TheVariants.{Nothing};
-ghost use Rattle.net_eval.specs.declared.fault.EvalDefect.TheVariants.{TooMany};
-ghost use Rattle.net_bind.specs.declared.fault.BindFault.TheVariants.{Refused};
-ghost use Rattle.net_bind.specs.declared.fault.BindDefect.TheVariants.{Value as AValue};
+ghost use Rattle.net_fault.specs.declared.defect.Defect.TheVariants.{TooMany};
+ghost use Rattle.net_fault.specs.declared.fault.Fault.TheVariants.{At};
 ghost use Rattle.net_sets.specs.Sets.{at_key};
 ghost use Rattle.net_bind.specs.Rows as rows;
-ghost use Rattle.net_bind.specs.Outcomes.{Leaves, each};
+ghost use Rattle.net_fault.specs.Outcomes.{Leaves, each, bare};
 
 use crate::cell::{Cell, tuple_in};
-use crate::fault::{BindDefect, BindFault, refuse_in, refuse_key};
+use crate::fault::refuse_key;
 use crate::given::Line;
 use crate::group::{begins_at, front, is_point};
-use net_eval::{Detail, EvalDefect};
-use net_lex::{Items, Language, Span};
-use net_sets::{Member, Table, Tuple, TupleSet};
+use net_fault::{Defect, Detail, Fault, Language, Span};
+use net_sets::{Member, SetFault, Table, Tuple, TupleSet};
+use net_views::Items;
 use std::alloc::{AllocError, Global};
 
 /// A value more, of which there are not too many; its key is probably at this place of the index list.
@@ -27,26 +25,21 @@ pub(crate) fn with_value<'s>(
     key: &Tuple<'s>,
     member: Member<'s>,
     table: &mut Table<'s>,
-) -> Result<(), BindFault>
+) -> Result<(), Fault>
     requires { at_key table.old key.now ≡ None }
     ensures { Leaves (rows.with_value text at key.now member.entry table.old) result table.new }
 {
-    if table.len() < 1_000_000 {
-        Ok(table.insert_near(near, key, member)?)
-    } else {
-        Err(too_many(text, at))
+    match table.insert_near(near, key, member) {
+        Ok(()) => Ok(()),
+        Err(SetFault::OutOfMemory) => Err(Fault::OutOfMemory),
+        Err(SetFault::TooMany) => Err(too_many(text, at)),
     }
 }
 
-fn too_many(text: Language, at: Span) -> BindFault
-    ensures { result ≡ Refused (record { defect = AValue TooMany; text = text; at = at; detail = Nothing }) }
+fn too_many(text: Language, at: Span) -> Fault
+    ensures { result ≡ At (bare text TooMany at) }
 {
-    refuse_in(
-        text,
-        BindDefect::Value(EvalDefect::TooMany),
-        at,
-        Detail::Nothing,
-    )
+    Fault::of_text(text, Defect::TooMany, at, Detail::Nothing)
 }
 
 /// A row for a key that has no value yet, and is in the index list.
@@ -59,7 +52,7 @@ fn with_row<'s>(
     value: &Cell<'_, 's>,
     table: &mut Table<'s>,
     places: &mut Vec<Span>,
-) -> Result<(), BindFault>
+) -> Result<(), Fault>
     ensures { Leaves (rows.with_row word.now keys index.now cells.now value.now (table.old, places.old.items)) result (table.new, places.new.items) }
 {
     let key = tuple_in(cells);
@@ -68,11 +61,11 @@ fn with_row<'s>(
     let place = index.position_near(table.next(), &key);
     let near = place.unwrap_or(0);
     if table.get_near(near, &key).is_some() {
-        let defect = BindDefect::DoubleValue;
+        let defect = Defect::DoubleValue;
         return Err(refuse_key(alloc, Language::Data, defect, at, name, keys, &key)?);
     }
     if place.is_none() {
-        let defect = BindDefect::Value(EvalDefect::OutsideSet);
+        let defect = Defect::OutsideSet;
         return Err(refuse_key(alloc, Language::Data, defect, at, name, keys, &key)?);
     }
     with_value(Language::Data, at, near, &key, value.member(), table)?;
@@ -90,7 +83,7 @@ pub(crate) fn with_cell<'s>(
     value: &Cell<'_, 's>,
     table: &mut Table<'s>,
     places: &mut Vec<Span>,
-) -> Result<(), BindFault>
+) -> Result<(), Fault>
     ensures { Leaves (rows.with_cell word.now keys index.now cells.now (Some value.now) (table.old, places.old.items)) result (table.new, places.new.items) }
 {
     if is_point(value.token().kind) {
@@ -111,7 +104,7 @@ fn with_group<'s>(
     group: &[Cell<'_, 's>],
     table: &mut Table<'s>,
     places: &mut Vec<Span>,
-) -> Result<(), BindFault>
+) -> Result<(), Fault>
     ensures { Leaves (rows.with_group word.now keys index.now size place group.now (table.old, places.old.items)) result (table.new, places.new.items) }
 {
     match value_at(size, place, group) {
@@ -155,7 +148,7 @@ pub(crate) fn with_groups<'s>(
     groups: &[Line<'_, '_, 's>],
     table: &mut Table<'s>,
     places: &mut Vec<Span>,
-) -> Result<(), BindFault>
+) -> Result<(), Fault>
     ensures { Leaves (each (rows.with_group word.now keys index.now size place) groups.now (table.old, places.old.items)) result (table.new, places.new.items) }
 {
     for group in groups {

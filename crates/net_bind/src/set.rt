@@ -3,28 +3,30 @@
 ghost use Rattle.std.specs.Prelude.{◌≡◌, ◌||◌, [], IfOk, is_some, map};
 ghost use Rattle.std.specs.Option.{option_copied};
 ghost use Rattle.net_eval.specs.declared.world.Entry.TheVariants.{Set as ASet};
-ghost use Rattle.net_lex.specs.declared.language.Language.TheVariants.{Data as InData};
-ghost use Rattle.net_eval.specs.declared.fault.Detail.TheVariants.{Told};
-ghost use Rattle.net_bind.specs.declared.fault.BindFault.TheVariants.{Refused};
-ghost use Rattle.net_bind.specs.declared.fault.BindDefect.TheVariants.{DoubleValue};
+ghost use Rattle.net_fault.specs.declared.language.Language.TheVariants.{Data as InData};
+ghost use Rattle.net_fault.specs.declared.detail.Detail.TheVariants.{Told};
+ghost use Rattle.net_fault.specs.declared.fault.Fault.TheVariants.{At};
+ghost use Rattle.net_fault.specs.declared.defect.Defect.TheVariants.{DoubleValue};
 ghost use Rattle.net_bind.specs.declared.given.Given.TheVariants as given;
 ghost use Rattle.net_tree.specs.View.{phrase_of};
 ghost use Rattle.net_bind.specs.BoundSets as bound;
 ghost use Rattle.net_bind.specs.SetData as set_data;
-ghost use Rattle.net_bind.specs.Outcomes.{Answers, Leaves, each};
+ghost use Rattle.net_fault.specs.Outcomes.{Answers, Leaves, each, found};
 
 use crate::cell::{Cell, tuple_in};
-use crate::fault::{BindDefect, BindFault, refuse_name};
+use crate::fault::refuse_name;
 use crate::given::{Given, Groups, Mention};
-use crate::group::{all_of_size, begins_at, cut, keys_of, refuse_there, whole_groups};
+use crate::group::{all_of_size, begins_at, cut, keys_of, whole_groups};
 use crate::item::set_rows;
 use crate::set_phrase::{Claim, Claims, SetPhrase, assigned, set_phrases};
 use crate::stored::{boxed, unboxed};
 use net_data::Members;
-use net_eval::{Entry, EvalDefect, Seen};
-use net_lex::{Boxed, Items, Language, Token};
+use net_eval::{Entry, Seen};
+use net_fault::{Defect, Fault, Language};
+use net_lex::Token;
 use net_sets::{IndexedSet, SetFault, TupleSet};
 use net_tree::Phrase;
+use net_views::{Boxed, Items};
 use std::alloc::{AllocError, Global};
 
 /// How many members a key has: as many as the first declared name of the heading says, if that was bound before.
@@ -37,25 +39,25 @@ pub(crate) fn told_by(widths: &[usize], leader: usize, own: usize) -> usize
     }
 }
 
-pub(crate) fn agrees(word: &Cell<'_, '_>, told: usize, own: usize) -> Result<(), BindFault>
+pub(crate) fn agrees(word: &Cell<'_, '_>, told: usize, own: usize) -> Result<(), Fault>
     ensures { Answers (set_data.agrees word.now told own) result }
 {
     if told == own {
         Ok(())
     } else {
-        Err(refuse_there(EvalDefect::Arity, word.token().span))
+        Err(Fault::of_data(Defect::Arity, word.token().span))
     }
 }
 
 /// The name of a statement gives what was given before.
-pub(crate) fn doubled(alloc: Global, word: &Cell<'_, '_>) -> Result<BindFault, AllocError>
-    ensures { IfOk result (λ f. f ≡ Refused (record { defect = DoubleValue; text = InData; at = word.now.span; detail = Told word.now.text })) }
+pub(crate) fn doubled(alloc: Global, word: &Cell<'_, '_>) -> Result<Fault, AllocError>
+    ensures { IfOk result (λ f. f ≡ At (found InData DoubleValue word.now.span (Told word.now.text))) }
 {
     let token = word.token();
     refuse_name(
         alloc,
         Language::Data,
-        BindDefect::DoubleValue,
+        Defect::DoubleValue,
         token.span,
         &token.text,
     )
@@ -66,7 +68,7 @@ fn member_rows<'t, 's>(
     dimension: usize,
     word: &Cell<'t, 's>,
     members: &Members<'t, 's>,
-) -> Result<Items<Items<Cell<'t, 's>>>, BindFault>
+) -> Result<Items<Items<Cell<'t, 's>>>, Fault>
     ensures { Answers (set_data.given_rows [] dimension word.now (given.Members members.now)) result }
 {
     let rows = set_rows(alloc, dimension, members)?;
@@ -80,7 +82,7 @@ fn key_rows<'t, 's>(
     dimension: usize,
     word: &Cell<'t, 's>,
     groups: &Groups<'_, 't, 's>,
-) -> Result<Items<Items<Cell<'t, 's>>>, BindFault>
+) -> Result<Items<Items<Cell<'t, 's>>>, Fault>
     ensures { Answers (set_data.given_rows widths.now dimension word.now (given.Groups groups.now)) result }
 {
     agrees(word, told_by(widths, groups.leader, dimension), dimension)?;
@@ -99,7 +101,7 @@ fn given_rows<'t, 's>(
     widths: &[usize],
     dimension: usize,
     mention: &Mention<'_, 't, 's>,
-) -> Result<Items<Items<Cell<'t, 's>>>, BindFault>
+) -> Result<Items<Items<Cell<'t, 's>>>, Fault>
     ensures { Answers (set_data.given_rows widths.now dimension mention.now.word mention.now.given) result }
 {
     match &mention.given {
@@ -114,7 +116,7 @@ fn with_member<'s>(
     word: &Cell<'_, 's>,
     row: &[Cell<'_, 's>],
     set: &mut TupleSet<'s>,
-) -> Result<(), BindFault>
+) -> Result<(), Fault>
     ensures { Leaves (set_data.with_member word.now row.now set.old) result set.new }
 {
     let token = word.token();
@@ -122,15 +124,9 @@ fn with_member<'s>(
     let _few = set.len();
     match set.add_new(tuple_in(row)) {
         Ok(true) => Ok(()),
-        Ok(false) => Err(refuse_name(
-            alloc,
-            Language::Data,
-            BindDefect::DoubleValue,
-            at,
-            &token.text,
-        )?),
-        Err(SetFault::OutOfMemory) => Err(BindFault::OutOfMemory),
-        Err(SetFault::TooMany) => Err(refuse_there(EvalDefect::TooMany, at)),
+        Ok(false) => Err(refuse_name(alloc, Language::Data, Defect::DoubleValue, at, &token.text)?),
+        Err(SetFault::OutOfMemory) => Err(Fault::OutOfMemory),
+        Err(SetFault::TooMany) => Err(Fault::of_data(Defect::TooMany, at)),
     }
 }
 
@@ -138,7 +134,7 @@ fn members_of<'s>(
     alloc: Global,
     word: &Cell<'_, 's>,
     rows: &[Items<Cell<'_, 's>>],
-) -> Result<Boxed<TupleSet<'s>>, BindFault>
+) -> Result<Boxed<TupleSet<'s>>, Fault>
     ensures { Answers (each (set_data.with_member word.now) rows.now []) result }
 {
     let mut set = TupleSet::new(alloc);
@@ -163,7 +159,7 @@ fn with_statement<'s>(
     is_assigned: bool,
     mention: &Mention<'_, '_, 's>,
     found: Option<Boxed<TupleSet<'s>>>,
-) -> Result<Option<Boxed<TupleSet<'s>>>, BindFault>
+) -> Result<Option<Boxed<TupleSet<'s>>>, Fault>
     ensures { Answers (set_data.with_statement widths.now dimension is_assigned mention.now found.entry) result }
 {
     let rows = given_rows(alloc, widths, dimension, mention)?;
@@ -181,7 +177,7 @@ fn given_set<'s>(
     dimension: usize,
     is_assigned: bool,
     mentions: &[Mention<'_, '_, 's>],
-) -> Result<Option<Boxed<TupleSet<'s>>>, BindFault>
+) -> Result<Option<Boxed<TupleSet<'s>>>, Fault>
     ensures { Answers (set_data.given_set widths.now dimension is_assigned mentions.now) result }
 {
     let mut found = None;
@@ -197,7 +193,7 @@ fn one_of<'s>(
     name: &Token<'s>,
     assigned: Option<&TupleSet<'s>>,
     found: Option<Boxed<TupleSet<'s>>>,
-) -> Result<Boxed<TupleSet<'s>>, BindFault>
+) -> Result<Boxed<TupleSet<'s>>, Fault>
     ensures { Answers (bound.one_of name.now (option_copied assigned.entry) found.entry) result }
 {
     match (assigned, found) {
@@ -206,7 +202,7 @@ fn one_of<'s>(
         (None, None) => Err(refuse_name(
             alloc,
             Language::Model,
-            BindDefect::Value(EvalDefect::NoValue),
+            Defect::NoValue,
             name.span,
             &name.text,
         )?),
@@ -230,7 +226,7 @@ fn allowed<'s>(
     name: &Token<'s>,
     set: &TupleSet<'s>,
     phrases: &[SetPhrase<'_, 's>],
-) -> Result<(), BindFault>
+) -> Result<(), Fault>
     ensures { Answers (bound.allowed name.now set.now phrases.now) result }
 {
     for phrase in phrases {
@@ -238,7 +234,7 @@ fn allowed<'s>(
             return Err(refuse_name(
                 alloc,
                 Language::Model,
-                BindDefect::Restriction,
+                Defect::Restriction,
                 phrase.at,
                 &name.text,
             )?);
@@ -247,25 +243,27 @@ fn allowed<'s>(
     Ok(())
 }
 
-/// The entry of a set; how a world keeps sets is known here alone.
+/// The entry of a set, which may be gone through by a component; how a world keeps sets is known here alone.
 fn set_entry<'s>(
     alloc: Global,
+    is_walked: bool,
     dimension: u8,
     set: Boxed<TupleSet<'s>>,
 ) -> Result<Boxed<Entry<'s>>, AllocError>
     ensures { IfOk result (λ e. e ≡ ASet dimension set.entry) }
 {
-    let set = IndexedSet::new(alloc, unboxed(set))?;
+    let set = IndexedSet::new(alloc, is_walked, unboxed(set))?;
     boxed(alloc, Entry::Set(dimension, set))
 }
 
 fn set_of<'s>(
     alloc: Global,
+    is_walked: bool,
     widths: &[usize],
     name: &Token<'s>,
     mentions: &[Mention<'_, '_, 's>],
     claims: &Claims<'_, 's>,
-) -> Result<Boxed<Entry<'s>>, BindFault>
+) -> Result<Boxed<Entry<'s>>, Fault>
     ensures { Answers (bound.set_of widths.now name.now mentions.now claims.now) result }
 {
     let phrases = claims.phrases.as_slice();
@@ -280,20 +278,21 @@ fn set_of<'s>(
     )?;
     let set = one_of(alloc, name, assigned, found)?;
     allowed(alloc, name, set.get(), phrases)?;
-    Ok(set_entry(alloc, dimension, set)?)
+    Ok(set_entry(alloc, is_walked, dimension, set)?)
 }
 
 /// What a declared set is: what its phrases say, then what data say, then what it is.
 pub(crate) fn bound_set<'s>(
     alloc: Global,
+    is_walked: bool,
     seen: &Seen<'_, 's>,
     widths: &[usize],
     name: &Token<'s>,
     phrases: &[Phrase<'s>],
     mentions: &[Mention<'_, '_, 's>],
-) -> Result<Boxed<Entry<'s>>, BindFault>
+) -> Result<Boxed<Entry<'s>>, Fault>
     ensures { Answers (bound.bound_set seen.now widths.now name.now (map phrase_of phrases.now) mentions.now) result }
 {
     let claims = set_phrases(alloc, seen, phrases)?;
-    set_of(alloc, widths, name, mentions, &claims)
+    set_of(alloc, is_walked, widths, name, mentions, &claims)
 }

@@ -4,18 +4,18 @@ ghost use Rattle.std.specs.Prelude.{◌≡◌, None, Ok, map};
 ghost use Rattle.std.specs.Option.{option_copied, IfSome};
 ghost use Rattle.net_tree.specs.Spans as trees;
 ghost use Rattle.net_tree.specs.View.{tree, body_of, phrase_of};
-ghost use Rattle.net_bind.specs.Outcomes.{Answers};
+ghost use Rattle.net_fault.specs.Outcomes.{Answers};
 ghost use Rattle.net_bind.specs.SetPhrases as phrases;
 ghost use Rattle.net_bind.specs.declared.set_phrase.SetWord.TheVariants as words;
 
 use crate::crossing::crossed;
-use crate::fault::{BindFault, refuse};
 use crate::fence::Fence;
 use crate::stored::{StoredSet, unboxed, value_of};
-use net_eval::{EvalDefect, Seen, Value};
-use net_lex::{Boxed, Items, Span};
+use net_eval::{Seen, Value};
+use net_fault::{Defect, Fault, Span};
 use net_sets::{Member, TupleSet};
 use net_tree::{Begins, Body, Expr, Phrase, Relates, Role, role_of, span_of};
+use net_views::{Boxed, Items};
 use std::alloc::Global;
 
 /// The word of a phrase.
@@ -64,7 +64,7 @@ fn set_word(role: Role) -> SetWord
     }
 }
 
-fn dimension<'w, 's>(at: Span, value: &Value<'_, 's>) -> Result<Claim<'w, 's>, BindFault>
+fn dimension<'w, 's>(at: Span, value: &Value<'_, 's>) -> Result<Claim<'w, 's>, Fault>
     ensures { Answers (phrases.dimension at value.now) result }
 {
     match value {
@@ -72,10 +72,10 @@ fn dimension<'w, 's>(at: Span, value: &Value<'_, 's>) -> Result<Claim<'w, 's>, B
             if *number >= 1 && *number <= 4 {
                 Ok(Claim::Dimension(number.unsigned_abs() as u8))
             } else {
-                Err(refuse(EvalDefect::Arity, at))
+                Err(Fault::of_model(Defect::Arity, at))
             }
         }
-        _ => Err(refuse(EvalDefect::KindMismatch, at)),
+        _ => Err(Fault::of_model(Defect::KindMismatch, at)),
     }
 }
 
@@ -84,7 +84,7 @@ fn claimed<'w, 's>(
     word: SetWord,
     at: Span,
     value: Boxed<Value<'w, 's>>,
-) -> Result<Claim<'w, 's>, BindFault>
+) -> Result<Claim<'w, 's>, Fault>
     ensures { Answers (phrases.claimed word at value.entry) result }
 {
     match word {
@@ -95,7 +95,7 @@ fn claimed<'w, 's>(
     }
 }
 
-fn within<'w, 's>(alloc: Global, at: Span, value: Value<'w, 's>) -> Result<Claim<'w, 's>, BindFault>
+fn within<'w, 's>(alloc: Global, at: Span, value: Value<'w, 's>) -> Result<Claim<'w, 's>, Fault>
     ensures { Answers (phrases.claimed words.Within at value.entry) result }
 {
     match value.into_set() {
@@ -103,20 +103,16 @@ fn within<'w, 's>(alloc: Global, at: Span, value: Value<'w, 's>) -> Result<Claim
             let set = StoredSet::new(alloc, set)?;
             Ok(Claim::Within(dimension, Fence::whole(set)))
         }
-        None => Err(refuse(EvalDefect::KindMismatch, at)),
+        None => Err(Fault::of_model(Defect::KindMismatch, at)),
     }
 }
 
-fn becomes<'w, 's>(
-    alloc: Global,
-    at: Span,
-    value: Value<'w, 's>,
-) -> Result<Claim<'w, 's>, BindFault>
+fn becomes<'w, 's>(alloc: Global, at: Span, value: Value<'w, 's>) -> Result<Claim<'w, 's>, Fault>
     ensures { Answers (phrases.claimed words.Becomes at value.entry) result }
 {
     match value.into_set() {
         Some((dimension, set)) => Ok(Claim::Becomes(dimension, StoredSet::new(alloc, set)?)),
-        None => Err(refuse(EvalDefect::KindMismatch, at)),
+        None => Err(Fault::of_model(Defect::KindMismatch, at)),
     }
 }
 
@@ -125,7 +121,7 @@ fn evaluated_phrase<'w, 's>(
     seen: &Seen<'w, 's>,
     word: SetWord,
     expr: &Expr<'s>,
-) -> Result<SetPhrase<'w, 's>, BindFault>
+) -> Result<SetPhrase<'w, 's>, Fault>
     ensures { Answers (phrases.set_phrase seen.now word (tree expr.now)) result }
 {
     let value = value_of(alloc, seen, expr)?;
@@ -154,7 +150,7 @@ fn set_phrase<'w, 's>(
     seen: &Seen<'w, 's>,
     word: SetWord,
     expr: &Expr<'s>,
-) -> Result<SetPhrase<'w, 's>, BindFault>
+) -> Result<SetPhrase<'w, 's>, Fault>
     ensures { Answers (phrases.set_phrase seen.now word (tree expr.now)) result }
 {
     match word {
@@ -178,7 +174,7 @@ fn dimension_of(claim: &Claim<'_, '_>) -> Option<u8>
 }
 
 /// The dimension that two say, who must agree.
-fn agreed(at: Span, before: Option<u8>, now: Option<u8>) -> Result<Option<u8>, BindFault>
+fn agreed(at: Span, before: Option<u8>, now: Option<u8>) -> Result<Option<u8>, Fault>
     ensures { Answers (phrases.agreed at before now) result }
 {
     match (before, now) {
@@ -188,7 +184,7 @@ fn agreed(at: Span, before: Option<u8>, now: Option<u8>) -> Result<Option<u8>, B
             if dimension == other {
                 Ok(Some(dimension))
             } else {
-                Err(refuse(EvalDefect::Arity, at))
+                Err(Fault::of_model(Defect::Arity, at))
             }
         }
     }
@@ -197,7 +193,7 @@ fn agreed(at: Span, before: Option<u8>, now: Option<u8>) -> Result<Option<u8>, B
 fn with_phrase<'w, 's>(
     claims: Claims<'w, 's>,
     phrase: SetPhrase<'w, 's>,
-) -> Result<Claims<'w, 's>, BindFault>
+) -> Result<Claims<'w, 's>, Fault>
     ensures { Answers (phrases.with_phrase claims.entry phrase.entry) result }
 {
     let Claims { dimension, phrases } = claims;
@@ -216,7 +212,7 @@ fn in_body<'w, 's>(
     word: SetWord,
     body: &Body<'s>,
     claims: Claims<'w, 's>,
-) -> Result<Claims<'w, 's>, BindFault>
+) -> Result<Claims<'w, 's>, Fault>
     ensures { Answers (phrases.in_body seen.now word (body_of body.now) claims.entry) result }
 {
     match body {
@@ -243,7 +239,7 @@ pub(crate) fn set_phrases<'w, 's>(
     alloc: Global,
     seen: &Seen<'w, 's>,
     all: &[Phrase<'s>],
-) -> Result<Claims<'w, 's>, BindFault>
+) -> Result<Claims<'w, 's>, Fault>
     ensures { Answers (phrases.set_phrases seen.now (map phrase_of all.now)) result }
 {
     let mut claims = unclaimed(alloc);

@@ -3,13 +3,12 @@
 ghost use Rattle.std.specs.Prelude.{◌≡◌};
 ghost use Rattle.std.specs.Option.{option_copied};
 ghost use Rattle.net_bind.specs.BoundParameters as bound;
-ghost use Rattle.net_bind.specs.Outcomes.{Answers, Leaves, each};
+ghost use Rattle.net_fault.specs.Outcomes.{Answers, Leaves, each};
 
 use crate::cell::Cell;
-use crate::fault::BindFault;
 use crate::row::with_value;
 use net_eval::{Row, Scope, Seen, member};
-use net_lex::{Language, Span};
+use net_fault::{Fault, Language, Span};
 use net_sets::{Member, Table};
 use net_tree::{Expr, span_of};
 use std::alloc::Global;
@@ -20,7 +19,8 @@ pub(crate) fn source<'a, 'c, 's>(
     default: Option<&'a Cell<'c, 's>>,
     otherwise: Option<&'a Expr<'s>>,
 ) -> (Option<&'a Expr<'s>>, Option<&'a Cell<'c, 's>>)
-    ensures { (bound.as_tree (option_copied result.0), option_copied result.1) ≡ bound.source (bound.as_tree (option_copied assigned.entry)) (option_copied default.entry) (bound.as_tree (option_copied otherwise.entry)) }
+    ensures { (bound.as_tree (option_copied result.0), option_copied result.1) ≡ bound.source (bound.as_tree (option_copied assigned.entry))
+        (option_copied default.entry) (bound.as_tree (option_copied otherwise.entry)) }
 {
     match (assigned, default) {
         (Some(expr), _) => (Some(expr), None),
@@ -35,7 +35,7 @@ fn from_source<'s>(
     scope: &Scope<'s>,
     expr: Option<&Expr<'s>>,
     word: Option<&Cell<'_, 's>>,
-) -> Result<Option<Member<'s>>, BindFault>
+) -> Result<Option<Member<'s>>, Fault>
     ensures { Answers (bound.from_source seen.now scope.now (bound.as_tree (option_copied expr.entry), option_copied word.entry)) result }
 {
     match (expr, word) {
@@ -74,7 +74,7 @@ fn with_key<'s>(
     near: usize,
     row: &Row<'s>,
     table: &mut Table<'s>,
-) -> Result<(), BindFault>
+) -> Result<(), Fault>
     ensures { Leaves (bound.with_key seen.now at (bound.as_tree (option_copied expr.entry), option_copied word.entry) row.now table.old) result table.new }
 {
     if table.get_near(near, &row.key).is_some() {
@@ -97,8 +97,9 @@ pub(crate) fn with_keys<'s>(
     word: Option<&Cell<'_, 's>>,
     rows: &[Row<'s>],
     table: &mut Table<'s>,
-) -> Result<(), BindFault>
-    ensures { Leaves (each (bound.with_key seen.now at (bound.as_tree (option_copied expr.entry), option_copied word.entry)) rows.now table.old) result table.new }
+) -> Result<(), Fault>
+    ensures { Leaves (each (bound.with_key seen.now at (bound.as_tree (option_copied expr.entry), option_copied word.entry)) rows.now table.old)
+        result table.new }
 {
     let mut near: usize = 0;
     for row in rows {

@@ -2,13 +2,14 @@
 
 ghost use Rattle.std.specs.Prelude.{◌≡◌, [], IfOk};
 ghost use Rattle.net_tree.specs.View.{tree};
-ghost use Rattle.net_eval.specs.Outcomes.{Answers};
+ghost use Rattle.net_fault.specs.Outcomes.{Answers};
 ghost use Rattle.net_eval.specs.Values.{value};
 
-use net_eval::{EvalFault, Scope, Seen, Value, evaluate};
-use net_lex::Boxed;
+use net_eval::{Scope, Seen, Value, evaluate};
+use net_fault::Fault;
 use net_sets::{Held, TupleSet};
 use net_tree::Expr;
+use net_views::Boxed;
 use std::alloc::{AllocError, Global};
 use std::marker::Model;
 
@@ -31,7 +32,7 @@ pub(crate) fn value_of<'w, 's>(
     alloc: Global,
     seen: &Seen<'w, 's>,
     expr: &Expr<'s>,
-) -> Result<Boxed<Value<'w, 's>>, EvalFault>
+) -> Result<Boxed<Value<'w, 's>>, Fault>
     ensures { Answers (value seen.now [] (tree expr.now)) result }
 {
     match evaluate(alloc, seen, &Scope::new(alloc), expr) {

@@ -8,10 +8,9 @@ ghost use Rattle.net_bind.specs.BoundParameters as parameters;
 ghost use Rattle.net_eval.specs.Worlds.{entry_of};
 ghost use Rattle.net_bind.specs.Binding as binding;
 ghost use Rattle.net_eval.specs.declared.world.Entry.{Entry as AnEntry};
-ghost use Rattle.net_bind.specs.Outcomes.{Outcome, Answers, Leaves, and_then, each};
+ghost use Rattle.net_fault.specs.Outcomes.{Outcome, Answers, Leaves, and_then, each};
 
 use crate::check::all_checked;
-use crate::fault::BindFault;
 use crate::given::{Mention, Mentions};
 use crate::laid::{Laid, laid_out};
 use crate::mention::said;
@@ -19,10 +18,13 @@ use crate::names::declared;
 use crate::param::bound_parameter;
 use crate::set::bound_set;
 use crate::stored::unboxed;
+use crate::walked::{Walked, walked_sets};
 use net_data::Tables;
 use net_eval::{Entry, Seen, World};
-use net_lex::{Boxed, Token};
+use net_fault::Fault;
+use net_lex::Token;
 use net_tree::{Braces, Decl, Model, Phrase};
+use net_views::Boxed;
 use std::alloc::{AllocError, Global};
 
 /// How many members the keys of a parameter or the tuples of a set have.
@@ -39,13 +41,14 @@ fn width_of(entry: &Entry<'_>) -> usize
 /// A name that means nothing so far gets an entry, if one was made.
 fn with_entry<'s>(
     name: &Token<'s>,
-    entry: Result<Boxed<Entry<'s>>, BindFault>,
+    entry: Result<Boxed<Entry<'s>>, Fault>,
     world: &mut World<'s>,
     widths: &mut Vec<usize>,
-) -> Result<(), BindFault>
+) -> Result<(), Fault>
     requires fresh { entry_of world.old name.now.text ≡ None }
     requires kept { widths.old.items ≡ binding.widths world.old }
-    ensures value { (wanted : Outcome AnEntry) → Answers wanted entry.entry → Leaves (and_then wanted (binding.with_entry world.old name.now)) result world.new }
+    ensures value { (wanted : Outcome AnEntry) → Answers wanted entry.entry → Leaves (and_then wanted (binding.with_entry world.old name.now))
+        result world.new }
     ensures kept { OnOk result (widths.new.items ≡ binding.widths world.new) }
 {
     let entry = entry?;
@@ -64,21 +67,27 @@ fn whole<'w, 's>(world: &'w World<'s>, widths: &[usize]) -> Seen<'w, 's>
 
 fn entry_of_set<'s>(
     alloc: Global,
+    is_walked: bool,
     given: &[Mentions<'_, '_, 's>],
     name: &Token<'s>,
     phrases: &[Phrase<'s>],
     world: &World<'s>,
     widths: &[usize],
-) -> Result<Boxed<Entry<'s>>, BindFault>
+) -> Result<Boxed<Entry<'s>>, Fault>
     requires { widths.now ≡ binding.widths world.now }
-    ensures { Answers (sets.bound_set world.now (binding.widths world.now) name.now (map phrase_of phrases.now) (binding.said_next given.now world.now)) result }
+    ensures { Answers (sets.bound_set world.now (binding.widths world.now) name.now (map phrase_of phrases.now) (binding.said_next given.now
+        world.now)) result }
 {
     let seen = whole(world, widths);
     match given.get(widths.len()) {
-        Some(mentions) => bound_set(alloc, &seen, widths, name, phrases, mentions.as_slice()),
+        Some(mentions) => {
+            let mentions = mentions.as_slice();
+            bound_set(alloc, is_walked, &seen, widths, name, phrases, mentions)
+        }
         None => {
             let none: Vec<Mention<'_, '_, 's>> = Vec::new(alloc);
-            bound_set(alloc, &seen, widths, name, phrases, none.as_slice())
+            let none = none.as_slice();
+            bound_set(alloc, is_walked, &seen, widths, name, phrases, none)
         }
     }
 }
@@ -91,9 +100,10 @@ fn entry_of_parameter<'s>(
     phrases: &[Phrase<'s>],
     world: &World<'s>,
     widths: &[usize],
-) -> Result<Boxed<Entry<'s>>, BindFault>
+) -> Result<Boxed<Entry<'s>>, Fault>
     requires { widths.now ≡ binding.widths world.now }
-    ensures { Answers (parameters.bound_parameter world.now (binding.widths world.now) name.now (indexing_of braces.now) (map phrase_of phrases.now) (binding.said_next given.now world.now)) result }
+    ensures { Answers (parameters.bound_parameter world.now (binding.widths world.now) name.now (indexing_of braces.now) (map phrase_of phrases.now)
+        (binding.said_next given.now world.now)) result }
 {
     let seen = whole(world, widths);
     match given.get(widths.len()) {
@@ -116,11 +126,12 @@ fn entry_of_parameter<'s>(
 /// One declaration more.
 fn declare<'s>(
     alloc: Global,
+    walked: &Walked<'s>,
     given: &[Mentions<'_, '_, 's>],
     decl: &Decl<'s>,
     world: &mut World<'s>,
     widths: &mut Vec<usize>,
-) -> Result<(), BindFault>
+) -> Result<(), Fault>
     requires fresh { binding.IsFresh world.old (declaration_of decl.now) }
     requires kept { widths.old.items ≡ binding.widths world.old }
     ensures value { Leaves (binding.declare given.now (declaration_of decl.now) world.old) result world.new }
@@ -128,7 +139,9 @@ fn declare<'s>(
 {
     match decl {
         Decl::Set(_, name, phrases, _) => {
-            let entry = entry_of_set(alloc, given, name, phrases.as_slice(), world, widths);
+            let phrases = phrases.as_slice();
+            let is_walked = walked.has(&name.text);
+            let entry = entry_of_set(alloc, is_walked, given, name, phrases, world, widths);
             with_entry(name, entry, world, widths)
         }
         Decl::Param(_, name, braces, phrases, _) => {
@@ -155,24 +168,21 @@ fn declare_all<'s>(
     alloc: Global,
     given: &[Mentions<'_, '_, 's>],
     decls: &[Decl<'s>],
-) -> Result<World<'s>, BindFault>
+) -> Result<World<'s>, Fault>
     requires { binding.AreNew [] (map declaration_of decls.now) }
     ensures { Answers (each (binding.declare given.now) (map declaration_of decls.now) []) result }
 {
+    let walked = walked_sets(alloc, decls)?;
     let mut world = World::new(alloc);
     let mut widths = Vec::new(alloc);
     for decl in decls {
-        declare(alloc, given, decl, &mut world, &mut widths)?;
+        declare(alloc, &walked, given, decl, &mut world, &mut widths)?;
     }
     Ok(world)
 }
 
 /// The world, once its checks hold.
-fn after_checks<'s>(
-    alloc: Global,
-    decls: &[Decl<'s>],
-    world: World<'s>,
-) -> Result<World<'s>, BindFault>
+fn after_checks<'s>(alloc: Global, decls: &[Decl<'s>], world: World<'s>) -> Result<World<'s>, Fault>
     ensures { Answers (binding.after_checks (map declaration_of decls.now) world.entry) result }
 {
     match all_checked(alloc, &world, decls) {
@@ -186,7 +196,7 @@ fn bind_given<'s>(
     alloc: Global,
     decls: &[Decl<'s>],
     given: &[Mentions<'_, '_, 's>],
-) -> Result<World<'s>, BindFault>
+) -> Result<World<'s>, Fault>
     requires { binding.AreNew [] (map declaration_of decls.now) }
     ensures { Answers (binding.with_given (map declaration_of decls.now) given.now) result }
 {
@@ -199,7 +209,7 @@ fn bind_sheets<'m, 's>(
     alloc: Global,
     decls: &[Decl<'s>],
     sheets: &'m [Laid<'m, '_, 's>],
-) -> Result<World<'s>, BindFault>
+) -> Result<World<'s>, Fault>
     requires { binding.AreNew [] (map declaration_of decls.now) }
     ensures { Answers (binding.world (map declaration_of decls.now) sheets.entry.now) result }
 {
@@ -217,7 +227,7 @@ pub fn bind<'s>(
     alloc: Global,
     model: &Model<'s>,
     tables: &Tables<'_, 's>,
-) -> Result<World<'s>, BindFault>
+) -> Result<World<'s>, Fault>
     requires { binding.AreNew [] (view.model model.now) }
     ensures { Answers (binding.world (view.model model.now) tables.now.statements) result }
 {

@@ -2,9 +2,9 @@
 use Rattle.std.proofs.Common.{◌≡◌, ℕ, zero, suc, ◌+◌, ◌%◌, Bool, true, false, List, [], ◌∷◌, ◌++◌, length, Option, Some, None, IfSome, Result, Ok, Err, refl, ap, sym, ◌∙◌, subst, codes, ◌⊎◌, inl, inr, cond}
 use Rattle.std.proofs.Math.Nat.{zero-mod}
 use Rattle.std.specs.List.{AllByRecursion}
-use Rattle.net_lex.specs.declared.span.Span.{Span}
+use Rattle.net_fault.specs.declared.span.Span.{Span}
 use Rattle.net_lex.specs.declared.token.Token.{Token}
-use Rattle.net_data.specs.declared.fault.DataDefect.TheVariants.{Syntax, RowWidth, TableWidth}
+use Rattle.net_fault.specs.declared.defect.Defect.TheVariants.{DataSyntax, RowWidth, TableWidth}
 use Rattle.net_data.specs.declared.spot.Spot.{Spot}
 use Rattle.net_data.specs.declared.stop.Stop.{Stop}
 use Rattle.net_data.specs.declared.statement.DefaultValue.{DefaultValue}
@@ -28,7 +28,7 @@ use Rattle.net_data.proofs.TablesMean.{lone-sound}
 
 -- a stop at a token that is not allowed, or for a fault of the table with which the tokens begin
 abbrev pub Blamed : List Token → Stop → Type 0
-Blamed tokens e = (e.defect ≡ Syntax) ⊎ ((span : Span) × (e.at ≡ Some span) × IsFaulty tokens span e.defect)
+Blamed tokens e = (e.defect ≡ DataSyntax) ⊎ ((span : Span) × (e.at ≡ Some span) × IsFaulty tokens span e.defect)
 
 bind_err : {A B : Type 0} (read : Result A Stop) (f : A → Result B Stop) (e : Stop) → (read >>= f) ≡ Err e → (read ≡ Err e) ⊎ ((x : A) × (read ≡ Ok x) × (f x ≡ Err e))
 bind_err (Ok x) f e h = inr (x, refl, h)
@@ -37,16 +37,16 @@ bind_err (Err d) f e h = let same : d ≡ e = cc in inl (rw same refl)
 err_is : {A : Type 0} (d e : Stop) → (let r : Result A Stop = Err d in r ≡ Err e) → d ≡ e
 err_is d e h = cc
 
-wanted_of : (tokens : List Token) (next : Option (Token × List Token)) (e : Stop) → wanted_by tokens next ≡ Err e → e.defect ≡ Syntax
+wanted_of : (tokens : List Token) (next : Option (Token × List Token)) (e : Stop) → wanted_by tokens next ≡ Err e → e.defect ≡ DataSyntax
 unfolding refused
 wanted_of tokens None e h = let same = err_is _ e h in sym (ap (λ (s : Stop). s.defect) same)
 wanted_of tokens (Some x) e h = absurd (cc)
 
-wanted_err : (test : Token → Bool) (tokens : List Token) (e : Stop) → wanted test tokens ≡ Err e → e.defect ≡ Syntax
+wanted_err : (test : Token → Bool) (tokens : List Token) (e : Stop) → wanted test tokens ≡ Err e → e.defect ≡ DataSyntax
 unfolding wanted
 wanted_err test tokens e h = wanted_of tokens (met test tokens) e h
 
-rested_err : (x : List Token × List Token) (at : Option Span) (e : Stop) (b : Bool) → (let r : Read (List Token) = cond b (Ok x) (Err (stop Syntax at)) in r ≡ Err e) → e.defect ≡ Syntax
+rested_err : (x : List Token × List Token) (at : Option Span) (e : Stop) (b : Bool) → (let r : Read (List Token) = cond b (Ok x) (Err (stop DataSyntax at)) in r ≡ Err e) → e.defect ≡ DataSyntax
 rested_err x at e true h = absurd (cc)
 rested_err x at e false h = let same = err_is _ e h in sym (ap (λ (s : Stop). s.defect) same)
 
@@ -55,20 +55,20 @@ with_err token (Ok x) e h = absurd (cc)
 with_err token (Err d) e h = let same = err_is d e h in rw same refl
 
 items_on : (token : Token) (tokens : List Token) (o : Option Spot) (spot : Spot) (e : Stop) → items_behind token tokens o spot (items_from (spot_or spot o) tokens) ≡ Err e
-    → ((s : Spot) → items_from s tokens ≡ Err e → e.defect ≡ Syntax) → e.defect ≡ Syntax
+    → ((s : Spot) → items_from s tokens ≡ Err e → e.defect ≡ DataSyntax) → e.defect ≡ DataSyntax
 items_on token tokens (Some next) spot e h behind = behind next (with_err token (items_from next tokens) e h)
 items_on token tokens None spot e h behind = rested_err ([], token ∷ tokens) (Some token.span) e (rests spot) h
 
-items_from_err : (tokens : List Token) (spot : Spot) (e : Stop) → items_from spot tokens ≡ Err e → e.defect ≡ Syntax
+items_from_err : (tokens : List Token) (spot : Spot) (e : Stop) → items_from spot tokens ≡ Err e → e.defect ≡ DataSyntax
 unfolding items_from
 items_from_err [] spot e h = rested_err ([], []) None e (rests spot) h
 items_from_err (token ∷ tokens) spot e h = items_on token tokens (spot_after spot token) spot e h (λ s k. items_from_err tokens s e k)
 
-items_err : (tokens : List Token) (e : Stop) → items tokens ≡ Err e → e.defect ≡ Syntax
+items_err : (tokens : List Token) (e : Stop) → items tokens ≡ Err e → e.defect ≡ DataSyntax
 unfolding items
 items_err tokens e h = elim (bind_err (items_from outside tokens) _ e h) [ inl k ↦ items_from_err tokens outside e k | inr x ↦ absurd (let k = x.2 in cc) ]
 
-set_err : (keyword : Token) (tokens : List Token) (e : Stop) → set keyword tokens ≡ Err e → e.defect ≡ Syntax
+set_err : (keyword : Token) (tokens : List Token) (e : Stop) → set keyword tokens ≡ Err e → e.defect ≡ DataSyntax
 unfolding set
 set_err keyword tokens e h = elim (bind_err _ _ e h) [
   | inl k ↦ wanted_err is_name tokens e k
@@ -96,7 +96,7 @@ headed_err : (columns : List Token) (mark : Token) (tokens : List Token) (e : St
 headed_err [] mark tokens e h = (refl, sym (err_is _ e h))
 headed_err (c ∷ columns) mark tokens e h = absurd (cc)
 
-heading_err : (test : Token → Bool) (tokens : List Token) (e : Stop) → Keeps test → heading test tokens ≡ Err e → (e.defect ≡ Syntax) ⊎ NoColumn tokens e
+heading_err : (test : Token → Bool) (tokens : List Token) (e : Stop) → Keeps test → heading test tokens ≡ Err e → (e.defect ≡ DataSyntax) ⊎ NoColumn tokens e
 unfolding heading
 heading_err test tokens e keeps h = elim (bind_err _ _ e h) [
   | inl k ↦ inl (wanted_err assign (run test tokens).1 e k)
@@ -108,7 +108,7 @@ heading_err test tokens e keeps h = elim (bind_err _ _ e h) [
       inr (record { mark = a.0.0; rest = a.0.1; printed = printed; marked = mark.passes; blamed = none.1 })
 ]
 
-cells_err : (tokens : List Token) (e : Stop) → cells tokens ≡ Err e → e.defect ≡ Syntax
+cells_err : (tokens : List Token) (e : Stop) → cells tokens ≡ Err e → e.defect ≡ DataSyntax
 unfolding cells
 cells_err tokens e h = elim (bind_err _ _ e h) [ inl k ↦ wanted_err semicolon (run is_cell tokens).1 e k | inr a ↦ absurd (let k = a.2 in cc) ]
 
@@ -194,7 +194,7 @@ turned_err keyword name default opening tokens e key named defaults opens h =
           ]
     ]
 
-list_err : (keyword name : Token) (default : Option DefaultValue) (tokens : List Token) (e : Stop) → list keyword name default tokens ≡ Err e → e.defect ≡ Syntax
+list_err : (keyword name : Token) (default : Option DefaultValue) (tokens : List Token) (e : Stop) → list keyword name default tokens ≡ Err e → e.defect ≡ DataSyntax
 unfolding list
 list_err keyword name default tokens e h = elim (bind_err _ _ e h) [ inl k ↦ wanted_err semicolon (given tokens).1 e k | inr a ↦ absurd (let k = a.2 in cc) ]
 
@@ -214,11 +214,11 @@ body_err : (keyword name : Token) (default : Option DefaultValue) (tokens : List
 unfolding body
 body_err keyword name default tokens e key named defaults h = body_of keyword name default tokens (met (is_mark (codes "(")) tokens) (met colon tokens) e key named defaults refl refl h
 
-default_of : (tokens : List Token) (next : Option (Token × List Token)) (e : Stop) → default_by tokens next ≡ Err e → e.defect ≡ Syntax
+default_of : (tokens : List Token) (next : Option (Token × List Token)) (e : Stop) → default_by tokens next ≡ Err e → e.defect ≡ DataSyntax
 default_of tokens None e h = absurd (cc)
 default_of tokens (Some word) e h = elim (bind_err _ _ e h) [ inl k ↦ wanted_err is_member word.1 e k | inr a ↦ absurd (let k = a.2 in cc) ]
 
-default_err : (tokens : List Token) (e : Stop) → default tokens ≡ Err e → e.defect ≡ Syntax
+default_err : (tokens : List Token) (e : Stop) → default tokens ≡ Err e → e.defect ≡ DataSyntax
 unfolding default
 default_err tokens e h = default_of tokens (met (is_word (codes "default")) tokens) e h
 
@@ -296,7 +296,7 @@ with_err_all x (Ok y) e h = absurd (cc)
 with_err_all x (Err d) e h = let same = err_is d e h in rw same refl
 
 statements_of : (n : ℕ) (tokens : List Token) (read : Result (Option (Statement × List Token)) Stop) (e : Stop) → statement tokens ≡ read → statements_by (statements n) tokens read ≡ Err e
-    → ((rest : List Token) → statements n rest ≡ Err e → (e.defect ≡ Syntax) ⊎ ((span : Span) × (e.at ≡ Some span) × Behind rest e span)) → (e.defect ≡ Syntax) ⊎ ((span : Span) × (e.at ≡ Some span) × Behind tokens e span)
+    → ((rest : List Token) → statements n rest ≡ Err e → (e.defect ≡ DataSyntax) ⊎ ((span : Span) × (e.at ≡ Some span) × Behind rest e span)) → (e.defect ≡ DataSyntax) ⊎ ((span : Span) × (e.at ≡ Some span) × Behind tokens e span)
 statements_of n tokens (Ok (Some x)) e is h more =
     let s = statement-sound tokens x is in
     elim (more x.1 (with_err_all x.0 (statements n x.1) e h)) [
@@ -319,28 +319,28 @@ statements_of n tokens (Err d) e is h more =
     let same = err_is d e h in
     elim (statement_err tokens e (rw is (rw same refl))) [ inl k ↦ inl k | inr b ↦ inr (b.0, b.1, record { statements = []; rest = bare before tokens; printed = refl; are = tt; judged = refl; faulty = b.2 }) ]
 
-statements_err : (n : ℕ) (tokens : List Token) (e : Stop) → statements n tokens ≡ Err e → (e.defect ≡ Syntax) ⊎ ((span : Span) × (e.at ≡ Some span) × Behind tokens e span)
+statements_err : (n : ℕ) (tokens : List Token) (e : Stop) → statements n tokens ≡ Err e → (e.defect ≡ DataSyntax) ⊎ ((span : Span) × (e.at ≡ Some span) × Behind tokens e span)
 unfolding statements
 statements_err zero tokens e h = absurd (cc)
 statements_err (suc n) tokens e h = statements_of n tokens (statement tokens) e refl h (λ rest k. statements_err n rest e k)
 
-lone_of : (tokens : List Token) (next : Option (Token × List Token)) (e : Stop) → lone_by tokens next ≡ Err e → e.defect ≡ Syntax
+lone_of : (tokens : List Token) (next : Option (Token × List Token)) (e : Stop) → lone_by tokens next ≡ Err e → e.defect ≡ DataSyntax
 lone_of tokens None e h = absurd (cc)
 lone_of tokens (Some word) e h = elim (bind_err _ _ e h) [ inl k ↦ wanted_err semicolon word.1 e k | inr a ↦ absurd (let k = a.2 in cc) ]
 
-lone_err : (word : List ℕ) (tokens : List Token) (e : Stop) → lone word tokens ≡ Err e → e.defect ≡ Syntax
+lone_err : (word : List ℕ) (tokens : List Token) (e : Stop) → lone word tokens ≡ Err e → e.defect ≡ DataSyntax
 unfolding lone
 lone_err word tokens e h = lone_of tokens (met (is_word word) tokens) e h
 
-finished_of : (next : Option (Token × List Token)) (e : Stop) → finished_by next ≡ Err e → e.defect ≡ Syntax
+finished_of : (next : Option (Token × List Token)) (e : Stop) → finished_by next ≡ Err e → e.defect ≡ DataSyntax
 finished_of None e h = absurd (cc)
 finished_of (Some x) e h = let same = err_is _ e h in sym (ap (λ (s : Stop). s.defect) same)
 
-finished_err : (tokens : List Token) (e : Stop) → finished tokens ≡ Err e → e.defect ≡ Syntax
+finished_err : (tokens : List Token) (e : Stop) → finished tokens ≡ Err e → e.defect ≡ DataSyntax
 unfolding finished
 finished_err tokens e h = finished_of (front tokens) e h
 
-pub tables_err : (tokens : List Token) (e : Stop) → tables tokens ≡ Err e → (e.defect ≡ Syntax) ⊎ ((span : Span) × (e.at ≡ Some span) × HasFault tokens e.defect span)
+pub tables_err : (tokens : List Token) (e : Stop) → tables tokens ≡ Err e → (e.defect ≡ DataSyntax) ⊎ ((span : Span) × (e.at ≡ Some span) × HasFault tokens e.defect span)
 unfolding tables
 tables_err tokens e h =
     elim (bind_err _ _ e h) [

@@ -3,8 +3,8 @@ use Rattle.std.proofs.Common.{◌≡◌, ℕ, List, [], ◌∷◌, Option, Some,
 use Rattle.net_lex.specs.declared.token.Kind.{Kind}
 use Rattle.net_lex.specs.declared.token.Kind.TheVariants.{Name, Num, Mark, Dot}
 use Rattle.net_lex.specs.declared.token.Token.{Token}
-use Rattle.net_lex.specs.declared.span.Span.{Span}
-use Rattle.net_data.specs.declared.fault.DataDefect.TheVariants.{Syntax, RowWidth, TableWidth}
+use Rattle.net_fault.specs.declared.span.Span.{Span}
+use Rattle.net_fault.specs.declared.defect.Defect.TheVariants.{DataSyntax, RowWidth, TableWidth}
 use Rattle.net_data.specs.declared.statement.Statement.TheVariants as kinds
 use Rattle.net_data.specs.declared.stop.Stop.{Stop}
 use Rattle.net_data.specs.declared.tables.Tables.{Tables}
@@ -73,17 +73,17 @@ no_name = refl
 
 -- set S := ( a ) ;
 one_member : outcome (tables (name 1 (codes "set") ∷ name 2 (codes "S") ∷ mark 3 (codes ":=") ∷ mark 4 (codes "(") ∷ name 5 (codes "a") ∷ mark 6 (codes ")") ∷ mark 7 (codes ";") ∷ []))
-    ≡ Err (stop Syntax (place 6))
+    ≡ Err (stop DataSyntax (place 6))
 unfolding tables lone met statements statement set wanted items items_from refused
 one_member = refl
 
 -- end ; x
-behind_end : outcome (tables (name 1 (codes "end") ∷ mark 2 (codes ";") ∷ name 3 (codes "x") ∷ [])) ≡ Err (stop Syntax (place 3))
+behind_end : outcome (tables (name 1 (codes "end") ∷ mark 2 (codes ";") ∷ name 3 (codes "x") ∷ [])) ≡ Err (stop DataSyntax (place 3))
 unfolding tables lone met statements statement wanted finished
 behind_end = refl
 
 -- param p
-open_end : outcome (tables (name 1 (codes "param") ∷ name 2 (codes "p") ∷ [])) ≡ Err (stop Syntax None)
+open_end : outcome (tables (name 1 (codes "param") ∷ name 2 (codes "p") ∷ [])) ≡ Err (stop DataSyntax None)
 unfolding tables lone met statements statement param named wanted default body list given refused
 open_end = refl
 

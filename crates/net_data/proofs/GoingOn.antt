@@ -1,17 +1,16 @@
 -- Where reading stops at a token, it stops there whatever comes behind.
 use Rattle.std.proofs.Common.{◌≡◌, ℕ, zero, suc, ◌≤◌, ◌<◌, Bool, List, [], ◌∷◌, ◌++◌, length, Option, Some, None, Result, Ok, Err, refl, ap, sym, ◌∙◌, arith, length-append, codes}
+use Rattle.net_fault.specs.declared.span.Span.{Span}
 use Rattle.net_lex.specs.declared.token.Token.{Token}
-use Rattle.net_data.specs.declared.fault.DataDefect.TheVariants.{Syntax}
+use Rattle.net_fault.specs.declared.defect.Defect.TheVariants.{DataSyntax}
 use Rattle.net_data.specs.declared.stop.Stop.{Stop}
 use Rattle.net_data.specs.declared.statement.Statement.{Statement}
 use Rattle.net_data.specs.declared.tables.Lone.{Lone}
 use Rattle.net_data.specs.declared.tables.Tables.{Tables}
-use Rattle.net_data.specs.GoingOn.{NoneGoOn}
 use Rattle.net_data.specs.Reading.{Read, stop, front, met, wanted, semicolon, set, param, found, statement, statement_by, with_statement, statements, statements_by, lone, lone_by, finished, finished_by, tables, ◌>>=◌}
 use Rattle.net_data.specs.Tests.{is_word}
 use Rattle.net_data.proofs.Lookahead.{never, err_is, place_is, StopsAt, Stops, Local, bind_stops, bind_local, same_local, pure_local}
 use Rattle.net_data.proofs.NextToken.{first_token, wanted_local, choose, met_parts, choose_local}
-use Rattle.net_data.proofs.Promise.{no_tables}
 use Rattle.net_data.proofs.StatementsAhead.{set_local, param_local}
 
 -- ---- how many tokens are left
@@ -137,7 +136,7 @@ ended_stops x tokens e h d span at = go (front tokens) refl
     go None i = never x e (sym (ap (λ o. finished_by o >>= (λ over. let r : Result Tables Stop = Ok x in r)) i) ∙ h)
     go (Some y) i =
         let f = first_token tokens y.0 y.1 i in
-        let same = err_is {A = Tables} (stop Syntax (Some y.0.span)) e (sym (ap (λ o. finished_by o >>= (λ over. let r : Result Tables Stop = Ok x in r)) i) ∙ h) in
+        let same = err_is {A = Tables} (stop DataSyntax (Some y.0.span)) e (sym (ap (λ o. finished_by o >>= (λ over. let r : Result Tables Stop = Ok x in r)) i) ∙ h) in
         record {
           front = f.commas;
           token = y.0;
@@ -170,15 +169,8 @@ tables_stop tokens =
     bind_stops (lone (codes "end")) (behind_ending opening xs) behind (lone_local (codes "end") behind) (λ ending rest k.
     ended_stops (record { opening = opening; statements = xs; ending = ending }) rest)))
 
-pub none_go_on : NoneGoOn
-none_go_on tokens span h =
-    let e : Stop = stop Syntax (Some span) in
-    let s = tables_stop tokens e (sym (tables_is tokens) ∙ h) refl span refl in
-    record {
-      front = s.front;
-      token = s.token;
-      more = s.more;
-      parts = s.parts;
-      at = s.at;
-      none = λ other x. no_tables (s.front ++ s.token ∷ other) e (tables_is (s.front ++ s.token ∷ other) ∙ s.always other) refl x;
-    }
+-- where a text stops at a token, it stops there whatever comes behind
+pub stops_at_token : (tokens : List Token) (e : Stop) (span : Span) → tables tokens ≡ Err e → e.defect ≡ DataSyntax → e.at ≡ Some span → StopsAt tables tokens e span
+stops_at_token tokens e span h d at =
+    let s = tables_stop tokens e (sym (tables_is tokens) ∙ h) d span at in
+    record { front = s.front; token = s.token; more = s.more; parts = s.parts; at = s.at; looks = s.looks; always = λ other. tables_is (s.front ++ s.token ∷ other) ∙ s.always other }

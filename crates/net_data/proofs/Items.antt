@@ -7,7 +7,7 @@ use Rattle.net_data.specs.Commas.{in_set, bare}
 use Rattle.net_data.specs.Spots.{outside}
 use Rattle.net_lex.specs.declared.token.Token.{Token}
 use Rattle.net_data.specs.declared.spot.Spot.{Spot}
-use Rattle.net_data.specs.declared.fault.DataDefect.TheVariants.{Syntax}
+use Rattle.net_fault.specs.declared.defect.Defect.TheVariants.{DataSyntax}
 use Rattle.net_data.specs.Spots.{spot_after, rests}
 use Rattle.net_data.specs.Reading.{Read, stop, with_token, items_from, items}
 use Rattle.net_data.specs.declared.stop.Stop.{Stop}
@@ -35,7 +35,7 @@ pub items_on : (before : List Token) (all : Read (List Token)) (spot next : Spot
 items_on before all spot next token tokens told h = told ∙ ap (with_tokens before) (goes_on spot next token tokens h) ∙ with_one before token (items_from next tokens)
 
 -- a token that does not stand there
-pub items_stop : (spot : Spot) (token : Token) (tokens : List Token) → spot_after spot token ≡ None → rests spot ≡ false → items_from spot (token ∷ tokens) ≡ Err (stop Syntax (Some token.span))
+pub items_stop : (spot : Spot) (token : Token) (tokens : List Token) → spot_after spot token ≡ None → rests spot ≡ false → items_from spot (token ∷ tokens) ≡ Err (stop DataSyntax (Some token.span))
 unfolding items_from
 items_stop spot token tokens h k = rw (h, k)
 
@@ -47,7 +47,7 @@ pub items_end : (spot : Spot) → rests spot ≡ true → items_from spot [] ≡
 unfolding items_from
 items_end spot k = rw k
 
-pub items_open : (spot : Spot) → rests spot ≡ false → items_from spot [] ≡ Err (stop Syntax None)
+pub items_open : (spot : Spot) → rests spot ≡ false → items_from spot [] ≡ Err (stop DataSyntax None)
 unfolding items_from
 items_open spot k = rw k
 
@@ -80,9 +80,9 @@ counted_over tokens len i all spot token lt is same told h k =
     rw same (told ∙ ap (with_tokens (take i tokens)) here ∙ ap (λ x. let r : Read (List Token) = Ok (x, drop i tokens) in r) (append-nil (take i tokens)))
 
 pub counted_stop : (tokens : List Token) (i : ℕ) (all : Read (List Token)) (spot : Spot) (token : Token) → i < length tokens → token ≡ get_or tokens i token
-    → all ≡ with_tokens (take i tokens) (items_from spot (drop i tokens)) → spot_after spot token ≡ None → rests spot ≡ false → all ≡ Err (stop Syntax (Some token.span))
+    → all ≡ with_tokens (take i tokens) (items_from spot (drop i tokens)) → spot_after spot token ≡ None → rests spot ≡ false → all ≡ Err (stop DataSyntax (Some token.span))
 counted_stop tokens i all spot token lt is told h k =
-    let here : items_from spot (drop i tokens) ≡ Err (stop Syntax (Some token.span)) = rw (drop_at tokens i token lt is) (items_stop spot token (drop (i + 1) tokens) h k) in
+    let here : items_from spot (drop i tokens) ≡ Err (stop DataSyntax (Some token.span)) = rw (drop_at tokens i token lt is) (items_stop spot token (drop (i + 1) tokens) h k) in
     told ∙ ap (with_tokens (take i tokens)) here
 
 pub counted_end : (tokens : List Token) (len i : ℕ) (all : Read (List Token)) (spot : Spot) → length tokens ≤ i → len ≡ i
@@ -93,8 +93,8 @@ counted_end tokens len i all spot le same told k =
     rw same (told ∙ ap (with_tokens (take i tokens)) here ∙ ap (λ x. let r : Read (List Token) = Ok (x, drop i tokens) in r) (append-nil (take i tokens)))
 
 pub counted_open : (tokens : List Token) (i : ℕ) (all : Read (List Token)) (spot : Spot) → length tokens ≤ i
-    → all ≡ with_tokens (take i tokens) (items_from spot (drop i tokens)) → rests spot ≡ false → all ≡ Err (stop Syntax None)
+    → all ≡ with_tokens (take i tokens) (items_from spot (drop i tokens)) → rests spot ≡ false → all ≡ Err (stop DataSyntax None)
 counted_open tokens i all spot le told k =
     let none : drop i tokens ≡ [] = drop_all i tokens le in
-    let here : items_from spot (drop i tokens) ≡ Err (stop Syntax None) = rw none (items_open spot k) in
+    let here : items_from spot (drop i tokens) ≡ Err (stop DataSyntax None) = rw none (items_open spot k) in
     told ∙ ap (with_tokens (take i tokens)) here

@@ -24,3 +24,11 @@ pub mod Examples
 pub mod CellLemmas
 pub mod ItemLemmas
 pub mod GroupLemmas
+pub mod Mending
+pub mod MendingRuns
+pub mod MendingStatements
+pub mod MendingParams
+pub mod MendingTables
+pub mod WidthsStay
+pub mod WidthsBegun
+pub mod FirstWrong

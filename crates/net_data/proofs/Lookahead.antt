@@ -1,9 +1,9 @@
 -- What is read does not depend on tokens behind the one at which the reading stops, or behind the next one where it goes on.
 use Rattle.std.proofs.Common.{◌≡◌, Bool, true, false, List, [], ◌∷◌, ◌++◌, Option, Some, Result, Ok, Err, refl, ap, sym, ◌∙◌, append_assoc}
 use Rattle.std.specs.Prelude.{if◌then◌else◌}
-use Rattle.net_lex.specs.declared.span.Span.{Span}
+use Rattle.net_fault.specs.declared.span.Span.{Span}
 use Rattle.net_lex.specs.declared.token.Token.{Token}
-use Rattle.net_data.specs.declared.fault.DataDefect.TheVariants.{Syntax}
+use Rattle.net_fault.specs.declared.defect.Defect.TheVariants.{DataSyntax}
 use Rattle.net_data.specs.declared.stop.Stop.{Stop}
 use Rattle.net_data.specs.Tests.{is_comma}
 use Rattle.net_data.specs.Reading.{Read, ◌>>=◌}
@@ -83,7 +83,7 @@ pub record StopsAt {B : Type 0} (f : List Token → Result B Stop) (tokens : Lis
 
 -- at the token at which it stops
 abbrev pub Stops : {B : Type 0} → (List Token → Result B Stop) → List Token → Type 0
-Stops f tokens = (e : Stop) → f tokens ≡ Err e → e.defect ≡ Syntax → (span : Span) → e.at ≡ Some span → StopsAt f tokens e span
+Stops f tokens = (e : Stop) → f tokens ≡ Err e → e.defect ≡ DataSyntax → (span : Span) → e.at ≡ Some span → StopsAt f tokens e span
 
 pub record PassesOn {A : Type 0} (f : List Token → Read A) (tokens : List Token) (x : A) (rest : List Token) : Type 0 where
   pub front : List Token
@@ -181,7 +181,7 @@ pure_local {A} x tokens = record {
 }
 
 -- what does not come from the tokens, and is no fault of syntax
-pub const_local : {U B : Type 0} (r : Result U Stop) (k : U → List Token → Read B) (tokens : List Token) → ((e : Stop) → r ≡ Err e → e.defect ≡ Syntax → ⊥) → ((u : U) → Local (k u) tokens) → Local (λ ts. r >>= (λ u. k u ts)) tokens
+pub const_local : {U B : Type 0} (r : Result U Stop) (k : U → List Token → Read B) (tokens : List Token) → ((e : Stop) → r ≡ Err e → e.defect ≡ DataSyntax → ⊥) → ((u : U) → Local (k u) tokens) → Local (λ ts. r >>= (λ u. k u ts)) tokens
 const_local (Ok u) k tokens never l = l u
 const_local {U} (Err d) k tokens never l = record {
   stops = λ e h s span at. absurd (never e (ap (λ z. let r : Result U Stop = Err z in r) (err_is d e h)) s);

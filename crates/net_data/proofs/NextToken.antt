@@ -3,7 +3,7 @@ use Rattle.std.proofs.Common.{◌≡◌, Bool, true, false, List, [], ◌∷◌,
 use Rattle.std.specs.Prelude.{is_some, if◌then◌else◌}
 use Rattle.std.specs.Option.{option_map}
 use Rattle.net_lex.specs.declared.token.Token.{Token}
-use Rattle.net_data.specs.declared.fault.DataDefect.TheVariants.{Syntax}
+use Rattle.net_fault.specs.declared.defect.Defect.TheVariants.{DataSyntax}
 use Rattle.net_data.specs.declared.stop.Stop.{Stop}
 use Rattle.net_data.specs.Tests.{is_comma}
 use Rattle.net_data.specs.Reading.{Read, stop, span_of, front, met_by, met, refused, wanted_by, wanted}
@@ -41,20 +41,20 @@ first_token (x ∷ xs) t rest h = go (is_comma x) refl h (first_token xs t rest)
         }
 
 -- what is wanted of the next token, by that token
-abbrev wanted_of : (Token → Bool) → Option (Token × List Token) → Read Token
-wanted_of test None = Err (stop Syntax None)
-wanted_of test (Some x) = if test x.0 then Ok x else Err (stop Syntax (Some x.0.span))
+abbrev pub wanted_of : (Token → Bool) → Option (Token × List Token) → Read Token
+wanted_of test None = Err (stop DataSyntax None)
+wanted_of test (Some x) = if test x.0 then Ok x else Err (stop DataSyntax (Some x.0.span))
 
-wanted_is : (test : Token → Bool) (tokens : List Token) → wanted test tokens ≡ wanted_of test (front tokens)
+pub wanted_is : (test : Token → Bool) (tokens : List Token) → wanted test tokens ≡ wanted_of test (front tokens)
 unfolding wanted met refused
 wanted_is test tokens = go (front tokens) refl
   where
-    by : (x : Token × List Token) (b : Bool) → front tokens ≡ Some x → wanted_by tokens (if b then Some x else None) ≡ (if b then Ok x else Err (stop Syntax (Some x.0.span)))
+    by : (x : Token × List Token) (b : Bool) → front tokens ≡ Some x → wanted_by tokens (if b then Some x else None) ≡ (if b then Ok x else Err (stop DataSyntax (Some x.0.span)))
     by x true i = refl
-    by x false i = ap (λ o. let r : Read Token = Err (stop Syntax (span_of (option_map (λ y. y.0) o))) in r) i
+    by x false i = ap (λ o. let r : Read Token = Err (stop DataSyntax (span_of (option_map (λ y. y.0) o))) in r) i
 
     go : (o : Option (Token × List Token)) → front tokens ≡ o → wanted_by tokens (met_by test (front tokens)) ≡ wanted_of test (front tokens)
-    go None i = ap (λ o. wanted_by tokens (met_by test o)) i ∙ ap (λ o. let r : Read Token = Err (stop Syntax (span_of (option_map (λ y. y.0) o))) in r) i ∙ sym (ap (wanted_of test) i)
+    go None i = ap (λ o. wanted_by tokens (met_by test o)) i ∙ ap (λ o. let r : Read Token = Err (stop DataSyntax (span_of (option_map (λ y. y.0) o))) in r) i ∙ sym (ap (wanted_of test) i)
     go (Some x) i = ap (λ o. wanted_by tokens (met_by test o)) i ∙ by x (test x.0) i ∙ sym (ap (wanted_of test) i)
 
 wanted_first : (test : Token → Bool) (tokens : List Token) → Local (λ ts. wanted_of test (front ts)) tokens
@@ -63,7 +63,7 @@ wanted_first test tokens = go (front tokens) refl
     passed : (x : Token × List Token) → front tokens ≡ Some x → test x.0 ≡ true → Local (λ ts. wanted_of test (front ts)) tokens
     passed x i b =
         let f = first_token tokens x.0 x.1 i in
-        let here : wanted_of test (front tokens) ≡ Ok x = ap (wanted_of test) i ∙ ap (λ c. if c then (let r : Read Token = Ok x in r) else Err (stop Syntax (Some x.0.span))) b in
+        let here : wanted_of test (front tokens) ≡ Ok x = ap (wanted_of test) i ∙ ap (λ c. if c then (let r : Read Token = Ok x in r) else Err (stop DataSyntax (Some x.0.span))) b in
         record {
           stops = λ e h d span at. absurd (let j = sym here ∙ h in cc);
           passes = λ y rest h.
@@ -74,7 +74,7 @@ wanted_first test tokens = go (front tokens) refl
                 always = λ other look.
                     ap (λ ts. wanted_of test (front ts)) (append_assoc f.commas (x.0 ∷ []) other)
                     ∙ ap (wanted_of test) (f.fronts other)
-                    ∙ ap (λ c. if c then (let r : Read Token = Ok (x.0, other) in r) else Err (stop Syntax (Some x.0.span))) b
+                    ∙ ap (λ c. if c then (let r : Read Token = Ok (x.0, other) in r) else Err (stop DataSyntax (Some x.0.span))) b
                     ∙ ap (λ z. let r : Read Token = Ok (z, other) in r) both.0;
               };
         }
@@ -82,10 +82,10 @@ wanted_first test tokens = go (front tokens) refl
     failed : (x : Token × List Token) → front tokens ≡ Some x → test x.0 ≡ false → Local (λ ts. wanted_of test (front ts)) tokens
     failed x i b =
         let f = first_token tokens x.0 x.1 i in
-        let here : wanted_of test (front tokens) ≡ Err (stop Syntax (Some x.0.span)) = ap (wanted_of test) i ∙ ap (λ c. if c then (let r : Read Token = Ok x in r) else Err (stop Syntax (Some x.0.span))) b in
+        let here : wanted_of test (front tokens) ≡ Err (stop DataSyntax (Some x.0.span)) = ap (wanted_of test) i ∙ ap (λ c. if c then (let r : Read Token = Ok x in r) else Err (stop DataSyntax (Some x.0.span))) b in
         record {
           stops = λ e h d span at.
-              let same = err_is (stop Syntax (Some x.0.span)) e (sym here ∙ h) in
+              let same = err_is (stop DataSyntax (Some x.0.span)) e (sym here ∙ h) in
               record {
                 front = f.commas;
                 token = x.0;
@@ -95,7 +95,7 @@ wanted_first test tokens = go (front tokens) refl
                 looks = f.looks;
                 always = λ other.
                     ap (wanted_of test) (f.fronts other)
-                    ∙ ap (λ c. if c then (let r : Read Token = Ok (x.0, other) in r) else Err (stop Syntax (Some x.0.span))) b
+                    ∙ ap (λ c. if c then (let r : Read Token = Ok (x.0, other) in r) else Err (stop DataSyntax (Some x.0.span))) b
                     ∙ ap (λ z. let r : Read Token = Err z in r) same;
               };
           passes = λ y rest h. absurd (let j = sym here ∙ h in cc);
@@ -103,10 +103,10 @@ wanted_first test tokens = go (front tokens) refl
 
     go : (o : Option (Token × List Token)) → front tokens ≡ o → Local (λ ts. wanted_of test (front ts)) tokens
     go None i =
-        let here : wanted_of test (front tokens) ≡ Err (stop Syntax None) = ap (wanted_of test) i in
+        let here : wanted_of test (front tokens) ≡ Err (stop DataSyntax None) = ap (wanted_of test) i in
         record {
           stops = λ e h d span at.
-              let same = err_is (stop Syntax None) e (sym here ∙ h) in
+              let same = err_is (stop DataSyntax None) e (sym here ∙ h) in
               absurd (let k = ap (λ (s : Stop). s.at) same ∙ at in cc);
           passes = λ y rest h. absurd (let j = sym here ∙ h in cc);
         }

@@ -1,9 +1,9 @@
 -- Runs of tokens and the items of a set depend on the next token behind them, and on no other.
 use Rattle.std.proofs.Common.{◌≡◌, Bool, true, false, List, [], ◌∷◌, ◌++◌, Option, Some, None, Ok, Err, refl, ap, sym, ◌∙◌, subst, codes}
 use Rattle.std.specs.Prelude.{◌||◌, if◌then◌else◌}
-use Rattle.net_lex.specs.declared.span.Span.{Span}
+use Rattle.net_fault.specs.declared.span.Span.{Span}
 use Rattle.net_lex.specs.declared.token.Token.{Token}
-use Rattle.net_data.specs.declared.fault.DataDefect.TheVariants.{Syntax}
+use Rattle.net_fault.specs.declared.defect.Defect.TheVariants.{DataSyntax}
 use Rattle.net_data.specs.declared.spot.Spot.{Spot}
 use Rattle.net_data.specs.declared.spot.Spot.TheVariants.{Outside, Opened, First as FirstMember, Parted, Later}
 use Rattle.net_data.specs.declared.stop.Stop.{Stop}
@@ -77,7 +77,7 @@ run_local test tokens = record {
 
 -- ---- items of a set
 
-from_nil : (spot : Spot) → items_from spot [] ≡ (let r : Read (List Token) = if rests spot then Ok ([], []) else Err (stop Syntax None) in r)
+from_nil : (spot : Spot) → items_from spot [] ≡ (let r : Read (List Token) = if rests spot then Ok ([], []) else Err (stop DataSyntax None) in r)
 unfolding items_from
 from_nil spot = refl
 
@@ -89,7 +89,7 @@ from_on : (spot next : Spot) (t : Token) (ts : List Token) → spot_after spot t
 from_on spot next t ts i = from_cons spot t ts ∙ ap (λ o. items_behind t ts o spot (items_from (spot_or spot o) ts)) i
 
 abbrev rested : Bool → Token → List Token → Read (List Token)
-rested b t ts = if b then Ok ([], t ∷ ts) else Err (stop Syntax (Some t.span))
+rested b t ts = if b then Ok ([], t ∷ ts) else Err (stop DataSyntax (Some t.span))
 
 from_end : (spot : Spot) (t : Token) (ts : List Token) → spot_after spot t ≡ None → items_from spot (t ∷ ts) ≡ rested (rests spot) t ts
 from_end spot t ts i = from_cons spot t ts ∙ ap (λ o. items_behind t ts o spot (items_from (spot_or spot o) ts)) i
@@ -148,9 +148,9 @@ record ItemsStop (spot : Spot) (tokens : List Token) (e : Stop) (span : Span) : 
 items_stop : (spot : Spot) (tokens : List Token) (e : Stop) → items_from spot tokens ≡ Err e → (span : Span) → e.at ≡ Some span → ItemsStop spot tokens e span
 items_stop spot [] e h span at = go (rests spot) (sym (from_nil spot) ∙ h)
   where
-    go : (b : Bool) → (let r : Read (List Token) = if b then Ok ([], []) else Err (stop Syntax None) in r) ≡ Err e → ItemsStop spot [] e span
+    go : (b : Bool) → (let r : Read (List Token) = if b then Ok ([], []) else Err (stop DataSyntax None) in r) ≡ Err e → ItemsStop spot [] e span
     go true k = absurd (cc)
-    go false k = let place = ap (λ (s : Stop). s.at) (err_is (stop Syntax None) e k) ∙ at in absurd (cc)
+    go false k = let place = ap (λ (s : Stop). s.at) (err_is (stop DataSyntax None) e k) ∙ at in absurd (cc)
 items_stop spot (t ∷ ts) e h span at = go (spot_after spot t) refl (λ next i. items_stop next ts e i span at)
   where
     inside : (next : Spot) → spot_after spot t ≡ Some next → ItemsStop next ts e span → ItemsStop spot (t ∷ ts) e span
@@ -171,7 +171,7 @@ items_stop spot (t ∷ ts) e h span at = go (spot_after spot t) refl (λ next i.
     here : (b : Bool) → rests spot ≡ b → spot_after spot t ≡ None → rested b t ts ≡ Err e → ItemsStop spot (t ∷ ts) e span
     here true r i k = absurd (cc)
     here false r i k =
-        let same = err_is (stop Syntax (Some t.span)) e k in
+        let same = err_is (stop DataSyntax (Some t.span)) e k in
         record {
           front = [];
           token = t;
@@ -189,7 +189,7 @@ items_stop spot (t ∷ ts) e h span at = go (spot_after spot t) refl (λ next i.
 items_pass : (spot : Spot) (tokens x rest : List Token) → items_from spot tokens ≡ Ok (x, rest) → PassesOn (items_from spot) tokens x rest
 items_pass spot [] x rest h = go (rests spot) (sym (from_nil spot) ∙ h)
   where
-    go : (b : Bool) → (let r : Read (List Token) = if b then Ok ([], []) else Err (stop Syntax None) in r) ≡ Ok (x, rest) → PassesOn (items_from spot) [] x rest
+    go : (b : Bool) → (let r : Read (List Token) = if b then Ok ([], []) else Err (stop DataSyntax None) in r) ≡ Ok (x, rest) → PassesOn (items_from spot) [] x rest
     go true k =
         let both = ok_parts [] x [] rest k in
         record {

@@ -8,7 +8,7 @@ use Rattle.net_data.specs.Tests.{is_member, is_mark, is_comma}
 use Rattle.net_data.specs.Commas.{Place, in_set, in_tuple, place_after, skips, bare}
 use Rattle.net_data.specs.Spots.{spot_after, rests}
 use Rattle.net_data.specs.declared.stop.Stop.{Stop}
-use Rattle.net_data.specs.declared.fault.DataDefect.TheVariants.{Syntax}
+use Rattle.net_fault.specs.declared.defect.Defect.TheVariants.{DataSyntax}
 use Rattle.std.specs.Prelude.{if◌then◌else◌}
 use Rattle.net_data.specs.Reading.{stop, Read, items_from, items, items_of, with_token, items_behind, semicolon, ◌>>=◌}
 use Rattle.net_data.specs.Meaning.{AreItems, IsTupleRest}
@@ -31,7 +31,7 @@ Walk Later [] = ⊥
 Walk spot (token ∷ tokens) = (next : Spot) × (spot_after spot token ≡ Some next) × ((skips (place_of spot) && is_comma token) ≡ false) × Walk next tokens
 
 -- what spots allow is what the grammar has
-abbrev Allows : Spot → List Token → Type 0
+abbrev pub Allows : Spot → List Token → Type 0
 Allows Outside tokens = AreItems tokens
 Allows Opened tokens = (first : Token) × (us : List Token) × (rest : List Token) × (tokens ≡ first ∷ us) × (is_member first ≡ true) × IsTupleRest us rest × AreItems rest
 Allows First tokens = (rest : List Token) × IsTupleRest tokens rest × AreItems rest
@@ -78,7 +78,7 @@ walked_at Later next token tokens e keep a =
       | inr x ↦ let here : AreItems tokens = rw (sym x.2) at a in inl (token, tokens, refl, x.1, here)
     ]
 
-walked : (spot : Spot) (tokens : List Token) → Walk spot tokens → Allows spot tokens
+pub walked : (spot : Spot) (tokens : List Token) → Walk spot tokens → Allows spot tokens
 walked Outside [] w = AreItems.nothing
 walked Opened [] w = absurd w
 walked First [] w = absurd w
@@ -112,7 +112,7 @@ walks (AreItems.tuple {opening} {first} {tokens} {rest} o m r a) =
     (Opened, rw (none, keep, o) refl, keep, (First, rw m refl, refl, rest_walks r (walks a)))
 
 -- the place behind a token is that of the spot behind it
-place_next : (spot next : Spot) (token : Token) → spot_after spot token ≡ Some next → (skips (place_of spot) && is_comma token) ≡ false → place_after (place_of spot) token ≡ place_of next
+pub place_next : (spot next : Spot) (token : Token) → spot_after spot token ≡ Some next → (skips (place_of spot) && is_comma token) ≡ false → place_after (place_of spot) token ≡ place_of next
 place_next Outside next token e keep =
     elim (chose_two (is_member token || is_comma token) (is_mark (codes "(") token) Outside Opened next e) [
       | inl x ↦
@@ -133,7 +133,7 @@ place_next Later next token e keep =
     ]
 
 -- a comma that is skipped leaves the spot as it is
-skip_stays : (spot : Spot) (token : Token) → (skips (place_of spot) && is_comma token) ≡ true → (spot ≡ Outside) × (spot_after spot token ≡ Some spot)
+pub skip_stays : (spot : Spot) (token : Token) → (skips (place_of spot) && is_comma token) ≡ true → (spot ≡ Outside) × (spot_after spot token ≡ Some spot)
 skip_stays Outside token h =
     let P : Bool → Type 0 = λ b. (let o : Option Spot = cond (b || is_comma token) (Some Outside) (cond (is_mark (codes "(") token) (Some Opened) None) in o ≡ Some Outside) in
     let by : (b : Bool) → P b = λ b. elim b as P [ true ↦ refl | false ↦ rw h refl ] in
@@ -143,13 +143,13 @@ skip_stays First token h = absurd (cc)
 skip_stays Parted token h = absurd (cc)
 skip_stays Later token h = absurd (cc)
 
-bare-keep : (place : Place) (token : Token) (tokens : List Token) → (skips place && is_comma token) ≡ false → bare place (token ∷ tokens) ≡ token ∷ bare (place_after place token) tokens
+pub bare-keep : (place : Place) (token : Token) (tokens : List Token) → (skips place && is_comma token) ≡ false → bare place (token ∷ tokens) ≡ token ∷ bare (place_after place token) tokens
 bare-keep place token tokens h = rw h
 
-bare-skip : (place : Place) (token : Token) (tokens : List Token) → (skips place && is_comma token) ≡ true → bare place (token ∷ tokens) ≡ bare place tokens
+pub bare-skip : (place : Place) (token : Token) (tokens : List Token) → (skips place && is_comma token) ≡ true → bare place (token ∷ tokens) ≡ bare place tokens
 bare-skip place token tokens h = rw h
 
-walk_cons : (spot next : Spot) (token : Token) (tokens : List Token) → spot_after spot token ≡ Some next → (skips (place_of spot) && is_comma token) ≡ false → Walk next tokens → Walk spot (token ∷ tokens)
+pub walk_cons : (spot next : Spot) (token : Token) (tokens : List Token) → spot_after spot token ≡ Some next → (skips (place_of spot) && is_comma token) ≡ false → Walk next tokens → Walk spot (token ∷ tokens)
 walk_cons Outside next token tokens e keep w = (next, e, keep, w)
 walk_cons Opened next token tokens e keep w = (next, e, keep, w)
 walk_cons First next token tokens e keep w = (next, e, keep, w)
@@ -178,19 +178,19 @@ leads_skip spot token tokens x skip leads = record {
 }
 
 -- what was read begins with the token
-with_inv : (token : Token) (read : Read (List Token)) (x : List Token × List Token) → with_token token read ≡ Ok x → (y : List Token × List Token) × (read ≡ Ok y) × (x ≡ (token ∷ y.0, y.1))
+pub with_inv : (token : Token) (read : Read (List Token)) (x : List Token × List Token) → with_token token read ≡ Ok x → (y : List Token × List Token) × (read ≡ Ok y) × (x ≡ (token ∷ y.0, y.1))
 with_inv token (Ok y) x h = let same : (token ∷ y.0, y.1) ≡ x = cc in (y, refl, sym same)
 with_inv token (Err e) x h = absurd (cc)
 
-items-some : (spot next : Spot) (token : Token) (tokens : List Token) → spot_after spot token ≡ Some next → items_from spot (token ∷ tokens) ≡ with_token token (items_from next tokens)
+pub items-some : (spot next : Spot) (token : Token) (tokens : List Token) → spot_after spot token ≡ Some next → items_from spot (token ∷ tokens) ≡ with_token token (items_from next tokens)
 unfolding items_from
 items-some spot next token tokens h = rw h
 
-items-none : (spot : Spot) (token : Token) (tokens : List Token) → spot_after spot token ≡ None → items_from spot (token ∷ tokens) ≡ items_behind token tokens None spot (items_from spot tokens)
+pub items-none : (spot : Spot) (token : Token) (tokens : List Token) → spot_after spot token ≡ None → items_from spot (token ∷ tokens) ≡ items_behind token tokens None spot (items_from spot tokens)
 unfolding items_from
 items-none spot token tokens h = rw h
 
-items-nil : (spot : Spot) → items_from spot [] ≡ (if rests spot then Ok ([], []) else Err (stop Syntax None))
+pub items-nil : (spot : Spot) → items_from spot [] ≡ (if rests spot then Ok ([], []) else Err (stop DataSyntax None))
 unfolding items_from
 items-nil spot = refl
 

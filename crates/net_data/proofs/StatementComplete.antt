@@ -27,15 +27,15 @@ use Rattle.net_data.proofs.SetSound.{Restated, set-complete}
 use Rattle.net_data.proofs.ParamComplete.{heading-complete, cells-complete, table-complete, turned-complete, list-complete}
 
 -- a token that is no word of the grammar comes first
-abbrev Begins : List Token → Type 0
+abbrev pub Begins : List Token → Type 0
 Begins tokens = (first : Token) × (rest : List Token) × (tokens ≡ first ∷ rest) × (is_word (codes "default") first ≡ false)
 
-record DefaultBack (tokens : List Token) (d : Option DefaultValue) (more : List Token) : Type 0 where
-  rest : List Token
-  read : default tokens ≡ Ok (d, rest)
-  left : bare elsewhere rest ≡ more
+pub record DefaultBack (tokens : List Token) (d : Option DefaultValue) (more : List Token) : Type 0 where
+  pub rest : List Token
+  pub read : default tokens ≡ Ok (d, rest)
+  pub left : bare elsewhere rest ≡ more
 
-default-complete : (tokens : List Token) (d : Option DefaultValue) (more : List Token) → IfSome d IsDefault → Begins more → bare elsewhere tokens ≡ put_default d more → DefaultBack tokens d more
+pub default-complete : (tokens : List Token) (d : Option DefaultValue) (more : List Token) → IfSome d IsDefault → Begins more → bare elsewhere tokens ≡ put_default d more → DefaultBack tokens d more
 unfolding default
 default-complete tokens None more are begins h =
     let none = misses elsewhere (is_word (codes "default")) tokens begins.1 begins.0 refl (h ∙ begins.2) begins.3 in
@@ -49,7 +49,7 @@ list_begins : (g : Option Given) (end : Token) (more : List Token) → IfSome g 
 list_begins None end more are ends = (end, more, refl, mark-word (codes ";") (codes "default") end ends)
 list_begins (Some g) end more are ends = (g.assign, g.cells ++ end ∷ more, refl, mark-word (codes ":=") (codes "default") g.assign are.assign)
 
-table_begins : (o : Option Transposed) (mark : Token) (more : List Token) → IfSome o IsTransposed → colon mark ≡ true → Begins (put_transposed o (mark ∷ more))
+pub table_begins : (o : Option Transposed) (mark : Token) (more : List Token) → IfSome o IsTransposed → colon mark ≡ true → Begins (put_transposed o (mark ∷ more))
 table_begins None mark more are colons = (mark, more, refl, mark-word (codes ":") (codes "default") mark colons)
 table_begins (Some s) mark more are colons = (s.opening, s.word ∷ s.closing ∷ mark ∷ more, refl, mark-word (codes "(") (codes "default") s.opening are.opening)
 
@@ -106,10 +106,10 @@ named_table t tokens more are h =
     let r = body_table t t.transposed d.rest more are refl d.left in
     record { rest = r.rest; read = rw (a.read, d.read) r.read; left = r.left }
 
-record SetBack (tokens : List Token) (s : Option NamedSet) (more : List Token) : Type 0 where
-  rest : List Token
-  read : named_set tokens ≡ (s, rest)
-  left : bare elsewhere rest ≡ more
+pub record SetBack (tokens : List Token) (s : Option NamedSet) (more : List Token) : Type 0 where
+  pub rest : List Token
+  pub read : named_set tokens ≡ (s, rest)
+  pub left : bare elsewhere rest ≡ more
 
 -- behind a name of a heading without a set no colon comes
 behind_name : (names : List Token) (mark : Token) (tokens more : List Token) → list_all is_name names ≡ true → assign mark ≡ true → bare elsewhere tokens ≡ names ++ mark ∷ more → met colon tokens ≡ None
@@ -117,7 +117,7 @@ behind_name [] mark tokens more pass marked h = misses elsewhere colon tokens mo
 behind_name (n ∷ names) mark tokens more pass marked h =
     misses elsewhere colon tokens _ n refl h (name-mark (codes ":") n (and_parts (is_name n) (list_all is_name names) pass).0)
 
-named_set-complete : (tokens : List Token) (s : Option NamedSet) (names : List Token) (mark : Token) (more : List Token) → IfSome s IsNamedSet → list_all is_name names ≡ true → assign mark ≡ true
+pub named_set-complete : (tokens : List Token) (s : Option NamedSet) (names : List Token) (mark : Token) (more : List Token) → IfSome s IsNamedSet → list_all is_name names ≡ true → assign mark ≡ true
     → bare elsewhere tokens ≡ put_set s (names ++ mark ∷ more) → SetBack tokens s (names ++ mark ∷ more)
 unfolding named_set
 named_set-complete tokens None [] mark more are pass marked h =

@@ -2,7 +2,7 @@
 use Rattle.std.proofs.Common.{◌≡◌, Bool, true, false, List, [], ◌∷◌, ◌++◌, Option, Some, None, Ok, Err, refl, ap, sym, ◌∙◌, codes}
 use Rattle.std.specs.Prelude.{if◌then◌else◌}
 use Rattle.net_lex.specs.declared.token.Token.{Token}
-use Rattle.net_data.specs.declared.fault.DataDefect.TheVariants.{Syntax, TableWidth}
+use Rattle.net_fault.specs.declared.defect.Defect.TheVariants.{DataSyntax, TableWidth}
 use Rattle.net_data.specs.declared.stop.Stop.{Stop}
 use Rattle.net_data.specs.declared.statement.DefaultValue.{DefaultValue}
 use Rattle.net_data.specs.declared.statement.Given.{Given}
@@ -36,7 +36,7 @@ set_local keyword tokens =
     bind_local items _ behind_mark (items_local behind_mark) (λ all behind_all k.
     bind_local (wanted semicolon) _ behind_all (wanted_local semicolon behind_all) (λ end rest l. pure_local _ rest)))))
 
-abbrev heads_of : List Token × List Token → Read (List Token × Token)
+abbrev pub heads_of : List Token × List Token → Read (List Token × Token)
 heads_of r = wanted assign r.1 >>= (λ a. headed r.0 a.0 a.1)
 
 heading_local : (test : Token → Bool) (tokens : List Token) → Local (heading test) tokens
@@ -46,7 +46,7 @@ heading_local test tokens =
     (bind_local (ran test) heads_of tokens (run_local test tokens) (λ heads behind i.
     bind_local (wanted assign) (λ a. headed heads a.0 a.1) behind (wanted_local assign behind) (λ mark rest j. headed_local heads mark rest)))
 
-abbrev read_cells : List Token × List Token → Read (List Token × Token)
+abbrev pub read_cells : List Token × List Token → Read (List Token × Token)
 read_cells r = wanted semicolon r.1 >>= (λ end. Ok ((r.0, end.0), end.1))
 
 cells_local : (tokens : List Token) → Local cells tokens
@@ -56,7 +56,7 @@ cells_local tokens =
     (bind_local (ran is_cell) read_cells tokens (run_local is_cell tokens) (λ all behind i.
     bind_local (wanted semicolon) _ behind (wanted_local semicolon behind) (λ end rest j. pure_local (all, end) rest)))
 
-filled_never : (heads all : List Token) (e : Stop) → filled heads all ≡ Err e → e.defect ≡ Syntax → ⊥
+filled_never : (heads all : List Token) (e : Stop) → filled heads all ≡ Err e → e.defect ≡ DataSyntax → ⊥
 filled_never heads all e h d = let k = (filled_err heads all e h).1 in absurd (cc)
 
 table_local : (keyword name : Token) (given : Option DefaultValue) (transposed : Option Transposed) (mark : Token) (tokens : List Token) → Local (table keyword name given transposed mark) tokens

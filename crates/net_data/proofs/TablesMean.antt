@@ -76,7 +76,7 @@ bare-length_at : (place : Place) (token : Token) (tokens : List Token) (b : Bool
 bare-length_at place token tokens true h = let k = h place in omega arith
 bare-length_at place token tokens false h = let k = h (place_after place token) in omega arith
 
-bare-length : (place : Place) (tokens : List Token) → length (bare place tokens) ≤ length tokens
+pub bare-length : (place : Place) (tokens : List Token) → length (bare place tokens) ≤ length tokens
 bare-length place [] = omega arith
 bare-length place (token ∷ tokens) = bare-length_at place token tokens (skips place && is_comma token) (λ p. bare-length p tokens)
 
@@ -108,7 +108,7 @@ put-length (kinds.Columns c) rest =
     let names = c.names ++ c.assign ∷ body in
     omega (arith, set-length c.set names, length-append c.names (c.assign ∷ body), length-append c.cells (c.end ∷ rest))
 
-put_all-length : (xs : List Statement) (rest : List Token) → length xs ≤ length (put_all xs rest)
+pub put_all-length : (xs : List Statement) (rest : List Token) → length xs ≤ length (put_all xs rest)
 put_all-length [] rest = omega arith
 put_all-length (x ∷ xs) rest = omega (arith, put-length x (put_all xs rest), put_all-length xs rest)
 
@@ -116,14 +116,14 @@ put_all-length (x ∷ xs) rest = omega (arith, put-length x (put_all xs rest), p
 lacks_nothing : (word : List ℕ) (tokens : List Token) → bare before tokens ≡ [] → met (is_word word) tokens ≡ None
 lacks_nothing word tokens h = met-none (is_word word) tokens (nothing before tokens refl h)
 
-lacks_word : (word other : List ℕ) (first : Token) (tokens more : List Token) → bytes_eq other word ≡ false → is_word word first ≡ true → bare before tokens ≡ first ∷ more → met (is_word other) tokens ≡ None
+pub lacks_word : (word other : List ℕ) (first : Token) (tokens more : List Token) → bytes_eq other word ≡ false → is_word word first ≡ true → bare before tokens ≡ first ∷ more → met (is_word other) tokens ≡ None
 lacks_word word other first tokens more apart key h = misses before (is_word other) tokens more first refl h (word-word word other first apart key)
 
 lacks_ending : (word : List ℕ) (ending : Option Lone) (tokens : List Token) → IfSome ending (IsLone (codes "end")) → bytes_eq word (codes "end") ≡ false → bare before tokens ≡ put_lone ending [] → met (is_word word) tokens ≡ None
 lacks_ending word None tokens are apart h = lacks_nothing word tokens h
 lacks_ending word (Some lone) tokens are apart h = lacks_word (codes "end") word lone.word tokens _ apart are.word h
 
-lacks_statement : (s : Statement) (tokens more : List Token) → IsStatement s → bare before tokens ≡ put s more → met (is_word (codes "data")) tokens ≡ None
+pub lacks_statement : (s : Statement) (tokens more : List Token) → IsStatement s → bare before tokens ≡ put s more → met (is_word (codes "data")) tokens ≡ None
 lacks_statement (kinds.Set s) tokens more are h = lacks_word (codes "set") (codes "data") s.keyword tokens _ refl are.keyword h
 lacks_statement (kinds.List l) tokens more are h = lacks_word (codes "param") (codes "data") l.keyword tokens _ refl are.keyword h
 lacks_statement (kinds.Table t) tokens more are h = lacks_word (codes "param") (codes "data") t.keyword tokens _ refl are.heading.keyword h
@@ -139,12 +139,12 @@ unfolding statement
 no_statement ending tokens are h =
     let a = lacks_ending (codes "set") ending tokens are refl h in let b = lacks_ending (codes "param") ending tokens are refl h in rw (a, b) refl
 
-record LoneBack (word : List ℕ) (tokens : List Token) (o : Option Lone) (more : List Token) : Type 0 where
-  rest : List Token
-  read : lone word tokens ≡ Ok (o, rest)
-  left : bare before rest ≡ more
+pub record LoneBack (word : List ℕ) (tokens : List Token) (o : Option Lone) (more : List Token) : Type 0 where
+  pub rest : List Token
+  pub read : lone word tokens ≡ Ok (o, rest)
+  pub left : bare before rest ≡ more
 
-lone-complete : (word : List ℕ) (tokens : List Token) (o : Option Lone) (more : List Token) → bytes_eq (codes "set") word ≡ false → IfSome o (IsLone word) → (bare before tokens ≡ more → met (is_word word) tokens ≡ None)
+pub lone-complete : (word : List ℕ) (tokens : List Token) (o : Option Lone) (more : List Token) → bytes_eq (codes "set") word ≡ false → IfSome o (IsLone word) → (bare before tokens ≡ more → met (is_word word) tokens ≡ None)
     → bare before tokens ≡ put_lone o more → LoneBack word tokens o more
 unfolding lone
 lone-complete word tokens None more apart are lacks h = let none = lacks h in record { rest = tokens; read = rw none refl; left = h }
@@ -164,9 +164,9 @@ turn_judged n x xs tokens behind rest (Ok u) k one more = rw one (ap (with_state
 turn_judged n x xs tokens behind rest (Err e) k one more = rw one refl
 
 record StatementsBack (n : ℕ) (tokens : List Token) (xs : List Statement) (more : List Token) : Type 0 where
-  rest : List Token
+  pub rest : List Token
   read : statements n tokens ≡ (all_judged xs >>= (λ full. Ok (xs, rest)))
-  left : bare before rest ≡ more
+  pub left : bare before rest ≡ more
 
 statements-complete : (n : ℕ) (xs : List Statement) (ending : Option Lone) (tokens : List Token) → length xs < n → AllByRecursion IsStatement xs → IfSome ending (IsLone (codes "end"))
     → bare before tokens ≡ put_all xs (put_lone ending []) → StatementsBack n tokens xs (put_lone ending [])

@@ -4,7 +4,7 @@ use Rattle.std.proofs.lemmas.List.{append-nil}
 use Rattle.net_lex.specs.declared.token.Token.{Token}
 use Rattle.net_data.specs.declared.statement.Statement.{Statement}
 use Rattle.net_data.specs.declared.stop.Stop.{Stop}
-use Rattle.net_data.specs.declared.fault.DataFault.{DataFault}
+use Rattle.net_fault.specs.declared.fault.Fault.{Fault}
 use Rattle.net_data.specs.declared.statement_stop.StatementStop.{StatementStop}
 use Rattle.net_data.specs.declared.statement_stop.StatementStop.TheVariants as statement_stops
 use Rattle.net_data.specs.Reading.{Read, statement, statements, with_statement, fault_of, statement_fault, Stops, Fails}
@@ -60,13 +60,13 @@ leads_stop tokens found rest e leads le h =
     ap (λ k. statements k tokens) n.1 ∙ leads (suc n.0) ∙ ap (with_statements found) (stops n.0 rest e h)
 
 -- what stops the reading is the fault
-fails_at : {A : Type 0} (end : ℕ) (read : Result A Stop) (e : Stop) (fault : DataFault) → read ≡ Err e → fault ≡ fault_of end e → Fails end read fault
-fails_at end read e fault h is = let P : DataFault → Type 0 = λ f. Fails end read f in subst P (sym is) (e, h, refl)
+fails_at : {A : Type 0} (end : ℕ) (read : Result A Stop) (e : Stop) (fault : Fault) → read ≡ Err e → fault ≡ fault_of end e → Fails end read fault
+fails_at end read e fault h is = let P : Fault → Type 0 = λ f. Fails end read f in subst P (sym is) (e, h, refl)
 
 -- what keeps a statement from being read is the fault
-pub statement_fails : (end : ℕ) (tokens : List Token) (found : List Statement) (rest : List Token) (stop : StatementStop) (fault : DataFault) → LeadsTo tokens found rest → length found + length rest ≤ length tokens
+pub statement_fails : (end : ℕ) (tokens : List Token) (found : List Statement) (rest : List Token) (stop : StatementStop) (fault : Fault) → LeadsTo tokens found rest → length found + length rest ≤ length tokens
     → Stops (statement rest) stop → fault ≡ statement_fault end stop → Fails end (statements (suc (length tokens)) tokens) fault
-statement_fails end tokens found rest statement_stops.OutOfMemory fault leads le h is = let P : DataFault → Type 0 = λ f. Fails end (statements (suc (length tokens)) tokens) f in subst P (sym is) tt
+statement_fails end tokens found rest statement_stops.OutOfMemory fault leads le h is = let P : Fault → Type 0 = λ f. Fails end (statements (suc (length tokens)) tokens) f in subst P (sym is) tt
 statement_fails end tokens found rest (statement_stops.Reading e) fault leads le h is = fails_at end _ e fault (leads_stop tokens found rest e leads le h) is
 
 -- one statement more, and fewer tokens

@@ -1,6 +1,5 @@
 pub mod Tests
 pub mod Commas
-pub mod Faults
 pub mod Spots
 pub mod Reading
 pub mod Printing

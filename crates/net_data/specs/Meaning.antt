@@ -2,7 +2,7 @@
 use Rattle.std.specs.Prelude.{◌≡◌, ℕ, true, List, [], ◌∷◌, Some, IfSome, Result, Ok, Err, codes}
 use Rattle.std.specs.List.{list_all, AllByRecursion}
 use Rattle.net_lex.specs.declared.token.Token.{Token}
-use Rattle.net_data.specs.declared.fault.DataDefect.TheVariants.{TableWidth}
+use Rattle.net_fault.specs.declared.defect.Defect.TheVariants.{TableWidth}
 use Rattle.net_data.specs.declared.stop.Stop.{Stop}
 use Rattle.net_data.specs.declared.statement.SetStatement.{SetStatement}
 use Rattle.net_data.specs.declared.statement.DefaultValue.{DefaultValue}

@@ -3,12 +3,14 @@ use Rattle.std.specs.Prelude.{◌≡◌, slice_get, ◌-◌, ℕ, suc, zero, ◌
 use Rattle.std.specs.List.{prefix_len}
 use Rattle.std.specs.Borrow.{Bor}
 use Rattle.std.specs.Option.{option_map}
-use Rattle.net_lex.specs.declared.span.Span.{Span}
+use Rattle.net_fault.specs.declared.span.Span.{Span}
 use Rattle.net_lex.specs.declared.token.Token.{Token}
-use Rattle.net_data.specs.declared.fault.DataDefect.{DataDefect}
-use Rattle.net_data.specs.declared.fault.DataDefect.TheVariants.{Syntax, RowWidth, TableWidth}
-use Rattle.net_data.specs.declared.fault.DataFault.{DataFault}
-use Rattle.net_data.specs.declared.fault.DataFault.TheVariants.{OutOfMemory, At}
+use Rattle.net_fault.specs.declared.defect.Defect.{Defect}
+use Rattle.net_fault.specs.declared.defect.Defect.TheVariants.{DataSyntax, RowWidth, TableWidth}
+use Rattle.net_fault.specs.declared.fault.Fault.{Fault}
+use Rattle.net_fault.specs.declared.language.Language.TheVariants.{Data}
+use Rattle.net_fault.specs.Outcomes as outcomes
+use Rattle.net_fault.specs.declared.fault.Fault.TheVariants.{OutOfMemory, At}
 use Rattle.net_data.specs.declared.stop.Stop.{Stop}
 use Rattle.net_data.specs.declared.statement_stop.StatementStop.{StatementStop}
 use Rattle.net_data.specs.declared.statement_stop.StatementStop.TheVariants as statement_stops
@@ -34,7 +36,7 @@ abbrev pub ◌>>=◌ : {A B : Type 0} → Result A Stop → (A → Result B Stop
 abbrev pub Read : Type 0 → Type 0
 Read A = Result (A × List Token) Stop
 
-abbrev pub stop : DataDefect → Option Span → Stop
+abbrev pub stop : Defect → Option Span → Stop
 stop defect at = record { defect = defect; at = at }
 
 -- the next token that is no comma, and what follows it
@@ -88,23 +90,23 @@ abbrev pub span_or_end : ℕ → Option Span → Span
 span_or_end end None = record { start = end; end = end }
 span_or_end end (Some span) = span
 
-abbrev pub fault_of : ℕ → Stop → DataFault
-fault_of end stop = At stop.defect (span_or_end end stop.at)
+abbrev pub fault_of : ℕ → Stop → Fault
+fault_of end stop = At (outcomes.bare Data stop.defect (span_or_end end stop.at))
 
-abbrev pub statement_fault : ℕ → StatementStop → DataFault
+abbrev pub statement_fault : ℕ → StatementStop → Fault
 statement_fault end statement_stops.OutOfMemory = OutOfMemory
 statement_fault end (statement_stops.Reading stop) = fault_of end stop
 
 -- what a function returned is what is read, or the fault that stops it, unless memory ran out
-abbrev pub Fails : ℕ → {A : Type 0} → Result A Stop → DataFault → Type 0
+abbrev pub Fails : ℕ → {A : Type 0} → Result A Stop → Fault → Type 0
 Fails end read OutOfMemory = Unit {0}
-Fails end read (At defect span) = (e : Stop) × (read ≡ Err e) × (At defect span ≡ fault_of end e)
+Fails end read (At f) = (e : Stop) × (read ≡ Err e) × (At f ≡ fault_of end e)
 
-abbrev pub Answers : ℕ → {A : Type 0} → Result A Stop → Result A DataFault → Type 0
+abbrev pub Answers : ℕ → {A : Type 0} → Result A Stop → Result A Fault → Type 0
 Answers end read (Ok x) = read ≡ Ok x
 Answers end read (Err fault) = Fails end read fault
 
-abbrev pub AnswersRest : ℕ → {A : Type 0} → Read A → Result (A × Bor (List Token)) DataFault → Type 0
+abbrev pub AnswersRest : ℕ → {A : Type 0} → Read A → Result (A × Bor (List Token)) Fault → Type 0
 AnswersRest end read (Ok x) = read ≡ Ok (x.0, x.1.now)
 AnswersRest end read (Err fault) = Fails end read fault
 
@@ -131,7 +133,7 @@ span_of (Some token) = Some token.span
 
 -- the stop at the next token, which is not allowed
 unfoldable pub refused : List Token → Stop
-refused tokens = stop Syntax (span_of (option_map (λ x. x.0) (front tokens)))
+refused tokens = stop DataSyntax (span_of (option_map (λ x. x.0) (front tokens)))
 
 -- the next token, which has to pass a test
 abbrev pub wanted_by : List Token → Option (Token × List Token) → Read Token
@@ -155,14 +157,14 @@ with_token token (Err e) = Err e
 
 abbrev pub items_behind : Token → List Token → Option Spot → Spot → Read (List Token) → Read (List Token)
 items_behind token tokens (Some next) spot more = with_token token more
-items_behind token tokens None spot more = if rests spot then Ok ([], token ∷ tokens) else Err (stop Syntax (Some token.span))
+items_behind token tokens None spot more = if rests spot then Ok ([], token ∷ tokens) else Err (stop DataSyntax (Some token.span))
 
 abbrev pub spot_or : Spot → Option Spot → Spot
 spot_or spot (Some next) = next
 spot_or spot None = spot
 
 unfoldable pub items_from : Spot → List Token → Read (List Token)
-items_from spot [] = if rests spot then Ok ([], []) else Err (stop Syntax None)
+items_from spot [] = if rests spot then Ok ([], []) else Err (stop DataSyntax None)
 items_from spot (token ∷ tokens) = items_behind token tokens (spot_after spot token) spot (items_from (spot_or spot (spot_after spot token)) tokens)
 
 abbrev pub items_of : List Token × List Token → List Token × List Token
@@ -343,7 +345,7 @@ lone word tokens = lone_by tokens (met (is_word word) tokens)
 
 abbrev pub finished_by : Option (Token × List Token) → Result (Unit {0}) Stop
 finished_by None = Ok tt
-finished_by (Some x) = Err (stop Syntax (Some x.0.span))
+finished_by (Some x) = Err (stop DataSyntax (Some x.0.span))
 
 -- nothing but commas follows
 unfoldable pub finished : List Token → Result (Unit {0}) Stop

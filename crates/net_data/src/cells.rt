@@ -5,7 +5,8 @@ ghost use Rattle.net_data.specs.Commas.{uncommaed};
 
 use crate::cursor::front;
 use crate::test::is_comma;
-use net_lex::{Span, Token};
+use net_fault::Span;
+use net_lex::Token;
 use std::marker::Model;
 
 /// Tokens that stand one after the other, with commas anywhere among them: contracts see the tokens without the commas.

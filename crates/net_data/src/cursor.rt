@@ -4,11 +4,11 @@ ghost use Rattle.std.specs.List.{prefix_len};
 ghost use Rattle.net_data.specs.Tests.{is_comma, is_of};
 ghost use Rattle.net_data.specs.Reading.{front, met, wanted, refused, Reads, Finds};
 
-use crate::fault::DataDefect;
 use crate::sort::Sort;
 use crate::stop::Stop;
 use crate::test::{is_comma, is_of};
 use crate::word::Word;
+use net_fault::Defect;
 use net_lex::Token;
 
 /// A token, and what follows it.
@@ -62,7 +62,7 @@ pub(crate) fn refused(tokens: &[Token<'_>]) -> Stop
         Some((token, _)) => Some(token.span),
     };
     Stop {
-        defect: DataDefect::Syntax,
+        defect: Defect::DataSyntax,
         at,
     }
 }

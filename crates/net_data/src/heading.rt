@@ -5,11 +5,11 @@ ghost use Rattle.net_data.specs.Reading.{cells, heading, headed, filled, Reads, 
 
 use crate::cells::Cells;
 use crate::cursor::wanted;
-use crate::fault::DataDefect;
 use crate::runs::run;
 use crate::sort::Sort;
 use crate::stop::Stop;
 use crate::word::Word;
+use net_fault::Defect;
 use net_lex::Token;
 
 /// Cells and the mark behind them, and what follows.
@@ -26,7 +26,7 @@ fn headed<'t, 's>(
 {
     if columns.len() == 0 {
         return Err(Stop {
-            defect: DataDefect::TableWidth,
+            defect: Defect::TableWidth,
             at: Some(assign.token().span),
         });
     }
@@ -64,7 +64,7 @@ pub(crate) fn filled(columns: &Cells<'_, '_>, cells: &Cells<'_, '_>) -> Result<(
         return Ok(());
     }
     Err(Stop {
-        defect: DataDefect::RowWidth,
+        defect: Defect::RowWidth,
         at: cells.last_span(),
     })
 }

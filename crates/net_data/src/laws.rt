@@ -3,7 +3,7 @@ ghost use Rattle.net_data.specs.Rows.{groups, set_rows, first_row, more_rows};
 ghost use Rattle.net_lex.specs.declared.token.Token.{Token};
 ghost use Rattle.net_data.specs.declared.tables.Tables.{Tables};
 ghost use Rattle.net_data.specs.Meaning.{Mean, all_judged};
-ghost use Rattle.net_data.specs.GoingOn.{NoneGoOn};
+ghost use Rattle.net_data.specs.GoingOn.{NoneGoOn, AllBegin};
 
 /// A law alone: tokens that mean tables without a fault mean no others.
 pub fn one_meaning()
@@ -24,7 +24,9 @@ pub fn set_row_by_row()
         → set_rows dimension items ≡ first_row dimension items ∷ set_rows dimension (more_rows dimension items) }
 {}
 
-/// A law alone: where reading stops at a token that is not allowed, no statements go on with it, whatever comes behind.
+/// A law alone: where reading stops at a token that is not allowed, the tokens before it begin statements, and no statements go on
+/// with it, whatever comes behind; where it stops at the end, the tokens begin statements, and are none.
 pub fn no_statements_go_on()
     ensures value { NoneGoOn }
+    ensures at_end { AllBegin }
 {}

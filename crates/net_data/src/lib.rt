@@ -3,7 +3,6 @@
 
 mod cells;
 mod cursor;
-mod fault;
 mod heading;
 mod laws;
 mod members;
@@ -22,7 +21,6 @@ mod test;
 mod word;
 
 pub use cells::Cells;
-pub use fault::{DataDefect, DataFault};
 pub use laws::{group_by_group, no_statements_go_on, one_meaning, set_row_by_row};
 pub use members::Members;
 pub use parse::parse_data;

@@ -7,7 +7,6 @@ ghost use Rattle.net_data.specs.Refusals.{IsRefusal};
 ghost use Rattle.net_data.specs.declared.tables.Tables.{Tables};
 
 use crate::cursor::{front, met, same, wanted};
-use crate::fault::{DataDefect, DataFault};
 use crate::param::param;
 use crate::set::set;
 use crate::sort::Sort;
@@ -17,7 +16,9 @@ use crate::statement_stop::StatementStop;
 use crate::stop::Stop;
 use crate::tables::{Lone, Tables};
 use crate::word::Word;
-use net_lex::{Boxed, Items, Span, Token};
+use net_fault::{Defect, Fault, Span};
+use net_lex::Token;
+use net_views::{Boxed, Items};
 use std::alloc::Global;
 
 /// The end of the last token.
@@ -31,21 +32,21 @@ fn end_of(tokens: &[Token<'_>]) -> usize
 }
 
 /// The fault that a stop is, in a text that ends there.
-fn fault_of(stop: Stop, end: usize) -> DataFault
+fn fault_of(stop: Stop, end: usize) -> Fault
     ensures { result ≡ fault_of end stop }
 {
     match stop.at {
-        None => DataFault::At(stop.defect, Span { start: end, end }),
-        Some(span) => DataFault::At(stop.defect, span),
+        None => Fault::of_data(stop.defect, Span { start: end, end }),
+        Some(span) => Fault::of_data(stop.defect, span),
     }
 }
 
 /// The fault that keeps a statement from being read, in a text that ends there.
-fn statement_fault(stop: StatementStop, end: usize) -> DataFault
+fn statement_fault(stop: StatementStop, end: usize) -> Fault
     ensures { result ≡ statement_fault end stop }
 {
     match stop {
-        StatementStop::OutOfMemory => DataFault::OutOfMemory,
+        StatementStop::OutOfMemory => Fault::OutOfMemory,
         StatementStop::Reading(stop) => fault_of(stop, end),
     }
 }
@@ -94,7 +95,7 @@ fn statements<'t, 's>(
     alloc: Global,
     end: usize,
     tokens: &'t [Token<'s>],
-) -> Result<(Items<Statement<'t, 's>>, &'t [Token<'s>]), DataFault>
+) -> Result<(Items<Statement<'t, 's>>, &'t [Token<'s>]), Fault>
     ensures { AnswersRest end (statements (suc (length tokens.entry.now)) tokens.entry.now) result }
 {
     let mut statements = Vec::new(alloc);
@@ -133,7 +134,7 @@ fn finished(tokens: &[Token<'_>]) -> Result<(), Stop>
     match front(tokens) {
         None => Ok(()),
         Some((token, _)) => Err(Stop {
-            defect: DataDefect::Syntax,
+            defect: Defect::DataSyntax,
             at: Some(token.span),
         }),
     }
@@ -145,7 +146,7 @@ fn tables<'t, 's>(
     alloc: Global,
     end: usize,
     tokens: &'t [Token<'s>],
-) -> Result<Tables<'t, 's>, DataFault>
+) -> Result<Tables<'t, 's>, Fault>
     ensures { Answers end (tables tokens.entry.now) result }
 {
     let (opening, rest) = match lone(Sort::Data, tokens) {
@@ -171,10 +172,7 @@ fn tables<'t, 's>(
 /// something in tuples only. The first fault is `Syntax` at the first token that is not allowed, or
 /// at the end of the last one; `TableWidth` at the `:=` of a heading without a column or a name; or
 /// `RowWidth` at the last cell of a table that does not fill its rows.
-pub fn parse_data<'t, 's>(
-    alloc: Global,
-    tokens: &'t [Token<'s>],
-) -> Result<Tables<'t, 's>, DataFault>
+pub fn parse_data<'t, 's>(alloc: Global, tokens: &'t [Token<'s>]) -> Result<Tables<'t, 's>, Fault>
     ensures ok { IfOk result (λ x. Mean tokens.entry.now x) }
     // The tables of an answer have no fault.
     ensures full { IfOk result (λ x. all_judged x.statements ≡ Ok tt) }

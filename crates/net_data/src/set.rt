@@ -4,7 +4,6 @@ ghost use Rattle.net_data.specs.Spots.{outside};
 ghost use Rattle.net_data.specs.Reading.{items, items_from, set, Reads, ReadsStated, CountsItems};
 
 use crate::cursor::wanted;
-use crate::fault::DataDefect;
 use crate::members::Members;
 use crate::sort::Sort;
 use crate::spot::Spot;
@@ -13,6 +12,7 @@ use crate::statement::{SetStatement, Statement};
 use crate::statement_stop::StatementStop;
 use crate::stop::Stop;
 use crate::word::Word;
+use net_fault::Defect;
 use net_lex::Token;
 use std::alloc::Global;
 
@@ -29,7 +29,7 @@ fn items_len(tokens: &[Token<'_>]) -> Result<usize, Stop>
             None if spot.rests() => return Ok(len),
             None => {
                 return Err(Stop {
-                    defect: DataDefect::Syntax,
+                    defect: Defect::DataSyntax,
                     at: Some(token.span),
                 });
             }
@@ -40,7 +40,7 @@ fn items_len(tokens: &[Token<'_>]) -> Result<usize, Stop>
         return Ok(len);
     }
     Err(Stop {
-        defect: DataDefect::Syntax,
+        defect: Defect::DataSyntax,
         at: None,
     })
 }

@@ -1,12 +1,13 @@
 //! A value in a box, and what follows it.
 ghost use Rattle.std.specs.Prelude.{◌≡◌, [], ◌∷◌, ◌++◌, OnOk, IfOk, IfErr};
-ghost use Rattle.net_data.specs.declared.fault.DataFault.TheVariants.{OutOfMemory};
+ghost use Rattle.net_fault.specs.declared.fault.Fault.TheVariants.{OutOfMemory};
 ghost use Rattle.net_data.specs.declared.statement_stop.StatementStop.TheVariants as statement_stops;
 
-use crate::fault::DataFault;
 use crate::statement::Statement;
 use crate::statement_stop::StatementStop;
-use net_lex::{Boxed, Token};
+use net_fault::Fault;
+use net_lex::Token;
+use net_views::Boxed;
 use std::alloc::Global;
 
 /// A statement, and what follows it.
@@ -29,7 +30,7 @@ pub(crate) fn stated<'t, 's, T: Drop>(
 }
 
 /// Takes in a statement behind the others.
-pub(crate) fn push<T: Drop>(statements: &mut Vec<T>, statement: Boxed<T>) -> Result<(), DataFault>
+pub(crate) fn push<T: Drop>(statements: &mut Vec<T>, statement: Boxed<T>) -> Result<(), Fault>
     ensures items { OnOk result (statements.new.items ≡ statements.old.items ++ (statement ∷ [])) }
     ensures memory { IfErr result (λ e. e ≡ OutOfMemory) }
 {

@@ -1,6 +1,6 @@
 use crate::statement::Statement;
 use crate::word::Word;
-use net_lex::Items;
+use net_views::Items;
 
 /// `data;` or `end;`
 #[derive(Drop)]

@@ -3,7 +3,7 @@ use Rattle.std.proofs.Common.{◌≡◌, ◌<◌, ◌≤◌, ◌+◌, ℕ, zero,
 use Rattle.std.specs.Prelude.{Option, Result, IsErr, OnErr, ◌≢◌}
 use Rattle.std.specs.List.{flat_map}
 use Rattle.std.proofs.KnownBytes.{Appends-nil, Appends-trans}
-use Rattle.net_ends.specs.Ends.{WritesFront}
+use Rattle.net_io.specs.Ends.{WritesFront}
 use Rattle.std.proofs.lemmas.List.{at_drop_more, drop_all}
 use Rattle.net_normal.specs.declared.problem.FlowArc.{FlowArc}
 use Rattle.net_dimacs.specs.Sending.{Passes, Sends}

@@ -1,7 +1,7 @@
 -- Text on its way to a sink that gets it by the page (the words of Rust's std::io, BufWriter).
 use Rattle.std.specs.Prelude.{◌≡◌, ℕ, List, ◌++◌, Option, Result, MatchResult}
 use Rattle.std.specs.Io.KnownBytes.{Appends}
-use Rattle.net_ends.specs.Ends.{WritesFront}
+use Rattle.net_io.specs.Ends.{WritesFront}
 
 -- of what was held and the text behind it, a front went out and the rest is held
 pub record Passes (old new : Option (List ℕ)) (before text after : List ℕ) : Type 0 where

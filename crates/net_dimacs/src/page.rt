@@ -8,7 +8,7 @@ ghost use Rattle.net_dimacs.specs.Sending.{Sends};
 
 use arrayvec::ArrayVec;
 use itoa::Buffer;
-use net_ends::{Failed, Sink, write_whole};
+use net_io::{Failed, Sink, write_whole};
 
 /// How many bytes a page holds.
 const PAGE: usize = 4096;

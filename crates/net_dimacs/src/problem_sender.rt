@@ -3,14 +3,14 @@
 ghost use Rattle.std.specs.Prelude.{◌≡◌, ◌<◌, ◌≤◌, ◌||◌, OnOk, OnErr, is_err, length};
 ghost use Rattle.std.specs.List.{flat_map};
 ghost use Rattle.std.specs.Io.KnownBytes.{Appends};
-ghost use Rattle.net_ends.specs.Ends.{WritesFront};
+ghost use Rattle.net_io.specs.Ends.{WritesFront};
 ghost use Rattle.net_normal.specs.Limits.{flow_node_limit};
 ghost use Rattle.net_dimacs.specs.Written.{head_line, node_line, node_lines, arc_line, problem_text};
 ghost use Rattle.net_dimacs.specs.Problems.{IsProblemText, IsOnlyProblem};
 ghost use Rattle.net_dimacs.specs.Sending.{Sends};
 
 use crate::page::{Page, send_line};
-use net_ends::{Failed, Sink, write_whole};
+use net_io::{Failed, Sink, write_whole};
 use net_normal::{FlowArc, Problem};
 
 /// Writes the text of a problem, as `write_problem` makes it, by pages of 4,096 bytes. It takes no memory.

@@ -1,18 +1,18 @@
 -- No key of braces stands twice, where sets have their tuples once.
 use Rattle.std.specs.Prelude.{◌≡◌, ℕ, Bool, true, false, [], ◌∷◌, length, nat_eq, Option, None, Some, if◌then◌else◌, Ok}
 use Rattle.std.proofs.Common.{refl, ap, sym, ◌∙◌, subst, arith}
-use Rattle.net_lex.specs.declared.span.Span.{Span}
+use Rattle.net_fault.specs.declared.span.Span.{Span}
 use Rattle.net_sets.specs.Sets.{Tuple, same_tuple}
 use Rattle.net_sets.proofs.Sames.{tuple_decides}
 use Rattle.net_tree.specs.Spans.{span_of}
 use Rattle.net_tree.specs.Tree.{Tree, leaf, tuple, chain, none, link}
-use Rattle.net_eval.specs.declared.fault.EvalDefect.TheVariants.{Arity}
+use Rattle.net_fault.specs.declared.defect.Defect.TheVariants.{Arity}
 use Rattle.net_eval.specs.declared.row.Place.{Place}
 use Rattle.net_eval.specs.declared.value.Value.{Value}
 use Rattle.net_eval.specs.declared.value.Value.TheVariants.{One, Several, Many, Truth}
 use Rattle.net_eval.specs.Items.{new_dummy, is_in, needed}
 use Rattle.net_eval.specs.Operations.{operation}
-use Rattle.net_eval.specs.Outcomes.{Outcome, refused}
+use Rattle.net_fault.specs.Outcomes.{Outcome, refused}
 use Rattle.net_eval.specs.Rows.{with_key, bind, agrees_whole, agrees_as, fitted, fitted_alone}
 use Rattle.net_eval.specs.Values.{value, place, left_place, places}
 use Rattle.net_eval.specs.Worlds.{Name, World}

@@ -1,20 +1,20 @@
 -- Walks over items: what is found and what is still to come at each item are together what is wanted.
 use Rattle.std.specs.Prelude.{◌≡◌, ℕ, ◌+◌, ◌-◌, ◌<◌, ◌≤◌, List, [], ◌∷◌, ◌++◌, length, take, drop, get_or, slice_get, Option, None, Some, IfSome, Ok, Err, ⊤}
 use Rattle.std.proofs.Common.{refl, sym, ap, ◌∙◌, arith}
-use Rattle.net_lex.specs.declared.span.Span.{Span}
+use Rattle.net_fault.specs.declared.span.Span.{Span}
 use Rattle.net_sets.specs.Components.{sought}
 use Rattle.net_sets.specs.Sets.{Tuple}
 use Rattle.net_tree.specs.declared.expr.Link.{Link, out-Link}
 use Rattle.net_tree.specs.View.{tree, links_of}
 use Rattle.net_tree.specs.Weights.{weight, weights}
-use Rattle.net_eval.specs.declared.fault.EvalFault.{EvalFault}
-use Rattle.net_eval.specs.declared.fault.EvalFault.TheVariants as faults
-use Rattle.net_eval.specs.declared.fault.Refusal.{Refusal}
+use Rattle.net_fault.specs.declared.fault.Fault.{Fault}
+use Rattle.net_fault.specs.declared.fault.Fault.TheVariants as faults
+use Rattle.net_fault.specs.declared.finding.Finding.{Finding}
 use Rattle.net_eval.specs.declared.frame.Frame.{Frame}
 use Rattle.net_eval.specs.declared.row.Place.{Place}
 use Rattle.net_eval.specs.declared.row.Row.{Row}
 use Rattle.net_eval.specs.Frames.{still, steps, steps_next, steps_of, of_tuples, steps_still, weight_of, Leads}
-use Rattle.net_eval.specs.Outcomes.{Outcome, Answers, Leaves, and_then, each}
+use Rattle.net_fault.specs.Outcomes.{Outcome, Answers, Leaves, and_then, each}
 use Rattle.net_eval.specs.Rows.{onward, go_on}
 use Rattle.net_eval.specs.Selecting.{selecting}
 use Rattle.net_eval.specs.Values.{place, walk}
@@ -121,10 +121,10 @@ to_item at w f g o (Some k) fs more found wanted e h is pushed =
     step (Err r) = refl
 
 -- faults
-pub fault_of_place : (at : Span) (w : World) (f : Frame) (t : Tuple) (fs : List Frame) (found last : List Row) (wanted : Outcome (List Row)) (e : EvalFault)
+pub fault_of_place : (at : Span) (w : World) (f : Frame) (t : Tuple) (fs : List Frame) (found last : List Row) (wanted : Outcome (List Row)) (e : Fault)
     → and_then (still at w f found) (still_below at w fs) ≡ wanted → f.left ≡ t ∷ drop 1 f.left → Answers (place w (tree f.item.now) t f.place) (Err e) → Leaves wanted (Err e) last
 fault_of_place at w f t fs found last wanted faults.OutOfMemory same e h = tt
-fault_of_place at w f t fs found last wanted (faults.Refused r) same e h =
+fault_of_place at w f t fs found last wanted (faults.At r) same e h =
     sym same
     ∙ ap (λ o. and_then o (still_below at w fs)) (first_gives at w f t found e)
     ∙ ap (λ o. and_then (and_then (and_then o (go_on (walk at w (links_of f.more.now)) found)) (still at w (behind_first f))) (still_below at w fs)) h
@@ -143,14 +143,14 @@ made : (o : Outcome (List Tuple)) (make : List Tuple → Frame) (f : Frame) → 
 made (Ok ts) make f e = (ts, refl, is_ok (make ts) f e)
 made (Err r) make f e = cc
 
-pub entering_stops : (at : Span) (w : World) (ls : List Link) (l : Link) (o : Option Place) (p : Place) (found : List Row) (make : List Tuple → Frame) (e : EvalFault) → o ≡ Some p → 1 ≤ length ls → l ≡ get_or ls 0 l
+pub entering_stops : (at : Span) (w : World) (ls : List Link) (l : Link) (o : Option Place) (p : Place) (found : List Row) (make : List Tuple → Frame) (e : Fault) → o ≡ Some p → 1 ≤ length ls → l ≡ get_or ls 0 l
     → Answers (and_then (item_tuples at w p.scope (tree (out-Link l).operand)) (λ ts. Ok (make ts))) (Err e) → Leads at w (go_on (walk at w (links_of ls)) found o) (Err e) found
 entering_stops at w ls l o p found make faults.OutOfMemory is h i a = tt
-entering_stops at w ls l o p found make (faults.Refused r) is h i a = go (item_tuples at w p.scope (tree (out-Link l).operand)) _ (entering at w ls l o p found is h i) a
+entering_stops at w ls l o p found make (faults.At r) is h i a = go (item_tuples at w p.scope (tree (out-Link l).operand)) _ (entering at w ls l o p found is h i) a
   where
     go : (ts : Outcome (List Tuple)) (f : List Tuple → Outcome (List Row)) {wanted : Outcome (List Row)} → wanted ≡ and_then ts f → and_then ts (λ us. Ok (make us)) ≡ Err r → wanted ≡ Err r
     go (Ok us) f e a = cc
-    go (Err s) f e a = let same : s ≡ r = cc in e ∙ ap (λ (k : Refusal). let stopped : Outcome (List Row) = Err k in stopped) same
+    go (Err s) f e a = let same : s ≡ r = cc in e ∙ ap (λ (k : Finding). let stopped : Outcome (List Row) = Err k in stopped) same
 
 pub entering_leads : (at : Span) (w : World) (ls : List Link) (l : Link) (o : Option Place) (p : Place) (found : List Row) (make : List Tuple → Frame) (f : Frame) → o ≡ Some p → 1 ≤ length ls → l ≡ get_or ls 0 l
     → ((ts : List Tuple) → still at w (make ts) found ≡ each (onward (place w (tree (out-Link l).operand)) (walk at w (links_of (take (length ls - 1) (drop 1 ls)))) p) (sought (selecting w p.scope (tree (out-Link l).operand)) ts) found)

@@ -22,3 +22,4 @@ mod SetExamples
 mod ListExamples
 mod IndexExamples
 mod SelectingExamples
+mod Numbering

@@ -1,14 +1,14 @@
 -- How many numbers a range lists.
 use Rattle.std.specs.Prelude.{◌≡◌, ℕ, zero, suc, ◌+ℤ◌, length, nat_le, if◌then◌else◌, ℤ, Some, Ok}
 use Rattle.std.proofs.Common.{refl, sym, ap, ◌∙◌}
-use Rattle.net_lex.specs.declared.span.Span.{Span}
+use Rattle.net_fault.specs.declared.span.Span.{Span}
 use Rattle.net_sets.specs.Limits.{tuples_limit}
 use Rattle.net_sets.specs.Ranges.{range, range_size, singles, numbers_by}
-use Rattle.net_eval.specs.declared.fault.EvalDefect.TheVariants.{TooMany}
+use Rattle.net_fault.specs.declared.defect.Defect.TheVariants.{TooMany}
 use Rattle.net_eval.specs.declared.value.Value.TheVariants.{Many}
 use Rattle.net_eval.specs.Numbers.{range_within}
 use Rattle.net_eval.specs.Sets.{within_size}
-use Rattle.net_eval.specs.Outcomes.{refused}
+use Rattle.net_fault.specs.Outcomes.{refused}
 
 many_numbers : (a c : ℤ) (n : ℕ) → length (singles (numbers_by a c n)) ≡ n
 many_numbers a c zero = refl

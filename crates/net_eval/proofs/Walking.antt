@@ -3,7 +3,7 @@ use Rattle.std.specs.Prelude.{◌≡◌, ◌+◌, ◌-◌, ◌<◌, ◌≤◌, �
 use Rattle.std.proofs.Common.{refl, sym, ap, subst, add-one, append_assoc, ◌∙◌, arith}
 use Rattle.std.proofs.Math.Seq.{drop-cons}
 use Rattle.std.proofs.lemmas.Bool.{true≢false}
-use Rattle.net_lex.specs.declared.span.Span.{Span}
+use Rattle.net_fault.specs.declared.span.Span.{Span}
 use Rattle.net_lex.specs.declared.token.Token.{Token}
 use Rattle.net_sets.specs.Sets.{Tuple}
 use Rattle.net_tree.specs.declared.expr.Link.{Link, out-Link}
@@ -13,15 +13,15 @@ use Rattle.net_tree.specs.Tree.{Tree, Links, Part, Braces, indexed, tuple, negat
 use Rattle.net_tree.specs.View.{tree, links_of}
 use Rattle.net_tree.specs.Weights.{weight, weights}
 use Rattle.net_tree.proofs.Views.{links_of-cons, next_link, first_link}
-use Rattle.net_eval.specs.declared.fault.EvalFault.{EvalFault}
-use Rattle.net_eval.specs.declared.fault.EvalFault.TheVariants as faults
+use Rattle.net_fault.specs.declared.fault.Fault.{Fault}
+use Rattle.net_fault.specs.declared.fault.Fault.TheVariants as faults
 use Rattle.net_eval.specs.declared.operation.Reduction.{Reduction}
 use Rattle.net_eval.specs.declared.row.Place.{Place}
 use Rattle.net_eval.specs.declared.row.Row.{Row}
 use Rattle.net_eval.specs.declared.row.Keys.{Keys}
 use Rattle.net_eval.specs.declared.value.Value.{Value}
 use Rattle.net_eval.specs.declared.value.Value.TheVariants.{Truth}
-use Rattle.net_eval.specs.Outcomes.{Outcome, Answers, Leaves, and_then, each}
+use Rattle.net_fault.specs.Outcomes.{Outcome, Answers, Leaves, and_then, each}
 use Rattle.net_eval.specs.Worlds.{World, Scope}
 use Rattle.net_eval.specs.Operations.{operation, is_range, reduction, is_minus}
 use Rattle.net_eval.specs.Operators.{apply, decided, truth}
@@ -72,13 +72,13 @@ pub any_left : (ls : List Link) (i : ℕ) (l : Link) (b : Bool) → i < length l
 any_left ls i l b h e f = ap any_in (next_link ls i l h e) ∙ ap (λ c. c || any_in (links_of (drop (i + 1) ls))) (sym f)
 
 -- what is answered of one outcome is answered of an equal one
-pub answers_by : {A : Type 0} (o wanted : Outcome A) (r : Result A EvalFault) → wanted ≡ o → Answers o r → Answers wanted r
+pub answers_by : {A : Type 0} (o wanted : Outcome A) (r : Result A Fault) → wanted ≡ o → Answers o r → Answers wanted r
 answers_by o wanted r e h = subst (λ k. Answers k r) (sym e) h
 
 -- a fault of the first step is a fault of all
-pub stops : {A B : Type 0} (o : Outcome A) (f : A → Outcome B) (wanted : Outcome B) (e : EvalFault) → wanted ≡ and_then o f → Answers o (Err e) → Answers wanted (Err e)
+pub stops : {A B : Type 0} (o : Outcome A) (f : A → Outcome B) (wanted : Outcome B) (e : Fault) → wanted ≡ and_then o f → Answers o (Err e) → Answers wanted (Err e)
 stops o f wanted faults.OutOfMemory e h = tt
-stops o f wanted (faults.Refused r) e h = e ∙ ap (λ k. and_then k f) h
+stops o f wanted (faults.At r) e h = e ∙ ap (λ k. and_then k f) h
 
 -- behind the first step the rest is left
 pub goes : {A B : Type 0} (o : Outcome A) (f : A → Outcome B) (wanted : Outcome B) (x : A) → wanted ≡ and_then o f → o ≡ Ok x → wanted ≡ f x
@@ -272,9 +272,9 @@ pub from_start : (at : Span) (w : World) (i : Tree) (is : Links) (s : Scope) (p 
 from_start at w i is s p ts found e h =
     ap (λ q. each (onward (place w i) (walk at w is) q) ts []) e ∙ ap (each (onward (place w i) (walk at w is) p) ts) (sym h)
 
-pub leaves_answers : {A : Type 0} (o wanted : Outcome A) (e : EvalFault) (new : A) → wanted ≡ o → Leaves o (Err e) new → Answers wanted (Err e)
+pub leaves_answers : {A : Type 0} (o wanted : Outcome A) (e : Fault) (new : A) → wanted ≡ o → Leaves o (Err e) new → Answers wanted (Err e)
 leaves_answers o wanted faults.OutOfMemory new e h = tt
-leaves_answers o wanted (faults.Refused r) new e h = e ∙ h
+leaves_answers o wanted (faults.At r) new e h = e ∙ h
 
 -- one step over links
 pub values-left : (w : World) (s : Scope) (ls : List Link) (i : ℕ) (l : Link) (found : List Value) (wanted : Outcome (List Value)) → i < length ls → l ≡ get_or ls i l

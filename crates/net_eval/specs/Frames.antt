@@ -1,17 +1,17 @@
 -- Walks over the items of braces, item by item: what stands at each item of what is still to come.
 use Rattle.std.specs.Prelude.{◌≡◌, ℕ, ◌+◌, List, [], ◌∷◌, Option, None, Some, Result, Ok, Err, ⊤}
-use Rattle.net_lex.specs.declared.span.Span.{Span}
+use Rattle.net_fault.specs.declared.span.Span.{Span}
 use Rattle.net_sets.specs.Components.{sought}
 use Rattle.net_sets.specs.Sets.{Tuple}
 use Rattle.net_tree.specs.Tree.{Links, none, link}
 use Rattle.net_tree.specs.View.{tree, links_of}
 use Rattle.net_tree.specs.Weights.{weight, weights}
-use Rattle.net_eval.specs.declared.fault.EvalFault.{EvalFault}
-use Rattle.net_eval.specs.declared.fault.EvalFault.TheVariants.{OutOfMemory, Refused}
+use Rattle.net_fault.specs.declared.fault.Fault.{Fault}
+use Rattle.net_fault.specs.declared.fault.Fault.TheVariants.{OutOfMemory, At}
 use Rattle.net_eval.specs.declared.frame.Frame.{Frame}
 use Rattle.net_eval.specs.declared.row.Place.{Place}
 use Rattle.net_eval.specs.declared.row.Row.{Row}
-use Rattle.net_eval.specs.Outcomes.{Outcome, each}
+use Rattle.net_fault.specs.Outcomes.{Outcome, each}
 use Rattle.net_eval.specs.Rows.{onward}
 use Rattle.net_eval.specs.Selecting.{selecting}
 use Rattle.net_eval.specs.Values.{place, walk}
@@ -46,8 +46,8 @@ abbrev pub weight_of : Frame → ℕ
 weight_of f = weight (tree f.item.now) + weights (links_of f.more.now)
 
 -- what is wanted is found, or is what an item has still to give behind what is found
-abbrev pub Leads : Span → World → Outcome (List Row) → Result (Option Frame) EvalFault → List Row → Type 0
+abbrev pub Leads : Span → World → Outcome (List Row) → Result (Option Frame) Fault → List Row → Type 0
 Leads at w wanted (Ok None) found = wanted ≡ Ok found
 Leads at w wanted (Ok (Some f)) found = wanted ≡ still at w f found
 Leads at w wanted (Err OutOfMemory) found = ⊤
-Leads at w wanted (Err (Refused r)) found = wanted ≡ Err r
+Leads at w wanted (Err (At r)) found = wanted ≡ Err r

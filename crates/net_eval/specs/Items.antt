@@ -1,16 +1,16 @@
 -- Items of braces, by their form.
 use Rattle.std.specs.Prelude.{ℕ, ◌+◌, Bool, true, false, ◌&&◌, ◌||◌, List, nat_le, Option, None, Some, is_some, if◌then◌else◌, Ok}
-use Rattle.net_lex.specs.declared.span.Span.{Span}
+use Rattle.net_fault.specs.declared.span.Span.{Span}
 use Rattle.net_sets.specs.Limits.{arity_limit}
 use Rattle.net_sets.specs.Sets.{Tuple}
 use Rattle.net_tree.specs.Role.{role_of, is_name}
 use Rattle.net_tree.specs.Tree.{Tree, Links, Part, leaf, tuple, chain, none, link, absent, part}
-use Rattle.net_eval.specs.declared.fault.EvalDefect.TheVariants.{KindMismatch, Arity}
+use Rattle.net_fault.specs.declared.defect.Defect.TheVariants.{KindMismatch, Arity}
 use Rattle.net_eval.specs.declared.operation.Operation.{Operation}
 use Rattle.net_eval.specs.declared.operation.Operation.TheVariants as op
 use Rattle.net_eval.specs.declared.value.Value.{Value}
 use Rattle.net_eval.specs.declared.value.Value.TheVariants.{Many}
-use Rattle.net_eval.specs.Outcomes.{Outcome, and_then, refused}
+use Rattle.net_fault.specs.Outcomes.{Outcome, and_then, refused}
 use Rattle.net_eval.specs.Operations.{operation, is_range}
 use Rattle.net_eval.specs.Sets.{fits}
 use Rattle.net_eval.specs.Worlds.{Name, World, Scope, is_known}

@@ -1,6 +1,4 @@
-pub mod Outcomes
 pub mod Limits
-pub mod Faults
 pub mod References
 pub mod Worlds
 pub mod Kept

@@ -1,7 +1,7 @@
 -- Numbers: of numerals, and of arithmetic.
 use Rattle.std.specs.Prelude.{ℕ, ◌+◌, ◌==◌, Bool, true, false, ◌&&◌, List, [], ◌∷◌, Option, None, Some, if◌then◌else◌, Result, Ok, Err, ℤ, pos, ◌+ℤ◌, ◌-ℤ◌, ◌*ℤ◌, neg_ℤ, int_lt, int_le, int_div, int_rem, nat_le}
 use Rattle.std.specs.Int.{int_min, int_max}
-use Rattle.net_lex.specs.declared.span.Span.{Span}
+use Rattle.net_fault.specs.declared.span.Span.{Span}
 use Rattle.net_lex.specs.declared.whole.NumFault.{NumFault}
 use Rattle.net_lex.specs.Bytes.{first, minus, after_sign}
 use Rattle.net_lex.specs.Limits.{limits}
@@ -12,12 +12,12 @@ use Rattle.net_sets.specs.declared.member.Member.TheVariants.{Number}
 use Rattle.net_sets.specs.Limits.{tuples_limit}
 use Rattle.net_sets.specs.Ranges.{range_size, singles}
 use Rattle.net_sets.specs.Ranges.{range as range_numbers}
-use Rattle.net_eval.specs.declared.fault.EvalDefect.TheVariants.{KindMismatch, DivMod, TooLarge, TooMany}
+use Rattle.net_fault.specs.declared.defect.Defect.TheVariants.{KindMismatch, DivMod, ValueTooLarge, TooMany}
 use Rattle.net_eval.specs.declared.operation.Reduction.{Reduction}
 use Rattle.net_eval.specs.declared.operation.Reduction.TheVariants.{Sum, Min, Max}
 use Rattle.net_eval.specs.declared.value.Value.{Value}
 use Rattle.net_eval.specs.declared.value.Value.TheVariants.{One, Many}
-use Rattle.net_eval.specs.Outcomes.{Outcome, and_then, refused}
+use Rattle.net_fault.specs.Outcomes.{Outcome, and_then, refused}
 use Rattle.net_eval.specs.Limits.{is_small}
 
 -- the significant digits of a numeral, and the zeros behind them
@@ -41,7 +41,7 @@ number_in text = if_whole text (numeral_at (after_sign text))
 
 -- a number that arithmetic gives
 abbrev pub sized : Span → ℤ → Outcome Value
-sized at n = if is_small n then Ok (One (Number n)) else refused TooLarge at
+sized at n = if is_small n then Ok (One (Number n)) else refused ValueTooLarge at
 
 abbrev pub number : Span → Value → Outcome ℤ
 number at (One (Number n)) = Ok n
@@ -90,7 +90,7 @@ abbrev pub step : Span → ℤ → Outcome (Unit {0})
 step at c = if int_lt c (pos 1) then refused DivMod at else Ok tt
 
 abbrev pub size : Span → ℤ → ℤ → ℤ → Outcome (Unit {0})
-size at a b c = if are_small a b c then Ok tt else refused TooLarge at
+size at a b c = if are_small a b c then Ok tt else refused ValueTooLarge at
 
 -- a .. b by c
 abbrev pub range : Span → ℤ → ℤ → ℤ → Outcome Value

@@ -1,16 +1,16 @@
 -- What an operator makes of the values on its two sides, or why it refuses them; the place is the whole chain's.
 use Rattle.std.specs.Prelude.{◌+◌, Bool, true, false, not, List, [], ◌∷◌, ◌++◌, length, nat_le, int_lt, int_le, Option, None, Some, if◌then◌else◌, Ok, ℤ}
-use Rattle.net_lex.specs.declared.span.Span.{Span}
+use Rattle.net_fault.specs.declared.span.Span.{Span}
 use Rattle.net_sets.specs.declared.member.Member.{Member}
 use Rattle.net_sets.specs.Limits.{arity_limit}
 use Rattle.net_sets.specs.Sets.{Tuple, same_member}
 use Rattle.net_sets.specs.Operations.{union, difference, intersection, symmetric_difference}
-use Rattle.net_eval.specs.declared.fault.EvalDefect.TheVariants.{KindMismatch, Arity}
+use Rattle.net_fault.specs.declared.defect.Defect.TheVariants.{KindMismatch, Arity}
 use Rattle.net_eval.specs.declared.operation.Operation.{Operation}
 use Rattle.net_eval.specs.declared.operation.Operation.TheVariants as op
 use Rattle.net_eval.specs.declared.value.Value.{Value}
 use Rattle.net_eval.specs.declared.value.Value.TheVariants.{One, Several, Many, Truth}
-use Rattle.net_eval.specs.Outcomes.{Outcome, and_then, refused}
+use Rattle.net_fault.specs.Outcomes.{Outcome, and_then, refused}
 use Rattle.net_eval.specs.Numbers.{number, plus, less, times, quotient, remainder}
 use Rattle.net_eval.specs.Sets.{shared, set_of, cross, among, inside}
 

@@ -4,8 +4,8 @@ use Rattle.std.specs.Fmt.{signed_decimal}
 use Rattle.net_sets.specs.declared.member.Member.{Member}
 use Rattle.net_sets.specs.declared.member.Member.TheVariants.{Number, Name}
 use Rattle.net_sets.specs.Sets.{Tuple}
-use Rattle.net_eval.specs.declared.fault.Detail.{Detail}
-use Rattle.net_eval.specs.declared.fault.Detail.TheVariants.{Nothing, Told}
+use Rattle.net_fault.specs.declared.detail.Detail.{Detail}
+use Rattle.net_fault.specs.declared.detail.Detail.TheVariants.{Nothing, Told}
 
 -- each single quote twice
 abbrev pub doubled : List ℕ → List ℕ

@@ -1,12 +1,12 @@
 -- Walks over braces: where they stand, and the keys that they find.
 use Rattle.std.specs.Prelude.{ℕ, Bool, true, false, List, [], ◌∷◌, ◌++◌, length, map, nat_eq, nat_le, nat_lt, Option, None, Some, if◌then◌else◌, Ok, ℤ, pos}
-use Rattle.net_lex.specs.declared.span.Span.{Span}
+use Rattle.net_fault.specs.declared.span.Span.{Span}
 use Rattle.net_sets.specs.declared.member.Member.{Member}
 use Rattle.net_sets.specs.declared.member.Member.TheVariants.{Number}
 use Rattle.net_sets.specs.Limits.{tuples_limit}
 use Rattle.net_sets.specs.Sets.{Tuple, same_member, same_tuple}
 use Rattle.net_sets.specs.Operations.{union}
-use Rattle.net_eval.specs.declared.fault.EvalDefect.TheVariants.{NoValue, KindMismatch, Arity, TooMany}
+use Rattle.net_fault.specs.declared.defect.Defect.TheVariants.{NoValue, KindMismatch, Arity, TooMany}
 use Rattle.net_eval.specs.declared.operation.Reduction.{Reduction}
 use Rattle.net_eval.specs.declared.operation.Reduction.TheVariants.{Sum, Min, Max}
 use Rattle.net_eval.specs.declared.value.Value.{Value}
@@ -14,7 +14,7 @@ use Rattle.net_eval.specs.declared.value.Value.TheVariants.{One, Several, Many}
 use Rattle.net_eval.specs.declared.row.Place.{Place}
 use Rattle.net_eval.specs.declared.row.Row.{Row}
 use Rattle.net_eval.specs.declared.row.Keys.{Keys}
-use Rattle.net_eval.specs.Outcomes.{Outcome, and_then, refused}
+use Rattle.net_fault.specs.Outcomes.{Outcome, and_then, refused}
 use Rattle.net_eval.specs.Worlds.{Name, Scope, with_dummy}
 use Rattle.net_eval.specs.Operators.{longer}
 use Rattle.net_eval.specs.Numbers.{number, sized, gathered}

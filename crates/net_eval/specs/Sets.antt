@@ -1,15 +1,15 @@
 -- What the operators on sets give.
 use Rattle.std.specs.Prelude.{ℕ, ◌&&◌, [], ◌+◌, Bool, true, List, length, nat_eq, nat_le, Option, None, Some, if◌then◌else◌, Ok}
-use Rattle.net_lex.specs.declared.span.Span.{Span}
+use Rattle.net_fault.specs.declared.span.Span.{Span}
 use Rattle.net_sets.specs.Limits.{arity_limit, tuples_limit}
 use Rattle.net_sets.specs.Sets.{Tuple, has}
 use Rattle.net_sets.specs.Operations.{union, difference, intersection, symmetric_difference, product, widest, is_within}
-use Rattle.net_eval.specs.declared.fault.EvalDefect.TheVariants.{Arity, TooMany}
+use Rattle.net_fault.specs.declared.defect.Defect.TheVariants.{Arity, TooMany}
 use Rattle.net_eval.specs.declared.operation.Operation.{Operation}
 use Rattle.net_eval.specs.declared.operation.Operation.TheVariants as op
 use Rattle.net_eval.specs.declared.value.Value.{Value}
 use Rattle.net_eval.specs.declared.value.Value.TheVariants.{Many}
-use Rattle.net_eval.specs.Outcomes.{Outcome, refused}
+use Rattle.net_fault.specs.Outcomes.{Outcome, refused}
 
 -- `{}` counts as of one component
 abbrev pub counted : Option ℕ → ℕ

@@ -1,6 +1,6 @@
 -- Values: of a tree, in a world and with dummies in scope, its value or the first fault from the left.
 use Rattle.std.specs.Prelude.{Bool, true, not, List, [], ◌∷◌, ◌++◌, Option, None, Some, if◌then◌else◌, Ok, ℤ, pos}
-use Rattle.net_lex.specs.declared.span.Span.{Span}
+use Rattle.net_fault.specs.declared.span.Span.{Span}
 use Rattle.net_lex.specs.declared.token.Token.{Token}
 use Rattle.net_sets.specs.declared.member.Member.TheVariants as member
 use Rattle.net_sets.specs.Texts.{text_of}
@@ -10,13 +10,13 @@ use Rattle.net_tree.specs.declared.role.Role.TheVariants as roles
 use Rattle.net_tree.specs.Role.{role_of}
 use Rattle.net_tree.specs.Spans.{span_of, span_between, braces_span}
 use Rattle.net_tree.specs.Tree.{Tree, Links, Part, Braces, leaf, indexed, parens, tuple, negated, braced, signed, reduced, chain, choice, net, none, link, absent, part, empty, filled}
-use Rattle.net_eval.specs.declared.fault.EvalDefect.TheVariants.{KindMismatch, TooLarge}
+use Rattle.net_fault.specs.declared.defect.Defect.TheVariants.{KindMismatch, ValueTooLarge}
 use Rattle.net_eval.specs.declared.value.Value.{Value}
 use Rattle.net_eval.specs.declared.value.Value.TheVariants.{One, Several, Truth}
 use Rattle.net_eval.specs.declared.row.Place.{Place}
 use Rattle.net_eval.specs.declared.row.Row.{Row}
 use Rattle.net_eval.specs.declared.row.Keys.{Keys}
-use Rattle.net_eval.specs.Outcomes.{Outcome, and_then, refused, each}
+use Rattle.net_fault.specs.Outcomes.{Outcome, and_then, refused, each}
 use Rattle.net_eval.specs.Worlds.{Name, World, Scope, bound, name_at}
 use Rattle.net_eval.specs.Operations.{operation, reduction, is_minus}
 use Rattle.net_eval.specs.Numbers.{number_in, number, sized, turned, range_of}
@@ -26,7 +26,7 @@ use Rattle.net_eval.specs.Rows.{start, with_key, fitted, fitted_alone, if_fits, 
 use Rattle.net_eval.specs.Widths.{width_by_form}
 
 abbrev pub number_value : Span → Option ℤ → Outcome Value
-number_value at None = refused TooLarge at
+number_value at None = refused ValueTooLarge at
 number_value at (Some n) = Ok (One (member.Number n))
 
 abbrev pub token_value : World → Scope → Token → Role → Outcome Value

@@ -1,15 +1,15 @@
 -- The steps of the definition of values, each by itself.
 use Rattle.std.specs.Prelude.{Bool, ◌||◌, List, [], ◌∷◌, Option, None, Some, if◌then◌else◌, Ok}
-use Rattle.net_lex.specs.declared.span.Span.{Span}
+use Rattle.net_fault.specs.declared.span.Span.{Span}
 use Rattle.net_sets.specs.Sets.{Tuple}
 use Rattle.net_tree.specs.Spans.{span_of}
 use Rattle.net_tree.specs.Tree.{Tree, Links, Part}
-use Rattle.net_eval.specs.declared.fault.EvalDefect.TheVariants.{KindMismatch}
+use Rattle.net_fault.specs.declared.defect.Defect.TheVariants.{KindMismatch}
 use Rattle.net_eval.specs.declared.operation.Operation.{Operation}
 use Rattle.net_eval.specs.declared.value.Value.{Value}
 use Rattle.net_eval.specs.declared.row.Place.{Place}
 use Rattle.net_eval.specs.declared.row.Keys.{Keys}
-use Rattle.net_eval.specs.Outcomes.{Outcome, and_then, refused, each}
+use Rattle.net_fault.specs.Outcomes.{Outcome, and_then, refused, each}
 use Rattle.net_eval.specs.Worlds.{World, Scope}
 use Rattle.net_eval.specs.Operators.{apply, decided}
 use Rattle.net_eval.specs.Items.{sides, any_in, has_part, new_dummy, needed, chosen, tuples_of, is_set}

@@ -1,17 +1,17 @@
 -- How many members the keys of braces have by their form alone, where no key was found.
 use Rattle.std.specs.Prelude.{ℕ, ◌+◌, min, Bool, true, false, ◌&&◌, ◌||◌, nat_le, Option, None, Some, is_some, if◌then◌else◌, Ok, pos}
-use Rattle.net_lex.specs.declared.span.Span.{Span}
+use Rattle.net_fault.specs.declared.span.Span.{Span}
 use Rattle.net_sets.specs.declared.member.Member.{Member}
 use Rattle.net_sets.specs.declared.member.Member.TheVariants.{Number}
 use Rattle.net_sets.specs.Limits.{arity_limit}
 use Rattle.net_tree.specs.Tree.{Tree, Links, Braces, leaf, indexed, parens, tuple, negated, braced, signed, reduced, chain, choice, net, none, link, empty, filled}
-use Rattle.net_eval.specs.declared.fault.EvalDefect.TheVariants.{KindMismatch, Arity}
+use Rattle.net_fault.specs.declared.defect.Defect.TheVariants.{KindMismatch, Arity}
 use Rattle.net_eval.specs.declared.operation.Operation.{Operation}
 use Rattle.net_eval.specs.declared.operation.Operation.TheVariants as op
 use Rattle.net_eval.specs.declared.width.Form.{Form}
 use Rattle.net_eval.specs.declared.world.Entry.{Entry}
 use Rattle.net_eval.specs.declared.world.Entry.TheVariants.{Set}
-use Rattle.net_eval.specs.Outcomes.{Outcome, refused}
+use Rattle.net_fault.specs.Outcomes.{Outcome, refused}
 use Rattle.net_eval.specs.Worlds.{Name, World, Scope, bound, entry_of, with_dummy}
 use Rattle.net_eval.specs.Operations.{operation}
 use Rattle.net_eval.specs.Sets.{counted}

@@ -1,18 +1,18 @@
 -- What names mean: the declared sets and parameters that are seen, and the dummies in scope.
 use Rattle.std.specs.Prelude.{ℕ, ◌+◌, Bool, true, false, ◌||◌, List, [], ◌∷◌, length, nat_eq, Option, None, Some, is_some, if◌then◌else◌, Ok}
 use Rattle.std.specs.Str.{bytes_eq}
-use Rattle.net_lex.specs.declared.span.Span.{Span}
+use Rattle.net_fault.specs.declared.span.Span.{Span}
 use Rattle.net_sets.specs.declared.member.Member.{Member}
 use Rattle.net_sets.specs.Sets.{Tuple, has, at_key}
-use Rattle.net_eval.specs.declared.fault.EvalDefect.TheVariants.{NoValue, OutsideSet, KindMismatch, Arity}
-use Rattle.net_eval.specs.declared.fault.Detail.{Detail}
-use Rattle.net_eval.specs.declared.fault.Detail.TheVariants.{Told}
+use Rattle.net_fault.specs.declared.defect.Defect.TheVariants.{NoValue, OutsideSet, KindMismatch, Arity}
+use Rattle.net_fault.specs.declared.detail.Detail.{Detail}
+use Rattle.net_fault.specs.declared.detail.Detail.TheVariants.{Told}
 use Rattle.net_eval.specs.declared.value.Value.{Value}
 use Rattle.net_eval.specs.declared.value.Value.TheVariants.{One, Many}
 use Rattle.net_eval.specs.declared.world.Entry.{Entry}
 use Rattle.net_eval.specs.declared.world.Entry.TheVariants.{Set, Parameter}
 use Rattle.net_eval.specs.declared.scope.Binding.{Binding}
-use Rattle.net_eval.specs.Outcomes.{Outcome, refused, refused_of}
+use Rattle.net_fault.specs.Outcomes.{Outcome, refused, refused_of}
 use Rattle.net_eval.specs.References.{reference_text}
 
 abbrev pub Name : Type 0

@@ -5,17 +5,17 @@ ghost use Rattle.net_tree.specs.Spans as trees;
 ghost use Rattle.net_tree.specs.View.{tree, braces_of};
 ghost use Rattle.net_eval.specs.Items as items;
 ghost use Rattle.net_eval.specs.Operators as operators;
-ghost use Rattle.net_eval.specs.Outcomes.{Answers, and_then};
+ghost use Rattle.net_fault.specs.Outcomes.{Answers, and_then};
 ghost use Rattle.net_eval.specs.Values as values;
 
 use crate::eval::{evaluate, is_met};
-use crate::fault::EvalFault;
 use crate::item::tuples_of;
 use crate::keys::index;
 use crate::operator::member_of;
 use crate::row::Keys;
 use crate::scope::Scope;
 use crate::world::Seen;
+use net_fault::Fault;
 use net_sets::{Held, Member};
 use net_tree::{Braces, Expr, span_of};
 use std::alloc::Global;
@@ -26,7 +26,7 @@ pub fn member<'s>(
     seen: &Seen<'_, 's>,
     scope: &Scope<'s>,
     expr: &Expr<'s>,
-) -> Result<Member<'s>, EvalFault>
+) -> Result<Member<'s>, Fault>
     ensures { Answers (and_then (values.value seen.now scope.now (tree expr.now)) (operators.member (trees.span_of (tree expr.now)))) result }
 {
     let found = evaluate(alloc, seen, scope, expr)?;
@@ -39,7 +39,7 @@ pub fn members<'w, 's>(
     seen: &Seen<'w, 's>,
     scope: &Scope<'s>,
     expr: &Expr<'s>,
-) -> Result<Held<'w, 's>, EvalFault>
+) -> Result<Held<'w, 's>, Fault>
     ensures { Answers (and_then (values.value seen.now scope.now (tree expr.now)) (items.tuples_of (trees.span_of (tree expr.now)))) result }
 {
     tuples_of(span_of(expr), evaluate(alloc, seen, scope, expr))
@@ -51,7 +51,7 @@ pub fn holds<'s>(
     seen: &Seen<'_, 's>,
     scope: &Scope<'s>,
     expr: &Expr<'s>,
-) -> Result<bool, EvalFault>
+) -> Result<bool, Fault>
     ensures { Answers (and_then (values.value seen.now scope.now (tree expr.now)) (operators.truth (trees.span_of (tree expr.now)))) result }
 {
     is_met(alloc, seen, scope, expr, expr)
@@ -63,7 +63,7 @@ pub fn index_of<'s>(
     seen: &Seen<'_, 's>,
     scope: &Scope<'s>,
     braces: &Braces<'s>,
-) -> Result<Keys<'s>, EvalFault>
+) -> Result<Keys<'s>, Fault>
     ensures { Answers (values.index seen.now scope.now (braces_of braces.now)) result }
 {
     index(alloc, seen, scope, braces)

@@ -7,14 +7,13 @@ ghost use Rattle.net_eval.specs.Items as items;
 ghost use Rattle.net_eval.specs.Numbers as numbers;
 ghost use Rattle.net_eval.specs.Operations as operations;
 ghost use Rattle.net_eval.specs.Operators as operators;
-ghost use Rattle.net_eval.specs.Outcomes.{Answers, and_then};
+ghost use Rattle.net_fault.specs.Outcomes.{Answers, and_then};
 ghost use Rattle.net_eval.specs.Rows as rows;
 ghost use Rattle.net_eval.specs.Values as values;
 ghost use Rattle.net_eval.specs.Walks as walks;
 ghost use Rattle.net_sets.specs.declared.member.Member.TheVariants.{Number};
 ghost use Rattle.net_eval.specs.declared.value.Value.TheVariants.{One, Truth};
 
-use crate::fault::EvalFault;
 use crate::item::begins_range;
 use crate::keys::index;
 use crate::list::as_value;
@@ -27,9 +26,11 @@ use crate::row::Keys;
 use crate::scope::Scope;
 use crate::value::Value;
 use crate::world::Seen;
-use net_lex::{Boxed, Items, Token};
+use net_fault::Fault;
+use net_lex::Token;
 use net_sets::Member;
 use net_tree::{Braces, Expr, Link, Part, braces_span, span_of};
+use net_views::{Boxed, Items};
 use std::alloc::Global;
 
 /// The value of an expression, or the first fault.
@@ -40,7 +41,7 @@ pub fn evaluate<'w, 's>(
     seen: &Seen<'w, 's>,
     scope: &Scope<'s>,
     expr: &Expr<'s>,
-) -> Result<Value<'w, 's>, EvalFault>
+) -> Result<Value<'w, 's>, Fault>
     ensures { Answers (values.value seen.now scope.now (tree expr.now)) result }
 {
     match expr {
@@ -120,7 +121,7 @@ fn subscripted<'w, 's>(
     name: &Token<'s>,
     first: &Expr<'s>,
     more: &[Link<'s>],
-) -> Result<Value<'w, 's>, EvalFault>
+) -> Result<Value<'w, 's>, Fault>
     ensures { Answers (and_then (and_then (values.value seen.now scope.now (tree first.now)) (λ v. values.values seen.now scope.now (links_of more.now) (v ∷ []))) (values.subscripted (trees.span_of (tree whole.now)) seen.now scope.now name.now.text)) result }
 {
     let found = evaluate_all(alloc, seen, scope, first, more)?;
@@ -136,7 +137,7 @@ fn tupled<'w, 's>(
     whole: &Expr<'s>,
     first: &Expr<'s>,
     more: &[Link<'s>],
-) -> Result<Value<'w, 's>, EvalFault>
+) -> Result<Value<'w, 's>, Fault>
     ensures { Answers (and_then (and_then (values.value seen.now scope.now (tree first.now)) (λ v. values.values seen.now scope.now (links_of more.now) (v ∷ []))) (values.tupled (trees.span_of (tree whole.now)))) result }
 {
     let found = evaluate_all(alloc, seen, scope, first, more)?;
@@ -152,7 +153,7 @@ pub(crate) fn is_met<'s>(
     scope: &Scope<'s>,
     whole: &Expr<'s>,
     condition: &Expr<'s>,
-) -> Result<bool, EvalFault>
+) -> Result<bool, Fault>
     ensures { Answers (and_then (values.value seen.now scope.now (tree condition.now)) (operators.truth (trees.span_of (tree whole.now)))) result }
 {
     truth_of(whole, evaluate(alloc, seen, scope, condition))
@@ -165,7 +166,7 @@ fn negated<'w, 's>(
     scope: &Scope<'s>,
     whole: &Expr<'s>,
     condition: &Expr<'s>,
-) -> Result<Value<'w, 's>, EvalFault>
+) -> Result<Value<'w, 's>, Fault>
     ensures { Answers (and_then (and_then (values.value seen.now scope.now (tree condition.now)) (operators.truth (trees.span_of (tree whole.now)))) (λ b. Ok (Truth (not b)))) result }
 {
     as_denial(is_met(alloc, seen, scope, whole, condition))
@@ -178,7 +179,7 @@ fn braced<'w, 's>(
     seen: &Seen<'w, 's>,
     scope: &Scope<'s>,
     braces: &Braces<'s>,
-) -> Result<Value<'w, 's>, EvalFault>
+) -> Result<Value<'w, 's>, Fault>
     ensures { Answers (and_then (values.index seen.now scope.now (braces_of braces.now)) (rows.as_set (trees.braces_span (braces_of braces.now)))) result }
 {
     let keys = index(alloc, seen, scope, braces)?;
@@ -193,7 +194,7 @@ fn signed<'w, 's>(
     whole: &Expr<'s>,
     sign: &Token<'s>,
     operand: &Expr<'s>,
-) -> Result<Value<'w, 's>, EvalFault>
+) -> Result<Value<'w, 's>, Fault>
     ensures { Answers (and_then (values.value seen.now scope.now (tree operand.now)) (values.with_sign (trees.span_of (tree whole.now)) (operations.is_minus sign.now))) result }
 {
     let value = evaluate(alloc, seen, scope, operand);
@@ -210,7 +211,7 @@ fn reduced<'w, 's>(
     reduction: Reduction,
     braces: &Braces<'s>,
     body: &Expr<'s>,
-) -> Result<Value<'w, 's>, EvalFault>
+) -> Result<Value<'w, 's>, Fault>
     ensures { Answers (and_then (values.index seen.now scope.now (braces_of braces.now)) (rows.reduce (trees.span_of (tree whole.now)) reduction (λ q. values.value seen.now q (tree body.now)))) result }
 {
     let keys = index(alloc, seen, scope, braces)?;
@@ -226,7 +227,7 @@ fn chain<'w, 's>(
     whole: &Expr<'s>,
     first: &Expr<'s>,
     more: &[Link<'s>],
-) -> Result<Value<'w, 's>, EvalFault>
+) -> Result<Value<'w, 's>, Fault>
     ensures { Answers (and_then (values.value seen.now scope.now (tree first.now)) (λ v. if items.begins_range (links_of more.now) then and_then (values.values seen.now scope.now (links_of more.now) (v ∷ [])) (numbers.range_of (trees.span_of (tree whole.now))) else values.chained (trees.span_of (tree whole.now)) seen.now scope.now (links_of more.now) v)) result }
 {
     let value = evaluate(alloc, seen, scope, first)?;
@@ -246,7 +247,7 @@ fn choice<'w, 's>(
     condition: &Expr<'s>,
     branch: &Expr<'s>,
     otherwise: &Option<Boxed<Part<'s>>>,
-) -> Result<Value<'w, 's>, EvalFault>
+) -> Result<Value<'w, 's>, Fault>
     ensures { Answers (and_then (and_then (values.value seen.now scope.now (tree condition.now)) (operators.truth (trees.span_of (tree whole.now)))) (λ b. if b then values.value seen.now scope.now (tree branch.now) else values.otherwise seen.now scope.now (option_part otherwise.now))) result }
 {
     if is_met(alloc, seen, scope, whole, condition)? {
@@ -270,7 +271,7 @@ fn other_branch<'w, 's>(
     seen: &Seen<'w, 's>,
     scope: &Scope<'s>,
     otherwise: &Option<Boxed<Part<'s>>>,
-) -> Result<Value<'w, 's>, EvalFault>
+) -> Result<Value<'w, 's>, Fault>
     ensures { Answers (values.otherwise seen.now scope.now (option_part otherwise.now)) result }
 {
     match otherwise {
@@ -279,14 +280,15 @@ fn other_branch<'w, 's>(
     }
 }
 
+/// The values of expressions in a row.
 #[cycle(eval)]
-fn evaluate_all<'w, 's>(
+pub fn evaluate_all<'w, 's>(
     alloc: Global,
     seen: &Seen<'w, 's>,
     scope: &Scope<'s>,
     first: &Expr<'s>,
     more: &[Link<'s>],
-) -> Result<Items<Value<'w, 's>>, EvalFault>
+) -> Result<Items<Value<'w, 's>>, Fault>
     ensures { Answers (and_then (values.value seen.now scope.now (tree first.now)) (λ v. values.values seen.now scope.now (links_of more.now) (v ∷ []))) result }
 {
     let value = evaluate(alloc, seen, scope, first)?;
@@ -300,7 +302,7 @@ pub(crate) fn evaluate_more<'w, 's>(
     scope: &Scope<'s>,
     first: Value<'w, 's>,
     more: &[Link<'s>],
-) -> Result<Items<Value<'w, 's>>, EvalFault>
+) -> Result<Items<Value<'w, 's>>, Fault>
     ensures { Answers (values.values seen.now scope.now (links_of more.now) (first.entry ∷ [])) result }
 {
     let mut found = Vec::new(alloc);
@@ -321,7 +323,7 @@ fn chained<'w, 's>(
     whole: &Expr<'s>,
     links: &[Link<'s>],
     value: Value<'w, 's>,
-) -> Result<Value<'w, 's>, EvalFault>
+) -> Result<Value<'w, 's>, Fault>
     ensures { Answers (values.chained (trees.span_of (tree whole.now)) seen.now scope.now (links_of links.now) value.entry) result }
 {
     let mut value = value;
@@ -340,7 +342,7 @@ fn joined<'w, 's>(
     whole: &Expr<'s>,
     link: &Link<'s>,
     value: &Value<'_, 's>,
-) -> Result<Value<'w, 's>, EvalFault>
+) -> Result<Value<'w, 's>, Fault>
     ensures { Answers (walks.joined (trees.span_of (tree whole.now)) (operations.operation link.now.operator) (values.value seen.now scope.now (tree link.now.operand)) value.now) result }
 {
     let operation = operation_of(&link.operator);
@@ -362,7 +364,7 @@ fn gather<'w, 's>(
     reduction: Reduction,
     body: &Expr<'s>,
     keys: &Keys<'s>,
-) -> Result<Value<'w, 's>, EvalFault>
+) -> Result<Value<'w, 's>, Fault>
     ensures { Answers (rows.reduce (trees.span_of (tree whole.now)) reduction (λ q. values.value seen.now q (tree body.now)) keys.now) result }
 {
     let mut so_far = None;

@@ -4,16 +4,16 @@ ghost use Rattle.std.specs.Prelude.{◌∷◌};
 ghost use Rattle.net_tree.specs.Spans as trees;
 ghost use Rattle.net_tree.specs.View.{tree, links_of};
 ghost use Rattle.net_eval.specs.Items as items;
-ghost use Rattle.net_eval.specs.Outcomes.{Answers};
+ghost use Rattle.net_fault.specs.Outcomes.{Answers};
 ghost use Rattle.net_eval.specs.Rows as rows;
 ghost use Rattle.net_eval.specs.Values as values;
 ghost use Rattle.net_eval.specs.Walks as walks;
 
 use crate::eval::evaluate;
-use crate::fault::EvalFault;
 use crate::item::{new_dummy, sides_of};
 use crate::row::{Place, agrees, agrees_as, bind_first, stay, with_key};
 use crate::world::Seen;
+use net_fault::Fault;
 use net_sets::{Member, Tuple};
 use net_tree::{Expr, Link};
 use std::alloc::Global;
@@ -26,7 +26,7 @@ pub(crate) fn place_at<'s>(
     item: &Expr<'s>,
     tuple: &Tuple<'s>,
     place: &Place<'s>,
-) -> Result<Option<Place<'s>>, EvalFault>
+) -> Result<Option<Place<'s>>, Fault>
     ensures { Answers (values.place seen.now (tree item.now) tuple.now place.now) result }
 {
     match sides_of(item) {
@@ -45,7 +45,7 @@ fn left_place<'s>(
     left: &Expr<'s>,
     tuple: &Tuple<'s>,
     place: &Place<'s>,
-) -> Result<Option<Place<'s>>, EvalFault>
+) -> Result<Option<Place<'s>>, Fault>
     ensures { Answers (values.left_place (trees.span_of (tree item.now)) seen.now (tree left.now) (values.value seen.now place.now.scope (tree left.now)) tuple.now place.now) result }
 {
     match left {
@@ -81,7 +81,7 @@ fn alone<'s>(
     left: &Expr<'s>,
     tuple: &Tuple<'s>,
     place: &Place<'s>,
-) -> Result<Option<Place<'s>>, EvalFault>
+) -> Result<Option<Place<'s>>, Fault>
     ensures { Answers (rows.fitted_alone (trees.span_of (tree item.now)) (items.new_dummy seen.now place.now.scope (tree left.now)) (values.value seen.now place.now.scope (tree left.now)) tuple.now place.now) result }
 {
     match new_dummy(seen, &place.scope, left) {
@@ -104,7 +104,7 @@ fn components<'s>(
     more: &[Link<'s>],
     tuple: &Tuple<'s>,
     place: &Place<'s>,
-) -> Result<Option<Place<'s>>, EvalFault>
+) -> Result<Option<Place<'s>>, Fault>
     ensures { Answers (walks.component_places (trees.span_of (tree whole.now)) seen.now (tree first.now) (links_of more.now) tuple.now place.now) result }
 {
     match tuple.as_slice() {
@@ -124,7 +124,7 @@ fn places<'s>(
     links: &[Link<'s>],
     members: &[Member<'s>],
     place: Place<'s>,
-) -> Result<Option<Place<'s>>, EvalFault>
+) -> Result<Option<Place<'s>>, Fault>
     ensures { Answers (values.places (trees.span_of (tree whole.now)) seen.now (links_of links.now) members.now place.entry) result }
 {
     match links {
@@ -158,7 +158,7 @@ fn fit_all<'s>(
     member: &Member<'s>,
     others: &[Member<'s>],
     place: Place<'s>,
-) -> Result<Option<Place<'s>>, EvalFault>
+) -> Result<Option<Place<'s>>, Fault>
     ensures { Answers (walks.component_places (trees.span_of (tree whole.now)) seen.now (tree component.now) (links_of more.now) (member.now ∷ others.now) place.entry) result }
 {
     match fit(alloc, seen, whole, component, member, place) {
@@ -177,7 +177,7 @@ fn fit<'s>(
     component: &Expr<'s>,
     member: &Member<'s>,
     place: Place<'s>,
-) -> Result<Option<Place<'s>>, EvalFault>
+) -> Result<Option<Place<'s>>, Fault>
     ensures { Answers (rows.fitted (trees.span_of (tree whole.now)) (items.new_dummy seen.now place.entry.scope (tree component.now)) (values.value seen.now place.entry.scope (tree component.now)) member.now place.entry) result }
 {
     match new_dummy(seen, &place.scope, component) {

@@ -7,19 +7,21 @@ ghost use Rattle.net_tree.specs.Tree.{leaf};
 ghost use Rattle.net_tree.specs.View.{tree, links_of, option_part};
 ghost use Rattle.net_eval.specs.Items as items;
 ghost use Rattle.net_eval.specs.Operations as operations;
-ghost use Rattle.net_eval.specs.Outcomes.{Answers, Outcome, and_then, Decides};
+ghost use Rattle.net_fault.specs.Outcomes.{Answers, Outcome, and_then, Decides};
 ghost use Rattle.net_eval.specs.declared.value.Value.{Value as Found};
 ghost use Rattle.net_eval.specs.declared.value.Value.TheVariants.{Many};
 ghost use Rattle.net_eval.specs.Worlds as worlds;
 
-use crate::fault::{EvalDefect, EvalFault, refuse, refuse_tree};
+use crate::fault::refuse_tree;
 use crate::operation::{Operation, operation_of};
 use crate::scope::Scope;
 use crate::value::Value;
 use crate::world::Seen;
-use net_lex::{Boxed, Excerpt, Span, Token};
+use net_fault::{Defect, Fault, Span};
+use net_lex::Token;
 use net_sets::Held;
 use net_tree::{Expr, Link, Operator, Part, Role, role_of};
+use net_views::{Boxed, Excerpt};
 
 fn is_in(operator: &Operator<'_>) -> bool
     ensures { result ≡ items.is_in (operations.operation operator.now) }
@@ -190,13 +192,13 @@ fn fitting<'w, 's>(
     left: &Expr<'_>,
     dimension: Option<u8>,
     tuples: Held<'w, 's>,
-) -> Result<Held<'w, 's>, EvalFault>
+) -> Result<Held<'w, 's>, Fault>
     ensures { Decides (items.chosen (trees.span_of (tree item.now)) (items.needed (tree left.now)) (Many dimension tuples.entry)) result }
 {
     if fits_needed(dimension, left) {
         Ok(tuples)
     } else {
-        Err(refuse_tree(EvalDefect::Arity, item))
+        Err(refuse_tree(Defect::Arity, item))
     }
 }
 
@@ -204,14 +206,14 @@ fn fitting<'w, 's>(
 pub(crate) fn chosen<'w, 's>(
     item: &Expr<'_>,
     left: &Expr<'_>,
-    value: Result<Value<'w, 's>, EvalFault>,
-) -> Result<Held<'w, 's>, EvalFault>
+    value: Result<Value<'w, 's>, Fault>,
+) -> Result<Held<'w, 's>, Fault>
     ensures { (wanted : Outcome Found) → Answers wanted value.entry → Answers (and_then wanted (items.chosen (trees.span_of (tree item.now)) (items.needed (tree left.now)))) result }
 {
     match value {
         Ok(value) => match value.into_set() {
             Some((dimension, tuples)) => fitting(item, left, dimension, tuples),
-            None => Err(refuse_tree(EvalDefect::KindMismatch, item)),
+            None => Err(refuse_tree(Defect::KindMismatch, item)),
         },
         Err(fault) => Err(fault),
     }
@@ -220,14 +222,14 @@ pub(crate) fn chosen<'w, 's>(
 /// The tuples of an item that is a set.
 pub(crate) fn tuples_of<'w, 's>(
     at: Span,
-    value: Result<Value<'w, 's>, EvalFault>,
-) -> Result<Held<'w, 's>, EvalFault>
+    value: Result<Value<'w, 's>, Fault>,
+) -> Result<Held<'w, 's>, Fault>
     ensures { (wanted : Outcome Found) → Answers wanted value.entry → Answers (and_then wanted (items.tuples_of at)) result }
 {
     match value {
         Ok(value) => match value.into_set() {
             Some((_dimension, tuples)) => Ok(tuples),
-            None => Err(refuse(EvalDefect::KindMismatch, at)),
+            None => Err(Fault::of_model(Defect::KindMismatch, at)),
         },
         Err(fault) => Err(fault),
     }

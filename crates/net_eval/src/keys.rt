@@ -7,14 +7,13 @@ ghost use Rattle.net_tree.specs.View.{tree, braces_of, links_of, option_part};
 ghost use Rattle.net_tree.specs.Weights.{weights};
 ghost use Rattle.net_eval.specs.Frames as frames;
 ghost use Rattle.net_eval.specs.Items as items;
-ghost use Rattle.net_eval.specs.Outcomes.{Answers, Leaves, and_then, each};
+ghost use Rattle.net_fault.specs.Outcomes.{Answers, Leaves, and_then, each};
 ghost use Rattle.net_eval.specs.Rows as rows;
 ghost use Rattle.net_eval.specs.Selecting as select;
 ghost use Rattle.net_eval.specs.Values as values;
 ghost use Rattle.net_eval.specs.Walks as walks;
 
 use crate::eval::{evaluate, evaluate_more};
-use crate::fault::EvalFault;
 use crate::fitting::place_at;
 use crate::frame::Frame;
 use crate::item::{any_in, chosen, has_part, is_set, sides_of, tuples_of};
@@ -26,9 +25,10 @@ use crate::selecting::selected;
 use crate::value::Value;
 use crate::width::width;
 use crate::world::Seen;
-use net_lex::{Boxed, Items, Span};
+use net_fault::{Fault, Span};
 use net_sets::Held;
 use net_tree::{Braces, Expr, Link, Part, span_between};
+use net_views::{Boxed, Items};
 use std::alloc::Global;
 
 /// The keys of braces, each with the dummies in scope at it.
@@ -39,7 +39,7 @@ pub(crate) fn index<'s>(
     seen: &Seen<'_, 's>,
     scope: &Scope<'s>,
     braces: &Braces<'s>,
-) -> Result<Keys<'s>, EvalFault>
+) -> Result<Keys<'s>, Fault>
     ensures { Answers (values.index seen.now scope.now (braces_of braces.now)) result }
 {
     match braces {
@@ -67,7 +67,7 @@ fn index_items<'s>(
     item: &Expr<'s>,
     more: &[Link<'s>],
     condition: &Option<Boxed<Part<'s>>>,
-) -> Result<Keys<'s>, EvalFault>
+) -> Result<Keys<'s>, Fault>
     ensures { Answers (walks.index_items at seen.now scope.now (tree item.now) (links_of more.now) (option_part condition.now)) result }
 {
     match sides_of(item) {
@@ -93,7 +93,7 @@ fn open<'w, 's>(
     more: &[Link<'s>],
     condition: &Option<Boxed<Part<'s>>>,
     value: Value<'w, 's>,
-) -> Result<Keys<'s>, EvalFault>
+) -> Result<Keys<'s>, Fault>
     ensures { Answers (walks.opened_keys at seen.now scope.now (tree item.now) (links_of more.now) (option_part condition.now) value.entry) result }
 {
     if any_in(more) || is_set(&value) {
@@ -116,7 +116,7 @@ fn select<'w, 's>(
     more: &[Link<'s>],
     condition: &Option<Boxed<Part<'s>>>,
     tuples: Held<'w, 's>,
-) -> Result<Keys<'s>, EvalFault>
+) -> Result<Keys<'s>, Fault>
     ensures { Answers (walks.walked at seen.now scope.now (tree item.now) (links_of more.now) (option_part condition.now) tuples.entry) result }
 {
     let found = collect(alloc, seen, scope, at, item, more, tuples)?;
@@ -134,7 +134,7 @@ fn collect<'w, 's>(
     item: &Expr<'s>,
     more: &[Link<'s>],
     tuples: Held<'w, 's>,
-) -> Result<Items<Row<'s>>, EvalFault>
+) -> Result<Items<Row<'s>>, Fault>
     ensures { Answers (each (rows.onward (values.place seen.now (tree item.now)) (values.walk at seen.now (links_of more.now)) (rows.start scope.now)) tuples.entry []) result }
 {
     let place = start(alloc, scope)?;
@@ -159,7 +159,7 @@ fn walk<'a, 'w, 's>(
     at: Span,
     first: Frame<'a, 'w, 's>,
     found: &mut Vec<Row<'s>>,
-) -> Result<(), EvalFault>
+) -> Result<(), Fault>
     ensures { Leaves (frames.still at seen.now first.entry found.old.items) result found.new.items }
 {
     let mut top = first;
@@ -194,7 +194,7 @@ fn onward<'a, 'w, 's>(
     items: &'a [Link<'s>],
     place: Option<Place<'s>>,
     found: &mut Vec<Row<'s>>,
-) -> Result<Option<Frame<'a, 'w, 's>>, EvalFault>
+) -> Result<Option<Frame<'a, 'w, 's>>, Fault>
     ensures leads { frames.Leads at seen.now (rows.go_on (values.walk at seen.now (links_of items.entry.now)) found.old.items place.entry) result found.new.items }
     ensures lighter { IfOk result (λ next. IfSome next (λ f. frames.weight_of f ≤ weights (links_of items.entry.now))) }
     ensures steps { IfOk result (λ next. IfSome next (λ f. frames.steps_still at seen.now f ≡ frames.steps_next (frames.steps at seen.now (links_of items.entry.now)) (Ok place.entry))) }
@@ -223,7 +223,7 @@ fn entered<'a, 'w, 's>(
     item: &'a Expr<'s>,
     more: &'a [Link<'s>],
     place: Place<'s>,
-) -> Result<Frame<'a, 'w, 's>, EvalFault>
+) -> Result<Frame<'a, 'w, 's>, Fault>
     ensures { Answers (and_then (walks.item_tuples at seen.now place.entry.scope (tree item.entry.now)) (λ ts. Ok (record { item = item.entry; more = more.entry; place = place.entry; left = sought (select.selecting seen.now place.entry.scope (tree item.entry.now)) ts }))) result }
 {
     let tuples = item_tuples(alloc, seen, at, &place.scope, item)?;
@@ -243,7 +243,7 @@ fn item_tuples<'w, 's>(
     at: Span,
     scope: &Scope<'s>,
     item: &Expr<'s>,
-) -> Result<Held<'w, 's>, EvalFault>
+) -> Result<Held<'w, 's>, Fault>
     ensures { Answers (walks.item_tuples at seen.now scope.now (tree item.now)) result }
 {
     match sides_of(item) {
@@ -260,7 +260,7 @@ fn choose<'w, 's>(
     item: &Expr<'s>,
     left: &Expr<'s>,
     set: &Expr<'s>,
-) -> Result<Held<'w, 's>, EvalFault>
+) -> Result<Held<'w, 's>, Fault>
     ensures { Answers (and_then (values.value seen.now scope.now (tree set.now)) (items.chosen (trees.span_of (tree item.now)) (items.needed (tree left.now)))) result }
 {
     chosen(item, left, evaluate(alloc, seen, scope, set))
@@ -275,7 +275,7 @@ fn keep<'s>(
     condition: &Option<Boxed<Part<'s>>>,
     width: u8,
     found: Items<Row<'s>>,
-) -> Result<Keys<'s>, EvalFault>
+) -> Result<Keys<'s>, Fault>
     ensures { Answers (and_then (rows.kept (λ q. values.holds at seen.now q (option_part condition.now)) found.entry []) (λ left. Ok (rows.keys width left))) result }
 {
     if !has_part(condition) {
@@ -298,7 +298,7 @@ fn holds<'s>(
     at: Span,
     scope: &Scope<'s>,
     condition: &Option<Boxed<Part<'s>>>,
-) -> Result<bool, EvalFault>
+) -> Result<bool, Fault>
     ensures { Answers (values.holds at seen.now scope.now (option_part condition.now)) result }
 {
     match condition {

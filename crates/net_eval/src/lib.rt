@@ -26,11 +26,12 @@ mod width;
 mod world;
 
 pub use calls::{holds, index_of, member, members};
-pub use eval::evaluate;
-pub use fault::{Detail, EvalDefect, EvalFault, Refusal};
+pub use eval::{evaluate, evaluate_all};
+pub use fault::refuse_tree;
 pub use laws::{keys_are_distinct, values_keep_sets};
 pub use operation::{Operation, Reduction};
-pub use reference::{append_detail, append_member, append_reference, told_name, told_reference};
+pub use operator::{truth, tuple_of};
+pub use reference::{append_detail, append_member, append_reference, told_reference};
 pub use row::{Keys, Row};
 pub use scope::{Binding, Scope};
 pub use source_set::set_of_braces;

@@ -3,28 +3,28 @@
 ghost use Rattle.std.specs.Prelude.{◌≡◌, ◌++◌, ◌∷◌, [], List, Ok, IfOk, length};
 ghost use Rattle.net_sets.specs.Made.{IsMade};
 ghost use Rattle.net_sets.specs.Operations.{union};
-ghost use Rattle.net_eval.specs.Outcomes.{Answers, Outcome, and_then, Decides};
+ghost use Rattle.net_fault.specs.Outcomes.{Answers, Outcome, and_then, Decides};
 ghost use Rattle.net_eval.specs.declared.value.Value.{Value as Found};
 ghost use Rattle.net_eval.specs.Rows as rows;
 ghost use Rattle.net_eval.specs.Walks as walks;
 
-use crate::fault::{EvalDefect, EvalFault, refuse};
 use crate::row::{Keys, Row};
 use crate::scope::Scope;
 use crate::set::once;
 use crate::value::Value;
-use net_lex::{Items, Span};
+use net_fault::{Defect, Fault, Span};
 use net_sets::{Held, SetFault, Tuple, TupleSet};
+use net_views::Items;
 use std::alloc::{AllocError, Global};
 
 /// A member alone, or a tuple.
-fn tuple_in<'s>(at: Span, value: &Value<'_, 's>) -> Result<Tuple<'s>, EvalFault>
+fn tuple_in<'s>(at: Span, value: &Value<'_, 's>) -> Result<Tuple<'s>, Fault>
     ensures { Decides (rows.tuple_in at value.now) result }
 {
     match value {
         Value::One(member) => Ok(Tuple::single(member.again())),
         Value::Several(tuple) => Ok(tuple.again()),
-        _ => Err(refuse(EvalDefect::KindMismatch, at)),
+        _ => Err(Fault::of_model(Defect::KindMismatch, at)),
     }
 }
 
@@ -32,7 +32,7 @@ fn tuples_in<'s>(
     alloc: Global,
     at: Span,
     values: &[Value<'_, 's>],
-) -> Result<Items<Tuple<'s>>, EvalFault>
+) -> Result<Items<Tuple<'s>>, Fault>
     ensures { Answers (rows.tuples_in at values.now []) result }
 {
     let mut found = Vec::new(alloc);
@@ -80,15 +80,11 @@ fn no_keys<'s>(alloc: Global) -> Keys<'s>
 }
 
 /// Braces without items.
-pub(crate) fn no_items<'s>(
-    alloc: Global,
-    at: Span,
-    conditioned: bool,
-) -> Result<Keys<'s>, EvalFault>
+pub(crate) fn no_items<'s>(alloc: Global, at: Span, conditioned: bool) -> Result<Keys<'s>, Fault>
     ensures { Answers (walks.no_items at conditioned) result }
 {
     if conditioned {
-        Err(refuse(EvalDefect::KindMismatch, at))
+        Err(Fault::of_model(Defect::KindMismatch, at))
     } else {
         Ok(no_keys(alloc))
     }
@@ -101,7 +97,7 @@ fn rows_once<'s>(
     scope: &Scope<'s>,
     first: &Tuple<'s>,
     tuples: &[Tuple<'s>],
-) -> Result<Keys<'s>, EvalFault>
+) -> Result<Keys<'s>, Fault>
     ensures { Answers (rows.keys_within at scope.now (length first.now) (union [] tuples.now)) result }
 {
     match once(alloc, tuples) {
@@ -109,8 +105,8 @@ fn rows_once<'s>(
             width: Some(first.len() as u8),
             rows: rows_of(alloc, scope, set.as_slice())?,
         }),
-        Err(SetFault::TooMany) => Err(refuse(EvalDefect::TooMany, at)),
-        Err(SetFault::OutOfMemory) => Err(EvalFault::OutOfMemory),
+        Err(SetFault::TooMany) => Err(Fault::of_model(Defect::TooMany, at)),
+        Err(SetFault::OutOfMemory) => Err(Fault::OutOfMemory),
     }
 }
 
@@ -119,7 +115,7 @@ fn listed_as<'s>(
     at: Span,
     scope: &Scope<'s>,
     tuples: &[Tuple<'s>],
-) -> Result<Keys<'s>, EvalFault>
+) -> Result<Keys<'s>, Fault>
     ensures { Answers (rows.listed_as at scope.now tuples.now (union [] tuples.now)) result }
 {
     match tuples {
@@ -128,7 +124,7 @@ fn listed_as<'s>(
             if all_of(first.len(), rest) {
                 rows_once(alloc, at, scope, first, tuples)
             } else {
-                Err(refuse(EvalDefect::Arity, at))
+                Err(Fault::of_model(Defect::Arity, at))
             }
         }
     }
@@ -140,13 +136,13 @@ pub(crate) fn listed<'s>(
     at: Span,
     scope: &Scope<'s>,
     conditioned: bool,
-    values: Result<Items<Value<'_, 's>>, EvalFault>,
-) -> Result<Keys<'s>, EvalFault>
+    values: Result<Items<Value<'_, 's>>, Fault>,
+) -> Result<Keys<'s>, Fault>
     ensures { (wanted : Outcome (List Found)) → Answers wanted values.entry → Answers (and_then wanted (rows.listed at scope.now conditioned)) result }
 {
     let values = values?;
     if conditioned {
-        Err(refuse(EvalDefect::KindMismatch, at))
+        Err(Fault::of_model(Defect::KindMismatch, at))
     } else {
         let tuples = tuples_in(alloc, at, values.as_slice())?;
         listed_as(alloc, at, scope, tuples.as_slice())
@@ -168,13 +164,13 @@ pub(crate) fn as_value<'w, 's>(
     alloc: Global,
     at: Span,
     keys: &Keys<'s>,
-) -> Result<Value<'w, 's>, EvalFault>
+) -> Result<Value<'w, 's>, Fault>
     ensures { Answers (rows.as_set at keys.now) result }
 {
     let tuples = keys_of(alloc, keys.rows.as_slice())?;
     match once(alloc, tuples.as_slice()) {
         Ok(set) => Ok(Value::Many(keys.width, Held::own(set))),
-        Err(SetFault::TooMany) => Err(refuse(EvalDefect::TooMany, at)),
-        Err(SetFault::OutOfMemory) => Err(EvalFault::OutOfMemory),
+        Err(SetFault::TooMany) => Err(Fault::of_model(Defect::TooMany, at)),
+        Err(SetFault::OutOfMemory) => Err(Fault::OutOfMemory),
     }
 }

@@ -5,30 +5,31 @@ ghost use Rattle.std.specs.Option.{option_copied};
 ghost use Rattle.net_sets.specs.Sets.{has, at_key};
 ghost use Rattle.net_tree.specs.Tree as trees;
 ghost use Rattle.net_eval.specs.Numbers.{number_in};
-ghost use Rattle.net_eval.specs.Outcomes.{Answers, Decides};
+ghost use Rattle.net_fault.specs.Outcomes.{Answers, Decides};
 ghost use Rattle.net_eval.specs.Values as values;
 ghost use Rattle.net_eval.specs.Worlds as worlds;
 
-use crate::fault::{Detail, EvalDefect, EvalFault, Refusal, refuse};
 use crate::number::number_in;
 use crate::reference::told_reference;
 use crate::scope::Scope;
 use crate::value::Value;
 use crate::world::{Entry, Seen};
-use net_lex::{Excerpt, Span, Token};
+use net_fault::{Defect, Detail, Fault, Language, Span};
+use net_lex::Token;
 use net_sets::{Held, Member, Table, Text, Tuple, TupleSet};
 use net_tree::{Role, role_of};
+use net_views::Excerpt;
 use std::alloc::Global;
 
-fn missing<'w, 's>(at: Span, detail: Detail, listed: bool) -> Result<Value<'w, 's>, EvalFault>
+fn missing<'w, 's>(at: Span, detail: Detail, listed: bool) -> Result<Value<'w, 's>, Fault>
     ensures { Decides (worlds.missing at detail listed) result }
 {
     let defect = if listed {
-        EvalDefect::NoValue
+        Defect::NoValue
     } else {
-        EvalDefect::OutsideSet
+        Defect::OutsideSet
     };
-    Err(EvalFault::Refused(Refusal { defect, at, detail }))
+    Err(Fault::of_text(Language::Model, defect, at, detail))
 }
 
 /// The value of a parameter at a key.
@@ -40,7 +41,7 @@ fn value_at<'w, 's>(
     index: &TupleSet<'s>,
     table: &Table<'s>,
     key: Tuple<'s>,
-) -> Result<Value<'w, 's>, EvalFault>
+) -> Result<Value<'w, 's>, Fault>
     ensures { Answers (worlds.value_at at (worlds.reference name.now keys key.entry) (at_key table.now key.entry) (has index.now key.entry)) result }
 {
     match table.get(&key) {
@@ -69,23 +70,23 @@ fn entry_at<'w, 's>(
     name: &Excerpt<'s>,
     entry: Option<&'w Entry<'s>>,
     key: Tuple<'s>,
-) -> Result<Value<'w, 's>, EvalFault>
+) -> Result<Value<'w, 's>, Fault>
     ensures { Answers (worlds.entry_at at name.now (option_copied entry.entry) key.entry) result }
 {
     match entry {
-        None => Err(refuse(EvalDefect::KindMismatch, at)),
+        None => Err(Fault::of_model(Defect::KindMismatch, at)),
         Some(Entry::Set(dimension, set)) => {
             if key.len() == 0 {
                 Ok(Value::Many(Some(*dimension), Held::lent(set)))
             } else {
-                Err(refuse(EvalDefect::Arity, at))
+                Err(Fault::of_model(Defect::Arity, at))
             }
         }
         Some(Entry::Parameter(keys, index, table)) => {
             if key.len() == key_count(*keys) {
                 value_at(alloc, at, name, *keys, index.get(), table, key)
             } else {
-                Err(refuse(EvalDefect::Arity, at))
+                Err(Fault::of_model(Defect::Arity, at))
             }
         }
     }
@@ -99,7 +100,7 @@ pub(crate) fn name_at<'w, 's>(
     scope: &Scope<'s>,
     name: &Excerpt<'s>,
     key: Tuple<'s>,
-) -> Result<Value<'w, 's>, EvalFault>
+) -> Result<Value<'w, 's>, Fault>
     ensures { Answers (worlds.name_at at seen.now name.now (worlds.bound scope.now name.now) key.entry) result }
 {
     match scope.get(name) {
@@ -108,17 +109,17 @@ pub(crate) fn name_at<'w, 's>(
             if key.len() == 0 {
                 Ok(Value::One(member.again()))
             } else {
-                Err(refuse(EvalDefect::Arity, at))
+                Err(Fault::of_model(Defect::Arity, at))
             }
         }
     }
 }
 
-fn numeral<'w, 's>(token: &Token<'s>) -> Result<Value<'w, 's>, EvalFault>
+fn numeral<'w, 's>(token: &Token<'s>) -> Result<Value<'w, 's>, Fault>
     ensures { Decides (values.number_value token.now.span (number_in token.now.text)) result }
 {
     match number_in(&token.text) {
-        None => Err(refuse(EvalDefect::TooLarge, token.span)),
+        None => Err(Fault::of_model(Defect::ValueTooLarge, token.span)),
         Some(number) => Ok(Value::One(Member::Number(number))),
     }
 }
@@ -129,13 +130,13 @@ pub(crate) fn leaf<'w, 's>(
     seen: &Seen<'w, 's>,
     scope: &Scope<'s>,
     token: &Token<'s>,
-) -> Result<Value<'w, 's>, EvalFault>
+) -> Result<Value<'w, 's>, Fault>
     ensures { Answers (values.value seen.now scope.now (trees.leaf token.now)) result }
 {
     match role_of(token) {
         Role::Number => numeral(token),
         Role::Text => Ok(Value::One(Member::Name(Text::new(&token.text)))),
         Role::Name => name_at(alloc, token.span, seen, scope, &token.text, Tuple::new()),
-        _ => Err(refuse(EvalDefect::KindMismatch, token.span)),
+        _ => Err(Fault::of_model(Defect::KindMismatch, token.span)),
     }
 }

@@ -4,19 +4,21 @@ ghost use Rattle.net_tree.specs.View.{tree};
 ghost use Rattle.net_eval.specs.Limits.{is_small};
 ghost use Rattle.net_eval.specs.Numbers as numbers;
 ghost use Rattle.net_eval.specs.Operators as operators;
-ghost use Rattle.net_eval.specs.Outcomes.{Answers, Outcome, and_then, refused, Decides};
-ghost use Rattle.net_eval.specs.declared.fault.EvalDefect.TheVariants.{KindMismatch};
+ghost use Rattle.net_fault.specs.Outcomes.{Answers, Outcome, and_then, refused, Decides};
+ghost use Rattle.net_fault.specs.declared.defect.Defect.TheVariants.{KindMismatch};
 ghost use Rattle.net_eval.specs.declared.value.Value.{Value as Found};
 ghost use Rattle.net_eval.specs.declared.value.Value.TheVariants.{Truth};
 ghost use Rattle.net_eval.specs.Rows as rows;
 ghost use Rattle.net_eval.specs.Values as values;
 
-use crate::fault::{EvalDefect, EvalFault, refuse_tree};
+use crate::fault::refuse_tree;
 use crate::operation::{Operation, Reduction};
 use crate::value::Value;
-use net_lex::{Excerpt, whole_of};
+use net_fault::{Defect, Fault};
+use net_lex::whole_of;
 use net_sets::Member;
 use net_tree::Expr;
+use net_views::Excerpt;
 
 /// The number that a numeral stands for, if it is whole and within the limit.
 pub(crate) fn number_in(numeral: &Excerpt<'_>) -> Option<i64>
@@ -46,28 +48,28 @@ fn narrow(number: &i128) -> i64
 }
 
 /// A number that arithmetic gives.
-pub(crate) fn sized<'w, 's>(whole: &Expr<'_>, number: i128) -> Result<Value<'w, 's>, EvalFault>
+pub(crate) fn sized<'w, 's>(whole: &Expr<'_>, number: i128) -> Result<Value<'w, 's>, Fault>
     ensures { Decides (numbers.sized (trees.span_of (tree whole.now)) number) result }
 {
     if is_small(&number) {
         Ok(Value::One(Member::Number(narrow(&number))))
     } else {
-        Err(refuse_tree(EvalDefect::TooLarge, whole))
+        Err(refuse_tree(Defect::ValueTooLarge, whole))
     }
 }
 
 /// A value that is a number.
-pub(crate) fn number_of(whole: &Expr<'_>, value: &Value<'_, '_>) -> Result<i64, EvalFault>
+pub(crate) fn number_of(whole: &Expr<'_>, value: &Value<'_, '_>) -> Result<i64, Fault>
     ensures { Decides (numbers.number (trees.span_of (tree whole.now)) value.now) result }
 {
     match value {
         Value::One(Member::Number(number)) => Ok(*number),
-        _ => Err(refuse_tree(EvalDefect::KindMismatch, whole)),
+        _ => Err(refuse_tree(Defect::KindMismatch, whole)),
     }
 }
 
 /// The number that was evaluated.
-fn number_found(whole: &Expr<'_>, value: Result<Value<'_, '_>, EvalFault>) -> Result<i64, EvalFault>
+fn number_found(whole: &Expr<'_>, value: Result<Value<'_, '_>, Fault>) -> Result<i64, Fault>
     ensures { (wanted : Outcome Found) → Answers wanted value.entry → Answers (and_then wanted (numbers.number (trees.span_of (tree whole.now)))) result }
 {
     match value {
@@ -94,19 +96,19 @@ fn product_of(a: &i64, b: &i64) -> i128
     i128::from(*a) * i128::from(*b)
 }
 
-fn plus<'w, 's>(whole: &Expr<'_>, a: &i64, b: &i64) -> Result<Value<'w, 's>, EvalFault>
+fn plus<'w, 's>(whole: &Expr<'_>, a: &i64, b: &i64) -> Result<Value<'w, 's>, Fault>
     ensures { Decides (numbers.plus (trees.span_of (tree whole.now)) a.now b.now) result }
 {
     sized(whole, sum_of(a, b))
 }
 
-fn minus<'w, 's>(whole: &Expr<'_>, a: &i64, b: &i64) -> Result<Value<'w, 's>, EvalFault>
+fn minus<'w, 's>(whole: &Expr<'_>, a: &i64, b: &i64) -> Result<Value<'w, 's>, Fault>
     ensures { Decides (numbers.less (trees.span_of (tree whole.now)) a.now b.now) result }
 {
     sized(whole, difference_of(a, b))
 }
 
-fn times<'w, 's>(whole: &Expr<'_>, a: &i64, b: &i64) -> Result<Value<'w, 's>, EvalFault>
+fn times<'w, 's>(whole: &Expr<'_>, a: &i64, b: &i64) -> Result<Value<'w, 's>, Fault>
     ensures { Decides (numbers.times (trees.span_of (tree whole.now)) a.now b.now) result }
 {
     sized(whole, product_of(a, b))
@@ -118,23 +120,23 @@ fn divides(a: &i64, b: &i64) -> bool
     *a >= 0 && *b >= 1
 }
 
-fn quotient<'w, 's>(whole: &Expr<'_>, a: &i64, b: &i64) -> Result<Value<'w, 's>, EvalFault>
+fn quotient<'w, 's>(whole: &Expr<'_>, a: &i64, b: &i64) -> Result<Value<'w, 's>, Fault>
     ensures { Decides (numbers.quotient (trees.span_of (tree whole.now)) a.now b.now) result }
 {
     if divides(a, b) {
         Ok(Value::One(Member::Number(*a / *b)))
     } else {
-        Err(refuse_tree(EvalDefect::DivMod, whole))
+        Err(refuse_tree(Defect::DivMod, whole))
     }
 }
 
-fn remainder<'w, 's>(whole: &Expr<'_>, a: &i64, b: &i64) -> Result<Value<'w, 's>, EvalFault>
+fn remainder<'w, 's>(whole: &Expr<'_>, a: &i64, b: &i64) -> Result<Value<'w, 's>, Fault>
     ensures { Decides (numbers.remainder (trees.span_of (tree whole.now)) a.now b.now) result }
 {
     if divides(a, b) {
         Ok(Value::One(Member::Number(*a % *b)))
     } else {
-        Err(refuse_tree(EvalDefect::DivMod, whole))
+        Err(refuse_tree(Defect::DivMod, whole))
     }
 }
 
@@ -151,7 +153,7 @@ fn ordered(operation: Operation, a: &i64, b: &i64) -> bool
     }
 }
 
-fn compared<'w, 's>(operation: Operation, a: &i64, b: &i64) -> Result<Value<'w, 's>, EvalFault>
+fn compared<'w, 's>(operation: Operation, a: &i64, b: &i64) -> Result<Value<'w, 's>, Fault>
     ensures { Decides (Ok (Truth (operators.ordered operation a.now b.now))) result }
 {
     Ok(Value::Truth(ordered(operation, a, b)))
@@ -159,10 +161,10 @@ fn compared<'w, 's>(operation: Operation, a: &i64, b: &i64) -> Result<Value<'w, 
 
 /// What an operator that takes no numbers makes of them: a refusal, in a function of its own, as the borrow checker covers no
 /// join of answers that are handed on with one that is made in place.
-fn of_no_numbers<'w, 's>(whole: &Expr<'_>) -> Result<Value<'w, 's>, EvalFault>
+fn of_no_numbers<'w, 's>(whole: &Expr<'_>) -> Result<Value<'w, 's>, Fault>
     ensures { Decides (refused KindMismatch (trees.span_of (tree whole.now))) result }
 {
-    Err(refuse_tree(EvalDefect::KindMismatch, whole))
+    Err(refuse_tree(Defect::KindMismatch, whole))
 }
 
 /// What an operator makes of two numbers.
@@ -171,7 +173,7 @@ fn of_two<'w, 's>(
     whole: &Expr<'_>,
     a: &i64,
     b: &i64,
-) -> Result<Value<'w, 's>, EvalFault>
+) -> Result<Value<'w, 's>, Fault>
     ensures { Decides (operators.of_two operation (trees.span_of (tree whole.now)) a.now b.now) result }
 {
     match operation {
@@ -193,7 +195,7 @@ pub(crate) fn of_numbers<'w, 's>(
     whole: &Expr<'_>,
     x: &Value<'_, 's>,
     y: &Value<'_, 's>,
-) -> Result<Value<'w, 's>, EvalFault>
+) -> Result<Value<'w, 's>, Fault>
     ensures { Decides (operators.of_numbers (trees.span_of (tree whole.now)) (operators.of_two operation (trees.span_of (tree whole.now))) x.now y.now) result }
 {
     let a = number_of(whole, x)?;
@@ -215,8 +217,8 @@ fn turned(minus: bool, number: &i64) -> i128
 pub(crate) fn with_sign<'w, 's>(
     whole: &Expr<'_>,
     minus: bool,
-    value: Result<Value<'_, 's>, EvalFault>,
-) -> Result<Value<'w, 's>, EvalFault>
+    value: Result<Value<'_, 's>, Fault>,
+) -> Result<Value<'w, 's>, Fault>
     ensures { (wanted : Outcome Found) → Answers wanted value.entry → Answers (and_then wanted (values.with_sign (trees.span_of (tree whole.now)) minus)) result }
 {
     let number = number_found(whole, value)?;
@@ -228,8 +230,8 @@ pub(crate) fn one_more(
     whole: &Expr<'_>,
     reduction: Reduction,
     so_far: &Option<i128>,
-    value: Result<Value<'_, '_>, EvalFault>,
-) -> Result<Option<i128>, EvalFault>
+    value: Result<Value<'_, '_>, Fault>,
+) -> Result<Option<i128>, Fault>
     requires { IfSome so_far.now (λ a. unsigned_abs a ≤ 2 ^ 127 - 2 ^ 64) }
     ensures value { (wanted : Outcome Found) → Answers wanted value.entry → Answers (and_then wanted (λ v. and_then (numbers.number (trees.span_of (tree whole.now)) v) (λ n. Ok (Some (numbers.gathered reduction so_far.now n))))) result }
     ensures small { (k : ℕ) → IfSome so_far.now (λ a. unsigned_abs a ≤ k) → IfOk result (λ o. IfSome o (λ a. unsigned_abs a ≤ k + 2 ^ 63)) }
@@ -262,15 +264,12 @@ fn gathered_two(reduction: Reduction, so_far: &i128, number: &i64) -> i128
     }
 }
 
-fn nothing_reduced<'w, 's>(
-    whole: &Expr<'_>,
-    reduction: Reduction,
-) -> Result<Value<'w, 's>, EvalFault>
+fn nothing_reduced<'w, 's>(whole: &Expr<'_>, reduction: Reduction) -> Result<Value<'w, 's>, Fault>
     ensures { Decides (rows.nothing_reduced (trees.span_of (tree whole.now)) reduction) result }
 {
     match reduction {
         Reduction::Sum => Ok(Value::One(Member::Number(0))),
-        Reduction::Min | Reduction::Max => Err(refuse_tree(EvalDefect::NoValue, whole)),
+        Reduction::Min | Reduction::Max => Err(refuse_tree(Defect::NoValue, whole)),
     }
 }
 
@@ -279,7 +278,7 @@ pub(crate) fn reduced_to<'w, 's>(
     whole: &Expr<'_>,
     reduction: Reduction,
     so_far: &Option<i128>,
-) -> Result<Value<'w, 's>, EvalFault>
+) -> Result<Value<'w, 's>, Fault>
     ensures { Decides (rows.reduced_to (trees.span_of (tree whole.now)) reduction so_far.now) result }
 {
     match so_far {

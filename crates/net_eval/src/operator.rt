@@ -4,45 +4,42 @@ ghost use Rattle.std.specs.Prelude.{◌∷◌, [], Bool};
 ghost use Rattle.net_tree.specs.Spans as trees;
 ghost use Rattle.net_tree.specs.View.{tree};
 ghost use Rattle.net_eval.specs.Operators as operators;
-ghost use Rattle.net_eval.specs.Outcomes.{Answers, Outcome, and_then, Decides};
+ghost use Rattle.net_fault.specs.Outcomes.{Answers, Outcome, and_then, Decides};
 ghost use Rattle.net_eval.specs.declared.value.Value.{Value as Found};
 
-use crate::fault::{EvalDefect, EvalFault, refuse, refuse_tree};
+use crate::fault::refuse_tree;
 use crate::number::of_numbers;
 use crate::operation::Operation;
 use crate::row::longer_by_one;
 use crate::set::{belongs, contained, cross_values, of_sets};
 use crate::value::Value;
-use net_lex::Span;
+use net_fault::{Defect, Fault, Span};
 use net_sets::{Member, Tuple};
 use net_tree::Expr;
 use std::alloc::Global;
 
 /// Whether two members are the same.
-fn same<'s>(whole: &Expr<'_>, x: &Value<'_, 's>, y: &Value<'_, 's>) -> Result<bool, EvalFault>
+fn same<'s>(whole: &Expr<'_>, x: &Value<'_, 's>, y: &Value<'_, 's>) -> Result<bool, Fault>
     ensures { Answers (operators.same (trees.span_of (tree whole.now)) x.now y.now) result }
 {
     match (x, y) {
         (Value::One(a), Value::One(b)) => Ok(*a == *b),
-        _ => Err(refuse_tree(EvalDefect::KindMismatch, whole)),
+        _ => Err(refuse_tree(Defect::KindMismatch, whole)),
     }
 }
 
-/// The truth of a condition.
-pub(crate) fn truth(whole: &Expr<'_>, value: &Value<'_, '_>) -> Result<bool, EvalFault>
+/// The truth of a condition; `KindMismatch` at the whole where the value is none.
+pub fn truth(whole: &Expr<'_>, value: &Value<'_, '_>) -> Result<bool, Fault>
     ensures { Decides (operators.truth (trees.span_of (tree whole.now)) value.now) result }
 {
     match value {
         Value::Truth(truth) => Ok(*truth),
-        _ => Err(refuse_tree(EvalDefect::KindMismatch, whole)),
+        _ => Err(refuse_tree(Defect::KindMismatch, whole)),
     }
 }
 
 /// The truth of a condition that was evaluated.
-pub(crate) fn truth_of(
-    whole: &Expr<'_>,
-    value: Result<Value<'_, '_>, EvalFault>,
-) -> Result<bool, EvalFault>
+pub(crate) fn truth_of(whole: &Expr<'_>, value: Result<Value<'_, '_>, Fault>) -> Result<bool, Fault>
     ensures { (wanted : Outcome Found) → Answers wanted value.entry → Answers (and_then wanted (operators.truth (trees.span_of (tree whole.now)))) result }
 {
     match value {
@@ -52,13 +49,13 @@ pub(crate) fn truth_of(
 }
 
 /// The truth of a condition behind items; the place is the braces'.
-pub(crate) fn truth_at(at: Span, value: Result<Value<'_, '_>, EvalFault>) -> Result<bool, EvalFault>
+pub(crate) fn truth_at(at: Span, value: Result<Value<'_, '_>, Fault>) -> Result<bool, Fault>
     ensures { (wanted : Outcome Found) → Answers wanted value.entry → Answers (and_then wanted (operators.truth at)) result }
 {
     match value {
         Ok(value) => match &value {
             Value::Truth(truth) => Ok(*truth),
-            _ => Err(refuse(EvalDefect::KindMismatch, at)),
+            _ => Err(Fault::of_model(Defect::KindMismatch, at)),
         },
         Err(fault) => Err(fault),
     }
@@ -69,7 +66,7 @@ pub(crate) fn decided<'w, 's>(
     operation: Operation,
     whole: &Expr<'_>,
     value: &Value<'_, 's>,
-) -> Result<Option<Value<'w, 's>>, EvalFault>
+) -> Result<Option<Value<'w, 's>>, Fault>
     ensures { Decides (operators.decided operation (trees.span_of (tree whole.now)) value.now) result }
 {
     match operation {
@@ -92,7 +89,7 @@ pub(crate) fn decided<'w, 's>(
 }
 
 /// The truth of a condition as a value.
-fn as_truth<'w, 's>(found: Result<bool, EvalFault>) -> Result<Value<'w, 's>, EvalFault>
+fn as_truth<'w, 's>(found: Result<bool, Fault>) -> Result<Value<'w, 's>, Fault>
     ensures { (wanted : Outcome Bool) → Answers wanted found → Answers (operators.as_truth wanted) result }
 {
     let holds = found?;
@@ -100,7 +97,7 @@ fn as_truth<'w, 's>(found: Result<bool, EvalFault>) -> Result<Value<'w, 's>, Eva
 }
 
 /// Whether a condition does not hold.
-pub(crate) fn as_denial<'w, 's>(found: Result<bool, EvalFault>) -> Result<Value<'w, 's>, EvalFault>
+pub(crate) fn as_denial<'w, 's>(found: Result<bool, Fault>) -> Result<Value<'w, 's>, Fault>
     ensures { (wanted : Outcome Bool) → Answers wanted found → Answers (operators.as_denial wanted) result }
 {
     let holds = found?;
@@ -112,7 +109,7 @@ fn right_truth<'w, 's>(
     whole: &Expr<'_>,
     x: &Value<'_, 's>,
     y: &Value<'_, 's>,
-) -> Result<Value<'w, 's>, EvalFault>
+) -> Result<Value<'w, 's>, Fault>
     ensures { Decides (operators.as_truth (and_then (operators.truth (trees.span_of (tree whole.now)) x.now) (λ b. operators.truth (trees.span_of (tree whole.now)) y.now))) result }
 {
     let _left = truth(whole, x)?;
@@ -127,7 +124,7 @@ pub(crate) fn apply<'w, 's>(
     whole: &Expr<'_>,
     x: &Value<'_, 's>,
     y: &Value<'_, 's>,
-) -> Result<Value<'w, 's>, EvalFault>
+) -> Result<Value<'w, 's>, Fault>
     ensures { Answers (operators.apply operation (trees.span_of (tree whole.now)) x.now y.now) result }
 {
     match operation {
@@ -151,37 +148,32 @@ pub(crate) fn apply<'w, 's>(
         Operation::Within => as_truth(contained(whole, x, y)),
         Operation::NotWithin => as_denial(contained(whole, x, y)),
         Operation::And | Operation::Or => right_truth(whole, x, y),
-        Operation::Range | Operation::Other => Err(refuse_tree(EvalDefect::KindMismatch, whole)),
+        Operation::Range | Operation::Other => Err(refuse_tree(Defect::KindMismatch, whole)),
     }
 }
 
 /// A value that is a number or a text.
-pub(crate) fn member_of<'s>(
-    whole: &Expr<'_>,
-    value: &Value<'_, 's>,
-) -> Result<Member<'s>, EvalFault>
+pub(crate) fn member_of<'s>(whole: &Expr<'_>, value: &Value<'_, 's>) -> Result<Member<'s>, Fault>
     ensures { Decides (operators.member (trees.span_of (tree whole.now)) value.now) result }
 {
     match value {
         Value::One(member) => Ok(member.again()),
-        _ => Err(refuse_tree(EvalDefect::KindMismatch, whole)),
+        _ => Err(refuse_tree(Defect::KindMismatch, whole)),
     }
 }
 
-fn short_enough<'s>(whole: &Expr<'_>, key: Option<Tuple<'s>>) -> Result<Tuple<'s>, EvalFault>
+fn short_enough<'s>(whole: &Expr<'_>, key: Option<Tuple<'s>>) -> Result<Tuple<'s>, Fault>
     ensures { Decides (operators.short_enough (trees.span_of (tree whole.now)) key.entry) result }
 {
     match key {
-        None => Err(refuse_tree(EvalDefect::Arity, whole)),
+        None => Err(refuse_tree(Defect::Arity, whole)),
         Some(tuple) => Ok(tuple),
     }
 }
 
-/// The tuple of the members that some values are.
-pub(crate) fn tuple_of<'s>(
-    whole: &Expr<'_>,
-    values: &[Value<'_, 's>],
-) -> Result<Tuple<'s>, EvalFault>
+/// The tuple of the members that some values are. `KindMismatch` at the whole where one of them is no member, and `Arity` where
+/// they are more than four.
+pub fn tuple_of<'s>(whole: &Expr<'_>, values: &[Value<'_, 's>]) -> Result<Tuple<'s>, Fault>
     ensures { Decides (operators.tuple_of (trees.span_of (tree whole.now)) values.now) result }
 {
     let mut key = Some(Tuple::new());

@@ -5,16 +5,17 @@ ghost use Rattle.net_tree.specs.Spans as trees;
 ghost use Rattle.net_tree.specs.View.{tree};
 ghost use Rattle.net_eval.specs.Limits.{is_small};
 ghost use Rattle.net_eval.specs.Numbers as numbers;
-ghost use Rattle.net_eval.specs.Outcomes.{Answers, Outcome, and_then, Decides};
+ghost use Rattle.net_fault.specs.Outcomes.{Answers, Outcome, and_then, Decides};
 ghost use Rattle.net_eval.specs.declared.value.Value.{Value as Found};
 
-use crate::fault::{EvalDefect, EvalFault, refuse_tree};
+use crate::fault::refuse_tree;
 use crate::number::number_of;
 use crate::set::made;
 use crate::value::Value;
-use net_lex::Items;
+use net_fault::{Defect, Fault};
 use net_sets::Range;
 use net_tree::Expr;
+use net_views::Items;
 use std::alloc::Global;
 
 /// The greatest size of a number.
@@ -35,7 +36,7 @@ fn range_within<'w, 's>(
     first: &i64,
     last: &i64,
     by: &i64,
-) -> Result<Value<'w, 's>, EvalFault>
+) -> Result<Value<'w, 's>, Fault>
     requires small { IsTrue (numbers.are_small first.now last.now by.now) }
     requires moves { int_lt by.now (pos 1) ≡ false }
     ensures { Answers (numbers.range_within (trees.span_of (tree whole.now)) first.now last.now by.now) result }
@@ -61,25 +62,25 @@ fn are_small(first: &i64, last: &i64, by: &i64) -> bool
 }
 
 /// The step is at least 1.
-fn check_step(whole: &Expr<'_>, by: &i64) -> Result<(), EvalFault>
+fn check_step(whole: &Expr<'_>, by: &i64) -> Result<(), Fault>
     ensures value { Decides (numbers.step (trees.span_of (tree whole.now)) by.now) result }
     ensures moves { OnOk result (int_lt by.now (pos 1) ≡ false) }
 {
     if *by < 1 {
-        Err(refuse_tree(EvalDefect::DivMod, whole))
+        Err(refuse_tree(Defect::DivMod, whole))
     } else {
         Ok(())
     }
 }
 
-fn check_size(whole: &Expr<'_>, first: &i64, last: &i64, by: &i64) -> Result<(), EvalFault>
+fn check_size(whole: &Expr<'_>, first: &i64, last: &i64, by: &i64) -> Result<(), Fault>
     ensures value { Decides (numbers.size (trees.span_of (tree whole.now)) first.now last.now by.now) result }
     ensures small { OnOk result (IsTrue (numbers.are_small first.now last.now by.now)) }
 {
     if are_small(first, last, by) {
         Ok(())
     } else {
-        Err(refuse_tree(EvalDefect::TooLarge, whole))
+        Err(refuse_tree(Defect::ValueTooLarge, whole))
     }
 }
 
@@ -89,7 +90,7 @@ fn range<'w, 's>(
     first: &i64,
     last: &i64,
     by: &i64,
-) -> Result<Value<'w, 's>, EvalFault>
+) -> Result<Value<'w, 's>, Fault>
     ensures { Answers (numbers.range (trees.span_of (tree whole.now)) first.now last.now by.now) result }
 {
     check_step(whole, by)?;
@@ -102,7 +103,7 @@ fn range_of_two<'w, 's>(
     whole: &Expr<'_>,
     x: &Value<'_, 's>,
     y: &Value<'_, 's>,
-) -> Result<Value<'w, 's>, EvalFault>
+) -> Result<Value<'w, 's>, Fault>
     ensures { Answers (numbers.range_of (trees.span_of (tree whole.now)) (x.now ∷ y.now ∷ [])) result }
 {
     let first = number_of(whole, x)?;
@@ -116,7 +117,7 @@ fn range_of_three<'w, 's>(
     x: &Value<'_, 's>,
     y: &Value<'_, 's>,
     z: &Value<'_, 's>,
-) -> Result<Value<'w, 's>, EvalFault>
+) -> Result<Value<'w, 's>, Fault>
     ensures { Answers (numbers.range_of (trees.span_of (tree whole.now)) (x.now ∷ y.now ∷ z.now ∷ [])) result }
 {
     let first = number_of(whole, x)?;
@@ -129,14 +130,14 @@ fn range_between<'w, 's>(
     alloc: Global,
     whole: &Expr<'_>,
     values: &[Value<'_, 's>],
-) -> Result<Value<'w, 's>, EvalFault>
+) -> Result<Value<'w, 's>, Fault>
     ensures { Answers (numbers.range_of (trees.span_of (tree whole.now)) values.now) result }
 {
     match values {
         [x, y] => range_of_two(alloc, whole, x, y),
         [x, y, z] => range_of_three(alloc, whole, x, y, z),
-        [] | [_] => Err(refuse_tree(EvalDefect::KindMismatch, whole)),
-        [_, _, _, _, ..] => Err(refuse_tree(EvalDefect::KindMismatch, whole)),
+        [] | [_] => Err(refuse_tree(Defect::KindMismatch, whole)),
+        [_, _, _, _, ..] => Err(refuse_tree(Defect::KindMismatch, whole)),
     }
 }
 
@@ -144,8 +145,8 @@ fn range_between<'w, 's>(
 pub(crate) fn range_of<'w, 's>(
     alloc: Global,
     whole: &Expr<'_>,
-    values: Result<Items<Value<'_, 's>>, EvalFault>,
-) -> Result<Value<'w, 's>, EvalFault>
+    values: Result<Items<Value<'_, 's>>, Fault>,
+) -> Result<Value<'w, 's>, Fault>
     ensures { (wanted : Outcome (List Found)) → Answers wanted values.entry → Answers (and_then wanted (numbers.range_of (trees.span_of (tree whole.now)))) result }
 {
     let values = values?;

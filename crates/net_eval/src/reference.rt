@@ -4,12 +4,12 @@ ghost use Rattle.std.specs.Prelude.{◌≡◌, ◌++◌, OnOk, IfOk};
 ghost use Rattle.std.specs.Fmt.{signed_decimal};
 ghost use Rattle.net_eval.specs.References as texts;
 ghost use Rattle.net_eval.specs.Worlds as worlds;
-ghost use Rattle.net_eval.specs.declared.fault.Detail.TheVariants.{Told};
+ghost use Rattle.net_fault.specs.declared.detail.Detail.TheVariants.{Told};
 
-use crate::fault::Detail;
 use itoa::Buffer;
-use net_lex::{Excerpt, Items};
+use net_fault::Detail;
 use net_sets::{Member, Text, Tuple};
+use net_views::{Excerpt, Items};
 use std::alloc::{AllocError, Global};
 
 /// Appends bytes with each single quote doubled.
@@ -109,15 +109,6 @@ pub fn append_reference(
         out.push(b']')?;
     }
     Ok(())
-}
-
-/// A name, as faults tell it.
-pub fn told_name(alloc: Global, name: &Excerpt<'_>) -> Result<Detail, AllocError>
-    ensures { IfOk result (λ d. d ≡ Told name.now) }
-{
-    let mut text = Vec::new(alloc);
-    text.extend_from_slice(name.as_str().as_bytes())?;
-    Ok(Detail::Told(Items::new(text)))
 }
 
 /// A parameter, a node or an arc, as faults tell it: where it is indexed, with its key.

@@ -5,15 +5,16 @@ ghost use Rattle.net_tree.specs.Spans as trees;
 ghost use Rattle.net_tree.specs.View.{tree};
 ghost use Rattle.net_eval.specs.Operators as operators;
 ghost use Rattle.net_eval.specs.Rows as rows;
-ghost use Rattle.net_eval.specs.Outcomes.{Answers, Leaves, Outcome, and_then, Decides};
+ghost use Rattle.net_fault.specs.Outcomes.{Answers, Leaves, Outcome, and_then, Decides};
 ghost use Rattle.net_eval.specs.declared.value.Value.{Value as Found};
 
-use crate::fault::{EvalDefect, EvalFault, refuse, refuse_tree};
+use crate::fault::refuse_tree;
 use crate::scope::Scope;
 use crate::value::Value;
-use net_lex::{Excerpt, Items, Span};
+use net_fault::{Defect, Fault, Span};
 use net_sets::{Member, Tuple};
 use net_tree::Expr;
+use net_views::{Excerpt, Items};
 use std::alloc::{AllocError, Global};
 
 /// Where a walk over braces stands. Dropping it is one call, as walks carry it past many places where they may stop.
@@ -61,10 +62,10 @@ pub struct Keys<'s> {
 /// A row at which the condition holds stands behind those found before.
 pub(crate) fn keep_if<'s>(
     alloc: Global,
-    holds: Result<bool, EvalFault>,
+    holds: Result<bool, Fault>,
     row: &Row<'s>,
     found: &mut Vec<Row<'s>>,
-) -> Result<(), EvalFault>
+) -> Result<(), Fault>
     ensures { (wanted : Outcome Bool) → Answers wanted holds → Leaves (and_then wanted (λ b. Ok (rows.keep row.now found.old.items b))) result found.new.items }
 {
     let holds = holds?;
@@ -85,7 +86,7 @@ pub(crate) fn as_keys<'s>(width: u8, found: Items<Row<'s>>) -> Keys<'s>
 }
 
 /// The place before the first item.
-pub(crate) fn start<'s>(alloc: Global, scope: &Scope<'s>) -> Result<Place<'s>, EvalFault>
+pub(crate) fn start<'s>(alloc: Global, scope: &Scope<'s>) -> Result<Place<'s>, Fault>
     ensures { Answers (Ok (rows.start scope.now)) result }
 {
     Ok(Place {
@@ -153,7 +154,7 @@ impl<'s> Place<'s> {
         self,
         name: &Excerpt<'s>,
         member: &Member<'s>,
-    ) -> Result<Option<Place<'s>>, EvalFault>
+    ) -> Result<Option<Place<'s>>, Fault>
         ensures { Answers (Ok (Some (rows.bind name.now member.now self.entry))) result }
     {
         let Place { scope, key } = self;
@@ -163,19 +164,19 @@ impl<'s> Place<'s> {
     }
 
     /// Adds a key that is complete.
-    pub(crate) fn finish(self, at: Span, found: &mut Vec<Row<'s>>) -> Result<(), EvalFault>
+    pub(crate) fn finish(self, at: Span, found: &mut Vec<Row<'s>>) -> Result<(), Fault>
         ensures { Leaves (rows.finished at self.entry found.old.items) result found.new.items }
     {
         let Place { scope, key } = self;
         match key {
-            None => Err(refuse(EvalDefect::Arity, at)),
+            None => Err(Fault::of_model(Defect::Arity, at)),
             Some(key) => add_row(at, scope, key, found),
         }
     }
 }
 
 /// The same place.
-pub(crate) fn stay<'s>(alloc: Global, place: &Place<'s>) -> Result<Option<Place<'s>>, EvalFault>
+pub(crate) fn stay<'s>(alloc: Global, place: &Place<'s>) -> Result<Option<Place<'s>>, Fault>
     ensures { Answers (Ok (Some place.now)) result }
 {
     Ok(Some(place.again(alloc)?))
@@ -186,7 +187,7 @@ pub(crate) fn with_key<'s>(
     alloc: Global,
     tuple: &Tuple<'s>,
     place: &Place<'s>,
-) -> Result<Option<Place<'s>>, EvalFault>
+) -> Result<Option<Place<'s>>, Fault>
     ensures { Answers (Ok (Some (rows.with_key tuple.now place.now))) result }
 {
     let scope = place.scope.again(alloc)?;
@@ -200,13 +201,13 @@ fn agrees_with<'s>(
     member: &Member<'s>,
     place: Place<'s>,
     value: &Value<'_, 's>,
-) -> Result<Option<Place<'s>>, EvalFault>
+) -> Result<Option<Place<'s>>, Fault>
     ensures { Decides (rows.agrees (trees.span_of (tree whole.now)) member.now place.entry value.now) result }
 {
     match value {
         Value::One(found) if *found == *member => Ok(Some(place)),
         Value::One(_) => Ok(None),
-        _ => Err(refuse_tree(EvalDefect::KindMismatch, whole)),
+        _ => Err(refuse_tree(Defect::KindMismatch, whole)),
     }
 }
 
@@ -215,8 +216,8 @@ pub(crate) fn agrees<'s>(
     whole: &Expr<'_>,
     member: &Member<'s>,
     place: Place<'s>,
-    value: Result<Value<'_, 's>, EvalFault>,
-) -> Result<Option<Place<'s>>, EvalFault>
+    value: Result<Value<'_, 's>, Fault>,
+) -> Result<Option<Place<'s>>, Fault>
     ensures { (wanted : Outcome Found) → Answers wanted value.entry → Answers (and_then wanted (rows.agrees (trees.span_of (tree whole.now)) member.now place.entry)) result }
 {
     match value {
@@ -231,7 +232,7 @@ fn agrees_whole<'s>(
     tuple: &Tuple<'s>,
     place: &Place<'s>,
     found: &Tuple<'s>,
-) -> Result<Option<Place<'s>>, EvalFault>
+) -> Result<Option<Place<'s>>, Fault>
     ensures { Answers (rows.agrees_whole (trees.span_of (tree whole.now)) tuple.now place.now found.now) result }
 {
     if found.len() == tuple.len() {
@@ -241,7 +242,7 @@ fn agrees_whole<'s>(
             Ok(None)
         }
     } else {
-        Err(refuse_tree(EvalDefect::Arity, whole))
+        Err(refuse_tree(Defect::Arity, whole))
     }
 }
 
@@ -252,7 +253,7 @@ fn agrees_with_tuple<'s>(
     tuple: &Tuple<'s>,
     place: &Place<'s>,
     value: &Value<'_, 's>,
-) -> Result<Option<Place<'s>>, EvalFault>
+) -> Result<Option<Place<'s>>, Fault>
     ensures { Answers (rows.agrees_as (trees.span_of (tree whole.now)) tuple.now place.now value.now) result }
 {
     match value {
@@ -260,7 +261,7 @@ fn agrees_with_tuple<'s>(
             agrees_whole(alloc, whole, tuple, place, &Tuple::single(found.again()))
         }
         Value::Several(found) => agrees_whole(alloc, whole, tuple, place, found),
-        _ => Err(refuse_tree(EvalDefect::KindMismatch, whole)),
+        _ => Err(refuse_tree(Defect::KindMismatch, whole)),
     }
 }
 
@@ -270,8 +271,8 @@ pub(crate) fn agrees_as<'s>(
     whole: &Expr<'_>,
     tuple: &Tuple<'s>,
     place: &Place<'s>,
-    value: Result<Value<'_, 's>, EvalFault>,
-) -> Result<Option<Place<'s>>, EvalFault>
+    value: Result<Value<'_, 's>, Fault>,
+) -> Result<Option<Place<'s>>, Fault>
     ensures { (wanted : Outcome Found) → Answers wanted value.entry → Answers (and_then wanted (rows.agrees_as (trees.span_of (tree whole.now)) tuple.now place.now)) result }
 {
     match value {
@@ -286,7 +287,7 @@ pub(crate) fn bind_first<'s>(
     name: &Excerpt<'s>,
     members: &[Member<'s>],
     place: &Place<'s>,
-) -> Result<Option<Place<'s>>, EvalFault>
+) -> Result<Option<Place<'s>>, Fault>
     ensures { Answers (rows.bound_first name.now members.now place.now) result }
 {
     match members {
@@ -309,7 +310,7 @@ fn add_row<'s>(
     scope: Scope<'s>,
     key: Tuple<'s>,
     found: &mut Vec<Row<'s>>,
-) -> Result<(), EvalFault>
+) -> Result<(), Fault>
     ensures { Leaves (rows.add_row at scope.entry key.entry found.old.items) result found.new.items }
 {
     if is_alike(&key, found.as_slice()) {
@@ -317,9 +318,9 @@ fn add_row<'s>(
             found.push(Row { key, scope })?;
             Ok(())
         } else {
-            Err(refuse(EvalDefect::TooMany, at))
+            Err(Fault::of_model(Defect::TooMany, at))
         }
     } else {
-        Err(refuse(EvalDefect::Arity, at))
+        Err(Fault::of_model(Defect::Arity, at))
     }
 }

@@ -2,8 +2,8 @@ ghost use Rattle.std.specs.Prelude.{◌≡◌, ◌∷◌, ◌++◌, [], IfOk};
 ghost use Rattle.std.specs.Option.{option_copied};
 ghost use Rattle.net_eval.specs.Worlds.{bound, with_dummy};
 
-use net_lex::{Excerpt, Items};
 use net_sets::Member;
+use net_views::{Excerpt, Items};
 use std::alloc::{AllocError, Global};
 use std::marker::Model;
 

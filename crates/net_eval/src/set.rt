@@ -5,16 +5,17 @@ ghost use Rattle.net_sets.specs.Limits.{tuples_limit};
 ghost use Rattle.net_sets.specs.Made.{IsMade, IsCrossed};
 ghost use Rattle.net_sets.specs.Operations as set_operations;
 ghost use Rattle.net_sets.specs.Sets.{Tuple as Members};
-ghost use Rattle.net_lex.specs.declared.span.Span.{Span as Place};
+ghost use Rattle.net_fault.specs.declared.span.Span.{Span as Place};
 ghost use Rattle.net_tree.specs.Spans as trees;
 ghost use Rattle.net_tree.specs.View.{tree};
 ghost use Rattle.net_eval.specs.Operators as operators;
-ghost use Rattle.net_eval.specs.Outcomes.{Answers, Decides};
+ghost use Rattle.net_fault.specs.Outcomes.{Answers, Decides};
 ghost use Rattle.net_eval.specs.Sets as sets;
 
-use crate::fault::{EvalDefect, EvalFault, refuse_tree};
+use crate::fault::refuse_tree;
 use crate::operation::Operation;
 use crate::value::Value;
+use net_fault::{Defect, Fault};
 use net_sets::{
     Held, SetFault, Tuple, TupleSet, cross, difference, intersection, is_within,
     symmetric_difference, union, widest,
@@ -71,13 +72,13 @@ pub(crate) fn made<'w, 's>(
     whole: &Expr<'_>,
     dimension: u8,
     set: Result<TupleSet<'s>, SetFault>,
-) -> Result<Value<'w, 's>, EvalFault>
+) -> Result<Value<'w, 's>, Fault>
     ensures { (wanted : List Members) → IsMade wanted set.entry → Answers (sets.within_size (trees.span_of (tree whole.now)) dimension wanted) result }
 {
     match set {
         Ok(set) => Ok(set_value(dimension, set)),
-        Err(SetFault::TooMany) => Err(refuse_tree(EvalDefect::TooMany, whole)),
-        Err(SetFault::OutOfMemory) => Err(EvalFault::OutOfMemory),
+        Err(SetFault::TooMany) => Err(refuse_tree(Defect::TooMany, whole)),
+        Err(SetFault::OutOfMemory) => Err(Fault::OutOfMemory),
     }
 }
 
@@ -114,11 +115,11 @@ fn set_of<'w, 's>(
     dimension: Option<u8>,
     first: &TupleSet<'s>,
     second: &TupleSet<'s>,
-) -> Result<Value<'w, 's>, EvalFault>
+) -> Result<Value<'w, 's>, Fault>
     ensures { Answers (sets.set_of (trees.span_of (tree whole.now)) dimension (sets.mixed operation first.now second.now)) result }
 {
     match dimension {
-        None => Err(refuse_tree(EvalDefect::Arity, whole)),
+        None => Err(refuse_tree(Defect::Arity, whole)),
         Some(dimension) => made(whole, dimension, mixed(alloc, operation, first, second)),
     }
 }
@@ -130,7 +131,7 @@ pub(crate) fn of_sets<'w, 's>(
     whole: &Expr<'_>,
     x: &Value<'_, 's>,
     y: &Value<'_, 's>,
-) -> Result<Value<'w, 's>, EvalFault>
+) -> Result<Value<'w, 's>, Fault>
     ensures { Answers (operators.of_sets (trees.span_of (tree whole.now)) (sets.mixed operation) x.now y.now) result }
 {
     match (x, y) {
@@ -144,7 +145,7 @@ pub(crate) fn of_sets<'w, 's>(
                 second.get(),
             )
         }
-        _ => Err(refuse_tree(EvalDefect::KindMismatch, whole)),
+        _ => Err(refuse_tree(Defect::KindMismatch, whole)),
     }
 }
 
@@ -155,18 +156,18 @@ fn crossed<'w, 's>(
     first: &TupleSet<'s>,
     e: Option<u8>,
     second: &TupleSet<'s>,
-) -> Result<Value<'w, 's>, EvalFault>
+) -> Result<Value<'w, 's>, Fault>
     ensures { Answers (sets.cross (trees.span_of (tree whole.now)) d first.now e second.now) result }
 {
     let size = counted(d) + counted(e);
     if size <= 4 && widest(first) + widest(second) <= 4 {
         match cross(alloc, first, second) {
             Ok(set) => Ok(Value::Many(Some(size as u8), Held::own(set))),
-            Err(SetFault::TooMany) => Err(refuse_tree(EvalDefect::TooMany, whole)),
-            Err(SetFault::OutOfMemory) => Err(EvalFault::OutOfMemory),
+            Err(SetFault::TooMany) => Err(refuse_tree(Defect::TooMany, whole)),
+            Err(SetFault::OutOfMemory) => Err(Fault::OutOfMemory),
         }
     } else {
-        Err(refuse_tree(EvalDefect::Arity, whole))
+        Err(refuse_tree(Defect::Arity, whole))
     }
 }
 
@@ -175,14 +176,14 @@ pub(crate) fn cross_values<'w, 's>(
     whole: &Expr<'_>,
     x: &Value<'_, 's>,
     y: &Value<'_, 's>,
-) -> Result<Value<'w, 's>, EvalFault>
+) -> Result<Value<'w, 's>, Fault>
     ensures { Answers (operators.crossed (trees.span_of (tree whole.now)) x.now y.now) result }
 {
     match (x, y) {
         (Value::Many(d, first), Value::Many(e, second)) => {
             crossed(alloc, whole, *d, first.get(), *e, second.get())
         }
-        _ => Err(refuse_tree(EvalDefect::KindMismatch, whole)),
+        _ => Err(refuse_tree(Defect::KindMismatch, whole)),
     }
 }
 
@@ -191,13 +192,13 @@ fn among<'s>(
     tuple: &Tuple<'s>,
     dimension: Option<u8>,
     set: &TupleSet<'s>,
-) -> Result<bool, EvalFault>
+) -> Result<bool, Fault>
     ensures { Decides (sets.among (trees.span_of (tree whole.now)) tuple.now dimension set.now) result }
 {
     if fits(dimension, tuple.len()) {
         Ok(set.contains(tuple))
     } else {
-        Err(refuse_tree(EvalDefect::Arity, whole))
+        Err(refuse_tree(Defect::Arity, whole))
     }
 }
 
@@ -206,7 +207,7 @@ pub(crate) fn belongs<'s>(
     whole: &Expr<'_>,
     x: &Value<'_, 's>,
     y: &Value<'_, 's>,
-) -> Result<bool, EvalFault>
+) -> Result<bool, Fault>
     ensures { Answers (operators.belongs (trees.span_of (tree whole.now)) x.now y.now) result }
 {
     match (x, y) {
@@ -216,7 +217,7 @@ pub(crate) fn belongs<'s>(
         (Value::Several(tuple), Value::Many(dimension, set)) => {
             among(whole, tuple, *dimension, set.get())
         }
-        _ => Err(refuse_tree(EvalDefect::KindMismatch, whole)),
+        _ => Err(refuse_tree(Defect::KindMismatch, whole)),
     }
 }
 
@@ -225,11 +226,11 @@ fn inside<'s>(
     dimension: Option<u8>,
     first: &TupleSet<'s>,
     second: &TupleSet<'s>,
-) -> Result<bool, EvalFault>
+) -> Result<bool, Fault>
     ensures { Decides (sets.inside (trees.span_of (tree whole.now)) dimension first.now second.now) result }
 {
     match dimension {
-        None => Err(refuse_tree(EvalDefect::Arity, whole)),
+        None => Err(refuse_tree(Defect::Arity, whole)),
         Some(_) => Ok(is_within(first, second)),
     }
 }
@@ -239,14 +240,14 @@ pub(crate) fn contained<'s>(
     whole: &Expr<'_>,
     x: &Value<'_, 's>,
     y: &Value<'_, 's>,
-) -> Result<bool, EvalFault>
+) -> Result<bool, Fault>
     ensures { Answers (operators.contained (trees.span_of (tree whole.now)) x.now y.now) result }
 {
     match (x, y) {
         (Value::Many(d, first), Value::Many(e, second)) => {
             inside(whole, shared(*d, *e), first.get(), second.get())
         }
-        _ => Err(refuse_tree(EvalDefect::KindMismatch, whole)),
+        _ => Err(refuse_tree(Defect::KindMismatch, whole)),
     }
 }
 

@@ -5,20 +5,20 @@ ghost use Rattle.std.specs.Option.{option_copied, option_map};
 ghost use Rattle.net_tree.specs.View.{tree, braces_of, links_of};
 ghost use Rattle.net_eval.specs.Items as items;
 ghost use Rattle.net_eval.specs.Operations.{operation};
-ghost use Rattle.net_eval.specs.Outcomes.{Answers, Decides};
+ghost use Rattle.net_fault.specs.Outcomes.{Answers, Decides};
 ghost use Rattle.net_eval.specs.Rows as rows;
 ghost use Rattle.net_eval.specs.Sets.{counted};
 ghost use Rattle.net_eval.specs.Widths as widths;
 
-use crate::fault::{EvalDefect, EvalFault, refuse};
 use crate::item::{any_in, bare, has_in, links_len, new_dummy, sides_of};
 use crate::operation::{Operation, operation_of};
 use crate::row::Row;
 use crate::scope::Scope;
 use crate::world::{Entry, Seen};
-use net_lex::{Excerpt, Span};
+use net_fault::{Defect, Fault, Span};
 use net_sets::Member;
 use net_tree::{Braces, Expr, Link};
+use net_views::Excerpt;
 use std::alloc::{AllocError, Global};
 
 /// What items tell by their form: the dummies in scope, the number of members of the keys, and whether all are sets.
@@ -353,17 +353,17 @@ fn with_item<'s>(
     }
 }
 
-fn width_of_form(at: Span, form: &Form<'_>) -> Result<u8, EvalFault>
+fn width_of_form(at: Span, form: &Form<'_>) -> Result<u8, Fault>
     ensures { Decides (widths.width_of_form at form.now) result }
 {
     if form.indexes {
         if form.count <= 4 {
             Ok(form.count)
         } else {
-            Err(refuse(EvalDefect::Arity, at))
+            Err(Fault::of_model(Defect::Arity, at))
         }
     } else {
-        Err(refuse(EvalDefect::KindMismatch, at))
+        Err(Fault::of_model(Defect::KindMismatch, at))
     }
 }
 
@@ -374,7 +374,7 @@ fn width_by_form<'s>(
     scope: &Scope<'s>,
     item: &Expr<'s>,
     more: &[Link<'s>],
-) -> Result<u8, EvalFault>
+) -> Result<u8, Fault>
     ensures { Answers (widths.width_by_form at seen.now scope.now (tree item.now) (links_of more.now)) result }
 {
     let form = items_form(alloc, seen, scope, item, more)?;
@@ -390,7 +390,7 @@ pub(crate) fn width<'s>(
     item: &Expr<'s>,
     more: &[Link<'s>],
     found: &[Row<'s>],
-) -> Result<u8, EvalFault>
+) -> Result<u8, Fault>
     ensures { Answers (rows.width_of found.now (widths.width_by_form at seen.now scope.now (tree item.now) (links_of more.now))) result }
 {
     match found {

@@ -4,8 +4,8 @@ ghost use Rattle.std.specs.Option.{option_copied};
 ghost use Rattle.net_eval.specs.Worlds.{entry_of, place_behind};
 ghost use Rattle.net_eval.specs.Kept.{told, IsKept};
 
-use net_lex::Excerpt;
 use net_sets::{IndexedSet, SharedSet, Table};
+use net_views::Excerpt;
 use std::alloc::{AllocError, Global};
 use std::collections::BTreeMap;
 use std::marker::Model;

@@ -1,16 +1,16 @@
 -- Whichever objective is chosen, the declarations come to the same nodes and arcs.
 use Rattle.std.specs.Prelude.{◌≡◌, ◌+◌, ℕ, suc, Bool, true, false, List, [], ◌∷◌, ◌++◌, length, map, take, nat_lt, Option, None, Some, if◌then◌else◌, Ok}
 use Rattle.std.proofs.Common.{refl, ap, sym, ◌∙◌, subst}
-use Rattle.net_lex.specs.declared.span.Span.{Span}
+use Rattle.net_fault.specs.declared.span.Span.{Span}
 use Rattle.net_lex.specs.declared.token.Token.{Token}
 use Rattle.net_tree.specs.Tree.{Braces, Phrase, Part, Declaration, set, param, check, node, arc, objective}
 use Rattle.net_normal.specs.Limits.{arc_limit}
 use Rattle.net_eval.specs.declared.row.Row.{Row}
 use Rattle.net_eval.specs.Worlds.{Name, World}
-use Rattle.net_forms.specs.Forms.{Products}
-use Rattle.net_forms.specs.Forms as forms
+use Rattle.net_linear.specs.Forms.{Products}
+use Rattle.net_linear.specs.Forms as forms
 use Rattle.net_inst.specs.declared.arc.Drawn.{Drawn}
-use Rattle.net_inst.specs.declared.fault.InstDefect.TheVariants.{TooManyArcs}
+use Rattle.net_fault.specs.declared.defect.Defect.TheVariants.{TooManyArcs}
 use Rattle.net_inst.specs.declared.goal.Goal.{Goal}
 use Rattle.net_inst.specs.declared.group.Group.{Group}
 use Rattle.net_inst.specs.declared.indexing.Indexing.{Indexing}
@@ -21,7 +21,8 @@ use Rattle.net_inst.specs.Indexings.{indexing_in}
 use Rattle.net_inst.specs.Instances.{Network, with_coefficients, network_of, without_goal, finished, end_of, point, network}
 use Rattle.net_inst.specs.Laws.{shape_of, AreOneNetwork}
 use Rattle.net_inst.specs.Nodes.{DrawnNodes, with_nodes}
-use Rattle.net_inst.specs.Outcomes.{Outcome, and_then, refused_name}
+use Rattle.net_fault.specs.Outcomes.{Outcome, and_then}
+use Rattle.net_inst.specs.Refusals.{refused_name}
 use Rattle.net_inst.specs.Phrases.{Parts, parts_of}
 use Rattle.net_inst.proofs.Zips.{ok_then, ok_is}
 

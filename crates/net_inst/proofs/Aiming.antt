@@ -8,7 +8,7 @@ use Rattle.std.proofs.lemmas.List.{length-map}
 use Rattle.net_lex.specs.declared.token.Token.{Token}
 use Rattle.net_tree.specs.Tree.{Declaration, set, param, check, node, arc, objective}
 use Rattle.net_eval.specs.Worlds.{Name, World}
-use Rattle.net_forms.specs.Forms.{Linear, form_at, all_apart}
+use Rattle.net_linear.specs.Forms.{Linear, form_at, all_apart}
 use Rattle.net_inst.specs.declared.goal.Goal.{Goal}
 use Rattle.net_inst.specs.Arcs.{with_arcs}
 use Rattle.net_inst.specs.AsWritten.{Arc, arcs_of, nodes, arcs, known_behind, in_order, arc_declared, same_label, Assignment, number_on, numbers_on}

@@ -1,27 +1,27 @@
 -- In the forms of objectives no arc stands twice.
 use Rattle.std.specs.Prelude.{◌≡◌, ℕ, Bool, true, false, not, ◌&&◌, ◌||◌, List, [], ◌∷◌, Option, None, Some, if◌then◌else◌, Ok, Err, ℤ, pos, int_div, int_rem}
 use Rattle.std.proofs.Common.{refl, ap, sym, ◌∙◌, subst}
-use Rattle.net_lex.specs.declared.span.Span.{Span}
+use Rattle.net_fault.specs.declared.span.Span.{Span}
 use Rattle.net_sets.specs.Sets.{Tuple}
 use Rattle.net_tree.specs.Spans.{span_of}
 use Rattle.net_tree.specs.Tree.{Tree, Links, Part, leaf, indexed, parens, tuple, negated, braced, signed, reduced, chain, choice, net, none, link, absent, part}
 use Rattle.net_eval.specs.declared.row.Row.{Row}
-use Rattle.net_eval.specs.declared.fault.EvalDefect.TheVariants.{TooLarge}
+use Rattle.net_fault.specs.declared.defect.Defect.TheVariants.{ValueTooLarge, NotLinear}
 use Rattle.net_eval.specs.Limits.{is_small}
 use Rattle.net_eval.specs.Numbers.{divides}
 use Rattle.net_eval.specs.Operations.{reduction, is_minus}
 use Rattle.net_eval.specs.Values.{index}
 use Rattle.net_eval.specs.Worlds.{Name, World, Scope}
-use Rattle.net_forms.specs.declared.fault.FormDefect.TheVariants.{Value, NotLinear}
-use Rattle.net_forms.specs.declared.joint.Joint.{Joint}
-use Rattle.net_forms.specs.declared.joint.Joint.TheVariants.{Plus, Minus, Times, Div, Mod, Other}
-use Rattle.net_forms.specs.Arcs.{Arcs, declared, is_arc, arc_at}
-use Rattle.net_forms.specs.Forms.{Linear, Term, all_apart, just, one_arc, combined, is_number, is_sized, within, sized, minus_one, divided, joined, join, turn, gathered, gathered_over, total, as_form, or_too_large, priced}
-use Rattle.net_forms.specs.Joints.{joint}
-use Rattle.net_forms.specs.Objectives.{names_arc, any_arc, braces_arc, is_sum, is_linear, key_of, condition, plain_term, mixed, linear, arc_term, objective, otherwise, chained, objective_form}
-use Rattle.net_forms.specs.Outcomes.{Outcome, and_then, refused, from_values, number_or_none}
-use Rattle.net_forms.proofs.Coefficients.{apart_with}
-use Rattle.net_forms.proofs.Ranges.{ok_then}
+use Rattle.net_linear.specs.declared.joint.Joint.{Joint}
+use Rattle.net_linear.specs.declared.joint.Joint.TheVariants.{Plus, Minus, Times, Div, Mod, Other}
+use Rattle.net_linear.specs.Arcs.{Arcs, declared, is_arc, arc_at}
+use Rattle.net_linear.specs.Forms.{Linear, Term, all_apart, just, one_arc, combined, is_number, is_sized, within, sized, minus_one, divided, joined, join, turn, gathered, gathered_over, total, as_form, or_too_large, priced}
+use Rattle.net_linear.specs.Joints.{joint}
+use Rattle.net_linear.specs.Objectives.{names_arc, any_arc, braces_arc, is_sum, is_linear, key_of, condition, plain_term, mixed, linear, arc_term, objective, otherwise, chained, objective_form}
+use Rattle.net_fault.specs.Outcomes.{Outcome, and_then, refused}
+use Rattle.net_linear.specs.Amounts.{number_or_none}
+use Rattle.net_linear.proofs.Coefficients.{apart_with}
+use Rattle.net_linear.proofs.Ranges.{ok_then}
 
 abbrev pub IsApart : Term → Type 0
 IsApart None = Unit {0}
@@ -116,7 +116,7 @@ mutual
   apart a w s (reduced r b x) =
       apart_mixed w s (reduced r b x) (names_arc a (reduced r b x)) _
       (apart_linear (span_of (reduced r b x)) (is_sum (reduction r) && not (braces_arc a b)) _
-      (comes_then (from_values (index w s b)) (λ k. total (span_of (reduced r b x)) (λ row. objective a w row.scope x) k.rows) (λ k e. apart_total (span_of (reduced r b x)) (λ row. objective a w row.scope x) k.rows)))
+      (comes_then (index w s b) (λ k. total (span_of (reduced r b x)) (λ row. objective a w row.scope x) k.rows) (λ k e. apart_total (span_of (reduced r b x)) (λ row. objective a w row.scope x) k.rows)))
   apart a w s (chain n x l) =
       apart_mixed w s (chain n x l) (names_arc a (chain n x l)) _
       (apart_linear (span_of (chain n x l)) (is_linear a x l) _
@@ -147,7 +147,7 @@ objective_apart a w s t f e = ok_then (objective a w s t) (as_form (span_of t)) 
 pub price_apart : (at : Span) (f : Linear) (arc : ℕ) (price : ℤ) (r : Linear) → all_apart f.products ≡ true → priced at f arc price ≡ Ok r → all_apart r.products ≡ true
 price_apart at f arc price r h e = go (is_small price) (is_sized (combined f price (one_arc arc))) e
   where
-    go : (b c : Bool) → (if b then or_too_large at (if c then Some (combined f price (one_arc arc)) else None) else refused (Value TooLarge) at) ≡ Ok r → all_apart r.products ≡ true
+    go : (b c : Bool) → (if b then or_too_large at (if c then Some (combined f price (one_arc arc)) else None) else refused ValueTooLarge at) ≡ Ok r → all_apart r.products ≡ true
     go true true e =
         let same : combined f price (one_arc arc) ≡ r = cc in
         ap (λ (z : Linear). all_apart z.products) (sym same) ∙ apart_with f.products price (one_arc arc).products h

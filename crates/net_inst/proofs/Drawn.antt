@@ -1,7 +1,7 @@
 -- What is drawn so far is what is written so far.
 use Rattle.std.specs.Prelude.{◌≡◌, ℕ, Bool, true, false, List, [], ◌∷◌, ◌++◌, length, map, nat_lt, Option, is_some, if◌then◌else◌, Ok, Err}
 use Rattle.std.specs.List.{AllZip, IsDistinct}
-use Rattle.std.proofs.Common.{refl, ap, sym, ◌∙◌, subst, append_assoc, append-nil}
+use Rattle.std.proofs.Common.{None, Some, refl, ap, sym, ◌∙◌, subst, append_assoc, append-nil}
 use Rattle.std.proofs.lemmas.List.{length-map}
 use Rattle.net_lex.specs.declared.token.Token.{Token}
 use Rattle.net_sets.specs.declared.member.Member.TheVariants.{Number}
@@ -11,11 +11,10 @@ use Rattle.net_eval.specs.declared.row.Row.{Row}
 use Rattle.net_eval.specs.declared.value.Value.TheVariants.{One}
 use Rattle.net_eval.specs.Values.{value}
 use Rattle.net_eval.specs.Worlds.{World, reference}
-use Rattle.net_forms.specs.declared.condition.Sides.{Sides}
-use Rattle.net_forms.specs.Conditions.{range_in}
-use Rattle.net_forms.specs.Outcomes as forms
+use Rattle.net_linear.specs.declared.condition.Sides.{Sides}
+use Rattle.net_linear.specs.Conditions.{range_in}
 use Rattle.net_inst.specs.declared.arc.Drawn.{Drawn}
-use Rattle.net_inst.specs.declared.fault.InstDefect.TheVariants.{TooManyNodes}
+use Rattle.net_fault.specs.declared.defect.Defect.TheVariants.{TooManyNodes}
 use Rattle.net_inst.specs.declared.goal.Goal.{Goal}
 use Rattle.net_inst.specs.declared.group.Group.{Group}
 use Rattle.net_inst.specs.declared.indexing.Indexing.{Indexing}
@@ -25,8 +24,9 @@ use Rattle.net_inst.specs.AsWritten.{Label, Node, Arc, rows_of, label_at, node_a
 use Rattle.net_inst.specs.Groups.{group_with}
 use Rattle.net_inst.specs.Indexings.{indexing_in}
 use Rattle.net_inst.specs.Laws.{IsPlaceOf}
-use Rattle.net_inst.specs.Nodes.{DrawnNodes, of_node, next_range, ranges_at, nodes_by, with_nodes}
-use Rattle.net_inst.specs.Outcomes.{and_then, refused_name}
+use Rattle.net_inst.specs.Nodes.{DrawnNodes, of_node, next_range, ranges_at, nodes_by, with_nodes, node_sides}
+use Rattle.net_fault.specs.Outcomes.{and_then, Outcome}
+use Rattle.net_inst.specs.Refusals.{refused_name}
 use Rattle.net_inst.specs.Phrases.{Parts, parts_of}
 use Rattle.net_inst.proofs.Agreement.{next_arc_is, AreArcsBy, with_arcs_is}
 use Rattle.net_inst.proofs.Labels.{IsGroup, count_is, group_more}
@@ -43,7 +43,7 @@ arc_labels all = map (λ a. a.label) all
 
 -- a range is that of the node's condition
 pub record HasRange (n : Node) (r : Sides) : Type 0 where
-  pub is : range_in n.seen n.scope n.condition ≡ Ok r
+  pub is : range_in n.seen n.scope n.condition ≡ Ok (Some r)
 
 pub record AreNodes (ns : List Node) (names : List Declared) (d : DrawnNodes) : Type 0 where
   pub ranges : AllZip HasRange ns d.ranges
@@ -55,15 +55,17 @@ pub record AreMore (ns : List Node) (found new : List Sides) : Type 0 where
   pub whole : new ≡ found ++ more
   pub ranges : AllZip HasRange ns more
 
-next_is : (w : World) (n : Token) (k : Option ℕ) (c : Condition) (row : Row) (found new : List Sides) → next_range w n k c row found ≡ Ok new → (r : Sides) × (range_in w row.scope c ≡ Ok r) × (new ≡ found ++ r ∷ [])
+next_is : (w : World) (n : Token) (k : Option ℕ) (c : Condition) (row : Row) (found new : List Sides) → next_range w n k c row found ≡ Ok new → (r : Sides) × (range_in w row.scope c ≡ Ok (Some r)) × (new ≡ found ++ r ∷ [])
 next_is w n k c row found new e = go (nat_lt (length found) node_limit) e
   where
-    by_range : (o : forms.Outcome Sides) → and_then (of_node n.span (reference n.text k row.key) o) (λ r. Ok (found ++ r ∷ [])) ≡ Ok new → (r : Sides) × (o ≡ Ok r) × (new ≡ found ++ r ∷ [])
-    by_range (Ok r) h = (r, refl, sym (ok_is (found ++ r ∷ []) new h))
+    by_range : (o : Outcome (Option Sides)) → and_then (and_then o (of_node n.span (reference n.text k row.key))) (λ r. Ok (found ++ r ∷ [])) ≡ Ok new
+        → (r : Sides) × (o ≡ Ok (Some r)) × (new ≡ found ++ r ∷ [])
+    by_range (Ok None) h = cc
+    by_range (Ok (Some r)) h = (r, refl, sym (ok_is (found ++ r ∷ []) new h))
     by_range (Err x) h = cc
 
-    go : (b : Bool) → (if b then and_then (of_node n.span (reference n.text k row.key) (range_in w row.scope c)) (λ r. Ok (found ++ r ∷ [])) else refused_name TooManyNodes n) ≡ Ok new
-        → (r : Sides) × (range_in w row.scope c ≡ Ok r) × (new ≡ found ++ r ∷ [])
+    go : (b : Bool) → (if b then and_then (node_sides w n k c row) (λ r. Ok (found ++ r ∷ [])) else refused_name TooManyNodes n) ≡ Ok new
+        → (r : Sides) × (range_in w row.scope c ≡ Ok (Some r)) × (new ≡ found ++ r ∷ [])
     go true h = by_range (range_in w row.scope c) h
     go false h = cc
 

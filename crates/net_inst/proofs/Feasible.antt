@@ -6,6 +6,7 @@ use Rattle.std.proofs.Common.{refl, ap, sym, ◌∙◌, subst, arith}
 use Rattle.std.proofs.lemmas.Bool.Decides.{Decides-eqb}
 use Rattle.std.proofs.lemmas.Map.Keys.{IsDistinct-head, IsDistinct-tail}
 use Rattle.std.proofs.lemmas.Slice.Eq.{bytes_eq-Decides}
+use Rattle.net_fault.specs.Outcomes.{Outcome, and_then}
 use Rattle.net_sets.specs.declared.member.Member.TheVariants.{Number}
 use Rattle.net_sets.specs.Sets.{Tuple, same_tuple}
 use Rattle.net_sets.proofs.Sames.{tuple_decides}
@@ -17,12 +18,10 @@ use Rattle.net_normal.specs.declared.instance.InstArc.{InstArc}
 use Rattle.net_normal.specs.declared.instance.NodeRange.{NodeRange}
 use Rattle.net_eval.specs.declared.value.Value.{Value}
 use Rattle.net_eval.specs.declared.value.Value.TheVariants.{One}
-use Rattle.net_eval.specs.Outcomes as values
 use Rattle.net_eval.specs.Values.{value}
 use Rattle.net_eval.specs.Worlds.{Name, World, Scope}
-use Rattle.net_forms.specs.Conditions.{number_of}
-use Rattle.net_forms.specs.Outcomes.{as_number, from_values}
-use Rattle.net_forms.specs.Outcomes as outcomes
+use Rattle.net_linear.specs.Conditions.{number_of}
+use Rattle.net_linear.specs.Amounts.{as_number}
 use Rattle.net_inst.specs.AsWritten.{Label, Node, Arc, nodes, arcs, same_label, Assignment, number_on, numbers_on, by_label, is_named, from_end, to_end, carried, net_inflow, amount, IsWithin, IsMet}
 use Rattle.net_inst.specs.Instances.{seen_as}
 use Rattle.net_inst.specs.Laws.{IsInSides, IsRangeOf, IsPlaceOf, IsBoundedAs, HasEndsOf, HaveFeasible, HaveAssignments}
@@ -104,7 +103,7 @@ inflow_is labels v l d e all xs x h = ap (λ (m : ℤ). m -ℤ carried from_end 
 -- ---- bounds
 
 amount_of : (w : World) (s : Scope) (t : Tree) (n : ℤ) → value w s t ≡ Ok (One (Number n)) → amount w s t ≡ n
-amount_of w s t n e = ap (λ (o : values.Outcome Value). number_of (outcomes.and_then (from_values o) (λ v. Ok (as_number v)))) e
+amount_of w s t n e = ap (λ (o : Outcome Value). number_of (and_then o (λ v. Ok (as_number v)))) e
 
 within_to : (x : Assignment) (all : List Arc) (xs : List InstArc) → AllZip IsBoundedAs all xs → AllByRecursion (IsWithin x) all → AllZip IsWithinBounds xs (numbers_on x all)
 within_to x [] [] h k = tt

@@ -6,7 +6,7 @@ use Rattle.std.proofs.Common.{refl, sym, subst, arith, length-append}
 use Rattle.std.proofs.lemmas.Bool.Decides.{nat_tests}
 use Rattle.std.proofs.lemmas.Int.{ints}
 use Rattle.std.proofs.lemmas.List.Elements.{All-nil, All-push, All-weaker, recursion_from_All, All-from_recursion}
-use Rattle.net_lex.specs.declared.span.Span.{Span}
+use Rattle.net_fault.specs.declared.span.Span.{Span}
 use Rattle.net_lex.specs.declared.token.Token.{Token}
 use Rattle.net_sets.specs.declared.member.Member.{Member}
 use Rattle.net_sets.specs.declared.member.Member.TheVariants.{Number, Name as Text}
@@ -15,24 +15,22 @@ use Rattle.net_tree.specs.Spans.{span_of}
 use Rattle.net_tree.specs.Tree.{Tree, Links, Braces, Condition, Phrase, Declaration, set, param, check, node, arc, objective}
 use Rattle.net_normal.specs.declared.instance.InstArc.{InstArc}
 use Rattle.net_normal.specs.Limits.{IsArcOf, arc_limit, node_limit}
-use Rattle.net_eval.specs.declared.fault.Detail.{Detail}
-use Rattle.net_eval.specs.declared.fault.EvalDefect.TheVariants.{Arity, TooLarge}
+use Rattle.net_fault.specs.declared.detail.Detail.{Detail}
+use Rattle.net_fault.specs.declared.defect.Defect.TheVariants.{Arity, ValueTooLarge, NoSuchNode, ArcCrossed, TooManyArcs, TooManyNodes}
 use Rattle.net_eval.specs.declared.row.Row.{Row}
 use Rattle.net_eval.specs.Limits.{is_small}
 use Rattle.net_eval.specs.Operators.{member}
-use Rattle.net_eval.specs.Outcomes as values
 use Rattle.net_eval.specs.Values.{value}
 use Rattle.net_eval.specs.Worlds.{Name, World, Scope, key_count, reference}
-use Rattle.net_forms.specs.declared.arc.ArcKeys.{ArcKeys}
-use Rattle.net_forms.specs.declared.condition.Sides.{Sides}
-use Rattle.net_forms.specs.declared.fault.FormDefect.TheVariants as defects
-use Rattle.net_forms.specs.Arcs.{declared}
-use Rattle.net_forms.specs.Conditions.{range_in}
-use Rattle.net_forms.specs.Forms.{Products, Linear}
-use Rattle.net_forms.specs.Objectives.{key_of}
-use Rattle.net_forms.proofs.FormSizes.{is_sized_number}
+use Rattle.net_linear.specs.declared.arc.ArcKeys.{ArcKeys}
+use Rattle.net_linear.specs.declared.condition.Sides.{Sides}
+use Rattle.net_fault.specs.declared.defect.Defect.TheVariants as defects
+use Rattle.net_linear.specs.Arcs.{declared}
+use Rattle.net_linear.specs.Conditions.{range_in}
+use Rattle.net_linear.specs.Forms.{Products, Linear}
+use Rattle.net_linear.specs.Objectives.{key_of}
+use Rattle.net_linear.proofs.FormSizes.{is_sized_number}
 use Rattle.net_inst.specs.declared.arc.Drawn.{Drawn}
-use Rattle.net_inst.specs.declared.fault.InstDefect.TheVariants.{NoSuchNode, ArcCrossed, TooManyArcs, TooManyNodes}
 use Rattle.net_inst.specs.declared.goal.Goal.{Goal}
 use Rattle.net_inst.specs.declared.indexing.Indexing.{Indexing}
 use Rattle.net_inst.specs.declared.phrases.ArcWord.TheVariants.{AtLeast, AtMost, From, To}
@@ -42,9 +40,10 @@ use Rattle.net_inst.specs.Fitting.{IsDrawnOf, IsPriced}
 use Rattle.net_inst.specs.Groups.{group_with}
 use Rattle.net_inst.specs.Indexings.{indexing_in}
 use Rattle.net_inst.specs.Instances.{with_coefficients}
-use Rattle.net_inst.specs.Nodes.{DrawnNodes, of_node, next_range, ranges_at, nodes_by, with_nodes, among, numbered, node_at, name_in, node_of, node_by, node_named}
+use Rattle.net_inst.specs.Nodes.{DrawnNodes, next_range, ranges_at, nodes_by, with_nodes, among, numbered, node_at, name_in, node_of, node_by, node_named, node_sides}
 use Rattle.net_inst.specs.Numbers.{number_in, number}
-use Rattle.net_inst.specs.Outcomes.{Outcome, and_then, refused, refused_name, refused_form, from_forms, from_values}
+use Rattle.net_fault.specs.Outcomes.{Outcome, and_then, refused_of, refused}
+use Rattle.net_inst.specs.Refusals.{refused_name}
 use Rattle.net_inst.specs.Phrases.{Parts, said, parts_from, parts_of}
 
 -- where the second step comes out, the first does
@@ -60,19 +59,19 @@ same_out P a b o e h p = let same : a ≡ b = cc in subst P same p
 in_small : (at : Span) (m : Member) (n : ℤ) → number_in at m ≡ Ok n → is_small n ≡ true
 in_small at (Number k) n h = step (is_small k) refl h
   where
-    step : (b : Bool) → is_small k ≡ b → (if b then Ok k else refused_form (defects.Value TooLarge) at) ≡ Ok n → is_small n ≡ true
+    step : (b : Bool) → is_small k ≡ b → (if b then Ok k else refused ValueTooLarge at) ≡ Ok n → is_small n ≡ true
     step true e h = same_out (λ i. is_small i ≡ true) k n (Ok k) refl h e
     step false e h = cc
 in_small at (Text t) n h = cc
 
 number_small : (w : World) (s : Scope) (t : Tree) (n : ℤ) → number w s t ≡ Ok n → is_small n ≡ true
-number_small w s t n h = both (from_values (values.and_then (value w s t) (member (span_of t)))) (number_in (span_of t)) n (is_small n ≡ true) h (λ m e k. in_small (span_of t) m n k)
+number_small w s t n h = both (and_then (value w s t) (member (span_of t))) (number_in (span_of t)) n (is_small n ≡ true) h (λ m e k. in_small (span_of t) m n k)
 
 -- nodes that are named
 among_below : (count : ℕ) (at : Span) (d : Detail) (v n : ℕ) → among count at d v ≡ Ok n → n < count
 among_below count at d v n h = step (nat_lt v count) refl h
   where
-    step : (b : Bool) → nat_lt v count ≡ b → (if b then Ok v else refused NoSuchNode at d) ≡ Ok n → n < count
+    step : (b : Bool) → nat_lt v count ≡ b → (if b then Ok v else refused_of NoSuchNode at d) ≡ Ok n → n < count
     step true e h = same_out (λ i. i < count) v n (Ok v) refl h (grind (arith, nat_tests))
     step false e h = cc
 
@@ -84,7 +83,7 @@ node_at_below : (count : ℕ) (at : Span) (name : Name) (k : Option ArcKeys) (ke
 node_at_below count at name None key n h = cc
 node_at_below count at name (Some k) key n h = step (nat_eq (length key) (key_count k.keys)) h
   where
-    step : (b : Bool) → (if b then numbered count at (reference name k.keys key) k.first (place_of k.index key) else refused_form (defects.Value Arity) at) ≡ Ok n → n < count
+    step : (b : Bool) → (if b then numbered count at (reference name k.keys key) k.first (place_of k.index key) else refused Arity at) ≡ Ok n → n < count
     step true h = numbered_below count at (reference name k.keys key) k.first (place_of k.index key) n h
     step false h = cc
 
@@ -94,7 +93,7 @@ node_below d w s t n h = named (name_in t) h
     subscripted : (k : Token) (q : Option (Tree × Links)) → node_of d w s (span_of t) k q ≡ Ok n → n < length d.ranges
     subscripted k None h = node_at_below (length d.ranges) (span_of t) k.text (declared d.group.numbers k.text) [] n h
     subscripted k (Some q) h =
-        both (from_forms (key_of w s (span_of t) q.0 q.1)) (node_at (length d.ranges) (span_of t) k.text (declared d.group.numbers k.text)) n (n < length d.ranges) h
+        both (key_of w s (span_of t) q.0 q.1) (node_at (length d.ranges) (span_of t) k.text (declared d.group.numbers k.text)) n (n < length d.ranges) h
         (λ key e g. node_at_below (length d.ranges) (span_of t) k.text (declared d.group.numbers k.text) key n g)
 
     named : (o : Option (Token × Option (Tree × Links))) → node_by d w s (span_of t) o ≡ Ok n → n < length d.ranges
@@ -140,11 +139,11 @@ with_ends_fit ns w s p l u x a b o e h =
 
 drawn_fits : (ns : DrawnNodes) (w : World) (n : Token) (k : Option ℕ) (p : Parts) (row : Row) (x : Drawn) → (is_some p.tail || is_some p.head) ≡ true → drawn ns w n k p row ≡ Ok x → IsDrawnOf (length ns.ranges) x
 drawn_fits ns w n k p row x e h =
-    both (number w row.scope p.lower) (λ l. and_then (number w row.scope p.upper) (λ u. if int_lt u l then refused ArcCrossed n.span (reference n.text k row.key) else with_ends ns w row.scope p l u)) x (IsDrawnOf (length ns.ranges) x) h (λ l el kl.
-    both (number w row.scope p.upper) (λ u. if int_lt u l then refused ArcCrossed n.span (reference n.text k row.key) else with_ends ns w row.scope p l u) x (IsDrawnOf (length ns.ranges) x) kl (λ u eu ku.
+    both (number w row.scope p.lower) (λ l. and_then (number w row.scope p.upper) (λ u. if int_lt u l then refused_of ArcCrossed n.span (reference n.text k row.key) else with_ends ns w row.scope p l u)) x (IsDrawnOf (length ns.ranges) x) h (λ l el kl.
+    both (number w row.scope p.upper) (λ u. if int_lt u l then refused_of ArcCrossed n.span (reference n.text k row.key) else with_ends ns w row.scope p l u) x (IsDrawnOf (length ns.ranges) x) kl (λ u eu ku.
     step l u (number_small w row.scope p.lower l el) (number_small w row.scope p.upper u eu) (int_lt u l) refl ku))
   where
-    step : (l u : ℤ) → is_small l ≡ true → is_small u ≡ true → (b : Bool) → int_lt u l ≡ b → (if b then refused ArcCrossed n.span (reference n.text k row.key) else with_ends ns w row.scope p l u) ≡ Ok x → IsDrawnOf (length ns.ranges) x
+    step : (l u : ℤ) → is_small l ≡ true → is_small u ≡ true → (b : Bool) → int_lt u l ≡ b → (if b then refused_of ArcCrossed n.span (reference n.text k row.key) else with_ends ns w row.scope p l u) ≡ Ok x → IsDrawnOf (length ns.ranges) x
     step l u sl su true t h = cc
     step l u sl su false t h = let up : l ≤ℤ u = grind (arith, ints) in with_ends_fit ns w row.scope p l u x sl su up e h
 
@@ -183,9 +182,9 @@ arcs_fit g ns w n b ps d new all h =
 next_more : (w : World) (n : Token) (k : Option ℕ) (c : Condition) (row : Row) (found more : List Sides) → next_range w n k c row found ≡ Ok more → length found ≤ length more
 next_more w n k c row found more h = step (nat_lt (length found) node_limit) h
   where
-    step : (b : Bool) → (if b then and_then (of_node n.span (reference n.text k row.key) (range_in w row.scope c)) (λ r. Ok (found ++ r ∷ [])) else refused_name TooManyNodes n) ≡ Ok more → length found ≤ length more
+    step : (b : Bool) → (if b then and_then (node_sides w n k c row) (λ r. Ok (found ++ r ∷ [])) else refused_name TooManyNodes n) ≡ Ok more → length found ≤ length more
     step true h =
-        both (of_node n.span (reference n.text k row.key) (range_in w row.scope c)) (λ r. Ok (found ++ r ∷ [])) more (length found ≤ length more) h
+        both (node_sides w n k c row) (λ r. Ok (found ++ r ∷ [])) more (length found ≤ length more) h
         (λ r e kr. same_out (λ q. length found ≤ length q) (found ++ r ∷ []) more (Ok (found ++ r ∷ [])) refl kr (omega (arith, length-append found (r ∷ []))))
     step false h = cc
 

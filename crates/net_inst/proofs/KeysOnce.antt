@@ -9,7 +9,6 @@ use Rattle.net_tree.specs.Tree.{Braces, Declaration, set, param, check, node, ar
 use Rattle.net_eval.specs.declared.row.Keys.{Keys}
 use Rattle.net_eval.specs.declared.world.Entry.{Entry}
 use Rattle.net_eval.specs.declared.world.Entry.TheVariants.{Set}
-use Rattle.net_eval.specs.Outcomes as values
 use Rattle.net_eval.specs.SetValues.{HasSets}
 use Rattle.net_eval.specs.Values.{index}
 use Rattle.net_eval.specs.Worlds.{Name, World, entry_of}
@@ -18,7 +17,7 @@ use Rattle.net_eval.proofs.SetsGiven.{keeps_sets}
 use Rattle.net_inst.specs.AsWritten.{rows_of, known_behind}
 use Rattle.net_inst.specs.Indexings.{by_keys, indexing_in, tuples_of}
 use Rattle.net_inst.specs.Laws.{keys_by, HaveKeysOnce, AreDistinctInSets}
-use Rattle.net_inst.specs.Outcomes.{and_then, from_values}
+use Rattle.net_fault.specs.Outcomes.{and_then, Outcome}
 use Rattle.net_inst.proofs.Once.{are_distinct_as_declared}
 
 none_tuples : IsDistinct same_tuple []
@@ -45,7 +44,7 @@ indexed_once : (w : World) (b : Option Braces) → HasSets w → IsDistinct same
 indexed_once w None h = one_key
 indexed_once w (Some b) h = go (index w [] b) refl
   where
-    go : (o : values.Outcome Keys) → index w [] b ≡ o → IsDistinct same_tuple (tuples_of (rows_of (and_then (from_values o) (λ k. Ok (by_keys k)))))
+    go : (o : Outcome Keys) → index w [] b ≡ o → IsDistinct same_tuple (tuples_of (rows_of (and_then o (λ k. Ok (by_keys k)))))
     go (Ok k) e = have_distinct_keys w [] b k (keeps_sets w h) e
     go (Err r) e = none_tuples
 

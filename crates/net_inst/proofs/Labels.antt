@@ -13,8 +13,8 @@ use Rattle.net_tree.specs.Tree.{Braces}
 use Rattle.net_eval.specs.declared.row.Row.{Row}
 use Rattle.net_eval.specs.Values.{index}
 use Rattle.net_eval.specs.Worlds.{Name, World}
-use Rattle.net_forms.specs.declared.arc.ArcKeys.{ArcKeys}
-use Rattle.net_forms.specs.Arcs.{declared, is_arc}
+use Rattle.net_linear.specs.declared.arc.ArcKeys.{ArcKeys}
+use Rattle.net_linear.specs.Arcs.{declared, is_arc}
 use Rattle.net_inst.specs.declared.group.Group.{Group}
 use Rattle.net_inst.specs.declared.indexing.Indexing.{Indexing}
 use Rattle.net_inst.specs.declared.names.Declared.{Declared}
@@ -24,7 +24,6 @@ use Rattle.net_inst.specs.Groups.{Numbers, unless_known, numbers_with, group_wit
 use Rattle.net_inst.specs.Indexings.{alone, by_keys, indexing_in, tuples_of}
 use Rattle.net_inst.specs.Laws.{IsKeyOf}
 use Rattle.net_inst.specs.Lists.{keyed, AreInOrder}
-use Rattle.net_inst.specs.Outcomes.{from_values}
 use Rattle.net_inst.specs.Readings.{name_alone}
 use Rattle.net_inst.proofs.Zips.{ok_then, ok_is, map_map, map_join, zip_join, zip_as, get_front, get_behind, get_last, get_below, distinct_front, distinct_behind, distinct_of}
 
@@ -200,7 +199,7 @@ pub record IsGroup (labels : List Label) (names : List Declared) (g : Group) : T
 
 pub count_is : (w : World) (b : Option Braces) (i : Indexing) → indexing_in w b ≡ Ok i → is_some i.count ≡ is_some b
 count_is w None i e = ap (λ (x : Indexing). is_some x.count) (sym (ok_is alone i e))
-count_is w (Some b) i e = ok_then (from_values (index w [] b)) (λ k. Ok (by_keys k)) i e (λ k h j. ap (λ (x : Indexing). is_some x.count) (sym (ok_is (by_keys k) i j)))
+count_is w (Some b) i e = ok_then (index w [] b) (λ k. Ok (by_keys k)) i e (λ k h j. ap (λ (x : Indexing). is_some x.count) (sym (ok_is (by_keys k) i j)))
 
 fresh_keys : (names : List Declared) (n : Token) (b : Option Braces) (m : ℕ) (rows : List Row) → m ≡ length names
     → AllZip (IsKeyOf (names ++ (record { name = n.text; indexed = is_some b }) ∷ [])) (map (label_at n b) rows) (map (keyed m) rows)

@@ -14,7 +14,7 @@ use Rattle.net_inst.specs.declared.names.Declared.{Declared}
 use Rattle.net_inst.specs.AsWritten.{Label, Node, Arc, rows_of, label_at, node_at_row, arc_at_row, nodes_of, arcs_with, arcs_of, known_behind, in_order, node_declared, arc_declared, same_label}
 use Rattle.net_inst.specs.Indexings.{indexing_in, tuples_of}
 use Rattle.net_inst.specs.Laws.{keys_by, HaveKeysOnce, same_name, AreDistinctAsDeclared}
-use Rattle.net_inst.specs.Outcomes.{Outcome}
+use Rattle.net_fault.specs.Outcomes.{Outcome}
 use Rattle.net_inst.specs.Phrases.{Parts, parts_of}
 use Rattle.net_inst.proofs.Zips.{map_map, map_join, distinct_behind}
 

@@ -2,36 +2,33 @@
 use Rattle.std.specs.Prelude.{◌≡◌, ◌+◌, ℕ, Bool, true, false, List, [], ◌++◌, length, slice_get, nat_eq, nat_lt, int_lt, Option, None, Some, if◌then◌else◌, Ok, Err, ℤ}
 use Rattle.std.specs.List.{IsDistinct}
 use Rattle.std.proofs.Common.{refl, ap, sym, subst}
-use Rattle.net_lex.specs.declared.span.Span.{Span}
+use Rattle.net_fault.specs.declared.span.Span.{Span}
 use Rattle.net_lex.specs.declared.token.Token.{Token}
 use Rattle.net_sets.specs.declared.member.Member.TheVariants.{Number, Name as Text}
 use Rattle.net_sets.specs.Sets.{Tuple, place_of}
 use Rattle.net_tree.specs.Spans.{span_of}
 use Rattle.net_tree.specs.Tree.{Tree, leaf, indexed, parens, tuple, negated, braced, signed, reduced, chain, choice, net}
-use Rattle.net_eval.specs.declared.fault.Detail.{Detail}
-use Rattle.net_eval.specs.declared.fault.EvalDefect.TheVariants.{TooLarge, Arity}
+use Rattle.net_fault.specs.declared.detail.Detail.{Detail}
+use Rattle.net_fault.specs.declared.defect.Defect.TheVariants.{ValueTooLarge, Arity, NoSuchNode, ArcCrossed}
 use Rattle.net_eval.specs.declared.row.Row.{Row}
 use Rattle.net_eval.specs.declared.value.Value.{Value}
 use Rattle.net_eval.specs.declared.value.Value.TheVariants.{One, Several, Many, Truth}
 use Rattle.net_eval.specs.Limits.{is_small}
 use Rattle.net_eval.specs.Operators.{member}
-use Rattle.net_eval.specs.Outcomes as values
 use Rattle.net_eval.specs.Values.{value}
 use Rattle.net_eval.specs.Worlds.{Name, World, Scope, key_count, reference}
-use Rattle.net_forms.specs.declared.arc.ArcKeys.{ArcKeys}
-use Rattle.net_forms.specs.declared.fault.FormDefect.TheVariants as defects
-use Rattle.net_forms.specs.Arcs.{declared}
-use Rattle.net_forms.specs.Objectives.{key_of}
-use Rattle.net_forms.specs.Outcomes as forms
+use Rattle.net_linear.specs.declared.arc.ArcKeys.{ArcKeys}
+use Rattle.net_fault.specs.declared.defect.Defect.TheVariants as defects
+use Rattle.net_linear.specs.Arcs.{declared}
+use Rattle.net_linear.specs.Objectives.{key_of}
 use Rattle.net_inst.specs.declared.arc.Drawn.{Drawn}
-use Rattle.net_inst.specs.declared.fault.InstDefect.TheVariants.{NoSuchNode, ArcCrossed}
 use Rattle.net_inst.specs.Arcs.{end_at, with_ends, drawn}
 use Rattle.net_inst.specs.AsWritten.{Label, same_label, with_key, reference_in, end_of}
 use Rattle.net_inst.specs.Groups.{Numbers}
 use Rattle.net_inst.specs.Laws.{IsPlaceOf}
 use Rattle.net_inst.specs.Nodes.{DrawnNodes, numbered, node_at, node_named}
 use Rattle.net_inst.specs.Numbers.{number_in, number}
-use Rattle.net_inst.specs.Outcomes.{Outcome, and_then, refused, refused_form, from_forms, from_values}
+use Rattle.net_fault.specs.Outcomes.{Outcome, and_then, refused_of, refused}
 use Rattle.net_inst.specs.Phrases.{Parts}
 use Rattle.net_inst.proofs.Labels.{Finds, found_label}
 use Rattle.net_inst.proofs.Zips.{ok_then, ok_is, get_front}
@@ -51,7 +48,7 @@ place_is labels numbers name key v count at finds distinct e = by_keys (declared
     by_place k h None i d j = cc
     by_place k h (Some p) i d j = go (nat_lt (k.first + p) count) j
       where
-        go : (b : Bool) → (let o : Outcome ℕ = if b then Ok (k.first + p) else refused NoSuchNode at d in o ≡ Ok v) → Stands labels name key v
+        go : (b : Bool) → (let o : Outcome ℕ = if b then Ok (k.first + p) else refused_of NoSuchNode at d in o ≡ Ok v) → Stands labels name key v
         go true f =
             let found = found_label labels numbers name k key p v finds distinct h i (sym (ok_is (k.first + p) v f)) in
             record { label = found.0; at = found.1; name_is = found.2; key_is = found.3 }
@@ -61,7 +58,7 @@ place_is labels numbers name key v count at finds distinct e = by_keys (declared
     by_keys None h i = cc
     by_keys (Some k) h i = go (nat_eq (length key) (key_count k.keys)) i
       where
-        go : (b : Bool) → (if b then numbered count at (reference name k.keys key) k.first (place_of k.index key) else refused_form (defects.Value Arity) at) ≡ Ok v → Stands labels name key v
+        go : (b : Bool) → (if b then numbered count at (reference name k.keys key) k.first (place_of k.index key) else refused Arity at) ≡ Ok v → Stands labels name key v
         go true f = by_place k h (place_of k.index key) refl (reference name k.keys key) f
         go false f = cc
 
@@ -74,7 +71,7 @@ pub named_place : (labels : List Label) (ns : DrawnNodes) (w : World) (s : Scope
 named_place labels ns w s (leaf t) v finds distinct e = as_place labels t.text [] v (place_is labels ns.group.numbers t.text [] v (length ns.ranges) (span_of (leaf t)) finds distinct e)
 named_place labels ns w s (indexed n o x l c) v finds distinct e = go (key_of w s (span_of (indexed n o x l c)) x l) e
   where
-    go : (k : forms.Outcome Tuple) → and_then (from_forms k) (node_at (length ns.ranges) (span_of (indexed n o x l c)) n.text (declared ns.group.numbers n.text)) ≡ Ok v → IsPlaceOf labels (with_key n.text k) (Some v)
+    go : (k : Outcome Tuple) → and_then k (node_at (length ns.ranges) (span_of (indexed n o x l c)) n.text (declared ns.group.numbers n.text)) ≡ Ok v → IsPlaceOf labels (with_key n.text k) (Some v)
     go (Ok key) h = as_place labels n.text key v (place_is labels ns.group.numbers n.text key v (length ns.ranges) (span_of (indexed n o x l c)) finds distinct h)
     go (Err r) h = cc
 named_place labels ns w s (parens o y c) v finds distinct e = cc
@@ -105,14 +102,14 @@ place_stays labels more (Some r) (Some v) h = (h.0, get_front labels more v h.0 
 pub number_is : (w : World) (s : Scope) (t : Tree) (n : ℤ) → number w s t ≡ Ok n → value w s t ≡ Ok (One (Number n))
 number_is w s t n e = go (value w s t) e
   where
-    small : (m : ℤ) (b : Bool) → (let o : Outcome ℤ = if b then Ok m else refused_form (defects.Value TooLarge) (span_of t) in o ≡ Ok n) → m ≡ n
+    small : (m : ℤ) (b : Bool) → (let o : Outcome ℤ = if b then Ok m else refused ValueTooLarge (span_of t) in o ≡ Ok n) → m ≡ n
     small m true h = ok_is m n h
     small m false h = cc
 
-    wrap : ℤ → values.Outcome Value
+    wrap : ℤ → Outcome Value
     wrap m = Ok (One (Number m))
 
-    go : (o : values.Outcome Value) → and_then (from_values (values.and_then o (member (span_of t)))) (number_in (span_of t)) ≡ Ok n → o ≡ Ok (One (Number n))
+    go : (o : Outcome Value) → and_then (and_then o (member (span_of t))) (number_in (span_of t)) ≡ Ok n → o ≡ Ok (One (Number n))
     go (Ok (One (Number m))) h = ap wrap (small m (is_small m) h)
     go (Ok (One (Text u))) h = cc
     go (Ok (Several u)) h = cc
@@ -133,9 +130,9 @@ drawn_is ns w n k p row x e =
     ok_then (number w row.scope p.upper) (uncrossed l) x i (λ u j m. go l u h j (int_lt u l) m))
   where
     uncrossed : ℤ → ℤ → Outcome Drawn
-    uncrossed l u = if int_lt u l then refused ArcCrossed n.span (reference n.text k row.key) else with_ends ns w row.scope p l u
+    uncrossed l u = if int_lt u l then refused_of ArcCrossed n.span (reference n.text k row.key) else with_ends ns w row.scope p l u
 
-    go : (l u : ℤ) → number w row.scope p.lower ≡ Ok l → number w row.scope p.upper ≡ Ok u → (b : Bool) → (if b then refused ArcCrossed n.span (reference n.text k row.key) else with_ends ns w row.scope p l u) ≡ Ok x → IsDrawnBy ns w row.scope p x
+    go : (l u : ℤ) → number w row.scope p.lower ≡ Ok l → number w row.scope p.upper ≡ Ok u → (b : Bool) → (if b then refused_of ArcCrossed n.span (reference n.text k row.key) else with_ends ns w row.scope p l u) ≡ Ok x → IsDrawnBy ns w row.scope p x
     go l u h i true m = cc
     go l u h i false m =
         ok_then (end_at ns w row.scope p.tail) (λ t. and_then (end_at ns w row.scope p.head) (λ z. Ok (record { lower = l; upper = u; tail = t; head = z }))) x m (λ t j f.

@@ -5,7 +5,7 @@ use Rattle.std.proofs.Math.Seq.{drop-cons}
 use Rattle.std.proofs.lemmas.List.Elements.{All-push}
 use Rattle.net_normal.specs.declared.instance.InstArc.{InstArc}
 use Rattle.net_normal.specs.Limits.{IsSized, value_limit}
-use Rattle.net_forms.specs.Forms.{Products, coefficient}
+use Rattle.net_linear.specs.Forms.{Products, coefficient}
 use Rattle.net_inst.specs.declared.arc.Drawn.{Drawn}
 use Rattle.net_inst.specs.Fitting.{IsPriced}
 use Rattle.net_inst.specs.Instances.{with_coefficient, with_coefficients}

@@ -1,7 +1,7 @@
 -- What an objective's form comes to is the reading of its expression.
 use Rattle.std.specs.Prelude.{◌≡◌, ℕ, Bool, false, not, ◌&&◌, ◌||◌, [], None, Some, Ok, Err, ℤ, pos}
 use Rattle.std.proofs.Common.{refl, ap, sym, ◌∙◌}
-use Rattle.net_lex.specs.declared.span.Span.{Span}
+use Rattle.net_fault.specs.declared.span.Span.{Span}
 use Rattle.net_sets.specs.Sets.{Tuple}
 use Rattle.net_tree.specs.Spans.{span_of}
 use Rattle.net_tree.specs.Tree.{Tree, Links, Part, Braces, leaf, indexed, parens, tuple, negated, braced, signed, reduced, chain, choice, net, none, link, absent, part, empty, filled}
@@ -9,14 +9,14 @@ use Rattle.net_eval.specs.Numbers.{turned}
 use Rattle.net_eval.specs.Operations.{reduction, is_minus}
 use Rattle.net_eval.specs.Values.{index}
 use Rattle.net_eval.specs.Worlds.{Name, World, Scope}
-use Rattle.net_forms.specs.Arcs.{Arcs, declared, is_arc, arc_at}
-use Rattle.net_forms.specs.Forms.{Linear, Term, just, one_arc, join, turn, as_form, form_at}
-use Rattle.net_forms.specs.Joints.{joint}
-use Rattle.net_forms.specs.Objectives.{names_arc, any_arc, part_arc, braces_arc, is_sum, is_linear, key_of, condition, arc_term, objective, otherwise, chained, objective_form}
-use Rattle.net_forms.specs.Outcomes.{Outcome, from_values}
-use Rattle.net_forms.specs.Worths.{combine}
-use Rattle.net_forms.proofs.FormLaws.{term_at, same_term, form_just, form_arc, join_ok, turn_ok, total_ok, mixed_ok, no_arcs, linear_ok, choose_ok}
-use Rattle.net_forms.proofs.Ranges.{ok_then}
+use Rattle.net_linear.specs.Arcs.{Arcs, declared, is_arc, arc_at}
+use Rattle.net_linear.specs.Forms.{Linear, Term, just, one_arc, join, turn, as_form, form_at}
+use Rattle.net_linear.specs.Joints.{joint}
+use Rattle.net_linear.specs.Objectives.{names_arc, any_arc, part_arc, braces_arc, is_sum, is_linear, key_of, condition, arc_term, objective, otherwise, chained, objective_form}
+use Rattle.net_fault.specs.Outcomes.{Outcome}
+use Rattle.net_linear.specs.Worths.{combine}
+use Rattle.net_linear.proofs.FormLaws.{term_at, same_term, form_just, form_arc, join_ok, turn_ok, total_ok, mixed_ok, no_arcs, linear_ok, choose_ok}
+use Rattle.net_linear.proofs.Ranges.{ok_then}
 use Rattle.net_inst.specs.AsWritten.{Assignment}
 use Rattle.net_inst.specs.Readings.{number_at_key, reading, reading_else, reading_chain}
 use Rattle.net_inst.proofs.Labels.{NameAlike}
@@ -46,7 +46,7 @@ module _ (x : ℕ → ℤ) (y : Assignment) (a : Arcs) (h : ReadAlike a x y) whe
         (λ k. ok_then (objective a w s z) (turn (is_minus t) (span_of (signed t z))) r k (λ u i j. turn_ok x (is_minus t) (span_of (signed t z)) u r j ∙ ap (turned (is_minus t)) (law w s z u i)))
     law w s (reduced m b z) r e =
         mixed_ok x w s (reduced m b z) (names_arc a (reduced m b z)) _ r _ e
-        (λ k. total_ok x (span_of (reduced m b z)) (λ row. objective a w row.scope z) (λ q. reading (names_arc a) w q z y) (λ row u i. law w row.scope z u i) (from_values (index w s b)) r
+        (λ k. total_ok x (span_of (reduced m b z)) (λ row. objective a w row.scope z) (λ q. reading (names_arc a) w q z y) (λ row u i. law w row.scope z u i) (index w s b) r
         (linear_ok (span_of (reduced m b z)) (is_sum (reduction m) && not (braces_arc a b)) _ r k))
     law w s (chain n z l) r e =
         mixed_ok x w s (chain n z l) (names_arc a (chain n z l)) _ r _ e

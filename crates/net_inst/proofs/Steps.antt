@@ -12,21 +12,21 @@ use Rattle.net_tree.specs.declared.declaration.Decl.{Decl}
 use Rattle.net_tree.proofs.Views.{next_phrase, next_declaration}
 use Rattle.net_eval.specs.declared.row.Row.{Row}
 use Rattle.net_eval.specs.Worlds.{Name, World, Scope}
-use Rattle.net_forms.specs.Forms.{Linear}
-use Rattle.net_forms.specs.declared.condition.Sides.{Sides}
-use Rattle.net_inst.specs.declared.fault.InstFault.{InstFault}
-use Rattle.net_inst.specs.declared.fault.InstFault.TheVariants.{OutOfMemory, Refused}
+use Rattle.net_linear.specs.Forms.{Linear}
+use Rattle.net_linear.specs.declared.condition.Sides.{Sides}
+use Rattle.net_fault.specs.declared.fault.Fault.{Fault}
+use Rattle.net_fault.specs.declared.fault.Fault.TheVariants.{OutOfMemory, At}
 use Rattle.net_inst.specs.declared.goal.Goal.{Goal}
 use Rattle.net_inst.specs.Arcs.{DrawnArcs, price_in, prices_in, next_arc, arcs_at}
 use Rattle.net_inst.specs.Drafts.{Drawing, declare, draw}
 use Rattle.net_inst.specs.Nodes.{DrawnNodes, next_range, ranges_at}
 use Rattle.net_inst.specs.Phrases.{Parts}
-use Rattle.net_inst.specs.Outcomes.{Outcome, Leaves, and_then}
+use Rattle.net_fault.specs.Outcomes.{Outcome, Leaves, and_then}
 
 -- a fault of the first step is a fault of all
-pub halts : {A B : Type 0} (o : Outcome A) (f : A → Outcome B) (wanted : Outcome B) (e : InstFault) (x : A) (y : B) → wanted ≡ and_then o f → Leaves o (Err e) x → Leaves wanted (Err e) y
+pub halts : {A B : Type 0} (o : Outcome A) (f : A → Outcome B) (wanted : Outcome B) (e : Fault) (x : A) (y : B) → wanted ≡ and_then o f → Leaves o (Err e) x → Leaves wanted (Err e) y
 halts o f wanted OutOfMemory x y e h = tt
-halts o f wanted (Refused r) x y e h = e ∙ ap (λ k. and_then k f) h
+halts o f wanted (At r) x y e h = e ∙ ap (λ k. and_then k f) h
 
 -- behind the first step the rest is left
 pub goes : {A B : Type 0} (o : Outcome A) (f : A → Outcome B) (wanted : Outcome B) (x : A) → wanted ≡ and_then o f → o ≡ Ok x → wanted ≡ f x

@@ -6,9 +6,9 @@ use Rattle.std.proofs.lemmas.Bool.{eqb-true}
 use Rattle.std.proofs.lemmas.Int.{ints}
 use lib.IntN.{zero-*ℤ}
 use Rattle.net_normal.specs.Sums.{price_of}
-use Rattle.net_forms.specs.Forms.{Products, coefficient, stands_in, all_apart, products_at}
-use Rattle.net_forms.proofs.Coefficients.{head_apart, tail_apart}
-use Rattle.net_forms.proofs.Rings.{mul-none}
+use Rattle.net_linear.specs.Forms.{Products, coefficient, stands_in, all_apart, products_at}
+use Rattle.net_linear.proofs.Coefficients.{head_apart, tail_apart}
+use Rattle.net_linear.proofs.Rings.{mul-none}
 use Rattle.net_inst.specs.declared.arc.Drawn.{Drawn}
 use Rattle.net_inst.specs.AsWritten.{Label, Arc, Assignment, number_on, numbers_on}
 use Rattle.net_inst.specs.Instances.{with_coefficients}

@@ -6,28 +6,25 @@ use Rattle.std.proofs.Common.{refl, ap, sym, ◌∙◌, subst, arith, append_ass
 use Rattle.std.proofs.lemmas.Int.{ints}
 use lib.IntN.{zero-*ℤ}
 use Rattle.std.proofs.lemmas.List.{length-append}
-use Rattle.net_lex.specs.declared.span.Span.{Span}
+use Rattle.net_fault.specs.declared.span.Span.{Span}
 use Rattle.net_lex.specs.declared.token.Token.{Token}
 use Rattle.net_sets.specs.Sets.{Tuple, place_of}
 use Rattle.net_tree.specs.Spans.{span_of}
 use Rattle.net_tree.specs.Tree.{Tree, Braces, Part, absent, part, Body, plain, valued, priced, Phrase}
-use Rattle.net_eval.specs.declared.fault.Detail.{Detail}
-use Rattle.net_eval.specs.declared.fault.EvalDefect.TheVariants.{Arity}
+use Rattle.net_fault.specs.declared.detail.Detail.{Detail}
+use Rattle.net_fault.specs.declared.defect.Defect.TheVariants.{Arity}
 use Rattle.net_eval.specs.declared.row.Row.{Row}
 use Rattle.net_eval.specs.declared.value.Value.{Value}
-use Rattle.net_eval.specs.Outcomes as values
 use Rattle.net_eval.specs.Worlds.{Name, World, Scope, key_count, reference}
-use Rattle.net_forms.specs.declared.arc.ArcKeys.{ArcKeys}
-use Rattle.net_forms.specs.declared.fault.FormDefect.TheVariants.{Value as OfValue}
-use Rattle.net_forms.specs.Arcs.{declared, arc_at, numbered}
-use Rattle.net_forms.specs.Conditions.{number_of}
-use Rattle.net_forms.specs.Forms.{Linear, just, form_at, all_apart, products_at}
-use Rattle.net_forms.specs.Forms as forms
-use Rattle.net_forms.specs.Objectives.{objective_form}
-use Rattle.net_forms.specs.Outcomes as outcomes
-use Rattle.net_forms.specs.Outcomes.{as_number}
-use Rattle.net_forms.proofs.FormLaws.{form_just, priced_worth}
-use Rattle.net_forms.proofs.Rings.{add-mul}
+use Rattle.net_linear.specs.declared.arc.ArcKeys.{ArcKeys}
+use Rattle.net_linear.specs.Arcs.{declared, arc_at, numbered}
+use Rattle.net_linear.specs.Conditions.{number_of}
+use Rattle.net_linear.specs.Forms.{Linear, just, form_at, all_apart, products_at}
+use Rattle.net_linear.specs.Forms as forms
+use Rattle.net_linear.specs.Objectives.{objective_form}
+use Rattle.net_linear.specs.Amounts.{as_number}
+use Rattle.net_linear.proofs.FormLaws.{form_just, priced_worth}
+use Rattle.net_linear.proofs.Rings.{add-mul}
 use Rattle.net_inst.specs.declared.arc.Drawn.{Drawn}
 use Rattle.net_inst.specs.declared.goal.Goal.{Goal}
 use Rattle.net_inst.specs.declared.names.Declared.{Declared}
@@ -37,7 +34,7 @@ use Rattle.net_inst.specs.Drafts.{said_form}
 use Rattle.net_inst.specs.Groups.{Numbers}
 use Rattle.net_inst.specs.Nodes.{DrawnNodes}
 use Rattle.net_inst.specs.Numbers.{number}
-use Rattle.net_inst.specs.Outcomes.{Outcome, from_forms}
+use Rattle.net_fault.specs.Outcomes.{Outcome, and_then, refused}
 use Rattle.net_inst.specs.Phrases.{Parts, parts_of}
 use Rattle.net_inst.specs.Readings.{reading, name_alone, stands_in, price_of, prices, said_value, value_of, Objective}
 use Rattle.net_inst.specs.Readings as written
@@ -64,11 +61,7 @@ goal_prices None all x = pos 0
 goal_prices (Some g) all x = prices g.name all x
 
 amount_is : (w : World) (s : Scope) (t : Tree) (n : ℤ) → number w s t ≡ Ok n → amount w s t ≡ n
-amount_is w s t n e = ap (λ (o : values.Outcome Value). number_of (outcomes.and_then (outcomes.from_values o) (λ v. Ok (as_number v)))) (number_is w s t n e)
-
-forms_ok : (o : outcomes.Outcome Linear) (f : Linear) → from_forms o ≡ Ok f → o ≡ Ok f
-forms_ok (Ok g) f e = ap (λ (z : Linear). let r : outcomes.Outcome Linear = Ok z in r) (ok_is g f e)
-forms_ok (Err r) f e = cc
+amount_is w s t n e = ap (λ (o : Outcome Value). number_of (and_then o (λ v. Ok (as_number v)))) (number_is w s t n e)
 
 one_price : (g : Goal) (w : World) (s : Scope) (a : ℕ) (b : Body) (f new : Linear) → price_in (Some g) w s a b f ≡ Ok new → (x : ℕ → ℤ) → form_at x new ≡ form_at x f +ℤ written.price_in g.name w s b *ℤ x a
 one_price g w s a plain f new e x = let same = ok_is f new e in ap (form_at x) (sym same) ∙ omega (arith, ints, zero-*ℤ (x a))
@@ -77,8 +70,8 @@ one_price g w s a (priced n t) f new e x = go (bytes_eq g.name n.text) e
   where
     go : (b : Bool) → (if b then priced_by w s a t f else Ok f) ≡ Ok new → form_at x new ≡ form_at x f +ℤ (if b then amount w s t else pos 0) *ℤ x a
     go true h =
-        ok_then (number w s t) (λ c. from_forms (forms.priced (span_of t) f a c)) new h (λ c i j.
-        priced_worth x (span_of t) f a c new (forms_ok (forms.priced (span_of t) f a c) new j) ∙ ap (λ (m : ℤ). form_at x f +ℤ m *ℤ x a) (sym (amount_is w s t c i)))
+        ok_then (number w s t) (λ c. forms.priced (span_of t) f a c) new h (λ c i j.
+        priced_worth x (span_of t) f a c new j ∙ ap (λ (m : ℤ). form_at x f +ℤ m *ℤ x a) (sym (amount_is w s t c i)))
     go false h = let same = ok_is f new h in ap (form_at x) (sym same) ∙ omega (arith, ints, zero-*ℤ (x a))
 
 passed_over : (w : World) (s : Scope) (a : ℕ) (ps : List Phrase) (f new : Linear) → prices_in None w s a ps f ≡ Ok new → f ≡ new
@@ -111,7 +104,7 @@ prices_apart g w s a (p ∷ ps) f new h e = ok_then (price_in g w s a p.body f) 
     one (Some g) (priced n t) k i = go (bytes_eq g.name n.text) i
       where
         go : (b : Bool) → (if b then priced_by w s a t f else Ok f) ≡ Ok k → all_apart k.products ≡ true
-        go true m = ok_then (number w s t) (λ c. from_forms (forms.priced (span_of t) f a c)) k m (λ c q y. price_apart (span_of t) f a c k h (forms_ok (forms.priced (span_of t) f a c) k y))
+        go true m = ok_then (number w s t) (λ c. forms.priced (span_of t) f a c) k m (λ c q y. price_apart (span_of t) f a c k h y)
         go false m = same k m
 
 -- ---- arcs
@@ -193,16 +186,16 @@ read_alike all front after x a finds distinct whole = record { alike = λ at n k
     by_keys at n key v None e i = cc
     by_keys at n key v (Some k) e i = go (nat_eq (length key) (key_count k.keys)) i
       where
-        go : (b : Bool) → (if b then numbered at (reference n k.keys key) k.first (place_of k.index key) else outcomes.refused (OfValue Arity) at) ≡ Ok v → by_place all x v ≡ x n key
+        go : (b : Bool) → (if b then numbered at (reference n k.keys key) k.first (place_of k.index key) else refused Arity at) ≡ Ok v → by_place all x v ≡ x n key
         go true h = by_number at n key v k e (place_of k.index key) refl (reference n k.keys key) h
         go false h = cc
 
 -- what is said of the arcs before
 pub said_apart : (a : Numbers) (w : World) (p : Part) (f : Linear) → said_form a w p ≡ Ok f → all_apart f.products ≡ true
 said_apart a w absent f e = ap (λ (z : Linear). all_apart z.products) (sym (ok_is (just (pos 0)) f e))
-said_apart a w (part m t) f e = objective_apart a w [] t f (forms_ok (objective_form a w [] t) f e)
+said_apart a w (part m t) f e = objective_apart a w [] t f e
 
 pub said_is : (a : Numbers) (ds : List Declared) (x : ℕ → ℤ) (y : Assignment) (w : World) (p : Part) (f : Linear) → NameAlike a (map name_alone ds) → ReadAlike a x y → said_form a w p ≡ Ok f → form_at x f ≡ said_value ds w p y
 said_is a ds x y w absent f names alike e = ap (form_at x) (sym (ok_is (just (pos 0)) f e)) ∙ form_just x (pos 0)
 said_is a ds x y w (part m t) f names alike e =
-    form_reads x y a alike w [] t f (forms_ok (objective_form a w [] t) f e) ∙ ap (λ (arc_in : Tree → Bool). reading arc_in w [] t y) (names_all_same a (map name_alone ds) names)
+    form_reads x y a alike w [] t f e ∙ ap (λ (arc_in : Tree → Bool). reading arc_in w [] t y) (names_all_same a (map name_alone ds) names)

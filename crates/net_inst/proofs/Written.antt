@@ -6,9 +6,9 @@ use Rattle.std.proofs.Common.{refl, ap, sym, ◌∙◌, subst, append_assoc, app
 use Rattle.net_lex.specs.declared.token.Token.{Token}
 use Rattle.net_tree.specs.Tree.{Part, Declaration, set, param, check, node, arc, objective}
 use Rattle.net_eval.specs.Worlds.{Name, World}
-use Rattle.net_forms.specs.declared.condition.Sides.{Sides}
-use Rattle.net_forms.specs.Forms.{Products}
-use Rattle.net_forms.proofs.Ranges.{IsWithin, range_exact}
+use Rattle.net_linear.specs.declared.condition.Sides.{Sides}
+use Rattle.net_linear.specs.Forms.{Products}
+use Rattle.net_linear.proofs.Ranges.{IsWithin, range_exact}
 use Rattle.net_inst.specs.declared.arc.Drawn.{Drawn}
 use Rattle.net_inst.specs.declared.group.Group.{Group}
 use Rattle.net_inst.specs.declared.names.Declared.{Declared}

@@ -19,7 +19,7 @@ use Rattle.net_eval.specs.Limits.{is_small}
 use Rattle.net_eval.specs.Operations.{operations, operation, reduction, is_minus}
 use Rattle.net_eval.specs.Numbers.{number_in}
 use Rattle.net_eval.specs.Worlds.{Name}
-use Rattle.net_forms.specs.Joints.{joint}
+use Rattle.net_linear.specs.Joints.{joint}
 use Rattle.net_inst.specs.AsWritten.{Label, nodes, arcs, numbers_on, Assignment, by_label, from_end, to_end, net_inflow}
 use Rattle.net_inst.specs.Drafts.{sense_of}
 use Rattle.net_inst.specs.Readings.{Objective, objectives, chosen, value_of}

@@ -7,9 +7,9 @@ use Rattle.net_tree.specs.Tree.{Tree, Braces, Body, plain, valued, priced, Phras
 use Rattle.net_normal.specs.Limits.{arc_limit}
 use Rattle.net_eval.specs.declared.row.Row.{Row}
 use Rattle.net_eval.specs.Worlds.{Name, World, Scope, reference}
-use Rattle.net_forms.specs.Forms as forms
+use Rattle.net_linear.specs.Forms as forms
 use Rattle.net_inst.specs.declared.arc.Drawn.{Drawn}
-use Rattle.net_inst.specs.declared.fault.InstDefect.TheVariants.{ArcCrossed, TooManyArcs}
+use Rattle.net_fault.specs.declared.defect.Defect.TheVariants.{ArcCrossed, TooManyArcs}
 use Rattle.net_inst.specs.declared.goal.Goal.{Goal}
 use Rattle.net_inst.specs.declared.group.Group.{Group}
 use Rattle.net_inst.specs.declared.indexing.Indexing.{Indexing}
@@ -17,7 +17,8 @@ use Rattle.net_inst.specs.Groups.{no_group, group_with}
 use Rattle.net_inst.specs.Indexings.{indexing_in}
 use Rattle.net_inst.specs.Nodes.{DrawnNodes, node_named}
 use Rattle.net_inst.specs.Numbers.{number}
-use Rattle.net_inst.specs.Outcomes.{Outcome, and_then, refused, refused_name, from_forms}
+use Rattle.net_fault.specs.Outcomes.{Outcome, and_then, refused_of}
+use Rattle.net_inst.specs.Refusals.{refused_name}
 use Rattle.net_inst.specs.Phrases.{Parts, parts_of}
 
 -- arcs in order without their coefficients, and the form of the objective
@@ -40,14 +41,14 @@ with_ends ns w s p l u = and_then (end_at ns w s p.tail) (λ t. and_then (end_at
 abbrev pub drawn : DrawnNodes → World → Token → Option ℕ → Parts → Row → Outcome Drawn
 drawn ns w n k p row =
     and_then (number w row.scope p.lower) (λ l. and_then (number w row.scope p.upper) (λ u.
-    if int_lt u l then refused ArcCrossed n.span (reference n.text k row.key) else with_ends ns w row.scope p l u))
+    if int_lt u l then refused_of ArcCrossed n.span (reference n.text k row.key) else with_ends ns w row.scope p l u))
 
 abbrev pub is_goal : Option Goal → Name → Bool
 is_goal None name = false
 is_goal (Some g) name = bytes_eq g.name name
 
 abbrev pub priced_by : World → Scope → ℕ → Tree → forms.Linear → Outcome forms.Linear
-priced_by w s a x f = and_then (number w s x) (λ c. from_forms (forms.priced (span_of x) f a c))
+priced_by w s a x f = and_then (number w s x) (λ c. forms.priced (span_of x) f a c)
 
 -- the form with what a phrase gives arc a in the objective; phrases of other objectives are passed over
 abbrev pub price_in : Option Goal → World → Scope → ℕ → Body → forms.Linear → Outcome forms.Linear

@@ -9,14 +9,13 @@ use Rattle.net_tree.specs.Spans.{span_of}
 use Rattle.net_tree.specs.Tree.{Tree, leaf, indexed, Braces, Condition, Phrase, Declaration, set, param, node, arc}
 use Rattle.net_eval.specs.declared.row.Row.{Row}
 use Rattle.net_eval.specs.Worlds.{Name, World, Scope}
-use Rattle.net_forms.specs.Conditions.{Holds, number_of}
-use Rattle.net_forms.specs.Objectives.{key_of}
-use Rattle.net_forms.specs.Outcomes.{number_or_none}
-use Rattle.net_forms.specs.Outcomes as forms
+use Rattle.net_linear.specs.Conditions.{Holds, number_of}
+use Rattle.net_linear.specs.Objectives.{key_of}
+use Rattle.net_linear.specs.Amounts.{number_or_none}
 use Rattle.net_inst.specs.declared.indexing.Indexing.{Indexing}
 use Rattle.net_inst.specs.declared.names.Declared.{Declared}
 use Rattle.net_inst.specs.Indexings.{indexing_in}
-use Rattle.net_inst.specs.Outcomes.{Outcome}
+use Rattle.net_fault.specs.Outcomes.{Outcome}
 use Rattle.net_inst.specs.Phrases.{Parts, parts_of}
 
 -- what a node or an arc is called: its declared name, whether braces index it, and its key, which is empty without braces
@@ -120,7 +119,7 @@ by_label [] numbers n key = pos 0
 by_label (l ∷ ls) [] n key = pos 0
 by_label (l ∷ ls) (y ∷ ys) n key = if bytes_eq l.name n && same_tuple l.key key then y else by_label ls ys n key
 
-abbrev pub with_key : Name → forms.Outcome Tuple → Option (Name × Tuple)
+abbrev pub with_key : Name → Outcome Tuple → Option (Name × Tuple)
 with_key n (Ok key) = Some (n, key)
 with_key n (Err r) = None
 

@@ -6,15 +6,16 @@ use Rattle.net_tree.specs.Tree.{Tree, Braces, Condition, Phrase, Part, absent, p
 use Rattle.net_normal.specs.declared.instance.Sense.{Sense}
 use Rattle.net_normal.specs.declared.instance.Sense.TheVariants.{Minimise, Maximise}
 use Rattle.net_eval.specs.Worlds.{Name, World}
-use Rattle.net_forms.specs.Forms.{Linear, just}
-use Rattle.net_forms.specs.Objectives.{objective_form}
-use Rattle.net_inst.specs.declared.fault.InstDefect.TheVariants.{TwoObjectives}
+use Rattle.net_linear.specs.Forms.{Linear, just}
+use Rattle.net_linear.specs.Objectives.{objective_form}
+use Rattle.net_fault.specs.declared.defect.Defect.TheVariants.{TwoObjectives}
 use Rattle.net_inst.specs.declared.draft.Draft.{Draft}
 use Rattle.net_inst.specs.declared.goal.Goal.{Goal}
 use Rattle.net_inst.specs.Arcs.{DrawnArcs, no_arcs, with_arcs, formed}
 use Rattle.net_inst.specs.Groups.{Numbers}
 use Rattle.net_inst.specs.Nodes.{DrawnNodes, no_nodes, with_nodes}
-use Rattle.net_inst.specs.Outcomes.{Outcome, and_then, refused_name, from_forms}
+use Rattle.net_fault.specs.Outcomes.{Outcome, and_then}
+use Rattle.net_inst.specs.Refusals.{refused_name}
 
 -- what the declarations so far come to
 abbrev pub Drawing : Type 0
@@ -38,7 +39,7 @@ is_chosen None None n = Ok true
 is_chosen None (Some g) n = refused_name TwoObjectives n
 
 abbrev pub said_tree : Numbers → World → Tree → Outcome Linear
-said_tree a w x = from_forms (objective_form a w [] x)
+said_tree a w x = (objective_form a w [] x)
 
 -- what an objective says itself of the arcs declared before it
 abbrev pub said_form : Numbers → World → Part → Outcome Linear

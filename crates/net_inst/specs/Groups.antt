@@ -2,7 +2,7 @@
 use Rattle.std.specs.Prelude.{ℕ, Bool, true, false, [], ◌∷◌, ◌++◌}
 use Rattle.net_sets.specs.Operations.{union}
 use Rattle.net_eval.specs.Worlds.{Name}
-use Rattle.net_forms.specs.Arcs as numbers
+use Rattle.net_linear.specs.Arcs as numbers
 use Rattle.net_inst.specs.declared.group.Group.{Group}
 use Rattle.net_inst.specs.declared.indexing.Indexing.{Indexing}
 use Rattle.net_inst.specs.Indexings.{tuples_of}

@@ -7,7 +7,7 @@ use Rattle.net_eval.specs.declared.row.Row.{Row}
 use Rattle.net_eval.specs.Values.{index}
 use Rattle.net_eval.specs.Worlds.{World}
 use Rattle.net_inst.specs.declared.indexing.Indexing.{Indexing}
-use Rattle.net_inst.specs.Outcomes.{Outcome, and_then, from_values}
+use Rattle.net_fault.specs.Outcomes.{Outcome, and_then}
 
 -- without braces there is one key, which is empty
 abbrev pub alone : Indexing
@@ -23,7 +23,7 @@ by_keys k = record { count = Some (counted k.width); rows = k.rows }
 
 abbrev pub indexing_in : World → Option Braces → Outcome Indexing
 indexing_in w None = Ok alone
-indexing_in w (Some b) = and_then (from_values (index w [] b)) (λ k. Ok (by_keys k))
+indexing_in w (Some b) = and_then (index w [] b) (λ k. Ok (by_keys k))
 
 abbrev pub tuples_of : List Row → List Tuple
 tuples_of rows = map (λ row. row.key) rows

@@ -1,24 +1,24 @@
 -- The network of a model: its nodes and arcs in order of declaration and of keys, its objective, and all their names.
 use Rattle.std.specs.Prelude.{ℕ, suc, Bool, true, false, List, [], ◌∷◌, map, Option, None, Some, unwrap_or, Result, Ok, ℤ}
-use Rattle.net_lex.specs.declared.span.Span.{Span}
+use Rattle.net_fault.specs.declared.span.Span.{Span}
 use Rattle.net_lex.specs.declared.token.Token.{Token}
 use Rattle.net_tree.specs.Tree.{Declaration, set, param, check, node, arc, objective}
 use Rattle.net_normal.specs.declared.instance.InstArc.{InstArc}
 use Rattle.net_normal.specs.declared.instance.Sense.{Sense}
-use Rattle.net_eval.specs.declared.fault.Detail.TheVariants.{Nothing, Told}
+use Rattle.net_fault.specs.declared.detail.Detail.TheVariants.{Nothing, Told}
 use Rattle.net_eval.specs.Worlds.{Name, World}
-use Rattle.net_forms.specs.declared.condition.Sides.{Sides}
-use Rattle.net_forms.specs.Forms.{Products, coefficient}
+use Rattle.net_linear.specs.declared.condition.Sides.{Sides}
+use Rattle.net_linear.specs.Forms.{Products, coefficient}
 use Rattle.net_inst.specs.declared.arc.Drawn.{Drawn}
-use Rattle.net_inst.specs.declared.fault.InstDefect.TheVariants.{NoObjective, NoSuchObjective}
-use Rattle.net_inst.specs.declared.fault.InstFault.{InstFault}
+use Rattle.net_fault.specs.declared.defect.Defect.TheVariants.{NoObjective, NoSuchObjective}
+use Rattle.net_fault.specs.declared.fault.Fault.{Fault}
 use Rattle.net_inst.specs.declared.goal.Goal.{Goal}
 use Rattle.net_inst.specs.declared.network.Named.{Named as NamedOfCode}
 use Rattle.net_inst.specs.declared.names.Names.{Names}
 use Rattle.net_inst.specs.Arcs.{DrawnArcs}
 use Rattle.net_inst.specs.Drafts.{Drawing, nothing, draw}
 use Rattle.net_inst.specs.Nodes.{DrawnNodes, sides_of}
-use Rattle.net_inst.specs.Outcomes.{Outcome, and_then, refused, AnswersAs}
+use Rattle.net_fault.specs.Outcomes.{Outcome, and_then, refused_of, AnswersAs}
 
 pub record Network : Type 0 where
   pub nodes : List Sides
@@ -46,8 +46,8 @@ network_of ns xs g = record {
 
 -- where no objective is declared, or not the one of the given name
 abbrev pub without_goal : {A : Type 0} → Option Name → Span → Bool → Outcome A
-without_goal wanted at false = refused NoObjective at Nothing
-without_goal wanted at true = refused NoSuchObjective at (Told (unwrap_or wanted []))
+without_goal wanted at false = refused_of NoObjective at Nothing
+without_goal wanted at true = refused_of NoSuchObjective at (Told (unwrap_or wanted []))
 
 abbrev pub finished : Option Name → Span → Drawing → Option Goal → Outcome Network
 finished wanted at d (Some g) = Ok (network_of d.nodes d.arcs g)
@@ -80,5 +80,5 @@ abbrev pub seen_as : NamedOfCode → Network
 seen_as n = record { nodes = map sides_of n.instance.nodes.items; arcs = n.instance.arcs.items; sense = n.instance.sense; constant = n.instance.constant; names = n.names }
 
 -- the code answers the network that is wanted, or the first fault, unless memory runs out
-abbrev pub AnswersNetwork : Outcome Network → Result NamedOfCode InstFault → Type 0
+abbrev pub AnswersNetwork : Outcome Network → Result NamedOfCode Fault → Type 0
 AnswersNetwork wanted result = AnswersAs seen_as wanted result

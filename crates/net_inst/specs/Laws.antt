@@ -13,8 +13,8 @@ use Rattle.net_eval.specs.declared.value.Value.TheVariants.{One}
 use Rattle.net_eval.specs.SetValues.{HasSets}
 use Rattle.net_eval.specs.Values.{value}
 use Rattle.net_eval.specs.Worlds.{Name, World}
-use Rattle.net_forms.specs.declared.condition.Sides.{Sides}
-use Rattle.net_forms.specs.Conditions.{Holds}
+use Rattle.net_linear.specs.declared.condition.Sides.{Sides}
+use Rattle.net_linear.specs.Conditions.{Holds}
 use Rattle.net_inst.specs.declared.arc.Drawn.{Drawn}
 use Rattle.net_inst.specs.declared.network.Named.{Named as NamedOfCode}
 use Rattle.net_inst.specs.declared.names.Declared.{Declared}

@@ -1,5 +1,4 @@
-pub mod Faults
-pub mod Outcomes
+pub mod Refusals
 pub mod Lists
 pub mod Indexings
 pub mod Groups

@@ -1,32 +1,28 @@
 -- The nodes of declarations, and those that `from` and `to` name.
-use Rattle.std.specs.Prelude.{ℕ, ◌+◌, List, [], ◌∷◌, ◌++◌, length, nat_eq, nat_lt, Option, None, Some, if◌then◌else◌, Ok, Err}
-use Rattle.net_lex.specs.declared.span.Span.{Span}
+use Rattle.std.specs.Prelude.{ℕ, ◌+◌, List, [], ◌∷◌, ◌++◌, length, nat_eq, nat_lt, Option, None, Some, if◌then◌else◌, Ok}
+use Rattle.net_fault.specs.declared.span.Span.{Span}
 use Rattle.net_lex.specs.declared.token.Token.{Token}
 use Rattle.net_sets.specs.Sets.{Tuple, place_of}
 use Rattle.net_tree.specs.Spans.{span_of}
 use Rattle.net_tree.specs.Tree.{Tree, Links, leaf, indexed, Braces, Condition}
 use Rattle.net_normal.specs.declared.instance.NodeRange.{NodeRange}
 use Rattle.net_normal.specs.Limits.{node_limit}
-use Rattle.net_eval.specs.declared.fault.Detail.{Detail}
-use Rattle.net_eval.specs.declared.fault.Detail.TheVariants.{Told}
-use Rattle.net_eval.specs.declared.fault.EvalDefect.TheVariants.{KindMismatch, Arity}
+use Rattle.net_fault.specs.declared.detail.Detail.{Detail}
+use Rattle.net_fault.specs.declared.detail.Detail.TheVariants.{Told}
+use Rattle.net_fault.specs.declared.defect.Defect.TheVariants.{KindMismatch, Arity, NoSuchNode, NodeCrossed, TooManyNodes}
 use Rattle.net_eval.specs.declared.row.Row.{Row}
 use Rattle.net_eval.specs.Worlds.{Name, World, Scope, key_count, reference}
-use Rattle.net_forms.specs.declared.arc.ArcKeys.{ArcKeys}
-use Rattle.net_forms.specs.declared.condition.Sides.{Sides}
-use Rattle.net_forms.specs.declared.fault.FormDefect.{FormDefect}
-use Rattle.net_forms.specs.declared.fault.FormDefect.TheVariants as defects
-use Rattle.net_forms.specs.Arcs.{declared}
-use Rattle.net_forms.specs.Conditions.{range_in}
-use Rattle.net_forms.specs.Objectives.{key_of}
-use Rattle.net_forms.specs.Outcomes as forms
-use Rattle.net_inst.specs.declared.fault.InstDefect.TheVariants.{Form, NoSuchNode, TooManyNodes}
-use Rattle.net_inst.specs.declared.fault.InstRefusal.{InstRefusal}
+use Rattle.net_linear.specs.declared.arc.ArcKeys.{ArcKeys}
+use Rattle.net_linear.specs.declared.condition.Sides.{Sides}
+use Rattle.net_linear.specs.Arcs.{declared}
+use Rattle.net_linear.specs.Conditions.{range_in}
+use Rattle.net_linear.specs.Objectives.{key_of}
 use Rattle.net_inst.specs.declared.group.Group.{Group}
 use Rattle.net_inst.specs.declared.indexing.Indexing.{Indexing}
 use Rattle.net_inst.specs.Groups.{no_group, group_with}
 use Rattle.net_inst.specs.Indexings.{indexing_in}
-use Rattle.net_inst.specs.Outcomes.{Outcome, and_then, refused, refused_name, refused_form, from_forms, widened}
+use Rattle.net_fault.specs.Outcomes.{Outcome, and_then, refused_of, refused}
+use Rattle.net_inst.specs.Refusals.{refused_name}
 
 -- nodes in order, each with the net inflows that it allows
 pub record DrawnNodes : Type 0 where
@@ -40,18 +36,18 @@ abbrev pub no_nodes : DrawnNodes
 no_nodes = record { ranges = []; group = no_group }
 
 -- that a condition is met by no net inflow is told of the node
-abbrev pub told_of : Span → Detail → FormDefect → InstRefusal → InstRefusal
-told_of at d defects.NodeCrossed r = record { defect = Form defects.NodeCrossed; at = at; detail = d }
-told_of at d _ r = r
+abbrev pub of_node : Span → Detail → Option Sides → Outcome Sides
+of_node at d None = refused_of NodeCrossed at d
+of_node at d (Some r) = Ok r
 
-abbrev pub of_node : {A : Type 0} → Span → Detail → forms.Outcome A → Outcome A
-of_node at d (Ok a) = Ok a
-of_node at d (Err r) = Err (told_of at d r.defect (widened r))
+-- the net inflows of a node at a key
+abbrev pub node_sides : World → Token → Option ℕ → Condition → Row → Outcome Sides
+node_sides w n k c row = and_then (range_in w row.scope c) (of_node n.span (reference n.text k row.key))
 
 -- one node more, at a key
 abbrev pub next_range : World → Token → Option ℕ → Condition → Row → List Sides → Outcome (List Sides)
 next_range w n k c row found =
-    if nat_lt (length found) node_limit then and_then (of_node n.span (reference n.text k row.key) (range_in w row.scope c)) (λ r. Ok (found ++ r ∷ [])) else refused_name TooManyNodes n
+    if nat_lt (length found) node_limit then and_then (node_sides w n k c row) (λ r. Ok (found ++ r ∷ [])) else refused_name TooManyNodes n
 
 -- a node for each key, behind those found before
 abbrev pub ranges_at : World → Token → Option ℕ → Condition → List Row → List Sides → Outcome (List Sides)
@@ -67,21 +63,21 @@ abbrev pub with_nodes : World → Token → Option Braces → Condition → Draw
 with_nodes w n b c d = and_then (indexing_in w b) (nodes_by w n c d)
 
 abbrev pub among : ℕ → Span → Detail → ℕ → Outcome ℕ
-among count at d v = if nat_lt v count then Ok v else refused NoSuchNode at d
+among count at d v = if nat_lt v count then Ok v else refused_of NoSuchNode at d
 
 -- the node at a place of a declaration
 abbrev pub numbered : ℕ → Span → Detail → ℕ → Option ℕ → Outcome ℕ
-numbered count at d first None = refused NoSuchNode at d
+numbered count at d first None = refused_of NoSuchNode at d
 numbered count at d first (Some place) = among count at d (first + place)
 
 -- the node that a name has at a key
 abbrev pub node_at : ℕ → Span → Name → Option ArcKeys → Tuple → Outcome ℕ
-node_at count at name None key = refused NoSuchNode at (Told name)
+node_at count at name None key = refused_of NoSuchNode at (Told name)
 node_at count at name (Some k) key =
-    if nat_eq (length key) (key_count k.keys) then numbered count at (reference name k.keys key) k.first (place_of k.index key) else refused_form (defects.Value Arity) at
+    if nat_eq (length key) (key_count k.keys) then numbered count at (reference name k.keys key) k.first (place_of k.index key) else refused Arity at
 
 abbrev pub indexed_node : DrawnNodes → World → Scope → Span → Token → Tree → Links → Outcome ℕ
-indexed_node d w s at n x l = and_then (from_forms (key_of w s at x l)) (node_at (length d.ranges) at n.text (declared d.group.numbers n.text))
+indexed_node d w s at n x l = and_then (key_of w s at x l) (node_at (length d.ranges) at n.text (declared d.group.numbers n.text))
 
 -- a name, and its subscripts where it has any
 abbrev pub name_in : Tree → Option (Token × Option (Tree × Links))
@@ -94,7 +90,7 @@ node_of d w s at n None = node_at (length d.ranges) at n.text (declared d.group.
 node_of d w s at n (Some q) = indexed_node d w s at n q.0 q.1
 
 abbrev pub node_by : DrawnNodes → World → Scope → Span → Option (Token × Option (Tree × Links)) → Outcome ℕ
-node_by d w s at None = refused_form (defects.Value KindMismatch) at
+node_by d w s at None = refused KindMismatch at
 node_by d w s at (Some p) = node_of d w s at p.0 p.1
 
 -- the node that is named; its subscripts are evaluated first

@@ -1,23 +1,21 @@
 -- Numbers in declarations: bounds of arcs, and what they cost.
 use Rattle.std.specs.Prelude.{if◌then◌else◌, Ok, ℤ}
-use Rattle.net_lex.specs.declared.span.Span.{Span}
+use Rattle.net_fault.specs.declared.span.Span.{Span}
 use Rattle.net_sets.specs.declared.member.Member.{Member}
 use Rattle.net_sets.specs.declared.member.Member.TheVariants.{Number, Name}
 use Rattle.net_tree.specs.Spans.{span_of}
 use Rattle.net_tree.specs.Tree.{Tree}
-use Rattle.net_eval.specs.declared.fault.EvalDefect.TheVariants.{KindMismatch, TooLarge}
+use Rattle.net_fault.specs.declared.defect.Defect.TheVariants.{KindMismatch, ValueTooLarge}
 use Rattle.net_eval.specs.Limits.{is_small}
 use Rattle.net_eval.specs.Operators.{member}
-use Rattle.net_eval.specs.Outcomes as values
 use Rattle.net_eval.specs.Values.{value}
 use Rattle.net_eval.specs.Worlds.{World, Scope}
-use Rattle.net_forms.specs.declared.fault.FormDefect.TheVariants.{Value}
-use Rattle.net_inst.specs.Outcomes.{Outcome, and_then, refused_form, from_values}
+use Rattle.net_fault.specs.Outcomes.{Outcome, and_then, refused}
 
 abbrev pub number_in : Span → Member → Outcome ℤ
-number_in at (Number n) = if is_small n then Ok n else refused_form (Value TooLarge) at
-number_in at (Name t) = refused_form (Value KindMismatch) at
+number_in at (Number n) = if is_small n then Ok n else refused ValueTooLarge at
+number_in at (Name t) = refused KindMismatch at
 
 -- the number that an expression is
 abbrev pub number : World → Scope → Tree → Outcome ℤ
-number w s t = and_then (from_values (values.and_then (value w s t) (member (span_of t)))) (number_in (span_of t))
+number w s t = and_then (and_then (value w s t) (member (span_of t))) (number_in (span_of t))

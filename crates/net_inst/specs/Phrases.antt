@@ -7,10 +7,11 @@ use Rattle.net_tree.specs.declared.role.Role.{Role}
 use Rattle.net_tree.specs.declared.role.Role.TheVariants as roles
 use Rattle.net_tree.specs.Role.{role_of}
 use Rattle.net_tree.specs.Tree.{Tree, Body, plain, valued, priced, Phrase}
-use Rattle.net_inst.specs.declared.fault.InstDefect.TheVariants.{NoLower, NoUpper, NoEnds}
+use Rattle.net_fault.specs.declared.defect.Defect.TheVariants.{NoLower, NoUpper, NoEnds}
 use Rattle.net_inst.specs.declared.phrases.ArcWord.{ArcWord}
 use Rattle.net_inst.specs.declared.phrases.ArcWord.TheVariants.{AtLeast, AtMost, From, To}
-use Rattle.net_inst.specs.Outcomes.{Outcome, refused_name}
+use Rattle.net_fault.specs.Outcomes.{Outcome}
+use Rattle.net_inst.specs.Refusals.{refused_name}
 
 abbrev pub is_word : ArcWord → Role → Bool
 is_word AtLeast (roles.Relation relates.AtLeast) = true

@@ -9,11 +9,11 @@ use Rattle.net_eval.specs.Numbers.{turned}
 use Rattle.net_eval.specs.Operations.{is_minus}
 use Rattle.net_eval.specs.Values.{index}
 use Rattle.net_eval.specs.Worlds.{Name, World, Scope}
-use Rattle.net_forms.specs.declared.arc.ArcKeys.{ArcKeys}
-use Rattle.net_forms.specs.Joints.{joint}
-use Rattle.net_forms.specs.Objectives.{names_arc, key_of, condition}
-use Rattle.net_forms.specs.Outcomes.{Outcome, from_values}
-use Rattle.net_forms.specs.Worths.{read, combine, sum_in, choose}
+use Rattle.net_linear.specs.declared.arc.ArcKeys.{ArcKeys}
+use Rattle.net_linear.specs.Joints.{joint}
+use Rattle.net_linear.specs.Objectives.{names_arc, key_of, condition}
+use Rattle.net_fault.specs.Outcomes.{Outcome}
+use Rattle.net_linear.specs.Worths.{read, combine, sum_in, choose}
 use Rattle.net_inst.specs.declared.names.Declared.{Declared}
 use Rattle.net_inst.specs.AsWritten.{Arc, Assignment, number_on, amount, arcs_of, arc_declared, in_order, known_behind}
 use Rattle.net_inst.specs.Drafts.{sense_of}
@@ -34,7 +34,7 @@ abbrev mutual
   reading arc_in w s (negated n o y c) x = amount w s (negated n o y c)
   reading arc_in w s (braced b) x = amount w s (braced b)
   reading arc_in w s (signed t y) x = read w s (signed t y) (arc_in (signed t y)) (turned (is_minus t) (reading arc_in w s y x))
-  reading arc_in w s (reduced r b y) x = read w s (reduced r b y) (arc_in (reduced r b y)) (sum_in (λ q. reading arc_in w q y x) (from_values (index w s b)))
+  reading arc_in w s (reduced r b y) x = read w s (reduced r b y) (arc_in (reduced r b y)) (sum_in (λ q. reading arc_in w q y x) (index w s b))
   reading arc_in w s (chain n y l) x = read w s (chain n y l) (arc_in (chain n y l)) (reading_chain arc_in w s l (reading arc_in w s y x) x)
   reading arc_in w s (choice i y t z e) x =
       read w s (choice i y t z e) (arc_in (choice i y t z e)) (choose (condition w s (span_of (choice i y t z e)) y) (reading arc_in w s z x) (reading_else arc_in w s e x))

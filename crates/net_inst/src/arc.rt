@@ -7,17 +7,18 @@ ghost use Rattle.net_eval.specs.Worlds.{reference};
 ghost use Rattle.net_inst.specs.Arcs as found;
 ghost use Rattle.net_inst.specs.Fitting.{IsPriced};
 ghost use Rattle.net_inst.specs.Instances as network;
-ghost use Rattle.net_inst.specs.Outcomes.{Answers};
+ghost use Rattle.net_fault.specs.Outcomes.{Answers};
 ghost use Rattle.net_inst.specs.Parts.{parts_seen};
 
-use crate::fault::{InstDefect, InstFault, refuse};
+use crate::fault::refuse;
 use crate::node::NodeDraft;
 use crate::node_name::node_named;
 use crate::number::number_of;
 use crate::phrases::ArcParts;
 use net_eval::{Row, Scope, Seen, told_reference};
-use net_forms::Form;
+use net_fault::{Defect, Fault};
 use net_lex::Token;
+use net_linear::Form;
 use net_normal::InstArc;
 use net_tree::{Expr, Phrase};
 use std::alloc::{AllocError, Global};
@@ -47,7 +48,7 @@ fn end_at<'s>(
     scope: &Scope<'s>,
     nodes: &NodeDraft<'s>,
     end: &Option<&Expr<'s>>,
-) -> Result<Option<u32>, InstFault>
+) -> Result<Option<u32>, Fault>
     ensures { Answers (found.end_at nodes.now seen.now scope.now (option_map tree (option_copied end.now))) result }
 {
     match end {
@@ -68,7 +69,7 @@ fn with_ends<'s>(
     parts: &ArcParts<'_, 's>,
     lower: i64,
     upper: i64,
-) -> Result<Drawn, InstFault>
+) -> Result<Drawn, Fault>
     ensures { Answers (found.with_ends nodes.now seen.now scope.now (parts_seen parts.now) lower upper) result }
 {
     let tail = end_at(alloc, seen, scope, nodes, &parts.tail)?;
@@ -90,7 +91,7 @@ pub(crate) fn arc_at<'s>(
     count: &Option<u8>,
     parts: &ArcParts<'_, 's>,
     row: &Row<'s>,
-) -> Result<Drawn, InstFault>
+) -> Result<Drawn, Fault>
     ensures { Answers (found.drawn nodes.now seen.now name.now count.now (parts_seen parts.now) row.now) result }
 {
     let scope = &row.scope;
@@ -98,7 +99,7 @@ pub(crate) fn arc_at<'s>(
     let upper = number_of(alloc, seen, scope, parts.upper)?;
     if upper < lower {
         let detail = told_reference(alloc, &name.text, *count, &row.key)?;
-        Err(refuse(InstDefect::ArcCrossed, name.span, detail))
+        Err(refuse(Defect::ArcCrossed, name.span, detail))
     } else {
         with_ends(alloc, seen, scope, nodes, parts, lower, upper)
     }

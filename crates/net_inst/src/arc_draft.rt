@@ -8,11 +8,11 @@ ghost use Rattle.net_inst.specs.Drafts.{said_form};
 ghost use Rattle.net_inst.specs.Fitting.{IsPriced};
 ghost use Rattle.net_inst.specs.Indexings.{indexing_in};
 ghost use Rattle.net_inst.specs.Instances.{with_coefficients};
-ghost use Rattle.net_inst.specs.Outcomes.{Leaves, and_then};
+ghost use Rattle.net_fault.specs.Outcomes.{Leaves, and_then};
 ghost use Rattle.net_inst.specs.Parts.{parts_seen};
 
 use crate::arc::{ArcText, Drawn, arc_at, priced};
-use crate::fault::{InstDefect, InstFault, refuse_name};
+use crate::fault::refuse_name;
 use crate::goal::Goal;
 use crate::group::Group;
 use crate::indexing::{Indexing, indexing_of};
@@ -22,8 +22,9 @@ use crate::objective_form::said_form;
 use crate::phrases::parts_of;
 use crate::price::add_phrases;
 use net_eval::{Row, Seen};
-use net_forms::Form;
+use net_fault::{Defect, Fault};
 use net_lex::Token;
+use net_linear::Form;
 use net_normal::InstArc;
 use net_tree::{Braces, Part, Phrase};
 use std::alloc::{AllocError, Global};
@@ -75,8 +76,9 @@ impl<'s> ArcDraft<'s> {
         text: &ArcText<'_, 's>,
         count: &Option<u8>,
         row: &Row<'s>,
-    ) -> Result<(), InstFault>
-        ensures value { Leaves (found.next_arc goal.now nodes.now seen.now text.now.name.now count.now (parts_seen text.now.parts) (map phrase_of text.now.phrases.now) row.now self.old) result self.new }
+    ) -> Result<(), Fault>
+        ensures value { Leaves (found.next_arc goal.now nodes.now seen.now text.now.name.now count.now (parts_seen text.now.parts) (map phrase_of
+            text.now.phrases.now) row.now self.old) result self.new }
         ensures count { OnOk result (length self.new.arcs ≡ length self.old.arcs + 1) }
     {
         let arc = self.arcs.len();
@@ -94,7 +96,7 @@ impl<'s> ArcDraft<'s> {
             self.arcs.push(new)?;
             Ok(())
         } else {
-            Err(refuse_name(alloc, InstDefect::TooManyArcs, text.name)?)
+            Err(refuse_name(alloc, Defect::TooManyArcs, text.name)?)
         }
     }
 
@@ -108,8 +110,9 @@ impl<'s> ArcDraft<'s> {
         text: &ArcText<'_, 's>,
         count: &Option<u8>,
         rows: &[Row<'s>],
-    ) -> Result<(), InstFault>
-        ensures value { Leaves (found.arcs_at goal.now nodes.now seen.now text.now.name.now count.now (parts_seen text.now.parts) (map phrase_of text.now.phrases.now) rows.now self.old) result self.new }
+    ) -> Result<(), Fault>
+        ensures value { Leaves (found.arcs_at goal.now nodes.now seen.now text.now.name.now count.now (parts_seen text.now.parts) (map phrase_of
+            text.now.phrases.now) rows.now self.old) result self.new }
         ensures few { OnOk result (length rows.now ≤ length self.new.arcs) }
     {
         for row in rows {
@@ -141,8 +144,9 @@ impl<'s> ArcDraft<'s> {
         nodes: &NodeDraft<'s>,
         text: &ArcText<'_, 's>,
         indexing: &Indexing<'s>,
-    ) -> Result<(), InstFault>
-        ensures { Leaves (found.arcs_by goal.now nodes.now seen.now text.now.name.now (map phrase_of text.now.phrases.now) self.old (parts_seen text.now.parts) indexing.now) result self.new }
+    ) -> Result<(), Fault>
+        ensures { Leaves (found.arcs_by goal.now nodes.now seen.now text.now.name.now (map phrase_of text.now.phrases.now) self.old (parts_seen
+            text.now.parts) indexing.now) result self.new }
     {
         let first = self.len() as u32;
         let rows = indexing.rows.as_slice();
@@ -160,8 +164,9 @@ impl<'s> ArcDraft<'s> {
         nodes: &NodeDraft<'s>,
         text: &ArcText<'_, 's>,
         braces: &Option<Braces<'s>>,
-    ) -> Result<(), InstFault>
-        ensures { Leaves (and_then (indexing_in seen.now (indexing_of braces.now)) (found.arcs_by goal.now nodes.now seen.now text.now.name.now (map phrase_of text.now.phrases.now) self.old (parts_seen text.now.parts))) result self.new }
+    ) -> Result<(), Fault>
+        ensures { Leaves (and_then (indexing_in seen.now (indexing_of braces.now)) (found.arcs_by goal.now nodes.now seen.now text.now.name.now
+            (map phrase_of text.now.phrases.now) self.old (parts_seen text.now.parts))) result self.new }
     {
         let indexing = indexing_of(alloc, seen, braces)?;
         self.declare_at(alloc, goal, seen, nodes, text, &indexing)
@@ -178,7 +183,7 @@ impl<'s> ArcDraft<'s> {
         name: &Token<'s>,
         braces: &Option<Braces<'s>>,
         phrases: &[Phrase<'s>],
-    ) -> Result<(), InstFault>
+    ) -> Result<(), Fault>
         ensures { Leaves (found.with_arcs goal.now nodes.now seen.now name.now (indexing_of braces.now) (map phrase_of phrases.now) self.old) result self.new }
     {
         let parts = parts_of(alloc, name, phrases)?;
@@ -204,7 +209,7 @@ impl<'s> ArcDraft<'s> {
         alloc: Global,
         seen: &Seen<'_, 's>,
         part: &Option<Part<'s>>,
-    ) -> Result<(), InstFault>
+    ) -> Result<(), Fault>
         ensures { Leaves (and_then (said_form self.old.group.numbers seen.now (option_part part.now)) (λ f. Ok (found.formed self.old f))) result self.new }
     {
         self.form = said_form(alloc, &self.group.numbers, seen, part)?;

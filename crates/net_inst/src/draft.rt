@@ -4,13 +4,14 @@ ghost use Rattle.std.specs.Prelude.{◌≡◌, ◌+◌, ◌<◌, ◌≤◌, ◌^
 ghost use Rattle.std.specs.Option.{option_copied};
 ghost use Rattle.net_tree.specs.View.{declaration_of, indexing_of, condition_of, phrase_of, option_part};
 ghost use Rattle.net_inst.specs.Drafts as found;
-ghost use Rattle.net_inst.specs.Outcomes.{Answers, Leaves};
+ghost use Rattle.net_fault.specs.Outcomes.{Answers, Leaves};
 
 use crate::arc_draft::ArcDraft;
-use crate::fault::{InstDefect, InstFault, refuse_name};
+use crate::fault::refuse_name;
 use crate::goal::Goal;
 use crate::node::NodeDraft;
 use net_eval::{Seen, World};
+use net_fault::{Defect, Fault};
 use net_lex::Token;
 use net_normal::Sense;
 use net_tree::{Braces, Decl, NetCond, Part, Phrase};
@@ -56,14 +57,14 @@ fn is_chosen<'s>(
     wanted: &Option<&'s str>,
     goal: &Option<Goal<'s>>,
     name: &Token<'s>,
-) -> Result<bool, InstFault>
+) -> Result<bool, Fault>
     ensures { Answers (found.is_chosen (option_copied wanted.now) goal.now name.now) result }
 {
     match wanted {
         Some(wanted) => Ok(*wanted == name.text.as_str()),
         None => match goal {
             None => Ok(true),
-            Some(_) => Err(refuse_name(alloc, InstDefect::TwoObjectives, name)?),
+            Some(_) => Err(refuse_name(alloc, Defect::TwoObjectives, name)?),
         },
     }
 }
@@ -90,7 +91,7 @@ impl<'s> Draft<'s> {
         word: &Token<'s>,
         name: &Token<'s>,
         part: &Option<Part<'s>>,
-    ) -> Result<(), InstFault>
+    ) -> Result<(), Fault>
         ensures { Leaves (found.with_goal seen.now word.now name.now (option_part part.now) self.old) result self.new }
     {
         self.arcs.begin_form(alloc, seen, part)?;
@@ -111,7 +112,7 @@ impl<'s> Draft<'s> {
         word: &Token<'s>,
         name: &Token<'s>,
         part: &Option<Part<'s>>,
-    ) -> Result<(), InstFault>
+    ) -> Result<(), Fault>
         ensures { Leaves (found.with_objective (option_copied wanted.now) seen.now word.now name.now (option_part part.now) self.old) result self.new }
     {
         if is_chosen(alloc, wanted, &self.goal, name)? {
@@ -130,7 +131,7 @@ impl<'s> Draft<'s> {
         name: &Token<'s>,
         braces: &Option<Braces<'s>>,
         condition: &NetCond<'s>,
-    ) -> Result<(), InstFault>
+    ) -> Result<(), Fault>
         ensures { Leaves (found.with_node_declaration seen.now name.now (indexing_of braces.now) (condition_of condition.now) self.old) result self.new }
     {
         self.nodes.declare(alloc, seen, name, braces, condition)
@@ -144,7 +145,7 @@ impl<'s> Draft<'s> {
         name: &Token<'s>,
         braces: &Option<Braces<'s>>,
         phrases: &[Phrase<'s>],
-    ) -> Result<(), InstFault>
+    ) -> Result<(), Fault>
         ensures { Leaves (found.with_arc_declaration seen.now name.now (indexing_of braces.now) (map phrase_of phrases.now) self.old) result self.new }
     {
         self.arcs.declare(alloc, &self.goal, seen, &self.nodes, name, braces, phrases)
@@ -165,7 +166,7 @@ impl<'s> Draft<'s> {
         wanted: &Option<&'s str>,
         world: &World<'s>,
         declaration: &Decl<'s>,
-    ) -> Result<(), InstFault>
+    ) -> Result<(), Fault>
         requires { self.now.known < 2 ^ 63 }
         ensures value { Leaves (found.declare (option_copied wanted.now) world.now (declaration_of declaration.now) self.old) result self.new }
         ensures known { OnOk result (self.new.known ≤ self.old.known + 1) }

@@ -1,5 +1,5 @@
-use net_lex::Excerpt;
 use net_normal::Sense;
+use net_views::Excerpt;
 
 /// The chosen objective.
 #[derive(Drop)]

@@ -9,9 +9,9 @@ ghost use Rattle.net_inst.specs.Indexings.{tuples_of};
 use crate::indexing::Indexing;
 use crate::names::NameList;
 use net_eval::Row;
-use net_forms::{ArcKeys, ArcNames};
-use net_lex::Excerpt;
+use net_linear::{ArcKeys, ArcNames};
 use net_sets::{SetFault, TupleSet};
+use net_views::Excerpt;
 use std::alloc::{AllocError, Global};
 
 /// Declared nodes, or arcs.

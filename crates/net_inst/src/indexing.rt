@@ -3,13 +3,13 @@
 ghost use Rattle.std.specs.Prelude.{◌≡◌, OnOk, IfOk};
 ghost use Rattle.net_tree.specs.View.{indexing_of};
 ghost use Rattle.net_inst.specs.Indexings as indexings;
-ghost use Rattle.net_inst.specs.Outcomes.{Answers};
+ghost use Rattle.net_fault.specs.Outcomes.{Answers};
 
-use crate::fault::InstFault;
 use net_eval::{Keys, Row, Scope, Seen, index_of};
-use net_lex::Items;
+use net_fault::Fault;
 use net_sets::Tuple;
 use net_tree::Braces;
+use net_views::Items;
 use std::alloc::{AllocError, Global};
 
 /// The keys of a declaration in order, each with the dummies in scope at it, and how many members a key has; that is none
@@ -60,7 +60,7 @@ pub(crate) fn indexing_of<'s>(
     alloc: Global,
     seen: &Seen<'_, 's>,
     braces: &Option<Braces<'s>>,
-) -> Result<Indexing<'s>, InstFault>
+) -> Result<Indexing<'s>, Fault>
     ensures { Answers (indexings.indexing_in seen.now (indexing_of braces.now)) result }
 {
     match braces {

@@ -18,7 +18,6 @@ mod objective_form;
 mod phrases;
 mod price;
 
-pub use fault::{InstDefect, InstFault, InstRefusal};
 pub use laws::{
     arcs_are_written, assignments_are_alike, flows_stand_for_assignments, names_are_declared,
     names_declared_once_are_apart, network_without_objective_is_one, objective_is_written,

@@ -5,8 +5,8 @@ ghost use Rattle.std.specs.Option.{option_copied};
 ghost use Rattle.net_inst.specs.Lists as lists;
 
 use net_eval::Row;
-use net_lex::Excerpt;
 use net_sets::Tuple;
+use net_views::Excerpt;
 use std::alloc::{AllocError, Global};
 use std::marker::Model;
 

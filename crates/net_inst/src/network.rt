@@ -7,18 +7,20 @@ ghost use Rattle.net_inst.specs.Drafts as drafts;
 ghost use Rattle.net_inst.specs.Fitting.{IsDrawnOf};
 ghost use Rattle.net_inst.specs.Instances as found;
 ghost use Rattle.net_inst.specs.Instances.{AnswersNetwork};
-ghost use Rattle.net_inst.specs.Outcomes.{Leaves};
+ghost use Rattle.net_fault.specs.Outcomes.{Leaves};
 
 use crate::arc_draft::ArcDraft;
 use crate::draft::Draft;
-use crate::fault::{InstDefect, InstFault, refuse};
+use crate::fault::refuse;
 use crate::goal::Goal;
 use crate::names::Names;
 use crate::node::NodeDraft;
-use net_eval::{Detail, World, told_name};
-use net_lex::{Excerpt, Span, Token};
+use net_eval::World;
+use net_fault::{Defect, Detail, Fault, Span};
+use net_lex::Token;
 use net_normal::Instance;
 use net_tree::{Decl, Model};
+use net_views::Excerpt;
 use std::alloc::{AllocError, Global};
 
 /// A network of nodes and arcs by number, and the names that lead back to the model.
@@ -60,7 +62,7 @@ fn draw<'s>(
     world: &World<'s>,
     declarations: &[Decl<'s>],
     draft: &mut Draft<'s>,
-) -> Result<(), InstFault>
+) -> Result<(), Fault>
     requires { draft.now.known ≡ 0 }
     ensures { Leaves (drafts.draw (option_copied wanted.now) world.now (map declaration_of declarations.now) draft.old) result draft.new }
 {
@@ -76,7 +78,7 @@ fn with_names<'s>(
     nodes: &mut NodeDraft<'s>,
     arcs: &mut ArcDraft<'s>,
     goal: &Goal<'s>,
-) -> Result<Named<'s>, InstFault>
+) -> Result<Named<'s>, Fault>
     requires { All (IsDrawnOf (length nodes.now.ranges)) arcs.now.arcs }
     ensures { AnswersNetwork (Ok (found.network_of nodes.old arcs.old goal.now)) result }
 {
@@ -103,18 +105,18 @@ fn without_goal(
     wanted: &Option<&str>,
     at: Span,
     aims: bool,
-) -> Result<InstFault, AllocError>
+) -> Result<Fault, AllocError>
     ensures { IfOk result (λ f. AnswersNetwork (found.without_goal (option_copied wanted.now) at aims) (Err f)) }
 {
     if !aims {
-        return Ok(refuse(InstDefect::NoObjective, at, Detail::Nothing));
+        return Ok(refuse(Defect::NoObjective, at, Detail::Nothing));
     }
     let name = match wanted {
         Some(name) => Excerpt::new(name),
         None => Excerpt::new(""),
     };
-    let detail = told_name(alloc, &name)?;
-    Ok(refuse(InstDefect::NoSuchObjective, at, detail))
+    let detail = Detail::of_name(alloc, &name)?;
+    Ok(refuse(Defect::NoSuchObjective, at, detail))
 }
 
 /// What the declarations come to, once all are drawn.
@@ -123,7 +125,7 @@ fn finished<'s>(
     wanted: &Option<&'s str>,
     end: usize,
     draft: &mut Draft<'s>,
-) -> Result<Named<'s>, InstFault>
+) -> Result<Named<'s>, Fault>
     requires { All (IsDrawnOf (length draft.now.nodes.ranges)) draft.now.arcs.arcs }
     ensures { AnswersNetwork (found.finished (option_copied wanted.now) (found.point end) draft.old draft.old.goal) result }
 {
@@ -144,7 +146,7 @@ fn network_on<'s>(
     world: &World<'s>,
     declarations: &[Decl<'s>],
     draft: &mut Draft<'s>,
-) -> Result<Named<'s>, InstFault>
+) -> Result<Named<'s>, Fault>
     requires { draft.now ≡ drafts.nothing }
     ensures { AnswersNetwork (found.network (option_copied wanted.now) world.now (map declaration_of declarations.now)) result }
 {
@@ -158,7 +160,7 @@ fn network_of<'s>(
     wanted: &Option<&'s str>,
     world: &World<'s>,
     model: &Model<'s>,
-) -> Result<Named<'s>, InstFault>
+) -> Result<Named<'s>, Fault>
     ensures { AnswersNetwork (found.network (option_copied wanted.now) world.now (declared_in model.now)) result }
 {
     let declarations = model.declarations.as_slice();
@@ -177,7 +179,7 @@ pub fn instantiate_for<'s>(
     model: &Model<'s>,
     world: &World<'s>,
     objective: Option<&'s str>,
-) -> Result<Named<'s>, InstFault>
+) -> Result<Named<'s>, Fault>
     ensures { AnswersNetwork (found.network (option_copied objective.entry) world.now (declared_in model.now)) result }
 {
     network_of(alloc, &objective, world, model)
@@ -188,7 +190,7 @@ pub fn instantiate<'s>(
     alloc: Global,
     model: &Model<'s>,
     world: &World<'s>,
-) -> Result<Named<'s>, InstFault>
+) -> Result<Named<'s>, Fault>
     ensures { AnswersNetwork (found.network None world.now (declared_in model.now)) result }
 {
     instantiate_for(alloc, model, world, None)

@@ -4,22 +4,22 @@ ghost use Rattle.std.specs.Prelude.{◌≡◌, ◌≤◌, ◌+◌, length, map, 
 ghost use Rattle.std.specs.Option.{option_copied};
 ghost use Rattle.net_tree.specs.View.{condition_of, indexing_of};
 ghost use Rattle.net_normal.specs.Limits.{node_limit};
-ghost use Rattle.net_eval.specs.Worlds.{reference};
-ghost use Rattle.net_forms.specs.Arcs.{declared};
-ghost use Rattle.net_forms.specs.Conditions.{range_in};
+ghost use Rattle.net_linear.specs.Arcs.{declared};
 ghost use Rattle.net_inst.specs.Nodes as nodes;
 ghost use Rattle.net_inst.specs.Nodes.{sides_of};
-ghost use Rattle.net_inst.specs.Outcomes.{AnswersAs, Leaves, widened};
+ghost use Rattle.net_fault.specs.Outcomes.{AnswersAs, Leaves};
 
-use crate::fault::{InstDefect, InstFault, InstRefusal, refuse, refuse_name};
+use crate::fault::{refuse, refuse_name};
 use crate::group::Group;
 use crate::indexing::{Indexing, indexing_of};
 use crate::names::NameList;
-use net_eval::{Detail, Row, Seen, told_reference};
-use net_forms::{ArcKeys, FormDefect, FormFault, FormRefusal, node_range};
-use net_lex::{Excerpt, Span, Token};
+use net_eval::{Row, Seen, told_reference};
+use net_fault::{Defect, Fault};
+use net_lex::Token;
+use net_linear::{ArcKeys, node_range};
 use net_normal::NodeRange;
 use net_tree::{Braces, NetCond};
+use net_views::Excerpt;
 use std::alloc::Global;
 use std::marker::Model;
 use std::mem;
@@ -46,25 +46,7 @@ impl<'s> Model for NodeDraft<'s> {
     ghost invariant = { λ d. length d.ranges.items ≤ node_limit };
 }
 
-/// A fault of a condition; that no net inflow meets it is told of the node, at its declared name.
-fn told_of(at: Span, detail: Detail, refusal: FormRefusal) -> InstRefusal
-    ensures { result ≡ nodes.told_of at detail refusal.defect (widened refusal) }
-{
-    match refusal.defect {
-        FormDefect::NodeCrossed => InstRefusal {
-            defect: InstDefect::Form(FormDefect::NodeCrossed),
-            at,
-            detail,
-        },
-        defect => InstRefusal {
-            defect: InstDefect::Form(defect),
-            at: refusal.at,
-            detail: refusal.detail,
-        },
-    }
-}
-
-/// The range of a node at a key.
+/// The range of a node at a key; that no net inflow meets its condition is told of the node, at its declared name.
 fn range_at<'s>(
     alloc: Global,
     seen: &Seen<'_, 's>,
@@ -72,15 +54,14 @@ fn range_at<'s>(
     count: &Option<u8>,
     condition: &NetCond<'s>,
     row: &Row<'s>,
-) -> Result<NodeRange, InstFault>
-    ensures { AnswersAs sides_of (nodes.of_node name.now.span (reference name.now.text count.now row.now.key) (range_in seen.now row.now.scope (condition_of condition.now))) result }
+) -> Result<NodeRange, Fault>
+    ensures { AnswersAs sides_of (nodes.node_sides seen.now name.now count.now (condition_of condition.now) row.now) result }
 {
-    match node_range(alloc, seen, &row.scope, condition) {
-        Ok(range) => Ok(range),
-        Err(FormFault::OutOfMemory) => Err(InstFault::OutOfMemory),
-        Err(FormFault::Refused(refusal)) => {
+    match node_range(alloc, seen, &row.scope, condition)? {
+        Some(range) => Ok(range),
+        None => {
             let detail = told_reference(alloc, &name.text, *count, &row.key)?;
-            Err(InstFault::Refused(told_of(name.span, detail, refusal)))
+            Err(refuse(Defect::NodeCrossed, name.span, detail))
         }
     }
 }
@@ -94,9 +75,10 @@ fn push_range<'s>(
     condition: &NetCond<'s>,
     row: &Row<'s>,
     ranges: &mut Vec<NodeRange>,
-) -> Result<(), InstFault>
+) -> Result<(), Fault>
     requires { length ranges.now.items ≤ node_limit }
-    ensures value { Leaves (nodes.next_range seen.now name.now count.now (condition_of condition.now) row.now (map sides_of ranges.old.items)) result (map sides_of ranges.new.items) }
+    ensures value { Leaves (nodes.next_range seen.now name.now count.now (condition_of condition.now) row.now (map sides_of ranges.old.items))
+        result (map sides_of ranges.new.items) }
     ensures count { OnOk result (length ranges.new.items ≡ length ranges.old.items + 1) }
     ensures few { length ranges.new.items ≤ node_limit }
 {
@@ -105,7 +87,7 @@ fn push_range<'s>(
         ranges.push(range)?;
         Ok(())
     } else {
-        Err(refuse_name(alloc, InstDefect::TooManyNodes, name)?)
+        Err(refuse_name(alloc, Defect::TooManyNodes, name)?)
     }
 }
 
@@ -118,9 +100,10 @@ fn push_ranges<'s>(
     condition: &NetCond<'s>,
     rows: &[Row<'s>],
     ranges: &mut Vec<NodeRange>,
-) -> Result<(), InstFault>
+) -> Result<(), Fault>
     requires { length ranges.now.items ≤ node_limit }
-    ensures value { Leaves (nodes.ranges_at seen.now name.now count.now (condition_of condition.now) rows.now (map sides_of ranges.old.items)) result (map sides_of ranges.new.items) }
+    ensures value { Leaves (nodes.ranges_at seen.now name.now count.now (condition_of condition.now) rows.now (map sides_of ranges.old.items))
+        result (map sides_of ranges.new.items) }
     ensures count { OnOk result (length rows.now ≤ node_limit) }
     ensures few { length ranges.new.items ≤ node_limit }
 {
@@ -171,7 +154,7 @@ impl<'s> NodeDraft<'s> {
         name: &Token<'s>,
         condition: &NetCond<'s>,
         indexing: &Indexing<'s>,
-    ) -> Result<(), InstFault>
+    ) -> Result<(), Fault>
         ensures { Leaves (nodes.nodes_by seen.now name.now (condition_of condition.now) self.old indexing.now) result self.new }
     {
         let first = self.next_number();
@@ -197,7 +180,7 @@ impl<'s> NodeDraft<'s> {
         name: &Token<'s>,
         braces: &Option<Braces<'s>>,
         condition: &NetCond<'s>,
-    ) -> Result<(), InstFault>
+    ) -> Result<(), Fault>
         ensures { Leaves (nodes.with_nodes seen.now name.now (indexing_of braces.now) (condition_of condition.now) self.old) result self.new }
     {
         let indexing = indexing_of(alloc, seen, braces)?;

@@ -7,19 +7,22 @@ ghost use Rattle.net_tree.specs.Spans as trees;
 ghost use Rattle.net_tree.specs.View.{tree, links_of};
 ghost use Rattle.net_normal.specs.Limits.{node_limit};
 ghost use Rattle.net_eval.specs.Worlds as worlds;
-ghost use Rattle.net_forms.specs.Arcs.{declared};
-ghost use Rattle.net_inst.specs.declared.fault.InstDefect.TheVariants.{NoSuchNode};
-ghost use Rattle.net_inst.specs.declared.fault.InstFault.TheVariants.{Refused};
+ghost use Rattle.net_linear.specs.Arcs.{declared};
+ghost use Rattle.net_fault.specs.declared.defect.Defect.TheVariants.{NoSuchNode};
+ghost use Rattle.net_fault.specs.declared.fault.Fault.TheVariants.{At};
 ghost use Rattle.net_inst.specs.Nodes as found;
-ghost use Rattle.net_inst.specs.Outcomes.{Answers};
+ghost use Rattle.net_fault.specs.declared.language.Language.TheVariants.{Model as InModel};
+ghost use Rattle.net_fault.specs.Outcomes.{Answers, found as finding};
 
-use crate::fault::{InstDefect, InstFault, refuse, refuse_tree};
+use crate::fault::refuse;
 use crate::node::NodeDraft;
-use net_eval::{EvalDefect, Scope, Seen, told_name, told_reference};
-use net_forms::{ArcKeys, FormDefect, key_of};
-use net_lex::{Excerpt, Span, Token};
+use net_eval::{Scope, Seen, refuse_tree, told_reference};
+use net_fault::{Defect, Detail, Fault, Span};
+use net_lex::Token;
+use net_linear::{ArcKeys, key_of};
 use net_sets::Tuple;
 use net_tree::{Expr, Link, span_of};
+use net_views::Excerpt;
 use std::alloc::{AllocError, Global};
 
 fn key_count(count: Option<u8>) -> usize
@@ -38,11 +41,11 @@ fn no_such_node(
     name: &Excerpt<'_>,
     count: Option<u8>,
     key: &Tuple<'_>,
-) -> Result<InstFault, AllocError>
-    ensures { IfOk result (λ f. f ≡ Refused (record { defect = NoSuchNode; at = at; detail = worlds.reference name.now count key.now })) }
+) -> Result<Fault, AllocError>
+    ensures { IfOk result (λ f. f ≡ At (finding InModel NoSuchNode at (worlds.reference name.now count key.now))) }
 {
     let detail = told_reference(alloc, name, count, key)?;
-    Ok(refuse(InstDefect::NoSuchNode, at, detail))
+    Ok(refuse(Defect::NoSuchNode, at, detail))
 }
 
 /// The number of the node at a place of a declaration.
@@ -64,7 +67,7 @@ fn among(
     keys: Option<u8>,
     key: &Tuple<'_>,
     number: usize,
-) -> Result<u32, InstFault>
+) -> Result<u32, Fault>
     requires { count ≤ node_limit }
     ensures value { Answers (found.among count at (worlds.reference name.now keys key.now) number) result }
 {
@@ -83,9 +86,10 @@ fn numbered<'s>(
     name: &Excerpt<'s>,
     keys: &ArcKeys<'s>,
     key: Tuple<'s>,
-) -> Result<u32, InstFault>
+) -> Result<u32, Fault>
     requires { count ≤ node_limit }
-    ensures value { Answers (found.numbered count at (worlds.reference name.now keys.now.keys key.entry) keys.now.first (place_of keys.now.index key.entry)) result }
+    ensures value { Answers (found.numbered count at (worlds.reference name.now keys.now.keys key.entry) keys.now.first (place_of keys.now.index
+        key.entry)) result }
 {
     match keys.index.position(&key) {
         Some(place) => {
@@ -104,20 +108,20 @@ fn node_at<'s>(
     name: &Excerpt<'s>,
     keys: Option<&ArcKeys<'s>>,
     key: Tuple<'s>,
-) -> Result<u32, InstFault>
+) -> Result<u32, Fault>
     requires { count ≤ node_limit }
     ensures value { Answers (found.node_at count (trees.span_of (tree whole.now)) name.now (option_copied keys.entry) key.entry) result }
 {
     match keys {
         None => {
-            let detail = told_name(alloc, name)?;
-            Err(refuse(InstDefect::NoSuchNode, span_of(whole), detail))
+            let detail = Detail::of_name(alloc, name)?;
+            Err(refuse(Defect::NoSuchNode, span_of(whole), detail))
         }
         Some(keys) => {
             if key.len() == key_count(keys.keys) {
                 numbered(alloc, count, span_of(whole), name, keys, key)
             } else {
-                Err(refuse_tree(FormDefect::Value(EvalDefect::Arity), whole))
+                Err(refuse_tree(Defect::Arity, whole))
             }
         }
     }
@@ -129,8 +133,9 @@ fn plain_node<'s>(
     nodes: &NodeDraft<'s>,
     whole: &Expr<'s>,
     name: &Token<'s>,
-) -> Result<u32, InstFault>
-    ensures value { Answers (found.node_at (length nodes.now.ranges) (trees.span_of (tree whole.now)) name.now.text (declared nodes.now.group.numbers name.now.text) []) result }
+) -> Result<u32, Fault>
+    ensures value { Answers (found.node_at (length nodes.now.ranges) (trees.span_of (tree whole.now)) name.now.text (declared
+        nodes.now.group.numbers name.now.text) []) result }
 {
     let keys = nodes.keys_of(&name.text);
     node_at(alloc, nodes.len(), whole, &name.text, keys, Tuple::new())
@@ -145,8 +150,9 @@ fn indexed_node<'s>(
     whole: &Expr<'s>,
     name: &Token<'s>,
     subscripts: (&Expr<'s>, &[Link<'s>]),
-) -> Result<u32, InstFault>
-    ensures value { Answers (found.indexed_node nodes.now seen.now scope.now (trees.span_of (tree whole.now)) name.now (tree subscripts.entry.0.now) (links_of subscripts.entry.1.now)) result }
+) -> Result<u32, Fault>
+    ensures value { Answers (found.indexed_node nodes.now seen.now scope.now (trees.span_of (tree whole.now)) name.now (tree subscripts.entry.0.now)
+        (links_of subscripts.entry.1.now)) result }
 {
     let key = key_of(alloc, seen, scope, whole, subscripts.0, subscripts.1)?;
     let keys = nodes.keys_of(&name.text);
@@ -179,11 +185,11 @@ pub(crate) fn node_named<'s>(
     scope: &Scope<'s>,
     nodes: &NodeDraft<'s>,
     expr: &Expr<'s>,
-) -> Result<u32, InstFault>
+) -> Result<u32, Fault>
     ensures value { Answers (found.node_named nodes.now seen.now scope.now (tree expr.now)) result }
 {
     match name_in(expr) {
-        None => Err(refuse_tree(FormDefect::Value(EvalDefect::KindMismatch), expr)),
+        None => Err(refuse_tree(Defect::KindMismatch, expr)),
         Some((name, None)) => plain_node(alloc, nodes, expr, name),
         Some((name, Some((first, more)))) => {
             indexed_node(alloc, seen, scope, nodes, expr, name, (first, more))

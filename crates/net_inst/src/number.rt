@@ -5,11 +5,10 @@ ghost use Rattle.net_tree.specs.Spans as trees;
 ghost use Rattle.net_tree.specs.View.{tree};
 ghost use Rattle.net_eval.specs.Limits.{is_small};
 ghost use Rattle.net_inst.specs.Numbers as numbers;
-ghost use Rattle.net_inst.specs.Outcomes.{Answers};
+ghost use Rattle.net_fault.specs.Outcomes.{Answers};
 
-use crate::fault::{InstFault, refuse_tree};
-use net_eval::{EvalDefect, Scope, Seen, member};
-use net_forms::FormDefect;
+use net_eval::{Scope, Seen, member, refuse_tree};
+use net_fault::{Defect, Fault};
 use net_sets::Member;
 use net_tree::Expr;
 use std::alloc::Global;
@@ -25,7 +24,7 @@ fn is_small(number: &i64) -> bool
 }
 
 /// The number that a member is, where it is within the limit.
-fn number_in(whole: &Expr<'_>, member: &Member<'_>) -> Result<i64, InstFault>
+fn number_in(whole: &Expr<'_>, member: &Member<'_>) -> Result<i64, Fault>
     ensures { Answers (numbers.number_in (trees.span_of (tree whole.now)) member.now) result }
 {
     match member {
@@ -33,10 +32,10 @@ fn number_in(whole: &Expr<'_>, member: &Member<'_>) -> Result<i64, InstFault>
             if is_small(number) {
                 Ok(*number)
             } else {
-                Err(refuse_tree(FormDefect::Value(EvalDefect::TooLarge), whole))
+                Err(refuse_tree(Defect::ValueTooLarge, whole))
             }
         }
-        Member::Name(_) => Err(refuse_tree(FormDefect::Value(EvalDefect::KindMismatch), whole)),
+        Member::Name(_) => Err(refuse_tree(Defect::KindMismatch, whole)),
     }
 }
 
@@ -46,7 +45,7 @@ pub(crate) fn number_of<'s>(
     seen: &Seen<'_, 's>,
     scope: &Scope<'s>,
     expr: &Expr<'s>,
-) -> Result<i64, InstFault>
+) -> Result<i64, Fault>
     ensures { Answers (numbers.number seen.now scope.now (tree expr.now)) result }
 {
     let member = member(alloc, seen, scope, expr)?;

@@ -2,11 +2,11 @@
 
 ghost use Rattle.net_tree.specs.View.{tree, option_part};
 ghost use Rattle.net_inst.specs.Drafts as found;
-ghost use Rattle.net_inst.specs.Outcomes.{Answers};
+ghost use Rattle.net_fault.specs.Outcomes.{Answers};
 
-use crate::fault::{InstFault, widened};
 use net_eval::{Scope, Seen};
-use net_forms::{ArcNames, Form, objective};
+use net_fault::Fault;
+use net_linear::{ArcNames, Form, objective};
 use net_tree::{Expr, Part};
 use std::alloc::Global;
 
@@ -16,14 +16,11 @@ fn form_of<'s>(
     arcs: &ArcNames<'s>,
     seen: &Seen<'_, 's>,
     expr: &Expr<'s>,
-) -> Result<Form, InstFault>
+) -> Result<Form, Fault>
     ensures { Answers (found.said_tree arcs.now seen.now (tree expr.now)) result }
 {
     let scope = Scope::new(alloc);
-    match objective(alloc, arcs, seen, &scope, expr) {
-        Ok(form) => Ok(form),
-        Err(fault) => Err(widened(fault)),
-    }
+    objective(alloc, arcs, seen, &scope, expr)
 }
 
 /// What an objective says itself of the arcs declared before it.
@@ -33,7 +30,7 @@ pub(crate) fn said_form<'s>(
     arcs: &ArcNames<'s>,
     seen: &Seen<'_, 's>,
     part: &Option<Part<'s>>,
-) -> Result<Form, InstFault>
+) -> Result<Form, Fault>
     ensures { Answers (found.said_form arcs.now seen.now (option_part part.now)) result }
 {
     match part {

@@ -6,9 +6,10 @@ ghost use Rattle.net_tree.specs.Role.{role_of};
 ghost use Rattle.net_tree.specs.View.{tree, body_of, phrase_of};
 ghost use Rattle.net_inst.specs.Phrases as saying;
 ghost use Rattle.net_inst.specs.Parts.{parts_seen};
-ghost use Rattle.net_inst.specs.Outcomes.{AnswersAs};
+ghost use Rattle.net_fault.specs.Outcomes.{AnswersAs};
 
-use crate::fault::{InstDefect, InstFault, refuse_name};
+use crate::fault::refuse_name;
+use net_fault::{Defect, Fault};
 use net_lex::Token;
 use net_tree::{Begins, Body, Expr, Phrase, Relates, Role, role_of};
 use std::alloc::Global;
@@ -75,13 +76,14 @@ fn parts_from<'a, 's>(
     upper: Option<&'a Expr<'s>>,
     tail: Option<&'a Expr<'s>>,
     head: Option<&'a Expr<'s>>,
-) -> Result<ArcParts<'a, 's>, InstFault>
-    ensures { AnswersAs parts_seen (saying.parts_from name.now (option_map tree (option_copied lower.entry)) (option_map tree (option_copied upper.entry)) (option_map tree (option_copied tail.entry)) (option_map tree (option_copied head.entry))) result }
+) -> Result<ArcParts<'a, 's>, Fault>
+    ensures { AnswersAs parts_seen (saying.parts_from name.now (option_map tree (option_copied lower.entry)) (option_map tree
+        (option_copied upper.entry)) (option_map tree (option_copied tail.entry)) (option_map tree (option_copied head.entry))) result }
 {
     match (lower, upper, tail, head) {
-        (None, _, _, _) => Err(refuse_name(alloc, InstDefect::NoLower, name)?),
-        (Some(_), None, _, _) => Err(refuse_name(alloc, InstDefect::NoUpper, name)?),
-        (Some(_), Some(_), None, None) => Err(refuse_name(alloc, InstDefect::NoEnds, name)?),
+        (None, _, _, _) => Err(refuse_name(alloc, Defect::NoLower, name)?),
+        (Some(_), None, _, _) => Err(refuse_name(alloc, Defect::NoUpper, name)?),
+        (Some(_), Some(_), None, None) => Err(refuse_name(alloc, Defect::NoEnds, name)?),
         (Some(lower), Some(upper), tail, head) => Ok(ArcParts {
             lower,
             upper,
@@ -96,7 +98,7 @@ pub(crate) fn parts_of<'a, 's>(
     alloc: Global,
     name: &Token<'s>,
     phrases: &'a [Phrase<'s>],
-) -> Result<ArcParts<'a, 's>, InstFault>
+) -> Result<ArcParts<'a, 's>, Fault>
     ensures { AnswersAs parts_seen (saying.parts_of name.now (map phrase_of phrases.entry.now)) result }
 {
     let lower = said(ArcWord::AtLeast, phrases);

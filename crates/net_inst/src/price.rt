@@ -3,17 +3,17 @@
 ghost use Rattle.std.specs.Prelude.{◌≡◌, map};
 ghost use Rattle.net_tree.specs.Spans as trees;
 ghost use Rattle.net_tree.specs.View.{tree, body_of, phrase_of};
-ghost use Rattle.net_forms.specs.Forms as forms;
+ghost use Rattle.net_linear.specs.Forms as forms;
 ghost use Rattle.net_inst.specs.Arcs as found;
-ghost use Rattle.net_inst.specs.Outcomes.{Leaves, from_forms};
+ghost use Rattle.net_fault.specs.Outcomes.{Leaves};
 
-use crate::fault::{InstFault, widened};
 use crate::goal::Goal;
 use crate::number::number_of;
 use net_eval::{Scope, Seen};
-use net_forms::{Form, with_price};
-use net_lex::Excerpt;
+use net_fault::Fault;
+use net_linear::{Form, with_price};
 use net_tree::{Body, Expr, Phrase};
+use net_views::Excerpt;
 use std::alloc::Global;
 use std::mem;
 
@@ -34,17 +34,12 @@ fn add_price(
     whole: &Expr<'_>,
     price: &i64,
     form: &mut Form,
-) -> Result<(), InstFault>
-    ensures { Leaves (from_forms (forms.priced (trees.span_of (tree whole.now)) form.old arc price.now)) result form.new }
+) -> Result<(), Fault>
+    ensures { Leaves (forms.priced (trees.span_of (tree whole.now)) form.old arc price.now) result form.new }
 {
     let before = mem::replace(form, Form::zero(alloc));
-    match with_price(alloc, before, arc, whole, price) {
-        Ok(more) => {
-            *form = more;
-            Ok(())
-        }
-        Err(fault) => Err(widened(fault)),
-    }
+    *form = with_price(alloc, before, arc, whole, price)?;
+    Ok(())
 }
 
 /// Adds what an expression gives an arc.
@@ -55,7 +50,7 @@ fn add_value<'s>(
     arc: usize,
     expr: &Expr<'s>,
     form: &mut Form,
-) -> Result<(), InstFault>
+) -> Result<(), Fault>
     ensures { Leaves (found.priced_by seen.now scope.now arc (tree expr.now) form.old) result form.new }
 {
     let price = number_of(alloc, seen, scope, expr)?;
@@ -71,7 +66,7 @@ fn add_phrase<'s>(
     arc: usize,
     body: &Body<'s>,
     form: &mut Form,
-) -> Result<(), InstFault>
+) -> Result<(), Fault>
     ensures { Leaves (found.price_in goal.now seen.now scope.now arc (body_of body.now) form.old) result form.new }
 {
     match body {
@@ -96,7 +91,7 @@ pub(crate) fn add_phrases<'s>(
     arc: usize,
     phrases: &[Phrase<'s>],
     form: &mut Form,
-) -> Result<(), InstFault>
+) -> Result<(), Fault>
     ensures { Leaves (found.prices_in goal.now seen.now scope.now arc (map phrase_of phrases.now) form.old) result form.new }
 {
     for phrase in phrases {

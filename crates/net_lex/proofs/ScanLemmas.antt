@@ -5,15 +5,15 @@ use Rattle.std.proofs.lemmas.Bool.Decides.{nat_tests}
 use Rattle.std.proofs.lemmas.Str.{IsUtf8-drop}
 use Rattle.std.proofs.lemmas.Slice.Eq.{bytes_eq-Decides}
 use Rattle.std.specs.Str.{bytes_eq}
-use Rattle.net_lex.specs.declared.fault.Defect.{Defect}
-use Rattle.net_lex.specs.declared.fault.Defect.TheVariants.{BadCharacter, OpenString, OpenComment, NotWhole, TooLarge, NotUtf8, TextTooLong}
+use Rattle.net_fault.specs.declared.defect.Defect.{Defect}
+use Rattle.net_fault.specs.declared.defect.Defect.TheVariants.{OpenComment, NotWhole, NumeralTooLarge, TextTooLong}
 use Rattle.net_lex.specs.declared.gap.Place.TheVariants.{Between}
-use Rattle.net_lex.specs.declared.language.Language.{Language}
-use Rattle.net_lex.specs.declared.language.Language.TheVariants.{Model, Data}
+use Rattle.net_fault.specs.declared.language.Language.{Language}
+use Rattle.net_fault.specs.declared.language.Language.TheVariants.{Model, Data}
 use Rattle.net_lex.specs.declared.shape.Shape.{Shape}
 use Rattle.net_lex.specs.declared.shape.Shape.TheVariants.{Word, Numeral, Quoted, Mark}
 use Rattle.net_lex.specs.declared.shape.Stop.{Stop}
-use Rattle.net_lex.specs.declared.span.Span.{Span}
+use Rattle.net_fault.specs.declared.span.Span.{Span}
 use Rattle.net_lex.specs.declared.token.Kind.{Kind}
 use Rattle.net_lex.specs.declared.token.Kind.TheVariants as kinds
 use Rattle.net_lex.specs.declared.token.Token.{Token}
@@ -42,8 +42,8 @@ pub numeral_shape_kind : (language : Language) (word : List ℕ) (found : Result
     → IsKindOf language word found
 numeral_shape_kind Data word found none told = absurd none
 numeral_shape_kind Model word found (p, n) (inl (e, value)) = rw e ((p, n), λ k. value)
-numeral_shape_kind Model word found (p, n) (inr (inl (e, fault))) = rw e ((p, n), fault)
-numeral_shape_kind Model word found (p, n) (inr (inr (inl (e, fault)))) = rw e ((p, n), fault)
+numeral_shape_kind Model word found (p, n) (inr (inl (e, fault))) = rw e ((p, n), inl (refl, fault))
+numeral_shape_kind Model word found (p, n) (inr (inr (inl (e, fault)))) = rw e ((p, n), inr (refl, fault))
 numeral_shape_kind Model word found (p, n) (inr (inr (inr (e, none)))) = absurd (none false p (unsigned_spelled word p n))
 
 -- each form has a kind
@@ -98,19 +98,14 @@ found_whole language text shape n kind found allowed is same =
 -- a fault of a numeral is a defect of its text
 pub numeral_defect : (language : Language) (text : List ℕ) (shape : Shape) (n : ℕ) (defect : Defect) → FrontIs language text shape n → n ≤ 255 → IsKindOf language (take n text) (Err defect)
     → IsDefect limits language text defect 0 n
-numeral_defect language text shape n NotWhole found short (allowed, fault) =
+numeral_defect language text shape n defect found short (allowed, inl (is, fault)) =
     let len : length (take n text) ≡ n = omega (arith, length-take n text, found.within) in
-    subst (IsDefect limits language text NotWhole 0) len
-    (not_whole (take n text) (drop n text) (sym (take-append-drop n text)) (found_longest language text shape n kinds.Num found allowed) (omega (arith, len)) fault)
-numeral_defect language text shape n TooLarge found short (allowed, fault) =
+    rw is (subst (IsDefect limits language text NotWhole 0) len
+    (not_whole (take n text) (drop n text) (sym (take-append-drop n text)) (found_longest language text shape n kinds.Num found allowed) (omega (arith, len)) fault))
+numeral_defect language text shape n defect found short (allowed, inr (is, fault)) =
     let len : length (take n text) ≡ n = omega (arith, length-take n text, found.within) in
-    subst (IsDefect limits language text TooLarge 0) len
-    (too_large (take n text) (drop n text) (sym (take-append-drop n text)) (found_longest language text shape n kinds.Num found allowed) (omega (arith, len)) fault)
-numeral_defect language text shape n BadCharacter found short none = absurd none
-numeral_defect language text shape n OpenString found short none = absurd none
-numeral_defect language text shape n OpenComment found short none = absurd none
-numeral_defect language text shape n NotUtf8 found short none = absurd none
-numeral_defect language text shape n TextTooLong found short none = absurd none
+    rw is (subst (IsDefect limits language text NumeralTooLarge 0) len
+    (too_large (take n text) (drop n text) (sym (take-append-drop n text)) (found_longest language text shape n kinds.Num found allowed) (omega (arith, len)) fault))
 
 -- a token that is too long
 pub long_defect : (language : Language) (text : List ℕ) (shape : Shape) (n : ℕ) → FrontIs language text shape n → 255 < n → IsDefect limits language text TextTooLong 0 n

@@ -1,14 +1,15 @@
 -- The first fault of a text (AMPL book, section A.1, for the forms; the limits and the order are this profile's).
-use Rattle.std.specs.Prelude.{◌≡◌, ℕ, ◌+◌, ◌≤◌, ◌<◌, true, false, List, ◌∷◌, ◌++◌, length, codes}
+use Rattle.std.specs.Prelude.{◌≡◌, ℕ, ◌+◌, ◌≤◌, ◌<◌, true, false, List, ◌∷◌, ◌++◌, length}
 use Rattle.std.specs.Char.{encode_utf8}
 use Rattle.std.specs.Str.{IsUtf8, IsValidUpTo}
-use Rattle.net_lex.specs.declared.fault.Defect.{Defect}
-use Rattle.net_lex.specs.declared.fault.Defect.TheVariants.{BadCharacter, OpenString, OpenComment, NotWhole, TooLarge, NotUtf8, TextTooLong}
-use Rattle.net_lex.specs.declared.fault.LexFault.{LexFault}
-use Rattle.net_lex.specs.declared.fault.LexFault.TheVariants.{OutOfMemory, At}
-use Rattle.net_lex.specs.declared.language.Language.{Language}
+use Rattle.net_fault.specs.declared.defect.Defect.{Defect}
+use Rattle.net_fault.specs.declared.defect.Defect.TheVariants.{BadCharacter, OpenString, OpenComment, NotWhole, NumeralTooLarge, NotUtf8, TextTooLong}
+use Rattle.net_fault.specs.declared.fault.Fault.{Fault}
+use Rattle.net_fault.specs.declared.fault.Fault.TheVariants.{OutOfMemory, At}
+use Rattle.net_fault.specs.Outcomes.{bare}
+use Rattle.net_fault.specs.declared.language.Language.{Language}
 use Rattle.net_lex.specs.declared.whole.NumFault.TheVariants as num
-use Rattle.net_lex.specs.declared.span.Span.{Span}
+use Rattle.net_fault.specs.declared.span.Span.{Span}
 use Rattle.net_lex.specs.declared.token.Kind.{Kind}
 use Rattle.net_lex.specs.declared.token.Kind.TheVariants.{Num, Str}
 use Rattle.net_lex.specs.declared.token.Token.{Token}
@@ -41,7 +42,7 @@ pub data IsDefect (limits : Limits) (language : Language) (text : List ℕ) : De
   not_whole : (word after : List ℕ) → text ≡ word ++ after → IsLongest language Num word after
       → length word ≤ limits.token → IsNumFault limits.value word num.NotWhole → IsDefect limits language text NotWhole 0 (length word)
   too_large : (word after : List ℕ) → text ≡ word ++ after → IsLongest language Num word after
-      → length word ≤ limits.token → IsNumFault limits.value word num.TooLarge → IsDefect limits language text TooLarge 0 (length word)
+      → length word ≤ limits.token → IsNumFault limits.value word num.TooLarge → IsDefect limits language text NumeralTooLarge 0 (length word)
 
 -- what is wrong behind the blanks and comments from the byte `at` on
 pub data IsFault (limits : Limits) (language : Language) (at : ℕ) (rest : List ℕ) (defect : Defect) (span : Span) : Type 0 where
@@ -74,30 +75,12 @@ abbrev pub BeginsWithToken : Limits → Language → List ℕ → Type 0
 BeginsWithToken limits language text = (token : Token) × (gap : List ℕ) × (after : List ℕ) × IsSoundNext limits language 0 text token gap after
 
 -- what is wrong behind tokens that are sound; memory is wanted for a first token, and not before
-abbrev pub IsFaultBehind : Limits → Language → List ℕ → LexFault → Type 0
+abbrev pub IsFaultBehind : Limits → Language → List ℕ → Fault → Type 0
 IsFaultBehind limits language text OutOfMemory = BeginsWithToken limits language text
-IsFaultBehind limits language text (At defect span) = (tokens : List Token) × StandSound limits language (λ at rest. IsFault limits language at rest defect span) 0 text tokens
+IsFaultBehind limits language text (At f) =
+    (f ≡ bare language f.defect f.at) × (tokens : List Token) × StandSound limits language (λ at rest. IsFault limits language at rest f.defect f.at) 0 text tokens
 
 -- a fault's place is in the text
-abbrev pub HasPlace : List ℕ → LexFault → Type 0
+abbrev pub HasPlace : List ℕ → Fault → Type 0
 HasPlace text OutOfMemory = Unit {0}
-HasPlace text (At defect span) = (span.start ≤ span.end) × (span.end ≤ length text)
-
--- the numbers and names of the faults, as they are printed
-abbrev pub number_of : Defect → ℕ
-number_of BadCharacter = 1
-number_of OpenString = 2
-number_of OpenComment = 3
-number_of NotWhole = 4
-number_of TooLarge = 5
-number_of NotUtf8 = 6
-number_of TextTooLong = 7
-
-abbrev pub name_of : Defect → List ℕ
-name_of BadCharacter = codes "BadCharacter"
-name_of OpenString = codes "OpenString"
-name_of OpenComment = codes "OpenComment"
-name_of NotWhole = codes "NotWhole"
-name_of TooLarge = codes "TooLarge"
-name_of NotUtf8 = codes "NotUtf8"
-name_of TextTooLong = codes "TextTooLong"
+HasPlace text (At f) = (f.at.start ≤ f.at.end) × (f.at.end ≤ length text)

@@ -2,11 +2,12 @@
 use Rattle.std.specs.Prelude.{◌≡◌, ℕ, ◌≤◌, List, length, Result, IfOk, IfErr, MatchResult}
 use Rattle.std.specs.List.{AllByRecursion}
 use Rattle.std.specs.Str.{IsUtf8}
-use Rattle.net_lex.specs.declared.fault.Defect.{Defect}
-use Rattle.net_lex.specs.declared.fault.LexFault.{LexFault}
-use Rattle.net_lex.specs.declared.fault.LexFault.TheVariants.{OutOfMemory, At}
-use Rattle.net_lex.specs.declared.language.Language.{Language}
-use Rattle.net_lex.specs.declared.span.Span.{Span}
+use Rattle.net_fault.specs.declared.defect.Defect.{Defect}
+use Rattle.net_fault.specs.declared.fault.Fault.{Fault}
+use Rattle.net_fault.specs.declared.fault.Fault.TheVariants.{OutOfMemory, At}
+use Rattle.net_fault.specs.Outcomes.{bare}
+use Rattle.net_fault.specs.declared.language.Language.{Language}
+use Rattle.net_fault.specs.declared.span.Span.{Span}
 use Rattle.net_lex.specs.declared.token.Token.{Token}
 use Rattle.net_lex.specs.Limits.{limits, text_limit}
 use Rattle.net_lex.specs.Reading.{Reads, AreSound, IsSliceOf}
@@ -25,13 +26,13 @@ pub record AreTokensOf (language : Language) (text : List ℕ) (tokens : List To
 abbrev pub IsFirstFault : Language → List ℕ → Defect → Span → Type 0
 IsFirstFault language text defect span = faults.IsFirstFault limits language (text_limit language) text defect span
 
--- the first fault of the text, or want of memory, where a token begins a text that is short enough and UTF-8
-abbrev pub IsRefusal : Language → List ℕ → LexFault → Type 0
+-- the first fault of the text, told with its place alone, or want of memory, where a token begins a text that is short enough and UTF-8
+abbrev pub IsRefusal : Language → List ℕ → Fault → Type 0
 IsRefusal language text OutOfMemory = (length text ≤ text_limit language) × IsUtf8 text × BeginsWithToken limits language text
-IsRefusal language text (At defect span) = IsFirstFault language text defect span
+IsRefusal language text (At f) = (f ≡ bare language f.defect f.at) × IsFirstFault language text f.defect f.at
 
 -- The promise of the lexer.
-pub record Lexes {V : Type 0} (items : V → List Token) (language : Language) (text : List ℕ) (answer : Result V LexFault) : Type 0 where
+pub record Lexes {V : Type 0} (items : V → List Token) (language : Language) (text : List ℕ) (answer : Result V Fault) : Type 0 where
   -- the tokens of the text, or its first fault
   pub ok : IfOk answer (λ v. AreTokensOf language text (items v))
   pub refused : IfErr answer (IsRefusal language text)

@@ -2,7 +2,6 @@ pub mod Bytes
 pub mod Numerals
 pub mod Limits
 pub mod Places
-pub mod formers
 pub mod NumeralFront
 pub mod NumeralViews
 pub mod Significands

@@ -1,7 +1,7 @@
 -- The greatest sizes in model and data texts, which are this profile's own: of texts and tokens in bytes, of a value in size.
 use Rattle.std.specs.Prelude.{ℕ}
-use Rattle.net_lex.specs.declared.language.Language.{Language}
-use Rattle.net_lex.specs.declared.language.Language.TheVariants.{Model, Data}
+use Rattle.net_fault.specs.declared.language.Language.{Language}
+use Rattle.net_fault.specs.declared.language.Language.TheVariants.{Model, Data}
 
 -- the greatest length of a token, and of a value in size
 pub record Limits : Type 0 where

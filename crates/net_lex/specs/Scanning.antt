@@ -1,12 +1,12 @@
 -- What each step of the scanner gives (AMPL book, section A.1, for the forms).
 use Rattle.std.specs.Prelude.{◌≡◌, ℕ, ◌+◌, ◌<◌, ◌⊎◌, List, ◌++◌, length, None, Result, Ok, Err, ℤ}
 use Rattle.std.specs.Str.{IsUtf8}
-use Rattle.net_lex.specs.declared.fault.Defect.{Defect}
-use Rattle.net_lex.specs.declared.fault.Defect.TheVariants.{NotWhole, TooLarge}
+use Rattle.net_fault.specs.declared.defect.Defect.{Defect}
+use Rattle.net_fault.specs.declared.defect.Defect.TheVariants.{NotWhole, NumeralTooLarge}
 use Rattle.net_lex.specs.declared.gap.Place.TheVariants.{Between}
-use Rattle.net_lex.specs.declared.language.Language.{Language}
+use Rattle.net_fault.specs.declared.language.Language.{Language}
 use Rattle.net_lex.specs.declared.whole.NumFault.TheVariants as num
-use Rattle.net_lex.specs.declared.span.Span.{Span}
+use Rattle.net_fault.specs.declared.span.Span.{Span}
 use Rattle.net_lex.specs.declared.token.Kind.{Kind}
 use Rattle.net_lex.specs.declared.token.Kind.TheVariants.{Num}
 use Rattle.net_lex.specs.declared.token.Token.{Token}
@@ -27,15 +27,15 @@ abbrev pub IsNumeralKind : List ℕ → Result Kind Defect → Result Kind Defec
 IsNumeralKind word otherwise found =
     ((found ≡ Ok Num) × ((v : ℤ) × IsValue limits.value word v))
     ⊎ ((found ≡ Err NotWhole) × IsNumFault limits.value word num.NotWhole)
-    ⊎ ((found ≡ Err TooLarge) × IsNumFault limits.value word num.TooLarge)
+    ⊎ ((found ≡ Err NumeralTooLarge) × IsNumFault limits.value word num.TooLarge)
     ⊎ ((found ≡ otherwise) × IsNumFault limits.value word num.NotNumeral)
 
 -- the kind of a word with the value of its numeral, or what is wrong with the numeral
 abbrev pub IsKindOf : Language → List ℕ → Result Kind Defect → Type 0
 IsKindOf language word (Ok kind) = Allows language kind word × (kind ≡ Num → (v : ℤ) × IsValue limits.value word v)
-IsKindOf language word (Err NotWhole) = Allows language Num word × IsNumFault limits.value word num.NotWhole
-IsKindOf language word (Err TooLarge) = Allows language Num word × IsNumFault limits.value word num.TooLarge
-IsKindOf language word (Err _) = ⊥
+IsKindOf language word (Err defect) =
+    Allows language Num word
+    × ((defect ≡ NotWhole) × IsNumFault limits.value word num.NotWhole ⊎ (defect ≡ NumeralTooLarge) × IsNumFault limits.value word num.TooLarge)
 
 -- the token stands at the front of a text, which goes on after it
 pub record IsTokenAt (language : Language) (at : ℕ) (text : List ℕ) (token : Token) (after : List ℕ) : Type 0 where

@@ -1,18 +1,17 @@
 //! Tokens of data text.
 ghost use Rattle.std.specs.Prelude.{◌≡◌, ◌+◌, ◌<◌, ◌^◌, length};
-ghost use Rattle.net_lex.specs.declared.language.Language.TheVariants.{Data};
+ghost use Rattle.net_fault.specs.declared.language.Language.TheVariants.{Data};
 ghost use Rattle.net_lex.specs.Lexing.{Lexes};
 ghost use Rattle.net_lex.specs.Shapes.{data_front};
 
 use crate::bare_word::word_len;
 use crate::cursor::first;
-use crate::fault::LexFault;
-use crate::language::Language;
 use crate::shape::{Shape, Stop, mark_front};
 use crate::string::{is_quote, string_at};
 use crate::token::Token;
 use crate::tokens::lex;
 use crate::words::data_mark_len;
+use net_fault::{Fault, Language};
 use std::alloc::Global;
 
 /// What stands at the front, where neither a blank nor a comment begins.
@@ -36,7 +35,7 @@ pub const DATA_LIMIT: usize = 0x100_0000;
 
 /// The tokens of a data text, in order, or its first fault with its span: a text past its limit, then one that
 /// is not UTF-8, then what stands first. Spans count bytes from 0.
-pub fn lex_data<'s>(alloc: Global, text: &'s [u8]) -> Result<Vec<Token<'s>>, LexFault>
+pub fn lex_data<'s>(alloc: Global, text: &'s [u8]) -> Result<Vec<Token<'s>>, Fault>
     ensures value { Lexes (λ v. v.items) Data text.entry.now result }
 {
     lex(alloc, Language::Data, text)

@@ -1,20 +1,19 @@
 //! Tokens of model text.
 ghost use Rattle.std.specs.Prelude.{◌≡◌, ◌+◌, ◌<◌, ◌^◌, ◌≤◌, length, None};
 ghost use Rattle.std.specs.List.{prefix_len};
-ghost use Rattle.net_lex.specs.declared.language.Language.TheVariants.{Model};
+ghost use Rattle.net_fault.specs.declared.language.Language.TheVariants.{Model};
 ghost use Rattle.net_lex.specs.Lexing.{Lexes};
 ghost use Rattle.net_lex.specs.Characters.{starts_name, continues_name};
 ghost use Rattle.net_lex.specs.Shapes.{unnamed_front, model_front};
 
 use crate::cursor::first;
-use crate::fault::LexFault;
-use crate::language::Language;
 use crate::numeral::numeral_at;
 use crate::shape::{Shape, Stop, mark_front};
 use crate::string::{is_quote, string_at};
 use crate::token::Token;
 use crate::tokens::lex;
 use crate::words::model_mark_len;
+use net_fault::{Fault, Language};
 use std::alloc::Global;
 
 fn starts_name(byte: u8) -> bool
@@ -67,7 +66,7 @@ pub const MODEL_LIMIT: usize = 0x10_0000;
 
 /// The tokens of a model text, in order, or its first fault with its span: a text past its limit, then one that
 /// is not UTF-8, then what stands first. Spans count bytes from 0.
-pub fn lex_model<'s>(alloc: Global, text: &'s [u8]) -> Result<Vec<Token<'s>>, LexFault>
+pub fn lex_model<'s>(alloc: Global, text: &'s [u8]) -> Result<Vec<Token<'s>>, Fault>
     ensures value { Lexes (λ v. v.items) Model text.entry.now result }
 {
     lex(alloc, Language::Model, text)

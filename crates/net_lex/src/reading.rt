@@ -2,9 +2,9 @@
 ghost use Rattle.std.specs.Prelude.{◌≡◌, ℕ, List};
 ghost use Rattle.net_lex.specs.Lexing.{AreTokensOf, IsFirstFault};
 ghost use Rattle.net_lex.specs.Reading.{Reads};
-ghost use Rattle.net_lex.specs.declared.fault.Defect.{Defect};
-ghost use Rattle.net_lex.specs.declared.language.Language.{Language};
-ghost use Rattle.net_lex.specs.declared.span.Span.{Span};
+ghost use Rattle.net_fault.specs.declared.defect.Defect.{Defect};
+ghost use Rattle.net_fault.specs.declared.language.Language.{Language};
+ghost use Rattle.net_fault.specs.declared.span.Span.{Span};
 ghost use Rattle.net_lex.specs.declared.token.Token.{Token};
 
 /// No two lists of tokens read one text.

@@ -9,16 +9,14 @@ ghost use Rattle.net_lex.specs.Scanning.{BeginsNoGap, IsNumeralKind, IsKindOf, I
 ghost use Rattle.net_lex.specs.declared.shape.Shape.TheVariants.{Word};
 
 use crate::data_text::data_front;
-use crate::excerpt::Excerpt;
-use crate::fault::Defect;
 use crate::gap::gap_len;
-use crate::language::Language;
 use crate::model_text::model_front;
 use crate::shape::{Shape, Stop};
-use crate::span::Span;
 use crate::token::{Kind, Token};
 use crate::whole::{NumFault, whole_of};
 use crate::words::is_reserved;
+use net_fault::{Defect, Language, Span};
+use net_views::Excerpt;
 
 /// The greatest length of a token, in bytes.
 const TOKEN_LIMIT: usize = 255;
@@ -41,7 +39,7 @@ fn numeral_kind(word: &str, otherwise: Result<Kind, Defect>) -> Result<Kind, Def
     match whole_of(word) {
         Ok(_) => Ok(Kind::Num),
         Err(NumFault::NotWhole) => Err(Defect::NotWhole),
-        Err(NumFault::TooLarge) => Err(Defect::TooLarge),
+        Err(NumFault::TooLarge) => Err(Defect::NumeralTooLarge),
         Err(NumFault::NotNumeral) => otherwise,
     }
 }

@@ -2,7 +2,7 @@ ghost use Rattle.std.specs.Prelude.{◌≡◌};
 ghost use Rattle.net_lex.specs.Shapes.{mark_front};
 
 use crate::bare_word::char_len;
-use crate::fault::Defect;
+use net_fault::Defect;
 
 /// What a piece of a text is by its form alone.
 #[derive(Clone, Copy)]

@@ -4,8 +4,8 @@ ghost use Rattle.net_lex.specs.Shapes.{delimited_after, string_end, IsEndWithin,
 ghost use Rattle.net_lex.specs.Characters.{is_control, is_quote};
 
 use crate::cursor::{first, rest};
-use crate::fault::Defect;
 use crate::shape::{Shape, Stop};
+use net_fault::Defect;
 
 /// Where a string ends, counted from after its first quotation mark.
 #[derive(Clone, Copy)]

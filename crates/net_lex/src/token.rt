@@ -1,7 +1,7 @@
 ghost use Rattle.std.specs.Prelude.{◌≡◌};
 
-use crate::excerpt::Excerpt;
-use crate::span::Span;
+use net_fault::Span;
+use net_views::Excerpt;
 
 /// What a token is.
 #[derive(Clone, Copy, Debug, PartialEq, Eq)]

@@ -6,19 +6,13 @@ ghost use Rattle.net_lex.specs.Faults.{StandSound, IsFaultBehind};
 ghost use Rattle.net_lex.specs.Lexing.{Lexes};
 
 use crate::data_text::DATA_LIMIT;
-use crate::fault::{Defect, LexFault};
-use crate::language::Language;
 use crate::model_text::MODEL_LIMIT;
 use crate::scan::step;
-use crate::span::Span;
 use crate::token::Token;
+use net_fault::{Defect, Detail, Fault, Language, Span};
 use std::alloc::Global;
 
-fn tokens_of<'s>(
-    alloc: Global,
-    language: Language,
-    text: &'s str,
-) -> Result<Vec<Token<'s>>, LexFault>
+fn tokens_of<'s>(alloc: Global, language: Language, text: &'s str) -> Result<Vec<Token<'s>>, Fault>
     requires { length text.now ≤ 2 ^ 24 }
     ensures { MatchResult result
         (λ v. StandSound limits language EndsInGap 0 text.entry.now v.items)
@@ -29,12 +23,17 @@ fn tokens_of<'s>(
     let mut at = 0;
     'tokens: loop {
         match step(language, rest, at) {
-            Err((defect, span)) => return Err(LexFault::At(defect, span)),
+            Err((defect, span)) => return Err(Fault::of_text(
+                language,
+                defect,
+                span,
+                Detail::Nothing,
+            )),
             Ok(None) => return Ok(tokens),
             Ok(Some((token, after))) => {
                 at = token.span.end;
                 let Ok(()) = tokens.push(token) else {
-                    return Err(LexFault::OutOfMemory);
+                    return Err(Fault::OutOfMemory);
                 };
                 rest = after;
             }
@@ -57,22 +56,21 @@ pub(crate) fn lex<'s>(
     alloc: Global,
     language: Language,
     text: &'s [u8],
-) -> Result<Vec<Token<'s>>, LexFault>
+) -> Result<Vec<Token<'s>>, Fault>
     ensures value { Lexes (λ v. v.items) language text.entry.now result }
 {
     if text.len() > text_limit(language) {
-        return Err(LexFault::At(Defect::TextTooLong, Span { start: 0, end: 0 }));
+        let at = Span { start: 0, end: 0 };
+        return Err(Fault::of_text(language, Defect::TextTooLong, at, Detail::Nothing));
     }
     match str::from_utf8(text) {
         Err(bad) => {
             let good = bad.valid_up_to();
-            Err(LexFault::At(
-                Defect::NotUtf8,
-                Span {
-                    start: good,
-                    end: good + 1,
-                },
-            ))
+            let at = Span {
+                start: good,
+                end: good + 1,
+            };
+            Err(Fault::of_text(language, Defect::NotUtf8, at, Detail::Nothing))
         }
         Ok(text) => tokens_of(alloc, language, text),
     }

@@ -30,17 +30,17 @@ pub record SoundCondition (d : ℕ) (ts : Tokens) (a : Condition × Tokens) : Ty
   pub level : IsCondition a.0
   pub within : condition_depth a.0 ≤ d
 
-chains-order : (p q : Role) → chains p q ≡ true → same_order p q ≡ true
+pub chains-order : (p q : Role) → chains p q ≡ true → same_order p q ≡ true
 chains-order (roles.Relation relates.AtMost) (roles.Relation relates.AtMost) h = refl
 chains-order (roles.Relation relates.AtLeast) (roles.Relation relates.AtLeast) h = refl
 chains-order _ _ h = absurd (cc)
 
-order-chains : (p q : Role) → same_order p q ≡ true → chains p q ≡ true
+pub order-chains : (p q : Role) → same_order p q ≡ true → chains p q ≡ true
 order-chains (roles.Relation relates.AtMost) (roles.Relation relates.AtMost) h = refl
 order-chains (roles.Relation relates.AtLeast) (roles.Relation relates.AtLeast) h = refl
 order-chains _ _ h = absurd (cc)
 
-order-bounds : (p q : Role) → same_order p q ≡ true → (is_bound p ≡ true) × (is_bound q ≡ true)
+pub order-bounds : (p q : Role) → same_order p q ≡ true → (is_bound p ≡ true) × (is_bound q ≡ true)
 order-bounds (roles.Relation relates.AtMost) (roles.Relation relates.AtMost) h = (refl, refl)
 order-bounds (roles.Relation relates.AtLeast) (roles.Relation relates.AtLeast) h = (refl, refl)
 order-bounds _ _ h = absurd (cc)

@@ -37,7 +37,7 @@ pub record SoundIndexing (d : ℕ) (ts : Tokens) (a : Option Braces × Tokens) :
   pub level : IsIndexing a.0
   pub within : indexing_depth a.0 ≤ d
 
-indexing-sound : (d : ℕ) (o : Option Inner) → IsInside d o → (ts : Tokens) (a : Option Braces × Tokens) → indexing_at o ts ≡ Ok a → SoundIndexing d ts a
+pub indexing-sound : (d : ℕ) (o : Option Inner) → IsInside d o → (ts : Tokens) (a : Option Braces × Tokens) → indexing_at o ts ≡ Ok a → SoundIndexing d ts a
 unfolding indexing_at
 indexing-sound d o inner ts a h =
     elim (chosen (next_is is_open_brace ts) _ _ _ h) [
@@ -48,13 +48,13 @@ indexing-sound d o inner ts a h =
       | off b e ↦ given (λ y. SoundIndexing d ts y) (None, ts) a e (record { text = refl; level = tt; within = omega arith })
     ]
 
-set_phrases : (ps : List Phrase) → ArePhrases (Of owners.Set) ps → Singly owners.Set nothing_stood ps → AreSetPhrases ps
+pub set_phrases : (ps : List Phrase) → ArePhrases (Of owners.Set) ps → Singly owners.Set nothing_stood ps → AreSetPhrases ps
 set_phrases ps are singly = (are, omega (arith, singly dimen refl), omega (arith, singly becomes refl))
 
-param_phrases : (ps : List Phrase) → ArePhrases (Of owners.Param) ps → Singly owners.Param nothing_stood ps → AreParamPhrases ps
+pub param_phrases : (ps : List Phrase) → ArePhrases (Of owners.Param) ps → Singly owners.Param nothing_stood ps → AreParamPhrases ps
 param_phrases ps are singly = (are, omega (arith, singly default refl), omega (arith, singly becomes refl))
 
-arc_phrases : (ps : List Phrase) → ArePhrases (Of owners.Arc) ps → Singly owners.Arc nothing_stood ps → AreArcPhrases ps
+pub arc_phrases : (ps : List Phrase) → ArePhrases (Of owners.Arc) ps → Singly owners.Arc nothing_stood ps → AreArcPhrases ps
 arc_phrases ps are singly = (are, omega (arith, singly at_least refl), omega (arith, singly at_most refl), omega (arith, singly from refl), omega (arith, singly to refl))
 
 set_singly : (ps : List Phrase) → AreSetPhrases ps → Singly owners.Set nothing_stood ps
@@ -162,7 +162,7 @@ node-sound d o inner w ts a is h =
       within = omega (arith, sb.within, sc.within);
     })
 
-part_objective : (p : Part) → IsPart sorts.Colon (Wide 7) p → IsObjective p
+pub part_objective : (p : Part) → IsPart sorts.Colon (Wide 7) p → IsObjective p
 part_objective absent h = tt
 part_objective (part m x) h = (h.0, h.1, wide_value (rank x) h.2)
 

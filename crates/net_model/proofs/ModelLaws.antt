@@ -18,18 +18,18 @@ pub record IsOne (d : ℕ) (s : Unit {0}) (x : Declaration) (after : Unit {0}) :
   pub level : IsDeclaration x
   pub within : declaration_depth x ≤ d
 
-put_all-print : (xs : List Declaration) (r : Tokens) → r ≡ [] → put_all put_declaration xs r ≡ print xs
+pub put_all-print : (xs : List Declaration) (r : Tokens) → r ≡ [] → put_all put_declaration xs r ≡ print xs
 put_all-print [] r none = none
 put_all-print (x ∷ xs) r none = ap (put_declaration x) (put_all-print xs r none)
 
-step-sound : (d : ℕ) (s : Unit {0}) (ts : Tokens) (a : (Declaration × Unit {0}) × Tokens) → any_left ts ≡ true → declaration_step (inside d) s ts ≡ Ok a → SoundStep put_declaration (IsOne d) s ts a
+pub step-sound : (d : ℕ) (s : Unit {0}) (ts : Tokens) (a : (Declaration × Unit {0}) × Tokens) → any_left ts ≡ true → declaration_step (inside d) s ts ≡ Ok a → SoundStep put_declaration (IsOne d) s ts a
 unfolding declaration_step
 step-sound d s ts a more h =
     let x = bind_ok _ _ _ h in
     let sx = declaration-sound d (inside d) (inside-sound d) ts x.value x.first in
     given (λ y. SoundStep put_declaration (IsOne d) s ts y) ((x.value.0, s), x.value.1) a x.after (record { text = sx.text; holds = record { level = sx.level; within = sx.within } })
 
-chain-level : (d : ℕ) (s : Unit {0}) (xs : List Declaration) (e : Unit {0}) → Chain (IsOne d) s xs e → AreDeclarations xs × (model_depth xs ≤ d)
+pub chain-level : (d : ℕ) (s : Unit {0}) (xs : List Declaration) (e : Unit {0}) → Chain (IsOne d) s xs e → AreDeclarations xs × (model_depth xs ≤ d)
 chain-level d s [] e steps = (tt, omega arith)
 chain-level d s (x ∷ xs) e steps =
     let one = steps.1 in

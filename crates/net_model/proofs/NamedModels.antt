@@ -2,23 +2,22 @@
 use Rattle.std.specs.Prelude.{◌≡◌, List, [], Option, None, Some, Result, Ok, Err}
 use Rattle.std.proofs.Common.{refl, ap, sym, ◌∙◌, subst}
 use Rattle.net_tree.specs.Tree.{Declaration}
-use Rattle.net_names.specs.declared.fault.NameFault.{NameFault}
-use Rattle.net_names.specs.declared.fault.NameFault.TheVariants as name_faults
-use Rattle.net_names.specs.Names.{names_fault, IsWellNamed}
-use Rattle.net_names.specs.Told.{Fault, Tells}
-use Rattle.net_model.specs.declared.fault.ModelFault.{ModelFault}
-use Rattle.net_model.specs.declared.fault.ModelFault.TheVariants as faults
+use Rattle.net_resolve.specs.Names.{names_fault, IsWellNamed}
+use Rattle.net_resolve.specs.Told as names
+use Rattle.net_resolve.specs.Told.{TellsOf}
+use Rattle.net_fault.specs.declared.fault.Fault.{Fault}
+use Rattle.net_fault.specs.declared.fault.Fault.TheVariants as faults
 use Rattle.net_model.specs.Declarations.{model_at, nesting_limit}
 use Rattle.net_model.specs.Meaning.{Means}
-use Rattle.net_model.specs.Models.{unless_fault, meant_by, meant, name_told, IsFault, of_grammar, of_names}
+use Rattle.net_model.specs.Models.{unless_fault, meant_by, meant, IsFault, of_grammar, of_names}
 use Rattle.net_model.specs.Reading.{Tokens, Read}
 use Rattle.net_model.proofs.ModelLaws.{model-complete}
 
-abbrev declarations_of : Result (List Declaration) ModelFault → List Declaration
+abbrev declarations_of : Result (List Declaration) Fault → List Declaration
 declarations_of (Ok ds) = ds
 declarations_of (Err e) = []
 
-named : (es ds : List Declaration) (o : Option Fault) → names_fault [] es ≡ o → unless_fault es o ≡ Ok ds → IsWellNamed ds
+named : (es ds : List Declaration) (o : Option names.Fault) → names_fault [] es ≡ o → unless_fault es o ≡ Ok ds → IsWellNamed ds
 named es ds None f h = subst (λ l. names_fault [] l ≡ None) (ap declarations_of h) f
 named es ds (Some x) f h = cc
 
@@ -36,6 +35,6 @@ named_meant ts ds means well =
     ap (meant_by ts) read ∙ ap (unless_fault ds) well
 
 -- what is told of the names is told of a model that the tokens mean
-pub named_fault : (ts : Tokens) (ds : List Declaration) (f : NameFault) (g : ModelFault) → Means ts ds → Tells (names_fault [] ds) (Err f) → g ≡ name_told f → IsFault ts g
-named_fault ts ds name_faults.OutOfMemory g means told is = subst (IsFault ts) (sym is) (of_grammar faults.OutOfMemory tt)
-named_fault ts ds (name_faults.At d t) g means told is = subst (IsFault ts) (sym is) (of_names ds d t means told)
+pub named_fault : (ts : Tokens) (ds : List Declaration) (f : Fault) → Means ts ds → TellsOf (names_fault [] ds) (Err f) → IsFault ts f
+named_fault ts ds faults.OutOfMemory means told = of_grammar faults.OutOfMemory tt
+named_fault ts ds (faults.At g) means (x, is, same) = rw same (of_names ds x.0 x.1 means is)

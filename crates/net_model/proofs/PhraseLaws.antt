@@ -27,7 +27,7 @@ pub record SoundComma (ts : Tokens) (a : Option Token × Tokens) : Type 0 where
   pub text : ts ≡ put_optional a.0 a.1
   pub level : IsOptionalComma a.0
 
-comma-sound : (ts : Tokens) (a : Option Token × Tokens) → comma_at ts ≡ Ok a → SoundComma ts a
+pub comma-sound : (ts : Tokens) (a : Option Token × Tokens) → comma_at ts ≡ Ok a → SoundComma ts a
 unfolding comma_at
 comma-sound [] a h = given (λ y. SoundComma [] y) (None, []) a h (record { text = refl; level = tt })
 comma-sound (t ∷ ts) a h =
@@ -49,7 +49,7 @@ pub record IsPhraseOf (d : ℕ) (o : Owner) (s : Stood) (p : Phrase) (after : St
 abbrev pub put_phrase : Phrase → Tokens → Tokens
 put_phrase p r = put_optional p.comma (p.word ∷ put_body p.body r)
 
-put_all-phrases : (ps : List Phrase) (r : Tokens) → put_all put_phrase ps r ≡ put_phrases ps r
+pub put_all-phrases : (ps : List Phrase) (r : Tokens) → put_all put_phrase ps r ≡ put_phrases ps r
 put_all-phrases [] r = refl
 put_all-phrases (p ∷ ps) r = ap (λ k. put_optional p.comma (p.word ∷ put_body p.body k)) (put_all-phrases ps r)
 
@@ -76,7 +76,7 @@ worded-sound d i inner o s c (w ∷ ts) a comma h =
       | off b e ↦ slotted-sound d i inner o s c w ts (slot_of o (role_of w)) a comma b refl e
     ]
 
-phrase-sound : (d : ℕ) (i : Option Inner) → IsInside d i → (o : Owner) (s : Stood) (ts : Tokens) (a : (Phrase × Stood) × Tokens) → phrase_next o s ts ≡ true → phrase_at i o s ts ≡ Ok a
+pub phrase-sound : (d : ℕ) (i : Option Inner) → IsInside d i → (o : Owner) (s : Stood) (ts : Tokens) (a : (Phrase × Stood) × Tokens) → phrase_next o s ts ≡ true → phrase_at i o s ts ≡ Ok a
     → SoundStep put_phrase (IsPhraseOf d o) s ts a
 unfolding phrase_at
 phrase-sound d i inner o s ts a next h =
@@ -102,7 +102,7 @@ counted_by n before after true is new h =
     omega (arith, h, a, b)
 counted_by n before after false is new h = let a : one_of after ≡ one_of before = ap one_of is in omega (arith, h, a)
 
-chain-singly : (d : ℕ) (o : Owner) (s : Stood) (ps : List Phrase) (e : Stood) → Chain (IsPhraseOf d o) s ps e → Singly o s ps
+pub chain-singly : (d : ℕ) (o : Owner) (s : Stood) (ps : List Phrase) (e : Stood) → Chain (IsPhraseOf d o) s ps e → Singly o s ps
 chain-singly d o s [] e steps f single = omega (arith, one_of-le (stood f s))
 chain-singly d o s (p ∷ ps) e steps f single =
     let q = steps.1 in
@@ -111,7 +111,7 @@ chain-singly d o s (p ∷ ps) e steps f single =
     (λ word. sym (stood-single o f s (role_of p.word) single word) ∙ q.fresh)
     (chain-singly d o steps.0 ps e steps.2 f single)
 
-chain-phrases : (d : ℕ) (o : Owner) (s : Stood) (ps : List Phrase) (e : Stood) → Chain (IsPhraseOf d o) s ps e → ArePhrases (Of o) ps × (phrases_depth ps ≤ d)
+pub chain-phrases : (d : ℕ) (o : Owner) (s : Stood) (ps : List Phrase) (e : Stood) → Chain (IsPhraseOf d o) s ps e → ArePhrases (Of o) ps × (phrases_depth ps ≤ d)
 chain-phrases d o s [] e steps = (tt, omega arith)
 chain-phrases d o s (p ∷ ps) e steps =
     let q = steps.1 in

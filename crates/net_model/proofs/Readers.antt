@@ -55,7 +55,7 @@ tail-self ts = ([], refl)
 pub tail-next : (t : Token) (ts : Tokens) → IsTail ts (t ∷ ts)
 tail-next t ts = (t ∷ [], refl)
 
-twice-before : (b c r : Tokens) → put_before (put_before b c) r ≡ put_before b (put_before c r)
+pub twice-before : (b c r : Tokens) → put_before (put_before b c) r ≡ put_before b (put_before c r)
 twice-before [] c r = refl
 twice-before (t ∷ b) c r = ap (λ k. t ∷ k) (twice-before b c r)
 

@@ -73,7 +73,7 @@ term-sound d o inner free ts a h =
           (record { text = sx.text; term = p.further; within = sx.within; nets = omega (arith, p.no_net) })
     ]
 
-first_of_further : (x : Tree) → IsFurtherTerm x → IsFirstTerm x
+pub first_of_further : (x : Tree) → IsFurtherTerm x → IsFirstTerm x
 first_of_further (net s w) h = rw h.0 (tt, h.1)
 first_of_further x h = h
 
@@ -109,7 +109,7 @@ pub record IsFurther (d : ℕ) (free : Bool) (p : Operator × Tree) (after : Boo
 abbrev pub put_further : Operator × Tree → Tokens → Tokens
 put_further p r = put_operator p.0 (put p.1 r)
 
-sign_no_not : (r : Role) → is_sign r ≡ true → is_not r ≡ false
+pub sign_no_not : (r : Role) → is_sign r ≡ true → is_not r ≡ false
 sign_no_not roles.Sign h = refl
 sign_no_not _ h = absurd (cc)
 
@@ -118,7 +118,7 @@ sign_operator (One t) ts r next text level = (t, refl, rw text at next)
 sign_operator (Two t u) ts r next text level =
     let s : is_sign (role_of t) ≡ true = rw text at next in absurd (let e = sign_no_not (role_of t) s in let k = level.0 in cc)
 
-further_term-sound : (d : ℕ) (o : Option Inner) → IsInside d o → (free : Bool) (ts : Tokens) (a : ((Operator × Tree) × Bool) × Tokens) → sign_next free ts ≡ true → further_term_at o free ts ≡ Ok a
+pub further_term-sound : (d : ℕ) (o : Option Inner) → IsInside d o → (free : Bool) (ts : Tokens) (a : ((Operator × Tree) × Bool) × Tokens) → sign_next free ts ≡ true → further_term_at o free ts ≡ Ok a
     → SoundStep put_further (IsFurther d) free ts a
 unfolding further_term_at
 further_term-sound d o inner free ts a next h =
@@ -140,11 +140,11 @@ pub record SoundTerms (d : ℕ) (free : Bool) (ts : Tokens) (a : (List (Operator
   pub within : links_depth (linked a.0.0) ≤ d
   pub nets : nets_in (linked a.0.0) + left a.0.1 ≡ left free
 
-are_terms : (o : Operator) (x : Tree) (l : Links) (t : Token) → o ≡ One t → is_sign (role_of t) ≡ true → IsFurtherTerm x → AreTerms l → AreTerms (link o x l)
+pub are_terms : (o : Operator) (x : Tree) (l : Links) (t : Token) → o ≡ One t → is_sign (role_of t) ≡ true → IsFurtherTerm x → AreTerms l → AreTerms (link o x l)
 are_terms (One u) x l t is signs term terms = let same : u ≡ t = cc in (rw same signs, term, terms)
 are_terms (Two u v) x l t is signs term terms = absurd (cc)
 
-terms_of : (d : ℕ) (free after : Bool) (l : List (Operator × Tree)) → Chain (IsFurther d) free l after
+pub terms_of : (d : ℕ) (free after : Bool) (l : List (Operator × Tree)) → Chain (IsFurther d) free l after
     → AreTerms (linked l) × (links_depth (linked l) ≤ d) × (nets_in (linked l) + left after ≡ left free)
 terms_of d free after [] steps = (tt, omega arith, omega (arith, ap left steps))
 terms_of d free after (p ∷ l) steps =
@@ -191,7 +191,7 @@ plain_links k (link (One t) x l) terms no_net =
     (sign_joins k (role_of t) terms.0, sign_no_not (role_of t) terms.0, p.0, room_two x l p.1, plain_links (suc k) l terms.2 (omega (arith, no_net)))
 plain_links k (link (Two t u) x l) terms no_net = absurd terms
 
-sum_of : (x : Tree) (l : Links) (free : Bool) → IsFirstTerm x → AreTerms l → nets x + nets_in l + left free ≡ 1 → IsSumOf free (chained 2 x l)
+pub sum_of : (x : Tree) (l : Links) (free : Bool) → IsFirstTerm x → AreTerms l → nets x + nets_in l + left free ≡ 1 → IsSumOf free (chained 2 x l)
 sum_of x none true first terms total = let p = plain_first x first (omega (arith, total)) in (p.0, omega (arith, p.1))
 sum_of x none false first terms total = net_first x first (omega (arith, total))
 sum_of x (link o y l) true first terms total =
@@ -203,7 +203,7 @@ pub chained-text : (x : Tree) (l : Links) (r : Tokens) → put (chained 2 x l) r
 chained-text x none r = refl
 chained-text x (link o y l) r = refl
 
-chained-depth : (d : ℕ) (x : Tree) (l : Links) → depth x ≤ d → links_depth l ≤ d → depth (chained 2 x l) ≤ d
+pub chained-depth : (d : ℕ) (x : Tree) (l : Links) → depth x ≤ d → links_depth l ≤ d → depth (chained 2 x l) ≤ d
 chained-depth d x none h k = h
 chained-depth d x (link o y l) h k = omega (arith, h, k)
 

@@ -1,43 +1,30 @@
 -- Which fault is told where the reading stops, at which place, and with which word.
-use Rattle.std.specs.Prelude.{◌≡◌, ℕ, ◌-◌, Bool, true, false, ◌&&◌, List, [], ◌∷◌, length, drop, Option, None, Some, Result, Ok, Err, codes, if◌then◌else◌}
+use Rattle.std.specs.Prelude.{◌≡◌, ℕ, ◌-◌, Bool, true, false, ◌&&◌, List, [], ◌∷◌, length, drop, Result, Ok, Err, if◌then◌else◌}
 use Rattle.net_lex.specs.declared.token.Token.{Token}
 use Rattle.net_lex.specs.declared.token.Kind.{Kind}
 use Rattle.net_lex.specs.declared.token.Kind.TheVariants as kinds
-use Rattle.net_lex.specs.declared.span.Span.{Span}
+use Rattle.net_fault.specs.declared.span.Span.{Span}
 use Rattle.net_tree.specs.declared.role.Role.{Role}
 use Rattle.net_tree.specs.declared.role.Role.TheVariants as roles
 use Rattle.net_tree.specs.declared.role.Relates.TheVariants as relates
 use Rattle.net_tree.specs.declared.declaration.Model.{Model}
 use Rattle.net_tree.specs.Role.{role_of}
 use Rattle.net_tree.specs.Tree.{Declaration}
-use Rattle.net_tree.specs.View.{model}
+use Rattle.net_tree.specs.View as views
 use Rattle.net_model.specs.declared.stop.Awaiting.{Awaiting}
 use Rattle.net_model.specs.declared.stop.Awaiting.TheVariants as awaiting
 use Rattle.net_model.specs.declared.stop.Stop.{Stop}
 use Rattle.net_model.specs.declared.stop.Stop.TheVariants as stops
-use Rattle.net_model.specs.declared.fault.ModelDefect.{ModelDefect}
-use Rattle.net_model.specs.declared.fault.ModelDefect.TheVariants as defects
-use Rattle.net_model.specs.declared.fault.ModelFault.{ModelFault}
-use Rattle.net_model.specs.declared.fault.ModelFault.TheVariants as faults
+use Rattle.net_fault.specs.declared.defect.Defect.{Defect}
+use Rattle.net_fault.specs.declared.defect.Defect.TheVariants as defects
+use Rattle.net_fault.specs.declared.detail.Detail.{Detail}
+use Rattle.net_fault.specs.declared.detail.Detail.TheVariants.{Nothing, Told}
+use Rattle.net_fault.specs.declared.finding.Finding.{Finding}
+use Rattle.net_fault.specs.declared.fault.Fault.{Fault}
+use Rattle.net_fault.specs.declared.fault.Fault.TheVariants.{OutOfMemory, At}
+use Rattle.net_fault.specs.declared.language.Language.TheVariants as languages
+use Rattle.net_fault.specs.Outcomes.{bare, found}
 use Rattle.net_model.specs.Reading.{Tokens, Read}
-
-abbrev pub number_of : ModelDefect → ℕ
-number_of defects.Syntax = 10
-number_of defects.TooDeep = 11
-number_of defects.Undeclared = 12
-number_of defects.Redeclared = 13
-number_of defects.LeftOut = 14
-number_of defects.Gain = 15
-number_of defects.NetPlace = 16
-
-abbrev pub name_of : ModelDefect → List ℕ
-name_of defects.Syntax = codes "Syntax"
-name_of defects.TooDeep = codes "TooDeep"
-name_of defects.Undeclared = codes "Undeclared"
-name_of defects.Redeclared = codes "Redeclared"
-name_of defects.LeftOut = codes "LeftOut"
-name_of defects.Gain = codes "Gain"
-name_of defects.NetPlace = codes "NetPlace"
 
 abbrev pub begins_gain : Role → Bool
 begins_gain roles.Number = true
@@ -64,9 +51,9 @@ is_foreign kinds.Str r = is_brace_or_equal r
 is_foreign kinds.Mark r = is_brace_or_equal r
 is_foreign kinds.Dot r = is_brace_or_equal r
 
-abbrev pub foreign_defect : Bool → ModelDefect
+abbrev pub foreign_defect : Bool → Defect
 foreign_defect true = defects.LeftOut
-foreign_defect false = defects.Syntax
+foreign_defect false = defects.ModelSyntax
 
 abbrev pub is_brace : Role → Bool
 is_brace roles.OpenBrace = true
@@ -80,7 +67,7 @@ foreign_for awaiting.PhraseBehindNode k r = is_foreign k r
 foreign_for awaiting.Objective k r = is_brace r
 foreign_for awaiting.Other k r = false
 
-abbrev pub misplaced : Awaiting → Kind → Role → ModelDefect
+abbrev pub misplaced : Awaiting → Kind → Role → Defect
 misplaced a k roles.Net = defects.NetPlace
 misplaced a k roles.LeftOut = defects.LeftOut
 misplaced a k r = foreign_defect (foreign_for a k r)
@@ -90,14 +77,13 @@ is_behind_node awaiting.PhraseBehindNode = true
 is_behind_node _ = false
 
 -- what is wrong with a token in the place of what is awaited
-abbrev pub defect_of : Awaiting → Kind → Role → ModelDefect
+abbrev pub defect_of : Awaiting → Kind → Role → Defect
 defect_of a k r = if is_behind_node a && begins_gain r then defects.Gain else misplaced a k r
 
-abbrev pub detail_of : ModelDefect → List ℕ → Option (List ℕ)
-detail_of defects.Undeclared text = Some text
-detail_of defects.Redeclared text = Some text
-detail_of defects.LeftOut text = Some text
-detail_of _ text = None
+-- of what is left out the word is told
+abbrev pub detail_of : Defect → List ℕ → Detail
+detail_of defects.LeftOut text = Told text
+detail_of _ text = Nothing
 
 -- the end of the last token, or 0
 abbrev pub end_of : Tokens → Span
@@ -109,21 +95,26 @@ end_of (t ∷ u ∷ ts) = end_of (u ∷ ts)
 abbrev pub left_of : ℕ → Tokens → Tokens
 left_of left ts = drop (length ts - left) ts
 
-abbrev pub refused_fault : Awaiting → (left whole : Tokens) → ModelFault
-refused_fault a [] ts = faults.At defects.Syntax (end_of ts) None
-refused_fault a (t ∷ left) ts = faults.At (defect_of a t.kind (role_of t)) t.span (detail_of (defect_of a t.kind (role_of t)) t.text)
+abbrev pub refused_fault : Awaiting → (left whole : Tokens) → Finding
+refused_fault a [] ts = bare languages.Model defects.ModelSyntax (end_of ts)
+refused_fault a (t ∷ left) ts = found languages.Model (defect_of a t.kind (role_of t)) t.span (detail_of (defect_of a t.kind (role_of t)) t.text)
 
-abbrev pub deep_fault : (left whole : Tokens) → ModelFault
-deep_fault [] ts = faults.At defects.TooDeep (end_of ts) None
-deep_fault (t ∷ left) ts = faults.At defects.TooDeep t.span None
+abbrev pub deep_fault : (left whole : Tokens) → Finding
+deep_fault [] ts = bare languages.Model defects.TooDeep (end_of ts)
+deep_fault (t ∷ left) ts = bare languages.Model defects.TooDeep t.span
 
-abbrev pub told : Stop → Tokens → ModelFault
-told stops.OutOfMemory ts = faults.OutOfMemory
-told (stops.Refused left a) ts = refused_fault a (left_of left ts) ts
-told (stops.TooDeep left) ts = deep_fault (left_of left ts) ts
+abbrev pub told : Stop → Tokens → Fault
+told stops.OutOfMemory ts = OutOfMemory
+told (stops.Refused left a) ts = At (refused_fault a (left_of left ts) ts)
+told (stops.TooDeep left) ts = At (deep_fault (left_of left ts) ts)
+
+-- the fault of where the reading stops, unless memory ran out
+abbrev pub IsToldOf : Stop → Tokens → Fault → Type 0
+IsToldOf s ts OutOfMemory = Unit {0}
+IsToldOf s ts (At f) = told s ts ≡ At f
 
 -- the answer is what these tokens are read as, or the fault of where the reading stops, unless memory ran out
-abbrev pub Tells : Tokens → Result Model ModelFault → Read (List Declaration × Unit {0}) → Type 0
-Tells ts (Ok m) read = read ≡ Ok ((model m, tt), [])
-Tells ts (Err faults.OutOfMemory) read = Unit {0}
-Tells ts (Err (faults.At d p w)) read = (s : Stop) × (read ≡ Err s) × (told s ts ≡ faults.At d p w)
+abbrev pub Tells : Tokens → Result Model Fault → Read (List Declaration × Unit {0}) → Type 0
+Tells ts (Ok m) read = read ≡ Ok ((views.model m, tt), [])
+Tells ts (Err OutOfMemory) read = Unit {0}
+Tells ts (Err (At f)) read = (s : Stop) × (read ≡ Err s) × (told s ts ≡ At f)

@@ -1,6 +1,6 @@
 -- What the tokens of a model text mean, and when they mean nothing.
-use Rattle.std.specs.Prelude.{◌≡◌, ◌≤◌, ◌<◌, Bool, true, false, List, ◌∷◌, ◌++◌}
-use Rattle.net_lex.specs.declared.span.Span.{Span}
+use Rattle.std.specs.Prelude.{◌≡◌, ◌≤◌, ◌<◌, ℕ, suc, Bool, true, false, List, [], ◌∷◌, ◌++◌}
+use Rattle.net_fault.specs.declared.span.Span.{Span}
 use Rattle.net_lex.specs.declared.token.Token.{Token}
 use Rattle.net_tree.specs.declared.role.Role.{Role}
 use Rattle.net_tree.specs.declared.role.Role.TheVariants as roles
@@ -9,9 +9,10 @@ use Rattle.net_tree.specs.Tree.{Declaration}
 use Rattle.net_tree.specs.Print.{print}
 use Rattle.net_tree.specs.Depth.{model_depth}
 use Rattle.net_tree.specs.Declarations.{AreDeclarations}
-use Rattle.net_model.specs.declared.fault.ModelDefect.TheVariants as defects
-use Rattle.net_model.specs.declared.fault.ModelFault.{ModelFault}
-use Rattle.net_model.specs.declared.fault.ModelFault.TheVariants as faults
+use Rattle.net_fault.specs.declared.defect.Defect.TheVariants as defects
+use Rattle.net_fault.specs.declared.defect.Defect.{Defect}
+use Rattle.net_fault.specs.declared.fault.Fault.{Fault}
+use Rattle.net_fault.specs.declared.fault.Fault.TheVariants as faults
 use Rattle.net_model.specs.Reading.{Tokens}
 use Rattle.net_model.specs.Declarations.{nesting_limit}
 use Rattle.net_model.specs.Faults.{end_of}
@@ -32,6 +33,27 @@ opens roles.If = true
 opens roles.Reduction = true
 opens _ = false
 
+-- whether a word of this role announces a nesting: behind `not` only `(` may stand, behind `sum`, `min` and `max` only `{`
+abbrev pub announces : Role → Bool
+announces roles.Not = true
+announces roles.Reduction = true
+announces _ = false
+
+-- some model that is written as the grammar wants begins with these tokens
+abbrev pub Begins : Tokens → Type 0
+Begins tokens = (model : List Declaration) × AreDeclarations model × (rest : Tokens) × (print model ≡ tokens ++ rest)
+
+-- and one that is nested so deep at most
+abbrev pub BeginsWithin : ℕ → Tokens → Type 0
+BeginsWithin limit tokens = (model : List Declaration) × AreDeclarations model × (model_depth model ≤ limit) × (rest : Tokens) × (print model ≡ tokens ++ rest)
+
+-- These tokens open no more nestings than may be open: a model within the limit begins with them. Or their last word announces one nesting
+-- more: then such a model begins with those before this word, and one that is nested one deeper with all of them.
+pub data KeepsLimit (limit : ℕ) (tokens : Tokens) : Type 0 where
+  kept : BeginsWithin limit tokens → KeepsLimit limit tokens
+  announced : (front : Tokens) (word : Token) → front ++ word ∷ [] ≡ tokens → announces (role_of word) ≡ true
+      → BeginsWithin limit front → BeginsWithin (suc limit) tokens → KeepsLimit limit tokens
+
 -- no model that is written as the grammar wants has these tokens
 abbrev pub NoModel : Tokens → Type 0
 NoModel tokens = (model : List Declaration) → AreDeclarations model → print model ≡ tokens → ⊥
@@ -40,15 +62,15 @@ NoModel tokens = (model : List Declaration) → AreDeclarations model → print 
 abbrev pub TooDeep : Tokens → Type 0
 TooDeep tokens = (model : List Declaration) → AreDeclarations model → print model ≡ tokens → nesting_limit < model_depth model
 
--- The text is wrong at this place: at a token such that no model has the same tokens up to this one and with it, whatever follows; or at
--- its end, as no model has these tokens.
+-- The text is wrong at this place. A token stands there: some model begins with the tokens before it, and none has the same tokens up to
+-- this one and with it, whatever follows. Or it is the end: some model begins with the tokens, and none has them alone.
 pub data WrongAt (tokens : Tokens) (place : Span) : Type 0 where
   at_token : (before : Tokens) (token : Token) (after : Tokens) → before ++ token ∷ after ≡ tokens → token.span ≡ place
-      → ((others : Tokens) → NoModel (before ++ token ∷ others)) → WrongAt tokens place
-  at_end : end_of tokens ≡ place → NoModel tokens → WrongAt tokens place
+      → Begins before → ((others : Tokens) → NoModel (before ++ token ∷ others)) → WrongAt tokens place
+  at_end : end_of tokens ≡ place → Begins tokens → NoModel tokens → WrongAt tokens place
 
--- A nesting too many is opened by the token at this place: each model that has the same tokens up to this one and with it is nested too
--- deep, whatever follows.
+-- The first nesting too many is opened by the token at this place: those before it keep the limit; some model goes on with this token, and
+-- each that has the same tokens up to this one and with it is nested too deep, whatever follows.
 pub record DeepAt (tokens : Tokens) (place : Span) : Type 0 where
   pub before : Tokens
   pub token : Token
@@ -56,10 +78,15 @@ pub record DeepAt (tokens : Tokens) (place : Span) : Type 0 where
   pub text : before ++ token ∷ after ≡ tokens
   pub stands : token.span ≡ place
   pub opens : opens (role_of token) ≡ true
+  pub kept : KeepsLimit nesting_limit before
+  pub goes_on : Begins (before ++ token ∷ [])
   pub deeper : (others : Tokens) → TooDeep (before ++ token ∷ others)
 
 -- what a fault of the grammar says
-abbrev pub IsRefused : Tokens → ModelFault → Type 0
+abbrev pub IsDefectAt : Tokens → Defect → Span → Type 0
+IsDefectAt tokens defects.TooDeep place = DeepAt tokens place
+IsDefectAt tokens defect place = WrongAt tokens place
+
+abbrev pub IsRefused : Tokens → Fault → Type 0
 IsRefused tokens faults.OutOfMemory = Unit {0}
-IsRefused tokens (faults.At defects.TooDeep place word) = DeepAt tokens place
-IsRefused tokens (faults.At defect place word) = WrongAt tokens place
+IsRefused tokens (faults.At f) = IsDefectAt tokens f.defect f.at

@@ -2,7 +2,7 @@ ghost use Rattle.std.specs.Prelude.{◌≡◌, IfOk, IfErr};
 ghost use Rattle.net_model.specs.declared.stop.Stop.TheVariants.{OutOfMemory};
 
 use crate::stop::Stop;
-use net_lex::Boxed;
+use net_views::Boxed;
 use std::alloc::Global;
 
 /// The value in a box of its own.

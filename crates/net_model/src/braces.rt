@@ -17,8 +17,9 @@ use crate::place::body_place;
 use crate::sort::Sort;
 use crate::stop::{Awaiting, Stop};
 use crate::stored::Stored;
-use net_lex::{Boxed, Token};
+use net_lex::Token;
 use net_tree::{Braces, Expr, Part, Series};
+use net_views::Boxed;
 use std::alloc::Global;
 
 /// Braces.

@@ -14,8 +14,8 @@ use crate::place::right_place;
 use crate::stop::Stop;
 use crate::stored::Stored;
 use crate::trees::{chained, linked};
-use net_lex::Items;
 use net_tree::{Expr, Link};
+use net_views::Items;
 use std::alloc::Global;
 
 /// A tree for this place, up to 10.

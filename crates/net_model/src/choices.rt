@@ -15,8 +15,9 @@ use crate::cursor::{Cursor, expect};
 use crate::sort::Sort;
 use crate::stop::{Awaiting, Stop};
 use crate::stored::Stored;
-use net_lex::{Boxed, Token};
+use net_lex::Token;
 use net_tree::{Expr, Part};
+use net_views::Boxed;
 use std::alloc::Global;
 
 /// An `if`, or a tree for this place.

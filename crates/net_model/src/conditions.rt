@@ -17,8 +17,9 @@ use crate::sort::Sort;
 use crate::stop::{Awaiting, Stop};
 use crate::stored::Stored;
 use crate::trees::{chained, linked};
-use net_lex::{Items, Token};
+use net_lex::Token;
 use net_tree::{Expr, Link, NetCond, Relates, Role, role_of};
+use net_views::Items;
 use std::alloc::Global;
 
 /// `net_in`, `net_out`.

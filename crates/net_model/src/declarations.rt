@@ -21,8 +21,9 @@ use crate::phrases::{phrases, phrases_end};
 use crate::sort::Sort;
 use crate::stop::{Awaiting, Stop};
 use crate::stored::Stored;
-use net_lex::{Items, Token};
+use net_lex::Token;
 use net_tree::{Braces, Decl, Declares, Part, Phrase, Role, role_of};
+use net_views::Items;
 use std::alloc::Global;
 
 /// The braces of a declaration, if it has some.

@@ -21,8 +21,9 @@ use crate::sort::Sort;
 use crate::stop::{Awaiting, Stop};
 use crate::stored::Stored;
 use crate::trees::{is_none, is_sum};
-use net_lex::{Items, Token};
+use net_lex::Token;
 use net_tree::{Braces, Expr, Link, Role, Series, role_of};
+use net_views::Items;
 use std::alloc::Global;
 
 /// A tree that stands by itself or behind a sign, or a reduction.

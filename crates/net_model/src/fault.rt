@@ -1,69 +1,12 @@
-ghost use Rattle.std.specs.Prelude.{◌≡◌, length};
+ghost use Rattle.std.specs.Prelude.{◌≡◌, length, IfOk};
 ghost use Rattle.net_model.specs.Faults as faults;
-ghost use Rattle.net_model.specs.Faults.{number_of, name_of};
+ghost use Rattle.net_fault.specs.declared.fault.Fault.TheVariants.{At};
 
 use crate::stop::{Awaiting, Stop};
-use net_lex::{Excerpt, Kind, Span, Token};
+use net_fault::{Defect, Detail, Fault, Language, Span};
+use net_lex::{Kind, Token};
 use net_tree::{Relates, Role, role_of};
-
-/// What is wrong with a model.
-#[derive(Clone, Copy, Debug, PartialEq, Eq)]
-pub enum ModelDefect {
-    /// `set set;`
-    Syntax,
-    /// The token that opens the 65th nesting.
-    TooDeep,
-    /// `check: a = 1;` without a declaration of `a`.
-    Undeclared,
-    /// `set A; set A;`
-    Redeclared,
-    /// `var x;`, a part of AMPL that this profile leaves out.
-    LeftOut,
-    /// `from A, to B 2`, a gain behind the end of an arc.
-    Gain,
-    /// `node A: net_in = net_in;`
-    NetPlace,
-}
-
-impl ModelDefect {
-    /// The number of the fault.
-    pub fn number(self) -> u8
-        ensures { result ≡ number_of self }
-    {
-        match self {
-            ModelDefect::Syntax => 10,
-            ModelDefect::TooDeep => 11,
-            ModelDefect::Undeclared => 12,
-            ModelDefect::Redeclared => 13,
-            ModelDefect::LeftOut => 14,
-            ModelDefect::Gain => 15,
-            ModelDefect::NetPlace => 16,
-        }
-    }
-
-    /// The name of the fault.
-    pub fn name(self) -> &'static str
-        ensures { result.now ≡ name_of self }
-    {
-        match self {
-            ModelDefect::Syntax => "Syntax",
-            ModelDefect::TooDeep => "TooDeep",
-            ModelDefect::Undeclared => "Undeclared",
-            ModelDefect::Redeclared => "Redeclared",
-            ModelDefect::LeftOut => "LeftOut",
-            ModelDefect::Gain => "Gain",
-            ModelDefect::NetPlace => "NetPlace",
-        }
-    }
-}
-
-/// Why there is no model.
-#[derive(Drop)]
-pub enum ModelFault<'s> {
-    OutOfMemory,
-    /// The first defect, its place, and the word that it is about: of a name or of something left out that word.
-    At(ModelDefect, Span, Option<Excerpt<'s>>),
-}
+use std::alloc::{AllocError, Global};
 
 /// Whether a gain may begin with a token of this role.
 fn begins_gain(role: Role) -> bool
@@ -88,23 +31,23 @@ fn is_foreign(kind: Kind, role: Role) -> bool
     }
 }
 
-fn foreign_defect(foreign: bool) -> ModelDefect
+fn foreign_defect(foreign: bool) -> Defect
     ensures { result ≡ faults.foreign_defect foreign }
 {
     if foreign {
-        ModelDefect::LeftOut
+        Defect::LeftOut
     } else {
-        ModelDefect::Syntax
+        Defect::ModelSyntax
     }
 }
 
 /// What is wrong with a token that is none of what is awaited, and is no gain.
-fn misplaced(awaiting: Awaiting, kind: Kind, role: Role) -> ModelDefect
+fn misplaced(awaiting: Awaiting, kind: Kind, role: Role) -> Defect
     ensures { result ≡ faults.misplaced awaiting kind role }
 {
     match role {
-        Role::Net => ModelDefect::NetPlace,
-        Role::LeftOut => ModelDefect::LeftOut,
+        Role::Net => Defect::NetPlace,
+        Role::LeftOut => Defect::LeftOut,
         _ => foreign_defect(foreign_for(awaiting, kind, role)),
     }
 }
@@ -129,27 +72,23 @@ fn is_behind_node(awaiting: Awaiting) -> bool
 }
 
 /// What is wrong with a token in the place of what is awaited.
-fn defect_of(awaiting: Awaiting, kind: Kind, role: Role) -> ModelDefect
+fn defect_of(awaiting: Awaiting, kind: Kind, role: Role) -> Defect
     ensures { result ≡ faults.defect_of awaiting kind role }
 {
     if is_behind_node(awaiting) && begins_gain(role) {
-        ModelDefect::Gain
+        Defect::Gain
     } else {
         misplaced(awaiting, kind, role)
     }
 }
 
 /// The word that a defect is told with.
-fn detail_of<'s>(defect: ModelDefect, token: &Token<'s>) -> Option<Excerpt<'s>>
-    ensures { result ≡ faults.detail_of defect token.now.text }
+fn detail_of(alloc: Global, defect: Defect, token: &Token<'_>) -> Result<Detail, AllocError>
+    ensures { IfOk result (λ d. d ≡ faults.detail_of defect token.now.text) }
 {
     match defect {
-        ModelDefect::Undeclared | ModelDefect::Redeclared | ModelDefect::LeftOut => {
-            Some(token.text.again())
-        }
-        ModelDefect::Syntax | ModelDefect::TooDeep | ModelDefect::Gain | ModelDefect::NetPlace => {
-            None
-        }
+        Defect::LeftOut => Detail::of_name(alloc, &token.text),
+        _ => Ok(Detail::Nothing),
     }
 }
 
@@ -166,34 +105,43 @@ fn end_of(tokens: &[Token<'_>]) -> Span
     }
 }
 
-fn refused_fault<'s>(awaiting: Awaiting, left: usize, tokens: &[Token<'s>]) -> ModelFault<'s>
-    ensures { result ≡ faults.refused_fault awaiting (faults.left_of left tokens.now) tokens.now }
+fn refused_fault(
+    alloc: Global,
+    awaiting: Awaiting,
+    left: usize,
+    tokens: &[Token<'_>],
+) -> Result<Fault, AllocError>
+    ensures { IfOk result (λ f. f ≡ At (faults.refused_fault awaiting (faults.left_of left tokens.now) tokens.now)) }
 {
     match tokens.get(tokens.len().saturating_sub(left)) {
-        None => ModelFault::At(ModelDefect::Syntax, end_of(tokens), None),
+        None => Ok(Fault::of_model(Defect::ModelSyntax, end_of(tokens))),
         Some(token) => {
             let defect = defect_of(awaiting, token.kind, role_of(token));
-            ModelFault::At(defect, token.span, detail_of(defect, token))
+            let detail = detail_of(alloc, defect, token)?;
+            Ok(Fault::of_text(Language::Model, defect, token.span, detail))
         }
     }
 }
 
-fn deep_fault<'s>(left: usize, tokens: &[Token<'s>]) -> ModelFault<'s>
-    ensures { result ≡ faults.deep_fault (faults.left_of left tokens.now) tokens.now }
+fn deep_fault(left: usize, tokens: &[Token<'_>]) -> Fault
+    ensures { result ≡ At (faults.deep_fault (faults.left_of left tokens.now) tokens.now) }
 {
     match tokens.get(tokens.len().saturating_sub(left)) {
-        None => ModelFault::At(ModelDefect::TooDeep, end_of(tokens), None),
-        Some(token) => ModelFault::At(ModelDefect::TooDeep, token.span, None),
+        None => Fault::of_model(Defect::TooDeep, end_of(tokens)),
+        Some(token) => Fault::of_model(Defect::TooDeep, token.span),
     }
 }
 
 /// The fault that is told where the reading of these tokens stops.
-pub(crate) fn told<'s>(stop: Stop, tokens: &[Token<'s>]) -> ModelFault<'s>
-    ensures { result ≡ faults.told stop tokens.now }
+pub(crate) fn told(alloc: Global, stop: Stop, tokens: &[Token<'_>]) -> Fault
+    ensures { faults.IsToldOf stop tokens.now result }
 {
     match stop {
-        Stop::OutOfMemory => ModelFault::OutOfMemory,
-        Stop::Refused(left, awaiting) => refused_fault(awaiting, left, tokens),
+        Stop::OutOfMemory => Fault::OutOfMemory,
+        Stop::Refused(left, awaiting) => match refused_fault(alloc, awaiting, left, tokens) {
+            Ok(fault) => fault,
+            Err(_) => Fault::OutOfMemory,
+        },
         Stop::TooDeep(left) => deep_fault(left, tokens),
     }
 }

@@ -4,7 +4,7 @@ ghost use Rattle.net_tree.specs.Print.{put, print};
 ghost use Rattle.net_tree.specs.Depth.{model_depth};
 ghost use Rattle.net_tree.specs.Level.{IsLevel};
 ghost use Rattle.net_tree.specs.Declarations.{AreDeclarations};
-ghost use Rattle.net_names.specs.Names.{IsWellNamed};
+ghost use Rattle.net_resolve.specs.Names.{IsWellNamed};
 ghost use Rattle.net_model.specs.Declarations.{model_at};
 ghost use Rattle.net_model.specs.Meaning.{Means};
 ghost use Rattle.net_model.specs.Models.{meant};

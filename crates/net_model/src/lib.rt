@@ -23,7 +23,7 @@ mod stop;
 mod stored;
 mod trees;
 
-pub use fault::{ModelDefect, ModelFault};
 pub use laws::{one_tree, read_back, well_named};
 pub use model::{free_model, parse_model};
+pub use net_tree::{Decl, Expr, Model, NetCond};
 pub use parse::parse_declarations;

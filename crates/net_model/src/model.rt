@@ -3,44 +3,15 @@ ghost use Rattle.net_tree.specs.View as view;
 ghost use Rattle.net_model.specs.Declarations.{model_at, nesting_limit};
 ghost use Rattle.net_model.specs.Meaning.{Means};
 ghost use Rattle.net_model.specs.Models.{Parses, meant, IsFault};
-ghost use Rattle.net_model.specs.Models as models;
 
-use crate::fault::{ModelDefect, ModelFault};
 use crate::parse::parse_declarations;
+use net_fault::Fault;
 use net_lex::Token;
-use net_names::{NameDefect, NameFault, check_names};
+use net_resolve::check_names;
 use net_tree::Model;
 use std::alloc::Global;
 
-fn defect_of_name(defect: NameDefect) -> ModelDefect
-    ensures { result ≡ models.defect_of_name defect }
-{
-    match defect {
-        NameDefect::Undeclared => ModelDefect::Undeclared,
-        NameDefect::Redeclared => ModelDefect::Redeclared,
-        NameDefect::LeftOut => ModelDefect::LeftOut,
-    }
-}
-
-/// A fault of a name, told with its place and the name.
-fn name_told<'s>(fault: NameFault<'s>) -> ModelFault<'s>
-    ensures { result ≡ models.name_told fault.entry }
-{
-    match fault {
-        NameFault::OutOfMemory => ModelFault::OutOfMemory,
-        NameFault::At(defect, name) => ModelFault::At(
-            defect_of_name(defect),
-            name.span,
-            Some(name.text.again()),
-        ),
-    }
-}
-
-fn named<'s>(
-    alloc: Global,
-    tokens: &[Token<'s>],
-    model: Model<'s>,
-) -> Result<Model<'s>, ModelFault<'s>>
+fn named<'s>(alloc: Global, tokens: &[Token<'s>], model: Model<'s>) -> Result<Model<'s>, Fault>
     requires read { model_at nesting_limit tokens.now ≡ Ok ((view.model model, tt), []) }
     requires means { Means tokens.now (view.model model) }
     ensures value { Parses result (meant tokens.now) }
@@ -49,7 +20,7 @@ fn named<'s>(
 {
     match check_names(alloc, &model) {
         Ok(()) => Ok(model),
-        Err(fault) => Err(name_told(fault)),
+        Err(fault) => Err(fault),
     }
 }
 
@@ -63,7 +34,7 @@ pub fn free_model(_model: Model<'_>) {}
 /// A text that the grammar does not allow is refused with the fault of the grammar, whatever its names are: E10, E11, E14, E15
 /// or E16 at the first token that is not allowed. Then the first name, from the left, that is not as it should be is
 /// refused: E12, E13, or E14 of an `obj` phrase, at the name and with it.
-pub fn parse_model<'s>(alloc: Global, tokens: &[Token<'s>]) -> Result<Model<'s>, ModelFault<'s>>
+pub fn parse_model<'s>(alloc: Global, tokens: &[Token<'s>]) -> Result<Model<'s>, Fault>
     ensures value { Parses result (meant tokens.now) }
     // The tokens are the printing of the model, which is written as the grammar wants and not nested too deep.
     ensures means { IfOk result (λ m. Means tokens.now (view.model m)) }

@@ -16,8 +16,9 @@ use crate::phrase::{Owner, Slot, Stood};
 use crate::sort::Sort;
 use crate::stop::{Awaiting, Stop};
 use crate::stored::Stored;
-use net_lex::{Items, Token};
+use net_lex::Token;
 use net_tree::{Begins, Body, Expr, Phrase, Relates, Role, role_of};
+use net_views::Items;
 use std::alloc::Global;
 
 /// What a phrase that this word begins takes, if the declaration has such a phrase.

@@ -8,8 +8,8 @@ use crate::boxed::boxed;
 use crate::carried::Carried;
 use crate::stop::Stop;
 use crate::stored::Stored;
-use net_lex::Items;
 use net_tree::{Expr, Link, Operator, Series};
+use net_views::Items;
 use std::alloc::Global;
 
 /// Whether the tree may stand where a sum may.

@@ -9,8 +9,8 @@ use itoa::Buffer;
 use net_check::wide::wide;
 use net_eval::append_member;
 use net_inst::{Declared, Key, NameList, Names};
-use net_lex::Excerpt;
 use net_sets::Tuple;
+use net_views::Excerpt;
 use std::alloc::{AllocError, Global};
 
 /// A plan: the objective's name and value, and the number of each arc under its declared name. An indexed declaration has a

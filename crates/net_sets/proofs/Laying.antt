@@ -1,8 +1,9 @@
 -- Rows that are kept by the places of their keys.
-use Rattle.std.specs.Prelude.{◌≡◌, ℕ, zero, suc, ◌+◌, ◌<◌, ◌≤◌, Bool, true, false, cond, List, [], ◌∷◌, ◌++◌, length, map, get_or, set, replicate, Option, None, Some, Result, Ok, Err, OnOk, OnErr, is_some}
-use Rattle.std.specs.List.{AllByRecursion, zip, position_from}
+use Rattle.std.specs.Prelude.{◌≡◌, ℕ, zero, suc, ◌+◌, ◌<◌, ◌≤◌, Bool, true, false, cond, List, [], ◌∷◌, ◌++◌, length, map, get_or, set, Option, None, Some, Result, Ok, Err, OnOk, OnErr, is_some}
+use Rattle.std.specs.List.{AllByRecursion, IsDistinct, zip, position_from}
 use Rattle.std.proofs.Common.{refl, ap, sym, subst, ◌∙◌, arith, add-one}
 use Rattle.std.proofs.lemmas.Bool.Decides.{eqb_tells}
+use Rattle.std.proofs.lemmas.Map.Keys.{IsDistinct-push}
 use Rattle.std.proofs.lemmas.List.{length-append, get_or-set_same, get_or-set_other, get_or_append_left, get_or_past, length-set, length-map}
 use lib.Dec.{eqb}
 use mathlib.Core.Logic.{◌⊎◌, inl, inr, ◌≢◌}
@@ -10,7 +11,7 @@ use Rattle.net_sets.specs.declared.member.Member.{Member}
 use Rattle.net_sets.specs.Laid.{keys_at, counted, row_at, IsLaid}
 use Rattle.net_sets.specs.Sets.{Tuple, same_tuple, has, added, place_of, at_key}
 use Rattle.net_sets.proofs.Sames.{tuple_decides, same_itself}
-use Rattle.net_sets.proofs.Places.{or_else, at_end, has_place, no_place, otherwise}
+use Rattle.net_sets.proofs.Places.{same_equiv, or_else, at_end, has_place, no_place, otherwise}
 use Rattle.net_sets.proofs.Indexed.{found_within}
 use Rattle.net_sets.proofs.Near.{stands_there}
 use Rattle.net_sets.proofs.Rows.{no_row, row_more, found_at, keys_are, member_at}
@@ -43,6 +44,7 @@ widened ts rows places members key laid = record {
   even = laid.even;
   wide = let was = laid.wide in length-append rows (0 ∷ []) ∙ (ap (λ n. n + 1) was ∙ sym (length-append ts (key ∷ [])));
   within = still_within (length ts) (length (ts ++ key ∷ [])) places (let longer = length-append ts (key ∷ []) in omega arith) laid.within;
+  once = subst (IsDistinct same_tuple) (sym (same_keys ts key places laid.within)) laid.once;
   tells = λ q. ap (row_at (rows ++ 0 ∷ [])) (at_end q key 0 ts) ∙ (asked q (place_of ts q) (same_tuple q key) ∙ (laid.tells q ∙ ap (λ ks. place_of ks q) (sym (same_keys ts key places laid.within))));
 }
   where
@@ -51,7 +53,7 @@ widened ts rows places members key laid = record {
     asked q None true = ap counted (zero_more rows (0 + length ts) ∙ get_or_past rows (0 + length ts) 0 (let was = laid.wide in omega arith))
     asked q None false = refl
 
-long_keys : (ts : List Tuple) (places : List ℕ) → length (keys_at ts places) ≡ length places
+pub long_keys : (ts : List Tuple) (places : List ℕ) → length (keys_at ts places) ≡ length places
 long_keys ts [] = refl
 long_keys ts (p ∷ places) = ap suc (long_keys ts places)
 
@@ -108,6 +110,8 @@ laid_put ts rows places members key member p laid at none = record {
   even = length-append members (member ∷ []) ∙ (ap (λ n. n + 1) laid.even ∙ sym (length-append places (p ∷ [])));
   wide = length-set rows p (length places + 1) ∙ laid.wide;
   within = one_within (length ts) p places (let there = found_within (same_tuple key) 0 p ts (sym at) in omega arith) laid.within;
+  once = subst (IsDistinct same_tuple) (sym (keys_put ts places key p at))
+      (IsDistinct-push same_equiv (keys_at ts places) key laid.once (no_row key (keys_at ts places) members (even_keys ts rows places members laid) none));
   tells = λ q. put_tells ts rows places key p laid.wide laid.tells (sym at) (no_row key (keys_at ts places) members (even_keys ts rows places members laid) none) q ∙ ap (λ ks. place_of ks q) (sym (keys_put ts places key p at));
 }
 

@@ -17,5 +17,6 @@ pub mod Onward
 pub mod Rows
 pub mod Near
 pub mod Laying
+pub mod Own
 mod Examples
 pub mod ProductsOnce

@@ -50,7 +50,7 @@ at_end q t i (x ∷ xs) = step (same_tuple q x) (at_end q t (i + 1) xs)
     step true more = refl
     step false more = more ∙ ap (λ k. or_else (position_from (same_tuple q) (i + 1) xs) (cond (same_tuple q t) (Some k) None)) (omega arith)
 
-same_equiv : IsEquivalence same_tuple
+pub same_equiv : IsEquivalence same_tuple
 same_equiv = record {
   refl = same_itself;
   symm = same_turned;

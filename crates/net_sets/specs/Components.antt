@@ -35,14 +35,15 @@ pub record AreIndexedTo (ts : List Tuple) (many : ℕ) (indices : List Chains) :
   pub size : length indices ≡ many
   pub each : (component : ℕ) (chains : Chains) → slice_get indices component ≡ Some chains → IsIndexFrom component ts 0 chains
 
--- of how many components an index is made: of each, where tuples have two or more
-abbrev pub indexed_components : ℕ → ℕ
-indexed_components width = if nat_lt width 2 then 0 else width
+-- of how many components an index is made: of each, where one is wanted and tuples have two or more
+abbrev pub indexed_components : Bool → ℕ → ℕ
+indexed_components false width = 0
+indexed_components true width = if nat_lt width 2 then 0 else width
 
--- the indices, one for each component, and how many members each tuple has at least
-pub record AreIndexed (ts : List Tuple) (least : ℕ) (indices : List Chains) : Type 0 where
+-- the indices, one for each component where they are wanted, and how many members each tuple has at least
+pub record AreIndexed (is_wanted : Bool) (ts : List Tuple) (least : ℕ) (indices : List Chains) : Type 0 where
   pub narrow : least ≡ narrowest ts
-  pub size : length indices ≡ indexed_components (widest ts)
+  pub size : length indices ≡ indexed_components is_wanted (widest ts)
   pub each : (component : ℕ) (chains : Chains) → slice_get indices component ≡ Some chains → IsIndexFrom component ts 0 chains
 
 -- the tuples that are sought: where a component and a member are given, and each tuple has the component, those that have the

@@ -77,7 +77,7 @@ impl<'w, 's> Held<'w, 's> {
     {
         match &self.keeping {
             Keeping::Own(_) => None,
-            Keeping::Lent(set) => Some(set),
+            Keeping::Lent(set) => { if set.is_indexed() { Some(set) } else { None } }
         }
     }
 
@@ -101,7 +101,8 @@ impl<'w, 's> Held<'w, 's> {
     }
 
     /// A walk through the tuples, all of them; or, where a component, counted from 0, and a member are wanted and each tuple has
-    /// the component, through those that have the member there. A set that is lent is not looked through for them.
+    /// the component, through those that have the member there. A set that is lent is not looked
+    /// through for them where it has an index.
     pub fn walk(self, wanted: Option<(usize, Member<'s>)>) -> Walk<'w, 's>
         ensures { result ≡ sought wanted.entry self.entry }
     {

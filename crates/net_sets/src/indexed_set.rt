@@ -11,12 +11,14 @@ use crate::walk::place_from;
 use std::alloc::{AllocError, Global};
 use std::marker::Model;
 
-/// A set in which the tuples with a given member at one component are found without a look at the others. Contracts see it
-/// as the set. Where no tuple has two members there is nothing to find so, and no index is made.
+/// A set in which the tuples with a given member at one component are found without a look at the others, where an index was
+/// wanted, and else by a look at each. Contracts see it as the set. Where no tuple has two members there is nothing to find
+/// so, and no index is made.
 #[derive(Drop)]
 pub struct IndexedSet<'s> {
     set: SharedSet<'s>,
     narrowest: usize,
+    is_wanted: bool,
     components: Vec<Chains<'s>>,
 }
 
@@ -29,22 +31,27 @@ impl<'s> Model for IndexedSet<'s> {
 
     ghost view = { λ s. s.set };
 
-    ghost invariant = { λ s. AreIndexed s.set s.narrowest s.components.items };
+    ghost invariant = { λ s. AreIndexed s.is_wanted s.set s.narrowest s.components.items };
 }
 
 /// Of how many components an index is made, where the longest tuple has so many members.
-fn indexed_components(width: usize) -> usize
-    ensures { result ≡ indexed_components width }
+fn indexed_components(is_wanted: bool, width: usize) -> usize
+    ensures { result ≡ indexed_components is_wanted width }
 {
-    if width < 2 { 0 } else { width }
+    if is_wanted && 2 <= width { width } else { 0 }
 }
 
 impl<'s> IndexedSet<'s> {
-    /// The set with an index of its tuples by each component; one of single members needs none.
-    pub fn new(alloc: Global, set: TupleSet<'s>) -> Result<IndexedSet<'s>, AllocError>
+    /// The set, where it is wanted with an index of its tuples by each component; one of single members needs none. An index
+    /// takes time and memory for each tuple, and is worth it only to a set whose tuples with a member at a component are asked for.
+    pub fn new(
+        alloc: Global,
+        is_wanted: bool,
+        set: TupleSet<'s>,
+    ) -> Result<IndexedSet<'s>, AllocError>
         ensures { IfOk result (λ indexed. indexed ≡ set.entry) }
     {
-        let indexed = indexed_components(widest(&set));
+        let indexed = indexed_components(is_wanted, widest(&set));
         let narrowest = narrowest(&set);
         let mut set = set;
         set.shrink_to_fit();
@@ -55,6 +62,7 @@ impl<'s> IndexedSet<'s> {
         Ok(IndexedSet {
             set: SharedSet::new(alloc, set)?,
             narrowest,
+            is_wanted,
             components,
         })
     }
@@ -71,6 +79,11 @@ impl<'s> IndexedSet<'s> {
         ensures { IfOk result (λ shared. shared ≡ self.now) }
     {
         self.set.again()
+    }
+
+    /// Whether it has an index, where its tuples have two members or more.
+    pub(crate) fn is_indexed(&self) -> bool {
+        self.is_wanted
     }
 
     /// How many members each tuple has at least, 4 where there is none.

@@ -1,8 +1,12 @@
-ghost use Rattle.std.specs.Prelude.{◌≡◌, ◌<◌, ◌+◌, ◌++◌, ◌∷◌, [], None, false, length, map, set, IfOk, OnOk, OnErr};
+ghost use Rattle.std.specs.Prelude.{◌≡◌, ◌<◌, ◌+◌, ◌^◌, ◌++◌, ◌∷◌, [], None, false, length, map, set, IfOk, OnOk, OnErr};
+ghost use Rattle.std.specs.List.{AllByRecursion, IsDistinct, range_with_len};
 ghost use Rattle.std.specs.Option.{option_copied};
-ghost use Rattle.net_sets.specs.Laid.{row_at};
-ghost use Rattle.net_sets.specs.Sets.{at_key, has, place_of};
+ghost use Rattle.net_sets.specs.Laid.{keys_at, row_at};
+ghost use Rattle.net_sets.specs.Limits.{tuples_limit};
+ghost use Rattle.net_sets.specs.Made.{HasRoom};
+ghost use Rattle.net_sets.specs.Sets.{at_key, has, place_of, same_tuple};
 
+use crate::fault::SetFault;
 use crate::member::Member;
 use crate::shared_set::SharedSet;
 use crate::tuple::Tuple;
@@ -48,22 +52,38 @@ fn row_at(rows: &[usize], place: Option<usize>) -> Option<usize>
     }
 }
 
-/// The set with one tuple more, where it has room.
-fn longer<'s>(
+/// A set of the keys at places, and one more.
+fn keys_and<'s>(
     alloc: Global,
     known: &TupleSet<'s>,
-    tuple: &Tuple<'s>,
-) -> Result<SharedSet<'s>, AllocError>
-    requires { has known.now tuple.now ≡ false }
-    ensures { IfOk result (λ all. all ≡ known.now ++ tuple.now ∷ []) }
+    places: &[usize],
+    key: &Tuple<'s>,
+) -> Result<TupleSet<'s>, AllocError>
+    requires within { AllByRecursion (λ place. place < length known.now) places.now }
+    requires once { IsDistinct same_tuple (keys_at known.now places.now) }
+    requires fresh { has (keys_at known.now places.now) key.now ≡ false }
+    requires room { length places.now < tuples_limit }
+    ensures { IfOk result (λ all. all ≡ keys_at known.now places.now ++ key.now ∷ []) }
 {
-    let mut all = known.again(alloc)?;
-    if all.len() < TUPLES_LIMIT {
-        all.push(tuple.again())?;
-        SharedSet::new(alloc, all)
-    } else {
-        Err(AllocError)
+    let tuples = known.as_slice();
+    let mut all = TupleSet::new(alloc);
+    for place in places {
+        all.push(tuples[*place].again())?;
     }
+    all.push(key.again())?;
+    Ok(all)
+}
+
+/// So many numbers, one after the other.
+fn counted_on(alloc: Global, first: usize, count: usize) -> Result<Vec<usize>, AllocError>
+    requires { first + count < 2 ^ 64 }
+    ensures { IfOk result (λ all. all.items ≡ range_with_len first count) }
+{
+    let mut all = Vec::with_capacity(alloc, count)?;
+    for passed in 0..count {
+        all.push(first + passed)?;
+    }
+    Ok(all)
 }
 
 /// Puts a row at the end, of a place that has none.
@@ -147,18 +167,43 @@ impl<'s> Table<'s> {
     }
 
     /// Puts a row at the end, of a key that has none, and whose place in the set is probably this one. Where the set does not have
-    /// the key, the table gets a set of its own, which is as dear as to copy it.
+    /// the key, the table gets a set of its own, of its keys, which is as dear as to copy them. `TooMany` is answered where it has as
+    /// many rows as a set may have tuples.
     pub fn insert_near(
         &mut self,
         near: usize,
         key: &Tuple<'s>,
         member: Member<'s>,
-    ) -> Result<(), AllocError>
+    ) -> Result<(), SetFault>
         requires { at_key self.old key.now ≡ None }
         ensures ok { OnOk result (self.new ≡ self.old ++ (key.now, member.entry) ∷ []) }
         ensures err { OnErr result (self.new ≡ self.old) }
+        ensures room { HasRoom (length self.old) result }
     {
-        match self.known.get().position_near(near, key) {
+        if self.len() < TUPLES_LIMIT {
+            match self.put_near(near, key, member) {
+                Ok(()) => Ok(()),
+                Err(_) => Err(SetFault::OutOfMemory),
+            }
+        } else {
+            Err(SetFault::TooMany)
+        }
+    }
+
+    /// The same where there is room for a row.
+    fn put_near(
+        &mut self,
+        near: usize,
+        key: &Tuple<'s>,
+        member: Member<'s>,
+    ) -> Result<(), AllocError>
+        requires new { at_key self.old key.now ≡ None }
+        requires room { length self.old < tuples_limit }
+        ensures ok { OnOk result (self.new ≡ self.old ++ (key.now, member.entry) ∷ []) }
+        ensures err { OnErr result (self.new ≡ self.old) }
+    {
+        let known = self.known.get();
+        match known.position_near(near, key) {
             Some(place) => put(
                 &mut self.rows,
                 &mut self.places,
@@ -167,15 +212,21 @@ impl<'s> Table<'s> {
                 member,
             ),
             None => {
-                let place = self.rows.len();
-                let longer = longer(*self.rows.allocator(), self.known.get(), key)?;
-                self.rows.push(0)?;
-                self.known = longer;
+                let alloc = *self.rows.allocator();
+                let count = self.places.len();
+                let keys = keys_and(alloc, known, self.places.as_slice(), key)?;
+                let known = SharedSet::new(alloc, keys)?;
+                let mut rows = counted_on(alloc, 1, count)?;
+                rows.push(0)?;
+                let places = counted_on(alloc, 0, count)?;
+                self.known = known;
+                self.rows = rows;
+                self.places = places;
                 put(
                     &mut self.rows,
                     &mut self.places,
                     &mut self.members,
-                    place,
+                    count,
                     member,
                 )
             }

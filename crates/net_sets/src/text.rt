@@ -6,7 +6,7 @@ ghost use Rattle.net_sets.specs.Marks.{stirred};
 ghost use Rattle.net_sets.specs.Texts.{text_of, spelled, single, same_text};
 
 use crate::mark::{stirred, stirred_bytes};
-use net_lex::Excerpt;
+use net_views::Excerpt;
 use std::alloc::AllocError;
 use std::cmp::Ordering;
 use std::marker::Model;

@@ -1,7 +1,7 @@
 -- Where a tree stands: from its first token to its last.
 use Rattle.std.specs.Prelude.{Option, None, Some}
 use Rattle.net_lex.specs.declared.token.Token.{Token}
-use Rattle.net_lex.specs.declared.span.Span.{Span}
+use Rattle.net_fault.specs.declared.span.Span.{Span}
 use Rattle.net_tree.specs.Tree.{Tree, Links, Part, Braces, leaf, indexed, parens, tuple, negated, braced, signed, reduced, chain, choice, net, none, link, absent, part, empty, filled, Condition, unsaid, one, between}
 
 abbrev pub opening : Braces → Token

@@ -1,5 +1,6 @@
 use crate::expr::{Braces, Expr, Part};
-use net_lex::{Items, Token};
+use net_lex::Token;
+use net_views::Items;
 
 /// What follows the word of a phrase.
 #[derive(Drop)]

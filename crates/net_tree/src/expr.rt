@@ -1,4 +1,5 @@
-use net_lex::{Boxed, Items, Token};
+use net_lex::Token;
+use net_views::{Boxed, Items};
 
 /// An operator between two operands.
 #[derive(Drop)]

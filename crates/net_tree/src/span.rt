@@ -5,7 +5,9 @@ ghost use Rattle.net_tree.specs.Weights.{weight, weights, part_weight};
 
 use crate::declaration::NetCond;
 use crate::expr::{Braces, Expr, Link, Part};
-use net_lex::{Boxed, Span, Token};
+use net_fault::Span;
+use net_lex::Token;
+use net_views::Boxed;
 
 /// Where the first token of a tree starts.
 #[tactic(auto, using(crate::proofs::Views::views))]

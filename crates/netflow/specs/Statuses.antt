@@ -1,9 +1,9 @@
 -- How the program ends.
 use Rattle.std.specs.Prelude.{ℕ}
-use Rattle.net_calls.specs.declared.ending.Ending.{Ending}
-use Rattle.net_calls.specs.declared.ending.Ending.TheVariants as endings
-use Rattle.net_calls.specs.declared.fault.Fault.{Fault}
-use Rattle.net_calls.specs.declared.fault.Fault.TheVariants as faults
+use Rattle.net_driver.specs.declared.ending.Ending.{Ending}
+use Rattle.net_driver.specs.declared.ending.Ending.TheVariants as endings
+use Rattle.net_driver.specs.declared.fault.Fault.{Fault}
+use Rattle.net_driver.specs.declared.fault.Fault.TheVariants as faults
 use Rattle.netflow.specs.declared.status.Status.{Status}
 use Rattle.netflow.specs.declared.status.Status.TheVariants.{Done, Refuted, Refused, EndFailed, OutOfMemory, Usage}
 

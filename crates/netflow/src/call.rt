@@ -5,7 +5,7 @@ ghost use Rattle.std.specs.Option.{option_copied};
 ghost use Rattle.std.specs.Prelude.{◌≡◌, string_bytes, option_map};
 
 use crate::words::{Action, Words};
-use net_calls::Options;
+use net_driver::Options;
 
 /// A call with the paths of its files.
 pub enum Call<'w> {

@@ -3,10 +3,10 @@
 use crate::call::{Call, call_of};
 use crate::status::Status;
 use crate::words::{WordsFault, words_of};
-use net_calls::{
+use net_driver::{
     Ending, Fault, Options, TextName, run_check, run_compile_with, run_min, run_solve_with,
 };
-use net_ends::{OfRead, OfWrite};
+use net_io::{OfRead, OfWrite};
 use std::process::ExitCode;
 use std::rt::Runtime;
 use std::{env, fs, io};

@@ -3,7 +3,7 @@
 ghost use Rattle.std.specs.Prelude.{◌≡◌};
 ghost use Rattle.netflow.specs.Statuses.{code_of, status_of_fault, status_of_ending};
 
-use net_calls::{Ending, Fault};
+use net_driver::{Ending, Fault};
 
 /// How the program ends.
 #[derive(Clone, Copy)]

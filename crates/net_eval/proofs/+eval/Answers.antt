@@ -6,7 +6,7 @@ use Rattle.net_tree.specs.declared.expr.Series.{out-Series}
 use Rattle.net_tree.specs.View.{tree, links_of, braces_of, option_part}
 use Rattle.net_tree.proofs.Views.{views}
 use Rattle.net_tree.specs.Spans.{span_of}
-use Rattle.net_eval.specs.Outcomes.{and_then}
+use Rattle.net_fault.specs.Outcomes.{and_then}
 use Rattle.net_eval.specs.Rows.{fitted, fitted_alone, reduce, reduced_to, keys}
 use Rattle.net_eval.specs.Values.{value, values, index, places, holds, with_sign}
 use Rattle.net_tree.specs.Tree.{link}

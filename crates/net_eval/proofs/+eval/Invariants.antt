@@ -3,7 +3,7 @@ use Rattle.net_tree.specs.View.{tree, links_of, braces_of, option_part}
 use Rattle.net_tree.specs.Weights.{weight, weights, braces_weight, part_weight}
 use Rattle.net_tree.specs.Spans.{span_of}
 use Rattle.net_eval.specs.Frames.{still, steps_still, weight_of}
-use Rattle.net_eval.specs.Outcomes.{and_then}
+use Rattle.net_fault.specs.Outcomes.{and_then}
 use Rattle.net_eval.specs.Rows.{kept, gathered_over}
 use Rattle.net_eval.specs.Values as values
 use Rattle.net_eval.proofs.Framing.{still_below, steps_below, AreLight}

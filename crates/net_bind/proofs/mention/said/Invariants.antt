@@ -1,5 +1,5 @@
 use Rattle.std.specs.Prelude.{◌≡◌, drop}
-use Rattle.net_bind.specs.Outcomes.{each}
+use Rattle.net_fault.specs.Outcomes.{each}
 use Rattle.net_bind.specs.Mentions.{said, in_statement}
 use Rattle.net_bind.proofs.mention.said.Given as goal
 

@@ -1,6 +1,6 @@
 use Rattle.std.specs.Prelude.{◌≡◌, drop, None}
 use Rattle.net_eval.specs.Worlds.{key_count}
-use Rattle.net_bind.specs.Outcomes.{each}
+use Rattle.net_fault.specs.Outcomes.{each}
 use Rattle.net_bind.specs.Rows.{with_statement}
 use Rattle.net_bind.proofs.param_data.said_of.Given as goal
 

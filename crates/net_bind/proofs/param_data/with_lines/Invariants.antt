@@ -1,5 +1,5 @@
 use Rattle.std.specs.Prelude.{◌≡◌, drop}
-use Rattle.net_bind.specs.Outcomes.{each}
+use Rattle.net_fault.specs.Outcomes.{each}
 use Rattle.net_bind.specs.Rows.{with_line}
 use Rattle.net_bind.proofs.param_data.with_lines.Given as goal
 

@@ -1,5 +1,5 @@
 use Rattle.std.specs.Prelude.{◌≡◌, drop}
-use Rattle.net_bind.specs.Outcomes.{each}
+use Rattle.net_fault.specs.Outcomes.{each}
 use Rattle.net_bind.specs.SetData.{with_statement, given_set}
 use Rattle.net_bind.proofs.set.given_set.Given as goal
 

@@ -1,5 +1,5 @@
 use Rattle.std.specs.Prelude.{◌≡◌, drop, []}
-use Rattle.net_bind.specs.Outcomes.{each}
+use Rattle.net_fault.specs.Outcomes.{each}
 use Rattle.net_bind.specs.SetData.{with_member}
 use Rattle.net_bind.proofs.set.members_of.Given as goal
 

@@ -1,6 +1,6 @@
 use Rattle.std.specs.Prelude.{◌≡◌, drop}
 use Rattle.std.specs.Option.{option_copied}
-use Rattle.net_bind.specs.Outcomes.{each}
+use Rattle.net_fault.specs.Outcomes.{each}
 use Rattle.net_bind.specs.BoundParameters.{with_key, as_tree}
 use Rattle.net_bind.proofs.source.with_keys.Given as goal
 

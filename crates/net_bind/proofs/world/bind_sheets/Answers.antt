@@ -3,7 +3,7 @@ use Rattle.net_tree.specs.View.{declaration_of}
 use Rattle.net_bind.specs.Binding.{with_given}
 use Rattle.net_bind.specs.Mentions.{said}
 use Rattle.net_bind.specs.Names.{declared}
-use Rattle.net_bind.specs.Outcomes.{Answers}
+use Rattle.net_fault.specs.Outcomes.{Answers}
 use Rattle.net_bind.proofs.Fresh.{said_first}
 use Rattle.net_bind.proofs.world.bind_sheets.Goals as goal
 

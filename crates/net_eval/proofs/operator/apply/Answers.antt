@@ -2,6 +2,7 @@ use Rattle.std.proofs.Common.{ap, arith}
 use Rattle.net_tree.specs.Spans.{span_of}
 use Rattle.net_tree.specs.View.{tree}
 use Rattle.net_eval.specs.Operators.{apply}
+use Rattle.net_eval.proofs.Numbering.{numbers_applied}
 use Rattle.net_eval.proofs.Walking.{answers_by}
 use Rattle.net_eval.proofs.operator.apply.Goals as goal
 
@@ -30,7 +31,7 @@ returns-in-NotWithin c =
     answers_by _ _ _ (ap (λ o. apply o (span_of (tree c.args.whole.now)) c.args.x.now c.args.y.now) c.in-NotWithin.is) (c.as_denial-in-NotWithin.ensures _ c.contained-in-NotWithin.ensures)
 
 pub returns-in-Plus : goal.returns-in-Plus
-returns-in-Plus c = grind (arith)
+returns-in-Plus c = numbers_applied c.args.operation (span_of (tree c.args.whole.now)) c.args.x.now c.args.y.now c.of_numbers.result c.in-Plus.is c.of_numbers.ensures
 
 pub returns-in-And : goal.returns-in-And
 returns-in-And c = grind (arith)

@@ -1,6 +1,6 @@
 use Rattle.std.proofs.Common.{◌≡◌, ◌∙◌, ap, rules, length, get_or, pos, None, to_z, of_z, w64, arith}
 use Rattle.std.proofs.lemmas.Grind.{common_steps}
-use Rattle.net_forms.specs.Forms.{coefficient}
+use Rattle.net_linear.specs.Forms.{coefficient}
 use Rattle.net_inst.specs.declared.arc.Drawn.{Drawn}
 use Rattle.net_inst.specs.Instances.{with_coefficient}
 use Rattle.net_inst.proofs.Pricing.{priced-more, sized-more}

@@ -1,7 +1,7 @@
 use Rattle.std.proofs.Common.{◌≡◌, length, rules, to_z, of_z, w64, arith}
 use Rattle.std.proofs.lemmas.Grind.{common_steps}
 use Rattle.std.specs.Vec.{vec_len}
-use Rattle.net_forms.proofs.FormSizes.{sized_as}
+use Rattle.net_linear.proofs.FormSizes.{sized_as}
 use Rattle.net_inst.proofs.Fitting.{priced_fit}
 use Rattle.net_inst.proofs.network.with_names.Goals as goal
 

@@ -4,6 +4,3 @@ use Rattle.net_inst.proofs.objective_form.form_of.Goals as goal
 
 pub returns : goal.returns
 returns c = grind (arith, common_steps)
-
-pub returns-in-Ok : goal.returns-in-Ok
-returns-in-Ok c = grind (arith, common_steps)

@@ -2,7 +2,7 @@ use Rattle.std.proofs.Common.{◌+◌, sym, subst, refl, arith, Vec}
 use Rattle.std.proofs.lemmas.Grind.{common_steps}
 use Rattle.std.proofs.Common.{Global}
 use Rattle.std.specs.Str.{IsValidUpTo}
-use Rattle.net_lex.specs.declared.fault.Defect.TheVariants.{NotUtf8}
+use Rattle.net_fault.specs.declared.defect.Defect.TheVariants.{NotUtf8}
 use Rattle.net_lex.specs.declared.token.Token.{Token}
 use Rattle.net_lex.specs.Faults.{not_utf8}
 use Rattle.net_lex.proofs.Telling.{Told, told_lexes, refused_at}
@@ -13,8 +13,8 @@ returns-in-Err c =
     let good = c.valid_up_to-good.result in
     let valid = subst (IsValidUpTo c.args.text.now) (sym c.valid_up_to-good.ensures) c.in-Err.ensures.cases.1 in
     record {
-      value = refused_at (λ v. v.items) c.args.language c.args.text.now NotUtf8 (record { start = good; end = good + 1 })
-          (not_utf8 good (omega (arith, c.text_limit.ensures)) valid refl refl) (omega arith, omega (arith, valid.short));
+      value = rw c.of_text-in-Err.ensures (refused_at (λ v. v.items) c.args.language c.args.text.now NotUtf8 (record { start = good; end = good + 1 })
+          (not_utf8 good (omega (arith, c.text_limit.ensures)) valid refl refl) (omega arith, omega (arith, valid.short)));
     }
 
 pub returns-in-Ok : goal.returns-in-Ok

@@ -1,8 +1,0 @@
-use Rattle.net_calls.specs.Linked.{written}
-use Rattle.net_calls.proofs.Answered.{answers_of}
-use Rattle.net_calls.proofs.answer.solve_unwritten.Goals as goal
-
-pub returns : goal.returns
-returns c = λ lean wanted m d promise.
-    answers_of lean wanted m d (written c.args.unwritten.now) c.in_ok-settled.settled c.in_ok-outcome.outcome c.objective_is_written.ensures.value promise
-    c.in_ok-settled.ensures.certificate c.in_ok-settled.ensures.optimal c.in_ok-settled.ensures.cut c.in_ok-outcome.ensures

@@ -1,4 +1,0 @@
-use Rattle.net_calls.proofs.line_runs.solve_read.Goals as goal
-
-pub returns-clause-value : goal.returns-clause-value
-returns-clause-value c = λ text known. c.in_ok-answer.ensures text (c.in-Ok.ensures.ok text known)

@@ -1,0 +1,16 @@
+pub mod Meant
+pub mod OneFault
+pub mod Stops
+pub mod NamesOnce
+pub mod Apart
+pub mod Counts
+pub mod LinkLines
+pub mod Promise
+pub mod Answering
+pub mod Solving
+pub mod Answered
+pub mod Reading
+mod Writing
+mod Pieces
+pub mod Accepted
+pub mod OneAnswer

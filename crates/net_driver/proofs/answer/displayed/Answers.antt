@@ -1,0 +1,25 @@
+use Rattle.std.proofs.Common.{rules, length, ap, sym, subst, ◌∙◌}
+use Rattle.net_normal.specs.Limits.{IsSized, total_cost_limit}
+use Rattle.net_check.proofs.Sums.{plain_128}
+use Rattle.net_driver.specs.Linked.{written}
+use Rattle.net_driver.proofs.Solving.{carried, cost_sized, lifted_length}
+use Rattle.net_driver.proofs.answer.displayed.Goals as goal
+
+pub lift-requires : goal.lift-requires
+lift-requires c = carried (written c.args.unwritten.now) c.args.flows.now c.requires.sizes c.requires.feasible
+
+pub value-value-requires : goal.value-value-requires
+value-value-requires c =
+    let sized = cost_sized c.args.unwritten.now.problem c.args.flows.now c.args.cost c.requires.feasible c.requires.cost in
+    subst (IsSized total_cost_limit) (sym (plain_128 c.args.cost sized)) sized
+
+pub write_display-requires : goal.write_display-requires
+write_display-requires c =
+    ap length c.deref.ensures.value ∙ ap length c.in_ok-assignment.ensures.value ∙ lifted_length c.args.unwritten.now.link c.args.flows.now ∙ c.requires.sizes.arcs
+
+pub returns : goal.returns
+returns c = record {
+  lifts = c.in_ok-assignment.ensures.value;
+  worth = search (rules, c.value-value.ensures);
+  display = search (rules, c.in_ok-text.ensures.value, c.deref.ensures.value);
+}

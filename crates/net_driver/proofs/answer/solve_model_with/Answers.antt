@@ -1,0 +1,15 @@
+use Rattle.std.proofs.Common.{sym, subst}
+use Rattle.std.specs.Option.{option_copied}
+use Rattle.net_driver.specs.Answers.{Answers}
+use Rattle.net_driver.proofs.answer.solve_model_with.Goals as goal
+
+pub solve_unwritten-requires : goal.solve_unwritten-requires
+solve_unwritten-requires c = c.in_ok-unwritten.ensures.value.sizes
+
+pub with_text-requires : goal.with_text-requires
+with_text-requires c = c.in_ok-unwritten.ensures.value.sizes
+
+pub returns-clause-value : goal.returns-clause-value
+returns-clause-value c =
+    subst (λ compiled. Answers c.args.options.lean (option_copied c.args.options.objective) c.args.model.now c.args.data.now (record { compiled = compiled; outcome = c.in_ok-outcome.outcome }))
+    (sym c.in_ok-compiled.ensures) (c.in_ok-outcome.ensures _ _ _ _ c.in_ok-unwritten.ensures.value)

@@ -1,0 +1,18 @@
+use Rattle.std.proofs.Common.{arith}
+use Rattle.std.proofs.lemmas.Grind.{common_steps}
+use Rattle.net_driver.proofs.fault.FaultDisplay.fmt.Goals as goal
+
+pub returns-in-Unwritten-clause-writes : goal.returns-in-Unwritten-clause-writes
+returns-in-Unwritten-clause-writes g c = grind (arith, common_steps)
+
+pub returns-in-Unread-clause-writes : goal.returns-in-Unread-clause-writes
+returns-in-Unread-clause-writes g c = grind (arith, common_steps)
+
+pub returns-in-Refused-clause-writes : goal.returns-in-Refused-clause-writes
+returns-in-Refused-clause-writes g c = grind (arith, common_steps)
+
+pub returns-in-OutOfMemory-clause-writes : goal.returns-in-OutOfMemory-clause-writes
+returns-in-OutOfMemory-clause-writes g c = grind (arith, common_steps)
+
+pub returns-in-RefusedLine-clause-writes : goal.returns-in-RefusedLine-clause-writes
+returns-in-RefusedLine-clause-writes g c = grind (arith, common_steps)

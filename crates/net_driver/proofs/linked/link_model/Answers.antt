@@ -1,0 +1,15 @@
+use Rattle.std.proofs.Common.{sym, subst, ◌++◌}
+use Rattle.std.specs.Option.{option_copied}
+use Rattle.net_dimacs.specs.Written.{problem_text}
+use Rattle.net_driver.specs.Headline.{Headline}
+use Rattle.net_driver.proofs.linked.link_model.Goals as goal
+
+pub write_links-requires : goal.write_links-requires
+write_links-requires c = c.in_ok-unwritten.ensures.value.sizes.arcs
+
+pub returns-clause-value : goal.returns-clause-value
+returns-clause-value c =
+    let u = c.in_ok-unwritten.unwritten in
+    subst (λ lines. Headline c.args.options.lean (option_copied c.args.options.objective) c.args.model.now c.args.data.now
+    (record { text = record { items = lines ++ problem_text u.problem.supplies.items u.problem.arcs.items }; problem = u.problem; link = u.link; names = u.names }))
+    (sym c.in_ok-lines.ensures.value) c.in_ok-unwritten.ensures.value

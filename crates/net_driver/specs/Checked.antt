@@ -1,0 +1,82 @@
+-- What is answered of a problem's text and a certificate's (First DIMACS Implementation Challenge, minimum-cost flow).
+use Rattle.std.specs.Prelude.{◌≡◌, ◌↔◌, ℕ, List, [], ◌∷◌, ◌++◌, codes, decimal}
+use Rattle.net_normal.specs.declared.problem.Problem.{Problem}
+use Rattle.net_check.specs.declared.certificate.Certificate.{Certificate}
+use Rattle.net_check.specs.declared.verdict.Reason.{Reason}
+use Rattle.net_check.specs.declared.verdict.Reason.TheVariants.{Shape, Bounds, Balance, Value, Positive, Negative, NotViolated}
+use Rattle.net_check.specs.declared.verdict.Verdict.{Verdict}
+use Rattle.net_check.specs.declared.verdict.Verdict.TheVariants.{Yes, No}
+use Rattle.net_check.specs.Certificates.{IsCertificate}
+use Rattle.net_check.specs.FirstFaults.{IsFirstFault}
+use Rattle.net_dimacs.specs.declared.problem_fault.LineFault.{LineFault}
+use Rattle.net_dimacs.specs.declared.problem_fault.ProblemFault.{ProblemFault}
+use Rattle.net_dimacs.specs.declared.problem_fault.ProblemFault.TheVariants as reading
+use Rattle.net_driver.specs.LineTexts.{IsProblemOf, IsCertificateOf, IsProblemFault, IsCertificateFault}
+use Rattle.net_driver.specs.declared.ending.Ending.{Ending}
+use Rattle.net_driver.specs.declared.ending.Ending.TheVariants.{Done, Refuted}
+use Rattle.net_driver.specs.declared.fault.Fault.{Fault}
+use Rattle.net_driver.specs.declared.fault.Fault.TheVariants.{OutOfMemory, Refused, RefusedLine, Unread, Unwritten}
+use Rattle.net_driver.specs.declared.fault.TextName.{TextName}
+use Rattle.net_driver.specs.declared.fault.TextName.TheVariants as texts
+
+-- the fault of a text of this name
+abbrev pub fault_of : TextName → ProblemFault → Fault
+fault_of name reading.OutOfMemory = OutOfMemory
+fault_of name (reading.Refused refusal) = RefusedLine (record { text = name; fault = refusal.fault; line = refusal.line })
+
+-- the verdict on the problem and the certificate that the texts are
+pub record Judges (problem_text certificate_text : List ℕ) (verdict : Verdict) : Type 0 where
+  pub problem : Problem
+  pub is_problem : IsProblemOf problem_text problem
+  pub certificate : Certificate
+  pub is_certificate : IsCertificateOf problem certificate_text certificate
+  pub yes : (verdict ≡ Yes) ↔ IsCertificate problem certificate
+  pub no : (reason : Reason) (number : ℕ) → verdict ≡ No reason number → IsFirstFault problem certificate reason number
+
+-- the first fault of the problem's text, or of the certificate's where the first is a problem
+abbrev pub IsFirstLineFault : (problem_text certificate_text : List ℕ) → TextName → LineFault → ℕ → Type 0
+IsFirstLineFault problem_text certificate_text texts.Model fault line = ⊥
+IsFirstLineFault problem_text certificate_text texts.Data fault line = ⊥
+IsFirstLineFault problem_text certificate_text texts.Problem fault line = IsProblemFault problem_text fault line
+IsFirstLineFault problem_text certificate_text texts.Certificate fault line =
+    (problem : Problem) × IsProblemOf problem_text problem × IsCertificateFault problem certificate_text fault line
+
+abbrev pub IsLineRefusal : (problem_text certificate_text : List ℕ) → Fault → Type 0
+IsLineRefusal problem_text certificate_text OutOfMemory = Unit {0}
+IsLineRefusal problem_text certificate_text (Refused r) = ⊥
+IsLineRefusal problem_text certificate_text (RefusedLine r) = IsFirstLineFault problem_text certificate_text r.text r.fault r.line
+IsLineRefusal problem_text certificate_text (Unread text) = ⊥
+IsLineRefusal problem_text certificate_text Unwritten = ⊥
+
+-- the first fault of a problem's text
+abbrev pub IsProblemRefusal : List ℕ → Fault → Type 0
+IsProblemRefusal problem_text OutOfMemory = Unit {0}
+IsProblemRefusal problem_text (Refused r) = ⊥
+IsProblemRefusal problem_text (RefusedLine r) = (r.text ≡ texts.Problem) × IsProblemFault problem_text r.fault r.line
+IsProblemRefusal problem_text (Unread text) = ⊥
+IsProblemRefusal problem_text Unwritten = ⊥
+
+-- the first fault of a certificate's text for this problem
+abbrev pub IsCertificateStop : Problem → List ℕ → Fault → Type 0
+IsCertificateStop problem text OutOfMemory = Unit {0}
+IsCertificateStop problem text (Refused r) = ⊥
+IsCertificateStop problem text (RefusedLine r) = (r.text ≡ texts.Certificate) × IsCertificateFault problem text r.fault r.line
+IsCertificateStop problem text (Unread name) = ⊥
+IsCertificateStop problem text Unwritten = ⊥
+
+abbrev pub reason_word : Reason → List ℕ
+reason_word Shape = codes "shape"
+reason_word Bounds = codes "bounds"
+reason_word Balance = codes "balance"
+reason_word Value = codes "value"
+reason_word Positive = codes "positive"
+reason_word Negative = codes "negative"
+reason_word NotViolated = codes "cut"
+
+abbrev pub verdict_line : Verdict → List ℕ
+verdict_line Yes = codes "yes\n"
+verdict_line (No reason number) = codes "no " ++ (reason_word reason ++ (32 ∷ (decimal number ++ 10 ∷ [])))
+
+abbrev pub ending_of : Verdict → Ending
+ending_of Yes = Done
+ending_of (No reason number) = Refuted

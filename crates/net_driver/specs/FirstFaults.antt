@@ -1,0 +1,63 @@
+-- What is wrong first with two texts: the tokens, the grammar and the names of the model, the tokens and the statements of
+-- the data, what the two say together, and the network.
+use Rattle.std.specs.Prelude.{◌≡◌, ℕ, List, Option, Ok, Err}
+use Rattle.net_fault.specs.declared.defect.Defect.{Defect}
+use Rattle.net_fault.specs.declared.language.Language.{Language}
+use Rattle.net_fault.specs.declared.language.Language.TheVariants as languages
+use Rattle.net_fault.specs.declared.span.Span.{Span}
+use Rattle.net_lex.specs.declared.token.Token.{Token}
+use Rattle.net_lex.specs.Lexing as lex
+use Rattle.net_lex.specs.Lexing.{AreTokensOf}
+use Rattle.net_tree.specs.Tree.{Declaration}
+use Rattle.net_model.specs.Models.{meant}
+use Rattle.net_data.specs.declared.stop.Stop.{Stop as DataStop}
+use Rattle.net_data.specs.declared.tables.Tables.{Tables}
+use Rattle.net_data.specs.Reading as data_reading
+use Rattle.net_fault.specs.declared.finding.Finding.{Finding}
+use Rattle.net_bind.specs.Binding as binding
+use Rattle.net_eval.specs.Worlds.{Name, World}
+use Rattle.net_inst.specs.Instances.{network}
+use Rattle.net_fault.specs.declared.fault.Fault.{Fault}
+use Rattle.net_fault.specs.declared.fault.Fault.TheVariants.{OutOfMemory, At}
+use Rattle.net_fault.specs.Outcomes.{bare}
+use Rattle.net_driver.specs.Reading.{IsModel, IsData}
+
+pub data IsModelFault (text : List ℕ) : Finding → Type 0 where
+  token : (d : Defect) (at : Span) → lex.IsFirstFault languages.Model text d at → IsModelFault text (bare languages.Model d at)
+  grammar : (tokens : List Token) (finding : Finding) → AreTokensOf languages.Model text tokens
+      → meant tokens ≡ Err (At finding) → IsModelFault text finding
+
+-- where a data statement is not read on
+abbrev pub place_of : List Token → DataStop → Span
+place_of tokens s = data_reading.span_or_end (data_reading.end_of tokens) s.at
+
+pub data IsDataFault (text : List ℕ) : Finding → Type 0 where
+  token : (d : Defect) (at : Span) → lex.IsFirstFault languages.Data text d at → IsDataFault text (bare languages.Data d at)
+  statement : (tokens : List Token) (s : DataStop) → AreTokensOf languages.Data text tokens
+      → data_reading.tables tokens ≡ Err s → IsDataFault text (bare languages.Data s.defect (place_of tokens s))
+
+-- what declarations and statements are refused for together
+pub data IsNetworkFault (wanted : Option Name) (ds : List Declaration) (tables : Tables) : Finding → Type 0 where
+  unbound : (r : Finding) → binding.world ds tables.statements ≡ Err r → IsNetworkFault wanted ds tables r
+  undrawn : (w : World) (r : Finding) → binding.world ds tables.statements ≡ Ok w → network wanted w ds ≡ Err r → IsNetworkFault wanted ds tables r
+
+pub data IsFirstFault (wanted : Option Name) (model_text data_text : List ℕ) : Finding → Type 0 where
+  model : (finding : Finding) → IsModelFault model_text finding → IsFirstFault wanted model_text data_text finding
+  statements : (ds : List Declaration) (finding : Finding) → IsModel model_text ds → IsDataFault data_text finding → IsFirstFault wanted model_text data_text finding
+  both : (ds : List Declaration) (tables : Tables) (finding : Finding) → IsModel model_text ds → IsData data_text tables → IsNetworkFault wanted ds tables finding
+      → IsFirstFault wanted model_text data_text finding
+
+-- the first fault of a model text, or want of memory
+abbrev pub IsModelStop : List ℕ → Fault → Type 0
+IsModelStop text OutOfMemory = Unit {0}
+IsModelStop text (At finding) = IsModelFault text finding
+
+-- of declarations and statements
+abbrev pub IsNetworkStop : Option Name → List Declaration → Tables → Fault → Type 0
+IsNetworkStop wanted ds tables OutOfMemory = Unit {0}
+IsNetworkStop wanted ds tables (At finding) = IsNetworkFault wanted ds tables finding
+
+-- the first fault of two texts, or want of memory
+abbrev pub IsStop : Option Name → (model_text data_text : List ℕ) → Fault → Type 0
+IsStop wanted model_text data_text OutOfMemory = Unit {0}
+IsStop wanted model_text data_text (At finding) = IsFirstFault wanted model_text data_text finding

@@ -1,0 +1,17 @@
+pub mod Reading
+pub mod FirstFaults
+pub mod FaultLines
+pub mod Texts
+pub mod Linked
+pub mod Telling
+pub mod Headline
+pub mod Made
+pub mod Answers
+pub mod Outcomes
+pub mod LineTexts
+pub mod Checked
+pub mod Settled
+pub mod Runs
+pub mod ProblemSources
+pub mod Accepted
+pub mod OneAnswer

@@ -1,0 +1,34 @@
+-- Two answers to the same two texts are one: the texts decide the problem, the way back, the names and every printed byte.
+use Rattle.std.specs.Prelude.{◌≡◌, ℕ, Bool, List, Option}
+use Rattle.net_eval.specs.Worlds.{Name}
+use Rattle.net_fault.specs.declared.finding.Finding.{Finding}
+use Rattle.net_driver.specs.FirstFaults.{IsFirstFault}
+use Rattle.net_driver.specs.declared.answer.Answer.{Answer}
+use Rattle.net_driver.specs.declared.compiled.Compiled.{Compiled}
+use Rattle.net_driver.specs.Answers.{Answers}
+use Rattle.net_driver.specs.Headline.{Headline}
+
+-- the same text, problem, link and names
+pub record IsOneWith (c other : Compiled) : Type 0 where
+  pub text : c.text.items ≡ other.text.items
+  pub supplies : c.problem.supplies.items ≡ other.problem.supplies.items
+  pub arcs : c.problem.arcs.items ≡ other.problem.arcs.items
+  pub numbers : c.link.numbers.items ≡ other.link.numbers.items
+  pub offsets : c.link.offsets.items ≡ other.link.offsets.items
+  pub constant : c.link.constant ≡ other.link.constant
+  pub sense : c.link.sense ≡ other.link.sense
+  pub names : c.names ≡ other.names
+
+-- what is compiled of two texts is the same each time
+abbrev pub IsOneAnswer : Type 0
+IsOneAnswer = (lean : Bool) (wanted : Option Name) (model_text data_text : List ℕ) (c other : Compiled) → Headline lean wanted model_text data_text c → Headline lean wanted model_text data_text other
+    → IsOneWith c other
+
+-- what is solved is what is compiled, whether there is a plan or a cut
+abbrev pub IsSolvedAsCompiled : Type 0
+IsSolvedAsCompiled = (lean : Bool) (wanted : Option Name) (model_text data_text : List ℕ) (a : Answer) (c : Compiled) → Answers lean wanted model_text data_text a → Headline lean wanted model_text data_text c
+    → IsOneWith a.compiled c
+
+-- two texts that are compiled have no fault
+abbrev pub IsNoFaultCompiled : Type 0
+IsNoFaultCompiled = (lean : Bool) (wanted : Option Name) (model_text data_text : List ℕ) (c : Compiled) (finding : Finding) → Headline lean wanted model_text data_text c → IsFirstFault wanted model_text data_text finding → ⊥

@@ -1,0 +1,165 @@
+//! The answer to a model with its data.
+
+ghost use Rattle.std.specs.Prelude.{◌≡◌, ℕ, List, Bool, Option, None, false, IfOk, IfErr};
+ghost use Rattle.std.specs.Option.{option_copied};
+ghost use Rattle.net_check.specs.Certificates.{IsViolatedCut};
+ghost use Rattle.net_normal.specs.Flows.{IsFeasibleFlow, cost_of};
+ghost use Rattle.net_check.specs.Certificates.{IsCertificate};
+ghost use Rattle.net_driver.specs.Answers.{Answers, text_of};
+ghost use Rattle.net_driver.specs.Headline.{Headline};
+ghost use Rattle.net_driver.specs.Linked.{written};
+ghost use Rattle.net_driver.specs.Made.{HasSizes};
+ghost use Rattle.net_eval.specs.Worlds.{Name};
+ghost use Rattle.net_driver.specs.Outcomes.{IsOutcomeOf, IsDisplayOf, IsCutOf};
+ghost use Rattle.net_driver.specs.Telling.{IsRefusal};
+
+use crate::compiled::{Compiled, Options, with_text};
+use crate::fault::Fault;
+use crate::unwritten::{Unwritten, read_model};
+use net_check::Side;
+use net_inst::objective_is_written;
+use net_report::{lift, write_cut, write_display};
+use net_solve::{Settled, first_asked, solve};
+use std::alloc::{AllocError, Global};
+
+/// What comes out of a model.
+#[derive(Drop)]
+pub enum Outcome {
+    /// A feasible assignment than which none is better.
+    Displayed {
+        /// The objective's value and the number of each arc, by name.
+        text: Vec<u8>,
+        /// The number of each arc, in the order of the names.
+        assignment: Vec<i64>,
+        /// The objective's value.
+        value: i128,
+    },
+    /// No assignment is feasible, as a set of nodes shows.
+    Infeasible {
+        /// The set's supply, what its arcs allow, and the names of its nodes.
+        text: Vec<u8>,
+        /// Whether each node of the problem is in the set.
+        flags: Vec<bool>,
+        /// On which side the set's supply is wrong.
+        side: Side,
+    },
+}
+
+impl Outcome {
+    /// The text that tells it.
+    pub fn text(&self) -> &[u8]
+        ensures { result.now ≡ text_of self.now }
+    {
+        match self {
+            Outcome::Displayed { text, .. } => text.as_slice(),
+            Outcome::Infeasible { text, .. } => text.as_slice(),
+        }
+    }
+}
+
+/// A model solved: as it is compiled, and what comes out.
+#[derive(Drop)]
+pub struct Answer<'s> {
+    pub compiled: Compiled<'s>,
+    pub outcome: Outcome,
+}
+
+/// Solves a model with its data, with the model's only objective.
+pub fn solve_model<'s>(alloc: Global, model: &'s [u8], data: &'s [u8]) -> Result<Answer<'s>, Fault>
+    ensures value { IfOk result (Answers false None model.entry.now «data».entry.now) }
+    ensures refused { IfErr result (IsRefusal None model.entry.now «data».entry.now) }
+{
+    solve_model_with(
+        alloc,
+        Options {
+            objective: None,
+            lean: false,
+        },
+        model,
+        data,
+    )
+}
+
+/// Solves a model with its data, with what is chosen. Faults are those of [`crate::compile_with`].
+pub fn solve_model_with<'s>(
+    alloc: Global,
+    options: Options<'s>,
+    model: &'s [u8],
+    data: &'s [u8],
+) -> Result<Answer<'s>, Fault>
+    ensures value { IfOk result (Answers options.entry.lean (option_copied options.entry.objective) model.entry.now «data».entry.now) }
+    ensures refused { IfErr result (IsRefusal (option_copied options.entry.objective) model.entry.now «data».entry.now) }
+{
+    let unwritten = read_model(alloc, options, model, data)?;
+    let outcome = solve_unwritten(alloc, &unwritten)?;
+    let compiled = with_text(alloc, unwritten)?;
+    Ok(Answer { compiled, outcome })
+}
+
+/// What comes out of a model that is compiled; its text is not needed for it.
+pub(crate) fn solve_unwritten(
+    alloc: Global,
+    unwritten: &Unwritten<'_>,
+) -> Result<Outcome, AllocError>
+    requires { HasSizes (written unwritten.now) }
+    ensures { (lean : Bool) (wanted : Option Name) (m d : List ℕ) → Headline lean wanted m d (written unwritten.now)
+        → IfOk result (λ outcome. Answers lean wanted m d (record { compiled = written unwritten.now; outcome = outcome })) }
+{
+    let settled = solve(alloc, &first_asked(), &unwritten.problem)?;
+    let outcome = outcome_of(alloc, unwritten, settled)?;
+    objective_is_written();
+    Ok(outcome)
+}
+
+/// What a problem's certificate tells of its model.
+fn outcome_of(
+    alloc: Global,
+    unwritten: &Unwritten<'_>,
+    settled: Settled,
+) -> Result<Outcome, AllocError>
+    requires sizes { HasSizes (written unwritten.now) }
+    requires settled { IsCertificate unwritten.now.problem settled }
+    ensures { IfOk result (IsOutcomeOf (written unwritten.now) settled) }
+{
+    match settled {
+        Settled::Optimal { value, flows, .. } => displayed(alloc, unwritten, value, &flows),
+        Settled::Cut { flags, side } => infeasible(alloc, unwritten, flags, side),
+    }
+}
+
+/// The plan that a feasible flow stands for.
+fn displayed(
+    alloc: Global,
+    unwritten: &Unwritten<'_>,
+    cost: i128,
+    flows: &[i64],
+) -> Result<Outcome, AllocError>
+    requires sizes { HasSizes (written unwritten.now) }
+    requires feasible { IsFeasibleFlow unwritten.now.problem flows.now }
+    requires cost { cost ≡ cost_of unwritten.now.problem flows.now }
+    ensures { IfOk result (IsDisplayOf (written unwritten.now) flows.now cost) }
+{
+    let assignment = lift(alloc, &unwritten.link, flows)?;
+    let value = unwritten.link.value(cost);
+    let text = write_display(alloc, &unwritten.names, &assignment, value)?;
+    Ok(Outcome::Displayed {
+        text,
+        assignment,
+        value,
+    })
+}
+
+/// Why there is no plan, by a violated cut.
+fn infeasible(
+    alloc: Global,
+    unwritten: &Unwritten<'_>,
+    flags: Vec<bool>,
+    side: Side,
+) -> Result<Outcome, AllocError>
+    requires sizes { HasSizes (written unwritten.now) }
+    requires violated { IsViolatedCut unwritten.now.problem flags.items side }
+    ensures { IfOk result (IsCutOf (written unwritten.now) flags.items side) }
+{
+    let text = write_cut(alloc, &unwritten.names, &unwritten.problem, &flags, side)?;
+    Ok(Outcome::Infeasible { text, flags, side })
+}

@@ -1,0 +1,91 @@
+//! From a model text and a data text to a problem text.
+
+ghost use Rattle.std.specs.Prelude.{◌≡◌, None, false, IfOk, IfErr};
+ghost use Rattle.std.specs.Option.{option_copied};
+ghost use Rattle.net_driver.specs.Linked.{written};
+ghost use Rattle.net_driver.specs.Made.{HasSizes};
+ghost use Rattle.net_driver.specs.Telling.{IsRefusal};
+ghost use Rattle.net_driver.specs.Headline.{Headline};
+
+use crate::fault::Fault;
+use crate::text::Text;
+use crate::unwritten::{Unwritten, read_model};
+use net_dimacs::write_problem;
+use net_inst::Names;
+use net_normal::{Link, Problem};
+use net_report::write_links;
+use std::alloc::{AllocError, Global};
+
+/// What a caller may choose.
+#[derive(Clone, Copy)]
+pub struct Options<'s> {
+    /// The name of the objective; none where the model has only one.
+    pub objective: Option<&'s str>,
+    /// Whether the problem is the lean form of the network: no arc has a lower bound, and an arc of equal bounds is left out.
+    pub lean: bool,
+}
+
+/// A model compiled: its problem, the way back, its names, and the text of all three.
+#[derive(Drop)]
+pub struct Compiled<'s> {
+    /// The link lines, then the problem's lines.
+    pub text: Text,
+    pub problem: Problem,
+    pub link: Link,
+    pub names: Names<'s>,
+}
+
+/// Compiles a model with its data, with the model's only objective, in the normal form.
+pub fn compile<'s>(alloc: Global, model: &'s [u8], data: &'s [u8]) -> Result<Compiled<'s>, Fault>
+    ensures value { IfOk result (Headline false None model.entry.now «data».entry.now) }
+    ensures refused { IfErr result (IsRefusal None model.entry.now «data».entry.now) }
+{
+    compile_with(
+        alloc,
+        Options {
+            objective: None,
+            lean: false,
+        },
+        model,
+        data,
+    )
+}
+
+/// Compiles a model with its data, with what is chosen.
+///
+/// The first fault is told, in the order of tokens, grammar and names of the model, tokens and statements of the data,
+/// binding with the checks, and the network; and want of memory.
+pub fn compile_with<'s>(
+    alloc: Global,
+    options: Options<'s>,
+    model: &'s [u8],
+    data: &'s [u8],
+) -> Result<Compiled<'s>, Fault>
+    ensures value { IfOk result (Headline options.entry.lean (option_copied options.entry.objective) model.entry.now «data».entry.now) }
+    ensures refused { IfErr result (IsRefusal (option_copied options.entry.objective) model.entry.now «data».entry.now) }
+{
+    let unwritten = read_model(alloc, options, model, data)?;
+    let compiled = with_text(alloc, unwritten)?;
+    Ok(compiled)
+}
+
+/// The model compiled with its text: the link lines, then the problem's lines.
+pub(crate) fn with_text(alloc: Global, unwritten: Unwritten<'_>) -> Result<Compiled<'_>, AllocError>
+    requires { HasSizes (written unwritten) }
+    ensures { IfOk result (λ compiled. compiled ≡ written unwritten.entry) }
+{
+    let Unwritten {
+        problem,
+        link,
+        names,
+    } = unwritten;
+    let mut lines = write_links(alloc, &names, &link)?;
+    let problem_lines = write_problem(alloc, &problem)?;
+    lines.extend_from_slice(&problem_lines)?;
+    Ok(Compiled {
+        text: Text::new(lines),
+        problem,
+        link,
+        names,
+    })
+}

@@ -1,0 +1,37 @@
+//! The calls from end to end: texts in, an answer's text out.
+#![tactic(auto)]
+
+mod answer;
+mod checking;
+mod compiled;
+mod ending;
+mod fault;
+mod first_fault;
+mod laws;
+mod line_runs;
+mod linked;
+mod naming;
+mod network;
+mod problem_source;
+mod run;
+mod settling;
+mod solve_run;
+mod telling;
+mod text;
+mod texts;
+mod unwritten;
+
+pub use answer::{Answer, Outcome, solve_model, solve_model_with};
+pub use checking::check_bytes;
+pub use compiled::{Compiled, Options, compile, compile_with};
+pub use ending::Ending;
+pub use fault::{Fault, LineRefusal, Refusal, TextName};
+pub use first_fault::{one_first_fault, read_or_refused};
+pub use laws::{answers_are_accepted, texts_have_one_answer};
+pub use line_runs::{run_check, run_min};
+pub use naming::{names_are_declared_once, nodes_and_arcs_are_apart};
+pub use network::read_network;
+pub use run::{run_compile, run_compile_with};
+pub use settling::solve_min;
+pub use solve_run::{run_solve, run_solve_with};
+pub use text::Text;

@@ -1,0 +1,159 @@
+//! Runs over texts of lines: a problem is read by pieces and a certificate whole, then the answer is computed whole, then it is written.
+
+ghost use Rattle.std.specs.Prelude.{◌≡◌, ◌⊎◌, ◌↔◌, List, ℕ, true, false, IfOk, IfErr, IsErrOf};
+ghost use Rattle.net_dimacs.specs.Limits.{text_limit};
+ghost use Rattle.net_dimacs.specs.Scans.{Stands};
+ghost use Rattle.net_io.specs.Ends.{ReadsToLimit};
+ghost use Rattle.net_driver.specs.Checked.{Judges, IsLineRefusal, IsProblemRefusal, ending_of};
+ghost use Rattle.net_driver.specs.Settled.{Settles, settled_ending};
+ghost use Rattle.net_driver.specs.Runs.{IfRefused, IfUnread, WritesVerdict, WritesFrontOfVerdict, RefusesLines, WritesCertificate, WritesFrontOfCertificate, RefusesProblem, IsAskedFew, lines_limit};
+
+use crate::checking::{judge, verdict_line};
+use crate::ending::Ending;
+use crate::fault::{Fault, TextName};
+use crate::problem_source::{finished, read_problem_from};
+use crate::run::read_text;
+use crate::settling::settle;
+use net_check::Verdict;
+use net_dimacs::{Reading, TEXT_LIMIT};
+use net_io::{Sink, Source, write_whole};
+use net_solve::Settled;
+use std::alloc::Global;
+
+fn ending_of(verdict: &Verdict) -> Ending
+    ensures { result ≡ ending_of verdict.now }
+{
+    match verdict {
+        Verdict::Yes => Ending::Done,
+        Verdict::No(..) => Ending::Refuted,
+    }
+}
+
+fn settled_ending(settled: &Settled) -> Ending
+    ensures { result ≡ settled_ending settled.now }
+{
+    match settled {
+        Settled::Optimal { .. } => Ending::Done,
+        Settled::Cut { .. } => Ending::Refuted,
+    }
+}
+
+/// The text of a certificate, or one byte past the limit.
+fn read_certificate<C: Source>(alloc: Global, certificate: &mut C) -> Result<Vec<u8>, Fault>
+    ensures value { IfOk result (λ text. ReadsToLimit text_limit (C.remaining certificate.old) (C.remaining certificate.new) text.items) }
+    ensures err { IfErr result (λ fault. (fault ≡ Fault.OutOfMemory)
+        ⊎ ((fault ≡ Fault.Unread TextName.Certificate) × (C.failed certificate.new ≡ true))) }
+    ensures flag { C.failed certificate.new ≡ true → (C.failed certificate.old ≡ true) ⊎ (result ≡ Err (Fault.Unread TextName.Certificate)) }
+    ensures reads { IsAskedFew lines_limit (C.reads certificate.old) (C.reads certificate.new) }
+{
+    read_text(alloc, certificate, TEXT_LIMIT, TextName::Certificate)
+}
+
+/// The verdict on a certificate's text of the problem that was read.
+fn check_read(alloc: Global, reading: Reading, certificate: &[u8]) -> Result<Verdict, Fault>
+    ensures value { (text : List ℕ) → Stands reading text → IfOk result (Judges text certificate.now) }
+    ensures refused { (text : List ℕ) → Stands reading text → IfErr result (IsLineRefusal text certificate.now) }
+{
+    let network = match finished(reading) {
+        Ok(network) => network,
+        Err(fault) => return Err(fault),
+    };
+    judge(alloc, &network, certificate)
+}
+
+/// Settles the problem that was read. The second part is the text of its certificate.
+fn solve_read(alloc: Global, reading: Reading) -> Result<(Settled, Vec<u8>), Fault>
+    ensures value { (text : List ℕ) → Stands reading text → IfOk result (λ answer. Settles text answer.0 answer.1.items) }
+    ensures refused { (text : List ℕ) → Stands reading text → IfErr result (IsProblemRefusal text) }
+{
+    let network = match finished(reading) {
+        Ok(network) => network,
+        Err(fault) => return Err(fault),
+    };
+    let answer = settle(alloc, &network)?;
+    Ok(answer)
+}
+
+/// Checks the certificate that the second source gives of the problem that the first gives, and writes the verdict's line.
+pub fn run_check<P: Source, C: Source, W: Sink>(
+    alloc: Global,
+    problem: &mut P,
+    certificate: &mut C,
+    output: &mut W,
+) -> Result<Ending, Fault>
+    requires problem_unread { P.failed problem.old ≡ false }
+    requires certificate_unread { C.failed certificate.old ≡ false }
+    requires unwritten { W.failed output.old ≡ false }
+    ensures ok { IfOk result (WritesVerdict
+        (record { old = P.remaining problem.old; new = P.remaining problem.new })
+        (record { old = C.remaining certificate.old; new = C.remaining certificate.new })
+        (record { old = W.taken output.old; new = W.taken output.new })) }
+
+    // A refused call has written nothing; a failed write leaves a front of the answer.
+    ensures refused { IfErr result (λ fault. (fault ≡ Fault.Unwritten) ⊎ (output.new ≡ output.old)) }
+    ensures told { IfErr result (λ fault. IfRefused fault (RefusesLines
+        (record { old = P.remaining problem.old; new = P.remaining problem.new })
+        (record { old = C.remaining certificate.old; new = C.remaining certificate.new }) fault)) }
+    ensures front { IsErrOf result Fault.Unwritten → WritesFrontOfVerdict
+        (record { old = P.remaining problem.old; new = P.remaining problem.new })
+        (record { old = C.remaining certificate.old; new = C.remaining certificate.new })
+        (record { old = W.taken output.old; new = W.taken output.new }) }
+
+    // An end is blamed exactly where it failed, and the problem is read first.
+    ensures problem { IsErrOf result (Fault.Unread TextName.Problem) ↔ (P.failed problem.new ≡ true) }
+    ensures certificate { IsErrOf result (Fault.Unread TextName.Certificate) ↔ (C.failed certificate.new ≡ true) }
+    ensures output { IsErrOf result Fault.Unwritten ↔ (W.failed output.new ≡ true) }
+    ensures ends { IfErr result (λ fault. IfUnread fault (λ text. (text ≡ TextName.Problem) ⊎ (text ≡ TextName.Certificate))) }
+    ensures first { P.failed problem.new ≡ true → certificate.new ≡ certificate.old }
+
+    // However few bytes a source gives at once, it is asked for no more than its text may have, and once to see its end.
+    ensures problem_reads { IsAskedFew lines_limit (P.reads problem.old) (P.reads problem.new) }
+    ensures certificate_reads { IsAskedFew lines_limit (C.reads certificate.old) (C.reads certificate.new) }
+{
+    let reading = read_problem_from(alloc, problem)?;
+    let certificate_text = read_certificate(alloc, certificate)?;
+    let verdict = check_read(alloc, reading, &certificate_text)?;
+    let ending = ending_of(&verdict);
+    let line = verdict_line(alloc, verdict)?;
+    match write_whole(output, &line) {
+        Ok(()) => Ok(ending),
+        Err(_) => Err(Fault::Unwritten),
+    }
+}
+
+/// Settles the problem that the source gives, and writes its certificate's text.
+pub fn run_min<P: Source, W: Sink>(
+    alloc: Global,
+    problem: &mut P,
+    output: &mut W,
+) -> Result<Ending, Fault>
+    requires problem_unread { P.failed problem.old ≡ false }
+    requires unwritten { W.failed output.old ≡ false }
+    ensures ok { IfOk result (WritesCertificate
+        (record { old = P.remaining problem.old; new = P.remaining problem.new })
+        (record { old = W.taken output.old; new = W.taken output.new })) }
+
+    // A refused call has written nothing; a failed write leaves a front of the answer.
+    ensures refused { IfErr result (λ fault. (fault ≡ Fault.Unwritten) ⊎ (output.new ≡ output.old)) }
+    ensures told { IfErr result (λ fault. IfRefused fault (RefusesProblem
+        (record { old = P.remaining problem.old; new = P.remaining problem.new }) fault)) }
+    ensures front { IsErrOf result Fault.Unwritten → WritesFrontOfCertificate
+        (record { old = P.remaining problem.old; new = P.remaining problem.new })
+        (record { old = W.taken output.old; new = W.taken output.new }) }
+
+    // An end is blamed exactly where it failed.
+    ensures problem { IsErrOf result (Fault.Unread TextName.Problem) ↔ (P.failed problem.new ≡ true) }
+    ensures ends { IfErr result (λ fault. IfUnread fault (λ text. text ≡ TextName.Problem)) }
+    ensures output { IsErrOf result Fault.Unwritten ↔ (W.failed output.new ≡ true) }
+
+    // However few bytes the source gives at once, it is asked for no more than its text may have, and once to see its end.
+    ensures problem_reads { IsAskedFew lines_limit (P.reads problem.old) (P.reads problem.new) }
+{
+    let reading = read_problem_from(alloc, problem)?;
+    let (settled, text) = solve_read(alloc, reading)?;
+    let ending = settled_ending(&settled);
+    match write_whole(output, &text) {
+        Ok(()) => Ok(ending),
+        Err(_) => Err(Fault::Unwritten),
+    }
+}

@@ -1,0 +1,128 @@
+//! Runs that compile: texts are read whole, then the problem and its link lines are made, then they are written.
+
+ghost use Rattle.std.specs.Prelude.{◌≡◌, ◌+◌, ◌^◌, ◌<◌, ◌⊎◌, ◌↔◌, None, true, false, OnOk, IfOk, IfErr, IsErrOf};
+ghost use Rattle.std.specs.Option.{option_copied};
+ghost use Rattle.net_io.specs.Ends.{ReadsToLimit};
+ghost use Rattle.net_driver.specs.Runs.{WritesAnswer, WritesFrontOfAnswer, Refuses, IfRefused, IfUnread, IsAskedFew, model_limit, data_limit};
+
+use crate::compiled::Options;
+use crate::fault::{Fault, TextName};
+use crate::linked::{link_model, write_linked};
+use net_io::{ReadFault, Sink, Source, read_to_limit};
+use net_lex::{DATA_LIMIT, MODEL_LIMIT};
+use std::alloc::Global;
+
+/// Compiles what the two sources give, with the model's only objective, in the normal form, and writes the text of the answer.
+pub fn run_compile<M: Source, D: Source, W: Sink>(
+    alloc: Global,
+    model: &mut M,
+    data: &mut D,
+    output: &mut W,
+) -> Result<(), Fault>
+    requires model_unread { M.failed model.old ≡ false }
+    requires data_unread { D.failed «data».old ≡ false }
+    requires unwritten { W.failed output.old ≡ false }
+    ensures ok { OnOk result (WritesAnswer false None
+        (record { old = M.remaining model.old; new = M.remaining model.new })
+        (record { old = D.remaining «data».old; new = D.remaining «data».new })
+        (record { old = W.taken output.old; new = W.taken output.new })) }
+
+    // A refused call has written nothing; a failed write leaves a front of the answer.
+    ensures refused { IfErr result (λ fault. (fault ≡ Fault.Unwritten) ⊎ (output.new ≡ output.old)) }
+    ensures told { IfErr result (λ fault. IfRefused fault (Refuses None
+        (record { old = M.remaining model.old; new = M.remaining model.new })
+        (record { old = D.remaining «data».old; new = D.remaining «data».new }) fault)) }
+    ensures front { IsErrOf result Fault.Unwritten → WritesFrontOfAnswer false None
+        (record { old = M.remaining model.old; new = M.remaining model.new })
+        (record { old = D.remaining «data».old; new = D.remaining «data».new })
+        (record { old = W.taken output.old; new = W.taken output.new }) }
+
+    // An end is blamed exactly where it failed, and the model is read first.
+    ensures model { IsErrOf result (Fault.Unread TextName.Model) ↔ (M.failed model.new ≡ true) }
+    ensures data { IsErrOf result (Fault.Unread TextName.Data) ↔ (D.failed «data».new ≡ true) }
+    ensures output { IsErrOf result Fault.Unwritten ↔ (W.failed output.new ≡ true) }
+    ensures ends { IfErr result (λ fault. IfUnread fault (λ text. (text ≡ TextName.Model) ⊎ (text ≡ TextName.Data))) }
+    ensures first { M.failed model.new ≡ true → «data».new ≡ «data».old }
+
+    // However few bytes a source gives at once, it is asked for no more than its text may have, and once to see its end.
+    ensures model_reads { IsAskedFew model_limit (M.reads model.old) (M.reads model.new) }
+    ensures data_reads { IsAskedFew data_limit (D.reads «data».old) (D.reads «data».new) }
+{
+    run_compile_with(
+        alloc,
+        Options {
+            objective: None,
+            lean: false,
+        },
+        model,
+        data,
+        output,
+    )
+}
+
+/// Compiles what the two sources give, with what is chosen, and writes the text of the answer.
+pub fn run_compile_with<'o, M: Source, D: Source, W: Sink>(
+    alloc: Global,
+    options: Options<'o>,
+    model: &mut M,
+    data: &mut D,
+    output: &mut W,
+) -> Result<(), Fault>
+    requires model_unread { M.failed model.old ≡ false }
+    requires data_unread { D.failed «data».old ≡ false }
+    requires unwritten { W.failed output.old ≡ false }
+    ensures ok { OnOk result (WritesAnswer options.entry.lean (option_copied options.entry.objective)
+        (record { old = M.remaining model.old; new = M.remaining model.new })
+        (record { old = D.remaining «data».old; new = D.remaining «data».new })
+        (record { old = W.taken output.old; new = W.taken output.new })) }
+
+    // A refused call has written nothing; a failed write leaves a front of the answer.
+    ensures refused { IfErr result (λ fault. (fault ≡ Fault.Unwritten) ⊎ (output.new ≡ output.old)) }
+    ensures told { IfErr result (λ fault. IfRefused fault (Refuses (option_copied options.entry.objective)
+        (record { old = M.remaining model.old; new = M.remaining model.new })
+        (record { old = D.remaining «data».old; new = D.remaining «data».new }) fault)) }
+    ensures front { IsErrOf result Fault.Unwritten → WritesFrontOfAnswer options.entry.lean (option_copied options.entry.objective)
+        (record { old = M.remaining model.old; new = M.remaining model.new })
+        (record { old = D.remaining «data».old; new = D.remaining «data».new })
+        (record { old = W.taken output.old; new = W.taken output.new }) }
+
+    // An end is blamed exactly where it failed, and the model is read first.
+    ensures model { IsErrOf result (Fault.Unread TextName.Model) ↔ (M.failed model.new ≡ true) }
+    ensures data { IsErrOf result (Fault.Unread TextName.Data) ↔ (D.failed «data».new ≡ true) }
+    ensures output { IsErrOf result Fault.Unwritten ↔ (W.failed output.new ≡ true) }
+    ensures ends { IfErr result (λ fault. IfUnread fault (λ text. (text ≡ TextName.Model) ⊎ (text ≡ TextName.Data))) }
+    ensures first { M.failed model.new ≡ true → «data».new ≡ «data».old }
+
+    // However few bytes a source gives at once, it is asked for no more than its text may have, and once to see its end.
+    ensures model_reads { IsAskedFew model_limit (M.reads model.old) (M.reads model.new) }
+    ensures data_reads { IsAskedFew data_limit (D.reads «data».old) (D.reads «data».new) }
+{
+    let model_text = read_text(alloc, model, MODEL_LIMIT, TextName::Model)?;
+    let data_text = read_text(alloc, data, DATA_LIMIT, TextName::Data)?;
+    let linked = link_model(alloc, options, &model_text, &data_text)?;
+    match write_linked(output, &linked) {
+        Ok(()) => Ok(()),
+        Err(_) => Err(Fault::Unwritten),
+    }
+}
+
+/// The whole of a source, or one byte past the limit.
+pub(crate) fn read_text<S: Source>(
+    alloc: Global,
+    source: &mut S,
+    limit: usize,
+    name: TextName,
+) -> Result<Vec<u8>, Fault>
+    requires { limit + 2 < 2 ^ 64 }
+    ensures value { IfOk result (λ text. ReadsToLimit limit (S.remaining source.old) (S.remaining source.new) text.items) }
+    ensures err { IfErr result (λ fault. (fault ≡ Fault.OutOfMemory)
+        ⊎ ((fault ≡ Fault.Unread name) × (S.failed source.new ≡ true))) }
+    ensures flag { S.failed source.new ≡ true → (S.failed source.old ≡ true) ⊎ (result ≡ Err (Fault.Unread name)) }
+    ensures reads { IsAskedFew limit (S.reads source.old) (S.reads source.new) }
+{
+    match read_to_limit(alloc, source, limit) {
+        Ok(text) => Ok(text),
+        Err(ReadFault::OutOfMemory) => Err(Fault::OutOfMemory),
+        Err(ReadFault::Failed) => Err(Fault::Unread(name)),
+    }
+}

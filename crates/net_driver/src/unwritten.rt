@@ -1,0 +1,81 @@
+//! A model compiled of which no text is made.
+
+ghost use Rattle.std.specs.Prelude.{IfOk, IfErr};
+ghost use Rattle.std.specs.Option.{option_copied};
+ghost use Rattle.net_normal.specs.NormalForm.{IsFormIn};
+ghost use Rattle.net_normal.specs.Correspondence.{CorrespondsOneToOne};
+ghost use Rattle.net_driver.specs.Headline.{Headline};
+ghost use Rattle.net_driver.specs.Linked.{written};
+ghost use Rattle.net_driver.specs.Made.{IsMade, profile_of};
+ghost use Rattle.net_driver.specs.Telling.{IsRefusal};
+
+use crate::compiled::Options;
+use crate::fault::Fault;
+use crate::network::read_network;
+use crate::telling::told;
+use net_inst::{
+    Names, arcs_are_written, flows_stand_for_assignments, names_are_declared, objective_is_written,
+    ranges_are_conditions,
+};
+use net_normal::{Instance, Link, Problem, normalise, normalise_lean};
+use std::alloc::{AllocError, Global};
+
+/// A model compiled, without its text.
+#[derive(Drop)]
+pub(crate) struct Unwritten<'s> {
+    pub problem: Problem,
+    pub link: Link,
+    pub names: Names<'s>,
+}
+
+/// Compiles a model with its data and what is chosen, but for the text.
+pub(crate) fn read_model<'s>(
+    alloc: Global,
+    options: Options<'s>,
+    model: &'s [u8],
+    data: &'s [u8],
+) -> Result<Unwritten<'s>, Fault>
+    ensures value { IfOk result (λ u. Headline options.entry.lean (option_copied options.entry.objective) model.entry.now «data».entry.now (written u)) }
+    ensures refused { IfErr result (IsRefusal (option_copied options.entry.objective) model.entry.now «data».entry.now) }
+{
+    let unwritten = made_of(alloc, options, model, data)?;
+    names_are_declared();
+    arcs_are_written();
+    ranges_are_conditions();
+    objective_is_written();
+    flows_stand_for_assignments();
+    Ok(unwritten)
+}
+
+fn made_of<'s>(
+    alloc: Global,
+    options: Options<'s>,
+    model: &'s [u8],
+    data: &'s [u8],
+) -> Result<Unwritten<'s>, Fault>
+    ensures made { IfOk result (λ u. IsMade options.entry.lean (option_copied options.entry.objective) model.entry.now «data».entry.now (written u)) }
+    ensures refused { IfErr result (IsRefusal (option_copied options.entry.objective) model.entry.now «data».entry.now) }
+{
+    let named = match read_network(alloc, model, data, options.objective) {
+        Ok(named) => named,
+        Err(stop) => return Err(told(alloc, model, data, &stop)),
+    };
+    let (problem, link) = form_of(alloc, options.lean, &named.instance)?;
+    Ok(Unwritten {
+        problem,
+        link,
+        names: named.names,
+    })
+}
+
+/// The normal form of a network, or its lean form.
+fn form_of(alloc: Global, lean: bool, instance: &Instance) -> Result<(Problem, Link), AllocError>
+    ensures value { IfOk result (λ made. IsFormIn (profile_of lean) instance.now made.0 made.1) }
+    ensures corresponds { IfOk result (λ made. CorrespondsOneToOne instance.now made.0 made.1) }
+{
+    if lean {
+        normalise_lean(alloc, instance)
+    } else {
+        normalise(alloc, instance)
+    }
+}

@@ -1,8 +1,0 @@
-use Rattle.std.proofs.Common.{rules}
-use Rattle.net_expect.proofs.expect.Goals as goal
-
-pub returns-then-eq-clause-refuses : goal.returns-then-eq-clause-refuses
-returns-then-eq-clause-refuses c = search rules
-
-pub returns-clause-passes : goal.returns-clause-passes
-returns-clause-passes c = search rules

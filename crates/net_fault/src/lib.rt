@@ -1,0 +1,16 @@
+//! What can be wrong with a model and its data, where it stands, and what is told beside.
+#![tactic(auto)]
+
+mod defect;
+mod detail;
+mod fault;
+mod finding;
+mod language;
+mod span;
+
+pub use defect::Defect;
+pub use detail::Detail;
+pub use fault::Fault;
+pub use finding::Finding;
+pub use language::Language;
+pub use span::Span;

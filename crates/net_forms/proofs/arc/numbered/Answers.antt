@@ -1,7 +1,0 @@
-use Rattle.std.proofs.Common.{arith}
-use Rattle.std.proofs.lemmas.Grind.{common_steps}
-use Rattle.net_forms.proofs.Keeping.{place_below}
-use Rattle.net_forms.proofs.arc.numbered.Goals as goal
-
-pub number_behind-requires : goal.number_behind-requires
-number_behind-requires c = place_below c.args.arcs.now.index c.args.key c.in-Some.place c.in-Some.ensures

@@ -1,0 +1,16 @@
+-- What a phrase gives an arc, where it is one of the objective's.
+use Rattle.std.specs.Prelude.{◌≡◌, ℕ, true, Option, Result}
+use Rattle.std.proofs.Common.{sym, subst}
+use Rattle.net_lex.specs.declared.token.Token.{Token}
+use Rattle.net_tree.specs.Tree.{Tree, Body, priced}
+use Rattle.net_eval.specs.Worlds.{World, Scope}
+use Rattle.net_linear.specs.Forms.{Linear}
+use Rattle.net_fault.specs.declared.fault.Fault.{Fault}
+use Rattle.net_fault.specs.Outcomes.{Leaves}
+use Rattle.net_inst.specs.declared.goal.Goal.{Goal}
+use Rattle.net_inst.specs.Arcs.{is_goal, priced_by, price_in}
+
+pub price_taken : (g : Option Goal) (w : World) (s : Scope) (a : ℕ) (b : Body) (n : Token) (x : Tree) (f new : Linear) (r : Result (Unit {0}) Fault) → b ≡ priced n x → is_goal g n.text ≡ true
+    → Leaves (priced_by w s a x f) r new → Leaves (price_in g w s a b f) r new
+price_taken g w s a b n x f new r is goal h =
+    subst (λ (c : Body). Leaves (price_in g w s a c f) r new) (sym is) (rw goal h)

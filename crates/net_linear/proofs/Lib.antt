@@ -1,0 +1,14 @@
+mod Keeping
+mod Sizes
+mod NetTerms
+pub mod Ranges
+pub mod Rings
+pub mod FormLaws
+mod WorthLaws
+pub mod Coefficients
+mod Adding
+pub mod FormSizes
+mod Naming
+mod Converting
+mod Examples
+mod Terms

@@ -1,0 +1,7 @@
+use Rattle.std.proofs.Common.{arith}
+use Rattle.std.proofs.lemmas.Grind.{common_steps}
+use Rattle.net_linear.proofs.Keeping.{place_below}
+use Rattle.net_linear.proofs.arc.numbered.Goals as goal
+
+pub number_behind-requires : goal.number_behind-requires
+number_behind-requires c = place_below c.args.arcs.now.index c.args.key c.in-Some.place c.in-Some.ensures

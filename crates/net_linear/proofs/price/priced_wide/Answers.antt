@@ -1,0 +1,12 @@
+use Rattle.std.proofs.Common.{arith}
+use Rattle.std.proofs.lemmas.Grind.{common_steps}
+use Rattle.net_linear.proofs.price.priced_wide.Goals as goal
+
+pub plus-requires : goal.plus-requires
+plus-requires c = grind (arith, common_steps)
+
+pub returns-in_ok-sum : goal.returns-in_ok-sum
+returns-in_ok-sum c = grind (arith, common_steps)
+
+pub returns-else-is_small : goal.returns-else-is_small
+returns-else-is_small c = grind (arith, common_steps)

@@ -1,0 +1,17 @@
+-- The numbers that expressions come to.
+use Rattle.std.specs.Prelude.{Option, None, Some, Ok, ℤ}
+use Rattle.net_sets.specs.declared.member.Member.TheVariants.{Number}
+use Rattle.net_tree.specs.Tree.{Tree}
+use Rattle.net_fault.specs.Outcomes.{Outcome, and_then}
+use Rattle.net_eval.specs.declared.value.Value.{Value}
+use Rattle.net_eval.specs.declared.value.Value.TheVariants.{One}
+use Rattle.net_eval.specs.Values.{value}
+use Rattle.net_eval.specs.Worlds.{World, Scope}
+
+-- the number that a value is; none where it is of another kind
+abbrev pub as_number : Value → Option ℤ
+as_number (One (Number n)) = Some n
+as_number _ = None
+
+abbrev pub number_or_none : World → Scope → Tree → Outcome (Option ℤ)
+number_or_none w s t = and_then (value w s t) (λ v. Ok (as_number v))

@@ -1,0 +1,10 @@
+pub mod Amounts
+pub mod Joints
+pub mod NetTerms
+pub mod Conditions
+pub mod Arcs
+pub mod Kept
+pub mod Forms
+pub mod Objectives
+pub mod Worths
+pub mod Laws

@@ -1,0 +1,78 @@
+-- What an objective's expression is worth at an assignment: its value with each arc read as its number. No size is tested.
+use Rattle.std.specs.Prelude.{ℕ, Bool, true, false, ◌&&◌, ◌||◌, List, [], ◌∷◌, Option, None, Some, if◌then◌else◌, Result, Ok, Err, ℤ, pos, ◌+ℤ◌, ◌-ℤ◌, ◌*ℤ◌, neg_ℤ, int_div, int_rem}
+use Rattle.net_fault.specs.declared.span.Span.{Span}
+use Rattle.net_tree.specs.Spans.{span_of}
+use Rattle.net_tree.specs.Tree.{Tree, Links, Part, Braces, leaf, indexed, parens, tuple, negated, braced, signed, reduced, chain, choice, net, none, link, absent, part}
+use Rattle.net_eval.specs.declared.row.Keys.{Keys}
+use Rattle.net_eval.specs.declared.row.Row.{Row}
+use Rattle.net_eval.specs.Numbers.{turned}
+use Rattle.net_eval.specs.Operations.{is_minus}
+use Rattle.net_eval.specs.Values.{index}
+use Rattle.net_eval.specs.Worlds.{Name, World, Scope}
+use Rattle.net_sets.specs.Sets.{Tuple}
+use Rattle.net_linear.specs.declared.joint.Joint.{Joint}
+use Rattle.net_linear.specs.declared.joint.Joint.TheVariants.{Plus, Minus, Times, Div, Mod, Other}
+use Rattle.net_linear.specs.Arcs.{Arcs, declared, is_arc, arc_at}
+use Rattle.net_linear.specs.Conditions.{number_of}
+use Rattle.net_linear.specs.Joints.{joint}
+use Rattle.net_linear.specs.Objectives.{names_arc, any_arc, braces_arc, key_of, condition}
+use Rattle.net_fault.specs.Outcomes.{Outcome, and_then}
+use Rattle.net_linear.specs.Amounts.{number_or_none}
+
+-- a tree without arcs is worth its value
+abbrev pub read : World → Scope → Tree → Bool → ℤ → ℤ
+read w s t true n = n
+read w s t false n = number_of (number_or_none w s t)
+
+abbrev pub number_at : (ℕ → ℤ) → Outcome ℕ → ℤ
+number_at x (Ok a) = x a
+number_at x (Err r) = pos 0
+
+abbrev pub arc_worth : Arcs → Span → Name → Outcome Tuple → (ℕ → ℤ) → ℤ
+arc_worth a at name key x = number_at x (and_then key (arc_at at name (declared a name)))
+
+abbrev pub combine : Joint → ℤ → ℤ → ℤ
+combine Plus m n = m +ℤ n
+combine Minus m n = m -ℤ n
+combine Times m n = m *ℤ n
+combine Div m n = int_div m n
+combine Mod m n = int_rem m n
+combine Other m n = pos 0
+
+abbrev pub sum_over : (Scope → ℤ) → List Row → ℤ
+sum_over f [] = pos 0
+sum_over f (row ∷ rows) = f row.scope +ℤ sum_over f rows
+
+abbrev pub sum_in : (Scope → ℤ) → Outcome Keys → ℤ
+sum_in f (Ok k) = sum_over f k.rows
+sum_in f (Err r) = pos 0
+
+abbrev pub choose : Outcome Bool → ℤ → ℤ → ℤ
+choose (Ok true) m n = m
+choose (Ok false) m n = n
+choose (Err r) m n = pos 0
+
+abbrev mutual
+  pub worth : Arcs → World → Scope → Tree → (ℕ → ℤ) → ℤ
+  worth a w s (leaf t) x = read w s (leaf t) (is_arc a t.text) (arc_worth a (span_of (leaf t)) t.text (Ok []) x)
+  worth a w s (indexed n o y l c) x =
+      read w s (indexed n o y l c) (names_arc a (indexed n o y l c)) (arc_worth a (span_of (indexed n o y l c)) n.text (key_of w s (span_of (indexed n o y l c)) y l) x)
+  worth a w s (parens o y c) x = read w s (parens o y c) (names_arc a y) (worth a w s y x)
+  worth a w s (tuple o y l c) x = number_of (number_or_none w s (tuple o y l c))
+  worth a w s (negated n o y c) x = number_of (number_or_none w s (negated n o y c))
+  worth a w s (braced b) x = number_of (number_or_none w s (braced b))
+  worth a w s (signed t y) x = read w s (signed t y) (names_arc a y) (turned (is_minus t) (worth a w s y x))
+  worth a w s (reduced r b y) x = read w s (reduced r b y) (names_arc a (reduced r b y)) (sum_in (λ q. worth a w q y x) (index w s b))
+  worth a w s (chain n y l) x = read w s (chain n y l) (names_arc a (chain n y l)) (worth_chain a w s l (worth a w s y x) x)
+  worth a w s (choice i y t z e) x =
+      read w s (choice i y t z e) (names_arc a (choice i y t z e)) (choose (condition w s (span_of (choice i y t z e)) y) (worth a w s z x) (worth_else a w s e x))
+  worth a w s (net t u) x = number_of (number_or_none w s (net t u))
+
+  pub worth_else : Arcs → World → Scope → Part → (ℕ → ℤ) → ℤ
+  worth_else a w s absent x = pos 0
+  worth_else a w s (part m y) x = worth a w s y x
+
+  -- the operators of a chain from the left
+  pub worth_chain : Arcs → World → Scope → Links → ℤ → (ℕ → ℤ) → ℤ
+  worth_chain a w s none n x = n
+  worth_chain a w s (link o y l) n x = worth_chain a w s l (combine (joint o) n (worth a w s y x)) x

@@ -1,0 +1,308 @@
+//! Ranges of conditions.
+
+ghost use Rattle.std.specs.Prelude.{◌≡◌, ◌&&◌, ◌↔◌, ◌-ℤ◌, IsTrue, IfOk, ℤ, not, pos, IfSome, None};
+ghost use Rattle.net_normal.specs.Assignments.{IsInRange};
+ghost use Rattle.net_tree.specs.Role as role;
+ghost use Rattle.net_tree.specs.View.{tree, condition_of};
+ghost use Rattle.net_eval.specs.Limits.{is_small};
+ghost use Rattle.net_linear.specs.Conditions as conditions;
+ghost use Rattle.net_fault.specs.Outcomes.{Answers};
+ghost use Rattle.net_linear.specs.declared.condition.Comparison.TheVariants.{Equal};
+
+use crate::net_term::{NetTerm, net_side};
+use crate::value::number_or_none;
+use net_eval::{Scope, Seen};
+use net_fault::{Defect, Fault, Span};
+use net_lex::Token;
+use net_normal::NodeRange;
+use net_tree::{Expr, NetCond, Relates, Role, role_of, span_of};
+use std::alloc::Global;
+
+/// How a condition compares its sides.
+#[derive(Clone, Copy)]
+pub enum Comparison {
+    /// `=`, `==`
+    Equal,
+    /// `<=`
+    AtMost,
+    /// `>=`
+    AtLeast,
+}
+
+/// The least and the greatest net inflow that a condition allows, where it says so.
+#[derive(Clone, Copy)]
+pub struct Sides {
+    pub low: Option<i64>,
+    pub high: Option<i64>,
+}
+
+fn comparison_of(operator: &Token<'_>) -> Option<Comparison>
+    ensures { result ≡ conditions.comparison_in (role.role_of operator.now) }
+{
+    match role_of(operator) {
+        Role::Relation(Relates::Equal) => Some(Comparison::Equal),
+        Role::Relation(Relates::AtMost) => Some(Comparison::AtMost),
+        Role::Relation(Relates::AtLeast) => Some(Comparison::AtLeast),
+        _ => None,
+    }
+}
+
+fn from_to(first: &Expr<'_>, last: &Expr<'_>) -> Span
+    ensures { result ≡ conditions.from_to (tree first.now) (tree last.now) }
+{
+    Span {
+        start: span_of(first).start,
+        end: span_of(last).end,
+    }
+}
+
+/// The greatest size of a number.
+const LIMIT: u64 = 1_000_000_000_000;
+
+#[tactic(auto, unfolding(net_eval::specs::Limits::is_small))]
+fn is_small(number: &i64) -> bool
+    ensures { result ≡ is_small number.now }
+{
+    number.unsigned_abs() <= LIMIT
+}
+
+fn less(a: &i64, b: &i64) -> i64
+    requires { IsTrue (is_small a.now && is_small b.now) }
+    ensures { result ≡ a.now -ℤ b.now }
+{
+    *a - *b
+}
+
+fn compared_with(comparison: Comparison, number: i64) -> Sides
+    ensures { result ≡ conditions.compared_with comparison number }
+{
+    match comparison {
+        Comparison::Equal => Sides {
+            low: Some(number),
+            high: Some(number),
+        },
+        Comparison::AtMost => Sides {
+            low: None,
+            high: Some(number),
+        },
+        Comparison::AtLeast => Sides {
+            low: Some(number),
+            high: None,
+        },
+    }
+}
+
+fn flipped(comparison: Comparison) -> Comparison
+    ensures { result ≡ conditions.flipped comparison }
+{
+    match comparison {
+        Comparison::Equal => Comparison::Equal,
+        Comparison::AtMost => Comparison::AtLeast,
+        Comparison::AtLeast => Comparison::AtMost,
+    }
+}
+
+/// The net inflows for which the two sides compare so; the numbers are the sides with the net inflow as 0.
+fn solved(
+    at: Span,
+    comparison: Option<Comparison>,
+    left: NetTerm,
+    right: NetTerm,
+    a: &i64,
+    b: &i64,
+) -> Result<Sides, Fault>
+    requires { IsTrue (is_small a.now && is_small b.now) }
+    ensures { Answers (conditions.solved at comparison left right a.now b.now) result }
+{
+    match (comparison, left, right) {
+        (Some(comparison), NetTerm::Inflow, NetTerm::Absent) => {
+            Ok(compared_with(comparison, less(b, a)))
+        }
+        (Some(comparison), NetTerm::Absent, NetTerm::Outflow) => {
+            Ok(compared_with(comparison, less(b, a)))
+        }
+        (Some(comparison), NetTerm::Outflow, NetTerm::Absent) => {
+            Ok(compared_with(flipped(comparison), less(a, b)))
+        }
+        (Some(comparison), NetTerm::Absent, NetTerm::Inflow) => {
+            Ok(compared_with(flipped(comparison), less(a, b)))
+        }
+        _ => Err(Fault::of_model(Defect::KindMismatch, at)),
+    }
+}
+
+fn solved_sides(
+    at: Span,
+    comparison: Option<Comparison>,
+    left: NetTerm,
+    right: NetTerm,
+    a: &Option<i64>,
+    b: &Option<i64>,
+) -> Result<Sides, Fault>
+    ensures { Answers (conditions.solved_sides at comparison left right a.now b.now) result }
+{
+    match (a, b) {
+        (Some(a), Some(b)) => {
+            if is_small(a) && is_small(b) {
+                solved(at, comparison, left, right, a, b)
+            } else {
+                Err(Fault::of_model(Defect::ValueTooLarge, at))
+            }
+        }
+        _ => Err(Fault::of_model(Defect::KindMismatch, at)),
+    }
+}
+
+/// The net inflows of two ranges, of which one has the low side and the other the high one.
+fn met(at: Span, first: Sides, second: Sides) -> Result<Sides, Fault>
+    ensures { Answers (conditions.met at first second) result }
+{
+    match (first.low, first.high, second.low, second.high) {
+        (None, Some(high), Some(low), None) => Ok(Sides {
+            low: Some(low),
+            high: Some(high),
+        }),
+        (Some(low), None, None, Some(high)) => Ok(Sides {
+            low: Some(low),
+            high: Some(high),
+        }),
+        _ => Err(Fault::of_model(Defect::KindMismatch, at)),
+    }
+}
+
+fn solved_twice(
+    at: Span,
+    comparisons: (Option<Comparison>, Option<Comparison>),
+    terms: (NetTerm, NetTerm, NetTerm),
+    low: &Option<i64>,
+    middle: &Option<i64>,
+    high: &Option<i64>,
+) -> Result<Sides, Fault>
+    ensures { Answers (conditions.solved_twice at comparisons.0 comparisons.1 terms.0 terms.1 terms.2 low.now middle.now high.now) result }
+{
+    let first = solved_sides(at, comparisons.0, terms.0, terms.1, low, middle)?;
+    let second = solved_sides(at, comparisons.1, terms.1, terms.2, middle, high)?;
+    met(at, first, second)
+}
+
+fn one<'s>(
+    alloc: Global,
+    seen: &Seen<'_, 's>,
+    scope: &Scope<'s>,
+    left: &Expr<'s>,
+    operator: &Token<'s>,
+    right: &Expr<'s>,
+) -> Result<Sides, Fault>
+    ensures { Answers (conditions.one_in seen.now scope.now (tree left.now) operator.now (tree right.now)) result }
+{
+    let a = number_or_none(alloc, seen, scope, left)?;
+    let b = number_or_none(alloc, seen, scope, right)?;
+    let at = from_to(left, right);
+    let terms = (net_side(left), net_side(right));
+    solved_sides(at, comparison_of(operator), terms.0, terms.1, &a, &b)
+}
+
+fn between<'s>(
+    alloc: Global,
+    seen: &Seen<'_, 's>,
+    scope: &Scope<'s>,
+    left: (&Expr<'s>, &Token<'s>),
+    middle: &Expr<'s>,
+    right: (&Token<'s>, &Expr<'s>),
+) -> Result<Sides, Fault>
+    ensures { Answers (conditions.between_in seen.now scope.now (tree left.entry.0.now) left.entry.1.now (tree middle.now) right.entry.0.now (tree
+        right.entry.1.now)) result }
+{
+    let low = number_or_none(alloc, seen, scope, left.0)?;
+    let sum = number_or_none(alloc, seen, scope, middle)?;
+    let high = number_or_none(alloc, seen, scope, right.1)?;
+    let at = from_to(left.0, right.1);
+    let comparisons = (comparison_of(left.1), comparison_of(right.0));
+    let terms = (net_side(left.0), net_side(middle), net_side(right.1));
+    solved_twice(at, comparisons, terms, &low, &sum, &high)
+}
+
+/// What a node without a condition asks: as much flows in as out.
+fn balanced() -> Sides
+    ensures { result ≡ conditions.compared_with Equal (pos 0) }
+{
+    compared_with(Comparison::Equal, 0)
+}
+
+fn sides_of<'s>(
+    alloc: Global,
+    seen: &Seen<'_, 's>,
+    scope: &Scope<'s>,
+    condition: &NetCond<'s>,
+) -> Result<Sides, Fault>
+    ensures { Answers (conditions.sides_in seen.now scope.now (condition_of condition.now)) result }
+{
+    match condition {
+        NetCond::Absent => Ok(balanced()),
+        NetCond::One(_, left, operator, right) => one(alloc, seen, scope, left, operator, right),
+        NetCond::Between(_, low, first, middle, second, high) => between(
+            alloc,
+            seen,
+            scope,
+            (low, first),
+            middle,
+            (second, high),
+        ),
+    }
+}
+
+fn are_crossed(low: &Option<i64>, high: &Option<i64>) -> bool
+    ensures { result ≡ conditions.are_crossed low.now high.now }
+{
+    match (low, high) {
+        (Some(low), Some(high)) => *high < *low,
+        _ => false,
+    }
+}
+
+/// The range with these sides; none where no number is between them.
+fn uncrossed(sides: &Sides) -> Option<NodeRange>
+    requires { conditions.AreSides sides.now }
+    ensures { conditions.HasSides (conditions.uncrossed sides.now) result }
+{
+    if are_crossed(&sides.low, &sides.high) {
+        None
+    } else {
+        Some(NodeRange {
+            low: sides.low,
+            high: sides.high,
+        })
+    }
+}
+
+fn range_of<'s>(
+    alloc: Global,
+    seen: &Seen<'_, 's>,
+    scope: &Scope<'s>,
+    condition: &NetCond<'s>,
+) -> Result<Option<NodeRange>, Fault>
+    ensures { conditions.AnswersRange (conditions.range_in seen.now scope.now (condition_of condition.now)) result }
+{
+    let sides = sides_of(alloc, seen, scope, condition)?;
+    Ok(uncrossed(&sides))
+}
+
+/// The net inflows that a node's condition allows: exactly those of which the condition is true as it is written, with
+/// `net_in` as the net inflow and `net_out` as its negation; none where no net inflow meets it. A node without a condition has
+/// net inflow 0.
+///
+/// All parts are evaluated from the left, with the net inflow as 0, and the first fault is answered. `KindMismatch` at the
+/// whole condition is answered behind that where a side is no number.
+pub fn node_range<'s>(
+    alloc: Global,
+    seen: &Seen<'_, 's>,
+    scope: &Scope<'s>,
+    condition: &NetCond<'s>,
+) -> Result<Option<NodeRange>, Fault>
+    ensures value { conditions.AnswersRange (conditions.range_in seen.now scope.now (condition_of condition.now)) result }
+    ensures exact { IfOk result (λ found. IfSome found
+        (λ range. (y : ℤ) → IsInRange range y ↔ conditions.Holds seen.now scope.now (condition_of condition.now) y)) }
+    ensures crossed { IfOk result (λ found. found ≡ None → (y : ℤ) → conditions.Holds seen.now scope.now (condition_of condition.now) y → ⊥) }
+{
+    range_of(alloc, seen, scope, condition)
+}

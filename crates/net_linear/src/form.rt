@@ -1,0 +1,216 @@
+//! Sums of arcs with their coefficients.
+
+ghost use Rattle.std.specs.Prelude.{◌≡◌, [], ◌≤◌, ◌+◌, ◌^◌, ◌&&◌, ℕ, pos, true, OnOk, IfOk, unsigned_abs};
+ghost use Rattle.net_eval.specs.Limits.{is_small};
+ghost use Rattle.net_normal.specs.Limits.{IsSized, value_limit};
+ghost use Rattle.net_linear.specs.Forms as forms;
+
+use crate::products::{add_times, are_small, both, coefficient_of, is_small, product_of, sum_of};
+use indexmap::IndexMap;
+use std::alloc::{AllocError, AllocFailed, Global};
+use std::marker::Model;
+
+/// A number, and products of arcs with coefficients that are added to it.
+#[derive(Drop)]
+pub(crate) struct Sum {
+    constant: i128,
+    products: IndexMap<usize, i128>,
+}
+
+impl Model for Sum {
+    ghost use Rattle.std.specs.Prelude.{◌≡◌, true};
+    ghost use Rattle.net_linear.specs.Forms.{Linear, all_apart};
+
+    ghost Value = { Linear };
+
+    ghost view = { λ s. record { constant = s.constant; products = s.products.entries } };
+
+    ghost invariant = { λ s. all_apart s.products.entries ≡ true };
+}
+
+/// A number, and a factor times another.
+fn next_constant(constant: &i128, factor: &i128, other: &i128) -> i128
+    requires constant { unsigned_abs constant.now ≤ 2 ^ 125 }
+    requires factor { unsigned_abs factor.now ≤ 2 ^ 40 }
+    requires other { is_small other.now ≡ true }
+    ensures { result ≡ forms.scaled_onto constant.now factor.now other.now }
+{
+    let product = product_of(factor, other);
+    sum_of(constant, &product)
+}
+
+/// A number within the limit.
+fn narrow(number: &i128) -> i64
+    requires { is_small number.now ≡ true }
+    ensures value { result ≡ number.now }
+    ensures size { IsSized value_limit number.now }
+{
+    *number as i64
+}
+
+impl Sum {
+    /// A number alone.
+    pub(crate) fn number(alloc: Global, number: &i128) -> Sum
+        ensures { result ≡ forms.just number.now }
+    {
+        Sum {
+            constant: *number,
+            products: IndexMap::new(alloc),
+        }
+    }
+
+    /// An arc, once.
+    fn arc(alloc: Global, arc: usize) -> Result<Sum, AllocFailed<(usize, i128)>>
+        ensures { IfOk result (λ sum. sum ≡ forms.one_arc arc) }
+    {
+        let mut products = IndexMap::new(alloc);
+        products.insert(arc, 1)?;
+        Ok(Sum {
+            constant: 0,
+            products,
+        })
+    }
+
+    /// With a factor times a form; and whether all is within the limit then, where it was before.
+    pub(crate) fn with(
+        self,
+        factor: &i128,
+        form: &Form,
+    ) -> Result<(Sum, bool), AllocFailed<(usize, i128)>>
+        requires factor { unsigned_abs factor.now ≤ 2 ^ 40 }
+        requires room { forms.AreWithin (2 ^ 125) self }
+        ensures value { IfOk result (λ r. r.0 ≡ forms.combined self factor.now form.now) }
+        ensures fits { IfOk result (λ r. forms.is_sized self ≡ true → r.1 ≡ forms.is_sized (forms.combined self factor.now form.now)) }
+        ensures other { (forms.is_sized form.now ≡ true) × (forms.all_apart form.now.products ≡ true) }
+    {
+        let Sum {
+            constant,
+            mut products,
+        } = self;
+        let small = add_times(&mut products, factor, &form.sum.products)?;
+        let constant = next_constant(&constant, factor, &form.sum.constant);
+        let fits = both(is_small(&constant), small);
+        Ok((Sum { constant, products }, fits))
+    }
+
+    /// The coefficient of an arc.
+    fn coefficient(&self, arc: usize) -> i128
+        ensures { result ≡ forms.coefficient self.now.products arc }
+    {
+        coefficient_of(&self.products, arc)
+    }
+
+    /// Whether all is within the limit.
+    fn is_sized(&self) -> bool
+        ensures { result ≡ forms.is_sized self.now }
+    {
+        is_small(&self.constant) && are_small(&self.products)
+    }
+}
+
+/// What an objective comes to: a number, and arcs with their coefficients. Each of these is at most 1,000,000,000,000 in size.
+#[derive(Drop)]
+pub struct Form {
+    sum: Sum,
+}
+
+impl Model for Form {
+    ghost use Rattle.std.specs.Prelude.{◌≡◌, true};
+    ghost use Rattle.net_linear.specs.Forms.{Linear, is_sized};
+
+    ghost Value = { Linear };
+
+    ghost view = { λ f. f.sum };
+
+    ghost invariant = { λ f. is_sized f.sum ≡ true };
+}
+
+impl Form {
+    /// A number alone.
+    pub(crate) fn number(alloc: Global, number: &i128) -> Form
+        requires { is_small number.now ≡ true }
+        ensures { result ≡ forms.just number.now }
+    {
+        Form {
+            sum: Sum::number(alloc, number),
+        }
+    }
+
+    /// 0, which no arc is part of.
+    #[tactic(auto, unfolding(net_eval::specs::Limits::is_small))]
+    pub fn zero(alloc: Global) -> Form
+        ensures { result ≡ forms.just (pos 0) }
+    {
+        Form::number(alloc, &0)
+    }
+
+    /// An arc, once.
+    pub(crate) fn arc(alloc: Global, arc: usize) -> Result<Form, AllocFailed<(usize, i128)>>
+        ensures { IfOk result (λ form. form ≡ forms.one_arc arc) }
+    {
+        Ok(Form {
+            sum: Sum::arc(alloc, arc)?,
+        })
+    }
+
+    /// The form of a sum within the limit.
+    pub(crate) fn of(sum: Sum) -> Option<Form>
+        ensures { result ≡ forms.if_sized sum }
+    {
+        if sum.is_sized() {
+            Some(Form { sum })
+        } else {
+            None
+        }
+    }
+
+    /// A factor times another form added to this one, where all stays within the limit.
+    pub(crate) fn plus(
+        self,
+        factor: &i128,
+        other: &Form,
+    ) -> Result<Option<Form>, AllocFailed<(usize, i128)>>
+        requires { is_small factor.now ≡ true }
+        ensures { IfOk result (λ r. r ≡ forms.if_sized (forms.combined self factor.now other.now)) }
+    {
+        let Form { sum } = self;
+        let (sum, fits) = sum.with(factor, other)?;
+        if fits {
+            Ok(Some(Form { sum }))
+        } else {
+            Ok(None)
+        }
+    }
+
+    /// Whether no arc stands in it.
+    pub(crate) fn is_number(&self) -> bool
+        ensures { result ≡ forms.is_number self.now.products }
+    {
+        self.sum.products.is_empty()
+    }
+
+    /// The number that is added to the arcs' products.
+    pub(crate) fn wide_constant(&self) -> i128
+        ensures value { result ≡ self.now.constant }
+        ensures small { is_small result ≡ true }
+    {
+        self.sum.constant
+    }
+
+    /// The number that is added to the arcs' products, at most 1,000,000,000,000 in size.
+    pub fn constant(&self) -> i64
+        ensures value { result ≡ self.now.constant }
+        ensures size { IsSized value_limit result }
+    {
+        narrow(&self.sum.constant)
+    }
+
+    /// The coefficient of an arc, at most 1,000,000,000,000 in size; 0 where the arc does not stand in the form.
+    pub fn coefficient(&self, arc: usize) -> i64
+        ensures value { result ≡ forms.coefficient self.now.products arc }
+        ensures size { IsSized value_limit result }
+    {
+        let coefficient = self.sum.coefficient(arc);
+        narrow(&coefficient)
+    }
+}

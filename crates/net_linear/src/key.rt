@@ -1,0 +1,28 @@
+//! Keys that subscripts say.
+
+ghost use Rattle.net_tree.specs.Spans as trees;
+ghost use Rattle.net_tree.specs.View.{tree, links_of};
+ghost use Rattle.net_fault.specs.Outcomes.{Answers};
+ghost use Rattle.net_linear.specs.Objectives as objectives;
+
+use net_eval::{Scope, Seen, evaluate_all, tuple_of};
+use net_fault::Fault;
+use net_sets::Tuple;
+use net_tree::{Expr, Link};
+use std::alloc::Global;
+
+/// The key of a reference, all of whose subscripts are evaluated first. `KindMismatch` is answered at the reference where one
+/// of them is no member, and `Arity` where they are more than four.
+pub fn key_of<'s>(
+    alloc: Global,
+    seen: &Seen<'_, 's>,
+    scope: &Scope<'s>,
+    whole: &Expr<'s>,
+    first: &Expr<'s>,
+    more: &[Link<'s>],
+) -> Result<Tuple<'s>, Fault>
+    ensures { Answers (objectives.key_of seen.now scope.now (trees.span_of (tree whole.now)) (tree first.now) (links_of more.now)) result }
+{
+    let values = evaluate_all(alloc, seen, scope, first, more)?;
+    tuple_of(whole, values.as_slice())
+}

@@ -1,0 +1,139 @@
+//! Where arcs stand.
+
+ghost use Rattle.std.specs.Prelude.{◌≡◌, ◌||◌};
+ghost use Rattle.net_tree.specs.View.{tree, braces_of, links_of, option_part};
+ghost use Rattle.net_linear.specs.Objectives as objectives;
+
+use crate::arc::ArcNames;
+use crate::joint::{Joint, is_sign, joint_of};
+use net_tree::{Braces, Expr, Link, Part};
+use net_views::Boxed;
+
+/// Whether an arc stands in the expression.
+#[cycle(names)]
+#[tactic(auto, using(net_tree::proofs::Views::views))]
+pub(crate) fn names_arc<'s>(arcs: &ArcNames<'s>, expr: &Expr<'s>) -> bool
+    ensures { result ≡ objectives.names_arc arcs.now (tree expr.now) }
+{
+    match expr {
+        Expr::Leaf(token) => arcs.has(&token.text),
+        Expr::Indexed(parts) => {
+            let (name, _, series, _) = parts.get();
+            arcs.has(&name.text) || any_arc(arcs, &series.first, series.more.as_slice())
+        }
+        Expr::Parens(parts) => names_arc(arcs, &parts.get().1),
+        Expr::Tuple(parts) => {
+            let series = &parts.get().1;
+            any_arc(arcs, &series.first, series.more.as_slice())
+        }
+        Expr::Negated(parts) => names_arc(arcs, &parts.get().2),
+        Expr::Braced(braces) => braces_arc(arcs, braces.get()),
+        Expr::Signed(parts) => names_arc(arcs, &parts.get().1),
+        Expr::Reduced(parts, body) => {
+            braces_arc(arcs, &parts.get().1) || names_arc(arcs, body.get())
+        }
+        Expr::Chain(_, operands) => {
+            let series = operands.get();
+            any_arc(arcs, &series.first, series.more.as_slice())
+        }
+        Expr::Choice(condition, branch, otherwise) => {
+            names_arc(arcs, &condition.get().value)
+                || names_arc(arcs, &branch.get().value)
+                || part_arc(arcs, otherwise)
+        }
+        Expr::Net(_) => false,
+    }
+}
+
+#[cycle(names)]
+pub(crate) fn any_arc<'s>(arcs: &ArcNames<'s>, first: &Expr<'s>, more: &[Link<'s>]) -> bool
+    ensures { result ≡ objectives.first_or_any arcs.now (tree first.now) (links_of more.now) }
+{
+    names_arc(arcs, first) || links_arc(arcs, more)
+}
+
+#[cycle(names)]
+fn links_arc<'s>(arcs: &ArcNames<'s>, links: &[Link<'s>]) -> bool
+    ensures { result ≡ objectives.any_arc arcs.now (links_of links.now) }
+{
+    for link in links {
+        if names_arc(arcs, &link.operand) {
+            return true;
+        }
+    }
+    false
+}
+
+#[cycle(names)]
+#[tactic(auto, using(net_tree::proofs::Views::views))]
+fn part_arc<'s>(arcs: &ArcNames<'s>, part: &Option<Boxed<Part<'s>>>) -> bool
+    ensures { result ≡ objectives.part_arc arcs.now (option_part part.now) }
+{
+    match part {
+        None => false,
+        Some(part) => names_arc(arcs, &part.get().value),
+    }
+}
+
+#[cycle(names)]
+#[tactic(auto, using(net_tree::proofs::Views::views))]
+pub(crate) fn braces_arc<'s>(arcs: &ArcNames<'s>, braces: &Braces<'s>) -> bool
+    ensures { result ≡ objectives.braces_arc arcs.now (braces_of braces.now) }
+{
+    match braces {
+        Braces::Empty(_, condition, _) => part_arc(arcs, condition),
+        Braces::Filled(_, series, condition, _) => {
+            any_arc(arcs, &series.first, series.more.as_slice()) || part_arc(arcs, condition)
+        }
+    }
+}
+
+fn are_signs(links: &[Link<'_>]) -> bool
+    ensures { result ≡ objectives.are_signs (links_of links.now) }
+{
+    for link in links {
+        if !is_sign(joint_of(&link.operator)) {
+            return false;
+        }
+    }
+    true
+}
+
+/// Whether an operator may join operands: `*` where an arc stands on one of its sides, and any but those that make no
+/// numbers where none does.
+fn may_join(joint: Joint, before: bool, here: bool) -> bool
+    ensures { result ≡ objectives.may_join joint before here }
+{
+    match joint {
+        Joint::Times => !(before && here),
+        Joint::Other => false,
+        Joint::Plus | Joint::Minus | Joint::Div | Joint::Mod => !(before || here),
+    }
+}
+
+fn either(a: bool, b: bool) -> bool
+    ensures { result ≡ (a || b) }
+{
+    a || b
+}
+
+fn one_factor<'s>(arcs: &ArcNames<'s>, first: bool, links: &[Link<'s>]) -> bool
+    ensures { result ≡ objectives.one_factor arcs.now first (links_of links.now) }
+{
+    let mut before = first;
+    for link in links {
+        let here = names_arc(arcs, &link.operand);
+        if !may_join(joint_of(&link.operator), before, here) {
+            return false;
+        }
+        before = either(before, here);
+    }
+    true
+}
+
+/// Whether a chain is a sum, or a product with at most one operand in which an arc stands.
+pub(crate) fn is_linear<'s>(arcs: &ArcNames<'s>, first: &Expr<'s>, more: &[Link<'s>]) -> bool
+    ensures { result ≡ objectives.is_linear arcs.now (tree first.now) (links_of more.now) }
+{
+    are_signs(more) || one_factor(arcs, names_arc(arcs, first), more)
+}

@@ -1,0 +1,157 @@
+//! Where the net inflow stands in a side of a node's condition.
+
+ghost use Rattle.std.specs.Prelude.{◌≡◌, if◌then◌else◌};
+ghost use Rattle.net_tree.specs.View.{tree, links_of};
+ghost use Rattle.net_eval.specs.Operations as operations;
+ghost use Rattle.net_linear.specs.NetTerms as terms;
+
+use crate::joint::{Joint, is_sign, joint_of};
+use net_lex::Token;
+use net_tree::{Expr, Link};
+
+/// How the net inflow of a node stands in a term or a side of its condition.
+#[derive(Clone, Copy)]
+pub enum NetTerm {
+    /// It does not stand there.
+    Absent,
+    /// It is added, as `net_in` and `- net_out`.
+    Inflow,
+    /// It is taken away, as `net_out` and `- net_in`.
+    Outflow,
+    /// It stands there twice, as no text has it that the grammar takes.
+    Unclear,
+}
+
+#[tactic(auto, unfolding(crate::specs::NetTerms::is_outflow))]
+fn is_outflow(word: &Token<'_>) -> bool
+    ensures { result ≡ terms.is_outflow word.now }
+{
+    word.text.as_str() == "net_out"
+}
+
+#[tactic(auto, unfolding(net_eval::specs::Operations::is_minus))]
+pub(crate) fn is_minus(sign: &Token<'_>) -> bool
+    ensures { result ≡ operations.is_minus sign.now }
+{
+    sign.text.as_str() == "-"
+}
+
+fn has_minus(sign: &Option<Token<'_>>) -> bool
+    ensures { result ≡ terms.has_minus sign.now }
+{
+    match sign {
+        None => false,
+        Some(sign) => is_minus(sign),
+    }
+}
+
+fn with_sign(minus: bool, term: NetTerm) -> NetTerm
+    ensures { result ≡ terms.with_sign minus term }
+{
+    if minus { negated(term) } else { term }
+}
+
+fn negated(term: NetTerm) -> NetTerm
+    ensures { result ≡ terms.negated term }
+{
+    match term {
+        NetTerm::Absent => NetTerm::Absent,
+        NetTerm::Inflow => NetTerm::Outflow,
+        NetTerm::Outflow => NetTerm::Inflow,
+        NetTerm::Unclear => NetTerm::Unclear,
+    }
+}
+
+fn net_word(sign: &Option<Token<'_>>, word: &Token<'_>) -> NetTerm
+    ensures { result ≡ terms.with_sign (terms.has_minus sign.now) (terms.with_sign (terms.is_outflow word.now) NetTerm.Inflow) }
+{
+    with_sign(
+        has_minus(sign),
+        with_sign(is_outflow(word), NetTerm::Inflow),
+    )
+}
+
+/// How it stands in a term.
+#[tactic(auto, using(net_tree::proofs::Views::views))]
+fn net_term(term: &Expr<'_>) -> NetTerm
+    ensures { result ≡ terms.net_term (tree term.now) }
+{
+    match term {
+        Expr::Net(parts) => {
+            let (sign, word) = parts.get();
+            net_word(sign, word)
+        }
+        Expr::Leaf(_) | Expr::Indexed(_) | Expr::Parens(_) | Expr::Tuple(_) => NetTerm::Absent,
+        Expr::Negated(_) | Expr::Braced(_) | Expr::Signed(_) => NetTerm::Absent,
+        Expr::Reduced(_, _) | Expr::Chain(_, _) | Expr::Choice(_, _, _) => NetTerm::Absent,
+    }
+}
+
+fn beside(a: NetTerm, b: NetTerm) -> NetTerm
+    ensures { result ≡ terms.beside a b }
+{
+    match (a, b) {
+        (NetTerm::Absent, b) => b,
+        (a, NetTerm::Absent) => a,
+        _ => NetTerm::Unclear,
+    }
+}
+
+fn behind(joint: Joint, so_far: NetTerm, term: NetTerm) -> NetTerm
+    ensures { result ≡ terms.behind joint so_far term }
+{
+    match joint {
+        Joint::Minus => beside(so_far, negated(term)),
+        Joint::Plus => beside(so_far, term),
+        Joint::Times | Joint::Div | Joint::Mod | Joint::Other => beside(so_far, term),
+    }
+}
+
+fn net_terms(links: &[Link<'_>], first: NetTerm) -> NetTerm
+    ensures { result ≡ terms.net_terms (links_of links.now) first }
+{
+    let mut so_far = first;
+    for link in links {
+        so_far = behind(joint_of(&link.operator), so_far, net_term(&link.operand));
+    }
+    so_far
+}
+
+/// Whether the operators are `+` and `-` alone.
+fn are_terms(links: &[Link<'_>]) -> bool
+    ensures { result ≡ terms.are_terms (links_of links.now) }
+{
+    for link in links {
+        if !is_sign(joint_of(&link.operator)) {
+            return false;
+        }
+    }
+    true
+}
+
+fn net_chain(first: &Expr<'_>, more: &[Link<'_>]) -> NetTerm
+    ensures { result ≡ if terms.are_terms (links_of more.now) then terms.net_terms (links_of more.now) (terms.net_term (tree first.now)) else NetTerm.Absent }
+{
+    if are_terms(more) {
+        net_terms(more, net_term(first))
+    } else {
+        NetTerm::Absent
+    }
+}
+
+/// How it stands in a side.
+#[tactic(auto, using(net_tree::proofs::Views::views))]
+pub(crate) fn net_side(side: &Expr<'_>) -> NetTerm
+    ensures { result ≡ terms.net_side (tree side.now) }
+{
+    match side {
+        Expr::Chain(_, operands) => {
+            let series = operands.get();
+            net_chain(&series.first, series.more.as_slice())
+        }
+        Expr::Leaf(_) | Expr::Indexed(_) | Expr::Parens(_) | Expr::Tuple(_) => NetTerm::Absent,
+        Expr::Negated(_) | Expr::Braced(_) | Expr::Signed(_) => NetTerm::Absent,
+        Expr::Reduced(_, _) | Expr::Choice(_, _, _) => NetTerm::Absent,
+        Expr::Net(_) => net_term(side),
+    }
+}

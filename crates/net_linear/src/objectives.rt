@@ -1,0 +1,351 @@
+//! Objectives.
+
+ghost use Rattle.std.specs.Prelude.{◌≡◌, ◌&&◌, Ok, not, if◌then◌else◌, IfOk, ℕ, ℤ};
+ghost use Rattle.net_tree.specs.Spans as trees;
+ghost use Rattle.net_tree.specs.View.{tree, braces_of, links_of, option_part};
+ghost use Rattle.net_eval.specs.Operations as operations;
+ghost use Rattle.net_eval.specs.Values as values;
+ghost use Rattle.net_linear.specs.Forms as forms;
+ghost use Rattle.net_linear.specs.Joints as joints;
+ghost use Rattle.net_linear.specs.Objectives as objectives;
+ghost use Rattle.net_fault.specs.Outcomes.{Answers, and_then};
+ghost use Rattle.net_linear.specs.Worths.{worth};
+
+use crate::arc::{ArcNames, arc_at};
+use crate::form::{Form, Sum};
+use crate::joint::joint_of;
+use crate::key::key_of;
+use crate::names::{any_arc, braces_arc, is_linear, names_arc};
+use crate::net_term::is_minus;
+use crate::term::{gather, join, plain_term, sized, turn};
+use crate::value::{is_sum, number_or_none, truth_of};
+use net_eval::{Keys, Scope, Seen, index_of, refuse_tree};
+use net_fault::{Defect, Fault, Span};
+use net_lex::Token;
+use net_sets::Tuple;
+use net_tree::{Braces, Expr, Link, Part, span_of};
+use net_views::Boxed;
+use std::alloc::Global;
+
+/// The arc that a name has at a key.
+fn arc_term<'s>(
+    alloc: Global,
+    arcs: &ArcNames<'s>,
+    at: Span,
+    name: &Token<'s>,
+    key: Tuple<'s>,
+) -> Result<Option<Form>, Fault>
+    ensures { Answers (objectives.arc_term arcs.now at name.now.text (Ok key.entry)) result }
+{
+    let arc = arc_at(alloc, at, &name.text, arcs.get(&name.text), key)?;
+    Ok(Some(Form::arc(alloc, arc)?))
+}
+
+fn indexed<'s>(
+    alloc: Global,
+    arcs: &ArcNames<'s>,
+    seen: &Seen<'_, 's>,
+    scope: &Scope<'s>,
+    whole: &Expr<'s>,
+    name: &Token<'s>,
+    first: &Expr<'s>,
+    more: &[Link<'s>],
+) -> Result<Option<Form>, Fault>
+    ensures { Answers (objectives.linear (trees.span_of (tree whole.now)) (not
+        (objectives.first_or_any arcs.now (tree first.now) (links_of more.now))) (objectives.arc_term arcs.now (trees.span_of (tree whole.now))
+        name.now.text (objectives.key_of seen.now scope.now (trees.span_of (tree whole.now)) (tree first.now) (links_of more.now)))) result }
+{
+    if any_arc(arcs, first, more) {
+        Err(refuse_tree(Defect::NotLinear, whole))
+    } else {
+        let key = key_of(alloc, seen, scope, whole, first, more)?;
+        arc_term(alloc, arcs, span_of(whole), name, key)
+    }
+}
+
+/// What an expression comes to.
+#[cycle(forms)]
+fn term_of<'s>(
+    alloc: Global,
+    arcs: &ArcNames<'s>,
+    seen: &Seen<'_, 's>,
+    scope: &Scope<'s>,
+    expr: &Expr<'s>,
+) -> Result<Option<Form>, Fault>
+    ensures { Answers (objectives.objective arcs.now seen.now scope.now (tree expr.now)) result }
+{
+    if names_arc(arcs, expr) {
+        arcs_term(alloc, arcs, seen, scope, expr)
+    } else {
+        let number = number_or_none(alloc, seen, scope, expr)?;
+        plain_term(alloc, expr, &number)
+    }
+}
+
+/// What an expression comes to in which an arc stands.
+#[cycle(forms)]
+#[tactic(auto, using(net_tree::proofs::Views::views))]
+fn arcs_term<'s>(
+    alloc: Global,
+    arcs: &ArcNames<'s>,
+    seen: &Seen<'_, 's>,
+    scope: &Scope<'s>,
+    expr: &Expr<'s>,
+) -> Result<Option<Form>, Fault>
+    ensures { Answers (objectives.with_arcs arcs.now seen.now scope.now (tree expr.now)) result }
+{
+    match expr {
+        Expr::Leaf(token) => arc_term(alloc, arcs, span_of(expr), token, Tuple::new()),
+        Expr::Indexed(parts) => {
+            let (name, _, series, _) = parts.get();
+            indexed(
+                alloc,
+                arcs,
+                seen,
+                scope,
+                expr,
+                name,
+                &series.first,
+                series.more.as_slice(),
+            )
+        }
+        Expr::Parens(parts) => term_of(alloc, arcs, seen, scope, &parts.get().1),
+        Expr::Signed(parts) => {
+            let (sign, operand) = parts.get();
+            signed(alloc, arcs, seen, scope, expr, sign, operand)
+        }
+        Expr::Reduced(parts, body) => {
+            let (word, braces) = parts.get();
+            reduced(alloc, arcs, seen, scope, expr, word, braces, body.get())
+        }
+        Expr::Chain(_, operands) => {
+            let series = operands.get();
+            chain(
+                alloc,
+                arcs,
+                seen,
+                scope,
+                expr,
+                &series.first,
+                series.more.as_slice(),
+            )
+        }
+        Expr::Choice(condition, branch, otherwise) => choice(
+            alloc,
+            arcs,
+            seen,
+            scope,
+            expr,
+            &condition.get().value,
+            &branch.get().value,
+            otherwise,
+        ),
+        Expr::Tuple(_) => Err(refuse_tree(Defect::NotLinear, expr)),
+        Expr::Negated(_) => Err(refuse_tree(Defect::NotLinear, expr)),
+        Expr::Braced(_) => Err(refuse_tree(Defect::NotLinear, expr)),
+        Expr::Net(_) => Err(refuse_tree(Defect::NotLinear, expr)),
+    }
+}
+
+#[cycle(forms)]
+fn signed<'s>(
+    alloc: Global,
+    arcs: &ArcNames<'s>,
+    seen: &Seen<'_, 's>,
+    scope: &Scope<'s>,
+    whole: &Expr<'s>,
+    sign: &Token<'s>,
+    operand: &Expr<'s>,
+) -> Result<Option<Form>, Fault>
+    ensures { Answers (and_then (objectives.objective arcs.now seen.now scope.now (tree operand.now)) (forms.turn (operations.is_minus sign.now)
+        (trees.span_of (tree whole.now)))) result }
+{
+    let term = term_of(alloc, arcs, seen, scope, operand)?;
+    turn(alloc, is_minus(sign), whole, term)
+}
+
+/// The sum over braces.
+#[cycle(forms)]
+fn reduced<'s>(
+    alloc: Global,
+    arcs: &ArcNames<'s>,
+    seen: &Seen<'_, 's>,
+    scope: &Scope<'s>,
+    whole: &Expr<'s>,
+    word: &Token<'s>,
+    braces: &Braces<'s>,
+    body: &Expr<'s>,
+) -> Result<Option<Form>, Fault>
+    ensures { Answers (objectives.linear (trees.span_of (tree whole.now)) (objectives.is_sum (operations.reduction word.now) && not
+        (objectives.braces_arc arcs.now (braces_of braces.now))) (and_then (values.index seen.now scope.now (braces_of braces.now))
+        (λ k. forms.total (trees.span_of (tree whole.now)) (λ row. objectives.objective arcs.now seen.now row.scope (tree body.now)) k.rows)))
+        result }
+{
+    if is_sum(word) && !braces_arc(arcs, braces) {
+        let keys = index_of(alloc, seen, scope, braces)?;
+        total(alloc, arcs, seen, whole, body, keys)
+    } else {
+        Err(refuse_tree(Defect::NotLinear, whole))
+    }
+}
+
+#[cycle(forms)]
+fn total<'s>(
+    alloc: Global,
+    arcs: &ArcNames<'s>,
+    seen: &Seen<'_, 's>,
+    whole: &Expr<'s>,
+    body: &Expr<'s>,
+    keys: Keys<'s>,
+) -> Result<Option<Form>, Fault>
+    ensures { Answers (forms.total (trees.span_of (tree whole.now)) (λ row. objectives.objective arcs.now seen.now row.scope (tree body.now))
+        keys.entry.rows) result }
+{
+    let mut sum = Sum::number(alloc, &0);
+    let rows = keys.rows.as_slice();
+    for row in rows {
+        let term = term_of(alloc, arcs, seen, &row.scope, body)?;
+        sum = gather(whole, sum, term)?;
+    }
+    sized(whole, sum)
+}
+
+/// The operands of a chain, and their operators from the left.
+#[cycle(forms)]
+fn chain<'s>(
+    alloc: Global,
+    arcs: &ArcNames<'s>,
+    seen: &Seen<'_, 's>,
+    scope: &Scope<'s>,
+    whole: &Expr<'s>,
+    first: &Expr<'s>,
+    more: &[Link<'s>],
+) -> Result<Option<Form>, Fault>
+    ensures { Answers (objectives.linear (trees.span_of (tree whole.now)) (objectives.is_linear arcs.now (tree first.now) (links_of more.now))
+        (and_then (objectives.objective arcs.now seen.now scope.now (tree first.now)) (objectives.chained arcs.now (trees.span_of (tree whole.now))
+        seen.now scope.now (links_of more.now)))) result }
+{
+    if is_linear(arcs, first, more) {
+        let term = term_of(alloc, arcs, seen, scope, first)?;
+        chained(alloc, arcs, seen, scope, whole, more, term)
+    } else {
+        Err(refuse_tree(Defect::NotLinear, whole))
+    }
+}
+
+#[cycle(forms)]
+fn chained<'s>(
+    alloc: Global,
+    arcs: &ArcNames<'s>,
+    seen: &Seen<'_, 's>,
+    scope: &Scope<'s>,
+    whole: &Expr<'s>,
+    links: &[Link<'s>],
+    first: Option<Form>,
+) -> Result<Option<Form>, Fault>
+    ensures { Answers (objectives.chained arcs.now (trees.span_of (tree whole.now)) seen.now scope.now (links_of links.now) first) result }
+{
+    let mut term = first;
+    for link in links {
+        term = joined(alloc, arcs, seen, scope, whole, link, term)?;
+    }
+    Ok(term)
+}
+
+/// A term with the operand of one link more.
+#[cycle(forms)]
+fn joined<'s>(
+    alloc: Global,
+    arcs: &ArcNames<'s>,
+    seen: &Seen<'_, 's>,
+    scope: &Scope<'s>,
+    whole: &Expr<'s>,
+    link: &Link<'s>,
+    term: Option<Form>,
+) -> Result<Option<Form>, Fault>
+    ensures { Answers (and_then (objectives.objective arcs.now seen.now scope.now (tree link.now.operand)) (forms.join
+        (joints.joint link.now.operator) (trees.span_of (tree whole.now)) term)) result }
+{
+    let other = term_of(alloc, arcs, seen, scope, &link.operand)?;
+    join(alloc, joint_of(&link.operator), whole, term, &other)
+}
+
+#[cycle(forms)]
+fn choice<'s>(
+    alloc: Global,
+    arcs: &ArcNames<'s>,
+    seen: &Seen<'_, 's>,
+    scope: &Scope<'s>,
+    whole: &Expr<'s>,
+    condition: &Expr<'s>,
+    branch: &Expr<'s>,
+    otherwise: &Option<Boxed<Part<'s>>>,
+) -> Result<Option<Form>, Fault>
+    ensures { Answers (objectives.linear (trees.span_of (tree whole.now)) (not (objectives.names_arc arcs.now (tree condition.now))) (and_then
+        (objectives.condition seen.now scope.now (trees.span_of (tree whole.now)) (tree condition.now)) (λ holds. if holds then objectives.objective
+        arcs.now seen.now scope.now (tree branch.now) else objectives.otherwise arcs.now seen.now scope.now (option_part otherwise.now)))) result }
+{
+    if names_arc(arcs, condition) {
+        Err(refuse_tree(Defect::NotLinear, whole))
+    } else {
+        let holds = truth_of(alloc, seen, scope, whole, condition)?;
+        if holds {
+            term_of(alloc, arcs, seen, scope, branch)
+        } else {
+            other_branch(alloc, arcs, seen, scope, otherwise)
+        }
+    }
+}
+
+/// A missing `else` is 0.
+#[cycle(forms)]
+#[tactic(auto, using(net_tree::proofs::Views::views))]
+fn other_branch<'s>(
+    alloc: Global,
+    arcs: &ArcNames<'s>,
+    seen: &Seen<'_, 's>,
+    scope: &Scope<'s>,
+    otherwise: &Option<Boxed<Part<'s>>>,
+) -> Result<Option<Form>, Fault>
+    ensures { Answers (objectives.otherwise arcs.now seen.now scope.now (option_part otherwise.now)) result }
+{
+    match otherwise {
+        None => Ok(Some(Form::zero(alloc))),
+        Some(part) => term_of(alloc, arcs, seen, scope, &part.get().value),
+    }
+}
+
+fn form_of<'s>(
+    alloc: Global,
+    arcs: &ArcNames<'s>,
+    seen: &Seen<'_, 's>,
+    scope: &Scope<'s>,
+    expr: &Expr<'s>,
+) -> Result<Form, Fault>
+    ensures { Answers (objectives.objective_form arcs.now seen.now scope.now (tree expr.now)) result }
+{
+    match term_of(alloc, arcs, seen, scope, expr)? {
+        Some(form) => Ok(form),
+        None => Err(refuse_tree(Defect::KindMismatch, expr)),
+    }
+}
+
+/// What an objective's expression comes to: a number, and arcs with their coefficients, which at each assignment of numbers
+/// to arcs are worth what the expression is worth with each arc read as its number.
+///
+/// Where evaluation comes to a part in which an arc stands as no objective may have it, `NotLinear` is answered at that part,
+/// before its operands are evaluated. `TooLarge` is answered at the first result of arithmetic whose number or one of whose
+/// coefficients is past 1,000,000,000,000 in size, where a `sum` is tested as a total; `OutsideSet` at a reference to an arc
+/// whose key does not exist; `KindMismatch` at the expression where it is no number.
+pub fn objective<'s>(
+    alloc: Global,
+    arcs: &ArcNames<'s>,
+    seen: &Seen<'_, 's>,
+    scope: &Scope<'s>,
+    expr: &Expr<'s>,
+) -> Result<Form, Fault>
+    ensures value { Answers (objectives.objective_form arcs.now seen.now scope.now (tree expr.now)) result }
+    ensures worth { IfOk result (λ form. (x : ℕ → ℤ) → forms.form_at x form ≡ worth arcs.now seen.now scope.now (tree expr.now) x) }
+{
+    form_of(alloc, arcs, seen, scope, expr)
+}

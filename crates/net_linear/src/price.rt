@@ -1,0 +1,68 @@
+//! Coefficients that arcs themselves give to an objective.
+
+ghost use Rattle.std.specs.Prelude.{◌≡◌, ◌+ℤ◌, ◌*ℤ◌, IfOk, ℕ, ℤ};
+ghost use Rattle.net_tree.specs.Spans as trees;
+ghost use Rattle.net_tree.specs.View.{tree};
+ghost use Rattle.net_linear.specs.Forms as forms;
+ghost use Rattle.net_fault.specs.Outcomes.{Answers};
+
+use crate::form::Form;
+use crate::products::is_small;
+use net_eval::refuse_tree;
+use net_fault::{Defect, Fault};
+use net_tree::Expr;
+use std::alloc::Global;
+
+fn or_too_large(whole: &Expr<'_>, form: Option<Form>) -> Result<Form, Fault>
+    ensures { Answers (forms.or_too_large (trees.span_of (tree whole.now)) form) result }
+{
+    match form {
+        Some(form) => Ok(form),
+        None => Err(refuse_tree(Defect::ValueTooLarge, whole)),
+    }
+}
+
+fn priced_wide(
+    alloc: Global,
+    form: Form,
+    arc: usize,
+    whole: &Expr<'_>,
+    price: &i128,
+) -> Result<Form, Fault>
+    ensures { Answers (forms.priced (trees.span_of (tree whole.now)) form arc price.now) result }
+{
+    if is_small(price) {
+        let one = Form::arc(alloc, arc)?;
+        let sum = form.plus(price, &one)?;
+        or_too_large(whole, sum)
+    } else {
+        Err(refuse_tree(Defect::ValueTooLarge, whole))
+    }
+}
+
+fn priced(
+    alloc: Global,
+    form: Form,
+    arc: usize,
+    whole: &Expr<'_>,
+    price: &i64,
+) -> Result<Form, Fault>
+    ensures { Answers (forms.priced (trees.span_of (tree whole.now)) form arc price.now) result }
+{
+    priced_wide(alloc, form, arc, whole, &i128::from(*price))
+}
+
+/// The form with a price of an arc more, as a phrase `obj` gives one; several prices of an arc add up. `TooLarge` is answered
+/// at the phrase's expression, where the arc's coefficient would pass 1,000,000,000,000 in size.
+pub fn with_price(
+    alloc: Global,
+    form: Form,
+    arc: usize,
+    whole: &Expr<'_>,
+    price: &i64,
+) -> Result<Form, Fault>
+    ensures value { Answers (forms.priced (trees.span_of (tree whole.now)) form arc price.now) result }
+    ensures worth { IfOk result (λ r. (x : ℕ → ℤ) → forms.form_at x r ≡ (forms.form_at x form +ℤ price.now *ℤ x arc)) }
+{
+    priced(alloc, form, arc, whole, price)
+}

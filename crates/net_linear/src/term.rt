@@ -1,0 +1,252 @@
+//! Arithmetic of what expressions come to: forms, or nothing where they are no numbers.
+
+ghost use Rattle.std.specs.Prelude.{◌≡◌, ◌≤◌, ◌+◌, ◌^◌, ◌&&◌, ℕ, pos, true, IfOk, int_div, int_rem};
+ghost use Rattle.net_tree.specs.Spans as trees;
+ghost use Rattle.net_tree.specs.View.{tree};
+ghost use Rattle.net_eval.specs.Limits.{is_small};
+ghost use Rattle.net_eval.specs.Numbers as numbers;
+ghost use Rattle.net_linear.specs.Forms as forms;
+ghost use Rattle.net_linear.specs.Objectives as objectives;
+ghost use Rattle.net_fault.specs.Outcomes.{Answers};
+
+use crate::form::{Form, Sum};
+use crate::joint::Joint;
+use crate::products::is_small;
+use net_eval::refuse_tree;
+use net_fault::{Defect, Fault};
+use net_tree::Expr;
+use std::alloc::Global;
+
+fn within(whole: &Expr<'_>, form: Option<Form>) -> Result<Option<Form>, Fault>
+    ensures { Answers (forms.within (trees.span_of (tree whole.now)) form) result }
+{
+    match form {
+        Some(form) => Ok(Some(form)),
+        None => Err(refuse_tree(Defect::ValueTooLarge, whole)),
+    }
+}
+
+/// A number alone.
+fn number_term(alloc: Global, whole: &Expr<'_>, number: &i128) -> Result<Option<Form>, Fault>
+    ensures { Answers (forms.sized (trees.span_of (tree whole.now)) (forms.just number.now)) result }
+{
+    if is_small(number) {
+        Ok(Some(Form::number(alloc, number)))
+    } else {
+        Err(refuse_tree(Defect::ValueTooLarge, whole))
+    }
+}
+
+/// What no arc is part of.
+pub(crate) fn plain_term(
+    alloc: Global,
+    whole: &Expr<'_>,
+    number: &Option<i64>,
+) -> Result<Option<Form>, Fault>
+    ensures { Answers (objectives.plain_term (trees.span_of (tree whole.now)) number.now) result }
+{
+    match number {
+        None => Ok(None),
+        Some(number) => number_term(alloc, whole, &i128::from(*number)),
+    }
+}
+
+/// A form, and a factor times another.
+fn added(whole: &Expr<'_>, left: Form, factor: &i128, right: &Form) -> Result<Option<Form>, Fault>
+    requires { is_small factor.now ≡ true }
+    ensures { Answers (forms.sized (trees.span_of (tree whole.now)) (forms.combined left factor.now right.now)) result }
+{
+    let sum = left.plus(factor, right)?;
+    within(whole, sum)
+}
+
+fn scaled(
+    alloc: Global,
+    whole: &Expr<'_>,
+    factor: &i128,
+    form: &Form,
+) -> Result<Option<Form>, Fault>
+    requires { is_small factor.now ≡ true }
+    ensures { Answers (forms.scaled (trees.span_of (tree whole.now)) factor.now form.now) result }
+{
+    added(whole, Form::zero(alloc), factor, form)
+}
+
+fn times(alloc: Global, whole: &Expr<'_>, left: &Form, right: &Form) -> Result<Option<Form>, Fault>
+    ensures { Answers (forms.times (trees.span_of (tree whole.now)) left.now right.now) result }
+{
+    if left.is_number() {
+        let factor = left.wide_constant();
+        scaled(alloc, whole, &factor, right)
+    } else if right.is_number() {
+        let factor = right.wide_constant();
+        scaled(alloc, whole, &factor, left)
+    } else {
+        Err(refuse_tree(Defect::NotLinear, whole))
+    }
+}
+
+fn divides(a: &i128, b: &i128) -> bool
+    ensures { result ≡ numbers.divides a.now b.now }
+{
+    *a >= 0 && *b >= 1
+}
+
+fn quotient_of(a: &i128, b: &i128) -> i128
+    requires { numbers.divides a.now b.now ≡ true }
+    ensures { result ≡ int_div a.now b.now }
+{
+    *a / *b
+}
+
+fn remainder_of(a: &i128, b: &i128) -> i128
+    requires { numbers.divides a.now b.now ≡ true }
+    ensures { result ≡ int_rem a.now b.now }
+{
+    *a % *b
+}
+
+fn quotient(alloc: Global, whole: &Expr<'_>, a: &i128, b: &i128) -> Result<Option<Form>, Fault>
+    ensures { Answers (forms.quotient (trees.span_of (tree whole.now)) int_div a.now b.now) result }
+{
+    if divides(a, b) {
+        number_term(alloc, whole, &quotient_of(a, b))
+    } else {
+        Err(refuse_tree(Defect::DivMod, whole))
+    }
+}
+
+fn remainder(alloc: Global, whole: &Expr<'_>, a: &i128, b: &i128) -> Result<Option<Form>, Fault>
+    ensures { Answers (forms.quotient (trees.span_of (tree whole.now)) int_rem a.now b.now) result }
+{
+    if divides(a, b) {
+        number_term(alloc, whole, &remainder_of(a, b))
+    } else {
+        Err(refuse_tree(Defect::DivMod, whole))
+    }
+}
+
+fn are_numbers(left: &Form, right: &Form) -> bool
+    ensures { result ≡ (forms.is_number left.now.products && forms.is_number right.now.products) }
+{
+    left.is_number() && right.is_number()
+}
+
+fn div(alloc: Global, whole: &Expr<'_>, left: &Form, right: &Form) -> Result<Option<Form>, Fault>
+    ensures { Answers (forms.divided (trees.span_of (tree whole.now)) int_div left.now right.now) result }
+{
+    if are_numbers(left, right) {
+        let (a, b) = (left.wide_constant(), right.wide_constant());
+        quotient(alloc, whole, &a, &b)
+    } else {
+        Err(refuse_tree(Defect::NotLinear, whole))
+    }
+}
+
+fn modulo(alloc: Global, whole: &Expr<'_>, left: &Form, right: &Form) -> Result<Option<Form>, Fault>
+    ensures { Answers (forms.divided (trees.span_of (tree whole.now)) int_rem left.now right.now) result }
+{
+    if are_numbers(left, right) {
+        let (a, b) = (left.wide_constant(), right.wide_constant());
+        remainder(alloc, whole, &a, &b)
+    } else {
+        Err(refuse_tree(Defect::NotLinear, whole))
+    }
+}
+
+/// A form less another.
+#[tactic(auto, unfolding(net_eval::specs::Limits::is_small))]
+fn less(whole: &Expr<'_>, left: Form, right: &Form) -> Result<Option<Form>, Fault>
+    ensures { Answers (forms.sized (trees.span_of (tree whole.now)) (forms.combined left forms.minus_one right.now)) result }
+{
+    added(whole, left, &-1, right)
+}
+
+#[tactic(auto, unfolding(net_eval::specs::Limits::is_small))]
+fn joined(
+    alloc: Global,
+    joint: Joint,
+    whole: &Expr<'_>,
+    left: Form,
+    right: &Form,
+) -> Result<Option<Form>, Fault>
+    ensures { Answers (forms.joined joint (trees.span_of (tree whole.now)) left right.now) result }
+{
+    match joint {
+        Joint::Plus => added(whole, left, &1, right),
+        Joint::Minus => less(whole, left, right),
+        Joint::Times => times(alloc, whole, &left, right),
+        Joint::Div => div(alloc, whole, &left, right),
+        Joint::Mod => modulo(alloc, whole, &left, right),
+        Joint::Other => Err(refuse_tree(Defect::NotLinear, whole)),
+    }
+}
+
+/// What an operator makes of two terms.
+pub(crate) fn join(
+    alloc: Global,
+    joint: Joint,
+    whole: &Expr<'_>,
+    left: Option<Form>,
+    right: &Option<Form>,
+) -> Result<Option<Form>, Fault>
+    ensures { Answers (forms.join joint (trees.span_of (tree whole.now)) left right.now) result }
+{
+    match left {
+        None => Err(refuse_tree(Defect::KindMismatch, whole)),
+        Some(left) => match right {
+            None => Err(refuse_tree(Defect::KindMismatch, whole)),
+            Some(right) => joined(alloc, joint, whole, left, right),
+        },
+    }
+}
+
+#[tactic(auto, unfolding(net_eval::specs::Limits::is_small))]
+fn turned(alloc: Global, whole: &Expr<'_>, form: &Form) -> Result<Option<Form>, Fault>
+    ensures { Answers (forms.scaled (trees.span_of (tree whole.now)) forms.minus_one form.now) result }
+{
+    scaled(alloc, whole, &-1, form)
+}
+
+/// A term behind a sign.
+pub(crate) fn turn(
+    alloc: Global,
+    minus: bool,
+    whole: &Expr<'_>,
+    term: Option<Form>,
+) -> Result<Option<Form>, Fault>
+    ensures { Answers (forms.turn minus (trees.span_of (tree whole.now)) term) result }
+{
+    match term {
+        None => Err(refuse_tree(Defect::KindMismatch, whole)),
+        Some(form) => {
+            if minus {
+                turned(alloc, whole, &form)
+            } else {
+                Ok(Some(form))
+            }
+        }
+    }
+}
+
+/// A sum with one term more.
+pub(crate) fn gather(whole: &Expr<'_>, sum: Sum, term: Option<Form>) -> Result<Sum, Fault>
+    requires { forms.AreWithin (2 ^ 125) sum }
+    ensures value { Answers (forms.gathered (trees.span_of (tree whole.now)) sum term) result }
+    ensures room { IfOk result (λ r. (n : ℕ) → forms.AreWithin n sum → forms.AreWithin (n + 1000000000000) r) }
+{
+    match term {
+        None => Err(refuse_tree(Defect::KindMismatch, whole)),
+        Some(form) => {
+            let (sum, _) = sum.with(&1, &form)?;
+            Ok(sum)
+        }
+    }
+}
+
+/// A sum whose total is within the limit.
+pub(crate) fn sized(whole: &Expr<'_>, sum: Sum) -> Result<Option<Form>, Fault>
+    ensures { Answers (forms.sized (trees.span_of (tree whole.now)) sum) result }
+{
+    within(whole, Form::of(sum))
+}

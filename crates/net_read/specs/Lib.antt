@@ -1,4 +1,0 @@
-pub mod Defects
-pub mod Findings
-pub mod Reading
-pub mod FirstFaults

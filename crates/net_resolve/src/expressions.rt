@@ -1,0 +1,367 @@
+//! The names of expressions, from the left. What a function adds to the scope it says; else the scope is as it was.
+
+ghost use Rattle.std.specs.Prelude.{◌≡◌, OnOk};
+ghost use Rattle.net_tree.specs.View.{tree, links_of, braces_of, option_part};
+ghost use Rattle.net_resolve.specs.Dummies as dummies;
+ghost use Rattle.net_resolve.specs.Items as items;
+ghost use Rattle.net_resolve.specs.Meanings.{in_subscripts};
+ghost use Rattle.net_resolve.specs.Names as names;
+ghost use Rattle.net_resolve.specs.Told as told;
+ghost use Rattle.net_resolve.specs.Told.{Tells, name_fault, Decides};
+ghost use Rattle.net_tree.specs.Tree as trees;
+
+use crate::dummies::{add_component, add_left, is_new, sides_of};
+use crate::fault::NameFault;
+use crate::meaning::{Need, in_subscripts, misfit};
+use crate::scope::Scope;
+use net_fault::Defect;
+use net_lex::Token;
+use net_tree::{Braces, Expr, Link, Part, Role, role_of};
+use net_views::Boxed;
+
+/// A name that is used.
+pub(crate) fn check_name<'s>(
+    need: Need,
+    scope: &Scope<'s>,
+    name: &Token<'s>,
+) -> Result<(), NameFault<'s>>
+    ensures { Decides (name_fault need scope.now name.now) result }
+{
+    match scope.meaning(&name.text) {
+        None => Err(NameFault::At(Defect::Undeclared, name.again())),
+        Some(meaning) => match misfit(need, meaning) {
+            None => Ok(()),
+            Some(defect) => Err(NameFault::At(defect, name.again())),
+        },
+    }
+}
+
+fn check_leaf<'s>(need: Need, scope: &Scope<'s>, leaf: &Token<'s>) -> Result<(), NameFault<'s>>
+    ensures { Decides (names.tree_fault need scope.now (trees.leaf leaf.now)) result }
+{
+    match role_of(leaf) {
+        Role::Name => check_name(need, scope, leaf),
+        _ => Ok(()),
+    }
+}
+
+#[cycle(names)]
+#[tactic(auto, using(net_tree::proofs::Views::views, crate::proofs::Walking::walking))]
+pub(crate) fn check<'s>(
+    need: Need,
+    scope: &mut Scope<'s>,
+    expr: &Expr<'s>,
+) -> Result<(), NameFault<'s>>
+    ensures value { Tells (names.tree_fault need scope.old (tree expr.now)) result }
+    ensures kept { OnOk result (scope.new ≡ scope.old) }
+{
+    match expr {
+        Expr::Leaf(token) => check_leaf(need, scope, token),
+        Expr::Indexed(parts) => {
+            let (name, _, series, _) = parts.get();
+            check_subscripts(need, scope, name, &series.first, series.more.as_slice())
+        }
+        Expr::Parens(parts) => check(need, scope, &parts.get().1),
+        Expr::Tuple(parts) => {
+            let series = &parts.get().1;
+            check_series(need, scope, &series.first, series.more.as_slice())
+        }
+        Expr::Negated(parts) => check(need, scope, &parts.get().2),
+        Expr::Braced(braces) => check_braced(need, scope, braces.get()),
+        Expr::Signed(parts) => check(need, scope, &parts.get().1),
+        Expr::Reduced(parts, body) => check_reduced(need, scope, &parts.get().1, body.get()),
+        Expr::Chain(_, operands) => {
+            let series = operands.get();
+            check_series(need, scope, &series.first, series.more.as_slice())
+        }
+        Expr::Choice(condition, branch, otherwise) => check_choice(
+            need,
+            scope,
+            &condition.get().value,
+            &branch.get().value,
+            otherwise,
+        ),
+        Expr::Net(_) => Ok(()),
+    }
+}
+
+/// A name with subscripts.
+#[cycle(names)]
+fn check_subscripts<'s>(
+    need: Need,
+    scope: &mut Scope<'s>,
+    name: &Token<'s>,
+    first: &Expr<'s>,
+    more: &[Link<'s>],
+) -> Result<(), NameFault<'s>>
+    ensures value { Tells (told.first (name_fault need scope.old name.now) (told.first (names.tree_fault (in_subscripts need) scope.old (tree first.now)) (names.links_fault (in_subscripts need) scope.old (links_of more.now)))) result }
+    ensures kept { OnOk result (scope.new ≡ scope.old) }
+{
+    check_name(need, scope, name)?;
+    check_series(in_subscripts(need), scope, first, more)
+}
+
+#[cycle(names)]
+fn check_series<'s>(
+    need: Need,
+    scope: &mut Scope<'s>,
+    first: &Expr<'s>,
+    more: &[Link<'s>],
+) -> Result<(), NameFault<'s>>
+    ensures value { Tells (told.first (names.tree_fault need scope.old (tree first.now)) (names.links_fault need scope.old (links_of more.now))) result }
+    ensures kept { OnOk result (scope.new ≡ scope.old) }
+{
+    check(need, scope, first)?;
+    check_links(need, scope, more)
+}
+
+#[cycle(names)]
+fn check_links<'s>(
+    need: Need,
+    scope: &mut Scope<'s>,
+    links: &[Link<'s>],
+) -> Result<(), NameFault<'s>>
+    ensures value { Tells (names.links_fault need scope.old (links_of links.now)) result }
+    ensures kept { OnOk result (scope.new ≡ scope.old) }
+{
+    for link in links {
+        check(need, scope, &link.operand)?;
+    }
+    Ok(())
+}
+
+#[cycle(names)]
+fn check_choice<'s>(
+    need: Need,
+    scope: &mut Scope<'s>,
+    condition: &Expr<'s>,
+    branch: &Expr<'s>,
+    otherwise: &Option<Boxed<Part<'s>>>,
+) -> Result<(), NameFault<'s>>
+    ensures value { Tells (told.first (names.tree_fault need scope.old (tree condition.now)) (told.first (names.tree_fault need scope.old (tree branch.now)) (names.part_fault need scope.old (option_part otherwise.now)))) result }
+    ensures kept { OnOk result (scope.new ≡ scope.old) }
+{
+    check(need, scope, condition)?;
+    check(need, scope, branch)?;
+    check_part(need, scope, otherwise)
+}
+
+#[cycle(names)]
+#[tactic(auto, using(net_tree::proofs::Views::views, crate::proofs::Walking::walking))]
+fn check_part<'s>(
+    need: Need,
+    scope: &mut Scope<'s>,
+    part: &Option<Boxed<Part<'s>>>,
+) -> Result<(), NameFault<'s>>
+    ensures value { Tells (names.part_fault need scope.old (option_part part.now)) result }
+    ensures kept { OnOk result (scope.new ≡ scope.old) }
+{
+    match part {
+        None => Ok(()),
+        Some(part) => check(need, scope, &part.get().value),
+    }
+}
+
+/// Braces whose dummies nothing behind them sees.
+#[cycle(names)]
+#[tactic(auto, using(crate::proofs::Walking::walking))]
+fn check_braced<'s>(
+    need: Need,
+    scope: &mut Scope<'s>,
+    braces: &Braces<'s>,
+) -> Result<(), NameFault<'s>>
+    ensures value { Tells (names.braces_fault need scope.old (braces_of braces.now)) result }
+    ensures kept { OnOk result (scope.new ≡ scope.old) }
+{
+    let known = scope.len();
+    read_braces(need, scope, braces)?;
+    scope.forget_behind(known);
+    Ok(())
+}
+
+/// What braces index by a reduction.
+#[cycle(names)]
+#[tactic(auto, using(crate::proofs::Walking::walking))]
+fn check_reduced<'s>(
+    need: Need,
+    scope: &mut Scope<'s>,
+    braces: &Braces<'s>,
+    body: &Expr<'s>,
+) -> Result<(), NameFault<'s>>
+    ensures value { Tells (told.first (names.braces_fault need scope.old (braces_of braces.now)) (names.tree_fault need (dummies.with_braces scope.old (braces_of braces.now)) (tree body.now))) result }
+    ensures kept { OnOk result (scope.new ≡ scope.old) }
+{
+    let outside = scope.len();
+    read_braces(need, scope, braces)?;
+    check(need, scope, body)?;
+    scope.forget_behind(outside);
+    Ok(())
+}
+
+/// Braces, whose dummies come into scope.
+#[cycle(names)]
+#[tactic(auto, using(net_tree::proofs::Views::views, crate::proofs::Walking::walking))]
+pub(crate) fn read_braces<'s>(
+    need: Need,
+    scope: &mut Scope<'s>,
+    braces: &Braces<'s>,
+) -> Result<(), NameFault<'s>>
+    ensures value { Tells (names.braces_fault need scope.old (braces_of braces.now)) result }
+    ensures grown { OnOk result (scope.new ≡ dummies.with_braces scope.old (braces_of braces.now)) }
+{
+    match braces {
+        Braces::Empty(_, condition, _) => check_part(need, scope, condition),
+        Braces::Filled(_, items, condition, _) => {
+            read_items(need, scope, &items.first, items.more.as_slice(), condition)
+        }
+    }
+}
+
+/// The items of braces, whose dummies come into scope, and their condition.
+#[cycle(names)]
+fn read_items<'s>(
+    need: Need,
+    scope: &mut Scope<'s>,
+    item: &Expr<'s>,
+    more: &[Link<'s>],
+    condition: &Option<Boxed<Part<'s>>>,
+) -> Result<(), NameFault<'s>>
+    ensures value { Tells (items.items_and_part need scope.old (tree item.now) (links_of more.now) (option_part condition.now)) result }
+    ensures grown { OnOk result (scope.new ≡ dummies.with_items (dummies.with_item scope.old (tree item.now)) (links_of more.now)) }
+{
+    read_item(need, scope, item)?;
+    read_more(need, scope, more)?;
+    check_part(need, scope, condition)
+}
+
+#[cycle(names)]
+fn read_more<'s>(need: Need, scope: &mut Scope<'s>, links: &[Link<'s>]) -> Result<(), NameFault<'s>>
+    ensures value { Tells (names.items_fault need scope.old (links_of links.now)) result }
+    ensures grown { OnOk result (scope.new ≡ dummies.with_items scope.old (links_of links.now)) }
+{
+    for link in links {
+        read_item(need, scope, &link.operand)?;
+    }
+    Ok(())
+}
+
+/// An item of braces, whose dummies come into scope.
+#[cycle(names)]
+#[tactic(auto, using(crate::proofs::Walking::walking))]
+fn read_item<'s>(need: Need, scope: &mut Scope<'s>, item: &Expr<'s>) -> Result<(), NameFault<'s>>
+    ensures value { Tells (items.item_fault need scope.old (tree item.now)) result }
+    ensures grown { OnOk result (scope.new ≡ dummies.with_item scope.old (tree item.now)) }
+{
+    match sides_of(item) {
+        None => check(need, scope, item),
+        Some((left, set)) => read_sides(need, scope, left, set),
+    }
+}
+
+/// An item with `in` at its top: its set does not see its own dummies.
+#[cycle(names)]
+fn read_sides<'s>(
+    need: Need,
+    scope: &mut Scope<'s>,
+    left: &Expr<'s>,
+    set: &Expr<'s>,
+) -> Result<(), NameFault<'s>>
+    ensures value { Tells (told.first (items.left_fault need scope.old (tree left.now)) (names.tree_fault need scope.old (tree set.now))) result }
+    ensures grown { OnOk result (scope.new ≡ dummies.with_left scope.old (tree left.now)) }
+{
+    check_left(need, scope, left)?;
+    check(need, scope, set)?;
+    add_left(scope, left)?;
+    Ok(())
+}
+
+/// What stands at the left of `in`.
+#[cycle(names)]
+#[tactic(auto, using(net_tree::proofs::Views::views, crate::proofs::Walking::walking))]
+fn check_left<'s>(need: Need, scope: &mut Scope<'s>, left: &Expr<'s>) -> Result<(), NameFault<'s>>
+    ensures value { Tells (items.left_fault need scope.old (tree left.now)) result }
+    ensures kept { OnOk result (scope.new ≡ scope.old) }
+{
+    match left {
+        Expr::Tuple(parts) => {
+            let series = &parts.get().1;
+            check_components(need, scope, &series.first, series.more.as_slice())
+        }
+        Expr::Leaf(_)
+        | Expr::Indexed(_)
+        | Expr::Parens(_)
+        | Expr::Negated(_)
+        | Expr::Braced(_)
+        | Expr::Signed(_)
+        | Expr::Reduced(_, _)
+        | Expr::Chain(_, _)
+        | Expr::Choice(_, _, _)
+        | Expr::Net(_) => check_component(need, scope, left),
+    }
+}
+
+/// The components of a tuple: each sees the dummies that are components before it.
+#[cycle(names)]
+#[tactic(auto, using(crate::proofs::Walking::walking))]
+fn check_components<'s>(
+    need: Need,
+    scope: &mut Scope<'s>,
+    component: &Expr<'s>,
+    more: &[Link<'s>],
+) -> Result<(), NameFault<'s>>
+    ensures value { Tells (told.first (items.component_fault need scope.old (tree component.now)) (names.further_fault need (dummies.with_component scope.old (tree component.now)) (links_of more.now))) result }
+    ensures kept { OnOk result (scope.new ≡ scope.old) }
+{
+    let before = scope.len();
+    read_component(need, scope, component)?;
+    read_components(need, scope, more)?;
+    scope.forget_behind(before);
+    Ok(())
+}
+
+#[cycle(names)]
+fn read_components<'s>(
+    need: Need,
+    scope: &mut Scope<'s>,
+    links: &[Link<'s>],
+) -> Result<(), NameFault<'s>>
+    ensures value { Tells (names.further_fault need scope.old (links_of links.now)) result }
+    ensures grown { OnOk result (scope.new ≡ dummies.with_components scope.old (links_of links.now)) }
+{
+    for link in links {
+        read_component(need, scope, &link.operand)?;
+    }
+    Ok(())
+}
+
+/// A component, which comes into scope if it is a new dummy.
+#[cycle(names)]
+fn read_component<'s>(
+    need: Need,
+    scope: &mut Scope<'s>,
+    component: &Expr<'s>,
+) -> Result<(), NameFault<'s>>
+    ensures value { Tells (items.component_fault need scope.old (tree component.now)) result }
+    ensures grown { OnOk result (scope.new ≡ dummies.with_component scope.old (tree component.now)) }
+{
+    check_component(need, scope, component)?;
+    add_component(scope, component)?;
+    Ok(())
+}
+
+/// A component that is no new dummy is an expression.
+#[cycle(names)]
+fn check_component<'s>(
+    need: Need,
+    scope: &mut Scope<'s>,
+    component: &Expr<'s>,
+) -> Result<(), NameFault<'s>>
+    ensures value { Tells (items.component_fault need scope.old (tree component.now)) result }
+    ensures kept { OnOk result (scope.new ≡ scope.old) }
+{
+    if is_new(scope, component) {
+        Ok(())
+    } else {
+        check(need, scope, component)
+    }
+}

@@ -1,0 +1,51 @@
+ghost use Rattle.net_resolve.specs.Told.{IsToldOf};
+
+use net_fault::{Defect, Detail, Fault, Language};
+use net_lex::Token;
+use std::alloc::{AllocError, AllocFailed, Global};
+
+/// Why the names of a model are not as they should be.
+#[derive(Drop)]
+pub(crate) enum NameFault<'s> {
+    OutOfMemory,
+    /// `Undeclared`, `Redeclared` or, of an `obj` phrase for an objective that has an expression, `LeftOut`; and the name with its
+    /// place.
+    At(Defect, Token<'s>),
+}
+
+impl<'s> NameFault<'s> {
+    /// The fault at the name, with it.
+    pub(crate) fn told(&self, alloc: Global) -> Fault
+        ensures { IsToldOf self.now result }
+    {
+        match self {
+            NameFault::OutOfMemory => Fault::OutOfMemory,
+            NameFault::At(defect, name) => match Detail::of_name(alloc, &name.text) {
+                Ok(detail) => Fault::of_text(Language::Model, *defect, name.span, detail),
+                Err(_) => Fault::OutOfMemory,
+            },
+        }
+    }
+}
+
+impl<'s> From<AllocError> for NameFault<'s> {
+    ghost use Rattle.std.specs.Prelude.{◌≡◌};
+    ghost use Rattle.net_resolve.specs.declared.fault.NameFault.TheVariants.{OutOfMemory};
+
+    ghost from_gives = { λ _ e. e ≡ OutOfMemory };
+
+    fn from(_refused: AllocError) -> NameFault<'s> {
+        NameFault::OutOfMemory
+    }
+}
+
+impl<'s, T: Drop> From<AllocFailed<T>> for NameFault<'s> {
+    ghost use Rattle.std.specs.Prelude.{◌≡◌};
+    ghost use Rattle.net_resolve.specs.declared.fault.NameFault.TheVariants.{OutOfMemory};
+
+    ghost from_gives = { λ _ e. e ≡ OutOfMemory };
+
+    fn from(_refused: AllocFailed<T>) -> NameFault<'s> {
+        NameFault::OutOfMemory
+    }
+}

@@ -1,0 +1,111 @@
+ghost use Rattle.std.specs.Prelude.{◌≡◌, ◌++◌, ◌∷◌, [], None, Some, length, take, is_some, if◌then◌else◌, ℕ, List, OnOk, OnErr};
+ghost use Rattle.std.specs.Str.{bytes_eq};
+ghost use Rattle.net_resolve.specs.Scopes.{meaning_in};
+ghost use Rattle.net_resolve.specs.Kept.{told, IsKept};
+
+use crate::meaning::Meaning;
+use net_views::Excerpt;
+use std::alloc::{AllocError, Global};
+use std::collections::BTreeMap;
+use std::marker::Model;
+
+/// The names that mean something, in the order in which they came. Those that came last can be forgotten. They are found
+/// in an ordered map, which no text can make slow.
+#[derive(Drop)]
+pub(crate) struct Scope<'s> {
+    names: Vec<(Excerpt<'s>, Meaning)>,
+    meanings: BTreeMap<&'s str, Meaning>,
+}
+
+impl<'s> Model for Scope<'s> {
+    ghost use Rattle.std.specs.Prelude.{ℕ, List};
+    ghost use Rattle.net_resolve.specs.declared.meaning.Meaning.{Meaning};
+
+    ghost Value = { List (List ℕ × Meaning) };
+
+    ghost use Rattle.net_resolve.specs.Kept.{IsKept};
+
+    ghost view = { λ s. s.names.items };
+
+    ghost invariant = { λ s. IsKept s.names.items s.meanings };
+}
+
+fn insert<'s>(
+    meanings: &mut BTreeMap<&'s str, Meaning>,
+    name: &Excerpt<'s>,
+    meaning: Meaning,
+) -> Result<(), AllocError>
+    ensures ok { OnOk result ((q : List ℕ) → told meanings.new q ≡ if bytes_eq name.now q then Some meaning else told meanings.old q) }
+    ensures err { OnErr result ((q : List ℕ) → told meanings.new q ≡ told meanings.old q) }
+{
+    match meanings.insert(name.as_str(), meaning) {
+        Ok(_) => Ok(()),
+        Err(_) => Err(AllocError),
+    }
+}
+
+fn remove<'s>(meanings: &mut BTreeMap<&'s str, Meaning>, name: &Excerpt<'s>)
+    ensures { (q : List ℕ) → told meanings.new q ≡ if bytes_eq name.now q then None else told meanings.old q }
+{
+    meanings.remove(&name.as_str());
+}
+
+/// Takes these names out.
+fn remove_all<'s>(meanings: &mut BTreeMap<&'s str, Meaning>, names: &[(Excerpt<'s>, Meaning)])
+    ensures { (q : List ℕ) → told meanings.new q ≡ if is_some (meaning_in q names.now) then None else told meanings.old q }
+{
+    for (name, _) in names {
+        remove(meanings, name);
+    }
+}
+
+impl<'s> Scope<'s> {
+    pub(crate) fn new(alloc: Global) -> Scope<'s>
+        ensures { result ≡ [] }
+    {
+        Scope {
+            names: Vec::new(alloc),
+            meanings: BTreeMap::new(alloc),
+        }
+    }
+
+    /// How many names there are.
+    pub(crate) fn len(&self) -> usize
+        ensures { result ≡ length self.now }
+    {
+        self.names.len()
+    }
+
+    /// What a name means.
+    pub(crate) fn meaning(&self, name: &Excerpt<'s>) -> Option<Meaning>
+        ensures { result ≡ meaning_in name.now self.now }
+    {
+        self.meanings.get(&name.as_str()).copied()
+    }
+
+    /// Adds a name that means nothing so far.
+    pub(crate) fn add(&mut self, name: &Excerpt<'s>, meaning: Meaning) -> Result<(), AllocError>
+        requires { meaning_in name.now self.old ≡ None }
+        ensures { OnOk result (self.new ≡ self.old ++ (name.now, meaning) ∷ []) }
+    {
+        let known = self.names.len();
+        self.names.push((name.again(), meaning))?;
+        match insert(&mut self.meanings, name, meaning) {
+            Ok(()) => Ok(()),
+            Err(refused) => {
+                self.names.truncate(known);
+                Err(refused)
+            }
+        }
+    }
+
+    /// Keeps the names that came first, so many.
+    pub(crate) fn forget_behind(&mut self, known: usize)
+        ensures { self.new ≡ take known self.old }
+    {
+        if known < self.names.len() {
+            remove_all(&mut self.meanings, &self.names[known..]);
+            self.names.truncate(known);
+        }
+    }
+}
