@@ -15,3 +15,7 @@ pub mod Claiming
 pub mod HeldParameters
 pub mod HeldEntries
 pub mod ValuesAt
+pub mod NameFaults
+pub mod SetFaults
+pub mod ParameterFaults
+pub mod WorldFaults

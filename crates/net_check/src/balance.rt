@@ -1,6 +1,7 @@
 //! Whether each node sends out its supply.
 
-ghost use Rattle.std.specs.Prelude.{◌≡◌, ℕ, ◌+◌, ◌*◌, ◌<◌, ◌≤◌, ◌^◌, pos, ◌+ℤ◌, ◌-ℤ◌, All, IfSome, IfNone, ◌==◌, length, slice_index_or, vec_len, if◌then◌else◌};
+ghost use Rattle.std.specs.Prelude.{◌≡◌, ℕ, ◌+◌, ◌*◌, ◌<◌, ◌≤◌, ◌^◌, pos, ◌+ℤ◌, ◌-ℤ◌, All, IfSome, IfNone, ◌==◌, length, slice_index_or, vec_len};
+ghost use Rattle.std.specs.Prelude.{if◌then◌else◌};
 ghost use Rattle.std.specs.List.{AllZip};
 ghost use Rattle.net_normal.specs.Flows.{IsWithinCapacity, net_outflow};
 ghost use Rattle.net_normal.specs.Limits.{IsSized, flow_limit, flow_node_limit};
@@ -20,7 +21,8 @@ fn add_at<const N: usize>(balances: &mut [i128; N], first: usize, node: u32, amo
     requires amount { IsSized flow_limit amount }
     requires size { (v : ℕ) → v < N → IsSized (10 ^ 25) (slice_index_or balances.old v (pos 0)) }
     ensures len { length balances.new ≡ N }
-    ensures value { (v : ℕ) → v < N → slice_index_or balances.new v (pos 0) ≡ slice_index_or balances.old v (pos 0) +ℤ (if node == first + v then amount else pos 0) }
+    ensures value { (v : ℕ) → v < N → slice_index_or balances.new v (pos 0)
+        ≡ slice_index_or balances.old v (pos 0) +ℤ (if node == first + v then amount else pos 0) }
 {
     // A node before the first is far behind the last, so that one test serves.
     let place = (node as usize).wrapping_sub(first);
@@ -38,7 +40,8 @@ fn carry<const N: usize>(balances: &mut [i128; N], first: usize, arc: &FlowArc, 
     requires sizes { (v : ℕ) → v < N → IsSized (10 ^ 24) (slice_index_or balances.old v (pos 0)) }
     ensures len { length balances.new ≡ N }
     ensures value { (v : ℕ) → v < N → slice_index_or balances.new v (pos 0) ≡
-        (slice_index_or balances.old v (pos 0) +ℤ (if arc.now.src == first + v then flow.now else pos 0)) -ℤ (if arc.now.dst == first + v then flow.now else pos 0) }
+        (slice_index_or balances.old v (pos 0) +ℤ (if arc.now.src == first + v then flow.now else pos 0)) -ℤ (if arc.now.dst == first + v then flow.now
+        else pos 0) }
 {
     add_at(balances, first, arc.src, *flow);
     add_at(balances, first, arc.dst, -*flow);

@@ -32,3 +32,4 @@ pub mod MendingTables
 pub mod WidthsStay
 pub mod WidthsBegun
 pub mod FirstWrong
+pub mod Standing

@@ -7,3 +7,4 @@ pub mod Meaning
 pub mod Refusals
 pub mod GoingOn
 pub mod Rows
+pub mod Standing

@@ -34,7 +34,8 @@ fn table<'t, 's>(
     colon: Word<'t, 's>,
     tokens: &'t [Token<'s>],
 ) -> Result<Stated<'t, 's>, StatementStop>
-    ensures value { ReadsStated (table parameter.entry.keyword parameter.entry.name parameter.entry.default transposed.entry colon.entry tokens.entry.now) result }
+    ensures value { ReadsStated (table parameter.entry.keyword parameter.entry.name parameter.entry.default transposed.entry colon.entry tokens.entry.now)
+        result }
     ensures shorter { IfOk result (λ x. length x.1.now < length tokens.entry.now) }
 {
     let (columns, assign, rest) = heading(Sort::Member, tokens)?;

@@ -1,6 +1,7 @@
 //! The statements of a data text.
 ghost use Rattle.std.specs.Prelude.{◌≡◌, ◌<◌, ◌≤◌, length, suc, IfOk, IfErr, IfSome, IfNone};
-ghost use Rattle.net_data.specs.Reading.{statement, statements, lone_by, met, finished, tables, end_of, fault_of, statement_fault, Reads, GoesBehind, ReadsOn, Answers, AnswersRest};
+ghost use Rattle.net_data.specs.Reading.{statement, statements, lone_by, met, finished, tables, end_of, fault_of, statement_fault, Reads, GoesBehind};
+ghost use Rattle.net_data.specs.Reading.{ReadsOn, Answers, AnswersRest};
 ghost use Rattle.net_data.specs.Tests.{is_of};
 ghost use Rattle.net_data.specs.Meaning.{Mean, all_judged, checked};
 ghost use Rattle.net_data.specs.Refusals.{IsRefusal};

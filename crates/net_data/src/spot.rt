@@ -5,6 +5,7 @@ ghost use Rattle.net_data.specs.Spots.{spot_after, rests};
 use crate::test::{is_comma, is_mark, is_member};
 use net_lex::Token;
 
+/// Where a token stands in the items of a set, as what may follow it goes by.
 #[derive(Clone, Copy)]
 pub enum Spot {
     /// In no tuple.

@@ -2,7 +2,8 @@
 
 ghost use Rattle.std.specs.Prelude.{◌≡◌, ◌+◌, ◌-◌, ◌≤◌, ◌==◌, ◌++◌, length, replicate, false, vec_len, Some, IfOk, IsOk, IsErrOf};
 ghost use Rattle.net_dimacs.specs.Certificates.{Cut, account_of};
-ghost use Rattle.net_dimacs.specs.CertificateReading.{is_node, are_ends, first_claim, next_claim, with_number, with_flow, with_potential, with_member, with_claim, completed, Gives};
+ghost use Rattle.net_dimacs.specs.CertificateReading.{is_node, are_ends, first_claim, next_claim, with_number, with_flow, with_potential, with_member};
+ghost use Rattle.net_dimacs.specs.CertificateReading.{with_claim, completed, Gives};
 ghost use Rattle.net_dimacs.specs.CertificateDrafts.{GivesList, GivesPart, progress_of, Comes};
 
 use crate::claim::Claim;

@@ -4,7 +4,8 @@ ghost use Rattle.std.specs.Prelude.{◌≡◌, ◌<◌, ◌≤◌, ◌++◌, IfO
 ghost use Rattle.net_normal.specs.Limits.{flow_node_limit};
 ghost use Rattle.net_check.specs.Certificates.{HasShape};
 ghost use Rattle.net_dimacs.specs.Certificates.{account_of, IsCertificateText, IsOnlyCertificate};
-ghost use Rattle.net_dimacs.specs.CertificateWritten.{value_line, flow_line, flow_lines, potential_line, potential_lines, side_line, member_lines, certificate_text, IsValue, IsAmount, AreAmounts, FitsTypes};
+ghost use Rattle.net_dimacs.specs.CertificateWritten.{value_line, flow_line, flow_lines, potential_line, potential_lines, side_line, member_lines};
+ghost use Rattle.net_dimacs.specs.CertificateWritten.{certificate_text, IsValue, IsAmount, AreAmounts, FitsTypes};
 
 use crate::problem_writer::push_line;
 use itoa::Buffer;

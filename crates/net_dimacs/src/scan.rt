@@ -26,6 +26,7 @@ impl Scan {
     ghost use Rattle.net_dimacs.specs.Reading.{Start, Gives};
     ghost use Rattle.net_dimacs.specs.Problems.{BeginsProblem, statements_of};
 
+    /// No byte of a text so far.
     pub fn new() -> Scan
         ensures { result ≡ record { line = 1; progress = Progress.Start } }
     {

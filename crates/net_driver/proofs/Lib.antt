@@ -14,3 +14,5 @@ mod Writing
 mod Pieces
 pub mod Accepted
 pub mod OneAnswer
+pub mod FaultPlaces
+pub mod NoMemory

@@ -19,27 +19,31 @@ use Rattle.net_bind.specs.Binding as binding
 use Rattle.net_eval.specs.Worlds.{Name, World}
 use Rattle.net_inst.specs.Instances as instances
 use Rattle.net_driver.specs.FirstFaults as faults
-use Rattle.net_driver.specs.FirstFaults.{IsModelFault, IsModelStop, IsNetworkStop, IsStop}
+use Rattle.net_driver.specs.FirstFaults.{MayBeModel, IsModelFault, IsModelStop, IsNetworkStop, IsStop}
 use Rattle.net_driver.specs.Reading.{IsModel, IsData}
 
+-- a text that has tokens may be a model
+pub may_be : (text : List ℕ) (tokens : List Token) → AreTokensOf languages.Model text tokens → MayBeModel text
+may_be text tokens read = record { short = read.short; utf8 = read.utf8 }
+
 pub model_token : (text : List ℕ) (fault : Fault) → lex.IsRefusal languages.Model text fault → IsModelStop text fault
-model_token text OutOfMemory r = tt
+model_token text OutOfMemory (short, utf8, begins) = record { short = short; utf8 = utf8 }
 model_token text (At f) (is, r) = subst (IsModelFault text) (sym is) (faults.IsModelFault.token f.defect f.at r)
 
 pub model_parse : (text : List ℕ) (tokens : List Token) (fault : Fault) → AreTokensOf languages.Model text tokens → Parses (Err fault) (meant tokens) → IsModelStop text fault
-model_parse text tokens OutOfMemory read r = tt
+model_parse text tokens OutOfMemory read r = may_be text tokens read
 model_parse text tokens (At f) read r = faults.grammar tokens f read r
 
 pub model_stop : (wanted : Option Name) (m d : List ℕ) (fault : Fault) → IsModelStop m fault → IsStop wanted m d fault
-model_stop wanted m d OutOfMemory h = tt
+model_stop wanted m d OutOfMemory h = h
 model_stop wanted m d (At finding) h = faults.model finding h
 
 pub data_token : (wanted : Option Name) (m d : List ℕ) (ds : List Declaration) (fault : Fault) → IsModel m ds → lex.IsRefusal languages.Data d fault → IsStop wanted m d fault
-data_token wanted m d ds OutOfMemory is r = tt
+data_token wanted m d ds OutOfMemory is r = may_be m is.tokens is.read
 data_token wanted m d ds (At f) is (same, r) = faults.statements ds f is (subst (faults.IsDataFault d) (sym same) (faults.IsDataFault.token f.defect f.at r))
 
 pub network_stop : (wanted : Option Name) (m d : List ℕ) (ds : List Declaration) (tables : Tables) (fault : Fault) → IsModel m ds → IsData d tables → IsNetworkStop wanted ds tables fault → IsStop wanted m d fault
-network_stop wanted m d ds tables OutOfMemory is are h = tt
+network_stop wanted m d ds tables OutOfMemory is are h = may_be m is.tokens is.read
 network_stop wanted m d ds tables (At finding) is are h = faults.both ds tables finding is are h
 
 pub bind_stop : (wanted : Option Name) (ds : List Declaration) (tables : Tables) (fault : Fault) → Answers {A = World} (binding.world ds tables.statements) (Err fault) → IsNetworkStop wanted ds tables fault
@@ -56,6 +60,6 @@ is_bare f d at h = cc
 
 pub data_parse : (wanted : Option Name) (m d : List ℕ) (ds : List Declaration) (tokens : List Token) (fault : Fault) → IsModel m ds → AreTokensOf languages.Data d tokens
     → data_reading.Fails (data_reading.end_of tokens) (data_reading.tables tokens) fault → IsStop wanted m d fault
-data_parse wanted m d ds tokens OutOfMemory is read r = tt
+data_parse wanted m d ds tokens OutOfMemory is read r = may_be m is.tokens is.read
 data_parse wanted m d ds tokens (At f) is read (e, stopped, told) =
     faults.statements ds f is (subst (faults.IsDataFault d) (sym (is_bare f e.defect _ told)) (faults.statement tokens e read stopped))

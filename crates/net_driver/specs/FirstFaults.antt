@@ -1,6 +1,7 @@
 -- What is wrong first with two texts: the tokens, the grammar and the names of the model, the tokens and the statements of
 -- the data, what the two say together, and the network.
-use Rattle.std.specs.Prelude.{◌≡◌, ℕ, List, Option, Ok, Err}
+use Rattle.std.specs.Prelude.{◌≡◌, ◌≤◌, ℕ, List, Option, Ok, Err, length}
+use Rattle.std.specs.Str.{IsUtf8}
 use Rattle.net_fault.specs.declared.defect.Defect.{Defect}
 use Rattle.net_fault.specs.declared.language.Language.{Language}
 use Rattle.net_fault.specs.declared.language.Language.TheVariants as languages
@@ -8,6 +9,7 @@ use Rattle.net_fault.specs.declared.span.Span.{Span}
 use Rattle.net_lex.specs.declared.token.Token.{Token}
 use Rattle.net_lex.specs.Lexing as lex
 use Rattle.net_lex.specs.Lexing.{AreTokensOf}
+use Rattle.net_lex.specs.Limits.{text_limit}
 use Rattle.net_tree.specs.Tree.{Declaration}
 use Rattle.net_model.specs.Models.{meant}
 use Rattle.net_data.specs.declared.stop.Stop.{Stop as DataStop}
@@ -47,9 +49,14 @@ pub data IsFirstFault (wanted : Option Name) (model_text data_text : List ℕ) :
   both : (ds : List Declaration) (tables : Tables) (finding : Finding) → IsModel model_text ds → IsData data_text tables → IsNetworkFault wanted ds tables finding
       → IsFirstFault wanted model_text data_text finding
 
+-- what a text is that memory is asked for: short enough, and UTF-8
+pub record MayBeModel (text : List ℕ) : Type 0 where
+  pub short : length text ≤ text_limit languages.Model
+  pub utf8 : IsUtf8 text
+
 -- the first fault of a model text, or want of memory
 abbrev pub IsModelStop : List ℕ → Fault → Type 0
-IsModelStop text OutOfMemory = Unit {0}
+IsModelStop text OutOfMemory = MayBeModel text
 IsModelStop text (At finding) = IsModelFault text finding
 
 -- of declarations and statements
@@ -57,7 +64,7 @@ abbrev pub IsNetworkStop : Option Name → List Declaration → Tables → Fault
 IsNetworkStop wanted ds tables OutOfMemory = Unit {0}
 IsNetworkStop wanted ds tables (At finding) = IsNetworkFault wanted ds tables finding
 
--- the first fault of two texts, or want of memory
+-- the first fault of two texts, or want of memory, which is asked for a model text that may be one
 abbrev pub IsStop : Option Name → (model_text data_text : List ℕ) → Fault → Type 0
-IsStop wanted model_text data_text OutOfMemory = Unit {0}
+IsStop wanted model_text data_text OutOfMemory = MayBeModel model_text
 IsStop wanted model_text data_text (At finding) = IsFirstFault wanted model_text data_text finding

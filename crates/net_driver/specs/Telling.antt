@@ -1,14 +1,15 @@
 -- How the first fault of two texts is told.
-use Rattle.std.specs.Prelude.{◌≡◌, ◌≤◌, ℕ, List, Option, length, min, max, take, string_bytes}
-use Rattle.std.specs.Str.Lossy.{utf8_lossy}
+use Rattle.std.specs.Prelude.{◌≡◌, ℕ, List, Option, length, take, string_bytes, ⊤}
 use Rattle.net_fault.specs.declared.language.Language.{Language}
 use Rattle.net_fault.specs.declared.language.Language.TheVariants as languages
 use Rattle.net_lex.specs.Places.{line_of, column_of}
-use Rattle.net_fault.specs.declared.span.Span.{Span}
+use Rattle.net_fault.specs.declared.fault.Fault.{Fault as TextFault}
+use Rattle.net_fault.specs.declared.fault.Fault.TheVariants as text_faults
+use Rattle.net_fault.specs.Places.{LiesIn}
 use Rattle.net_eval.specs.Worlds.{Name}
 use Rattle.net_eval.specs.References.{detail_text}
 use Rattle.net_fault.specs.declared.finding.Finding.{Finding}
-use Rattle.net_driver.specs.FirstFaults.{IsFirstFault}
+use Rattle.net_driver.specs.FirstFaults.{IsFirstFault, MayBeModel}
 use Rattle.net_report.specs.Links.{in_line}
 use Rattle.net_driver.specs.declared.fault.Fault.{Fault}
 use Rattle.net_driver.specs.declared.fault.Fault.TheVariants.{OutOfMemory, Refused, RefusedLine, Unread, Unwritten}
@@ -24,27 +25,24 @@ abbrev pub text_of : (model_text data_text : List ℕ) → Language → List ℕ
 text_of model_text data_text languages.Model = model_text
 text_of model_text data_text languages.Data = data_text
 
--- a span as far as it lies in a text of this many bytes
-abbrev pub within : ℕ → Span → Span
-within size at = record { start = min at.start size; end = max (min at.start size) (min at.end size) }
-
-pub record LiesIn (size : ℕ) (at : Span) : Type 0 where
-  pub forward : at.start ≤ at.end
-  pub inside : at.end ≤ size
+-- a finding's place lies in its text
+abbrev pub LiesThere : (model_text data_text : List ℕ) → TextFault → Type 0
+LiesThere model_text data_text text_faults.OutOfMemory = ⊤
+LiesThere model_text data_text (text_faults.At f) = LiesIn (length (text_of model_text data_text f.text)) f.at
 
 -- a finding in a text, with the line and the column of its start, and as a text of one line what is told beside the place
 pub record IsTold (text : List ℕ) (finding : Finding) (r : Refusal) : Type 0 where
   pub kind : r.kind ≡ finding.defect
   pub named : r.text ≡ name_of finding.text
-  pub span : r.span ≡ within (length text) finding.at
+  pub span : r.span ≡ finding.at
   pub lies : LiesIn (length text) r.span
   pub line : r.line ≡ line_of (take r.span.start text)
   pub column : r.column ≡ column_of (take r.span.start text)
-  pub detail : string_bytes r.detail ≡ utf8_lossy (in_line (detail_text finding.detail))
+  pub detail : string_bytes r.detail ≡ in_line (detail_text finding.detail)
 
--- the first fault, told with its place in its text, or want of memory
+-- the first fault, told with its place in its text, or want of memory where the model text may be one
 abbrev pub IsRefusal : Option Name → (model_text data_text : List ℕ) → Fault → Type 0
-IsRefusal wanted model_text data_text OutOfMemory = Unit {0}
+IsRefusal wanted model_text data_text OutOfMemory = MayBeModel model_text
 IsRefusal wanted model_text data_text (Refused r) =
     (finding : Finding) × IsFirstFault wanted model_text data_text finding × IsTold (text_of model_text data_text finding.text) finding r
 IsRefusal wanted model_text data_text (RefusedLine r) = ⊥

@@ -26,7 +26,7 @@ pub use checking::check_bytes;
 pub use compiled::{Compiled, Options, compile, compile_with};
 pub use ending::Ending;
 pub use fault::{Fault, LineRefusal, Refusal, TextName};
-pub use first_fault::{one_first_fault, read_or_refused};
+pub use first_fault::{first_fault_lies_in_its_text, one_first_fault, read_or_refused};
 pub use laws::{answers_are_accepted, texts_have_one_answer};
 pub use line_runs::{run_check, run_min};
 pub use naming::{names_are_declared_once, nodes_and_arcs_are_apart};

@@ -6,7 +6,8 @@ ghost use Rattle.net_dimacs.specs.Scans.{Stands};
 ghost use Rattle.net_io.specs.Ends.{ReadsToLimit};
 ghost use Rattle.net_driver.specs.Checked.{Judges, IsLineRefusal, IsProblemRefusal, ending_of};
 ghost use Rattle.net_driver.specs.Settled.{Settles, settled_ending};
-ghost use Rattle.net_driver.specs.Runs.{IfRefused, IfUnread, WritesVerdict, WritesFrontOfVerdict, RefusesLines, WritesCertificate, WritesFrontOfCertificate, RefusesProblem, IsAskedFew, lines_limit};
+ghost use Rattle.net_driver.specs.Runs.{IfRefused, IfUnread, WritesVerdict, WritesFrontOfVerdict, RefusesLines, WritesCertificate};
+ghost use Rattle.net_driver.specs.Runs.{WritesFrontOfCertificate, RefusesProblem, IsAskedFew, lines_limit};
 
 use crate::checking::{judge, verdict_line};
 use crate::ending::Ending;

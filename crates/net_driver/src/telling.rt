@@ -1,13 +1,16 @@
 //! How a finding in a text is told.
 
-ghost use Rattle.std.specs.Prelude.{◌≡◌, Option, IfOk, length};
+ghost use Rattle.std.specs.Prelude.{◌≡◌, Option, IfOk, IsErr, length, string_bytes};
+ghost use Rattle.net_fault.specs.declared.detail.Detail.TheVariants.{Nothing};
+ghost use Rattle.net_eval.specs.References.{detail_text};
 ghost use Rattle.net_eval.specs.Worlds.{Name};
 ghost use Rattle.net_driver.specs.FirstFaults.{IsStop};
-ghost use Rattle.net_driver.specs.Telling.{IsTold, IsRefusal, LiesIn, name_of, text_of, within};
+ghost use Rattle.net_fault.specs.Places.{LiesIn};
+ghost use Rattle.net_report.specs.Links.{in_line};
+ghost use Rattle.net_driver.specs.Telling.{IsTold, IsRefusal, LiesThere, name_of, text_of};
 
 use crate::fault::{Fault, Refusal, TextName};
-use net_eval::append_detail;
-use net_fault::{Fault as TextFault, Finding, Language, Span};
+use net_fault::{Detail, Fault as TextFault, Finding, Language};
 use net_lex::line_column;
 use net_report::push_in_line;
 use std::alloc::{AllocError, Global};
@@ -30,40 +33,43 @@ fn text_of<'a>(model: &'a [u8], data: &'a [u8], text: Language) -> &'a [u8]
     }
 }
 
-/// A span as far as it lies in a text.
-fn within(text: &[u8], at: Span) -> Span
-    ensures value { result ≡ within (length text.now) at }
-    ensures lies { LiesIn (length text.now) result }
+/// What is told beside a place, as it stands in a line. Memory is asked for only where something is.
+fn line_of(alloc: Global, detail: &Detail) -> Result<String, AllocError>
+    ensures ok { IfOk result (λ line. string_bytes line ≡ in_line (detail_text detail.now)) }
+    ensures err { IsErr result → detail.now ≡ Nothing → ⊥ }
 {
-    let start = at.start.min(text.len());
-    Span {
-        start,
-        end: start.max(at.end.min(text.len())),
+    let mut line = String::new(alloc);
+    match detail {
+        Detail::Nothing => Ok(line),
+        Detail::Told(text) => {
+            push_in_line(&mut line, text.as_str())?;
+            Ok(line)
+        }
     }
 }
 
 /// A finding in its text, with line and column.
 fn refusal_of(alloc: Global, text: &[u8], finding: &Finding) -> Result<Refusal, AllocError>
-    ensures { IfOk result (IsTold text.now finding.now) }
+    requires { LiesIn (length text.now) finding.now.at }
+    ensures ok { IfOk result (IsTold text.now finding.now) }
+    ensures err { IsErr result → finding.now.detail ≡ Nothing → ⊥ }
 {
-    let span = within(text, finding.at);
+    let span = finding.at;
     let (line, column) = line_column(text, span.start);
-    let mut told = Vec::new(alloc);
-    append_detail(&mut told, &finding.detail)?;
-    let mut detail = Vec::new(alloc);
-    push_in_line(&mut detail, &told)?;
+    let detail = line_of(alloc, &finding.detail)?;
     Ok(Refusal {
         kind: finding.defect,
         text: name_of(finding.text),
         span,
         line,
         column,
-        detail: String::from_utf8_lossy(alloc, &detail)?,
+        detail,
     })
 }
 
-/// The fault that is told of two texts.
+/// The fault that is told of two texts, in one of which it lies.
 pub(crate) fn told(alloc: Global, model: &[u8], data: &[u8], fault: &TextFault) -> Fault
+    requires { LiesThere model.now «data».now fault.now }
     ensures { (wanted : Option Name) → IsStop wanted model.now «data».now fault.now → IsRefusal wanted model.now «data».now result }
 {
     match fault {

@@ -1,9 +1,11 @@
 pub mod Numerals
+mod Doubling
 pub mod Seeing
 pub mod Cases
 pub mod Walking
 pub mod Ranging
 pub mod Passing
+pub mod Subscripting
 pub mod Framing
 pub mod Scoping
 pub mod Parting
@@ -23,3 +25,6 @@ mod ListExamples
 mod IndexExamples
 mod SelectingExamples
 mod Numbering
+pub mod OperatorFaults
+pub mod RowFaults
+pub mod ValueFaults

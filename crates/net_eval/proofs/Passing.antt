@@ -71,7 +71,7 @@ keeps_more s q name y kept new other m h = step (bytes_eq name other) refl
     step false e = kept other m h
 
 -- a dummy in scope that stands alone has its member for its value
-value_alone : (w : World) (s : Scope) (x : Tree) (name : Name) (v : Member) → bare x ≡ Some name → bound s name ≡ Some v → value w s x ≡ Ok (One v)
+pub value_alone : (w : World) (s : Scope) (x : Tree) (name : Name) (v : Member) → bare x ≡ Some name → bound s name ≡ Some v → value w s x ≡ Ok (One v)
 value_alone w s (leaf t) name v e h = go (role_of t) e
   where
     go : (r : Role) → (if is_name r then Some t.text else None) ≡ Some name → token_value w s t r ≡ Ok (One v)

@@ -292,11 +292,15 @@ drop_at : {A : Type 0} (xs : List A) (i : ℕ) (x : A) → i < length xs → x �
 drop_at xs i x h e = let a = drop-cons xs i x h in let b = add-one i in cc
 
 -- one step over rows
-pub kept-left : (f : Scope → Outcome Bool) (rows : List Row) (i : ℕ) (r : Row) (found : List Row) (wanted : Outcome (List Row)) → i < length rows → r ≡ get_or rows i r
-    → kept f (drop i rows) found ≡ wanted
-    → wanted ≡ and_then (and_then (f r.scope) (λ b. Ok (keep r found b))) (kept f (drop (i + 1) rows))
-kept-left f rows i r found wanted h e same =
-    sym same ∙ ap (λ k. kept f k found) (drop_at rows i r h e) ∙ sym (and_then-assoc (f r.scope) (λ b. Ok (keep r found b)) (kept f (drop (i + 1) rows)))
+pub kept-next : (f : Scope → Outcome Bool) (rows left : List Row) (r : Row) (found : List Row) (wanted : Outcome (List Row)) → rows ≡ r ∷ left
+    → kept f rows found ≡ wanted
+    → wanted ≡ and_then (and_then (f r.scope) (λ b. Ok (keep r found b))) (kept f left)
+kept-next f rows left r found wanted e same =
+    sym same ∙ ap (λ k. kept f k found) e ∙ sym (and_then-assoc (f r.scope) (λ b. Ok (keep r found b)) (kept f left))
+
+pub kept-all : (f : Scope → Outcome Bool) (rows found : List Row) (wanted : Outcome (List Row)) → length rows ≡ 0 → kept f rows found ≡ wanted → wanted ≡ Ok found
+kept-all f [] found wanted h same = sym same
+kept-all f (r ∷ rows) found wanted h same = absurd (omega (arith, h))
 
 -- what one value more makes of it, or its fault
 abbrev pub one_more : Span → Reduction → Option ℤ → Value → Outcome (Option ℤ)

@@ -8,6 +8,7 @@ pub mod Sets
 pub mod Operators
 pub mod Items
 pub mod Selecting
+pub mod Subscripts
 pub mod Widths
 pub mod Rows
 pub mod Values

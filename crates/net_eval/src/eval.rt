@@ -20,10 +20,11 @@ use crate::list::as_value;
 use crate::name::{leaf, name_at};
 use crate::number::{one_more, reduced_to, with_sign};
 use crate::operation::{Reduction, is_minus, operation_of, reduction_of};
-use crate::operator::{apply, as_denial, decided, truth_of, tuple_of};
+use crate::operator::{apply, as_denial, decided, truth_of};
 use crate::range::range_of;
 use crate::row::Keys;
 use crate::scope::Scope;
+use crate::subscripts::key_of;
 use crate::value::Value;
 use crate::world::Seen;
 use net_fault::Fault;
@@ -122,10 +123,11 @@ fn subscripted<'w, 's>(
     first: &Expr<'s>,
     more: &[Link<'s>],
 ) -> Result<Value<'w, 's>, Fault>
-    ensures { Answers (and_then (and_then (values.value seen.now scope.now (tree first.now)) (λ v. values.values seen.now scope.now (links_of more.now) (v ∷ []))) (values.subscripted (trees.span_of (tree whole.now)) seen.now scope.now name.now.text)) result }
+    ensures { Answers (and_then (and_then (values.value seen.now scope.now (tree first.now))
+        (λ v. values.values seen.now scope.now (links_of more.now) (v ∷ [])))
+        (values.subscripted (trees.span_of (tree whole.now)) seen.now scope.now name.now.text)) result }
 {
-    let found = evaluate_all(alloc, seen, scope, first, more)?;
-    let key = tuple_of(whole, found.as_slice())?;
+    let key = key_of(alloc, seen, scope, whole, first, more)?;
     name_at(alloc, span_of(whole), seen, scope, &name.text, key)
 }
 
@@ -138,10 +140,10 @@ fn tupled<'w, 's>(
     first: &Expr<'s>,
     more: &[Link<'s>],
 ) -> Result<Value<'w, 's>, Fault>
-    ensures { Answers (and_then (and_then (values.value seen.now scope.now (tree first.now)) (λ v. values.values seen.now scope.now (links_of more.now) (v ∷ []))) (values.tupled (trees.span_of (tree whole.now)))) result }
+    ensures { Answers (and_then (and_then (values.value seen.now scope.now (tree first.now))
+        (λ v. values.values seen.now scope.now (links_of more.now) (v ∷ []))) (values.tupled (trees.span_of (tree whole.now)))) result }
 {
-    let found = evaluate_all(alloc, seen, scope, first, more)?;
-    let tuple = tuple_of(whole, found.as_slice())?;
+    let tuple = key_of(alloc, seen, scope, whole, first, more)?;
     Ok(Value::Several(tuple))
 }
 
@@ -167,7 +169,8 @@ fn negated<'w, 's>(
     whole: &Expr<'s>,
     condition: &Expr<'s>,
 ) -> Result<Value<'w, 's>, Fault>
-    ensures { Answers (and_then (and_then (values.value seen.now scope.now (tree condition.now)) (operators.truth (trees.span_of (tree whole.now)))) (λ b. Ok (Truth (not b)))) result }
+    ensures { Answers (and_then (and_then (values.value seen.now scope.now (tree condition.now)) (operators.truth (trees.span_of (tree whole.now))))
+        (λ b. Ok (Truth (not b)))) result }
 {
     as_denial(is_met(alloc, seen, scope, whole, condition))
 }
@@ -195,7 +198,8 @@ fn signed<'w, 's>(
     sign: &Token<'s>,
     operand: &Expr<'s>,
 ) -> Result<Value<'w, 's>, Fault>
-    ensures { Answers (and_then (values.value seen.now scope.now (tree operand.now)) (values.with_sign (trees.span_of (tree whole.now)) (operations.is_minus sign.now))) result }
+    ensures { Answers (and_then (values.value seen.now scope.now (tree operand.now))
+        (values.with_sign (trees.span_of (tree whole.now)) (operations.is_minus sign.now))) result }
 {
     let value = evaluate(alloc, seen, scope, operand);
     with_sign(whole, is_minus(sign), value)
@@ -212,7 +216,8 @@ fn reduced<'w, 's>(
     braces: &Braces<'s>,
     body: &Expr<'s>,
 ) -> Result<Value<'w, 's>, Fault>
-    ensures { Answers (and_then (values.index seen.now scope.now (braces_of braces.now)) (rows.reduce (trees.span_of (tree whole.now)) reduction (λ q. values.value seen.now q (tree body.now)))) result }
+    ensures { Answers (and_then (values.index seen.now scope.now (braces_of braces.now))
+        (rows.reduce (trees.span_of (tree whole.now)) reduction (λ q. values.value seen.now q (tree body.now)))) result }
 {
     let keys = index(alloc, seen, scope, braces)?;
     gather(alloc, seen, whole, reduction, body, &keys)
@@ -228,7 +233,9 @@ fn chain<'w, 's>(
     first: &Expr<'s>,
     more: &[Link<'s>],
 ) -> Result<Value<'w, 's>, Fault>
-    ensures { Answers (and_then (values.value seen.now scope.now (tree first.now)) (λ v. if items.begins_range (links_of more.now) then and_then (values.values seen.now scope.now (links_of more.now) (v ∷ [])) (numbers.range_of (trees.span_of (tree whole.now))) else values.chained (trees.span_of (tree whole.now)) seen.now scope.now (links_of more.now) v)) result }
+    ensures { Answers (and_then (values.value seen.now scope.now (tree first.now)) (λ v. if items.begins_range (links_of more.now)
+        then and_then (values.values seen.now scope.now (links_of more.now) (v ∷ [])) (numbers.range_of (trees.span_of (tree whole.now)))
+        else values.chained (trees.span_of (tree whole.now)) seen.now scope.now (links_of more.now) v)) result }
 {
     let value = evaluate(alloc, seen, scope, first)?;
     if begins_range(more) {
@@ -248,7 +255,8 @@ fn choice<'w, 's>(
     branch: &Expr<'s>,
     otherwise: &Option<Boxed<Part<'s>>>,
 ) -> Result<Value<'w, 's>, Fault>
-    ensures { Answers (and_then (and_then (values.value seen.now scope.now (tree condition.now)) (operators.truth (trees.span_of (tree whole.now)))) (λ b. if b then values.value seen.now scope.now (tree branch.now) else values.otherwise seen.now scope.now (option_part otherwise.now))) result }
+    ensures { Answers (and_then (and_then (values.value seen.now scope.now (tree condition.now)) (operators.truth (trees.span_of (tree whole.now))))
+        (λ b. if b then values.value seen.now scope.now (tree branch.now) else values.otherwise seen.now scope.now (option_part otherwise.now))) result }
 {
     if is_met(alloc, seen, scope, whole, condition)? {
         evaluate(alloc, seen, scope, branch)
@@ -278,21 +286,6 @@ fn other_branch<'w, 's>(
         None => Ok(missing_else()),
         Some(part) => evaluate(alloc, seen, scope, &part.get().value),
     }
-}
-
-/// The values of expressions in a row.
-#[cycle(eval)]
-pub fn evaluate_all<'w, 's>(
-    alloc: Global,
-    seen: &Seen<'w, 's>,
-    scope: &Scope<'s>,
-    first: &Expr<'s>,
-    more: &[Link<'s>],
-) -> Result<Items<Value<'w, 's>>, Fault>
-    ensures { Answers (and_then (values.value seen.now scope.now (tree first.now)) (λ v. values.values seen.now scope.now (links_of more.now) (v ∷ []))) result }
-{
-    let value = evaluate(alloc, seen, scope, first)?;
-    evaluate_more(alloc, seen, scope, value, more)
 }
 
 #[cycle(eval)]
@@ -343,7 +336,8 @@ fn joined<'w, 's>(
     link: &Link<'s>,
     value: &Value<'_, 's>,
 ) -> Result<Value<'w, 's>, Fault>
-    ensures { Answers (walks.joined (trees.span_of (tree whole.now)) (operations.operation link.now.operator) (values.value seen.now scope.now (tree link.now.operand)) value.now) result }
+    ensures { Answers (walks.joined (trees.span_of (tree whole.now)) (operations.operation link.now.operator)
+        (values.value seen.now scope.now (tree link.now.operand)) value.now) result }
 {
     let operation = operation_of(&link.operator);
     match decided(operation, whole, value)? {

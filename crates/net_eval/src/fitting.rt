@@ -46,7 +46,8 @@ fn left_place<'s>(
     tuple: &Tuple<'s>,
     place: &Place<'s>,
 ) -> Result<Option<Place<'s>>, Fault>
-    ensures { Answers (values.left_place (trees.span_of (tree item.now)) seen.now (tree left.now) (values.value seen.now place.now.scope (tree left.now)) tuple.now place.now) result }
+    ensures { Answers (values.left_place (trees.span_of (tree item.now)) seen.now (tree left.now)
+        (values.value seen.now place.now.scope (tree left.now)) tuple.now place.now) result }
 {
     match left {
         Expr::Tuple(parts) => {
@@ -82,7 +83,8 @@ fn alone<'s>(
     tuple: &Tuple<'s>,
     place: &Place<'s>,
 ) -> Result<Option<Place<'s>>, Fault>
-    ensures { Answers (rows.fitted_alone (trees.span_of (tree item.now)) (items.new_dummy seen.now place.now.scope (tree left.now)) (values.value seen.now place.now.scope (tree left.now)) tuple.now place.now) result }
+    ensures { Answers (rows.fitted_alone (trees.span_of (tree item.now)) (items.new_dummy seen.now place.now.scope (tree left.now))
+        (values.value seen.now place.now.scope (tree left.now)) tuple.now place.now) result }
 {
     match new_dummy(seen, &place.scope, left) {
         Some(name) => bind_first(alloc, name, tuple.as_slice(), place),
@@ -159,7 +161,8 @@ fn fit_all<'s>(
     others: &[Member<'s>],
     place: Place<'s>,
 ) -> Result<Option<Place<'s>>, Fault>
-    ensures { Answers (walks.component_places (trees.span_of (tree whole.now)) seen.now (tree component.now) (links_of more.now) (member.now ∷ others.now) place.entry) result }
+    ensures { Answers (walks.component_places (trees.span_of (tree whole.now)) seen.now (tree component.now) (links_of more.now)
+        (member.now ∷ others.now) place.entry) result }
 {
     match fit(alloc, seen, whole, component, member, place) {
         Ok(None) => Ok(None),
@@ -178,7 +181,8 @@ fn fit<'s>(
     member: &Member<'s>,
     place: Place<'s>,
 ) -> Result<Option<Place<'s>>, Fault>
-    ensures { Answers (rows.fitted (trees.span_of (tree whole.now)) (items.new_dummy seen.now place.entry.scope (tree component.now)) (values.value seen.now place.entry.scope (tree component.now)) member.now place.entry) result }
+    ensures { Answers (rows.fitted (trees.span_of (tree whole.now)) (items.new_dummy seen.now place.entry.scope (tree component.now))
+        (values.value seen.now place.entry.scope (tree component.now)) member.now place.entry) result }
 {
     match new_dummy(seen, &place.scope, component) {
         Some(name) => place.bind(name, member),

@@ -208,7 +208,8 @@ pub(crate) fn chosen<'w, 's>(
     left: &Expr<'_>,
     value: Result<Value<'w, 's>, Fault>,
 ) -> Result<Held<'w, 's>, Fault>
-    ensures { (wanted : Outcome Found) → Answers wanted value.entry → Answers (and_then wanted (items.chosen (trees.span_of (tree item.now)) (items.needed (tree left.now)))) result }
+    ensures { (wanted : Outcome Found) → Answers wanted value.entry
+        → Answers (and_then wanted (items.chosen (trees.span_of (tree item.now)) (items.needed (tree left.now)))) result }
 {
     match value {
         Ok(value) => match value.into_set() {

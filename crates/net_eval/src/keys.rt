@@ -135,7 +135,8 @@ fn collect<'w, 's>(
     more: &[Link<'s>],
     tuples: Held<'w, 's>,
 ) -> Result<Items<Row<'s>>, Fault>
-    ensures { Answers (each (rows.onward (values.place seen.now (tree item.now)) (values.walk at seen.now (links_of more.now)) (rows.start scope.now)) tuples.entry []) result }
+    ensures { Answers (each (rows.onward (values.place seen.now (tree item.now)) (values.walk at seen.now (links_of more.now)) (rows.start scope.now))
+        tuples.entry []) result }
 {
     let place = start(alloc, scope)?;
     let left = selected(seen, &place.scope, item, tuples);
@@ -195,9 +196,11 @@ fn onward<'a, 'w, 's>(
     place: Option<Place<'s>>,
     found: &mut Vec<Row<'s>>,
 ) -> Result<Option<Frame<'a, 'w, 's>>, Fault>
-    ensures leads { frames.Leads at seen.now (rows.go_on (values.walk at seen.now (links_of items.entry.now)) found.old.items place.entry) result found.new.items }
+    ensures leads { frames.Leads at seen.now (rows.go_on (values.walk at seen.now (links_of items.entry.now)) found.old.items place.entry) result
+        found.new.items }
     ensures lighter { IfOk result (λ next. IfSome next (λ f. frames.weight_of f ≤ weights (links_of items.entry.now))) }
-    ensures steps { IfOk result (λ next. IfSome next (λ f. frames.steps_still at seen.now f ≡ frames.steps_next (frames.steps at seen.now (links_of items.entry.now)) (Ok place.entry))) }
+    ensures steps { IfOk result (λ next. IfSome next (λ f. frames.steps_still at seen.now f
+        ≡ frames.steps_next (frames.steps at seen.now (links_of items.entry.now)) (Ok place.entry))) }
 {
     match place {
         None => Ok(None),
@@ -224,7 +227,14 @@ fn entered<'a, 'w, 's>(
     more: &'a [Link<'s>],
     place: Place<'s>,
 ) -> Result<Frame<'a, 'w, 's>, Fault>
-    ensures { Answers (and_then (walks.item_tuples at seen.now place.entry.scope (tree item.entry.now)) (λ ts. Ok (record { item = item.entry; more = more.entry; place = place.entry; left = sought (select.selecting seen.now place.entry.scope (tree item.entry.now)) ts }))) result }
+    ensures { Answers (and_then (walks.item_tuples at seen.now place.entry.scope (tree item.entry.now))
+        (λ ts. Ok (record {
+          item = item.entry;
+          more = more.entry;
+          place = place.entry;
+          left = sought
+              (select.selecting seen.now place.entry.scope (tree item.entry.now)) ts;
+        }))) result }
 {
     let tuples = item_tuples(alloc, seen, at, &place.scope, item)?;
     let left = selected(seen, &place.scope, item, tuples);
@@ -261,7 +271,8 @@ fn choose<'w, 's>(
     left: &Expr<'s>,
     set: &Expr<'s>,
 ) -> Result<Held<'w, 's>, Fault>
-    ensures { Answers (and_then (values.value seen.now scope.now (tree set.now)) (items.chosen (trees.span_of (tree item.now)) (items.needed (tree left.now)))) result }
+    ensures { Answers (and_then (values.value seen.now scope.now (tree set.now))
+        (items.chosen (trees.span_of (tree item.now)) (items.needed (tree left.now)))) result }
 {
     chosen(item, left, evaluate(alloc, seen, scope, set))
 }
@@ -276,16 +287,16 @@ fn keep<'s>(
     width: u8,
     found: Items<Row<'s>>,
 ) -> Result<Keys<'s>, Fault>
-    ensures { Answers (and_then (rows.kept (λ q. values.holds at seen.now q (option_part condition.now)) found.entry []) (λ left. Ok (rows.keys width left))) result }
+    ensures { Answers (and_then (rows.kept (λ q. values.holds at seen.now q (option_part condition.now)) found.entry [])
+        (λ left. Ok (rows.keys width left))) result }
 {
     if !has_part(condition) {
         return Ok(as_keys(width, found));
     }
     let mut kept = Vec::new(alloc);
-    let rows = found.as_slice();
-    for row in rows {
+    for row in found.into_vec() {
         let holds = holds(alloc, seen, at, &row.scope, condition);
-        keep_if(alloc, holds, row, &mut kept)?;
+        keep_if(holds, row, &mut kept)?;
     }
     Ok(as_keys(width, Items::new(kept)))
 }

@@ -1,6 +1,6 @@
 //! What names and other leaves are.
 
-ghost use Rattle.std.specs.Prelude.{◌≡◌};
+ghost use Rattle.std.specs.Prelude.{◌≡◌, []};
 ghost use Rattle.std.specs.Option.{option_copied};
 ghost use Rattle.net_sets.specs.Sets.{has, at_key};
 ghost use Rattle.net_tree.specs.Tree as trees;
@@ -115,6 +115,22 @@ pub(crate) fn name_at<'w, 's>(
     }
 }
 
+/// What a name without subscripts is.
+fn plain_name<'w, 's>(
+    alloc: Global,
+    at: Span,
+    seen: &Seen<'w, 's>,
+    scope: &Scope<'s>,
+    name: &Excerpt<'s>,
+) -> Result<Value<'w, 's>, Fault>
+    ensures { Answers (worlds.name_at at seen.now name.now (worlds.bound scope.now name.now) []) result }
+{
+    match scope.get(name) {
+        None => entry_at(alloc, at, name, seen.find(name), Tuple::new()),
+        Some(member) => Ok(Value::One(member.again())),
+    }
+}
+
 fn numeral<'w, 's>(token: &Token<'s>) -> Result<Value<'w, 's>, Fault>
     ensures { Decides (values.number_value token.now.span (number_in token.now.text)) result }
 {
@@ -136,7 +152,7 @@ pub(crate) fn leaf<'w, 's>(
     match role_of(token) {
         Role::Number => numeral(token),
         Role::Text => Ok(Value::One(Member::Name(Text::new(&token.text)))),
-        Role::Name => name_at(alloc, token.span, seen, scope, &token.text, Tuple::new()),
+        Role::Name => plain_name(alloc, token.span, seen, scope, &token.text),
         _ => Err(Fault::of_model(Defect::KindMismatch, token.span)),
     }
 }

@@ -219,7 +219,8 @@ pub(crate) fn with_sign<'w, 's>(
     minus: bool,
     value: Result<Value<'_, 's>, Fault>,
 ) -> Result<Value<'w, 's>, Fault>
-    ensures { (wanted : Outcome Found) → Answers wanted value.entry → Answers (and_then wanted (values.with_sign (trees.span_of (tree whole.now)) minus)) result }
+    ensures { (wanted : Outcome Found) → Answers wanted value.entry
+        → Answers (and_then wanted (values.with_sign (trees.span_of (tree whole.now)) minus)) result }
 {
     let number = number_found(whole, value)?;
     sized(whole, turned(minus, &number))
@@ -233,7 +234,9 @@ pub(crate) fn one_more(
     value: Result<Value<'_, '_>, Fault>,
 ) -> Result<Option<i128>, Fault>
     requires { IfSome so_far.now (λ a. unsigned_abs a ≤ 2 ^ 127 - 2 ^ 64) }
-    ensures value { (wanted : Outcome Found) → Answers wanted value.entry → Answers (and_then wanted (λ v. and_then (numbers.number (trees.span_of (tree whole.now)) v) (λ n. Ok (Some (numbers.gathered reduction so_far.now n))))) result }
+    ensures value { (wanted : Outcome Found) → Answers wanted value.entry
+        → Answers (and_then wanted (λ v. and_then (numbers.number (trees.span_of (tree whole.now)) v)
+        (λ n. Ok (Some (numbers.gathered reduction so_far.now n))))) result }
     ensures small { (k : ℕ) → IfSome so_far.now (λ a. unsigned_abs a ≤ k) → IfOk result (λ o. IfSome o (λ a. unsigned_abs a ≤ k + 2 ^ 63)) }
 {
     let number = number_found(whole, value)?;

@@ -10,11 +10,10 @@ ghost use Rattle.net_eval.specs.declared.value.Value.{Value as Found};
 use crate::fault::refuse_tree;
 use crate::number::of_numbers;
 use crate::operation::Operation;
-use crate::row::longer_by_one;
 use crate::set::{belongs, contained, cross_values, of_sets};
 use crate::value::Value;
 use net_fault::{Defect, Fault, Span};
-use net_sets::{Member, Tuple};
+use net_sets::Member;
 use net_tree::Expr;
 use std::alloc::Global;
 
@@ -110,7 +109,8 @@ fn right_truth<'w, 's>(
     x: &Value<'_, 's>,
     y: &Value<'_, 's>,
 ) -> Result<Value<'w, 's>, Fault>
-    ensures { Decides (operators.as_truth (and_then (operators.truth (trees.span_of (tree whole.now)) x.now) (λ b. operators.truth (trees.span_of (tree whole.now)) y.now))) result }
+    ensures { Decides (operators.as_truth (and_then (operators.truth (trees.span_of (tree whole.now)) x.now)
+        (λ b. operators.truth (trees.span_of (tree whole.now)) y.now))) result }
 {
     let _left = truth(whole, x)?;
     let holds = truth(whole, y)?;
@@ -160,26 +160,4 @@ pub(crate) fn member_of<'s>(whole: &Expr<'_>, value: &Value<'_, 's>) -> Result<M
         Value::One(member) => Ok(member.again()),
         _ => Err(refuse_tree(Defect::KindMismatch, whole)),
     }
-}
-
-fn short_enough<'s>(whole: &Expr<'_>, key: Option<Tuple<'s>>) -> Result<Tuple<'s>, Fault>
-    ensures { Decides (operators.short_enough (trees.span_of (tree whole.now)) key.entry) result }
-{
-    match key {
-        None => Err(refuse_tree(Defect::Arity, whole)),
-        Some(tuple) => Ok(tuple),
-    }
-}
-
-/// The tuple of the members that some values are. `KindMismatch` at the whole where one of them is no member, and `Arity` where
-/// they are more than four.
-pub fn tuple_of<'s>(whole: &Expr<'_>, values: &[Value<'_, 's>]) -> Result<Tuple<'s>, Fault>
-    ensures { Decides (operators.tuple_of (trees.span_of (tree whole.now)) values.now) result }
-{
-    let mut key = Some(Tuple::new());
-    for value in values {
-        let member = member_of(whole, value)?;
-        key = longer_by_one(key, &member);
-    }
-    short_enough(whole, key)
 }

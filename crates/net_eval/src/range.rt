@@ -147,7 +147,8 @@ pub(crate) fn range_of<'w, 's>(
     whole: &Expr<'_>,
     values: Result<Items<Value<'_, 's>>, Fault>,
 ) -> Result<Value<'w, 's>, Fault>
-    ensures { (wanted : Outcome (List Found)) → Answers wanted values.entry → Answers (and_then wanted (numbers.range_of (trees.span_of (tree whole.now)))) result }
+    ensures { (wanted : Outcome (List Found)) → Answers wanted values.entry
+        → Answers (and_then wanted (numbers.range_of (trees.span_of (tree whole.now)))) result }
 {
     let values = values?;
     range_between(alloc, whole, values.as_slice())

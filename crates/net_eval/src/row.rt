@@ -40,18 +40,6 @@ pub struct Row<'s> {
     pub scope: Scope<'s>,
 }
 
-impl<'s> Row<'s> {
-    /// The same row once more.
-    pub(crate) fn again(&self, alloc: Global) -> Result<Row<'s>, AllocError>
-        ensures { IfOk result (λ r. r ≡ self.now) }
-    {
-        Ok(Row {
-            key: self.key.again(),
-            scope: self.scope.again(alloc)?,
-        })
-    }
-}
-
 /// The keys of braces in order, and how many members each has; `{}` has no such number.
 #[derive(Drop)]
 pub struct Keys<'s> {
@@ -61,16 +49,16 @@ pub struct Keys<'s> {
 
 /// A row at which the condition holds stands behind those found before.
 pub(crate) fn keep_if<'s>(
-    alloc: Global,
     holds: Result<bool, Fault>,
-    row: &Row<'s>,
+    row: Row<'s>,
     found: &mut Vec<Row<'s>>,
 ) -> Result<(), Fault>
-    ensures { (wanted : Outcome Bool) → Answers wanted holds → Leaves (and_then wanted (λ b. Ok (rows.keep row.now found.old.items b))) result found.new.items }
+    ensures { (wanted : Outcome Bool) → Answers wanted holds → Leaves
+        (and_then wanted (λ b. Ok (rows.keep row.entry found.old.items b))) result found.new.items }
 {
     let holds = holds?;
     if holds {
-        found.push(row.again(alloc)?)?;
+        found.push(row)?;
     }
     Ok(())
 }
@@ -218,7 +206,8 @@ pub(crate) fn agrees<'s>(
     place: Place<'s>,
     value: Result<Value<'_, 's>, Fault>,
 ) -> Result<Option<Place<'s>>, Fault>
-    ensures { (wanted : Outcome Found) → Answers wanted value.entry → Answers (and_then wanted (rows.agrees (trees.span_of (tree whole.now)) member.now place.entry)) result }
+    ensures { (wanted : Outcome Found) → Answers wanted value.entry
+        → Answers (and_then wanted (rows.agrees (trees.span_of (tree whole.now)) member.now place.entry)) result }
 {
     match value {
         Ok(value) => agrees_with(whole, member, place, &value),
@@ -273,7 +262,8 @@ pub(crate) fn agrees_as<'s>(
     place: &Place<'s>,
     value: Result<Value<'_, 's>, Fault>,
 ) -> Result<Option<Place<'s>>, Fault>
-    ensures { (wanted : Outcome Found) → Answers wanted value.entry → Answers (and_then wanted (rows.agrees_as (trees.span_of (tree whole.now)) tuple.now place.now)) result }
+    ensures { (wanted : Outcome Found) → Answers wanted value.entry
+        → Answers (and_then wanted (rows.agrees_as (trees.span_of (tree whole.now)) tuple.now place.now)) result }
 {
     match value {
         Ok(value) => agrees_with_tuple(alloc, whole, tuple, place, &value),

@@ -1,5 +1,6 @@
 ghost use Rattle.std.specs.Prelude.{◌≡◌, ◌∷◌, ◌++◌, [], IfOk};
 ghost use Rattle.std.specs.Option.{option_copied};
+ghost use Rattle.std.specs.Str.{bytes_eq};
 ghost use Rattle.net_eval.specs.Worlds.{bound, with_dummy};
 
 use net_sets::Member;
@@ -40,18 +41,19 @@ impl<'s> Scope<'s> {
         }
     }
 
-    /// What a dummy is.
+    /// What a dummy is: the newest that has the name.
     pub fn get(&self, name: &Excerpt<'s>) -> Option<&Member<'s>>
         ensures { option_copied result ≡ bound self.now name.now }
     {
-        let mut found = None;
         let bindings = self.bindings.as_slice();
-        for binding in bindings {
-            if binding.name.as_str() == name.as_str() {
-                found = Some(&binding.member);
+        let count = bindings.len();
+        for newer in 0..count {
+            let binding = &bindings[count - 1 - newer];
+            if is_same_name(&binding.name, name) {
+                return Some(&binding.member);
             }
         }
-        found
+        None
     }
 
     /// The same dummies once more.
@@ -91,6 +93,21 @@ impl<'s> Scope<'s> {
         Ok(Scope {
             bindings: Items::new(bindings),
         })
+    }
+}
+
+/// Whether two names are the same. Most differ in their length or in their first byte, or have no other byte.
+pub(crate) fn is_same_name(one: &Excerpt<'_>, other: &Excerpt<'_>) -> bool
+    ensures { result ≡ bytes_eq one.now other.now }
+{
+    let (one, other) = (one.as_str().as_bytes(), other.as_str().as_bytes());
+    if one.len() != other.len() {
+        return false;
+    }
+    match (one, other) {
+        ([first], [second]) => *first == *second,
+        ([first, ..], [second, ..]) if *first != *second => false,
+        _ => one == other,
     }
 }
 

@@ -4,11 +4,15 @@ ghost use Rattle.std.specs.Option.{option_copied};
 ghost use Rattle.net_eval.specs.Worlds.{entry_of, place_behind};
 ghost use Rattle.net_eval.specs.Kept.{told, IsKept};
 
+use crate::scope::is_same_name;
 use net_sets::{IndexedSet, SharedSet, Table};
 use net_views::Excerpt;
 use std::alloc::{AllocError, Global};
 use std::collections::BTreeMap;
 use std::marker::Model;
+
+/// So many declarations are looked through for a name; where there are more, it is searched in a map.
+const FEW: usize = 16;
 
 /// What a declared set or parameter is.
 #[derive(Drop)]
@@ -19,7 +23,8 @@ pub enum Entry<'s> {
     Parameter(Option<u8>, SharedSet<'s>, Table<'s>),
 }
 
-/// The declared sets and parameters in order. They are found in an ordered map, which no text can make slow.
+/// The declared sets and parameters in order. Where they are many they are found in an ordered map, which no
+/// text can make slow.
 #[derive(Drop)]
 pub struct World<'s> {
     entries: Vec<(Excerpt<'s>, Entry<'s>)>,
@@ -50,6 +55,35 @@ fn insert<'s>(
         Ok(_) => Ok(()),
         Err(_) => Err(AllocError),
     }
+}
+
+/// The first of the declarations.
+fn front<'w, 's>(
+    entries: &'w [(Excerpt<'s>, Entry<'s>)],
+    known: usize,
+) -> &'w [(Excerpt<'s>, Entry<'s>)]
+    ensures { result.now ≡ take known entries.entry.now }
+{
+    if known < entries.len() {
+        &entries[..known]
+    } else {
+        entries
+    }
+}
+
+/// What a name is among declarations, which are looked through from the first on.
+fn entry_in<'w, 's>(
+    entries: &'w [(Excerpt<'s>, Entry<'s>)],
+    name: &Excerpt<'s>,
+) -> Option<&'w Entry<'s>>
+    ensures { option_copied result ≡ entry_of entries.entry.now name.now }
+{
+    for declared in entries {
+        if is_same_name(&declared.0, name) {
+            return Some(&declared.1);
+        }
+    }
+    None
 }
 
 impl<'s> World<'s> {
@@ -96,10 +130,13 @@ impl<'s> World<'s> {
         }
     }
 
-    /// What a name is among the first declarations.
+    /// What a name is among the first declarations. A few are looked through, which is faster than a search of the map.
     fn find_among(&self, known: usize, name: &Excerpt<'s>) -> Option<&Entry<'s>>
         ensures { option_copied result ≡ entry_of (take known self.now) name.now }
     {
+        if known <= FEW {
+            return entry_in(front(self.entries.as_slice(), known), name);
+        }
         match self.place(name) {
             None => None,
             Some(place) => {

@@ -1,2 +1,3 @@
 pub mod Defects
 pub mod Outcomes
+pub mod Places

@@ -1,7 +1,7 @@
 ghost use Rattle.std.specs.Prelude.{◌≡◌, IfOk};
 ghost use Rattle.net_fault.specs.declared.detail.Detail.TheVariants.{Told};
 
-use net_views::{Excerpt, Items};
+use net_views::{Excerpt, OwnedText};
 use std::alloc::{AllocError, Global};
 
 /// What a fault tells beside its place. Like the fault it borrows nothing.
@@ -9,7 +9,7 @@ use std::alloc::{AllocError, Global};
 pub enum Detail {
     Nothing,
     /// A name, with its key where it has one, as it is displayed: `Ship['PITT','NE']`.
-    Told(Items<u8>),
+    Told(OwnedText),
 }
 
 impl Detail {
@@ -17,8 +17,7 @@ impl Detail {
     pub fn of_name(alloc: Global, name: &Excerpt<'_>) -> Result<Detail, AllocError>
         ensures { IfOk result (λ d. d ≡ Told name.now) }
     {
-        let mut text = Vec::new(alloc);
-        text.extend_from_slice(name.as_str().as_bytes())?;
-        Ok(Detail::Told(Items::new(text)))
+        let text = String::from_str(alloc, name.as_str())?;
+        Ok(Detail::Told(OwnedText::new(text)))
     }
 }

@@ -55,7 +55,8 @@ impl Pseudoflow {
         requires most { most ≤ cost_limit }
         requires costs { All (λ arc. IsSized most arc.cost) problem.now.arcs.items }
         ensures under_way { IsUnderWay problem.now self.new.flows.items self.new.potentials.items self.new.excess.items }
-        ensures sent { IfOk result (λ stuck. IfNone stuck ((v : ℕ) → v < vec_len problem.now.supplies → slice_index_or self.new.excess.items v (pos 0) ≤ℤ pos 0)) }
+        ensures sent { IfOk result (λ stuck. IfNone stuck ((v : ℕ) → v < vec_len problem.now.supplies
+            → slice_index_or self.new.excess.items v (pos 0) ≤ℤ pos 0)) }
         ensures stuck { IfOk result (λ stuck. IfSome stuck (λ flags. IsViolatedCut problem.now flags.items Over)) }
     {
         'growths: while let Some(root) = first_source(&self.excess) {

@@ -23,13 +23,16 @@ impl Pseudoflow {
         way: WayOut,
     ) -> Result<(), AllocError>
         requires under_way { IsUnderWay problem.now self.old.flows.items self.old.potentials.items self.old.excess.items }
-        requires grown { IsGrown problem.now self.old.flows.items self.old.potentials.items self.old.excess.items forest.old.flags.items forest.old.joined.items forest.old.places.items }
+        requires grown { IsGrown problem.now self.old.flows.items self.old.potentials.items self.old.excess.items forest.old.flags.items
+            forest.old.joined.items forest.old.places.items }
         requires inside { way.index < vec_len problem.now.arcs }
         requires clear { AllZip (IsClear self.old.potentials.items forest.old.flags.items way.depth) problem.now.arcs.items self.old.flows.items }
-        requires is { IsWayOut self.old.potentials.items forest.old.flags.items way.depth (arc_at problem.now way.index) (slice_index_or self.old.flows.items way.index (pos 0)) }
+        requires is { IsWayOut self.old.potentials.items forest.old.flags.items way.depth (arc_at problem.now way.index)
+            (slice_index_or self.old.flows.items way.index (pos 0)) }
         ensures under_way { IsUnderWay problem.now self.new.flows.items self.new.potentials.items self.new.excess.items }
         ensures same_excess { self.new.excess.items ≡ self.old.excess.items }
-        ensures grown { OnOk result (IsGrown problem.now self.new.flows.items self.new.potentials.items self.new.excess.items forest.new.flags.items forest.new.joined.items forest.new.places.items) }
+        ensures grown { OnOk result (IsGrown problem.now self.new.flows.items self.new.potentials.items self.new.excess.items forest.new.flags.items
+            forest.new.joined.items forest.new.places.items) }
         ensures one { OnOk result (JoinsOne forest.old.flags.items forest.old.joined.items forest.new.flags.items forest.new.joined.items) }
     {
         lower(

@@ -15,7 +15,8 @@ pub fn lower_each(potentials: &mut Vec<i64>, flags: &[bool], amount: i64)
     requires sizes { (v : ℕ) → v < vec_len potentials.old → IsSized (10 ^ 18) (slice_index_or potentials.old.items v (pos 0)) }
     requires amount { IsSized (10 ^ 18) amount }
     ensures len { vec_len potentials.new ≡ vec_len potentials.old }
-    ensures value { (v : ℕ) → v < vec_len potentials.old → slice_index_or potentials.new.items v (pos 0) ≡ slice_index_or potentials.old.items v (pos 0) -ℤ (if is_in flags.now v then amount else pos 0) }
+    ensures value { (v : ℕ) → v < vec_len potentials.old → slice_index_or potentials.new.items v (pos 0)
+        ≡ slice_index_or potentials.old.items v (pos 0) -ℤ (if is_in flags.now v then amount else pos 0) }
 {
     for node in 0..potentials.len() {
         if flags[node] {
@@ -40,7 +41,8 @@ pub fn lower(
     requires slackness { AllZip (IsComplementary potentials.old.items) arcs.now flows.now }
     requires clear { AllZip (IsClear potentials.old.items flags.now amount) arcs.now flows.now }
     ensures len { vec_len potentials.new ≡ vec_len potentials.old }
-    ensures value { (v : ℕ) → v < vec_len potentials.old → slice_index_or potentials.new.items v (pos 0) ≡ slice_index_or potentials.old.items v (pos 0) -ℤ (if is_in flags.now v then amount else pos 0) }
+    ensures value { (v : ℕ) → v < vec_len potentials.old → slice_index_or potentials.new.items v (pos 0)
+        ≡ slice_index_or potentials.old.items v (pos 0) -ℤ (if is_in flags.now v then amount else pos 0) }
     ensures slackness { AllZip (IsComplementary potentials.new.items) arcs.now flows.now }
 {
     lower_each(potentials, flags, amount);

@@ -25,7 +25,8 @@ pub fn add_at(numbers: &mut Vec<i128>, node: u32, amount: i128)
     requires amount { IsSized flow_limit amount }
     requires size { IsSized (10 ^ 25) (slice_index_or numbers.old.items node (pos 0)) }
     ensures len { vec_len numbers.new ≡ vec_len numbers.old }
-    ensures value { (v : ℕ) → v < vec_len numbers.old → slice_index_or numbers.new.items v (pos 0) ≡ slice_index_or numbers.old.items v (pos 0) +ℤ (if node == v then amount else pos 0) }
+    ensures value { (v : ℕ) → v < vec_len numbers.old → slice_index_or numbers.new.items v (pos 0)
+        ≡ slice_index_or numbers.old.items v (pos 0) +ℤ (if node == v then amount else pos 0) }
 {
     numbers[node as usize] += amount;
 }
@@ -41,7 +42,8 @@ impl Pseudoflow {
         ensures under_way { IsUnderWay problem.now self.new.flows.items self.new.potentials.items self.new.excess.items }
         ensures potentials { self.new.potentials.items ≡ self.old.potentials.items }
         ensures excess { (v : ℕ) → v < vec_len problem.now.supplies → slice_index_or self.new.excess.items v (pos 0) ≡
-            (slice_index_or self.old.excess.items v (pos 0) -ℤ (if (arc_at problem.now index).src == v then amount else pos 0)) +ℤ (if (arc_at problem.now index).dst == v then amount else pos 0) }
+            (slice_index_or self.old.excess.items v (pos 0) -ℤ (if (arc_at problem.now index).src == v then amount
+            else pos 0)) +ℤ (if (arc_at problem.now index).dst == v then amount else pos 0) }
         ensures flows { self.new.flows.items ≡ changed self.old.flows.items index amount }
     {
         let arc = problem.arcs[index as usize];

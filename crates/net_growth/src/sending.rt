@@ -64,7 +64,8 @@ impl Pseudoflow {
         ensures potentials { self.new.potentials.items ≡ self.old.potentials.items }
         ensures positive { pos 0 <ℤ result }
         ensures wanted { (slice_index_or self.old.excess.items joined.now.node (pos 0) +ℤ result) ≤ℤ pos 0 }
-        ensures moves { Moves (vec_len problem.now.supplies) (tail_of joined.now (arc_at problem.now joined.now.index)) joined.now.node result self.old.excess.items self.new.excess.items }
+        ensures moves { Moves (vec_len problem.now.supplies) (tail_of joined.now (arc_at problem.now joined.now.index)) joined.now.node result
+            self.old.excess.items self.new.excess.items }
         ensures others { Others joined.now.index self.old.flows.items self.new.flows.items }
     {
         let arc = problem.arcs[joined.index as usize];

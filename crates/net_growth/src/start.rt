@@ -77,7 +77,8 @@ fn carry(sent: &mut Vec<i128>, arc: &FlowArc, flow: &i64)
 fn outflows(alloc: Global, problem: &Problem, flows: &[i64]) -> Result<Vec<i128>, AllocError>
     requires { AllZip IsWithinCapacity problem.now.arcs.items flows.now }
     ensures len { IfOk result (λ sent. vec_len sent ≡ vec_len problem.now.supplies) }
-    ensures value { IfOk result (λ sent. (v : ℕ) → v < vec_len problem.now.supplies → slice_index_or sent.items v (pos 0) ≡ net_outflow problem.now.arcs.items flows.now v) }
+    ensures value { IfOk result (λ sent. (v : ℕ) → v < vec_len problem.now.supplies
+        → slice_index_or sent.items v (pos 0) ≡ net_outflow problem.now.arcs.items flows.now v) }
     ensures size { IfOk result (λ sent. (v : ℕ) → v < vec_len problem.now.supplies → IsSized (10 ^ 24) (slice_index_or sent.items v (pos 0))) }
 {
     let mut sent = vec![in alloc; 0_i128; problem.supplies.len()]?;
@@ -91,7 +92,8 @@ fn outflows(alloc: Global, problem: &Problem, flows: &[i64]) -> Result<Vec<i128>
 pub fn excess_of(alloc: Global, problem: &Problem, flows: &[i64]) -> Result<Vec<i128>, AllocError>
     requires { AllZip IsWithinCapacity problem.now.arcs.items flows.now }
     ensures len { IfOk result (λ excess. vec_len excess ≡ vec_len problem.now.supplies) }
-    ensures value { IfOk result (λ excess. (v : ℕ) → v < vec_len problem.now.supplies → slice_index_or excess.items v (pos 0) ≡ slice_index_or problem.now.supplies.items v (pos 0) -ℤ net_outflow problem.now.arcs.items flows.now v) }
+    ensures value { IfOk result (λ excess. (v : ℕ) → v < vec_len problem.now.supplies
+        → slice_index_or excess.items v (pos 0) ≡ slice_index_or problem.now.supplies.items v (pos 0) -ℤ net_outflow problem.now.arcs.items flows.now v) }
 {
     let sent = outflows(alloc, problem, flows)?;
     let mut excess = Vec::with_capacity(alloc, problem.supplies.len())?;

@@ -60,7 +60,8 @@ pub fn first_way_out(
     ensures none { IfNone result (AllZip (IsFull flags.now) arcs.now flows.now) }
     ensures clear { IfSome result (λ way. AllZip (IsClear potentials.now flags.now way.depth) arcs.now flows.now) }
     ensures inside { IfSome result (λ way. way.index < length arcs.now) }
-    ensures is { IfSome result (λ way. IsWayOut potentials.now flags.now way.depth (slice_index_or arcs.now way.index no_arc) (slice_index_or flows.now way.index (pos 0))) }
+    ensures is { IfSome result (λ way. IsWayOut potentials.now flags.now way.depth (slice_index_or arcs.now way.index no_arc)
+        (slice_index_or flows.now way.index (pos 0))) }
 {
     let mut first: Option<WayOut> = None;
     for (index, arc) in arcs.iter().enumerate() {

@@ -34,6 +34,7 @@ pub struct Block {
 }
 
 impl Block {
+    /// The length to begin with, by the number of arcs and by whether each leads from a source to a sink.
     pub fn new(arc_count: usize, is_bipartite: bool) -> Block {
         let (share, greatest) = if is_bipartite {
             (BIPARTITE, BIPARTITE)

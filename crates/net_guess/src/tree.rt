@@ -124,11 +124,13 @@ impl Tree {
         at(&self.rooms, node, Rooms::NONE)
     }
 
+    /// Sets what the arc above a node takes.
     #[inline]
     pub fn put_rooms(&mut self, node: u32, rooms: Rooms) {
         put(&mut self.rooms, node, rooms);
     }
 
+    /// A node's neighbours in the cyclic order.
     #[inline]
     pub fn thread(&self, node: u32) -> Thread {
         match self.threads.get(node as usize) {
@@ -137,6 +139,7 @@ impl Tree {
         }
     }
 
+    /// Sets the node at a place.
     #[inline]
     pub fn put_node(&mut self, place: u32, node: TreeNode) {
         put(&mut self.nodes, place, node);
@@ -149,6 +152,7 @@ impl Tree {
         self.set_previous(next, node);
     }
 
+    /// Sets the node behind another in the cyclic order.
     #[inline]
     pub fn set_next(&mut self, node: u32, next: u32) {
         if let Some(thread) = self.threads.get_mut(node as usize) {
@@ -156,6 +160,7 @@ impl Tree {
         }
     }
 
+    /// Sets the node before another in the cyclic order.
     #[inline]
     pub fn set_previous(&mut self, node: u32, previous: u32) {
         if let Some(thread) = self.threads.get_mut(node as usize) {
@@ -163,6 +168,7 @@ impl Tree {
         }
     }
 
+    /// Hangs a node below another.
     #[inline]
     pub fn set_parent(&mut self, node: u32, parent: u32) {
         if let Some(node) = self.nodes.get_mut(node as usize) {
@@ -170,6 +176,7 @@ impl Tree {
         }
     }
 
+    /// Sets the last node of a node's subtree in the cyclic order.
     #[inline]
     pub fn set_last(&mut self, node: u32, last: u32) {
         if let Some(node) = self.nodes.get_mut(node as usize) {

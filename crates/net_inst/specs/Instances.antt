@@ -1,6 +1,7 @@
 -- The network of a model: its nodes and arcs in order of declaration and of keys, its objective, and all their names.
 use Rattle.std.specs.Prelude.{ℕ, suc, Bool, true, false, List, [], ◌∷◌, map, Option, None, Some, unwrap_or, Result, Ok, ℤ}
 use Rattle.net_fault.specs.declared.span.Span.{Span}
+pub use Rattle.net_tree.specs.Spans.{point}
 use Rattle.net_lex.specs.declared.token.Token.{Token}
 use Rattle.net_tree.specs.Tree.{Declaration, set, param, check, node, arc, objective}
 use Rattle.net_normal.specs.declared.instance.InstArc.{InstArc}
@@ -66,10 +67,6 @@ semicolon (objective t n p e) = e
 abbrev pub end_of : ℕ → List Declaration → ℕ
 end_of at [] = at
 end_of at (d ∷ ds) = end_of (semicolon d).span.end ds
-
--- nothing, at a place
-abbrev pub point : ℕ → Span
-point at = record { start = at; end = at }
 
 -- the network of a model with the objective of a name, or with the only one
 unfoldable pub network : Option Name → World → List Declaration → Outcome Network

@@ -23,3 +23,4 @@ pub mod FaultReading
 pub mod SpanLemmas
 pub mod Telling
 pub mod FirstFaults
+pub mod Rising

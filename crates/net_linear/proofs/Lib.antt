@@ -12,3 +12,6 @@ mod Naming
 mod Converting
 mod Examples
 mod Terms
+pub mod FormFaults
+pub mod ConditionFaults
+pub mod ObjectiveFaults

@@ -10,6 +10,7 @@ use Rattle.net_tree.specs.declared.role.Role.{Role}
 use Rattle.net_tree.specs.declared.role.Role.TheVariants as roles
 use Rattle.net_tree.specs.Role.{role_of}
 use Rattle.net_tree.specs.Spans.{span_of}
+pub use Rattle.net_tree.specs.Spans.{from_to}
 use Rattle.net_tree.specs.Tree.{Tree, Links, net, chain, none, link, Condition, unsaid, one, between}
 use Rattle.net_fault.specs.declared.defect.Defect.TheVariants.{KindMismatch, ValueTooLarge}
 use Rattle.net_eval.specs.Limits.{is_small}
@@ -107,10 +108,6 @@ met_ends at _ _ _ _ = refused KindMismatch at
 
 abbrev pub met : Span → Sides → Sides → Outcome Sides
 met at r q = met_ends at r.low r.high q.low q.high
-
--- from the start of one tree to the end of another
-abbrev pub from_to : Tree → Tree → Span
-from_to x z = record { start = (span_of x).start; end = (span_of z).end }
 
 abbrev pub solved_twice : Span → Option Comparison → Option Comparison → NetTerm → NetTerm → NetTerm → Option ℤ → Option ℤ → Option ℤ → Outcome Sides
 solved_twice at c d m n k a b e = and_then (solved_sides at c m n a b) (λ r. and_then (solved_sides at d n k b e) (met at r))

@@ -5,7 +5,7 @@ ghost use Rattle.net_tree.specs.View.{tree, links_of};
 ghost use Rattle.net_fault.specs.Outcomes.{Answers};
 ghost use Rattle.net_linear.specs.Objectives as objectives;
 
-use net_eval::{Scope, Seen, evaluate_all, tuple_of};
+use net_eval::{Scope, Seen};
 use net_fault::Fault;
 use net_sets::Tuple;
 use net_tree::{Expr, Link};
@@ -23,6 +23,5 @@ pub fn key_of<'s>(
 ) -> Result<Tuple<'s>, Fault>
     ensures { Answers (objectives.key_of seen.now scope.now (trees.span_of (tree whole.now)) (tree first.now) (links_of more.now)) result }
 {
-    let values = evaluate_all(alloc, seen, scope, first, more)?;
-    tuple_of(whole, values.as_slice())
+    net_eval::key_of(alloc, seen, scope, whole, first, more)
 }

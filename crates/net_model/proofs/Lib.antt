@@ -41,3 +41,4 @@ pub mod MendingPhrases
 pub mod MendingDeclarations
 pub mod MendingModels
 pub mod Promise
+pub mod FaultPlaces

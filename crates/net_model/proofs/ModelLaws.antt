@@ -43,6 +43,11 @@ model-sound d ts xs h =
     let level = chain-level d tt xs tt s.chain in
     (sym (put_all-print xs [] refl) ∙ sym s.text, level.0, level.1)
 
+-- whatever is left, the declarations that were read are printed before it
+pub model-begins : (d : ℕ) (ts : Tokens) (r : (List Declaration × Unit {0}) × Tokens) → model_at d ts ≡ Ok r → put_all put_declaration r.0.0 r.1 ≡ ts
+unfolding model_at
+model-begins d ts r h = sym (row-sound put_declaration (IsOne d) (declaration_step (inside d)) (λ s. any_left) (step-sound d) (length ts) tt ts r h).text
+
 any-left : (ts r : Tokens) → length r < length ts → any_left ts ≡ true
 any-left [] r h = absurd (omega arith)
 any-left (t ∷ ts) r h = refl

@@ -193,7 +193,8 @@ fn between_at<'t, 's>(
     middle: Stored<Expr<'s>>,
     tokens: &mut Cursor<'t, 's>,
 ) -> Result<Stored<NetCond<'s>>, Stop>
-    ensures value { Gives condition_of result tokens.new (expect sorts.Bound awaiting.Other tokens.old ▷ λ q. climb 3 (unary (inside depth)) q.1 ▷ λ z. read_as (between colon.entry (tree low.entry) bound.entry (tree middle.entry) q.0 z.0) z.1) }
+    ensures value { Gives condition_of result tokens.new (expect sorts.Bound awaiting.Other tokens.old ▷ λ q. climb 3 (unary (inside depth)) q.1 ▷ λ z.
+        read_as (between colon.entry (tree low.entry) bound.entry (tree middle.entry) q.0 z.0) z.1) }
     ensures shorter { IfOk result (λ x. length tokens.new ≤ length tokens.old) }
 {
     let second = expect(Sort::Bound, Awaiting::Other, tokens)?;
@@ -220,7 +221,8 @@ fn high_at<'t, 's>(
     middle: Stored<Expr<'s>>,
     tokens: &mut Cursor<'t, 's>,
 ) -> Result<Stored<NetCond<'s>>, Stop>
-    ensures value { Gives condition_of result tokens.new (grammar.high_at (inside depth) colon.entry (tree low.entry) bound.entry (tree middle.entry) tokens.old) }
+    ensures value { Gives condition_of result tokens.new (grammar.high_at (inside depth) colon.entry (tree low.entry) bound.entry
+        (tree middle.entry) tokens.old) }
     ensures shorter { IfOk result (λ x. length tokens.new ≤ length tokens.old) }
 {
     if chain_next(role_of(&bound), tokens) {

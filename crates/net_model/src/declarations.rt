@@ -51,7 +51,9 @@ fn phrased<'t, 's>(
     owner: Owner,
     tokens: &mut Cursor<'t, 's>,
 ) -> Result<Stored<(Items<Phrase<'s>>, Token<'s>)>, Stop>
-    ensures value { (made : List tree.Phrase → Token → Declaration) → Gives (λ p. made (map phrase_of p.0) p.1) result tokens.new (phrases (inside depth) owner tokens.old ▷ λ p. phrases_end owner p.0.1 p.1 ▷ λ e. read_as (made p.0.0 e.0) e.1) }
+    ensures value { (made : List tree.Phrase → Token → Declaration)
+        → Gives (λ p. made (map phrase_of p.0) p.1) result tokens.new
+        (phrases (inside depth) owner tokens.old ▷ λ p. phrases_end owner p.0.1 p.1 ▷ λ e. read_as (made p.0.0 e.0) e.1) }
     ensures shorter { IfOk result (λ x. length tokens.new ≤ length tokens.old) }
 {
     let (said, stood) = phrases(alloc, depth, owner, tokens)?;
@@ -66,7 +68,10 @@ fn detailed<'t, 's>(
     owner: Owner,
     tokens: &mut Cursor<'t, 's>,
 ) -> Result<Stored<(Token<'s>, Option<Braces<'s>>, Items<Phrase<'s>>, Token<'s>)>, Stop>
-    ensures value { (made : Token → Option tree.Braces → List tree.Phrase → Token → Declaration) → Gives (λ p. made p.0 (indexing_of p.1) (map phrase_of p.2) p.3) result tokens.new (expect sorts.Name awaiting.Other tokens.old ▷ λ n. grammar.indexing_at (inside depth) n.1 ▷ λ b. phrases (inside depth) owner b.1 ▷ λ p. phrases_end owner p.0.1 p.1 ▷ λ e. read_as (made n.0 b.0 p.0.0 e.0) e.1) }
+    ensures value { (made : Token → Option tree.Braces → List tree.Phrase → Token → Declaration)
+        → Gives (λ p. made p.0 (indexing_of p.1) (map phrase_of p.2) p.3) result tokens.new
+        (expect sorts.Name awaiting.Other tokens.old ▷ λ n. grammar.indexing_at (inside depth) n.1 ▷ λ b. phrases (inside depth) owner b.1 ▷ λ p.
+        phrases_end owner p.0.1 p.1 ▷ λ e. read_as (made n.0 b.0 p.0.0 e.0) e.1) }
     ensures shorter { IfOk result (λ x. length tokens.new ≤ length tokens.old) }
 {
     let name = expect(Sort::Name, Awaiting::Other, tokens)?;

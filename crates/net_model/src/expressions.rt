@@ -212,7 +212,8 @@ fn indexed<'t, 's>(
     more: Carried<Items<Link<'s>>>,
     tokens: &mut Cursor<'t, 's>,
 ) -> Result<Stored<Expr<'s>>, Stop>
-    ensures value { Gives tree result tokens.new (expect sorts.CloseSquare awaiting.Other tokens.old ▷ λ c. read_as (indexed name.entry opening.entry (tree first.entry) (links_of more.entry) c.0) c.1) }
+    ensures value { Gives tree result tokens.new (expect sorts.CloseSquare awaiting.Other tokens.old ▷ λ c. read_as
+        (indexed name.entry opening.entry (tree first.entry) (links_of more.entry) c.0) c.1) }
     ensures shorter { IfOk result (λ x. length tokens.new < length tokens.old) }
 {
     let close = expect(Sort::CloseSquare, Awaiting::Other, tokens)?;
@@ -326,7 +327,8 @@ fn negated<'t, 's>(
     inner: Stored<Expr<'s>>,
     tokens: &mut Cursor<'t, 's>,
 ) -> Result<Stored<Expr<'s>>, Stop>
-    ensures value { Gives tree result tokens.new (expect sorts.Close awaiting.Other tokens.old ▷ λ c. read_as (negated word.entry opening.entry (tree inner.entry) c.0) c.1) }
+    ensures value { Gives tree result tokens.new (expect sorts.Close awaiting.Other tokens.old ▷ λ c. read_as
+        (negated word.entry opening.entry (tree inner.entry) c.0) c.1) }
     ensures shorter { IfOk result (λ x. length tokens.new < length tokens.old) }
 {
     let close = expect(Sort::Close, Awaiting::Other, tokens)?;

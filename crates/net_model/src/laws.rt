@@ -23,7 +23,8 @@ pub fn one_tree()
 pub fn read_back()
     ensures kept { (limit : ℕ) (x : List Declaration) → AreDeclarations x → model_depth x ≤ limit → model_at limit (print x) ≡ Ok ((x, tt), []) }
     ensures meant { (ts : Tokens) (ds : List Declaration) → Means ts ds → IsWellNamed ds → meant ts ≡ Ok ds }
-    ensures exceeded { (limit : ℕ) (x : List Declaration) → AreDeclarations x → limit < model_depth x → (left : ℕ) × (model_at limit (print x) ≡ Err (TooDeep left)) }
+    ensures exceeded { (limit : ℕ) (x : List Declaration) → AreDeclarations x → limit < model_depth x → (left : ℕ)
+        × (model_at limit (print x) ≡ Err (TooDeep left)) }
 {}
 
 /// A law alone: the names of a model that tokens are are as they should be.

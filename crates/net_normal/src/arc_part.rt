@@ -68,7 +68,8 @@ fn write_arc(
     requires lower { IsSized value_limit arc.now.lower }
     requires upper { IsSized value_limit arc.now.upper }
     requires coefficient { IsSized value_limit arc.now.coefficient }
-    ensures arcs { OnOk result (arcs.new.items ≡ arcs.old.items ++ (if is_left_out profile arc.now then [] else flow_arc_of profile sense outside arc.now ∷ [])) }
+    ensures arcs { OnOk result (arcs.new.items ≡ arcs.old.items ++ (if is_left_out profile arc.now then []
+        else flow_arc_of profile sense outside arc.now ∷ [])) }
     ensures number { IfOk result (λ number. number ≡ (if is_left_out profile arc.now then 0 else vec_len arcs.old + 1)) }
 {
     if profile.leaves_out(arc) {
@@ -117,8 +118,10 @@ impl ArcPart {
         requires few_arcs { vec_len self.old.arcs < arc_limit }
         requires constant { IsSized (10 ^ 29 + 10 ^ 12) self.old.constant }
         requires sums { All (AreSized sum_limit) self.old.sums.items }
-        ensures arcs { OnOk result (self.new.arcs.items ≡ self.old.arcs.items ++ (if is_left_out profile arc.now then [] else flow_arc_of profile sense (vec_len self.old.sums) arc.now ∷ [])) }
-        ensures numbers { OnOk result (self.new.numbers.items ≡ self.old.numbers.items ++ (if is_left_out profile arc.now then 0 else vec_len self.old.arcs + 1) ∷ []) }
+        ensures arcs { OnOk result (self.new.arcs.items ≡ self.old.arcs.items ++ (if is_left_out profile arc.now then []
+            else flow_arc_of profile sense (vec_len self.old.sums) arc.now ∷ [])) }
+        ensures numbers { OnOk result (self.new.numbers.items ≡ self.old.numbers.items ++ (if is_left_out profile arc.now then 0
+            else vec_len self.old.arcs + 1) ∷ []) }
         ensures offsets { OnOk result (self.new.offsets.items ≡ self.old.offsets.items ++ offset_of profile arc.now ∷ []) }
         ensures constant { OnOk result (self.new.constant ≡ self.old.constant +ℤ arc.now.coefficient *ℤ offset_of profile arc.now) }
         ensures nodes { OnOk result (vec_len self.new.sums ≡ vec_len self.old.sums) }

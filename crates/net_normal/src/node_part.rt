@@ -52,7 +52,8 @@ impl NodePart {
         requires sums { AreSized sum_limit sums.now }
         requires balance { IsSized flow_limit self.old.balance }
         ensures supplies { OnOk result (self.new.supplies.items ≡ self.old.supplies.items ++ own_supply range.now sums.now ∷ []) }
-        ensures arcs { OnOk result (self.new.arcs.items ≡ self.old.arcs.items ++ (if is_open range.now.low range.now.high then own_room (vec_len self.old.supplies) outside range.now sums.now ∷ [] else [])) }
+        ensures arcs { OnOk result (self.new.arcs.items ≡ self.old.arcs.items ++ (if is_open range.now.low range.now.high
+            then own_room (vec_len self.old.supplies) outside range.now sums.now ∷ [] else [])) }
         ensures balance { OnOk result (self.new.balance ≡ self.old.balance -ℤ own_supply range.now sums.now) }
     {
         let node = self.supplies.len() as u32;
@@ -74,8 +75,10 @@ impl NodePart {
     ) -> Result<NodePart, AllocError>
         requires len { length sums.now ≡ vec_len instance.now.nodes }
         requires sums { AreSumsOfEither instance.now.arcs.items sums.now }
-        ensures supplies { IfOk result (λ part. (p : Profile) → AreSumsOf p instance.now.arcs.items sums.now → part.supplies.items ≡ supplies_of p instance.now) }
-        ensures arcs { IfOk result (λ part. part.arcs.items ≡ arcs.items ++ room_arcs_from instance.now.arcs.items (vec_len instance.now.nodes) 0 instance.now.nodes.items) }
+        ensures supplies { IfOk result (λ part. (p : Profile) → AreSumsOf p instance.now.arcs.items sums.now
+            → part.supplies.items ≡ supplies_of p instance.now) }
+        ensures arcs { IfOk result (λ part. part.arcs.items ≡ arcs.items ++ room_arcs_from instance.now.arcs.items
+            (vec_len instance.now.nodes) 0 instance.now.nodes.items) }
     {
         let outside = instance.nodes.len() as u32;
         let mut part = NodePart {

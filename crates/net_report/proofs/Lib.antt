@@ -1,4 +1,5 @@
 pub mod Pairs
 pub mod Texts
+mod LineEnds
 pub mod InOrder
 mod Examples

@@ -1,5 +1,5 @@
 -- The comment lines above a compiled problem, which lead from its numbers back to the model (a DIMACS text skips lines that begin with `c`).
-use Rattle.std.specs.Prelude.{ℕ, ◌+◌, ◌==◌, ◌||◌, if◌then◌else◌, ℤ, List, [], ◌∷◌, ◌++◌, map, codes, decimal}
+use Rattle.std.specs.Prelude.{ℕ, Bool, ◌+◌, ◌==◌, ◌||◌, if◌then◌else◌, ℤ, List, [], ◌∷◌, ◌++◌, map, codes, decimal}
 use Rattle.std.specs.Fmt.{signed_decimal}
 use Rattle.net_normal.specs.declared.instance.Sense.{Sense}
 use Rattle.net_normal.specs.declared.instance.Sense.TheVariants.{Minimise, Maximise}
@@ -16,9 +16,12 @@ abbrev pub sign_line : Sense → List ℕ
 sign_line Minimise = codes "c sign 1\n"
 sign_line Maximise = codes "c sign -1\n"
 
+abbrev pub ends_line : ℕ → Bool
+ends_line byte = byte == 10 || byte == 13
+
 -- what stands for a byte in a line: for a line end a blank, else the byte itself
 abbrev pub within_line : ℕ → ℕ
-within_line byte = if (byte == 10) || (byte == 13) then 32 else byte
+within_line byte = if ends_line byte then 32 else byte
 
 -- a name in a line; no token has a line end in it, so the names of models stand as they are
 abbrev pub in_line : List ℕ → List ℕ

@@ -5,7 +5,7 @@ ghost use Rattle.net_check.specs.Certificates.{is_in};
 ghost use Rattle.net_report.specs.References.{name_in, names_in};
 ghost use Rattle.net_report.specs.Cuts as cuts;
 
-use crate::reference::append_name;
+use crate::reference::push_name;
 use itoa::Buffer;
 use net_check::Side;
 use net_check::cut::{least_out, most_out, supply_in};
@@ -100,8 +100,10 @@ fn push_node(
 ) -> Result<(), AllocError>
     ensures ok { OnOk result (text.new.items ≡ text.old.items ++ cuts.node_line (name_in nodes.now.declarations key.now)) }
 {
+    let mut name = String::new(alloc);
+    push_name(alloc, &mut name, nodes, key)?;
     text.extend_from_slice(b"node ")?;
-    append_name(alloc, text, nodes, key)?;
+    text.extend_from_slice(name.as_bytes())?;
     text.push(b'\n')?;
     Ok(())
 }

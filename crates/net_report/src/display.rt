@@ -7,7 +7,7 @@ ghost use Rattle.net_report.specs.Displays as displays;
 
 use itoa::Buffer;
 use net_check::wide::wide;
-use net_eval::append_member;
+use net_eval::push_member;
 use net_inst::{Declared, Key, NameList, Names};
 use net_sets::Tuple;
 use net_views::Excerpt;
@@ -176,9 +176,10 @@ fn push_row(alloc: Global, text: &mut Vec<u8>, key: &Key<'_>, number: i64) -> Re
 fn push_fields(alloc: Global, text: &mut Vec<u8>, key: &Tuple<'_>) -> Result<(), AllocError>
     ensures ok { OnOk result (text.new.items ≡ text.old.items ++ displays.fields key.now) }
 {
+    let mut fields = String::new(alloc);
     for member in key.as_slice() {
-        append_member(alloc, text, member)?;
-        text.push(b' ')?;
+        push_member(alloc, &mut fields, member)?;
+        fields.push_str(" ")?;
     }
-    Ok(())
+    text.extend_from_slice(fields.as_bytes())
 }

@@ -1,10 +1,12 @@
 //! The lines that lead from the numbers of a problem back to the names of its model.
 
-ghost use Rattle.std.specs.Prelude.{◌≡◌, ◌+◌, ◌^◌, ◌<◌, ◌++◌, IfOk, OnOk, length, vec_len};
+ghost use Rattle.std.specs.Prelude.{◌≡◌, ◌+◌, ◌^◌, ◌<◌, ◌≤◌, ◌∷◌, ◌++◌, IfOk, OnOk, MatchOption, length, not, string_bytes, vec_len};
+ghost use Rattle.std.specs.List.{prefix_len};
+ghost use Rattle.std.specs.Str.{IsUtf8};
 ghost use Rattle.net_report.specs.References.{name_in, names_in};
 ghost use Rattle.net_report.specs.Links as lines;
 
-use crate::reference::append_name;
+use crate::reference::push_name;
 use itoa::Buffer;
 use net_inst::{Key, NameList, Names};
 use net_normal::{Link, Sense};
@@ -19,35 +21,34 @@ pub fn write_links(alloc: Global, names: &Names<'_>, link: &Link) -> Result<Vec<
     requires { vec_len link.now.numbers ≡ length names.now.arcs.keys }
     ensures value { IfOk result (λ text. text.items ≡ lines.link_text names.now link.now) }
 {
-    let mut text = Vec::new(alloc);
+    let mut text = String::new(alloc);
     push_constant(&mut text, link.constant)?;
-    text.extend_from_slice(sign_line(link.sense))?;
+    text.push_str(sign_line(link.sense))?;
     push_nodes(alloc, &mut text, &names.nodes)?;
     push_arcs(alloc, &mut text, &names.arcs, link)?;
-    Ok(text)
+    Ok(text.into_bytes())
 }
 
-fn push_constant(text: &mut Vec<u8>, constant: i128) -> Result<(), AllocError>
-    ensures ok { OnOk result (text.new.items ≡ text.old.items ++ lines.constant_line constant) }
+fn push_constant(text: &mut String, constant: i128) -> Result<(), AllocError>
+    ensures ok { OnOk result (string_bytes text.new ≡ string_bytes text.old ++ lines.constant_line constant) }
 {
     let mut buffer = Buffer::new();
-    text.extend_from_slice(b"c constant ")?;
-    text.extend_from_slice(buffer.format(constant).as_bytes())?;
-    text.push(b'\n')?;
-    Ok(())
+    text.push_str("c constant ")?;
+    text.push_str(buffer.format(constant))?;
+    text.push_str("\n")
 }
 
-fn sign_line(sense: Sense) -> &'static [u8]
+fn sign_line(sense: Sense) -> &'static str
     ensures value { result.now ≡ lines.sign_line sense }
 {
     match sense {
-        Sense::Minimise => b"c sign 1\n",
-        Sense::Maximise => b"c sign -1\n",
+        Sense::Minimise => "c sign 1\n",
+        Sense::Maximise => "c sign -1\n",
     }
 }
 
-fn push_nodes(alloc: Global, text: &mut Vec<u8>, nodes: &NameList<'_>) -> Result<(), AllocError>
-    ensures ok { OnOk result (text.new.items ≡ text.old.items ++ lines.node_lines 0 (names_in nodes.now)) }
+fn push_nodes(alloc: Global, text: &mut String, nodes: &NameList<'_>) -> Result<(), AllocError>
+    ensures ok { OnOk result (string_bytes text.new ≡ string_bytes text.old ++ lines.node_lines 0 (names_in nodes.now)) }
 {
     for (node, key) in nodes.keys().iter().enumerate() {
         push_node(alloc, text, node as u64, nodes, key)?;
@@ -57,31 +58,31 @@ fn push_nodes(alloc: Global, text: &mut Vec<u8>, nodes: &NameList<'_>) -> Result
 
 fn push_node(
     alloc: Global,
-    text: &mut Vec<u8>,
+    text: &mut String,
     node: u64,
     nodes: &NameList<'_>,
     key: &Key<'_>,
 ) -> Result<(), AllocError>
     requires { node + 1 < 2 ^ 64 }
-    ensures ok { OnOk result (text.new.items ≡ text.old.items ++ lines.node_line (node + 1) (name_in nodes.now.declarations key.now)) }
+    ensures ok { OnOk result (string_bytes text.new ≡ string_bytes text.old ++ lines.node_line (node + 1) (name_in nodes.now.declarations key.now)) }
 {
     let mut buffer = Buffer::new();
-    text.extend_from_slice(b"c node ")?;
-    text.extend_from_slice(buffer.format(node + 1).as_bytes())?;
-    text.push(b' ')?;
-    push_name(alloc, text, nodes, key)?;
-    text.push(b'\n')?;
-    Ok(())
+    text.push_str("c node ")?;
+    text.push_str(buffer.format(node + 1))?;
+    text.push_str(" ")?;
+    push_name_in_line(alloc, text, nodes, key)?;
+    text.push_str("\n")
 }
 
 fn push_arcs(
     alloc: Global,
-    text: &mut Vec<u8>,
+    text: &mut String,
     arcs: &NameList<'_>,
     link: &Link,
 ) -> Result<(), AllocError>
     requires { vec_len link.now.numbers ≡ length arcs.now.keys }
-    ensures ok { OnOk result (text.new.items ≡ text.old.items ++ lines.arc_lines link.now.numbers.items link.now.offsets.items (names_in arcs.now)) }
+    ensures ok { OnOk result (string_bytes text.new ≡ string_bytes text.old ++ lines.arc_lines link.now.numbers.items link.now.offsets.items
+        (names_in arcs.now)) }
 {
     for (arc, key) in arcs.keys().iter().enumerate() {
         push_arc(alloc, text, link.numbers[arc], link.offsets[arc], arcs, key)?;
@@ -91,56 +92,75 @@ fn push_arcs(
 
 fn push_arc(
     alloc: Global,
-    text: &mut Vec<u8>,
+    text: &mut String,
     number: u32,
     offset: i64,
     arcs: &NameList<'_>,
     key: &Key<'_>,
 ) -> Result<(), AllocError>
-    ensures ok { OnOk result (text.new.items ≡ text.old.items ++ lines.arc_line number offset (name_in arcs.now.declarations key.now)) }
+    ensures ok { OnOk result (string_bytes text.new ≡ string_bytes text.old ++ lines.arc_line number offset (name_in arcs.now.declarations key.now)) }
 {
     let mut buffer = Buffer::new();
-    text.extend_from_slice(b"c arc ")?;
-    text.extend_from_slice(buffer.format(number).as_bytes())?;
-    text.push(b' ')?;
-    text.extend_from_slice(buffer.format(offset).as_bytes())?;
-    text.push(b' ')?;
-    push_name(alloc, text, arcs, key)?;
-    text.push(b'\n')?;
-    Ok(())
+    text.push_str("c arc ")?;
+    text.push_str(buffer.format(number))?;
+    text.push_str(" ")?;
+    text.push_str(buffer.format(offset))?;
+    text.push_str(" ")?;
+    push_name_in_line(alloc, text, arcs, key)?;
+    text.push_str("\n")
 }
 
 /// A name in a line.
-fn push_name(
+fn push_name_in_line(
     alloc: Global,
-    text: &mut Vec<u8>,
+    text: &mut String,
     list: &NameList<'_>,
     key: &Key<'_>,
 ) -> Result<(), AllocError>
-    ensures ok { OnOk result (text.new.items ≡ text.old.items ++ lines.in_line (name_in list.now.declarations key.now)) }
+    ensures ok { OnOk result (string_bytes text.new ≡ string_bytes text.old ++ lines.in_line (name_in list.now.declarations key.now)) }
 {
-    let mut name = Vec::new(alloc);
-    append_name(alloc, &mut name, list, key)?;
-    push_in_line(text, &name)
+    let mut name = String::new(alloc);
+    push_name(alloc, &mut name, list, key)?;
+    push_in_line(text, name.as_str())
 }
 
 /// Appends a name, or another text, as it stands in a line: with a blank for each byte that ends one, LF or CR.
-pub fn push_in_line(text: &mut Vec<u8>, name: &[u8]) -> Result<(), AllocError>
-    ensures ok { OnOk result (text.new.items ≡ text.old.items ++ lines.in_line name.now) }
+pub fn push_in_line(line: &mut String, text: &str) -> Result<(), AllocError>
+    ensures ok { OnOk result (string_bytes line.new ≡ string_bytes line.old ++ lines.in_line text.now) }
 {
-    for byte in name {
-        text.push(within_line(*byte))?;
+    let mut left = text;
+    while let Some((before, behind)) = cut_at_line_end(left) {
+        line.push_str(before)?;
+        line.push_str(" ")?;
+        left = behind;
     }
-    Ok(())
+    line.push_str(left)
 }
 
-/// What stands for a byte in a line: for a line end a blank.
-fn within_line(byte: u8) -> u8
-    ensures { result ≡ lines.within_line byte }
+/// What stands before the first byte that ends a line, and behind it.
+fn cut_at_line_end(text: &str) -> Option<(&str, &str)>
+    ensures { MatchOption result
+        (lines.in_line text.now ≡ text.now)
+        (λ r. (lines.in_line text.now ≡ r.0.now ++ 32 ∷ lines.in_line r.1.now) × (length r.1.now < length text.now) × IsUtf8 r.1.now) }
 {
-    if byte == b'\n' || byte == b'\r' {
-        b' '
+    let plain = plain_len(text.as_bytes());
+    if plain < text.len() {
+        Some((&text[..plain], &text[plain + 1..]))
     } else {
-        byte
+        None
     }
+}
+
+/// How many bytes stand before the first that ends a line.
+fn plain_len(bytes: &[u8]) -> usize
+    ensures value { result ≡ prefix_len (λ b. not (lines.ends_line b)) bytes.now }
+    ensures within { result ≤ length bytes.now }
+{
+    bytes.iter().take_while(|b| !ends_line(**b)).count()
+}
+
+fn ends_line(byte: u8) -> bool
+    ensures { result ≡ lines.ends_line byte }
+{
+    byte == b'\n' || byte == b'\r'
 }

@@ -4,3 +4,4 @@ pub mod Walking
 pub mod Declaring
 pub mod Fronts
 mod Examples
+pub mod NamesStand

@@ -83,7 +83,8 @@ fn check_sides<'s>(
     left: &Expr<'s>,
     right: &Expr<'s>,
 ) -> Result<(), NameFault<'s>>
-    ensures value { Tells (told.first (names.tree_fault needs.Value scope.old (view.tree left.now)) (names.tree_fault needs.Value scope.old (view.tree right.now))) result }
+    ensures value { Tells (told.first (names.tree_fault needs.Value scope.old (view.tree left.now))
+        (names.tree_fault needs.Value scope.old (view.tree right.now))) result }
     ensures kept { OnOk result (scope.new ≡ scope.old) }
 {
     check(Need::Value, scope, left)?;
@@ -97,7 +98,8 @@ fn check_between<'s>(
     middle: &Expr<'s>,
     high: &Expr<'s>,
 ) -> Result<(), NameFault<'s>>
-    ensures value { Tells (told.first (names.tree_fault needs.Value scope.old (view.tree low.now)) (told.first (names.tree_fault needs.Value scope.old (view.tree middle.now)) (names.tree_fault needs.Value scope.old (view.tree high.now)))) result }
+    ensures value { Tells (told.first (names.tree_fault needs.Value scope.old (view.tree low.now))
+        (told.first (names.tree_fault needs.Value scope.old (view.tree middle.now)) (names.tree_fault needs.Value scope.old (view.tree high.now)))) result }
     ensures kept { OnOk result (scope.new ≡ scope.old) }
 {
     check(Need::Value, scope, low)?;
@@ -123,7 +125,9 @@ fn read_phrased<'s>(
     indexing: &Option<Braces<'s>>,
     phrases: &[Phrase<'s>],
 ) -> Result<(), NameFault<'s>>
-    ensures value { Tells (told.first (declared_before (scopes.meaning_in name.now.text scope.old) name.now) (told.first (names.indexing_fault scope.old (indexing_of indexing.now)) (names.phrases_fault (with_indexing scope.old (indexing_of indexing.now)) (map phrase_of phrases.now)))) result }
+    ensures value { Tells (told.first (declared_before (scopes.meaning_in name.now.text scope.old) name.now)
+        (told.first (names.indexing_fault scope.old (indexing_of indexing.now))
+        (names.phrases_fault (with_indexing scope.old (indexing_of indexing.now)) (map phrase_of phrases.now)))) result }
     ensures grown { OnOk result (scope.new ≡ with_indexing scope.old (indexing_of indexing.now)) }
 {
     check_declared(scope, name)?;
@@ -138,7 +142,9 @@ fn read_node<'s>(
     indexing: &Option<Braces<'s>>,
     condition: &NetCond<'s>,
 ) -> Result<(), NameFault<'s>>
-    ensures value { Tells (told.first (declared_before (scopes.meaning_in node.now.text scope.old) node.now) (told.first (names.indexing_fault scope.old (indexing_of indexing.now)) (names.condition_fault (with_indexing scope.old (indexing_of indexing.now)) (condition_of condition.now)))) result }
+    ensures value { Tells (told.first (declared_before (scopes.meaning_in node.now.text scope.old) node.now)
+        (told.first (names.indexing_fault scope.old (indexing_of indexing.now))
+        (names.condition_fault (with_indexing scope.old (indexing_of indexing.now)) (condition_of condition.now)))) result }
     ensures grown { OnOk result (scope.new ≡ with_indexing scope.old (indexing_of indexing.now)) }
 {
     check_declared(scope, node)?;
@@ -152,7 +158,8 @@ fn read_check<'s>(
     indexing: &Option<Braces<'s>>,
     condition: &Expr<'s>,
 ) -> Result<(), NameFault<'s>>
-    ensures value { Tells (told.first (names.indexing_fault scope.old (indexing_of indexing.now)) (names.tree_fault needs.Value (with_indexing scope.old (indexing_of indexing.now)) (view.tree condition.now))) result }
+    ensures value { Tells (told.first (names.indexing_fault scope.old (indexing_of indexing.now))
+        (names.tree_fault needs.Value (with_indexing scope.old (indexing_of indexing.now)) (view.tree condition.now))) result }
     ensures grown { OnOk result (scope.new ≡ with_indexing scope.old (indexing_of indexing.now)) }
 {
     read_indexing(scope, indexing)?;
@@ -164,7 +171,8 @@ fn check_set<'s>(
     set: &Token<'s>,
     phrases: &[Phrase<'s>],
 ) -> Result<(), NameFault<'s>>
-    ensures value { Tells (told.first (declared_before (scopes.meaning_in set.now.text scope.old) set.now) (names.phrases_fault scope.old (map phrase_of phrases.now))) result }
+    ensures value { Tells (told.first (declared_before (scopes.meaning_in set.now.text scope.old) set.now)
+        (names.phrases_fault scope.old (map phrase_of phrases.now))) result }
     ensures kept { OnOk result (scope.new ≡ scope.old) }
 {
     check_declared(scope, set)?;
@@ -188,7 +196,8 @@ fn check_objective<'s>(
     objective: &Token<'s>,
     value: &Option<Part<'s>>,
 ) -> Result<(), NameFault<'s>>
-    ensures value { Tells (told.first (declared_before (scopes.meaning_in objective.now.text scope.old) objective.now) (names.part_fault needs.Total scope.old (option_part value.now))) result }
+    ensures value { Tells (told.first (declared_before (scopes.meaning_in objective.now.text scope.old) objective.now)
+        (names.part_fault needs.Total scope.old (option_part value.now))) result }
     ensures kept { OnOk result (scope.new ≡ scope.old) }
 {
     check_declared(scope, objective)?;

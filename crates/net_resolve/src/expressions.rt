@@ -94,7 +94,9 @@ fn check_subscripts<'s>(
     first: &Expr<'s>,
     more: &[Link<'s>],
 ) -> Result<(), NameFault<'s>>
-    ensures value { Tells (told.first (name_fault need scope.old name.now) (told.first (names.tree_fault (in_subscripts need) scope.old (tree first.now)) (names.links_fault (in_subscripts need) scope.old (links_of more.now)))) result }
+    ensures value { Tells (told.first (name_fault need scope.old name.now)
+        (told.first (names.tree_fault (in_subscripts need) scope.old (tree first.now))
+        (names.links_fault (in_subscripts need) scope.old (links_of more.now)))) result }
     ensures kept { OnOk result (scope.new ≡ scope.old) }
 {
     check_name(need, scope, name)?;
@@ -138,7 +140,8 @@ fn check_choice<'s>(
     branch: &Expr<'s>,
     otherwise: &Option<Boxed<Part<'s>>>,
 ) -> Result<(), NameFault<'s>>
-    ensures value { Tells (told.first (names.tree_fault need scope.old (tree condition.now)) (told.first (names.tree_fault need scope.old (tree branch.now)) (names.part_fault need scope.old (option_part otherwise.now)))) result }
+    ensures value { Tells (told.first (names.tree_fault need scope.old (tree condition.now))
+        (told.first (names.tree_fault need scope.old (tree branch.now)) (names.part_fault need scope.old (option_part otherwise.now)))) result }
     ensures kept { OnOk result (scope.new ≡ scope.old) }
 {
     check(need, scope, condition)?;
@@ -188,7 +191,8 @@ fn check_reduced<'s>(
     braces: &Braces<'s>,
     body: &Expr<'s>,
 ) -> Result<(), NameFault<'s>>
-    ensures value { Tells (told.first (names.braces_fault need scope.old (braces_of braces.now)) (names.tree_fault need (dummies.with_braces scope.old (braces_of braces.now)) (tree body.now))) result }
+    ensures value { Tells (told.first (names.braces_fault need scope.old (braces_of braces.now))
+        (names.tree_fault need (dummies.with_braces scope.old (braces_of braces.now)) (tree body.now))) result }
     ensures kept { OnOk result (scope.new ≡ scope.old) }
 {
     let outside = scope.len();
@@ -309,7 +313,8 @@ fn check_components<'s>(
     component: &Expr<'s>,
     more: &[Link<'s>],
 ) -> Result<(), NameFault<'s>>
-    ensures value { Tells (told.first (items.component_fault need scope.old (tree component.now)) (names.further_fault need (dummies.with_component scope.old (tree component.now)) (links_of more.now))) result }
+    ensures value { Tells (told.first (items.component_fault need scope.old (tree component.now))
+        (names.further_fault need (dummies.with_component scope.old (tree component.now)) (links_of more.now))) result }
     ensures kept { OnOk result (scope.new ≡ scope.old) }
 {
     let before = scope.len();

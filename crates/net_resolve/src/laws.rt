@@ -17,5 +17,6 @@ pub fn front_of_names()
 /// A law alone: a name is new where it is neither a name of the declarations before nor a dummy in scope, so that the two may
 /// be kept apart.
 pub fn new_dummy()
-    ensures value { (name : Name) (declared dummies : Scope) → is_none (meaning_in name (declared ++ dummies)) ≡ (is_none (meaning_in name declared) && is_none (meaning_in name dummies)) }
+    ensures value { (name : Name) (declared dummies : Scope) → is_none (meaning_in name (declared ++ dummies))
+        ≡ (is_none (meaning_in name declared) && is_none (meaning_in name dummies)) }
 {}

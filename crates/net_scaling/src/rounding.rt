@@ -21,7 +21,8 @@ fn residues(alloc: Global, potentials: &[i64]) -> Result<Vec<bool>, AllocError>
     requires few { length potentials.now ≤ flow_node_limit }
     requires deep { AreDeep (length potentials.now) potentials.now }
     ensures len { IfOk result (λ taken. vec_len taken ≡ length potentials.now + 1) }
-    ensures taken { IfOk result (λ taken. (v : ℕ) → v < length potentials.now → is_taken taken.items (nat_abs (slice_index_or potentials.now v (pos 0)) % (length potentials.now + 1)) ≡ true) }
+    ensures taken { IfOk result (λ taken. (v : ℕ) → v < length potentials.now
+        → is_taken taken.items (nat_abs (slice_index_or potentials.now v (pos 0)) % (length potentials.now + 1)) ≡ true) }
 {
     let factor = potentials.len() + 1;
     let mut taken = vec![in alloc; false; factor]?;

@@ -31,6 +31,10 @@ other_doubled = refl
 empty : text_of (codes "''") ≡ []
 empty = refl
 
+-- nothing is cut off a string that is not closed
+not_closed : text_of (codes "'abc") ≡ codes "abc"
+not_closed = refl
+
 five : same_member (Number (pos 5)) (Name (text_of (codes "'5'"))) ≡ false
 five = refl
 

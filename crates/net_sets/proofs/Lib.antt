@@ -1,4 +1,5 @@
 pub mod Spelling
+pub mod Singles
 pub mod Sames
 pub mod Places
 pub mod Reading

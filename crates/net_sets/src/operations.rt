@@ -2,7 +2,8 @@
 ghost use Rattle.std.specs.Prelude.{◌≡◌, ◌<◌, ◌+◌, ◌≤◌, ◌++◌, ◌∷◌, [], false, if◌then◌else◌, length, IfOk, OnOk, IsErrOf};
 ghost use Rattle.net_sets.specs.Limits.{arity_limit, tuples_limit};
 ghost use Rattle.net_sets.specs.Made.{IsMade, IsCrossed, with_set};
-ghost use Rattle.net_sets.specs.Operations.{union, product, difference, intersection, symmetric_difference, is_within, is_chosen, chosen, behind, widest, narrowest};
+ghost use Rattle.net_sets.specs.Operations.{union, product, difference, intersection, symmetric_difference, is_within, is_chosen, chosen, behind, widest};
+ghost use Rattle.net_sets.specs.Operations.{narrowest};
 ghost use Rattle.net_sets.specs.Sets.{has};
 
 use crate::fault::SetFault;

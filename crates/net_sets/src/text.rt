@@ -1,9 +1,9 @@
-ghost use Rattle.std.specs.Prelude.{◌≡◌, ◌<◌, ◌+◌, ◌-◌, ◌∷◌, [], ◌++◌, fold, length, take, IsTrue, MatchOption, OnOk};
+ghost use Rattle.std.specs.Prelude.{◌≡◌, ◌<◌, ◌+◌, ◌∷◌, [], ◌++◌, fold, length, string_bytes, IsTrue, MatchOption, OnOk};
 ghost use Rattle.std.specs.Ordering.{nat_cmp};
 ghost use Rattle.std.specs.Cmp.Lexicographic.{slice_cmp};
 ghost use Rattle.net_lex.specs.Characters.{is_quote};
 ghost use Rattle.net_sets.specs.Marks.{stirred};
-ghost use Rattle.net_sets.specs.Texts.{text_of, spelled, single, same_text};
+ghost use Rattle.net_sets.specs.Texts.{text_of, spelled, single, same_text, without_close};
 
 use crate::mark::{stirred, stirred_bytes};
 use net_views::Excerpt;
@@ -16,7 +16,7 @@ use std::marker::Model;
 #[derive(Drop)]
 pub struct Text<'s> {
     /// A string as it is written, where a delimiter may stand doubled in it or the text begins with a quote; else the text.
-    bytes: &'s [u8],
+    text: &'s str,
 }
 
 impl<'s> Model for Text<'s> {
@@ -28,7 +28,7 @@ impl<'s> Model for Text<'s> {
 
     ghost coded = { coded_list coded_ℕ };
 
-    ghost view = { λ t. text_of t.bytes.now };
+    ghost view = { λ t. text_of t.text.now };
 }
 
 /// What is left behind the first byte, and behind the second of a doubled delimiter.
@@ -59,12 +59,24 @@ fn is_quote(byte: u8) -> bool
     byte == b'\'' || byte == b'"'
 }
 
-fn without_last(bytes: &[u8]) -> &[u8]
-    ensures { result.now ≡ take (length bytes.now - 1) bytes.now }
+/// A string behind the quote that opens it, without the one that closes it.
+fn without_close(behind: &str, quote: u8) -> &str
+    requires { IsTrue (is_quote quote) }
+    ensures { result.now ≡ without_close quote behind.now }
 {
-    match bytes {
-        [] => bytes,
-        [front @ .., _] => front,
+    match behind.as_bytes() {
+        [.., last] if *last == quote => &behind[..behind.len() - 1],
+        _ => behind,
+    }
+}
+
+/// What stands between the delimiters of a string, and the delimiter.
+fn between(text: &str) -> Option<(&str, u8)>
+    ensures { MatchOption result (text_of text.now ≡ text.now) (λ r. IsTrue (is_quote r.1) × (text_of text.now ≡ single r.1 r.0.now)) }
+{
+    match text.as_bytes() {
+        [quote, ..] if is_quote(*quote) => Some((without_close(&text[1..], *quote), *quote)),
+        _ => None,
     }
 }
 
@@ -79,35 +91,53 @@ fn is_plain(bytes: &[u8]) -> bool
 }
 
 /// What spells a text: bytes, and the delimiter that may stand doubled between them.
-fn spelling(bytes: &[u8]) -> (&[u8], Option<u8>)
-    ensures { spelled result.1 result.0.now ≡ text_of bytes.now }
+fn spelling(text: &str) -> (&[u8], Option<u8>)
+    ensures { spelled result.1 result.0.now ≡ text_of text.now }
 {
-    match bytes {
-        [quote, behind @ ..] if is_quote(*quote) => (without_last(behind), Some(*quote)),
-        _ => (bytes, None),
+    match between(text) {
+        Some((inside, quote)) => (inside.as_bytes(), Some(quote)),
+        None => (text.as_bytes(), None),
     }
 }
 
-/// What stands between two delimiters, where this is the text as it is; else the string.
-fn unquoted<'a>(string: &'a [u8], delimiter: u8, between: &'a [u8]) -> &'a [u8]
-    requires { text_of string.now ≡ single delimiter between.now }
+/// What stands between the delimiters of a string, where this is the text as it is; else the string.
+fn unquoted<'a>(string: &'a str, delimiter: u8, inside: &'a str) -> &'a str
+    requires { text_of string.now ≡ single delimiter inside.now }
     ensures { text_of result.now ≡ text_of string.now }
 {
-    if is_plain(between) && !between.contains(&delimiter) {
-        between
+    let bytes = inside.as_bytes();
+    if is_plain(bytes) && !bytes.contains(&delimiter) {
+        inside
     } else {
         string
     }
 }
 
 /// The text of a token as it is, where it stands so in the token; else the token.
-fn shortest(token: &[u8]) -> &[u8]
+fn shortest(token: &str) -> &str
     ensures { text_of result.now ≡ text_of token.now }
 {
-    match token {
-        [quote, behind @ ..] if is_quote(*quote) => unquoted(token, *quote, without_last(behind)),
-        _ => token,
+    match between(token) {
+        Some((inside, quote)) => unquoted(token, quote, inside),
+        None => token,
     }
+}
+
+/// Appends a piece with each doubled delimiter once.
+fn append_single(out: &mut String, piece: &str, delimiter: char) -> Result<(), AllocError>
+    requires { delimiter < 128 }
+    ensures { OnOk result (string_bytes out.new ≡ string_bytes out.old ++ single delimiter piece.now) }
+{
+    let mut left = piece;
+    while let Some((before, after)) = left.split_once(delimiter) {
+        out.push_str(before)?;
+        out.push(delimiter)?;
+        left = match after.strip_prefix(delimiter) {
+            Some(behind) => behind,
+            None => after,
+        };
+    }
+    out.push_str(left)
 }
 
 /// A mark with the bytes of a spelling more.
@@ -129,21 +159,18 @@ impl<'s> Text<'s> {
         ensures { result ≡ text_of token.now }
     {
         Text {
-            bytes: shortest(token.as_str().as_bytes()),
+            text: shortest(token.as_str()),
         }
     }
 
-    /// Appends the bytes of the text. Where memory is short the first of them may have been appended.
-    pub fn append_to(&self, out: &mut Vec<u8>) -> Result<(), AllocError>
-        ensures { OnOk result (out.new.items ≡ out.old.items ++ self.now) }
+    /// Appends the text. Where memory is short the first bytes of it may have been appended.
+    pub fn append_to(&self, out: &mut String) -> Result<(), AllocError>
+        ensures { OnOk result (string_bytes out.new ≡ string_bytes out.old ++ self.now) }
     {
-        let (bytes, doubled) = spelling(self.bytes);
-        let mut left = bytes;
-        while let Some((byte, behind)) = first(left, doubled) {
-            out.push(byte)?;
-            left = behind;
+        match between(self.text) {
+            Some((inside, quote)) => append_single(out, inside, char::from(quote)),
+            None => out.push_str(self.text),
         }
-        Ok(())
     }
 
     /// A mark with this text more, behind a byte that no text has.
@@ -151,10 +178,11 @@ impl<'s> Text<'s> {
         ensures { result ≡ fold stirred (stirred mark 255) self.now }
     {
         let begun = stirred(mark, 255);
-        if is_plain(self.bytes) {
-            stirred_bytes(begun, self.bytes)
+        let bytes = self.text.as_bytes();
+        if is_plain(bytes) {
+            stirred_bytes(begun, bytes)
         } else {
-            stirred_spelling(begun, spelling(self.bytes))
+            stirred_spelling(begun, spelling(self.text))
         }
     }
 
@@ -162,7 +190,7 @@ impl<'s> Text<'s> {
     pub fn again(&self) -> Text<'s>
         ensures { result ≡ self.now }
     {
-        Text { bytes: self.bytes }
+        Text { text: self.text }
     }
 }
 
@@ -219,10 +247,11 @@ impl<'s> PartialEq for Text<'s> {
     ghost laws = { Prim.search (comparing, rules) };
 
     fn eq(&self, other: &Text<'s>) -> bool {
-        if is_plain(self.bytes) && is_plain(other.bytes) {
-            self.bytes == other.bytes
+        let (bytes, others) = (self.text.as_bytes(), other.text.as_bytes());
+        if is_plain(bytes) && is_plain(others) {
+            bytes == others
         } else {
-            is_same(spelling(self.bytes), spelling(other.bytes))
+            is_same(spelling(self.text), spelling(other.text))
         }
     }
 }
@@ -265,10 +294,11 @@ impl<'s> Ord for Text<'s> {
     ghost matches_eq = { Prim.search (comparing, rules) };
 
     fn cmp(&self, other: &Text<'s>) -> Ordering {
-        if is_plain(self.bytes) && is_plain(other.bytes) {
-            self.bytes.cmp(other.bytes)
+        let (bytes, others) = (self.text.as_bytes(), other.text.as_bytes());
+        if is_plain(bytes) && is_plain(others) {
+            bytes.cmp(others)
         } else {
-            compare(spelling(self.bytes), spelling(other.bytes))
+            compare(spelling(self.text), spelling(other.text))
         }
     }
 }

@@ -1,90 +1,134 @@
-//! Counted runs of cost scaling, which the program does not show.
+//! Ends that fail at each call in turn, and ends that give and take one byte at a time.
 
 use crate::comparison::expect;
-use crate::guesses::told;
-use net_check::Certificate;
-use net_dimacs::read_problem;
-use net_solve::{Scaling, solve};
+use crate::trials::{Pace, Run, Trial, answer_of, ran, texts_of};
 use std::alloc::{AllocError, Global};
 use std::test::Fail;
 
-/// Three nodes: the way round costs 2 a unit, the straight one 3. Costs times 4 are 12 at most, so phases allow 6, 3 and 1.
-const TRIANGLE: &str = "p min 3 3\nn 1 4\nn 3 -4\na 1 2 2 5 1\na 1 3 0 5 3\na 2 3 0 5 1\n";
-
-/// The same with one unit more at node 1 than can leave it.
-const FULL: &str = "p min 3 3\nn 1 11\nn 3 -11\na 1 2 2 5 1\na 1 3 0 5 3\na 2 3 0 5 1\n";
-
-/// What a run with a budget comes to.
-fn ran(alloc: Global, text: &str, budget: u64) -> Result<String, AllocError> {
-    let Ok(problem) = read_problem(alloc, text.as_bytes()) else {
-        return Err(AllocError);
-    };
-    let run = Scaling { budget }.run(alloc, &problem)?;
-    let phases = run.phases;
-    let steps = match run.steps {
-        0 => "no step",
-        _ => "steps",
-    };
-    match &run.answer {
-        Some(Certificate::Optimal { value, flows, .. }) => {
-            format!(in alloc; "{value} {flows:?}, {phases} phases, {steps}")
-        }
-        Some(Certificate::Cut { flags, side }) => {
-            format!(in alloc; "{side:?} {flags:?}, {phases} phases, {steps}")
-        }
-        None => format!(in alloc; "none, {steps}"),
-    }
-}
-
-/// What settles a problem, where such a run is asked first.
-fn settled(alloc: Global, text: &str, budget: u64) -> Result<String, AllocError> {
-    match read_problem(alloc, text.as_bytes()) {
-        Ok(problem) => told(alloc, &solve(alloc, &Scaling { budget }, &problem)?),
-        Err(_) => Err(AllocError),
-    }
-}
-
-/// Budgets with problems, what a run comes to, and what settles the problem.
-const RUNS: &[(u64, &str, &str, &str)] = &[
-    (0, TRIANGLE, "none, no step", "8 [4, 0, 4]"),
+/// The runs, with what their first and their second source are called where they cannot be read.
+const RUNS: &[(Run, &str, &str)] = &[
     (
-        1_000_000,
-        TRIANGLE,
-        "8 [4, 0, 4], 3 phases, steps",
-        "8 [4, 0, 4]",
+        Run::Compile,
+        "E90 ReadFault model: ",
+        "E90 ReadFault data: ",
     ),
+    (Run::Solve, "E90 ReadFault model: ", "E90 ReadFault data: "),
     (
-        0,
-        FULL,
-        "Over [true, false, false], 0 phases, no step",
-        "Over [true, false, false]",
+        Run::Check,
+        "E90 ReadFault problem: ",
+        "E90 ReadFault certificate: ",
     ),
 ];
 
+const ALL: &[Run] = &[Run::Compile, Run::Solve, Run::Check, Run::Min];
+
+/// What a run comes to that reads its texts byte by byte: one read a byte and one that sees the end.
+fn whole(alloc: Global, run: Run) -> Result<String, AllocError> {
+    let (first, second) = texts_of(run);
+    let first = first.len() + 1;
+    let second = match run {
+        Run::Min => 0,
+        _ => second.len() + 1,
+    };
+    let answer = answer_of(run);
+    format!(in alloc; "done, {first} {second} reads: {answer}")
+}
+
 #[test]
-fn runs_are_counted(rt: HostRuntime) -> Result<(), Fail> {
-    for (budget, problem, wanted, _) in RUNS {
-        expect(problem, ran(rt.alloc(), problem, *budget), wanted)?;
+fn a_byte_at_a_time_changes_nothing(rt: HostRuntime) -> Result<(), Fail> {
+    for run in ALL {
+        let wanted = whole(rt.alloc(), *run)?;
+        expect(
+            "byte by byte",
+            ran(rt.alloc(), Trial::of(*run, Pace::Bytes)),
+            wanted.as_str(),
+        )?;
+    }
+    Ok(())
+}
+
+/// What comes of a run whose first source fails behind so many reads.
+fn first_fails(alloc: Global, run: Run, reads: usize) -> Result<String, AllocError> {
+    let mut trial = Trial::of(run, Pace::Bytes);
+    trial.first_reads = Some(reads as u64);
+    ran(alloc, trial)
+}
+
+#[test]
+fn the_first_text_fails_at_each_read(rt: HostRuntime) -> Result<(), Fail> {
+    for (run, wanted, _) in RUNS {
+        let (text, _) = texts_of(*run);
+        for reads in 0..text.len() + 1 {
+            expect(
+                "a read of the first text",
+                first_fails(rt.alloc(), *run, reads),
+                wanted,
+            )?;
+        }
     }
     Ok(())
 }
 
 #[test]
-fn plain_answers_where_a_run_has_none(rt: HostRuntime) -> Result<(), Fail> {
-    for (budget, problem, _, wanted) in RUNS {
-        expect(problem, settled(rt.alloc(), problem, *budget), wanted)?;
+fn the_problem_of_min_fails_at_each_read(rt: HostRuntime) -> Result<(), Fail> {
+    let (text, _) = texts_of(Run::Min);
+    for reads in 0..text.len() + 1 {
+        expect(
+            "a read of the problem",
+            first_fails(rt.alloc(), Run::Min, reads),
+            "E90 ReadFault problem: ",
+        )?;
     }
     Ok(())
 }
 
-/// A problem of which a run takes more than five steps, and comes to its budget where an arc still saves.
-const SAVES: &str =
-    "p min 3 8\nn 1 305303620614998992\nn 2 489773721715027685\nn 3 -795077342330026677\n\
-a 3 2 0 560316048550173035 7\na 2 3 0 791495754330639556 1\na 2 3 0 646105778759037955 -2\n\
-a 1 1 589940373000860599 802475759670104337 -3\na 2 2 345376310568905180 535814401860405208 -7\n\
-a 1 3 592545443310188970 694161579424858396 4\na 1 3 0 785873331033867090 3\na 3 1 0 931495707295388255 -6\n";
+/// What comes of a run whose second source fails behind so many reads.
+fn second_fails(alloc: Global, run: Run, reads: usize) -> Result<String, AllocError> {
+    let mut trial = Trial::of(run, Pace::Bytes);
+    trial.second_reads = Some(reads as u64);
+    ran(alloc, trial)
+}
 
 #[test]
-fn a_run_ends_at_its_budget(rt: HostRuntime) -> Result<(), Fail> {
-    expect(SAVES, ran(rt.alloc(), SAVES, 5), "none, steps")
+fn the_second_text_fails_at_each_read(rt: HostRuntime) -> Result<(), Fail> {
+    for (run, _, wanted) in RUNS {
+        let (_, text) = texts_of(*run);
+        for reads in 0..text.len() + 1 {
+            expect(
+                "a read of the second text",
+                second_fails(rt.alloc(), *run, reads),
+                wanted,
+            )?;
+        }
+    }
+    Ok(())
+}
+
+/// What comes of a run whose output fails behind so many writes of one byte each.
+fn output_fails(alloc: Global, run: Run, writes: usize) -> Result<String, AllocError> {
+    let mut trial = Trial::of(run, Pace::Bytes);
+    trial.writes = Some(writes as u64);
+    ran(alloc, trial)
+}
+
+/// The line of a failed write, with the front of the answer that went out.
+fn front(alloc: Global, run: Run, bytes: usize) -> Result<String, AllocError> {
+    let answer = answer_of(run).as_bytes();
+    let text = String::from_utf8_lossy(alloc, &answer[..bytes.min(answer.len())])?;
+    format!(in alloc; "E91 WriteFault: {text}")
+}
+
+#[test]
+fn the_output_fails_at_each_write(rt: HostRuntime) -> Result<(), Fail> {
+    for run in ALL {
+        for writes in 0..answer_of(*run).len() {
+            let wanted = front(rt.alloc(), *run, writes)?;
+            expect(
+                "a write",
+                output_fails(rt.alloc(), *run, writes),
+                wanted.as_str(),
+            )?;
+        }
+    }
+    Ok(())
 }

@@ -1,2 +1,4 @@
 pub mod Views
 pub mod Lasts
+pub mod TreesStand
+pub mod ModelsStand

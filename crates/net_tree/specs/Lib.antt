@@ -5,6 +5,7 @@ pub mod Weights
 pub mod Depth
 pub mod View
 pub mod Spans
+pub mod Standing
 pub mod Level
 pub mod Conditions
 pub mod Phrases

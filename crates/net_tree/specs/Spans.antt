@@ -1,5 +1,5 @@
 -- Where a tree stands: from its first token to its last.
-use Rattle.std.specs.Prelude.{Option, None, Some}
+use Rattle.std.specs.Prelude.{ℕ, Option, None, Some}
 use Rattle.net_lex.specs.declared.token.Token.{Token}
 use Rattle.net_fault.specs.declared.span.Span.{Span}
 use Rattle.net_tree.specs.Tree.{Tree, Links, Part, Braces, leaf, indexed, parens, tuple, negated, braced, signed, reduced, chain, choice, net, none, link, absent, part, empty, filled, Condition, unsaid, one, between}
@@ -62,6 +62,14 @@ span_of x = record { start = (first x).span.start; end = (final x).span.end }
 
 unfoldable pub braces_span : Braces → Span
 braces_span b = record { start = (opening b).span.start; end = (closing b).span.end }
+
+-- from the start of one tree to the end of another
+abbrev pub from_to : Tree → Tree → Span
+from_to x z = record { start = (span_of x).start; end = (span_of z).end }
+
+-- nothing, at a place
+abbrev pub point : ℕ → Span
+point at = record { start = at; end = at }
 
 -- a node's condition, from the first token behind the colon
 abbrev pub condition_span : Condition → Option Span

@@ -2,21 +2,26 @@ use Rattle.std.specs.Option.{option_copied}
 use Rattle.std.proofs.Common.{◌≡◌, ◌*◌, ◌^◌, ◌∷◌, ◌++◌, [], false, rules, refl, Ok, length, take, ◌-◌, sym, subst, ap, ◌∙◌, ◌+◌, drop, arith}
 use Rattle.std.proofs.lemmas.Grind.{common_steps}
 use Rattle.std.proofs.lemmas.Result.{err_from_is_err_and}
+use Rattle.std.specs.Vec.Iter.{into_iter_items}
 use Rattle.net_tree.specs.declared.expr.Series.{out-Series}
 use Rattle.net_tree.specs.View.{tree, links_of, braces_of, option_part}
 use Rattle.net_tree.proofs.Views.{views}
 use Rattle.net_tree.specs.Spans.{span_of}
 use Rattle.net_fault.specs.Outcomes.{and_then}
-use Rattle.net_eval.specs.Rows.{fitted, fitted_alone, reduce, reduced_to, keys}
+use Rattle.net_eval.specs.Rows.{kept, fitted, fitted_alone, reduce, reduced_to, keys}
+use Rattle.net_eval.specs.Operators.{tuple_of}
+use Rattle.net_eval.specs.Subscripts.{with_value}
+use Rattle.net_eval.specs.Worlds.{bound, name_at}
 use Rattle.net_eval.specs.Values.{value, values, index, places, holds, with_sign}
 use Rattle.net_tree.specs.Tree.{link}
 use Rattle.net_tree.specs.Weights.{weights}
 use Rattle.net_eval.specs.Walks.{by_sides, index_items, component_places}
 use Rattle.net_eval.proofs.Cases.{in_indexed, in_parens, in_tuple, in_negated, in_signed, in_reduced, in_chain, in_choice, in_filled}
-use Rattle.net_eval.proofs.Walking.{answers_by, is_tuple, value-indexed, value-tuple, value-negated, value-signed, value-reduced, value-chain, value-choice, index-filled, left-tuple, left-other, place-sides, link_lighter, stops, goes, leaves_answers, from_start, ok_same, split_first, rest_first, chained-left, values-left, kept-left, gathered-left, if_some_by, unconditioned}
+use Rattle.net_eval.proofs.Walking.{answers_by, and_then-assoc, is_tuple, value-indexed, value-tuple, value-negated, value-signed, value-reduced, value-chain, value-choice, index-filled, left-tuple, left-other, place-sides, link_lighter, stops, goes, leaves_answers, from_start, ok_same, split_first, rest_first, chained-left, values-left, kept-next, kept-all, gathered-left, if_some_by, unconditioned}
 use Rattle.net_eval.specs.Frames.{weight_of}
 use Rattle.net_eval.proofs.Framing.{AreLight, none_to_come, one_to_come, no_frames, light_last, light_apart, lighter_still, behind_first, entering_stops, entering_leads, entering_lighter, entering_steps, ended, gives_way, led, to_item, fault_of_place, way_shorter, item_shorter}
 use Rattle.net_eval.proofs.Passing.{selected_from}
+use Rattle.net_eval.proofs.Subscripting.{dummy_value, from_none, one-left, none-left, answers_decided}
 use Rattle.net_eval.proofs.+eval.Goals as goal
 
 pub eval::evaluate-returns-in-Indexed : goal.eval::evaluate-returns-in-Indexed
@@ -209,9 +214,16 @@ fitting::place_at-returns-in-Some t c =
 
 pub keys::keep-loop-row-preserved : goal.keys::keep-loop-row-preserved
 keys::keep-loop-row-preserved t c =
-    sym (goes _ _ _ _
-    (kept-left (λ q. holds c.args.at c.args.seen.now q (option_part c.args.condition.now)) c.as_slice-rows.result.now c.loop-row.row-index c.row-item.result c.loop-row.kept.items _ c.loop-row-test.true c.row-item.is c.loop-row.invariant)
-    (c.in_ok-keep_if.ensures _ c.holds-holds.ensures))
+    let left = ap length c.in-Some.ensures.steps.0 in
+    let more = c.in-Some.ensures.steps.1 in
+    let counted = c.loop-row.invariant.counted in
+    record {
+      same =
+          sym (goes _ _ _ _
+          (kept-next (λ q. holds c.args.at c.args.seen.now q (option_part c.args.condition.now)) (into_iter_items c.loop-row.row-iterator) (into_iter_items c.next.new.self) c.in-Some.row c.loop-row.kept.items _ c.in-Some.ensures.steps.0 c.loop-row.invariant.same)
+          (c.in_ok-keep_if.ensures _ c.holds-holds.ensures));
+      counted = omega (arith, left, more, counted);
+    }
 
 pub keys::keep-returns-then-not-has_part : goal.keys::keep-returns-then-not-has_part
 keys::keep-returns-then-not-has_part t c = unconditioned c.args.at c.args.seen.now (option_part c.args.condition.now) c.args.width c.args.found (sym c.has_part.ensures ∙ c.if-not-has_part.true) ∙ ap Ok (sym c.as_keys.ensures)
@@ -222,7 +234,7 @@ keys::keep-returns-in_err-keep_if t c =
     rw y.1 (rw y.2
     (stops _ (λ left. Ok (keys c.args.width left)) _ c.in_err-keep_if.field-0.0 refl
     (stops _ _ _ c.in_err-keep_if.field-0.0
-    (kept-left (λ q. holds c.args.at c.args.seen.now q (option_part c.args.condition.now)) c.as_slice-rows.result.now c.loop-row.row-index c.row-item.result c.loop-row.kept.items _ c.loop-row-test.true c.row-item.is c.loop-row.invariant)
+    (kept-next (λ q. holds c.args.at c.args.seen.now q (option_part c.args.condition.now)) (into_iter_items c.loop-row.row-iterator) (into_iter_items c.next.new.self) c.in-Some.row c.loop-row.kept.items _ c.in-Some.ensures.steps.0 c.loop-row.invariant.same)
     (leaves_answers _ _ c.in_err-keep_if.field-0.0 _ refl (c.in_err-keep_if.ensures _ c.holds-holds.ensures)))))
 
 pub eval::gather-returns-in_err-so_far : goal.eval::gather-returns-in_err-so_far
@@ -322,10 +334,17 @@ pub eval::gather-returns : goal.eval::gather-returns
 eval::gather-returns t c = grind (arith, common_steps)
 
 pub keys::keep-loop-row-init : goal.keys::keep-loop-row-init
-keys::keep-loop-row-init t c = grind (arith, common_steps)
+keys::keep-loop-row-init t c =
+    let begins = c.into_iter-row-iterator.ensures.into_iter_gives.0 ∙ c.into_vec-row-items.ensures in
+    record {
+      same = ap (λ rows. kept (λ q. holds c.args.at c.args.seen.now q (option_part c.args.condition.now)) rows c.new-kept.result.items) begins ∙ ap (kept (λ q. holds c.args.at c.args.seen.now q (option_part c.args.condition.now)) c.args.found) c.new-kept.ensures.items;
+      counted = c.into_iter-row-iterator.ensures.into_iter_gives.1 ∙ c.into_vec-row-items.result.ok.0 ∙ ap length (sym c.into_iter-row-iterator.ensures.into_iter_gives.0);
+    }
 
 pub keys::keep-returns : goal.keys::keep-returns
-keys::keep-returns t c = grind (arith, common_steps)
+keys::keep-returns t c =
+    let all = kept-all (λ q. holds c.args.at c.args.seen.now q (option_part c.args.condition.now)) (into_iter_items c.loop-row.row-iterator) c.loop-row.kept.items _ (sym c.loop-row.invariant.counted ∙ c.in-None.ensures.steps.0) c.loop-row.invariant.same in
+    search (rules, all)
 
 pub keys::select-returns : goal.keys::select-returns
 keys::select-returns t c = grind (arith, common_steps)
@@ -408,9 +427,6 @@ eval::choice-returns-else-branch t c = grind (arith)
 pub eval::choice-returns-then-branch : goal.eval::choice-returns-then-branch
 eval::choice-returns-then-branch t c = grind (arith)
 
-pub eval::evaluate_all-returns : goal.eval::evaluate_all-returns
-eval::evaluate_all-returns t c = grind (arith)
-
 pub eval::joined-returns-in_ok-other-in-None : goal.eval::joined-returns-in_ok-other-in-None
 eval::joined-returns-in_ok-other-in-None t c = grind (arith)
 
@@ -418,7 +434,13 @@ pub eval::reduced-returns : goal.eval::reduced-returns
 eval::reduced-returns t c = grind (arith)
 
 pub eval::subscripted-returns : goal.eval::subscripted-returns
-eval::subscripted-returns t c = grind (arith)
+eval::subscripted-returns t c =
+    answers_by _ _ _
+    (goes _ _ _ _
+    (sym (and_then-assoc (and_then (value c.args.seen.now c.args.scope.now (tree c.args.first.now)) (λ v. values c.args.seen.now c.args.scope.now (links_of c.args.more.now) (v ∷ []))) (tuple_of (span_of (tree c.args.whole.now))) (name_at (span_of (tree c.args.whole.now)) c.args.seen.now c.args.name.now.text (bound c.args.scope.now c.args.name.now.text))))
+    c.in_ok-key.ensures
+    ∙ ap (λ at. name_at at c.args.seen.now c.args.name.now.text (bound c.args.scope.now c.args.name.now.text) c.in_ok-key.key) (sym c.span_of.ensures))
+    c.name_at.ensures
 
 pub fitting::components-returns-in-empty : goal.fitting::components-returns-in-empty
 fitting::components-returns-in-empty t c = grind (arith)
@@ -513,11 +535,39 @@ fitting::places-slice_bounds-rest-count t c = grind (arith)
 pub fitting::places-slice_bounds-rest-start : goal.fitting::places-slice_bounds-rest-start
 fitting::places-slice_bounds-rest-start t c = grind (arith)
 
-pub keys::keep-loop-row-smaller : goal.keys::keep-loop-row-smaller
-keys::keep-loop-row-smaller t c = grind (arith)
-
-pub keys::keep-offset_bounds-rows-row-index : goal.keys::keep-offset_bounds-rows-row-index
-keys::keep-offset_bounds-rows-row-index t c = grind (arith)
-
 pub keys::select-same-found : goal.keys::select-same-found
 keys::select-same-found t c = grind (arith)
+
+pub subscripts::put-returns-in-Some : goal.subscripts::put-returns-in-Some
+subscripts::put-returns-in-Some t c =
+    ap (λ o. and_then o (λ v. Ok (with_value v c.args.so_far.now))) (dummy_value c.args.seen.now c.args.scope.now (tree c.args.component.now) c.in-Some.member.now c.in-Some.ensures)
+    ∙ ap Ok (sym c.add.ensures)
+
+pub subscripts::key_of-loop-link-init : goal.subscripts::key_of-loop-link-init
+subscripts::key_of-loop-link-init t c =
+    sym (goes _ _ _ _
+    (from_none (span_of (tree c.args.whole.now)) c.args.seen.now c.args.scope.now (tree c.args.first.now) (links_of c.args.more.now) c.new-so_far.result c.new-so_far.ensures)
+    c.in_ok-put.ensures)
+
+pub subscripts::key_of-loop-link-preserved : goal.subscripts::key_of-loop-link-preserved
+subscripts::key_of-loop-link-preserved t c =
+    sym (goes _ _ _ _
+    (one-left (span_of (tree c.args.whole.now)) c.args.seen.now c.args.scope.now c.args.more.now c.loop-link.link-index c.link-item.result c.loop-link.so_far _ c.loop-link-test.true c.link-item.is c.loop-link.invariant)
+    c.in_ok-put-2.ensures)
+
+pub subscripts::key_of-returns : goal.subscripts::key_of-returns
+subscripts::key_of-returns t c =
+    answers_decided _ _ _
+    (none-left (span_of (tree c.args.whole.now)) c.args.seen.now c.args.scope.now c.args.more.now c.loop-link.link-index c.loop-link.so_far _ c.loop-link-test.false c.loop-link.invariant)
+    c.into_key.ensures
+
+pub subscripts::key_of-put-requires-in-loop-link : goal.subscripts::key_of-put-requires-in-loop-link
+subscripts::key_of-put-requires-in-loop-link t c = omega (arith, link_lighter c.args.more.now c.loop-link.link-index c.link-item.result c.loop-link-test.true c.link-item.is)
+
+pub subscripts::key_of-returns-in_err-put-2 : goal.subscripts::key_of-returns-in_err-put-2
+subscripts::key_of-returns-in_err-put-2 t c =
+    let y = err_from_is_err_and c.from_residual-in_err-put-2.result c.from_residual-in_err-put-2.ensures.1 in
+    rw y.1 (rw y.2
+    (stops _ _ _ c.in_err-put-2.field-0.0
+    (one-left (span_of (tree c.args.whole.now)) c.args.seen.now c.args.scope.now c.args.more.now c.loop-link.link-index c.link-item.result c.loop-link.so_far _ c.loop-link-test.true c.link-item.is c.loop-link.invariant)
+    (leaves_answers _ _ c.in_err-put-2.field-0.0 _ refl c.in_err-put-2.ensures)))

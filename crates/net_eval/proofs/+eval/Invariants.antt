@@ -1,11 +1,14 @@
-use Rattle.std.specs.Prelude.{◌≡◌, ◌≤◌, ◌+◌, ◌*◌, ◌^◌, drop, [], ◌∷◌, None, IfSome, unsigned_abs}
+use Rattle.std.specs.Prelude.{length, ◌≡◌, ◌≤◌, ◌+◌, ◌*◌, ◌^◌, drop, [], ◌∷◌, None, IfSome, unsigned_abs}
+use Rattle.std.specs.Vec.Iter.{into_iter_items, into_iter_len}
 use Rattle.net_tree.specs.View.{tree, links_of, braces_of, option_part}
 use Rattle.net_tree.specs.Weights.{weight, weights, braces_weight, part_weight}
 use Rattle.net_tree.specs.Spans.{span_of}
 use Rattle.net_eval.specs.Frames.{still, steps_still, weight_of}
 use Rattle.net_fault.specs.Outcomes.{and_then}
 use Rattle.net_eval.specs.Rows.{kept, gathered_over}
+use Rattle.net_eval.specs.Operators.{tuple_of}
 use Rattle.net_eval.specs.Values as values
+use Rattle.net_eval.proofs.Subscripting.{rest}
 use Rattle.net_eval.proofs.Framing.{still_below, steps_below, AreLight}
 use Rattle.net_eval.proofs.+eval.Given as goal
 
@@ -17,6 +20,12 @@ decreases-eval::subscripted l = 12 * (weight (tree l.first.now) + weights (links
 
 abbrev pub decreases-eval::tupled : goal.decreases-eval::tupled
 decreases-eval::tupled l = 12 * (weight (tree l.first.now) + weights (links_of l.more.now)) + 3
+
+abbrev pub decreases-subscripts::key_of : goal.decreases-subscripts::key_of
+decreases-subscripts::key_of l = 12 * (weight (tree l.first.now) + weights (links_of l.more.now)) + 2
+
+abbrev pub decreases-subscripts::put : goal.decreases-subscripts::put
+decreases-subscripts::put l = 12 * weight (tree l.component.now) + 1
 
 abbrev pub decreases-eval::is_met : goal.decreases-eval::is_met
 decreases-eval::is_met l = 12 * weight (tree l.condition.now) + 1
@@ -41,9 +50,6 @@ decreases-eval::choice l = 12 * (weight (tree l.condition.now) + weight (tree l.
 
 abbrev pub decreases-eval::other_branch : goal.decreases-eval::other_branch
 decreases-eval::other_branch l = 12 * part_weight (option_part l.otherwise.now) + 1
-
-abbrev pub decreases-eval::evaluate_all : goal.decreases-eval::evaluate_all
-decreases-eval::evaluate_all l = 12 * (weight (tree l.first.now) + weights (links_of l.more.now)) + 2
 
 abbrev pub decreases-eval::evaluate_more : goal.decreases-eval::evaluate_more
 decreases-eval::evaluate_more l = 12 * weights (links_of l.more.now) + 1
@@ -135,8 +141,11 @@ abbrev pub decreases-keys::walk-tuples : goal.decreases-keys::walk-tuples
 decreases-keys::walk-tuples l = steps_still l.fn.at l.fn.seen l.top + steps_below l.fn.at l.fn.seen l.below.items
 
 abbrev pub invariant-keys::keep-loop-row : goal.invariant-keys::keep-loop-row
-invariant-keys::keep-loop-row l =
-    kept (λ q. values.holds l.fn.at l.fn.seen q (option_part l.fn.condition)) (drop l.row-index l.rows) l.kept.items ≡ kept (λ q. values.holds l.fn.at l.fn.seen q (option_part l.fn.condition)) l.fn.found []
+invariant-keys::keep-loop-row l = record {
+  same : kept (λ q. values.holds l.fn.at l.fn.seen q (option_part l.fn.condition)) (into_iter_items l.row-iterator) l.kept.items
+      ≡ kept (λ q. values.holds l.fn.at l.fn.seen q (option_part l.fn.condition)) l.fn.found [];
+  counted : into_iter_len l.row-iterator ≡ length (into_iter_items l.row-iterator);
+}
 
 abbrev pub invariant-eval::gather-loop-row : goal.invariant-eval::gather-loop-row
 invariant-eval::gather-loop-row l = record {
@@ -144,3 +153,9 @@ invariant-eval::gather-loop-row l = record {
       ≡ gathered_over (span_of (tree l.fn.whole)) l.fn.reduction (λ q. values.value l.fn.seen q (tree l.fn.body)) l.fn.keys.rows None;
   small : IfSome l.so_far (λ a. unsigned_abs a ≤ l.row-index * 2 ^ 63);
 }
+
+-- the key of the subscripts so far and of those left is the key of all
+abbrev pub invariant-subscripts::key_of-loop-link : goal.invariant-subscripts::key_of-loop-link
+invariant-subscripts::key_of-loop-link l =
+    rest (span_of (tree l.fn.whole)) l.fn.seen l.fn.scope (links_of (drop l.link-index l.more)) l.so_far
+    ≡ and_then (and_then (values.value l.fn.seen l.fn.scope (tree l.fn.first)) (λ v. values.values l.fn.seen l.fn.scope (links_of l.fn.more) (v ∷ []))) (tuple_of (span_of (tree l.fn.whole)))

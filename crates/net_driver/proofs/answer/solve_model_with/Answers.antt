@@ -1,6 +1,7 @@
 use Rattle.std.proofs.Common.{sym, subst}
 use Rattle.std.specs.Option.{option_copied}
 use Rattle.net_driver.specs.Answers.{Answers}
+use Rattle.net_driver.proofs.NoMemory.{model_may, no_memory}
 use Rattle.net_driver.proofs.answer.solve_model_with.Goals as goal
 
 pub solve_unwritten-requires : goal.solve_unwritten-requires
@@ -13,3 +14,13 @@ pub returns-clause-value : goal.returns-clause-value
 returns-clause-value c =
     subst (λ compiled. Answers c.args.options.lean (option_copied c.args.options.objective) c.args.model.now c.args.data.now (record { compiled = compiled; outcome = c.in_ok-outcome.outcome }))
     (sym c.in_ok-compiled.ensures) (c.in_ok-outcome.ensures _ _ _ _ c.in_ok-unwritten.ensures.value)
+
+pub returns-in_err-outcome-clause-refused : goal.returns-in_err-outcome-clause-refused
+returns-in_err-outcome-clause-refused c =
+    no_memory _ c.args.model.now c.args.data.now c.from_residual-in_err-outcome.result _ (λ e h. h)
+    (model_may c.args.model.now _ c.in_ok-unwritten.ensures.value.accepts.model) c.from_residual-in_err-outcome.ensures.1
+
+pub returns-in_err-compiled-clause-refused : goal.returns-in_err-compiled-clause-refused
+returns-in_err-compiled-clause-refused c =
+    no_memory _ c.args.model.now c.args.data.now c.from_residual-in_err-compiled.result _ (λ e h. h)
+    (model_may c.args.model.now _ c.in_ok-unwritten.ensures.value.accepts.model) c.from_residual-in_err-compiled.ensures.1

@@ -1,6 +1,7 @@
 use Rattle.std.proofs.Common.{sym, subst}
 use Rattle.std.specs.Option.{option_copied}
 use Rattle.net_driver.specs.Headline.{Headline}
+use Rattle.net_driver.proofs.NoMemory.{model_may, no_memory}
 use Rattle.net_driver.proofs.compiled.compile_with.Goals as goal
 
 pub with_text-requires : goal.with_text-requires
@@ -9,3 +10,8 @@ with_text-requires c = c.in_ok-unwritten.ensures.value.sizes
 pub returns-clause-value : goal.returns-clause-value
 returns-clause-value c =
     subst (Headline c.args.options.lean (option_copied c.args.options.objective) c.args.model.now c.args.data.now) (sym c.in_ok-compiled.ensures) c.in_ok-unwritten.ensures.value
+
+pub returns-in_err-compiled-clause-refused : goal.returns-in_err-compiled-clause-refused
+returns-in_err-compiled-clause-refused c =
+    no_memory _ c.args.model.now c.args.data.now c.from_residual-in_err-compiled.result _ (λ e h. h)
+    (model_may c.args.model.now _ c.in_ok-unwritten.ensures.value.accepts.model) c.from_residual-in_err-compiled.ensures.1

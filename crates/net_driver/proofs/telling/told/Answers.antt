@@ -1,6 +1,24 @@
-use Rattle.std.proofs.Common.{arith}
+use Rattle.std.specs.Prelude.{length}
+use Rattle.std.proofs.Common.{arith, refl, sym, subst}
 use Rattle.std.proofs.lemmas.Grind.{common_steps}
+use Rattle.net_fault.specs.Places.{LiesIn}
+use Rattle.net_driver.specs.FirstFaults.{IsStop}
+use Rattle.net_driver.specs.Telling.{LiesThere}
+use Rattle.net_driver.proofs.FaultPlaces.{detail_may}
 use Rattle.net_driver.proofs.telling.told.Goals as goal
+
+pub refusal_of-requires : goal.refusal_of-requires
+refusal_of-requires c =
+    subst (λ text. LiesIn (length text) c.in-At.finding.at) (sym c.text_of.ensures)
+    (subst (LiesThere c.args.model.now c.args.data.now) c.in-At.is c.requires)
+
+pub returns-in-OutOfMemory : goal.returns-in-OutOfMemory
+returns-in-OutOfMemory c = λ wanted stop. subst (IsStop wanted c.args.model.now c.args.data.now) c.in-OutOfMemory.is stop
 
 pub returns-in-Ok : goal.returns-in-Ok
 returns-in-Ok c = grind (arith, common_steps)
+
+pub returns-in-Err : goal.returns-in-Err
+returns-in-Err c = λ wanted stop.
+    detail_may wanted c.args.model.now c.args.data.now c.in-At.finding (subst (IsStop wanted c.args.model.now c.args.data.now) c.in-At.is stop)
+    (λ none. c.in-Err.ensures.err refl none)

@@ -1,9 +1,19 @@
 use Rattle.std.proofs.Common.{refl}
 use Rattle.net_dimacs.proofs.WriteLaws.{text_is, text_only}
+use Rattle.net_driver.proofs.FaultPlaces.{stop_lies_there}
+use Rattle.net_driver.proofs.NoMemory.{model_may, no_memory}
 use Rattle.net_driver.proofs.unwritten.made_of.Goals as goal
+
+pub told-requires : goal.told-requires
+told-requires c = stop_lies_there _ c.args.model.now c.args.data.now c.in-Err.stop c.in-Err.ensures.refused
 
 pub returns-in-Err-clause-refused : goal.returns-in-Err-clause-refused
 returns-in-Err-clause-refused c = c.told.ensures _ c.in-Err.ensures.refused
+
+pub returns-in_err-problem-clause-refused : goal.returns-in_err-problem-clause-refused
+returns-in_err-problem-clause-refused c =
+    let is = c.in-Ok.ensures.ok.model in
+    no_memory _ c.args.model.now c.args.data.now c.from_residual.result _ (λ e h. h) (model_may c.args.model.now _ is) c.from_residual.ensures.1
 
 pub returns-clause-made : goal.returns-clause-made
 returns-clause-made c =

@@ -1,7 +1,6 @@
-use Rattle.std.specs.Prelude.{◌≡◌, take, reverse}
-use Rattle.std.specs.Option.{option_copied}
+use Rattle.std.specs.Prelude.{◌≡◌, ◌-◌, length, take, reverse}
 use Rattle.net_eval.specs.Worlds.{bound}
 use Rattle.net_eval.proofs.scope.Scope.get.Given as goal
 
-abbrev pub invariant-loop-binding : goal.invariant-loop-binding
-invariant-loop-binding l = option_copied l.found ≡ bound (reverse (take l.binding-index l.bindings)) l.name
+abbrev pub invariant-loop-newer : goal.invariant-loop-newer
+invariant-loop-newer l = bound (reverse (take (length l.bindings - l.newer) l.bindings)) l.fn.name ≡ bound l.fn.self l.fn.name

@@ -1,0 +1,123 @@
+//! The four runs between ends in memory.
+
+ghost use Rattle.std.specs.Prelude.{◌≡◌, ◌≤◌, false};
+
+use crate::texts::{CERTIFICATE, COMPILED, DATA, MODEL, PLAN, PROBLEM};
+use net_driver::{Fault, run_check, run_compile, run_min, run_solve};
+use net_io::{MemorySink, MemorySource};
+use std::alloc::{AllocError, Global};
+
+/// Which of the four runs is tried.
+#[derive(Clone, Copy)]
+pub enum Run {
+    Compile,
+    Solve,
+    Check,
+    Min,
+}
+
+/// How much goes over an end at once.
+#[derive(Clone, Copy)]
+pub enum Pace {
+    Bytes,
+    Pages,
+}
+
+impl Pace {
+    fn bytes_per_call(self) -> usize
+        ensures { 1 ≤ result }
+    {
+        match self {
+            Pace::Bytes => 1,
+            Pace::Pages => 4096,
+        }
+    }
+}
+
+/// What is tried: a run, how much goes over an end at once, and how many calls of each end succeed where not all do.
+#[derive(Clone, Copy)]
+pub struct Trial {
+    pub run: Run,
+    pub pace: Pace,
+    pub first_reads: Option<u64>,
+    pub second_reads: Option<u64>,
+    pub writes: Option<u64>,
+}
+
+impl Trial {
+    /// A run of which no end fails.
+    pub fn of(run: Run, pace: Pace) -> Trial {
+        Trial {
+            run,
+            pace,
+            first_reads: None,
+            second_reads: None,
+            writes: None,
+        }
+    }
+}
+
+/// The texts that a run reads, the first and the second.
+pub fn texts_of(run: Run) -> (&'static [u8], &'static [u8]) {
+    match run {
+        Run::Compile | Run::Solve => (MODEL, DATA),
+        Run::Check => (PROBLEM.as_bytes(), CERTIFICATE.as_bytes()),
+        Run::Min => (PROBLEM.as_bytes(), b""),
+    }
+}
+
+/// What it writes for them.
+pub fn answer_of(run: Run) -> &'static str {
+    match run {
+        Run::Compile => COMPILED,
+        Run::Solve => PLAN,
+        Run::Check => "yes\n",
+        Run::Min => CERTIFICATE,
+    }
+}
+
+/// Runs between these ends, and answers its fault, if there is one.
+fn fault_of(
+    alloc: Global,
+    run: Run,
+    first: &mut MemorySource<'_>,
+    second: &mut MemorySource<'_>,
+    sink: &mut MemorySink,
+) -> Option<Fault>
+    requires first_unread { first.old.failed ≡ false }
+    requires second_unread { second.old.failed ≡ false }
+    requires unwritten { sink.old.failed ≡ false }
+{
+    match run {
+        Run::Compile => run_compile(alloc, first, second, sink).err(),
+        Run::Solve => run_solve(alloc, first, second, sink).err(),
+        Run::Check => run_check(alloc, first, second, sink).err(),
+        Run::Min => run_min(alloc, first, sink).err(),
+    }
+}
+
+/// What came of a trial: the fault, how many reads of each source there were, and what was written.
+fn told(
+    alloc: Global,
+    fault: Option<Fault>,
+    reads: (u64, u64),
+    written: &[u8],
+) -> Result<String, AllocError> {
+    let text = String::from_utf8_lossy(alloc, written)?;
+    let (first, second) = reads;
+    match fault {
+        None => format!(in alloc; "done, {first} {second} reads: {text}"),
+        Some(fault) => format!(in alloc; "{fault}: {text}"),
+    }
+}
+
+/// What comes of a trial.
+pub fn ran(alloc: Global, trial: Trial) -> Result<String, AllocError> {
+    let (one, other) = texts_of(trial.run);
+    let bytes = trial.pace.bytes_per_call();
+    let mut first = MemorySource::new(one, bytes, trial.first_reads);
+    let mut second = MemorySource::new(other, bytes, trial.second_reads);
+    let mut sink = MemorySink::new(Vec::with_capacity(alloc, 4096)?, bytes, trial.writes);
+    let fault = fault_of(alloc, trial.run, &mut first, &mut second, &mut sink);
+    told(alloc, fault, (first.reads, second.reads), &sink.taken)
+}
