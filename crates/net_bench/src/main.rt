@@ -7,6 +7,7 @@ use net_dimacs::{read_problem, write_problem};
 use net_growth::settle;
 use net_lex::{lex_data, lex_model};
 use net_model::{free_model, parse_model};
+use net_resolve::check_names;
 use net_solve::{Plain, Scaling, ScalingRun, Settled, Solver, find_guess, solve};
 use std::alloc::{AllocError, Global};
 use std::process::ExitCode;
@@ -82,7 +83,7 @@ fn tables<R: AllocGlobal + CpuClock>(rt: &R, text: &[u8]) -> Option<Told> {
     })
 }
 
-/// A model text, cut into its tokens and those read as declarations: how many of both, and room for how many tokens.
+/// A model text, cut into its tokens and those read as declarations whose names are checked: how many of both, and room for how many tokens.
 fn model<R: AllocGlobal + CpuClock>(rt: &R, text: &[u8]) -> Option<Told> {
     let start = now(rt);
     let Ok(tokens) = lex_model(rt.alloc(), text) else {
@@ -92,10 +93,14 @@ fn model<R: AllocGlobal + CpuClock>(rt: &R, text: &[u8]) -> Option<Told> {
     let Ok(model) = parse_model(rt.alloc(), &tokens) else {
         return None;
     };
+    let is_named = check_names(rt.alloc(), &model).is_ok();
     let parsed = now(rt);
     let count = model.declarations.as_slice().len();
     let counts = (tokens.len(), count, tokens.capacity());
     free_model(model);
+    if !is_named {
+        return None;
+    }
     Some(Told {
         counts,
         times: (lexed.saturating_sub(start), parsed.saturating_sub(lexed)),

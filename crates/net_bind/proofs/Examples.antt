@@ -9,7 +9,7 @@ use Rattle.net_lex.specs.declared.token.Kind.TheVariants as kinds
 use Rattle.net_data.specs.declared.statement.Statement.{Statement}
 use Rattle.net_data.specs.declared.statement.Statement.TheVariants as statements
 use Rattle.net_sets.specs.declared.member.Member.TheVariants as members
-use Rattle.net_tree.specs.declared.expr.Operator.TheVariants as operator
+use Rattle.net_tree.specs.declared.operator.Words.TheVariants as operator
 use Rattle.net_tree.specs.Role.{role_of, marks, keys}
 use Rattle.net_tree.specs.Spans.{span_of, span_between, braces_span}
 use Rattle.net_tree.specs.Tree.{leaf, none, link, absent, filled, valued, Braces, Phrase, Declaration, set, param}
@@ -18,11 +18,10 @@ use Rattle.net_fault.specs.declared.defect.Defect.TheVariants.{OutsideSet, Doubl
 use Rattle.net_eval.specs.declared.world.Entry.TheVariants.{Set, Parameter}
 use Rattle.net_eval.specs.Limits.{is_small}
 use Rattle.net_eval.specs.References.{reference_text}
-use Rattle.net_eval.specs.Operations.{operations, operation, reduction, is_minus}
+use Rattle.net_tree.specs.Operations.{operations, operation, reduction, is_minus}
 use Rattle.net_eval.specs.Numbers.{number_in}
 use Rattle.net_bind.specs.Binding.{world}
 use Rattle.net_bind.specs.Cells.{member_in}
-use Rattle.net_bind.specs.Restrictions.{relation}
 
 abbrev name : List ℕ → ℕ → ℕ → Token
 name t a b = record { kind = kinds.Name; text = t; span = record { start = a; end = b } }
@@ -70,19 +69,19 @@ given_p ts =
 -- set S;    set S := b a;
 as_given : world (set_s ∷ []) (given_s (name (codes "b") 9 10 ∷ name (codes "a") 11 12 ∷ []) ∷ [])
     ≡ Ok ((codes "S", Set 1 ((members.Name (codes "b") ∷ []) ∷ (members.Name (codes "a") ∷ []) ∷ [])) ∷ [])
-unfolding role_of marks keys operations operation reduction is_minus is_small number_in numeral_at mantissa_at power_at whole_value span_of span_between braces_span member_in relation world
+unfolding role_of marks keys operations operation reduction is_minus is_small number_in numeral_at mantissa_at power_at whole_value span_of span_between braces_span member_in world
 as_given = refl
 
 -- set S;    set S := b b;
 given_twice : world (set_s ∷ []) (given_s (name (codes "b") 9 10 ∷ name (codes "b") 11 12 ∷ []) ∷ [])
     ≡ Err (record { defect = DoubleValue; text = texts.Data; at = record { start = 11; end = 12 }; detail = Told (codes "S") })
-unfolding role_of marks keys operations operation reduction is_minus is_small number_in numeral_at mantissa_at power_at whole_value span_of span_between braces_span member_in relation world
+unfolding role_of marks keys operations operation reduction is_minus is_small number_in numeral_at mantissa_at power_at whole_value span_of span_between braces_span member_in world
 given_twice = refl
 
 -- param p {1, 2} default 4;    set S := b;
 another_name : world (param_p ∷ []) (given_s (name (codes "b") 9 10 ∷ []) ∷ [])
     ≡ Err (record { defect = NoSuchName; text = texts.Data; at = record { start = 4; end = 5 }; detail = Told (codes "S") })
-unfolding role_of marks keys operations operation reduction is_minus is_small number_in numeral_at mantissa_at power_at whole_value span_of span_between braces_span member_in relation world
+unfolding role_of marks keys operations operation reduction is_minus is_small number_in numeral_at mantissa_at power_at whole_value span_of span_between braces_span member_in world
 another_name = refl
 
 -- param p {1, 2} default 4;    param p := 2 7;
@@ -92,11 +91,11 @@ row_and_default : world (param_p ∷ []) (given_p (number (codes "2") 11 12 ∷ 
       Parameter (Some 1) ((members.Number (pos 1) ∷ []) ∷ (members.Number (pos 2) ∷ []) ∷ [])
           ((members.Number (pos 2) ∷ [], members.Number (pos 7)) ∷ (members.Number (pos 1) ∷ [], members.Number (pos 4)) ∷ []),
     ) ∷ [])
-unfolding role_of marks keys operations operation reduction is_minus is_small number_in numeral_at mantissa_at power_at whole_value span_of span_between braces_span member_in relation world
+unfolding role_of marks keys operations operation reduction is_minus is_small number_in numeral_at mantissa_at power_at whole_value span_of span_between braces_span member_in world
 row_and_default = refl
 
 -- param p {1, 2} default 4;    param p := 3 7;
 key_outside : world (param_p ∷ []) (given_p (number (codes "3") 11 12 ∷ number (codes "7") 13 14 ∷ []) ∷ [])
     ≡ Err (record { defect = OutsideSet; text = texts.Data; at = record { start = 11; end = 12 }; detail = Told (reference_text (codes "p") true (members.Number (pos 3) ∷ [])) })
-unfolding role_of marks keys operations operation reduction is_minus is_small number_in numeral_at mantissa_at power_at whole_value span_of span_between braces_span member_in relation world
+unfolding role_of marks keys operations operation reduction is_minus is_small number_in numeral_at mantissa_at power_at whole_value span_of span_between braces_span member_in world
 key_outside = refl

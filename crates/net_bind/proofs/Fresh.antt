@@ -13,7 +13,7 @@ use Rattle.net_bind.specs.Binding.{world, with_given, widths, is_among, AreNew, 
 use Rattle.net_fault.specs.declared.fault.Fault.{Fault}
 use Rattle.net_data.specs.declared.statement.Statement.{Statement}
 use Rattle.net_bind.specs.Names.{Declared, declared}
-use Rattle.net_bind.specs.Mentions.{Sorted, said}
+use Rattle.net_bind.specs.DataByName.{Sorted, data_by_name}
 use Rattle.net_fault.specs.Outcomes.{Outcome, Answers, and_then, each}
 
 abbrev world_of : Outcome World → World
@@ -107,7 +107,7 @@ goes_on given w v ds i d all h l e o =
     sym (ap (λ ds. each (declare given) ds w) (left_at ds i d l e) ∙ ap (λ x. and_then x (each (declare given) (front ds (i + 1)))) o) ∙ h
 
 -- what is said of each name leads on to the world
-pub said_first : (ds : List Declaration) (ss : List Statement) (ns : Declared) (given : Sorted) (r : Result World Fault) → ns ≡ declared ds → said ns ss ≡ Ok given
+pub said_first : (ds : List Declaration) (ss : List Statement) (ns : Declared) (given : Sorted) (r : Result World Fault) → ns ≡ declared ds → data_by_name ns ss ≡ Ok given
     → Answers (with_given ds given) r → Answers (world ds ss) r
 unfolding world
-said_first ds ss ns given r e f h = subst (λ o. Answers (and_then o (with_given ds)) r) (sym (ap (λ k. said k ss) (sym e) ∙ f)) h
+said_first ds ss ns given r e f h = subst (λ o. Answers (and_then o (with_given ds)) r) (sym (ap (λ k. data_by_name k ss) (sym e) ∙ f)) h

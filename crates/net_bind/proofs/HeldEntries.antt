@@ -12,7 +12,7 @@ use Rattle.net_eval.specs.declared.world.Entry.TheVariants.{Set, Parameter}
 use Rattle.net_eval.specs.SetValues.{IsSetOf, HasSets}
 use Rattle.net_eval.specs.Worlds.{Name, World, entry_of}
 use Rattle.net_eval.proofs.SetsGiven.{keeps_sets}
-use Rattle.net_bind.specs.declared.given.Mention.{Mention}
+use Rattle.net_bind.specs.declared.given.NamedData.{NamedData}
 use Rattle.net_bind.specs.declared.param.Gives.TheVariants as gives
 use Rattle.net_bind.specs.declared.set_phrase.Claims.{Claims}
 use Rattle.net_fault.specs.Outcomes.{Outcome, and_then, each}
@@ -20,7 +20,7 @@ use Rattle.net_bind.specs.Binding as binding
 use Rattle.net_bind.specs.Binding.{widths, said_next, with_entry, declare, check_one, after_checks, with_given}
 use Rattle.net_bind.specs.BoundParameters.{keys_in, key_size, span_or, index_list, source, said_of, phrase_value, filled, with_data, bound_parameter}
 use Rattle.net_bind.specs.BoundSets.{one_of, allowed, set_of, bound_set}
-use Rattle.net_bind.specs.Mentions.{Sorted, said}
+use Rattle.net_bind.specs.DataByName.{Sorted, data_by_name}
 use Rattle.net_bind.specs.Names.{declared}
 use Rattle.net_bind.specs.ParameterValues.{IsParameterOf, HasParameters}
 use Rattle.net_bind.specs.SetData.{given_set}
@@ -55,7 +55,7 @@ chosen_set name c found ts u h f e a = go (assigned c.phrases) refl found f e
     go None i (Some us) t k = from_data i (subst (AreTaken (unwrap_or c.dimension 1)) (is_ok us ts k) t)
     go None i None t k = cc
 
-set_entry : (ws : List ℕ) (name : Token) (ms : List Mention) (c : Claims) (e : Entry) → AreSound c.dimension c.phrases → set_of ws name ms c ≡ Ok e → IsEntry e
+set_entry : (ws : List ℕ) (name : Token) (ms : List NamedData) (c : Claims) (e : Entry) → AreSound c.dimension c.phrases → set_of ws name ms c ≡ Ok e → IsEntry e
 set_entry ws name ms c e h o =
     let n = unwrap_or c.dimension 1 in
     then_ok (given_set ws n (is_some (assigned c.phrases)) ms) _ e o (λ found i k.
@@ -63,19 +63,19 @@ set_entry ws name ms c e h o =
     then_ok (allowed name ts c.phrases) (λ u. Ok (Set n ts)) e l (λ u a m.
     subst IsEntry (is_ok (Set n ts) e m) (chosen_set name c found ts u h (given_taken ws n (is_some (assigned c.phrases)) ms None found tt i) j a))))
 
-bound_set_is : (w : World) → HasSets w → (ws : List ℕ) (name : Token) (ps : List Phrase) (ms : List Mention) (e : Entry) → bound_set w ws name ps ms ≡ Ok e → IsEntry e
+bound_set_is : (w : World) → HasSets w → (ws : List ℕ) (name : Token) (ps : List Phrase) (ms : List NamedData) (e : Entry) → bound_set w ws name ps ms ≡ Ok e → IsEntry e
 bound_set_is w g ws name ps ms e h = then_ok (set_phrases w ps) (set_of ws name ms) e h (λ c i k. set_entry ws name ms c e (phrases_sound w (keeps_sets w g) ps c i) k)
 
 -- ---- a parameter
 
-with_data_is : (w : World) (ws : List ℕ) (name : Token) (ps : List Phrase) (ms : List Mention) (n : Option ℕ) (rows : List Row) (index : List Tuple) (e : Entry) → IsIndex rows index → with_data w ws name ps ms n rows index ≡ Ok e → IsEntry e
+with_data_is : (w : World) (ws : List ℕ) (name : Token) (ps : List Phrase) (ms : List NamedData) (n : Option ℕ) (rows : List Row) (index : List Tuple) (e : Entry) → IsIndex rows index → with_data w ws name ps ms n rows index ≡ Ok e → IsEntry e
 with_data_is w ws name ps ms n rows index e f h =
     then_ok (filled w ws name ps ms n rows index) (λ t. Ok (Parameter n index t)) e h (λ t k l.
     then_ok (said_of ws n index (is_some (phrase_value gives.Becomes ps)) ms) _ t k (λ all i j.
     subst IsEntry (is_ok (Parameter n index t) e l)
     (parameter_is w ws name n ps (source (phrase_value gives.Becomes ps) all.1 (phrase_value gives.Default ps)) (is_some (phrase_value gives.Becomes ps)) ms index rows all t f i j)))
 
-bound_parameter_is : (w : World) (ws : List ℕ) (name : Token) (b : Option Braces) (ps : List Phrase) (ms : List Mention) (e : Entry) → bound_parameter w ws name b ps ms ≡ Ok e → IsEntry e
+bound_parameter_is : (w : World) (ws : List ℕ) (name : Token) (b : Option Braces) (ps : List Phrase) (ms : List NamedData) (e : Entry) → bound_parameter w ws name b ps ms ≡ Ok e → IsEntry e
 bound_parameter_is w ws name b ps ms e h =
     then_ok (keys_in w b) _ e h (λ k i o.
     then_ok (index_list (span_or name.span b) k.rows) (with_data w ws name ps ms (key_size b k) k.rows) e o (λ index j l.
@@ -123,7 +123,7 @@ checked_entries ds w v g h = then_ok (each (check_one w) ds 0) (λ known. Ok w) 
 have_entries : (ds : List Declaration) (ss : List Statement) (w : World) → binding.world ds ss ≡ Ok w → AreEntries w
 unfolding binding.world
 have_entries ds ss w h =
-    then_ok (said (declared ds) ss) (with_given ds) w h (λ given i k.
+    then_ok (data_by_name (declared ds) ss) (with_given ds) w h (λ given i k.
     then_ok (each (declare given) ds []) (after_checks ds) w k (λ v j l. checked_entries ds v w (all_entries given ds [] v no_entries j) l))
 
 pub have_sets : (ds : List Declaration) (ss : List Statement) (w : World) → binding.world ds ss ≡ Ok w → HasSets w

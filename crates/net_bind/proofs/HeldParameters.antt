@@ -21,7 +21,7 @@ use Rattle.net_eval.proofs.Walked.{none_there, all_join}
 use Rattle.net_fault.specs.declared.finding.Finding.{Finding}
 use Rattle.net_bind.specs.declared.given.Given.{Given}
 use Rattle.net_bind.specs.declared.given.Given.TheVariants as given
-use Rattle.net_bind.specs.declared.given.Mention.{Mention}
+use Rattle.net_bind.specs.declared.given.NamedData.{NamedData}
 use Rattle.net_bind.specs.BoundParameters.{keys_with, index_list, Source, source_text, source_at, from_source, with_found, with_key, fit_values, untaken, said_of, valued_by, values}
 use Rattle.net_bind.specs.Cells.{member_in, tuple_in}
 use Rattle.net_fault.specs.Outcomes.{Outcome, and_then, each}
@@ -120,12 +120,12 @@ taken_keeps widths n index size word g b t u h e = then_ok (shaped widths size w
     go true k = cc
     go false k = rows_keep n index size word g t u h k
 
-statement_keeps : (widths : List ℕ) (n : Option ℕ) (index : List Tuple) (size : ℕ) (a : Bool) (m : Mention) (all more : All) → IsSaid index all.0 → with_statement widths n index size a m all ≡ Ok more → IsSaid index more.0
+statement_keeps : (widths : List ℕ) (n : Option ℕ) (index : List Tuple) (size : ℕ) (a : Bool) (m : NamedData) (all more : All) → IsSaid index all.0 → with_statement widths n index size a m all ≡ Ok more → IsSaid index more.0
 statement_keeps widths n index size a m all more h e =
     then_ok (taken widths n index size m.word m.given (a || (is_some m.default && is_some all.1)) all.0) (λ t. Ok (t, either all.1 m.default)) more e (λ t i k.
     subst (λ (z : All). IsSaid index z.0) (is_ok (t, either all.1 m.default) more k) (taken_keeps widths n index size m.word m.given (a || (is_some m.default && is_some all.1)) all.0 t h i))
 
-said_keeps : (widths : List ℕ) (n : Option ℕ) (index : List Tuple) (a : Bool) (ms : List Mention) (all : All) → IsDistinct same_tuple index → said_of widths n index a ms ≡ Ok all → IsSaid index all.0
+said_keeps : (widths : List ℕ) (n : Option ℕ) (index : List Tuple) (a : Bool) (ms : List NamedData) (all : All) → IsDistinct same_tuple index → said_of widths n index a ms ≡ Ok all → IsSaid index all.0
 said_keeps widths n index a ms all h e =
     each_keeps (λ (z : All). IsSaid index z.0) (with_statement widths n index (key_count n) a) (λ m b c k i. statement_keeps widths n index (key_count n) a m b c k i) ms untaken all
     (record { keys = h; inside = tt; once = none_there }) e
@@ -155,12 +155,12 @@ keys_keep w at x index [] t u among h e = subst (IsParameterOf index) (is_ok t u
 keys_keep w at x index (r ∷ rows) t u among h e =
     then_ok (with_key w at x r t) (each (with_key w at x) rows) u e (λ v i k. keys_keep w at x index rows v u among.1 (key_keeps w at x index r t v among.0 h i) k)
 
-values_keep : (w : World) (name : Token) (n : Option ℕ) (ps : List Phrase) (x : Source) (index : List Tuple) (rows : List Row) (said : Taken) (t : Table) → AreAmong index rows → IsSaid index said
-    → values w name n ps x rows said ≡ Ok t → IsParameterOf index t
-values_keep w name n ps x index rows said t among h e =
-    then_ok (each (with_key w name.span x) rows said.0) (valued_by w name n ps x rows said) t e (λ u i k.
-    then_ok (fit_values w name n ps (source_text x.1) (source_at name.span x) said.1 u rows) (λ v. Ok u) t k (λ v j l.
-    subst (IsParameterOf index) (is_ok u t l) (keys_keep w name.span x index rows said.0 u among h i)))
+values_keep : (w : World) (name : Token) (n : Option ℕ) (ps : List Phrase) (x : Source) (index : List Tuple) (rows : List Row) (data_by_name : Taken) (t : Table) → AreAmong index rows → IsSaid index data_by_name
+    → values w name n ps x rows data_by_name ≡ Ok t → IsParameterOf index t
+values_keep w name n ps x index rows data_by_name t among h e =
+    then_ok (each (with_key w name.span x) rows data_by_name.0) (valued_by w name n ps x rows data_by_name) t e (λ u i k.
+    then_ok (fit_values w name n ps (source_text x.1) (source_at name.span x) data_by_name.1 u rows) (λ v. Ok u) t k (λ v j l.
+    subst (IsParameterOf index) (is_ok u t l) (keys_keep w name.span x index rows data_by_name.0 u among h i)))
 
 -- ---- the index list
 
@@ -197,6 +197,6 @@ index_is at rows index e = go _ (nat_le (length (union [] (keys_of rows))) tuple
     go x true i = subst (IsIndex rows) (is_ok (union [] (keys_of rows)) index i) whole
     go x false i = cc
 
-pub parameter_is : (w : World) (widths : List ℕ) (name : Token) (n : Option ℕ) (ps : List Phrase) (x : Source) (a : Bool) (ms : List Mention) (index : List Tuple) (rows : List Row) (all : All) (t : Table) → IsIndex rows index
+pub parameter_is : (w : World) (widths : List ℕ) (name : Token) (n : Option ℕ) (ps : List Phrase) (x : Source) (a : Bool) (ms : List NamedData) (index : List Tuple) (rows : List Row) (all : All) (t : Table) → IsIndex rows index
     → said_of widths n index a ms ≡ Ok all → values w name n ps x rows all.0 ≡ Ok t → IsParameterOf index t
 parameter_is w widths name n ps x a ms index rows all t h e k = values_keep w name n ps x index rows all.0 t h.among (said_keeps widths n index a ms all h.once e) k

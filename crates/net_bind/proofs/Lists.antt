@@ -4,9 +4,9 @@ use Rattle.std.proofs.Common.{refl, sym, ap, ◌∙◌, arith, append_assoc}
 use Rattle.net_lex.specs.declared.token.Token.{Token}
 use Rattle.net_data.specs.Rows.{groups}
 use Rattle.net_data.proofs.GroupLemmas.{groups-cons}
-use Rattle.net_bind.specs.declared.given.Mention.{Mention}
+use Rattle.net_bind.specs.declared.given.NamedData.{NamedData}
 use Rattle.net_bind.specs.Names.{Declared}
-use Rattle.net_bind.specs.Mentions.{unsaid}
+use Rattle.net_bind.specs.DataByName.{unsaid}
 
 one_less : (i : ℕ) (ds : Declared) → i < length ds → unsaid (take i ds) ++ [] ∷ [] ≡ unsaid (take (suc i) ds)
 one_less zero [] l = absurd (omega (arith, l))
@@ -15,7 +15,7 @@ one_less (suc i) [] l = absurd (omega (arith, l))
 one_less (suc i) (d ∷ ds) l = ap (◌∷◌ []) (one_less i ds (omega (arith, l)))
 
 -- nothing is said of one name more
-pub unsaid_more : (i : ℕ) (ds : Declared) (all : List (List Mention)) → all ≡ unsaid (take i ds) → i < length ds → all ++ [] ∷ [] ≡ unsaid (take (i + 1) ds)
+pub unsaid_more : (i : ℕ) (ds : Declared) (all : List (List NamedData)) → all ≡ unsaid (take i ds) → i < length ds → all ++ [] ∷ [] ≡ unsaid (take (i + 1) ds)
 unsaid_more i ds all e l =
     let next : suc i ≡ i + 1 = omega arith in ap (λ x. x ++ [] ∷ []) e ∙ one_less i ds l ∙ ap (λ k. unsaid (take k ds)) next
 

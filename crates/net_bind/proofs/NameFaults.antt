@@ -12,9 +12,9 @@ use Rattle.net_data.specs.declared.statement.Statement.{Statement}
 use Rattle.net_data.specs.declared.statement.Statement.TheVariants.{Set, List as Listed, Table, Columns}
 use Rattle.net_bind.specs.declared.given.Given.{Given}
 use Rattle.net_bind.specs.declared.given.Given.TheVariants as given
-use Rattle.net_bind.specs.declared.given.Mention.{Mention}
+use Rattle.net_bind.specs.declared.given.NamedData.{NamedData}
 use Rattle.net_bind.specs.Names.{Declared, at_place, as_wanted, found_behind, target}
-use Rattle.net_bind.specs.Mentions.{Sorted, unsaid, with_mention, default_word, given_cells, grouped, gridded, mention, mentioned, lesser, set_first, first_of, or_zero, headed, set_headed, in_columns, in_statement, said}
+use Rattle.net_bind.specs.DataByName.{Sorted, unsaid, with_named_data, default_word, given_cells, grouped, gridded, named, with_named, lesser, set_first, first_of, or_zero, headed, set_headed, in_columns, in_statement, data_by_name}
 use Rattle.net_fault.specs.Places.{Places, Finds}
 use Rattle.net_fault.proofs.Found.{finds_then, Gives, gives_then, gives_each, gives_behind, gives_found}
 use Rattle.net_fault.proofs.Elements.{OfSome, all_append, all_set, all_index}
@@ -26,10 +26,10 @@ SaidStands P (given.Members ts) = TokensStand P ts
 SaidStands P (given.Groups g) = TokensStand P g.cells
 SaidStands P (given.Grid g) = TokensStand P g.columns × TokensStand P g.cells
 
-abbrev pub MentionStands : (Span → Type 0) → Mention → Type 0
+abbrev pub MentionStands : (Span → Type 0) → NamedData → Type 0
 MentionStands P m = P m.word.span × OfSome (λ (t : Token). P t.span) m.default × SaidStands P m.given
 
-abbrev pub MentionsStand : (Span → Type 0) → List Mention → Type 0
+abbrev pub MentionsStand : (Span → Type 0) → List NamedData → Type 0
 MentionsStand P ms = AllByRecursion (MentionStands P) ms
 
 abbrev pub SortedStands : (Span → Type 0) → Sorted → Type 0
@@ -55,13 +55,13 @@ module _ (P : Places) where
   unsaid_stands [] = tt
   unsaid_stands (d ∷ ds) = (tt, unsaid_stands ds)
 
-  with_mention_stands : (i : ℕ) (m : Mention) (all : Sorted) → MentionStands (P Data) m → SortedStands (P Data) all → SortedStands (P Data) (with_mention i m all)
+  with_mention_stands : (i : ℕ) (m : NamedData) (all : Sorted) → MentionStands (P Data) m → SortedStands (P Data) all → SortedStands (P Data) (with_named_data i m all)
   with_mention_stands i m all h k =
       all_set (MentionsStand (P Data)) all i (slice_index_or all i [] ++ m ∷ []) k
       (all_append (MentionStands (P Data)) (slice_index_or all i []) (m ∷ []) (all_index (MentionsStand (P Data)) all i [] k tt) (h, tt))
 
-  gives_mentioned : (ds : Declared) (is_set : Bool) (word : Token) → P Data word.span → (m : ℕ → Mention) → ((i : ℕ) → MentionStands (P Data) (m i))
-      → (all : Sorted) → SortedStands (P Data) all → Gives P (SortedStands (P Data)) (mentioned ds is_set word m all)
+  gives_mentioned : (ds : Declared) (is_set : Bool) (word : Token) → P Data word.span → (m : ℕ → NamedData) → ((i : ℕ) → MentionStands (P Data) (m i))
+      → (all : Sorted) → SortedStands (P Data) all → Gives P (SortedStands (P Data)) (with_named ds is_set word m all)
   gives_mentioned ds is_set word h m k all j =
       gives_behind P (SortedStands (P Data)) (target ds is_set word) _ (finds_target ds is_set word h) (λ i. with_mention_stands i (m i) all (k i) j)
 
@@ -77,15 +77,15 @@ module _ (P : Places) where
       → (all : Sorted) → SortedStands (P Data) all → Gives P (SortedStands (P Data)) (headed ds leader values cells place ts all)
   gives_headed ds leader values cells h place [] k all j = j
   gives_headed ds leader values cells h place (t ∷ ts) k all j =
-      gives_then P (SortedStands (P Data)) (SortedStands (P Data)) (mentioned ds false t (λ i. mention t None (grouped leader values place cells)) all) (headed ds leader values cells (place + 1) ts)
-      (gives_mentioned ds false t k.0 (λ i. mention t None (grouped leader values place cells)) (λ i. (k.0, tt, h)) all j)
+      gives_then P (SortedStands (P Data)) (SortedStands (P Data)) (with_named ds false t (λ i. named t None (grouped leader values place cells)) all) (headed ds leader values cells (place + 1) ts)
+      (gives_mentioned ds false t k.0 (λ i. named t None (grouped leader values place cells)) (λ i. (k.0, tt, h)) all j)
       (gives_headed ds leader values cells h (place + 1) ts k.1)
 
   gives_set_headed : (ds : Declared) (leader values : ℕ) (cells : List Token) → TokensStand (P Data) cells → (s : Option NamedSet) → NamedSetStands (P Data) s
       → (all : Sorted) → SortedStands (P Data) all → Gives P (SortedStands (P Data)) (set_headed ds leader values cells s all)
   gives_set_headed ds leader values cells h None k all j = j
   gives_set_headed ds leader values cells h (Some s) k all j =
-      gives_mentioned ds true s.name k (λ i. mention s.name None (grouped leader values 0 cells)) (λ i. (k, tt, h)) all j
+      gives_mentioned ds true s.name k (λ i. named s.name None (grouped leader values 0 cells)) (λ i. (k, tt, h)) all j
 
   gives_in_columns : (ds : Declared) (s : Option NamedSet) (names cells : List Token) → NamedSetStands (P Data) s → TokensStand (P Data) names → TokensStand (P Data) cells
       → (all : Sorted) → SortedStands (P Data) all → Gives P (SortedStands (P Data)) (in_columns ds s names cells all)
@@ -101,5 +101,5 @@ module _ (P : Places) where
   gives_in_statement ds (Table t) h all j = gives_mentioned ds false t.name h.0 _ (λ i. (h.0, default_stands (P Data) t.default h.1, (h.2, h.3))) all j
   gives_in_statement ds (Columns c) h all j = gives_in_columns ds c.set c.names c.cells h.0 h.1 h.2 all j
 
-  pub gives_said : (ds : Declared) (ss : List Statement) → StatementsStand (P Data) ss → Gives P (SortedStands (P Data)) (said ds ss)
+  pub gives_said : (ds : Declared) (ss : List Statement) → StatementsStand (P Data) ss → Gives P (SortedStands (P Data)) (data_by_name ds ss)
   gives_said ds ss h = gives_each P (StatementStands (P Data)) (SortedStands (P Data)) (in_statement ds) (gives_in_statement ds) ss h (unsaid ds) (unsaid_stands ds)

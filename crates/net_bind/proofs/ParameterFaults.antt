@@ -26,9 +26,9 @@ use Rattle.net_eval.specs.Values.{value, index}
 use Rattle.net_eval.specs.Worlds.{World, Scope, key_count, reference}
 use Rattle.net_bind.specs.declared.given.Given.{Given}
 use Rattle.net_bind.specs.declared.given.Given.TheVariants as given
-use Rattle.net_bind.specs.declared.given.Mention.{Mention}
-use Rattle.net_bind.specs.declared.restriction.Relation.{Relation}
-use Rattle.net_bind.specs.declared.restriction.Relation.TheVariants as relations
+use Rattle.net_bind.specs.declared.given.NamedData.{NamedData}
+use Rattle.net_tree.specs.declared.role.Relation.{Relation}
+use Rattle.net_tree.specs.declared.role.Relation.TheVariants as relations
 use Rattle.net_bind.specs.declared.param.Gives.{Gives as ValueWord}
 use Rattle.net_bind.specs.declared.param.Gives.TheVariants as gives
 use Rattle.net_bind.specs.Cells.{tuple_in, member_in}
@@ -128,13 +128,13 @@ module _ (P : Places) where
   either_stands None b h k = k
   either_stands (Some c) b h k = h
 
-  gives_with_statement : (widths : List ℕ) (n : Option ℕ) (index : List Tuple) (size : ℕ) (is_assigned : Bool) (m : Mention) → MentionStands (P Data) m → (all : All) → AllStand all
+  gives_with_statement : (widths : List ℕ) (n : Option ℕ) (index : List Tuple) (size : ℕ) (is_assigned : Bool) (m : NamedData) → MentionStands (P Data) m → (all : All) → AllStand all
       → Gives P AllStand (with_statement widths n index size is_assigned m all)
   gives_with_statement widths n index size is_assigned m h all k =
       gives_then P TakenStands AllStand (taken widths n index size m.word m.given (is_assigned || (is_some m.default && is_some all.1)) all.0) _
       (gives_taken widths n index size m.word h.0 m.given h.2 (is_assigned || (is_some m.default && is_some all.1)) all.0 k.0) (λ t j. (j, either_stands all.1 m.default k.1 h.1))
 
-  gives_said_of : (widths : List ℕ) (n : Option ℕ) (index : List Tuple) (is_assigned : Bool) (ms : List Mention) → MentionsStand (P Data) ms → Gives P AllStand (said_of widths n index is_assigned ms)
+  gives_said_of : (widths : List ℕ) (n : Option ℕ) (index : List Tuple) (is_assigned : Bool) (ms : List NamedData) → MentionsStand (P Data) ms → Gives P AllStand (said_of widths n index is_assigned ms)
   gives_said_of widths n index is_assigned ms h =
       gives_each P (MentionStands (P Data)) AllStand (with_statement widths n index (key_count n) is_assigned) (gives_with_statement widths n index (key_count n) is_assigned) ms h untaken (tt, tt)
 
@@ -149,7 +149,9 @@ module _ (P : Places) where
   finds_related at h relations.Greater m v = finds_ordered at h (compared relations.Greater) m v
   finds_related at h relations.AtLeast m v = finds_ordered at h (compared relations.AtLeast) m v
   finds_related at h relations.Unequal m v = finds_then P (operators.same at (One m) v) _ (finds_same P at h (One m) v) (λ b. tt)
-  finds_related at h relations.Among m v = finds_belongs P at h (One m) v
+  finds_related at h relations.In m v = finds_belongs P at h (One m) v
+  finds_related at h relations.Equal m v = tt
+  finds_related at h relations.Within m v = tt
 
   finds_restricted_by : (w : World) (s : Scope) (d : Detail) (m : Member) (r : Option Relation) (x : Tree) → Stands (P Model) x → Finds P (restricted_by w s d m r x)
   finds_restricted_by w s d m None x h = tt
@@ -254,7 +256,7 @@ module _ (P : Places) where
   chosen_stands None None (Some y) h k j = j
   chosen_stands None None None h k j = tt
 
-  finds_filled : (w : World) (widths : List ℕ) (name : Token) → P Model name.span → (ps : List Phrase) → PhrasesStand (P Model) ps → (ms : List Mention) → MentionsStand (P Data) ms
+  finds_filled : (w : World) (widths : List ℕ) (name : Token) → P Model name.span → (ps : List Phrase) → PhrasesStand (P Model) ps → (ms : List NamedData) → MentionsStand (P Data) ms
       → (n : Option ℕ) (rows : List Row) (index : List Tuple) → Finds P (filled w widths name ps ms n rows index)
   finds_filled w widths name h ps k ms j n rows index =
       finds_behind P AllStand (said_of widths n index (is_some (phrase_value gives.Becomes ps)) ms) _ (gives_said_of widths n index (is_some (phrase_value gives.Becomes ps)) ms j) (λ all i.
@@ -262,7 +264,7 @@ module _ (P : Places) where
       (chosen_stands (phrase_value gives.Becomes ps) all.1 (phrase_value gives.Default ps) (phrase_stands gives.Becomes ps k) i.1 (phrase_stands gives.Default ps k)) rows all.0 i.0)
 
   pub finds_bound_parameter : (w : World) (widths : List ℕ) (name : Token) → P Model name.span → (b : Option Braces) → IndexingStands (P Model) b → (ps : List Phrase) → PhrasesStand (P Model) ps
-      → (ms : List Mention) → MentionsStand (P Data) ms → Finds P (bound_parameter w widths name b ps ms)
+      → (ms : List NamedData) → MentionsStand (P Data) ms → Finds P (bound_parameter w widths name b ps ms)
   finds_bound_parameter w widths name h b g ps k ms j =
       finds_then P (keys_in w b) _ (finds_keys_in w b g) (λ keys.
       finds_then P (index_list (span_or name.span b) keys.rows) _ (finds_index_list (span_or name.span b) (span_or_stands name.span h b g) keys.rows) (λ index.

@@ -16,21 +16,22 @@ use Rattle.net_sets.proofs.Crossing.{least, length_product}
 use Rattle.net_sets.proofs.Distinct.{put_last, stays}
 use Rattle.net_sets.proofs.Sames.{tuple_decides}
 use Rattle.net_tree.specs.declared.expr.Link.{Link, out-Link}
-use Rattle.net_tree.specs.declared.expr.Operator.{Operator}
-use Rattle.net_tree.specs.declared.expr.Operator.TheVariants as operators
+use Rattle.net_tree.specs.declared.operator.Words.{Words as Operator}
+use Rattle.net_tree.specs.declared.operator.Words.TheVariants as operators
 use Rattle.net_tree.specs.Spans.{span_of}
 use Rattle.net_tree.specs.Tree.{Tree, leaf, indexed, parens, tuple, negated, braced, signed, reduced, chain, choice, net, none, link}
 use Rattle.net_tree.specs.View.{tree, links_of}
 use Rattle.net_tree.proofs.Views.{links_of-cons}
-use Rattle.net_eval.specs.declared.operation.Operation.TheVariants as op
+use Rattle.net_tree.specs.declared.operator.BinOp.{BinOp}
+use Rattle.net_tree.specs.declared.operator.BinOp.TheVariants as op
 use Rattle.net_eval.specs.declared.value.Value.TheVariants.{Many}
 use Rattle.net_eval.specs.Items.{both}
-use Rattle.net_eval.specs.Operations.{operations, operation, operation_in}
+use Rattle.net_tree.specs.Operations.{operations, operation, operation_in}
 use Rattle.net_eval.specs.Sets.{counted, cross}
 use Rattle.net_eval.specs.Values.{value}
 use Rattle.net_eval.specs.Worlds.{World}
 use Rattle.net_bind.specs.Factors.{is_cross, behind_cross, factors, can_part}
-use Rattle.net_bind.specs.Fences.{AreLong}
+use Rattle.net_bind.specs.Supersets.{AreLong}
 
 -- ---- which tuples a product has
 
@@ -143,10 +144,12 @@ crossed_by d xs e ys at h =
 
 -- ---- the value of an expression that is a product
 
-is_operation : (o : Operator) → is_cross o ≡ true → operation o ≡ op.Cross
-unfolding is_cross operation operations
-is_operation (operators.One t) e = ap (operation_in operations) (sym ((bytes_eq-Decides (codes "cross") t.text).0 e))
-is_operation (operators.Two t u) e = cc
+crosses : (b : BinOp) → is_cross b ≡ true → b ≡ op.Cross
+crosses op.Cross e = refl
+crosses _ e = cc
+
+is_operation : (o : Operator) → is_cross (operation o) ≡ true → operation o ≡ op.Cross
+is_operation o e = crosses (operation o) e
 
 same_pair : (p q : Tree × Tree) → Some p ≡ Some q → p ≡ q
 same_pair p q e = cc
@@ -154,9 +157,9 @@ same_pair p q e = cc
 value_crossed : (w : World) (x y z : Tree) (d e : Option ℕ) (n : ℕ) (xs ys ts : List Tuple) → Some (y, z) ≡ factors x → value w [] y ≡ Ok (Many d xs) → value w [] z ≡ Ok (Many e ys)
     → ((at : Span) → cross at d xs e ys ≡ Ok (Many (Some n) ts)) → value w [] x ≡ Ok (Many (Some n) ts)
 value_crossed w (parens o x c) y z d e n xs ys ts f g h k = value_crossed w x y z d e n xs ys ts f g h k
-value_crossed w (chain m x (link o u none)) y z d e n xs ys ts f g h k = go (is_cross o) refl f
+value_crossed w (chain m x (link o u none)) y z d e n xs ys ts f g h k = go (is_cross (operation o)) refl f
   where
-    go : (b : Bool) → is_cross o ≡ b → Some (y, z) ≡ both x (if b then Some u else None) → value w [] (chain m x (link o u none)) ≡ Ok (Many (Some n) ts)
+    go : (b : Bool) → is_cross (operation o) ≡ b → Some (y, z) ≡ both x (if b then Some u else None) → value w [] (chain m x (link o u none)) ≡ Ok (Many (Some n) ts)
     go true i j =
         let left : value w [] x ≡ Ok (Many d xs) = ap (value w []) (sym (ap (λ (p : Tree × Tree). p.0) (same_pair (y, z) (x, u) j))) ∙ g in
         let right : value w [] u ≡ Ok (Many e ys) = ap (value w []) (sym (ap (λ (p : Tree × Tree). p.1) (same_pair (y, z) (x, u) j))) ∙ h in
@@ -181,12 +184,12 @@ worth w x y z d e xs ys (Some p) f g h k = value_crossed w x y z d e p.0 xs ys p
 
 -- ---- links by their number
 
-pub behind_one : (ls : List Link) (l : Link) (b : Bool) → 1 ≤ length ls → length ls < 2 → l ≡ get_or ls 0 l → is_cross (out-Link l).operator ≡ b
+pub behind_one : (ls : List Link) (l : Link) (b : Bool) → 1 ≤ length ls → length ls < 2 → l ≡ get_or ls 0 l → is_cross (operation (out-Link l).operator) ≡ b
     → (if b then Some (tree (out-Link l).operand) else None) ≡ behind_cross (links_of ls)
 behind_one [] l b h i e f = absurd (omega arith)
 behind_one (x ∷ []) l b h i e f =
     ap (λ c. if c then Some (tree (out-Link l).operand) else None) (sym f)
-    ∙ ap (λ (k : Link). if is_cross (out-Link k).operator then Some (tree (out-Link k).operand) else None) e
+    ∙ ap (λ (k : Link). if is_cross (operation (out-Link k).operator) then Some (tree (out-Link k).operand) else None) e
     ∙ sym (ap behind_cross (links_of-cons x []))
 behind_one (x ∷ y ∷ ls) l b h i e f = absurd (omega arith)
 

@@ -16,7 +16,7 @@ use Rattle.net_eval.proofs.KeysOnce.{union_distinct}
 use Rattle.net_eval.proofs.Walked.{none_there}
 use Rattle.net_bind.specs.declared.given.Given.{Given}
 use Rattle.net_bind.specs.declared.given.Given.TheVariants as given
-use Rattle.net_bind.specs.declared.given.Mention.{Mention}
+use Rattle.net_bind.specs.declared.given.NamedData.{NamedData}
 use Rattle.net_bind.specs.Cells.{member_in, tuple_in}
 use Rattle.net_fault.specs.Outcomes.{Outcome, and_then, each, refused_as, refused_there}
 use Rattle.net_bind.specs.SetData.{set_rows, begins_at, all_of_size, without_points, whole_group, whole_groups, cut, told_by, agrees, given_rows, with_member, doubled, with_statement}
@@ -89,7 +89,7 @@ abbrev pub IsTaken : ℕ → Option (List Tuple) → Type 0
 IsTaken n None = Unit {0}
 IsTaken n (Some ts) = AreTaken n ts
 
-statement_taken : (widths : List ℕ) (n : ℕ) (a : Bool) (m : Mention) (found more : Option (List Tuple)) → with_statement widths n a m found ≡ Ok more → IsTaken n more
+statement_taken : (widths : List ℕ) (n : ℕ) (a : Bool) (m : NamedData) (found more : Option (List Tuple)) → with_statement widths n a m found ≡ Ok more → IsTaken n more
 statement_taken widths n a m found more h =
     then_ok (given_rows widths n m.word m.given) (λ rows. if a || is_some found then doubled m.word else and_then (each (with_member m.word) rows []) (λ ts. Ok (Some ts))) more h
     (λ rows e k. go rows (rows_sized widths n m.word m.given rows e) (a || is_some found) k)
@@ -100,7 +100,7 @@ statement_taken widths n a m found more h =
         then_ok (each (with_member m.word) rows []) (λ ts. Ok (Some ts)) more k
         (λ ts e i. subst (IsTaken n) (is_ok (Some ts) more i) (members_taken n m.word rows [] ts l (record { once = none_there; long = λ j. tt }) e))
 
-pub given_taken : (widths : List ℕ) (n : ℕ) (a : Bool) (ms : List Mention) (found more : Option (List Tuple)) → IsTaken n found → each (with_statement widths n a) ms found ≡ Ok more → IsTaken n more
+pub given_taken : (widths : List ℕ) (n : ℕ) (a : Bool) (ms : List NamedData) (found more : Option (List Tuple)) → IsTaken n found → each (with_statement widths n a) ms found ≡ Ok more → IsTaken n more
 given_taken widths n a [] found more h e = subst (IsTaken n) (is_ok found more e) h
 given_taken widths n a (m ∷ ms) found more h e =
     then_ok (with_statement widths n a m found) (each (with_statement widths n a) ms) more e (λ next i k. given_taken widths n a ms next more (statement_taken widths n a m found next i) k)

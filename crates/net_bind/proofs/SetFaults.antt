@@ -20,7 +20,7 @@ use Rattle.net_eval.specs.Values.{value}
 use Rattle.net_eval.specs.Worlds.{World}
 use Rattle.net_bind.specs.declared.given.Given.{Given}
 use Rattle.net_bind.specs.declared.given.Given.TheVariants as given
-use Rattle.net_bind.specs.declared.given.Mention.{Mention}
+use Rattle.net_bind.specs.declared.given.NamedData.{NamedData}
 use Rattle.net_bind.specs.declared.item.Item.{Item}
 use Rattle.net_bind.specs.declared.item.Rows.{Rows}
 use Rattle.net_bind.specs.declared.set_phrase.SetWord.{SetWord}
@@ -157,13 +157,13 @@ module _ (P : Places) where
       finds_if P (has ts (tuple_in row)) _ _ (begins_stands (P Data) word.span h row k)
       (finds_if P (nat_le (length (added ts (tuple_in row))) tuples_limit) _ _ tt (begins_stands (P Data) word.span h row k))
 
-  finds_with_statement : (widths : List ℕ) (n : ℕ) (is_assigned : Bool) (m : Mention) → MentionStands (P Data) m → (found : Option (List Tuple)) → Finds P (with_statement widths n is_assigned m found)
+  finds_with_statement : (widths : List ℕ) (n : ℕ) (is_assigned : Bool) (m : NamedData) → MentionStands (P Data) m → (found : Option (List Tuple)) → Finds P (with_statement widths n is_assigned m found)
   finds_with_statement widths n is_assigned m h found =
       finds_behind P (LinesStand (P Data)) (given_rows widths n m.word m.given) _ (gives_given_rows widths n m.word h.0 m.given h.2) (λ rows k.
       finds_if P (is_assigned || is_some found) _ _ h.0
       (finds_then P (each (with_member m.word) rows []) _ (finds_each_of P (TokensStand (P Data)) (with_member m.word) (finds_with_member m.word h.0) rows k []) (λ ts. tt)))
 
-  finds_given_set : (widths : List ℕ) (n : ℕ) (is_assigned : Bool) (ms : List Mention) → MentionsStand (P Data) ms → Finds P (given_set widths n is_assigned ms)
+  finds_given_set : (widths : List ℕ) (n : ℕ) (is_assigned : Bool) (ms : List NamedData) → MentionsStand (P Data) ms → Finds P (given_set widths n is_assigned ms)
   finds_given_set widths n is_assigned ms h = finds_each_of P (MentionStands (P Data)) (with_statement widths n is_assigned) (finds_with_statement widths n is_assigned) ms h None
 
   -- ---- what phrases say
@@ -228,13 +228,13 @@ module _ (P : Places) where
   finds_allowed name ts [] h = tt
   finds_allowed name ts (p ∷ ps) h = finds_if P (is_allowed ts p.claim) _ _ (finds_allowed name ts ps h.1) h.0
 
-  finds_set_of : (widths : List ℕ) (name : Token) → P Model name.span → (ms : List Mention) → MentionsStand (P Data) ms → (c : Claims) → ClaimsStand c → Finds P (set_of widths name ms c)
+  finds_set_of : (widths : List ℕ) (name : Token) → P Model name.span → (ms : List NamedData) → MentionsStand (P Data) ms → (c : Claims) → ClaimsStand c → Finds P (set_of widths name ms c)
   finds_set_of widths name h ms k c j =
       finds_then P (given_set widths (unwrap_or c.dimension 1) (is_some (assigned c.phrases)) ms) _ (finds_given_set widths (unwrap_or c.dimension 1) (is_some (assigned c.phrases)) ms k) (λ found.
       finds_then P (one_of name (assigned c.phrases) found) _ (finds_one_of name h (assigned c.phrases) found) (λ ts.
       finds_then P (allowed name ts c.phrases) _ (finds_allowed name ts c.phrases j) (λ u. tt)))
 
-  pub finds_bound_set : (w : World) (widths : List ℕ) (name : Token) → P Model name.span → (ps : List Phrase) → PhrasesStand (P Model) ps → (ms : List Mention) → MentionsStand (P Data) ms
+  pub finds_bound_set : (w : World) (widths : List ℕ) (name : Token) → P Model name.span → (ps : List Phrase) → PhrasesStand (P Model) ps → (ms : List NamedData) → MentionsStand (P Data) ms
       → Finds P (bound_set w widths name ps ms)
   finds_bound_set w widths name h ps k ms j =
       finds_behind P ClaimsStand (set_phrases w ps) (set_of widths name ms) (gives_phrases w ps k unclaimed tt) (finds_set_of widths name h ms j)

@@ -29,7 +29,7 @@ use Rattle.net_eval.proofs.Walked.{none_there}
 use Rattle.net_fault.specs.declared.finding.Finding.{Finding}
 use Rattle.net_bind.specs.declared.given.Given.{Given}
 use Rattle.net_bind.specs.declared.given.Given.TheVariants as given
-use Rattle.net_bind.specs.declared.given.Mention.{Mention}
+use Rattle.net_bind.specs.declared.given.NamedData.{NamedData}
 use Rattle.net_bind.specs.declared.param.Gives.TheVariants as gives
 use Rattle.net_bind.specs.BoundParameters.{lone_key, keys_in, key_size, span_or, index_list, phrase_value, Source, source, source_text, source_at, from_source, with_found, with_key, fit_values, untaken, said_of, valued_by, values, filled, with_data, bound_parameter}
 use Rattle.net_bind.specs.Cells.{member_in, tuple_in}
@@ -128,11 +128,11 @@ either_join None b c = refl
 either_join (Some a) b c = refl
 
 -- the rows of all statements, and the first default
-record AddsAll (size : ℕ) (all more : All) (ms : List Mention) : Type 0 where
-  pub values : Adds all.0 more.0 (flat_map (λ (m : Mention). rows_given size m.given) ms)
+record AddsAll (size : ℕ) (all more : All) (ms : List NamedData) : Type 0 where
+  pub values : Adds all.0 more.0 (flat_map (λ (m : NamedData). rows_given size m.given) ms)
   pub default : more.1 ≡ either all.1 (default_given ms)
 
-statements_add : (widths : List ℕ) (n : Option ℕ) (index : List Tuple) (size : ℕ) (a : Bool) (ms : List Mention) (all more : All) → each (with_statement widths n index size a) ms all ≡ Ok more → AddsAll size all more ms
+statements_add : (widths : List ℕ) (n : Option ℕ) (index : List Tuple) (size : ℕ) (a : Bool) (ms : List NamedData) (all more : All) → each (with_statement widths n index size a) ms all ≡ Ok more → AddsAll size all more ms
 statements_add widths n index size a [] all more e =
     let same = is_ok all more e in
     record { values = adds_none all.0 more.0 (ap (λ (z : All). z.0) same); default = ap (λ (z : All). z.1) (sym same) ∙ sym (either_none all.1) }
@@ -144,7 +144,7 @@ statements_add widths n index size a (m ∷ ms) all more e =
     let same = is_ok (t, either all.1 m.default) one l in
     let first : Adds all.0 one.0 (rows_given size m.given) = subst (λ (z : All). Adds all.0 z.0 (rows_given size m.given)) same (taken_adds widths n index size m.word m.given twice all.0 t j) in
     record {
-      values = adds_join all.0 one.0 more.0 (rows_given size m.given) (flat_map (λ (x : Mention). rows_given size x.given) ms) first rest.values;
+      values = adds_join all.0 one.0 more.0 (rows_given size m.given) (flat_map (λ (x : NamedData). rows_given size x.given) ms) first rest.values;
       default = rest.default ∙ ap (λ (z : All). either z.1 (default_given ms)) (sym same) ∙ either_join all.1 m.default (default_given ms);
     }))
 
@@ -242,12 +242,12 @@ keys_filled w at x (r ∷ rows) t u once e =
       others = λ key apart. rest.others key apart.1 ∙ one.others key apart.0;
     })
 
-values_filled : (w : World) (name : Token) (n : Option ℕ) (ps : List Phrase) (x : Source) (rows : List Row) (said : Taken) (t : Table) → IsDistinct same_tuple (keys_of rows) → values w name n ps x rows said ≡ Ok t
-    → AreFilled w x rows said.0 t
-values_filled w name n ps x rows said t once e =
-    then_ok (each (with_key w name.span x) rows said.0) (valued_by w name n ps x rows said) t e (λ u i k.
-    then_ok (fit_values w name n ps (source_text x.1) (source_at name.span x) said.1 u rows) (λ v. Ok u) t k (λ v j l.
-    subst (AreFilled w x rows said.0) (is_ok u t l) (keys_filled w name.span x rows said.0 u once i)))
+values_filled : (w : World) (name : Token) (n : Option ℕ) (ps : List Phrase) (x : Source) (rows : List Row) (data_by_name : Taken) (t : Table) → IsDistinct same_tuple (keys_of rows) → values w name n ps x rows data_by_name ≡ Ok t
+    → AreFilled w x rows data_by_name.0 t
+values_filled w name n ps x rows data_by_name t once e =
+    then_ok (each (with_key w name.span x) rows data_by_name.0) (valued_by w name n ps x rows data_by_name) t e (λ u i k.
+    then_ok (fit_values w name n ps (source_text x.1) (source_at name.span x) data_by_name.1 u rows) (λ v. Ok u) t k (λ v j l.
+    subst (AreFilled w x rows data_by_name.0) (is_ok u t l) (keys_filled w name.span x rows data_by_name.0 u once i)))
 
 -- ---- the parameter
 
@@ -255,7 +255,7 @@ keys_once : (w : World) (b : Option Braces) (k : Keys) → HasSets w → keys_in
 keys_once w None k sets e = subst (λ (z : Keys). IsDistinct same_tuple (keys_of z.rows)) (is_ok lone_key k e) (IsDistinct-cons same_tuple [] [] tt none_there)
 keys_once w (Some b) k sets e = have_distinct_keys w [] b k (keeps_sets w sets) e
 
-table_valued : (w : World) (ws : List ℕ) (name : Token) (ps : List Phrase) (ms : List Mention) (n : Option ℕ) (rows : List Row) (index : List Tuple) (t : Table) → IsDistinct same_tuple (keys_of rows)
+table_valued : (w : World) (ws : List ℕ) (name : Token) (ps : List Phrase) (ms : List NamedData) (n : Option ℕ) (rows : List Row) (index : List Tuple) (t : Table) → IsDistinct same_tuple (keys_of rows)
     → filled w ws name ps ms n rows index ≡ Ok t → AllByRecursion (IsValueAt w ps (values_given (key_count n) ms) ms t) rows
 table_valued w ws name ps ms n rows index t once e =
     then_ok (said_of ws n index (is_some (phrase_value gives.Becomes ps)) ms) (λ all. values w name n ps (source (phrase_value gives.Becomes ps) all.1 (phrase_value gives.Default ps)) rows all.0) t e (λ all i j.
@@ -265,7 +265,7 @@ table_valued w ws name ps ms n rows index t once e =
     subst (λ x. by (values_given (key_count n) ms) x) (ap (λ c. source (phrase_value gives.Becomes ps) c (phrase_value gives.Default ps)) adds.default)
     (subst (λ given. by given (source (phrase_value gives.Becomes ps) all.1 (phrase_value gives.Default ps))) adds.values filled.each))
 
-pub are_valued : (w : World) (ws : List ℕ) (name : Token) (b : Option Braces) (ps : List Phrase) (ms : List Mention) (e : Entry) → HasSets w → bound_parameter w ws name b ps ms ≡ Ok e → IsValued w b ps ms e
+pub are_valued : (w : World) (ws : List ℕ) (name : Token) (b : Option Braces) (ps : List Phrase) (ms : List NamedData) (e : Entry) → HasSets w → bound_parameter w ws name b ps ms ≡ Ok e → IsValued w b ps ms e
 are_valued w ws name b ps ms e sets h =
     then_ok (keys_in w b) _ e h (λ k i o.
     then_ok (index_list (span_or name.span b) k.rows) (with_data w ws name ps ms (key_size b k) k.rows) e o (λ index j l.

@@ -11,7 +11,7 @@ use Rattle.net_eval.specs.Operators.{truth}
 use Rattle.net_eval.specs.Values.{value}
 use Rattle.net_eval.specs.Worlds.{World}
 use Rattle.net_bind.specs.Names.{declared}
-use Rattle.net_bind.specs.Mentions.{Sorted, said}
+use Rattle.net_bind.specs.DataByName.{Sorted, data_by_name}
 use Rattle.net_bind.specs.BoundSets.{bound_set}
 use Rattle.net_bind.specs.BoundParameters.{keys_in, bound_parameter}
 use Rattle.net_bind.specs.Binding.{widths, said_next, declare, judged, hold, checked, check_one, after_checks, with_given, world}
@@ -68,6 +68,6 @@ module _ (P : Places) where
   pub finds_world : (ds : List Declaration) (ss : List Statement) → DeclarationsStand (P Model) ds → StatementsStand (P Data) ss → Finds P (world ds ss)
   unfolding world
   finds_world ds ss h k =
-      finds_behind P (SortedStands (P Data)) (said (declared ds) ss) (with_given ds) (gives_said P (declared ds) ss k) (λ given g.
+      finds_behind P (SortedStands (P Data)) (data_by_name (declared ds) ss) (with_given ds) (gives_said P (declared ds) ss k) (λ given g.
       finds_then P (each (declare given) ds []) (after_checks ds) (finds_declarations given g ds h []) (λ w.
       finds_then P (each (check_one w) ds 0) _ (finds_checks w ds h 0) (λ known. tt)))

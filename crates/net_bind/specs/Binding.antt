@@ -16,9 +16,9 @@ use Rattle.net_eval.specs.Values.{value}
 use Rattle.net_eval.specs.Worlds.{Name, World, key_count, entry_of}
 use Rattle.net_fault.specs.declared.defect.Defect.TheVariants.{CheckFailed}
 use Rattle.net_fault.specs.Outcomes.{Outcome, and_then, each, refused_as}
-use Rattle.net_bind.specs.declared.given.Mention.{Mention}
+use Rattle.net_bind.specs.declared.given.NamedData.{NamedData}
 use Rattle.net_bind.specs.Names.{declared}
-use Rattle.net_bind.specs.Mentions.{Sorted, said}
+use Rattle.net_bind.specs.DataByName.{Sorted, data_by_name}
 use Rattle.net_bind.specs.BoundSets.{bound_set}
 use Rattle.net_bind.specs.BoundParameters.{keys_in, bound_parameter}
 
@@ -31,7 +31,7 @@ abbrev pub widths : World → List ℕ
 widths w = map (λ (e : Name × Entry). width_of e.1) w
 
 -- what is said of the name that is declared next
-abbrev pub said_next : Sorted → World → List Mention
+abbrev pub said_next : Sorted → World → List NamedData
 said_next given w = slice_index_or given (length w) []
 
 abbrev pub with_entry : World → Token → Entry → Outcome World
@@ -75,7 +75,7 @@ with_given ds given = and_then (each (declare given) ds []) (after_checks ds)
 
 -- the world of declarations and statements, or the first fault
 unfoldable pub world : List Declaration → List Statement → Outcome World
-world ds ss = and_then (said (declared ds) ss) (with_given ds)
+world ds ss = and_then (data_by_name (declared ds) ss) (with_given ds)
 
 abbrev pub is_among : List Name → Name → Bool
 is_among [] n = false

@@ -28,7 +28,7 @@ use Rattle.net_eval.specs.Rows.{keys_of}
 use Rattle.net_eval.specs.Sets.{counted}
 use Rattle.net_eval.specs.Values.{value, index}
 use Rattle.net_eval.specs.Worlds.{World, Scope, key_count, reference}
-use Rattle.net_bind.specs.declared.given.Mention.{Mention}
+use Rattle.net_bind.specs.declared.given.NamedData.{NamedData}
 use Rattle.net_bind.specs.declared.param.Gives.{Gives}
 use Rattle.net_bind.specs.declared.param.Gives.TheVariants as gives
 use Rattle.net_bind.specs.Cells.{member_in}
@@ -167,7 +167,7 @@ abbrev pub untaken : All
 untaken = (([], []), None)
 
 -- what statements say, in order
-abbrev pub said_of : List ℕ → Option ℕ → List Tuple → Bool → List Mention → Outcome All
+abbrev pub said_of : List ℕ → Option ℕ → List Tuple → Bool → List NamedData → Outcome All
 said_of widths n index is_assigned ms = each (with_statement widths n index (key_count n) is_assigned) ms untaken
 
 -- its values, and then what its phrases ask of them
@@ -178,14 +178,14 @@ abbrev pub values : World → Token → Option ℕ → List Phrase → Source �
 values w name n ps x rows taken = and_then (each (with_key w name.span x) rows taken.0) (valued_by w name n ps x rows taken)
 
 -- the table: what data say, and then its values
-abbrev pub filled : World → List ℕ → Token → List Phrase → List Mention → Option ℕ → List Row → List Tuple → Outcome Table
+abbrev pub filled : World → List ℕ → Token → List Phrase → List NamedData → Option ℕ → List Row → List Tuple → Outcome Table
 filled w widths name ps ms n rows index =
     and_then (said_of widths n index (is_some (phrase_value gives.Becomes ps)) ms) (λ all.
     values w name n ps (source (phrase_value gives.Becomes ps) all.1 (phrase_value gives.Default ps)) rows all.0)
 
-abbrev pub with_data : World → List ℕ → Token → List Phrase → List Mention → Option ℕ → List Row → List Tuple → Outcome Entry
+abbrev pub with_data : World → List ℕ → Token → List Phrase → List NamedData → Option ℕ → List Row → List Tuple → Outcome Entry
 with_data w widths name ps ms n rows index = and_then (filled w widths name ps ms n rows index) (λ t. Ok (Parameter n index t))
 
-abbrev pub bound_parameter : World → List ℕ → Token → Option Braces → List Phrase → List Mention → Outcome Entry
+abbrev pub bound_parameter : World → List ℕ → Token → Option Braces → List Phrase → List NamedData → Outcome Entry
 bound_parameter w widths name b ps ms =
     and_then (keys_in w b) (λ k. and_then (index_list (span_or name.span b) k.rows) (λ index. with_data w widths name ps ms (key_size b k) k.rows index))

@@ -10,7 +10,7 @@ use Rattle.net_fault.specs.declared.defect.Defect.TheVariants.{NoValue, Restrict
 use Rattle.net_eval.specs.declared.world.Entry.{Entry}
 use Rattle.net_eval.specs.declared.world.Entry.TheVariants.{Set}
 use Rattle.net_eval.specs.Worlds.{World}
-use Rattle.net_bind.specs.declared.given.Mention.{Mention}
+use Rattle.net_bind.specs.declared.given.NamedData.{NamedData}
 use Rattle.net_bind.specs.declared.set_phrase.Claim.{Claim}
 use Rattle.net_bind.specs.declared.set_phrase.Claim.TheVariants as claims
 use Rattle.net_bind.specs.declared.set_phrase.SetPhrase.{SetPhrase}
@@ -36,11 +36,11 @@ abbrev pub allowed : Token → List Tuple → List SetPhrase → Outcome (Unit {
 allowed name ts [] = Ok tt
 allowed name ts (p ∷ ps) = if is_allowed ts p.claim then allowed name ts ps else refused_as Model Restriction p.at (Told name.text)
 
-abbrev pub set_of : List ℕ → Token → List Mention → Claims → Outcome Entry
+abbrev pub set_of : List ℕ → Token → List NamedData → Claims → Outcome Entry
 set_of widths name ms c =
     and_then (given_set widths (unwrap_or c.dimension 1) (is_some (assigned c.phrases)) ms) (λ found.
     and_then (one_of name (assigned c.phrases) found) (λ ts.
     and_then (allowed name ts c.phrases) (λ u. Ok (Set (unwrap_or c.dimension 1) ts))))
 
-abbrev pub bound_set : World → List ℕ → Token → List Phrase → List Mention → Outcome Entry
+abbrev pub bound_set : World → List ℕ → Token → List Phrase → List NamedData → Outcome Entry
 bound_set w widths name ps ms = and_then (set_phrases w ps) (set_of widths name ms)

@@ -1,22 +1,22 @@
 -- The two factors of an expression that is a product by its form, and when they are enough.
-use Rattle.std.specs.Prelude.{ℕ, ◌+◌, ◌*◌, ◌&&◌, Bool, false, List, length, nat_le, Option, None, Some, if◌then◌else◌, codes}
-use Rattle.std.specs.Str.{bytes_eq}
+use Rattle.std.specs.Prelude.{ℕ, ◌+◌, ◌*◌, ◌&&◌, Bool, true, false, List, length, nat_le, Option, None, Some, if◌then◌else◌}
 use Rattle.net_sets.specs.Limits.{arity_limit, tuples_limit}
 use Rattle.net_sets.specs.Operations.{widest, narrowest}
 use Rattle.net_sets.specs.Sets.{Tuple}
-use Rattle.net_tree.specs.declared.expr.Operator.{Operator}
-use Rattle.net_tree.specs.declared.expr.Operator.TheVariants.{One, Two}
+use Rattle.net_tree.specs.declared.operator.BinOp.{BinOp}
+use Rattle.net_tree.specs.declared.operator.BinOp.TheVariants as op
 use Rattle.net_tree.specs.Tree.{Tree, Links, parens, chain, none, link}
-use Rattle.net_eval.specs.Items.{both}
+use Rattle.net_tree.specs.Items.{both}
+use Rattle.net_tree.specs.Operations.{operation}
 use Rattle.net_eval.specs.Sets.{counted}
 
-unfoldable pub is_cross : Operator → Bool
-is_cross (One t) = bytes_eq (codes "cross") t.text
-is_cross (Two t u) = false
+abbrev pub is_cross : BinOp → Bool
+is_cross op.Cross = true
+is_cross _ = false
 
 -- what stands behind a lone `cross`
 abbrev pub behind_cross : Links → Option Tree
-behind_cross (link o y none) = if is_cross o then Some y else None
+behind_cross (link o y none) = if is_cross (operation o) then Some y else None
 behind_cross _ = None
 
 -- the two sides of `A cross B`, in parentheses or not

@@ -1,9 +1,9 @@
 pub mod Cells
 pub mod Names
 pub mod Kept
-pub mod Mentions
+pub mod DataByName
 pub mod Factors
-pub mod Fences
+pub mod Supersets
 pub mod SetPhrases
 pub mod SetData
 pub mod BoundSets

@@ -14,7 +14,7 @@ use Rattle.net_eval.specs.SetValues.{HasSets}
 use Rattle.net_eval.specs.Worlds.{Name, World, entry_of, key_count}
 use Rattle.net_bind.specs.declared.given.Given.{Given}
 use Rattle.net_bind.specs.declared.given.Given.TheVariants as given
-use Rattle.net_bind.specs.declared.given.Mention.{Mention}
+use Rattle.net_bind.specs.declared.given.NamedData.{NamedData}
 use Rattle.net_bind.specs.declared.param.Gives.TheVariants as gives
 use Rattle.net_bind.specs.BoundParameters.{keys_with, keys_in, key_size, phrase_value, Source, source, from_source, bound_parameter}
 use Rattle.net_bind.specs.Cells.{member_in, tuple_in}
@@ -50,16 +50,16 @@ abbrev pub row_value : DataRow → Tuple × Member
 row_value r = (tuple_in r.keys, member_in r.value)
 
 -- what all statements of a parameter give, row by row
-abbrev pub values_given : ℕ → List Mention → Table
-values_given size ms = map row_value (flat_map (λ (m : Mention). rows_given size m.given) ms)
+abbrev pub values_given : ℕ → List NamedData → Table
+values_given size ms = map row_value (flat_map (λ (m : NamedData). rows_given size m.given) ms)
 
 -- the default that data say: the first one
-abbrev pub default_given : List Mention → Option Token
+abbrev pub default_given : List NamedData → Option Token
 default_given [] = None
 default_given (m ∷ ms) = either m.default (default_given ms)
 
 -- what a key has where no row gives it: what stands behind `:=`, else the data's default, else what stands behind `default`, else nothing
-abbrev pub source_of : List Phrase → List Mention → Source
+abbrev pub source_of : List Phrase → List NamedData → Source
 source_of ps ms = source (phrase_value gives.Becomes ps) (default_given ms) (phrase_value gives.Default ps)
 
 -- the value is that of the data's row, else that of the source
@@ -67,12 +67,12 @@ abbrev pub IsValue : Option Member → Outcome (Option Member) → Option Member
 IsValue (Some m) later found = found ≡ Some m
 IsValue None later found = later ≡ Ok found
 
-abbrev pub IsValueAt : World → List Phrase → Table → List Mention → Table → Row → Type 0
-IsValueAt w ps said ms t r = IsValue (at_key said r.key) (from_source w r.scope (source_of ps ms)) (at_key t r.key)
+abbrev pub IsValueAt : World → List Phrase → Table → List NamedData → Table → Row → Type 0
+IsValueAt w ps data_by_name ms t r = IsValue (at_key data_by_name r.key) (from_source w r.scope (source_of ps ms)) (at_key t r.key)
 
 -- a parameter that is bound has at each key of its braces the value of the data's row with this key; where there is no such row, what
 -- stands behind `:=`, the data's default, or what stands behind `default`; and where there is none of these, none
-pub record IsValued (w : World) (b : Option Braces) (ps : List Phrase) (ms : List Mention) (e : Entry) : Type 0 where
+pub record IsValued (w : World) (b : Option Braces) (ps : List Phrase) (ms : List NamedData) (e : Entry) : Type 0 where
   pub keys : Keys
   pub indexed : keys_in w b ≡ Ok keys
   pub index : List Tuple
@@ -81,4 +81,4 @@ pub record IsValued (w : World) (b : Option Braces) (ps : List Phrase) (ms : Lis
   pub at : AllByRecursion (IsValueAt w ps (values_given (key_count (key_size b keys)) ms) ms table) keys.rows
 
 abbrev pub AreValued : Type 0
-AreValued = (w : World) (widths : List ℕ) (name : Token) (b : Option Braces) (ps : List Phrase) (ms : List Mention) (e : Entry) → HasSets w → bound_parameter w widths name b ps ms ≡ Ok e → IsValued w b ps ms e
+AreValued = (w : World) (widths : List ℕ) (name : Token) (b : Option Braces) (ps : List Phrase) (ms : List NamedData) (e : Entry) → HasSets w → bound_parameter w widths name b ps ms ≡ Ok e → IsValued w b ps ms e

@@ -1,6 +1,5 @@
 -- What a parameter's phrases ask of its values.
-use Rattle.std.specs.Prelude.{Bool, true, not, List, [], ◌∷◌, Option, None, Some, codes, if◌then◌else◌, Ok, ℤ, int_lt, int_le}
-use Rattle.std.specs.Str.{bytes_eq}
+use Rattle.std.specs.Prelude.{Bool, true, not, List, [], ◌∷◌, Option, None, Some, if◌then◌else◌, Ok, ℤ, int_lt, int_le}
 use Rattle.net_fault.specs.declared.language.Language.TheVariants.{Model}
 use Rattle.net_fault.specs.declared.span.Span.{Span}
 use Rattle.net_lex.specs.declared.token.Token.{Token}
@@ -15,21 +14,26 @@ use Rattle.net_eval.specs.Operators.{same, belongs}
 use Rattle.net_eval.specs.Values.{value}
 use Rattle.net_eval.specs.Worlds.{World, Scope}
 use Rattle.net_fault.specs.declared.defect.Defect.TheVariants.{Restriction}
-use Rattle.net_bind.specs.declared.restriction.Relation.{Relation}
-use Rattle.net_bind.specs.declared.restriction.Relation.TheVariants as relations
+use Rattle.net_tree.specs.declared.role.Relation.{Relation}
+use Rattle.net_tree.specs.declared.role.Relation.TheVariants as relations
+use Rattle.net_tree.specs.declared.role.Role.{Role}
+use Rattle.net_tree.specs.declared.role.Role.TheVariants as roles
+use Rattle.net_tree.specs.Role.{role_of}
 use Rattle.net_fault.specs.Outcomes.{Outcome, and_then, refused_as}
 
--- how the word of a phrase relates a value to that of its expression, if it does
-unfoldable pub relation : Token → Option Relation
-relation t =
-    if bytes_eq (codes ">=") t.text then Some relations.AtLeast
-    else if bytes_eq (codes "<=") t.text then Some relations.AtMost
-    else if bytes_eq (codes ">") t.text then Some relations.Greater
-    else if bytes_eq (codes "<") t.text then Some relations.Less
-    else if bytes_eq (codes "<>") t.text then Some relations.Unequal
-    else if bytes_eq (codes "!=") t.text then Some relations.Unequal
-    else if bytes_eq (codes "in") t.text then Some relations.Among
-    else None
+-- a phrase restricts a value by any relation but these two, which no phrase has
+abbrev pub restricting : Relation → Option Relation
+restricting relations.Equal = None
+restricting relations.Within = None
+restricting r = Some r
+
+abbrev pub relation_as : Role → Option Relation
+relation_as (roles.Relation r) = restricting r
+relation_as _ = None
+
+-- how the word of a phrase relates a value to that of its expression, if it restricts one
+abbrev pub relation : Token → Option Relation
+relation t = relation_as (role_of t)
 
 abbrev pub ordered : Span → (ℤ → ℤ → Bool) → Member → Value → Outcome Bool
 ordered at holds m v = and_then (number at (One m)) (λ a. and_then (number at v) (λ b. Ok (holds a b)))
@@ -40,8 +44,7 @@ compared relations.Less a b = int_lt a b
 compared relations.AtMost a b = int_le a b
 compared relations.Greater a b = int_lt b a
 compared relations.AtLeast a b = int_le b a
-compared relations.Unequal a b = true
-compared relations.Among a b = true
+compared _ a b = true
 
 -- whether a value is related so to another; comparisons of size need numbers
 abbrev pub related : Span → Relation → Member → Value → Outcome Bool
@@ -50,7 +53,8 @@ related at relations.AtMost m v = ordered at (compared relations.AtMost) m v
 related at relations.Greater m v = ordered at (compared relations.Greater) m v
 related at relations.AtLeast m v = ordered at (compared relations.AtLeast) m v
 related at relations.Unequal m v = and_then (same at (One m) v) (λ b. Ok (not b))
-related at relations.Among m v = belongs at (One m) v
+related at relations.In m v = belongs at (One m) v
+related at _ m v = Ok true
 
 abbrev pub holding : Span → Detail → Bool → Outcome (Unit {0})
 holding at detail b = if b then Ok tt else refused_as Model Restriction at detail

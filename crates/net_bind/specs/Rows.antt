@@ -15,7 +15,7 @@ use Rattle.net_fault.specs.declared.fault.Fault.{Fault}
 use Rattle.net_fault.specs.declared.fault.Fault.TheVariants.{OutOfMemory, At}
 use Rattle.net_bind.specs.declared.given.Given.{Given}
 use Rattle.net_bind.specs.declared.given.Given.TheVariants as given
-use Rattle.net_bind.specs.declared.given.Mention.{Mention}
+use Rattle.net_bind.specs.declared.given.NamedData.{NamedData}
 use Rattle.net_bind.specs.Cells.{member_in, tuple_in}
 use Rattle.net_fault.specs.Outcomes.{Outcome, and_then, each, refused_as, refused_there}
 use Rattle.net_bind.specs.SetData.{begins_at, whole_groups, cut, told_by, agrees, doubled}
@@ -95,7 +95,7 @@ abbrev pub All : Type 0
 All = Taken × Option Token
 
 -- a statement more: its shape, then that there is no `:=` and no second default, then its rows
-abbrev pub with_statement : List ℕ → Option ℕ → List Tuple → ℕ → Bool → Mention → All → Outcome All
+abbrev pub with_statement : List ℕ → Option ℕ → List Tuple → ℕ → Bool → NamedData → All → Outcome All
 with_statement widths n index size is_assigned m all =
     and_then (taken widths n index size m.word m.given (is_assigned || (is_some m.default && is_some all.1)) all.0) (λ t. Ok (t, either all.1 m.default))
 

@@ -11,7 +11,7 @@ use Rattle.net_fault.specs.declared.detail.Detail.TheVariants.{Told}
 use Rattle.net_fault.specs.declared.defect.Defect.TheVariants.{Arity, TooMany, DoubleValue}
 use Rattle.net_bind.specs.declared.given.Given.{Given}
 use Rattle.net_bind.specs.declared.given.Given.TheVariants as given
-use Rattle.net_bind.specs.declared.given.Mention.{Mention}
+use Rattle.net_bind.specs.declared.given.NamedData.{NamedData}
 use Rattle.net_bind.specs.declared.item.Item.{Item}
 use Rattle.net_bind.specs.declared.item.Rows.{Rows}
 use Rattle.net_bind.specs.Cells.{tuple_in}
@@ -102,12 +102,12 @@ abbrev pub doubled : {A : Type 0} → Token → Outcome A
 doubled word = refused_as Data DoubleValue word.span (Told word.text)
 
 -- a statement that gives the set, unless it is given already
-abbrev pub with_statement : List ℕ → ℕ → Bool → Mention → Option (List Tuple) → Outcome (Option (List Tuple))
+abbrev pub with_statement : List ℕ → ℕ → Bool → NamedData → Option (List Tuple) → Outcome (Option (List Tuple))
 with_statement widths n is_assigned m found =
     and_then (given_rows widths n m.word m.given) (λ rows.
     if is_assigned || is_some found then doubled m.word
     else and_then (each (with_member m.word) rows []) (λ ts. Ok (Some ts)))
 
 -- the set that the statements give, if they give one
-abbrev pub given_set : List ℕ → ℕ → Bool → List Mention → Outcome (Option (List Tuple))
+abbrev pub given_set : List ℕ → ℕ → Bool → List NamedData → Outcome (Option (List Tuple))
 given_set widths n is_assigned ms = each (with_statement widths n is_assigned) ms None

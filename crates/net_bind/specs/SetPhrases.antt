@@ -4,7 +4,7 @@ use Rattle.net_fault.specs.declared.span.Span.{Span}
 use Rattle.net_sets.specs.declared.member.Member.TheVariants.{Number}
 use Rattle.net_sets.specs.Sets.{Tuple}
 use Rattle.net_tree.specs.declared.role.Begins.TheVariants as begins
-use Rattle.net_tree.specs.declared.role.Relates.TheVariants as relates
+use Rattle.net_tree.specs.declared.role.Relation.TheVariants as relations
 use Rattle.net_tree.specs.declared.role.Role.{Role}
 use Rattle.net_tree.specs.declared.role.Role.TheVariants as roles
 use Rattle.net_tree.specs.Role.{role_of}
@@ -25,7 +25,7 @@ use Rattle.net_fault.specs.Outcomes.{Outcome, and_then, refused, each}
 
 abbrev pub set_word : Role → SetWord
 set_word (roles.Phrase begins.Dimen) = words.Dimension
-set_word (roles.Relation relates.Within) = words.Within
+set_word (roles.Relation relations.Within) = words.Within
 set_word roles.Becomes = words.Becomes
 set_word _ = words.Other
 

@@ -6,7 +6,7 @@ ghost use Rattle.net_bind.specs.Binding as binding;
 ghost use Rattle.net_fault.specs.Outcomes.{Answers, each};
 
 use crate::indexing::keys_in;
-use net_eval::{Row, Seen, World, holds};
+use net_eval::{Env, Row, World, holds};
 use net_fault::{Defect, Detail, Fault, Language};
 use net_tree::{Braces, Decl, Expr, span_of};
 use std::alloc::Global;
@@ -14,14 +14,14 @@ use std::alloc::Global;
 /// A condition holds at each key.
 fn hold<'s>(
     alloc: Global,
-    seen: &Seen<'_, 's>,
+    env: &Env<'_, 's>,
     condition: &Expr<'s>,
     rows: &[Row<'s>],
 ) -> Result<(), Fault>
-    ensures { Answers (binding.hold seen.now (tree condition.now) rows.now) result }
+    ensures { Answers (binding.hold env.now (tree condition.now) rows.now) result }
 {
     for row in rows {
-        if !holds(alloc, seen, &row.scope, condition)? {
+        if !holds(alloc, env, &row.scope, condition)? {
             return Err(Fault::of_text(
                 Language::Model,
                 Defect::CheckFailed,
@@ -35,14 +35,14 @@ fn hold<'s>(
 
 fn checked<'s>(
     alloc: Global,
-    seen: &Seen<'_, 's>,
+    env: &Env<'_, 's>,
     braces: &Option<Braces<'s>>,
     condition: &Expr<'s>,
 ) -> Result<(), Fault>
-    ensures { Answers (binding.checked seen.now (indexing_of braces.now) (tree condition.now)) result }
+    ensures { Answers (binding.checked env.now (indexing_of braces.now) (tree condition.now)) result }
 {
-    let keys = keys_in(alloc, seen, braces)?;
-    hold(alloc, seen, condition, keys.rows.as_slice())
+    let keys = keys_in(alloc, env, braces)?;
+    hold(alloc, env, condition, keys.rows.as_slice())
 }
 
 fn check_one<'s>(
@@ -59,7 +59,7 @@ fn check_one<'s>(
         Decl::Set(_, _, _, _) => Ok(known + 1),
         Decl::Param(_, _, _, _, _) => Ok(known + 1),
         Decl::Check(_, braces, _, condition, _) => {
-            checked(alloc, &Seen::new(world, known), braces, condition)?;
+            checked(alloc, &Env::new(world, known), braces, condition)?;
             Ok(known)
         }
         Decl::Node(_, _, _, _, _) => Ok(known),

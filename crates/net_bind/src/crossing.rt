@@ -8,25 +8,22 @@ ghost use Rattle.net_eval.specs.Sets as sets;
 ghost use Rattle.net_eval.specs.Values.{value as value_of};
 ghost use Rattle.net_eval.specs.declared.value.Value.TheVariants.{Many};
 ghost use Rattle.net_bind.specs.Factors as forms;
+ghost use Rattle.net_tree.specs.Operations.{operation};
 
-use crate::fence::Fence;
 use crate::stored::{StoredSet, unboxed, value_of};
-use net_eval::{Seen, Value};
-use net_sets::{Held, TupleSet, narrowest, widest};
-use net_tree::{Expr, Link, Operator};
+use crate::superset::Superset;
+use net_eval::{Env, Value};
+use net_sets::{Cow, TupleSet, narrowest, widest};
+use net_tree::{BinOp, Expr, Link, Operator};
 use std::alloc::Global;
 
 /// How many tuples a set may have.
 const TUPLES_LIMIT: usize = 1_000_000;
 
-#[tactic(auto, unfolding(crate::specs::Factors::is_cross))]
 fn is_cross(operator: &Operator<'_>) -> bool
-    ensures { result ≡ forms.is_cross operator.now }
+    ensures { result ≡ forms.is_cross (operation operator.now) }
 {
-    match operator {
-        Operator::One(token) => token.text.as_str() == "cross",
-        Operator::Two(_, _) => false,
-    }
+    matches!(operator.op(), BinOp::Cross)
 }
 
 /// What stands behind a lone `cross`.
@@ -70,7 +67,7 @@ fn factors<'a, 's>(expr: &'a Expr<'s>) -> Option<(&'a Expr<'s>, &'a Expr<'s>)>
 fn stored<'w, 's>(
     alloc: Global,
     dimension: Option<u8>,
-    set: Held<'w, 's>,
+    set: Cow<'w, 's>,
 ) -> Option<(Option<u8>, StoredSet<'w, 's>)>
     ensures { IfSome result (λ p. (p.0 ≡ dimension) × (p.1 ≡ set.entry)) }
 {
@@ -93,12 +90,12 @@ fn set_in<'w, 's>(alloc: Global, value: Value<'w, 's>) -> Option<(Option<u8>, St
 /// The set that an expression is, if it is one.
 fn set_of<'w, 's>(
     alloc: Global,
-    seen: &Seen<'w, 's>,
+    env: &Env<'w, 's>,
     expr: &Expr<'s>,
 ) -> Option<(Option<u8>, StoredSet<'w, 's>)>
-    ensures { IfSome result (λ p. value_of seen.now [] (tree expr.now) ≡ Ok (Many p.0 p.1)) }
+    ensures { IfSome result (λ p. value_of env.now [] (tree expr.now) ≡ Ok (Many p.0 p.1)) }
 {
-    match value_of(alloc, seen, expr) {
+    match value_of(alloc, env, expr) {
         Ok(value) => set_in(alloc, unboxed(value)),
         Err(_fault) => None,
     }
@@ -130,13 +127,13 @@ fn product<'w, 's>(
     first: StoredSet<'w, 's>,
     e: Option<u8>,
     second: StoredSet<'w, 's>,
-) -> Option<(u8, Fence<'w, 's>)>
+) -> Option<(u8, Superset<'w, 's>)>
     ensures { IfSome result (λ p. (at : Place) → sets.cross at d first.entry e second.entry ≡ Ok (Many (Some p.0) p.1)) }
 {
     if can_part(d, first.get(), e, second.get()) {
         let size = counted(d) + counted(e);
         let width = widest(first.get());
-        Some((size as u8, Fence::crossed(width, first, second)))
+        Some((size as u8, Superset::crossed(width, first, second)))
     } else {
         None
     }
@@ -145,13 +142,13 @@ fn product<'w, 's>(
 /// The product that an expression is by its form, and its dimension, where it can be kept as its factors.
 pub(crate) fn crossed<'w, 's>(
     alloc: Global,
-    seen: &Seen<'w, 's>,
+    env: &Env<'w, 's>,
     expr: &Expr<'s>,
-) -> Option<(u8, Fence<'w, 's>)>
-    ensures { IfSome result (λ p. value_of seen.now [] (tree expr.now) ≡ Ok (Many (Some p.0) p.1)) }
+) -> Option<(u8, Superset<'w, 's>)>
+    ensures { IfSome result (λ p. value_of env.now [] (tree expr.now) ≡ Ok (Many (Some p.0) p.1)) }
 {
     let (left, right) = factors(expr)?;
-    let (d, first) = set_of(alloc, seen, left)?;
-    let (e, second) = set_of(alloc, seen, right)?;
+    let (d, first) = set_of(alloc, env, left)?;
+    let (e, second) = set_of(alloc, env, right)?;
     product(d, first, e, second)
 }

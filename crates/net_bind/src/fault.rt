@@ -2,11 +2,8 @@ ghost use Rattle.std.specs.Prelude.{◌≡◌, IfOk};
 ghost use Rattle.net_fault.specs.Outcomes.{found};
 ghost use Rattle.net_fault.specs.declared.detail.Detail.TheVariants.{Told};
 ghost use Rattle.net_fault.specs.declared.fault.Fault.TheVariants.{At};
-ghost use Rattle.net_eval.specs.Worlds as worlds;
 
-use net_eval::told_reference;
 use net_fault::{Defect, Detail, Fault, Language, Span};
-use net_sets::Tuple;
 use net_views::Excerpt;
 use std::alloc::{AllocError, Global};
 
@@ -21,21 +18,5 @@ pub(crate) fn refuse_name(
     ensures { IfOk result (λ f. f ≡ At (found text defect at (Told name.now))) }
 {
     let detail = Detail::of_name(alloc, name)?;
-    Ok(Fault::of_text(text, defect, at, detail))
-}
-
-/// A fault of a parameter at a key, or of its value there; the parameter is told with the key.
-pub(crate) fn refuse_key(
-    alloc: Global,
-    text: Language,
-    defect: Defect,
-    at: Span,
-    name: &Excerpt<'_>,
-    keys: Option<u8>,
-    key: &Tuple<'_>,
-) -> Result<Fault, AllocError>
-    ensures { IfOk result (λ f. f ≡ At (found text defect at (worlds.reference name.now keys key.now))) }
-{
-    let detail = told_reference(alloc, name, keys, key)?;
     Ok(Fault::of_text(text, defect, at, detail))
 }

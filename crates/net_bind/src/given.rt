@@ -68,7 +68,7 @@ pub(crate) enum Given<'m, 't, 's> {
 
 /// A name in a data statement, and what the statement says of it.
 #[derive(Drop)]
-pub(crate) struct Mention<'m, 't, 's> {
+pub(crate) struct NamedData<'m, 't, 's> {
     pub(crate) word: Cell<'t, 's>,
     /// The value that stands behind `default`.
     pub(crate) default: Option<Cell<'t, 's>>,
@@ -77,30 +77,30 @@ pub(crate) struct Mention<'m, 't, 's> {
 
 /// What is said of one declared name, statement by statement; contracts see the list of it.
 #[derive(Drop)]
-pub(crate) struct Mentions<'m, 't, 's> {
-    pub(crate) mentions: Vec<Mention<'m, 't, 's>>,
+pub(crate) struct DataFor<'m, 't, 's> {
+    pub(crate) named_data: Vec<NamedData<'m, 't, 's>>,
 }
 
-impl<'m, 't, 's> Model for Mentions<'m, 't, 's> {
+impl<'m, 't, 's> Model for DataFor<'m, 't, 's> {
     ghost use Rattle.std.specs.Prelude.{List};
-    ghost use Rattle.net_bind.specs.declared.given.Mention.{Mention};
+    ghost use Rattle.net_bind.specs.declared.given.NamedData.{NamedData};
 
-    ghost Value = { List Mention };
+    ghost Value = { List NamedData };
 
-    ghost view = { λ all. all.mentions.items };
+    ghost view = { λ all. all.named_data.items };
 }
 
-impl<'m, 't, 's> Mentions<'m, 't, 's> {
-    pub(crate) fn push(&mut self, mention: Mention<'m, 't, 's>) -> Result<(), AllocError>
-        ensures { OnOk result (self.new ≡ self.old ++ mention.entry ∷ []) }
+impl<'m, 't, 's> DataFor<'m, 't, 's> {
+    pub(crate) fn push(&mut self, named: NamedData<'m, 't, 's>) -> Result<(), AllocError>
+        ensures { OnOk result (self.new ≡ self.old ++ named.entry ∷ []) }
     {
-        self.mentions.push(mention)?;
+        self.named_data.push(named)?;
         Ok(())
     }
 
-    pub(crate) fn as_slice(&self) -> &[Mention<'m, 't, 's>]
+    pub(crate) fn as_slice(&self) -> &[NamedData<'m, 't, 's>]
         ensures { result.now ≡ self.now }
     {
-        self.mentions.as_slice()
+        self.named_data.as_slice()
     }
 }

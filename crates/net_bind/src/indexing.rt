@@ -9,7 +9,7 @@ ghost use Rattle.net_eval.specs.Rows.{keys_of};
 ghost use Rattle.net_bind.specs.BoundParameters as bound;
 ghost use Rattle.net_fault.specs.Outcomes.{Answers};
 
-use net_eval::{Keys, Row, Scope, Seen, index_of, set_of_braces};
+use net_eval::{Env, Keys, Row, Scope, index_of, set_of_braces};
 use net_fault::{Defect, Fault, Span};
 use net_sets::{IndexedSet, SetFault, SharedSet, Tuple, TupleSet};
 use net_tree::{Braces, braces_span};
@@ -34,14 +34,14 @@ fn lone_key<'s>(alloc: Global) -> Result<Keys<'s>, Fault>
 /// The keys that braces index by.
 pub(crate) fn keys_in<'s>(
     alloc: Global,
-    seen: &Seen<'_, 's>,
+    env: &Env<'_, 's>,
     braces: &Option<Braces<'s>>,
 ) -> Result<Keys<'s>, Fault>
-    ensures { Answers (bound.keys_in seen.now (indexing_of braces.now)) result }
+    ensures { Answers (bound.keys_in env.now (indexing_of braces.now)) result }
 {
     match braces {
         None => lone_key(alloc),
-        Some(braces) => Ok(index_of(alloc, seen, &Scope::new(alloc), braces)?),
+        Some(braces) => Ok(index_of(alloc, env, &Scope::new(alloc), braces)?),
     }
 }
 
@@ -118,13 +118,10 @@ fn listed<'s>(alloc: Global, at: Span, rows: &[Row<'s>]) -> Result<SharedSet<'s>
     }
 }
 
-fn source_of<'w, 's>(
-    seen: &Seen<'w, 's>,
-    braces: &Option<Braces<'s>>,
-) -> Option<&'w IndexedSet<'s>> {
+fn source_of<'w, 's>(env: &Env<'w, 's>, braces: &Option<Braces<'s>>) -> Option<&'w IndexedSet<'s>> {
     match braces {
         None => None,
-        Some(braces) => set_of_braces(seen, braces),
+        Some(braces) => set_of_braces(env, braces),
     }
 }
 
@@ -132,14 +129,14 @@ fn source_of<'w, 's>(
 /// stands once.
 pub(crate) fn index_list<'s>(
     alloc: Global,
-    seen: &Seen<'_, 's>,
+    env: &Env<'_, 's>,
     at: Span,
     braces: &Option<Braces<'s>>,
     rows: &[Row<'s>],
 ) -> Result<SharedSet<'s>, Fault>
     ensures { Answers (bound.index_list at rows.now) result }
 {
-    match source_of(seen, braces) {
+    match source_of(env, braces) {
         None => listed(alloc, at, rows),
         Some(set) => {
             if are_tuples(rows, set.set().as_slice()) {

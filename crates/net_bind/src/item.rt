@@ -4,7 +4,7 @@ ghost use Rattle.std.specs.Prelude.{◌≡◌, ◌++◌, ◌∷◌, [], IfOk};
 ghost use Rattle.net_bind.specs.SetData as set_data;
 
 use crate::cell::Cell;
-use crate::laid::cells_of;
+use crate::flattened::cells_of;
 use net_data::{Cells, Members};
 use net_views::Items;
 use std::alloc::{AllocError, Global};

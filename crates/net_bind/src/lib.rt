@@ -1,18 +1,18 @@
 //! Models with their tables: declared sets and parameters get their members and values.
 #![tactic(auto)]
 
+mod by_name;
 mod cell;
 mod check;
 mod crossing;
+mod earlier;
 mod fault;
-mod fence;
+mod flattened;
 mod given;
 mod group;
 mod indexing;
 mod item;
-mod laid;
 mod laws;
-mod mention;
 mod names;
 mod param;
 mod param_data;
@@ -22,6 +22,7 @@ mod set;
 mod set_phrase;
 mod source;
 mod stored;
+mod superset;
 mod walked;
 mod world;
 

@@ -9,16 +9,18 @@ ghost use Rattle.net_bind.specs.declared.param.Gives.TheVariants as gives;
 ghost use Rattle.net_fault.specs.Outcomes.{Answers, Leaves};
 
 use crate::cell::Cell;
-use crate::given::Mention;
+use crate::earlier::Earlier;
+use crate::given::NamedData;
 use crate::indexing::{index_list, key_size, keys_in, span_or};
 use crate::param_data::said_of;
-use crate::restriction::restricted;
-use crate::source::{source, source_at, source_text, with_keys};
+use crate::restriction::{KeyedValue, restricted};
+use crate::row::Values;
+use crate::source::{source_at, source_of, source_text, with_keys};
 use crate::stored::boxed;
-use net_eval::{Entry, Row, Seen};
+use net_eval::{Entry, Env, Row};
 use net_fault::{Defect, Detail, Fault, Language, Span};
 use net_lex::Token;
-use net_sets::{Member, SharedSet, Table, TupleSet};
+use net_sets::{Member, SharedSet, Table};
 use net_tree::{Begins, Body, Braces, Expr, Phrase, Role, role_of};
 use net_views::Boxed;
 use std::alloc::{AllocError, Global};
@@ -124,28 +126,53 @@ fn fit_kind(
     }
 }
 
+/// A declared parameter whose keys are known.
+#[derive(Drop)]
+pub(crate) struct Parameter<'a, 's> {
+    pub(crate) name: &'a Token<'s>,
+    /// How many members a key has, if there are keys.
+    pub(crate) keys: Option<u8>,
+    /// The index list.
+    pub(crate) index: &'a SharedSet<'s>,
+    pub(crate) phrases: &'a [Phrase<'s>],
+}
+
+/// The values of a parameter, and where they stand: the first in cells of data, the others where a text gives them.
+#[derive(Drop)]
+struct PlacedValues<'a, 's> {
+    table: &'a Table<'s>,
+    /// The cells, row by row.
+    cells: &'a [Span],
+    text: Language,
+    at: Span,
+}
+
 /// What is asked of the value of a key, which is probably at this place of the index list.
 fn fit_value<'s>(
     alloc: Global,
-    seen: &Seen<'_, 's>,
-    name: &Token<'s>,
-    keys: Option<u8>,
-    phrases: &[Phrase<'s>],
-    text: Language,
-    at: Span,
-    places: &[Span],
+    env: &Env<'_, 's>,
+    parameter: &Parameter<'_, 's>,
+    values: &PlacedValues<'_, 's>,
     near: usize,
-    table: &Table<'s>,
     row: &Row<'s>,
 ) -> Result<(), Fault>
-    ensures { Answers (bound.fit_row seen.now name.now keys (map phrase_of phrases.now) text at places.now table.now row.now) result }
+    ensures { Answers (bound.fit_row env.now parameter.now.name.now parameter.now.keys (map phrase_of parameter.now.phrases.now) values.now.text
+        values.now.at values.now.cells.now values.now.table.now row.now) result }
 {
+    let table = values.table;
     match table.get_near(near, &row.key) {
         None => Ok(()),
         Some(member) => {
-            let cell = cell_of(places, table.row_near(near, &row.key));
-            fit_kind(takes_texts(phrases), text, at, cell, member)?;
-            restricted(alloc, seen, &name.text, keys, row, member, phrases)
+            let phrases = parameter.phrases;
+            let cell = cell_of(values.cells, table.row_near(near, &row.key));
+            fit_kind(takes_texts(phrases), values.text, values.at, cell, member)?;
+            let keyed = KeyedValue {
+                name: &parameter.name.text,
+                keys: parameter.keys,
+                row,
+                member,
+            };
+            restricted(alloc, env, &keyed, phrases)
         }
     }
 }
@@ -153,193 +180,122 @@ fn fit_value<'s>(
 /// Each value, in the order of the index list.
 fn fit_values<'s>(
     alloc: Global,
-    seen: &Seen<'_, 's>,
-    name: &Token<'s>,
-    keys: Option<u8>,
-    phrases: &[Phrase<'s>],
-    text: Language,
-    at: Span,
-    places: &[Span],
-    table: &Table<'s>,
+    env: &Env<'_, 's>,
+    parameter: &Parameter<'_, 's>,
+    values: &PlacedValues<'_, 's>,
     rows: &[Row<'s>],
 ) -> Result<(), Fault>
-    ensures { Answers (bound.fit_values seen.now name.now keys (map phrase_of phrases.now) text at places.now table.now rows.now) result }
+    ensures { Answers (bound.fit_values env.now parameter.now.name.now parameter.now.keys (map phrase_of parameter.now.phrases.now) values.now.text
+        values.now.at values.now.cells.now values.now.table.now rows.now) result }
 {
     let mut near: usize = 0;
     for row in rows {
-        fit_value(
-            alloc, seen, name, keys, phrases, text, at, places, near, table, row,
-        )?;
+        fit_value(alloc, env, parameter, values, near, row)?;
         near = near.wrapping_add(1);
     }
     Ok(())
 }
 
-/// Its values, and then what its phrases ask of them.
+/// Its values, where its phrases and the data's default give those that data leave open, and then what its phrases ask of them.
 fn with_values<'s>(
     alloc: Global,
-    seen: &Seen<'_, 's>,
-    name: &Token<'s>,
-    keys: Option<u8>,
-    phrases: &[Phrase<'s>],
-    expr: Option<&Expr<'s>>,
-    word: Option<&Cell<'_, 's>>,
-    rows: &[Row<'s>],
-    places: &[Span],
-    table: &mut Table<'s>,
-) -> Result<(), Fault>
-    ensures { Leaves (bound.values seen.now name.now keys (map phrase_of phrases.now) (
-      bound.as_tree (option_copied expr.entry),
-      option_copied
-          word.entry,
-    ) rows.now (table.old, places.now)) result table.new }
-{
-    with_keys(alloc, seen, name.span, expr, word, rows, table)?;
-    let at = source_at(name.span, expr, word);
-    fit_values(
-        alloc,
-        seen,
-        name,
-        keys,
-        phrases,
-        source_text(word),
-        at,
-        places,
-        table,
-        rows,
-    )
-}
-
-/// The same, with what gives the values that data leave open by its phrases and by the data's default.
-fn with_source<'s>(
-    alloc: Global,
-    seen: &Seen<'_, 's>,
-    name: &Token<'s>,
-    keys: Option<u8>,
-    phrases: &[Phrase<'s>],
+    env: &Env<'_, 's>,
+    parameter: &Parameter<'_, 's>,
     default: Option<&Cell<'_, 's>>,
     rows: &[Row<'s>],
-    places: &[Span],
-    table: &mut Table<'s>,
+    values: &mut Values<'s>,
 ) -> Result<(), Fault>
-    ensures { Leaves (bound.values seen.now name.now keys (map phrase_of phrases.now) (bound.source
-        (bound.phrase_value gives.Becomes (map phrase_of phrases.now)) (option_copied default.entry) (bound.phrase_value gives.Default
-        (map phrase_of phrases.now))) rows.now (table.old, places.now)) result table.new }
+    ensures { Leaves (bound.values env.now parameter.now.name.now parameter.now.keys (map phrase_of parameter.now.phrases.now) (bound.source
+        (bound.phrase_value gives.Becomes (map phrase_of parameter.now.phrases.now)) (option_copied default.entry) (bound.phrase_value gives.Default
+        (map phrase_of parameter.now.phrases.now))) rows.now values.old) result values.new.0 }
 {
-    let assigned = phrase_value(Gives::Becomes, phrases);
-    let otherwise = phrase_value(Gives::Default, phrases);
-    let (expr, word) = source(assigned, default, otherwise);
-    with_values(
-        alloc, seen, name, keys, phrases, expr, word, rows, places, table,
-    )
+    let assigned = phrase_value(Gives::Becomes, parameter.phrases);
+    let otherwise = phrase_value(Gives::Default, parameter.phrases);
+    let source = source_of(parameter.name.span, assigned, default, otherwise);
+    with_keys(alloc, env, &source, rows, &mut values.table)?;
+    let placed = PlacedValues {
+        table: &values.table,
+        cells: values.places.as_slice(),
+        text: source_text(&source),
+        at: source_at(&source),
+    };
+    fit_values(alloc, env, parameter, &placed, rows)
 }
 
 /// The entry of a parameter.
 fn parameter_entry<'s>(
     alloc: Global,
-    keys: Option<u8>,
-    index: SharedSet<'s>,
+    parameter: &Parameter<'_, 's>,
     table: Table<'s>,
 ) -> Result<Boxed<Entry<'s>>, AllocError>
-    ensures { IfOk result (λ e. e ≡ AParameter keys index.entry table.entry) }
+    ensures { IfOk result (λ e. e ≡ AParameter parameter.now.keys parameter.now.index.now table.entry) }
 {
-    boxed(alloc, Entry::Parameter(keys, index, table))
+    let index = parameter.index.again()?;
+    boxed(alloc, Entry::Parameter(parameter.keys, index, table))
 }
 
-/// What data say, and then its values, in a table that has none yet.
+/// What data say, and then its values, where it has none yet.
 fn filled<'s>(
     alloc: Global,
-    seen: &Seen<'_, 's>,
-    widths: &[usize],
-    name: &Token<'s>,
-    phrases: &[Phrase<'s>],
-    mentions: &[Mention<'_, '_, 's>],
-    keys: Option<u8>,
+    earlier: &Earlier<'_, 's>,
+    parameter: &Parameter<'_, 's>,
+    named_data: &[NamedData<'_, '_, 's>],
     rows: &[Row<'s>],
-    index: &TupleSet<'s>,
-    table: &mut Table<'s>,
+    values: &mut Values<'s>,
 ) -> Result<(), Fault>
-    requires { table.old ≡ [] }
-    ensures { Leaves (bound.filled seen.now widths.now name.now (map phrase_of phrases.now) mentions.now keys rows.now index.now) result table.new }
+    requires { values.old ≡ ([], []) }
+    ensures { Leaves (bound.filled earlier.now.env earlier.now.widths.now parameter.now.name.now (map phrase_of parameter.now.phrases.now)
+        named_data.now parameter.now.keys rows.now parameter.now.index.now) result values.new.0 }
 {
-    let mut places = Vec::new(alloc);
-    let is_assigned = phrase_value(Gives::Becomes, phrases).is_some();
-    let default = said_of(
+    let is_assigned = phrase_value(Gives::Becomes, parameter.phrases).is_some();
+    let widths = earlier.widths;
+    let default = said_of(alloc, widths, parameter, is_assigned, named_data, values)?;
+    with_values(
         alloc,
-        widths,
-        keys,
-        index,
-        is_assigned,
-        mentions,
-        table,
-        &mut places,
-    )?;
-    with_source(
-        alloc,
-        seen,
-        name,
-        keys,
-        phrases,
+        &earlier.env,
+        parameter,
         default.as_ref(),
         rows,
-        &places,
-        table,
+        values,
     )
 }
 
 fn with_data<'s>(
     alloc: Global,
-    seen: &Seen<'_, 's>,
-    widths: &[usize],
-    name: &Token<'s>,
-    phrases: &[Phrase<'s>],
-    mentions: &[Mention<'_, '_, 's>],
-    keys: Option<u8>,
+    earlier: &Earlier<'_, 's>,
+    parameter: &Parameter<'_, 's>,
+    named_data: &[NamedData<'_, '_, 's>],
     rows: &[Row<'s>],
-    index: SharedSet<'s>,
 ) -> Result<Boxed<Entry<'s>>, Fault>
-    ensures { Answers (bound.with_data seen.now widths.now name.now (map phrase_of phrases.now) mentions.now keys rows.now index.entry) result }
+    ensures { Answers (bound.with_data earlier.now.env earlier.now.widths.now parameter.now.name.now (map phrase_of parameter.now.phrases.now)
+        named_data.now parameter.now.keys rows.now parameter.now.index.now) result }
 {
-    let mut table = Table::over(alloc, index.again()?)?;
-    filled(
-        alloc,
-        seen,
-        widths,
-        name,
-        phrases,
-        mentions,
-        keys,
-        rows,
-        index.get(),
-        &mut table,
-    )?;
-    Ok(parameter_entry(alloc, keys, index, table)?)
+    let mut values = Values::over(alloc, parameter.index.again()?)?;
+    filled(alloc, earlier, parameter, named_data, rows, &mut values)?;
+    Ok(parameter_entry(alloc, parameter, values.into_table())?)
 }
 
 /// What a declared parameter is: its index list, then what data say, then its values, then what its phrases ask of them.
 pub(crate) fn bound_parameter<'s>(
     alloc: Global,
-    seen: &Seen<'_, 's>,
-    widths: &[usize],
+    earlier: &Earlier<'_, 's>,
     name: &Token<'s>,
     braces: &Option<Braces<'s>>,
     phrases: &[Phrase<'s>],
-    mentions: &[Mention<'_, '_, 's>],
+    named_data: &[NamedData<'_, '_, 's>],
 ) -> Result<Boxed<Entry<'s>>, Fault>
-    ensures { Answers (bound.bound_parameter seen.now widths.now name.now (indexing_of braces.now) (map phrase_of phrases.now) mentions.now) result }
+    ensures { Answers (bound.bound_parameter earlier.now.env earlier.now.widths.now name.now (indexing_of braces.now) (map phrase_of phrases.now)
+        named_data.now) result }
 {
-    let keys = keys_in(alloc, seen, braces)?;
+    let env = &earlier.env;
+    let keys = keys_in(alloc, env, braces)?;
     let rows = keys.rows.as_slice();
-    let index = index_list(alloc, seen, span_or(name.span, braces), braces, rows)?;
-    with_data(
-        alloc,
-        seen,
-        widths,
+    let index = index_list(alloc, env, span_or(name.span, braces), braces, rows)?;
+    let parameter = Parameter {
         name,
+        keys: key_size(braces, &keys),
+        index: &index,
         phrases,
-        mentions,
-        key_size(braces, &keys),
-        rows,
-        index,
-    )
+    };
+    with_data(alloc, earlier, &parameter, named_data, rows)
 }

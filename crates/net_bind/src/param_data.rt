@@ -7,12 +7,12 @@ ghost use Rattle.net_bind.specs.Rows as rows;
 ghost use Rattle.net_fault.specs.Outcomes.{Answers, Leaves, each};
 
 use crate::cell::Cell;
-use crate::given::{Given, Grid, Groups, Line, Mention};
+use crate::given::{Given, Grid, Groups, Line, NamedData};
 use crate::group::{cut, whole_groups};
-use crate::row::{pair_of, with_cell, with_groups};
+use crate::param::Parameter;
+use crate::row::{NamedParameter, Values, pair_of, with_cell, with_groups};
 use crate::set::{agrees, doubled, told_by};
-use net_fault::{Defect, Fault, Span};
-use net_sets::{Table, TupleSet};
+use net_fault::{Defect, Fault};
 use std::alloc::Global;
 
 fn has_two(word: &Cell<'_, '_>, keys: usize) -> Result<(), Fault>
@@ -28,85 +28,53 @@ fn has_two(word: &Cell<'_, '_>, keys: usize) -> Result<(), Fault>
 /// The cells of a table's row, column by column.
 fn across<'t, 's>(
     alloc: Global,
-    word: &Cell<'_, 's>,
-    keys: Option<u8>,
-    index: &TupleSet<'s>,
-    transposed: bool,
+    parameter: &NamedParameter<'_, '_, 's>,
+    grid: &Grid<'_, 't, 's>,
     row: &Cell<'t, 's>,
-    columns: &[Cell<'t, 's>],
     cells: &[Cell<'t, 's>],
-    table: &mut Table<'s>,
-    places: &mut Vec<Span>,
+    values: &mut Values<'s>,
 ) -> Result<(), Fault>
-    ensures { Leaves (rows.across word.now keys index.now transposed row.now columns.now cells.now (table.old, places.old.items)) result (
-      table.new,
-      places.new.items,
-    ) }
+    ensures { Leaves (rows.across parameter.now.word.now parameter.now.keys parameter.now.index.now grid.now.transposed row.now grid.now.columns
+        cells.now values.old) result values.new }
 {
-    for (place, column) in columns.iter().enumerate() {
+    for (place, column) in grid.columns.cells().iter().enumerate() {
         let Some(cell) = cells.get(place) else {
             return Ok(());
         };
-        let key = pair_of(alloc, transposed, row, column)?;
-        with_cell(
-            alloc,
-            word,
-            keys,
-            index,
-            key.as_slice(),
-            cell,
-            table,
-            places,
-        )?;
+        let key = pair_of(alloc, grid.transposed, row, column)?;
+        with_cell(alloc, parameter, key.as_slice(), cell, values)?;
     }
     Ok(())
 }
 
 fn with_line<'t, 's>(
     alloc: Global,
-    word: &Cell<'_, 's>,
-    keys: Option<u8>,
-    index: &TupleSet<'s>,
+    parameter: &NamedParameter<'_, '_, 's>,
     grid: &Grid<'_, 't, 's>,
     line: &[Cell<'t, 's>],
-    table: &mut Table<'s>,
-    places: &mut Vec<Span>,
+    values: &mut Values<'s>,
 ) -> Result<(), Fault>
-    ensures { Leaves (rows.with_line word.now keys index.now grid.now.transposed grid.now.columns line.now (table.old, places.old.items)) result
-        (table.new, places.new.items) }
+    ensures { Leaves (rows.with_line parameter.now.word.now parameter.now.keys parameter.now.index.now grid.now.transposed grid.now.columns line.now
+        values.old) result values.new }
 {
     match line {
         [] => Ok(()),
-        [row, cells @ ..] => across(
-            alloc,
-            word,
-            keys,
-            index,
-            grid.transposed,
-            row,
-            grid.columns.cells(),
-            cells,
-            table,
-            places,
-        ),
+        [row, cells @ ..] => across(alloc, parameter, grid, row, cells, values),
     }
 }
 
 fn with_lines<'t, 's>(
     alloc: Global,
-    word: &Cell<'_, 's>,
-    keys: Option<u8>,
-    index: &TupleSet<'s>,
+    parameter: &NamedParameter<'_, '_, 's>,
     grid: &Grid<'_, 't, 's>,
     lines: &[Line<'_, 't, 's>],
-    table: &mut Table<'s>,
-    places: &mut Vec<Span>,
+    values: &mut Values<'s>,
 ) -> Result<(), Fault>
-    ensures { Leaves (each (rows.with_line word.now keys index.now grid.now.transposed grid.now.columns) lines.now (table.old, places.old.items))
-        result (table.new, places.new.items) }
+    ensures { Leaves (each (rows.with_line parameter.now.word.now parameter.now.keys parameter.now.index.now grid.now.transposed grid.now.columns)
+        lines.now values.old) result values.new }
 {
     for line in lines {
-        with_line(alloc, word, keys, index, grid, line.cells(), table, places)?;
+        with_line(alloc, parameter, grid, line.cells(), values)?;
     }
     Ok(())
 }
@@ -115,18 +83,16 @@ fn with_lines<'t, 's>(
 fn grouped<'t, 's>(
     alloc: Global,
     widths: &[usize],
-    keys: Option<u8>,
-    index: &TupleSet<'s>,
-    size: usize,
-    word: &Cell<'t, 's>,
+    parameter: &NamedParameter<'_, 't, 's>,
     groups: &Groups<'_, 't, 's>,
     is_doubled: bool,
-    table: &mut Table<'s>,
-    places: &mut Vec<Span>,
+    values: &mut Values<'s>,
 ) -> Result<(), Fault>
-    ensures { Leaves (rows.taken widths.now keys index.now size word.now (given.Groups groups.now) is_doubled (table.old, places.old.items)) result
-        (table.new, places.new.items) }
+    ensures { Leaves (rows.taken widths.now parameter.now.keys parameter.now.index.now (key_count parameter.now.keys) parameter.now.word.now
+        (given.Groups groups.now) is_doubled values.old) result values.new }
 {
+    let word = parameter.word;
+    let size = key_count(parameter.keys);
     agrees(word, told_by(widths, groups.leader, size), size)?;
     let cells = cut(alloc, size, groups.values, groups.cells.cells())?;
     whole_groups(word.token().span, size, groups.values, cells.as_slice())?;
@@ -135,82 +101,58 @@ fn grouped<'t, 's>(
     }
     with_groups(
         alloc,
-        word,
-        keys,
-        index,
+        parameter,
         size,
         groups.place,
         cells.as_slice(),
-        table,
-        places,
+        values,
     )
 }
 
 /// A table, whose shape is judged before its rows are taken.
 fn gridded<'t, 's>(
     alloc: Global,
-    keys: Option<u8>,
-    index: &TupleSet<'s>,
-    size: usize,
-    word: &Cell<'t, 's>,
+    parameter: &NamedParameter<'_, 't, 's>,
     grid: &Grid<'_, 't, 's>,
     is_doubled: bool,
-    table: &mut Table<'s>,
-    places: &mut Vec<Span>,
+    values: &mut Values<'s>,
 ) -> Result<(), Fault>
-    ensures { Leaves (rows.taken [] keys index.now size word.now (given.Grid grid.now) is_doubled (table.old, places.old.items)) result (
-      table.new,
-      places.new.items,
-    ) }
+    ensures { Leaves (rows.taken [] parameter.now.keys parameter.now.index.now (key_count parameter.now.keys) parameter.now.word.now
+        (given.Grid grid.now) is_doubled values.old) result values.new }
 {
-    has_two(word, size)?;
+    let word = parameter.word;
+    has_two(word, key_count(parameter.keys))?;
     let columns = grid.columns.cells();
     let lines = cut(alloc, 1, columns.len(), grid.cells.cells())?;
     whole_groups(word.token().span, 1, columns.len(), lines.as_slice())?;
     if is_doubled {
         return Err(doubled(alloc, word)?);
     }
-    with_lines(
-        alloc,
-        word,
-        keys,
-        index,
-        grid,
-        lines.as_slice(),
-        table,
-        places,
-    )
+    with_lines(alloc, parameter, grid, lines.as_slice(), values)
 }
 
-fn taken<'s>(
+/// What a statement gives to the parameter that it names.
+fn taken<'t, 's>(
     alloc: Global,
     widths: &[usize],
-    keys: Option<u8>,
-    index: &TupleSet<'s>,
-    size: usize,
-    mention: &Mention<'_, '_, 's>,
+    parameter: &NamedParameter<'_, 't, 's>,
+    said: &Given<'_, 't, 's>,
     is_doubled: bool,
-    table: &mut Table<'s>,
-    places: &mut Vec<Span>,
+    values: &mut Values<'s>,
 ) -> Result<(), Fault>
-    ensures { Leaves (rows.taken widths.now keys index.now size mention.now.word mention.now.given is_doubled (table.old, places.old.items)) result
-        (table.new, places.new.items) }
+    ensures { Leaves (rows.taken widths.now parameter.now.keys parameter.now.index.now (key_count parameter.now.keys) parameter.now.word.now said.now
+        is_doubled values.old) result values.new }
 {
-    let word = &mention.word;
-    match &mention.given {
+    match said {
         Given::Members(_) => {
             if is_doubled {
-                Err(doubled(alloc, word)?)
+                Err(doubled(alloc, parameter.word)?)
             } else {
                 Ok(())
             }
         }
-        Given::Groups(groups) => grouped(
-            alloc, widths, keys, index, size, word, groups, is_doubled, table, places,
-        ),
-        Given::Grid(grid) => gridded(
-            alloc, keys, index, size, word, grid, is_doubled, table, places,
-        ),
+        Given::Groups(groups) => grouped(alloc, widths, parameter, groups, is_doubled, values),
+        Given::Grid(grid) => gridded(alloc, parameter, grid, is_doubled, values),
     }
 }
 
@@ -230,24 +172,24 @@ fn either<'t, 's>(before: Option<Cell<'t, 's>>, now: &Option<Cell<'t, 's>>) -> O
 pub(crate) fn said_of<'t, 's>(
     alloc: Global,
     widths: &[usize],
-    keys: Option<u8>,
-    index: &TupleSet<'s>,
+    parameter: &Parameter<'_, 's>,
     is_assigned: bool,
-    mentions: &[Mention<'_, 't, 's>],
-    table: &mut Table<'s>,
-    places: &mut Vec<Span>,
+    named_data: &[NamedData<'_, 't, 's>],
+    values: &mut Values<'s>,
 ) -> Result<Option<Cell<'t, 's>>, Fault>
-    ensures { rows.Gives (each (rows.with_statement widths.now keys index.now (key_count keys) is_assigned) mentions.now
-        ((table.old, places.old.items), None)) result (table.new, places.new.items) }
+    ensures { rows.Gives (each (rows.with_statement widths.now parameter.now.keys parameter.now.index.now (key_count parameter.now.keys) is_assigned)
+        named_data.now (values.old, None)) result values.new }
 {
-    let size = key_count(keys);
     let mut default: Option<Cell<'t, 's>> = None;
-    for mention in mentions {
-        let is_doubled = is_assigned || (mention.default.is_some() && default.is_some());
-        taken(
-            alloc, widths, keys, index, size, mention, is_doubled, table, places,
-        )?;
-        default = either(default, &mention.default);
+    for named in named_data {
+        let is_doubled = is_assigned || (named.default.is_some() && default.is_some());
+        let here = NamedParameter {
+            word: &named.word,
+            keys: parameter.keys,
+            index: parameter.index.get(),
+        };
+        taken(alloc, widths, &here, &named.given, is_doubled, values)?;
+        default = either(default, &named.default);
     }
     Ok(default)
 }

@@ -1,54 +1,42 @@
 //! What a parameter's phrases ask of its values: `>= 0`, `in S`.
 
-ghost use Rattle.std.specs.Prelude.{◌≡◌, map};
+ghost use Rattle.std.specs.Prelude.{◌≡◌, IfOk, map};
 ghost use Rattle.net_tree.specs.View.{tree, body_of, phrase_of};
-ghost use Rattle.net_fault.specs.Outcomes.{Answers};
+ghost use Rattle.net_fault.specs.Outcomes.{Answers, found};
+ghost use Rattle.net_fault.specs.declared.defect.Defect.TheVariants.{Restriction};
+ghost use Rattle.net_fault.specs.declared.fault.Fault.TheVariants.{At};
+ghost use Rattle.net_fault.specs.declared.language.Language.TheVariants.{Model};
 ghost use Rattle.net_bind.specs.Restrictions as restrictions;
 ghost use Rattle.net_eval.specs.Numbers as numbers;
 ghost use Rattle.net_eval.specs.Sets.{fits};
 ghost use Rattle.net_eval.specs.Worlds as worlds;
 ghost use Rattle.net_eval.specs.declared.value.Value.TheVariants.{One};
-ghost use Rattle.net_bind.specs.declared.restriction.Relation.TheVariants as relations;
+ghost use Rattle.net_tree.specs.declared.role.Relation.TheVariants as relations;
 
-use crate::fault::refuse_key;
-use net_eval::{Row, Seen, Value, evaluate};
+use net_eval::{Env, Row, Value, evaluate, told_reference};
 use net_fault::{Defect, Fault, Language, Span};
 use net_lex::Token;
 use net_sets::{Member, Tuple};
-use net_tree::{Body, Expr, Phrase, span_of};
+use net_tree::{Body, Expr, Phrase, Relation, Role, role_of, span_of};
 use net_views::Excerpt;
-use std::alloc::Global;
+use std::alloc::{AllocError, Global};
 
-/// How a phrase relates a value to that of its expression.
-#[derive(Clone, Copy)]
-pub(crate) enum Relation {
-    /// `<`
-    Less,
-    /// `<=`
-    AtMost,
-    /// `>`
-    Greater,
-    /// `>=`
-    AtLeast,
-    /// `<>`, `!=`
-    Unequal,
-    /// `in`
-    Among,
-}
-
-#[tactic(auto, unfolding(crate::specs::Restrictions::relation))]
+/// How a phrase relates a value to that of its expression, if it restricts one.
 fn relation_of(word: &Token<'_>) -> Option<Relation>
     ensures { result ≡ restrictions.relation word.now }
 {
-    match word.text.as_str() {
-        ">=" => Some(Relation::AtLeast),
-        "<=" => Some(Relation::AtMost),
-        ">" => Some(Relation::Greater),
-        "<" => Some(Relation::Less),
-        "<>" => Some(Relation::Unequal),
-        "!=" => Some(Relation::Unequal),
-        "in" => Some(Relation::Among),
+    match role_of(word) {
+        Role::Relation(relation) => restricting(relation),
         _ => None,
+    }
+}
+
+fn restricting(relation: Relation) -> Option<Relation>
+    ensures { result ≡ restrictions.restricting relation }
+{
+    match relation {
+        Relation::Equal | Relation::Within => None,
+        _ => Some(relation),
     }
 }
 
@@ -80,8 +68,7 @@ fn compared(relation: Relation, a: &i64, b: &i64) -> bool
         Relation::AtMost => *a <= *b,
         Relation::Greater => *a > *b,
         Relation::AtLeast => *a >= *b,
-        Relation::Unequal => true,
-        Relation::Among => true,
+        Relation::Equal | Relation::Unequal | Relation::In | Relation::Within => true,
     }
 }
 
@@ -119,7 +106,7 @@ fn is_single(dimension: Option<u8>) -> bool
 }
 
 fn among<'s>(at: Span, member: &Member<'s>, value: &Value<'_, 's>) -> Result<bool, Fault>
-    ensures { Answers (restrictions.related at relations.Among member.now value.now) result }
+    ensures { Answers (restrictions.related at relations.In member.now value.now) result }
 {
     match value {
         Value::Many(dimension, set) => {
@@ -150,63 +137,65 @@ fn related<'s>(
         Relation::Greater => ordered(at, relation, member, value),
         Relation::AtLeast => ordered(at, relation, member, value),
         Relation::Unequal => unequal(at, member, value),
-        Relation::Among => among(at, member, value),
+        Relation::In => among(at, member, value),
+        Relation::Equal | Relation::Within => Ok(true),
     }
+}
+
+/// The value of a parameter at a key.
+#[derive(Drop)]
+pub(crate) struct KeyedValue<'a, 's> {
+    /// The name of the parameter.
+    pub(crate) name: &'a Excerpt<'s>,
+    /// How many members its keys have, if it has keys.
+    pub(crate) keys: Option<u8>,
+    pub(crate) row: &'a Row<'s>,
+    pub(crate) member: &'a Member<'s>,
+}
+
+/// A fault of a value that a phrase does not allow; the parameter is told with the key.
+fn refuse_value(alloc: Global, at: Span, keyed: &KeyedValue<'_, '_>) -> Result<Fault, AllocError>
+    ensures { IfOk result (λ f. f ≡ At (found Model Restriction at (worlds.reference keyed.now.name.now keyed.now.keys keyed.now.row.now.key))) }
+{
+    let detail = told_reference(alloc, keyed.name, keyed.keys, &keyed.row.key)?;
+    Ok(Fault::of_text(Language::Model, Defect::Restriction, at, detail))
 }
 
 fn restricted_by<'s>(
     alloc: Global,
-    seen: &Seen<'_, 's>,
-    name: &Excerpt<'s>,
-    keys: Option<u8>,
-    row: &Row<'s>,
-    member: &Member<'s>,
+    env: &Env<'_, 's>,
+    keyed: &KeyedValue<'_, 's>,
     relation: Option<Relation>,
     expr: &Expr<'s>,
 ) -> Result<(), Fault>
-    ensures { Answers (restrictions.restricted_by seen.now row.now.scope (worlds.reference name.now keys row.now.key) member.now relation (tree
-        expr.now)) result }
+    ensures { Answers (restrictions.restricted_by env.now keyed.now.row.now.scope (worlds.reference keyed.now.name.now keyed.now.keys
+        keyed.now.row.now.key) keyed.now.member.now relation (tree expr.now)) result }
 {
     let Some(relation) = relation else {
         return Ok(());
     };
-    let value = evaluate(alloc, seen, &row.scope, expr)?;
+    let value = evaluate(alloc, env, &keyed.row.scope, expr)?;
     let at = span_of(expr);
-    if related(at, relation, member, &value)? {
+    if related(at, relation, keyed.member, &value)? {
         Ok(())
     } else {
-        let defect = Defect::Restriction;
-        Err(refuse_key(alloc, Language::Model, defect, at, name, keys, &row.key)?)
+        Err(refuse_value(alloc, at, keyed)?)
     }
 }
 
 fn restricted_in<'s>(
     alloc: Global,
-    seen: &Seen<'_, 's>,
-    name: &Excerpt<'s>,
-    keys: Option<u8>,
-    row: &Row<'s>,
-    member: &Member<'s>,
+    env: &Env<'_, 's>,
+    keyed: &KeyedValue<'_, 's>,
     word: &Token<'s>,
     body: &Body<'s>,
 ) -> Result<(), Fault>
-    ensures { Answers (restrictions.restricted_in seen.now row.now.scope (worlds.reference name.now keys row.now.key) member.now word.now (body_of
-        body.now)) result }
+    ensures { Answers (restrictions.restricted_in env.now keyed.now.row.now.scope (worlds.reference keyed.now.name.now keyed.now.keys
+        keyed.now.row.now.key) keyed.now.member.now word.now (body_of body.now)) result }
 {
     match body {
         Body::Plain => Ok(()),
-        Body::Valued(expr) => {
-            restricted_by(
-                alloc,
-                seen,
-                name,
-                keys,
-                row,
-                member,
-                relation_of(word),
-                expr,
-            )
-        }
+        Body::Valued(expr) => restricted_by(alloc, env, keyed, relation_of(word), expr),
         Body::Priced(_, _) => Ok(()),
     }
 }
@@ -214,27 +203,15 @@ fn restricted_in<'s>(
 /// A value is as each phrase asks, one after the other.
 pub(crate) fn restricted<'s>(
     alloc: Global,
-    seen: &Seen<'_, 's>,
-    name: &Excerpt<'s>,
-    keys: Option<u8>,
-    row: &Row<'s>,
-    member: &Member<'s>,
+    env: &Env<'_, 's>,
+    keyed: &KeyedValue<'_, 's>,
     phrases: &[Phrase<'s>],
 ) -> Result<(), Fault>
-    ensures { Answers (restrictions.restricted seen.now row.now.scope (worlds.reference name.now keys row.now.key) member.now (map phrase_of
-        phrases.now)) result }
+    ensures { Answers (restrictions.restricted env.now keyed.now.row.now.scope (worlds.reference keyed.now.name.now keyed.now.keys
+        keyed.now.row.now.key) keyed.now.member.now (map phrase_of phrases.now)) result }
 {
     for phrase in phrases {
-        restricted_in(
-            alloc,
-            seen,
-            name,
-            keys,
-            row,
-            member,
-            &phrase.word,
-            &phrase.body,
-        )?;
+        restricted_in(alloc, env, keyed, &phrase.word, &phrase.body)?;
     }
     Ok(())
 }

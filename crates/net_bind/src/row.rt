@@ -1,21 +1,86 @@
 //! Rows of a parameter's data, each a key and its value.
 
-ghost use Rattle.std.specs.Prelude.{◌≡◌, ◌+◌, IfOk, None, Some, slice_get};
+ghost use Rattle.std.specs.Prelude.{◌≡◌, ◌+◌, [], IfOk, None, Some, slice_get};
 ghost use Rattle.std.specs.Option.{option_copied};
 ghost use Rattle.net_fault.specs.declared.defect.Defect.TheVariants.{TooMany};
 ghost use Rattle.net_fault.specs.declared.fault.Fault.TheVariants.{At};
+ghost use Rattle.net_fault.specs.declared.language.Language.TheVariants.{Data};
 ghost use Rattle.net_sets.specs.Sets.{at_key};
+ghost use Rattle.net_eval.specs.Worlds as worlds;
 ghost use Rattle.net_bind.specs.Rows as rows;
-ghost use Rattle.net_fault.specs.Outcomes.{Leaves, each, bare};
+ghost use Rattle.net_fault.specs.Outcomes.{Leaves, each, bare, found};
 
 use crate::cell::{Cell, tuple_in};
-use crate::fault::refuse_key;
 use crate::given::Line;
 use crate::group::{begins_at, front, is_point};
+use net_eval::told_reference;
 use net_fault::{Defect, Detail, Fault, Language, Span};
-use net_sets::{Member, SetFault, Table, Tuple, TupleSet};
+use net_sets::{Member, SetFault, SharedSet, Table, Tuple, TupleSet};
 use net_views::Items;
 use std::alloc::{AllocError, Global};
+use std::marker::Model;
+
+/// The values of a parameter so far, and where each that data give stands. Contracts see the rows of the table, and the places.
+#[derive(Drop)]
+pub(crate) struct Values<'s> {
+    pub(crate) table: Table<'s>,
+    pub(crate) places: Vec<Span>,
+}
+
+impl<'s> Model for Values<'s> {
+    ghost use Rattle.net_bind.specs.Rows.{Taken};
+
+    ghost Value = { Taken };
+
+    ghost view = { λ v. (v.table, v.places.items) };
+}
+
+impl<'s> Values<'s> {
+    /// No values at keys of an index list.
+    pub(crate) fn over(alloc: Global, index: SharedSet<'s>) -> Result<Values<'s>, AllocError>
+        ensures { IfOk result (λ v. v ≡ ([], [])) }
+    {
+        Ok(Values {
+            table: Table::over(alloc, index)?,
+            places: Vec::new(alloc),
+        })
+    }
+
+    pub(crate) fn into_table(self) -> Table<'s>
+        ensures { result ≡ self.entry.0 }
+    {
+        let Values {
+            table,
+            places: _places,
+        } = self;
+        table
+    }
+}
+
+/// A parameter where a statement names it.
+#[derive(Drop)]
+pub(crate) struct NamedParameter<'a, 't, 's> {
+    pub(crate) word: &'a Cell<'t, 's>,
+    /// How many members a key has, if there are keys.
+    pub(crate) keys: Option<u8>,
+    /// The index list.
+    pub(crate) index: &'a TupleSet<'s>,
+}
+
+/// A fault of a row; the parameter is told with the key.
+fn refuse_row(
+    alloc: Global,
+    parameter: &NamedParameter<'_, '_, '_>,
+    defect: Defect,
+    at: Span,
+    key: &Tuple<'_>,
+) -> Result<Fault, AllocError>
+    ensures { IfOk result (λ f. f ≡ At (found Data defect at (worlds.reference parameter.now.word.now.text parameter.now.keys key.now))) }
+{
+    let name = &parameter.word.token().text;
+    let detail = told_reference(alloc, name, parameter.keys, key)?;
+    Ok(Fault::of_text(Language::Data, defect, at, detail))
+}
 
 /// A value more, of which there are not too many; its key is probably at this place of the index list.
 pub(crate) fn with_value<'s>(
@@ -45,80 +110,70 @@ fn too_many(text: Language, at: Span) -> Fault
 /// A row for a key that has no value yet, and is in the index list.
 fn with_row<'s>(
     alloc: Global,
-    word: &Cell<'_, 's>,
-    keys: Option<u8>,
-    index: &TupleSet<'s>,
+    parameter: &NamedParameter<'_, '_, 's>,
     cells: &[Cell<'_, 's>],
     value: &Cell<'_, 's>,
-    table: &mut Table<'s>,
-    places: &mut Vec<Span>,
+    values: &mut Values<'s>,
 ) -> Result<(), Fault>
-    ensures { Leaves (rows.with_row word.now keys index.now cells.now value.now (table.old, places.old.items)) result (table.new, places.new.items) }
+    ensures { Leaves (rows.with_row parameter.now.word.now parameter.now.keys parameter.now.index.now cells.now value.now values.old) result values.new }
 {
     let key = tuple_in(cells);
     let at = begins_at(value.token().span, cells);
-    let name = &word.token().text;
-    let place = index.position_near(table.next(), &key);
+    let place = parameter.index.position_near(values.table.next(), &key);
     let near = place.unwrap_or(0);
-    if table.get_near(near, &key).is_some() {
+    if values.table.get_near(near, &key).is_some() {
         let defect = Defect::DoubleValue;
-        return Err(refuse_key(alloc, Language::Data, defect, at, name, keys, &key)?);
+        return Err(refuse_row(alloc, parameter, defect, at, &key)?);
     }
     if place.is_none() {
         let defect = Defect::OutsideSet;
-        return Err(refuse_key(alloc, Language::Data, defect, at, name, keys, &key)?);
+        return Err(refuse_row(alloc, parameter, defect, at, &key)?);
     }
-    with_value(Language::Data, at, near, &key, value.member(), table)?;
-    places.push(value.token().span)?;
+    with_value(
+        Language::Data,
+        at,
+        near,
+        &key,
+        value.member(),
+        &mut values.table,
+    )?;
+    values.places.push(value.token().span)?;
     Ok(())
 }
 
 /// A cell that gives a value; a point gives none.
 pub(crate) fn with_cell<'s>(
     alloc: Global,
-    word: &Cell<'_, 's>,
-    keys: Option<u8>,
-    index: &TupleSet<'s>,
+    parameter: &NamedParameter<'_, '_, 's>,
     cells: &[Cell<'_, 's>],
     value: &Cell<'_, 's>,
-    table: &mut Table<'s>,
-    places: &mut Vec<Span>,
+    values: &mut Values<'s>,
 ) -> Result<(), Fault>
-    ensures { Leaves (rows.with_cell word.now keys index.now cells.now (Some value.now) (table.old, places.old.items)) result (table.new, places.new.items) }
+    ensures { Leaves (rows.with_cell parameter.now.word.now parameter.now.keys parameter.now.index.now cells.now (Some value.now) values.old) result
+        values.new }
 {
     if is_point(value.token().kind) {
         Ok(())
     } else {
-        with_row(alloc, word, keys, index, cells, value, table, places)
+        with_row(alloc, parameter, cells, value, values)
     }
 }
 
 /// A group: the members of a key, and values of which one is meant.
 fn with_group<'s>(
     alloc: Global,
-    word: &Cell<'_, 's>,
-    keys: Option<u8>,
-    index: &TupleSet<'s>,
+    parameter: &NamedParameter<'_, '_, 's>,
     size: usize,
     place: usize,
     group: &[Cell<'_, 's>],
-    table: &mut Table<'s>,
-    places: &mut Vec<Span>,
+    values: &mut Values<'s>,
 ) -> Result<(), Fault>
-    ensures { Leaves (rows.with_group word.now keys index.now size place group.now (table.old, places.old.items)) result (table.new, places.new.items) }
+    ensures { Leaves (rows.with_group parameter.now.word.now parameter.now.keys parameter.now.index.now size place group.now values.old) result
+        values.new }
 {
     match value_at(size, place, group) {
         None => Ok(()),
-        Some(value) => with_cell(
-            alloc,
-            word,
-            keys,
-            index,
-            front(size, group),
-            value,
-            table,
-            places,
-        ),
+        Some(value) => with_cell(alloc, parameter, front(size, group), value, values),
     }
 }
 
@@ -140,29 +195,17 @@ fn value_at<'c, 't, 's>(
 /// A statement of groups.
 pub(crate) fn with_groups<'s>(
     alloc: Global,
-    word: &Cell<'_, 's>,
-    keys: Option<u8>,
-    index: &TupleSet<'s>,
+    parameter: &NamedParameter<'_, '_, 's>,
     size: usize,
     place: usize,
     groups: &[Line<'_, '_, 's>],
-    table: &mut Table<'s>,
-    places: &mut Vec<Span>,
+    values: &mut Values<'s>,
 ) -> Result<(), Fault>
-    ensures { Leaves (each (rows.with_group word.now keys index.now size place) groups.now (table.old, places.old.items)) result (table.new, places.new.items) }
+    ensures { Leaves (each (rows.with_group parameter.now.word.now parameter.now.keys parameter.now.index.now size place) groups.now values.old) result
+        values.new }
 {
     for group in groups {
-        with_group(
-            alloc,
-            word,
-            keys,
-            index,
-            size,
-            place,
-            group.cells(),
-            table,
-            places,
-        )?;
+        with_group(alloc, parameter, size, place, group.cells(), values)?;
     }
     Ok(())
 }

@@ -14,14 +14,15 @@ ghost use Rattle.net_bind.specs.SetData as set_data;
 ghost use Rattle.net_fault.specs.Outcomes.{Answers, Leaves, each, found};
 
 use crate::cell::{Cell, tuple_in};
+use crate::earlier::Earlier;
 use crate::fault::refuse_name;
-use crate::given::{Given, Groups, Mention};
+use crate::given::{Given, Groups, NamedData};
 use crate::group::{all_of_size, begins_at, cut, keys_of, whole_groups};
 use crate::item::set_rows;
 use crate::set_phrase::{Claim, Claims, SetPhrase, assigned, set_phrases};
 use crate::stored::{boxed, unboxed};
 use net_data::Members;
-use net_eval::{Entry, Seen};
+use net_eval::Entry;
 use net_fault::{Defect, Fault, Language};
 use net_lex::Token;
 use net_sets::{IndexedSet, SetFault, TupleSet};
@@ -100,13 +101,13 @@ fn given_rows<'t, 's>(
     alloc: Global,
     widths: &[usize],
     dimension: usize,
-    mention: &Mention<'_, 't, 's>,
+    named: &NamedData<'_, 't, 's>,
 ) -> Result<Items<Items<Cell<'t, 's>>>, Fault>
-    ensures { Answers (set_data.given_rows widths.now dimension mention.now.word mention.now.given) result }
+    ensures { Answers (set_data.given_rows widths.now dimension named.now.word named.now.given) result }
 {
-    match &mention.given {
-        Given::Members(members) => member_rows(alloc, dimension, &mention.word, members),
-        Given::Groups(groups) => key_rows(alloc, widths, dimension, &mention.word, groups),
+    match &named.given {
+        Given::Members(members) => member_rows(alloc, dimension, &named.word, members),
+        Given::Groups(groups) => key_rows(alloc, widths, dimension, &named.word, groups),
         Given::Grid(_) => Ok(Items::new(Vec::new(alloc))),
     }
 }
@@ -157,16 +158,16 @@ fn with_statement<'s>(
     widths: &[usize],
     dimension: usize,
     is_assigned: bool,
-    mention: &Mention<'_, '_, 's>,
+    named: &NamedData<'_, '_, 's>,
     found: Option<Boxed<TupleSet<'s>>>,
 ) -> Result<Option<Boxed<TupleSet<'s>>>, Fault>
-    ensures { Answers (set_data.with_statement widths.now dimension is_assigned mention.now found.entry) result }
+    ensures { Answers (set_data.with_statement widths.now dimension is_assigned named.now found.entry) result }
 {
-    let rows = given_rows(alloc, widths, dimension, mention)?;
+    let rows = given_rows(alloc, widths, dimension, named)?;
     if is_given(is_assigned, &found) {
-        Err(doubled(alloc, &mention.word)?)
+        Err(doubled(alloc, &named.word)?)
     } else {
-        Ok(Some(members_of(alloc, &mention.word, rows.as_slice())?))
+        Ok(Some(members_of(alloc, &named.word, rows.as_slice())?))
     }
 }
 
@@ -176,13 +177,13 @@ fn given_set<'s>(
     widths: &[usize],
     dimension: usize,
     is_assigned: bool,
-    mentions: &[Mention<'_, '_, 's>],
+    named_data: &[NamedData<'_, '_, 's>],
 ) -> Result<Option<Boxed<TupleSet<'s>>>, Fault>
-    ensures { Answers (set_data.given_set widths.now dimension is_assigned mentions.now) result }
+    ensures { Answers (set_data.given_set widths.now dimension is_assigned named_data.now) result }
 {
     let mut found = None;
-    for mention in mentions {
-        found = with_statement(alloc, widths, dimension, is_assigned, mention, found)?;
+    for named in named_data {
+        found = with_statement(alloc, widths, dimension, is_assigned, named, found)?;
     }
     Ok(found)
 }
@@ -213,7 +214,7 @@ fn is_allowed<'s>(set: &TupleSet<'s>, claim: &Claim<'_, 's>) -> bool
     ensures { result ≡ bound.is_allowed set.now claim.now }
 {
     match claim {
-        Claim::Within(_, fence) => fence.holds(set),
+        Claim::Within(_, superset) => superset.contains_all(set),
         Claim::Nothing => true,
         Claim::Dimension(_) => true,
         Claim::Becomes(_, _) => true,
@@ -261,10 +262,10 @@ fn set_of<'s>(
     is_walked: bool,
     widths: &[usize],
     name: &Token<'s>,
-    mentions: &[Mention<'_, '_, 's>],
+    named_data: &[NamedData<'_, '_, 's>],
     claims: &Claims<'_, 's>,
 ) -> Result<Boxed<Entry<'s>>, Fault>
-    ensures { Answers (bound.set_of widths.now name.now mentions.now claims.now) result }
+    ensures { Answers (bound.set_of widths.now name.now named_data.now claims.now) result }
 {
     let phrases = claims.phrases.as_slice();
     let dimension = claims.dimension.unwrap_or(1);
@@ -274,7 +275,7 @@ fn set_of<'s>(
         widths,
         usize::from(dimension),
         assigned.is_some(),
-        mentions,
+        named_data,
     )?;
     let set = one_of(alloc, name, assigned, found)?;
     allowed(alloc, name, set.get(), phrases)?;
@@ -285,14 +286,13 @@ fn set_of<'s>(
 pub(crate) fn bound_set<'s>(
     alloc: Global,
     is_walked: bool,
-    seen: &Seen<'_, 's>,
-    widths: &[usize],
+    earlier: &Earlier<'_, 's>,
     name: &Token<'s>,
     phrases: &[Phrase<'s>],
-    mentions: &[Mention<'_, '_, 's>],
+    named_data: &[NamedData<'_, '_, 's>],
 ) -> Result<Boxed<Entry<'s>>, Fault>
-    ensures { Answers (bound.bound_set seen.now widths.now name.now (map phrase_of phrases.now) mentions.now) result }
+    ensures { Answers (bound.bound_set earlier.now.env earlier.now.widths.now name.now (map phrase_of phrases.now) named_data.now) result }
 {
-    let claims = set_phrases(alloc, seen, phrases)?;
-    set_of(alloc, is_walked, widths, name, mentions, &claims)
+    let claims = set_phrases(alloc, &earlier.env, phrases)?;
+    set_of(alloc, is_walked, earlier.widths, name, named_data, &claims)
 }

@@ -9,12 +9,12 @@ ghost use Rattle.net_bind.specs.SetPhrases as phrases;
 ghost use Rattle.net_bind.specs.declared.set_phrase.SetWord.TheVariants as words;
 
 use crate::crossing::crossed;
-use crate::fence::Fence;
 use crate::stored::{StoredSet, unboxed, value_of};
-use net_eval::{Seen, Value};
+use crate::superset::Superset;
+use net_eval::{Env, Value};
 use net_fault::{Defect, Fault, Span};
 use net_sets::{Member, TupleSet};
-use net_tree::{Begins, Body, Expr, Phrase, Relates, Role, role_of, span_of};
+use net_tree::{Begins, Body, Expr, Phrase, Relation, Role, role_of, span_of};
 use net_views::{Boxed, Items};
 use std::alloc::Global;
 
@@ -34,7 +34,7 @@ pub(crate) enum Claim<'w, 's> {
     /// `dimen 2`
     Dimension(u8),
     /// `within S`
-    Within(Option<u8>, Fence<'w, 's>),
+    Within(Option<u8>, Superset<'w, 's>),
     /// `:= {1, 2}`
     Becomes(Option<u8>, StoredSet<'w, 's>),
 }
@@ -58,7 +58,7 @@ fn set_word(role: Role) -> SetWord
 {
     match role {
         Role::Phrase(Begins::Dimen) => SetWord::Dimension,
-        Role::Relation(Relates::Within) => SetWord::Within,
+        Role::Relation(Relation::Within) => SetWord::Within,
         Role::Becomes => SetWord::Becomes,
         _ => SetWord::Other,
     }
@@ -101,7 +101,7 @@ fn within<'w, 's>(alloc: Global, at: Span, value: Value<'w, 's>) -> Result<Claim
     match value.into_set() {
         Some((dimension, set)) => {
             let set = StoredSet::new(alloc, set)?;
-            Ok(Claim::Within(dimension, Fence::whole(set)))
+            Ok(Claim::Within(dimension, Superset::whole(set)))
         }
         None => Err(Fault::of_model(Defect::KindMismatch, at)),
     }
@@ -118,13 +118,13 @@ fn becomes<'w, 's>(alloc: Global, at: Span, value: Value<'w, 's>) -> Result<Clai
 
 fn evaluated_phrase<'w, 's>(
     alloc: Global,
-    seen: &Seen<'w, 's>,
+    env: &Env<'w, 's>,
     word: SetWord,
     expr: &Expr<'s>,
 ) -> Result<SetPhrase<'w, 's>, Fault>
-    ensures { Answers (phrases.set_phrase seen.now word (tree expr.now)) result }
+    ensures { Answers (phrases.set_phrase env.now word (tree expr.now)) result }
 {
-    let value = value_of(alloc, seen, expr)?;
+    let value = value_of(alloc, env, expr)?;
     let at = span_of(expr);
     let claim = claimed(alloc, word, at, value)?;
     Ok(SetPhrase { at, claim })
@@ -133,32 +133,32 @@ fn evaluated_phrase<'w, 's>(
 /// What a set has to be within where the expression is a product that needs no listing.
 fn crossed_phrase<'w, 's>(
     alloc: Global,
-    seen: &Seen<'w, 's>,
+    env: &Env<'w, 's>,
     expr: &Expr<'s>,
 ) -> Option<SetPhrase<'w, 's>>
-    ensures { IfSome result (λ p. phrases.set_phrase seen.now words.Within (tree expr.now) ≡ Ok p) }
+    ensures { IfSome result (λ p. phrases.set_phrase env.now words.Within (tree expr.now) ≡ Ok p) }
 {
-    let (dimension, fence) = crossed(alloc, seen, expr)?;
+    let (dimension, superset) = crossed(alloc, env, expr)?;
     Some(SetPhrase {
         at: span_of(expr),
-        claim: Claim::Within(Some(dimension), fence),
+        claim: Claim::Within(Some(dimension), superset),
     })
 }
 
 fn set_phrase<'w, 's>(
     alloc: Global,
-    seen: &Seen<'w, 's>,
+    env: &Env<'w, 's>,
     word: SetWord,
     expr: &Expr<'s>,
 ) -> Result<SetPhrase<'w, 's>, Fault>
-    ensures { Answers (phrases.set_phrase seen.now word (tree expr.now)) result }
+    ensures { Answers (phrases.set_phrase env.now word (tree expr.now)) result }
 {
     match word {
-        SetWord::Within => match crossed_phrase(alloc, seen, expr) {
+        SetWord::Within => match crossed_phrase(alloc, env, expr) {
             Some(phrase) => Ok(phrase),
-            None => evaluated_phrase(alloc, seen, word, expr),
+            None => evaluated_phrase(alloc, env, word, expr),
         },
-        _ => evaluated_phrase(alloc, seen, word, expr),
+        _ => evaluated_phrase(alloc, env, word, expr),
     }
 }
 
@@ -208,17 +208,17 @@ fn with_phrase<'w, 's>(
 
 fn in_body<'w, 's>(
     alloc: Global,
-    seen: &Seen<'w, 's>,
+    env: &Env<'w, 's>,
     word: SetWord,
     body: &Body<'s>,
     claims: Claims<'w, 's>,
 ) -> Result<Claims<'w, 's>, Fault>
-    ensures { Answers (phrases.in_body seen.now word (body_of body.now) claims.entry) result }
+    ensures { Answers (phrases.in_body env.now word (body_of body.now) claims.entry) result }
 {
     match body {
         Body::Plain => Ok(claims),
         Body::Valued(expr) => {
-            let phrase = set_phrase(alloc, seen, word, expr)?;
+            let phrase = set_phrase(alloc, env, word, expr)?;
             with_phrase(claims, phrase)
         }
         Body::Priced(_, _) => Ok(claims),
@@ -237,16 +237,16 @@ fn unclaimed<'w, 's: 'w>(alloc: Global) -> Claims<'w, 's>
 /// What the phrases of a set say: each in turn is evaluated, and agrees with those before it in the dimension.
 pub(crate) fn set_phrases<'w, 's>(
     alloc: Global,
-    seen: &Seen<'w, 's>,
+    env: &Env<'w, 's>,
     all: &[Phrase<'s>],
 ) -> Result<Claims<'w, 's>, Fault>
-    ensures { Answers (phrases.set_phrases seen.now (map phrase_of all.now)) result }
+    ensures { Answers (phrases.set_phrases env.now (map phrase_of all.now)) result }
 {
     let mut claims = unclaimed(alloc);
     for phrase in all {
         claims = in_body(
             alloc,
-            seen,
+            env,
             set_word(role_of(&phrase.word)),
             &phrase.body,
             claims,

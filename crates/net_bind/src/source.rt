@@ -7,103 +7,127 @@ ghost use Rattle.net_fault.specs.Outcomes.{Answers, Leaves, each};
 
 use crate::cell::Cell;
 use crate::row::with_value;
-use net_eval::{Row, Scope, Seen, member};
+use net_eval::{Env, Row, Scope, member};
 use net_fault::{Fault, Language, Span};
 use net_sets::{Member, Table};
 use net_tree::{Expr, span_of};
 use std::alloc::Global;
 
+/// What gives the values that data leave open: an expression, or else a word of data, or else nothing.
+#[derive(Drop)]
+pub(crate) struct Source<'a, 'c, 's> {
+    /// Where the parameter is declared.
+    pub(crate) declared_at: Span,
+    pub(crate) expr: Option<&'a Expr<'s>>,
+    pub(crate) word: Option<&'a Cell<'c, 's>>,
+}
+
 /// What gives the values that data leave open: what `:=` says, else the default that data say, else what `default` says.
-pub(crate) fn source<'a, 'c, 's>(
+pub(crate) fn source_of<'a, 'c, 's>(
+    declared_at: Span,
     assigned: Option<&'a Expr<'s>>,
     default: Option<&'a Cell<'c, 's>>,
     otherwise: Option<&'a Expr<'s>>,
-) -> (Option<&'a Expr<'s>>, Option<&'a Cell<'c, 's>>)
-    ensures { (bound.as_tree (option_copied result.0), option_copied result.1) ≡ bound.source (bound.as_tree (option_copied assigned.entry))
+) -> Source<'a, 'c, 's>
+    ensures place { result.declared_at ≡ declared_at }
+    ensures value { (bound.as_tree (option_copied result.expr), option_copied result.word) ≡ bound.source (bound.as_tree (option_copied assigned.entry))
         (option_copied default.entry) (bound.as_tree (option_copied otherwise.entry)) }
 {
     match (assigned, default) {
-        (Some(expr), _) => (Some(expr), None),
-        (None, Some(word)) => (None, Some(word)),
-        (None, None) => (otherwise, None),
+        (Some(expr), _) => Source {
+            declared_at,
+            expr: Some(expr),
+            word: None,
+        },
+        (None, Some(word)) => Source {
+            declared_at,
+            expr: None,
+            word: Some(word),
+        },
+        (None, None) => Source {
+            declared_at,
+            expr: otherwise,
+            word: None,
+        },
     }
 }
 
 fn from_source<'s>(
     alloc: Global,
-    seen: &Seen<'_, 's>,
+    env: &Env<'_, 's>,
     scope: &Scope<'s>,
-    expr: Option<&Expr<'s>>,
-    word: Option<&Cell<'_, 's>>,
+    source: &Source<'_, '_, 's>,
 ) -> Result<Option<Member<'s>>, Fault>
-    ensures { Answers (bound.from_source seen.now scope.now (bound.as_tree (option_copied expr.entry), option_copied word.entry)) result }
+    ensures { Answers (bound.from_source env.now scope.now (bound.as_tree (option_copied source.now.expr), option_copied source.now.word)) result }
 {
-    match (expr, word) {
-        (Some(expr), _) => Ok(Some(member(alloc, seen, scope, expr)?)),
+    match (source.expr, source.word) {
+        (Some(expr), _) => Ok(Some(member(alloc, env, scope, expr)?)),
         (None, Some(word)) => Ok(Some(word.member())),
         (None, None) => Ok(None),
     }
 }
 
-pub(crate) fn source_text(word: Option<&Cell<'_, '_>>) -> Language
-    ensures { result ≡ bound.source_text (option_copied word.entry) }
+/// The text in which the source stands.
+pub(crate) fn source_text(source: &Source<'_, '_, '_>) -> Language
+    ensures { result ≡ bound.source_text (option_copied source.now.word) }
 {
-    match word {
+    match source.word {
         None => Language::Model,
         Some(_) => Language::Data,
     }
 }
 
-pub(crate) fn source_at(at: Span, expr: Option<&Expr<'_>>, word: Option<&Cell<'_, '_>>) -> Span
-    ensures { result ≡ bound.source_at at (bound.as_tree (option_copied expr.entry), option_copied word.entry) }
+/// Where the source stands.
+pub(crate) fn source_at(source: &Source<'_, '_, '_>) -> Span
+    ensures { result ≡ bound.source_at source.now.declared_at (bound.as_tree (option_copied source.now.expr), option_copied source.now.word) }
 {
-    match (expr, word) {
+    match (source.expr, source.word) {
         (Some(expr), _) => span_of(expr),
         (None, Some(word)) => word.token().span,
-        (None, None) => at,
+        (None, None) => source.declared_at,
     }
 }
 
 /// A key that has no value yet takes one from the source; it is probably at this place of the index list.
 fn with_key<'s>(
     alloc: Global,
-    seen: &Seen<'_, 's>,
-    at: Span,
-    expr: Option<&Expr<'s>>,
-    word: Option<&Cell<'_, 's>>,
+    env: &Env<'_, 's>,
+    source: &Source<'_, '_, 's>,
     near: usize,
     row: &Row<'s>,
     table: &mut Table<'s>,
 ) -> Result<(), Fault>
-    ensures { Leaves (bound.with_key seen.now at (bound.as_tree (option_copied expr.entry), option_copied word.entry) row.now table.old) result table.new }
+    ensures { Leaves (bound.with_key env.now source.now.declared_at (bound.as_tree (option_copied source.now.expr), option_copied source.now.word)
+        row.now table.old) result table.new }
 {
     if table.get_near(near, &row.key).is_some() {
         return Ok(());
     }
-    match from_source(alloc, seen, &row.scope, expr, word)? {
+    match from_source(alloc, env, &row.scope, source)? {
         None => Ok(()),
         Some(member) => {
-            let at = source_at(at, expr, word);
-            with_value(source_text(word), at, near, &row.key, member, table)
+            let at = source_at(source);
+            with_value(source_text(source), at, near, &row.key, member, table)
         }
     }
 }
 
 pub(crate) fn with_keys<'s>(
     alloc: Global,
-    seen: &Seen<'_, 's>,
-    at: Span,
-    expr: Option<&Expr<'s>>,
-    word: Option<&Cell<'_, 's>>,
+    env: &Env<'_, 's>,
+    source: &Source<'_, '_, 's>,
     rows: &[Row<'s>],
     table: &mut Table<'s>,
 ) -> Result<(), Fault>
-    ensures { Leaves (each (bound.with_key seen.now at (bound.as_tree (option_copied expr.entry), option_copied word.entry)) rows.now table.old)
-        result table.new }
+    ensures { Leaves (each (bound.with_key env.now source.now.declared_at (
+      bound.as_tree (option_copied source.now.expr),
+      option_copied
+          source.now.word,
+    )) rows.now table.old) result table.new }
 {
     let mut near: usize = 0;
     for row in rows {
-        with_key(alloc, seen, at, expr, word, near, row, table)?;
+        with_key(alloc, env, source, near, row, table)?;
         near = near.wrapping_add(1);
     }
     Ok(())

@@ -5,9 +5,9 @@ ghost use Rattle.net_tree.specs.View.{tree};
 ghost use Rattle.net_fault.specs.Outcomes.{Answers};
 ghost use Rattle.net_eval.specs.Values.{value};
 
-use net_eval::{Scope, Seen, Value, evaluate};
+use net_eval::{Env, Scope, Value, evaluate};
 use net_fault::Fault;
-use net_sets::{Held, TupleSet};
+use net_sets::{Cow, TupleSet};
 use net_tree::Expr;
 use net_views::Boxed;
 use std::alloc::{AllocError, Global};
@@ -30,12 +30,12 @@ pub(crate) fn unboxed<T>(boxed: Boxed<T>) -> T
 /// What an expression comes to, in a box.
 pub(crate) fn value_of<'w, 's>(
     alloc: Global,
-    seen: &Seen<'w, 's>,
+    env: &Env<'w, 's>,
     expr: &Expr<'s>,
 ) -> Result<Boxed<Value<'w, 's>>, Fault>
-    ensures { Answers (value seen.now [] (tree expr.now)) result }
+    ensures { Answers (value env.now [] (tree expr.now)) result }
 {
-    match evaluate(alloc, seen, &Scope::new(alloc), expr) {
+    match evaluate(alloc, env, &Scope::new(alloc), expr) {
         Ok(value) => Ok(boxed(alloc, value)?),
         Err(fault) => Err(fault),
     }
@@ -44,7 +44,7 @@ pub(crate) fn value_of<'w, 's>(
 /// A set in a box, which contracts see as the list of its tuples. So each phrase of a set has a value of few words.
 #[derive(Drop)]
 pub(crate) struct StoredSet<'w, 's> {
-    set: Boxed<Held<'w, 's>>,
+    set: Boxed<Cow<'w, 's>>,
 }
 
 impl<'w, 's> Model for StoredSet<'w, 's> {
@@ -57,7 +57,7 @@ impl<'w, 's> Model for StoredSet<'w, 's> {
 }
 
 impl<'w, 's> StoredSet<'w, 's> {
-    pub(crate) fn new(alloc: Global, set: Held<'w, 's>) -> Result<StoredSet<'w, 's>, AllocError>
+    pub(crate) fn new(alloc: Global, set: Cow<'w, 's>) -> Result<StoredSet<'w, 's>, AllocError>
         ensures { IfOk result (λ s. s ≡ set.entry) }
     {
         let set = boxed(alloc, set)?;

@@ -2,9 +2,7 @@
 //! the form of a model: a set that is not among them is looked through, and one that is takes an index that nobody may ask for.
 
 use net_lex::Token;
-use net_tree::{
-    Body, Braces, Decl, Expr, Link, NetCond, Operator, Part, Phrase, Relates, Role, role_of,
-};
+use net_tree::{BinOp, Body, Braces, Decl, Expr, Link, NetCond, Part, Phrase, Role, role_of};
 use net_views::{Boxed, Excerpt};
 use std::alloc::{AllocError, Global};
 use std::collections::BTreeMap;
@@ -71,10 +69,7 @@ impl<'s> Walked<'s> {
 fn begins_in(links: &[Link<'_>]) -> bool {
     match links {
         [] => false,
-        [link, ..] => match &link.operator {
-            Operator::One(token) => matches!(role_of(token), Role::Relation(Relates::In)),
-            Operator::Two(_, _) => false,
-        },
+        [link, ..] => matches!(link.operator.op(), BinOp::In),
     }
 }
 
@@ -224,8 +219,11 @@ fn read_phrases<'s>(walked: &mut Walked<'s>, phrases: &[Phrase<'s>]) -> Result<(
     Ok(())
 }
 
-fn read_condition<'s>(walked: &mut Walked<'s>, said: &NetCond<'s>) -> Result<(), AllocError> {
-    match said {
+fn read_condition<'s>(
+    walked: &mut Walked<'s>,
+    data_by_name: &NetCond<'s>,
+) -> Result<(), AllocError> {
+    match data_by_name {
         NetCond::Absent => Ok(()),
         NetCond::One(_, left, _, right) => {
             read(walked, left)?;
@@ -250,9 +248,9 @@ fn read_declaration<'s>(walked: &mut Walked<'s>, decl: &Decl<'s>) -> Result<(), 
             read_index(walked, braces)?;
             read(walked, condition)
         }
-        Decl::Node(_, _, braces, said, _) => {
+        Decl::Node(_, _, braces, data_by_name, _) => {
             read_index(walked, braces)?;
-            read_condition(walked, said)
+            read_condition(walked, data_by_name)
         }
         Decl::Objective(_, _, None, _) => Ok(()),
         Decl::Objective(_, _, Some(part), _) => read(walked, &part.value),

@@ -10,17 +10,18 @@ ghost use Rattle.net_bind.specs.Binding as binding;
 ghost use Rattle.net_eval.specs.declared.world.Entry.{Entry as AnEntry};
 ghost use Rattle.net_fault.specs.Outcomes.{Outcome, Answers, Leaves, and_then, each};
 
+use crate::by_name::data_by_name;
 use crate::check::all_checked;
-use crate::given::{Mention, Mentions};
-use crate::laid::{Laid, laid_out};
-use crate::mention::said;
+use crate::earlier::Earlier;
+use crate::flattened::{Flattened, laid_out};
+use crate::given::{DataFor, NamedData};
 use crate::names::declared;
 use crate::param::bound_parameter;
 use crate::set::bound_set;
 use crate::stored::unboxed;
 use crate::walked::{Walked, walked_sets};
 use net_data::Tables;
-use net_eval::{Entry, Seen, World};
+use net_eval::{Entry, Env, World};
 use net_fault::Fault;
 use net_lex::Token;
 use net_tree::{Braces, Decl, Model, Phrase};
@@ -58,67 +59,61 @@ fn with_entry<'s>(
 }
 
 /// All that is declared so far.
-fn whole<'w, 's>(world: &'w World<'s>, widths: &[usize]) -> Seen<'w, 's>
+fn whole<'w, 's>(world: &'w World<'s>, widths: &'w [usize]) -> Earlier<'w, 's>
     requires { widths.now ≡ binding.widths world.now }
-    ensures { result ≡ world.entry.now }
+    ensures world { result.env ≡ world.entry.now }
+    ensures widths { result.widths.now ≡ binding.widths world.entry.now }
 {
-    Seen::new(world, widths.len())
+    Earlier {
+        env: Env::new(world, widths.len()),
+        widths,
+    }
 }
 
 fn entry_of_set<'s>(
     alloc: Global,
     is_walked: bool,
-    given: &[Mentions<'_, '_, 's>],
+    given: &[DataFor<'_, '_, 's>],
     name: &Token<'s>,
     phrases: &[Phrase<'s>],
-    world: &World<'s>,
-    widths: &[usize],
+    earlier: &Earlier<'_, 's>,
 ) -> Result<Boxed<Entry<'s>>, Fault>
-    requires { widths.now ≡ binding.widths world.now }
-    ensures { Answers (sets.bound_set world.now (binding.widths world.now) name.now (map phrase_of phrases.now) (binding.said_next given.now
-        world.now)) result }
+    requires { earlier.now.widths.now ≡ binding.widths earlier.now.env }
+    ensures { Answers (sets.bound_set earlier.now.env (binding.widths earlier.now.env) name.now (map phrase_of phrases.now) (binding.said_next
+        given.now earlier.now.env)) result }
 {
-    let seen = whole(world, widths);
-    match given.get(widths.len()) {
-        Some(mentions) => {
-            let mentions = mentions.as_slice();
-            bound_set(alloc, is_walked, &seen, widths, name, phrases, mentions)
+    match given.get(earlier.widths.len()) {
+        Some(named_data) => {
+            let named_data = named_data.as_slice();
+            bound_set(alloc, is_walked, earlier, name, phrases, named_data)
         }
         None => {
-            let none: Vec<Mention<'_, '_, 's>> = Vec::new(alloc);
-            let none = none.as_slice();
-            bound_set(alloc, is_walked, &seen, widths, name, phrases, none)
+            let none: Vec<NamedData<'_, '_, 's>> = Vec::new(alloc);
+            bound_set(alloc, is_walked, earlier, name, phrases, none.as_slice())
         }
     }
 }
 
 fn entry_of_parameter<'s>(
     alloc: Global,
-    given: &[Mentions<'_, '_, 's>],
+    given: &[DataFor<'_, '_, 's>],
     name: &Token<'s>,
     braces: &Option<Braces<'s>>,
     phrases: &[Phrase<'s>],
-    world: &World<'s>,
-    widths: &[usize],
+    earlier: &Earlier<'_, 's>,
 ) -> Result<Boxed<Entry<'s>>, Fault>
-    requires { widths.now ≡ binding.widths world.now }
-    ensures { Answers (parameters.bound_parameter world.now (binding.widths world.now) name.now (indexing_of braces.now) (map phrase_of phrases.now)
-        (binding.said_next given.now world.now)) result }
+    requires { earlier.now.widths.now ≡ binding.widths earlier.now.env }
+    ensures { Answers (parameters.bound_parameter earlier.now.env (binding.widths earlier.now.env) name.now (indexing_of braces.now) (map phrase_of
+        phrases.now) (binding.said_next given.now earlier.now.env)) result }
 {
-    let seen = whole(world, widths);
-    match given.get(widths.len()) {
-        Some(mentions) => bound_parameter(
-            alloc,
-            &seen,
-            widths,
-            name,
-            braces,
-            phrases,
-            mentions.as_slice(),
-        ),
+    match given.get(earlier.widths.len()) {
+        Some(named_data) => {
+            let named_data = named_data.as_slice();
+            bound_parameter(alloc, earlier, name, braces, phrases, named_data)
+        }
         None => {
-            let none: Vec<Mention<'_, '_, 's>> = Vec::new(alloc);
-            bound_parameter(alloc, &seen, widths, name, braces, phrases, none.as_slice())
+            let none: Vec<NamedData<'_, '_, 's>> = Vec::new(alloc);
+            bound_parameter(alloc, earlier, name, braces, phrases, none.as_slice())
         }
     }
 }
@@ -127,7 +122,7 @@ fn entry_of_parameter<'s>(
 fn declare<'s>(
     alloc: Global,
     walked: &Walked<'s>,
-    given: &[Mentions<'_, '_, 's>],
+    given: &[DataFor<'_, '_, 's>],
     decl: &Decl<'s>,
     world: &mut World<'s>,
     widths: &mut Vec<usize>,
@@ -141,19 +136,14 @@ fn declare<'s>(
         Decl::Set(_, name, phrases, _) => {
             let phrases = phrases.as_slice();
             let is_walked = walked.has(&name.text);
-            let entry = entry_of_set(alloc, is_walked, given, name, phrases, world, widths);
+            let earlier = whole(world, widths);
+            let entry = entry_of_set(alloc, is_walked, given, name, phrases, &earlier);
             with_entry(name, entry, world, widths)
         }
         Decl::Param(_, name, braces, phrases, _) => {
-            let entry = entry_of_parameter(
-                alloc,
-                given,
-                name,
-                braces,
-                phrases.as_slice(),
-                world,
-                widths,
-            );
+            let phrases = phrases.as_slice();
+            let earlier = whole(world, widths);
+            let entry = entry_of_parameter(alloc, given, name, braces, phrases, &earlier);
             with_entry(name, entry, world, widths)
         }
         Decl::Check(_, _, _, _, _) => Ok(()),
@@ -166,7 +156,7 @@ fn declare<'s>(
 #[tactic(auto, using(crate::proofs::Fresh::fresh))]
 fn declare_all<'s>(
     alloc: Global,
-    given: &[Mentions<'_, '_, 's>],
+    given: &[DataFor<'_, '_, 's>],
     decls: &[Decl<'s>],
 ) -> Result<World<'s>, Fault>
     requires { binding.AreNew [] (map declaration_of decls.now) }
@@ -195,7 +185,7 @@ fn after_checks<'s>(alloc: Global, decls: &[Decl<'s>], world: World<'s>) -> Resu
 fn bind_given<'s>(
     alloc: Global,
     decls: &[Decl<'s>],
-    given: &[Mentions<'_, '_, 's>],
+    given: &[DataFor<'_, '_, 's>],
 ) -> Result<World<'s>, Fault>
     requires { binding.AreNew [] (map declaration_of decls.now) }
     ensures { Answers (binding.with_given (map declaration_of decls.now) given.now) result }
@@ -205,16 +195,16 @@ fn bind_given<'s>(
 }
 
 #[tactic(auto, unfolding(crate::specs::Binding::world))]
-fn bind_sheets<'m, 's>(
+fn bind_statements<'m, 's>(
     alloc: Global,
     decls: &[Decl<'s>],
-    sheets: &'m [Laid<'m, '_, 's>],
+    sheets: &'m [Flattened<'m, '_, 's>],
 ) -> Result<World<'s>, Fault>
     requires { binding.AreNew [] (map declaration_of decls.now) }
     ensures { Answers (binding.world (map declaration_of decls.now) sheets.entry.now) result }
 {
     let names = declared(alloc, decls)?;
-    let given = said(alloc, &names, sheets)?;
+    let given = data_by_name(alloc, &names, sheets)?;
     bind_given(alloc, decls, given.as_slice())
 }
 
@@ -232,5 +222,5 @@ pub fn bind<'s>(
     ensures { Answers (binding.world (view.model model.now) tables.now.statements) result }
 {
     let sheets = laid_out(alloc, tables.statements.as_slice())?;
-    bind_sheets(alloc, model.declarations.as_slice(), sheets.as_slice())
+    bind_statements(alloc, model.declarations.as_slice(), sheets.as_slice())
 }

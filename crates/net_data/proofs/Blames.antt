@@ -6,7 +6,7 @@ use Rattle.net_fault.specs.declared.span.Span.{Span}
 use Rattle.net_lex.specs.declared.token.Token.{Token}
 use Rattle.net_fault.specs.declared.defect.Defect.TheVariants.{DataSyntax, RowWidth, TableWidth}
 use Rattle.net_data.specs.declared.spot.Spot.{Spot}
-use Rattle.net_data.specs.declared.stop.Stop.{Stop}
+use Rattle.net_data.specs.declared.parse_error.ParseError.{ParseError}
 use Rattle.net_data.specs.declared.statement.DefaultValue.{DefaultValue}
 use Rattle.net_data.specs.declared.statement.Transposed.{Transposed}
 use Rattle.net_data.specs.declared.statement.TableStatement.{TableStatement}
@@ -27,48 +27,48 @@ use Rattle.net_data.proofs.ParamSound.{default-sound, named_set-sound, statement
 use Rattle.net_data.proofs.TablesMean.{lone-sound}
 
 -- a stop at a token that is not allowed, or for a fault of the table with which the tokens begin
-abbrev pub Blamed : List Token → Stop → Type 0
+abbrev pub Blamed : List Token → ParseError → Type 0
 Blamed tokens e = (e.defect ≡ DataSyntax) ⊎ ((span : Span) × (e.at ≡ Some span) × IsFaulty tokens span e.defect)
 
-bind_err : {A B : Type 0} (read : Result A Stop) (f : A → Result B Stop) (e : Stop) → (read >>= f) ≡ Err e → (read ≡ Err e) ⊎ ((x : A) × (read ≡ Ok x) × (f x ≡ Err e))
+bind_err : {A B : Type 0} (read : Result A ParseError) (f : A → Result B ParseError) (e : ParseError) → (read >>= f) ≡ Err e → (read ≡ Err e) ⊎ ((x : A) × (read ≡ Ok x) × (f x ≡ Err e))
 bind_err (Ok x) f e h = inr (x, refl, h)
 bind_err (Err d) f e h = let same : d ≡ e = cc in inl (rw same refl)
 
-err_is : {A : Type 0} (d e : Stop) → (let r : Result A Stop = Err d in r ≡ Err e) → d ≡ e
+err_is : {A : Type 0} (d e : ParseError) → (let r : Result A ParseError = Err d in r ≡ Err e) → d ≡ e
 err_is d e h = cc
 
-wanted_of : (tokens : List Token) (next : Option (Token × List Token)) (e : Stop) → wanted_by tokens next ≡ Err e → e.defect ≡ DataSyntax
+wanted_of : (tokens : List Token) (next : Option (Token × List Token)) (e : ParseError) → wanted_by tokens next ≡ Err e → e.defect ≡ DataSyntax
 unfolding refused
-wanted_of tokens None e h = let same = err_is _ e h in sym (ap (λ (s : Stop). s.defect) same)
+wanted_of tokens None e h = let same = err_is _ e h in sym (ap (λ (s : ParseError). s.defect) same)
 wanted_of tokens (Some x) e h = absurd (cc)
 
-wanted_err : (test : Token → Bool) (tokens : List Token) (e : Stop) → wanted test tokens ≡ Err e → e.defect ≡ DataSyntax
+wanted_err : (test : Token → Bool) (tokens : List Token) (e : ParseError) → wanted test tokens ≡ Err e → e.defect ≡ DataSyntax
 unfolding wanted
 wanted_err test tokens e h = wanted_of tokens (met test tokens) e h
 
-rested_err : (x : List Token × List Token) (at : Option Span) (e : Stop) (b : Bool) → (let r : Read (List Token) = cond b (Ok x) (Err (stop DataSyntax at)) in r ≡ Err e) → e.defect ≡ DataSyntax
+rested_err : (x : List Token × List Token) (at : Option Span) (e : ParseError) (b : Bool) → (let r : Read (List Token) = cond b (Ok x) (Err (stop DataSyntax at)) in r ≡ Err e) → e.defect ≡ DataSyntax
 rested_err x at e true h = absurd (cc)
-rested_err x at e false h = let same = err_is _ e h in sym (ap (λ (s : Stop). s.defect) same)
+rested_err x at e false h = let same = err_is _ e h in sym (ap (λ (s : ParseError). s.defect) same)
 
-with_err : (token : Token) (read : Read (List Token)) (e : Stop) → with_token token read ≡ Err e → read ≡ Err e
+with_err : (token : Token) (read : Read (List Token)) (e : ParseError) → with_token token read ≡ Err e → read ≡ Err e
 with_err token (Ok x) e h = absurd (cc)
 with_err token (Err d) e h = let same = err_is d e h in rw same refl
 
-items_on : (token : Token) (tokens : List Token) (o : Option Spot) (spot : Spot) (e : Stop) → items_behind token tokens o spot (items_from (spot_or spot o) tokens) ≡ Err e
+items_on : (token : Token) (tokens : List Token) (o : Option Spot) (spot : Spot) (e : ParseError) → items_behind token tokens o spot (items_from (spot_or spot o) tokens) ≡ Err e
     → ((s : Spot) → items_from s tokens ≡ Err e → e.defect ≡ DataSyntax) → e.defect ≡ DataSyntax
 items_on token tokens (Some next) spot e h behind = behind next (with_err token (items_from next tokens) e h)
 items_on token tokens None spot e h behind = rested_err ([], token ∷ tokens) (Some token.span) e (rests spot) h
 
-items_from_err : (tokens : List Token) (spot : Spot) (e : Stop) → items_from spot tokens ≡ Err e → e.defect ≡ DataSyntax
+items_from_err : (tokens : List Token) (spot : Spot) (e : ParseError) → items_from spot tokens ≡ Err e → e.defect ≡ DataSyntax
 unfolding items_from
 items_from_err [] spot e h = rested_err ([], []) None e (rests spot) h
 items_from_err (token ∷ tokens) spot e h = items_on token tokens (spot_after spot token) spot e h (λ s k. items_from_err tokens s e k)
 
-items_err : (tokens : List Token) (e : Stop) → items tokens ≡ Err e → e.defect ≡ DataSyntax
+items_err : (tokens : List Token) (e : ParseError) → items tokens ≡ Err e → e.defect ≡ DataSyntax
 unfolding items
 items_err tokens e h = elim (bind_err (items_from outside tokens) _ e h) [ inl k ↦ items_from_err tokens outside e k | inr x ↦ absurd (let k = x.2 in cc) ]
 
-set_err : (keyword : Token) (tokens : List Token) (e : Stop) → set keyword tokens ≡ Err e → e.defect ≡ DataSyntax
+set_err : (keyword : Token) (tokens : List Token) (e : ParseError) → set keyword tokens ≡ Err e → e.defect ≡ DataSyntax
 unfolding set
 set_err keyword tokens e h = elim (bind_err _ _ e h) [
   | inl k ↦ wanted_err is_name tokens e k
@@ -85,18 +85,18 @@ set_err keyword tokens e h = elim (bind_err _ _ e h) [
 ]
 
 -- a heading without a column
-record NoColumn (tokens : List Token) (e : Stop) : Type 0 where
+record NoColumn (tokens : List Token) (e : ParseError) : Type 0 where
   mark : Token
   rest : List Token
   printed : bare elsewhere tokens ≡ mark ∷ bare elsewhere rest
   marked : assign mark ≡ true
   blamed : e ≡ stop TableWidth (Some mark.span)
 
-headed_err : (columns : List Token) (mark : Token) (tokens : List Token) (e : Stop) → headed columns mark tokens ≡ Err e → (columns ≡ []) × (e ≡ stop TableWidth (Some mark.span))
+headed_err : (columns : List Token) (mark : Token) (tokens : List Token) (e : ParseError) → headed columns mark tokens ≡ Err e → (columns ≡ []) × (e ≡ stop TableWidth (Some mark.span))
 headed_err [] mark tokens e h = (refl, sym (err_is _ e h))
 headed_err (c ∷ columns) mark tokens e h = absurd (cc)
 
-heading_err : (test : Token → Bool) (tokens : List Token) (e : Stop) → Keeps test → heading test tokens ≡ Err e → (e.defect ≡ DataSyntax) ⊎ NoColumn tokens e
+heading_err : (test : Token → Bool) (tokens : List Token) (e : ParseError) → Keeps test → heading test tokens ≡ Err e → (e.defect ≡ DataSyntax) ⊎ NoColumn tokens e
 unfolding heading
 heading_err test tokens e keeps h = elim (bind_err _ _ e h) [
   | inl k ↦ inl (wanted_err assign (run test tokens).1 e k)
@@ -108,15 +108,15 @@ heading_err test tokens e keeps h = elim (bind_err _ _ e h) [
       inr (record { mark = a.0.0; rest = a.0.1; printed = printed; marked = mark.passes; blamed = none.1 })
 ]
 
-cells_err : (tokens : List Token) (e : Stop) → cells tokens ≡ Err e → e.defect ≡ DataSyntax
+cells_err : (tokens : List Token) (e : ParseError) → cells tokens ≡ Err e → e.defect ≡ DataSyntax
 unfolding cells
 cells_err tokens e h = elim (bind_err _ _ e h) [ inl k ↦ wanted_err semicolon (run is_cell tokens).1 e k | inr a ↦ absurd (let k = a.2 in cc) ]
 
-filled_of : (columns xs : List Token) (e : Stop) (b : Bool) → (let r : Result (Unit {0}) Stop = cond b (Ok tt) (Err (stop RowWidth (last_span xs))) in r ≡ Err e) → (b ≡ false) × (e ≡ stop RowWidth (last_span xs))
+filled_of : (columns xs : List Token) (e : ParseError) (b : Bool) → (let r : Result (Unit {0}) ParseError = cond b (Ok tt) (Err (stop RowWidth (last_span xs))) in r ≡ Err e) → (b ≡ false) × (e ≡ stop RowWidth (last_span xs))
 filled_of columns xs e true h = absurd (cc)
 filled_of columns xs e false h = (refl, sym (err_is _ e h))
 
-pub filled_err : (columns xs : List Token) (e : Stop) → filled columns xs ≡ Err e → (fills columns xs ≡ false) × (e ≡ stop RowWidth (last_span xs))
+pub filled_err : (columns xs : List Token) (e : ParseError) → filled columns xs ≡ Err e → (fills columns xs ≡ false) × (e ≡ stop RowWidth (last_span xs))
 unfolding filled
 filled_err columns xs e h = filled_of columns xs e (fills columns xs) h
 
@@ -129,7 +129,7 @@ last_cell : (columns xs : List Token) → fills columns xs ≡ false → (span :
 last_cell columns [] h = let none : 0 % (length columns + 1) ≡ 0 = zero-mod (length columns + 1) in let full : fills columns [] ≡ true = rw none refl in absurd (cc)
 last_cell columns (x ∷ xs) h = last_some x.span xs
 
-table_err : (keyword name : Token) (default : Option DefaultValue) (transposed : Option Transposed) (mark : Token) (tokens : List Token) (e : Stop)
+table_err : (keyword name : Token) (default : Option DefaultValue) (transposed : Option Transposed) (mark : Token) (tokens : List Token) (e : ParseError)
     → is_word (codes "param") keyword ≡ true → is_name name ≡ true → IfSome default IsDefault → IfSome transposed IsTransposed → colon mark ≡ true
     → table keyword name default transposed mark tokens ≡ Err e → Blamed (keyword ∷ name ∷ put_default default (put_transposed transposed (mark ∷ bare elsewhere tokens))) e
 unfolding table
@@ -140,7 +140,7 @@ table_err keyword name default transposed mark tokens e key named defaults turns
         | inl s ↦ inl s
         | inr n ↦
             let t : TableStatement = record { keyword = keyword; name = name; default = default; transposed = transposed; colon = mark; columns = []; assign = n.mark; cells = []; end = mark } in
-            let P : Stop → Type 0 = λ z. Blamed all z in
+            let P : ParseError → Type 0 = λ z. Blamed all z in
             subst P (sym n.blamed) (inr (
               n.mark.span,
               refl,
@@ -158,7 +158,7 @@ table_err keyword name default transposed mark tokens e key named defaults turns
               let last = last_cell a.0.0.0 b.0.0.0 short.0 in
               let t : TableStatement = record { keyword = keyword; name = name; default = default; transposed = transposed; colon = mark; columns = a.0.0.0; assign = a.0.0.1; cells = b.0.0.0; end = b.0.0.1 } in
               let printed : all ≡ put (kinds.Table t) (bare before b.0.1) = rw (head.printed, body.printed) refl in
-              let P : Stop → Type 0 = λ z. Blamed all z in
+              let P : ParseError → Type 0 = λ z. Blamed all z in
               subst P (sym short.1) (inr (
                 last.0,
                 last.1,
@@ -170,7 +170,7 @@ table_err keyword name default transposed mark tokens e key named defaults turns
       ]
     ]
 
-turned_err : (keyword name : Token) (default : Option DefaultValue) (opening : Token) (tokens : List Token) (e : Stop)
+turned_err : (keyword name : Token) (default : Option DefaultValue) (opening : Token) (tokens : List Token) (e : ParseError)
     → is_word (codes "param") keyword ≡ true → is_name name ≡ true → IfSome default IsDefault → is_mark (codes "(") opening ≡ true
     → turned keyword name default opening tokens ≡ Err e → Blamed (keyword ∷ name ∷ put_default default (opening ∷ bare elsewhere tokens)) e
 unfolding turned
@@ -194,11 +194,11 @@ turned_err keyword name default opening tokens e key named defaults opens h =
           ]
     ]
 
-list_err : (keyword name : Token) (default : Option DefaultValue) (tokens : List Token) (e : Stop) → list keyword name default tokens ≡ Err e → e.defect ≡ DataSyntax
+list_err : (keyword name : Token) (default : Option DefaultValue) (tokens : List Token) (e : ParseError) → list keyword name default tokens ≡ Err e → e.defect ≡ DataSyntax
 unfolding list
 list_err keyword name default tokens e h = elim (bind_err _ _ e h) [ inl k ↦ wanted_err semicolon (given tokens).1 e k | inr a ↦ absurd (let k = a.2 in cc) ]
 
-body_of : (keyword name : Token) (default : Option DefaultValue) (tokens : List Token) (opening mark : Option (Token × List Token)) (e : Stop)
+body_of : (keyword name : Token) (default : Option DefaultValue) (tokens : List Token) (opening mark : Option (Token × List Token)) (e : ParseError)
     → is_word (codes "param") keyword ≡ true → is_name name ≡ true → IfSome default IsDefault → met (is_mark (codes "(")) tokens ≡ opening → met colon tokens ≡ mark
     → body_by keyword name default tokens opening mark ≡ Err e → Blamed (keyword ∷ name ∷ put_default default (bare elsewhere tokens)) e
 body_of keyword name default tokens (Some o) mark e key named defaults is colons h =
@@ -209,20 +209,20 @@ body_of keyword name default tokens None (Some c) e key named defaults is colons
     rw mark.printed (table_err keyword name default None c.0 c.1 e key named defaults tt mark.passes h)
 body_of keyword name default tokens None None e key named defaults is colons h = inl (list_err keyword name default tokens e h)
 
-body_err : (keyword name : Token) (default : Option DefaultValue) (tokens : List Token) (e : Stop) → is_word (codes "param") keyword ≡ true → is_name name ≡ true → IfSome default IsDefault
+body_err : (keyword name : Token) (default : Option DefaultValue) (tokens : List Token) (e : ParseError) → is_word (codes "param") keyword ≡ true → is_name name ≡ true → IfSome default IsDefault
     → body keyword name default tokens ≡ Err e → Blamed (keyword ∷ name ∷ put_default default (bare elsewhere tokens)) e
 unfolding body
 body_err keyword name default tokens e key named defaults h = body_of keyword name default tokens (met (is_mark (codes "(")) tokens) (met colon tokens) e key named defaults refl refl h
 
-default_of : (tokens : List Token) (next : Option (Token × List Token)) (e : Stop) → default_by tokens next ≡ Err e → e.defect ≡ DataSyntax
+default_of : (tokens : List Token) (next : Option (Token × List Token)) (e : ParseError) → default_by tokens next ≡ Err e → e.defect ≡ DataSyntax
 default_of tokens None e h = absurd (cc)
 default_of tokens (Some word) e h = elim (bind_err _ _ e h) [ inl k ↦ wanted_err is_member word.1 e k | inr a ↦ absurd (let k = a.2 in cc) ]
 
-default_err : (tokens : List Token) (e : Stop) → default tokens ≡ Err e → e.defect ≡ DataSyntax
+default_err : (tokens : List Token) (e : ParseError) → default tokens ≡ Err e → e.defect ≡ DataSyntax
 unfolding default
 default_err tokens e h = default_of tokens (met (is_word (codes "default")) tokens) e h
 
-named_err : (keyword : Token) (tokens : List Token) (e : Stop) → is_word (codes "param") keyword ≡ true → named keyword tokens ≡ Err e → Blamed (keyword ∷ bare elsewhere tokens) e
+named_err : (keyword : Token) (tokens : List Token) (e : ParseError) → is_word (codes "param") keyword ≡ true → named keyword tokens ≡ Err e → Blamed (keyword ∷ bare elsewhere tokens) e
 unfolding named
 named_err keyword tokens e key h =
     elim (bind_err _ _ e h) [
@@ -237,7 +237,7 @@ named_err keyword tokens e key h =
           ]
     ]
 
-columns_err : (keyword mark : Token) (tokens : List Token) (e : Stop) → is_word (codes "param") keyword ≡ true → colon mark ≡ true → columns keyword mark tokens ≡ Err e → Blamed (keyword ∷ mark ∷ bare elsewhere tokens) e
+columns_err : (keyword mark : Token) (tokens : List Token) (e : ParseError) → is_word (codes "param") keyword ≡ true → colon mark ≡ true → columns keyword mark tokens ≡ Err e → Blamed (keyword ∷ mark ∷ bare elsewhere tokens) e
 unfolding columns
 columns_err keyword mark tokens e key colons h =
     let s = named_set-sound tokens in
@@ -246,7 +246,7 @@ columns_err keyword mark tokens e key colons h =
         | inl i ↦ inl i
         | inr n ↦
             let c : ColumnsStatement = record { keyword = keyword; colon = mark; set = (named_set tokens).0; names = []; assign = n.mark; cells = []; end = mark } in
-            let P : Stop → Type 0 = λ z. Blamed (keyword ∷ mark ∷ bare elsewhere tokens) z in
+            let P : ParseError → Type 0 = λ z. Blamed (keyword ∷ mark ∷ bare elsewhere tokens) z in
             subst P (sym n.blamed) (inr (
               n.mark.span,
               refl,
@@ -257,33 +257,33 @@ columns_err keyword mark tokens e key colons h =
       | inr a ↦ elim (bind_err _ _ e a.2) [ inl k ↦ inl (cells_err a.0.1 e k) | inr b ↦ absurd (let k = b.2 in cc) ]
     ]
 
-param_of : (keyword : Token) (tokens : List Token) (next : Option (Token × List Token)) (e : Stop) → is_word (codes "param") keyword ≡ true → met colon tokens ≡ next → param_by keyword tokens next ≡ Err e
+param_of : (keyword : Token) (tokens : List Token) (next : Option (Token × List Token)) (e : ParseError) → is_word (codes "param") keyword ≡ true → met colon tokens ≡ next → param_by keyword tokens next ≡ Err e
     → Blamed (keyword ∷ bare elsewhere tokens) e
 param_of keyword tokens (Some mark) e key is h =
     let m = got_met elsewhere elsewhere colon tokens mark (in_mark (codes ":") refl) is in rw m.printed (columns_err keyword mark.0 mark.1 e key m.passes h)
 param_of keyword tokens None e key is h = named_err keyword tokens e key h
 
-param_err : (keyword : Token) (tokens : List Token) (e : Stop) → is_word (codes "param") keyword ≡ true → param keyword tokens ≡ Err e → Blamed (keyword ∷ bare elsewhere tokens) e
+param_err : (keyword : Token) (tokens : List Token) (e : ParseError) → is_word (codes "param") keyword ≡ true → param keyword tokens ≡ Err e → Blamed (keyword ∷ bare elsewhere tokens) e
 unfolding param
 param_err keyword tokens e key h = param_of keyword tokens (met colon tokens) e key refl h
 
-found_err : (read : Read Statement) (e : Stop) → found read ≡ Err e → read ≡ Err e
+found_err : (read : Read Statement) (e : ParseError) → found read ≡ Err e → read ≡ Err e
 found_err (Ok x) e h = absurd (cc)
 found_err (Err d) e h = let same = err_is d e h in rw same refl
 
-statement_of : (tokens : List Token) (set_word param_word : Option (Token × List Token)) (e : Stop) → met (is_word (codes "set")) tokens ≡ set_word → met (is_word (codes "param")) tokens ≡ param_word
+statement_of : (tokens : List Token) (set_word param_word : Option (Token × List Token)) (e : ParseError) → met (is_word (codes "set")) tokens ≡ set_word → met (is_word (codes "param")) tokens ≡ param_word
     → statement_by set_word param_word ≡ Err e → Blamed (bare before tokens) e
 statement_of tokens (Some s) param_word e is other h = inl (set_err s.0 s.1 e (found_err _ e h))
 statement_of tokens None (Some p) e is other h =
     let key = got_met before elsewhere (is_word (codes "param")) tokens p (to_else (codes "param") refl) other in rw key.printed (param_err p.0 p.1 e key.passes (found_err _ e h))
 statement_of tokens None None e is other h = absurd (cc)
 
-statement_err : (tokens : List Token) (e : Stop) → statement tokens ≡ Err e → Blamed (bare before tokens) e
+statement_err : (tokens : List Token) (e : ParseError) → statement tokens ≡ Err e → Blamed (bare before tokens) e
 unfolding statement
 statement_err tokens e h = statement_of tokens (met (is_word (codes "set")) tokens) (met (is_word (codes "param")) tokens) e refl refl h
 
 -- a table that has the fault, behind statements that have none
-record Behind (tokens : List Token) (e : Stop) (span : Span) : Type 0 where
+record Behind (tokens : List Token) (e : ParseError) (span : Span) : Type 0 where
   statements : List Statement
   rest : List Token
   printed : bare before tokens ≡ put_all statements rest
@@ -291,11 +291,11 @@ record Behind (tokens : List Token) (e : Stop) (span : Span) : Type 0 where
   judged : all_judged statements ≡ Ok tt
   faulty : IsFaulty rest span e.defect
 
-with_err_all : (x : Statement) (read : Read (List Statement)) (e : Stop) → with_statement x read ≡ Err e → read ≡ Err e
+with_err_all : (x : Statement) (read : Read (List Statement)) (e : ParseError) → with_statement x read ≡ Err e → read ≡ Err e
 with_err_all x (Ok y) e h = absurd (cc)
 with_err_all x (Err d) e h = let same = err_is d e h in rw same refl
 
-statements_of : (n : ℕ) (tokens : List Token) (read : Result (Option (Statement × List Token)) Stop) (e : Stop) → statement tokens ≡ read → statements_by (statements n) tokens read ≡ Err e
+statements_of : (n : ℕ) (tokens : List Token) (read : Result (Option (Statement × List Token)) ParseError) (e : ParseError) → statement tokens ≡ read → statements_by (statements n) tokens read ≡ Err e
     → ((rest : List Token) → statements n rest ≡ Err e → (e.defect ≡ DataSyntax) ⊎ ((span : Span) × (e.at ≡ Some span) × Behind rest e span)) → (e.defect ≡ DataSyntax) ⊎ ((span : Span) × (e.at ≡ Some span) × Behind tokens e span)
 statements_of n tokens (Ok (Some x)) e is h more =
     let s = statement-sound tokens x is in
@@ -319,28 +319,28 @@ statements_of n tokens (Err d) e is h more =
     let same = err_is d e h in
     elim (statement_err tokens e (rw is (rw same refl))) [ inl k ↦ inl k | inr b ↦ inr (b.0, b.1, record { statements = []; rest = bare before tokens; printed = refl; are = tt; judged = refl; faulty = b.2 }) ]
 
-statements_err : (n : ℕ) (tokens : List Token) (e : Stop) → statements n tokens ≡ Err e → (e.defect ≡ DataSyntax) ⊎ ((span : Span) × (e.at ≡ Some span) × Behind tokens e span)
+statements_err : (n : ℕ) (tokens : List Token) (e : ParseError) → statements n tokens ≡ Err e → (e.defect ≡ DataSyntax) ⊎ ((span : Span) × (e.at ≡ Some span) × Behind tokens e span)
 unfolding statements
 statements_err zero tokens e h = absurd (cc)
 statements_err (suc n) tokens e h = statements_of n tokens (statement tokens) e refl h (λ rest k. statements_err n rest e k)
 
-lone_of : (tokens : List Token) (next : Option (Token × List Token)) (e : Stop) → lone_by tokens next ≡ Err e → e.defect ≡ DataSyntax
+lone_of : (tokens : List Token) (next : Option (Token × List Token)) (e : ParseError) → lone_by tokens next ≡ Err e → e.defect ≡ DataSyntax
 lone_of tokens None e h = absurd (cc)
 lone_of tokens (Some word) e h = elim (bind_err _ _ e h) [ inl k ↦ wanted_err semicolon word.1 e k | inr a ↦ absurd (let k = a.2 in cc) ]
 
-lone_err : (word : List ℕ) (tokens : List Token) (e : Stop) → lone word tokens ≡ Err e → e.defect ≡ DataSyntax
+lone_err : (word : List ℕ) (tokens : List Token) (e : ParseError) → lone word tokens ≡ Err e → e.defect ≡ DataSyntax
 unfolding lone
 lone_err word tokens e h = lone_of tokens (met (is_word word) tokens) e h
 
-finished_of : (next : Option (Token × List Token)) (e : Stop) → finished_by next ≡ Err e → e.defect ≡ DataSyntax
+finished_of : (next : Option (Token × List Token)) (e : ParseError) → finished_by next ≡ Err e → e.defect ≡ DataSyntax
 finished_of None e h = absurd (cc)
-finished_of (Some x) e h = let same = err_is _ e h in sym (ap (λ (s : Stop). s.defect) same)
+finished_of (Some x) e h = let same = err_is _ e h in sym (ap (λ (s : ParseError). s.defect) same)
 
-finished_err : (tokens : List Token) (e : Stop) → finished tokens ≡ Err e → e.defect ≡ DataSyntax
+finished_err : (tokens : List Token) (e : ParseError) → finished tokens ≡ Err e → e.defect ≡ DataSyntax
 unfolding finished
 finished_err tokens e h = finished_of (front tokens) e h
 
-pub tables_err : (tokens : List Token) (e : Stop) → tables tokens ≡ Err e → (e.defect ≡ DataSyntax) ⊎ ((span : Span) × (e.at ≡ Some span) × HasFault tokens e.defect span)
+pub tables_err : (tokens : List Token) (e : ParseError) → tables tokens ≡ Err e → (e.defect ≡ DataSyntax) ⊎ ((span : Span) × (e.at ≡ Some span) × HasFault tokens e.defect span)
 unfolding tables
 tables_err tokens e h =
     elim (bind_err _ _ e h) [

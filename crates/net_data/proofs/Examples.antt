@@ -6,7 +6,7 @@ use Rattle.net_lex.specs.declared.token.Token.{Token}
 use Rattle.net_fault.specs.declared.span.Span.{Span}
 use Rattle.net_fault.specs.declared.defect.Defect.TheVariants.{DataSyntax, RowWidth, TableWidth}
 use Rattle.net_data.specs.declared.statement.Statement.TheVariants as kinds
-use Rattle.net_data.specs.declared.stop.Stop.{Stop}
+use Rattle.net_data.specs.declared.parse_error.ParseError.{ParseError}
 use Rattle.net_data.specs.declared.tables.Tables.{Tables}
 use Rattle.net_data.specs.declared.statement.Transposed.{Transposed}
 use Rattle.net_data.specs.Rows.{list_rows, row_across, first_item, more_items, set_rows}
@@ -22,7 +22,7 @@ name n text = at n Name text
 abbrev mark : ℕ → List ℕ → Token
 mark n text = at n Mark text
 
-abbrev outcome : Result Tables Stop → Result ℕ Stop
+abbrev outcome : Result Tables ParseError → Result ℕ ParseError
 outcome (Ok x) = Ok 1
 outcome (Err e) = Err e
 

@@ -6,7 +6,7 @@ use Rattle.net_fault.specs.declared.defect.Defect.{Defect}
 use Rattle.net_fault.specs.declared.defect.Defect.TheVariants.{DataSyntax}
 use Rattle.net_fault.specs.declared.fault.Fault.{Fault}
 use Rattle.net_fault.specs.declared.fault.Fault.TheVariants.{OutOfMemory, At}
-use Rattle.net_data.specs.declared.stop.Stop.{Stop}
+use Rattle.net_data.specs.declared.parse_error.ParseError.{ParseError}
 use Rattle.net_data.specs.declared.tables.Tables.{Tables}
 use Rattle.net_data.specs.GoingOn.{Begins, EndsAt, NoneGoOn, EndsOpen, AllBegin, IsWrong, at_token, at_end}
 use Rattle.net_data.specs.Meaning.{Mean}
@@ -23,7 +23,7 @@ use Rattle.net_data.proofs.WidthsBegun.{fault_begun}
 use Rattle.net_data.proofs.WidthsStay.{widths_stay}
 
 -- tokens that are read, or up to their end, begin statements
-open_begins : (tokens : List Token) (e : Stop) → tables tokens ≡ Err e → e.defect ≡ DataSyntax → e.at ≡ None → Begins tokens
+open_begins : (tokens : List Token) (e : ParseError) → tables tokens ≡ Err e → e.defect ≡ DataSyntax → e.at ≡ None → Begins tokens
 open_begins tokens e h d at =
     let m = begun_before tokens e h d in
     let nothing : m.left ≡ [] = none_left m.left (sym m.stands ∙ at) in
@@ -38,7 +38,7 @@ read_begins : (tokens : List Token) (x : Tables) → tables tokens ≡ Ok x → 
 read_begins tokens x h = ([], x, subst (λ z. Mean z x) (sym (append-nil tokens)) (tables-sound tokens x h).mean)
 
 -- the token of a stop, before which the tokens begin statements
-record FirstAt (tokens : List Token) (e : Stop) (span : Span) : Type 0 where
+record FirstAt (tokens : List Token) (e : ParseError) (span : Span) : Type 0 where
   front : List Token
   token : Token
   more : List Token
@@ -47,7 +47,7 @@ record FirstAt (tokens : List Token) (e : Stop) (span : Span) : Type 0 where
   begins : Begins front
   always : (other : List Token) → tables (front ++ token ∷ other) ≡ Err e
 
-first_at : (n : ℕ) (front : List Token) (token : Token) (more : List Token) (e : Stop) (span : Span) → length front < n → token.span ≡ span → e.defect ≡ DataSyntax → e.at ≡ Some span
+first_at : (n : ℕ) (front : List Token) (token : Token) (more : List Token) (e : ParseError) (span : Span) → length front < n → token.span ≡ span → e.defect ≡ DataSyntax → e.at ≡ Some span
     → ((other : List Token) → tables (front ++ token ∷ other) ≡ Err e) → FirstAt (front ++ token ∷ more) e span
 first_at zero front token more e span less here d at always = absurd (omega (arith, less))
 first_at (suc n) front token more e span less here d at always =
@@ -56,33 +56,33 @@ first_at (suc n) front token more e span less here d at always =
     found : Begins front → FirstAt (front ++ token ∷ more) e span
     found b = record { front = front; token = token; more = more; parts = refl; at = here; begins = b; always = always }
 
-    earlier : (c : Stop) (place : Span) → tables front ≡ Err c → c.defect ≡ DataSyntax → c.at ≡ Some place
+    earlier : (c : ParseError) (place : Span) → tables front ≡ Err c → c.defect ≡ DataSyntax → c.at ≡ Some place
         → ((ft : List Token) (fk : Token) (fm : List Token) → length ft < n → fk.span ≡ span → ((other : List Token) → tables (ft ++ fk ∷ other) ≡ Err e) → FirstAt (ft ++ fk ∷ fm) e span)
         → FirstAt (front ++ token ∷ more) e span
     earlier c place i s p again =
         let st = stops_at_token front c place i s p in
         let cut : (us : List Token) → front ++ us ≡ st.front ++ st.token ∷ (st.more ++ us) = λ us. ap (λ k. k ++ us) st.parts ∙ append_assoc st.front (st.token ∷ st.more) us in
         let same : c ≡ e = err_is {A = Tables} c e (sym (st.always (st.more ++ token ∷ [])) ∙ sym (ap tables (cut (token ∷ []))) ∙ always []) in
-        let place_same : place ≡ span = place_is place span (sym p ∙ ap (λ (z : Stop). z.at) same ∙ at) in
+        let place_same : place ≡ span = place_is place span (sym p ∙ ap (λ (z : ParseError). z.at) same ∙ at) in
         let long = ap (λ (ts : List Token). length ts) st.parts in
         subst (λ z. FirstAt z e span) (sym (cut (token ∷ more)))
         (again st.front st.token (st.more ++ token ∷ more) (omega (arith, long, length-append st.front (st.token ∷ st.more), less)) (st.at ∙ place_same)
-        (λ other. st.always other ∙ ap (λ z. let r : Result Tables Stop = Err z in r) same))
+        (λ other. st.always other ∙ ap (λ z. let r : Result Tables ParseError = Err z in r) same))
 
-    by : (c : Stop) → tables front ≡ Err c → (k : Defect) → c.defect ≡ k → (o : Option Span) → c.at ≡ o
+    by : (c : ParseError) → tables front ≡ Err c → (k : Defect) → c.defect ≡ k → (o : Option Span) → c.at ≡ o
         → ((ft : List Token) (fk : Token) (fm : List Token) → length ft < n → fk.span ≡ span → ((other : List Token) → tables (ft ++ fk ∷ other) ≡ Err e) → FirstAt (ft ++ fk ∷ fm) e span)
         → FirstAt (front ++ token ∷ more) e span
     by c i DataSyntax s None p again = found (open_begins front c i s p)
     by c i DataSyntax s (Some place) p again = earlier c place i s p again
     by c i width s o p again = absurd (widths_stay front (token ∷ []) c e i (λ k. let j = sym s ∙ k in cc) (always []) d)
 
-    go : (r : Result Tables Stop) → tables front ≡ r
+    go : (r : Result Tables ParseError) → tables front ≡ r
         → ((ft : List Token) (fk : Token) (fm : List Token) → length ft < n → fk.span ≡ span → ((other : List Token) → tables (ft ++ fk ∷ other) ≡ Err e) → FirstAt (ft ++ fk ∷ fm) e span)
         → FirstAt (front ++ token ∷ more) e span
     go (Ok x) i again = found (read_begins front x i)
     go (Err c) i again = by c i c.defect refl c.at refl again
 
-ends_at : (tokens : List Token) (e : Stop) (span : Span) → tables tokens ≡ Err e → e.defect ≡ DataSyntax → e.at ≡ Some span → EndsAt tokens span
+ends_at : (tokens : List Token) (e : ParseError) (span : Span) → tables tokens ≡ Err e → e.defect ≡ DataSyntax → e.at ≡ Some span → EndsAt tokens span
 ends_at tokens e span h d at =
     let s = stops_at_token tokens e span h d at in
     let f = first_at (suc (length s.front)) s.front s.token s.more e span (omega arith) s.at d at s.always in
@@ -96,7 +96,7 @@ ends_at tokens e span h d at =
       none = λ other x. no_tables (f.front ++ f.token ∷ other) e (f.always other) d x;
     }
 
-ends_open : (tokens : List Token) (e : Stop) → tables tokens ≡ Err e → e.defect ≡ DataSyntax → e.at ≡ None → EndsOpen tokens
+ends_open : (tokens : List Token) (e : ParseError) → tables tokens ≡ Err e → e.defect ≡ DataSyntax → e.at ≡ None → EndsOpen tokens
 ends_open tokens e h d at = record { begins = open_begins tokens e h d at; none = no_tables tokens e h d }
 
 pub none_go_on : NoneGoOn
@@ -105,7 +105,7 @@ none_go_on tokens span h = ends_at tokens (stop DataSyntax (Some span)) span h r
 pub all_begin : AllBegin
 all_begin tokens h = ends_open tokens (stop DataSyntax None) h refl refl
 
-faulty : (tokens : List Token) (end : ℕ) (e : Stop) (defect : Defect) (span : Span) → tables tokens ≡ Err e → e.defect ≡ defect → span_or_end end e.at ≡ span → (defect ≡ DataSyntax → ⊥) → HasFault tokens defect span
+faulty : (tokens : List Token) (end : ℕ) (e : ParseError) (defect : Defect) (span : Span) → tables tokens ≡ Err e → e.defect ≡ defect → span_or_end end e.at ≡ span → (defect ≡ DataSyntax → ⊥) → HasFault tokens defect span
 faulty tokens end e defect span h same there width =
     elim (tables_err tokens e h) [
       | inl s ↦ absurd (width (sym same ∙ s))
@@ -116,14 +116,14 @@ faulty tokens end e defect span h same there width =
           subst P same (subst Q place b.2)
     ]
 
-wrong : (tokens : List Token) (e : Stop) (span : Span) → tables tokens ≡ Err e → e.defect ≡ DataSyntax → span_or_end (end_of tokens) e.at ≡ span → IsWrong tokens span
+wrong : (tokens : List Token) (e : ParseError) (span : Span) → tables tokens ≡ Err e → e.defect ≡ DataSyntax → span_or_end (end_of tokens) e.at ≡ span → IsWrong tokens span
 wrong tokens e span h d place = by e.at refl
   where
     by : (o : Option Span) → e.at ≡ o → IsWrong tokens span
     by None at = at_end (ap (span_or_end (end_of tokens)) (sym at) ∙ place) (ends_open tokens e h d at)
     by (Some s) at = let same : s ≡ span = ap (span_or_end (end_of tokens)) (sym at) ∙ place in at_token (subst (EndsAt tokens) same (ends_at tokens e s h d at))
 
-defect_at : (tokens : List Token) (e : Stop) (defect : Defect) (span : Span) → tables tokens ≡ Err e → e.defect ≡ defect → span_or_end (end_of tokens) e.at ≡ span → IsDefectAt tokens defect span
+defect_at : (tokens : List Token) (e : ParseError) (defect : Defect) (span : Span) → tables tokens ≡ Err e → e.defect ≡ defect → span_or_end (end_of tokens) e.at ≡ span → IsDefectAt tokens defect span
 defect_at tokens e DataSyntax span h same there = wrong tokens e span h same there
 defect_at tokens e defect span h same there = let f = faulty tokens (end_of tokens) e defect span h same there (λ s. cc) in (f, fault_begun tokens defect span f)
 

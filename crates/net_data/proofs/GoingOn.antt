@@ -3,7 +3,7 @@ use Rattle.std.proofs.Common.{◌≡◌, ℕ, zero, suc, ◌≤◌, ◌<◌, Boo
 use Rattle.net_fault.specs.declared.span.Span.{Span}
 use Rattle.net_lex.specs.declared.token.Token.{Token}
 use Rattle.net_fault.specs.declared.defect.Defect.TheVariants.{DataSyntax}
-use Rattle.net_data.specs.declared.stop.Stop.{Stop}
+use Rattle.net_data.specs.declared.parse_error.ParseError.{ParseError}
 use Rattle.net_data.specs.declared.statement.Statement.{Statement}
 use Rattle.net_data.specs.declared.tables.Lone.{Lone}
 use Rattle.net_data.specs.declared.tables.Tables.{Tables}
@@ -126,36 +126,36 @@ lone_local word tokens =
     (choose_local (is_word word) (λ ts. Ok (None, ts)) lone_behind tokens (pure_local None tokens) (λ first behind i.
     bind_local (wanted semicolon) (λ end. Ok (Some (record { word = first; end = end.0 }), end.1)) behind (wanted_local semicolon behind) (λ end rest j. pure_local (Some (record { word = first; end = end })) rest)))
 
-abbrev ended : Tables → List Token → Result Tables Stop
+abbrev ended : Tables → List Token → Result Tables ParseError
 ended x ts = finished_by (front ts) >>= (λ over. Ok x)
 
 ended_stops : (x : Tables) (tokens : List Token) → Stops (ended x) tokens
 ended_stops x tokens e h d span at = go (front tokens) refl
   where
     go : (o : Option (Token × List Token)) → front tokens ≡ o → StopsAt (ended x) tokens e span
-    go None i = never x e (sym (ap (λ o. finished_by o >>= (λ over. let r : Result Tables Stop = Ok x in r)) i) ∙ h)
+    go None i = never x e (sym (ap (λ o. finished_by o >>= (λ over. let r : Result Tables ParseError = Ok x in r)) i) ∙ h)
     go (Some y) i =
         let f = first_token tokens y.0 y.1 i in
-        let same = err_is {A = Tables} (stop DataSyntax (Some y.0.span)) e (sym (ap (λ o. finished_by o >>= (λ over. let r : Result Tables Stop = Ok x in r)) i) ∙ h) in
+        let same = err_is {A = Tables} (stop DataSyntax (Some y.0.span)) e (sym (ap (λ o. finished_by o >>= (λ over. let r : Result Tables ParseError = Ok x in r)) i) ∙ h) in
         record {
           front = f.commas;
           token = y.0;
           more = y.1;
           parts = f.parts;
-          at = place_is y.0.span span (ap (λ (s : Stop). s.at) same ∙ at);
+          at = place_is y.0.span span (ap (λ (s : ParseError). s.at) same ∙ at);
           looks = f.looks;
           always = λ other.
-              ap (λ o. finished_by o >>= (λ over. let r : Result Tables Stop = Ok x in r)) (f.fronts other)
-              ∙ ap (λ z. let r : Result Tables Stop = Err z in r) same;
+              ap (λ o. finished_by o >>= (λ over. let r : Result Tables ParseError = Ok x in r)) (f.fronts other)
+              ∙ ap (λ z. let r : Result Tables ParseError = Err z in r) same;
         }
 
-abbrev behind_ending : Option Lone → List Statement → Option Lone × List Token → Result Tables Stop
+abbrev behind_ending : Option Lone → List Statement → Option Lone × List Token → Result Tables ParseError
 behind_ending opening xs n = ended (record { opening = opening; statements = xs; ending = n.0 }) n.1
 
-abbrev behind_all : Option Lone → List Statement × List Token → Result Tables Stop
+abbrev behind_all : Option Lone → List Statement × List Token → Result Tables ParseError
 behind_all opening s = lone (codes "end") s.1 >>= behind_ending opening s.0
 
-abbrev behind_opening : Option Lone × List Token → Result Tables Stop
+abbrev behind_opening : Option Lone × List Token → Result Tables ParseError
 behind_opening o = all_of o.1 >>= behind_all o.0
 
 tables_is : (ts : List Token) → tables ts ≡ (lone (codes "data") ts >>= behind_opening)
@@ -170,7 +170,7 @@ tables_stop tokens =
     ended_stops (record { opening = opening; statements = xs; ending = ending }) rest)))
 
 -- where a text stops at a token, it stops there whatever comes behind
-pub stops_at_token : (tokens : List Token) (e : Stop) (span : Span) → tables tokens ≡ Err e → e.defect ≡ DataSyntax → e.at ≡ Some span → StopsAt tables tokens e span
+pub stops_at_token : (tokens : List Token) (e : ParseError) (span : Span) → tables tokens ≡ Err e → e.defect ≡ DataSyntax → e.at ≡ Some span → StopsAt tables tokens e span
 stops_at_token tokens e span h d at =
     let s = tables_stop tokens e (sym (tables_is tokens) ∙ h) d span at in
     record { front = s.front; token = s.token; more = s.more; parts = s.parts; at = s.at; looks = s.looks; always = λ other. tables_is (s.front ++ s.token ∷ other) ∙ s.always other }

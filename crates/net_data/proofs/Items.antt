@@ -10,7 +10,7 @@ use Rattle.net_data.specs.declared.spot.Spot.{Spot}
 use Rattle.net_fault.specs.declared.defect.Defect.TheVariants.{DataSyntax}
 use Rattle.net_data.specs.Spots.{spot_after, rests}
 use Rattle.net_data.specs.Reading.{Read, stop, with_token, items_from, items}
-use Rattle.net_data.specs.declared.stop.Stop.{Stop}
+use Rattle.net_data.specs.declared.parse_error.ParseError.{ParseError}
 
 -- these tokens, and then what is read
 abbrev pub with_tokens : List Token → Read (List Token) → Read (List Token)
@@ -68,7 +68,7 @@ pub items_counted : (tokens : List Token) (n : ℕ) → items_from outside token
 unfolding items
 items_counted tokens n h = rw h
 
-pub items_refused : (tokens : List Token) (e : Stop) → items_from outside tokens ≡ Err e → items tokens ≡ Err e
+pub items_refused : (tokens : List Token) (e : ParseError) → items_from outside tokens ≡ Err e → items tokens ≡ Err e
 unfolding items
 items_refused tokens e h = rw h
 

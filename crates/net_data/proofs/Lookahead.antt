@@ -4,7 +4,7 @@ use Rattle.std.specs.Prelude.{if◌then◌else◌}
 use Rattle.net_fault.specs.declared.span.Span.{Span}
 use Rattle.net_lex.specs.declared.token.Token.{Token}
 use Rattle.net_fault.specs.declared.defect.Defect.TheVariants.{DataSyntax}
-use Rattle.net_data.specs.declared.stop.Stop.{Stop}
+use Rattle.net_data.specs.declared.parse_error.ParseError.{ParseError}
 use Rattle.net_data.specs.Tests.{is_comma}
 use Rattle.net_data.specs.Reading.{Read, ◌>>=◌}
 
@@ -16,10 +16,10 @@ ok_is p q h = cc
 some_is : (p q : Token × List Token) → (let o : Option (Token × List Token) = Some p in o ≡ Some q) → p ≡ q
 some_is p q h = cc
 
-pub never : {A P : Type 0} (x : A) (e : Stop) → (let r : Result A Stop = Ok x in r ≡ Err e) → P
+pub never : {A P : Type 0} (x : A) (e : ParseError) → (let r : Result A ParseError = Ok x in r ≡ Err e) → P
 never x e h = absurd (cc)
 
-pub never_ok : {A P : Type 0} (x : A) (e : Stop) → (let r : Result A Stop = Err e in r ≡ Ok x) → P
+pub never_ok : {A P : Type 0} (x : A) (e : ParseError) → (let r : Result A ParseError = Err e in r ≡ Ok x) → P
 never_ok x e h = absurd (cc)
 
 pub ok_parts : {A : Type 0} (x y : A) (ts us : List Token) → (let r : Read A = Ok (x, ts) in r ≡ Ok (y, us)) → (x ≡ y) × (ts ≡ us)
@@ -28,7 +28,7 @@ ok_parts x y ts us h = let both = ok_is (x, ts) (y, us) h in (ap (λ p. p.0) bot
 pub some_parts : (x y : Token) (ts us : List Token) → (let o : Option (Token × List Token) = Some (x, ts) in o ≡ Some (y, us)) → (x ≡ y) × (ts ≡ us)
 some_parts x y ts us h = let both = some_is (x, ts) (y, us) h in (ap (λ p. p.0) both, ap (λ p. p.1) both)
 
-pub err_is : {A : Type 0} (d e : Stop) → (let r : Result A Stop = Err d in r ≡ Err e) → d ≡ e
+pub err_is : {A : Type 0} (d e : ParseError) → (let r : Result A ParseError = Err d in r ≡ Err e) → d ≡ e
 err_is d e h = cc
 
 pub place_is : (x y : Span) → (let o : Option Span = Some x in o ≡ Some y) → x ≡ y
@@ -72,7 +72,7 @@ looked_begins xs t ts i e = begins xs (e ∙ ap (λ b. if b then t ∷ looked ts
 
 -- ---- a reading, and where it depends on no more
 
-pub record StopsAt {B : Type 0} (f : List Token → Result B Stop) (tokens : List Token) (e : Stop) (span : Span) : Type 0 where
+pub record StopsAt {B : Type 0} (f : List Token → Result B ParseError) (tokens : List Token) (e : ParseError) (span : Span) : Type 0 where
   pub front : List Token
   pub token : Token
   pub more : List Token
@@ -82,8 +82,8 @@ pub record StopsAt {B : Type 0} (f : List Token → Result B Stop) (tokens : Lis
   pub always : (other : List Token) → f (front ++ token ∷ other) ≡ Err e
 
 -- at the token at which it stops
-abbrev pub Stops : {B : Type 0} → (List Token → Result B Stop) → List Token → Type 0
-Stops f tokens = (e : Stop) → f tokens ≡ Err e → e.defect ≡ DataSyntax → (span : Span) → e.at ≡ Some span → StopsAt f tokens e span
+abbrev pub Stops : {B : Type 0} → (List Token → Result B ParseError) → List Token → Type 0
+Stops f tokens = (e : ParseError) → f tokens ≡ Err e → e.defect ≡ DataSyntax → (span : Span) → e.at ≡ Some span → StopsAt f tokens e span
 
 pub record PassesOn {A : Type 0} (f : List Token → Read A) (tokens : List Token) (x : A) (rest : List Token) : Type 0 where
   pub front : List Token
@@ -99,25 +99,25 @@ pub record Local {A : Type 0} (f : List Token → Read A) (tokens : List Token) 
 
 -- ---- one reading behind the other
 
-pub record Failed {A B : Type 0} (read : Result A Stop) (k : A → Result B Stop) (e : Stop) : Type 0 where
+pub record Failed {A B : Type 0} (read : Result A ParseError) (k : A → Result B ParseError) (e : ParseError) : Type 0 where
   pub value : A
   pub first : read ≡ Ok value
   pub stopped : k value ≡ Err e
 
-bind_err : {A B P : Type 0} (read : Result A Stop) (k : A → Result B Stop) (e : Stop) → (read >>= k) ≡ Err e → (read ≡ Err e → P) → (Failed read k e → P) → P
+bind_err : {A B P : Type 0} (read : Result A ParseError) (k : A → Result B ParseError) (e : ParseError) → (read >>= k) ≡ Err e → (read ≡ Err e → P) → (Failed read k e → P) → P
 bind_err (Ok x) k e h p q = q (record { value = x; first = refl; stopped = h })
-bind_err {A} (Err d) k e h p q = p (ap (λ z. let r : Result A Stop = Err z in r) (err_is d e h))
+bind_err {A} (Err d) k e h p q = p (ap (λ z. let r : Result A ParseError = Err z in r) (err_is d e h))
 
-record Followed {A B : Type 0} (read : Result A Stop) (k : A → Result B Stop) (y : B) : Type 0 where
+record Followed {A B : Type 0} (read : Result A ParseError) (k : A → Result B ParseError) (y : B) : Type 0 where
   pub value : A
   pub first : read ≡ Ok value
   pub behind : k value ≡ Ok y
 
-bind_ok : {A B : Type 0} (read : Result A Stop) (k : A → Result B Stop) (y : B) → (read >>= k) ≡ Ok y → Followed read k y
+bind_ok : {A B : Type 0} (read : Result A ParseError) (k : A → Result B ParseError) (y : B) → (read >>= k) ≡ Ok y → Followed read k y
 bind_ok (Ok x) k y h = record { value = x; first = refl; behind = h }
 bind_ok (Err e) k y h = absurd (cc)
 
-pub bind_stops : {A B : Type 0} (f : List Token → Read A) (k : A × List Token → Result B Stop) (tokens : List Token) → Local f tokens → ((x : A) (rest : List Token) → f tokens ≡ Ok (x, rest) → Stops (λ ts. k (x, ts)) rest) → Stops (λ ts. f ts >>= k) tokens
+pub bind_stops : {A B : Type 0} (f : List Token → Read A) (k : A × List Token → Result B ParseError) (tokens : List Token) → Local f tokens → ((x : A) (rest : List Token) → f tokens ≡ Ok (x, rest) → Stops (λ ts. k (x, ts)) rest) → Stops (λ ts. f ts >>= k) tokens
 bind_stops f k tokens l behind e h d span at = bind_err (f tokens) k e h at_first at_second
   where
     at_first : f tokens ≡ Err e → StopsAt (λ ts. f ts >>= k) tokens e span
@@ -181,9 +181,9 @@ pure_local {A} x tokens = record {
 }
 
 -- what does not come from the tokens, and is no fault of syntax
-pub const_local : {U B : Type 0} (r : Result U Stop) (k : U → List Token → Read B) (tokens : List Token) → ((e : Stop) → r ≡ Err e → e.defect ≡ DataSyntax → ⊥) → ((u : U) → Local (k u) tokens) → Local (λ ts. r >>= (λ u. k u ts)) tokens
+pub const_local : {U B : Type 0} (r : Result U ParseError) (k : U → List Token → Read B) (tokens : List Token) → ((e : ParseError) → r ≡ Err e → e.defect ≡ DataSyntax → ⊥) → ((u : U) → Local (k u) tokens) → Local (λ ts. r >>= (λ u. k u ts)) tokens
 const_local (Ok u) k tokens never l = l u
 const_local {U} (Err d) k tokens never l = record {
-  stops = λ e h s span at. absurd (never e (ap (λ z. let r : Result U Stop = Err z in r) (err_is d e h)) s);
+  stops = λ e h s span at. absurd (never e (ap (λ z. let r : Result U ParseError = Err z in r) (err_is d e h)) s);
   passes = λ y rest h. absurd (let i = h in cc);
 }

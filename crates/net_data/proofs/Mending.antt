@@ -3,7 +3,7 @@ use Rattle.std.proofs.Common.{◌≡◌, Bool, true, false, cond, ◌&&◌, List
 use Rattle.net_fault.specs.declared.span.Span.{Span}
 use Rattle.net_lex.specs.declared.token.Token.{Token}
 use Rattle.net_fault.specs.declared.defect.Defect.TheVariants.{DataSyntax}
-use Rattle.net_data.specs.declared.stop.Stop.{Stop}
+use Rattle.net_data.specs.declared.parse_error.ParseError.{ParseError}
 use Rattle.net_data.specs.Tests.{is_comma}
 use Rattle.net_data.specs.Commas.{Place, place_after, skips, bare}
 use Rattle.net_data.specs.Reading.{Read, stop, front, met, wanted, ◌>>=◌}
@@ -43,8 +43,8 @@ pub record Crossed {A : Type 0} (K : Written A) (p q : Place) (w : List Token �
   pub fits : K.fits x
   pub text : (r : List Token) → K.put x (bare q r) ≡ w (bare p (front ++ r))
 
-abbrev pub Mending : {A B : Type 0} → Written A → Place → Place → (List Token → List Token) → List Token → Result B Stop → Type 0
-Mending K p q w tokens read = (e : Stop) → read ≡ Err e → e.defect ≡ DataSyntax → Mended K p q w tokens e.at
+abbrev pub Mending : {A B : Type 0} → Written A → Place → Place → (List Token → List Token) → List Token → Result B ParseError → Type 0
+Mending K p q w tokens read = (e : ParseError) → read ≡ Err e → e.defect ≡ DataSyntax → Mended K p q w tokens e.at
 
 pub record Reads {A : Type 0} (K : Written A) (p q : Place) (w : List Token → List Token) (tokens : List Token) (read : Read A) : Type 0 where
   pub crosses : (x : A) (rest : List Token) → read ≡ Ok (x, rest) → Crossed K p q w tokens x rest
@@ -98,7 +98,7 @@ rest-crosses K L p m q w tokens x rest y last c h = record {
 }
 
 -- a part, and what stops behind it
-pub then_mends : {A B C : Type 0} (K : Written A) (L : Written B) (p m q : Place) (w : List Token → List Token) (tokens : List Token) (f : Read A) (k : A × List Token → Result C Stop)
+pub then_mends : {A B C : Type 0} (K : Written A) (L : Written B) (p m q : Place) (w : List Token → List Token) (tokens : List Token) (f : Read A) (k : A × List Token → Result C ParseError)
     → Reads K p m same tokens f
     → ((x : A) → K.fits x → Begun L m q (λ r. w (K.put x r)) [])
     → ((x : A) (rest : List Token) → f ≡ Ok (x, rest) → K.fits x → Mending L m q (λ r. w (K.put x r)) rest (k (x, rest)))
@@ -193,7 +193,7 @@ span_of_next None = None
 span_of_next (Some x) = Some x.0.span
 
 -- nothing but commas, or commas and a token, before the stop
-pub commas_mend : {A : Type 0} (K : Written A) (p q : Place) (w : List Token → List Token) (tokens : List Token) (e : Stop) → skips p ≡ true → Begun K p q w []
+pub commas_mend : {A : Type 0} (K : Written A) (p q : Place) (w : List Token → List Token) (tokens : List Token) (e : ParseError) → skips p ≡ true → Begun K p q w []
     → (o : Option (Token × List Token)) → front tokens ≡ o → e.at ≡ span_of_next o → Mended K p q w tokens e.at
 commas_mend K p q w tokens e outside b None i at = record {
   before = tokens;
@@ -242,7 +242,7 @@ wanted_reads p q test filler tokens m passes plain = subst (Reads (token test) p
       crosses = λ y last h. absurd (let k = h in cc);
       mends = λ e h d.
           let s = err_is {A = Token × List Token} (stop DataSyntax (Some x.0.span)) e h in
-          commas_mend (token test) p q same tokens e m.skips (token_begun p q test filler m passes plain) (Some x) i (ap (λ (z : Stop). z.at) (sym s));
+          commas_mend (token test) p q same tokens e m.skips (token_begun p q test filler m passes plain) (Some x) i (ap (λ (z : ParseError). z.at) (sym s));
     }
 
     go : (o : Option (Token × List Token)) → front tokens ≡ o → Reads (token test) p q same tokens (wanted_of test o)
@@ -250,7 +250,7 @@ wanted_reads p q test filler tokens m passes plain = subst (Reads (token test) p
       crosses = λ y last h. absurd (let k = h in cc);
       mends = λ e h d.
           let s = err_is {A = Token × List Token} (stop DataSyntax None) e h in
-          commas_mend (token test) p q same tokens e m.skips (token_begun p q test filler m passes plain) None i (ap (λ (z : Stop). z.at) (sym s));
+          commas_mend (token test) p q same tokens e m.skips (token_begun p q test filler m passes plain) None i (ap (λ (z : ParseError). z.at) (sym s));
     }
     go (Some x) i = by x i (test x.0) refl
 

@@ -10,7 +10,7 @@ use Rattle.net_lex.specs.declared.token.Kind.TheVariants as tokens_of
 use Rattle.net_fault.specs.declared.defect.Defect.TheVariants.{DataSyntax}
 use Rattle.net_data.specs.declared.spot.Spot.{Spot}
 use Rattle.net_data.specs.declared.spot.Spot.TheVariants.{Outside, Opened, First, Parted, Later}
-use Rattle.net_data.specs.declared.stop.Stop.{Stop}
+use Rattle.net_data.specs.declared.parse_error.ParseError.{ParseError}
 use Rattle.net_data.specs.Commas.{in_set, elsewhere, skips, bare}
 use Rattle.net_data.specs.Meaning.{AreItems}
 use Rattle.net_data.specs.Reading.{Read, stop, run, items, items_from, items_of, with_token, ◌>>=◌}
@@ -130,27 +130,27 @@ record Refused (spot : Spot) (tokens : List Token) (at : Option Span) : Type 0 w
   stands : at ≡ place_of left
   leads : Leading spot front
 
-resting : (spot : Spot) (tokens : List Token) (e d : Stop) → (let r : Read (List Token) = if rests spot then Ok ([], tokens) else Err d in r ≡ Err e) → d ≡ e
+resting : (spot : Spot) (tokens : List Token) (e d : ParseError) → (let r : Read (List Token) = if rests spot then Ok ([], tokens) else Err d in r ≡ Err e) → d ≡ e
 resting Outside tokens e d h = absurd (let k = h in cc)
 resting Opened tokens e d h = cc
 resting First tokens e d h = cc
 resting Parted tokens e d h = cc
 resting Later tokens e d h = cc
 
-with_err : (token : Token) (read : Read (List Token)) (e : Stop) → with_token token read ≡ Err e → read ≡ Err e
+with_err : (token : Token) (read : Read (List Token)) (e : ParseError) → with_token token read ≡ Err e → read ≡ Err e
 with_err token (Ok x) e h = absurd (let k = h in cc)
 with_err token (Err d) e h = let s : d ≡ e = cc in ap (λ z. let r : Read (List Token) = Err z in r) s
 
-items-refused : (spot : Spot) (tokens : List Token) (e : Stop) → items_from spot tokens ≡ Err e → Refused spot tokens e.at
+items-refused : (spot : Spot) (tokens : List Token) (e : ParseError) → items_from spot tokens ≡ Err e → Refused spot tokens e.at
 items-refused spot [] e h =
     let s = resting spot [] e (stop DataSyntax None) (sym (items-nil spot) ∙ h) in
-    record { front = []; left = []; parts = refl; stands = ap (λ (z : Stop). z.at) (sym s); leads = leading_none spot }
+    record { front = []; left = []; parts = refl; stands = ap (λ (z : ParseError). z.at) (sym s); leads = leading_none spot }
 items-refused spot (t ∷ ts) e h = go (spot_after spot t) refl (λ next k. items-refused next ts e k)
   where
     go : (o : Option Spot) → spot_after spot t ≡ o → ((next : Spot) → items_from next ts ≡ Err e → Refused next ts e.at) → Refused spot (t ∷ ts) e.at
     go None i more =
         let s = resting spot (t ∷ ts) e (stop DataSyntax (Some t.span)) (sym (items-none spot t ts i) ∙ h) in
-        record { front = []; left = t ∷ ts; parts = refl; stands = ap (λ (z : Stop). z.at) (sym s); leads = leading_none spot }
+        record { front = []; left = t ∷ ts; parts = refl; stands = ap (λ (z : ParseError). z.at) (sym s); leads = leading_none spot }
     go (Some next) i more =
         let r = more next (with_err t (items_from next ts) e (sym (items-some spot next t ts i) ∙ h)) in
         record { front = t ∷ r.front; left = r.left; parts = ap (λ us. t ∷ us) r.parts; stands = r.stands; leads = leading_cons spot next t r.front i r.leads }
@@ -161,7 +161,7 @@ record Taken (spot : Spot) (tokens : List Token) (x : List Token × List Token) 
   walks : Walk spot (bare (spot_place spot) x.0)
   text : (r : List Token) → bare (spot_place spot) x.0 ++ bare in_set r ≡ bare (spot_place spot) (x.0 ++ r)
 
-taken_none : (spot : Spot) (tokens : List Token) (d : Stop) (x : List Token × List Token) → (let r : Read (List Token) = if rests spot then Ok ([], tokens) else Err d in r ≡ Ok x) → Taken spot tokens x
+taken_none : (spot : Spot) (tokens : List Token) (d : ParseError) (x : List Token × List Token) → (let r : Read (List Token) = if rests spot then Ok ([], tokens) else Err d in r ≡ Ok x) → Taken spot tokens x
 taken_none Outside tokens d x h = let s : ([], tokens) ≡ x = cc in subst (Taken Outside tokens) s (record { parts = refl; walks = tt; text = λ r. refl })
 taken_none Opened tokens d x h = absurd (let k = h in cc)
 taken_none First tokens d x h = absurd (let k = h in cc)
@@ -203,7 +203,7 @@ items-taken spot (t ∷ ts) x h = go (spot_after spot t) refl (λ next y k. item
 abbrev pub item_list : Written (List Token)
 item_list = record { put = λ xs r. xs ++ r; fits = AreItems }
 
-items_err : (read : Read (List Token)) (e : Stop) → (let r : Read (List Token) = read >>= (λ y. Ok (items_of y)) in r ≡ Err e) → read ≡ Err e
+items_err : (read : Read (List Token)) (e : ParseError) → (let r : Read (List Token) = read >>= (λ y. Ok (items_of y)) in r ≡ Err e) → read ≡ Err e
 items_err (Ok x) e h = absurd (let k = h in cc)
 items_err (Err d) e h = let s : d ≡ e = cc in ap (λ z. let r : Read (List Token) = Err z in r) s
 

@@ -7,7 +7,7 @@ use Rattle.net_data.specs.declared.statement.DefaultValue.{DefaultValue}
 use Rattle.net_data.specs.declared.statement.Transposed.{Transposed}
 use Rattle.net_data.specs.declared.statement.Statement.{Statement}
 use Rattle.net_data.specs.declared.statement.Statement.TheVariants as kinds
-use Rattle.net_data.specs.declared.stop.Stop.{Stop}
+use Rattle.net_data.specs.declared.parse_error.ParseError.{ParseError}
 use Rattle.net_data.specs.Commas.{Place, before, in_set, elsewhere, bare}
 use Rattle.net_data.specs.Meaning.{AreItems, IsDefault, IsTransposed, IsStatement}
 use Rattle.net_data.specs.Printing.{put, put_default, put_transposed}
@@ -84,7 +84,7 @@ heading_kind test = record { put = λ x r. x.0 ++ x.1 ∷ r; fits = λ x. (list_
 headed_reads : (test : Token → Bool) (xs : List Token) (mark : Token) (rest : List Token) → list_all test xs ≡ true → assign mark ≡ true → Reads (heading_kind test) elsewhere elsewhere (λ r. xs ++ mark ∷ r) rest (headed xs mark rest)
 headed_reads test [] mark rest pass gives = record {
   crosses = λ x last h. absurd (let k = h in cc);
-  mends = λ e h d. absurd (let k = ap (λ (s : Stop). s.defect) (err_is {A = (List Token × Token) × List Token} (stop TableWidth (Some mark.span)) e h) ∙ d in cc);
+  mends = λ e h d. absurd (let k = ap (λ (s : ParseError). s.defect) (err_is {A = (List Token × Token) × List Token} (stop TableWidth (Some mark.span)) e h) ∙ d in cc);
 }
 headed_reads test (c ∷ xs) mark rest pass gives = told_reads (heading_kind test) elsewhere (λ r. c ∷ xs ++ mark ∷ r) (c ∷ xs, mark) rest (pass, gives) (λ r. refl)
 
@@ -112,15 +112,15 @@ cells_reads tokens =
     (λ end r2 e2 ends. told_reads cells_kind before (λ r. xs ++ end ∷ r) (xs, end) r2 (pass, ends) (λ r. refl)))
 
 -- what is judged and is no fault of the grammar
-judged_reads : {U A : Type 0} (K : Written A) (q : Place) (w : List Token → List Token) (tokens : List Token) (judged : Result U Stop) (x : A × List Token)
-    → ((e : Stop) → judged ≡ Err e → e.defect ≡ DataSyntax → ⊥) → Reads K q q w tokens (Ok x) → Reads K q q w tokens (judged >>= (λ u. Ok x))
+judged_reads : {U A : Type 0} (K : Written A) (q : Place) (w : List Token → List Token) (tokens : List Token) (judged : Result U ParseError) (x : A × List Token)
+    → ((e : ParseError) → judged ≡ Err e → e.defect ≡ DataSyntax → ⊥) → Reads K q q w tokens (Ok x) → Reads K q q w tokens (judged >>= (λ u. Ok x))
 judged_reads K q w tokens (Ok u) x never r = r
 judged_reads {U} {A} K q w tokens (Err t) x never r = record {
   crosses = λ y last h. absurd (let k = h in cc);
-  mends = λ e h d. absurd (never e (ap (λ z. let j : Result U Stop = Err z in j) (err_is {A = A × List Token} t e h)) d);
+  mends = λ e h d. absurd (never e (ap (λ z. let j : Result U ParseError = Err z in j) (err_is {A = A × List Token} t e h)) d);
 }
 
-filled_never : (heads all : List Token) (e : Stop) → filled heads all ≡ Err e → e.defect ≡ DataSyntax → ⊥
+filled_never : (heads all : List Token) (e : ParseError) → filled heads all ≡ Err e → e.defect ≡ DataSyntax → ⊥
 filled_never heads all e h d = let k = (filled_err heads all e h).1 in absurd (cc)
 
 abbrev table_of : Token → Token → Option DefaultValue → Option Transposed → Token → List Token → Token → List Token → Token → Statement

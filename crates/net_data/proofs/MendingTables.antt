@@ -6,7 +6,7 @@ use Rattle.net_fault.specs.declared.span.Span.{Span}
 use Rattle.net_lex.specs.declared.token.Token.{Token}
 use Rattle.net_fault.specs.declared.defect.Defect.TheVariants.{DataSyntax}
 use Rattle.net_data.specs.declared.statement.Statement.{Statement}
-use Rattle.net_data.specs.declared.stop.Stop.{Stop}
+use Rattle.net_data.specs.declared.parse_error.ParseError.{ParseError}
 use Rattle.net_data.specs.declared.tables.Lone.{Lone}
 use Rattle.net_data.specs.declared.tables.Tables.{Tables}
 use Rattle.net_data.specs.Commas.{before, in_set, elsewhere, bare}
@@ -95,11 +95,11 @@ finished_mends w tokens x are text e h d = go (front tokens) refl h
     go None i k = absurd (let j = k in cc)
     go (Some y) i k =
         let s = err_is {A = Unit {0}} (stop DataSyntax (Some y.0.span)) e k in
-        commas_mend tables_kind before before w tokens e refl (record { thing = x; fits = are; rest = []; text = λ r. text _ }) (Some y) i (ap (λ (z : Stop). z.at) (sym s))
+        commas_mend tables_kind before before w tokens e refl (record { thing = x; fits = are; rest = []; text = λ r. text _ }) (Some y) i (ap (λ (z : ParseError). z.at) (sym s))
 
-ended_mends : (w : List Token → List Token) (tokens : List Token) (x : Tables) (read : Result (Unit {0}) Stop) → Mending tables_kind before before w tokens read → Mending tables_kind before before w tokens (read >>= (λ over. let r : Result Tables Stop = Ok x in r))
+ended_mends : (w : List Token → List Token) (tokens : List Token) (x : Tables) (read : Result (Unit {0}) ParseError) → Mending tables_kind before before w tokens read → Mending tables_kind before before w tokens (read >>= (λ over. let r : Result Tables ParseError = Ok x in r))
 ended_mends w tokens x (Ok u) mends e h d = absurd (cc)
-ended_mends w tokens x (Err t) mends e h d = mends e (ap (λ z. let r : Result (Unit {0}) Stop = Err z in r) (err_is {A = Tables} t e h)) d
+ended_mends w tokens x (Err t) mends e h d = mends e (ap (λ z. let r : Result (Unit {0}) ParseError = Err z in r) (err_is {A = Tables} t e h)) d
 
 tables_mends : (tokens : List Token) → Mending tables_kind before before same tokens (tables tokens)
 unfolding tables
@@ -124,7 +124,7 @@ pub record BegunBefore (tokens : List Token) (at : Option Span) : Type 0 where
   pub stands : at ≡ place_of left
   pub begins : Begins before
 
-pub begun_before : (tokens : List Token) (e : Stop) → tables tokens ≡ Err e → e.defect ≡ DataSyntax → BegunBefore tokens e.at
+pub begun_before : (tokens : List Token) (e : ParseError) → tables tokens ≡ Err e → e.defect ≡ DataSyntax → BegunBefore tokens e.at
 begun_before tokens e h d =
     let m = tables_mends tokens e h d in
     let b = m.begun in

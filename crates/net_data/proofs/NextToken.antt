@@ -4,7 +4,7 @@ use Rattle.std.specs.Prelude.{is_some, if◌then◌else◌}
 use Rattle.std.specs.Option.{option_map}
 use Rattle.net_lex.specs.declared.token.Token.{Token}
 use Rattle.net_fault.specs.declared.defect.Defect.TheVariants.{DataSyntax}
-use Rattle.net_data.specs.declared.stop.Stop.{Stop}
+use Rattle.net_data.specs.declared.parse_error.ParseError.{ParseError}
 use Rattle.net_data.specs.Tests.{is_comma}
 use Rattle.net_data.specs.Reading.{Read, stop, span_of, front, met_by, met, refused, wanted_by, wanted}
 use Rattle.net_data.proofs.Lookahead.{ok_parts, some_parts, err_is, place_is, looked, looked_join, looked_token, Local, same_local}
@@ -91,7 +91,7 @@ wanted_first test tokens = go (front tokens) refl
                 token = x.0;
                 more = x.1;
                 parts = f.parts;
-                at = place_is x.0.span span (ap (λ (s : Stop). s.at) same ∙ at);
+                at = place_is x.0.span span (ap (λ (s : ParseError). s.at) same ∙ at);
                 looks = f.looks;
                 always = λ other.
                     ap (wanted_of test) (f.fronts other)
@@ -107,7 +107,7 @@ wanted_first test tokens = go (front tokens) refl
         record {
           stops = λ e h d span at.
               let same = err_is (stop DataSyntax None) e (sym here ∙ h) in
-              absurd (let k = ap (λ (s : Stop). s.at) same ∙ at in cc);
+              absurd (let k = ap (λ (s : ParseError). s.at) same ∙ at in cc);
           passes = λ y rest h. absurd (let j = sym here ∙ h in cc);
         }
     go (Some x) i = by (test x.0) refl

@@ -1,7 +1,7 @@
 -- What is read as a statement is its printing.
 use Rattle.std.proofs.Common.{◌≡◌, ℕ, zero, suc, true, List, ◌∷◌, Option, Some, None, IfSome, Result, Ok, Err, refl, ap, ◌∙◌, subst, codes}
 use Rattle.net_lex.specs.declared.token.Token.{Token}
-use Rattle.net_data.specs.declared.stop.Stop.{Stop}
+use Rattle.net_data.specs.declared.parse_error.ParseError.{ParseError}
 use Rattle.net_data.specs.declared.statement.DefaultValue.{DefaultValue}
 use Rattle.net_data.specs.declared.statement.NamedSet.{NamedSet}
 use Rattle.net_data.specs.declared.statement.Statement.{Statement}
@@ -129,7 +129,7 @@ with_inv : (x : Statement) (read : Read (List Statement)) (y : List Statement ×
 with_inv x (Ok z) y h = (z, refl, ok_is _ y h)
 with_inv x (Err e) y h = absurd (cc)
 
-all_of : (n : ℕ) (tokens : List Token) (read : Result (Option (Statement × List Token)) Stop) (y : List Statement × List Token) → statement tokens ≡ read → statements_by (statements n) tokens read ≡ Ok y
+all_of : (n : ℕ) (tokens : List Token) (read : Result (Option (Statement × List Token)) ParseError) (y : List Statement × List Token) → statement tokens ≡ read → statements_by (statements n) tokens read ≡ Ok y
     → ((rest : List Token) (z : List Statement × List Token) → statements n rest ≡ Ok z → AllStated rest z) → AllStated tokens y
 all_of n tokens (Ok (Some x)) y is h behind =
     let w = with_inv x.0 (statements n x.1) y h in

@@ -9,7 +9,7 @@ use Rattle.net_fault.specs.declared.fault.Fault.TheVariants.{At}
 use Rattle.net_fault.specs.declared.finding.Finding.{Finding}
 use Rattle.net_fault.specs.declared.language.Language.TheVariants.{Data}
 use Rattle.net_fault.specs.Outcomes as outcomes
-use Rattle.net_data.specs.declared.stop.Stop.{Stop}
+use Rattle.net_data.specs.declared.parse_error.ParseError.{ParseError}
 use Rattle.net_data.specs.declared.statement.Statement.{Statement}
 use Rattle.net_data.specs.declared.statement.Statement.TheVariants as kinds
 use Rattle.net_data.specs.declared.tables.Tables.{Tables}
@@ -26,51 +26,51 @@ pub answer_full : (end : ℕ) (tokens : List Token) (result : Result Tables Faul
 answer_full end tokens (Ok x) h = (tables-sound tokens x h).judged
 answer_full end tokens (Err e) h = tt
 
-unless_is : (j : Result (Unit {0}) Stop) (x : Tables) → (j >>= (λ full. Ok x)) ≡ unless_faulty j x
+unless_is : (j : Result (Unit {0}) ParseError) (x : Tables) → (j >>= (λ full. Ok x)) ≡ unless_faulty j x
 unless_is (Ok u) x = refl
 unless_is (Err e) x = refl
 
 pub answer_complete : (end : ℕ) (tokens : List Token) (result : Result Tables Fault) → Answers end (tables tokens) result → (x : Tables) → Mean tokens x → Answers end (checked x) result
-answer_complete end tokens result h x mean = let P : Result Tables Stop → Type 0 = λ r. Answers end r result in subst P (tables-complete tokens x mean ∙ unless_is (all_judged x.statements) x) h
+answer_complete end tokens result h x mean = let P : Result Tables ParseError → Type 0 = λ r. Answers end r result in subst P (tables-complete tokens x mean ∙ unless_is (all_judged x.statements) x) h
 
-heading_width : (columns : List Token) (assign : Token) (e : Stop) → heading_judged columns assign ≡ Err e → e.defect ≡ DataSyntax → ⊥
-heading_width [] assign e h s = let same : stop TableWidth (Some assign.span) ≡ e = cc in let k = ap (λ (x : Stop). x.defect) same in cc
+heading_width : (columns : List Token) (assign : Token) (e : ParseError) → heading_judged columns assign ≡ Err e → e.defect ≡ DataSyntax → ⊥
+heading_width [] assign e h s = let same : stop TableWidth (Some assign.span) ≡ e = cc in let k = ap (λ (x : ParseError). x.defect) same in cc
 heading_width (c ∷ columns) assign e h s = cc
 
-filled_width : (columns cells : List Token) (e : Stop) → filled columns cells ≡ Err e → e.defect ≡ DataSyntax → ⊥
-filled_width columns cells e h s = let k = ap (λ (x : Stop). x.defect) (filled_err columns cells e h).1 in cc
+filled_width : (columns cells : List Token) (e : ParseError) → filled columns cells ≡ Err e → e.defect ≡ DataSyntax → ⊥
+filled_width columns cells e h s = let k = ap (λ (x : ParseError). x.defect) (filled_err columns cells e h).1 in cc
 
-and_width : (j k : Result (Unit {0}) Stop) (e : Stop) → (j ≡ Err e → e.defect ≡ DataSyntax → ⊥) → (k ≡ Err e → e.defect ≡ DataSyntax → ⊥) → and_then j k ≡ Err e → e.defect ≡ DataSyntax → ⊥
+and_width : (j k : Result (Unit {0}) ParseError) (e : ParseError) → (j ≡ Err e → e.defect ≡ DataSyntax → ⊥) → (k ≡ Err e → e.defect ≡ DataSyntax → ⊥) → and_then j k ≡ Err e → e.defect ≡ DataSyntax → ⊥
 and_width (Ok x) k e first second h s = second h s
 and_width (Err d) k e first second h s = first h s
 
-judged_width : (x : Statement) (e : Stop) → judged x ≡ Err e → e.defect ≡ DataSyntax → ⊥
+judged_width : (x : Statement) (e : ParseError) → judged x ≡ Err e → e.defect ≡ DataSyntax → ⊥
 judged_width (kinds.Set x) e h s = cc
 judged_width (kinds.List x) e h s = cc
 judged_width (kinds.Table x) e h s = and_width (heading_judged x.columns x.assign) (filled x.columns x.cells) e (heading_width x.columns x.assign e) (filled_width x.columns x.cells e) h s
 judged_width (kinds.Columns x) e h s = heading_width x.names x.assign e h s
 
-all_width : (xs : List Statement) (e : Stop) → all_judged xs ≡ Err e → e.defect ≡ DataSyntax → ⊥
+all_width : (xs : List Statement) (e : ParseError) → all_judged xs ≡ Err e → e.defect ≡ DataSyntax → ⊥
 all_width [] e h s = cc
 all_width (x ∷ xs) e h s = and_width (judged x) (all_judged xs) e (judged_width x e) (all_width xs e) h s
 
-judged_err : (j : Result (Unit {0}) Stop) (x : Tables) (e : Stop) → (j >>= (λ full. Ok x)) ≡ Err e → j ≡ Err e
+judged_err : (j : Result (Unit {0}) ParseError) (x : Tables) (e : ParseError) → (j >>= (λ full. Ok x)) ≡ Err e → j ≡ Err e
 judged_err (Ok u) x e h = absurd (cc)
 judged_err (Err d) x e h = let same : d ≡ e = cc in rw same refl
 
-pub no_tables : (tokens : List Token) (e : Stop) → tables tokens ≡ Err e → e.defect ≡ DataSyntax → (x : Tables) → Mean tokens x → ⊥
+pub no_tables : (tokens : List Token) (e : ParseError) → tables tokens ≡ Err e → e.defect ≡ DataSyntax → (x : Tables) → Mean tokens x → ⊥
 no_tables tokens e h s x mean = all_width x.statements e (judged_err (all_judged x.statements) x e (sym (tables-complete tokens x mean) ∙ h)) s
 
 -- the fault of a stop with this place
-pub fault_is : (end : ℕ) (e : Stop) (f : Finding) → At f ≡ fault_of end e → outcomes.bare Data e.defect (span_or_end end e.at) ≡ f
+pub fault_is : (end : ℕ) (e : ParseError) (f : Finding) → At f ≡ fault_of end e → outcomes.bare Data e.defect (span_or_end end e.at) ≡ f
 fault_is end e f h = cc
 
-judged_ok : (j : Result (Unit {0}) Stop) (x y : Tables) → (j >>= (λ full. Ok x)) ≡ Ok y → x ≡ y
+judged_ok : (j : Result (Unit {0}) ParseError) (x y : Tables) → (j >>= (λ full. Ok x)) ≡ Ok y → x ≡ y
 judged_ok (Ok u) x y h = cc
 judged_ok (Err e) x y h = absurd (cc)
 
 -- what tokens mean is one thing, where its tables have no fault
 pub one_meaning : (tokens : List Token) (x y : Tables) → Mean tokens x → Mean tokens y → all_judged x.statements ≡ Ok tt → x ≡ y
 one_meaning tokens x y mean other full =
-    let here : tables tokens ≡ Ok x = tables-complete tokens x mean ∙ ap (λ j. j >>= (λ full. let r : Result Tables Stop = Ok x in r)) full in
+    let here : tables tokens ≡ Ok x = tables-complete tokens x mean ∙ ap (λ j. j >>= (λ full. let r : Result Tables ParseError = Ok x in r)) full in
     sym (judged_ok (all_judged y.statements) y x (sym (tables-complete tokens y other) ∙ here))

@@ -6,7 +6,7 @@ use Rattle.net_lex.specs.declared.token.Token.{Token}
 use Rattle.net_fault.specs.declared.defect.Defect.TheVariants.{DataSyntax}
 use Rattle.net_data.specs.declared.spot.Spot.{Spot}
 use Rattle.net_data.specs.declared.spot.Spot.TheVariants.{Outside, Opened, First as FirstMember, Parted, Later}
-use Rattle.net_data.specs.declared.stop.Stop.{Stop}
+use Rattle.net_data.specs.declared.parse_error.ParseError.{ParseError}
 use Rattle.net_data.specs.Commas.{in_set, bare}
 use Rattle.net_data.specs.Reading.{Read, stop, run, items_behind, items_from, items_of, items, spot_or, with_token, ◌>>=◌}
 use Rattle.net_data.specs.Spots.{spot_after, rests, outside}
@@ -94,7 +94,7 @@ rested b t ts = if b then Ok ([], t ∷ ts) else Err (stop DataSyntax (Some t.sp
 from_end : (spot : Spot) (t : Token) (ts : List Token) → spot_after spot t ≡ None → items_from spot (t ∷ ts) ≡ rested (rests spot) t ts
 from_end spot t ts i = from_cons spot t ts ∙ ap (λ o. items_behind t ts o spot (items_from (spot_or spot o) ts)) i
 
-token_err : (t : Token) (read : Read (List Token)) (e : Stop) → with_token t read ≡ Err e → read ≡ Err e
+token_err : (t : Token) (read : Read (List Token)) (e : ParseError) → with_token t read ≡ Err e → read ≡ Err e
 token_err t (Ok x) e h = absurd (cc)
 token_err t (Err d) e h = ap (λ z. let r : Read (List Token) = Err z in r) (err_is d e h)
 
@@ -136,7 +136,7 @@ comma_rests FirstMember next t r i h = absurd (cc)
 comma_rests Parted next t r i h = absurd (cc)
 comma_rests Later next t r i h = absurd (cc)
 
-record ItemsStop (spot : Spot) (tokens : List Token) (e : Stop) (span : Span) : Type 0 where
+record ItemsStop (spot : Spot) (tokens : List Token) (e : ParseError) (span : Span) : Type 0 where
   pub front : List Token
   pub token : Token
   pub more : List Token
@@ -145,12 +145,12 @@ record ItemsStop (spot : Spot) (tokens : List Token) (e : Stop) (span : Span) : 
   pub looks : rests spot ≡ true → (ys zs : List Token) → looked (front ++ token ∷ ys) ≡ looked (front ++ token ∷ zs)
   pub always : (other : List Token) → items_from spot (front ++ token ∷ other) ≡ Err e
 
-items_stop : (spot : Spot) (tokens : List Token) (e : Stop) → items_from spot tokens ≡ Err e → (span : Span) → e.at ≡ Some span → ItemsStop spot tokens e span
+items_stop : (spot : Spot) (tokens : List Token) (e : ParseError) → items_from spot tokens ≡ Err e → (span : Span) → e.at ≡ Some span → ItemsStop spot tokens e span
 items_stop spot [] e h span at = go (rests spot) (sym (from_nil spot) ∙ h)
   where
     go : (b : Bool) → (let r : Read (List Token) = if b then Ok ([], []) else Err (stop DataSyntax None) in r) ≡ Err e → ItemsStop spot [] e span
     go true k = absurd (cc)
-    go false k = let place = ap (λ (s : Stop). s.at) (err_is (stop DataSyntax None) e k) ∙ at in absurd (cc)
+    go false k = let place = ap (λ (s : ParseError). s.at) (err_is (stop DataSyntax None) e k) ∙ at in absurd (cc)
 items_stop spot (t ∷ ts) e h span at = go (spot_after spot t) refl (λ next i. items_stop next ts e i span at)
   where
     inside : (next : Spot) → spot_after spot t ≡ Some next → ItemsStop next ts e span → ItemsStop spot (t ∷ ts) e span
@@ -177,7 +177,7 @@ items_stop spot (t ∷ ts) e h span at = go (spot_after spot t) refl (λ next i.
           token = t;
           more = ts;
           parts = refl;
-          at = place_is t.span span (ap (λ (s : Stop). s.at) same ∙ at);
+          at = place_is t.span span (ap (λ (s : ParseError). s.at) same ∙ at);
           looks = λ q ys zs. absurd (let both = sym r ∙ q in cc);
           always = λ other. from_end spot t other i ∙ ap (λ b. rested b t other) r ∙ ap (λ z. let q : Read (List Token) = Err z in q) same;
         }

@@ -7,7 +7,7 @@ use Rattle.net_data.specs.declared.spot.Spot.TheVariants.{Outside, Opened, First
 use Rattle.net_data.specs.Tests.{is_member, is_mark, is_comma}
 use Rattle.net_data.specs.Commas.{Place, in_set, in_tuple, place_after, skips, bare}
 use Rattle.net_data.specs.Spots.{spot_after, rests}
-use Rattle.net_data.specs.declared.stop.Stop.{Stop}
+use Rattle.net_data.specs.declared.parse_error.ParseError.{ParseError}
 use Rattle.net_fault.specs.declared.defect.Defect.TheVariants.{DataSyntax}
 use Rattle.std.specs.Prelude.{if◌then◌else◌}
 use Rattle.net_data.specs.Reading.{stop, Read, items_from, items, items_of, with_token, items_behind, semicolon, ◌>>=◌}
@@ -201,7 +201,7 @@ leads_nothing First tokens h = absurd (cc)
 leads_nothing Parted tokens h = absurd (cc)
 leads_nothing Later tokens h = absurd (cc)
 
-stops_at : (spot : Spot) (tokens : List Token) (e : Stop) (x : List Token × List Token) → (if rests spot then Ok ([], tokens) else Err e) ≡ Ok x → Leads spot tokens x
+stops_at : (spot : Spot) (tokens : List Token) (e : ParseError) (x : List Token × List Token) → (if rests spot then Ok ([], tokens) else Err e) ≡ Ok x → Leads spot tokens x
 stops_at spot tokens e x h =
     let P : Bool → Type 0 = λ b. rests spot ≡ b → (let r : Read (List Token) = if b then Ok ([], tokens) else Err e in r ≡ Ok x) → Leads spot tokens x in
     let by : (b : Bool) → P b = λ b. elim b as P [ true ↦ λ is k. let same : ([], tokens) ≡ x = cc in rw (sym same) (leads_nothing spot tokens is) | false ↦ λ is k. absurd (cc) ] in

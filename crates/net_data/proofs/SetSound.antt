@@ -1,7 +1,7 @@
 -- What is read as a statement that gives a set is its printing, and the other way round.
 use Rattle.std.proofs.Common.{◌≡◌, true, List, ◌∷◌, ◌++◌, Result, Ok, refl, subst, codes}
 use Rattle.net_lex.specs.declared.token.Token.{Token}
-use Rattle.net_data.specs.declared.stop.Stop.{Stop}
+use Rattle.net_data.specs.declared.parse_error.ParseError.{ParseError}
 use Rattle.net_data.specs.declared.statement.SetStatement.{SetStatement}
 use Rattle.net_data.specs.declared.statement.Statement.{Statement}
 use Rattle.net_data.specs.declared.statement.Statement.TheVariants as kinds
@@ -38,7 +38,7 @@ set-sound keyword tokens x key h =
     })
 
 -- a statement that is printed behind its keyword is read
-pub record Restated (found : Result (Statement × List Token) Stop) (statement : Statement) (more : List Token) : Type 0 where
+pub record Restated (found : Result (Statement × List Token) ParseError) (statement : Statement) (more : List Token) : Type 0 where
   pub rest : List Token
   pub read : found ≡ (judged statement >>= (λ full. Ok (statement, rest)))
   pub left : bare before rest ≡ more

@@ -13,7 +13,7 @@ use Rattle.net_data.specs.declared.statement.NamedSet.{NamedSet}
 use Rattle.net_data.specs.declared.statement.Transposed.{Transposed}
 use Rattle.net_data.specs.declared.statement.Statement.{Statement}
 use Rattle.net_data.specs.declared.statement.Statement.TheVariants.{Set, List as Listed, Table, Columns}
-use Rattle.net_data.specs.declared.stop.Stop.{Stop}
+use Rattle.net_data.specs.declared.parse_error.ParseError.{ParseError}
 use Rattle.net_data.specs.declared.tables.Lone.{Lone}
 use Rattle.net_data.specs.declared.tables.Tables.{Tables}
 use Rattle.net_data.specs.Commas.{Place, before, place_after, skips, bare}
@@ -117,7 +117,7 @@ module _ (size : ℕ) where
   defect_lies tokens _ at h is = before_lies tokens at h is.1
 
   -- where reading stops lies in the text
-  pub stop_lies : (tokens : List Token) (e : Stop) → TokensStand (LiesIn size) tokens → tables tokens ≡ Err e → LiesIn size (span_or_end (end_of tokens) e.at)
+  pub stop_lies : (tokens : List Token) (e : ParseError) → TokensStand (LiesIn size) tokens → tables tokens ≡ Err e → LiesIn size (span_or_end (end_of tokens) e.at)
   stop_lies tokens e h is =
       let refused = answer_refused tokens (Err (fault_of (end_of tokens) e)) (e, is, refl) in
       defect_lies tokens e.defect (span_or_end (end_of tokens) e.at) h refused.1

@@ -3,7 +3,7 @@ use Rattle.std.proofs.Common.{◌≡◌, true, false, List, [], ◌∷◌, ◌++
 use Rattle.std.specs.List.{list_all}
 use Rattle.std.proofs.lemmas.Bool.{and_parts}
 use Rattle.net_lex.specs.declared.token.Token.{Token}
-use Rattle.net_data.specs.declared.stop.Stop.{Stop}
+use Rattle.net_data.specs.declared.parse_error.ParseError.{ParseError}
 use Rattle.net_data.specs.declared.statement.DefaultValue.{DefaultValue}
 use Rattle.net_data.specs.declared.statement.Given.{Given}
 use Rattle.net_data.specs.declared.statement.Transposed.{Transposed}
@@ -176,7 +176,7 @@ pub record StatementBack (tokens : List Token) (s : Statement) (more : List Toke
   pub read : statement tokens ≡ (judged s >>= (λ full. Ok (Some (s, rest))))
   pub left : bare before rest ≡ more
 
-found_judged : (s : Statement) (rest : List Token) (j : Result (Unit {0}) Stop) → found (j >>= (λ full. Ok (s, rest))) ≡ (j >>= (λ full. Ok (Some (s, rest))))
+found_judged : (s : Statement) (rest : List Token) (j : Result (Unit {0}) ParseError) → found (j >>= (λ full. Ok (s, rest))) ≡ (j >>= (λ full. Ok (Some (s, rest))))
 found_judged s rest (Ok x) = refl
 found_judged s rest (Err e) = refl
 

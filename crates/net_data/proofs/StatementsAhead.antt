@@ -3,7 +3,7 @@ use Rattle.std.proofs.Common.{◌≡◌, Bool, true, false, List, [], ◌∷◌,
 use Rattle.std.specs.Prelude.{if◌then◌else◌}
 use Rattle.net_lex.specs.declared.token.Token.{Token}
 use Rattle.net_fault.specs.declared.defect.Defect.TheVariants.{DataSyntax, TableWidth}
-use Rattle.net_data.specs.declared.stop.Stop.{Stop}
+use Rattle.net_data.specs.declared.parse_error.ParseError.{ParseError}
 use Rattle.net_data.specs.declared.statement.DefaultValue.{DefaultValue}
 use Rattle.net_data.specs.declared.statement.Given.{Given}
 use Rattle.net_data.specs.declared.statement.NamedSet.{NamedSet}
@@ -22,7 +22,7 @@ use Rattle.net_data.proofs.RunsAhead.{ran, run_local, items_local}
 
 headed_local : (heads : List Token) (mark : Token) (tokens : List Token) → Local (headed heads mark) tokens
 headed_local [] mark tokens = record {
-  stops = λ e h d span at. absurd (let k = ap (λ (s : Stop). s.defect) (err_is (stop TableWidth (Some mark.span)) e h) ∙ d in cc);
+  stops = λ e h d span at. absurd (let k = ap (λ (s : ParseError). s.defect) (err_is (stop TableWidth (Some mark.span)) e h) ∙ d in cc);
   passes = λ x rest h. never_ok (x, rest) (stop TableWidth (Some mark.span)) h;
 }
 headed_local (c ∷ heads) mark tokens = pure_local (c ∷ heads, mark) tokens
@@ -56,7 +56,7 @@ cells_local tokens =
     (bind_local (ran is_cell) read_cells tokens (run_local is_cell tokens) (λ all behind i.
     bind_local (wanted semicolon) _ behind (wanted_local semicolon behind) (λ end rest j. pure_local (all, end) rest)))
 
-filled_never : (heads all : List Token) (e : Stop) → filled heads all ≡ Err e → e.defect ≡ DataSyntax → ⊥
+filled_never : (heads all : List Token) (e : ParseError) → filled heads all ≡ Err e → e.defect ≡ DataSyntax → ⊥
 filled_never heads all e h d = let k = (filled_err heads all e h).1 in absurd (cc)
 
 table_local : (keyword name : Token) (given : Option DefaultValue) (transposed : Option Transposed) (mark : Token) (tokens : List Token) → Local (table keyword name given transposed mark) tokens

@@ -2,7 +2,7 @@
 use Rattle.std.proofs.Common.{◌≡◌, ℕ, Bool, true, false, List, ◌∷◌, Option, Some, Result, Ok, Err, refl, ap, sym, ◌∙◌, codes}
 use Rattle.std.specs.Str.{bytes_eq}
 use Rattle.net_lex.specs.declared.token.Token.{Token}
-use Rattle.net_data.specs.declared.stop.Stop.{Stop}
+use Rattle.net_data.specs.declared.parse_error.ParseError.{ParseError}
 use Rattle.net_data.specs.Tests.{is_name, is_member, is_word, is_mark}
 use Rattle.net_data.specs.Commas.{Place, before, in_set, elsewhere, place_after, skips, bare}
 use Rattle.net_data.specs.Reading.{wanted, met, semicolon, ◌>>=◌}
@@ -72,16 +72,16 @@ gives here there test tokens more token m h pass =
     record { rest = t.rest; read = t.read; met = t.met; left = ap (λ p. bare p t.rest) (sym (m.moves token pass)) ∙ t.left }
 
 -- the parts of what is read in two steps
-pub record Bound {A B : Type 0} (read : Result A Stop) (f : A → Result B Stop) (y : B) : Type 0 where
+pub record Bound {A B : Type 0} (read : Result A ParseError) (f : A → Result B ParseError) (y : B) : Type 0 where
   pub value : A
   pub first : read ≡ Ok value
   pub then : f value ≡ Ok y
 
-pub bind_ok : {A B : Type 0} (read : Result A Stop) (f : A → Result B Stop) (y : B) → (read >>= f) ≡ Ok y → Bound read f y
+pub bind_ok : {A B : Type 0} (read : Result A ParseError) (f : A → Result B ParseError) (y : B) → (read >>= f) ≡ Ok y → Bound read f y
 bind_ok (Ok x) f y h = record { value = x; first = refl; then = h }
 bind_ok (Err e) f y h = absurd (cc)
 
-pub ok_is : {A : Type 0} (x y : A) → (let r : Result A Stop = Ok x in r ≡ Ok y) → x ≡ y
+pub ok_is : {A : Type 0} (x y : A) → (let r : Result A ParseError = Ok x in r ≡ Ok y) → x ≡ y
 ok_is x y h = cc
 
 pub some_is : {A : Type 0} (x y : A) → (let o : Option A = Some x in o ≡ Some y) → x ≡ y

@@ -3,7 +3,7 @@ use Rattle.std.proofs.Common.{◌≡◌, ℕ, zero, suc, ◌≤◌, ◌<◌, Boo
 use Rattle.std.specs.List.{AllByRecursion}
 use Rattle.std.specs.Str.{bytes_eq}
 use Rattle.net_lex.specs.declared.token.Token.{Token}
-use Rattle.net_data.specs.declared.stop.Stop.{Stop}
+use Rattle.net_data.specs.declared.parse_error.ParseError.{ParseError}
 use Rattle.net_data.specs.declared.statement.DefaultValue.{DefaultValue}
 use Rattle.net_data.specs.declared.statement.Given.{Given}
 use Rattle.net_data.specs.declared.statement.Transposed.{Transposed}
@@ -153,11 +153,11 @@ lone-complete word tokens (Some o) more apart are lacks h =
     let b = gives elsewhere before semicolon a.rest more o.end in_end a.left are.end in
     record { rest = b.rest; read = rw (a.met, b.read) refl; left = b.left }
 
-with_judged : (x : Statement) (xs : List Statement) (rest : List Token) (j : Result (Unit {0}) Stop) → with_statement x (j >>= (λ full. Ok (xs, rest))) ≡ (j >>= (λ full. Ok (x ∷ xs, rest)))
+with_judged : (x : Statement) (xs : List Statement) (rest : List Token) (j : Result (Unit {0}) ParseError) → with_statement x (j >>= (λ full. Ok (xs, rest))) ≡ (j >>= (λ full. Ok (x ∷ xs, rest)))
 with_judged x xs rest (Ok u) = refl
 with_judged x xs rest (Err e) = refl
 
-turn_judged : (n : ℕ) (x : Statement) (xs : List Statement) (tokens behind rest : List Token) (j k : Result (Unit {0}) Stop) → statement tokens ≡ (j >>= (λ full. Ok (Some (x, behind))))
+turn_judged : (n : ℕ) (x : Statement) (xs : List Statement) (tokens behind rest : List Token) (j k : Result (Unit {0}) ParseError) → statement tokens ≡ (j >>= (λ full. Ok (Some (x, behind))))
     → statements n behind ≡ (k >>= (λ full. Ok (xs, rest))) → statements (suc n) tokens ≡ (and_then j k >>= (λ full. Ok (x ∷ xs, rest)))
 unfolding statements
 turn_judged n x xs tokens behind rest (Ok u) k one more = rw one (ap (with_statement x) more ∙ with_judged x xs rest k)
@@ -182,7 +182,7 @@ finished-complete : (tokens : List Token) → bare before tokens ≡ [] → fini
 unfolding finished
 finished-complete tokens h = let none = nothing before tokens refl h in rw none refl
 
-tables_at : (x : Tables) (tokens a b c : List Token) (j : Result (Unit {0}) Stop) → lone (codes "data") tokens ≡ Ok (x.opening, a) → statements (suc (length a)) a ≡ (j >>= (λ full. Ok (x.statements, b)))
+tables_at : (x : Tables) (tokens a b c : List Token) (j : Result (Unit {0}) ParseError) → lone (codes "data") tokens ≡ Ok (x.opening, a) → statements (suc (length a)) a ≡ (j >>= (λ full. Ok (x.statements, b)))
     → lone (codes "end") b ≡ Ok (x.ending, c) → finished c ≡ Ok tt → tables tokens ≡ (j >>= (λ full. Ok x))
 unfolding tables
 tables_at x tokens a b c (Ok u) opening body ending over = rw (opening, body, ending, over) refl

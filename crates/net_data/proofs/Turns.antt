@@ -3,7 +3,7 @@ use Rattle.std.proofs.Common.{◌≡◌, ℕ, suc, ◌+◌, ◌≤◌, ◌<◌, 
 use Rattle.std.proofs.lemmas.List.{append-nil}
 use Rattle.net_lex.specs.declared.token.Token.{Token}
 use Rattle.net_data.specs.declared.statement.Statement.{Statement}
-use Rattle.net_data.specs.declared.stop.Stop.{Stop}
+use Rattle.net_data.specs.declared.parse_error.ParseError.{ParseError}
 use Rattle.net_fault.specs.declared.fault.Fault.{Fault}
 use Rattle.net_data.specs.declared.statement_stop.StatementStop.{StatementStop}
 use Rattle.net_data.specs.declared.statement_stop.StatementStop.TheVariants as statement_stops
@@ -40,7 +40,7 @@ ends : (n : ℕ) (tokens : List Token) → statement tokens ≡ Ok None → stat
 unfolding statements
 ends n tokens h = rw h
 
-stops : (n : ℕ) (tokens : List Token) (e : Stop) → statement tokens ≡ Err e → statements (suc n) tokens ≡ Err e
+stops : (n : ℕ) (tokens : List Token) (e : ParseError) → statement tokens ≡ Err e → statements (suc n) tokens ≡ Err e
 unfolding statements
 stops n tokens e h = rw h
 
@@ -53,14 +53,14 @@ leads_end tokens found rest leads le h =
     let n = turns_left tokens rest found le in
     ap (λ k. statements k tokens) n.1 ∙ leads (suc n.0) ∙ ap (with_statements found) (ends n.0 rest h) ∙ ap (λ z. let r : Read (List Statement) = Ok (z, rest) in r) (append-nil found)
 
-leads_stop : (tokens : List Token) (found : List Statement) (rest : List Token) (e : Stop) → LeadsTo tokens found rest → length found + length rest ≤ length tokens → statement rest ≡ Err e
+leads_stop : (tokens : List Token) (found : List Statement) (rest : List Token) (e : ParseError) → LeadsTo tokens found rest → length found + length rest ≤ length tokens → statement rest ≡ Err e
     → statements (suc (length tokens)) tokens ≡ Err e
 leads_stop tokens found rest e leads le h =
     let n = turns_left tokens rest found le in
     ap (λ k. statements k tokens) n.1 ∙ leads (suc n.0) ∙ ap (with_statements found) (stops n.0 rest e h)
 
 -- what stops the reading is the fault
-fails_at : {A : Type 0} (end : ℕ) (read : Result A Stop) (e : Stop) (fault : Fault) → read ≡ Err e → fault ≡ fault_of end e → Fails end read fault
+fails_at : {A : Type 0} (end : ℕ) (read : Result A ParseError) (e : ParseError) (fault : Fault) → read ≡ Err e → fault ≡ fault_of end e → Fails end read fault
 fails_at end read e fault h is = let P : Fault → Type 0 = λ f. Fails end read f in subst P (sym is) (e, h, refl)
 
 -- what keeps a statement from being read is the fault

@@ -13,7 +13,7 @@ use Rattle.net_data.specs.declared.statement.TableStatement.{TableStatement}
 use Rattle.net_data.specs.declared.statement.ColumnsStatement.{ColumnsStatement}
 use Rattle.net_data.specs.declared.statement.Statement.{Statement}
 use Rattle.net_data.specs.declared.statement.Statement.TheVariants as kinds
-use Rattle.net_data.specs.declared.stop.Stop.{Stop}
+use Rattle.net_data.specs.declared.parse_error.ParseError.{ParseError}
 use Rattle.net_data.specs.declared.tables.Lone.{Lone}
 use Rattle.net_data.specs.Commas.{Place, before, elsewhere, place_after, skips, bare}
 use Rattle.net_data.specs.Meaning.{IsTransposed, IsTableHeading, IsColumnsHeading, IsStatement, judged, all_judged, and_then}
@@ -91,8 +91,8 @@ lone-append (Some o) ts us = refl
 -- ---- a heading without a column
 
 -- a fault of widths
-abbrev Faulted : {A : Type 0} → Result A Stop → Type 0
-Faulted read = (e : Stop) × (read ≡ Err e) × (e.defect ≡ DataSyntax → ⊥)
+abbrev Faulted : {A : Type 0} → Result A ParseError → Type 0
+Faulted read = (e : ParseError) × (read ≡ Err e) × (e.defect ≡ DataSyntax → ⊥)
 
 no_heading : (test : Token → Bool) (tokens more : List Token) (mark : Token) → Keeps test → assign mark ≡ true → test mark ≡ false → bare elsewhere tokens ≡ mark ∷ more → heading test tokens ≡ Err (stop TableWidth (Some mark.span))
 no_heading test tokens more mark keeps gave fails h = (heading-complete test tokens [] mark more keeps refl gave fails h).read
@@ -139,7 +139,7 @@ columns_fault c tokens more are h =
     let s = named_set-complete a.rest c.set [] c.assign more are.set refl are.assign a.left in
     rw (a.met, s.read, no_heading is_name s.rest more c.assign keeps_name are.assign (mark-name (codes ":=") c.assign are.assign) s.left) refl
 
-param_first : (keyword : Token) (tokens more : List Token) (e : Stop) → is_word (codes "param") keyword ≡ true → bare before tokens ≡ keyword ∷ more
+param_first : (keyword : Token) (tokens more : List Token) (e : ParseError) → is_word (codes "param") keyword ≡ true → bare before tokens ≡ keyword ∷ more
     → ((rest : List Token) → bare elsewhere rest ≡ more → param keyword rest ≡ Err e) → statement tokens ≡ Err e
 unfolding statement
 param_first keyword tokens more e key h fails =
@@ -147,7 +147,7 @@ param_first keyword tokens more e key h fails =
     let a = gives before elsewhere (is_word (codes "param")) tokens more keyword (to_else (codes "param") refl) h key in
     rw (none, a.met, fails a.rest a.left) refl
 
-filled_fault : (heads all : List Token) → fills heads all ≡ false → (e : Stop) × (filled heads all ≡ Err e) × (e.defect ≡ RowWidth)
+filled_fault : (heads all : List Token) → fills heads all ≡ false → (e : ParseError) × (filled heads all ≡ Err e) × (e.defect ≡ RowWidth)
 unfolding filled
 filled_fault heads all h = (stop RowWidth (last_span all), rw h refl, refl)
 
@@ -169,7 +169,7 @@ faulty_first tokens rest more span defect (no_name c behind is are none place) h
     (stop TableWidth (Some c.assign.span), param_first c.keyword tokens _ (stop TableWidth (Some c.assign.span)) are.keyword bald (λ rest k. columns_fault c rest (behind ++ more) are k), λ k. cc)
 
 -- behind statements without a fault
-and_ok : (j k : Result (Unit {0}) Stop) → and_then j k ≡ Ok tt → (j ≡ Ok tt) × (k ≡ Ok tt)
+and_ok : (j k : Result (Unit {0}) ParseError) → and_then j k ≡ Ok tt → (j ≡ Ok tt) × (k ≡ Ok tt)
 and_ok (Ok x) k h = (refl, h)
 and_ok (Err e) k h = absurd (cc)
 
@@ -210,12 +210,12 @@ tables_fault tokens others span defect f =
     (b.0, rw (a.read, b.1) refl, b.2)
 
 -- where a table is at fault, no tokens behind it make the fault one of the grammar
-pub widths_stay : (tokens others : List Token) (d e : Stop) → tables tokens ≡ Err d → (d.defect ≡ DataSyntax → ⊥) → tables (tokens ++ others) ≡ Err e → e.defect ≡ DataSyntax → ⊥
+pub widths_stay : (tokens others : List Token) (d e : ParseError) → tables tokens ≡ Err d → (d.defect ≡ DataSyntax → ⊥) → tables (tokens ++ others) ≡ Err e → e.defect ≡ DataSyntax → ⊥
 widths_stay tokens others d e h width again s =
     elim (tables_err tokens d h) [
       | inl k ↦ width k
       | inr b ↦
           let f = tables_fault tokens others b.0 d.defect b.2 in
           let same : f.0 ≡ e = let k = sym f.1 ∙ again in cc in
-          f.2 (ap (λ (z : Stop). z.defect) same ∙ s)
+          f.2 (ap (λ (z : ParseError). z.defect) same ∙ s)
     ]

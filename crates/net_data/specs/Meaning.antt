@@ -3,7 +3,7 @@ use Rattle.std.specs.Prelude.{◌≡◌, ℕ, true, List, [], ◌∷◌, Some, I
 use Rattle.std.specs.List.{list_all, AllByRecursion}
 use Rattle.net_lex.specs.declared.token.Token.{Token}
 use Rattle.net_fault.specs.declared.defect.Defect.TheVariants.{TableWidth}
-use Rattle.net_data.specs.declared.stop.Stop.{Stop}
+use Rattle.net_data.specs.declared.parse_error.ParseError.{ParseError}
 use Rattle.net_data.specs.declared.statement.SetStatement.{SetStatement}
 use Rattle.net_data.specs.declared.statement.DefaultValue.{DefaultValue}
 use Rattle.net_data.specs.declared.statement.Given.{Given}
@@ -114,29 +114,29 @@ pub record Mean (tokens : List Token) (tables : Tables) : Type 0 where
   pub are : AreTables tables
 
 -- a heading has a column
-abbrev pub heading_judged : List Token → Token → Result (Unit {0}) Stop
+abbrev pub heading_judged : List Token → Token → Result (Unit {0}) ParseError
 heading_judged [] assign = Err (stop TableWidth (Some assign.span))
 heading_judged (column ∷ columns) assign = Ok tt
 
-abbrev pub and_then : Result (Unit {0}) Stop → Result (Unit {0}) Stop → Result (Unit {0}) Stop
+abbrev pub and_then : Result (Unit {0}) ParseError → Result (Unit {0}) ParseError → Result (Unit {0}) ParseError
 and_then (Ok x) next = next
 and_then (Err e) next = Err e
 
 -- whether a heading has its columns and cells fill their rows, or the fault
-abbrev pub judged : Statement → Result (Unit {0}) Stop
+abbrev pub judged : Statement → Result (Unit {0}) ParseError
 judged (Set set) = Ok tt
 judged (Listed list) = Ok tt
 judged (Table table) = and_then (heading_judged table.columns table.assign) (filled table.columns table.cells)
 judged (Columns columns) = heading_judged columns.names columns.assign
 
-abbrev pub all_judged : List Statement → Result (Unit {0}) Stop
+abbrev pub all_judged : List Statement → Result (Unit {0}) ParseError
 all_judged [] = Ok tt
 all_judged (statement ∷ statements) = and_then (judged statement) (all_judged statements)
 
-abbrev pub unless_faulty : Result (Unit {0}) Stop → Tables → Result Tables Stop
+abbrev pub unless_faulty : Result (Unit {0}) ParseError → Tables → Result Tables ParseError
 unless_faulty (Ok full) tables = Ok tables
 unless_faulty (Err e) tables = Err e
 
 -- the tables, or the first fault that one of them has
-abbrev pub checked : Tables → Result Tables Stop
+abbrev pub checked : Tables → Result Tables ParseError
 checked tables = unless_faulty (all_judged tables.statements) tables

@@ -11,7 +11,7 @@ use Rattle.net_fault.specs.declared.fault.Fault.{Fault}
 use Rattle.net_fault.specs.declared.language.Language.TheVariants.{Data}
 use Rattle.net_fault.specs.Outcomes as outcomes
 use Rattle.net_fault.specs.declared.fault.Fault.TheVariants.{OutOfMemory, At}
-use Rattle.net_data.specs.declared.stop.Stop.{Stop}
+use Rattle.net_data.specs.declared.parse_error.ParseError.{ParseError}
 use Rattle.net_data.specs.declared.statement_stop.StatementStop.{StatementStop}
 use Rattle.net_data.specs.declared.statement_stop.StatementStop.TheVariants as statement_stops
 use Rattle.net_data.specs.declared.statement.DefaultValue.{DefaultValue}
@@ -28,15 +28,15 @@ use Rattle.net_data.specs.declared.spot.Spot.{Spot}
 use Rattle.net_data.specs.Spots.{outside, spot_after, rests}
 
 infixl 10 ◌>>=◌
-abbrev pub ◌>>=◌ : {A B : Type 0} → Result A Stop → (A → Result B Stop) → Result B Stop
+abbrev pub ◌>>=◌ : {A B : Type 0} → Result A ParseError → (A → Result B ParseError) → Result B ParseError
 (Ok x) >>= f = f x
 (Err e) >>= f = Err e
 
 -- what is read at the front, and what follows it, or the first fault
 abbrev pub Read : Type 0 → Type 0
-Read A = Result (A × List Token) Stop
+Read A = Result (A × List Token) ParseError
 
-abbrev pub stop : Defect → Option Span → Stop
+abbrev pub stop : Defect → Option Span → ParseError
 stop defect at = record { defect = defect; at = at }
 
 -- the next token that is no comma, and what follows it
@@ -45,21 +45,21 @@ front [] = None
 front (token ∷ tokens) = if is_comma token then front tokens else Some (token, tokens)
 
 -- what a function returned, where what it returned stands before the tokens that follow
-abbrev pub Reads : {A : Type 0} → Read A → Result (A × Bor (List Token)) Stop → Type 0
+abbrev pub Reads : {A : Type 0} → Read A → Result (A × Bor (List Token)) ParseError → Type 0
 Reads read (Ok x) = read ≡ Ok (x.0, x.1.now)
 Reads read (Err e) = read ≡ Err e
 
-abbrev pub ReadsPair : {A B : Type 0} → Read (A × B) → Result (A × B × Bor (List Token)) Stop → Type 0
+abbrev pub ReadsPair : {A B : Type 0} → Read (A × B) → Result (A × B × Bor (List Token)) ParseError → Type 0
 ReadsPair read (Ok x) = read ≡ Ok ((x.0, x.1), x.2.now)
 ReadsPair read (Err e) = read ≡ Err e
 
-abbrev pub ReadsOption : {A : Type 0} → Result (Option (A × List Token)) Stop → Result (Option (A × Bor (List Token))) Stop → Type 0
+abbrev pub ReadsOption : {A : Type 0} → Result (Option (A × List Token)) ParseError → Result (Option (A × Bor (List Token))) ParseError → Type 0
 ReadsOption read (Ok None) = read ≡ Ok None
 ReadsOption read (Ok (Some x)) = read ≡ Ok (Some (x.0, x.1.now))
 ReadsOption read (Err e) = read ≡ Err e
 
 -- the same, unless memory ran out
-abbrev pub Stops : {A : Type 0} → Result A Stop → StatementStop → Type 0
+abbrev pub Stops : {A : Type 0} → Result A ParseError → StatementStop → Type 0
 Stops read statement_stops.OutOfMemory = IsOk read
 Stops read (statement_stops.Reading e) = read ≡ Err e
 
@@ -67,7 +67,7 @@ abbrev pub ReadsStated : {A : Type 0} → Read A → Result (A × Bor (List Toke
 ReadsStated read (Ok x) = read ≡ Ok (x.0, x.1.now)
 ReadsStated read (Err e) = Stops read e
 
-abbrev pub ReadsOn : {A : Type 0} → Result (Option (A × List Token)) Stop → List Token → Result (Option A) StatementStop → Type 0
+abbrev pub ReadsOn : {A : Type 0} → Result (Option (A × List Token)) ParseError → List Token → Result (Option A) StatementStop → Type 0
 ReadsOn read rest (Ok None) = read ≡ Ok None
 ReadsOn read rest (Ok (Some x)) = read ≡ Ok (Some (x, rest))
 ReadsOn read rest (Err e) = Stops read e
@@ -90,7 +90,7 @@ abbrev pub span_or_end : ℕ → Option Span → Span
 span_or_end end None = record { start = end; end = end }
 span_or_end end (Some span) = span
 
-abbrev pub fault_of : ℕ → Stop → Fault
+abbrev pub fault_of : ℕ → ParseError → Fault
 fault_of end stop = At (outcomes.bare Data stop.defect (span_or_end end stop.at))
 
 abbrev pub statement_fault : ℕ → StatementStop → Fault
@@ -98,11 +98,11 @@ statement_fault end statement_stops.OutOfMemory = OutOfMemory
 statement_fault end (statement_stops.Reading stop) = fault_of end stop
 
 -- what a function returned is what is read, or the fault that stops it, unless memory ran out
-abbrev pub Fails : ℕ → {A : Type 0} → Result A Stop → Fault → Type 0
+abbrev pub Fails : ℕ → {A : Type 0} → Result A ParseError → Fault → Type 0
 Fails end read OutOfMemory = Unit {0}
-Fails end read (At f) = (e : Stop) × (read ≡ Err e) × (At f ≡ fault_of end e)
+Fails end read (At f) = (e : ParseError) × (read ≡ Err e) × (At f ≡ fault_of end e)
 
-abbrev pub Answers : ℕ → {A : Type 0} → Result A Stop → Result A Fault → Type 0
+abbrev pub Answers : ℕ → {A : Type 0} → Result A ParseError → Result A Fault → Type 0
 Answers end read (Ok x) = read ≡ Ok x
 Answers end read (Err fault) = Fails end read fault
 
@@ -111,7 +111,7 @@ AnswersRest end read (Ok x) = read ≡ Ok (x.0, x.1.now)
 AnswersRest end read (Err fault) = Fails end read fault
 
 -- how many tokens are read
-abbrev pub CountsItems : List Token → Read (List Token) → Result ℕ Stop → Type 0
+abbrev pub CountsItems : List Token → Read (List Token) → Result ℕ ParseError → Type 0
 CountsItems tokens read (Ok n) = read ≡ Ok (take n tokens, drop n tokens)
 CountsItems tokens read (Err e) = read ≡ Err e
 
@@ -132,7 +132,7 @@ span_of None = None
 span_of (Some token) = Some token.span
 
 -- the stop at the next token, which is not allowed
-unfoldable pub refused : List Token → Stop
+unfoldable pub refused : List Token → ParseError
 refused tokens = stop DataSyntax (span_of (option_map (λ x. x.0) (front tokens)))
 
 -- the next token, which has to pass a test
@@ -221,7 +221,7 @@ last_span_or found (token ∷ tokens) = last_span_or (Some token.span) tokens
 abbrev pub last_span : List Token → Option Span
 last_span tokens = last_span_or None tokens
 
-unfoldable pub filled : List Token → List Token → Result (Unit {0}) Stop
+unfoldable pub filled : List Token → List Token → Result (Unit {0}) ParseError
 filled columns cells = if fills columns cells then Ok tt else Err (stop RowWidth (last_span cells))
 
 -- what follows the colon of a table
@@ -306,24 +306,24 @@ param_by keyword tokens None = named keyword tokens
 unfoldable pub param : Token → List Token → Read Statement
 param keyword tokens = param_by keyword tokens (met colon tokens)
 
-abbrev pub found : Read Statement → Result (Option (Statement × List Token)) Stop
+abbrev pub found : Read Statement → Result (Option (Statement × List Token)) ParseError
 found (Ok x) = Ok (Some x)
 found (Err e) = Err e
 
-abbrev pub statement_by : Option (Token × List Token) → Option (Token × List Token) → Result (Option (Statement × List Token)) Stop
+abbrev pub statement_by : Option (Token × List Token) → Option (Token × List Token) → Result (Option (Statement × List Token)) ParseError
 statement_by (Some keyword) param_word = found (set keyword.0 keyword.1)
 statement_by None (Some keyword) = found (param keyword.0 keyword.1)
 statement_by None None = Ok None
 
 -- the statement that comes next, if one does
-unfoldable pub statement : List Token → Result (Option (Statement × List Token)) Stop
+unfoldable pub statement : List Token → Result (Option (Statement × List Token)) ParseError
 statement tokens = statement_by (met (is_word (codes "set")) tokens) (met (is_word (codes "param")) tokens)
 
 abbrev pub with_statement : Statement → Read (List Statement) → Read (List Statement)
 with_statement x (Ok y) = Ok (x ∷ y.0, y.1)
 with_statement x (Err e) = Err e
 
-abbrev pub statements_by : (List Token → Read (List Statement)) → List Token → Result (Option (Statement × List Token)) Stop → Read (List Statement)
+abbrev pub statements_by : (List Token → Read (List Statement)) → List Token → Result (Option (Statement × List Token)) ParseError → Read (List Statement)
 statements_by more tokens (Ok (Some x)) = with_statement x.0 (more x.1)
 statements_by more tokens (Ok None) = Ok ([], tokens)
 statements_by more tokens (Err e) = Err e
@@ -343,16 +343,16 @@ lone_by tokens (Some word) = do
 unfoldable pub lone : List ℕ → List Token → Read (Option Lone)
 lone word tokens = lone_by tokens (met (is_word word) tokens)
 
-abbrev pub finished_by : Option (Token × List Token) → Result (Unit {0}) Stop
+abbrev pub finished_by : Option (Token × List Token) → Result (Unit {0}) ParseError
 finished_by None = Ok tt
 finished_by (Some x) = Err (stop DataSyntax (Some x.0.span))
 
 -- nothing but commas follows
-unfoldable pub finished : List Token → Result (Unit {0}) Stop
+unfoldable pub finished : List Token → Result (Unit {0}) ParseError
 finished tokens = finished_by (front tokens)
 
 -- the statements of a data text
-unfoldable pub tables : List Token → Result Tables Stop
+unfoldable pub tables : List Token → Result Tables ParseError
 tables tokens = do
   opening ← lone (codes "data") tokens
   statements ← statements (suc (length opening.1)) opening.1

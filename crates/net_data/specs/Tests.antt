@@ -4,8 +4,8 @@ use Rattle.std.specs.Str.{bytes_eq}
 use Rattle.net_lex.specs.declared.token.Kind.{Kind}
 use Rattle.net_lex.specs.declared.token.Kind.TheVariants.{Name, Num, Str, Mark, Dot}
 use Rattle.net_lex.specs.declared.token.Token.{Token}
-use Rattle.net_data.specs.declared.sort.Sort.{Sort}
-use Rattle.net_data.specs.declared.sort.Sort.TheVariants as sorts
+use Rattle.net_data.specs.declared.expected.Expected.{Expected}
+use Rattle.net_data.specs.declared.expected.Expected.TheVariants as sorts
 
 abbrev pub names : Kind → Bool
 names Name = true
@@ -51,7 +51,7 @@ abbrev pub is_comma : Token → Bool
 is_comma = is_mark (codes ",")
 
 -- a token of this sort
-abbrev pub is_of : Sort → Token → Bool
+abbrev pub is_of : Expected → Token → Bool
 is_of sorts.Name = is_name
 is_of sorts.Member = is_member
 is_of sorts.Cell = is_cell

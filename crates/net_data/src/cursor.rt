@@ -4,8 +4,8 @@ ghost use Rattle.std.specs.List.{prefix_len};
 ghost use Rattle.net_data.specs.Tests.{is_comma, is_of};
 ghost use Rattle.net_data.specs.Reading.{front, met, wanted, refused, Reads, Finds};
 
-use crate::sort::Sort;
-use crate::stop::Stop;
+use crate::expected::Expected;
+use crate::parse_error::ParseError;
 use crate::test::{is_comma, is_of};
 use crate::word::Word;
 use net_fault::Defect;
@@ -36,7 +36,7 @@ fn commas_len(tokens: &[Token<'_>]) -> usize
 
 /// The next token, if it is of this sort.
 #[tactic(auto, unfolding(crate::specs::Reading::met))]
-pub(crate) fn met<'t, 's>(sort: Sort, tokens: &'t [Token<'s>]) -> Option<Next<'t, 's>>
+pub(crate) fn met<'t, 's>(sort: Expected, tokens: &'t [Token<'s>]) -> Option<Next<'t, 's>>
     ensures value { Finds (met (is_of sort) tokens.entry.now) result }
     ensures shorter { IfSome result (λ x. length x.1.now < length tokens.entry.now) }
 {
@@ -54,14 +54,14 @@ pub(crate) fn met<'t, 's>(sort: Sort, tokens: &'t [Token<'s>]) -> Option<Next<'t
 
 /// The stop at the next token, which is not allowed.
 #[tactic(auto, unfolding(crate::specs::Reading::refused))]
-pub(crate) fn refused(tokens: &[Token<'_>]) -> Stop
+pub(crate) fn refused(tokens: &[Token<'_>]) -> ParseError
     ensures { result ≡ refused tokens.now }
 {
     let at = match front(tokens) {
         None => None,
         Some((token, _)) => Some(token.span),
     };
-    Stop {
+    ParseError {
         defect: Defect::DataSyntax,
         at,
     }
@@ -69,7 +69,10 @@ pub(crate) fn refused(tokens: &[Token<'_>]) -> Stop
 
 /// The next token, which has to be of this sort.
 #[tactic(auto, unfolding(crate::specs::Reading::wanted))]
-pub(crate) fn wanted<'t, 's>(sort: Sort, tokens: &'t [Token<'s>]) -> Result<Kept<'t, 's>, Stop>
+pub(crate) fn wanted<'t, 's>(
+    sort: Expected,
+    tokens: &'t [Token<'s>],
+) -> Result<Kept<'t, 's>, ParseError>
     ensures value { Reads (wanted (is_of sort) tokens.entry.now) result }
     ensures shorter { IfOk result (λ x. length x.1.now < length tokens.entry.now) }
 {

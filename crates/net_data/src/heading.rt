@@ -5,9 +5,9 @@ ghost use Rattle.net_data.specs.Reading.{cells, heading, headed, filled, Reads, 
 
 use crate::cells::Cells;
 use crate::cursor::wanted;
+use crate::expected::Expected;
+use crate::parse_error::ParseError;
 use crate::runs::run;
-use crate::sort::Sort;
-use crate::stop::Stop;
 use crate::word::Word;
 use net_fault::Defect;
 use net_lex::Token;
@@ -20,12 +20,12 @@ fn headed<'t, 's>(
     columns: Cells<'t, 's>,
     assign: Word<'t, 's>,
     tokens: &'t [Token<'s>],
-) -> Result<Row<'t, 's>, Stop>
+) -> Result<Row<'t, 's>, ParseError>
     ensures value { ReadsPair (headed columns.entry assign.entry tokens.entry.now) result }
     ensures same { IfOk result (λ x. x.2.now ≡ tokens.entry.now) }
 {
     if columns.len() == 0 {
-        return Err(Stop {
+        return Err(ParseError {
             defect: Defect::TableWidth,
             at: Some(assign.token().span),
         });
@@ -35,35 +35,38 @@ fn headed<'t, 's>(
 
 /// A heading of tokens of a sort.
 #[tactic(auto, unfolding(crate::specs::Reading::heading))]
-pub(crate) fn heading<'t, 's>(sort: Sort, tokens: &'t [Token<'s>]) -> Result<Row<'t, 's>, Stop>
+pub(crate) fn heading<'t, 's>(
+    sort: Expected,
+    tokens: &'t [Token<'s>],
+) -> Result<Row<'t, 's>, ParseError>
     ensures value { ReadsPair (heading (is_of sort) tokens.entry.now) result }
     ensures shorter { IfOk result (λ x. length x.2.now < length tokens.entry.now) }
 {
     let (columns, rest) = run(sort, tokens);
-    let (assign, rest) = wanted(Sort::Assign, rest)?;
+    let (assign, rest) = wanted(Expected::Assign, rest)?;
     headed(columns, assign, rest)
 }
 
 /// Cells up to the semicolon.
 #[tactic(auto, unfolding(crate::specs::Reading::cells))]
-pub(crate) fn cells<'t, 's>(tokens: &'t [Token<'s>]) -> Result<Row<'t, 's>, Stop>
+pub(crate) fn cells<'t, 's>(tokens: &'t [Token<'s>]) -> Result<Row<'t, 's>, ParseError>
     ensures value { ReadsPair (cells tokens.entry.now) result }
     ensures shorter { IfOk result (λ x. length x.2.now < length tokens.entry.now) }
 {
-    let (cells, rest) = run(Sort::Cell, tokens);
-    let (end, rest) = wanted(Sort::Semicolon, rest)?;
+    let (cells, rest) = run(Expected::Cell, tokens);
+    let (end, rest) = wanted(Expected::Semicolon, rest)?;
     Ok((cells, end, rest))
 }
 
 /// Nothing, if the cells are rows of a member and a value for each column.
 #[tactic(auto, unfolding(crate::specs::Reading::filled))]
-pub(crate) fn filled(columns: &Cells<'_, '_>, cells: &Cells<'_, '_>) -> Result<(), Stop>
+pub(crate) fn filled(columns: &Cells<'_, '_>, cells: &Cells<'_, '_>) -> Result<(), ParseError>
     ensures { result ≡ filled columns.now cells.now }
 {
     if cells.len() % (columns.len() + 1) == 0 {
         return Ok(());
     }
-    Err(Stop {
+    Err(ParseError {
         defect: Defect::RowWidth,
         at: cells.last_span(),
     })

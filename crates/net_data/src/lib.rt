@@ -3,19 +3,19 @@
 
 mod cells;
 mod cursor;
+mod expected;
 mod heading;
 mod laws;
 mod members;
 mod param;
 mod parse;
+mod parse_error;
 mod runs;
 mod set;
-mod sort;
 mod spot;
 mod stated;
 mod statement;
 mod statement_stop;
-mod stop;
 mod tables;
 mod test;
 mod word;

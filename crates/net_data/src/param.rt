@@ -3,16 +3,16 @@ ghost use Rattle.std.specs.Prelude.{◌≡◌, ◌<◌, ◌≤◌, length, IfOk,
 ghost use Rattle.net_data.specs.Reading.{table, turned, given, list, body, default, named, named_set, columns, param, Reads, ReadsStated};
 
 use crate::cursor::{met, wanted};
+use crate::expected::Expected;
 use crate::heading::{cells, filled, heading};
+use crate::parse_error::ParseError;
 use crate::runs::run;
-use crate::sort::Sort;
 use crate::stated::{Stated, stated};
 use crate::statement::{
     ColumnsStatement, DefaultValue, Given, ListStatement, NamedSet, Statement, TableStatement,
     Transposed,
 };
 use crate::statement_stop::StatementStop;
-use crate::stop::Stop;
 use crate::word::Word;
 use net_lex::Token;
 use std::alloc::Global;
@@ -38,7 +38,7 @@ fn table<'t, 's>(
         result }
     ensures shorter { IfOk result (λ x. length x.1.now < length tokens.entry.now) }
 {
-    let (columns, assign, rest) = heading(Sort::Member, tokens)?;
+    let (columns, assign, rest) = heading(Expected::Member, tokens)?;
     let (cells, end, rest) = cells(rest)?;
     filled(&columns, &cells)?;
     let Parameter {
@@ -71,9 +71,9 @@ fn turned<'t, 's>(
     ensures value { ReadsStated (turned parameter.entry.keyword parameter.entry.name parameter.entry.default opening.entry tokens.entry.now) result }
     ensures shorter { IfOk result (λ x. length x.1.now < length tokens.entry.now) }
 {
-    let (word, rest) = wanted(Sort::Transposed, tokens)?;
-    let (closing, rest) = wanted(Sort::Closing, rest)?;
-    let (colon, rest) = wanted(Sort::Colon, rest)?;
+    let (word, rest) = wanted(Expected::Transposed, tokens)?;
+    let (closing, rest) = wanted(Expected::Closing, rest)?;
+    let (colon, rest) = wanted(Expected::Colon, rest)?;
     let transposed = Transposed {
         opening,
         word,
@@ -88,10 +88,10 @@ fn given<'t, 's>(tokens: &'t [Token<'s>]) -> (Option<Given<'t, 's>>, &'t [Token<
     ensures value { (result.0, result.1.now) ≡ given tokens.entry.now }
     ensures within { length result.1.now ≤ length tokens.entry.now }
 {
-    match met(Sort::Assign, tokens) {
+    match met(Expected::Assign, tokens) {
         None => (None, tokens),
         Some((assign, rest)) => {
-            let (cells, rest) = run(Sort::Cell, rest);
+            let (cells, rest) = run(Expected::Cell, rest);
             let assign = Word::new(assign);
             (Some(Given { assign, cells }), rest)
         }
@@ -109,7 +109,7 @@ fn list<'t, 's>(
     ensures shorter { IfOk result (λ x. length x.1.now < length tokens.entry.now) }
 {
     let (given, rest) = given(tokens);
-    let (end, rest) = wanted(Sort::Semicolon, rest)?;
+    let (end, rest) = wanted(Expected::Semicolon, rest)?;
     let Parameter {
         keyword,
         name,
@@ -135,10 +135,10 @@ fn body<'t, 's>(
     ensures value { ReadsStated (body parameter.entry.keyword parameter.entry.name parameter.entry.default tokens.entry.now) result }
     ensures shorter { IfOk result (λ x. length x.1.now < length tokens.entry.now) }
 {
-    if let Some((opening, rest)) = met(Sort::Opening, tokens) {
+    if let Some((opening, rest)) = met(Expected::Opening, tokens) {
         return turned(alloc, parameter, Word::new(opening), rest);
     }
-    match met(Sort::Colon, tokens) {
+    match met(Expected::Colon, tokens) {
         Some((colon, rest)) => table(alloc, parameter, None, Word::new(colon), rest),
         None => list(alloc, parameter, tokens),
     }
@@ -148,14 +148,14 @@ fn body<'t, 's>(
 #[tactic(auto, unfolding(crate::specs::Reading::default))]
 fn default<'t, 's>(
     tokens: &'t [Token<'s>],
-) -> Result<(Option<DefaultValue<'t, 's>>, &'t [Token<'s>]), Stop>
+) -> Result<(Option<DefaultValue<'t, 's>>, &'t [Token<'s>]), ParseError>
     ensures value { Reads (default tokens.entry.now) result }
     ensures within { IfOk result (λ x. length x.1.now ≤ length tokens.entry.now) }
 {
-    match met(Sort::Default, tokens) {
+    match met(Expected::Default, tokens) {
         None => Ok((None, tokens)),
         Some((keyword, rest)) => {
-            let (value, rest) = wanted(Sort::Member, rest)?;
+            let (value, rest) = wanted(Expected::Member, rest)?;
             let keyword = Word::new(keyword);
             Ok((Some(DefaultValue { keyword, value }), rest))
         }
@@ -172,7 +172,7 @@ fn named<'t, 's>(
     ensures value { ReadsStated (named keyword.entry tokens.entry.now) result }
     ensures shorter { IfOk result (λ x. length x.1.now < length tokens.entry.now) }
 {
-    let (name, rest) = wanted(Sort::Name, tokens)?;
+    let (name, rest) = wanted(Expected::Name, tokens)?;
     let (default, rest) = default(rest)?;
     let parameter = Parameter {
         keyword,
@@ -188,9 +188,9 @@ fn named_set<'t, 's>(tokens: &'t [Token<'s>]) -> (Option<NamedSet<'t, 's>>, &'t 
     ensures value { (result.0, result.1.now) ≡ named_set tokens.entry.now }
     ensures within { length result.1.now ≤ length tokens.entry.now }
 {
-    match met(Sort::Name, tokens) {
+    match met(Expected::Name, tokens) {
         None => (None, tokens),
-        Some((name, rest)) => match met(Sort::Colon, rest) {
+        Some((name, rest)) => match met(Expected::Colon, rest) {
             None => (None, tokens),
             Some((colon, rest)) => {
                 let name = Word::new(name);
@@ -213,7 +213,7 @@ fn columns<'t, 's>(
     ensures shorter { IfOk result (λ x. length x.1.now < length tokens.entry.now) }
 {
     let (set, rest) = named_set(tokens);
-    let (names, assign, rest) = heading(Sort::Name, rest)?;
+    let (names, assign, rest) = heading(Expected::Name, rest)?;
     let (cells, end, rest) = cells(rest)?;
     let statement = ColumnsStatement {
         keyword,
@@ -237,7 +237,7 @@ pub(crate) fn param<'t, 's>(
     ensures value { ReadsStated (param keyword.entry tokens.entry.now) result }
     ensures shorter { IfOk result (λ x. length x.1.now < length tokens.entry.now) }
 {
-    match met(Sort::Colon, tokens) {
+    match met(Expected::Colon, tokens) {
         Some((colon, rest)) => columns(alloc, keyword, Word::new(colon), rest),
         None => named(alloc, keyword, tokens),
     }

@@ -8,13 +8,13 @@ ghost use Rattle.net_data.specs.Refusals.{IsRefusal};
 ghost use Rattle.net_data.specs.declared.tables.Tables.{Tables};
 
 use crate::cursor::{front, met, same, wanted};
+use crate::expected::Expected;
 use crate::param::param;
+use crate::parse_error::ParseError;
 use crate::set::set;
-use crate::sort::Sort;
 use crate::stated::{Stated, push};
 use crate::statement::Statement;
 use crate::statement_stop::StatementStop;
-use crate::stop::Stop;
 use crate::tables::{Lone, Tables};
 use crate::word::Word;
 use net_fault::{Defect, Fault, Span};
@@ -33,7 +33,7 @@ fn end_of(tokens: &[Token<'_>]) -> usize
 }
 
 /// The fault that a stop is, in a text that ends there.
-fn fault_of(stop: Stop, end: usize) -> Fault
+fn fault_of(stop: ParseError, end: usize) -> Fault
     ensures { result ≡ fault_of end stop }
 {
     match stop.at {
@@ -81,10 +81,10 @@ impl<'t, 's> Unread<'t, 's> {
         ensures left { IfOk result (λ o. IfNone o (self.new.tokens.now ≡ self.old.tokens.now)) }
         ensures shorter { IfOk result (λ o. IfSome o (λ x. length self.new.tokens.now < length self.old.tokens.now)) }
     {
-        if let Some((keyword, rest)) = met(Sort::Set, self.tokens) {
+        if let Some((keyword, rest)) = met(Expected::Set, self.tokens) {
             return self.behind(set(alloc, Word::new(keyword), rest));
         }
-        match met(Sort::Param, self.tokens) {
+        match met(Expected::Param, self.tokens) {
             None => Ok(None),
             Some((keyword, rest)) => self.behind(param(alloc, Word::new(keyword), rest)),
         }
@@ -112,15 +112,15 @@ fn statements<'t, 's>(
 
 /// A word with its semicolon, if it comes next, and what follows them.
 fn lone<'t, 's>(
-    sort: Sort,
+    sort: Expected,
     tokens: &'t [Token<'s>],
-) -> Result<(Option<Lone<'t, 's>>, &'t [Token<'s>]), Stop>
+) -> Result<(Option<Lone<'t, 's>>, &'t [Token<'s>]), ParseError>
     ensures { Reads (lone_by tokens.entry.now (met (is_of sort) tokens.entry.now)) result }
 {
     match met(sort, tokens) {
         None => Ok((None, tokens)),
         Some((word, rest)) => {
-            let (end, rest) = wanted(Sort::Semicolon, rest)?;
+            let (end, rest) = wanted(Expected::Semicolon, rest)?;
             let word = Word::new(word);
             Ok((Some(Lone { word, end }), rest))
         }
@@ -129,12 +129,12 @@ fn lone<'t, 's>(
 
 /// Nothing, if nothing but commas follows.
 #[tactic(auto, unfolding(crate::specs::Reading::finished))]
-fn finished(tokens: &[Token<'_>]) -> Result<(), Stop>
+fn finished(tokens: &[Token<'_>]) -> Result<(), ParseError>
     ensures { result ≡ finished tokens.now }
 {
     match front(tokens) {
         None => Ok(()),
-        Some((token, _)) => Err(Stop {
+        Some((token, _)) => Err(ParseError {
             defect: Defect::DataSyntax,
             at: Some(token.span),
         }),
@@ -150,12 +150,12 @@ fn tables<'t, 's>(
 ) -> Result<Tables<'t, 's>, Fault>
     ensures { Answers end (tables tokens.entry.now) result }
 {
-    let (opening, rest) = match lone(Sort::Data, tokens) {
+    let (opening, rest) = match lone(Expected::Data, tokens) {
         Ok(found) => found,
         Err(stop) => return Err(fault_of(stop, end)),
     };
     let (statements, rest) = statements(alloc, end, rest)?;
-    let (ending, rest) = match lone(Sort::End, rest) {
+    let (ending, rest) = match lone(Expected::End, rest) {
         Ok(found) => found,
         Err(stop) => return Err(fault_of(stop, end)),
     };

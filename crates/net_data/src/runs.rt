@@ -4,11 +4,11 @@ ghost use Rattle.net_data.specs.Tests.{is_of};
 ghost use Rattle.net_data.specs.Reading.{run, run_len};
 
 use crate::cells::Cells;
-use crate::sort::Sort;
+use crate::expected::Expected;
 use crate::test::{is_comma, is_of};
 use net_lex::Token;
 
-fn run_len(sort: Sort, tokens: &[Token<'_>]) -> usize
+fn run_len(sort: Expected, tokens: &[Token<'_>]) -> usize
     ensures value { result ≡ run_len (is_of sort) tokens.now }
     ensures within { result ≤ length tokens.now }
 {
@@ -20,7 +20,10 @@ fn run_len(sort: Sort, tokens: &[Token<'_>]) -> usize
 
 /// The tokens of a sort at the front, and what follows them.
 #[tactic(auto, unfolding(crate::specs::Reading::run))]
-pub(crate) fn run<'t, 's>(sort: Sort, tokens: &'t [Token<'s>]) -> (Cells<'t, 's>, &'t [Token<'s>])
+pub(crate) fn run<'t, 's>(
+    sort: Expected,
+    tokens: &'t [Token<'s>],
+) -> (Cells<'t, 's>, &'t [Token<'s>])
     ensures value { (result.0, result.1.now) ≡ run (is_of sort) tokens.entry.now }
     ensures within { length result.1.now ≤ length tokens.entry.now }
 {

@@ -4,20 +4,20 @@ ghost use Rattle.net_data.specs.Spots.{outside};
 ghost use Rattle.net_data.specs.Reading.{items, items_from, set, Reads, ReadsStated, CountsItems};
 
 use crate::cursor::wanted;
+use crate::expected::Expected;
 use crate::members::Members;
-use crate::sort::Sort;
+use crate::parse_error::ParseError;
 use crate::spot::Spot;
 use crate::stated::{Stated, stated};
 use crate::statement::{SetStatement, Statement};
 use crate::statement_stop::StatementStop;
-use crate::stop::Stop;
 use crate::word::Word;
 use net_fault::Defect;
 use net_lex::Token;
 use std::alloc::Global;
 
 /// How many tokens the members and tuples at the front have, with the commas among them.
-fn items_len(tokens: &[Token<'_>]) -> Result<usize, Stop>
+fn items_len(tokens: &[Token<'_>]) -> Result<usize, ParseError>
     ensures value { CountsItems tokens.now (items_from outside tokens.now) result }
     ensures within { IfOk result (λ n. n ≤ length tokens.now) }
 {
@@ -28,7 +28,7 @@ fn items_len(tokens: &[Token<'_>]) -> Result<usize, Stop>
             Some(next) => spot = next,
             None if spot.rests() => return Ok(len),
             None => {
-                return Err(Stop {
+                return Err(ParseError {
                     defect: Defect::DataSyntax,
                     at: Some(token.span),
                 });
@@ -39,14 +39,16 @@ fn items_len(tokens: &[Token<'_>]) -> Result<usize, Stop>
     if spot.rests() {
         return Ok(len);
     }
-    Err(Stop {
+    Err(ParseError {
         defect: Defect::DataSyntax,
         at: None,
     })
 }
 
 /// The members and tuples at the front, and what follows them.
-fn items_at<'t, 's>(tokens: &'t [Token<'s>]) -> Result<(Members<'t, 's>, &'t [Token<'s>]), Stop>
+fn items_at<'t, 's>(
+    tokens: &'t [Token<'s>],
+) -> Result<(Members<'t, 's>, &'t [Token<'s>]), ParseError>
     ensures value { Reads (items tokens.entry.now) result }
     ensures within { IfOk result (λ x. length x.1.now ≤ length tokens.entry.now) }
 {
@@ -69,10 +71,10 @@ pub(crate) fn set<'t, 's>(
     ensures value { ReadsStated (set keyword.entry tokens.entry.now) result }
     ensures shorter { IfOk result (λ x. length x.1.now < length tokens.entry.now) }
 {
-    let (name, rest) = wanted(Sort::Name, tokens)?;
-    let (assign, rest) = wanted(Sort::Assign, rest)?;
+    let (name, rest) = wanted(Expected::Name, tokens)?;
+    let (assign, rest) = wanted(Expected::Assign, rest)?;
     let (items, rest) = items_at(rest)?;
-    let (end, rest) = wanted(Sort::Semicolon, rest)?;
+    let (end, rest) = wanted(Expected::Semicolon, rest)?;
     let statement = SetStatement {
         keyword,
         name,

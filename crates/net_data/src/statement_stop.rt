@@ -2,20 +2,20 @@
 ghost use Rattle.std.specs.Prelude.{◌≡◌};
 ghost use Rattle.net_data.specs.declared.statement_stop.StatementStop.TheVariants as statement_stops;
 
-use crate::stop::Stop;
+use crate::parse_error::ParseError;
 use std::alloc::AllocFailed;
 
 /// Why no statement is read: memory runs out, or reading stops at a defect.
 #[derive(Clone, Copy)]
 pub enum StatementStop {
     OutOfMemory,
-    Reading(Stop),
+    Reading(ParseError),
 }
 
-impl From<Stop> for StatementStop {
+impl From<ParseError> for StatementStop {
     ghost from_gives = { λ stop e. e ≡ statement_stops.Reading stop };
 
-    fn from(stop: Stop) -> StatementStop {
+    fn from(stop: ParseError) -> StatementStop {
         StatementStop::Reading(stop)
     }
 }

@@ -2,7 +2,7 @@
 ghost use Rattle.std.specs.Prelude.{◌≡◌};
 ghost use Rattle.net_data.specs.Tests.{is_name, is_member, is_cell, is_word, is_mark, is_comma, is_of};
 
-use crate::sort::Sort;
+use crate::expected::Expected;
 use net_lex::{Kind, Token};
 
 fn is_name(token: &Token<'_>) -> bool
@@ -35,24 +35,24 @@ fn is_cell(token: &Token<'_>) -> bool
 }
 
 /// Whether it is of this sort.
-pub(crate) fn is_of(sort: Sort, token: &Token<'_>) -> bool
+pub(crate) fn is_of(sort: Expected, token: &Token<'_>) -> bool
     ensures { result ≡ is_of sort token.now }
 {
     match sort {
-        Sort::Name => is_name(token),
-        Sort::Member => is_member(token),
-        Sort::Cell => is_cell(token),
-        Sort::Assign => is_mark(b":=", token),
-        Sort::Colon => is_mark(b":", token),
-        Sort::Semicolon => is_mark(b";", token),
-        Sort::Opening => is_mark(b"(", token),
-        Sort::Closing => is_mark(b")", token),
-        Sort::Data => is_word(b"data", token),
-        Sort::End => is_word(b"end", token),
-        Sort::Set => is_word(b"set", token),
-        Sort::Param => is_word(b"param", token),
-        Sort::Default => is_word(b"default", token),
-        Sort::Transposed => is_word(b"tr", token),
+        Expected::Name => is_name(token),
+        Expected::Member => is_member(token),
+        Expected::Cell => is_cell(token),
+        Expected::Assign => is_mark(b":=", token),
+        Expected::Colon => is_mark(b":", token),
+        Expected::Semicolon => is_mark(b";", token),
+        Expected::Opening => is_mark(b"(", token),
+        Expected::Closing => is_mark(b")", token),
+        Expected::Data => is_word(b"data", token),
+        Expected::End => is_word(b"end", token),
+        Expected::Set => is_word(b"set", token),
+        Expected::Param => is_word(b"param", token),
+        Expected::Default => is_word(b"default", token),
+        Expected::Transposed => is_word(b"tr", token),
     }
 }
 

@@ -1,7 +1,4 @@
 -- What a caller of the writer may rely on.
-use Rattle.std.proofs.Common.{◌≡◌, ℕ, Ok, Err, sym, subst}
-use Rattle.std.specs.Prelude.{Result, IfOk}
-use Rattle.std.specs.Global.{Vec}
 use Rattle.net_normal.specs.declared.problem.Problem.{Problem}
 use Rattle.net_dimacs.specs.Written.{problem_text}
 use Rattle.net_dimacs.specs.Problems.{IsProblemText, IsOnlyProblem}
@@ -14,11 +11,3 @@ text_is p = written_is p.supplies.items p.arcs.items (limits_of p)
 
 pub text_only : (p : Problem) → IsOnlyProblem (problem_text p.supplies.items p.arcs.items) p.supplies.items p.arcs.items
 text_only p = λ s a fit text. one_problem (problem_text p.supplies.items p.arcs.items) s p.supplies.items a p.arcs.items text fit (text_is p) (limits_of p)
-
-pub written_ok : {E : Type 0} (p : Problem) (r : Result (Vec ℕ) E) → IfOk r (λ t. t.items ≡ problem_text p.supplies.items p.arcs.items) → IfOk r (λ t. IsProblemText t.items p.supplies.items p.arcs.items)
-written_ok p (Ok t) e = subst (λ text. IsProblemText text p.supplies.items p.arcs.items) (sym e) (text_is p)
-written_ok p (Err fault) e = tt
-
-pub written_only : {E : Type 0} (p : Problem) (r : Result (Vec ℕ) E) → IfOk r (λ t. t.items ≡ problem_text p.supplies.items p.arcs.items) → IfOk r (λ t. IsOnlyProblem t.items p.supplies.items p.arcs.items)
-written_only p (Ok t) e = subst (λ text. IsOnlyProblem text p.supplies.items p.arcs.items) (sym e) (text_only p)
-written_only p (Err fault) e = tt

@@ -5,9 +5,9 @@ ghost use Rattle.net_normal.specs.Limits.{flow_node_limit};
 ghost use Rattle.net_check.specs.Certificates.{HasShape};
 ghost use Rattle.net_dimacs.specs.Certificates.{account_of, IsCertificateText, IsOnlyCertificate};
 ghost use Rattle.net_dimacs.specs.CertificateWritten.{value_line, flow_line, flow_lines, potential_line, potential_lines, side_line, member_lines};
+ghost use Rattle.net_dimacs.specs.Written.{line};
 ghost use Rattle.net_dimacs.specs.CertificateWritten.{certificate_text, IsValue, IsAmount, AreAmounts, FitsTypes};
 
-use crate::problem_writer::push_line;
 use itoa::Buffer;
 use net_check::{Certificate, Side};
 use net_normal::{FlowArc, Problem};
@@ -133,4 +133,17 @@ fn push_members(text: &mut Vec<u8>, flags: &[bool]) -> Result<(), AllocError>
         }
     }
     Ok(())
+}
+
+/// Writes one line: its kind, and its numbers, each behind a blank.
+fn push_line(text: &mut Vec<u8>, kind: &[u8], numbers: &[i64]) -> Result<(), AllocError>
+    ensures ok { OnOk result (text.new.items ≡ text.old.items ++ line kind.now numbers.now) }
+{
+    text.extend_from_slice(kind)?;
+    for number in numbers {
+        let mut buffer = Buffer::new();
+        text.push(b' ')?;
+        text.extend_from_slice(buffer.format(*number).as_bytes())?;
+    }
+    text.extend_from_slice(b"\n")
 }

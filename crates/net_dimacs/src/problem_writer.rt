@@ -1,12 +1,16 @@
-//! Problems as DIMACS texts.
+//! Problems as DIMACS texts, which go out while they are made.
 
-ghost use Rattle.std.specs.Prelude.{◌≡◌, ◌≤◌, ◌++◌, IfOk, OnOk, length};
+ghost use Rattle.std.specs.Prelude.{◌≡◌, ◌<◌, ◌≤◌, ◌||◌, IfOk, OnOk, OnErr, is_err, length};
 ghost use Rattle.std.specs.List.{flat_map};
+ghost use Rattle.std.specs.Io.KnownBytes.{Appends};
+ghost use Rattle.net_io.specs.Ends.{WritesFront};
 ghost use Rattle.net_normal.specs.Limits.{flow_node_limit};
-ghost use Rattle.net_dimacs.specs.Written.{line, head_line, node_lines, arc_line, problem_text};
+ghost use Rattle.net_dimacs.specs.Written.{head_line, node_line, node_lines, arc_line, problem_text};
 ghost use Rattle.net_dimacs.specs.Problems.{IsProblemText, IsOnlyProblem};
+ghost use Rattle.net_dimacs.specs.Sending.{Sends};
 
-use itoa::Buffer;
+use crate::page::{Page, send_line};
+use net_io::{Failed, GrowingSink, Sink, write_whole};
 use net_normal::{FlowArc, Problem};
 use std::alloc::{AllocError, Global};
 
@@ -21,60 +25,108 @@ pub fn write_problem(alloc: Global, problem: &Problem) -> Result<Vec<u8>, AllocE
     ensures only { IfOk result (λ text.
         IsOnlyProblem text.items problem.now.supplies.items problem.now.arcs.items) }
 {
-    write_whole_problem(alloc, problem)
+    let mut sink = GrowingSink::new(Vec::new(alloc));
+    match write_problem_to(problem, &mut sink) {
+        Ok(()) => Ok(sink.taken),
+        Err(_) => Err(AllocError),
+    }
 }
 
-fn write_whole_problem(alloc: Global, problem: &Problem) -> Result<Vec<u8>, AllocError>
-    ensures { IfOk result (λ text.
-        text.items ≡ problem_text problem.now.supplies.items problem.now.arcs.items) }
+/// Writes the text of a problem, as [`write_problem`] makes it, by pages of 4,096 bytes. It takes no memory.
+///
+/// After a `Failed` a front of the text went out.
+pub fn write_problem_to<W: Sink>(problem: &Problem, sink: &mut W) -> Result<(), Failed>
+    ensures ok { OnOk result (Appends (W.taken sink.old) (W.taken sink.new)
+        (problem_text problem.now.supplies.items problem.now.arcs.items)) }
+    ensures err { OnErr result (WritesFront (W.taken sink.old) (W.taken sink.new)
+        (problem_text problem.now.supplies.items problem.now.arcs.items)) }
+    ensures flag { W.failed sink.new ≡ (W.failed sink.old || is_err result) }
+
+    // What is written is that problem, and no other.
+    ensures problem { IsProblemText (problem_text problem.now.supplies.items problem.now.arcs.items)
+        problem.now.supplies.items problem.now.arcs.items }
+    ensures only { IsOnlyProblem (problem_text problem.now.supplies.items problem.now.arcs.items)
+        problem.now.supplies.items problem.now.arcs.items }
 {
-    let mut text = Vec::new(alloc);
+    send_whole(problem, sink)
+}
+
+fn send_whole<W: Sink>(problem: &Problem, sink: &mut W) -> Result<(), Failed>
+    ensures ok { OnOk result (Appends (W.taken sink.old) (W.taken sink.new)
+        (problem_text problem.now.supplies.items problem.now.arcs.items)) }
+    ensures err { OnErr result (WritesFront (W.taken sink.old) (W.taken sink.new)
+        (problem_text problem.now.supplies.items problem.now.arcs.items)) }
+    ensures flag { W.failed sink.new ≡ (W.failed sink.old || is_err result) }
+{
+    let mut page = Page::new();
+    send_problem(sink, &mut page, problem)?;
+    write_whole(sink, page.as_slice())?;
+    Ok(())
+}
+
+fn send_problem<W: Sink>(sink: &mut W, page: &mut Page, problem: &Problem) -> Result<(), Failed>
+    ensures bytes { Sends (W.taken sink.old) (W.taken sink.new) page.old.items
+        (problem_text problem.now.supplies.items problem.now.arcs.items) page.new.items result }
+    ensures flag { W.failed sink.new ≡ (W.failed sink.old || is_err result) }
+{
+    send_head(sink, page, problem)?;
+    send_nodes(sink, page, &problem.supplies)?;
+    send_arcs(sink, page, &problem.arcs)?;
+    Ok(())
+}
+
+fn send_head<W: Sink>(sink: &mut W, page: &mut Page, problem: &Problem) -> Result<(), Failed>
+    ensures bytes { Sends (W.taken sink.old) (W.taken sink.new) page.old.items
+        (head_line problem.now.supplies.items problem.now.arcs.items) page.new.items result }
+    ensures flag { W.failed sink.new ≡ (W.failed sink.old || is_err result) }
+{
     let node_count = problem.supplies.len() as i64;
     let arc_count = problem.arcs.len() as i64;
-    push_line(&mut text, b"p min", &[node_count, arc_count])?;
-    push_nodes(&mut text, &problem.supplies)?;
-    push_arcs(&mut text, &problem.arcs)?;
-    Ok(text)
+    send_line(sink, page, b"p min", &[node_count, arc_count])
 }
 
-fn push_nodes(text: &mut Vec<u8>, supplies: &[i64]) -> Result<(), AllocError>
+fn send_nodes<W: Sink>(sink: &mut W, page: &mut Page, supplies: &[i64]) -> Result<(), Failed>
     requires { length supplies.now ≤ flow_node_limit }
-    ensures ok { OnOk result (text.new.items ≡ text.old.items ++ node_lines 0 supplies.now) }
+    ensures bytes { Sends (W.taken sink.old) (W.taken sink.new) page.old.items (node_lines 0 supplies.now) page.new.items result }
+    ensures flag { W.failed sink.new ≡ (W.failed sink.old || is_err result) }
 {
     for (node, supply) in supplies.iter().enumerate() {
-        if *supply != 0 {
-            push_line(text, b"n", &[node as i64 + 1, *supply])?;
-        }
+        send_node(sink, page, node, supply)?;
     }
     Ok(())
 }
 
-fn push_arcs(text: &mut Vec<u8>, arcs: &[FlowArc]) -> Result<(), AllocError>
-    ensures ok { OnOk result (text.new.items ≡ text.old.items ++ flat_map arc_line arcs.now) }
+fn send_node<W: Sink>(
+    sink: &mut W,
+    page: &mut Page,
+    node: usize,
+    supply: &i64,
+) -> Result<(), Failed>
+    requires { node < flow_node_limit }
+    ensures bytes { Sends (W.taken sink.old) (W.taken sink.new) page.old.items (node_line node supply.now) page.new.items result }
+    ensures flag { W.failed sink.new ≡ (W.failed sink.old || is_err result) }
+{
+    if *supply == 0 {
+        return Ok(());
+    }
+    send_line(sink, page, b"n", &[node as i64 + 1, *supply])
+}
+
+fn send_arcs<W: Sink>(sink: &mut W, page: &mut Page, arcs: &[FlowArc]) -> Result<(), Failed>
+    ensures bytes { Sends (W.taken sink.old) (W.taken sink.new) page.old.items (flat_map arc_line arcs.now) page.new.items result }
+    ensures flag { W.failed sink.new ≡ (W.failed sink.old || is_err result) }
 {
     for arc in arcs {
-        push_arc(text, *arc)?;
+        send_arc(sink, page, *arc)?;
     }
     Ok(())
 }
 
-fn push_arc(text: &mut Vec<u8>, arc: FlowArc) -> Result<(), AllocError>
-    ensures ok { OnOk result (text.new.items ≡ text.old.items ++ arc_line arc) }
+fn send_arc<W: Sink>(sink: &mut W, page: &mut Page, arc: FlowArc) -> Result<(), Failed>
+    ensures bytes { Sends (W.taken sink.old) (W.taken sink.new) page.old.items (arc_line arc) page.new.items result }
+    ensures flag { W.failed sink.new ≡ (W.failed sink.old || is_err result) }
 {
     let src = i64::from(arc.src) + 1;
     let dst = i64::from(arc.dst) + 1;
-    push_line(text, b"a", &[src, dst, arc.low, arc.cap, arc.cost])
-}
-
-/// Writes one line: its kind, and its numbers, each behind a blank.
-pub fn push_line(text: &mut Vec<u8>, kind: &[u8], numbers: &[i64]) -> Result<(), AllocError>
-    ensures ok { OnOk result (text.new.items ≡ text.old.items ++ line kind.now numbers.now) }
-{
-    text.extend_from_slice(kind)?;
-    for number in numbers {
-        let mut buffer = Buffer::new();
-        text.push(b' ')?;
-        text.extend_from_slice(buffer.format(*number).as_bytes())?;
-    }
-    text.extend_from_slice(b"\n")
+    send_line(sink, page, b"a", &[src, dst, arc.low, arc.cap, arc.cost])
 }

@@ -14,7 +14,7 @@ use Rattle.net_lex.proofs.Rising.{tokens_rise, first_fault_lies}
 use Rattle.net_tree.specs.Tree.{Declaration}
 use Rattle.net_tree.specs.Standing.{ModelStands}
 use Rattle.net_tree.proofs.ModelsStand.{model_stands}
-use Rattle.net_model.proofs.FaultPlaces.{meant_lies}
+use Rattle.net_driver.proofs.ModelPlaces.{meant_lies}
 use Rattle.net_data.specs.declared.tables.Tables.{Tables}
 use Rattle.net_data.specs.Standing.{StatementsStand}
 use Rattle.net_data.proofs.Standing.{rising_stand, mean_stand, stop_lies}

@@ -1,3 +1,4 @@
+pub mod NamedModels
 pub mod Meant
 pub mod OneFault
 pub mod Stops
@@ -10,9 +11,11 @@ pub mod Answering
 pub mod Solving
 pub mod Answered
 pub mod Reading
+mod Running
 mod Writing
 mod Pieces
 pub mod Accepted
 pub mod OneAnswer
+mod ModelPlaces
 pub mod FaultPlaces
 pub mod NoMemory

@@ -18,11 +18,11 @@ use Rattle.net_driver.proofs.Apart.{bound_apart}
 use Rattle.net_report.specs.References.{name_in, names_in}
 use Rattle.net_driver.specs.declared.compiled.Compiled.{Compiled}
 use Rattle.net_driver.specs.Headline.{Headline}
-use Rattle.net_driver.specs.Made.{IsMade, HasSizes, profile_of}
+use Rattle.net_driver.specs.Made.{IsNormalFormOf, SizesAgree, profile_of}
 use Rattle.net_driver.proofs.Counts.{node_count, arc_count, supply_count, numbers_within, flow_arc_count}
 use Rattle.net_driver.proofs.LinkLines.{links_skipped, numbers_small, same_problem, same_only}
 
-few_names : (lean : Bool) (wanted : Option Name) (m d : List ℕ) (c : Compiled) → HaveNames → HaveExactRanges → IsMade lean wanted m d c → length (names_in c.names.nodes) < 2 ^ 127
+few_names : (lean : Bool) (wanted : Option Name) (m d : List ℕ) (c : Compiled) → HaveNames → HaveExactRanges → IsNormalFormOf lean wanted m d c → length (names_in c.names.nodes) < 2 ^ 127
 few_names lean wanted m d c names ranges made =
     let is = made.network in
     let count = node_count wanted is.network.world is.declarations made.named names ranges is.network.network in
@@ -32,7 +32,7 @@ few_names lean wanted m d c names ranges made =
     omega (arith, length-map c.names.nodes.keys (name_in c.names.nodes.declarations), keys, count, instance.nodes.ok.0, few)
 
 -- the text is the link lines, which say nothing, and the problem's
-says : (lean : Bool) (wanted : Option Name) (m d : List ℕ) (c : Compiled) → HaveNames → HaveExactRanges → IsMade lean wanted m d c
+says : (lean : Bool) (wanted : Option Name) (m d : List ℕ) (c : Compiled) → HaveNames → HaveExactRanges → IsNormalFormOf lean wanted m d c
     → statements_of c.text.items ≡ statements_of (problem_text c.problem.supplies.items c.problem.arcs.items)
 says lean wanted m d c names ranges made =
     let instance = made.named.instance in
@@ -42,7 +42,7 @@ says lean wanted m d c names ranges made =
     (few_names lean wanted m d c names ranges made)
     (subst (AllByRecursion (λ k. k < 2 ^ 128)) (sym made.normal.numbers) (numbers_small (profile_of lean) 1 instance.arcs.items (omega (arith, instance.arcs.ok.0, few))))
 
-sizes_of : (lean : Bool) (wanted : Option Name) (m d : List ℕ) (c : Compiled) → HaveNames → HaveExactRanges → HaveBounds → IsMade lean wanted m d c → HasSizes c
+sizes_of : (lean : Bool) (wanted : Option Name) (m d : List ℕ) (c : Compiled) → HaveNames → HaveExactRanges → HaveBounds → IsNormalFormOf lean wanted m d c → SizesAgree c
 sizes_of lean wanted m d c names ranges bounds made =
     let is = made.network in
     let n = made.named in
@@ -67,7 +67,7 @@ sizes_of lean wanted m d c names ranges bounds made =
 pub some_same : (o : Option Objective) (x y : Objective) → o ≡ Some x → o ≡ Some y → x ≡ y
 some_same o x y p q = let both : ◌≡◌ {A = Option Objective} (Some x) (Some y) = sym p ∙ q in cc
 
-pub headline_of : (lean : Bool) (wanted : Option Name) (m d : List ℕ) (c : Compiled) → HaveNames → HaveExactRanges → HaveBounds → HaveObjective → CorrespondAsWritten → IsMade lean wanted m d c → Headline lean wanted m d c
+pub headline_of : (lean : Bool) (wanted : Option Name) (m d : List ℕ) (c : Compiled) → HaveNames → HaveExactRanges → HaveBounds → HaveObjective → CorrespondAsWritten → IsNormalFormOf lean wanted m d c → Headline lean wanted m d c
 headline_of lean wanted m d c names ranges bounds objective correspond made =
     let is = made.network in
     let ds = is.declarations in

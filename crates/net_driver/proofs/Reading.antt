@@ -10,7 +10,7 @@ use Rattle.net_dimacs.specs.Limits.{text_limit}
 use Rattle.net_dimacs.proofs.Complete.{begins}
 use Rattle.net_io.specs.Ends.{ReadsToLimit}
 use Rattle.net_driver.specs.LineTexts.{IsProblemOf, MayBeProblem}
-use Rattle.net_driver.specs.Runs.{Course, ReadsWhole}
+use Rattle.net_driver.specs.Runs.{Stream, ReadsWhole}
 
 short : {A B : Type 0} (limit n : ℕ) (refused : B) (read : Result A B) (x : A) → (if nat_lt limit n then Err refused else read) ≡ Ok x → n ≤ limit
 short limit n refused read x e = decide (nat_lt limit n) refl e
@@ -26,7 +26,7 @@ pub short_certificate : (nodes : ℕ) (arcs : List FlowArc) (text : List ℕ) (x
 short_certificate nodes arcs text x e = short text_limit (length text) _ _ x e
 
 -- a text within the limit was read to its end
-pub read_whole : (limit : ℕ) (source : Course) (text : List ℕ) → ReadsToLimit limit source.old source.new text → length text ≤ limit → ReadsWhole source text
+pub read_whole : (limit : ℕ) (source : Stream) (text : List ℕ) → ReadsToLimit limit source.old source.new text → length text ≤ limit → ReadsWhole source text
 read_whole limit source text read few = elim read.stop [
   | inl within ↦ record { bytes = read.bytes; at_end = within.1 }
   | inr past ↦ absurd (omega (arith, past, few))

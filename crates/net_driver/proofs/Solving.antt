@@ -17,7 +17,7 @@ use Rattle.net_normal.proofs.WholeNumbers.{sized-mul}
 use Rattle.net_report.specs.Lifts.{IsCarried, AreCarried}
 use Rattle.net_driver.specs.declared.compiled.Compiled.{Compiled}
 use Rattle.net_driver.specs.Answers.{IsAsGood}
-use Rattle.net_driver.specs.Made.{HasSizes}
+use Rattle.net_driver.specs.Made.{SizesAgree}
 use Rattle.net_driver.proofs.Counts.{zip_length}
 
 -- ---- flows are small
@@ -45,7 +45,7 @@ carried_all problem flows (n ∷ numbers) feasible h =
     let count = zip_length IsWithinCapacity problem.arcs.items flows feasible.capacity in
     (λ _. record { there = omega (arith, h.0, count, problem.arcs.ok.0); least = small.least; most = small.most }, carried_all problem flows numbers feasible h.1)
 
-pub carried : (c : Compiled) (flows : List ℤ) → HasSizes c → IsFeasibleFlow c.problem flows → AreCarried flows c.link.numbers.items
+pub carried : (c : Compiled) (flows : List ℤ) → SizesAgree c → IsFeasibleFlow c.problem flows → AreCarried flows c.link.numbers.items
 carried c flows sizes feasible = All-from_recursion (λ n. 0 < n → IsCarried flows n) c.link.numbers.items (carried_all c.problem flows c.link.numbers.items feasible sizes.numbers)
 
 -- ---- and so are their costs

@@ -11,8 +11,8 @@ use Rattle.net_lex.specs.Lexing as lex
 use Rattle.net_lex.specs.Lexing.{AreTokensOf}
 use Rattle.net_lex.specs.Limits.{text_limit}
 use Rattle.net_tree.specs.Tree.{Declaration}
-use Rattle.net_model.specs.Models.{meant}
-use Rattle.net_data.specs.declared.stop.Stop.{Stop as DataStop}
+use Rattle.net_driver.specs.Models.{meant}
+use Rattle.net_data.specs.declared.parse_error.ParseError.{ParseError as DataStop}
 use Rattle.net_data.specs.declared.tables.Tables.{Tables}
 use Rattle.net_data.specs.Reading as data_reading
 use Rattle.net_fault.specs.declared.finding.Finding.{Finding}

@@ -18,7 +18,7 @@ use Rattle.net_normal.specs.Correspondence.{CorrespondsOneToOne}
 use Rattle.net_normal.specs.NormalForm.{IsFormIn}
 use Rattle.net_driver.specs.Reading.{IsModel, IsData}
 use Rattle.net_report.specs.Links.{link_text}
-use Rattle.net_driver.specs.Made.{HasSizes, profile_of}
+use Rattle.net_driver.specs.Made.{SizesAgree, profile_of}
 use Rattle.net_driver.specs.declared.compiled.Compiled.{Compiled}
 
 -- the model text is these declarations, the data text is these statements, and together they give the sets and parameters these values
@@ -43,7 +43,7 @@ pub record Headline (lean : Bool) (wanted : Option Name) (model_text data_text :
   pub normal : IsFormIn (profile_of lean) made.instance c.problem c.link
   -- by number, each feasible flow of the problem stands for a feasible assignment of the network's arcs, none is lost and none is there twice
   pub by_number : CorrespondsOneToOne made.instance c.problem c.link
-  pub sizes : HasSizes c
+  pub sizes : SizesAgree c
   -- the objective is the wanted one, or the only one; the names are those that the model declares, in order
   pub objective : Objective
   pub is_chosen : chosen wanted (objectives world declarations) ≡ Some objective

@@ -1,4 +1,5 @@
 pub mod Reading
+pub mod Models
 pub mod FirstFaults
 pub mod FaultLines
 pub mod Texts

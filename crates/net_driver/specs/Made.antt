@@ -21,7 +21,7 @@ profile_of false = Plain
 
 -- the names are those of the texts' network; node by node and arc by arc the problem is its normal form or, where that is asked for, its lean form, so the printed numbers are
 -- those of these names
-pub record IsMade (lean : Bool) (wanted : Option Name) (model_text data_text : List ℕ) (c : Compiled) : Type 0 where
+pub record IsNormalFormOf (lean : Bool) (wanted : Option Name) (model_text data_text : List ℕ) (c : Compiled) : Type 0 where
   pub named : Named
   pub network : IsNetworkOf wanted model_text data_text (seen_as named)
   pub names : c.names ≡ named.names
@@ -33,7 +33,7 @@ pub record IsMade (lean : Bool) (wanted : Option Name) (model_text data_text : L
 
 -- there is a node of the problem for each node's name, and one more for the outside, and a number for each arc's name, which is 0 or
 -- that of an arc of the problem
-pub record HasSizes (c : Compiled) : Type 0 where
+pub record SizesAgree (c : Compiled) : Type 0 where
   pub nodes : vec_len c.problem.supplies ≡ length c.names.nodes.keys + 1
   pub arcs : vec_len c.link.numbers ≡ length c.names.arcs.keys
   pub numbers : AllByRecursion (λ n. n ≤ vec_len c.problem.arcs) c.link.numbers.items

@@ -1,5 +1,5 @@
 -- What a run reads and writes (the words of Rust's std::io, Read and Write).
-use Rattle.std.specs.Prelude.{◌≡◌, ◌≤◌, ℕ, ◌+◌, Bool, List, Option}
+use Rattle.std.specs.Prelude.{◌≡◌, ◌≤◌, ◌↔◌, ◌⊎◌, ℕ, ◌+◌, Bool, true, List, [], ◌∷◌, Option, Result, ⊤, IfOk, IfErr, IsErrOf}
 use Rattle.std.specs.Io.KnownBytes.{Appends, Consumes, IsAtEnd}
 use Rattle.net_fault.specs.declared.language.Language.TheVariants as languages
 use Rattle.net_lex.specs.Limits.{text_limit}
@@ -10,10 +10,11 @@ use Rattle.net_driver.specs.declared.answer.Answer.{Answer}
 use Rattle.net_driver.specs.declared.compiled.Compiled.{Compiled}
 use Rattle.net_driver.specs.declared.fault.Fault.{Fault}
 use Rattle.net_driver.specs.declared.fault.TextName.{TextName}
+use Rattle.net_driver.specs.declared.fault.TextName.TheVariants.{Model, Data, Problem, Certificate}
 use Rattle.net_driver.specs.declared.fault.Fault.TheVariants.{OutOfMemory, Refused, RefusedLine, Unread, Unwritten}
 use Rattle.net_driver.specs.Telling.{IsRefusal}
 use Rattle.net_check.specs.declared.verdict.Verdict.{Verdict}
-use Rattle.net_check.specs.declared.certificate.Certificate.{Certificate}
+use Rattle.net_check.specs.declared.certificate.Certificate as certificates
 use Rattle.net_driver.specs.declared.ending.Ending.{Ending}
 use Rattle.net_driver.specs.Checked.{Judges, IsLineRefusal, IsProblemRefusal, ending_of, verdict_line}
 use Rattle.net_driver.specs.Settled.{Settles, settled_ending}
@@ -21,145 +22,150 @@ use Rattle.net_driver.specs.Answers.{Answers, text_of}
 use Rattle.net_driver.specs.Answers as answers
 use Rattle.net_driver.specs.Headline.{Headline}
 
--- the most bytes of a problem text and of a certificate text
-abbrev pub lines_limit : ℕ
-lines_limit = dimacs.text_limit
-
--- what a source had, and has left
-pub record Course : Type 0 where
-  pub old : Option (List ℕ)
-  pub new : Option (List ℕ)
-
--- a source was read to its end, and this is what it gave
-pub record ReadsWhole (source : Course) (text : List ℕ) : Type 0 where
-  pub bytes : Consumes source.old source.new text
-  pub at_end : IsAtEnd source.new
-
--- a source was read to its end or to one byte past the limit
-abbrev pub ReadsUpTo : ℕ → Course → List ℕ → Type 0
-ReadsUpTo limit source text = ReadsToLimit limit source.old source.new text
-
--- a source is asked for bytes at most once more than its text may have bytes, however few it gives at once
-abbrev pub IsAskedFew : (limit before after : ℕ) → Type 0
-IsAskedFew limit before after = after ≤ before + (limit + 1)
-
 abbrev pub model_limit : ℕ
 model_limit = text_limit languages.Model
 
 abbrev pub data_limit : ℕ
 data_limit = text_limit languages.Data
 
--- the two texts were read to their ends, and the answer keeps the promise for them
-pub record Compiles (lean : Bool) (wanted : Option Name) (model data' : Course) (answer : Compiled) : Type 0 where
-  pub model_text : List ℕ
-  pub data_text : List ℕ
-  pub model_read : ReadsWhole model model_text
-  pub data_read : ReadsWhole data' data_text
-  pub compiled : Headline lean wanted model_text data_text answer
+-- the most bytes of a problem text and of a certificate text
+abbrev pub lines_limit : ℕ
+lines_limit = dimacs.text_limit
 
--- the answer's text was written, and nothing else
-pub record WritesAnswer (lean : Bool) (wanted : Option Name) (model data' output : Course) : Type 0 where
-  pub answer : Compiled
-  pub made : Compiles lean wanted model data' answer
-  pub written : Appends output.old output.new answer.text.items
+-- what a source had, and has left
+pub record Stream : Type 0 where
+  pub old : Option (List ℕ)
+  pub new : Option (List ℕ)
 
--- a front of the answer's text was written, and nothing else
-pub record WritesFrontOfAnswer (lean : Bool) (wanted : Option Name) (model data' output : Course) : Type 0 where
-  pub answer : Compiled
-  pub made : Compiles lean wanted model data' answer
-  pub written : WritesFront output.old output.new answer.text.items
+-- a source was read to its end, and this is what it gave
+pub record ReadsWhole (source : Stream) (text : List ℕ) : Type 0 where
+  pub bytes : Consumes source.old source.new text
+  pub at_end : IsAtEnd source.new
 
--- the two texts were read to their ends, and the answer is one to them
-pub record Solves (lean : Bool) (wanted : Option Name) (model data' : Course) (answer : Answer) : Type 0 where
-  pub model_text : List ℕ
-  pub data_text : List ℕ
-  pub model_read : ReadsWhole model model_text
-  pub data_read : ReadsWhole data' data_text
-  pub solved : Answers lean wanted model_text data_text answer
+-- a source was read to its end or to one byte past the limit
+abbrev pub ReadsUpTo : ℕ → Stream → List ℕ → Type 0
+ReadsUpTo limit source text = ReadsToLimit limit source.old source.new text
 
--- the plan or the cut was written, and nothing else
-pub record WritesOutcome (lean : Bool) (wanted : Option Name) (model data' output : Course) (ending : Ending) : Type 0 where
-  pub answer : Answer
-  pub made : Solves lean wanted model data' answer
-  pub ends : ending ≡ answers.ending_of answer.outcome
-  pub written : Appends output.old output.new (text_of answer.outcome)
+-- a source is asked for bytes at most once more than its text may have bytes, however few it gives at once
+abbrev pub IsAskedFew : (limit before after : ℕ) → Type 0
+IsAskedFew limit before after = after ≤ before + (limit + 1)
 
--- a front of it was written, and nothing else
-pub record WritesFrontOfOutcome (lean : Bool) (wanted : Option Name) (model data' output : Course) : Type 0 where
-  pub answer : Answer
-  pub made : Solves lean wanted model data' answer
-  pub written : WritesFront output.old output.new (text_of answer.outcome)
+-- a source before and behind a run
+pub record Source (S : Type 0) : Type 0 where
+  pub remaining : S → Option (List ℕ)
+  pub failed : S → Bool
+  pub reads : S → ℕ
+  pub old : S
+  pub new : S
 
--- the two texts were read up to their limits, and this is what is wrong with them
-pub record Refuses (wanted : Option Name) (model data' : Course) (fault : Fault) : Type 0 where
-  pub model_text : List ℕ
-  pub data_text : List ℕ
-  pub model_read : ReadsUpTo (text_limit languages.Model) model model_text
-  pub data_read : ReadsUpTo (text_limit languages.Data) data' data_text
-  pub refused : IsRefusal wanted model_text data_text fault
+-- a sink before and behind a run
+pub record Sink (S : Type 0) : Type 0 where
+  pub taken : S → Option (List ℕ)
+  pub failed : S → Bool
+  pub old : S
+  pub new : S
 
--- of a refused text, this
-abbrev pub IfRefused : Fault → Type 0 → Type 0
-IfRefused OutOfMemory P = Unit {0}
-IfRefused (Refused r) P = P
-IfRefused (RefusedLine r) P = P
-IfRefused (Unread text) P = Unit {0}
-IfRefused Unwritten P = Unit {0}
+-- what a run did with a source: which text that gives, the most bytes of it, whether a read of it has failed, and how many reads there were
+pub record Input : Type 0 where
+  pub name : TextName
+  pub limit : ℕ
+  pub bytes : Stream
+  pub failed : Bool
+  pub reads_before : ℕ
+  pub reads_after : ℕ
 
--- of an end that could not be read, this
-abbrev pub IfUnread : Fault → (TextName → Type 0) → Type 0
-IfUnread OutOfMemory P = Unit {0}
-IfUnread (Refused r) P = Unit {0}
-IfUnread (RefusedLine r) P = Unit {0}
-IfUnread (Unread text) P = P text
-IfUnread Unwritten P = Unit {0}
+abbrev pub input : {S : Type 0} → TextName → ℕ → Source S → Input
+input name limit s = record {
+  name = name;
+  limit = limit;
+  bytes = record { old = s.remaining s.old; new = s.remaining s.new };
+  failed = s.failed s.new;
+  reads_before = s.reads s.old;
+  reads_after = s.reads s.new;
+}
 
--- the two texts were read to their ends, and this is the verdict's line
-pub record WritesVerdict (problem certificate output : Course) (ending : Ending) : Type 0 where
-  pub problem_text : List ℕ
-  pub certificate_text : List ℕ
-  pub problem_read : ReadsWhole problem problem_text
-  pub certificate_read : ReadsWhole certificate certificate_text
-  pub verdict : Verdict
-  pub judged : Judges problem_text certificate_text verdict
-  pub ends : ending ≡ ending_of verdict
-  pub written : Appends output.old output.new (verdict_line verdict)
+-- of each source of a run, this
+abbrev pub Each : (Input → Type 0) → List Input → Type 0
+Each P [] = ⊤
+Each P (i ∷ inputs) = P i × Each P inputs
 
-pub record WritesFrontOfVerdict (problem certificate output : Course) : Type 0 where
-  pub problem_text : List ℕ
-  pub certificate_text : List ℕ
-  pub problem_read : ReadsWhole problem problem_text
-  pub certificate_read : ReadsWhole certificate certificate_text
-  pub verdict : Verdict
-  pub judged : Judges problem_text certificate_text verdict
-  pub written : WritesFront output.old output.new (verdict_line verdict)
+-- of one of the sources, this
+abbrev pub OneOf : (Input → Type 0) → List Input → Type 0
+OneOf P [] = ⊥
+OneOf P (i ∷ inputs) = P i ⊎ OneOf P inputs
 
-pub record RefusesLines (problem certificate : Course) (fault : Fault) : Type 0 where
-  pub problem_text : List ℕ
-  pub certificate_text : List ℕ
-  pub problem_read : ReadsUpTo lines_limit problem problem_text
-  pub certificate_read : ReadsUpTo lines_limit certificate certificate_text
-  pub refused : IsLineRefusal problem_text certificate_text fault
+-- the text of each name
+abbrev pub Texts : Type 0
+Texts = TextName → List ℕ
 
--- the text was read to its end, and this is its certificate's text
-pub record WritesCertificate (problem output : Course) (ending : Ending) : Type 0 where
-  pub problem_text : List ℕ
-  pub problem_read : ReadsWhole problem problem_text
-  pub settled : Certificate
+-- the sources were read to their ends, and this went out of the answer to their texts, and nothing else
+pub record Writes (inputs : List Input) (IsAnswer : Texts → List ℕ → Type 0) (GoesOut : List ℕ → Type 0) : Type 0 where
+  pub texts : Texts
+  pub read : Each (λ i. ReadsWhole i.bytes (texts i.name)) inputs
   pub text : List ℕ
-  pub settles : Settles problem_text settled text
-  pub ends : ending ≡ settled_ending settled
-  pub written : Appends output.old output.new text
+  pub answer : IsAnswer texts text
+  pub written : GoesOut text
 
-pub record WritesFrontOfCertificate (problem output : Course) : Type 0 where
-  pub problem_text : List ℕ
-  pub problem_read : ReadsWhole problem problem_text
-  pub settled : Certificate
-  pub text : List ℕ
-  pub settles : Settles problem_text settled text
-  pub written : WritesFront output.old output.new text
+-- the sources were read up to their limits, and this is what is wrong with their texts
+pub record Refuses (inputs : List Input) (IsWrong : Texts → Type 0) : Type 0 where
+  pub texts : Texts
+  pub read : Each (λ i. ReadsUpTo i.limit i.bytes (texts i.name)) inputs
+  pub refused : IsWrong texts
 
-pub record RefusesProblem (problem : Course) (fault : Fault) : Type 0 where
-  pub problem_text : List ℕ
-  pub problem_read : ReadsUpTo lines_limit problem problem_text
-  pub refused : IsProblemRefusal problem_text fault
+-- what a run tells by a fault. But for a failed write, of which a front of the answer is left, it has written nothing
+abbrev pub Tells : {A S : Type 0} → List Input → Sink S → (Texts → A → List ℕ → Type 0) → (Texts → Fault → Type 0) → Fault → Type 0
+Tells inputs output IsAnswer IsWrong OutOfMemory = output.new ≡ output.old
+Tells inputs output IsAnswer IsWrong (Refused r) = (output.new ≡ output.old) × Refuses inputs (λ texts. IsWrong texts (Refused r))
+Tells inputs output IsAnswer IsWrong (RefusedLine r) = (output.new ≡ output.old) × Refuses inputs (λ texts. IsWrong texts (RefusedLine r))
+Tells inputs output IsAnswer IsWrong (Unread name) = (output.new ≡ output.old) × OneOf (λ i. name ≡ i.name) inputs
+Tells {A} inputs output IsAnswer IsWrong Unwritten =
+    (a : A) × Writes inputs (λ texts. IsAnswer texts a) (WritesFront (output.taken output.old) (output.taken output.new))
+
+-- a run from these sources into this sink: which answers with which text belong to texts, and which faults
+pub record IsRun {A S : Type 0} (inputs : List Input) (output : Sink S) (IsAnswer : Texts → A → List ℕ → Type 0) (IsWrong : Texts → Fault → Type 0)
+    (result : Result A Fault) : Type 0 where
+  -- the sources were read whole, and the answer's text was written, and nothing else
+  pub ok : IfOk result (λ a. Writes inputs (λ texts. IsAnswer texts a) (Appends (output.taken output.old) (output.taken output.new)))
+  pub err : IfErr result (Tells inputs output IsAnswer IsWrong)
+  -- an end is blamed exactly where it failed
+  pub unread : Each (λ i. IsErrOf result (Unread i.name) ↔ (i.failed ≡ true)) inputs
+  pub unwritten : IsErrOf result Unwritten ↔ (output.failed output.new ≡ true)
+  -- however few bytes a source gives at once, it is asked for no more than its text may have, and once to see its end
+  pub reads : Each (λ i. IsAskedFew i.limit i.reads_before i.reads_after) inputs
+
+-- the text of a model and its data compiled
+abbrev pub IsCompiledText : Bool → Option Name → Texts → Unit {0} → List ℕ → Type 0
+IsCompiledText lean wanted texts done text = (c : Compiled) × Headline lean wanted (texts Model) (texts Data) c × (text ≡ c.text.items)
+
+-- the plan of a model and its data, or the cut that shows why there is none
+abbrev pub IsSolvedText : Bool → Option Name → Texts → Ending → List ℕ → Type 0
+IsSolvedText lean wanted texts ending text =
+    (a : Answer) × Answers lean wanted (texts Model) (texts Data) a × (ending ≡ answers.ending_of a.outcome) × (text ≡ text_of a.outcome)
+
+-- the line of the verdict on a certificate
+abbrev pub IsVerdictText : Texts → Ending → List ℕ → Type 0
+IsVerdictText texts ending text = (v : Verdict) × Judges (texts Problem) (texts Certificate) v × (ending ≡ ending_of v) × (text ≡ verdict_line v)
+
+-- the text of a problem's certificate
+abbrev pub IsSettledText : Texts → Ending → List ℕ → Type 0
+IsSettledText texts ending text = (c : certificates.Certificate) × Settles (texts Problem) c text × (ending ≡ settled_ending c)
+
+-- a run that reads a model and its data
+abbrev pub IsModelRun : {A M D W : Type 0} → Option Name → (Texts → A → List ℕ → Type 0) → Source M → Source D → Sink W → Result A Fault → Type 0
+IsModelRun wanted IsText model data' output result =
+    IsRun (input Model model_limit model ∷ input Data data_limit data' ∷ []) output IsText (λ texts. IsRefusal wanted (texts Model) (texts Data)) result
+
+-- the four runs
+abbrev pub IsCompileRun : {M D W : Type 0} → Bool → Option Name → Source M → Source D → Sink W → Result (Unit {0}) Fault → Type 0
+IsCompileRun lean wanted model data' output result = IsModelRun wanted (IsCompiledText lean wanted) model data' output result
+
+abbrev pub IsSolveRun : {M D W : Type 0} → Bool → Option Name → Source M → Source D → Sink W → Result Ending Fault → Type 0
+IsSolveRun lean wanted model data' output result = IsModelRun wanted (IsSolvedText lean wanted) model data' output result
+
+abbrev pub IsCheckRun : {P C W : Type 0} → Source P → Source C → Sink W → Result Ending Fault → Type 0
+IsCheckRun problem certificate output result =
+    IsRun (input Problem lines_limit problem ∷ input Certificate lines_limit certificate ∷ []) output IsVerdictText
+    (λ texts. IsLineRefusal (texts Problem) (texts Certificate)) result
+
+abbrev pub IsMinRun : {P W : Type 0} → Source P → Sink W → Result Ending Fault → Type 0
+IsMinRun problem output result = IsRun (input Problem lines_limit problem ∷ []) output IsSettledText (λ texts. IsProblemRefusal (texts Problem)) result

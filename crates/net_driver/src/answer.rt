@@ -8,7 +8,7 @@ ghost use Rattle.net_check.specs.Certificates.{IsCertificate};
 ghost use Rattle.net_driver.specs.Answers.{Answers, text_of};
 ghost use Rattle.net_driver.specs.Headline.{Headline};
 ghost use Rattle.net_driver.specs.Linked.{written};
-ghost use Rattle.net_driver.specs.Made.{HasSizes};
+ghost use Rattle.net_driver.specs.Made.{SizesAgree};
 ghost use Rattle.net_eval.specs.Worlds.{Name};
 ghost use Rattle.net_driver.specs.Outcomes.{IsOutcomeOf, IsDisplayOf, IsCutOf};
 ghost use Rattle.net_driver.specs.Telling.{IsRefusal};
@@ -69,15 +69,7 @@ pub fn solve_model<'s>(alloc: Global, model: &'s [u8], data: &'s [u8]) -> Result
     ensures value { IfOk result (Answers false None model.entry.now «data».entry.now) }
     ensures refused { IfErr result (IsRefusal None model.entry.now «data».entry.now) }
 {
-    solve_model_with(
-        alloc,
-        Options {
-            objective: None,
-            lean: false,
-        },
-        model,
-        data,
-    )
+    solve_model_with(alloc, Options::new(), model, data)
 }
 
 /// Solves a model with its data, with what is chosen. Faults are those of [`crate::compile_with`].
@@ -101,7 +93,7 @@ pub(crate) fn solve_unwritten(
     alloc: Global,
     unwritten: &Unwritten<'_>,
 ) -> Result<Outcome, AllocError>
-    requires { HasSizes (written unwritten.now) }
+    requires { SizesAgree (written unwritten.now) }
     ensures { (lean : Bool) (wanted : Option Name) (m d : List ℕ) → Headline lean wanted m d (written unwritten.now)
         → IfOk result (λ outcome. Answers lean wanted m d (record { compiled = written unwritten.now; outcome = outcome })) }
 {
@@ -117,7 +109,7 @@ fn outcome_of(
     unwritten: &Unwritten<'_>,
     settled: Settled,
 ) -> Result<Outcome, AllocError>
-    requires sizes { HasSizes (written unwritten.now) }
+    requires sizes { SizesAgree (written unwritten.now) }
     requires settled { IsCertificate unwritten.now.problem settled }
     ensures { IfOk result (IsOutcomeOf (written unwritten.now) settled) }
 {
@@ -134,7 +126,7 @@ fn displayed(
     cost: i128,
     flows: &[i64],
 ) -> Result<Outcome, AllocError>
-    requires sizes { HasSizes (written unwritten.now) }
+    requires sizes { SizesAgree (written unwritten.now) }
     requires feasible { IsFeasibleFlow unwritten.now.problem flows.now }
     requires cost { cost ≡ cost_of unwritten.now.problem flows.now }
     ensures { IfOk result (IsDisplayOf (written unwritten.now) flows.now cost) }
@@ -156,7 +148,7 @@ fn infeasible(
     flags: Vec<bool>,
     side: Side,
 ) -> Result<Outcome, AllocError>
-    requires sizes { HasSizes (written unwritten.now) }
+    requires sizes { SizesAgree (written unwritten.now) }
     requires violated { IsViolatedCut unwritten.now.problem flags.items side }
     ensures { IfOk result (IsCutOf (written unwritten.now) flags.items side) }
 {

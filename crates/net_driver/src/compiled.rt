@@ -3,17 +3,18 @@
 ghost use Rattle.std.specs.Prelude.{◌≡◌, None, false, IfOk, IfErr};
 ghost use Rattle.std.specs.Option.{option_copied};
 ghost use Rattle.net_driver.specs.Linked.{written};
-ghost use Rattle.net_driver.specs.Made.{HasSizes};
+ghost use Rattle.net_driver.specs.Made.{SizesAgree};
 ghost use Rattle.net_driver.specs.Telling.{IsRefusal};
 ghost use Rattle.net_driver.specs.Headline.{Headline};
 
 use crate::fault::Fault;
+use crate::linked::linked_of;
 use crate::text::Text;
 use crate::unwritten::{Unwritten, read_model};
-use net_dimacs::write_problem;
+use net_dimacs::write_problem_to;
 use net_inst::Names;
+use net_io::GrowingSink;
 use net_normal::{Link, Problem};
-use net_report::write_links;
 use std::alloc::{AllocError, Global};
 
 /// What a caller may choose.
@@ -23,6 +24,19 @@ pub struct Options<'s> {
     pub objective: Option<&'s str>,
     /// Whether the problem is the lean form of the network: no arc has a lower bound, and an arc of equal bounds is left out.
     pub lean: bool,
+}
+
+impl<'s> Options<'s> {
+    /// The model's only objective, in the normal form.
+    pub fn new() -> Options<'s>
+        ensures objective { option_copied result.objective ≡ None }
+        ensures lean { result.lean ≡ false }
+    {
+        Options {
+            objective: None,
+            lean: false,
+        }
+    }
 }
 
 /// A model compiled: its problem, the way back, its names, and the text of all three.
@@ -40,15 +54,7 @@ pub fn compile<'s>(alloc: Global, model: &'s [u8], data: &'s [u8]) -> Result<Com
     ensures value { IfOk result (Headline false None model.entry.now «data».entry.now) }
     ensures refused { IfErr result (IsRefusal None model.entry.now «data».entry.now) }
 {
-    compile_with(
-        alloc,
-        Options {
-            objective: None,
-            lean: false,
-        },
-        model,
-        data,
-    )
+    compile_with(alloc, Options::new(), model, data)
 }
 
 /// Compiles a model with its data, with what is chosen.
@@ -71,21 +77,18 @@ pub fn compile_with<'s>(
 
 /// The model compiled with its text: the link lines, then the problem's lines.
 pub(crate) fn with_text(alloc: Global, unwritten: Unwritten<'_>) -> Result<Compiled<'_>, AllocError>
-    requires { HasSizes (written unwritten) }
+    requires { SizesAgree (written unwritten) }
     ensures { IfOk result (λ compiled. compiled ≡ written unwritten.entry) }
 {
-    let Unwritten {
-        problem,
-        link,
-        names,
-    } = unwritten;
-    let mut lines = write_links(alloc, &names, &link)?;
-    let problem_lines = write_problem(alloc, &problem)?;
-    lines.extend_from_slice(&problem_lines)?;
-    Ok(Compiled {
-        text: Text::new(lines),
-        problem,
-        link,
-        names,
-    })
+    let linked = linked_of(alloc, unwritten)?;
+    let mut sink = GrowingSink::new(linked.lines);
+    match write_problem_to(&linked.problem, &mut sink) {
+        Ok(()) => Ok(Compiled {
+            text: Text::new(sink.taken),
+            problem: linked.problem,
+            link: linked.link,
+            names: linked.names,
+        }),
+        Err(_) => Err(AllocError),
+    }
 }

@@ -1,13 +1,12 @@
 //! Runs over texts of lines: a problem is read by pieces and a certificate whole, then the answer is computed whole, then it is written.
 
-ghost use Rattle.std.specs.Prelude.{◌≡◌, ◌⊎◌, ◌↔◌, List, ℕ, true, false, IfOk, IfErr, IsErrOf};
+ghost use Rattle.std.specs.Prelude.{◌≡◌, ◌⊎◌, List, ℕ, true, false, IfOk, IfErr};
 ghost use Rattle.net_dimacs.specs.Limits.{text_limit};
 ghost use Rattle.net_dimacs.specs.Scans.{Stands};
 ghost use Rattle.net_io.specs.Ends.{ReadsToLimit};
 ghost use Rattle.net_driver.specs.Checked.{Judges, IsLineRefusal, IsProblemRefusal, ending_of};
 ghost use Rattle.net_driver.specs.Settled.{Settles, settled_ending};
-ghost use Rattle.net_driver.specs.Runs.{IfRefused, IfUnread, WritesVerdict, WritesFrontOfVerdict, RefusesLines, WritesCertificate};
-ghost use Rattle.net_driver.specs.Runs.{WritesFrontOfCertificate, RefusesProblem, IsAskedFew, lines_limit};
+ghost use Rattle.net_driver.specs.Runs.{IsCheckRun, IsMinRun, IsAskedFew, lines_limit};
 
 use crate::checking::{judge, verdict_line};
 use crate::ending::Ending;
@@ -85,31 +84,13 @@ pub fn run_check<P: Source, C: Source, W: Sink>(
     requires problem_unread { P.failed problem.old ≡ false }
     requires certificate_unread { C.failed certificate.old ≡ false }
     requires unwritten { W.failed output.old ≡ false }
-    ensures ok { IfOk result (WritesVerdict
-        (record { old = P.remaining problem.old; new = P.remaining problem.new })
-        (record { old = C.remaining certificate.old; new = C.remaining certificate.new })
-        (record { old = W.taken output.old; new = W.taken output.new })) }
+    ensures run { IsCheckRun
+        (record { remaining = P.remaining; failed = P.failed; reads = P.reads; old = problem.old; new = problem.new })
+        (record { remaining = C.remaining; failed = C.failed; reads = C.reads; old = certificate.old; new = certificate.new })
+        (record { taken = W.taken; failed = W.failed; old = output.old; new = output.new }) result }
 
-    // A refused call has written nothing; a failed write leaves a front of the answer.
-    ensures refused { IfErr result (λ fault. (fault ≡ Fault.Unwritten) ⊎ (output.new ≡ output.old)) }
-    ensures told { IfErr result (λ fault. IfRefused fault (RefusesLines
-        (record { old = P.remaining problem.old; new = P.remaining problem.new })
-        (record { old = C.remaining certificate.old; new = C.remaining certificate.new }) fault)) }
-    ensures front { IsErrOf result Fault.Unwritten → WritesFrontOfVerdict
-        (record { old = P.remaining problem.old; new = P.remaining problem.new })
-        (record { old = C.remaining certificate.old; new = C.remaining certificate.new })
-        (record { old = W.taken output.old; new = W.taken output.new }) }
-
-    // An end is blamed exactly where it failed, and the problem is read first.
-    ensures problem { IsErrOf result (Fault.Unread TextName.Problem) ↔ (P.failed problem.new ≡ true) }
-    ensures certificate { IsErrOf result (Fault.Unread TextName.Certificate) ↔ (C.failed certificate.new ≡ true) }
-    ensures output { IsErrOf result Fault.Unwritten ↔ (W.failed output.new ≡ true) }
-    ensures ends { IfErr result (λ fault. IfUnread fault (λ text. (text ≡ TextName.Problem) ⊎ (text ≡ TextName.Certificate))) }
+    // The problem is read first.
     ensures first { P.failed problem.new ≡ true → certificate.new ≡ certificate.old }
-
-    // However few bytes a source gives at once, it is asked for no more than its text may have, and once to see its end.
-    ensures problem_reads { IsAskedFew lines_limit (P.reads problem.old) (P.reads problem.new) }
-    ensures certificate_reads { IsAskedFew lines_limit (C.reads certificate.old) (C.reads certificate.new) }
 {
     let reading = read_problem_from(alloc, problem)?;
     let certificate_text = read_certificate(alloc, certificate)?;
@@ -130,25 +111,9 @@ pub fn run_min<P: Source, W: Sink>(
 ) -> Result<Ending, Fault>
     requires problem_unread { P.failed problem.old ≡ false }
     requires unwritten { W.failed output.old ≡ false }
-    ensures ok { IfOk result (WritesCertificate
-        (record { old = P.remaining problem.old; new = P.remaining problem.new })
-        (record { old = W.taken output.old; new = W.taken output.new })) }
-
-    // A refused call has written nothing; a failed write leaves a front of the answer.
-    ensures refused { IfErr result (λ fault. (fault ≡ Fault.Unwritten) ⊎ (output.new ≡ output.old)) }
-    ensures told { IfErr result (λ fault. IfRefused fault (RefusesProblem
-        (record { old = P.remaining problem.old; new = P.remaining problem.new }) fault)) }
-    ensures front { IsErrOf result Fault.Unwritten → WritesFrontOfCertificate
-        (record { old = P.remaining problem.old; new = P.remaining problem.new })
-        (record { old = W.taken output.old; new = W.taken output.new }) }
-
-    // An end is blamed exactly where it failed.
-    ensures problem { IsErrOf result (Fault.Unread TextName.Problem) ↔ (P.failed problem.new ≡ true) }
-    ensures ends { IfErr result (λ fault. IfUnread fault (λ text. text ≡ TextName.Problem)) }
-    ensures output { IsErrOf result Fault.Unwritten ↔ (W.failed output.new ≡ true) }
-
-    // However few bytes the source gives at once, it is asked for no more than its text may have, and once to see its end.
-    ensures problem_reads { IsAskedFew lines_limit (P.reads problem.old) (P.reads problem.new) }
+    ensures run { IsMinRun
+        (record { remaining = P.remaining; failed = P.failed; reads = P.reads; old = problem.old; new = problem.new })
+        (record { taken = W.taken; failed = W.failed; old = output.old; new = output.new }) result }
 {
     let reading = read_problem_from(alloc, problem)?;
     let (settled, text) = solve_read(alloc, reading)?;

@@ -5,7 +5,8 @@ ghost use Rattle.std.specs.Option.{option_copied};
 ghost use Rattle.std.specs.Io.KnownBytes.{Appends};
 ghost use Rattle.net_io.specs.Ends.{WritesFront};
 ghost use Rattle.net_driver.specs.Headline.{Headline};
-ghost use Rattle.net_driver.specs.Linked.{whole};
+ghost use Rattle.net_driver.specs.Linked.{whole, written};
+ghost use Rattle.net_driver.specs.Made.{SizesAgree};
 ghost use Rattle.net_driver.specs.Telling.{IsRefusal};
 
 use crate::compiled::Options;
@@ -16,7 +17,7 @@ use net_inst::Names;
 use net_io::{Failed, Sink, write_whole};
 use net_normal::{Link, Problem};
 use net_report::write_links;
-use std::alloc::Global;
+use std::alloc::{AllocError, Global};
 
 /// A model compiled, and of its text the link lines. The problem's lines stand behind them.
 #[derive(Drop)]
@@ -38,6 +39,15 @@ pub(crate) fn link_model<'s>(
     ensures refused { IfErr result (IsRefusal (option_copied options.entry.objective) model.entry.now «data».entry.now) }
 {
     let unwritten = read_model(alloc, options, model, data)?;
+    let linked = linked_of(alloc, unwritten)?;
+    Ok(linked)
+}
+
+/// A model compiled with its link lines.
+pub(crate) fn linked_of(alloc: Global, unwritten: Unwritten<'_>) -> Result<Linked<'_>, AllocError>
+    requires { SizesAgree (written unwritten) }
+    ensures { IfOk result (λ linked. whole linked ≡ written unwritten.entry) }
+{
     let lines = write_links(alloc, &unwritten.names, &unwritten.link)?;
     let Unwritten {
         problem,

@@ -1,9 +1,9 @@
 //! Runs that compile: texts are read whole, then the problem and its link lines are made, then they are written.
 
-ghost use Rattle.std.specs.Prelude.{◌≡◌, ◌+◌, ◌^◌, ◌<◌, ◌⊎◌, ◌↔◌, None, true, false, OnOk, IfOk, IfErr, IsErrOf};
+ghost use Rattle.std.specs.Prelude.{◌≡◌, ◌+◌, ◌^◌, ◌<◌, ◌⊎◌, None, true, false, IfOk, IfErr};
 ghost use Rattle.std.specs.Option.{option_copied};
 ghost use Rattle.net_io.specs.Ends.{ReadsToLimit};
-ghost use Rattle.net_driver.specs.Runs.{WritesAnswer, WritesFrontOfAnswer, Refuses, IfRefused, IfUnread, IsAskedFew, model_limit, data_limit};
+ghost use Rattle.net_driver.specs.Runs.{IsCompileRun, IsAskedFew};
 
 use crate::compiled::Options;
 use crate::fault::{Fault, TextName};
@@ -22,42 +22,15 @@ pub fn run_compile<M: Source, D: Source, W: Sink>(
     requires model_unread { M.failed model.old ≡ false }
     requires data_unread { D.failed «data».old ≡ false }
     requires unwritten { W.failed output.old ≡ false }
-    ensures ok { OnOk result (WritesAnswer false None
-        (record { old = M.remaining model.old; new = M.remaining model.new })
-        (record { old = D.remaining «data».old; new = D.remaining «data».new })
-        (record { old = W.taken output.old; new = W.taken output.new })) }
+    ensures run { IsCompileRun false None
+        (record { remaining = M.remaining; failed = M.failed; reads = M.reads; old = model.old; new = model.new })
+        (record { remaining = D.remaining; failed = D.failed; reads = D.reads; old = «data».old; new = «data».new })
+        (record { taken = W.taken; failed = W.failed; old = output.old; new = output.new }) result }
 
-    // A refused call has written nothing; a failed write leaves a front of the answer.
-    ensures refused { IfErr result (λ fault. (fault ≡ Fault.Unwritten) ⊎ (output.new ≡ output.old)) }
-    ensures told { IfErr result (λ fault. IfRefused fault (Refuses None
-        (record { old = M.remaining model.old; new = M.remaining model.new })
-        (record { old = D.remaining «data».old; new = D.remaining «data».new }) fault)) }
-    ensures front { IsErrOf result Fault.Unwritten → WritesFrontOfAnswer false None
-        (record { old = M.remaining model.old; new = M.remaining model.new })
-        (record { old = D.remaining «data».old; new = D.remaining «data».new })
-        (record { old = W.taken output.old; new = W.taken output.new }) }
-
-    // An end is blamed exactly where it failed, and the model is read first.
-    ensures model { IsErrOf result (Fault.Unread TextName.Model) ↔ (M.failed model.new ≡ true) }
-    ensures data { IsErrOf result (Fault.Unread TextName.Data) ↔ (D.failed «data».new ≡ true) }
-    ensures output { IsErrOf result Fault.Unwritten ↔ (W.failed output.new ≡ true) }
-    ensures ends { IfErr result (λ fault. IfUnread fault (λ text. (text ≡ TextName.Model) ⊎ (text ≡ TextName.Data))) }
+    // The model is read first.
     ensures first { M.failed model.new ≡ true → «data».new ≡ «data».old }
-
-    // However few bytes a source gives at once, it is asked for no more than its text may have, and once to see its end.
-    ensures model_reads { IsAskedFew model_limit (M.reads model.old) (M.reads model.new) }
-    ensures data_reads { IsAskedFew data_limit (D.reads «data».old) (D.reads «data».new) }
 {
-    run_compile_with(
-        alloc,
-        Options {
-            objective: None,
-            lean: false,
-        },
-        model,
-        data,
-        output,
-    )
+    run_compile_with(alloc, Options::new(), model, data, output)
 }
 
 /// Compiles what the two sources give, with what is chosen, and writes the text of the answer.
@@ -71,31 +44,13 @@ pub fn run_compile_with<'o, M: Source, D: Source, W: Sink>(
     requires model_unread { M.failed model.old ≡ false }
     requires data_unread { D.failed «data».old ≡ false }
     requires unwritten { W.failed output.old ≡ false }
-    ensures ok { OnOk result (WritesAnswer options.entry.lean (option_copied options.entry.objective)
-        (record { old = M.remaining model.old; new = M.remaining model.new })
-        (record { old = D.remaining «data».old; new = D.remaining «data».new })
-        (record { old = W.taken output.old; new = W.taken output.new })) }
+    ensures run { IsCompileRun options.entry.lean (option_copied options.entry.objective)
+        (record { remaining = M.remaining; failed = M.failed; reads = M.reads; old = model.old; new = model.new })
+        (record { remaining = D.remaining; failed = D.failed; reads = D.reads; old = «data».old; new = «data».new })
+        (record { taken = W.taken; failed = W.failed; old = output.old; new = output.new }) result }
 
-    // A refused call has written nothing; a failed write leaves a front of the answer.
-    ensures refused { IfErr result (λ fault. (fault ≡ Fault.Unwritten) ⊎ (output.new ≡ output.old)) }
-    ensures told { IfErr result (λ fault. IfRefused fault (Refuses (option_copied options.entry.objective)
-        (record { old = M.remaining model.old; new = M.remaining model.new })
-        (record { old = D.remaining «data».old; new = D.remaining «data».new }) fault)) }
-    ensures front { IsErrOf result Fault.Unwritten → WritesFrontOfAnswer options.entry.lean (option_copied options.entry.objective)
-        (record { old = M.remaining model.old; new = M.remaining model.new })
-        (record { old = D.remaining «data».old; new = D.remaining «data».new })
-        (record { old = W.taken output.old; new = W.taken output.new }) }
-
-    // An end is blamed exactly where it failed, and the model is read first.
-    ensures model { IsErrOf result (Fault.Unread TextName.Model) ↔ (M.failed model.new ≡ true) }
-    ensures data { IsErrOf result (Fault.Unread TextName.Data) ↔ (D.failed «data».new ≡ true) }
-    ensures output { IsErrOf result Fault.Unwritten ↔ (W.failed output.new ≡ true) }
-    ensures ends { IfErr result (λ fault. IfUnread fault (λ text. (text ≡ TextName.Model) ⊎ (text ≡ TextName.Data))) }
+    // The model is read first.
     ensures first { M.failed model.new ≡ true → «data».new ≡ «data».old }
-
-    // However few bytes a source gives at once, it is asked for no more than its text may have, and once to see its end.
-    ensures model_reads { IsAskedFew model_limit (M.reads model.old) (M.reads model.new) }
-    ensures data_reads { IsAskedFew data_limit (D.reads «data».old) (D.reads «data».new) }
 {
     let model_text = read_text(alloc, model, MODEL_LIMIT, TextName::Model)?;
     let data_text = read_text(alloc, data, DATA_LIMIT, TextName::Data)?;

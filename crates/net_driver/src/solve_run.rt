@@ -1,9 +1,9 @@
 //! Runs that solve models: texts are read whole, then the answer is computed whole, then it is written. The problem's text is never made.
 
-ghost use Rattle.std.specs.Prelude.{◌≡◌, ◌⊎◌, ◌↔◌, None, true, false, IfOk, IfErr, IsErrOf};
+ghost use Rattle.std.specs.Prelude.{◌≡◌, None, true, false};
 ghost use Rattle.std.specs.Option.{option_copied};
 ghost use Rattle.net_driver.specs.Answers.{ending_of};
-ghost use Rattle.net_driver.specs.Runs.{WritesOutcome, WritesFrontOfOutcome, Refuses, IfRefused, IfUnread, IsAskedFew, model_limit, data_limit};
+ghost use Rattle.net_driver.specs.Runs.{IsSolveRun};
 
 use crate::answer::{Outcome, solve_unwritten};
 use crate::compiled::Options;
@@ -34,42 +34,15 @@ pub fn run_solve<M: Source, D: Source, W: Sink>(
     requires model_unread { M.failed model.old ≡ false }
     requires data_unread { D.failed «data».old ≡ false }
     requires unwritten { W.failed output.old ≡ false }
-    ensures ok { IfOk result (WritesOutcome false None
-        (record { old = M.remaining model.old; new = M.remaining model.new })
-        (record { old = D.remaining «data».old; new = D.remaining «data».new })
-        (record { old = W.taken output.old; new = W.taken output.new })) }
+    ensures run { IsSolveRun false None
+        (record { remaining = M.remaining; failed = M.failed; reads = M.reads; old = model.old; new = model.new })
+        (record { remaining = D.remaining; failed = D.failed; reads = D.reads; old = «data».old; new = «data».new })
+        (record { taken = W.taken; failed = W.failed; old = output.old; new = output.new }) result }
 
-    // A refused call has written nothing; a failed write leaves a front of the answer.
-    ensures refused { IfErr result (λ fault. (fault ≡ Fault.Unwritten) ⊎ (output.new ≡ output.old)) }
-    ensures told { IfErr result (λ fault. IfRefused fault (Refuses None
-        (record { old = M.remaining model.old; new = M.remaining model.new })
-        (record { old = D.remaining «data».old; new = D.remaining «data».new }) fault)) }
-    ensures front { IsErrOf result Fault.Unwritten → WritesFrontOfOutcome false None
-        (record { old = M.remaining model.old; new = M.remaining model.new })
-        (record { old = D.remaining «data».old; new = D.remaining «data».new })
-        (record { old = W.taken output.old; new = W.taken output.new }) }
-
-    // An end is blamed exactly where it failed, and the model is read first.
-    ensures model { IsErrOf result (Fault.Unread TextName.Model) ↔ (M.failed model.new ≡ true) }
-    ensures data { IsErrOf result (Fault.Unread TextName.Data) ↔ (D.failed «data».new ≡ true) }
-    ensures output { IsErrOf result Fault.Unwritten ↔ (W.failed output.new ≡ true) }
-    ensures ends { IfErr result (λ fault. IfUnread fault (λ text. (text ≡ TextName.Model) ⊎ (text ≡ TextName.Data))) }
+    // The model is read first.
     ensures first { M.failed model.new ≡ true → «data».new ≡ «data».old }
-
-    // However few bytes a source gives at once, it is asked for no more than its text may have, and once to see its end.
-    ensures model_reads { IsAskedFew model_limit (M.reads model.old) (M.reads model.new) }
-    ensures data_reads { IsAskedFew data_limit (D.reads «data».old) (D.reads «data».new) }
 {
-    run_solve_with(
-        alloc,
-        Options {
-            objective: None,
-            lean: false,
-        },
-        model,
-        data,
-        output,
-    )
+    run_solve_with(alloc, Options::new(), model, data, output)
 }
 
 /// Solves what the two sources give, with what is chosen, and writes the plan, or the cut that shows why there is none.
@@ -83,31 +56,13 @@ pub fn run_solve_with<'o, M: Source, D: Source, W: Sink>(
     requires model_unread { M.failed model.old ≡ false }
     requires data_unread { D.failed «data».old ≡ false }
     requires unwritten { W.failed output.old ≡ false }
-    ensures ok { IfOk result (WritesOutcome options.entry.lean (option_copied options.entry.objective)
-        (record { old = M.remaining model.old; new = M.remaining model.new })
-        (record { old = D.remaining «data».old; new = D.remaining «data».new })
-        (record { old = W.taken output.old; new = W.taken output.new })) }
+    ensures run { IsSolveRun options.entry.lean (option_copied options.entry.objective)
+        (record { remaining = M.remaining; failed = M.failed; reads = M.reads; old = model.old; new = model.new })
+        (record { remaining = D.remaining; failed = D.failed; reads = D.reads; old = «data».old; new = «data».new })
+        (record { taken = W.taken; failed = W.failed; old = output.old; new = output.new }) result }
 
-    // A refused call has written nothing; a failed write leaves a front of the answer.
-    ensures refused { IfErr result (λ fault. (fault ≡ Fault.Unwritten) ⊎ (output.new ≡ output.old)) }
-    ensures told { IfErr result (λ fault. IfRefused fault (Refuses (option_copied options.entry.objective)
-        (record { old = M.remaining model.old; new = M.remaining model.new })
-        (record { old = D.remaining «data».old; new = D.remaining «data».new }) fault)) }
-    ensures front { IsErrOf result Fault.Unwritten → WritesFrontOfOutcome options.entry.lean (option_copied options.entry.objective)
-        (record { old = M.remaining model.old; new = M.remaining model.new })
-        (record { old = D.remaining «data».old; new = D.remaining «data».new })
-        (record { old = W.taken output.old; new = W.taken output.new }) }
-
-    // An end is blamed exactly where it failed, and the model is read first.
-    ensures model { IsErrOf result (Fault.Unread TextName.Model) ↔ (M.failed model.new ≡ true) }
-    ensures data { IsErrOf result (Fault.Unread TextName.Data) ↔ (D.failed «data».new ≡ true) }
-    ensures output { IsErrOf result Fault.Unwritten ↔ (W.failed output.new ≡ true) }
-    ensures ends { IfErr result (λ fault. IfUnread fault (λ text. (text ≡ TextName.Model) ⊎ (text ≡ TextName.Data))) }
+    // The model is read first.
     ensures first { M.failed model.new ≡ true → «data».new ≡ «data».old }
-
-    // However few bytes a source gives at once, it is asked for no more than its text may have, and once to see its end.
-    ensures model_reads { IsAskedFew model_limit (M.reads model.old) (M.reads model.new) }
-    ensures data_reads { IsAskedFew data_limit (D.reads «data».old) (D.reads «data».new) }
 {
     let model_text = read_text(alloc, model, MODEL_LIMIT, TextName::Model)?;
     let data_text = read_text(alloc, data, DATA_LIMIT, TextName::Data)?;

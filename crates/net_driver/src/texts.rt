@@ -6,10 +6,11 @@ ghost use Rattle.net_tree.specs.View as view;
 ghost use Rattle.net_driver.specs.Reading.{IsModel};
 ghost use Rattle.net_driver.specs.FirstFaults.{IsModelStop};
 
+use crate::named::named_model;
+use crate::naming::well_named;
 use net_bind::well_named_are_new;
 use net_fault::Fault;
 use net_lex::lex_model;
-use net_model::{parse_model, well_named};
 use net_tree::Model;
 use std::alloc::Global;
 
@@ -23,7 +24,7 @@ pub(crate) fn read_model<'s>(alloc: Global, text: &'s [u8]) -> Result<Model<'s>,
         Ok(tokens) => tokens,
         Err(fault) => return Err(fault),
     };
-    match parse_model(alloc, &tokens) {
+    match named_model(alloc, &tokens) {
         Ok(model) => {
             well_named();
             well_named_are_new();

@@ -6,7 +6,7 @@ ghost use Rattle.net_normal.specs.NormalForm.{IsFormIn};
 ghost use Rattle.net_normal.specs.Correspondence.{CorrespondsOneToOne};
 ghost use Rattle.net_driver.specs.Headline.{Headline};
 ghost use Rattle.net_driver.specs.Linked.{written};
-ghost use Rattle.net_driver.specs.Made.{IsMade, profile_of};
+ghost use Rattle.net_driver.specs.Made.{IsNormalFormOf, profile_of};
 ghost use Rattle.net_driver.specs.Telling.{IsRefusal};
 
 use crate::compiled::Options;
@@ -53,7 +53,7 @@ fn made_of<'s>(
     model: &'s [u8],
     data: &'s [u8],
 ) -> Result<Unwritten<'s>, Fault>
-    ensures made { IfOk result (λ u. IsMade options.entry.lean (option_copied options.entry.objective) model.entry.now «data».entry.now (written u)) }
+    ensures made { IfOk result (λ u. IsNormalFormOf options.entry.lean (option_copied options.entry.objective) model.entry.now «data».entry.now (written u)) }
     ensures refused { IfErr result (IsRefusal (option_copied options.entry.objective) model.entry.now «data».entry.now) }
 {
     let named = match read_network(alloc, model, data, options.objective) {

@@ -16,7 +16,7 @@ use Rattle.net_eval.specs.declared.row.Row.{Row}
 use Rattle.net_eval.specs.declared.value.Value.{Value}
 use Rattle.net_eval.specs.Items.{has_in, any_in, has_part, tuples_of, Opening, walking, listing, opened, open_with}
 use Rattle.net_fault.specs.Outcomes.{Outcome, and_then, refused, each}
-use Rattle.net_eval.specs.Rows.{start, go_on, onward, is_alike, finished_key, keep, kept, width_of, keys, selected, no_keys, keys_of, rows_of, tuples_in, all_of, listed_as, listed}
+use Rattle.net_eval.specs.Rows.{start, go_on, onward, same_arity, finished_key, keep, kept, width_of, keys, selected, no_keys, keys_of, rows_of, tuples_in, all_of, listed_as, listed}
 use Rattle.net_eval.specs.Values.{value, values, index, walk, set_behind, place, holds}
 use Rattle.net_eval.specs.Widths.{width_by_form}
 use Rattle.net_eval.specs.Worlds.{World, Scope}
@@ -51,7 +51,7 @@ keys_join : (xs ys : List Row) → keys_of (xs ++ ys) ≡ keys_of xs ++ keys_of 
 keys_join [] ys = refl
 keys_join (x ∷ xs) ys = ap (◌∷◌ x.key) (keys_join xs ys)
 
-row_more : (found : List Row) (key : Tuple) (s : Scope) → AreAlike found → is_alike key found ≡ true → AreAlike (found ++ (record { key = key; scope = s }) ∷ [])
+row_more : (found : List Row) (key : Tuple) (s : Scope) → AreAlike found → same_arity key found ≡ true → AreAlike (found ++ (record { key = key; scope = s }) ∷ [])
 row_more [] key s h e = record { width = length key; long = (refl, tt) }
 row_more (r ∷ found) key s h e =
     record {
@@ -61,9 +61,9 @@ row_more (r ∷ found) key s h e =
 
 row_alike : (at : Span) (s : Scope) (o : Option Tuple) (found rows : List Row) → AreAlike found → finished_key at s o found ≡ Ok rows → AreAlike rows
 row_alike at s None found rows h e = cc
-row_alike at s (Some key) found rows h e = go (is_alike key found) (nat_lt (length found) tuples_limit) refl e
+row_alike at s (Some key) found rows h e = go (same_arity key found) (nat_lt (length found) tuples_limit) refl e
   where
-    go : (b c : Bool) → is_alike key found ≡ b → (if b then (if c then (let o : Outcome (List Row) = Ok (found ++ (record { key = key; scope = s }) ∷ []) in o) else refused TooMany at) else refused Arity at) ≡ Ok rows → AreAlike rows
+    go : (b c : Bool) → same_arity key found ≡ b → (if b then (if c then (let o : Outcome (List Row) = Ok (found ++ (record { key = key; scope = s }) ∷ []) in o) else refused TooMany at) else refused Arity at) ≡ Ok rows → AreAlike rows
     go true true f k = subst AreAlike (is_ok (found ++ (record { key = key; scope = s }) ∷ []) rows k) (row_more found key s h f)
     go true false f k = cc
     go false c f k = cc

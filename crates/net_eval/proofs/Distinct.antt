@@ -11,9 +11,9 @@ use Rattle.net_eval.specs.declared.row.Place.{Place}
 use Rattle.net_eval.specs.declared.value.Value.{Value}
 use Rattle.net_eval.specs.declared.value.Value.TheVariants.{One, Several, Many, Truth}
 use Rattle.net_eval.specs.Items.{new_dummy, is_in, needed}
-use Rattle.net_eval.specs.Operations.{operation}
+use Rattle.net_tree.specs.Operations.{operation}
 use Rattle.net_fault.specs.Outcomes.{Outcome, refused}
-use Rattle.net_eval.specs.Rows.{with_key, bind, agrees_whole, agrees_as, fitted, fitted_alone}
+use Rattle.net_eval.specs.Rows.{with_key, bind, matches_tuple, matches_as_tuple, fitted, fitted_alone}
 use Rattle.net_eval.specs.Values.{value, place, left_place, places}
 use Rattle.net_eval.specs.Worlds.{Name, World}
 use Rattle.net_eval.proofs.Parting.{then_ok, is_ok, OnFrom, on_same, on_join, on_longer, first_difference, PartedFrom, longer_parted, fits_then, fitted_on, places_on, pair_parted, places_parted}
@@ -31,7 +31,7 @@ whole_of (Several t) = t
 whole_of (Many d ts) = []
 whole_of (Truth b) = []
 
-whole_agreed : (at : Span) (t : Tuple) (p q : Place) (v : Tuple) → agrees_whole at t p v ≡ Ok (Some q) → (same_tuple v t ≡ true) × (p ≡ q)
+whole_agreed : (at : Span) (t : Tuple) (p q : Place) (v : Tuple) → matches_tuple at t p v ≡ Ok (Some q) → (same_tuple v t ≡ true) × (p ≡ q)
 whole_agreed at t p q v e = go (nat_eq (length v) (length t)) (same_tuple v t) refl e
   where
     go : (b c : Bool) → same_tuple v t ≡ c → (if b then (let o : Outcome (Option Place) = Ok (if c then Some p else None) in o) else refused Arity at) ≡ Ok (Some q) → (same_tuple v t ≡ true) × (p ≡ q)
@@ -39,7 +39,7 @@ whole_agreed at t p q v e = go (nat_eq (length v) (length t)) (same_tuple v t) r
     go true false f h = cc
     go false c f h = cc
 
-value_agreed : (at : Span) (t : Tuple) (p q : Place) (v : Value) → agrees_as at t p v ≡ Ok (Some q) → (same_tuple (whole_of v) t ≡ true) × (p ≡ q)
+value_agreed : (at : Span) (t : Tuple) (p q : Place) (v : Value) → matches_as_tuple at t p v ≡ Ok (Some q) → (same_tuple (whole_of v) t ≡ true) × (p ≡ q)
 unfolding whole_of
 value_agreed at t p q (One m) e = whole_agreed at t p q (m ∷ []) e
 value_agreed at t p q (Several u) e = whole_agreed at t p q u e
@@ -55,11 +55,11 @@ on_place p z q h e = subst (λ (y : Place). OnFrom p.key y.key) (same_place z q 
 alone_on : (at : Span) (d : Option Name) (own : Outcome Value) (t : Tuple) (p q : Place) → fitted_alone at d own t p ≡ Ok (Some q) → OnFrom p.key q.key
 alone_on at (Some name) own [] p q e = on_place p p q (on_same p.key) e
 alone_on at (Some name) own (m ∷ ms) p q e = on_place p (bind name m p) q (on_longer (m ∷ []) p.key) e
-alone_on at None own t p q e = then_ok own (agrees_as at t p) (Some q) e (λ v h i. subst (λ (z : Place). OnFrom p.key z.key) (value_agreed at t p q v i).1 (on_same p.key))
+alone_on at None own t p q e = then_ok own (matches_as_tuple at t p) (Some q) e (λ v h i. subst (λ (z : Place). OnFrom p.key z.key) (value_agreed at t p q v i).1 (on_same p.key))
 
 none_parted : (at : Span) (own : Outcome Value) (t u : Tuple) (p q r : Place) → same_tuple t u ≡ false → fitted_alone at None own t p ≡ Ok (Some q) → fitted_alone at None own u p ≡ Ok (Some r) → PartedFrom q.key r.key
 none_parted at own t u p q r unlike e f =
-    then_ok own (agrees_as at t p) (Some q) e (λ v h i. then_ok own (agrees_as at u p) (Some r) f (λ x j k.
+    then_ok own (matches_as_tuple at t p) (Some q) e (λ v h i. then_ok own (matches_as_tuple at u p) (Some r) f (λ x j k.
     let a = value_agreed at t p q v i in
     let b = value_agreed at u p r x k in
     let values : v ≡ x = is_ok v x (sym h ∙ j) in

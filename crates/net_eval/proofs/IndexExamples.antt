@@ -4,7 +4,7 @@ use Rattle.std.proofs.Common.{refl}
 use Rattle.net_lex.specs.NumeralFront.{mantissa_at, power_at, numeral_at}
 use Rattle.net_lex.specs.Significands.{whole_value}
 use Rattle.net_sets.specs.declared.member.Member.TheVariants.{Number, Name}
-use Rattle.net_tree.specs.declared.expr.Operator.TheVariants as operator
+use Rattle.net_tree.specs.declared.operator.Words.TheVariants as operator
 use Rattle.net_tree.specs.Role.{role_of, marks, keys}
 use Rattle.net_tree.specs.Spans.{span_of, span_between, braces_span}
 use Rattle.net_tree.specs.Tree.{leaf, indexed, parens, tuple, braced, chain, choice, none, link, absent, part, empty, filled}
@@ -13,7 +13,7 @@ use Rattle.net_fault.specs.declared.defect.Defect.TheVariants as defects
 use Rattle.net_fault.specs.declared.detail.Detail.TheVariants.{Nothing, Told}
 use Rattle.net_eval.specs.declared.value.Value.TheVariants.{Many}
 use Rattle.net_eval.specs.Limits.{is_small}
-use Rattle.net_eval.specs.Operations.{operations, operation, reduction, is_minus}
+use Rattle.net_tree.specs.Operations.{operations, operation, reduction, is_minus}
 use Rattle.net_eval.specs.Numbers.{number_in}
 use Rattle.net_eval.specs.Values.{value, index}
 use Rattle.net_eval.proofs.Trees.{name, number, key, mark, cities, pairs, i_is}

@@ -10,8 +10,8 @@ use Rattle.net_sets.specs.Operations.{union, widest, product, difference, inters
 use Rattle.net_sets.specs.Ranges.{range_size}
 use Rattle.net_sets.specs.declared.member.Member.{Member}
 use Rattle.net_sets.specs.declared.member.Member.TheVariants as member
-use Rattle.net_eval.specs.declared.operation.Operation.{Operation}
-use Rattle.net_eval.specs.declared.operation.Operation.TheVariants as op
+use Rattle.net_tree.specs.declared.operator.BinOp.{BinOp}
+use Rattle.net_tree.specs.declared.operator.BinOp.TheVariants as op
 use Rattle.net_eval.specs.declared.value.Value.{Value}
 use Rattle.net_eval.specs.declared.value.Value.TheVariants.{One, Several, Many, Truth}
 use Rattle.net_eval.specs.declared.world.Entry.{Entry}
@@ -142,7 +142,7 @@ module _ (P : Places) (at : Span) (h : P Model at) where
   finds_both : (x y : Value) → Finds P (and_then (truth at x) (λ b. truth at y))
   finds_both x y = finds_then P (truth at x) _ (finds_truth x) (λ b. finds_truth y)
 
-  pub finds_apply : (f : Operation) (x y : Value) → Finds P (apply f at x y)
+  pub finds_apply : (f : BinOp) (x y : Value) → Finds P (apply f at x y)
   finds_apply op.Plus x y = finds_numbers (plus at) (λ a b. finds_sized _) x y
   finds_apply op.Minus x y = finds_numbers (less at) (λ a b. finds_sized _) x y
   finds_apply op.Times x y = finds_numbers (times at) (λ a b. finds_sized _) x y
@@ -168,7 +168,7 @@ module _ (P : Places) (at : Span) (h : P Model at) where
   finds_apply op.Range x y = h
   finds_apply op.Other x y = h
 
-  pub finds_decided : (f : Operation) (x : Value) → Finds P (decided f at x)
+  pub finds_decided : (f : BinOp) (x : Value) → Finds P (decided f at x)
   finds_decided op.And x = finds_then P (truth at x) _ (finds_truth x) (λ b. tt)
   finds_decided op.Or x = finds_then P (truth at x) _ (finds_truth x) (λ b. tt)
   finds_decided _ x = tt

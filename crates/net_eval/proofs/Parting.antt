@@ -13,7 +13,7 @@ use Rattle.net_sets.specs.Limits.{arity_limit}
 use Rattle.net_eval.specs.Items.{new_dummy, size}
 use Rattle.net_eval.specs.Operators.{longer}
 use Rattle.net_fault.specs.Outcomes.{Outcome, and_then}
-use Rattle.net_eval.specs.Rows.{bind, agrees, fitted, if_fits}
+use Rattle.net_eval.specs.Rows.{bind, matches_member, fitted, if_fits}
 use Rattle.net_eval.specs.Values.{value, places}
 use Rattle.net_eval.specs.Worlds.{Name, World}
 
@@ -142,7 +142,7 @@ on_then o u c d h k l = λ a b e f.
 
 -- ---- one component
 
-agreed : (at : Span) (m : Member) (p q : Place) (v : Value) → agrees at m p v ≡ Ok (Some q) → (u : Member) × (v ≡ One u) × (same_member u m ≡ true) × (p ≡ q)
+agreed : (at : Span) (m : Member) (p q : Place) (v : Value) → matches_member at m p v ≡ Ok (Some q) → (u : Member) × (v ≡ One u) × (same_member u m ≡ true) × (p ≡ q)
 agreed at m p q (One u) e = go (same_member u m) refl e
   where
     go : (b : Bool) → same_member u m ≡ b → (let o : Outcome (Option Place) = Ok (if b then Some p else None) in o ≡ Ok (Some q)) → (z : Member) × (One u ≡ One z) × (same_member z m ≡ true) × (p ≡ q)
@@ -157,7 +157,7 @@ fitted_on at (Some name) own m p q e =
     let same : Some (bind name m p) ≡ Some q = is_ok (Some (bind name m p)) (Some q) e in
     let is : bind name m p ≡ q = cc in
     subst (λ (z : Place). OnFrom p.key z.key) is (on_longer (m ∷ []) p.key)
-fitted_on at None own m p q e = then_ok own (agrees at m p) (Some q) e (λ v h i. let a = agreed at m p q v i in subst (λ (z : Place). OnFrom p.key z.key) a.3 (on_same p.key))
+fitted_on at None own m p q e = then_ok own (matches_member at m p) (Some q) e (λ v h i. let a = agreed at m p q v i in subst (λ (z : Place). OnFrom p.key z.key) a.3 (on_same p.key))
 
 fitted_parted : (at : Span) (d : Option Name) (own : Outcome Value) (m n : Member) (p q r : Place) → same_member m n ≡ false → fitted at d own m p ≡ Ok (Some q) → fitted at d own n p ≡ Ok (Some r) → PartedFrom q.key r.key
 fitted_parted at (Some name) own m n p q r unlike e f =
@@ -167,7 +167,7 @@ fitted_parted at (Some name) own m n p q r unlike e f =
     let second : bind name n p ≡ r = cc in
     subst (λ (z : Place). PartedFrom z.key r.key) first (subst (λ (z : Place). PartedFrom (longer (m ∷ []) p.key) z.key) second (longer_parted (m ∷ []) (n ∷ []) p.key (single m n unlike)))
 fitted_parted at None own m n p q r unlike e f =
-    then_ok own (agrees at m p) (Some q) e (λ v h i. then_ok own (agrees at n p) (Some r) f (λ u j k.
+    then_ok own (matches_member at m p) (Some q) e (λ v h i. then_ok own (matches_member at n p) (Some r) f (λ u j k.
     let a = agreed at m p q v i in
     let b = agreed at n p r u k in
     let values : v ≡ u = is_ok v u (sym h ∙ j) in

@@ -10,7 +10,7 @@ use Rattle.net_lex.specs.declared.token.Token.{Token}
 use Rattle.net_sets.specs.declared.member.Member.{Member}
 use Rattle.net_sets.specs.Sets.{Tuple, same_member}
 use Rattle.net_sets.specs.Operations.{narrowest}
-use Rattle.net_sets.specs.Components.{is_member, agrees, sought}
+use Rattle.net_sets.specs.Components.{agrees, is_member, sought}
 use Rattle.net_tree.specs.declared.role.Role.{Role}
 use Rattle.net_tree.specs.declared.role.Role.TheVariants as roles
 use Rattle.net_tree.specs.Role.{role_of, is_name}
@@ -25,7 +25,7 @@ use Rattle.net_eval.specs.declared.value.Value.{Value}
 use Rattle.net_eval.specs.declared.value.Value.TheVariants.{One}
 use Rattle.net_fault.specs.Outcomes.{Outcome, and_then, each}
 use Rattle.net_eval.specs.Worlds.{Name, World, Scope, bound, entry_of, with_dummy}
-use Rattle.net_eval.specs.Items.{sides, bare, unless_known, new_dummy}
+use Rattle.net_eval.specs.Items.{sides, text_of, bare, unless_known, new_dummy}
 use Rattle.net_eval.specs.Rows.{bind, fitted, if_fits, go_on, onward}
 use Rattle.net_eval.specs.Values.{value, token_value, place, left_place, places}
 use Rattle.net_eval.specs.Walks.{placed}
@@ -74,7 +74,7 @@ keeps_more s q name y kept new other m h = step (bytes_eq name other) refl
 pub value_alone : (w : World) (s : Scope) (x : Tree) (name : Name) (v : Member) → bare x ≡ Some name → bound s name ≡ Some v → value w s x ≡ Ok (One v)
 value_alone w s (leaf t) name v e h = go (role_of t) e
   where
-    go : (r : Role) → (if is_name r then Some t.text else None) ≡ Some name → token_value w s t r ≡ Ok (One v)
+    go : (r : Role) → text_of (if is_name r then Some t else None) ≡ Some name → token_value w s t r ≡ Ok (One v)
     go roles.Name e =
         let same : t.text ≡ name = cc in
         let here : bound s t.text ≡ Some v = ap (bound s) same ∙ h in

@@ -7,8 +7,8 @@ use Rattle.net_sets.specs.Sets.{Tuple}
 use Rattle.net_sets.specs.Limits.{arity_limit, tuples_limit}
 use Rattle.net_sets.specs.Operations.{union}
 use Rattle.net_sets.specs.declared.member.Member.{Member}
-use Rattle.net_eval.specs.declared.operation.Reduction.{Reduction}
-use Rattle.net_eval.specs.declared.operation.Reduction.TheVariants.{Sum, Min, Max}
+use Rattle.net_tree.specs.declared.operator.Reduction.{Reduction}
+use Rattle.net_tree.specs.declared.operator.Reduction.TheVariants.{Sum, Min, Max}
 use Rattle.net_eval.specs.declared.row.Keys.{Keys}
 use Rattle.net_eval.specs.declared.row.Place.{Place}
 use Rattle.net_eval.specs.declared.row.Row.{Row}
@@ -16,7 +16,7 @@ use Rattle.net_eval.specs.declared.value.Value.{Value}
 use Rattle.net_eval.specs.declared.value.Value.TheVariants.{One, Several, Many, Truth}
 use Rattle.net_eval.specs.Items.{fits_needed, chosen, tuples_of, is_set, Opening, walking, listing, opened, open_with}
 use Rattle.net_eval.specs.Numbers.{number, gathered}
-use Rattle.net_eval.specs.Rows.{agrees, agrees_whole, agrees_as, fitted, bound_first, fitted_alone, if_fits, go_on, onward, is_alike, add_row, finished_key, finished, keep, kept, width_of, keys, selected, keys_of, as_set, rows_of, tuple_in, tuples_in, all_of, keys_within, listed_as, listed, gathered_over, nothing_reduced, reduced_to, reduce}
+use Rattle.net_eval.specs.Rows.{matches_member, matches_tuple, matches_as_tuple, fitted, bound_first, fitted_alone, if_fits, go_on, onward, same_arity, add_row, finished_key, finished, keep, kept, width_of, keys, selected, keys_of, as_set, rows_of, tuple_in, tuples_in, all_of, keys_within, listed_as, listed, gathered_over, nothing_reduced, reduced_to, reduce}
 use Rattle.net_eval.specs.Worlds.{Name, Scope}
 use Rattle.net_fault.specs.Places.{Places, Finds}
 use Rattle.net_fault.proofs.Found.{finds_then, finds_if}
@@ -38,16 +38,16 @@ module _ (P : Places) (at : Span) (h : P Model at) where
   pub finds_opened : (indexing : Bool) (v : Value) → Finds P (opened at indexing v)
   finds_opened indexing v = finds_if P (indexing || is_set v) _ _ (finds_then P (tuples_of at v) _ (finds_tuples_of v) (λ ts. tt)) tt
 
-  pub finds_agrees : (m : Member) (p : Place) (v : Value) → Finds P (agrees at m p v)
+  pub finds_agrees : (m : Member) (p : Place) (v : Value) → Finds P (matches_member at m p v)
   finds_agrees m p (One v) = tt
   finds_agrees m p (Several t) = h
   finds_agrees m p (Many d ts) = h
   finds_agrees m p (Truth b) = h
 
-  finds_agrees_whole : (t : Tuple) (p : Place) (v : Tuple) → Finds P (agrees_whole at t p v)
+  finds_agrees_whole : (t : Tuple) (p : Place) (v : Tuple) → Finds P (matches_tuple at t p v)
   finds_agrees_whole t p v = finds_if P (nat_eq (length v) (length t)) _ _ tt h
 
-  finds_agrees_as : (t : Tuple) (p : Place) (v : Value) → Finds P (agrees_as at t p v)
+  finds_agrees_as : (t : Tuple) (p : Place) (v : Value) → Finds P (matches_as_tuple at t p v)
   finds_agrees_as t p (One v) = finds_agrees_whole t p (v ∷ [])
   finds_agrees_as t p (Several v) = finds_agrees_whole t p v
   finds_agrees_as t p (Many d ts) = h
@@ -55,7 +55,7 @@ module _ (P : Places) (at : Span) (h : P Model at) where
 
   pub finds_fitted : (name : Option Name) (own : Outcome Value) → Finds P own → (m : Member) (p : Place) → Finds P (fitted at name own m p)
   finds_fitted (Some name) own k m p = tt
-  finds_fitted None own k m p = finds_then P own (agrees at m p) k (finds_agrees m p)
+  finds_fitted None own k m p = finds_then P own (matches_member at m p) k (finds_agrees m p)
 
   finds_bound_first : (name : Name) (t : Tuple) (p : Place) → Finds P (bound_first name t p)
   finds_bound_first name [] p = tt
@@ -63,10 +63,10 @@ module _ (P : Places) (at : Span) (h : P Model at) where
 
   pub finds_fitted_alone : (name : Option Name) (own : Outcome Value) → Finds P own → (t : Tuple) (p : Place) → Finds P (fitted_alone at name own t p)
   finds_fitted_alone (Some name) own k t p = finds_bound_first name t p
-  finds_fitted_alone None own k t p = finds_then P own (agrees_as at t p) k (finds_agrees_as t p)
+  finds_fitted_alone None own k t p = finds_then P own (matches_as_tuple at t p) k (finds_agrees_as t p)
 
   finds_add_row : (s : Scope) (key : Tuple) (found : List Row) → Finds P (add_row at s key found)
-  finds_add_row s key found = finds_if P (is_alike key found) _ _ (finds_if P (nat_lt (length found) tuples_limit) _ _ tt h) h
+  finds_add_row s key found = finds_if P (same_arity key found) _ _ (finds_if P (nat_lt (length found) tuples_limit) _ _ tt h) h
 
   pub finds_finished : (p : Place) (found : List Row) → Finds P (finished at p found)
   finds_finished p found = by_key p.key

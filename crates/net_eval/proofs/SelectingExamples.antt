@@ -2,10 +2,10 @@
 use Rattle.std.specs.Prelude.{◌≡◌, None, Some, pos, codes}
 use Rattle.std.proofs.Common.{refl}
 use Rattle.net_sets.specs.declared.member.Member.TheVariants.{Number}
-use Rattle.net_tree.specs.declared.expr.Operator.TheVariants as operator
+use Rattle.net_tree.specs.declared.operator.Words.TheVariants as operator
 use Rattle.net_tree.specs.Role.{role_of, marks, keys}
 use Rattle.net_tree.specs.Tree.{Tree, leaf, tuple, chain, none, link}
-use Rattle.net_eval.specs.Operations.{operations, operation}
+use Rattle.net_tree.specs.Operations.{operations, operation}
 use Rattle.net_eval.specs.Selecting.{selecting}
 use Rattle.net_eval.proofs.Trees.{name, key, mark, cities, i_is}
 

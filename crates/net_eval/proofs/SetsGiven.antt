@@ -23,10 +23,10 @@ use Rattle.net_tree.specs.Spans.{span_of, braces_span}
 use Rattle.net_tree.specs.Tree.{Tree, Links, Part, leaf, indexed, parens, tuple, negated, braced, signed, reduced, chain, choice, net, none, link, absent, part}
 use Rattle.net_fault.specs.declared.detail.Detail.{Detail}
 use Rattle.net_fault.specs.declared.defect.Defect.TheVariants.{DivMod}
-use Rattle.net_eval.specs.declared.operation.Operation.{Operation}
-use Rattle.net_eval.specs.declared.operation.Operation.TheVariants as op
-use Rattle.net_eval.specs.declared.operation.Reduction.{Reduction}
-use Rattle.net_eval.specs.declared.operation.Reduction.TheVariants.{Sum, Min, Max}
+use Rattle.net_tree.specs.declared.operator.BinOp.{BinOp}
+use Rattle.net_tree.specs.declared.operator.BinOp.TheVariants as op
+use Rattle.net_tree.specs.declared.operator.Reduction.{Reduction}
+use Rattle.net_tree.specs.declared.operator.Reduction.TheVariants.{Sum, Min, Max}
 use Rattle.net_eval.specs.declared.row.Keys.{Keys}
 use Rattle.net_eval.specs.declared.value.Value.{Value}
 use Rattle.net_eval.specs.declared.value.Value.TheVariants.{One, Several, Many, Truth}
@@ -35,7 +35,7 @@ use Rattle.net_eval.specs.declared.world.Entry.TheVariants.{Set, Parameter}
 use Rattle.net_eval.specs.Items.{begins_range}
 use Rattle.net_eval.specs.Limits.{is_small}
 use Rattle.net_eval.specs.Numbers.{number_in, number, sized, divides, plus, less, times, quotient, remainder, step, size, range, range_of}
-use Rattle.net_eval.specs.Operations.{operation, reduction, is_minus}
+use Rattle.net_tree.specs.Operations.{operation, reduction, is_minus}
 use Rattle.net_eval.specs.Operators.{of_numbers, same, of_sets, crossed, belongs, contained, truth, as_truth, as_denial, apply, decided, tuple_of}
 use Rattle.net_fault.specs.Outcomes.{Outcome, and_then, refused}
 use Rattle.net_eval.specs.Rows.{as_set, keys_of, reduce, gathered_over, reduced_to}
@@ -224,7 +224,7 @@ gives_truth o = gives_then o _ (λ b e. tt)
 gives_denial : (o : Outcome Bool) → Gives (as_denial o)
 gives_denial o = gives_then o _ (λ b e. tt)
 
-gives_apply : (f : Operation) (at : Span) (x y : Value) → IsSetValue x → IsSetValue y → Gives (apply f at x y)
+gives_apply : (f : BinOp) (at : Span) (x y : Value) → IsSetValue x → IsSetValue y → Gives (apply f at x y)
 gives_apply op.Plus at x y h k = gives_numbers at (plus at) x y (λ a b. gives_sized at (a +ℤ b))
 gives_apply op.Minus at x y h k = gives_numbers at (less at) x y (λ a b. gives_sized at _)
 gives_apply op.Times at x y h k = gives_numbers at (times at) x y (λ a b. gives_sized at _)
@@ -262,7 +262,7 @@ plain_then : (o : Outcome Bool) (f : Bool → Option Value) → ((b : Bool) → 
 plain_then (Ok b) f h = h b
 plain_then (Err r) f h = tt
 
-decides : (f : Operation) (at : Span) (x : Value) → GivesPlain (decided f at x)
+decides : (f : BinOp) (at : Span) (x : Value) → GivesPlain (decided f at x)
 decides op.And at x = plain_then (truth at x) (λ b. if b then None else Some (Truth false)) (λ b. go b)
   where
     go : (b : Bool) → Plain (if b then None else Some (Truth false))
@@ -275,7 +275,7 @@ decides op.Or at x = plain_then (truth at x) (λ b. if b then Some (Truth true) 
     go false = tt
 decides _ at x = tt
 
-gives_either : (f : Operation) (at : Span) (x : Value) (next : Value → Outcome Value) (rest : Outcome Value) → ((v : Value) → IsSetValue v → Gives (next v)) → Gives rest → Gives (and_then (decided f at x) (either next rest))
+gives_either : (f : BinOp) (at : Span) (x : Value) (next : Value → Outcome Value) (rest : Outcome Value) → ((v : Value) → IsSetValue v → Gives (next v)) → Gives rest → Gives (and_then (decided f at x) (either next rest))
 gives_either f at x next rest h k = go (decided f at x) (decides f at x)
   where
     go : (o : Outcome (Option Value)) → GivesPlain o → Gives (and_then o (either next rest))

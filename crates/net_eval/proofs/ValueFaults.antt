@@ -17,7 +17,7 @@ use Rattle.net_eval.specs.declared.row.Row.{Row}
 use Rattle.net_eval.specs.declared.value.Value.{Value}
 use Rattle.net_eval.specs.Items.{is_in, has_in, any_in, begins_range, has_part, new_dummy, needed, chosen, tuples_of, walking, opened, open_with}
 use Rattle.net_eval.specs.Numbers.{number_in, number, range_of}
-use Rattle.net_eval.specs.Operations.{operation, reduction, is_minus}
+use Rattle.net_tree.specs.Operations.{operation, reduction, is_minus}
 use Rattle.net_eval.specs.Operators.{apply, decided, truth, tuple_of}
 use Rattle.net_eval.specs.Rows.{start, fitted, if_fits, onward, selected, as_set, listed, reduce}
 use Rattle.net_eval.specs.Values.{number_value, token_value, subscripted, tupled, with_sign, either, value, otherwise, values, chained, index, walk, set_behind, place, left_place, places, holds}

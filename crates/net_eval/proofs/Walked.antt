@@ -16,9 +16,9 @@ use Rattle.net_eval.specs.declared.row.Row.{Row}
 use Rattle.net_eval.specs.declared.value.Value.{Value}
 use Rattle.net_eval.specs.declared.value.Value.TheVariants.{One, Several, Many, Truth}
 use Rattle.net_eval.specs.Items.{is_in, both, has_in, needed, fits_needed, chosen, tuples_of}
-use Rattle.net_eval.specs.Operations.{operation}
+use Rattle.net_tree.specs.Operations.{operation}
 use Rattle.net_fault.specs.Outcomes.{Outcome, and_then, refused, each}
-use Rattle.net_eval.specs.Rows.{go_on, onward, is_alike, finished_key, keys_of}
+use Rattle.net_eval.specs.Rows.{go_on, onward, same_arity, finished_key, keys_of}
 use Rattle.net_eval.specs.SetValues.{IsSetOf, GivesSets}
 use Rattle.net_eval.specs.Values.{value, place, set_behind, walk}
 use Rattle.net_eval.specs.Worlds.{World, Scope}
@@ -209,7 +209,7 @@ as_walk w i p ts found rows h = record {
 
 one_row : (at : Span) (s : Scope) (p : Place) (o : Option Tuple) (found rows : List Row) → p.key ≡ o → finished_key at s o found ≡ Ok rows → IsWalk p found rows
 one_row at s p None found rows h e = cc
-one_row at s p (Some key) found rows h e = go (is_alike key found) (nat_lt (length found) tuples_limit) e
+one_row at s p (Some key) found rows h e = go (same_arity key found) (nat_lt (length found) tuples_limit) e
   where
     row : Row
     row = record { key = key; scope = s }

@@ -7,7 +7,7 @@ use Rattle.net_fault.specs.declared.span.Span.{Span}
 use Rattle.net_lex.specs.declared.token.Token.{Token}
 use Rattle.net_sets.specs.Sets.{Tuple}
 use Rattle.net_tree.specs.declared.expr.Link.{Link, out-Link}
-use Rattle.net_tree.specs.declared.expr.Operator.{Operator}
+use Rattle.net_tree.specs.declared.operator.Words.{Words as Operator}
 use Rattle.net_tree.specs.Spans.{span_of, span_between}
 use Rattle.net_tree.specs.Tree.{Tree, Links, Part, Braces, indexed, tuple, negated, signed, reduced, chain, choice, none, link, filled, absent, part}
 use Rattle.net_tree.specs.View.{tree, links_of}
@@ -15,7 +15,7 @@ use Rattle.net_tree.specs.Weights.{weight, weights}
 use Rattle.net_tree.proofs.Views.{links_of-cons, next_link, first_link}
 use Rattle.net_fault.specs.declared.fault.Fault.{Fault}
 use Rattle.net_fault.specs.declared.fault.Fault.TheVariants as faults
-use Rattle.net_eval.specs.declared.operation.Reduction.{Reduction}
+use Rattle.net_tree.specs.declared.operator.Reduction.{Reduction}
 use Rattle.net_eval.specs.declared.row.Place.{Place}
 use Rattle.net_eval.specs.declared.row.Row.{Row}
 use Rattle.net_eval.specs.declared.row.Keys.{Keys}
@@ -23,32 +23,15 @@ use Rattle.net_eval.specs.declared.value.Value.{Value}
 use Rattle.net_eval.specs.declared.value.Value.TheVariants.{Truth}
 use Rattle.net_fault.specs.Outcomes.{Outcome, Answers, Leaves, and_then, each}
 use Rattle.net_eval.specs.Worlds.{World, Scope}
-use Rattle.net_eval.specs.Operations.{operation, is_range, reduction, is_minus}
+use Rattle.net_tree.specs.Operations.{operation, is_range, reduction, is_minus}
 use Rattle.net_eval.specs.Operators.{apply, decided, truth}
 use Rattle.net_eval.specs.Numbers.{number, gathered, range_of}
+use Rattle.net_tree.proofs.Items.{behind}
 use Rattle.net_eval.specs.Items.{is_in, behind_in, both, sides, size, any_in, has_in, has_part, begins_range, new_dummy, tuples_of, is_set, walking as walking_over, listing, opened, open_with}
 use Rattle.net_eval.specs.Widths.{makes_set, begin_set}
 use Rattle.net_eval.specs.Rows.{start, onward, listed, reduce, fitted_alone, keep, kept, keys, gathered_over}
 use Rattle.net_eval.specs.Values.{value, values, chained, index, walk, holds, set_behind, place, left_place, either, subscripted, tupled, with_sign, otherwise}
 use Rattle.net_eval.specs.Walks.{joined, walked, opened_keys, by_sides, item_tuples, keys_by_sides, index_items, placed, component_places}
-
--- what stands behind the only link, by its operator
-abbrev behind : Bool → Tree → Option Tree
-behind b y = if b then Some y else None
-
-pub one_link : (ls : List Link) (l : Link) (b : Bool) → 1 ≤ length ls → length ls < 2 → l ≡ get_or ls 0 l → is_in (operation (out-Link l).operator) ≡ b
-    → behind b (tree (out-Link l).operand) ≡ behind_in (links_of ls)
-one_link [] l b h i e f = absurd (omega arith)
-one_link (x ∷ []) l b h i e f =
-    ap (λ c. behind c (tree (out-Link l).operand)) (sym f)
-    ∙ ap (λ (k : Link). behind (is_in (operation (out-Link k).operator)) (tree (out-Link k).operand)) e
-    ∙ sym (ap behind_in (links_of-cons x []))
-one_link (x ∷ y ∷ ls) l b h i e f = absurd (omega arith)
-
-pub many_links : (ls : List Link) → 2 ≤ length ls → None ≡ behind_in (links_of ls)
-many_links [] b = absurd (omega arith)
-many_links (x ∷ []) b = absurd (omega arith)
-many_links (x ∷ y ∷ ls) b = refl
 
 pub size-links : (ls : List Link) → size (links_of ls) ≡ length ls
 size-links [] = refl

@@ -3,35 +3,17 @@ use Rattle.std.specs.Prelude.{ℕ, ◌+◌, Bool, true, false, ◌&&◌, ◌||�
 use Rattle.net_fault.specs.declared.span.Span.{Span}
 use Rattle.net_sets.specs.Limits.{arity_limit}
 use Rattle.net_sets.specs.Sets.{Tuple}
-use Rattle.net_tree.specs.Role.{role_of, is_name}
-use Rattle.net_tree.specs.Tree.{Tree, Links, Part, leaf, tuple, chain, none, link, absent, part}
+use Rattle.net_tree.specs.Tree.{Tree, Links, Part, leaf, tuple, none, link, absent, part}
 use Rattle.net_fault.specs.declared.defect.Defect.TheVariants.{KindMismatch, Arity}
-use Rattle.net_eval.specs.declared.operation.Operation.{Operation}
-use Rattle.net_eval.specs.declared.operation.Operation.TheVariants as op
 use Rattle.net_eval.specs.declared.value.Value.{Value}
 use Rattle.net_eval.specs.declared.value.Value.TheVariants.{Many}
 use Rattle.net_fault.specs.Outcomes.{Outcome, and_then, refused}
-use Rattle.net_eval.specs.Operations.{operation, is_range}
+pub use Rattle.net_tree.specs.Items.{is_in, behind_in, both, sides}
+use Rattle.net_tree.specs.Items.{lone_name}
+use Rattle.net_tree.specs.Operations.{operation, is_range}
+use Rattle.net_lex.specs.declared.token.Token.{Token}
 use Rattle.net_eval.specs.Sets.{fits}
 use Rattle.net_eval.specs.Worlds.{Name, World, Scope, is_known}
-
-abbrev pub is_in : Operation → Bool
-is_in op.In = true
-is_in _ = false
-
--- what stands behind a lone `in`
-abbrev pub behind_in : Links → Option Tree
-behind_in (link o y none) = if is_in (operation o) then Some y else None
-behind_in _ = None
-
-abbrev pub both : Tree → Option Tree → Option (Tree × Tree)
-both x None = None
-both x (Some y) = Some (x, y)
-
--- the two sides of an item with `in` at its top
-abbrev pub sides : Tree → Option (Tree × Tree)
-sides (chain n x l) = both x (behind_in l)
-sides _ = None
 
 abbrev pub has_in : Tree → Bool
 has_in x = is_some (sides x)
@@ -49,10 +31,13 @@ abbrev pub has_part : Part → Bool
 has_part absent = false
 has_part (part m x) = true
 
--- a name that stands alone
+abbrev pub text_of : Option Token → Option Name
+text_of None = None
+text_of (Some t) = Some t.text
+
+-- the text of a name that stands alone
 abbrev pub bare : Tree → Option Name
-bare (leaf t) = if is_name (role_of t) then Some t.text else None
-bare _ = None
+bare x = text_of (lone_name x)
 
 abbrev pub unless_known : World → Scope → Option Name → Option Name
 unless_known w s None = None

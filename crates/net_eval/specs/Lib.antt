@@ -2,7 +2,6 @@ pub mod Limits
 pub mod References
 pub mod Worlds
 pub mod Kept
-pub mod Operations
 pub mod Numbers
 pub mod Sets
 pub mod Operators

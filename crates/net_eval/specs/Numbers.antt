@@ -13,8 +13,8 @@ use Rattle.net_sets.specs.Limits.{tuples_limit}
 use Rattle.net_sets.specs.Ranges.{range_size, singles}
 use Rattle.net_sets.specs.Ranges.{range as range_numbers}
 use Rattle.net_fault.specs.declared.defect.Defect.TheVariants.{KindMismatch, DivMod, ValueTooLarge, TooMany}
-use Rattle.net_eval.specs.declared.operation.Reduction.{Reduction}
-use Rattle.net_eval.specs.declared.operation.Reduction.TheVariants.{Sum, Min, Max}
+use Rattle.net_tree.specs.declared.operator.Reduction.{Reduction}
+use Rattle.net_tree.specs.declared.operator.Reduction.TheVariants.{Sum, Min, Max}
 use Rattle.net_eval.specs.declared.value.Value.{Value}
 use Rattle.net_eval.specs.declared.value.Value.TheVariants.{One, Many}
 use Rattle.net_fault.specs.Outcomes.{Outcome, and_then, refused}

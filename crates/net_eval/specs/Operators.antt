@@ -6,8 +6,8 @@ use Rattle.net_sets.specs.Limits.{arity_limit}
 use Rattle.net_sets.specs.Sets.{Tuple, same_member}
 use Rattle.net_sets.specs.Operations.{union, difference, intersection, symmetric_difference}
 use Rattle.net_fault.specs.declared.defect.Defect.TheVariants.{KindMismatch, Arity}
-use Rattle.net_eval.specs.declared.operation.Operation.{Operation}
-use Rattle.net_eval.specs.declared.operation.Operation.TheVariants as op
+use Rattle.net_tree.specs.declared.operator.BinOp.{BinOp}
+use Rattle.net_tree.specs.declared.operator.BinOp.TheVariants as op
 use Rattle.net_eval.specs.declared.value.Value.{Value}
 use Rattle.net_eval.specs.declared.value.Value.TheVariants.{One, Several, Many, Truth}
 use Rattle.net_fault.specs.Outcomes.{Outcome, and_then, refused}
@@ -19,7 +19,7 @@ abbrev pub of_numbers : Span → (ℤ → ℤ → Outcome Value) → Value → V
 of_numbers at f x y = and_then (number at x) (λ a. and_then (number at y) (f a))
 
 -- whether two numbers are in the order that a comparison asks for
-abbrev pub ordered : Operation → ℤ → ℤ → Bool
+abbrev pub ordered : BinOp → ℤ → ℤ → Bool
 ordered op.Less a b = int_lt a b
 ordered op.AtMost a b = int_le a b
 ordered op.Greater a b = int_lt b a
@@ -27,7 +27,7 @@ ordered op.AtLeast a b = int_le b a
 ordered _ a b = false
 
 -- what an operator makes of two numbers
-abbrev pub of_two : Operation → Span → ℤ → ℤ → Outcome Value
+abbrev pub of_two : BinOp → Span → ℤ → ℤ → Outcome Value
 of_two op.Plus at a b = plus at a b
 of_two op.Minus at a b = less at a b
 of_two op.Times at a b = times at a b
@@ -77,7 +77,7 @@ as_truth o = and_then o (λ b. Ok (Truth b))
 abbrev pub as_denial : Outcome Bool → Outcome Value
 as_denial o = and_then o (λ b. Ok (Truth (not b)))
 
-abbrev pub apply : Operation → Span → Value → Value → Outcome Value
+abbrev pub apply : BinOp → Span → Value → Value → Outcome Value
 apply op.Plus at x y = of_numbers at (plus at) x y
 apply op.Minus at x y = of_numbers at (less at) x y
 apply op.Times at x y = of_numbers at (times at) x y
@@ -104,7 +104,7 @@ apply op.Range at x y = refused KindMismatch at
 apply op.Other at x y = refused KindMismatch at
 
 -- the left side alone decides `and` where it is false, and `or` where it is true
-abbrev pub decided : Operation → Span → Value → Outcome (Option Value)
+abbrev pub decided : BinOp → Span → Value → Outcome (Option Value)
 decided op.And at x = and_then (truth at x) (λ b. Ok (if b then None else Some (Truth false)))
 decided op.Or at x = and_then (truth at x) (λ b. Ok (if b then Some (Truth true) else None))
 decided _ at x = Ok None

@@ -7,8 +7,8 @@ use Rattle.net_sets.specs.Limits.{tuples_limit}
 use Rattle.net_sets.specs.Sets.{Tuple, same_member, same_tuple}
 use Rattle.net_sets.specs.Operations.{union}
 use Rattle.net_fault.specs.declared.defect.Defect.TheVariants.{NoValue, KindMismatch, Arity, TooMany}
-use Rattle.net_eval.specs.declared.operation.Reduction.{Reduction}
-use Rattle.net_eval.specs.declared.operation.Reduction.TheVariants.{Sum, Min, Max}
+use Rattle.net_tree.specs.declared.operator.Reduction.{Reduction}
+use Rattle.net_tree.specs.declared.operator.Reduction.TheVariants.{Sum, Min, Max}
 use Rattle.net_eval.specs.declared.value.Value.{Value}
 use Rattle.net_eval.specs.declared.value.Value.TheVariants.{One, Several, Many}
 use Rattle.net_eval.specs.declared.row.Place.{Place}
@@ -31,23 +31,23 @@ abbrev pub bind : Name → Member → Place → Place
 bind name m p = record { scope = with_dummy name m p.scope; key = longer (m ∷ []) p.key }
 
 -- the place stays where the value of a component is the member
-abbrev pub agrees : Span → Member → Place → Value → Outcome (Option Place)
-agrees at m p (One v) = Ok (if same_member v m then Some p else None)
-agrees at m p _ = refused KindMismatch at
+abbrev pub matches_member : Span → Member → Place → Value → Outcome (Option Place)
+matches_member at m p (One v) = Ok (if same_member v m then Some p else None)
+matches_member at m p _ = refused KindMismatch at
 
-abbrev pub agrees_whole : Span → Tuple → Place → Tuple → Outcome (Option Place)
-agrees_whole at t p v = if nat_eq (length v) (length t) then Ok (if same_tuple v t then Some p else None) else refused Arity at
+abbrev pub matches_tuple : Span → Tuple → Place → Tuple → Outcome (Option Place)
+matches_tuple at t p v = if nat_eq (length v) (length t) then Ok (if same_tuple v t then Some p else None) else refused Arity at
 
 -- the same of what is no tuple by its form
-abbrev pub agrees_as : Span → Tuple → Place → Value → Outcome (Option Place)
-agrees_as at t p (One v) = agrees_whole at t p (v ∷ [])
-agrees_as at t p (Several v) = agrees_whole at t p v
-agrees_as at t p _ = refused KindMismatch at
+abbrev pub matches_as_tuple : Span → Tuple → Place → Value → Outcome (Option Place)
+matches_as_tuple at t p (One v) = matches_tuple at t p (v ∷ [])
+matches_as_tuple at t p (Several v) = matches_tuple at t p v
+matches_as_tuple at t p _ = refused KindMismatch at
 
 -- a new dummy takes the member; any other component must have it for its value
 abbrev pub fitted : Span → Option Name → Outcome Value → Member → Place → Outcome (Option Place)
 fitted at (Some name) own m p = Ok (Some (bind name m p))
-fitted at None own m p = and_then own (agrees at m p)
+fitted at None own m p = and_then own (matches_member at m p)
 
 -- the one member of a tuple
 abbrev pub bound_first : Name → Tuple → Place → Outcome (Option Place)
@@ -57,7 +57,7 @@ bound_first name (m ∷ ms) p = Ok (Some (bind name m p))
 -- the same of what stands alone at the left of `in`
 abbrev pub fitted_alone : Span → Option Name → Outcome Value → Tuple → Place → Outcome (Option Place)
 fitted_alone at (Some name) own t p = bound_first name t p
-fitted_alone at None own t p = and_then own (agrees_as at t p)
+fitted_alone at None own t p = and_then own (matches_as_tuple at t p)
 
 abbrev pub if_fits : (Place → Outcome (Option Place)) → Option Place → Outcome (Option Place)
 if_fits next None = Ok None
@@ -72,13 +72,13 @@ abbrev pub onward : (Tuple → Place → Outcome (Option Place)) → (Place → 
 onward place next p t found = and_then (place t p) (go_on next found)
 
 -- keys have the same number of members
-abbrev pub is_alike : Tuple → List Row → Bool
-is_alike key [] = true
-is_alike key (r ∷ rows) = nat_eq (length r.key) (length key)
+abbrev pub same_arity : Tuple → List Row → Bool
+same_arity key [] = true
+same_arity key (r ∷ rows) = nat_eq (length r.key) (length key)
 
 abbrev pub add_row : Span → Scope → Tuple → List Row → Outcome (List Row)
 add_row at s key found =
-    if is_alike key found
+    if same_arity key found
     then if nat_lt (length found) tuples_limit then Ok (found ++ (record { key = key; scope = s }) ∷ []) else refused TooMany at
     else refused Arity at
 

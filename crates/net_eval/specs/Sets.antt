@@ -5,8 +5,8 @@ use Rattle.net_sets.specs.Limits.{arity_limit, tuples_limit}
 use Rattle.net_sets.specs.Sets.{Tuple, has}
 use Rattle.net_sets.specs.Operations.{union, difference, intersection, symmetric_difference, product, widest, is_within}
 use Rattle.net_fault.specs.declared.defect.Defect.TheVariants.{Arity, TooMany}
-use Rattle.net_eval.specs.declared.operation.Operation.{Operation}
-use Rattle.net_eval.specs.declared.operation.Operation.TheVariants as op
+use Rattle.net_tree.specs.declared.operator.BinOp.{BinOp}
+use Rattle.net_tree.specs.declared.operator.BinOp.TheVariants as op
 use Rattle.net_eval.specs.declared.value.Value.{Value}
 use Rattle.net_eval.specs.declared.value.Value.TheVariants.{Many}
 use Rattle.net_fault.specs.Outcomes.{Outcome, refused}
@@ -36,7 +36,7 @@ set_of at None ts = refused Arity at
 set_of at (Some d) ts = within_size at d ts
 
 -- the set that `union`, `diff`, `inter` or `symdiff` makes of two
-abbrev pub mixed : Operation → (List Tuple → List Tuple → List Tuple)
+abbrev pub mixed : BinOp → (List Tuple → List Tuple → List Tuple)
 mixed op.Union = union
 mixed op.Diff = difference
 mixed op.Inter = intersection

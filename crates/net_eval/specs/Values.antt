@@ -18,7 +18,7 @@ use Rattle.net_eval.specs.declared.row.Row.{Row}
 use Rattle.net_eval.specs.declared.row.Keys.{Keys}
 use Rattle.net_fault.specs.Outcomes.{Outcome, and_then, refused, each}
 use Rattle.net_eval.specs.Worlds.{Name, World, Scope, bound, name_at}
-use Rattle.net_eval.specs.Operations.{operation, reduction, is_minus}
+use Rattle.net_tree.specs.Operations.{operation, reduction, is_minus}
 use Rattle.net_eval.specs.Numbers.{number_in, number, sized, turned, range_of}
 use Rattle.net_eval.specs.Operators.{apply, decided, truth, tuple_of}
 use Rattle.net_eval.specs.Items.{is_in, has_in, any_in, begins_range, has_part, new_dummy, needed, chosen, tuples_of, walking, opened, open_with}

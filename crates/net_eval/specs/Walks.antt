@@ -5,7 +5,7 @@ use Rattle.net_sets.specs.Sets.{Tuple}
 use Rattle.net_tree.specs.Spans.{span_of}
 use Rattle.net_tree.specs.Tree.{Tree, Links, Part}
 use Rattle.net_fault.specs.declared.defect.Defect.TheVariants.{KindMismatch}
-use Rattle.net_eval.specs.declared.operation.Operation.{Operation}
+use Rattle.net_tree.specs.declared.operator.BinOp.{BinOp}
 use Rattle.net_eval.specs.declared.value.Value.{Value}
 use Rattle.net_eval.specs.declared.row.Place.{Place}
 use Rattle.net_eval.specs.declared.row.Keys.{Keys}
@@ -18,7 +18,7 @@ use Rattle.net_eval.specs.Widths.{width_by_form}
 use Rattle.net_eval.specs.Values.{value, values, place, left_place, places, walk, holds, either}
 
 -- a value behind one link more
-abbrev pub joined : Span → Operation → Outcome Value → Value → Outcome Value
+abbrev pub joined : Span → BinOp → Outcome Value → Value → Outcome Value
 joined at o x v = and_then (decided o at v) (either (λ u. Ok u) (and_then x (apply o at v)))
 
 abbrev pub no_items : Span → Bool → Outcome Keys

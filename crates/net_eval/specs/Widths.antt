@@ -6,14 +6,14 @@ use Rattle.net_sets.specs.declared.member.Member.TheVariants.{Number}
 use Rattle.net_sets.specs.Limits.{arity_limit}
 use Rattle.net_tree.specs.Tree.{Tree, Links, Braces, leaf, indexed, parens, tuple, negated, braced, signed, reduced, chain, choice, net, none, link, empty, filled}
 use Rattle.net_fault.specs.declared.defect.Defect.TheVariants.{KindMismatch, Arity}
-use Rattle.net_eval.specs.declared.operation.Operation.{Operation}
-use Rattle.net_eval.specs.declared.operation.Operation.TheVariants as op
-use Rattle.net_eval.specs.declared.width.Form.{Form}
+use Rattle.net_tree.specs.declared.operator.BinOp.{BinOp}
+use Rattle.net_tree.specs.declared.operator.BinOp.TheVariants as op
+use Rattle.net_eval.specs.declared.width.Shape.{Shape}
 use Rattle.net_eval.specs.declared.world.Entry.{Entry}
 use Rattle.net_eval.specs.declared.world.Entry.TheVariants.{Set}
 use Rattle.net_fault.specs.Outcomes.{Outcome, refused}
 use Rattle.net_eval.specs.Worlds.{Name, World, Scope, bound, entry_of, with_dummy}
-use Rattle.net_eval.specs.Operations.{operation}
+use Rattle.net_tree.specs.Operations.{operation}
 use Rattle.net_eval.specs.Sets.{counted}
 use Rattle.net_eval.specs.Items.{sides, has_in, any_in, bare, new_dummy, size}
 
@@ -31,7 +31,7 @@ named_width w s None = None
 named_width w s (Some name) = unless_dummy (bound s name) (set_width (entry_of w name))
 
 -- an operator that makes a set
-abbrev pub makes_set : Operation → Bool
+abbrev pub makes_set : BinOp → Bool
 makes_set op.Range = true
 makes_set op.Cross = true
 makes_set op.Inter = true
@@ -63,7 +63,7 @@ of_either None e = Some (counted e)
 of_either (Some d) e = Some d
 
 -- the dimension of what an operator makes of two sets; none for `{}`
-abbrev pub combined : Operation → Option ℕ → Option ℕ → Option ℕ
+abbrev pub combined : BinOp → Option ℕ → Option ℕ → Option ℕ
 combined op.Range d e = Some 1
 combined op.Cross d e = Some (capped (counted d + counted e))
 combined op.Inter d e = of_either d e
@@ -77,31 +77,31 @@ or_one None = Some 1
 or_one (Some d) = Some d
 
 -- no item so far
-abbrev pub begin : Scope → Form
+abbrev pub begin : Scope → Shape
 begin s = record { scope = s; count = 0; indexes = true }
 
 -- a new dummy is in scope from now on, at no member in particular, and is a member of the key
-abbrev pub with_new : Form → Option Name → Form
+abbrev pub with_new : Shape → Option Name → Shape
 with_new f None = f
 with_new f (Some name) = record { scope = with_dummy name (Number (pos 0)) f.scope; count = capped (f.count + 1); indexes = f.indexes }
 
-abbrev pub with_component : World → Form → Tree → Form
+abbrev pub with_component : World → Shape → Tree → Shape
 with_component w f x = with_new f (new_dummy w f.scope x)
 
-abbrev pub with_components : World → Form → Links → Form
+abbrev pub with_components : World → Shape → Links → Shape
 with_components w f none = f
 with_components w f (link o x l) = with_components w (with_component w f x) l
 
 -- what stands at the left of `in`
-abbrev pub with_left : World → Form → Tree → Form
+abbrev pub with_left : World → Shape → Tree → Shape
 with_left w f (tuple o x l c) = with_components w (with_component w f x) l
 with_left w f x = with_component w f x
 
 -- an item that is a set of this dimension by its form, or no set
-abbrev pub with_plain : Form → Option ℕ → Bool → Form
+abbrev pub with_plain : Shape → Option ℕ → Bool → Shape
 with_plain f d is_set = record { scope = f.scope; count = capped (f.count + counted d); indexes = f.indexes && is_set }
 
-abbrev pub with_sides : World → Form → Option (Tree × Tree) → Option ℕ → Bool → Form
+abbrev pub with_sides : World → Shape → Option (Tree × Tree) → Option ℕ → Bool → Shape
 with_sides w f None d is_set = with_plain f d is_set
 with_sides w f (Some p) d is_set = with_left w f p.0
 
@@ -132,7 +132,7 @@ abbrev mutual
       else width w s i
 
   -- items behind others
-  pub with_items : World → Form → Links → Form
+  pub with_items : World → Shape → Links → Shape
   with_items w f none = f
   with_items w f (link o i is) = with_items w (with_sides w f (sides i) (width w f.scope i) (is_set_form w f.scope i)) is
 
@@ -143,11 +143,11 @@ filled_width w s i is =
     then Some (with_items w (with_sides w (begin s) (sides i) (width w s i) (is_set_form w s i)) is).count
     else width w s i
 
-abbrev pub with_item : World → Form → Tree → Form
+abbrev pub with_item : World → Shape → Tree → Shape
 with_item w f i = with_sides w f (sides i) (width w f.scope i) (is_set_form w f.scope i)
 
 -- the number of members of keys by the form of the items, which must all be sets
-abbrev pub width_of_form : Span → Form → Outcome ℕ
+abbrev pub width_of_form : Span → Shape → Outcome ℕ
 width_of_form at f =
     if f.indexes then (if nat_le f.count arity_limit then Ok f.count else refused Arity at) else refused KindMismatch at
 

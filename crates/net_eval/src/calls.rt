@@ -14,57 +14,57 @@ use crate::keys::index;
 use crate::operator::member_of;
 use crate::row::Keys;
 use crate::scope::Scope;
-use crate::world::Seen;
+use crate::world::Env;
 use net_fault::Fault;
-use net_sets::{Held, Member};
+use net_sets::{Cow, Member};
 use net_tree::{Braces, Expr, span_of};
 use std::alloc::Global;
 
 /// The number or text that an expression is.
 pub fn member<'s>(
     alloc: Global,
-    seen: &Seen<'_, 's>,
+    env: &Env<'_, 's>,
     scope: &Scope<'s>,
     expr: &Expr<'s>,
 ) -> Result<Member<'s>, Fault>
-    ensures { Answers (and_then (values.value seen.now scope.now (tree expr.now)) (operators.member (trees.span_of (tree expr.now)))) result }
+    ensures { Answers (and_then (values.value env.now scope.now (tree expr.now)) (operators.member (trees.span_of (tree expr.now)))) result }
 {
-    let found = evaluate(alloc, seen, scope, expr)?;
+    let found = evaluate(alloc, env, scope, expr)?;
     member_of(expr, &found)
 }
 
 /// The tuples of the set that an expression is, in order.
 pub fn members<'w, 's>(
     alloc: Global,
-    seen: &Seen<'w, 's>,
+    env: &Env<'w, 's>,
     scope: &Scope<'s>,
     expr: &Expr<'s>,
-) -> Result<Held<'w, 's>, Fault>
-    ensures { Answers (and_then (values.value seen.now scope.now (tree expr.now)) (items.tuples_of (trees.span_of (tree expr.now)))) result }
+) -> Result<Cow<'w, 's>, Fault>
+    ensures { Answers (and_then (values.value env.now scope.now (tree expr.now)) (items.tuples_of (trees.span_of (tree expr.now)))) result }
 {
-    tuples_of(span_of(expr), evaluate(alloc, seen, scope, expr))
+    tuples_of(span_of(expr), evaluate(alloc, env, scope, expr))
 }
 
 /// The truth of the condition that an expression is.
 pub fn holds<'s>(
     alloc: Global,
-    seen: &Seen<'_, 's>,
+    env: &Env<'_, 's>,
     scope: &Scope<'s>,
     expr: &Expr<'s>,
 ) -> Result<bool, Fault>
-    ensures { Answers (and_then (values.value seen.now scope.now (tree expr.now)) (operators.truth (trees.span_of (tree expr.now)))) result }
+    ensures { Answers (and_then (values.value env.now scope.now (tree expr.now)) (operators.truth (trees.span_of (tree expr.now)))) result }
 {
-    is_met(alloc, seen, scope, expr, expr)
+    is_met(alloc, env, scope, expr, expr)
 }
 
 /// The keys by which braces index, in order, each with the dummies in scope at it.
 pub fn index_of<'s>(
     alloc: Global,
-    seen: &Seen<'_, 's>,
+    env: &Env<'_, 's>,
     scope: &Scope<'s>,
     braces: &Braces<'s>,
 ) -> Result<Keys<'s>, Fault>
-    ensures { Answers (values.index seen.now scope.now (braces_of braces.now)) result }
+    ensures { Answers (values.index env.now scope.now (braces_of braces.now)) result }
 {
-    index(alloc, seen, scope, braces)
+    index(alloc, env, scope, braces)
 }

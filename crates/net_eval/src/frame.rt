@@ -1,7 +1,7 @@
 //! Where a walk over braces stands at one of their items.
 
 use crate::row::Place;
-use net_sets::Walk;
+use net_sets::Cursor;
 use net_tree::{Expr, Link};
 
 /// An item at a place, with the tuples of its set that are still to come there, and the items behind it. Dropping it is one
@@ -10,7 +10,7 @@ pub(crate) struct Frame<'a, 'w, 's> {
     pub(crate) item: &'a Expr<'s>,
     pub(crate) more: &'a [Link<'s>],
     pub(crate) place: Place<'s>,
-    pub(crate) left: Walk<'w, 's>,
+    pub(crate) left: Cursor<'w, 's>,
 }
 
 impl<'a, 'w, 's> Drop for Frame<'a, 'w, 's> {

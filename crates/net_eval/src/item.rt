@@ -3,67 +3,22 @@
 ghost use Rattle.std.specs.Prelude.{◌≡◌, ◌+◌, Some};
 ghost use Rattle.std.specs.Option.{option_map};
 ghost use Rattle.net_tree.specs.Spans as trees;
-ghost use Rattle.net_tree.specs.Tree.{leaf};
 ghost use Rattle.net_tree.specs.View.{tree, links_of, option_part};
 ghost use Rattle.net_eval.specs.Items as items;
-ghost use Rattle.net_eval.specs.Operations as operations;
+ghost use Rattle.net_tree.specs.Operations as operations;
 ghost use Rattle.net_fault.specs.Outcomes.{Answers, Outcome, and_then, Decides};
 ghost use Rattle.net_eval.specs.declared.value.Value.{Value as Found};
 ghost use Rattle.net_eval.specs.declared.value.Value.TheVariants.{Many};
 ghost use Rattle.net_eval.specs.Worlds as worlds;
 
 use crate::fault::refuse_tree;
-use crate::operation::{Operation, operation_of};
 use crate::scope::Scope;
 use crate::value::Value;
-use crate::world::Seen;
+use crate::world::Env;
 use net_fault::{Defect, Fault, Span};
-use net_lex::Token;
-use net_sets::Held;
-use net_tree::{Expr, Link, Operator, Part, Role, role_of};
+use net_sets::Cow;
+use net_tree::{BinOp, Expr, Link, Operator, Part, lone_name, sides_of};
 use net_views::{Boxed, Excerpt};
-
-fn is_in(operator: &Operator<'_>) -> bool
-    ensures { result ≡ items.is_in (operations.operation operator.now) }
-{
-    matches!(operation_of(operator), Operation::In)
-}
-
-/// What stands behind a lone `in`.
-fn behind_in<'a, 's>(links: &'a [Link<'s>]) -> Option<&'a Expr<'s>>
-    ensures { option_map (λ x. tree x.now) result ≡ items.behind_in (links_of links.entry.now) }
-{
-    match links {
-        [] => None,
-        [link] => {
-            if is_in(&link.operator) {
-                Some(&link.operand)
-            } else {
-                None
-            }
-        }
-        [_, _, ..] => None,
-    }
-}
-
-/// The two sides of an item with `in` at its top.
-#[tactic(auto, using(net_tree::proofs::Views::views))]
-pub(crate) fn sides_of<'a, 's>(item: &'a Expr<'s>) -> Option<(&'a Expr<'s>, &'a Expr<'s>)>
-    ensures { option_map (λ p. (tree p.0.now, tree p.1.now)) result ≡ items.sides (tree item.entry.now) }
-{
-    match item {
-        Expr::Chain(_, operands) => {
-            let series = operands.get();
-            match behind_in(series.more.as_slice()) {
-                None => None,
-                Some(set) => Some((&series.first, set)),
-            }
-        }
-        Expr::Leaf(_) | Expr::Indexed(_) | Expr::Parens(_) | Expr::Tuple(_) => None,
-        Expr::Negated(_) | Expr::Braced(_) | Expr::Signed(_) | Expr::Reduced(_, _) => None,
-        Expr::Choice(_, _, _) | Expr::Net(_) => None,
-    }
-}
 
 pub(crate) fn has_in(item: &Expr<'_>) -> bool
     ensures { result ≡ items.has_in (tree item.now) }
@@ -85,7 +40,7 @@ pub(crate) fn any_in(links: &[Link<'_>]) -> bool
 fn is_range(operator: &Operator<'_>) -> bool
     ensures { result ≡ operations.is_range (operations.operation operator.now) }
 {
-    matches!(operation_of(operator), Operation::Range)
+    matches!(operator.op(), BinOp::Range)
 }
 
 /// Whether a chain is a range.
@@ -107,46 +62,34 @@ pub(crate) fn has_part(part: &Option<Boxed<Part<'_>>>) -> bool
     }
 }
 
-fn if_name<'a, 's>(token: &'a Token<'s>) -> Option<&'a Excerpt<'s>>
-    ensures { option_map (λ t. t.now) result ≡ items.bare (leaf token.entry.now) }
-{
-    match role_of(token) {
-        Role::Name => Some(&token.text),
-        _ => None,
-    }
-}
-
-/// A name that stands alone.
-#[tactic(auto, using(net_tree::proofs::Views::views))]
+/// The text of a name that stands alone.
 pub(crate) fn bare<'a, 's>(component: &'a Expr<'s>) -> Option<&'a Excerpt<'s>>
     ensures { option_map (λ t. t.now) result ≡ items.bare (tree component.entry.now) }
 {
-    match component {
-        Expr::Leaf(token) => if_name(token),
-        Expr::Indexed(_) | Expr::Parens(_) | Expr::Tuple(_) | Expr::Negated(_) => None,
-        Expr::Braced(_) | Expr::Signed(_) | Expr::Reduced(_, _) | Expr::Chain(_, _) => None,
-        Expr::Choice(_, _, _) | Expr::Net(_) => None,
+    match lone_name(component) {
+        None => None,
+        Some(name) => Some(&name.text),
     }
 }
 
-fn is_known<'s>(seen: &Seen<'_, 's>, scope: &Scope<'s>, name: &Excerpt<'s>) -> bool
-    ensures { result ≡ worlds.is_known seen.now scope.now name.now }
+fn is_known<'s>(env: &Env<'_, 's>, scope: &Scope<'s>, name: &Excerpt<'s>) -> bool
+    ensures { result ≡ worlds.is_known env.now scope.now name.now }
 {
-    scope.get(name).is_some() || seen.find(name).is_some()
+    scope.get(name).is_some() || env.find(name).is_some()
 }
 
 /// The name of a new dummy: it stands alone, and means nothing so far.
 pub(crate) fn new_dummy<'a, 's>(
-    seen: &Seen<'_, 's>,
+    env: &Env<'_, 's>,
     scope: &Scope<'s>,
     component: &'a Expr<'s>,
 ) -> Option<&'a Excerpt<'s>>
-    ensures { option_map (λ t. t.now) result ≡ items.new_dummy seen.now scope.now (tree component.entry.now) }
+    ensures { option_map (λ t. t.now) result ≡ items.new_dummy env.now scope.now (tree component.entry.now) }
 {
     match bare(component) {
         None => None,
         Some(name) => {
-            if is_known(seen, scope, name) {
+            if is_known(env, scope, name) {
                 None
             } else {
                 Some(name)
@@ -191,8 +134,8 @@ fn fitting<'w, 's>(
     item: &Expr<'_>,
     left: &Expr<'_>,
     dimension: Option<u8>,
-    tuples: Held<'w, 's>,
-) -> Result<Held<'w, 's>, Fault>
+    tuples: Cow<'w, 's>,
+) -> Result<Cow<'w, 's>, Fault>
     ensures { Decides (items.chosen (trees.span_of (tree item.now)) (items.needed (tree left.now)) (Many dimension tuples.entry)) result }
 {
     if fits_needed(dimension, left) {
@@ -207,7 +150,7 @@ pub(crate) fn chosen<'w, 's>(
     item: &Expr<'_>,
     left: &Expr<'_>,
     value: Result<Value<'w, 's>, Fault>,
-) -> Result<Held<'w, 's>, Fault>
+) -> Result<Cow<'w, 's>, Fault>
     ensures { (wanted : Outcome Found) → Answers wanted value.entry
         → Answers (and_then wanted (items.chosen (trees.span_of (tree item.now)) (items.needed (tree left.now)))) result }
 {
@@ -224,7 +167,7 @@ pub(crate) fn chosen<'w, 's>(
 pub(crate) fn tuples_of<'w, 's>(
     at: Span,
     value: Result<Value<'w, 's>, Fault>,
-) -> Result<Held<'w, 's>, Fault>
+) -> Result<Cow<'w, 's>, Fault>
     ensures { (wanted : Outcome Found) → Answers wanted value.entry → Answers (and_then wanted (items.tuples_of at)) result }
 {
     match value {

@@ -16,7 +16,8 @@ ghost use Rattle.net_eval.specs.Walks as walks;
 use crate::eval::{evaluate, evaluate_more};
 use crate::fitting::place_at;
 use crate::frame::Frame;
-use crate::item::{any_in, chosen, has_part, is_set, sides_of, tuples_of};
+use crate::inside::Inside;
+use crate::item::{any_in, chosen, has_part, is_set, tuples_of};
 use crate::list::{listed, no_items};
 use crate::operator::truth_at;
 use crate::row::{Keys, Place, Row, as_keys, keep_if, start};
@@ -24,10 +25,10 @@ use crate::scope::Scope;
 use crate::selecting::selected;
 use crate::value::Value;
 use crate::width::width;
-use crate::world::Seen;
+use crate::world::Env;
 use net_fault::{Fault, Span};
-use net_sets::Held;
-use net_tree::{Braces, Expr, Link, Part, span_between};
+use net_sets::Cow;
+use net_tree::{Braces, Expr, Link, Part, sides_of, span_between};
 use net_views::{Boxed, Items};
 use std::alloc::Global;
 
@@ -36,48 +37,47 @@ use std::alloc::Global;
 #[tactic(auto, using(net_tree::proofs::Views::views))]
 pub(crate) fn index<'s>(
     alloc: Global,
-    seen: &Seen<'_, 's>,
+    env: &Env<'_, 's>,
     scope: &Scope<'s>,
     braces: &Braces<'s>,
 ) -> Result<Keys<'s>, Fault>
-    ensures { Answers (values.index seen.now scope.now (braces_of braces.now)) result }
+    ensures { Answers (values.index env.now scope.now (braces_of braces.now)) result }
 {
     match braces {
         Braces::Empty(open, condition, close) => {
             no_items(alloc, span_between(open, close), has_part(condition))
         }
-        Braces::Filled(open, series, condition, close) => index_items(
-            alloc,
-            seen,
-            scope,
-            span_between(open, close),
-            &series.first,
-            series.more.as_slice(),
-            condition,
-        ),
+        Braces::Filled(open, series, condition, close) => {
+            let items = Inside {
+                at: span_between(open, close),
+                first: &series.first,
+                more: series.more.as_slice(),
+                condition,
+            };
+            index_items(alloc, env, scope, &items)
+        }
     }
 }
 
 #[cycle(eval)]
 fn index_items<'s>(
     alloc: Global,
-    seen: &Seen<'_, 's>,
+    env: &Env<'_, 's>,
     scope: &Scope<'s>,
-    at: Span,
-    item: &Expr<'s>,
-    more: &[Link<'s>],
-    condition: &Option<Boxed<Part<'s>>>,
+    items: &Inside<'_, 's>,
 ) -> Result<Keys<'s>, Fault>
-    ensures { Answers (walks.index_items at seen.now scope.now (tree item.now) (links_of more.now) (option_part condition.now)) result }
+    ensures { Answers (walks.index_items items.now.at env.now scope.now (tree items.now.first.now) (links_of items.now.more.now)
+        (option_part items.now.condition.now)) result }
 {
+    let item = items.first;
     match sides_of(item) {
         Some((left, set)) => {
-            let tuples = choose(alloc, seen, scope, item, left, set)?;
-            select(alloc, seen, scope, at, item, more, condition, tuples)
+            let tuples = choose(alloc, env, scope, item, left, set)?;
+            select(alloc, env, scope, items, tuples)
         }
         None => {
-            let value = evaluate(alloc, seen, scope, item)?;
-            open(alloc, seen, scope, at, item, more, condition, value)
+            let value = evaluate(alloc, env, scope, item)?;
+            open(alloc, env, scope, items, value)
         }
     }
 }
@@ -86,22 +86,20 @@ fn index_items<'s>(
 #[cycle(eval)]
 fn open<'w, 's>(
     alloc: Global,
-    seen: &Seen<'w, 's>,
+    env: &Env<'w, 's>,
     scope: &Scope<'s>,
-    at: Span,
-    item: &Expr<'s>,
-    more: &[Link<'s>],
-    condition: &Option<Boxed<Part<'s>>>,
+    items: &Inside<'_, 's>,
     value: Value<'w, 's>,
 ) -> Result<Keys<'s>, Fault>
-    ensures { Answers (walks.opened_keys at seen.now scope.now (tree item.now) (links_of more.now) (option_part condition.now) value.entry) result }
+    ensures { Answers (walks.opened_keys items.now.at env.now scope.now (tree items.now.first.now) (links_of items.now.more.now)
+        (option_part items.now.condition.now) value.entry) result }
 {
-    if any_in(more) || is_set(&value) {
-        let tuples = tuples_of(at, Ok(value))?;
-        select(alloc, seen, scope, at, item, more, condition, tuples)
+    if any_in(items.more) || is_set(&value) {
+        let tuples = tuples_of(items.at, Ok(value))?;
+        select(alloc, env, scope, items, tuples)
     } else {
-        let found = evaluate_more(alloc, seen, scope, value, more);
-        listed(alloc, at, scope, has_part(condition), found)
+        let found = evaluate_more(alloc, env, scope, value, items.more);
+        listed(alloc, items.at, scope, has_part(items.condition), found)
     }
 }
 
@@ -109,45 +107,41 @@ fn open<'w, 's>(
 #[cycle(eval)]
 fn select<'w, 's>(
     alloc: Global,
-    seen: &Seen<'w, 's>,
+    env: &Env<'w, 's>,
     scope: &Scope<'s>,
-    at: Span,
-    item: &Expr<'s>,
-    more: &[Link<'s>],
-    condition: &Option<Boxed<Part<'s>>>,
-    tuples: Held<'w, 's>,
+    items: &Inside<'_, 's>,
+    tuples: Cow<'w, 's>,
 ) -> Result<Keys<'s>, Fault>
-    ensures { Answers (walks.walked at seen.now scope.now (tree item.now) (links_of more.now) (option_part condition.now) tuples.entry) result }
+    ensures { Answers (walks.walked items.now.at env.now scope.now (tree items.now.first.now) (links_of items.now.more.now)
+        (option_part items.now.condition.now) tuples.entry) result }
 {
-    let found = collect(alloc, seen, scope, at, item, more, tuples)?;
-    let width = width(alloc, at, seen, scope, item, more, found.as_slice())?;
-    keep(alloc, seen, at, condition, width, found)
+    let found = collect(alloc, env, scope, items, tuples)?;
+    let width = width(alloc, env, scope, items, found.as_slice())?;
+    keep(alloc, env, items.at, items.condition, width, found)
 }
 
 /// The keys that items lead to.
 #[cycle(eval)]
 fn collect<'w, 's>(
     alloc: Global,
-    seen: &Seen<'w, 's>,
+    env: &Env<'w, 's>,
     scope: &Scope<'s>,
-    at: Span,
-    item: &Expr<'s>,
-    more: &[Link<'s>],
-    tuples: Held<'w, 's>,
+    items: &Inside<'_, 's>,
+    tuples: Cow<'w, 's>,
 ) -> Result<Items<Row<'s>>, Fault>
-    ensures { Answers (each (rows.onward (values.place seen.now (tree item.now)) (values.walk at seen.now (links_of more.now)) (rows.start scope.now))
-        tuples.entry []) result }
+    ensures { Answers (each (rows.onward (values.place env.now (tree items.now.first.now)) (values.walk items.now.at env.now (links_of items.now.more.now))
+        (rows.start scope.now)) tuples.entry []) result }
 {
     let place = start(alloc, scope)?;
-    let left = selected(seen, &place.scope, item, tuples);
+    let left = selected(env, &place.scope, items.first, tuples);
     let first = Frame {
-        item,
-        more,
+        item: items.first,
+        more: items.more,
         place,
         left,
     };
     let mut found = Vec::new(alloc);
-    walk(alloc, seen, at, first, &mut found)?;
+    walk(alloc, env, items.at, first, &mut found)?;
     Ok(Items::new(found))
 }
 
@@ -156,12 +150,12 @@ fn collect<'w, 's>(
 #[cycle(eval)]
 fn walk<'a, 'w, 's>(
     alloc: Global,
-    seen: &Seen<'w, 's>,
+    env: &Env<'w, 's>,
     at: Span,
     first: Frame<'a, 'w, 's>,
     found: &mut Vec<Row<'s>>,
 ) -> Result<(), Fault>
-    ensures { Leaves (frames.still at seen.now first.entry found.old.items) result found.new.items }
+    ensures { Leaves (frames.still at env.now first.entry found.old.items) result found.new.items }
 {
     let mut top = first;
     let mut below = Vec::new(alloc);
@@ -172,9 +166,9 @@ fn walk<'a, 'w, 's>(
                 Some(frame) => top = frame,
             },
             Some(tuple) => {
-                let next = place_at(alloc, seen, top.item, tuple, &top.place)?;
+                let next = place_at(alloc, env, top.item, tuple, &top.place)?;
                 top.left.pass();
-                match onward(alloc, seen, at, top.more, next, found)? {
+                match onward(alloc, env, at, top.more, next, found)? {
                     None => {}
                     Some(deeper) => {
                         below.push(top)?;
@@ -190,17 +184,17 @@ fn walk<'a, 'w, 's>(
 #[cycle(eval)]
 fn onward<'a, 'w, 's>(
     alloc: Global,
-    seen: &Seen<'w, 's>,
+    env: &Env<'w, 's>,
     at: Span,
     items: &'a [Link<'s>],
     place: Option<Place<'s>>,
     found: &mut Vec<Row<'s>>,
 ) -> Result<Option<Frame<'a, 'w, 's>>, Fault>
-    ensures leads { frames.Leads at seen.now (rows.go_on (values.walk at seen.now (links_of items.entry.now)) found.old.items place.entry) result
+    ensures leads { frames.Leads at env.now (rows.go_on (values.walk at env.now (links_of items.entry.now)) found.old.items place.entry) result
         found.new.items }
     ensures lighter { IfOk result (λ next. IfSome next (λ f. frames.weight_of f ≤ weights (links_of items.entry.now))) }
-    ensures steps { IfOk result (λ next. IfSome next (λ f. frames.steps_still at seen.now f
-        ≡ frames.steps_next (frames.steps at seen.now (links_of items.entry.now)) (Ok place.entry))) }
+    ensures steps { IfOk result (λ next. IfSome next (λ f. frames.steps_still at env.now f
+        ≡ frames.steps_next (frames.steps at env.now (links_of items.entry.now)) (Ok place.entry))) }
 {
     match place {
         None => Ok(None),
@@ -210,7 +204,7 @@ fn onward<'a, 'w, 's>(
                 Ok(None)
             }
             [link, rest @ ..] => {
-                let frame = entered(alloc, seen, at, &link.operand, rest, place)?;
+                let frame = entered(alloc, env, at, &link.operand, rest, place)?;
                 Ok(Some(frame))
             }
         },
@@ -221,23 +215,23 @@ fn onward<'a, 'w, 's>(
 #[cycle(eval)]
 fn entered<'a, 'w, 's>(
     alloc: Global,
-    seen: &Seen<'w, 's>,
+    env: &Env<'w, 's>,
     at: Span,
     item: &'a Expr<'s>,
     more: &'a [Link<'s>],
     place: Place<'s>,
 ) -> Result<Frame<'a, 'w, 's>, Fault>
-    ensures { Answers (and_then (walks.item_tuples at seen.now place.entry.scope (tree item.entry.now))
+    ensures { Answers (and_then (walks.item_tuples at env.now place.entry.scope (tree item.entry.now))
         (λ ts. Ok (record {
           item = item.entry;
           more = more.entry;
           place = place.entry;
           left = sought
-              (select.selecting seen.now place.entry.scope (tree item.entry.now)) ts;
+              (select.selecting env.now place.entry.scope (tree item.entry.now)) ts;
         }))) result }
 {
-    let tuples = item_tuples(alloc, seen, at, &place.scope, item)?;
-    let left = selected(seen, &place.scope, item, tuples);
+    let tuples = item_tuples(alloc, env, at, &place.scope, item)?;
+    let left = selected(env, &place.scope, item, tuples);
     Ok(Frame {
         item,
         more,
@@ -249,45 +243,45 @@ fn entered<'a, 'w, 's>(
 #[cycle(eval)]
 fn item_tuples<'w, 's>(
     alloc: Global,
-    seen: &Seen<'w, 's>,
+    env: &Env<'w, 's>,
     at: Span,
     scope: &Scope<'s>,
     item: &Expr<'s>,
-) -> Result<Held<'w, 's>, Fault>
-    ensures { Answers (walks.item_tuples at seen.now scope.now (tree item.now)) result }
+) -> Result<Cow<'w, 's>, Fault>
+    ensures { Answers (walks.item_tuples at env.now scope.now (tree item.now)) result }
 {
     match sides_of(item) {
-        Some((left, set)) => choose(alloc, seen, scope, item, left, set),
-        None => tuples_of(at, evaluate(alloc, seen, scope, item)),
+        Some((left, set)) => choose(alloc, env, scope, item, left, set),
+        None => tuples_of(at, evaluate(alloc, env, scope, item)),
     }
 }
 
 #[cycle(eval)]
 fn choose<'w, 's>(
     alloc: Global,
-    seen: &Seen<'w, 's>,
+    env: &Env<'w, 's>,
     scope: &Scope<'s>,
     item: &Expr<'s>,
     left: &Expr<'s>,
     set: &Expr<'s>,
-) -> Result<Held<'w, 's>, Fault>
-    ensures { Answers (and_then (values.value seen.now scope.now (tree set.now))
+) -> Result<Cow<'w, 's>, Fault>
+    ensures { Answers (and_then (values.value env.now scope.now (tree set.now))
         (items.chosen (trees.span_of (tree item.now)) (items.needed (tree left.now)))) result }
 {
-    chosen(item, left, evaluate(alloc, seen, scope, set))
+    chosen(item, left, evaluate(alloc, env, scope, set))
 }
 
 /// The keys at which the condition holds.
 #[cycle(eval)]
 fn keep<'s>(
     alloc: Global,
-    seen: &Seen<'_, 's>,
+    env: &Env<'_, 's>,
     at: Span,
     condition: &Option<Boxed<Part<'s>>>,
     width: u8,
     found: Items<Row<'s>>,
 ) -> Result<Keys<'s>, Fault>
-    ensures { Answers (and_then (rows.kept (λ q. values.holds at seen.now q (option_part condition.now)) found.entry [])
+    ensures { Answers (and_then (rows.kept (λ q. values.holds at env.now q (option_part condition.now)) found.entry [])
         (λ left. Ok (rows.keys width left))) result }
 {
     if !has_part(condition) {
@@ -295,7 +289,7 @@ fn keep<'s>(
     }
     let mut kept = Vec::new(alloc);
     for row in found.into_vec() {
-        let holds = holds(alloc, seen, at, &row.scope, condition);
+        let holds = holds(alloc, env, at, &row.scope, condition);
         keep_if(holds, row, &mut kept)?;
     }
     Ok(as_keys(width, Items::new(kept)))
@@ -305,15 +299,15 @@ fn keep<'s>(
 #[tactic(auto, using(net_tree::proofs::Views::views))]
 fn holds<'s>(
     alloc: Global,
-    seen: &Seen<'_, 's>,
+    env: &Env<'_, 's>,
     at: Span,
     scope: &Scope<'s>,
     condition: &Option<Boxed<Part<'s>>>,
 ) -> Result<bool, Fault>
-    ensures { Answers (values.holds at seen.now scope.now (option_part condition.now)) result }
+    ensures { Answers (values.holds at env.now scope.now (option_part condition.now)) result }
 {
     match condition {
         None => Ok(true),
-        Some(part) => truth_at(at, evaluate(alloc, seen, scope, &part.get().value)),
+        Some(part) => truth_at(at, evaluate(alloc, env, scope, &part.get().value)),
     }
 }

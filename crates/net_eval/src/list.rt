@@ -13,7 +13,7 @@ use crate::scope::Scope;
 use crate::set::once;
 use crate::value::Value;
 use net_fault::{Defect, Fault, Span};
-use net_sets::{Held, SetFault, Tuple, TupleSet};
+use net_sets::{Cow, SetFault, Tuple, TupleSet};
 use net_views::Items;
 use std::alloc::{AllocError, Global};
 
@@ -169,7 +169,7 @@ pub(crate) fn as_value<'w, 's>(
 {
     let tuples = keys_of(alloc, keys.rows.as_slice())?;
     match once(alloc, tuples.as_slice()) {
-        Ok(set) => Ok(Value::Many(keys.width, Held::own(set))),
+        Ok(set) => Ok(Value::Many(keys.width, Cow::owned(set))),
         Err(SetFault::TooMany) => Err(Fault::of_model(Defect::TooMany, at)),
         Err(SetFault::OutOfMemory) => Err(Fault::OutOfMemory),
     }

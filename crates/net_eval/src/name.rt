@@ -13,10 +13,10 @@ use crate::number::number_in;
 use crate::reference::told_reference;
 use crate::scope::Scope;
 use crate::value::Value;
-use crate::world::{Entry, Seen};
+use crate::world::{Entry, Env};
 use net_fault::{Defect, Detail, Fault, Language, Span};
 use net_lex::Token;
-use net_sets::{Held, Member, Table, Text, Tuple, TupleSet};
+use net_sets::{Cow, Member, Table, Text, Tuple, TupleSet};
 use net_tree::{Role, role_of};
 use net_views::Excerpt;
 use std::alloc::Global;
@@ -32,18 +32,19 @@ fn missing<'w, 's>(at: Span, detail: Detail, listed: bool) -> Result<Value<'w, '
     Err(Fault::of_text(Language::Model, defect, at, detail))
 }
 
-/// The value of a parameter at a key.
+/// The value of a parameter at a key, by its index list and its table.
 fn value_at<'w, 's>(
     alloc: Global,
     at: Span,
     name: &Excerpt<'s>,
     keys: Option<u8>,
-    index: &TupleSet<'s>,
-    table: &Table<'s>,
+    values: (&TupleSet<'s>, &Table<'s>),
     key: Tuple<'s>,
 ) -> Result<Value<'w, 's>, Fault>
-    ensures { Answers (worlds.value_at at (worlds.reference name.now keys key.entry) (at_key table.now key.entry) (has index.now key.entry)) result }
+    ensures { Answers (worlds.value_at at (worlds.reference name.now keys key.entry) (at_key values.entry.1.now key.entry)
+        (has values.entry.0.now key.entry)) result }
 {
+    let (index, table) = values;
     match table.get(&key) {
         Some(member) => Ok(Value::One(member.again())),
         None => {
@@ -77,14 +78,14 @@ fn entry_at<'w, 's>(
         None => Err(Fault::of_model(Defect::KindMismatch, at)),
         Some(Entry::Set(dimension, set)) => {
             if key.len() == 0 {
-                Ok(Value::Many(Some(*dimension), Held::lent(set)))
+                Ok(Value::Many(Some(*dimension), Cow::borrowed(set)))
             } else {
                 Err(Fault::of_model(Defect::Arity, at))
             }
         }
         Some(Entry::Parameter(keys, index, table)) => {
             if key.len() == key_count(*keys) {
-                value_at(alloc, at, name, *keys, index.get(), table, key)
+                value_at(alloc, at, name, *keys, (index.get(), table), key)
             } else {
                 Err(Fault::of_model(Defect::Arity, at))
             }
@@ -96,15 +97,15 @@ fn entry_at<'w, 's>(
 pub(crate) fn name_at<'w, 's>(
     alloc: Global,
     at: Span,
-    seen: &Seen<'w, 's>,
+    env: &Env<'w, 's>,
     scope: &Scope<'s>,
     name: &Excerpt<'s>,
     key: Tuple<'s>,
 ) -> Result<Value<'w, 's>, Fault>
-    ensures { Answers (worlds.name_at at seen.now name.now (worlds.bound scope.now name.now) key.entry) result }
+    ensures { Answers (worlds.name_at at env.now name.now (worlds.bound scope.now name.now) key.entry) result }
 {
     match scope.get(name) {
-        None => entry_at(alloc, at, name, seen.find(name), key),
+        None => entry_at(alloc, at, name, env.find(name), key),
         Some(member) => {
             if key.len() == 0 {
                 Ok(Value::One(member.again()))
@@ -119,14 +120,14 @@ pub(crate) fn name_at<'w, 's>(
 fn plain_name<'w, 's>(
     alloc: Global,
     at: Span,
-    seen: &Seen<'w, 's>,
+    env: &Env<'w, 's>,
     scope: &Scope<'s>,
     name: &Excerpt<'s>,
 ) -> Result<Value<'w, 's>, Fault>
-    ensures { Answers (worlds.name_at at seen.now name.now (worlds.bound scope.now name.now) []) result }
+    ensures { Answers (worlds.name_at at env.now name.now (worlds.bound scope.now name.now) []) result }
 {
     match scope.get(name) {
-        None => entry_at(alloc, at, name, seen.find(name), Tuple::new()),
+        None => entry_at(alloc, at, name, env.find(name), Tuple::new()),
         Some(member) => Ok(Value::One(member.again())),
     }
 }
@@ -143,16 +144,16 @@ fn numeral<'w, 's>(token: &Token<'s>) -> Result<Value<'w, 's>, Fault>
 /// What a leaf is.
 pub(crate) fn leaf<'w, 's>(
     alloc: Global,
-    seen: &Seen<'w, 's>,
+    env: &Env<'w, 's>,
     scope: &Scope<'s>,
     token: &Token<'s>,
 ) -> Result<Value<'w, 's>, Fault>
-    ensures { Answers (values.value seen.now scope.now (trees.leaf token.now)) result }
+    ensures { Answers (values.value env.now scope.now (trees.leaf token.now)) result }
 {
     match role_of(token) {
         Role::Number => numeral(token),
         Role::Text => Ok(Value::One(Member::Name(Text::new(&token.text)))),
-        Role::Name => plain_name(alloc, token.span, seen, scope, &token.text),
+        Role::Name => plain_name(alloc, token.span, env, scope, &token.text),
         _ => Err(Fault::of_model(Defect::KindMismatch, token.span)),
     }
 }

@@ -12,12 +12,11 @@ ghost use Rattle.net_eval.specs.Rows as rows;
 ghost use Rattle.net_eval.specs.Values as values;
 
 use crate::fault::refuse_tree;
-use crate::operation::{Operation, Reduction};
 use crate::value::Value;
 use net_fault::{Defect, Fault};
 use net_lex::whole_of;
 use net_sets::Member;
-use net_tree::Expr;
+use net_tree::{BinOp, Expr, Reduction};
 use net_views::Excerpt;
 
 /// The number that a numeral stands for, if it is whole and within the limit.
@@ -141,19 +140,19 @@ fn remainder<'w, 's>(whole: &Expr<'_>, a: &i64, b: &i64) -> Result<Value<'w, 's>
 }
 
 /// Whether two numbers are in the order that a comparison asks for.
-fn ordered(operation: Operation, a: &i64, b: &i64) -> bool
+fn ordered(operation: BinOp, a: &i64, b: &i64) -> bool
     ensures { result ≡ operators.ordered operation a.now b.now }
 {
     match operation {
-        Operation::Less => *a < *b,
-        Operation::AtMost => *a <= *b,
-        Operation::Greater => *a > *b,
-        Operation::AtLeast => *a >= *b,
+        BinOp::Less => *a < *b,
+        BinOp::AtMost => *a <= *b,
+        BinOp::Greater => *a > *b,
+        BinOp::AtLeast => *a >= *b,
         _ => false,
     }
 }
 
-fn compared<'w, 's>(operation: Operation, a: &i64, b: &i64) -> Result<Value<'w, 's>, Fault>
+fn compared<'w, 's>(operation: BinOp, a: &i64, b: &i64) -> Result<Value<'w, 's>, Fault>
     ensures { Decides (Ok (Truth (operators.ordered operation a.now b.now))) result }
 {
     Ok(Value::Truth(ordered(operation, a, b)))
@@ -169,7 +168,7 @@ fn of_no_numbers<'w, 's>(whole: &Expr<'_>) -> Result<Value<'w, 's>, Fault>
 
 /// What an operator makes of two numbers.
 fn of_two<'w, 's>(
-    operation: Operation,
+    operation: BinOp,
     whole: &Expr<'_>,
     a: &i64,
     b: &i64,
@@ -177,12 +176,12 @@ fn of_two<'w, 's>(
     ensures { Decides (operators.of_two operation (trees.span_of (tree whole.now)) a.now b.now) result }
 {
     match operation {
-        Operation::Plus => plus(whole, a, b),
-        Operation::Minus => minus(whole, a, b),
-        Operation::Times => times(whole, a, b),
-        Operation::Div => quotient(whole, a, b),
-        Operation::Mod => remainder(whole, a, b),
-        Operation::Less | Operation::AtMost | Operation::Greater | Operation::AtLeast => {
+        BinOp::Plus => plus(whole, a, b),
+        BinOp::Minus => minus(whole, a, b),
+        BinOp::Times => times(whole, a, b),
+        BinOp::Div => quotient(whole, a, b),
+        BinOp::Mod => remainder(whole, a, b),
+        BinOp::Less | BinOp::AtMost | BinOp::Greater | BinOp::AtLeast => {
             compared(operation, a, b)
         }
         _ => of_no_numbers(whole),
@@ -191,7 +190,7 @@ fn of_two<'w, 's>(
 
 /// What an operator makes of two values that have to be numbers.
 pub(crate) fn of_numbers<'w, 's>(
-    operation: Operation,
+    operation: BinOp,
     whole: &Expr<'_>,
     x: &Value<'_, 's>,
     y: &Value<'_, 's>,

@@ -9,12 +9,11 @@ ghost use Rattle.net_eval.specs.declared.value.Value.{Value as Found};
 
 use crate::fault::refuse_tree;
 use crate::number::of_numbers;
-use crate::operation::Operation;
 use crate::set::{belongs, contained, cross_values, of_sets};
 use crate::value::Value;
 use net_fault::{Defect, Fault, Span};
 use net_sets::Member;
-use net_tree::Expr;
+use net_tree::{BinOp, Expr};
 use std::alloc::Global;
 
 /// Whether two members are the same.
@@ -62,21 +61,21 @@ pub(crate) fn truth_at(at: Span, value: Result<Value<'_, '_>, Fault>) -> Result<
 
 /// What the left side alone decides.
 pub(crate) fn decided<'w, 's>(
-    operation: Operation,
+    operation: BinOp,
     whole: &Expr<'_>,
     value: &Value<'_, 's>,
 ) -> Result<Option<Value<'w, 's>>, Fault>
     ensures { Decides (operators.decided operation (trees.span_of (tree whole.now)) value.now) result }
 {
     match operation {
-        Operation::And => {
+        BinOp::And => {
             if truth(whole, value)? {
                 Ok(None)
             } else {
                 Ok(Some(Value::Truth(false)))
             }
         }
-        Operation::Or => {
+        BinOp::Or => {
             if truth(whole, value)? {
                 Ok(Some(Value::Truth(true)))
             } else {
@@ -120,7 +119,7 @@ fn right_truth<'w, 's>(
 /// What an operator makes of the values on its two sides.
 pub(crate) fn apply<'w, 's>(
     alloc: Global,
-    operation: Operation,
+    operation: BinOp,
     whole: &Expr<'_>,
     x: &Value<'_, 's>,
     y: &Value<'_, 's>,
@@ -128,27 +127,27 @@ pub(crate) fn apply<'w, 's>(
     ensures { Answers (operators.apply operation (trees.span_of (tree whole.now)) x.now y.now) result }
 {
     match operation {
-        Operation::Plus
-        | Operation::Minus
-        | Operation::Times
-        | Operation::Div
-        | Operation::Mod
-        | Operation::Less
-        | Operation::AtMost
-        | Operation::Greater
-        | Operation::AtLeast => of_numbers(operation, whole, x, y),
-        Operation::Cross => cross_values(alloc, whole, x, y),
-        Operation::Inter | Operation::Union | Operation::Diff | Operation::Symdiff => {
+        BinOp::Plus
+        | BinOp::Minus
+        | BinOp::Times
+        | BinOp::Div
+        | BinOp::Mod
+        | BinOp::Less
+        | BinOp::AtMost
+        | BinOp::Greater
+        | BinOp::AtLeast => of_numbers(operation, whole, x, y),
+        BinOp::Cross => cross_values(alloc, whole, x, y),
+        BinOp::Inter | BinOp::Union | BinOp::Diff | BinOp::Symdiff => {
             of_sets(alloc, operation, whole, x, y)
         }
-        Operation::Equal => as_truth(same(whole, x, y)),
-        Operation::Unequal => as_denial(same(whole, x, y)),
-        Operation::In => as_truth(belongs(whole, x, y)),
-        Operation::NotIn => as_denial(belongs(whole, x, y)),
-        Operation::Within => as_truth(contained(whole, x, y)),
-        Operation::NotWithin => as_denial(contained(whole, x, y)),
-        Operation::And | Operation::Or => right_truth(whole, x, y),
-        Operation::Range | Operation::Other => Err(refuse_tree(Defect::KindMismatch, whole)),
+        BinOp::Equal => as_truth(same(whole, x, y)),
+        BinOp::Unequal => as_denial(same(whole, x, y)),
+        BinOp::In => as_truth(belongs(whole, x, y)),
+        BinOp::NotIn => as_denial(belongs(whole, x, y)),
+        BinOp::Within => as_truth(contained(whole, x, y)),
+        BinOp::NotWithin => as_denial(contained(whole, x, y)),
+        BinOp::And | BinOp::Or => right_truth(whole, x, y),
+        BinOp::Range | BinOp::Other => Err(refuse_tree(Defect::KindMismatch, whole)),
     }
 }
 

@@ -184,13 +184,13 @@ pub(crate) fn with_key<'s>(
 }
 
 /// The place stays where a value is the member.
-fn agrees_with<'s>(
+fn matches_value<'s>(
     whole: &Expr<'_>,
     member: &Member<'s>,
     place: Place<'s>,
     value: &Value<'_, 's>,
 ) -> Result<Option<Place<'s>>, Fault>
-    ensures { Decides (rows.agrees (trees.span_of (tree whole.now)) member.now place.entry value.now) result }
+    ensures { Decides (rows.matches_member (trees.span_of (tree whole.now)) member.now place.entry value.now) result }
 {
     match value {
         Value::One(found) if *found == *member => Ok(Some(place)),
@@ -200,29 +200,29 @@ fn agrees_with<'s>(
 }
 
 /// The place stays where the value of a component is the member.
-pub(crate) fn agrees<'s>(
+pub(crate) fn matches_member<'s>(
     whole: &Expr<'_>,
     member: &Member<'s>,
     place: Place<'s>,
     value: Result<Value<'_, 's>, Fault>,
 ) -> Result<Option<Place<'s>>, Fault>
     ensures { (wanted : Outcome Found) → Answers wanted value.entry
-        → Answers (and_then wanted (rows.agrees (trees.span_of (tree whole.now)) member.now place.entry)) result }
+        → Answers (and_then wanted (rows.matches_member (trees.span_of (tree whole.now)) member.now place.entry)) result }
 {
     match value {
-        Ok(value) => agrees_with(whole, member, place, &value),
+        Ok(value) => matches_value(whole, member, place, &value),
         Err(fault) => Err(fault),
     }
 }
 
-fn agrees_whole<'s>(
+fn matches_tuple<'s>(
     alloc: Global,
     whole: &Expr<'_>,
     tuple: &Tuple<'s>,
     place: &Place<'s>,
     found: &Tuple<'s>,
 ) -> Result<Option<Place<'s>>, Fault>
-    ensures { Answers (rows.agrees_whole (trees.span_of (tree whole.now)) tuple.now place.now found.now) result }
+    ensures { Answers (rows.matches_tuple (trees.span_of (tree whole.now)) tuple.now place.now found.now) result }
 {
     if found.len() == tuple.len() {
         if *found == *tuple {
@@ -236,26 +236,26 @@ fn agrees_whole<'s>(
 }
 
 /// The place stays where a value is the tuple, or the member that is alone in it.
-fn agrees_with_tuple<'s>(
+fn matches_tuple_value<'s>(
     alloc: Global,
     whole: &Expr<'_>,
     tuple: &Tuple<'s>,
     place: &Place<'s>,
     value: &Value<'_, 's>,
 ) -> Result<Option<Place<'s>>, Fault>
-    ensures { Answers (rows.agrees_as (trees.span_of (tree whole.now)) tuple.now place.now value.now) result }
+    ensures { Answers (rows.matches_as_tuple (trees.span_of (tree whole.now)) tuple.now place.now value.now) result }
 {
     match value {
         Value::One(found) => {
-            agrees_whole(alloc, whole, tuple, place, &Tuple::single(found.again()))
+            matches_tuple(alloc, whole, tuple, place, &Tuple::single(found.again()))
         }
-        Value::Several(found) => agrees_whole(alloc, whole, tuple, place, found),
+        Value::Several(found) => matches_tuple(alloc, whole, tuple, place, found),
         _ => Err(refuse_tree(Defect::KindMismatch, whole)),
     }
 }
 
 /// The same of what is no tuple by its form.
-pub(crate) fn agrees_as<'s>(
+pub(crate) fn matches_as_tuple<'s>(
     alloc: Global,
     whole: &Expr<'_>,
     tuple: &Tuple<'s>,
@@ -263,10 +263,10 @@ pub(crate) fn agrees_as<'s>(
     value: Result<Value<'_, 's>, Fault>,
 ) -> Result<Option<Place<'s>>, Fault>
     ensures { (wanted : Outcome Found) → Answers wanted value.entry
-        → Answers (and_then wanted (rows.agrees_as (trees.span_of (tree whole.now)) tuple.now place.now)) result }
+        → Answers (and_then wanted (rows.matches_as_tuple (trees.span_of (tree whole.now)) tuple.now place.now)) result }
 {
     match value {
-        Ok(value) => agrees_with_tuple(alloc, whole, tuple, place, &value),
+        Ok(value) => matches_tuple_value(alloc, whole, tuple, place, &value),
         Err(fault) => Err(fault),
     }
 }
@@ -286,8 +286,8 @@ pub(crate) fn bind_first<'s>(
     }
 }
 
-fn is_alike<'s>(key: &Tuple<'s>, found: &[Row<'s>]) -> bool
-    ensures { result ≡ rows.is_alike key.now found.now }
+fn same_arity<'s>(key: &Tuple<'s>, found: &[Row<'s>]) -> bool
+    ensures { result ≡ rows.same_arity key.now found.now }
 {
     match found {
         [] => true,
@@ -303,7 +303,7 @@ fn add_row<'s>(
 ) -> Result<(), Fault>
     ensures { Leaves (rows.add_row at scope.entry key.entry found.old.items) result found.new.items }
 {
-    if is_alike(&key, found.as_slice()) {
+    if same_arity(&key, found.as_slice()) {
         if found.len() < 1_000_000 {
             found.push(Row { key, scope })?;
             Ok(())

@@ -6,11 +6,11 @@ ghost use Rattle.net_tree.specs.View.{tree, links_of};
 ghost use Rattle.net_eval.specs.Items as items;
 ghost use Rattle.net_eval.specs.Selecting as select;
 
-use crate::item::{bare, new_dummy, sides_of};
+use crate::item::{bare, new_dummy};
 use crate::scope::Scope;
-use crate::world::Seen;
-use net_sets::{Held, Member, Walk};
-use net_tree::{Expr, Link};
+use crate::world::Env;
+use net_sets::{Cow, Cursor, Member};
+use net_tree::{Expr, Link, sides_of};
 
 /// The member of a dummy in scope that stands alone.
 fn dummy_alone<'s>(scope: &Scope<'s>, component: &Expr<'s>) -> Option<Member<'s>>
@@ -25,26 +25,26 @@ fn dummy_alone<'s>(scope: &Scope<'s>, component: &Expr<'s>) -> Option<Member<'s>
     }
 }
 
-fn is_new<'s>(seen: &Seen<'_, 's>, scope: &Scope<'s>, component: &Expr<'s>) -> bool
-    ensures { result ≡ is_some (items.new_dummy seen.now scope.now (tree component.now)) }
+fn is_new<'s>(env: &Env<'_, 's>, scope: &Scope<'s>, component: &Expr<'s>) -> bool
+    ensures { result ≡ is_some (items.new_dummy env.now scope.now (tree component.now)) }
 {
-    new_dummy(seen, scope, component).is_some()
+    new_dummy(env, scope, component).is_some()
 }
 
 /// The same of the components behind the first.
 fn selecting_behind<'s>(
-    seen: &Seen<'_, 's>,
+    env: &Env<'_, 's>,
     scope: &Scope<'s>,
     links: &[Link<'s>],
 ) -> Option<(usize, Member<'s>)>
-    ensures { result ≡ select.selecting_from seen.now scope.now 1 (links_of links.now) }
+    ensures { result ≡ select.selecting_from env.now scope.now 1 (links_of links.now) }
 {
     for place in 0..links.len() {
         let component = &links[place].operand;
         match dummy_alone(scope, component) {
             Some(member) => return Some((place + 1, member)),
             None => {
-                if !is_new(seen, scope, component) {
+                if !is_new(env, scope, component) {
                     return None;
                 }
             }
@@ -55,16 +55,16 @@ fn selecting_behind<'s>(
 
 #[tactic(auto, using(net_tree::proofs::Views::views))]
 fn selecting_left<'s>(
-    seen: &Seen<'_, 's>,
+    env: &Env<'_, 's>,
     scope: &Scope<'s>,
     left: &Expr<'s>,
 ) -> Option<(usize, Member<'s>)>
-    ensures { result ≡ select.selecting_left seen.now scope.now (tree left.now) }
+    ensures { result ≡ select.selecting_left env.now scope.now (tree left.now) }
 {
     match left {
         Expr::Tuple(parts) => {
             let series = &parts.get().1;
-            selecting_first(seen, scope, &series.first, series.more.as_slice())
+            selecting_first(env, scope, &series.first, series.more.as_slice())
         }
         Expr::Leaf(_) | Expr::Indexed(_) | Expr::Parens(_) | Expr::Negated(_) => None,
         Expr::Braced(_) | Expr::Signed(_) | Expr::Reduced(_, _) | Expr::Chain(_, _) => None,
@@ -73,18 +73,18 @@ fn selecting_left<'s>(
 }
 
 fn selecting_first<'s>(
-    seen: &Seen<'_, 's>,
+    env: &Env<'_, 's>,
     scope: &Scope<'s>,
     first: &Expr<'s>,
     more: &[Link<'s>],
 ) -> Option<(usize, Member<'s>)>
-    ensures { result ≡ select.selecting_components seen.now scope.now (tree first.now) (links_of more.now) }
+    ensures { result ≡ select.selecting_components env.now scope.now (tree first.now) (links_of more.now) }
 {
     match dummy_alone(scope, first) {
         Some(member) => Some((0, member)),
         None => {
-            if is_new(seen, scope, first) {
-                selecting_behind(seen, scope, more)
+            if is_new(env, scope, first) {
+                selecting_behind(env, scope, more)
             } else {
                 None
             }
@@ -94,26 +94,26 @@ fn selecting_first<'s>(
 
 /// The component by which a tuple at the left of `in` selects, counted from 0, and the member that it must have there.
 pub(crate) fn selecting<'s>(
-    seen: &Seen<'_, 's>,
+    env: &Env<'_, 's>,
     scope: &Scope<'s>,
     item: &Expr<'s>,
 ) -> Option<(usize, Member<'s>)>
-    ensures { result ≡ select.selecting seen.now scope.now (tree item.now) }
+    ensures { result ≡ select.selecting env.now scope.now (tree item.now) }
 {
     match sides_of(item) {
         None => None,
-        Some((left, _)) => selecting_left(seen, scope, left),
+        Some((left, _)) => selecting_left(env, scope, left),
     }
 }
 
 /// The tuples of an item's set, without those that the dummies in scope leave out.
 pub(crate) fn selected<'w, 's>(
-    seen: &Seen<'_, 's>,
+    env: &Env<'_, 's>,
     scope: &Scope<'s>,
     item: &Expr<'s>,
-    tuples: Held<'w, 's>,
-) -> Walk<'w, 's>
-    ensures { result ≡ sought (select.selecting seen.now scope.now (tree item.now)) tuples.entry }
+    tuples: Cow<'w, 's>,
+) -> Cursor<'w, 's>
+    ensures { result ≡ sought (select.selecting env.now scope.now (tree item.now)) tuples.entry }
 {
-    tuples.walk(selecting(seen, scope, item))
+    tuples.walk(selecting(env, scope, item))
 }

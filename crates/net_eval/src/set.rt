@@ -13,14 +13,13 @@ ghost use Rattle.net_fault.specs.Outcomes.{Answers, Decides};
 ghost use Rattle.net_eval.specs.Sets as sets;
 
 use crate::fault::refuse_tree;
-use crate::operation::Operation;
 use crate::value::Value;
 use net_fault::{Defect, Fault};
 use net_sets::{
-    Held, SetFault, Tuple, TupleSet, cross, difference, intersection, is_within,
+    Cow, SetFault, Tuple, TupleSet, cross, difference, intersection, is_within,
     symmetric_difference, union, widest,
 };
-use net_tree::Expr;
+use net_tree::{BinOp, Expr};
 use std::alloc::Global;
 
 /// `{}` counts as of one component.
@@ -64,7 +63,7 @@ fn set_value<'w, 's>(dimension: u8, set: TupleSet<'s>) -> Value<'w, 's>
     ensures { (at : Place) → sets.within_size at dimension set.entry ≡ Ok result }
 {
     let _few = set.len();
-    Value::Many(Some(dimension), Held::own(set))
+    Value::Many(Some(dimension), Cow::owned(set))
 }
 
 /// A set that was made, if it is not too large.
@@ -93,16 +92,16 @@ fn few<'s>(set: TupleSet<'s>) -> Result<TupleSet<'s>, SetFault>
 /// The set that an operator makes of two.
 fn mixed<'s>(
     alloc: Global,
-    operation: Operation,
+    operation: BinOp,
     first: &TupleSet<'s>,
     second: &TupleSet<'s>,
 ) -> Result<TupleSet<'s>, SetFault>
     ensures { IsMade (sets.mixed operation first.now second.now) result }
 {
     match operation {
-        Operation::Union => union(first.again(alloc)?, second),
-        Operation::Diff => few(difference(alloc, first, second)?),
-        Operation::Inter => few(intersection(alloc, first, second)?),
+        BinOp::Union => union(first.again(alloc)?, second),
+        BinOp::Diff => few(difference(alloc, first, second)?),
+        BinOp::Inter => few(intersection(alloc, first, second)?),
         _ => symmetric_difference(alloc, first, second),
     }
 }
@@ -110,7 +109,7 @@ fn mixed<'s>(
 /// The same as a value, if the two have the same dimension.
 fn set_of<'w, 's>(
     alloc: Global,
-    operation: Operation,
+    operation: BinOp,
     whole: &Expr<'_>,
     dimension: Option<u8>,
     first: &TupleSet<'s>,
@@ -127,7 +126,7 @@ fn set_of<'w, 's>(
 /// What an operator makes of two values that have to be sets.
 pub(crate) fn of_sets<'w, 's>(
     alloc: Global,
-    operation: Operation,
+    operation: BinOp,
     whole: &Expr<'_>,
     x: &Value<'_, 's>,
     y: &Value<'_, 's>,
@@ -162,7 +161,7 @@ fn crossed<'w, 's>(
     let size = counted(d) + counted(e);
     if size <= 4 && widest(first) + widest(second) <= 4 {
         match cross(alloc, first, second) {
-            Ok(set) => Ok(Value::Many(Some(size as u8), Held::own(set))),
+            Ok(set) => Ok(Value::Many(Some(size as u8), Cow::owned(set))),
             Err(SetFault::TooMany) => Err(refuse_tree(Defect::TooMany, whole)),
             Err(SetFault::OutOfMemory) => Err(Fault::OutOfMemory),
         }

@@ -18,7 +18,7 @@ use crate::fault::refuse_tree;
 use crate::item::bare;
 use crate::scope::Scope;
 use crate::value::Value;
-use crate::world::Seen;
+use crate::world::Env;
 use net_fault::{Defect, Fault};
 use net_sets::{Member, Tuple};
 use net_tree::{Expr, Link};
@@ -102,12 +102,12 @@ fn dummy_at<'a, 's>(scope: &'a Scope<'s>, component: &Expr<'s>) -> Option<&'a Me
 #[cycle(eval)]
 fn put<'s>(
     alloc: Global,
-    seen: &Seen<'_, 's>,
+    env: &Env<'_, 's>,
     scope: &Scope<'s>,
     component: &Expr<'s>,
     so_far: &mut Subscripts<'s>,
 ) -> Result<(), Fault>
-    ensures { Leaves (and_then (values.value seen.now scope.now (tree component.now)) (λ v. Ok (subscripts.with_value v so_far.old))) result so_far.new }
+    ensures { Leaves (and_then (values.value env.now scope.now (tree component.now)) (λ v. Ok (subscripts.with_value v so_far.old))) result so_far.new }
 {
     match dummy_at(scope, component) {
         Some(member) => {
@@ -115,7 +115,7 @@ fn put<'s>(
             Ok(())
         }
         None => {
-            let value = evaluate(alloc, seen, scope, component)?;
+            let value = evaluate(alloc, env, scope, component)?;
             so_far.add_value(&value);
             Ok(())
         }
@@ -127,19 +127,19 @@ fn put<'s>(
 #[cycle(eval)]
 pub fn key_of<'s>(
     alloc: Global,
-    seen: &Seen<'_, 's>,
+    env: &Env<'_, 's>,
     scope: &Scope<'s>,
     whole: &Expr<'s>,
     first: &Expr<'s>,
     more: &[Link<'s>],
 ) -> Result<Tuple<'s>, Fault>
-    ensures { Answers (and_then (and_then (values.value seen.now scope.now (tree first.now))
-        (λ v. values.values seen.now scope.now (links_of more.now) (v ∷ []))) (operators.tuple_of (trees.span_of (tree whole.now)))) result }
+    ensures { Answers (and_then (and_then (values.value env.now scope.now (tree first.now))
+        (λ v. values.values env.now scope.now (links_of more.now) (v ∷ []))) (operators.tuple_of (trees.span_of (tree whole.now)))) result }
 {
     let mut so_far = Subscripts::new();
-    put(alloc, seen, scope, first, &mut so_far)?;
+    put(alloc, env, scope, first, &mut so_far)?;
     for link in more {
-        put(alloc, seen, scope, &link.operand, &mut so_far)?;
+        put(alloc, env, scope, &link.operand, &mut so_far)?;
     }
     so_far.into_key(whole)
 }

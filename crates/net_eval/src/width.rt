@@ -4,26 +4,26 @@ ghost use Rattle.std.specs.Prelude.{◌≡◌, ◌+◌, Some, IfOk};
 ghost use Rattle.std.specs.Option.{option_copied, option_map};
 ghost use Rattle.net_tree.specs.View.{tree, braces_of, links_of};
 ghost use Rattle.net_eval.specs.Items as items;
-ghost use Rattle.net_eval.specs.Operations.{operation};
+ghost use Rattle.net_tree.specs.Operations.{operation};
 ghost use Rattle.net_fault.specs.Outcomes.{Answers, Decides};
 ghost use Rattle.net_eval.specs.Rows as rows;
 ghost use Rattle.net_eval.specs.Sets.{counted};
 ghost use Rattle.net_eval.specs.Widths as widths;
 
-use crate::item::{any_in, bare, has_in, links_len, new_dummy, sides_of};
-use crate::operation::{Operation, operation_of};
+use crate::inside::Inside;
+use crate::item::{any_in, bare, has_in, links_len, new_dummy};
 use crate::row::Row;
 use crate::scope::Scope;
-use crate::world::{Entry, Seen};
+use crate::world::{Entry, Env};
 use net_fault::{Defect, Fault, Span};
 use net_sets::Member;
-use net_tree::{Braces, Expr, Link};
+use net_tree::{BinOp, Braces, Expr, Link, sides_of};
 use net_views::Excerpt;
 use std::alloc::{AllocError, Global};
 
 /// What items tell by their form: the dummies in scope, the number of members of the keys, and whether all are sets.
 #[derive(Drop)]
-pub(crate) struct Form<'s> {
+pub(crate) struct Shape<'s> {
     pub(crate) scope: Scope<'s>,
     pub(crate) count: u8,
     pub(crate) indexes: bool,
@@ -59,8 +59,8 @@ fn set_width(entry: Option<&Entry<'_>>) -> Option<u8>
 }
 
 /// The dimension of the set that a bare name is.
-fn named_width<'s>(seen: &Seen<'_, 's>, scope: &Scope<'s>, component: &Expr<'s>) -> Option<u8>
-    ensures { result ≡ widths.named_width seen.now scope.now (items.bare (tree component.now)) }
+fn named_width<'s>(env: &Env<'_, 's>, scope: &Scope<'s>, component: &Expr<'s>) -> Option<u8>
+    ensures { result ≡ widths.named_width env.now scope.now (items.bare (tree component.now)) }
 {
     match bare(component) {
         None => None,
@@ -68,7 +68,7 @@ fn named_width<'s>(seen: &Seen<'_, 's>, scope: &Scope<'s>, component: &Expr<'s>)
             if scope.get(name).is_some() {
                 None
             } else {
-                set_width(seen.find(name))
+                set_width(env.find(name))
             }
         }
     }
@@ -80,12 +80,12 @@ fn or_one(dimension: Option<u8>) -> Option<u8>
     Some(dimension.unwrap_or(1))
 }
 
-fn makes_set(operation: Operation) -> bool
+fn makes_set(operation: BinOp) -> bool
     ensures { result ≡ widths.makes_set operation }
 {
     match operation {
-        Operation::Range | Operation::Cross | Operation::Inter => true,
-        Operation::Union | Operation::Diff | Operation::Symdiff => true,
+        BinOp::Range | BinOp::Cross | BinOp::Inter => true,
+        BinOp::Union | BinOp::Diff | BinOp::Symdiff => true,
         _ => false,
     }
 }
@@ -95,21 +95,21 @@ fn begin_set(links: &[Link<'_>]) -> bool
 {
     match links {
         [] => false,
-        [link, ..] => makes_set(operation_of(&link.operator)),
+        [link, ..] => makes_set(link.operator.op()),
     }
 }
 
 /// Whether a tree is a set by its form: of an `if`, its `then` side decides.
 #[tactic(auto, using(net_tree::proofs::Views::views))]
-fn is_set_form<'s>(seen: &Seen<'_, 's>, scope: &Scope<'s>, expr: &Expr<'s>) -> bool
-    ensures { result ≡ widths.is_set_form seen.now scope.now (tree expr.now) }
+fn is_set_form<'s>(env: &Env<'_, 's>, scope: &Scope<'s>, expr: &Expr<'s>) -> bool
+    ensures { result ≡ widths.is_set_form env.now scope.now (tree expr.now) }
 {
     match expr {
-        Expr::Leaf(_) => named_width(seen, scope, expr).is_some(),
-        Expr::Parens(parts) => is_set_form(seen, scope, &parts.get().1),
+        Expr::Leaf(_) => named_width(env, scope, expr).is_some(),
+        Expr::Parens(parts) => is_set_form(env, scope, &parts.get().1),
         Expr::Braced(_) => true,
         Expr::Chain(_, operands) => begin_set(operands.get().more.as_slice()),
-        Expr::Choice(_, branch, _) => is_set_form(seen, scope, &branch.get().value),
+        Expr::Choice(_, branch, _) => is_set_form(env, scope, &branch.get().value),
         Expr::Indexed(_) | Expr::Tuple(_) | Expr::Negated(_) | Expr::Signed(_) => false,
         Expr::Reduced(_, _) | Expr::Net(_) => false,
     }
@@ -124,22 +124,22 @@ fn of_either(first: Option<u8>, second: Option<u8>) -> Option<u8>
     }
 }
 
-fn combined(operation: Operation, first: Option<u8>, second: Option<u8>) -> Option<u8>
+fn combined(operation: BinOp, first: Option<u8>, second: Option<u8>) -> Option<u8>
     ensures { result ≡ widths.combined operation first second }
 {
     match operation {
-        Operation::Range => Some(1),
-        Operation::Cross => Some(capped_sum(counted(first), counted(second))),
-        Operation::Inter | Operation::Union => of_either(first, second),
-        Operation::Diff | Operation::Symdiff => of_either(first, second),
+        BinOp::Range => Some(1),
+        BinOp::Cross => Some(capped_sum(counted(first), counted(second))),
+        BinOp::Inter | BinOp::Union => of_either(first, second),
+        BinOp::Diff | BinOp::Symdiff => of_either(first, second),
         _ => first,
     }
 }
 
-fn begin<'s>(alloc: Global, scope: &Scope<'s>) -> Result<Form<'s>, AllocError>
+fn begin<'s>(alloc: Global, scope: &Scope<'s>) -> Result<Shape<'s>, AllocError>
     ensures { IfOk result (λ f. f ≡ widths.begin scope.now) }
 {
-    Ok(Form {
+    Ok(Shape {
         scope: scope.again(alloc)?,
         count: 0,
         indexes: true,
@@ -148,17 +148,17 @@ fn begin<'s>(alloc: Global, scope: &Scope<'s>) -> Result<Form<'s>, AllocError>
 
 fn with_component<'s>(
     alloc: Global,
-    seen: &Seen<'_, 's>,
-    form: Form<'s>,
+    env: &Env<'_, 's>,
+    form: Shape<'s>,
     component: &Expr<'s>,
-) -> Result<Form<'s>, AllocError>
-    ensures { IfOk result (λ f. f ≡ widths.with_component seen.now form.entry (tree component.now)) }
+) -> Result<Shape<'s>, AllocError>
+    ensures { IfOk result (λ f. f ≡ widths.with_component env.now form.entry (tree component.now)) }
 {
-    match new_dummy(seen, &form.scope, component) {
+    match new_dummy(env, &form.scope, component) {
         None => Ok(form),
         Some(name) => {
             let scope = form.scope.with(alloc, name.again(), Member::Number(0))?;
-            Ok(Form {
+            Ok(Shape {
                 scope,
                 count: capped_sum(form.count, 1),
                 indexes: form.indexes,
@@ -169,67 +169,67 @@ fn with_component<'s>(
 
 fn with_components<'s>(
     alloc: Global,
-    seen: &Seen<'_, 's>,
-    form: Form<'s>,
+    env: &Env<'_, 's>,
+    form: Shape<'s>,
     links: &[Link<'s>],
-) -> Result<Form<'s>, AllocError>
-    ensures { IfOk result (λ f. f ≡ widths.with_components seen.now form.entry (links_of links.now)) }
+) -> Result<Shape<'s>, AllocError>
+    ensures { IfOk result (λ f. f ≡ widths.with_components env.now form.entry (links_of links.now)) }
 {
     let mut form = form;
     for link in links {
-        form = with_component(alloc, seen, form, &link.operand)?;
+        form = with_component(alloc, env, form, &link.operand)?;
     }
     Ok(form)
 }
 
 fn with_tuple<'s>(
     alloc: Global,
-    seen: &Seen<'_, 's>,
-    form: Form<'s>,
+    env: &Env<'_, 's>,
+    form: Shape<'s>,
     first: &Expr<'s>,
     more: &[Link<'s>],
-) -> Result<Form<'s>, AllocError>
-    ensures { IfOk result (λ f. f ≡ widths.with_components seen.now (widths.with_component seen.now form.entry (tree first.now)) (links_of more.now)) }
+) -> Result<Shape<'s>, AllocError>
+    ensures { IfOk result (λ f. f ≡ widths.with_components env.now (widths.with_component env.now form.entry (tree first.now)) (links_of more.now)) }
 {
-    let form = with_component(alloc, seen, form, first)?;
-    with_components(alloc, seen, form, more)
+    let form = with_component(alloc, env, form, first)?;
+    with_components(alloc, env, form, more)
 }
 
 /// What stands at the left of `in`.
 #[tactic(auto, using(net_tree::proofs::Views::views))]
 fn with_left<'s>(
     alloc: Global,
-    seen: &Seen<'_, 's>,
-    form: Form<'s>,
+    env: &Env<'_, 's>,
+    form: Shape<'s>,
     left: &Expr<'s>,
-) -> Result<Form<'s>, AllocError>
-    ensures { IfOk result (λ f. f ≡ widths.with_left seen.now form.entry (tree left.now)) }
+) -> Result<Shape<'s>, AllocError>
+    ensures { IfOk result (λ f. f ≡ widths.with_left env.now form.entry (tree left.now)) }
 {
     match left {
         Expr::Tuple(parts) => {
             let series = &parts.get().1;
-            with_tuple(alloc, seen, form, &series.first, series.more.as_slice())
+            with_tuple(alloc, env, form, &series.first, series.more.as_slice())
         }
         Expr::Leaf(_) | Expr::Indexed(_) | Expr::Parens(_) | Expr::Negated(_) => {
-            with_component(alloc, seen, form, left)
+            with_component(alloc, env, form, left)
         }
         Expr::Braced(_) | Expr::Signed(_) | Expr::Reduced(_, _) | Expr::Chain(_, _) => {
-            with_component(alloc, seen, form, left)
+            with_component(alloc, env, form, left)
         }
-        Expr::Choice(_, _, _) | Expr::Net(_) => with_component(alloc, seen, form, left),
+        Expr::Choice(_, _, _) | Expr::Net(_) => with_component(alloc, env, form, left),
     }
 }
 
 /// An item that is a set of this dimension by its form, or no set.
-fn with_plain<'s>(form: Form<'s>, dimension: Option<u8>, is_set: bool) -> Form<'s>
+fn with_plain<'s>(form: Shape<'s>, dimension: Option<u8>, is_set: bool) -> Shape<'s>
     ensures { result ≡ widths.with_plain form.entry dimension is_set }
 {
-    let Form {
+    let Shape {
         scope,
         count,
         indexes,
     } = form;
-    Form {
+    Shape {
         scope,
         count: capped_sum(count, counted(dimension)),
         indexes: indexes && is_set,
@@ -241,22 +241,22 @@ fn with_plain<'s>(form: Form<'s>, dimension: Option<u8>, is_set: bool) -> Form<'
 #[tactic(auto, using(net_tree::proofs::Views::views))]
 fn tree_width<'s>(
     alloc: Global,
-    seen: &Seen<'_, 's>,
+    env: &Env<'_, 's>,
     scope: &Scope<'s>,
     expr: &Expr<'s>,
 ) -> Result<Option<u8>, AllocError>
-    ensures { IfOk result (λ d. d ≡ widths.width seen.now scope.now (tree expr.now)) }
+    ensures { IfOk result (λ d. d ≡ widths.width env.now scope.now (tree expr.now)) }
 {
     match expr {
-        Expr::Leaf(_) => Ok(or_one(named_width(seen, scope, expr))),
-        Expr::Parens(parts) => tree_width(alloc, seen, scope, &parts.get().1),
+        Expr::Leaf(_) => Ok(or_one(named_width(env, scope, expr))),
+        Expr::Parens(parts) => tree_width(alloc, env, scope, &parts.get().1),
         Expr::Tuple(parts) => Ok(Some(capped_size(parts.get().1.more.as_slice()))),
-        Expr::Braced(braces) => braces_width(alloc, seen, scope, braces.get()),
+        Expr::Braced(braces) => braces_width(alloc, env, scope, braces.get()),
         Expr::Chain(_, operands) => {
             let series = operands.get();
-            chain_width(alloc, seen, scope, &series.first, series.more.as_slice())
+            chain_width(alloc, env, scope, &series.first, series.more.as_slice())
         }
-        Expr::Choice(_, branch, _) => tree_width(alloc, seen, scope, &branch.get().value),
+        Expr::Choice(_, branch, _) => tree_width(alloc, env, scope, &branch.get().value),
         Expr::Indexed(_) | Expr::Negated(_) | Expr::Signed(_) => Ok(Some(1)),
         Expr::Reduced(_, _) | Expr::Net(_) => Ok(Some(1)),
     }
@@ -265,17 +265,17 @@ fn tree_width<'s>(
 #[cycle(width)]
 fn chain_width<'s>(
     alloc: Global,
-    seen: &Seen<'_, 's>,
+    env: &Env<'_, 's>,
     scope: &Scope<'s>,
     first: &Expr<'s>,
     more: &[Link<'s>],
 ) -> Result<Option<u8>, AllocError>
-    ensures { IfOk result (λ d. d ≡ widths.chain_width seen.now scope.now (widths.width seen.now scope.now (tree first.now)) (links_of more.now)) }
+    ensures { IfOk result (λ d. d ≡ widths.chain_width env.now scope.now (widths.width env.now scope.now (tree first.now)) (links_of more.now)) }
 {
-    let mut so_far = tree_width(alloc, seen, scope, first)?;
+    let mut so_far = tree_width(alloc, env, scope, first)?;
     for link in more {
-        let operand = tree_width(alloc, seen, scope, &link.operand)?;
-        so_far = combined(operation_of(&link.operator), so_far, operand);
+        let operand = tree_width(alloc, env, scope, &link.operand)?;
+        so_far = combined(link.operator.op(), so_far, operand);
     }
     Ok(so_far)
 }
@@ -284,16 +284,16 @@ fn chain_width<'s>(
 #[tactic(auto, using(net_tree::proofs::Views::views))]
 fn braces_width<'s>(
     alloc: Global,
-    seen: &Seen<'_, 's>,
+    env: &Env<'_, 's>,
     scope: &Scope<'s>,
     braces: &Braces<'s>,
 ) -> Result<Option<u8>, AllocError>
-    ensures { IfOk result (λ d. d ≡ widths.braces_width seen.now scope.now (braces_of braces.now)) }
+    ensures { IfOk result (λ d. d ≡ widths.braces_width env.now scope.now (braces_of braces.now)) }
 {
     match braces {
         Braces::Empty(_, _, _) => Ok(None),
         Braces::Filled(_, series, _, _) => {
-            filled_width(alloc, seen, scope, &series.first, series.more.as_slice())
+            filled_width(alloc, env, scope, &series.first, series.more.as_slice())
         }
     }
 }
@@ -301,18 +301,18 @@ fn braces_width<'s>(
 #[cycle(width)]
 fn filled_width<'s>(
     alloc: Global,
-    seen: &Seen<'_, 's>,
+    env: &Env<'_, 's>,
     scope: &Scope<'s>,
     item: &Expr<'s>,
     more: &[Link<'s>],
 ) -> Result<Option<u8>, AllocError>
-    ensures { IfOk result (λ d. d ≡ widths.filled_width seen.now scope.now (tree item.now) (links_of more.now)) }
+    ensures { IfOk result (λ d. d ≡ widths.filled_width env.now scope.now (tree item.now) (links_of more.now)) }
 {
-    if has_in(item) || any_in(more) || is_set_form(seen, scope, item) {
-        let form = items_form(alloc, seen, scope, item, more)?;
+    if has_in(item) || any_in(more) || is_set_form(env, scope, item) {
+        let form = items_form(alloc, env, scope, item, more)?;
         Ok(Some(form.count))
     } else {
-        tree_width(alloc, seen, scope, item)
+        tree_width(alloc, env, scope, item)
     }
 }
 
@@ -320,16 +320,16 @@ fn filled_width<'s>(
 #[cycle(width)]
 fn items_form<'s>(
     alloc: Global,
-    seen: &Seen<'_, 's>,
+    env: &Env<'_, 's>,
     scope: &Scope<'s>,
     item: &Expr<'s>,
     more: &[Link<'s>],
-) -> Result<Form<'s>, AllocError>
-    ensures { IfOk result (λ f. f ≡ widths.with_items seen.now (widths.with_item seen.now (widths.begin scope.now) (tree item.now)) (links_of more.now)) }
+) -> Result<Shape<'s>, AllocError>
+    ensures { IfOk result (λ f. f ≡ widths.with_items env.now (widths.with_item env.now (widths.begin scope.now) (tree item.now)) (links_of more.now)) }
 {
-    let mut form = with_item(alloc, seen, begin(alloc, scope)?, item)?;
+    let mut form = with_item(alloc, env, begin(alloc, scope)?, item)?;
     for link in more {
-        form = with_item(alloc, seen, form, &link.operand)?;
+        form = with_item(alloc, env, form, &link.operand)?;
     }
     Ok(form)
 }
@@ -337,23 +337,23 @@ fn items_form<'s>(
 #[cycle(width)]
 fn with_item<'s>(
     alloc: Global,
-    seen: &Seen<'_, 's>,
-    form: Form<'s>,
+    env: &Env<'_, 's>,
+    form: Shape<'s>,
     item: &Expr<'s>,
-) -> Result<Form<'s>, AllocError>
-    ensures { IfOk result (λ f. f ≡ widths.with_item seen.now form.entry (tree item.now)) }
+) -> Result<Shape<'s>, AllocError>
+    ensures { IfOk result (λ f. f ≡ widths.with_item env.now form.entry (tree item.now)) }
 {
     match sides_of(item) {
-        Some((left, _)) => with_left(alloc, seen, form, left),
+        Some((left, _)) => with_left(alloc, env, form, left),
         None => {
-            let dimension = tree_width(alloc, seen, &form.scope, item)?;
-            let is_set = is_set_form(seen, &form.scope, item);
+            let dimension = tree_width(alloc, env, &form.scope, item)?;
+            let is_set = is_set_form(env, &form.scope, item);
             Ok(with_plain(form, dimension, is_set))
         }
     }
 }
 
-fn width_of_form(at: Span, form: &Form<'_>) -> Result<u8, Fault>
+fn width_of_form(at: Span, form: &Shape<'_>) -> Result<u8, Fault>
     ensures { Decides (widths.width_of_form at form.now) result }
 {
     if form.indexes {
@@ -369,32 +369,29 @@ fn width_of_form(at: Span, form: &Form<'_>) -> Result<u8, Fault>
 
 fn width_by_form<'s>(
     alloc: Global,
-    at: Span,
-    seen: &Seen<'_, 's>,
+    env: &Env<'_, 's>,
     scope: &Scope<'s>,
-    item: &Expr<'s>,
-    more: &[Link<'s>],
+    items: &Inside<'_, 's>,
 ) -> Result<u8, Fault>
-    ensures { Answers (widths.width_by_form at seen.now scope.now (tree item.now) (links_of more.now)) result }
+    ensures { Answers (widths.width_by_form items.now.at env.now scope.now (tree items.now.first.now) (links_of items.now.more.now)) result }
 {
-    let form = items_form(alloc, seen, scope, item, more)?;
-    width_of_form(at, &form)
+    let form = items_form(alloc, env, scope, items.first, items.more)?;
+    width_of_form(items.at, &form)
 }
 
 /// The number of members of the keys that were found; where there is none, that which the items' form tells.
 pub(crate) fn width<'s>(
     alloc: Global,
-    at: Span,
-    seen: &Seen<'_, 's>,
+    env: &Env<'_, 's>,
     scope: &Scope<'s>,
-    item: &Expr<'s>,
-    more: &[Link<'s>],
+    items: &Inside<'_, 's>,
     found: &[Row<'s>],
 ) -> Result<u8, Fault>
-    ensures { Answers (rows.width_of found.now (widths.width_by_form at seen.now scope.now (tree item.now) (links_of more.now))) result }
+    ensures { Answers (rows.width_of found.now (widths.width_by_form items.now.at env.now scope.now (tree items.now.first.now)
+        (links_of items.now.more.now))) result }
 {
     match found {
-        [] => width_by_form(alloc, at, seen, scope, item, more),
+        [] => width_by_form(alloc, env, scope, items),
         [row, ..] => Ok(row.key.len() as u8),
     }
 }

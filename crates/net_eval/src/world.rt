@@ -152,12 +152,12 @@ impl<'s> World<'s> {
 
 /// The first declarations of a world, those that an expression may name; contracts see these alone.
 #[derive(Drop)]
-pub struct Seen<'w, 's> {
+pub struct Env<'w, 's> {
     world: &'w World<'s>,
     known: usize,
 }
 
-impl<'w, 's> Model for Seen<'w, 's> {
+impl<'w, 's> Model for Env<'w, 's> {
     ghost use Rattle.std.specs.Prelude.{List, ℕ, take};
     ghost use Rattle.net_eval.specs.declared.world.Entry.{Entry};
 
@@ -166,12 +166,12 @@ impl<'w, 's> Model for Seen<'w, 's> {
     ghost view = { λ s. take s.known s.world.now };
 }
 
-impl<'w, 's> Seen<'w, 's> {
+impl<'w, 's> Env<'w, 's> {
     /// So many declarations of the world, from the first on.
-    pub fn new(world: &'w World<'s>, known: usize) -> Seen<'w, 's>
+    pub fn new(world: &'w World<'s>, known: usize) -> Env<'w, 's>
         ensures { result ≡ take known world.entry.now }
     {
-        Seen { world, known }
+        Env { world, known }
     }
 
     /// What a name is.

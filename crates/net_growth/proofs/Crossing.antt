@@ -5,7 +5,7 @@ use Rattle.std.proofs.lemmas.Int.{ints}
 use Rattle.net_normal.specs.Limits.{IsSized}
 use Rattle.net_normal.specs.declared.problem.FlowArc.{FlowArc}
 use Rattle.net_check.specs.Certificates.{is_in, goes_out, comes_in, reduced_cost}
-use Rattle.net_growth.specs.Pseudoflows.{IsFull, IsWayOut}
+use Rattle.net_growth.specs.Pseudoflows.{IsFull, IsSlackArc}
 
 not-out : (flags : List Bool) (arc : FlowArc) → is_in flags arc.src ≡ false → goes_out flags arc ≡ false
 not-out flags arc s = rw s
@@ -13,10 +13,10 @@ not-out flags arc s = rw s
 not-into : (flags : List Bool) (arc : FlowArc) → is_in flags arc.dst ≡ false → comes_in flags arc ≡ false
 not-into flags arc d = rw d
 
-pub way-forwards : (potentials : List ℤ) (flags : List Bool) (depth : ℤ) (arc : FlowArc) (flow : ℤ) → is_in flags arc.src ≡ true → is_in flags arc.dst ≡ false → flow ≢ arc.cap → depth ≡ reduced_cost potentials arc → IsWayOut potentials flags depth arc flow
+pub way-forwards : (potentials : List ℤ) (flags : List Bool) (depth : ℤ) (arc : FlowArc) (flow : ℤ) → is_in flags arc.src ≡ true → is_in flags arc.dst ≡ false → flow ≢ arc.cap → depth ≡ reduced_cost potentials arc → IsSlackArc potentials flags depth arc flow
 way-forwards potentials flags depth arc flow s d room is = record { crosses = rw (s, d); out = λ e. (room, is); into = λ e. let f = not-into flags arc d in cc }
 
-pub way-back : (potentials : List ℤ) (flags : List Bool) (depth : ℤ) (arc : FlowArc) (flow : ℤ) → is_in flags arc.src ≡ false → is_in flags arc.dst ≡ true → flow ≢ arc.low → depth ≡ neg_ℤ (reduced_cost potentials arc) → IsWayOut potentials flags depth arc flow
+pub way-back : (potentials : List ℤ) (flags : List Bool) (depth : ℤ) (arc : FlowArc) (flow : ℤ) → is_in flags arc.src ≡ false → is_in flags arc.dst ≡ true → flow ≢ arc.low → depth ≡ neg_ℤ (reduced_cost potentials arc) → IsSlackArc potentials flags depth arc flow
 way-back potentials flags depth arc flow s d room is = record { crosses = rw (s, d); out = λ e. let f = not-out flags arc s in cc; into = λ e. (room, is) }
 
 pub full-forwards : (flags : List Bool) (arc : FlowArc) (flow : ℤ) → is_in flags arc.dst ≡ false → flow ≡ arc.cap → IsFull flags arc flow

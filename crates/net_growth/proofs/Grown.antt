@@ -8,7 +8,7 @@ use Rattle.net_normal.specs.Flows.{IsWithinCapacity}
 use Rattle.net_normal.specs.declared.problem.FlowArc.{FlowArc}
 use Rattle.net_normal.specs.declared.problem.Problem.{Problem}
 use Rattle.net_check.specs.Certificates.{IsComplementary, is_in, reduced_cost}
-use Rattle.net_growth.specs.Pseudoflows.{IsUnderWay, IsWayOut, AreFromTo, no_arc, arc_at}
+use Rattle.net_growth.specs.Pseudoflows.{IsUnderWay, IsSlackArc, AreFromTo, no_arc, arc_at}
 use Rattle.net_growth.specs.Forests.{IsForest, IsLink, IsGrown, HasSunk, outside, no_join, joined_at, tail_of, head_of, level_limit, depth_limit}
 use Rattle.net_growth.specs.declared.forest.Joined.{Joined}
 use Rattle.net_growth.proofs.Pushing.{pushed, pushed-old, pushed-new}
@@ -212,7 +212,7 @@ one-of true src dst n h k = k
 one-of false src dst n h k = h
 
 pub way-of : (problem : Problem) (flows potentials excess : List ℤ) (flags : List Bool) (all : List Joined) (places : List ℕ) (i : ℕ) (depth : ℤ) → IsUnderWay problem flows potentials excess → (h : IsGrown problem flows potentials excess flags all places)
-    → i < vec_len problem.arcs → IsWayOut potentials flags depth (arc_at problem i) (get_or flows i (pos 0)) → Way problem flows potentials flags i (length all) h.sunk depth
+    → i < vec_len problem.arcs → IsSlackArc potentials flags depth (arc_at problem i) (get_or flows i (pos 0)) → Way problem flows potentials flags i (length all) h.sunk depth
 way-of problem flows potentials excess flags all places i depth under h l way =
     let arcs = problem.arcs.items in
     let arc = arc_at problem i in

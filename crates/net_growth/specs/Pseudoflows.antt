@@ -31,7 +31,7 @@ pub record IsFull (flags : List Bool) (arc : FlowArc) (flow : ℤ) : Type 0 wher
   pub into : comes_in flags arc ≡ true → flow ≡ arc.low
 
 -- the arc leads out of the set, forwards or backwards, with room, and its reduced cost is 0 once the set has sunk so far
-pub record IsWayOut (potentials : List ℤ) (flags : List Bool) (depth : ℤ) (arc : FlowArc) (flow : ℤ) : Type 0 where
+pub record IsSlackArc (potentials : List ℤ) (flags : List Bool) (depth : ℤ) (arc : FlowArc) (flow : ℤ) : Type 0 where
   pub crosses : (goes_out flags arc || comes_in flags arc) ≡ true
   pub out : goes_out flags arc ≡ true → (flow ≢ arc.cap) × (depth ≡ reduced_cost potentials arc)
   pub into : comes_in flags arc ≡ true → (flow ≢ arc.low) × (depth ≡ neg_ℤ (reduced_cost potentials arc))

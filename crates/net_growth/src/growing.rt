@@ -4,30 +4,30 @@ ghost use Rattle.std.specs.Prelude.{◌≡◌, ◌<◌, pos, ◌<ℤ◌, IfOk, O
 ghost use Rattle.std.specs.List.{AllZip};
 ghost use Rattle.net_check.specs.Certificates.{IsViolatedCut};
 ghost use Rattle.net_check.specs.declared.certificate.Side.TheVariants.{Over};
-ghost use Rattle.net_growth.specs.Pseudoflows.{AreFromTo, IsUnderWay, IsClear, IsWayOut, arc_at, too_much};
+ghost use Rattle.net_growth.specs.Pseudoflows.{AreFromTo, IsUnderWay, IsClear, IsSlackArc, arc_at, too_much};
 ghost use Rattle.net_growth.specs.Forests.{IsGrown, HasNoDeficit, JoinsOne, level_limit};
 
 use crate::forest::Forest;
 use crate::lowering::lower;
 use crate::pseudoflow::Pseudoflow;
-use crate::way_out::{WayOut, first_way_out};
+use crate::slack::{SlackArc, min_slack_arc};
 use net_normal::Problem;
 use std::alloc::{AllocError, Global};
 
 impl Pseudoflow {
     /// Lowers the nodes of a forest until the reduced cost of the first way out is 0, and takes in the node to which it leads.
-    fn reach(
+    fn extend(
         &mut self,
         problem: &Problem,
         forest: &mut Forest,
-        way: WayOut,
+        way: SlackArc,
     ) -> Result<(), AllocError>
         requires under_way { IsUnderWay problem.now self.old.flows.items self.old.potentials.items self.old.excess.items }
         requires grown { IsGrown problem.now self.old.flows.items self.old.potentials.items self.old.excess.items forest.old.flags.items
             forest.old.joined.items forest.old.places.items }
         requires inside { way.index < vec_len problem.now.arcs }
         requires clear { AllZip (IsClear self.old.potentials.items forest.old.flags.items way.depth) problem.now.arcs.items self.old.flows.items }
-        requires is { IsWayOut self.old.potentials.items forest.old.flags.items way.depth (arc_at problem.now way.index)
+        requires is { IsSlackArc self.old.potentials.items forest.old.flags.items way.depth (arc_at problem.now way.index)
             (slice_index_or self.old.flows.items way.index (pos 0)) }
         ensures under_way { IsUnderWay problem.now self.new.flows.items self.new.potentials.items self.new.excess.items }
         ensures same_excess { self.new.excess.items ≡ self.old.excess.items }
@@ -65,9 +65,9 @@ impl Pseudoflow {
     {
         let mut forest = Forest::new(alloc, problem.supplies.len(), root)?;
         'joins: loop {
-            match first_way_out(&problem.arcs, &self.flows, &self.potentials, &forest.flags) {
+            match min_slack_arc(&problem.arcs, &self.flows, &self.potentials, &forest.flags) {
                 None => return Ok(Some(forest.flags)),
-                Some(way) => self.reach(problem, &mut forest, way)?,
+                Some(way) => self.extend(problem, &mut forest, way)?,
             }
             let place = forest.joined.len() - 1;
             if self.excess[forest.joined[place].node as usize] < 0 {

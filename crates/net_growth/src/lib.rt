@@ -10,8 +10,8 @@ mod pseudoflow;
 mod pulling;
 mod sending;
 mod settling;
+mod slack;
 mod start;
-mod way_out;
 
 pub use pseudoflow::add_at;
 pub use settling::settle;

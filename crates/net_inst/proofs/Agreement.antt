@@ -11,11 +11,11 @@ use Rattle.net_linear.specs.Forms.{Products}
 use Rattle.net_linear.specs.Forms as forms
 use Rattle.net_inst.specs.declared.arc.Drawn.{Drawn}
 use Rattle.net_fault.specs.declared.defect.Defect.TheVariants.{TooManyArcs}
-use Rattle.net_inst.specs.declared.goal.Goal.{Goal}
+use Rattle.net_inst.specs.declared.goal.ChosenObjective.{ChosenObjective}
 use Rattle.net_inst.specs.declared.group.Group.{Group}
 use Rattle.net_inst.specs.declared.indexing.Indexing.{Indexing}
 use Rattle.net_inst.specs.Arcs.{DrawnArcs, drawn, prices_in, next_arc, arcs_at, arcs_by, with_arcs, named_arcs}
-use Rattle.net_inst.specs.Drafts.{Drawing, nothing, seen, said_form, aimed, passed, is_chosen, with_goal, with_objective, known_more, nodes_more, arcs_more, declare, draw}
+use Rattle.net_inst.specs.Drafts.{Drawing, nothing, env, said_form, aimed, passed, is_chosen, with_goal, with_objective, known_more, nodes_more, arcs_more, declare, draw}
 use Rattle.net_inst.specs.Groups.{group_with}
 use Rattle.net_inst.specs.Indexings.{indexing_in}
 use Rattle.net_inst.specs.Instances.{Network, with_coefficients, network_of, without_goal, finished, end_of, point, network}
@@ -27,14 +27,14 @@ use Rattle.net_inst.specs.Phrases.{Parts, parts_of}
 use Rattle.net_inst.proofs.Zips.{ok_then, ok_is}
 
 -- what one arc more comes to
-pub record IsNextArc (g : Option Goal) (ns : DrawnNodes) (w : World) (n : Token) (k : Option ℕ) (p : Parts) (ps : List Phrase) (row : Row) (d new : DrawnArcs) : Type 0 where
+pub record IsNextArc (g : Option ChosenObjective) (ns : DrawnNodes) (w : World) (n : Token) (k : Option ℕ) (p : Parts) (ps : List Phrase) (row : Row) (d new : DrawnArcs) : Type 0 where
   pub arc : Drawn
   pub is_drawn : drawn ns w n k p row ≡ Ok arc
   pub priced : prices_in g w row.scope (length d.arcs) ps d.form ≡ Ok new.form
   pub arcs : new.arcs ≡ d.arcs ++ arc ∷ []
   pub group : new.group ≡ d.group
 
-pub next_arc_is : (g : Option Goal) (ns : DrawnNodes) (w : World) (n : Token) (k : Option ℕ) (p : Parts) (ps : List Phrase) (row : Row) (d new : DrawnArcs) → next_arc g ns w n k p ps row d ≡ Ok new → IsNextArc g ns w n k p ps row d new
+pub next_arc_is : (g : Option ChosenObjective) (ns : DrawnNodes) (w : World) (n : Token) (k : Option ℕ) (p : Parts) (ps : List Phrase) (row : Row) (d new : DrawnArcs) → next_arc g ns w n k p ps row d ≡ Ok new → IsNextArc g ns w n k p ps row d new
 next_arc_is g ns w n k p ps row d new e = go (nat_lt (length d.arcs) arc_limit) e
   where
     rest : Drawn → Outcome DrawnArcs
@@ -59,7 +59,7 @@ next_arc_is g ns w n k p ps row d new e = go (nat_lt (length d.arcs) arc_limit) 
 abbrev AreAlike : DrawnArcs → DrawnArcs → Type 0
 AreAlike d e = (d.arcs ≡ e.arcs) × (d.group ≡ e.group)
 
-next_alike : (g h : Option Goal) (ns : DrawnNodes) (w : World) (n : Token) (k : Option ℕ) (p : Parts) (ps : List Phrase) (row : Row) (d e new other : DrawnArcs) → AreAlike d e
+next_alike : (g h : Option ChosenObjective) (ns : DrawnNodes) (w : World) (n : Token) (k : Option ℕ) (p : Parts) (ps : List Phrase) (row : Row) (d e new other : DrawnArcs) → AreAlike d e
     → next_arc g ns w n k p ps row d ≡ Ok new → next_arc h ns w n k p ps row e ≡ Ok other → AreAlike new other
 next_alike g h ns w n k p ps row d e new other same i j =
     let first = next_arc_is g ns w n k p ps row d new i in
@@ -69,7 +69,7 @@ next_alike g h ns w n k p ps row d e new other same i j =
       first.group ∙ same.1 ∙ sym second.group,
     )
 
-arcs_alike : (g h : Option Goal) (ns : DrawnNodes) (w : World) (n : Token) (k : Option ℕ) (p : Parts) (ps : List Phrase) (rows : List Row) (d e new other : DrawnArcs) → AreAlike d e
+arcs_alike : (g h : Option ChosenObjective) (ns : DrawnNodes) (w : World) (n : Token) (k : Option ℕ) (p : Parts) (ps : List Phrase) (rows : List Row) (d e new other : DrawnArcs) → AreAlike d e
     → arcs_at g ns w n k p ps rows d ≡ Ok new → arcs_at h ns w n k p ps rows e ≡ Ok other → AreAlike new other
 arcs_alike g h ns w n k p ps [] d e new other same i j =
     let one = ok_is d new i in
@@ -81,7 +81,7 @@ arcs_alike g h ns w n k p ps (row ∷ rows) d e new other same i j =
     arcs_alike g h ns w n k p ps rows d1 e1 new other (next_alike g h ns w n k p ps row d e d1 e1 same a c) b f))
 
 -- the arcs of a declaration, by its parts and keys
-pub record AreArcsBy (g : Option Goal) (ns : DrawnNodes) (w : World) (n : Token) (b : Option Braces) (ps : List Phrase) (d new : DrawnArcs) : Type 0 where
+pub record AreArcsBy (g : Option ChosenObjective) (ns : DrawnNodes) (w : World) (n : Token) (b : Option Braces) (ps : List Phrase) (d new : DrawnArcs) : Type 0 where
   pub parts : Parts
   pub says : parts_of n ps ≡ Ok parts
   pub indexing : Indexing
@@ -90,14 +90,14 @@ pub record AreArcsBy (g : Option Goal) (ns : DrawnNodes) (w : World) (n : Token)
   pub are_found : arcs_at g ns w n indexing.count parts ps indexing.rows d ≡ Ok found
   pub is_named : named_arcs n.text (length d.arcs) indexing found ≡ new
 
-pub with_arcs_is : (g : Option Goal) (ns : DrawnNodes) (w : World) (n : Token) (b : Option Braces) (ps : List Phrase) (d new : DrawnArcs) → with_arcs g ns w n b ps d ≡ Ok new → AreArcsBy g ns w n b ps d new
+pub with_arcs_is : (g : Option ChosenObjective) (ns : DrawnNodes) (w : World) (n : Token) (b : Option Braces) (ps : List Phrase) (d new : DrawnArcs) → with_arcs g ns w n b ps d ≡ Ok new → AreArcsBy g ns w n b ps d new
 with_arcs_is g ns w n b ps d new e =
     ok_then (parts_of n ps) (λ p. and_then (indexing_in w b) (arcs_by g ns w n ps d p)) new e (λ p h i.
     ok_then (indexing_in w b) (arcs_by g ns w n ps d p) new i (λ x j k.
     ok_then (arcs_at g ns w n x.count p ps x.rows d) (λ found. Ok (named_arcs n.text (length d.arcs) x found)) new k (λ found l m.
     record { parts = p; says = h; indexing = x; keys = j; found = found; are_found = l; is_named = ok_is (named_arcs n.text (length d.arcs) x found) new m })))
 
-with_arcs_alike : (g h : Option Goal) (ns : DrawnNodes) (w : World) (n : Token) (b : Option Braces) (ps : List Phrase) (d e new other : DrawnArcs) → AreAlike d e
+with_arcs_alike : (g h : Option ChosenObjective) (ns : DrawnNodes) (w : World) (n : Token) (b : Option Braces) (ps : List Phrase) (d e new other : DrawnArcs) → AreAlike d e
     → with_arcs g ns w n b ps d ≡ Ok new → with_arcs h ns w n b ps e ≡ Ok other → AreAlike new other
 with_arcs_alike g h ns w n b ps d e new other same i j =
     let one = with_arcs_is g ns w n b ps d new i in
@@ -152,22 +152,22 @@ declared_one a b w (param t n q ps z) d e new other h i j =
     joined new (known_more d) other (same_drawing new (known_more d) (sym (ok_is (known_more d) new i))) (joined (known_more d) (known_more e) other (more_known d e h) (same_drawing (known_more e) other (ok_is (known_more e) other j)))
 declared_one a b w (check t q m x z) d e new other h i j = joined new d other (same_drawing new d (sym (ok_is d new i))) (joined d e other h (same_drawing e other (ok_is e other j)))
 declared_one a b w (node t n q c z) d e new other h i j =
-    ok_then (with_nodes (seen w d) n q c d.nodes) (λ ns. Ok (nodes_more d ns)) new i (λ ns k l.
-    ok_then (with_nodes (seen w e) n q c e.nodes) (λ ns. Ok (nodes_more e ns)) other j (λ ms f m.
-    let again : with_nodes (seen w d) n q c d.nodes ≡ Ok ms =
+    ok_then (with_nodes (env w d) n q c d.nodes) (λ ns. Ok (nodes_more d ns)) new i (λ ns k l.
+    ok_then (with_nodes (env w e) n q c e.nodes) (λ ns. Ok (nodes_more e ns)) other j (λ ms f m.
+    let again : with_nodes (env w d) n q c d.nodes ≡ Ok ms =
     ap (λ (y : ℕ). with_nodes (take y w) n q c d.nodes) h.known ∙ ap (λ (y : DrawnNodes). with_nodes (take e.known w) n q c y) h.nodes ∙ f in
     let one : ns ≡ ms = ok_is ns ms (sym k ∙ again) in
     joined new (nodes_more d ns) other (same_drawing new (nodes_more d ns) (sym (ok_is (nodes_more d ns) new l)))
     (joined (nodes_more d ns) (nodes_more e ms) other (record { known = h.known; nodes = one; arcs = h.arcs }) (same_drawing (nodes_more e ms) other (ok_is (nodes_more e ms) other m)))))
 declared_one a b w (arc t n q ps z) d e new other h i j =
-    ok_then (with_arcs d.goal d.nodes (seen w d) n q ps d.arcs) (λ xs. Ok (arcs_more d xs)) new i (λ xs k l.
-    ok_then (with_arcs e.goal e.nodes (seen w e) n q ps e.arcs) (λ xs. Ok (arcs_more e xs)) other j (λ ys f m.
-    let again : with_arcs e.goal d.nodes (seen w d) n q ps e.arcs ≡ Ok ys =
+    ok_then (with_arcs d.goal d.nodes (env w d) n q ps d.arcs) (λ xs. Ok (arcs_more d xs)) new i (λ xs k l.
+    ok_then (with_arcs e.goal e.nodes (env w e) n q ps e.arcs) (λ xs. Ok (arcs_more e xs)) other j (λ ys f m.
+    let again : with_arcs e.goal d.nodes (env w d) n q ps e.arcs ≡ Ok ys =
     ap (λ (y : ℕ). with_arcs e.goal d.nodes (take y w) n q ps e.arcs) h.known ∙ ap (λ (y : DrawnNodes). with_arcs e.goal y (take e.known w) n q ps e.arcs) h.nodes ∙ f in
-    let one : AreAlike xs ys = with_arcs_alike d.goal e.goal d.nodes (seen w d) n q ps d.arcs e.arcs xs ys h.arcs k again in
+    let one : AreAlike xs ys = with_arcs_alike d.goal e.goal d.nodes (env w d) n q ps d.arcs e.arcs xs ys h.arcs k again in
     joined new (arcs_more d xs) other (same_drawing new (arcs_more d xs) (sym (ok_is (arcs_more d xs) new l)))
     (joined (arcs_more d xs) (arcs_more e ys) other (record { known = h.known; nodes = h.nodes; arcs = one }) (same_drawing (arcs_more e ys) other (ok_is (arcs_more e ys) other m)))))
-declared_one a b w (objective t n p z) d e new other h i j = joined new d other (flipped d new (by_aim a (seen w d) t n p d new i)) (joined d e other h (by_aim b (seen w e) t n p e other j))
+declared_one a b w (objective t n p z) d e new other h i j = joined new d other (flipped d new (by_aim a (env w d) t n p d new i)) (joined d e other h (by_aim b (env w e) t n p e other j))
 
 drawn_one : (a b : Option Name) (w : World) (ds : List Declaration) (d e new other : Drawing) → AreOne d e → draw a w ds d ≡ Ok new → draw b w ds e ≡ Ok other → AreOne new other
 drawn_one a b w [] d e new other h i j = joined new d other (same_drawing new d (sym (ok_is d new i))) (joined d e other h (same_drawing e other (ok_is e other j)))
@@ -180,8 +180,8 @@ drawn_one a b w (x ∷ xs) d e new other h i j =
 pub record IsFinished (wanted : Option Name) (w : World) (ds : List Declaration) (n : Network) : Type 0 where
   pub drawing : Drawing
   pub is_drawn : draw wanted w ds nothing ≡ Ok drawing
-  pub goal : Goal
-  pub aims : drawing.goal ≡ Some goal
+  pub goal : ChosenObjective
+  pub has_objective : drawing.goal ≡ Some goal
   pub whole : network_of drawing.nodes drawing.arcs goal ≡ n
 
 pub network_is : (wanted : Option Name) (w : World) (ds : List Declaration) (n : Network) → network wanted w ds ≡ Ok n → IsFinished wanted w ds n
@@ -192,9 +192,9 @@ network_is wanted w ds n e = ok_then (draw wanted w ds nothing) (λ d. finished 
     none true at i = cc
     none false at i = cc
 
-    go : (d : Drawing) → draw wanted w ds nothing ≡ Ok d → (g : Option Goal) → d.goal ≡ g → finished wanted (point (end_of 0 ds)) d g ≡ Ok n → IsFinished wanted w ds n
-    go d h (Some g) j i = record { drawing = d; is_drawn = h; goal = g; aims = j; whole = ok_is (network_of d.nodes d.arcs g) n i }
-    go d h None j i = absurd (none d.aims (point (end_of 0 ds)) i)
+    go : (d : Drawing) → draw wanted w ds nothing ≡ Ok d → (g : Option ChosenObjective) → d.goal ≡ g → finished wanted (point (end_of 0 ds)) d g ≡ Ok n → IsFinished wanted w ds n
+    go d h (Some g) j i = record { drawing = d; is_drawn = h; goal = g; has_objective = j; whole = ok_is (network_of d.nodes d.arcs g) n i }
+    go d h None j i = absurd (none d.has_objective (point (end_of 0 ds)) i)
 
 pub shapes : (ps : Products) (a : ℕ) (xs : List Drawn) → map shape_of (with_coefficients ps a xs) ≡ xs
 shapes ps a [] = refl

@@ -9,10 +9,10 @@ use Rattle.net_lex.specs.declared.token.Token.{Token}
 use Rattle.net_tree.specs.Tree.{Declaration, set, param, check, node, arc, objective}
 use Rattle.net_eval.specs.Worlds.{Name, World}
 use Rattle.net_linear.specs.Forms.{Linear, form_at, all_apart}
-use Rattle.net_inst.specs.declared.goal.Goal.{Goal}
+use Rattle.net_inst.specs.declared.goal.ChosenObjective.{ChosenObjective}
 use Rattle.net_inst.specs.Arcs.{with_arcs}
 use Rattle.net_inst.specs.AsWritten.{Arc, arcs_of, nodes, arcs, known_behind, in_order, arc_declared, same_label, Assignment, number_on, numbers_on}
-use Rattle.net_inst.specs.Drafts.{Drawing, nothing, seen, sense_of, said_form, aimed, passed, is_chosen, with_goal, known_more, nodes_more, arcs_more, declare, draw}
+use Rattle.net_inst.specs.Drafts.{Drawing, nothing, env, sense_of, said_form, aimed, passed, is_chosen, with_goal, known_more, nodes_more, arcs_more, declare, draw}
 use Rattle.net_inst.specs.Instances.{Network}
 use Rattle.net_inst.specs.Laws.{total_of, IsObjectiveOf, HaveObjective}
 use Rattle.net_inst.specs.Nodes.{with_nodes}
@@ -24,11 +24,11 @@ use Rattle.net_inst.proofs.Valued.{by_place, goal_prices, Adds, arcs_add, read_a
 use Rattle.net_inst.proofs.Written.{Lines, lines_of, behind, no_lines, IsWritten, nothing_written, next_is, all_written}
 use Rattle.net_inst.proofs.Zips.{ok_then, ok_is, map_join, zip_long, distinct_front}
 
-abbrev goal_after : Option Objective → Option Goal → Option Goal
+abbrev goal_after : Option Objective → Option ChosenObjective → Option ChosenObjective
 goal_after None g = g
 goal_after (Some o) g = Some (record { name = o.name; sense = o.sense })
 
-abbrev value_after : List Arc → Option Objective → Option Goal → Linear → List Arc → Assignment → ℤ
+abbrev value_after : List Arc → Option Objective → Option ChosenObjective → Linear → List Arc → Assignment → ℤ
 value_after all None g f rest x = form_at (by_place all x) f +ℤ goal_prices g rest x
 value_after all (Some o) g f rest x = value_of o x
 
@@ -43,10 +43,10 @@ same_aim : (all : List Arc) (o : Option Objective) (rest : List Arc) (d next new
 same_aim all o rest d next new g f h = record {
   goal = h.goal ∙ ap (goal_after o) g;
   apart = λ k. h.apart (ap (λ (z : Linear). all_apart z.products) f ∙ k);
-  value = λ distinct x. h.value distinct x ∙ ap (λ (z : Option Goal). value_after all o z next.arcs.form rest x) g ∙ ap (λ (z : Linear). value_after all o d.goal z rest x) f;
+  value = λ distinct x. h.value distinct x ∙ ap (λ (z : Option ChosenObjective). value_after all o z next.arcs.form rest x) g ∙ ap (λ (z : Linear). value_after all o d.goal z rest x) f;
 }
 
-prices_join : (g : Option Goal) (xs ys : List Arc) (x : Assignment) → goal_prices g (xs ++ ys) x ≡ goal_prices g xs x +ℤ goal_prices g ys x
+prices_join : (g : Option ChosenObjective) (xs ys : List Arc) (x : Assignment) → goal_prices g (xs ++ ys) x ≡ goal_prices g xs x +ℤ goal_prices g ys x
 prices_join None xs ys x = omega (arith, ints)
 prices_join (Some g) [] ys x = omega (arith, ints)
 prices_join (Some g) (a ∷ xs) ys x = omega (arith, ints, prices_join (Some g) xs ys x)
@@ -57,12 +57,12 @@ arcs_aim all None here rest d next new g adds h = record {
   goal = h.goal ∙ g;
   apart = λ k. h.apart (adds.apart k);
   value = λ distinct x.
-      let later : goal_prices next.goal rest x ≡ goal_prices d.goal rest x = ap (λ (z : Option Goal). goal_prices z rest x) g in
+      let later : goal_prices next.goal rest x ≡ goal_prices d.goal rest x = ap (λ (z : Option ChosenObjective). goal_prices z rest x) g in
       omega (arith, ints, h.value distinct x, adds.sum x, later, prices_join d.goal here rest x);
 }
 arcs_aim all (Some o) here rest d next new g adds h = record { goal = h.goal; apart = λ k. h.apart (adds.apart k); value = h.value }
 
-wanted_is : (wanted : Option Name) (g : Option Goal) (n : Token) (o : Objective) (b : Bool) → o.name ≡ n.text → is_chosen wanted g n ≡ Ok b → is_wanted wanted o ≡ b
+wanted_is : (wanted : Option Name) (g : Option ChosenObjective) (n : Token) (o : Objective) (b : Bool) → o.name ≡ n.text → is_chosen wanted g n ≡ Ok b → is_wanted wanted o ≡ b
 wanted_is None None n o b e h = ok_is true b h
 wanted_is None (Some g) n o b e h = cc
 wanted_is (Some name) g n o b e h = ap (bytes_eq name) e ∙ ok_is (bytes_eq name n.text) b h
@@ -77,14 +77,14 @@ passed_aim all wanted o os rest d new e h =
     none_more (Some p) = refl
 
 aimed_aim : (all : List Arc) (wanted : Option Name) (o : Objective) (os : List Objective) (rest : List Arc) (t n : Token) (f : Linear) (d new : Drawing) → is_wanted wanted o ≡ true → o.name ≡ n.text → o.sense ≡ sense_of t → o.behind ≡ rest
-    → all_apart f.products ≡ true → (IsDistinct same_label (arc_labels all) → (x : Assignment) → form_at (by_place all x) f ≡ said_value o.before o.seen o.expression x)
+    → all_apart f.products ≡ true → (IsDistinct same_label (arc_labels all) → (x : Assignment) → form_at (by_place all x) f ≡ said_value o.before o.env o.expression x)
     → Aims all (chosen wanted os) rest (aimed d t n f) new → Aims all (chosen wanted (o ∷ os)) rest d new
 aimed_aim all wanted o os rest t n f d new e name sense later apart said h =
     subst (λ (b : Bool). Aims all (or_else (chosen wanted os) (if b then Some o else None)) rest d new) (sym e) (go (chosen wanted os) h)
   where
     go : (p : Option Objective) → Aims all p rest (aimed d t n f) new → Aims all (or_else p (Some o)) rest d new
     go None k = record {
-      goal = k.goal ∙ ap (λ (z : Name). let g : Option Goal = Some (record { name = z; sense = sense_of t }) in g) (sym name) ∙ ap (λ z. let g : Option Goal = Some (record { name = o.name; sense = z }) in g) (sym sense);
+      goal = k.goal ∙ ap (λ (z : Name). let g : Option ChosenObjective = Some (record { name = z; sense = sense_of t }) in g) (sym name) ∙ ap (λ z. let g : Option ChosenObjective = Some (record { name = o.name; sense = z }) in g) (sym sense);
       apart = λ a. k.apart apart;
       value = λ distinct x.
           let behind_it : prices n.text rest x ≡ prices o.name o.behind x = ap (λ (z : Name). prices z rest x) (sym name) ∙ ap (λ (z : List Arc). prices o.name z x) (sym later) in
@@ -93,8 +93,8 @@ aimed_aim all wanted o os rest t n f d new e name sense later apart said h =
     go (Some p) k = record { goal = k.goal; apart = λ a. k.apart apart; value = k.value }
 
 -- one declaration before others
-step : (wanted : Option Name) (w : World) (all : List Arc) (m : Lines) (x : Declaration) (d next new : Drawing) (os : List Objective) (rest : List Arc) → IsWritten m d → all ≡ m.arcs ++ (arcs_of (seen w d) x ++ rest)
-    → declare wanted w x d ≡ Ok next → Aims all (chosen wanted os) rest next new → Aims all (chosen wanted (objective_of m.arc_names (seen w d) x rest ++ os)) (arcs_of (seen w d) x ++ rest) d new
+step : (wanted : Option Name) (w : World) (all : List Arc) (m : Lines) (x : Declaration) (d next new : Drawing) (os : List Objective) (rest : List Arc) → IsWritten m d → all ≡ m.arcs ++ (arcs_of (env w d) x ++ rest)
+    → declare wanted w x d ≡ Ok next → Aims all (chosen wanted os) rest next new → Aims all (chosen wanted (objective_of m.arc_names (env w d) x rest ++ os)) (arcs_of (env w d) x ++ rest) d new
 step wanted w all m (set t n ps z) d next new os rest h whole e k =
     let same = ok_is (known_more d) next e in
     same_aim all (chosen wanted os) rest d next new (ap (λ (y : Drawing). y.goal) (sym same)) (ap (λ (y : Drawing). y.arcs.form) (sym same)) k
@@ -105,33 +105,33 @@ step wanted w all m (check t b c q z) d next new os rest h whole e k =
     let same = ok_is d next e in
     same_aim all (chosen wanted os) rest d next new (ap (λ (y : Drawing). y.goal) (sym same)) (ap (λ (y : Drawing). y.arcs.form) (sym same)) k
 step wanted w all m (node t n b c z) d next new os rest h whole e k =
-    ok_then (with_nodes (seen w d) n b c d.nodes) (λ ns. Ok (nodes_more d ns)) next e (λ ns i j.
+    ok_then (with_nodes (env w d) n b c d.nodes) (λ ns. Ok (nodes_more d ns)) next e (λ ns i j.
     let same = ok_is (nodes_more d ns) next j in
     same_aim all (chosen wanted os) rest d next new (ap (λ (y : Drawing). y.goal) (sym same)) (ap (λ (y : Drawing). y.arcs.form) (sym same)) k)
 step wanted w all m (arc t n b ps z) d next new os rest h whole e k =
-    ok_then (with_arcs d.goal d.nodes (seen w d) n b ps d.arcs) (λ xs. Ok (arcs_more d xs)) next e (λ xs i j.
+    ok_then (with_arcs d.goal d.nodes (env w d) n b ps d.arcs) (λ xs. Ok (arcs_more d xs)) next e (λ xs i j.
     let same = ok_is (arcs_more d xs) next j in
-    let adds = arcs_add all d.goal d.nodes (seen w d) n b ps d.arcs xs m.arcs rest (zip_long (IsDrawnAs (node_labels m.nodes)) m.arcs d.arcs.arcs h.arcs.drawn) whole i in
-    arcs_aim all (chosen wanted os) (arcs_of (seen w d) (arc t n b ps z)) rest d next new (ap (λ (y : Drawing). y.goal) (sym same))
-    (subst (λ (y : Drawing). Adds all d.goal (arcs_of (seen w d) (arc t n b ps z)) d.arcs.form y.arcs.form) same adds) k)
+    let adds = arcs_add all d.goal d.nodes (env w d) n b ps d.arcs xs m.arcs rest (zip_long (IsDrawnAs (node_labels m.nodes)) m.arcs d.arcs.arcs h.arcs.drawn) whole i in
+    arcs_aim all (chosen wanted os) (arcs_of (env w d) (arc t n b ps z)) rest d next new (ap (λ (y : Drawing). y.goal) (sym same))
+    (subst (λ (y : Drawing). Adds all d.goal (arcs_of (env w d) (arc t n b ps z)) d.arcs.form y.arcs.form) same adds) k)
 step wanted w all m (objective t n p z) d next new os rest h whole e k =
-    ok_then (is_chosen wanted d.goal n) (λ b. if b then with_goal (seen w d) t n p d else Ok (passed d)) next e (λ b i j. go b (wanted_is wanted d.goal n here b refl i) j)
+    ok_then (is_chosen wanted d.goal n) (λ b. if b then with_goal (env w d) t n p d else Ok (passed d)) next e (λ b i j. go b (wanted_is wanted d.goal n here b refl i) j)
   where
     here : Objective
-    here = record { sense = sense_of t; name = n.text; seen = seen w d; expression = p; before = m.arc_names; behind = rest }
+    here = record { sense = sense_of t; name = n.text; env = env w d; expression = p; before = m.arc_names; behind = rest }
 
-    go : (b : Bool) → is_wanted wanted here ≡ b → (if b then with_goal (seen w d) t n p d else Ok (passed d)) ≡ Ok next → Aims all (chosen wanted (here ∷ os)) rest d new
+    go : (b : Bool) → is_wanted wanted here ≡ b → (if b then with_goal (env w d) t n p d else Ok (passed d)) ≡ Ok next → Aims all (chosen wanted (here ∷ os)) rest d new
     go false i j = passed_aim all wanted here os rest d new i (subst (λ (y : Drawing). Aims all (chosen wanted os) rest y new) (sym (ok_is (passed d) next j)) k)
     go true i j =
-        ok_then (said_form d.arcs.group.numbers (seen w d) p) (λ f. Ok (aimed d t n f)) next j (λ f q r.
-        aimed_aim all wanted here os rest t n f d new i refl refl refl (said_apart d.arcs.group.numbers (seen w d) p f q)
-        (λ distinct x. said_is d.arcs.group.numbers m.arc_names (by_place all x) x (seen w d) p f h.arcs.group.known
+        ok_then (said_form d.arcs.group.numbers (env w d) p) (λ f. Ok (aimed d t n f)) next j (λ f q r.
+        aimed_aim all wanted here os rest t n f d new i refl refl refl (said_apart d.arcs.group.numbers (env w d) p f q)
+        (λ distinct x. said_is d.arcs.group.numbers m.arc_names (by_place all x) x (env w d) p f h.arcs.group.known
         (read_alike all m.arcs rest x d.arcs.group.numbers h.arcs.group.finds (distinct_front same_label (arc_labels m.arcs) (arc_labels rest) (subst (IsDistinct same_label) (ap arc_labels whole ∙ map_join (λ (v : Arc). v.label) m.arcs rest) distinct)) whole) q)
         (subst (λ (y : Drawing). Aims all (chosen wanted os) rest y new) (sym (ok_is (aimed d t n f) next r)) k))
 
-aims : (wanted : Option Name) (w : World) (ds : List Declaration) (all : List Arc) (m : Lines) (d new : Drawing) → IsWritten m d → all ≡ m.arcs ++ in_order arcs_of w d.known ds → draw wanted w ds d ≡ Ok new
+has_objective : (wanted : Option Name) (w : World) (ds : List Declaration) (all : List Arc) (m : Lines) (d new : Drawing) → IsWritten m d → all ≡ m.arcs ++ in_order arcs_of w d.known ds → draw wanted w ds d ≡ Ok new
     → Aims all (chosen wanted (objectives_from m.arc_names w d.known ds)) (in_order arcs_of w d.known ds) d new
-aims wanted w [] all m d new h whole e =
+has_objective wanted w [] all m d new h whole e =
     let same = ok_is d new e in
     record {
       goal = ap (λ (y : Drawing). y.goal) (sym same) ∙ goal_same;
@@ -142,20 +142,20 @@ aims wanted w [] all m d new h whole e =
     goal_same : d.goal ≡ goal_after None d.goal
     goal_same = refl
 
-    nothing_more : (g : Option Goal) (x : Assignment) → form_at (by_place all x) d.arcs.form ≡ value_after all None g d.arcs.form [] x
+    nothing_more : (g : Option ChosenObjective) (x : Assignment) → form_at (by_place all x) d.arcs.form ≡ value_after all None g d.arcs.form [] x
     nothing_more None x = omega (arith, ints)
     nothing_more (Some g) x = omega (arith, ints)
-aims wanted w (x ∷ xs) all m d new h whole e =
+has_objective wanted w (x ∷ xs) all m d new h whole e =
     ok_then (declare wanted w x d) (draw wanted w xs) new e (λ next i j.
     let one = next_is wanted w m x d next h i in
-    let here = arcs_of (seen w d) x in
-    let rest = aims wanted w xs all (behind m (lines_of (seen w d) x)) next new one.is_written
+    let here = arcs_of (env w d) x in
+    let rest = has_objective wanted w xs all (behind m (lines_of (env w d) x)) next new one.is_written
     (whole ∙ sym (append_assoc m.arcs here (in_order arcs_of w (known_behind d.known x) xs)) ∙ ap (λ (k : ℕ). (m.arcs ++ here) ++ in_order arcs_of w k xs) (sym one.known)) j in
     let known = subst (λ (k : ℕ). Aims all (chosen wanted (objectives_from (m.arc_names ++ arc_declared x) w k xs)) (in_order arcs_of w k xs) next new) one.known rest in
     step wanted w all m x d next new (objectives_from (m.arc_names ++ arc_declared x) w (known_behind d.known x) xs) (in_order arcs_of w (known_behind d.known x) xs) h whole i known)
 
 pub have_objective : HaveObjective
-have_objective wanted w ds n e = go (chosen wanted (objectives w ds)) refl (aims wanted w ds (arcs w ds) no_lines nothing f.drawing nothing_written refl f.is_drawn)
+have_objective wanted w ds n e = go (chosen wanted (objectives w ds)) refl (has_objective wanted w ds (arcs w ds) no_lines nothing f.drawing nothing_written refl f.is_drawn)
   where
     f : IsFinished wanted w ds n
     f = network_is wanted w ds n e
@@ -164,15 +164,15 @@ have_objective wanted w ds n e = go (chosen wanted (objectives w ds)) refl (aims
     drawn = (all_written wanted w ds f.drawing f.is_drawn).arcs.drawn
 
     go : (o : Option Objective) → chosen wanted (objectives w ds) ≡ o → Aims (arcs w ds) o (arcs w ds) nothing f.drawing → (p : Objective) × (chosen wanted (objectives w ds) ≡ Some p) × IsObjectiveOf p n (arcs w ds)
-    go None i a = let none = a.goal in let some = f.aims in absurd (cc)
+    go None i a = let none = a.goal in let some = f.has_objective in absurd (cc)
     go (Some o) i a =
-        let goal_is : Some o_goal ≡ Some f.goal = sym a.goal ∙ f.aims in
+        let goal_is : Some o_goal ≡ Some f.goal = sym a.goal ∙ f.has_objective in
         let same : o_goal ≡ f.goal = cc in (
           o,
           i,
           record {
-            name = sym (ap (λ (z : Network). z.names.objective) f.whole) ∙ ap (λ (g : Goal). g.name) (sym same);
-            sense = sym (ap (λ (z : Network). z.sense) f.whole) ∙ ap (λ (g : Goal). g.sense) (sym same);
+            name = sym (ap (λ (z : Network). z.names.objective) f.whole) ∙ ap (λ (g : ChosenObjective). g.name) (sym same);
+            sense = sym (ap (λ (z : Network). z.sense) f.whole) ∙ ap (λ (g : ChosenObjective). g.sense) (sym same);
             value = λ distinct x.
                 ap (λ (z : Network). total_of z (numbers_on x (arcs w ds))) (sym f.whole)
                 ∙ ap (λ (s : ℤ). f.drawing.arcs.form.constant +ℤ s)
@@ -181,5 +181,5 @@ have_objective wanted w ds n e = go (chosen wanted (objectives w ds)) refl (aims
           },
         )
       where
-        o_goal : Goal
+        o_goal : ChosenObjective
         o_goal = record { name = o.name; sense = o.sense }

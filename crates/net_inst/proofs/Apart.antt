@@ -9,14 +9,13 @@ use Rattle.net_eval.specs.declared.row.Row.{Row}
 use Rattle.net_fault.specs.declared.defect.Defect.TheVariants.{ValueTooLarge, NotLinear}
 use Rattle.net_eval.specs.Limits.{is_small}
 use Rattle.net_eval.specs.Numbers.{divides}
-use Rattle.net_eval.specs.Operations.{reduction, is_minus}
+use Rattle.net_tree.specs.Operations.{reduction, is_minus, operation}
 use Rattle.net_eval.specs.Values.{index}
 use Rattle.net_eval.specs.Worlds.{Name, World, Scope}
-use Rattle.net_linear.specs.declared.joint.Joint.{Joint}
-use Rattle.net_linear.specs.declared.joint.Joint.TheVariants.{Plus, Minus, Times, Div, Mod, Other}
+use Rattle.net_tree.specs.declared.operator.BinOp.{BinOp}
+use Rattle.net_tree.specs.declared.operator.BinOp.TheVariants.{Plus, Minus, Times, Div, Mod}
 use Rattle.net_linear.specs.Arcs.{Arcs, declared, is_arc, arc_at}
 use Rattle.net_linear.specs.Forms.{Linear, Term, all_apart, just, one_arc, combined, is_number, is_sized, within, sized, minus_one, divided, joined, join, turn, gathered, gathered_over, total, as_form, or_too_large, priced}
-use Rattle.net_linear.specs.Joints.{joint}
 use Rattle.net_linear.specs.Objectives.{names_arc, any_arc, braces_arc, is_sum, is_linear, key_of, condition, plain_term, mixed, linear, arc_term, objective, otherwise, chained, objective_form}
 use Rattle.net_fault.specs.Outcomes.{Outcome, and_then, refused}
 use Rattle.net_linear.specs.Amounts.{number_or_none}
@@ -56,15 +55,15 @@ apart_scaled at k g = apart_sized at (combined (just (pos 0)) k g) (apart_with [
 apart_divided : (at : Span) (h : ℤ → ℤ → ℤ) (f g : Linear) → Comes (divided at h f g)
 apart_divided at h f g = comes_if (is_number f.products && is_number g.products) _ _ (comes_if (divides f.constant g.constant) _ _ (apart_sized at (just (h f.constant g.constant)) refl) tt) tt
 
-apart_joined : (j : Joint) (at : Span) (f g : Linear) → all_apart f.products ≡ true → Comes (joined j at f g)
+apart_joined : (j : BinOp) (at : Span) (f g : Linear) → all_apart f.products ≡ true → Comes (joined j at f g)
 apart_joined Plus at f g h = apart_sized at (combined f (pos 1) g) (apart_with f.products (pos 1) g.products h)
 apart_joined Minus at f g h = apart_sized at (combined f minus_one g) (apart_with f.products minus_one g.products h)
 apart_joined Times at f g h = comes_if (is_number f.products) _ _ (apart_scaled at f.constant g) (comes_if (is_number g.products) _ _ (apart_scaled at g.constant f) tt)
 apart_joined Div at f g h = apart_divided at int_div f g
 apart_joined Mod at f g h = apart_divided at int_rem f g
-apart_joined Other at f g h = tt
+apart_joined _ at f g h = tt
 
-apart_join : (j : Joint) (at : Span) (u v : Term) → IsApart u → Comes (join j at u v)
+apart_join : (j : BinOp) (at : Span) (u v : Term) → IsApart u → Comes (join j at u v)
 apart_join j at (Some f) (Some g) h = apart_joined j at f g h
 apart_join j at (Some f) None h = tt
 apart_join j at None v h = tt
@@ -134,7 +133,7 @@ mutual
   apart_chain : (a : Arcs) (at : Span) (w : World) (s : Scope) (l : Links) (u : Term) → IsApart u → Comes (chained a at w s l u)
   apart_chain a at w s none u h = h
   apart_chain a at w s (link o x l) u h =
-      comes_then (objective a w s x) _ (λ v e. comes_then (join (joint o) at u v) (chained a at w s l) (λ z i. apart_chain a at w s l z (comes_as (join (joint o) at u v) z (apart_join (joint o) at u v h) i)))
+      comes_then (objective a w s x) _ (λ v e. comes_then (join (operation o) at u v) (chained a at w s l) (λ z i. apart_chain a at w s l z (comes_as (join (operation o) at u v) z (apart_join (operation o) at u v h) i)))
 
 form_apart : (at : Span) (u : Term) (f : Linear) → IsApart u → as_form at u ≡ Ok f → all_apart f.products ≡ true
 form_apart at None f h e = cc

@@ -15,7 +15,7 @@ use Rattle.net_linear.specs.declared.condition.Sides.{Sides}
 use Rattle.net_linear.specs.Conditions.{range_in}
 use Rattle.net_inst.specs.declared.arc.Drawn.{Drawn}
 use Rattle.net_fault.specs.declared.defect.Defect.TheVariants.{TooManyNodes}
-use Rattle.net_inst.specs.declared.goal.Goal.{Goal}
+use Rattle.net_inst.specs.declared.goal.ChosenObjective.{ChosenObjective}
 use Rattle.net_inst.specs.declared.group.Group.{Group}
 use Rattle.net_inst.specs.declared.indexing.Indexing.{Indexing}
 use Rattle.net_inst.specs.declared.names.Declared.{Declared}
@@ -43,7 +43,7 @@ arc_labels all = map (λ a. a.label) all
 
 -- a range is that of the node's condition
 pub record HasRange (n : Node) (r : Sides) : Type 0 where
-  pub is : range_in n.seen n.scope n.condition ≡ Ok (Some r)
+  pub is : range_in n.env n.scope n.condition ≡ Ok (Some r)
 
 pub record AreNodes (ns : List Node) (names : List Declared) (d : DrawnNodes) : Type 0 where
   pub ranges : AllZip HasRange ns d.ranges
@@ -118,8 +118,8 @@ pub record HasEnds (labels : List Label) (a : Arc) (x : Drawn) : Type 0 where
 
 -- what is drawn of an arc
 pub record IsDrawnAs (labels : List Label) (a : Arc) (x : Drawn) : Type 0 where
-  pub lower : value a.seen a.scope a.parts.lower ≡ Ok (One (Number x.lower))
-  pub upper : value a.seen a.scope a.parts.upper ≡ Ok (One (Number x.upper))
+  pub lower : value a.env a.scope a.parts.lower ≡ Ok (One (Number x.lower))
+  pub upper : value a.env a.scope a.parts.upper ≡ Ok (One (Number x.upper))
   pub ends : IsDistinct same_label labels → HasEnds labels a x
 
 pub record AreArcs (labels : List Label) (all : List Arc) (names : List Declared) (d : DrawnArcs) : Type 0 where
@@ -146,7 +146,7 @@ one_arc ns names dn h w n b k p ps row x e =
       };
     }
 
-arcs_are : (ns : List Node) (names : List Declared) (dn : DrawnNodes) → AreNodes ns names dn → (g : Option Goal) (w : World) (n : Token) (b : Option Braces) (k : Option ℕ) (p : Parts) (ps : List Phrase) (rows : List Row) (d new : DrawnArcs)
+arcs_are : (ns : List Node) (names : List Declared) (dn : DrawnNodes) → AreNodes ns names dn → (g : Option ChosenObjective) (w : World) (n : Token) (b : Option Braces) (k : Option ℕ) (p : Parts) (ps : List Phrase) (rows : List Row) (d new : DrawnArcs)
     → arcs_at g dn w n k p ps rows d ≡ Ok new → AreMoreArcs (node_labels ns) (map (arc_at_row w n b ps p) rows) d new
 arcs_are ns names dn h g w n b k p ps [] d new e =
     let same = ok_is d new e in
@@ -162,7 +162,7 @@ arcs_are ns names dn h g w n b k p ps (row ∷ rows) d new e =
       group = rest.group ∙ one.group;
     })
 
-pub arcs_more_are : (ns : List Node) (node_names : List Declared) (dn : DrawnNodes) → AreNodes ns node_names dn → (g : Option Goal) (w : World) (n : Token) (b : Option Braces) (ps : List Phrase) (all : List Arc) (names : List Declared) (d new : DrawnArcs)
+pub arcs_more_are : (ns : List Node) (node_names : List Declared) (dn : DrawnNodes) → AreNodes ns node_names dn → (g : Option ChosenObjective) (w : World) (n : Token) (b : Option Braces) (ps : List Phrase) (all : List Arc) (names : List Declared) (d new : DrawnArcs)
     → AreArcs (node_labels ns) all names d → with_arcs g dn w n b ps d ≡ Ok new → AreArcs (node_labels ns) (all ++ arcs_with w n b ps (parts_of n ps)) (names ++ (record { name = n.text; indexed = is_some b }) ∷ []) new
 arcs_more_are ns node_names dn hn g w n b ps all names d new h e =
     subst (AreArcs (node_labels ns) (all ++ arcs_with w n b ps (parts_of n ps)) more_names) by.is_named

@@ -111,8 +111,8 @@ within_to x [] (q ∷ xs) h k = absurd h
 within_to x (a ∷ all) [] h k = absurd h
 within_to x (a ∷ all) (q ∷ xs) h k = (
   record {
-    lower = subst (λ (m : ℤ). m ≤ℤ number_on x a) (amount_of a.seen a.scope a.parts.lower q.lower h.0.lower) k.0.lower;
-    upper = subst (λ (m : ℤ). number_on x a ≤ℤ m) (amount_of a.seen a.scope a.parts.upper q.upper h.0.upper) k.0.upper;
+    lower = subst (λ (m : ℤ). m ≤ℤ number_on x a) (amount_of a.env a.scope a.parts.lower q.lower h.0.lower) k.0.lower;
+    upper = subst (λ (m : ℤ). number_on x a ≤ℤ m) (amount_of a.env a.scope a.parts.upper q.upper h.0.upper) k.0.upper;
   },
   within_to x all xs h.1 k.1,
 )
@@ -123,8 +123,8 @@ within_from x [] (q ∷ xs) h k = absurd h
 within_from x (a ∷ all) [] h k = absurd h
 within_from x (a ∷ all) (q ∷ xs) h k = (
   record {
-    lower = subst (λ (m : ℤ). m ≤ℤ number_on x a) (sym (amount_of a.seen a.scope a.parts.lower q.lower h.0.lower)) k.0.lower;
-    upper = subst (λ (m : ℤ). number_on x a ≤ℤ m) (sym (amount_of a.seen a.scope a.parts.upper q.upper h.0.upper)) k.0.upper;
+    lower = subst (λ (m : ℤ). m ≤ℤ number_on x a) (sym (amount_of a.env a.scope a.parts.lower q.lower h.0.lower)) k.0.lower;
+    upper = subst (λ (m : ℤ). number_on x a ≤ℤ m) (sym (amount_of a.env a.scope a.parts.upper q.upper h.0.upper)) k.0.upper;
   },
   within_from x all xs h.1 k.1,
 )

@@ -31,11 +31,11 @@ use Rattle.net_linear.specs.Forms.{Products, Linear}
 use Rattle.net_linear.specs.Objectives.{key_of}
 use Rattle.net_linear.proofs.FormSizes.{is_sized_number}
 use Rattle.net_inst.specs.declared.arc.Drawn.{Drawn}
-use Rattle.net_inst.specs.declared.goal.Goal.{Goal}
+use Rattle.net_inst.specs.declared.goal.ChosenObjective.{ChosenObjective}
 use Rattle.net_inst.specs.declared.indexing.Indexing.{Indexing}
 use Rattle.net_inst.specs.declared.phrases.ArcWord.TheVariants.{AtLeast, AtMost, From, To}
 use Rattle.net_inst.specs.Arcs.{DrawnArcs, end_at, with_ends, drawn, prices_in, next_arc, arcs_at, arcs_by, named_arcs, with_arcs}
-use Rattle.net_inst.specs.Drafts.{Drawing, nothing, seen, is_chosen, said_form, passed, aimed, with_goal, known_more, nodes_more, arcs_more, declare, draw}
+use Rattle.net_inst.specs.Drafts.{Drawing, nothing, env, is_chosen, said_form, passed, aimed, with_goal, known_more, nodes_more, arcs_more, declare, draw}
 use Rattle.net_inst.specs.Fitting.{IsDrawnOf, IsPriced}
 use Rattle.net_inst.specs.Groups.{group_with}
 use Rattle.net_inst.specs.Indexings.{indexing_in}
@@ -148,7 +148,7 @@ drawn_fits ns w n k p row x e h =
     step l u sl su false t h = let up : l ≤ℤ u = grind (arith, ints) in with_ends_fit ns w row.scope p l u x sl su up e h
 
 -- arcs, key by key
-next_fits : (g : Option Goal) (ns : DrawnNodes) (w : World) (n : Token) (k : Option ℕ) (p : Parts) (ps : List Phrase) (row : Row) (d new : DrawnArcs) → (is_some p.tail || is_some p.head) ≡ true
+next_fits : (g : Option ChosenObjective) (ns : DrawnNodes) (w : World) (n : Token) (k : Option ℕ) (p : Parts) (ps : List Phrase) (row : Row) (d new : DrawnArcs) → (is_some p.tail || is_some p.head) ≡ true
     → All (IsDrawnOf (length ns.ranges)) d.arcs → next_arc g ns w n k p ps row d ≡ Ok new → All (IsDrawnOf (length ns.ranges)) new.arcs
 next_fits g ns w n k p ps row d new e all h = step (nat_lt (length d.arcs) arc_limit) h
   where
@@ -162,14 +162,14 @@ next_fits g ns w n k p ps row d new e all h = step (nat_lt (length d.arcs) arc_l
         same_out (λ q. All (IsDrawnOf (length ns.ranges)) q.arcs) (more x f) new (Ok (more x f)) refl kf (All-push (IsDrawnOf (length ns.ranges)) d.arcs x all (drawn_fits ns w n k p row x e ex))))
     step false h = cc
 
-rows_fit : (g : Option Goal) (ns : DrawnNodes) (w : World) (n : Token) (k : Option ℕ) (p : Parts) (ps : List Phrase) (rows : List Row) (d new : DrawnArcs) → (is_some p.tail || is_some p.head) ≡ true
+rows_fit : (g : Option ChosenObjective) (ns : DrawnNodes) (w : World) (n : Token) (k : Option ℕ) (p : Parts) (ps : List Phrase) (rows : List Row) (d new : DrawnArcs) → (is_some p.tail || is_some p.head) ≡ true
     → All (IsDrawnOf (length ns.ranges)) d.arcs → arcs_at g ns w n k p ps rows d ≡ Ok new → All (IsDrawnOf (length ns.ranges)) new.arcs
 rows_fit g ns w n k p ps [] d new e all h = same_out (λ q. All (IsDrawnOf (length ns.ranges)) q.arcs) d new (Ok d) refl h all
 rows_fit g ns w n k p ps (row ∷ rows) d new e all h =
     both (next_arc g ns w n k p ps row d) (arcs_at g ns w n k p ps rows) new (All (IsDrawnOf (length ns.ranges)) new.arcs) h
     (λ m em km. rows_fit g ns w n k p ps rows m new e (next_fits g ns w n k p ps row d m e all em) km)
 
-arcs_fit : (g : Option Goal) (ns : DrawnNodes) (w : World) (n : Token) (b : Option Braces) (ps : List Phrase) (d new : DrawnArcs) → All (IsDrawnOf (length ns.ranges)) d.arcs
+arcs_fit : (g : Option ChosenObjective) (ns : DrawnNodes) (w : World) (n : Token) (b : Option Braces) (ps : List Phrase) (d new : DrawnArcs) → All (IsDrawnOf (length ns.ranges)) d.arcs
     → with_arcs g ns w n b ps d ≡ Ok new → All (IsDrawnOf (length ns.ranges)) new.arcs
 arcs_fit g ns w n b ps d new all h =
     both (parts_of n ps) (λ p. and_then (indexing_in w b) (arcs_by g ns w n ps d p)) new (All (IsDrawnOf (length ns.ranges)) new.arcs) h (λ p ep kp.
@@ -218,18 +218,18 @@ declare_fits wanted w (set t n ps e) d new f h = same_out Fits (known_more d) ne
 declare_fits wanted w (param t n b ps e) d new f h = same_out Fits (known_more d) new (Ok (known_more d)) refl h f
 declare_fits wanted w (check t b m x e) d new f h = same_out Fits d new (Ok d) refl h f
 declare_fits wanted w (node t n b c e) d new f h =
-    both (with_nodes (seen w d) n b c d.nodes) (λ ns. Ok (nodes_more d ns)) new (Fits new) h (λ ns en kn.
+    both (with_nodes (env w d) n b c d.nodes) (λ ns. Ok (nodes_more d ns)) new (Fits new) h (λ ns en kn.
     same_out Fits (nodes_more d ns) new (Ok (nodes_more d ns)) refl kn
-    (All-weaker (IsDrawnOf (length d.nodes.ranges)) (IsDrawnOf (length ns.ranges)) (wider (length d.nodes.ranges) (length ns.ranges) (nodes_grow (seen w d) n b c d.nodes ns en)) d.arcs.arcs f))
+    (All-weaker (IsDrawnOf (length d.nodes.ranges)) (IsDrawnOf (length ns.ranges)) (wider (length d.nodes.ranges) (length ns.ranges) (nodes_grow (env w d) n b c d.nodes ns en)) d.arcs.arcs f))
 declare_fits wanted w (arc t n b ps e) d new f h =
-    both (with_arcs d.goal d.nodes (seen w d) n b ps d.arcs) (λ xs. Ok (arcs_more d xs)) new (Fits new) h (λ xs ex kx.
-    same_out Fits (arcs_more d xs) new (Ok (arcs_more d xs)) refl kx (arcs_fit d.goal d.nodes (seen w d) n b ps d.arcs xs f ex))
+    both (with_arcs d.goal d.nodes (env w d) n b ps d.arcs) (λ xs. Ok (arcs_more d xs)) new (Fits new) h (λ xs ex kx.
+    same_out Fits (arcs_more d xs) new (Ok (arcs_more d xs)) refl kx (arcs_fit d.goal d.nodes (env w d) n b ps d.arcs xs f ex))
 declare_fits wanted w (objective t n p e) d new f h =
-    both (is_chosen wanted d.goal n) (λ b. if b then with_goal (seen w d) t n p d else Ok (passed d)) new (Fits new) h (λ b eb kb. chosen b kb)
+    both (is_chosen wanted d.goal n) (λ b. if b then with_goal (env w d) t n p d else Ok (passed d)) new (Fits new) h (λ b eb kb. chosen b kb)
   where
-    chosen : (b : Bool) → (if b then with_goal (seen w d) t n p d else Ok (passed d)) ≡ Ok new → Fits new
+    chosen : (b : Bool) → (if b then with_goal (env w d) t n p d else Ok (passed d)) ≡ Ok new → Fits new
     chosen true k =
-        both (said_form d.arcs.group.numbers (seen w d) p) (λ l. Ok (aimed d t n l)) new (Fits new) k (λ l el kl.
+        both (said_form d.arcs.group.numbers (env w d) p) (λ l. Ok (aimed d t n l)) new (Fits new) k (λ l el kl.
         same_out Fits (aimed d t n l) new (Ok (aimed d t n l)) refl kl f)
     chosen false k = same_out Fits (passed d) new (Ok (passed d)) refl k f
 

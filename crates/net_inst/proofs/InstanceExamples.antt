@@ -6,7 +6,7 @@ use Rattle.net_lex.specs.Significands.{whole_value}
 use Rattle.net_lex.specs.declared.token.Token.{Token}
 use Rattle.net_lex.specs.declared.token.Kind.TheVariants as kinds
 use Rattle.net_sets.specs.declared.member.Member.TheVariants.{Number}
-use Rattle.net_tree.specs.declared.expr.Operator.TheVariants as operator
+use Rattle.net_tree.specs.declared.operator.Words.TheVariants as operator
 use Rattle.net_tree.specs.Role.{role_of, marks, keys}
 use Rattle.net_tree.specs.Spans.{span_of, span_between, braces_span}
 use Rattle.net_tree.specs.Tree.{Tree, leaf, indexed, chain, net, none, link, Braces, filled, absent, Phrase, valued, priced, Condition, unsaid, between, Declaration, node, arc, objective}
@@ -16,9 +16,8 @@ use Rattle.net_fault.specs.declared.detail.Detail.TheVariants.{Nothing, Told}
 use Rattle.net_eval.specs.Limits.{is_small}
 use Rattle.net_eval.specs.Numbers.{number_in}
 use Rattle.net_eval.specs.References.{reference_text}
-use Rattle.net_eval.specs.Operations.{operations, operation, reduction, is_minus}
+use Rattle.net_tree.specs.Operations.{operations, operation, reduction, is_minus}
 use Rattle.net_fault.specs.declared.defect.Defect.TheVariants.{NodeCrossed, NoSuchNode, NoLower, NoObjective, TwoObjectives, NoSuchObjective}
-use Rattle.net_linear.specs.Joints.{joint}
 use Rattle.net_linear.specs.NetTerms.{is_outflow}
 use Rattle.net_inst.specs.Arcs.{no_arcs, with_arcs}
 use Rattle.net_inst.specs.Drafts.{sense_of}
@@ -96,12 +95,12 @@ two = record {
 
 -- node N {i in 1..2}: 1 <= net_in <= 4;
 two_nodes : with_nodes [] (name (codes "N") 17 18) one_and_two both_sides no_nodes ≡ Ok two
-unfolding role_of marks keys operations operation reduction is_minus is_small number_in numeral_at mantissa_at power_at whole_value span_of span_between braces_span joint is_outflow sense_of
+unfolding role_of marks keys operations operation reduction is_minus is_small number_in numeral_at mantissa_at power_at whole_value span_of span_between braces_span is_outflow sense_of
 two_nodes = refl
 
 -- node N {i in 1..2}: 4 <= net_in <= i;    the fault is the first node's
 crossed_node : with_nodes [] (name (codes "N") 17 18) one_and_two crossing no_nodes ≡ Err (record { defect = NodeCrossed; text = languages.Model; at = record { start = 17; end = 18 }; detail = Told (reference_text (codes "N") true (Number (pos 1) ∷ [])) })
-unfolding role_of marks keys operations operation reduction is_minus is_small number_in numeral_at mantissa_at power_at whole_value span_of span_between braces_span joint is_outflow sense_of
+unfolding role_of marks keys operations operation reduction is_minus is_small number_in numeral_at mantissa_at power_at whole_value span_of span_between braces_span is_outflow sense_of
 crossed_node = refl
 
 -- arc X >= 0, <= 3, from N[2];    without a chosen objective a price says nothing
@@ -111,17 +110,17 @@ one_arc : with_arcs None two [] (name (codes "X") 36 37) None (least ∷ most �
       form = record { constant = pos 0; products = [] };
       group = record { list = record { declarations = (record { name = codes "X"; indexed = false }) ∷ []; keys = (record { declaration = 0; tuple = [] }) ∷ [] }; numbers = (codes "X", record { keys = None; first = 0; index = [] ∷ [] }) ∷ [] };
     })
-unfolding role_of marks keys operations operation reduction is_minus is_small number_in numeral_at mantissa_at power_at whole_value span_of span_between braces_span joint is_outflow sense_of
+unfolding role_of marks keys operations operation reduction is_minus is_small number_in numeral_at mantissa_at power_at whole_value span_of span_between braces_span is_outflow sense_of
 one_arc = refl
 
 -- arc X <= 3, from N[2];
 no_lower : with_arcs None two [] (name (codes "X") 36 37) None (most ∷ from_node ∷ []) no_arcs ≡ Err (record { defect = NoLower; text = languages.Model; at = record { start = 36; end = 37 }; detail = Told (codes "X") })
-unfolding role_of marks keys operations operation reduction is_minus is_small number_in numeral_at mantissa_at power_at whole_value span_of span_between braces_span joint is_outflow sense_of
+unfolding role_of marks keys operations operation reduction is_minus is_small number_in numeral_at mantissa_at power_at whole_value span_of span_between braces_span is_outflow sense_of
 no_lower = refl
 
 -- arc X >= 0, <= 3, to N;    no node N is declared
 no_node : with_arcs None no_nodes [] (name (codes "X") 36 37) None (least ∷ most ∷ to_node ∷ []) no_arcs ≡ Err (record { defect = NoSuchNode; text = languages.Model; at = record { start = 55; end = 56 }; detail = Told (codes "N") })
-unfolding role_of marks keys operations operation reduction is_minus is_small number_in numeral_at mantissa_at power_at whole_value span_of span_between braces_span joint is_outflow sense_of
+unfolding role_of marks keys operations operation reduction is_minus is_small number_in numeral_at mantissa_at power_at whole_value span_of span_between braces_span is_outflow sense_of
 no_node = refl
 
 -- minimize C; node N {i in 1..2}; arc X >= 0, <= 3, from N[2], obj C 4, obj C 2;
@@ -137,7 +136,7 @@ whole : network None [] (minimized ∷ nodes ∷ arcs ∷ [])
         arcs = record { declarations = (record { name = codes "X"; indexed = false }) ∷ []; keys = (record { declaration = 0; tuple = [] }) ∷ [] };
       };
     })
-unfolding role_of marks keys operations operation reduction is_minus is_small number_in numeral_at mantissa_at power_at whole_value span_of span_between braces_span joint is_outflow sense_of network
+unfolding role_of marks keys operations operation reduction is_minus is_small number_in numeral_at mantissa_at power_at whole_value span_of span_between braces_span is_outflow sense_of network
 whole = refl
 
 -- and maximize D;    chosen by its name
@@ -153,25 +152,25 @@ other_objective : network (Some (codes "D")) [] (minimized ∷ nodes ∷ arcs �
         arcs = record { declarations = (record { name = codes "X"; indexed = false }) ∷ []; keys = (record { declaration = 0; tuple = [] }) ∷ [] };
       };
     })
-unfolding role_of marks keys operations operation reduction is_minus is_small number_in numeral_at mantissa_at power_at whole_value span_of span_between braces_span joint is_outflow sense_of network
+unfolding role_of marks keys operations operation reduction is_minus is_small number_in numeral_at mantissa_at power_at whole_value span_of span_between braces_span is_outflow sense_of network
 other_objective = refl
 
 -- without a name the second is one too many
 second_objective : network None [] (minimized ∷ nodes ∷ arcs ∷ maximized ∷ []) ≡ Err (record { defect = TwoObjectives; text = languages.Model; at = record { start = 79; end = 80 }; detail = Told (codes "D") })
-unfolding role_of marks keys operations operation reduction is_minus is_small number_in numeral_at mantissa_at power_at whole_value span_of span_between braces_span joint is_outflow sense_of network
+unfolding role_of marks keys operations operation reduction is_minus is_small number_in numeral_at mantissa_at power_at whole_value span_of span_between braces_span is_outflow sense_of network
 second_objective = refl
 
 -- a model without declarations ends at its start
 no_objective : network None [] [] ≡ Err (record { defect = NoObjective; text = languages.Model; at = record { start = 0; end = 0 }; detail = Nothing })
-unfolding role_of marks keys operations operation reduction is_minus is_small number_in numeral_at mantissa_at power_at whole_value span_of span_between braces_span joint is_outflow sense_of network
+unfolding role_of marks keys operations operation reduction is_minus is_small number_in numeral_at mantissa_at power_at whole_value span_of span_between braces_span is_outflow sense_of network
 no_objective = refl
 
 -- a name that is no objective's is told where the declarations end
 no_such_objective : network (Some (codes "E")) [] (minimized ∷ nodes ∷ []) ≡ Err (record { defect = NoSuchObjective; text = languages.Model; at = record { start = 31; end = 31 }; detail = Told (codes "E") })
-unfolding role_of marks keys operations operation reduction is_minus is_small number_in numeral_at mantissa_at power_at whole_value span_of span_between braces_span joint is_outflow sense_of network
+unfolding role_of marks keys operations operation reduction is_minus is_small number_in numeral_at mantissa_at power_at whole_value span_of span_between braces_span is_outflow sense_of network
 no_such_objective = refl
 
 -- the objective of a name is wanted, and there is none at all
 nodes_alone : network (Some (codes "E")) [] (nodes ∷ []) ≡ Err (record { defect = NoObjective; text = languages.Model; at = record { start = 31; end = 31 }; detail = Nothing })
-unfolding role_of marks keys operations operation reduction is_minus is_small number_in numeral_at mantissa_at power_at whole_value span_of span_between braces_span joint is_outflow sense_of network
+unfolding role_of marks keys operations operation reduction is_minus is_small number_in numeral_at mantissa_at power_at whole_value span_of span_between braces_span is_outflow sense_of network
 nodes_alone = refl

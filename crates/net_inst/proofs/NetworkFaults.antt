@@ -6,7 +6,7 @@ use Rattle.net_lex.specs.declared.token.Token.{Token}
 use Rattle.net_tree.specs.Tree.{Tree, Braces, Condition, Phrase, Part, absent, part, Declaration, set, param, check, node, arc, objective}
 use Rattle.net_eval.specs.Worlds.{Name, World}
 use Rattle.net_inst.specs.Arcs.{with_arcs}
-use Rattle.net_inst.specs.Drafts.{Drawing, nothing, seen, is_chosen, said_tree, said_form, with_goal, with_objective, with_node_declaration, with_arc_declaration, declare, draw}
+use Rattle.net_inst.specs.Drafts.{Drawing, nothing, env, is_chosen, said_tree, said_form, with_goal, with_objective, with_node_declaration, with_arc_declaration, declare, draw}
 use Rattle.net_inst.specs.Groups.{Numbers}
 use Rattle.net_inst.specs.Instances.{Network, point, end_of, without_goal, finished, network}
 use Rattle.net_inst.specs.Nodes.{with_nodes}
@@ -49,9 +49,9 @@ module _ (P : Places) where
   finds_declare wanted w (set t n ps e) h d = tt
   finds_declare wanted w (param t n b ps e) h d = tt
   finds_declare wanted w (check t b m x e) h d = tt
-  finds_declare wanted w (node t n b c e) (h, j, k, m) d = finds_with_node_declaration (seen w d) n h b j c k d
-  finds_declare wanted w (arc t n b ps e) (h, j, k, m) d = finds_with_arc_declaration (seen w d) n h b j ps k d
-  finds_declare wanted w (objective t n p e) (h, k, m) d = finds_with_objective wanted (seen w d) t n h p k d
+  finds_declare wanted w (node t n b c e) (h, j, k, m) d = finds_with_node_declaration (env w d) n h b j c k d
+  finds_declare wanted w (arc t n b ps e) (h, j, k, m) d = finds_with_arc_declaration (env w d) n h b j ps k d
+  finds_declare wanted w (objective t n p e) (h, k, m) d = finds_with_objective wanted (env w d) t n h p k d
 
   pub finds_draw : (wanted : Option Name) (w : World) (ds : List Declaration) → DeclarationsStand (P Model) ds → (d : Drawing) → Finds P (draw wanted w ds d)
   finds_draw wanted w [] h d = tt
@@ -62,7 +62,7 @@ module _ (P : Places) where
   finds_without_goal wanted at h false = h
 
   finds_finished : (wanted : Option Name) (at : Span) → P Model at → (d : Drawing) (g : _) → Finds P (finished wanted at d g)
-  finds_finished wanted at h d None = finds_without_goal wanted at h d.aims
+  finds_finished wanted at h d None = finds_without_goal wanted at h d.has_objective
   finds_finished wanted at h d (Some g) = tt
 
   end_stands : (at : ℕ) → P Model (point at) → (ds : List Declaration) → DeclarationsStand (P Model) ds → P Model (point (end_of at ds))

@@ -7,10 +7,10 @@ use Rattle.net_eval.specs.Worlds.{World, Scope}
 use Rattle.net_linear.specs.Forms.{Linear}
 use Rattle.net_fault.specs.declared.fault.Fault.{Fault}
 use Rattle.net_fault.specs.Outcomes.{Leaves}
-use Rattle.net_inst.specs.declared.goal.Goal.{Goal}
+use Rattle.net_inst.specs.declared.goal.ChosenObjective.{ChosenObjective}
 use Rattle.net_inst.specs.Arcs.{is_goal, priced_by, price_in}
 
-pub price_taken : (g : Option Goal) (w : World) (s : Scope) (a : ℕ) (b : Body) (n : Token) (x : Tree) (f new : Linear) (r : Result (Unit {0}) Fault) → b ≡ priced n x → is_goal g n.text ≡ true
+pub price_taken : (g : Option ChosenObjective) (w : World) (s : Scope) (a : ℕ) (b : Body) (n : Token) (x : Tree) (f new : Linear) (r : Result (Unit {0}) Fault) → b ≡ priced n x → is_goal g n.text ≡ true
     → Leaves (priced_by w s a x f) r new → Leaves (price_in g w s a b f) r new
 price_taken g w s a b n x f new r is goal h =
     subst (λ (c : Body). Leaves (price_in g w s a c f) r new) (sym is) (rw goal h)

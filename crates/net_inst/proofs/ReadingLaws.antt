@@ -6,12 +6,11 @@ use Rattle.net_sets.specs.Sets.{Tuple}
 use Rattle.net_tree.specs.Spans.{span_of}
 use Rattle.net_tree.specs.Tree.{Tree, Links, Part, Braces, leaf, indexed, parens, tuple, negated, braced, signed, reduced, chain, choice, net, none, link, absent, part, empty, filled}
 use Rattle.net_eval.specs.Numbers.{turned}
-use Rattle.net_eval.specs.Operations.{reduction, is_minus}
+use Rattle.net_tree.specs.Operations.{reduction, is_minus, operation}
 use Rattle.net_eval.specs.Values.{index}
 use Rattle.net_eval.specs.Worlds.{Name, World, Scope}
 use Rattle.net_linear.specs.Arcs.{Arcs, declared, is_arc, arc_at}
 use Rattle.net_linear.specs.Forms.{Linear, Term, just, one_arc, join, turn, as_form, form_at}
-use Rattle.net_linear.specs.Joints.{joint}
 use Rattle.net_linear.specs.Objectives.{names_arc, any_arc, part_arc, braces_arc, is_sum, is_linear, key_of, condition, arc_term, objective, otherwise, chained, objective_form}
 use Rattle.net_fault.specs.Outcomes.{Outcome}
 use Rattle.net_linear.specs.Worths.{combine}
@@ -65,8 +64,8 @@ module _ (x : ℕ → ℤ) (y : Assignment) (a : Arcs) (h : ReadAlike a x y) whe
     law_chain : (at : Span) (w : World) (s : Scope) (l : Links) (u r : Term) → chained a at w s l u ≡ Ok r → term_at x r ≡ reading_chain (names_arc a) w s l (term_at x u) y
     law_chain at w s none u r e = let same : u ≡ r = cc in ap (term_at x) (sym same)
     law_chain at w s (link o z l) u r e =
-        ok_then (objective a w s z) _ r e (λ v i k. ok_then (join (joint o) at u v) (chained a at w s l) r k
-        (λ q j m. law_chain at w s l q r m ∙ ap (λ (b : ℤ). reading_chain (names_arc a) w s l b y) (join_ok x (joint o) at u v q j ∙ ap (combine (joint o) (term_at x u)) (law w s z v i))))
+        ok_then (objective a w s z) _ r e (λ v i k. ok_then (join (operation o) at u v) (chained a at w s l) r k
+        (λ q j m. law_chain at w s l q r m ∙ ap (λ (b : ℤ). reading_chain (names_arc a) w s l b y) (join_ok x (operation o) at u v q j ∙ ap (combine (operation o) (term_at x u)) (law w s z v i))))
 
   form_of : (at : Span) (u : Term) (f : Linear) → as_form at u ≡ Ok f → form_at x f ≡ term_at x u
   form_of at None f e = cc

@@ -16,7 +16,7 @@ use Rattle.net_linear.specs.Forms.{Linear}
 use Rattle.net_linear.specs.declared.condition.Sides.{Sides}
 use Rattle.net_fault.specs.declared.fault.Fault.{Fault}
 use Rattle.net_fault.specs.declared.fault.Fault.TheVariants.{OutOfMemory, At}
-use Rattle.net_inst.specs.declared.goal.Goal.{Goal}
+use Rattle.net_inst.specs.declared.goal.ChosenObjective.{ChosenObjective}
 use Rattle.net_inst.specs.Arcs.{DrawnArcs, price_in, prices_in, next_arc, arcs_at}
 use Rattle.net_inst.specs.Drafts.{Drawing, declare, draw}
 use Rattle.net_inst.specs.Nodes.{DrawnNodes, next_range, ranges_at}
@@ -57,10 +57,10 @@ below test i j (t ∷ ts) e = step (test t) e (below test (i + 1) j ts)
 pub place_below : (ts : List Tuple) (t : Tuple) (j : ℕ) → Some j ≡ place_of ts t → j < length ts
 place_below ts t j e = omega (arith, below (same_tuple t) 0 j ts (sym e))
 
-pub prices-left : (g : Option Goal) (w : World) (s : Scope) (a : ℕ) (ps : List PhraseOfCode) (i : ℕ) (p : PhraseOfCode) (f : Linear) (wanted : Outcome Linear) → i < length ps → p ≡ get_or ps i p → prices_in g w s a (map phrase_of (drop i ps)) f ≡ wanted → wanted ≡ and_then (price_in g w s a (phrase_of p).body f) (prices_in g w s a (map phrase_of (drop (i + 1) ps)))
+pub prices-left : (g : Option ChosenObjective) (w : World) (s : Scope) (a : ℕ) (ps : List PhraseOfCode) (i : ℕ) (p : PhraseOfCode) (f : Linear) (wanted : Outcome Linear) → i < length ps → p ≡ get_or ps i p → prices_in g w s a (map phrase_of (drop i ps)) f ≡ wanted → wanted ≡ and_then (price_in g w s a (phrase_of p).body f) (prices_in g w s a (map phrase_of (drop (i + 1) ps)))
 prices-left g w s a ps i p f wanted h e inv = sym inv ∙ ap (λ l. prices_in g w s a l f) (next_phrase ps i p h e)
 
-pub arcs-left : (g : Option Goal) (ns : DrawnNodes) (w : World) (n : Token) (k : Option ℕ) (p : Parts) (ps : List Phrase) (rows : List Row) (i : ℕ) (row : Row) (d : DrawnArcs) (wanted : Outcome DrawnArcs) → i < length rows → row ≡ get_or rows i row → arcs_at g ns w n k p ps (drop i rows) d ≡ wanted → wanted ≡ and_then (next_arc g ns w n k p ps row d) (arcs_at g ns w n k p ps (drop (i + 1) rows))
+pub arcs-left : (g : Option ChosenObjective) (ns : DrawnNodes) (w : World) (n : Token) (k : Option ℕ) (p : Parts) (ps : List Phrase) (rows : List Row) (i : ℕ) (row : Row) (d : DrawnArcs) (wanted : Outcome DrawnArcs) → i < length rows → row ≡ get_or rows i row → arcs_at g ns w n k p ps (drop i rows) d ≡ wanted → wanted ≡ and_then (next_arc g ns w n k p ps row d) (arcs_at g ns w n k p ps (drop (i + 1) rows))
 arcs-left g ns w n k p ps rows i row d wanted h e inv = sym inv ∙ ap (λ (l : List Row). arcs_at g ns w n k p ps l d) (left_at rows i row h e)
 
 pub draw-left : (n : Option Name) (w : World) (ds : List Decl) (i : ℕ) (x : Decl) (d : Drawing) (wanted : Outcome Drawing) → i < length ds → x ≡ get_or ds i x → draw n w (map declaration_of (drop i ds)) d ≡ wanted → wanted ≡ and_then (declare n w (declaration_of x) d) (draw n w (map declaration_of (drop (i + 1) ds)))

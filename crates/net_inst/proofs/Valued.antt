@@ -26,7 +26,7 @@ use Rattle.net_linear.specs.Amounts.{as_number}
 use Rattle.net_linear.proofs.FormLaws.{form_just, priced_worth}
 use Rattle.net_linear.proofs.Rings.{add-mul}
 use Rattle.net_inst.specs.declared.arc.Drawn.{Drawn}
-use Rattle.net_inst.specs.declared.goal.Goal.{Goal}
+use Rattle.net_inst.specs.declared.goal.ChosenObjective.{ChosenObjective}
 use Rattle.net_inst.specs.declared.names.Declared.{Declared}
 use Rattle.net_inst.specs.Arcs.{DrawnArcs, priced_by, price_in, prices_in, next_arc, arcs_at, with_arcs}
 use Rattle.net_inst.specs.AsWritten.{Label, Arc, rows_of, arc_at_row, arcs_with, same_label, Assignment, number_on, numbers_on, amount}
@@ -52,18 +52,18 @@ by_place all x = number_at (numbers_on x all)
 
 -- ---- phrases
 
-abbrev pub goal_price : Option Goal → World → Scope → List Phrase → ℤ
+abbrev pub goal_price : Option ChosenObjective → World → Scope → List Phrase → ℤ
 goal_price None w s ps = pos 0
 goal_price (Some g) w s ps = price_of g.name w s ps
 
-abbrev pub goal_prices : Option Goal → List Arc → Assignment → ℤ
+abbrev pub goal_prices : Option ChosenObjective → List Arc → Assignment → ℤ
 goal_prices None all x = pos 0
 goal_prices (Some g) all x = prices g.name all x
 
 amount_is : (w : World) (s : Scope) (t : Tree) (n : ℤ) → number w s t ≡ Ok n → amount w s t ≡ n
 amount_is w s t n e = ap (λ (o : Outcome Value). number_of (and_then o (λ v. Ok (as_number v)))) (number_is w s t n e)
 
-one_price : (g : Goal) (w : World) (s : Scope) (a : ℕ) (b : Body) (f new : Linear) → price_in (Some g) w s a b f ≡ Ok new → (x : ℕ → ℤ) → form_at x new ≡ form_at x f +ℤ written.price_in g.name w s b *ℤ x a
+one_price : (g : ChosenObjective) (w : World) (s : Scope) (a : ℕ) (b : Body) (f new : Linear) → price_in (Some g) w s a b f ≡ Ok new → (x : ℕ → ℤ) → form_at x new ≡ form_at x f +ℤ written.price_in g.name w s b *ℤ x a
 one_price g w s a plain f new e x = let same = ok_is f new e in ap (form_at x) (sym same) ∙ omega (arith, ints, zero-*ℤ (x a))
 one_price g w s a (valued t) f new e x = let same = ok_is f new e in ap (form_at x) (sym same) ∙ omega (arith, ints, zero-*ℤ (x a))
 one_price g w s a (priced n t) f new e x = go (bytes_eq g.name n.text) e
@@ -83,21 +83,21 @@ passed_over w s a (p ∷ ps) f new e = ok_then (price_in None w s a p.body f) (p
     one (valued t) g i = ok_is f g i
     one (priced n t) g i = ok_is f g i
 
-all_prices : (g : Option Goal) (w : World) (s : Scope) (a : ℕ) (ps : List Phrase) (f new : Linear) → prices_in g w s a ps f ≡ Ok new → (x : ℕ → ℤ) → form_at x new ≡ form_at x f +ℤ goal_price g w s ps *ℤ x a
+all_prices : (g : Option ChosenObjective) (w : World) (s : Scope) (a : ℕ) (ps : List Phrase) (f new : Linear) → prices_in g w s a ps f ≡ Ok new → (x : ℕ → ℤ) → form_at x new ≡ form_at x f +ℤ goal_price g w s ps *ℤ x a
 all_prices None w s a ps f new e x = ap (form_at x) (sym (passed_over w s a ps f new e)) ∙ omega (arith, ints, zero-*ℤ (x a))
 all_prices (Some g) w s a [] f new e x = ap (form_at x) (sym (ok_is f new e)) ∙ omega (arith, ints, zero-*ℤ (x a))
 all_prices (Some g) w s a (p ∷ ps) f new e x =
     ok_then (price_in (Some g) w s a p.body f) (prices_in (Some g) w s a ps) new e (λ h i j.
     omega (arith, ints, all_prices (Some g) w s a ps h new j x, one_price g w s a p.body f h i x, add-mul (written.price_in g.name w s p.body) (price_of g.name w s ps) (x a)))
 
-prices_apart : (g : Option Goal) (w : World) (s : Scope) (a : ℕ) (ps : List Phrase) (f new : Linear) → all_apart f.products ≡ true → prices_in g w s a ps f ≡ Ok new → all_apart new.products ≡ true
+prices_apart : (g : Option ChosenObjective) (w : World) (s : Scope) (a : ℕ) (ps : List Phrase) (f new : Linear) → all_apart f.products ≡ true → prices_in g w s a ps f ≡ Ok new → all_apart new.products ≡ true
 prices_apart g w s a [] f new h e = ap (λ (z : Linear). all_apart z.products) (sym (ok_is f new e)) ∙ h
 prices_apart g w s a (p ∷ ps) f new h e = ok_then (price_in g w s a p.body f) (prices_in g w s a ps) new e (λ k i j. prices_apart g w s a ps k new (one g p.body k i) j)
   where
     same : (k : Linear) → (let o : Outcome Linear = Ok f in o ≡ Ok k) → all_apart k.products ≡ true
     same k i = ap (λ (z : Linear). all_apart z.products) (sym (ok_is f k i)) ∙ h
 
-    one : (g : Option Goal) (b : Body) (k : Linear) → price_in g w s a b f ≡ Ok k → all_apart k.products ≡ true
+    one : (g : Option ChosenObjective) (b : Body) (k : Linear) → price_in g w s a b f ≡ Ok k → all_apart k.products ≡ true
     one g plain k i = same k i
     one g (valued t) k i = same k i
     one None (priced n t) k i = same k i
@@ -110,20 +110,20 @@ prices_apart g w s a (p ∷ ps) f new h e = ok_then (price_in g w s a p.body f) 
 -- ---- arcs
 
 -- what rows of an arc's declaration add to the form
-pub record Adds (all : List Arc) (g : Option Goal) (here : List Arc) (f new : Linear) : Type 0 where
+pub record Adds (all : List Arc) (g : Option ChosenObjective) (here : List Arc) (f new : Linear) : Type 0 where
   pub apart : all_apart f.products ≡ true → all_apart new.products ≡ true
   pub sum : (x : Assignment) → form_at (by_place all x) new ≡ form_at (by_place all x) f +ℤ goal_prices g here x
 
-goal_more : (g : Option Goal) (w : World) (n : Token) (b : Option Braces) (ps : List Phrase) (p : Parts) (row : Row) (rest : List Arc) (x : Assignment)
+goal_more : (g : Option ChosenObjective) (w : World) (n : Token) (b : Option Braces) (ps : List Phrase) (p : Parts) (row : Row) (rest : List Arc) (x : Assignment)
     → goal_prices g (arc_at_row w n b ps p row ∷ rest) x ≡ goal_price g w row.scope ps *ℤ number_on x (arc_at_row w n b ps p row) +ℤ goal_prices g rest x
 goal_more None w n b ps p row rest x = omega (arith, ints, zero-*ℤ (number_on x (arc_at_row w n b ps p row)))
 goal_more (Some g) w n b ps p row rest x = refl
 
-nothing_more : (g : Option Goal) (m : ℤ) (x : Assignment) → m ≡ m +ℤ goal_prices g [] x
+nothing_more : (g : Option ChosenObjective) (m : ℤ) (x : Assignment) → m ≡ m +ℤ goal_prices g [] x
 nothing_more None m x = omega (arith, ints)
 nothing_more (Some g) m x = omega (arith, ints)
 
-row_adds : (all : List Arc) (g : Option Goal) (dn : DrawnNodes) (w : World) (n : Token) (b : Option Braces) (k : Option ℕ) (p : Parts) (ps : List Phrase) (row : Row) (d next new : DrawnArcs) (front later after : List Arc)
+row_adds : (all : List Arc) (g : Option ChosenObjective) (dn : DrawnNodes) (w : World) (n : Token) (b : Option Braces) (k : Option ℕ) (p : Parts) (ps : List Phrase) (row : Row) (d next new : DrawnArcs) (front later after : List Arc)
     → length d.arcs ≡ length front → all ≡ front ++ (arc_at_row w n b ps p row ∷ later ++ after) → IsNextArc g dn w n k p ps row d next → Adds all g later next.form new.form → Adds all g (arc_at_row w n b ps p row ∷ later) d.form new.form
 row_adds all g dn w n b k p ps row d next new front later after l whole by rest = record {
   apart = λ h. rest.apart (prices_apart g w row.scope (length d.arcs) ps d.form next.form h by.priced);
@@ -137,7 +137,7 @@ row_adds all g dn w n b k p ps row d next new front later after l whole by rest 
     one : Arc
     one = arc_at_row w n b ps p row
 
-rows_add : (all : List Arc) (g : Option Goal) (dn : DrawnNodes) (w : World) (n : Token) (b : Option Braces) (k : Option ℕ) (p : Parts) (ps : List Phrase) (rows : List Row) (d new : DrawnArcs) (front after : List Arc)
+rows_add : (all : List Arc) (g : Option ChosenObjective) (dn : DrawnNodes) (w : World) (n : Token) (b : Option Braces) (k : Option ℕ) (p : Parts) (ps : List Phrase) (rows : List Row) (d new : DrawnArcs) (front after : List Arc)
     → length d.arcs ≡ length front → all ≡ front ++ (map (arc_at_row w n b ps p) rows ++ after) → arcs_at g dn w n k p ps rows d ≡ Ok new → Adds all g (map (arc_at_row w n b ps p) rows) d.form new.form
 rows_add all g dn w n b k p ps [] d new front after l whole e =
     let same = ap (λ (z : DrawnArcs). z.form) (ok_is d new e) in
@@ -151,7 +151,7 @@ rows_add all g dn w n b k p ps (row ∷ rows) d new front after l whole e =
     row_adds all g dn w n b k p ps row d next new front later after l whole by
     (rows_add all g dn w n b k p ps rows next new (front ++ one ∷ []) after counted (whole ∙ sym (append_assoc front (one ∷ []) (later ++ after))) j))
 
-pub arcs_add : (all : List Arc) (g : Option Goal) (dn : DrawnNodes) (w : World) (n : Token) (b : Option Braces) (ps : List Phrase) (d new : DrawnArcs) (front after : List Arc)
+pub arcs_add : (all : List Arc) (g : Option ChosenObjective) (dn : DrawnNodes) (w : World) (n : Token) (b : Option Braces) (ps : List Phrase) (d new : DrawnArcs) (front after : List Arc)
     → length d.arcs ≡ length front → all ≡ front ++ (arcs_with w n b ps (parts_of n ps) ++ after) → with_arcs g dn w n b ps d ≡ Ok new → Adds all g (arcs_with w n b ps (parts_of n ps)) d.form new.form
 arcs_add all g dn w n b ps d new front after l whole e =
     subst (λ (here : List Arc). Adds all g here d.form new.form) (sym here_is)

@@ -14,7 +14,7 @@ use Rattle.net_inst.specs.declared.group.Group.{Group}
 use Rattle.net_inst.specs.declared.names.Declared.{Declared}
 use Rattle.net_inst.specs.Arcs.{with_arcs}
 use Rattle.net_inst.specs.AsWritten.{Label, Node, Arc, nodes_of, arcs_of, nodes, arcs, known_behind, in_order, node_declared, arc_declared, same_label}
-use Rattle.net_inst.specs.Drafts.{Drawing, nothing, seen, said_form, aimed, passed, is_chosen, with_goal, with_objective, known_more, nodes_more, arcs_more, declare, draw}
+use Rattle.net_inst.specs.Drafts.{Drawing, nothing, env, said_form, aimed, passed, is_chosen, with_goal, with_objective, known_more, nodes_more, arcs_more, declare, draw}
 use Rattle.net_inst.specs.Instances.{Network, with_coefficients}
 use Rattle.net_inst.specs.Laws.{IsInSides, IsRangeOf, HaveExactRanges, AreNames, AreNamesOf, HaveNames, IsBoundedAs, HaveBounds, HasEndsOf, HaveEnds}
 use Rattle.net_inst.specs.Nodes.{with_nodes}
@@ -79,13 +79,13 @@ aimed_is wanted w t n p d new e =
 -- one declaration more
 pub record IsNext (m : Lines) (w : World) (x : Declaration) (d new : Drawing) : Type 0 where
   pub known : new.known ≡ known_behind d.known x
-  pub is_written : IsWritten (behind m (lines_of (seen w d) x)) new
+  pub is_written : IsWritten (behind m (lines_of (env w d) x)) new
 
 unchanged : (m : Lines) (w : World) (x : Declaration) (d new : Drawing) → IsWritten m d → new.known ≡ known_behind d.known x → d.nodes ≡ new.nodes → d.arcs.arcs ≡ new.arcs.arcs → d.arcs.group ≡ new.arcs.group
-    → nodes_of (seen w d) x ≡ [] → node_declared x ≡ [] → arcs_of (seen w d) x ≡ [] → arc_declared x ≡ [] → IsNext m w x d new
+    → nodes_of (env w d) x ≡ [] → node_declared x ≡ [] → arcs_of (env w d) x ≡ [] → arc_declared x ≡ [] → IsNext m w x d new
 unchanged m w x d new h known ns drawn group a b c e = record {
   known = known;
-  is_written = subst (λ (l : Lines). IsWritten l new) (behind_none m (lines_of (seen w d) x) a b c e) (record {
+  is_written = subst (λ (l : Lines). IsWritten l new) (behind_none m (lines_of (env w d) x) a b c e) (record {
     nodes = subst (AreNodes m.nodes m.node_names) ns h.nodes;
     arcs = record {
       drawn = subst (AllZip (IsDrawnAs (node_labels m.nodes)) m.arcs) drawn h.arcs.drawn;
@@ -105,30 +105,30 @@ next_is wanted w m (check t b c x z) d new h e =
     let same = ok_is d new e in
     unchanged m w (check t b c x z) d new h (ap (λ (y : Drawing). y.known) (sym same)) (ap (λ (y : Drawing). y.nodes) same) (ap (λ (y : Drawing). y.arcs.arcs) same) (ap (λ (y : Drawing). y.arcs.group) same) refl refl refl refl
 next_is wanted w m (objective t n p z) d new h e =
-    let by = aimed_is wanted (seen w d) t n p d new e in
+    let by = aimed_is wanted (env w d) t n p d new e in
     unchanged m w (objective t n p z) d new h by.known by.nodes by.drawn by.group refl refl refl refl
 next_is wanted w m (node t n b c z) d new h e =
-    ok_then (with_nodes (seen w d) n b c d.nodes) (λ ns. Ok (nodes_more d ns)) new e (λ ns i j.
+    ok_then (with_nodes (env w d) n b c d.nodes) (λ ns. Ok (nodes_more d ns)) new e (λ ns i j.
     subst (IsNext m w (node t n b c z) d) (ok_is (nodes_more d ns) new j) (record {
       known = refl;
       is_written = record {
-        nodes = nodes_more_are (seen w d) n b c m.nodes m.node_names d.nodes ns h.nodes i;
+        nodes = nodes_more_are (env w d) n b c m.nodes m.node_names d.nodes ns h.nodes i;
         arcs =
-            subst (λ (xs : List Arc). AreArcs (node_labels (m.nodes ++ nodes_of (seen w d) (node t n b c z))) xs (m.arc_names ++ []) d.arcs) (sym (append-nil m.arcs))
-            (subst (λ (xs : List Declared). AreArcs (node_labels (m.nodes ++ nodes_of (seen w d) (node t n b c z))) m.arcs xs d.arcs) (sym (append-nil m.arc_names))
-            (subst (λ (ls : List Label). AreArcs ls m.arcs m.arc_names d.arcs) (sym (map_join (λ (v : Node). v.label) m.nodes (nodes_of (seen w d) (node t n b c z))))
-            (arcs_stay (node_labels m.nodes) (node_labels (nodes_of (seen w d) (node t n b c z))) m.arcs m.arc_names d.arcs h.arcs)));
+            subst (λ (xs : List Arc). AreArcs (node_labels (m.nodes ++ nodes_of (env w d) (node t n b c z))) xs (m.arc_names ++ []) d.arcs) (sym (append-nil m.arcs))
+            (subst (λ (xs : List Declared). AreArcs (node_labels (m.nodes ++ nodes_of (env w d) (node t n b c z))) m.arcs xs d.arcs) (sym (append-nil m.arc_names))
+            (subst (λ (ls : List Label). AreArcs ls m.arcs m.arc_names d.arcs) (sym (map_join (λ (v : Node). v.label) m.nodes (nodes_of (env w d) (node t n b c z))))
+            (arcs_stay (node_labels m.nodes) (node_labels (nodes_of (env w d) (node t n b c z))) m.arcs m.arc_names d.arcs h.arcs)));
       };
     }))
 next_is wanted w m (arc t n b ps z) d new h e =
-    ok_then (with_arcs d.goal d.nodes (seen w d) n b ps d.arcs) (λ xs. Ok (arcs_more d xs)) new e (λ xs i j.
+    ok_then (with_arcs d.goal d.nodes (env w d) n b ps d.arcs) (λ xs. Ok (arcs_more d xs)) new e (λ xs i j.
     subst (IsNext m w (arc t n b ps z) d) (ok_is (arcs_more d xs) new j) (record {
       known = refl;
       is_written = record {
         nodes = subst (λ (ns : List Node). AreNodes ns (m.node_names ++ []) d.nodes) (sym (append-nil m.nodes)) (subst (λ (ns : List Declared). AreNodes m.nodes ns d.nodes) (sym (append-nil m.node_names)) h.nodes);
         arcs =
-            subst (λ (ns : List Node). AreArcs (node_labels ns) (m.arcs ++ arcs_of (seen w d) (arc t n b ps z)) (m.arc_names ++ arc_declared (arc t n b ps z)) xs) (sym (append-nil m.nodes))
-            (arcs_more_are m.nodes m.node_names d.nodes h.nodes d.goal (seen w d) n b ps m.arcs m.arc_names d.arcs xs h.arcs i);
+            subst (λ (ns : List Node). AreArcs (node_labels ns) (m.arcs ++ arcs_of (env w d) (arc t n b ps z)) (m.arc_names ++ arc_declared (arc t n b ps z)) xs) (sym (append-nil m.nodes))
+            (arcs_more_are m.nodes m.node_names d.nodes h.nodes d.goal (env w d) n b ps m.arcs m.arc_names d.arcs xs h.arcs i);
       };
     }))
 
@@ -137,9 +137,9 @@ written wanted w [] m d new h e = subst (λ (l : Lines). IsWritten l new) (behin
 written wanted w (x ∷ xs) m d new h e =
     ok_then (declare wanted w x d) (draw wanted w xs) new e (λ next i j.
     let one = next_is wanted w m x d next h i in
-    let rest = written wanted w xs (behind m (lines_of (seen w d) x)) next new one.is_written j in
-    subst (λ (l : Lines). IsWritten l new) (behind_behind m (lines_of (seen w d) x) (all_lines w (known_behind d.known x) xs))
-    (subst (λ (k : ℕ). IsWritten (behind (behind m (lines_of (seen w d) x)) (all_lines w k xs)) new) one.known rest))
+    let rest = written wanted w xs (behind m (lines_of (env w d) x)) next new one.is_written j in
+    subst (λ (l : Lines). IsWritten l new) (behind_behind m (lines_of (env w d) x) (all_lines w (known_behind d.known x) xs))
+    (subst (λ (k : ℕ). IsWritten (behind (behind m (lines_of (env w d) x)) (all_lines w k xs)) new) one.known rest))
 
 pub nothing_written : IsWritten no_lines nothing
 nothing_written = record {
@@ -170,7 +170,7 @@ one_range (Some l) (Some n) y = ((λ h. record { low = for_some (λ m. m ≤ℤ 
 
 range_is : (n : Node) (r : Sides) → HasRange n r → IsRangeOf n r
 range_is n r h y =
-    let exact = range_exact n.seen n.scope n.condition r h.is y in
+    let exact = range_exact n.env n.scope n.condition r h.is y in
     let words = one_range r.low r.high y in
     ((λ i. exact.0 (words.1 i)), (λ i. words.0 (exact.1 i)))
 

@@ -11,15 +11,14 @@ use Rattle.net_lex.specs.declared.token.Token.{Token}
 use Rattle.net_lex.specs.declared.token.Kind.{Kind}
 use Rattle.net_lex.specs.declared.token.Kind.TheVariants as kinds
 use Rattle.net_sets.specs.declared.member.Member.TheVariants.{Number}
-use Rattle.net_tree.specs.declared.expr.Operator.TheVariants as operator
+use Rattle.net_tree.specs.declared.operator.Words.TheVariants as operator
 use Rattle.net_tree.specs.Role.{role_of, marks, keys}
 use Rattle.net_tree.specs.Spans.{span_of, span_between, braces_span}
 use Rattle.net_tree.specs.Tree.{Tree, leaf, indexed, braced, chain, net, none, link, absent, part, Braces, filled, Phrase, valued, priced, one, Declaration, node, arc, objective}
 use Rattle.net_eval.specs.Limits.{is_small}
-use Rattle.net_eval.specs.Operations.{operations, operation, reduction, is_minus}
+use Rattle.net_tree.specs.Operations.{operations, operation, reduction, is_minus}
 use Rattle.net_eval.specs.Numbers.{number_in}
 use Rattle.net_eval.specs.Worlds.{Name}
-use Rattle.net_linear.specs.Joints.{joint}
 use Rattle.net_inst.specs.AsWritten.{Label, nodes, arcs, numbers_on, Assignment, by_label, from_end, to_end, net_inflow}
 use Rattle.net_inst.specs.Drafts.{sense_of}
 use Rattle.net_inst.specs.Readings.{Objective, objectives, chosen, value_of}
@@ -106,12 +105,12 @@ told o = (o.name, value_of o flows)
 
 -- 7 + 1 * 4 + 2 * 6
 by_phrases : option_map told (chosen (Some (codes "Cost")) (objectives [] model)) ≡ Some (codes "Cost", pos 23)
-unfolding role_of marks keys operations operation reduction is_minus is_small number_in numeral_at mantissa_at power_at whole_value span_of span_between braces_span joint sense_of
+unfolding role_of marks keys operations operation reduction is_minus is_small number_in numeral_at mantissa_at power_at whole_value span_of span_between braces_span sense_of
 by_phrases = refl
 
 -- 3 * 4 - 6 + 1
 by_expression : option_map told (chosen (Some (codes "Gain")) (objectives [] model)) ≡ Some (codes "Gain", pos 7)
-unfolding role_of marks keys operations operation reduction is_minus is_small number_in numeral_at mantissa_at power_at whole_value span_of span_between braces_span joint sense_of
+unfolding role_of marks keys operations operation reduction is_minus is_small number_in numeral_at mantissa_at power_at whole_value span_of span_between braces_span sense_of
 by_expression = refl
 
 no_other : option_map told (chosen (Some (codes "Loss")) (objectives [] model)) ≡ None

@@ -10,7 +10,7 @@ use Rattle.net_eval.specs.Worlds.{Name, World, Scope, reference}
 use Rattle.net_linear.specs.Forms as forms
 use Rattle.net_inst.specs.declared.arc.Drawn.{Drawn}
 use Rattle.net_fault.specs.declared.defect.Defect.TheVariants.{ArcCrossed, TooManyArcs}
-use Rattle.net_inst.specs.declared.goal.Goal.{Goal}
+use Rattle.net_inst.specs.declared.goal.ChosenObjective.{ChosenObjective}
 use Rattle.net_inst.specs.declared.group.Group.{Group}
 use Rattle.net_inst.specs.declared.indexing.Indexing.{Indexing}
 use Rattle.net_inst.specs.Groups.{no_group, group_with}
@@ -43,7 +43,7 @@ drawn ns w n k p row =
     and_then (number w row.scope p.lower) (λ l. and_then (number w row.scope p.upper) (λ u.
     if int_lt u l then refused_of ArcCrossed n.span (reference n.text k row.key) else with_ends ns w row.scope p l u))
 
-abbrev pub is_goal : Option Goal → Name → Bool
+abbrev pub is_goal : Option ChosenObjective → Name → Bool
 is_goal None name = false
 is_goal (Some g) name = bytes_eq g.name name
 
@@ -51,24 +51,24 @@ abbrev pub priced_by : World → Scope → ℕ → Tree → forms.Linear → Out
 priced_by w s a x f = and_then (number w s x) (λ c. forms.priced (span_of x) f a c)
 
 -- the form with what a phrase gives arc a in the objective; phrases of other objectives are passed over
-abbrev pub price_in : Option Goal → World → Scope → ℕ → Body → forms.Linear → Outcome forms.Linear
+abbrev pub price_in : Option ChosenObjective → World → Scope → ℕ → Body → forms.Linear → Outcome forms.Linear
 price_in g w s a (priced n x) f = if is_goal g n.text then priced_by w s a x f else Ok f
 price_in g w s a plain f = Ok f
 price_in g w s a (valued x) f = Ok f
 
-abbrev pub prices_in : Option Goal → World → Scope → ℕ → List Phrase → forms.Linear → Outcome forms.Linear
+abbrev pub prices_in : Option ChosenObjective → World → Scope → ℕ → List Phrase → forms.Linear → Outcome forms.Linear
 prices_in g w s a [] f = Ok f
 prices_in g w s a (p ∷ ps) f = and_then (price_in g w s a p.body f) (prices_in g w s a ps)
 
 -- one arc more, at a key
-abbrev pub next_arc : Option Goal → DrawnNodes → World → Token → Option ℕ → Parts → List Phrase → Row → DrawnArcs → Outcome DrawnArcs
+abbrev pub next_arc : Option ChosenObjective → DrawnNodes → World → Token → Option ℕ → Parts → List Phrase → Row → DrawnArcs → Outcome DrawnArcs
 next_arc g ns w n k p ps row d =
     if nat_lt (length d.arcs) arc_limit then
     and_then (drawn ns w n k p row) (λ x. and_then (prices_in g w row.scope (length d.arcs) ps d.form) (λ f. Ok (record { arcs = d.arcs ++ x ∷ []; form = f; group = d.group })))
     else refused_name TooManyArcs n
 
 -- an arc for each key, behind those found before
-abbrev pub arcs_at : Option Goal → DrawnNodes → World → Token → Option ℕ → Parts → List Phrase → List Row → DrawnArcs → Outcome DrawnArcs
+abbrev pub arcs_at : Option ChosenObjective → DrawnNodes → World → Token → Option ℕ → Parts → List Phrase → List Row → DrawnArcs → Outcome DrawnArcs
 arcs_at g ns w n k p ps [] d = Ok d
 arcs_at g ns w n k p ps (row ∷ rows) d = and_then (next_arc g ns w n k p ps row d) (arcs_at g ns w n k p ps rows)
 
@@ -79,9 +79,9 @@ formed d f = record { arcs = d.arcs; form = f; group = d.group }
 abbrev pub named_arcs : Name → ℕ → Indexing → DrawnArcs → DrawnArcs
 named_arcs name first i d = record { arcs = d.arcs; form = d.form; group = group_with d.group name first i }
 
-abbrev pub arcs_by : Option Goal → DrawnNodes → World → Token → List Phrase → DrawnArcs → Parts → Indexing → Outcome DrawnArcs
+abbrev pub arcs_by : Option ChosenObjective → DrawnNodes → World → Token → List Phrase → DrawnArcs → Parts → Indexing → Outcome DrawnArcs
 arcs_by g ns w n ps d p i = and_then (arcs_at g ns w n i.count p ps i.rows d) (λ found. Ok (named_arcs n.text (length d.arcs) i found))
 
 -- the arcs of a declaration behind those of the declarations before it; what its phrases lack is told first
-abbrev pub with_arcs : Option Goal → DrawnNodes → World → Token → Option Braces → List Phrase → DrawnArcs → Outcome DrawnArcs
+abbrev pub with_arcs : Option ChosenObjective → DrawnNodes → World → Token → Option Braces → List Phrase → DrawnArcs → Outcome DrawnArcs
 with_arcs g ns w n b ps d = and_then (parts_of n ps) (λ p. and_then (indexing_in w b) (arcs_by g ns w n ps d p))

@@ -27,14 +27,14 @@ pub record Label : Type 0 where
 -- a node at a key: the sets and parameters that its declaration sees, the dummies that the key binds, and its condition
 pub record Node : Type 0 where
   pub label : Label
-  pub seen : World
+  pub env : World
   pub scope : Scope
   pub condition : Condition
 
 -- an arc at a key, with what its phrases say of its bounds and ends, and all its phrases
 pub record Arc : Type 0 where
   pub label : Label
-  pub seen : World
+  pub env : World
   pub scope : Scope
   pub parts : Parts
   pub phrases : List Phrase
@@ -48,10 +48,10 @@ abbrev pub label_at : Token → Option Braces → Row → Label
 label_at n b row = record { name = n.text; indexed = is_some b; key = row.key }
 
 abbrev pub node_at_row : World → Token → Option Braces → Condition → Row → Node
-node_at_row w n b c row = record { label = label_at n b row; seen = w; scope = row.scope; condition = c }
+node_at_row w n b c row = record { label = label_at n b row; env = w; scope = row.scope; condition = c }
 
 abbrev pub arc_at_row : World → Token → Option Braces → List Phrase → Parts → Row → Arc
-arc_at_row w n b ps p row = record { label = label_at n b row; seen = w; scope = row.scope; parts = p; phrases = ps }
+arc_at_row w n b ps p row = record { label = label_at n b row; env = w; scope = row.scope; parts = p; phrases = ps }
 
 -- the nodes of a declaration, one at each key
 abbrev pub nodes_of : World → Declaration → List Node
@@ -135,10 +135,10 @@ end_of w s (Some t) = reference_in w s t
 
 -- what the arc says behind `from`, and behind `to`
 abbrev pub from_end : Arc → Option (Name × Tuple)
-from_end a = end_of a.seen a.scope a.parts.tail
+from_end a = end_of a.env a.scope a.parts.tail
 
 abbrev pub to_end : Arc → Option (Name × Tuple)
-to_end a = end_of a.seen a.scope a.parts.head
+to_end a = end_of a.env a.scope a.parts.head
 
 abbrev pub is_named : Label → Option (Name × Tuple) → Bool
 is_named l None = false
@@ -158,12 +158,12 @@ abbrev pub amount : World → Scope → Tree → ℤ
 amount w s t = number_of (number_or_none w s t)
 
 pub record IsWithin (x : Assignment) (a : Arc) : Type 0 where
-  pub lower : amount a.seen a.scope a.parts.lower ≤ℤ number_on x a
-  pub upper : number_on x a ≤ℤ amount a.seen a.scope a.parts.upper
+  pub lower : amount a.env a.scope a.parts.lower ≤ℤ number_on x a
+  pub upper : number_on x a ≤ℤ amount a.env a.scope a.parts.upper
 
 -- the condition of the node is true of its net inflow
 abbrev pub IsMet : List Arc → Assignment → Node → Type 0
-IsMet all x n = Holds n.seen n.scope n.condition (net_inflow all x n.label)
+IsMet all x n = Holds n.env n.scope n.condition (net_inflow all x n.label)
 
 -- each arc is within its bounds, and each node's condition is true
 pub record IsFeasible (ns : List Node) (all : List Arc) (x : Assignment) : Type 0 where

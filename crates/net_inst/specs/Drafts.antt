@@ -10,7 +10,7 @@ use Rattle.net_linear.specs.Forms.{Linear, just}
 use Rattle.net_linear.specs.Objectives.{objective_form}
 use Rattle.net_fault.specs.declared.defect.Defect.TheVariants.{TwoObjectives}
 use Rattle.net_inst.specs.declared.draft.Draft.{Draft}
-use Rattle.net_inst.specs.declared.goal.Goal.{Goal}
+use Rattle.net_inst.specs.declared.goal.ChosenObjective.{ChosenObjective}
 use Rattle.net_inst.specs.Arcs.{DrawnArcs, no_arcs, with_arcs, formed}
 use Rattle.net_inst.specs.Groups.{Numbers}
 use Rattle.net_inst.specs.Nodes.{DrawnNodes, no_nodes, with_nodes}
@@ -22,18 +22,18 @@ abbrev pub Drawing : Type 0
 Drawing = Draft
 
 abbrev pub nothing : Drawing
-nothing = record { known = 0; nodes = no_nodes; arcs = no_arcs; goal = None; aims = false }
+nothing = record { known = 0; nodes = no_nodes; arcs = no_arcs; goal = None; has_objective = false }
 
 -- the world as it is declared so far
-abbrev pub seen : World → Drawing → World
-seen w d = take d.known w
+abbrev pub env : World → Drawing → World
+env w d = take d.known w
 
 -- `minimize` and `maximize`
 unfoldable pub sense_of : Token → Sense
 sense_of t = if bytes_eq (codes "minimize") t.text then Minimise else Maximise
 
 -- whether an objective is the chosen one: that of the given name, and where none is given the only one
-abbrev pub is_chosen : Option Name → Option Goal → Token → Outcome Bool
+abbrev pub is_chosen : Option Name → Option ChosenObjective → Token → Outcome Bool
 is_chosen (Some name) g n = Ok (bytes_eq name n.text)
 is_chosen None None n = Ok true
 is_chosen None (Some g) n = refused_name TwoObjectives n
@@ -47,7 +47,7 @@ said_form a w absent = Ok (just (pos 0))
 said_form a w (part m x) = said_tree a w x
 
 abbrev pub passed : Drawing → Drawing
-passed d = record { known = d.known; nodes = d.nodes; arcs = d.arcs; goal = d.goal; aims = true }
+passed d = record { known = d.known; nodes = d.nodes; arcs = d.arcs; goal = d.goal; has_objective = true }
 
 abbrev pub aimed : Drawing → Token → Token → Linear → Drawing
 aimed d t n f = record {
@@ -55,7 +55,7 @@ aimed d t n f = record {
   nodes = d.nodes;
   arcs = formed d.arcs f;
   goal = Some (record { name = n.text; sense = sense_of t });
-  aims = true;
+  has_objective = true;
 }
 
 abbrev pub with_goal : World → Token → Token → Part → Drawing → Outcome Drawing
@@ -65,13 +65,13 @@ abbrev pub with_objective : Option Name → World → Token → Token → Part �
 with_objective wanted w t n p d = and_then (is_chosen wanted d.goal n) (λ b. if b then with_goal w t n p d else Ok (passed d))
 
 abbrev pub known_more : Drawing → Drawing
-known_more d = record { known = d.known + 1; nodes = d.nodes; arcs = d.arcs; goal = d.goal; aims = d.aims }
+known_more d = record { known = d.known + 1; nodes = d.nodes; arcs = d.arcs; goal = d.goal; has_objective = d.has_objective }
 
 abbrev pub nodes_more : Drawing → DrawnNodes → Drawing
-nodes_more d ns = record { known = d.known; nodes = ns; arcs = d.arcs; goal = d.goal; aims = d.aims }
+nodes_more d ns = record { known = d.known; nodes = ns; arcs = d.arcs; goal = d.goal; has_objective = d.has_objective }
 
 abbrev pub arcs_more : Drawing → DrawnArcs → Drawing
-arcs_more d xs = record { known = d.known; nodes = d.nodes; arcs = xs; goal = d.goal; aims = d.aims }
+arcs_more d xs = record { known = d.known; nodes = d.nodes; arcs = xs; goal = d.goal; has_objective = d.has_objective }
 
 abbrev pub with_node_declaration : World → Token → Option Braces → Condition → Drawing → Outcome Drawing
 with_node_declaration w n b c d = and_then (with_nodes w n b c d.nodes) (λ ns. Ok (nodes_more d ns))
@@ -84,9 +84,9 @@ abbrev pub declare : Option Name → World → Declaration → Drawing → Outco
 declare wanted w (set t n ps e) d = Ok (known_more d)
 declare wanted w (param t n b ps e) d = Ok (known_more d)
 declare wanted w (check t b m x e) d = Ok d
-declare wanted w (node t n b c e) d = with_node_declaration (seen w d) n b c d
-declare wanted w (arc t n b ps e) d = with_arc_declaration (seen w d) n b ps d
-declare wanted w (objective t n p e) d = with_objective wanted (seen w d) t n p d
+declare wanted w (node t n b c e) d = with_node_declaration (env w d) n b c d
+declare wanted w (arc t n b ps e) d = with_arc_declaration (env w d) n b ps d
+declare wanted w (objective t n p e) d = with_objective wanted (env w d) t n p d
 
 -- the declarations in order
 abbrev pub draw : Option Name → World → List Declaration → Drawing → Outcome Drawing

@@ -13,7 +13,7 @@ use Rattle.net_linear.specs.Forms.{Products, coefficient}
 use Rattle.net_inst.specs.declared.arc.Drawn.{Drawn}
 use Rattle.net_fault.specs.declared.defect.Defect.TheVariants.{NoObjective, NoSuchObjective}
 use Rattle.net_fault.specs.declared.fault.Fault.{Fault}
-use Rattle.net_inst.specs.declared.goal.Goal.{Goal}
+use Rattle.net_inst.specs.declared.goal.ChosenObjective.{ChosenObjective}
 use Rattle.net_inst.specs.declared.network.Named.{Named as NamedOfCode}
 use Rattle.net_inst.specs.declared.names.Names.{Names}
 use Rattle.net_inst.specs.Arcs.{DrawnArcs}
@@ -36,7 +36,7 @@ abbrev pub with_coefficients : Products → ℕ → List Drawn → List InstArc
 with_coefficients ps a [] = []
 with_coefficients ps a (x ∷ xs) = with_coefficient x (coefficient ps a) ∷ with_coefficients ps (suc a) xs
 
-abbrev pub network_of : DrawnNodes → DrawnArcs → Goal → Network
+abbrev pub network_of : DrawnNodes → DrawnArcs → ChosenObjective → Network
 network_of ns xs g = record {
   nodes = ns.ranges;
   arcs = with_coefficients xs.form.products 0 xs.arcs;
@@ -50,9 +50,9 @@ abbrev pub without_goal : {A : Type 0} → Option Name → Span → Bool → Out
 without_goal wanted at false = refused_of NoObjective at Nothing
 without_goal wanted at true = refused_of NoSuchObjective at (Told (unwrap_or wanted []))
 
-abbrev pub finished : Option Name → Span → Drawing → Option Goal → Outcome Network
+abbrev pub finished : Option Name → Span → Drawing → Option ChosenObjective → Outcome Network
 finished wanted at d (Some g) = Ok (network_of d.nodes d.arcs g)
-finished wanted at d None = without_goal wanted at d.aims
+finished wanted at d None = without_goal wanted at d.has_objective
 
 -- the last token of a declaration
 abbrev pub semicolon : Declaration → Token

@@ -46,7 +46,7 @@ pub record IsInSides (r : Sides) (inflow : ℤ) : Type 0 where
 
 -- a node's range has a number exactly when the condition as it is written is true of it as net inflow
 abbrev pub IsRangeOf : Node → Sides → Type 0
-IsRangeOf n r = (y : ℤ) → IsInSides r y ↔ Holds n.seen n.scope n.condition y
+IsRangeOf n r = (y : ℤ) → IsInSides r y ↔ Holds n.env n.scope n.condition y
 
 abbrev pub HaveExactRanges : Type 0
 HaveExactRanges = (wanted : Option Name) (w : World) (ds : List Declaration) (n : Network) → network wanted w ds ≡ Ok n → AllZip IsRangeOf (nodes w ds) n.nodes
@@ -78,8 +78,8 @@ IsPlaceOf labels (Some r) (Some v) = (l : Label) × (slice_get labels v ≡ Some
 
 -- the bounds are the values of those that are written
 pub record IsBoundedAs (a : Arc) (x : InstArc) : Type 0 where
-  pub lower : value a.seen a.scope a.parts.lower ≡ Ok (One (Number x.lower))
-  pub upper : value a.seen a.scope a.parts.upper ≡ Ok (One (Number x.upper))
+  pub lower : value a.env a.scope a.parts.lower ≡ Ok (One (Number x.lower))
+  pub upper : value a.env a.scope a.parts.upper ≡ Ok (One (Number x.upper))
 
 abbrev pub HaveBounds : Type 0
 HaveBounds = (wanted : Option Name) (w : World) (ds : List Declaration) (n : Network) → network wanted w ds ≡ Ok n → AllZip IsBoundedAs (arcs w ds) n.arcs

@@ -2,7 +2,7 @@
 use Rattle.std.specs.Prelude.{Bool, true, false, List, [], ◌∷◌, Option, None, Some, if◌then◌else◌, Ok}
 use Rattle.net_lex.specs.declared.token.Token.{Token}
 use Rattle.net_tree.specs.declared.role.Begins.TheVariants as begins
-use Rattle.net_tree.specs.declared.role.Relates.TheVariants as relates
+use Rattle.net_tree.specs.declared.role.Relation.TheVariants as relations
 use Rattle.net_tree.specs.declared.role.Role.{Role}
 use Rattle.net_tree.specs.declared.role.Role.TheVariants as roles
 use Rattle.net_tree.specs.Role.{role_of}
@@ -14,8 +14,8 @@ use Rattle.net_fault.specs.Outcomes.{Outcome}
 use Rattle.net_inst.specs.Refusals.{refused_name}
 
 abbrev pub is_word : ArcWord → Role → Bool
-is_word AtLeast (roles.Relation relates.AtLeast) = true
-is_word AtMost (roles.Relation relates.AtMost) = true
+is_word AtLeast (roles.Relation relations.AtLeast) = true
+is_word AtMost (roles.Relation relations.AtMost) = true
 is_word From (roles.Phrase begins.From) = true
 is_word To (roles.Phrase begins.To) = true
 is_word _ _ = false

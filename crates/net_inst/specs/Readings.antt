@@ -6,11 +6,10 @@ use Rattle.net_tree.specs.Spans.{span_of}
 use Rattle.net_tree.specs.Tree.{Tree, Links, Part, leaf, indexed, parens, tuple, negated, braced, signed, reduced, chain, choice, net, none, link, absent, part, Body, plain, valued, priced, Phrase, Declaration, objective}
 use Rattle.net_normal.specs.declared.instance.Sense.{Sense}
 use Rattle.net_eval.specs.Numbers.{turned}
-use Rattle.net_eval.specs.Operations.{is_minus}
+use Rattle.net_tree.specs.Operations.{is_minus, operation}
 use Rattle.net_eval.specs.Values.{index}
 use Rattle.net_eval.specs.Worlds.{Name, World, Scope}
 use Rattle.net_linear.specs.declared.arc.ArcKeys.{ArcKeys}
-use Rattle.net_linear.specs.Joints.{joint}
 use Rattle.net_linear.specs.Objectives.{names_arc, key_of, condition}
 use Rattle.net_fault.specs.Outcomes.{Outcome}
 use Rattle.net_linear.specs.Worths.{read, combine, sum_in, choose}
@@ -47,7 +46,7 @@ abbrev mutual
   -- the operators of a chain from the left
   pub reading_chain : (Tree → Bool) → World → Scope → Links → ℤ → Assignment → ℤ
   reading_chain arc_in w s none n x = n
-  reading_chain arc_in w s (link o y l) n x = reading_chain arc_in w s l (combine (joint o) n (reading arc_in w s y x)) x
+  reading_chain arc_in w s (link o y l) n x = reading_chain arc_in w s l (combine (operation o) n (reading arc_in w s y x)) x
 
 -- names of arcs, of which only the name is told
 abbrev pub name_alone : Declared → Name × ArcKeys
@@ -71,14 +70,14 @@ price_of goal w s (p ∷ ps) = price_in goal w s p.body +ℤ price_of goal w s p
 -- what arcs add to the objective of a name
 abbrev pub prices : Name → List Arc → Assignment → ℤ
 prices goal [] x = pos 0
-prices goal (a ∷ all) x = (price_of goal a.seen a.scope a.phrases *ℤ number_on x a) +ℤ prices goal all x
+prices goal (a ∷ all) x = (price_of goal a.env a.scope a.phrases *ℤ number_on x a) +ℤ prices goal all x
 
 -- a declared objective, with the arcs declared before it, which its expression may name, and those behind it, whose `obj`
 -- phrases may name it
 pub record Objective : Type 0 where
   pub sense : Sense
   pub name : Name
-  pub seen : World
+  pub env : World
   pub expression : Part
   pub before : List Declared
   pub behind : List Arc
@@ -90,10 +89,10 @@ said_value ds w (part m t) x = reading (stands_in ds) w [] t x
 
 -- the value of an assignment
 abbrev pub value_of : Objective → Assignment → ℤ
-value_of o x = said_value o.before o.seen o.expression x +ℤ prices o.name o.behind x
+value_of o x = said_value o.before o.env o.expression x +ℤ prices o.name o.behind x
 
 abbrev pub objective_of : List Declared → World → Declaration → List Arc → List Objective
-objective_of before w (objective t n p e) behind = (record { sense = sense_of t; name = n.text; seen = w; expression = p; before = before; behind = behind }) ∷ []
+objective_of before w (objective t n p e) behind = (record { sense = sense_of t; name = n.text; env = w; expression = p; before = before; behind = behind }) ∷ []
 objective_of before w _ behind = []
 
 -- the objectives in order

@@ -11,14 +11,14 @@ ghost use Rattle.net_fault.specs.Outcomes.{Answers};
 ghost use Rattle.net_inst.specs.Parts.{parts_seen};
 
 use crate::fault::refuse;
-use crate::node::NodeDraft;
 use crate::node_name::node_named;
 use crate::number::number_of;
 use crate::phrases::ArcParts;
-use net_eval::{Row, Scope, Seen, told_reference};
+use crate::visible::Visible;
+use net_eval::{Row, Scope, told_reference};
 use net_fault::{Defect, Fault};
 use net_lex::Token;
-use net_linear::Form;
+use net_linear::Affine;
 use net_normal::InstArc;
 use net_tree::{Expr, Phrase};
 use std::alloc::{AllocError, Global};
@@ -44,17 +44,16 @@ pub(crate) struct ArcText<'a, 's> {
 /// The node at an end, where one is said.
 fn end_at<'s>(
     alloc: Global,
-    seen: &Seen<'_, 's>,
+    visible: &Visible<'_, 's>,
     scope: &Scope<'s>,
-    nodes: &NodeDraft<'s>,
     end: &Option<&Expr<'s>>,
 ) -> Result<Option<u32>, Fault>
-    ensures { Answers (found.end_at nodes.now seen.now scope.now (option_map tree (option_copied end.now))) result }
+    ensures { Answers (found.end_at visible.now.nodes.now visible.now.env.now scope.now (option_map tree (option_copied end.now))) result }
 {
     match end {
         None => Ok(None),
         Some(expr) => {
-            let number = node_named(alloc, seen, scope, nodes, expr)?;
+            let number = node_named(alloc, visible.env, scope, visible.nodes, expr)?;
             Ok(Some(number))
         }
     }
@@ -63,17 +62,16 @@ fn end_at<'s>(
 /// An arc with these bounds, where its ends are said.
 fn with_ends<'s>(
     alloc: Global,
-    seen: &Seen<'_, 's>,
+    visible: &Visible<'_, 's>,
     scope: &Scope<'s>,
-    nodes: &NodeDraft<'s>,
     parts: &ArcParts<'_, 's>,
     lower: i64,
     upper: i64,
 ) -> Result<Drawn, Fault>
-    ensures { Answers (found.with_ends nodes.now seen.now scope.now (parts_seen parts.now) lower upper) result }
+    ensures { Answers (found.with_ends visible.now.nodes.now visible.now.env.now scope.now (parts_seen parts.now) lower upper) result }
 {
-    let tail = end_at(alloc, seen, scope, nodes, &parts.tail)?;
-    let head = end_at(alloc, seen, scope, nodes, &parts.head)?;
+    let tail = end_at(alloc, visible, scope, &parts.tail)?;
+    let head = end_at(alloc, visible, scope, &parts.head)?;
     Ok(Drawn {
         lower,
         upper,
@@ -85,23 +83,21 @@ fn with_ends<'s>(
 /// An arc at a key: its bounds, and then its ends.
 pub(crate) fn arc_at<'s>(
     alloc: Global,
-    seen: &Seen<'_, 's>,
-    nodes: &NodeDraft<'s>,
-    name: &Token<'s>,
+    visible: &Visible<'_, 's>,
+    text: &ArcText<'_, 's>,
     count: &Option<u8>,
-    parts: &ArcParts<'_, 's>,
     row: &Row<'s>,
 ) -> Result<Drawn, Fault>
-    ensures { Answers (found.drawn nodes.now seen.now name.now count.now (parts_seen parts.now) row.now) result }
+    ensures { Answers (found.drawn visible.now.nodes.now visible.now.env.now text.now.name.now count.now (parts_seen text.now.parts) row.now) result }
 {
     let scope = &row.scope;
-    let lower = number_of(alloc, seen, scope, parts.lower)?;
-    let upper = number_of(alloc, seen, scope, parts.upper)?;
+    let lower = number_of(alloc, visible.env, scope, text.parts.lower)?;
+    let upper = number_of(alloc, visible.env, scope, text.parts.upper)?;
     if upper < lower {
-        let detail = told_reference(alloc, &name.text, *count, &row.key)?;
-        Err(refuse(Defect::ArcCrossed, name.span, detail))
+        let detail = told_reference(alloc, &text.name.text, *count, &row.key)?;
+        Err(refuse(Defect::ArcCrossed, text.name.span, detail))
     } else {
-        with_ends(alloc, seen, scope, nodes, parts, lower, upper)
+        with_ends(alloc, visible, scope, &text.parts, lower, upper)
     }
 }
 
@@ -119,7 +115,11 @@ fn with_coefficient(arc: &Drawn, coefficient: &i64) -> InstArc
 }
 
 /// The arcs with their coefficients in the objective.
-pub(crate) fn priced(alloc: Global, form: &Form, arcs: &[Drawn]) -> Result<Vec<InstArc>, AllocError>
+pub(crate) fn priced(
+    alloc: Global,
+    form: &Affine,
+    arcs: &[Drawn],
+) -> Result<Vec<InstArc>, AllocError>
     ensures value { IfOk result (λ all. all.items ≡ network.with_coefficients form.now.products 0 arcs.now) }
     ensures size { IfOk result (λ all. All IsPriced all.items) }
 {

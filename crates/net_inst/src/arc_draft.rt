@@ -13,18 +13,17 @@ ghost use Rattle.net_inst.specs.Parts.{parts_seen};
 
 use crate::arc::{ArcText, Drawn, arc_at, priced};
 use crate::fault::refuse_name;
-use crate::goal::Goal;
 use crate::group::Group;
 use crate::indexing::{Indexing, indexing_of};
 use crate::names::NameList;
-use crate::node::NodeDraft;
 use crate::objective_form::said_form;
 use crate::phrases::parts_of;
 use crate::price::add_phrases;
-use net_eval::{Row, Seen};
+use crate::visible::Visible;
+use net_eval::{Env, Row};
 use net_fault::{Defect, Fault};
 use net_lex::Token;
-use net_linear::Form;
+use net_linear::Affine;
 use net_normal::InstArc;
 use net_tree::{Braces, Part, Phrase};
 use std::alloc::{AllocError, Global};
@@ -38,7 +37,7 @@ const ARC_LIMIT: usize = 100_000;
 #[derive(Drop)]
 pub(crate) struct ArcDraft<'s> {
     arcs: Vec<Drawn>,
-    form: Form,
+    form: Affine,
     group: Group<'s>,
 }
 
@@ -61,7 +60,7 @@ impl<'s> ArcDraft<'s> {
     {
         ArcDraft {
             arcs: Vec::new(alloc),
-            form: Form::zero(alloc),
+            form: Affine::zero(alloc),
             group: Group::new(alloc),
         }
     }
@@ -70,24 +69,21 @@ impl<'s> ArcDraft<'s> {
     fn add_arc(
         &mut self,
         alloc: Global,
-        goal: &Option<Goal<'s>>,
-        seen: &Seen<'_, 's>,
-        nodes: &NodeDraft<'s>,
+        visible: &Visible<'_, 's>,
         text: &ArcText<'_, 's>,
         count: &Option<u8>,
         row: &Row<'s>,
     ) -> Result<(), Fault>
-        ensures value { Leaves (found.next_arc goal.now nodes.now seen.now text.now.name.now count.now (parts_seen text.now.parts) (map phrase_of
-            text.now.phrases.now) row.now self.old) result self.new }
+        ensures value { Leaves (found.next_arc visible.now.goal.now visible.now.nodes.now visible.now.env.now text.now.name.now count.now
+            (parts_seen text.now.parts) (map phrase_of text.now.phrases.now) row.now self.old) result self.new }
         ensures count { OnOk result (length self.new.arcs ≡ length self.old.arcs + 1) }
     {
         let arc = self.arcs.len();
         if arc < ARC_LIMIT {
-            let new = arc_at(alloc, seen, nodes, text.name, count, &text.parts, row)?;
+            let new = arc_at(alloc, visible, text, count, row)?;
             add_phrases(
                 alloc,
-                goal,
-                seen,
+                visible,
                 &row.scope,
                 arc,
                 text.phrases,
@@ -104,19 +100,17 @@ impl<'s> ArcDraft<'s> {
     fn add_rows(
         &mut self,
         alloc: Global,
-        goal: &Option<Goal<'s>>,
-        seen: &Seen<'_, 's>,
-        nodes: &NodeDraft<'s>,
+        visible: &Visible<'_, 's>,
         text: &ArcText<'_, 's>,
         count: &Option<u8>,
         rows: &[Row<'s>],
     ) -> Result<(), Fault>
-        ensures value { Leaves (found.arcs_at goal.now nodes.now seen.now text.now.name.now count.now (parts_seen text.now.parts) (map phrase_of
-            text.now.phrases.now) rows.now self.old) result self.new }
+        ensures value { Leaves (found.arcs_at visible.now.goal.now visible.now.nodes.now visible.now.env.now text.now.name.now count.now
+            (parts_seen text.now.parts) (map phrase_of text.now.phrases.now) rows.now self.old) result self.new }
         ensures few { OnOk result (length rows.now ≤ length self.new.arcs) }
     {
         for row in rows {
-            self.add_arc(alloc, goal, seen, nodes, text, count, row)?;
+            self.add_arc(alloc, visible, text, count, row)?;
         }
         Ok(())
     }
@@ -139,18 +133,16 @@ impl<'s> ArcDraft<'s> {
     fn declare_at(
         &mut self,
         alloc: Global,
-        goal: &Option<Goal<'s>>,
-        seen: &Seen<'_, 's>,
-        nodes: &NodeDraft<'s>,
+        visible: &Visible<'_, 's>,
         text: &ArcText<'_, 's>,
         indexing: &Indexing<'s>,
     ) -> Result<(), Fault>
-        ensures { Leaves (found.arcs_by goal.now nodes.now seen.now text.now.name.now (map phrase_of text.now.phrases.now) self.old (parts_seen
-            text.now.parts) indexing.now) result self.new }
+        ensures { Leaves (found.arcs_by visible.now.goal.now visible.now.nodes.now visible.now.env.now text.now.name.now
+            (map phrase_of text.now.phrases.now) self.old (parts_seen text.now.parts) indexing.now) result self.new }
     {
         let first = self.len() as u32;
         let rows = indexing.rows.as_slice();
-        self.add_rows(alloc, goal, seen, nodes, text, &indexing.count, rows)?;
+        self.add_rows(alloc, visible, text, &indexing.count, rows)?;
         self.declare_name(alloc, text.name, first, indexing)?;
         Ok(())
     }
@@ -159,17 +151,16 @@ impl<'s> ArcDraft<'s> {
     fn declare_said(
         &mut self,
         alloc: Global,
-        goal: &Option<Goal<'s>>,
-        seen: &Seen<'_, 's>,
-        nodes: &NodeDraft<'s>,
+        visible: &Visible<'_, 's>,
         text: &ArcText<'_, 's>,
         braces: &Option<Braces<'s>>,
     ) -> Result<(), Fault>
-        ensures { Leaves (and_then (indexing_in seen.now (indexing_of braces.now)) (found.arcs_by goal.now nodes.now seen.now text.now.name.now
-            (map phrase_of text.now.phrases.now) self.old (parts_seen text.now.parts))) result self.new }
+        ensures { Leaves (and_then (indexing_in visible.now.env.now (indexing_of braces.now)) (found.arcs_by visible.now.goal.now
+            visible.now.nodes.now visible.now.env.now text.now.name.now (map phrase_of text.now.phrases.now) self.old
+            (parts_seen text.now.parts))) result self.new }
     {
-        let indexing = indexing_of(alloc, seen, braces)?;
-        self.declare_at(alloc, goal, seen, nodes, text, &indexing)
+        let indexing = indexing_of(alloc, visible.env, braces)?;
+        self.declare_at(alloc, visible, text, &indexing)
     }
 
     /// Adds the arcs of a declaration behind those of the declarations before it. What its phrases lack is told first, even
@@ -177,14 +168,13 @@ impl<'s> ArcDraft<'s> {
     pub(crate) fn declare(
         &mut self,
         alloc: Global,
-        goal: &Option<Goal<'s>>,
-        seen: &Seen<'_, 's>,
-        nodes: &NodeDraft<'s>,
+        visible: &Visible<'_, 's>,
         name: &Token<'s>,
         braces: &Option<Braces<'s>>,
         phrases: &[Phrase<'s>],
     ) -> Result<(), Fault>
-        ensures { Leaves (found.with_arcs goal.now nodes.now seen.now name.now (indexing_of braces.now) (map phrase_of phrases.now) self.old) result self.new }
+        ensures { Leaves (found.with_arcs visible.now.goal.now visible.now.nodes.now visible.now.env.now name.now (indexing_of braces.now)
+            (map phrase_of phrases.now) self.old) result self.new }
     {
         let parts = parts_of(alloc, name, phrases)?;
         let text = ArcText {
@@ -192,7 +182,7 @@ impl<'s> ArcDraft<'s> {
             parts,
             phrases,
         };
-        self.declare_said(alloc, goal, seen, nodes, &text, braces)
+        self.declare_said(alloc, visible, &text, braces)
     }
 
     /// How many arcs there are.
@@ -207,12 +197,12 @@ impl<'s> ArcDraft<'s> {
     pub(crate) fn begin_form(
         &mut self,
         alloc: Global,
-        seen: &Seen<'_, 's>,
+        env: &Env<'_, 's>,
         part: &Option<Part<'s>>,
     ) -> Result<(), Fault>
-        ensures { Leaves (and_then (said_form self.old.group.numbers seen.now (option_part part.now)) (λ f. Ok (found.formed self.old f))) result self.new }
+        ensures { Leaves (and_then (said_form self.old.group.numbers env.now (option_part part.now)) (λ f. Ok (found.formed self.old f))) result self.new }
     {
-        self.form = said_form(alloc, &self.group.numbers, seen, part)?;
+        self.form = said_form(alloc, &self.group.numbers, env, part)?;
         Ok(())
     }
 

@@ -8,14 +8,25 @@ ghost use Rattle.net_fault.specs.Outcomes.{Answers, Leaves};
 
 use crate::arc_draft::ArcDraft;
 use crate::fault::refuse_name;
-use crate::goal::Goal;
+use crate::goal::ChosenObjective;
 use crate::node::NodeDraft;
-use net_eval::{Seen, World};
+use crate::visible::Visible;
+use net_eval::{Env, World};
 use net_fault::{Defect, Fault};
 use net_lex::Token;
 use net_normal::Sense;
 use net_tree::{Braces, Decl, NetCond, Part, Phrase};
 use std::alloc::Global;
+
+/// What a declaration says of an objective.
+#[derive(Clone, Copy)]
+struct ObjectiveText<'a, 's> {
+    /// `minimize` or `maximize`.
+    word: &'a Token<'s>,
+    /// The declared name.
+    name: &'a Token<'s>,
+    part: &'a Option<Part<'s>>,
+}
 
 /// What the declarations so far come to. Dropping it is one call.
 pub(crate) struct Draft<'s> {
@@ -24,9 +35,9 @@ pub(crate) struct Draft<'s> {
     pub(crate) nodes: NodeDraft<'s>,
     pub(crate) arcs: ArcDraft<'s>,
     /// The chosen objective.
-    pub(crate) goal: Option<Goal<'s>>,
+    pub(crate) goal: Option<ChosenObjective<'s>>,
     /// Whether there is an objective at all.
-    pub(crate) aims: bool,
+    pub(crate) has_objective: bool,
 }
 
 impl<'s> Drop for Draft<'s> {
@@ -36,7 +47,7 @@ impl<'s> Drop for Draft<'s> {
             nodes: _nodes,
             arcs: _arcs,
             goal: _goal,
-            aims: _aims,
+            has_objective: _aims,
         } = self;
     }
 }
@@ -55,7 +66,7 @@ fn sense_of(word: &Token<'_>) -> Sense
 fn is_chosen<'s>(
     alloc: Global,
     wanted: &Option<&'s str>,
-    goal: &Option<Goal<'s>>,
+    goal: &Option<ChosenObjective<'s>>,
     name: &Token<'s>,
 ) -> Result<bool, Fault>
     ensures { Answers (found.is_chosen (option_copied wanted.now) goal.now name.now) result }
@@ -79,27 +90,25 @@ impl<'s> Draft<'s> {
             nodes: NodeDraft::new(alloc),
             arcs: ArcDraft::new(alloc),
             goal: None,
-            aims: false,
+            has_objective: false,
         }
     }
 
     /// Takes an objective as the chosen one.
-    fn aim(
+    fn choose(
         &mut self,
         alloc: Global,
-        seen: &Seen<'_, 's>,
-        word: &Token<'s>,
-        name: &Token<'s>,
-        part: &Option<Part<'s>>,
+        env: &Env<'_, 's>,
+        text: &ObjectiveText<'_, 's>,
     ) -> Result<(), Fault>
-        ensures { Leaves (found.with_goal seen.now word.now name.now (option_part part.now) self.old) result self.new }
+        ensures { Leaves (found.with_goal env.now text.now.word.now text.now.name.now (option_part text.now.part.now) self.old) result self.new }
     {
-        self.arcs.begin_form(alloc, seen, part)?;
-        self.goal = Some(Goal {
-            name: name.text.again(),
-            sense: sense_of(word),
+        self.arcs.begin_form(alloc, env, text.part)?;
+        self.goal = Some(ChosenObjective {
+            name: text.name.text.again(),
+            sense: sense_of(text.word),
         });
-        self.aims = true;
+        self.has_objective = true;
         Ok(())
     }
 
@@ -107,18 +116,17 @@ impl<'s> Draft<'s> {
     fn add_objective(
         &mut self,
         alloc: Global,
-        seen: &Seen<'_, 's>,
+        env: &Env<'_, 's>,
         wanted: &Option<&'s str>,
-        word: &Token<'s>,
-        name: &Token<'s>,
-        part: &Option<Part<'s>>,
+        text: &ObjectiveText<'_, 's>,
     ) -> Result<(), Fault>
-        ensures { Leaves (found.with_objective (option_copied wanted.now) seen.now word.now name.now (option_part part.now) self.old) result self.new }
+        ensures { Leaves (found.with_objective (option_copied wanted.now) env.now text.now.word.now text.now.name.now
+            (option_part text.now.part.now) self.old) result self.new }
     {
-        if is_chosen(alloc, wanted, &self.goal, name)? {
-            self.aim(alloc, seen, word, name, part)
+        if is_chosen(alloc, wanted, &self.goal, text.name)? {
+            self.choose(alloc, env, text)
         } else {
-            self.aims = true;
+            self.has_objective = true;
             Ok(())
         }
     }
@@ -127,28 +135,33 @@ impl<'s> Draft<'s> {
     fn add_nodes(
         &mut self,
         alloc: Global,
-        seen: &Seen<'_, 's>,
+        env: &Env<'_, 's>,
         name: &Token<'s>,
         braces: &Option<Braces<'s>>,
         condition: &NetCond<'s>,
     ) -> Result<(), Fault>
-        ensures { Leaves (found.with_node_declaration seen.now name.now (indexing_of braces.now) (condition_of condition.now) self.old) result self.new }
+        ensures { Leaves (found.with_node_declaration env.now name.now (indexing_of braces.now) (condition_of condition.now) self.old) result self.new }
     {
-        self.nodes.declare(alloc, seen, name, braces, condition)
+        self.nodes.declare(alloc, env, name, braces, condition)
     }
 
     /// Adds the arcs of a declaration.
     fn add_arcs(
         &mut self,
         alloc: Global,
-        seen: &Seen<'_, 's>,
+        env: &Env<'_, 's>,
         name: &Token<'s>,
         braces: &Option<Braces<'s>>,
         phrases: &[Phrase<'s>],
     ) -> Result<(), Fault>
-        ensures { Leaves (found.with_arc_declaration seen.now name.now (indexing_of braces.now) (map phrase_of phrases.now) self.old) result self.new }
+        ensures { Leaves (found.with_arc_declaration env.now name.now (indexing_of braces.now) (map phrase_of phrases.now) self.old) result self.new }
     {
-        self.arcs.declare(alloc, &self.goal, seen, &self.nodes, name, braces, phrases)
+        let visible = Visible {
+            env,
+            nodes: &self.nodes,
+            goal: &self.goal,
+        };
+        self.arcs.declare(alloc, &visible, name, braces, phrases)
     }
 
     /// Counts a set or a parameter, of which no more is seen from there on.
@@ -171,7 +184,7 @@ impl<'s> Draft<'s> {
         ensures value { Leaves (found.declare (option_copied wanted.now) world.now (declaration_of declaration.now) self.old) result self.new }
         ensures known { OnOk result (self.new.known ≤ self.old.known + 1) }
     {
-        let seen = Seen::new(world, self.known);
+        let env = Env::new(world, self.known);
         match declaration {
             Decl::Set(_, _, _, _) | Decl::Param(_, _, _, _, _) => {
                 self.count_known();
@@ -179,13 +192,14 @@ impl<'s> Draft<'s> {
             }
             Decl::Check(_, _, _, _, _) => Ok(()),
             Decl::Node(_, name, braces, condition, _) => {
-                self.add_nodes(alloc, &seen, name, braces, condition)
+                self.add_nodes(alloc, &env, name, braces, condition)
             }
             Decl::Arc(_, name, braces, phrases, _) => {
-                self.add_arcs(alloc, &seen, name, braces, phrases.as_slice())
+                self.add_arcs(alloc, &env, name, braces, phrases.as_slice())
             }
             Decl::Objective(word, name, part, _) => {
-                self.add_objective(alloc, &seen, wanted, word, name, part)
+                let text = ObjectiveText { word, name, part };
+                self.add_objective(alloc, &env, wanted, &text)
             }
         }
     }

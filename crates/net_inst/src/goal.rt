@@ -3,7 +3,7 @@ use net_views::Excerpt;
 
 /// The chosen objective.
 #[derive(Drop)]
-pub(crate) struct Goal<'s> {
+pub(crate) struct ChosenObjective<'s> {
     pub(crate) name: Excerpt<'s>,
     pub(crate) sense: Sense,
 }

@@ -5,7 +5,7 @@ ghost use Rattle.net_tree.specs.View.{indexing_of};
 ghost use Rattle.net_inst.specs.Indexings as indexings;
 ghost use Rattle.net_fault.specs.Outcomes.{Answers};
 
-use net_eval::{Keys, Row, Scope, Seen, index_of};
+use net_eval::{Env, Keys, Row, Scope, index_of};
 use net_fault::Fault;
 use net_sets::Tuple;
 use net_tree::Braces;
@@ -58,10 +58,10 @@ fn by_keys(keys: Keys<'_>) -> Indexing<'_>
 /// The keys of a declaration with these braces.
 pub(crate) fn indexing_of<'s>(
     alloc: Global,
-    seen: &Seen<'_, 's>,
+    env: &Env<'_, 's>,
     braces: &Option<Braces<'s>>,
 ) -> Result<Indexing<'s>, Fault>
-    ensures { Answers (indexings.indexing_in seen.now (indexing_of braces.now)) result }
+    ensures { Answers (indexings.indexing_in env.now (indexing_of braces.now)) result }
 {
     match braces {
         None => {
@@ -70,7 +70,7 @@ pub(crate) fn indexing_of<'s>(
         }
         Some(braces) => {
             let scope = Scope::new(alloc);
-            let keys = index_of(alloc, seen, &scope, braces)?;
+            let keys = index_of(alloc, env, &scope, braces)?;
             Ok(by_keys(keys))
         }
     }

@@ -17,6 +17,7 @@ mod number;
 mod objective_form;
 mod phrases;
 mod price;
+mod visible;
 
 pub use laws::{
     arcs_are_written, assignments_are_alike, flows_stand_for_assignments, names_are_declared,

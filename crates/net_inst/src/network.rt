@@ -12,7 +12,7 @@ ghost use Rattle.net_fault.specs.Outcomes.{Leaves};
 use crate::arc_draft::ArcDraft;
 use crate::draft::Draft;
 use crate::fault::refuse;
-use crate::goal::Goal;
+use crate::goal::ChosenObjective;
 use crate::names::Names;
 use crate::node::NodeDraft;
 use net_eval::World;
@@ -77,7 +77,7 @@ fn with_names<'s>(
     alloc: Global,
     nodes: &mut NodeDraft<'s>,
     arcs: &mut ArcDraft<'s>,
-    goal: &Goal<'s>,
+    goal: &ChosenObjective<'s>,
 ) -> Result<Named<'s>, Fault>
     requires { All (IsDrawnOf (length nodes.now.ranges)) arcs.now.arcs }
     ensures { AnswersNetwork (Ok (found.network_of nodes.old arcs.old goal.now)) result }
@@ -104,11 +104,11 @@ fn without_goal(
     alloc: Global,
     wanted: &Option<&str>,
     at: Span,
-    aims: bool,
+    has_objective: bool,
 ) -> Result<Fault, AllocError>
-    ensures { IfOk result (λ f. AnswersNetwork (found.without_goal (option_copied wanted.now) at aims) (Err f)) }
+    ensures { IfOk result (λ f. AnswersNetwork (found.without_goal (option_copied wanted.now) at has_objective) (Err f)) }
 {
-    if !aims {
+    if !has_objective {
         return Ok(refuse(Defect::NoObjective, at, Detail::Nothing));
     }
     let name = match wanted {
@@ -133,7 +133,7 @@ fn finished<'s>(
         Some(goal) => with_names(alloc, &mut draft.nodes, &mut draft.arcs, goal),
         None => {
             let at = Span { start: end, end };
-            Err(without_goal(alloc, wanted, at, draft.aims)?)
+            Err(without_goal(alloc, wanted, at, draft.has_objective)?)
         }
     }
 }

@@ -13,7 +13,7 @@ use crate::fault::{refuse, refuse_name};
 use crate::group::Group;
 use crate::indexing::{Indexing, indexing_of};
 use crate::names::NameList;
-use net_eval::{Row, Seen, told_reference};
+use net_eval::{Env, Row, told_reference};
 use net_fault::{Defect, Fault};
 use net_lex::Token;
 use net_linear::{ArcKeys, node_range};
@@ -26,6 +26,14 @@ use std::mem;
 
 /// How many nodes a network may have.
 const NODE_LIMIT: usize = 10_000;
+
+/// What a declaration says of its nodes.
+#[derive(Clone, Copy)]
+struct NodeText<'a, 's> {
+    /// The declared name.
+    name: &'a Token<'s>,
+    condition: &'a NetCond<'s>,
+}
 
 /// The nodes of the declarations so far, in order, each with its range.
 #[derive(Drop)]
@@ -49,19 +57,18 @@ impl<'s> Model for NodeDraft<'s> {
 /// The range of a node at a key; that no net inflow meets its condition is told of the node, at its declared name.
 fn range_at<'s>(
     alloc: Global,
-    seen: &Seen<'_, 's>,
-    name: &Token<'s>,
+    env: &Env<'_, 's>,
+    text: &NodeText<'_, 's>,
     count: &Option<u8>,
-    condition: &NetCond<'s>,
     row: &Row<'s>,
 ) -> Result<NodeRange, Fault>
-    ensures { AnswersAs sides_of (nodes.node_sides seen.now name.now count.now (condition_of condition.now) row.now) result }
+    ensures { AnswersAs sides_of (nodes.node_sides env.now text.now.name.now count.now (condition_of text.now.condition.now) row.now) result }
 {
-    match node_range(alloc, seen, &row.scope, condition)? {
+    match node_range(alloc, env, &row.scope, text.condition)? {
         Some(range) => Ok(range),
         None => {
-            let detail = told_reference(alloc, &name.text, *count, &row.key)?;
-            Err(refuse(Defect::NodeCrossed, name.span, detail))
+            let detail = told_reference(alloc, &text.name.text, *count, &row.key)?;
+            Err(refuse(Defect::NodeCrossed, text.name.span, detail))
         }
     }
 }
@@ -69,46 +76,44 @@ fn range_at<'s>(
 /// One node more, at a key.
 fn push_range<'s>(
     alloc: Global,
-    seen: &Seen<'_, 's>,
-    name: &Token<'s>,
+    env: &Env<'_, 's>,
+    text: &NodeText<'_, 's>,
     count: &Option<u8>,
-    condition: &NetCond<'s>,
     row: &Row<'s>,
     ranges: &mut Vec<NodeRange>,
 ) -> Result<(), Fault>
     requires { length ranges.now.items ≤ node_limit }
-    ensures value { Leaves (nodes.next_range seen.now name.now count.now (condition_of condition.now) row.now (map sides_of ranges.old.items))
+    ensures value { Leaves (nodes.next_range env.now text.now.name.now count.now (condition_of text.now.condition.now) row.now (map sides_of ranges.old.items))
         result (map sides_of ranges.new.items) }
     ensures count { OnOk result (length ranges.new.items ≡ length ranges.old.items + 1) }
     ensures few { length ranges.new.items ≤ node_limit }
 {
     if ranges.len() < NODE_LIMIT {
-        let range = range_at(alloc, seen, name, count, condition, row)?;
+        let range = range_at(alloc, env, text, count, row)?;
         ranges.push(range)?;
         Ok(())
     } else {
-        Err(refuse_name(alloc, Defect::TooManyNodes, name)?)
+        Err(refuse_name(alloc, Defect::TooManyNodes, text.name)?)
     }
 }
 
 /// A node for each key, behind those so far.
 fn push_ranges<'s>(
     alloc: Global,
-    seen: &Seen<'_, 's>,
-    name: &Token<'s>,
+    env: &Env<'_, 's>,
+    text: &NodeText<'_, 's>,
     count: &Option<u8>,
-    condition: &NetCond<'s>,
     rows: &[Row<'s>],
     ranges: &mut Vec<NodeRange>,
 ) -> Result<(), Fault>
     requires { length ranges.now.items ≤ node_limit }
-    ensures value { Leaves (nodes.ranges_at seen.now name.now count.now (condition_of condition.now) rows.now (map sides_of ranges.old.items))
+    ensures value { Leaves (nodes.ranges_at env.now text.now.name.now count.now (condition_of text.now.condition.now) rows.now (map sides_of ranges.old.items))
         result (map sides_of ranges.new.items) }
     ensures count { OnOk result (length rows.now ≤ node_limit) }
     ensures few { length ranges.new.items ≤ node_limit }
 {
     for row in rows {
-        push_range(alloc, seen, name, count, condition, row, ranges)?;
+        push_range(alloc, env, text, count, row, ranges)?;
     }
     Ok(())
 }
@@ -150,25 +155,16 @@ impl<'s> NodeDraft<'s> {
     fn declare_at(
         &mut self,
         alloc: Global,
-        seen: &Seen<'_, 's>,
-        name: &Token<'s>,
-        condition: &NetCond<'s>,
+        env: &Env<'_, 's>,
+        text: &NodeText<'_, 's>,
         indexing: &Indexing<'s>,
     ) -> Result<(), Fault>
-        ensures { Leaves (nodes.nodes_by seen.now name.now (condition_of condition.now) self.old indexing.now) result self.new }
+        ensures { Leaves (nodes.nodes_by env.now text.now.name.now (condition_of text.now.condition.now) self.old indexing.now) result self.new }
     {
         let first = self.next_number();
         let rows = indexing.rows.as_slice();
-        push_ranges(
-            alloc,
-            seen,
-            name,
-            &indexing.count,
-            condition,
-            rows,
-            &mut self.ranges,
-        )?;
-        self.group.declare(alloc, &name.text, first, indexing)?;
+        push_ranges(alloc, env, text, &indexing.count, rows, &mut self.ranges)?;
+        self.group.declare(alloc, &text.name.text, first, indexing)?;
         Ok(())
     }
 
@@ -176,15 +172,16 @@ impl<'s> NodeDraft<'s> {
     pub(crate) fn declare(
         &mut self,
         alloc: Global,
-        seen: &Seen<'_, 's>,
+        env: &Env<'_, 's>,
         name: &Token<'s>,
         braces: &Option<Braces<'s>>,
         condition: &NetCond<'s>,
     ) -> Result<(), Fault>
-        ensures { Leaves (nodes.with_nodes seen.now name.now (indexing_of braces.now) (condition_of condition.now) self.old) result self.new }
+        ensures { Leaves (nodes.with_nodes env.now name.now (indexing_of braces.now) (condition_of condition.now) self.old) result self.new }
     {
-        let indexing = indexing_of(alloc, seen, braces)?;
-        self.declare_at(alloc, seen, name, condition, &indexing)
+        let indexing = indexing_of(alloc, env, braces)?;
+        let text = NodeText { name, condition };
+        self.declare_at(alloc, env, &text, &indexing)
     }
 
     /// The nodes' ranges, which it has no more then.

@@ -16,7 +16,7 @@ ghost use Rattle.net_fault.specs.Outcomes.{Answers, found as finding};
 
 use crate::fault::refuse;
 use crate::node::NodeDraft;
-use net_eval::{Scope, Seen, refuse_tree, told_reference};
+use net_eval::{Env, Scope, refuse_tree, told_reference};
 use net_fault::{Defect, Detail, Fault, Span};
 use net_lex::Token;
 use net_linear::{ArcKeys, key_of};
@@ -24,6 +24,17 @@ use net_sets::Tuple;
 use net_tree::{Expr, Link, span_of};
 use net_views::Excerpt;
 use std::alloc::{AllocError, Global};
+
+/// A reference to a node, by a declared name at a key.
+#[derive(Clone, Copy)]
+struct Reference<'a, 's> {
+    /// Where it stands.
+    at: Span,
+    name: &'a Excerpt<'s>,
+    /// How many members the keys of the name have.
+    count: Option<u8>,
+    key: &'a Tuple<'s>,
+}
 
 fn key_count(count: Option<u8>) -> usize
     ensures { result ≡ worlds.key_count count }
@@ -35,17 +46,12 @@ fn key_count(count: Option<u8>) -> usize
 }
 
 /// The fault of a node that there is none of, told with its key.
-fn no_such_node(
-    alloc: Global,
-    at: Span,
-    name: &Excerpt<'_>,
-    count: Option<u8>,
-    key: &Tuple<'_>,
-) -> Result<Fault, AllocError>
-    ensures { IfOk result (λ f. f ≡ At (finding InModel NoSuchNode at (worlds.reference name.now count key.now))) }
+fn no_such_node(alloc: Global, reference: &Reference<'_, '_>) -> Result<Fault, AllocError>
+    ensures { IfOk result (λ f. f ≡ At (finding InModel NoSuchNode reference.now.at (worlds.reference reference.now.name.now reference.now.count
+        reference.now.key.now))) }
 {
-    let detail = told_reference(alloc, name, count, key)?;
-    Ok(refuse(Defect::NoSuchNode, at, detail))
+    let detail = told_reference(alloc, reference.name, reference.count, reference.key)?;
+    Ok(refuse(Defect::NoSuchNode, reference.at, detail))
 }
 
 /// The number of the node at a place of a declaration.
@@ -62,19 +68,17 @@ fn number_behind(keys: &ArcKeys<'_>, place: usize) -> usize
 fn among(
     alloc: Global,
     count: usize,
-    at: Span,
-    name: &Excerpt<'_>,
-    keys: Option<u8>,
-    key: &Tuple<'_>,
+    reference: &Reference<'_, '_>,
     number: usize,
 ) -> Result<u32, Fault>
     requires { count ≤ node_limit }
-    ensures value { Answers (found.among count at (worlds.reference name.now keys key.now) number) result }
+    ensures value { Answers (found.among count reference.now.at (worlds.reference reference.now.name.now reference.now.count reference.now.key.now)
+        number) result }
 {
     if number < count {
         Ok(number as u32)
     } else {
-        Err(no_such_node(alloc, at, name, keys, key)?)
+        Err(no_such_node(alloc, reference)?)
     }
 }
 
@@ -91,12 +95,18 @@ fn numbered<'s>(
     ensures value { Answers (found.numbered count at (worlds.reference name.now keys.now.keys key.entry) keys.now.first (place_of keys.now.index
         key.entry)) result }
 {
+    let reference = Reference {
+        at,
+        name,
+        count: keys.keys,
+        key: &key,
+    };
     match keys.index.position(&key) {
         Some(place) => {
             let number = number_behind(keys, place);
-            among(alloc, count, at, name, keys.keys, &key, number)
+            among(alloc, count, &reference, number)
         }
-        None => Err(no_such_node(alloc, at, name, keys.keys, &key)?),
+        None => Err(no_such_node(alloc, &reference)?),
     }
 }
 
@@ -127,34 +137,17 @@ fn node_at<'s>(
     }
 }
 
-/// The node of a name without subscripts.
-fn plain_node<'s>(
+/// The node that a declared name has at a key.
+fn declared_node<'s>(
     alloc: Global,
     nodes: &NodeDraft<'s>,
     whole: &Expr<'s>,
     name: &Token<'s>,
+    key: Tuple<'s>,
 ) -> Result<u32, Fault>
     ensures value { Answers (found.node_at (length nodes.now.ranges) (trees.span_of (tree whole.now)) name.now.text (declared
-        nodes.now.group.numbers name.now.text) []) result }
+        nodes.now.group.numbers name.now.text) key.entry) result }
 {
-    let keys = nodes.keys_of(&name.text);
-    node_at(alloc, nodes.len(), whole, &name.text, keys, Tuple::new())
-}
-
-/// The node of a name with subscripts.
-fn indexed_node<'s>(
-    alloc: Global,
-    seen: &Seen<'_, 's>,
-    scope: &Scope<'s>,
-    nodes: &NodeDraft<'s>,
-    whole: &Expr<'s>,
-    name: &Token<'s>,
-    subscripts: (&Expr<'s>, &[Link<'s>]),
-) -> Result<u32, Fault>
-    ensures value { Answers (found.indexed_node nodes.now seen.now scope.now (trees.span_of (tree whole.now)) name.now (tree subscripts.entry.0.now)
-        (links_of subscripts.entry.1.now)) result }
-{
-    let key = key_of(alloc, seen, scope, whole, subscripts.0, subscripts.1)?;
     let keys = nodes.keys_of(&name.text);
     node_at(alloc, nodes.len(), whole, &name.text, keys, key)
 }
@@ -181,18 +174,19 @@ fn name_in<'a, 's>(
 /// The number of the node that is named; its subscripts are evaluated first.
 pub(crate) fn node_named<'s>(
     alloc: Global,
-    seen: &Seen<'_, 's>,
+    env: &Env<'_, 's>,
     scope: &Scope<'s>,
     nodes: &NodeDraft<'s>,
     expr: &Expr<'s>,
 ) -> Result<u32, Fault>
-    ensures value { Answers (found.node_named nodes.now seen.now scope.now (tree expr.now)) result }
+    ensures value { Answers (found.node_named nodes.now env.now scope.now (tree expr.now)) result }
 {
     match name_in(expr) {
         None => Err(refuse_tree(Defect::KindMismatch, expr)),
-        Some((name, None)) => plain_node(alloc, nodes, expr, name),
+        Some((name, None)) => declared_node(alloc, nodes, expr, name, Tuple::new()),
         Some((name, Some((first, more)))) => {
-            indexed_node(alloc, seen, scope, nodes, expr, name, (first, more))
+            let key = key_of(alloc, env, scope, expr, first, more)?;
+            declared_node(alloc, nodes, expr, name, key)
         }
     }
 }

@@ -7,7 +7,7 @@ ghost use Rattle.net_eval.specs.Limits.{is_small};
 ghost use Rattle.net_inst.specs.Numbers as numbers;
 ghost use Rattle.net_fault.specs.Outcomes.{Answers};
 
-use net_eval::{Scope, Seen, member, refuse_tree};
+use net_eval::{Env, Scope, member, refuse_tree};
 use net_fault::{Defect, Fault};
 use net_sets::Member;
 use net_tree::Expr;
@@ -42,12 +42,12 @@ fn number_in(whole: &Expr<'_>, member: &Member<'_>) -> Result<i64, Fault>
 /// The number that an expression is; what else it is is a fault of the expression.
 pub(crate) fn number_of<'s>(
     alloc: Global,
-    seen: &Seen<'_, 's>,
+    env: &Env<'_, 's>,
     scope: &Scope<'s>,
     expr: &Expr<'s>,
 ) -> Result<i64, Fault>
-    ensures { Answers (numbers.number seen.now scope.now (tree expr.now)) result }
+    ensures { Answers (numbers.number env.now scope.now (tree expr.now)) result }
 {
-    let member = member(alloc, seen, scope, expr)?;
+    let member = member(alloc, env, scope, expr)?;
     number_in(expr, &member)
 }

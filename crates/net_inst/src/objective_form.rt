@@ -4,9 +4,9 @@ ghost use Rattle.net_tree.specs.View.{tree, option_part};
 ghost use Rattle.net_inst.specs.Drafts as found;
 ghost use Rattle.net_fault.specs.Outcomes.{Answers};
 
-use net_eval::{Scope, Seen};
+use net_eval::{Env, Scope};
 use net_fault::Fault;
-use net_linear::{ArcNames, Form, objective};
+use net_linear::{Affine, ArcNames, objective};
 use net_tree::{Expr, Part};
 use std::alloc::Global;
 
@@ -14,13 +14,13 @@ use std::alloc::Global;
 fn form_of<'s>(
     alloc: Global,
     arcs: &ArcNames<'s>,
-    seen: &Seen<'_, 's>,
+    env: &Env<'_, 's>,
     expr: &Expr<'s>,
-) -> Result<Form, Fault>
-    ensures { Answers (found.said_tree arcs.now seen.now (tree expr.now)) result }
+) -> Result<Affine, Fault>
+    ensures { Answers (found.said_tree arcs.now env.now (tree expr.now)) result }
 {
     let scope = Scope::new(alloc);
-    objective(alloc, arcs, seen, &scope, expr)
+    objective(alloc, arcs, env, &scope, expr)
 }
 
 /// What an objective says itself of the arcs declared before it.
@@ -28,13 +28,13 @@ fn form_of<'s>(
 pub(crate) fn said_form<'s>(
     alloc: Global,
     arcs: &ArcNames<'s>,
-    seen: &Seen<'_, 's>,
+    env: &Env<'_, 's>,
     part: &Option<Part<'s>>,
-) -> Result<Form, Fault>
-    ensures { Answers (found.said_form arcs.now seen.now (option_part part.now)) result }
+) -> Result<Affine, Fault>
+    ensures { Answers (found.said_form arcs.now env.now (option_part part.now)) result }
 {
     match part {
-        None => Ok(Form::zero(alloc)),
-        Some(part) => form_of(alloc, arcs, seen, &part.value),
+        None => Ok(Affine::zero(alloc)),
+        Some(part) => form_of(alloc, arcs, env, &part.value),
     }
 }

@@ -11,7 +11,7 @@ ghost use Rattle.net_fault.specs.Outcomes.{AnswersAs};
 use crate::fault::refuse_name;
 use net_fault::{Defect, Fault};
 use net_lex::Token;
-use net_tree::{Begins, Body, Expr, Phrase, Relates, Role, role_of};
+use net_tree::{Begins, Body, Expr, Phrase, Relation, Role, role_of};
 use std::alloc::Global;
 
 /// The words of an arc's phrases that stand at most once.
@@ -38,8 +38,8 @@ fn is_word(word: ArcWord, role: Role) -> bool
     ensures { result ≡ saying.is_word word role }
 {
     match (word, role) {
-        (ArcWord::AtLeast, Role::Relation(Relates::AtLeast)) => true,
-        (ArcWord::AtMost, Role::Relation(Relates::AtMost)) => true,
+        (ArcWord::AtLeast, Role::Relation(Relation::AtLeast)) => true,
+        (ArcWord::AtMost, Role::Relation(Relation::AtMost)) => true,
         (ArcWord::From, Role::Phrase(Begins::From)) => true,
         (ArcWord::To, Role::Phrase(Begins::To)) => true,
         _ => false,

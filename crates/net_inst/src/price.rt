@@ -7,18 +7,19 @@ ghost use Rattle.net_linear.specs.Forms as forms;
 ghost use Rattle.net_inst.specs.Arcs as found;
 ghost use Rattle.net_fault.specs.Outcomes.{Leaves};
 
-use crate::goal::Goal;
+use crate::goal::ChosenObjective;
 use crate::number::number_of;
-use net_eval::{Scope, Seen};
+use crate::visible::Visible;
+use net_eval::{Env, Scope};
 use net_fault::Fault;
-use net_linear::{Form, with_price};
+use net_linear::{Affine, with_price};
 use net_tree::{Body, Expr, Phrase};
 use net_views::Excerpt;
 use std::alloc::Global;
 use std::mem;
 
 /// Whether a name is that of the chosen objective.
-fn is_goal<'s>(goal: &Option<Goal<'s>>, name: &Excerpt<'s>) -> bool
+fn is_goal<'s>(goal: &Option<ChosenObjective<'s>>, name: &Excerpt<'s>) -> bool
     ensures { result ≡ found.is_goal goal.now name.now }
 {
     match goal {
@@ -33,11 +34,11 @@ fn add_price(
     arc: usize,
     whole: &Expr<'_>,
     price: &i64,
-    form: &mut Form,
+    form: &mut Affine,
 ) -> Result<(), Fault>
     ensures { Leaves (forms.priced (trees.span_of (tree whole.now)) form.old arc price.now) result form.new }
 {
-    let before = mem::replace(form, Form::zero(alloc));
+    let before = mem::replace(form, Affine::zero(alloc));
     *form = with_price(alloc, before, arc, whole, price)?;
     Ok(())
 }
@@ -45,36 +46,35 @@ fn add_price(
 /// Adds what an expression gives an arc.
 fn add_value<'s>(
     alloc: Global,
-    seen: &Seen<'_, 's>,
+    env: &Env<'_, 's>,
     scope: &Scope<'s>,
     arc: usize,
     expr: &Expr<'s>,
-    form: &mut Form,
+    form: &mut Affine,
 ) -> Result<(), Fault>
-    ensures { Leaves (found.priced_by seen.now scope.now arc (tree expr.now) form.old) result form.new }
+    ensures { Leaves (found.priced_by env.now scope.now arc (tree expr.now) form.old) result form.new }
 {
-    let price = number_of(alloc, seen, scope, expr)?;
+    let price = number_of(alloc, env, scope, expr)?;
     add_price(alloc, arc, expr, &price, form)
 }
 
 /// Adds what a phrase gives an arc; phrases of other objectives are passed over.
 fn add_phrase<'s>(
     alloc: Global,
-    goal: &Option<Goal<'s>>,
-    seen: &Seen<'_, 's>,
+    visible: &Visible<'_, 's>,
     scope: &Scope<'s>,
     arc: usize,
     body: &Body<'s>,
-    form: &mut Form,
+    form: &mut Affine,
 ) -> Result<(), Fault>
-    ensures { Leaves (found.price_in goal.now seen.now scope.now arc (body_of body.now) form.old) result form.new }
+    ensures { Leaves (found.price_in visible.now.goal.now visible.now.env.now scope.now arc (body_of body.now) form.old) result form.new }
 {
     match body {
         Body::Plain => Ok(()),
         Body::Valued(_) => Ok(()),
         Body::Priced(name, expr) => {
-            if is_goal(goal, &name.text) {
-                add_value(alloc, seen, scope, arc, expr, form)
+            if is_goal(visible.goal, &name.text) {
+                add_value(alloc, visible.env, scope, arc, expr, form)
             } else {
                 Ok(())
             }
@@ -85,17 +85,16 @@ fn add_phrase<'s>(
 /// Adds what all phrases give an arc, in the order of the text.
 pub(crate) fn add_phrases<'s>(
     alloc: Global,
-    goal: &Option<Goal<'s>>,
-    seen: &Seen<'_, 's>,
+    visible: &Visible<'_, 's>,
     scope: &Scope<'s>,
     arc: usize,
     phrases: &[Phrase<'s>],
-    form: &mut Form,
+    form: &mut Affine,
 ) -> Result<(), Fault>
-    ensures { Leaves (found.prices_in goal.now seen.now scope.now arc (map phrase_of phrases.now) form.old) result form.new }
+    ensures { Leaves (found.prices_in visible.now.goal.now visible.now.env.now scope.now arc (map phrase_of phrases.now) form.old) result form.new }
 {
     for phrase in phrases {
-        add_phrase(alloc, goal, seen, scope, arc, &phrase.body, form)?;
+        add_phrase(alloc, visible, scope, arc, &phrase.body, form)?;
     }
     Ok(())
 }

@@ -2,12 +2,14 @@
 #![tactic(auto)]
 
 mod failed;
+mod growing_sink;
 mod memory_ends;
 mod sink;
 mod source;
 mod standard_ends;
 
 pub use failed::{Failed, ReadFault};
+pub use growing_sink::GrowingSink;
 pub use memory_ends::{MemorySink, MemorySource};
 pub use sink::{Sink, write_whole};
 pub use source::{Source, read_to_limit};

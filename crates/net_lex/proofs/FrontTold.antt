@@ -13,7 +13,7 @@ use Rattle.net_fault.specs.declared.language.Language.{Language}
 use Rattle.net_fault.specs.declared.language.Language.TheVariants.{Model, Data}
 use Rattle.net_lex.specs.declared.shape.Shape.{Shape}
 use Rattle.net_lex.specs.declared.shape.Shape.TheVariants.{Word, Numeral, Quoted, Mark}
-use Rattle.net_lex.specs.declared.shape.Stop.{Stop}
+use Rattle.net_lex.specs.declared.shape.BadFront.{BadFront}
 use Rattle.net_lex.specs.declared.string.StringEnd.{StringEnd}
 use Rattle.net_lex.specs.declared.string.StringEnd.TheVariants.{Closed, Control, Open}
 use Rattle.net_lex.specs.declared.token.Kind.{Kind}
@@ -44,7 +44,7 @@ pub record FrontIs (language : Language) (text : List ℕ) (shape : Shape) (n : 
   pub longest : (kind : Kind) (more rest : List ℕ) → text ≡ more ++ rest → Allows language kind more → length more ≤ n
   pub whole : is_quote (first text) ≡ true → first (drop n text) ≡ first text → ⊥
 
-pub record Refuses (language : Language) (text : List ℕ) (stop : Stop) : Type 0 where
+pub record Refuses (language : Language) (text : List ℕ) (stop : BadFront) : Type 0 where
   pub defect : IsDefect limits language text stop.defect stop.from stop.to
   pub within : stop.to ≤ length text
   pub order : stop.from ≤ stop.to

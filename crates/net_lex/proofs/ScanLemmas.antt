@@ -12,7 +12,7 @@ use Rattle.net_fault.specs.declared.language.Language.{Language}
 use Rattle.net_fault.specs.declared.language.Language.TheVariants.{Model, Data}
 use Rattle.net_lex.specs.declared.shape.Shape.{Shape}
 use Rattle.net_lex.specs.declared.shape.Shape.TheVariants.{Word, Numeral, Quoted, Mark}
-use Rattle.net_lex.specs.declared.shape.Stop.{Stop}
+use Rattle.net_lex.specs.declared.shape.BadFront.{BadFront}
 use Rattle.net_fault.specs.declared.span.Span.{Span}
 use Rattle.net_lex.specs.declared.token.Kind.{Kind}
 use Rattle.net_lex.specs.declared.token.Kind.TheVariants as kinds
@@ -72,7 +72,7 @@ shape_kind Data Word word w = word_kind (numeral_at (after_sign word)) refl
 pub front_found : (language : Language) (text : List ℕ) (shape : Shape) (n : ℕ) → IsUtf8 text → 0 < length text → front language text ≡ Ok (shape, n) → FrontIs language text shape n
 front_found language text shape n utf8 some e = subst (FrontTold language text) e (told_front language text utf8 some)
 
-pub front_refused : (language : Language) (text : List ℕ) (stop : Stop) → IsUtf8 text → 0 < length text → front language text ≡ Err stop → Refuses language text stop
+pub front_refused : (language : Language) (text : List ℕ) (stop : BadFront) → IsUtf8 text → 0 < length text → front language text ≡ Err stop → Refuses language text stop
 front_refused language text stop utf8 some e = subst (FrontTold language text) e (told_front language text utf8 some)
 
 -- what is found at the front is the longest of its kind

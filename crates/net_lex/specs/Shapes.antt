@@ -7,7 +7,7 @@ use Rattle.net_fault.specs.declared.language.Language.{Language}
 use Rattle.net_fault.specs.declared.language.Language.TheVariants.{Model, Data}
 use Rattle.net_lex.specs.declared.shape.Shape.{Shape}
 use Rattle.net_lex.specs.declared.shape.Shape.TheVariants.{Word, Numeral, Quoted, Mark}
-use Rattle.net_lex.specs.declared.shape.Stop.{Stop}
+use Rattle.net_lex.specs.declared.shape.BadFront.{BadFront}
 use Rattle.net_lex.specs.declared.string.StringEnd.{StringEnd}
 use Rattle.net_lex.specs.declared.string.StringEnd.TheVariants.{Closed, Control, Open}
 use Rattle.net_lex.specs.Bytes.{first}
@@ -40,7 +40,7 @@ IsEndWithin n Open = Unit {0}
 
 -- a shape and its length, or what is wrong and where, counted from here
 abbrev pub Front : Type 0
-Front = Result (Shape × ℕ) Stop
+Front = Result (Shape × ℕ) BadFront
 
 abbrev pub quoted_front : StringEnd → Front
 quoted_front (Closed n) = Ok (Quoted, n + 1)

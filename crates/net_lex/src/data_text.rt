@@ -6,7 +6,7 @@ ghost use Rattle.net_lex.specs.Shapes.{data_front};
 
 use crate::bare_word::word_len;
 use crate::cursor::first;
-use crate::shape::{Shape, Stop, mark_front};
+use crate::shape::{BadFront, Shape, mark_front};
 use crate::string::{is_quote, string_at};
 use crate::token::Token;
 use crate::tokens::lex;
@@ -16,7 +16,7 @@ use std::alloc::Global;
 
 /// What stands at the front, where neither a blank nor a comment begins.
 #[tactic(auto, unfolding(crate::specs::Shapes::data_front))]
-pub(crate) fn data_front(text: &str) -> Result<(Shape, usize), Stop>
+pub(crate) fn data_front(text: &str) -> Result<(Shape, usize), BadFront>
     requires { length text.now + 2 < 2 ^ 64 }
     ensures { result ≡ data_front text.now }
 {

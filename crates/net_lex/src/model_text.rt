@@ -8,7 +8,7 @@ ghost use Rattle.net_lex.specs.Shapes.{unnamed_front, model_front};
 
 use crate::cursor::first;
 use crate::numeral::numeral_at;
-use crate::shape::{Shape, Stop, mark_front};
+use crate::shape::{BadFront, Shape, mark_front};
 use crate::string::{is_quote, string_at};
 use crate::token::Token;
 use crate::tokens::lex;
@@ -33,7 +33,7 @@ fn name_len(bytes: &[u8]) -> usize
 }
 
 /// A string or a mark.
-fn unnamed_front(text: &str) -> Result<(Shape, usize), Stop>
+fn unnamed_front(text: &str) -> Result<(Shape, usize), BadFront>
     requires { length text.now + 2 < 2 ^ 64 }
     ensures { result ≡ unnamed_front text.now None }
 {
@@ -47,7 +47,7 @@ fn unnamed_front(text: &str) -> Result<(Shape, usize), Stop>
 
 /// What stands at the front, where neither a blank nor a comment begins.
 #[tactic(auto, unfolding(crate::specs::Shapes::model_front))]
-pub(crate) fn model_front(text: &str) -> Result<(Shape, usize), Stop>
+pub(crate) fn model_front(text: &str) -> Result<(Shape, usize), BadFront>
     requires { length text.now + 2 < 2 ^ 64 }
     ensures { result ≡ model_front text.now }
 {

@@ -11,7 +11,7 @@ ghost use Rattle.net_lex.specs.declared.shape.Shape.TheVariants.{Word};
 use crate::data_text::data_front;
 use crate::gap::gap_len;
 use crate::model_text::model_front;
-use crate::shape::{Shape, Stop};
+use crate::shape::{BadFront, Shape};
 use crate::token::{Kind, Token};
 use crate::whole::{NumFault, whole_of};
 use crate::words::is_reserved;
@@ -22,7 +22,7 @@ use net_views::Excerpt;
 const TOKEN_LIMIT: usize = 255;
 
 #[tactic(auto, unfolding(crate::specs::Shapes::front))]
-fn front(language: Language, text: &str) -> Result<(Shape, usize), Stop>
+fn front(language: Language, text: &str) -> Result<(Shape, usize), BadFront>
     requires { length text.now + 2 < 2 ^ 64 }
     ensures { result ≡ front language text.now }
 {
@@ -100,7 +100,7 @@ fn token_of<'s>(
 }
 
 /// What is wrong with a text that begins at `at`.
-fn fault_at(stop: Stop, at: usize) -> (Defect, Span)
+fn fault_at(stop: BadFront, at: usize) -> (Defect, Span)
     requires from { at + stop.from < 2 ^ 64 }
     requires to { at + stop.to < 2 ^ 64 }
     ensures defect { result.0 ≡ stop.defect }
@@ -129,7 +129,7 @@ fn token_at<'s>(
     match front(language, text) {
         Err(stop) => Err(fault_at(stop, at)),
         Ok((_, len)) if len > TOKEN_LIMIT => {
-            let stop = Stop {
+            let stop = BadFront {
                 defect: Defect::TextTooLong,
                 from: 0,
                 to: len,

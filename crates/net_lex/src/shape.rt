@@ -15,18 +15,18 @@ pub(crate) enum Shape {
 
 /// What is wrong from one byte up to another, both counted from where a token was to begin.
 #[derive(Clone, Copy)]
-pub(crate) struct Stop {
+pub(crate) struct BadFront {
     pub defect: Defect,
     pub from: usize,
     pub to: usize,
 }
 
 /// The mark of this length, or a character with which nothing begins.
-pub(crate) fn mark_front(text: &str, len: usize) -> Result<(Shape, usize), Stop>
+pub(crate) fn mark_front(text: &str, len: usize) -> Result<(Shape, usize), BadFront>
     ensures { result ≡ mark_front text.now len }
 {
     if len == 0 {
-        Err(Stop {
+        Err(BadFront {
             defect: Defect::BadCharacter,
             from: 0,
             to: char_len(text),

@@ -4,7 +4,7 @@ ghost use Rattle.net_lex.specs.Shapes.{delimited_after, string_end, IsEndWithin,
 ghost use Rattle.net_lex.specs.Characters.{is_control, is_quote};
 
 use crate::cursor::{first, rest};
-use crate::shape::{Shape, Stop};
+use crate::shape::{BadFront, Shape};
 use net_fault::Defect;
 
 /// Where a string ends, counted from after its first quotation mark.
@@ -65,18 +65,18 @@ fn string_end(delimiter: u8, inside: &[u8]) -> StringEnd
 }
 
 /// The string that begins here.
-pub(crate) fn string_at(bytes: &[u8]) -> Result<(Shape, usize), Stop>
+pub(crate) fn string_at(bytes: &[u8]) -> Result<(Shape, usize), BadFront>
     requires { length bytes.now + 2 < 2 ^ 64 }
     ensures { result ≡ string_at bytes.now }
 {
     match string_end(first(bytes), rest(bytes)) {
         StringEnd::Closed(n) => Ok((Shape::Quoted, n + 1)),
-        StringEnd::Control(n) => Err(Stop {
+        StringEnd::Control(n) => Err(BadFront {
             defect: Defect::BadCharacter,
             from: n + 1,
             to: n + 2,
         }),
-        StringEnd::Open => Err(Stop {
+        StringEnd::Open => Err(BadFront {
             defect: Defect::OpenString,
             from: 0,
             to: 1,

@@ -12,14 +12,13 @@ use Rattle.net_tree.specs.Tree.{Tree, Links, Part, Braces, leaf, indexed, parens
 use Rattle.net_tree.specs.View.{tree, links_of}
 use Rattle.net_tree.proofs.Views.{next_link}
 use Rattle.net_eval.specs.declared.row.Row.{Row}
-use Rattle.net_eval.specs.Operations.{reduction, is_minus}
+use Rattle.net_tree.specs.Operations.{reduction, is_minus, operation}
 use Rattle.net_eval.specs.Values.{index}
 use Rattle.net_eval.specs.Worlds.{World, Scope}
 use Rattle.net_fault.specs.declared.fault.Fault.{Fault}
 use Rattle.net_fault.specs.declared.fault.Fault.TheVariants.{OutOfMemory, At}
 use Rattle.net_linear.specs.Arcs.{Arcs}
 use Rattle.net_linear.specs.Forms.{Linear, Term, join, turn, total, gathered, gathered_over}
-use Rattle.net_linear.specs.Joints.{joint}
 use Rattle.net_linear.specs.Objectives.{names_arc, any_arc, first_or_any, braces_arc, is_sum, is_linear, mixed, linear, key_of, arc_term, condition, objective, otherwise, chained, with_arcs}
 use Rattle.net_fault.specs.Outcomes.{Outcome, Answers, and_then, refused, bare}
 use Rattle.net_fault.specs.declared.defect.Defect.TheVariants.{NotLinear}
@@ -84,10 +83,10 @@ and_then-assoc (Err r) f g = refl
 -- one link of a chain
 pub chained-left : (a : Arcs) (at : Span) (w : World) (s : Scope) (ls : List Link) (i : ℕ) (l : Link) (u : Term) (wanted : Outcome Term) → i < length ls → l ≡ get_or ls i l
     → chained a at w s (links_of (drop i ls)) u ≡ wanted
-    → wanted ≡ and_then (and_then (objective a w s (tree (out-Link l).operand)) (join (joint (out-Link l).operator) at u)) (chained a at w s (links_of (drop (i + 1) ls)))
+    → wanted ≡ and_then (and_then (objective a w s (tree (out-Link l).operand)) (join (operation (out-Link l).operator) at u)) (chained a at w s (links_of (drop (i + 1) ls)))
 chained-left a at w s ls i l u wanted h e same =
     sym same ∙ ap (λ k. chained a at w s k u) (next_link ls i l h e)
-    ∙ and_then-assoc (objective a w s (tree (out-Link l).operand)) (join (joint (out-Link l).operator) at u) (chained a at w s (links_of (drop (i + 1) ls)))
+    ∙ and_then-assoc (objective a w s (tree (out-Link l).operand)) (join (operation (out-Link l).operator) at u) (chained a at w s (links_of (drop (i + 1) ls)))
 
 -- one row of a sum
 drop_row : (rows : List Row) (i : ℕ) (r : Row) → i < length rows → r ≡ get_or rows i r → drop i rows ≡ r ∷ drop (i + 1) rows

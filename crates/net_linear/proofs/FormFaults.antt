@@ -9,8 +9,8 @@ use Rattle.net_eval.specs.Limits.{is_small}
 use Rattle.net_eval.specs.Numbers.{divides}
 use Rattle.net_eval.specs.Worlds.{Name, key_count, reference}
 use Rattle.net_linear.specs.declared.arc.ArcKeys.{ArcKeys}
-use Rattle.net_linear.specs.declared.joint.Joint.{Joint}
-use Rattle.net_linear.specs.declared.joint.Joint.TheVariants as joints
+use Rattle.net_tree.specs.declared.operator.BinOp.{BinOp}
+use Rattle.net_tree.specs.declared.operator.BinOp.TheVariants as joints
 use Rattle.net_linear.specs.Arcs.{numbered, arc_at}
 use Rattle.net_linear.specs.Forms.{Linear, Term, just, one_arc, combined, is_number, if_sized, within, sized, minus_one, times, quotient, divided, joined, join, scaled, turn}
 use Rattle.net_linear.specs.Forms.{or_too_large, priced, gathered, gathered_over, total, as_form}
@@ -36,15 +36,15 @@ module _ (P : Places) (at : Span) (h : P Model at) where
   finds_divided : (k : ℤ → ℤ → ℤ) (f g : Linear) → Finds P (divided at k f g)
   finds_divided k f g = finds_if P (is_number f.products && is_number g.products) _ _ (finds_quotient k f.constant g.constant) h
 
-  finds_joined : (j : Joint) (f g : Linear) → Finds P (joined j at f g)
+  finds_joined : (j : BinOp) (f g : Linear) → Finds P (joined j at f g)
   finds_joined joints.Plus f g = finds_sized (combined f (pos 1) g)
   finds_joined joints.Minus f g = finds_sized (combined f minus_one g)
   finds_joined joints.Times f g = finds_times f g
   finds_joined joints.Div f g = finds_divided int_div f g
   finds_joined joints.Mod f g = finds_divided int_rem f g
-  finds_joined joints.Other f g = h
+  finds_joined _ f g = h
 
-  pub finds_join : (j : Joint) (t u : Term) → Finds P (join j at t u)
+  pub finds_join : (j : BinOp) (t u : Term) → Finds P (join j at t u)
   finds_join j (Some f) (Some g) = finds_joined j f g
   finds_join j (Some f) None = h
   finds_join j None u = h

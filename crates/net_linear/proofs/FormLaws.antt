@@ -12,8 +12,8 @@ use Rattle.net_fault.specs.declared.defect.Defect.TheVariants.{ValueTooLarge, Di
 use Rattle.net_eval.specs.Limits.{is_small}
 use Rattle.net_eval.specs.Numbers.{turned, divides}
 use Rattle.net_eval.specs.Worlds.{World, Scope}
-use Rattle.net_linear.specs.declared.joint.Joint.{Joint}
-use Rattle.net_linear.specs.declared.joint.Joint.TheVariants.{Plus, Minus, Times, Div, Mod, Other}
+use Rattle.net_tree.specs.declared.operator.BinOp.{BinOp}
+use Rattle.net_tree.specs.declared.operator.BinOp.TheVariants.{Plus, Minus, Times, Div, Mod}
 use Rattle.net_linear.specs.Conditions.{number_of}
 use Rattle.net_linear.specs.Forms.{Products, more, with_times, all_small, Linear, just, one_arc, combined, is_number, Term, sized, minus_one, is_sized, within, times, divided, joined, join, turn, gathered, gathered_over, total, as_form, or_too_large, priced, products_at, form_at}
 use Rattle.net_linear.specs.Objectives.{plain_term, mixed, linear}
@@ -105,15 +105,15 @@ divided_ok x at h f g r e = go (is_number f.products) (is_number g.products) (di
     go true false d i j e = cc
     go false c d i j e = cc
 
-joined_ok : (x : ℕ → ℤ) (j : Joint) (at : Span) (f g : Linear) (r : Term) → joined j at f g ≡ Ok r → term_at x r ≡ combine j (form_at x f) (form_at x g)
+joined_ok : (x : ℕ → ℤ) (j : BinOp) (at : Span) (f g : Linear) (r : Term) → joined j at f g ≡ Ok r → term_at x r ≡ combine j (form_at x f) (form_at x g)
 joined_ok x Plus at f g r e = sized_ok x at (combined f (pos 1) g) r e ∙ omega (arith, ints, form_combined x f (pos 1) g, one-mul (form_at x g))
 joined_ok x Minus at f g r e = sized_ok x at (combined f minus_one g) r e ∙ omega (arith, ints, form_combined x f minus_one g, minus-mul (form_at x g))
 joined_ok x Times at f g r e = times_ok x at f g r e
 joined_ok x Div at f g r e = divided_ok x at int_div f g r e
 joined_ok x Mod at f g r e = divided_ok x at int_rem f g r e
-joined_ok x Other at f g r e = cc
+joined_ok x _ at f g r e = cc
 
-pub join_ok : (x : ℕ → ℤ) (j : Joint) (at : Span) (u v r : Term) → join j at u v ≡ Ok r → term_at x r ≡ combine j (term_at x u) (term_at x v)
+pub join_ok : (x : ℕ → ℤ) (j : BinOp) (at : Span) (u v r : Term) → join j at u v ≡ Ok r → term_at x r ≡ combine j (term_at x u) (term_at x v)
 join_ok x j at (Some f) (Some g) r e = joined_ok x j at f g r e
 join_ok x j at (Some f) None r e = cc
 join_ok x j at None v r e = cc

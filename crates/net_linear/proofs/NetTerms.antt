@@ -7,85 +7,48 @@ use Rattle.net_fault.specs.declared.span.Span.{Span}
 use Rattle.net_lex.specs.declared.token.Token.{Token}
 use Rattle.net_sets.specs.declared.member.Member.TheVariants.{Number, Name}
 use Rattle.net_tree.specs.declared.expr.Link.{Link, out-Link}
-use Rattle.net_tree.specs.declared.expr.Operator.{Operator}
-use Rattle.net_tree.specs.declared.expr.Operator.TheVariants.{One, Two}
+use Rattle.net_tree.specs.declared.operator.Words.{Words as Operator}
+use Rattle.net_tree.specs.declared.operator.Words.TheVariants.{One, Two}
 use Rattle.net_tree.specs.Spans.{span_of}
 use Rattle.net_tree.specs.Tree.{Tree, Links, leaf, indexed, parens, tuple, negated, braced, signed, reduced, chain, choice, net, none, link}
 use Rattle.net_tree.specs.View.{tree, links_of}
 use Rattle.net_tree.proofs.Views.{next_link}
-use Rattle.net_eval.specs.declared.operation.Operation.{Operation}
-use Rattle.net_eval.specs.declared.operation.Operation.TheVariants as op
+use Rattle.net_tree.specs.declared.operator.BinOp.{BinOp}
+use Rattle.net_tree.specs.declared.operator.BinOp.TheVariants as op
 use Rattle.net_fault.specs.declared.defect.Defect.TheVariants.{ValueTooLarge, KindMismatch}
 use Rattle.net_eval.specs.declared.value.Value.{Value}
 use Rattle.net_eval.specs.declared.value.Value.TheVariants as values
 use Rattle.net_eval.specs.Limits.{is_small}
 use Rattle.net_eval.specs.Items.{begins_range}
 use Rattle.net_eval.specs.Numbers.{number, turned, plus, less as minus, range_of}
-use Rattle.net_eval.specs.Operations.{operation, operations, operation_in, is_range}
+use Rattle.net_tree.specs.Operations.{operation, operations, operation_in, is_range}
 use Rattle.net_eval.specs.Operators.{apply, decided, of_numbers}
 use Rattle.net_eval.specs.Values.{value, values as each_value, chained, either}
 use Rattle.net_eval.specs.Worlds.{World, Scope}
-use Rattle.net_linear.specs.declared.joint.Joint.{Joint}
-use Rattle.net_linear.specs.declared.joint.Joint.TheVariants.{Plus, Minus, Times, Div, Mod, Other}
+use Rattle.net_tree.specs.declared.operator.BinOp.{BinOp}
+use Rattle.net_tree.specs.declared.operator.BinOp.TheVariants.{Plus, Minus, Times, Div, Mod}
 use Rattle.net_linear.specs.declared.net_term.NetTerm.{NetTerm}
 use Rattle.net_linear.specs.declared.net_term.NetTerm.TheVariants.{Absent, Inflow, Outflow, Unclear}
 use Rattle.net_linear.specs.Conditions.{number_of, term_at, with_term, terms_at, side_at}
-use Rattle.net_linear.specs.Joints.{joint, is_sign}
+use Rattle.net_linear.specs.Signs.{is_sign}
 use Rattle.net_linear.specs.NetTerms.{has_minus, is_outflow, with_sign, negated as turned_term, net_term, beside, behind, net_terms, net_side, at_inflow, are_terms}
 use Rattle.net_fault.specs.Outcomes.{Outcome, and_then, refused}
 use Rattle.net_linear.specs.Amounts.{as_number, number_or_none}
 
 -- a step of a walk over links
 pub net_terms-left : (ls : List Link) (i : ℕ) (l : Link) (so_far : NetTerm) → i < length ls → l ≡ get_or ls i l
-    → net_terms (links_of (drop i ls)) so_far ≡ net_terms (links_of (drop (i + 1) ls)) (behind (joint (out-Link l).operator) so_far (net_term (tree (out-Link l).operand)))
+    → net_terms (links_of (drop i ls)) so_far ≡ net_terms (links_of (drop (i + 1) ls)) (behind (operation (out-Link l).operator) so_far (net_term (tree (out-Link l).operand)))
 net_terms-left ls i l so_far h e = ap (λ k. net_terms k so_far) (next_link ls i l h e)
 
-terms-left : (ls : List Link) (i : ℕ) (l : Link) (j : Joint) → i < length ls → l ≡ get_or ls i l → j ≡ joint (out-Link l).operator
+terms-left : (ls : List Link) (i : ℕ) (l : Link) (j : BinOp) → i < length ls → l ≡ get_or ls i l → j ≡ operation (out-Link l).operator
     → are_terms (links_of (drop i ls)) ≡ is_sign j && are_terms (links_of (drop (i + 1) ls))
 terms-left ls i l j h e f = ap are_terms (next_link ls i l h e) ∙ ap (λ k. is_sign k && are_terms (links_of (drop (i + 1) ls))) (sym f)
 
-pub terms_stop : (ls : List Link) (i : ℕ) (l : Link) (j : Joint) → i < length ls → l ≡ get_or ls i l → j ≡ joint (out-Link l).operator → is_sign j ≡ false → false ≡ are_terms (links_of (drop i ls))
+pub terms_stop : (ls : List Link) (i : ℕ) (l : Link) (j : BinOp) → i < length ls → l ≡ get_or ls i l → j ≡ operation (out-Link l).operator → is_sign j ≡ false → false ≡ are_terms (links_of (drop i ls))
 terms_stop ls i l j h e f g = sym (terms-left ls i l j h e f ∙ ap (λ b. b && are_terms (links_of (drop (i + 1) ls))) g)
 
-pub terms_go : (ls : List Link) (i : ℕ) (l : Link) (j : Joint) → i < length ls → l ≡ get_or ls i l → j ≡ joint (out-Link l).operator → is_sign j ≡ true → are_terms (links_of (drop (i + 1) ls)) ≡ are_terms (links_of (drop i ls))
+pub terms_go : (ls : List Link) (i : ℕ) (l : Link) (j : BinOp) → i < length ls → l ≡ get_or ls i l → j ≡ operation (out-Link l).operator → is_sign j ≡ true → are_terms (links_of (drop (i + 1) ls)) ≡ are_terms (links_of (drop i ls))
 terms_go ls i l j h e f g = sym (terms-left ls i l j h e f ∙ ap (λ b. b && are_terms (links_of (drop (i + 1) ls))) g)
-
--- operators by their texts
-plus_text : (a b c d e : Bool) → (if a then Plus else if b then Minus else if c then Times else if d then Div else if e then Mod else Other) ≡ Plus → a ≡ true
-plus_text true b c d e h = refl
-plus_text false true c d e h = cc
-plus_text false false true d e h = cc
-plus_text false false false true e h = cc
-plus_text false false false false true h = cc
-plus_text false false false false false h = cc
-
-minus_text : (a b c d e : Bool) → (if a then Plus else if b then Minus else if c then Times else if d then Div else if e then Mod else Other) ≡ Minus → (a ≡ false) × (b ≡ true)
-minus_text true b c d e h = cc
-minus_text false true c d e h = (refl, refl)
-minus_text false false true d e h = cc
-minus_text false false false true e h = cc
-minus_text false false false false true h = cc
-minus_text false false false false false h = cc
-
-found_first : (k : List ℕ) (v : Operation) (rest : List (List ℕ × Operation)) (text : List ℕ) → bytes_eq k text ≡ true → operation_in ((k, v) ∷ rest) text ≡ v
-found_first k v rest text h = ap (λ b. if b then v else operation_in rest text) h
-
-passed_over : (k : List ℕ) (v : Operation) (rest : List (List ℕ × Operation)) (text : List ℕ) → bytes_eq k text ≡ false → operation_in ((k, v) ∷ rest) text ≡ operation_in rest text
-passed_over k v rest text h = ap (λ b. if b then v else operation_in rest text) h
-
-abbrev behind_one : List (List ℕ × Operation) → List (List ℕ × Operation)
-behind_one [] = []
-behind_one (o ∷ os) = os
-
-pub plus_is : (o : Operator) → joint o ≡ Plus → operation o ≡ op.Plus
-unfolding joint operation operations
-plus_is (One t) h = found_first (codes "+") op.Plus (behind_one operations) t.text (plus_text _ _ _ _ _ h)
-plus_is (Two t u) h = cc
-
-pub minus_is : (o : Operator) → joint o ≡ Minus → operation o ≡ op.Minus
-unfolding joint operation operations
-minus_is (One t) h = let p = minus_text _ _ _ _ _ h in passed_over (codes "+") op.Plus (behind_one operations) t.text p.0 ∙ found_first (codes "-") op.Minus (behind_one (behind_one operations)) t.text p.1
-minus_is (Two t u) h = cc
 
 -- what stands behind an Ok
 pub value_then : {A B P : Type 0} (o : Outcome A) (f : A → Outcome B) (r : B) → and_then o f ≡ Ok r → ((y : A) → o ≡ Ok y → f y ≡ Ok r → P) → P
@@ -145,17 +108,13 @@ beside_unclear Inflow = refl
 beside_unclear Outflow = refl
 beside_unclear Unclear = refl
 
-unclear_stays : (j : Joint) (n : NetTerm) → behind j Unclear n ≡ Unclear
+unclear_stays : (j : BinOp) (n : NetTerm) → behind j Unclear n ≡ Unclear
 unclear_stays Minus n = beside_unclear (turned_term n)
-unclear_stays Plus n = beside_unclear n
-unclear_stays Times n = beside_unclear n
-unclear_stays Div n = beside_unclear n
-unclear_stays Mod n = beside_unclear n
-unclear_stays Other n = beside_unclear n
+unclear_stays _ n = beside_unclear n
 
 pub all_unclear : (l : Links) → net_terms l Unclear ≡ Unclear
 all_unclear none = refl
-all_unclear (link o x l) = ap (net_terms l) (unclear_stays (joint o) (net_term x)) ∙ all_unclear l
+all_unclear (link o x l) = ap (net_terms l) (unclear_stays (operation o) (net_term x)) ∙ all_unclear l
 
 clear_before : (l : Links) (n : NetTerm) → is_clear (net_terms l n) ≡ true → is_clear n ≡ true
 clear_before l Absent h = refl
@@ -197,7 +156,7 @@ AreTerms at w s l y =
     → terms_at w s l m y ≡ n +ℤ at_inflow (net_terms l so_far) y
 
 terms_step : (at : Span) (w : World) (s : Scope) (o : Operator) (x : Tree) (l : Links) (y : ℤ) → AreTerms at w s l y → AreTerms at w s (link o x l) y
-terms_step at w s o x l y terms_more so_far a n m t e k h = go (joint o) refl t k
+terms_step at w s o x l y terms_more so_far a n m t e k h = go (operation o) refl t k
   where
     added : and_then (value w s x) (λ u. and_then (apply op.Plus at (values.One (Number a)) u) (chained at w s l)) ≡ Ok (values.One (Number n)) → are_terms l ≡ true
         → is_clear (net_terms l (beside so_far (net_term x))) ≡ true → terms_at w s l (m +ℤ term_at w s x y) y ≡ n +ℤ at_inflow (net_terms l (beside so_far (net_term x))) y
@@ -219,17 +178,14 @@ terms_step at w s o x l y terms_more so_far a n m t e k h = go (joint o) refl t 
         terms_more (beside so_far (turned_term (net_term x))) (a -ℤ b) n (m -ℤ term_at w s x y) i (ap (chained at w s l) less ∙ z) j
         (omega (arith, ints, h, here, beside_at so_far (turned_term (net_term x)) y (clear_before l _ j), turned_at (net_term x) y)))))
 
-    step_of : Operation → Outcome Value
+    step_of : BinOp → Outcome Value
     step_of r = and_then (decided r at (values.One (Number a))) (either (chained at w s l) (and_then (value w s x) (λ u. and_then (apply r at (values.One (Number a)) u) (chained at w s l))))
 
-    go : (j : Joint) → joint o ≡ j → is_sign j && are_terms l ≡ true → is_clear (net_terms l (behind j so_far (net_term x))) ≡ true
+    go : (j : BinOp) → operation o ≡ j → is_sign j && are_terms l ≡ true → is_clear (net_terms l (behind j so_far (net_term x))) ≡ true
         → terms_at w s l (with_term j m (term_at w s x y)) y ≡ n +ℤ at_inflow (net_terms l (behind j so_far (net_term x))) y
-    go Plus i t k = added (sym (ap (λ r. step_of r) (plus_is o i)) ∙ e) t k
-    go Minus i t k = taken (sym (ap (λ r. step_of r) (minus_is o i)) ∙ e) t k
-    go Times i t k = cc
-    go Div i t k = cc
-    go Mod i t k = cc
-    go Other i t k = cc
+    go Plus i t k = added (sym (ap (λ r. step_of r) i) ∙ e) t k
+    go Minus i t k = taken (sym (ap (λ r. step_of r) i) ∙ e) t k
+    go _ i t k = cc
 
 terms_ok : (at : Span) (w : World) (s : Scope) (l : Links) (y : ℤ) → AreTerms at w s l y
 terms_ok at w s none y so_far a n m t e k h = let same : a ≡ n = cc in omega (arith, ints, h, same)
@@ -238,15 +194,12 @@ terms_ok at w s (link o x l) y so_far a n m t e k h = terms_step at w s o x l y 
 -- a chain of terms
 starts_range : (l : Links) → are_terms l ≡ true → begins_range l ≡ false
 starts_range none h = refl
-starts_range (link o x l) h = go (joint o) refl h
+starts_range (link o x l) h = go (operation o) refl h
   where
-    go : (j : Joint) → joint o ≡ j → is_sign j && are_terms l ≡ true → is_range (operation o) ≡ false
-    go Plus i t = ap is_range (plus_is o i)
-    go Minus i t = ap is_range (minus_is o i)
-    go Times i t = cc
-    go Div i t = cc
-    go Mod i t = cc
-    go Other i t = cc
+    go : (j : BinOp) → operation o ≡ j → is_sign j && are_terms l ≡ true → is_range (operation o) ≡ false
+    go Plus i t = ap is_range i
+    go Minus i t = ap is_range i
+    go _ i t = cc
 
 number_inv : (v : Value) (n : ℤ) → as_number v ≡ Some n → v ≡ values.One (Number n)
 number_inv (values.One (Number m)) n e = let same : m ≡ n = cc in ap (λ (i : ℤ). values.One (Number i)) same
@@ -265,9 +218,9 @@ came_from w s x n e = go (value w s x) refl e
 -- the first value of a chain, where nothing joins it to a number
 first_number : (at : Span) (w : World) (s : Scope) (l : Links) (v : Value) (n : ℤ) (P : Type 0) → are_terms l ≡ true → ends_in (chained at w s l v) n → ((a : ℤ) → v ≡ values.One (Number a) → P) → P
 first_number at w s none v n P t e k = k n (let same : v ≡ values.One (Number n) = cc in same)
-first_number at w s (link o x l) v n P t e k = go (joint o) refl t
+first_number at w s (link o x l) v n P t e k = go (operation o) refl t
   where
-    step_of : Operation → Outcome Value
+    step_of : BinOp → Outcome Value
     step_of r = and_then (decided r at v) (either (chained at w s l) (and_then (value w s x) (λ u. and_then (apply r at v u) (chained at w s l))))
 
     by_numbers : (f : ℤ → ℤ → Outcome Value) → and_then (value w s x) (λ u. and_then (of_numbers at f v u) (chained at w s l)) ≡ Ok (values.One (Number n)) → P
@@ -275,13 +228,10 @@ first_number at w s (link o x l) v n P t e k = go (joint o) refl t
         value_then (value w s x) _ _ h (λ u p q. value_then (of_numbers at f v u) (chained at w s l) _ q (λ z r m.
         value_then (number at v) _ _ r (λ a c d. k a (number_is at v a c))))
 
-    go : (j : Joint) → joint o ≡ j → is_sign j && are_terms l ≡ true → P
-    go Plus i t = by_numbers (plus at) (sym (ap (λ r. step_of r) (plus_is o i)) ∙ e)
-    go Minus i t = by_numbers (minus at) (sym (ap (λ r. step_of r) (minus_is o i)) ∙ e)
-    go Times i t = cc
-    go Div i t = cc
-    go Mod i t = cc
-    go Other i t = cc
+    go : (j : BinOp) → operation o ≡ j → is_sign j && are_terms l ≡ true → P
+    go Plus i t = by_numbers (plus at) (sym (ap (λ r. step_of r) i) ∙ e)
+    go Minus i t = by_numbers (minus at) (sym (ap (λ r. step_of r) i) ∙ e)
+    go _ i t = cc
 
 abbrev range_or_chain : Span → World → Scope → Links → Value → Bool → Outcome Value
 range_or_chain at w s l v b = if b then and_then (each_value w s l (v ∷ [])) (range_of at) else chained at w s l v

@@ -6,14 +6,13 @@ use Rattle.net_fault.specs.Outcomes.{Outcome, and_then}
 use Rattle.net_sets.specs.Sets.{Tuple}
 use Rattle.net_tree.specs.Spans.{span_of}
 use Rattle.net_tree.specs.Tree.{Tree, Links, Part, leaf, indexed, parens, tuple, negated, braced, signed, reduced, chain, choice, net, none, link, absent, part}
-use Rattle.net_eval.specs.Operations.{reduction, is_minus}
+use Rattle.net_tree.specs.Operations.{reduction, is_minus, operation}
 use Rattle.net_eval.specs.Operators.{truth, tuple_of}
 use Rattle.net_eval.specs.Values.{value, values, index}
 use Rattle.net_eval.specs.Worlds.{Name, World, Scope}
 use Rattle.net_linear.specs.Amounts.{number_or_none}
 use Rattle.net_linear.specs.Arcs.{Arcs, declared, arc_at}
 use Rattle.net_linear.specs.Forms.{Term, just, join, turn, total, as_form}
-use Rattle.net_linear.specs.Joints.{joint}
 use Rattle.net_linear.specs.Objectives.{names_arc, braces_arc, first_or_any, is_linear, is_sum, plain_term, mixed, linear, key_of, arc_term, condition, objective, otherwise, chained}
 use Rattle.net_linear.specs.Objectives.{with_arcs, objective_form}
 use Rattle.net_fault.specs.Places.{Places, Finds}
@@ -100,7 +99,7 @@ module _ (P : Places) where
     finds_chained a at h w s none k u = tt
     finds_chained a at h w s (link o x l) (j, k) u =
         finds_then P (objective a w s x) _ (finds_mixed_with a w s x j (finds_with_arcs a w s x j)) (λ v.
-        finds_then P (join (joint o) at u v) (chained a at w s l) (finds_join P at h (joint o) u v) (finds_chained a at h w s l k))
+        finds_then P (join (operation o) at u v) (chained a at w s l) (finds_join P at h (operation o) u v) (finds_chained a at h w s l k))
 
   pub finds_objective : (a : Arcs) (w : World) (s : Scope) (t : Tree) → Stands (P Model) t → Finds P (objective a w s t)
   finds_objective a w s t h = finds_mixed_with a w s t h (finds_with_arcs a w s t h)

@@ -5,12 +5,11 @@ use Rattle.net_fault.specs.declared.span.Span.{Span}
 use Rattle.net_tree.specs.Spans.{span_of}
 use Rattle.net_tree.specs.Tree.{Tree, Links, Part, leaf, indexed, parens, tuple, negated, braced, signed, reduced, chain, choice, net, none, link, absent, part}
 use Rattle.net_eval.specs.Numbers.{turned}
-use Rattle.net_eval.specs.Operations.{reduction, is_minus}
+use Rattle.net_tree.specs.Operations.{reduction, is_minus, operation}
 use Rattle.net_eval.specs.Values.{index}
 use Rattle.net_eval.specs.Worlds.{World, Scope}
 use Rattle.net_linear.specs.Arcs.{Arcs, declared, is_arc, arc_at}
 use Rattle.net_linear.specs.Forms.{Linear, Term, just, join, turn, as_form, form_at}
-use Rattle.net_linear.specs.Joints.{joint}
 use Rattle.net_linear.specs.Laws.{HaveWorth}
 use Rattle.net_linear.specs.Objectives.{names_arc, any_arc, braces_arc, is_sum, is_linear, key_of, condition, objective, otherwise, chained, objective_form}
 use Rattle.net_fault.specs.Outcomes.{Outcome, Answers, and_then}
@@ -52,8 +51,8 @@ mutual
   law_chain : (x : ℕ → ℤ) (a : Arcs) (at : Span) (w : World) (s : Scope) (l : Links) (u r : Term) → chained a at w s l u ≡ Ok r → term_at x r ≡ worth_chain a w s l (term_at x u) x
   law_chain x a at w s none u r e = let same : u ≡ r = cc in ap (term_at x) (sym same)
   law_chain x a at w s (link o y l) u r e =
-      ok_then (objective a w s y) _ r e (λ v h k. ok_then (join (joint o) at u v) (chained a at w s l) r k
-      (λ z i j. law_chain x a at w s l z r j ∙ ap (λ (m : ℤ). worth_chain a w s l m x) (join_ok x (joint o) at u v z i ∙ ap (combine (joint o) (term_at x u)) (law x a w s y v h))))
+      ok_then (objective a w s y) _ r e (λ v h k. ok_then (join (operation o) at u v) (chained a at w s l) r k
+      (λ z i j. law_chain x a at w s l z r j ∙ ap (λ (m : ℤ). worth_chain a w s l m x) (join_ok x (operation o) at u v z i ∙ ap (combine (operation o) (term_at x u)) (law x a w s y v h))))
 
 form_of : (x : ℕ → ℤ) (at : Span) (u : Term) (f : Linear) → as_form at u ≡ Ok f → form_at x f ≡ term_at x u
 form_of x at None f e = cc

@@ -5,7 +5,7 @@ use Rattle.net_fault.specs.declared.span.Span.{Span}
 use Rattle.net_lex.specs.declared.token.Token.{Token}
 use Rattle.net_normal.specs.declared.instance.NodeRange.{NodeRange}
 use Rattle.net_normal.specs.Limits.{IsSized, range_limit}
-use Rattle.net_tree.specs.declared.role.Relates.TheVariants as relates
+use Rattle.net_tree.specs.declared.role.Relation.TheVariants as relations
 use Rattle.net_tree.specs.declared.role.Role.{Role}
 use Rattle.net_tree.specs.declared.role.Role.TheVariants as roles
 use Rattle.net_tree.specs.Role.{role_of}
@@ -15,27 +15,26 @@ use Rattle.net_tree.specs.Tree.{Tree, Links, net, chain, none, link, Condition, 
 use Rattle.net_fault.specs.declared.defect.Defect.TheVariants.{KindMismatch, ValueTooLarge}
 use Rattle.net_eval.specs.Limits.{is_small}
 use Rattle.net_eval.specs.Numbers.{turned}
-use Rattle.net_eval.specs.Operations.{is_minus}
+use Rattle.net_tree.specs.Operations.{is_minus, operation}
 use Rattle.net_eval.specs.Worlds.{World, Scope}
 use Rattle.net_linear.specs.declared.condition.Comparison.{Comparison}
 use Rattle.net_linear.specs.declared.condition.Comparison.TheVariants.{Equal, AtMost, AtLeast}
 use Rattle.net_linear.specs.declared.condition.Sides.{Sides}
 use Rattle.net_fault.specs.declared.fault.Fault.{Fault}
 use Rattle.net_fault.specs.declared.fault.Fault.TheVariants.{OutOfMemory, At}
-use Rattle.net_linear.specs.declared.joint.Joint.{Joint}
-use Rattle.net_linear.specs.declared.joint.Joint.TheVariants.{Plus, Minus}
+use Rattle.net_tree.specs.declared.operator.BinOp.{BinOp}
+use Rattle.net_tree.specs.declared.operator.BinOp.TheVariants.{Plus, Minus}
 use Rattle.net_linear.specs.declared.net_term.NetTerm.{NetTerm}
 use Rattle.net_linear.specs.declared.net_term.NetTerm.TheVariants.{Absent, Inflow, Outflow}
-use Rattle.net_linear.specs.Joints.{joint}
 use Rattle.net_linear.specs.NetTerms.{has_minus, is_outflow, are_terms, net_side}
 use Rattle.net_fault.specs.Outcomes.{Outcome, and_then, refused}
 use Rattle.net_linear.specs.Amounts.{number_or_none}
 
 -- `=`, `==`, `<=` and `>=` compare
 abbrev pub comparison_in : Role → Option Comparison
-comparison_in (roles.Relation relates.Equal) = Some Equal
-comparison_in (roles.Relation relates.AtMost) = Some AtMost
-comparison_in (roles.Relation relates.AtLeast) = Some AtLeast
+comparison_in (roles.Relation relations.Equal) = Some Equal
+comparison_in (roles.Relation relations.AtMost) = Some AtMost
+comparison_in (roles.Relation relations.AtLeast) = Some AtLeast
 comparison_in _ = None
 
 -- a number, 0 where there is none
@@ -48,7 +47,7 @@ abbrev pub term_at : World → Scope → Tree → ℤ → ℤ
 term_at w s (net sign word) y = turned (has_minus sign) (turned (is_outflow word) y)
 term_at w s x y = number_of (number_or_none w s x)
 
-abbrev pub with_term : Joint → ℤ → ℤ → ℤ
+abbrev pub with_term : BinOp → ℤ → ℤ → ℤ
 with_term Plus a b = a +ℤ b
 with_term Minus a b = a -ℤ b
 with_term _ a b = a
@@ -56,7 +55,7 @@ with_term _ a b = a
 -- terms with `+` and `-` before them, added to a number
 abbrev pub terms_at : World → Scope → Links → ℤ → ℤ → ℤ
 terms_at w s none a y = a
-terms_at w s (link o x l) a y = terms_at w s l (with_term (joint o) a (term_at w s x y)) y
+terms_at w s (link o x l) a y = terms_at w s l (with_term (operation o) a (term_at w s x y)) y
 
 -- a side as it is written, where the net inflow is y; no size is tested
 abbrev pub side_at : World → Scope → Tree → ℤ → ℤ

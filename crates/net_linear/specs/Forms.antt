@@ -4,8 +4,8 @@ use Rattle.net_fault.specs.declared.span.Span.{Span}
 use Rattle.net_fault.specs.declared.defect.Defect.TheVariants.{KindMismatch, DivMod, ValueTooLarge, NotLinear}
 use Rattle.net_eval.specs.Limits.{is_small}
 use Rattle.net_eval.specs.Numbers.{divides}
-use Rattle.net_linear.specs.declared.joint.Joint.{Joint}
-use Rattle.net_linear.specs.declared.joint.Joint.TheVariants.{Plus, Minus, Times, Div, Mod, Other}
+use Rattle.net_tree.specs.declared.operator.BinOp.{BinOp}
+use Rattle.net_tree.specs.declared.operator.BinOp.TheVariants.{Plus, Minus, Times, Div, Mod}
 use Rattle.net_fault.specs.Outcomes.{Outcome, and_then, refused}
 
 -- numbers of arcs, each once, with their coefficients
@@ -90,15 +90,15 @@ quotient at h m n = if divides m n then sized at (just (h m n)) else refused Div
 abbrev pub divided : Span → (ℤ → ℤ → ℤ) → Linear → Linear → Outcome Term
 divided at h f g = if is_number f.products && is_number g.products then quotient at h f.constant g.constant else refused NotLinear at
 
-abbrev pub joined : Joint → Span → Linear → Linear → Outcome Term
+abbrev pub joined : BinOp → Span → Linear → Linear → Outcome Term
 joined Plus at f g = sized at (combined f (pos 1) g)
 joined Minus at f g = sized at (combined f minus_one g)
 joined Times at f g = times at f g
 joined Div at f g = divided at int_div f g
 joined Mod at f g = divided at int_rem f g
-joined Other at f g = refused NotLinear at
+joined _ at f g = refused NotLinear at
 
-abbrev pub join : Joint → Span → Term → Term → Outcome Term
+abbrev pub join : BinOp → Span → Term → Term → Outcome Term
 join j at (Some f) (Some g) = joined j at f g
 join j at _ _ = refused KindMismatch at
 

@@ -1,5 +1,5 @@
 pub mod Amounts
-pub mod Joints
+pub mod Signs
 pub mod NetTerms
 pub mod Conditions
 pub mod Arcs

@@ -3,12 +3,12 @@ use Rattle.std.specs.Prelude.{Bool, true, false, ◌&&◌, Option, None, Some, i
 use Rattle.std.specs.Str.{bytes_eq}
 use Rattle.net_lex.specs.declared.token.Token.{Token}
 use Rattle.net_tree.specs.Tree.{Tree, Links, net, chain, none, link}
-use Rattle.net_eval.specs.Operations.{is_minus}
-use Rattle.net_linear.specs.declared.joint.Joint.{Joint}
-use Rattle.net_linear.specs.declared.joint.Joint.TheVariants.{Minus}
+use Rattle.net_tree.specs.Operations.{is_minus, operation}
+use Rattle.net_tree.specs.declared.operator.BinOp.{BinOp}
+use Rattle.net_tree.specs.declared.operator.BinOp.TheVariants.{Minus}
 use Rattle.net_linear.specs.declared.net_term.NetTerm.{NetTerm}
 use Rattle.net_linear.specs.declared.net_term.NetTerm.TheVariants.{Absent, Inflow, Outflow, Unclear}
-use Rattle.net_linear.specs.Joints.{joint, is_sign}
+use Rattle.net_linear.specs.Signs.{is_sign}
 
 -- `net_out` is the negated net inflow
 unfoldable pub is_outflow : Token → Bool
@@ -39,18 +39,18 @@ beside n Absent = n
 beside _ _ = Unclear
 
 -- in what is so far, and in a term behind `+` or `-`
-abbrev pub behind : Joint → NetTerm → NetTerm → NetTerm
+abbrev pub behind : BinOp → NetTerm → NetTerm → NetTerm
 behind Minus so_far n = beside so_far (negated n)
 behind _ so_far n = beside so_far n
 
 abbrev pub net_terms : Links → NetTerm → NetTerm
 net_terms none so_far = so_far
-net_terms (link o x l) so_far = net_terms l (behind (joint o) so_far (net_term x))
+net_terms (link o x l) so_far = net_terms l (behind (operation o) so_far (net_term x))
 
 -- terms with `+` and `-` alone between them
 abbrev pub are_terms : Links → Bool
 are_terms none = true
-are_terms (link o x l) = is_sign (joint o) && are_terms l
+are_terms (link o x l) = is_sign (operation o) && are_terms l
 
 -- how it stands in a side; under other operators than these it is read as 0, as no text has it that the grammar takes
 abbrev pub net_side : Tree → NetTerm

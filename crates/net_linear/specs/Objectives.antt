@@ -4,23 +4,23 @@ use Rattle.net_fault.specs.declared.span.Span.{Span}
 use Rattle.net_lex.specs.declared.token.Token.{Token}
 use Rattle.net_tree.specs.Spans.{span_of}
 use Rattle.net_tree.specs.Tree.{Tree, Links, Part, Braces, leaf, indexed, parens, tuple, negated, braced, signed, reduced, chain, choice, net, none, link, absent, part, empty, filled}
-use Rattle.net_eval.specs.declared.operation.Reduction.{Reduction}
-use Rattle.net_eval.specs.declared.operation.Reduction.TheVariants as reductions
+use Rattle.net_tree.specs.declared.operator.Reduction.{Reduction}
+use Rattle.net_tree.specs.declared.operator.Reduction.TheVariants as reductions
 use Rattle.net_eval.specs.declared.row.Keys.{Keys}
 use Rattle.net_eval.specs.declared.row.Row.{Row}
-use Rattle.net_eval.specs.Operations.{reduction, is_minus}
+use Rattle.net_tree.specs.Operations.{reduction, is_minus, operation}
 use Rattle.net_eval.specs.Operators.{truth, tuple_of}
 use Rattle.net_eval.specs.Values.{value, values, index}
 use Rattle.net_eval.specs.Worlds.{Name, World, Scope}
 use Rattle.net_sets.specs.Sets.{Tuple}
 use Rattle.net_fault.specs.declared.defect.Defect.{Defect}
 use Rattle.net_fault.specs.declared.defect.Defect.TheVariants.{NotLinear}
-use Rattle.net_linear.specs.declared.joint.Joint.{Joint}
-use Rattle.net_linear.specs.declared.joint.Joint.TheVariants.{Plus, Minus, Times, Div, Mod, Other}
+use Rattle.net_tree.specs.declared.operator.BinOp.{BinOp}
+use Rattle.net_tree.specs.declared.operator.BinOp.TheVariants.{Plus, Minus, Times, Div, Mod}
 use Rattle.net_linear.specs.Arcs.{Arcs, declared, is_arc, arc_at}
 use Rattle.net_linear.specs.Conditions.{number_of}
 use Rattle.net_linear.specs.Forms.{Linear, Term, just, one_arc, sized, join, turn, total, as_form}
-use Rattle.net_linear.specs.Joints.{joint, is_sign}
+use Rattle.net_linear.specs.Signs.{is_sign}
 use Rattle.net_fault.specs.Outcomes.{Outcome, and_then, refused}
 use Rattle.net_linear.specs.Amounts.{number_or_none}
 
@@ -57,19 +57,22 @@ first_or_any a x l = names_arc a x || any_arc a l
 -- `+` and `-` alone
 abbrev pub are_signs : Links → Bool
 are_signs none = true
-are_signs (link o x l) = is_sign (joint o) && are_signs l
+are_signs (link o x l) = is_sign (operation o) && are_signs l
 
 -- an operator between what stands before it and the operand behind it, by whether an arc stands there: `*` takes one arc, and
 -- the others that make numbers take none
-abbrev pub may_join : Joint → Bool → Bool → Bool
+abbrev pub may_join : BinOp → Bool → Bool → Bool
 may_join Times before here = not (before && here)
-may_join Other before here = false
-may_join _ before here = not (before || here)
+may_join Plus before here = not (before || here)
+may_join Minus before here = not (before || here)
+may_join Div before here = not (before || here)
+may_join Mod before here = not (before || here)
+may_join _ before here = false
 
 -- at most one operand names an arc, and each operator with an arc on one of its sides is `*`
 abbrev pub one_factor : Arcs → Bool → Links → Bool
 one_factor a before none = true
-one_factor a before (link o x l) = may_join (joint o) before (names_arc a x) && one_factor a (before || names_arc a x) l
+one_factor a before (link o x l) = may_join (operation o) before (names_arc a x) && one_factor a (before || names_arc a x) l
 
 -- a sum, or a product with at most one operand that names an arc
 abbrev pub is_linear : Arcs → Tree → Links → Bool
@@ -139,7 +142,7 @@ abbrev mutual
   -- the operators of a chain from the left
   pub chained : Arcs → Span → World → Scope → Links → Term → Outcome Term
   chained a at w s none u = Ok u
-  chained a at w s (link o x l) u = and_then (objective a w s x) (λ v. and_then (join (joint o) at u v) (chained a at w s l))
+  chained a at w s (link o x l) u = and_then (objective a w s x) (λ v. and_then (join (operation o) at u v) (chained a at w s l))
 
 -- what a tree in which an arc stands comes to
 abbrev pub with_arcs : Arcs → World → Scope → Tree → Outcome Term

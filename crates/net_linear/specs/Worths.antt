@@ -6,15 +6,14 @@ use Rattle.net_tree.specs.Tree.{Tree, Links, Part, Braces, leaf, indexed, parens
 use Rattle.net_eval.specs.declared.row.Keys.{Keys}
 use Rattle.net_eval.specs.declared.row.Row.{Row}
 use Rattle.net_eval.specs.Numbers.{turned}
-use Rattle.net_eval.specs.Operations.{is_minus}
+use Rattle.net_tree.specs.Operations.{is_minus, operation}
 use Rattle.net_eval.specs.Values.{index}
 use Rattle.net_eval.specs.Worlds.{Name, World, Scope}
 use Rattle.net_sets.specs.Sets.{Tuple}
-use Rattle.net_linear.specs.declared.joint.Joint.{Joint}
-use Rattle.net_linear.specs.declared.joint.Joint.TheVariants.{Plus, Minus, Times, Div, Mod, Other}
+use Rattle.net_tree.specs.declared.operator.BinOp.{BinOp}
+use Rattle.net_tree.specs.declared.operator.BinOp.TheVariants.{Plus, Minus, Times, Div, Mod}
 use Rattle.net_linear.specs.Arcs.{Arcs, declared, is_arc, arc_at}
 use Rattle.net_linear.specs.Conditions.{number_of}
-use Rattle.net_linear.specs.Joints.{joint}
 use Rattle.net_linear.specs.Objectives.{names_arc, any_arc, braces_arc, key_of, condition}
 use Rattle.net_fault.specs.Outcomes.{Outcome, and_then}
 use Rattle.net_linear.specs.Amounts.{number_or_none}
@@ -31,13 +30,13 @@ number_at x (Err r) = pos 0
 abbrev pub arc_worth : Arcs → Span → Name → Outcome Tuple → (ℕ → ℤ) → ℤ
 arc_worth a at name key x = number_at x (and_then key (arc_at at name (declared a name)))
 
-abbrev pub combine : Joint → ℤ → ℤ → ℤ
+abbrev pub combine : BinOp → ℤ → ℤ → ℤ
 combine Plus m n = m +ℤ n
 combine Minus m n = m -ℤ n
 combine Times m n = m *ℤ n
 combine Div m n = int_div m n
 combine Mod m n = int_rem m n
-combine Other m n = pos 0
+combine _ m n = pos 0
 
 abbrev pub sum_over : (Scope → ℤ) → List Row → ℤ
 sum_over f [] = pos 0
@@ -75,4 +74,4 @@ abbrev mutual
   -- the operators of a chain from the left
   pub worth_chain : Arcs → World → Scope → Links → ℤ → (ℕ → ℤ) → ℤ
   worth_chain a w s none n x = n
-  worth_chain a w s (link o y l) n x = worth_chain a w s l (combine (joint o) n (worth a w s y x)) x
+  worth_chain a w s (link o y l) n x = worth_chain a w s l (combine (operation o) n (worth a w s y x)) x

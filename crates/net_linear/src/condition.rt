@@ -11,11 +11,11 @@ ghost use Rattle.net_linear.specs.declared.condition.Comparison.TheVariants.{Equ
 
 use crate::net_term::{NetTerm, net_side};
 use crate::value::number_or_none;
-use net_eval::{Scope, Seen};
+use net_eval::{Env, Scope};
 use net_fault::{Defect, Fault, Span};
 use net_lex::Token;
 use net_normal::NodeRange;
-use net_tree::{Expr, NetCond, Relates, Role, role_of, span_of};
+use net_tree::{Expr, NetCond, Relation, Role, role_of, span_of};
 use std::alloc::Global;
 
 /// How a condition compares its sides.
@@ -40,9 +40,9 @@ fn comparison_of(operator: &Token<'_>) -> Option<Comparison>
     ensures { result ≡ conditions.comparison_in (role.role_of operator.now) }
 {
     match role_of(operator) {
-        Role::Relation(Relates::Equal) => Some(Comparison::Equal),
-        Role::Relation(Relates::AtMost) => Some(Comparison::AtMost),
-        Role::Relation(Relates::AtLeast) => Some(Comparison::AtLeast),
+        Role::Relation(Relation::Equal) => Some(Comparison::Equal),
+        Role::Relation(Relation::AtMost) => Some(Comparison::AtMost),
+        Role::Relation(Relation::AtLeast) => Some(Comparison::AtLeast),
         _ => None,
     }
 }
@@ -187,16 +187,16 @@ fn solved_twice(
 
 fn one<'s>(
     alloc: Global,
-    seen: &Seen<'_, 's>,
+    env: &Env<'_, 's>,
     scope: &Scope<'s>,
     left: &Expr<'s>,
     operator: &Token<'s>,
     right: &Expr<'s>,
 ) -> Result<Sides, Fault>
-    ensures { Answers (conditions.one_in seen.now scope.now (tree left.now) operator.now (tree right.now)) result }
+    ensures { Answers (conditions.one_in env.now scope.now (tree left.now) operator.now (tree right.now)) result }
 {
-    let a = number_or_none(alloc, seen, scope, left)?;
-    let b = number_or_none(alloc, seen, scope, right)?;
+    let a = number_or_none(alloc, env, scope, left)?;
+    let b = number_or_none(alloc, env, scope, right)?;
     let at = from_to(left, right);
     let terms = (net_side(left), net_side(right));
     solved_sides(at, comparison_of(operator), terms.0, terms.1, &a, &b)
@@ -204,18 +204,18 @@ fn one<'s>(
 
 fn between<'s>(
     alloc: Global,
-    seen: &Seen<'_, 's>,
+    env: &Env<'_, 's>,
     scope: &Scope<'s>,
     left: (&Expr<'s>, &Token<'s>),
     middle: &Expr<'s>,
     right: (&Token<'s>, &Expr<'s>),
 ) -> Result<Sides, Fault>
-    ensures { Answers (conditions.between_in seen.now scope.now (tree left.entry.0.now) left.entry.1.now (tree middle.now) right.entry.0.now (tree
+    ensures { Answers (conditions.between_in env.now scope.now (tree left.entry.0.now) left.entry.1.now (tree middle.now) right.entry.0.now (tree
         right.entry.1.now)) result }
 {
-    let low = number_or_none(alloc, seen, scope, left.0)?;
-    let sum = number_or_none(alloc, seen, scope, middle)?;
-    let high = number_or_none(alloc, seen, scope, right.1)?;
+    let low = number_or_none(alloc, env, scope, left.0)?;
+    let sum = number_or_none(alloc, env, scope, middle)?;
+    let high = number_or_none(alloc, env, scope, right.1)?;
     let at = from_to(left.0, right.1);
     let comparisons = (comparison_of(left.1), comparison_of(right.0));
     let terms = (net_side(left.0), net_side(middle), net_side(right.1));
@@ -231,18 +231,18 @@ fn balanced() -> Sides
 
 fn sides_of<'s>(
     alloc: Global,
-    seen: &Seen<'_, 's>,
+    env: &Env<'_, 's>,
     scope: &Scope<'s>,
     condition: &NetCond<'s>,
 ) -> Result<Sides, Fault>
-    ensures { Answers (conditions.sides_in seen.now scope.now (condition_of condition.now)) result }
+    ensures { Answers (conditions.sides_in env.now scope.now (condition_of condition.now)) result }
 {
     match condition {
         NetCond::Absent => Ok(balanced()),
-        NetCond::One(_, left, operator, right) => one(alloc, seen, scope, left, operator, right),
+        NetCond::One(_, left, operator, right) => one(alloc, env, scope, left, operator, right),
         NetCond::Between(_, low, first, middle, second, high) => between(
             alloc,
-            seen,
+            env,
             scope,
             (low, first),
             middle,
@@ -277,13 +277,13 @@ fn uncrossed(sides: &Sides) -> Option<NodeRange>
 
 fn range_of<'s>(
     alloc: Global,
-    seen: &Seen<'_, 's>,
+    env: &Env<'_, 's>,
     scope: &Scope<'s>,
     condition: &NetCond<'s>,
 ) -> Result<Option<NodeRange>, Fault>
-    ensures { conditions.AnswersRange (conditions.range_in seen.now scope.now (condition_of condition.now)) result }
+    ensures { conditions.AnswersRange (conditions.range_in env.now scope.now (condition_of condition.now)) result }
 {
-    let sides = sides_of(alloc, seen, scope, condition)?;
+    let sides = sides_of(alloc, env, scope, condition)?;
     Ok(uncrossed(&sides))
 }
 
@@ -295,14 +295,14 @@ fn range_of<'s>(
 /// whole condition is answered behind that where a side is no number.
 pub fn node_range<'s>(
     alloc: Global,
-    seen: &Seen<'_, 's>,
+    env: &Env<'_, 's>,
     scope: &Scope<'s>,
     condition: &NetCond<'s>,
 ) -> Result<Option<NodeRange>, Fault>
-    ensures value { conditions.AnswersRange (conditions.range_in seen.now scope.now (condition_of condition.now)) result }
+    ensures value { conditions.AnswersRange (conditions.range_in env.now scope.now (condition_of condition.now)) result }
     ensures exact { IfOk result (λ found. IfSome found
-        (λ range. (y : ℤ) → IsInRange range y ↔ conditions.Holds seen.now scope.now (condition_of condition.now) y)) }
-    ensures crossed { IfOk result (λ found. found ≡ None → (y : ℤ) → conditions.Holds seen.now scope.now (condition_of condition.now) y → ⊥) }
+        (λ range. (y : ℤ) → IsInRange range y ↔ conditions.Holds env.now scope.now (condition_of condition.now) y)) }
+    ensures crossed { IfOk result (λ found. found ≡ None → (y : ℤ) → conditions.Holds env.now scope.now (condition_of condition.now) y → ⊥) }
 {
-    range_of(alloc, seen, scope, condition)
+    range_of(alloc, env, scope, condition)
 }

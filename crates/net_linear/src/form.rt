@@ -75,7 +75,7 @@ impl Sum {
     pub(crate) fn with(
         self,
         factor: &i128,
-        form: &Form,
+        form: &Affine,
     ) -> Result<(Sum, bool), AllocFailed<(usize, i128)>>
         requires factor { unsigned_abs factor.now ≤ 2 ^ 40 }
         requires room { forms.AreWithin (2 ^ 125) self }
@@ -110,11 +110,11 @@ impl Sum {
 
 /// What an objective comes to: a number, and arcs with their coefficients. Each of these is at most 1,000,000,000,000 in size.
 #[derive(Drop)]
-pub struct Form {
+pub struct Affine {
     sum: Sum,
 }
 
-impl Model for Form {
+impl Model for Affine {
     ghost use Rattle.std.specs.Prelude.{◌≡◌, true};
     ghost use Rattle.net_linear.specs.Forms.{Linear, is_sized};
 
@@ -125,40 +125,40 @@ impl Model for Form {
     ghost invariant = { λ f. is_sized f.sum ≡ true };
 }
 
-impl Form {
+impl Affine {
     /// A number alone.
-    pub(crate) fn number(alloc: Global, number: &i128) -> Form
+    pub(crate) fn number(alloc: Global, number: &i128) -> Affine
         requires { is_small number.now ≡ true }
         ensures { result ≡ forms.just number.now }
     {
-        Form {
+        Affine {
             sum: Sum::number(alloc, number),
         }
     }
 
     /// 0, which no arc is part of.
     #[tactic(auto, unfolding(net_eval::specs::Limits::is_small))]
-    pub fn zero(alloc: Global) -> Form
+    pub fn zero(alloc: Global) -> Affine
         ensures { result ≡ forms.just (pos 0) }
     {
-        Form::number(alloc, &0)
+        Affine::number(alloc, &0)
     }
 
     /// An arc, once.
-    pub(crate) fn arc(alloc: Global, arc: usize) -> Result<Form, AllocFailed<(usize, i128)>>
+    pub(crate) fn arc(alloc: Global, arc: usize) -> Result<Affine, AllocFailed<(usize, i128)>>
         ensures { IfOk result (λ form. form ≡ forms.one_arc arc) }
     {
-        Ok(Form {
+        Ok(Affine {
             sum: Sum::arc(alloc, arc)?,
         })
     }
 
     /// The form of a sum within the limit.
-    pub(crate) fn of(sum: Sum) -> Option<Form>
+    pub(crate) fn of(sum: Sum) -> Option<Affine>
         ensures { result ≡ forms.if_sized sum }
     {
         if sum.is_sized() {
-            Some(Form { sum })
+            Some(Affine { sum })
         } else {
             None
         }
@@ -168,15 +168,15 @@ impl Form {
     pub(crate) fn plus(
         self,
         factor: &i128,
-        other: &Form,
-    ) -> Result<Option<Form>, AllocFailed<(usize, i128)>>
+        other: &Affine,
+    ) -> Result<Option<Affine>, AllocFailed<(usize, i128)>>
         requires { is_small factor.now ≡ true }
         ensures { IfOk result (λ r. r ≡ forms.if_sized (forms.combined self factor.now other.now)) }
     {
-        let Form { sum } = self;
+        let Affine { sum } = self;
         let (sum, fits) = sum.with(factor, other)?;
         if fits {
-            Ok(Some(Form { sum }))
+            Ok(Some(Affine { sum }))
         } else {
             Ok(None)
         }

@@ -5,7 +5,7 @@ ghost use Rattle.net_tree.specs.View.{tree, links_of};
 ghost use Rattle.net_fault.specs.Outcomes.{Answers};
 ghost use Rattle.net_linear.specs.Objectives as objectives;
 
-use net_eval::{Scope, Seen};
+use net_eval::{Env, Scope};
 use net_fault::Fault;
 use net_sets::Tuple;
 use net_tree::{Expr, Link};
@@ -15,13 +15,13 @@ use std::alloc::Global;
 /// of them is no member, and `Arity` where they are more than four.
 pub fn key_of<'s>(
     alloc: Global,
-    seen: &Seen<'_, 's>,
+    env: &Env<'_, 's>,
     scope: &Scope<'s>,
     whole: &Expr<'s>,
     first: &Expr<'s>,
     more: &[Link<'s>],
 ) -> Result<Tuple<'s>, Fault>
-    ensures { Answers (objectives.key_of seen.now scope.now (trees.span_of (tree whole.now)) (tree first.now) (links_of more.now)) result }
+    ensures { Answers (objectives.key_of env.now scope.now (trees.span_of (tree whole.now)) (tree first.now) (links_of more.now)) result }
 {
-    net_eval::key_of(alloc, seen, scope, whole, first, more)
+    net_eval::key_of(alloc, env, scope, whole, first, more)
 }

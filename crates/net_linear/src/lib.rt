@@ -4,7 +4,6 @@
 mod arc;
 mod condition;
 mod form;
-mod joint;
 mod key;
 mod laws;
 mod names;
@@ -17,8 +16,7 @@ mod value;
 
 pub use arc::{ArcKeys, ArcNames};
 pub use condition::{Comparison, Sides, node_range};
-pub use form::Form;
-pub use joint::Joint;
+pub use form::Affine;
 pub use key::key_of;
 pub use laws::forms_have_worth;
 pub use net_term::NetTerm;

@@ -5,8 +5,8 @@ ghost use Rattle.net_tree.specs.View.{tree, braces_of, links_of, option_part};
 ghost use Rattle.net_linear.specs.Objectives as objectives;
 
 use crate::arc::ArcNames;
-use crate::joint::{Joint, is_sign, joint_of};
-use net_tree::{Braces, Expr, Link, Part};
+use crate::net_term::is_sign;
+use net_tree::{BinOp, Braces, Expr, Link, Part};
 use net_views::Boxed;
 
 /// Whether an arc stands in the expression.
@@ -92,7 +92,7 @@ fn are_signs(links: &[Link<'_>]) -> bool
     ensures { result ≡ objectives.are_signs (links_of links.now) }
 {
     for link in links {
-        if !is_sign(joint_of(&link.operator)) {
+        if !is_sign(link.operator.op()) {
             return false;
         }
     }
@@ -101,13 +101,13 @@ fn are_signs(links: &[Link<'_>]) -> bool
 
 /// Whether an operator may join operands: `*` where an arc stands on one of its sides, and any but those that make no
 /// numbers where none does.
-fn may_join(joint: Joint, before: bool, here: bool) -> bool
-    ensures { result ≡ objectives.may_join joint before here }
+fn may_join(op: BinOp, before: bool, here: bool) -> bool
+    ensures { result ≡ objectives.may_join op before here }
 {
-    match joint {
-        Joint::Times => !(before && here),
-        Joint::Other => false,
-        Joint::Plus | Joint::Minus | Joint::Div | Joint::Mod => !(before || here),
+    match op {
+        BinOp::Times => !(before && here),
+        BinOp::Plus | BinOp::Minus | BinOp::Div | BinOp::Mod => !(before || here),
+        _ => false,
     }
 }
 
@@ -123,7 +123,7 @@ fn one_factor<'s>(arcs: &ArcNames<'s>, first: bool, links: &[Link<'s>]) -> bool
     let mut before = first;
     for link in links {
         let here = names_arc(arcs, &link.operand);
-        if !may_join(joint_of(&link.operator), before, here) {
+        if !may_join(link.operator.op(), before, here) {
             return false;
         }
         before = either(before, here);

@@ -2,12 +2,11 @@
 
 ghost use Rattle.std.specs.Prelude.{◌≡◌, if◌then◌else◌};
 ghost use Rattle.net_tree.specs.View.{tree, links_of};
-ghost use Rattle.net_eval.specs.Operations as operations;
 ghost use Rattle.net_linear.specs.NetTerms as terms;
+ghost use Rattle.net_linear.specs.Signs.{is_sign};
 
-use crate::joint::{Joint, is_sign, joint_of};
 use net_lex::Token;
-use net_tree::{Expr, Link};
+use net_tree::{BinOp, Expr, Link, Sign};
 
 /// How the net inflow of a node stands in a term or a side of its condition.
 #[derive(Clone, Copy)]
@@ -29,19 +28,12 @@ fn is_outflow(word: &Token<'_>) -> bool
     word.text.as_str() == "net_out"
 }
 
-#[tactic(auto, unfolding(net_eval::specs::Operations::is_minus))]
-pub(crate) fn is_minus(sign: &Token<'_>) -> bool
-    ensures { result ≡ operations.is_minus sign.now }
-{
-    sign.text.as_str() == "-"
-}
-
-fn has_minus(sign: &Option<Token<'_>>) -> bool
+fn has_minus(sign: &Option<Sign<'_>>) -> bool
     ensures { result ≡ terms.has_minus sign.now }
 {
     match sign {
         None => false,
-        Some(sign) => is_minus(sign),
+        Some(sign) => sign.is_minus(),
     }
 }
 
@@ -62,7 +54,7 @@ fn negated(term: NetTerm) -> NetTerm
     }
 }
 
-fn net_word(sign: &Option<Token<'_>>, word: &Token<'_>) -> NetTerm
+fn net_word(sign: &Option<Sign<'_>>, word: &Token<'_>) -> NetTerm
     ensures { result ≡ terms.with_sign (terms.has_minus sign.now) (terms.with_sign (terms.is_outflow word.now) NetTerm.Inflow) }
 {
     with_sign(
@@ -97,13 +89,12 @@ fn beside(a: NetTerm, b: NetTerm) -> NetTerm
     }
 }
 
-fn behind(joint: Joint, so_far: NetTerm, term: NetTerm) -> NetTerm
-    ensures { result ≡ terms.behind joint so_far term }
+fn behind(op: BinOp, so_far: NetTerm, term: NetTerm) -> NetTerm
+    ensures { result ≡ terms.behind op so_far term }
 {
-    match joint {
-        Joint::Minus => beside(so_far, negated(term)),
-        Joint::Plus => beside(so_far, term),
-        Joint::Times | Joint::Div | Joint::Mod | Joint::Other => beside(so_far, term),
+    match op {
+        BinOp::Minus => beside(so_far, negated(term)),
+        _ => beside(so_far, term),
     }
 }
 
@@ -112,9 +103,16 @@ fn net_terms(links: &[Link<'_>], first: NetTerm) -> NetTerm
 {
     let mut so_far = first;
     for link in links {
-        so_far = behind(joint_of(&link.operator), so_far, net_term(&link.operand));
+        so_far = behind(link.operator.op(), so_far, net_term(&link.operand));
     }
     so_far
+}
+
+/// Whether it is `+` or `-`.
+pub(crate) fn is_sign(op: BinOp) -> bool
+    ensures { result ≡ is_sign op }
+{
+    matches!(op, BinOp::Plus | BinOp::Minus)
 }
 
 /// Whether the operators are `+` and `-` alone.
@@ -122,7 +120,7 @@ fn are_terms(links: &[Link<'_>]) -> bool
     ensures { result ≡ terms.are_terms (links_of links.now) }
 {
     for link in links {
-        if !is_sign(joint_of(&link.operator)) {
+        if !is_sign(link.operator.op()) {
             return false;
         }
     }

@@ -2,30 +2,36 @@
 
 ghost use Rattle.std.specs.Prelude.{◌≡◌, ◌&&◌, Ok, not, if◌then◌else◌, IfOk, ℕ, ℤ};
 ghost use Rattle.net_tree.specs.Spans as trees;
+ghost use Rattle.net_tree.specs.declared.expr.Series.{out-Series};
 ghost use Rattle.net_tree.specs.View.{tree, braces_of, links_of, option_part};
-ghost use Rattle.net_eval.specs.Operations as operations;
+ghost use Rattle.net_tree.specs.Operations as operations;
 ghost use Rattle.net_eval.specs.Values as values;
 ghost use Rattle.net_linear.specs.Forms as forms;
-ghost use Rattle.net_linear.specs.Joints as joints;
 ghost use Rattle.net_linear.specs.Objectives as objectives;
 ghost use Rattle.net_fault.specs.Outcomes.{Answers, and_then};
 ghost use Rattle.net_linear.specs.Worths.{worth};
 
 use crate::arc::{ArcNames, arc_at};
-use crate::form::{Form, Sum};
-use crate::joint::joint_of;
+use crate::form::{Affine, Sum};
 use crate::key::key_of;
 use crate::names::{any_arc, braces_arc, is_linear, names_arc};
-use crate::net_term::is_minus;
 use crate::term::{gather, join, plain_term, sized, turn};
 use crate::value::{is_sum, number_or_none, truth_of};
-use net_eval::{Keys, Scope, Seen, index_of, refuse_tree};
+use net_eval::{Env, Keys, Scope, index_of, refuse_tree};
 use net_fault::{Defect, Fault, Span};
 use net_lex::Token;
 use net_sets::Tuple;
-use net_tree::{Braces, Expr, Link, Part, span_of};
+use net_tree::{Braces, Expr, Link, Part, Reducer, Series, Sign, span_of};
 use net_views::Boxed;
 use std::alloc::Global;
+
+/// What an expression is read among: the arcs, the declarations that it may name, and its dummies.
+#[derive(Drop)]
+struct Among<'a, 'w, 's> {
+    arcs: &'a ArcNames<'s>,
+    env: &'a Env<'w, 's>,
+    scope: &'a Scope<'s>,
+}
 
 /// The arc that a name has at a key.
 fn arc_term<'s>(
@@ -34,32 +40,32 @@ fn arc_term<'s>(
     at: Span,
     name: &Token<'s>,
     key: Tuple<'s>,
-) -> Result<Option<Form>, Fault>
+) -> Result<Option<Affine>, Fault>
     ensures { Answers (objectives.arc_term arcs.now at name.now.text (Ok key.entry)) result }
 {
     let arc = arc_at(alloc, at, &name.text, arcs.get(&name.text), key)?;
-    Ok(Some(Form::arc(alloc, arc)?))
+    Ok(Some(Affine::arc(alloc, arc)?))
 }
 
 fn indexed<'s>(
     alloc: Global,
-    arcs: &ArcNames<'s>,
-    seen: &Seen<'_, 's>,
-    scope: &Scope<'s>,
+    among: &Among<'_, '_, 's>,
     whole: &Expr<'s>,
     name: &Token<'s>,
-    first: &Expr<'s>,
-    more: &[Link<'s>],
-) -> Result<Option<Form>, Fault>
+    subscripts: &Series<'s>,
+) -> Result<Option<Affine>, Fault>
     ensures { Answers (objectives.linear (trees.span_of (tree whole.now)) (not
-        (objectives.first_or_any arcs.now (tree first.now) (links_of more.now))) (objectives.arc_term arcs.now (trees.span_of (tree whole.now))
-        name.now.text (objectives.key_of seen.now scope.now (trees.span_of (tree whole.now)) (tree first.now) (links_of more.now)))) result }
+        (objectives.first_or_any among.now.arcs.now (tree (out-Series subscripts.now).first) (links_of (out-Series subscripts.now).more)))
+        (objectives.arc_term among.now.arcs.now (trees.span_of (tree whole.now)) name.now.text (objectives.key_of among.now.env.now
+        among.now.scope.now (trees.span_of (tree whole.now)) (tree (out-Series subscripts.now).first) (links_of (out-Series subscripts.now).more)))) result }
 {
-    if any_arc(arcs, first, more) {
+    let Series { first, more } = subscripts;
+    let more = more.as_slice();
+    if any_arc(among.arcs, first, more) {
         Err(refuse_tree(Defect::NotLinear, whole))
     } else {
-        let key = key_of(alloc, seen, scope, whole, first, more)?;
-        arc_term(alloc, arcs, span_of(whole), name, key)
+        let key = key_of(alloc, among.env, among.scope, whole, first, more)?;
+        arc_term(alloc, among.arcs, span_of(whole), name, key)
     }
 }
 
@@ -67,17 +73,15 @@ fn indexed<'s>(
 #[cycle(forms)]
 fn term_of<'s>(
     alloc: Global,
-    arcs: &ArcNames<'s>,
-    seen: &Seen<'_, 's>,
-    scope: &Scope<'s>,
+    among: &Among<'_, '_, 's>,
     expr: &Expr<'s>,
-) -> Result<Option<Form>, Fault>
-    ensures { Answers (objectives.objective arcs.now seen.now scope.now (tree expr.now)) result }
+) -> Result<Option<Affine>, Fault>
+    ensures { Answers (objectives.objective among.now.arcs.now among.now.env.now among.now.scope.now (tree expr.now)) result }
 {
-    if names_arc(arcs, expr) {
-        arcs_term(alloc, arcs, seen, scope, expr)
+    if names_arc(among.arcs, expr) {
+        arcs_term(alloc, among, expr)
     } else {
-        let number = number_or_none(alloc, seen, scope, expr)?;
+        let number = number_or_none(alloc, among.env, among.scope, expr)?;
         plain_term(alloc, expr, &number)
     }
 }
@@ -87,54 +91,30 @@ fn term_of<'s>(
 #[tactic(auto, using(net_tree::proofs::Views::views))]
 fn arcs_term<'s>(
     alloc: Global,
-    arcs: &ArcNames<'s>,
-    seen: &Seen<'_, 's>,
-    scope: &Scope<'s>,
+    among: &Among<'_, '_, 's>,
     expr: &Expr<'s>,
-) -> Result<Option<Form>, Fault>
-    ensures { Answers (objectives.with_arcs arcs.now seen.now scope.now (tree expr.now)) result }
+) -> Result<Option<Affine>, Fault>
+    ensures { Answers (objectives.with_arcs among.now.arcs.now among.now.env.now among.now.scope.now (tree expr.now)) result }
 {
     match expr {
-        Expr::Leaf(token) => arc_term(alloc, arcs, span_of(expr), token, Tuple::new()),
+        Expr::Leaf(token) => arc_term(alloc, among.arcs, span_of(expr), token, Tuple::new()),
         Expr::Indexed(parts) => {
             let (name, _, series, _) = parts.get();
-            indexed(
-                alloc,
-                arcs,
-                seen,
-                scope,
-                expr,
-                name,
-                &series.first,
-                series.more.as_slice(),
-            )
+            indexed(alloc, among, expr, name, series)
         }
-        Expr::Parens(parts) => term_of(alloc, arcs, seen, scope, &parts.get().1),
+        Expr::Parens(parts) => term_of(alloc, among, &parts.get().1),
         Expr::Signed(parts) => {
             let (sign, operand) = parts.get();
-            signed(alloc, arcs, seen, scope, expr, sign, operand)
+            signed(alloc, among, expr, sign, operand)
         }
-        Expr::Reduced(parts, body) => {
-            let (word, braces) = parts.get();
-            reduced(alloc, arcs, seen, scope, expr, word, braces, body.get())
+        Expr::Reduced(front, body) => {
+            let (word, braces) = front.get();
+            reduced(alloc, among, expr, word, braces, body.get())
         }
-        Expr::Chain(_, operands) => {
-            let series = operands.get();
-            chain(
-                alloc,
-                arcs,
-                seen,
-                scope,
-                expr,
-                &series.first,
-                series.more.as_slice(),
-            )
-        }
+        Expr::Chain(_, operands) => chain(alloc, among, expr, operands.get()),
         Expr::Choice(condition, branch, otherwise) => choice(
             alloc,
-            arcs,
-            seen,
-            scope,
+            among,
             expr,
             &condition.get().value,
             &branch.get().value,
@@ -150,40 +130,36 @@ fn arcs_term<'s>(
 #[cycle(forms)]
 fn signed<'s>(
     alloc: Global,
-    arcs: &ArcNames<'s>,
-    seen: &Seen<'_, 's>,
-    scope: &Scope<'s>,
+    among: &Among<'_, '_, 's>,
     whole: &Expr<'s>,
-    sign: &Token<'s>,
+    sign: &Sign<'s>,
     operand: &Expr<'s>,
-) -> Result<Option<Form>, Fault>
-    ensures { Answers (and_then (objectives.objective arcs.now seen.now scope.now (tree operand.now)) (forms.turn (operations.is_minus sign.now)
-        (trees.span_of (tree whole.now)))) result }
+) -> Result<Option<Affine>, Fault>
+    ensures { Answers (and_then (objectives.objective among.now.arcs.now among.now.env.now among.now.scope.now (tree operand.now))
+        (forms.turn (operations.is_minus sign.now) (trees.span_of (tree whole.now)))) result }
 {
-    let term = term_of(alloc, arcs, seen, scope, operand)?;
-    turn(alloc, is_minus(sign), whole, term)
+    let term = term_of(alloc, among, operand)?;
+    turn(alloc, sign.is_minus(), whole, term)
 }
 
 /// The sum over braces.
 #[cycle(forms)]
 fn reduced<'s>(
     alloc: Global,
-    arcs: &ArcNames<'s>,
-    seen: &Seen<'_, 's>,
-    scope: &Scope<'s>,
+    among: &Among<'_, '_, 's>,
     whole: &Expr<'s>,
-    word: &Token<'s>,
+    word: &Reducer<'s>,
     braces: &Braces<'s>,
     body: &Expr<'s>,
-) -> Result<Option<Form>, Fault>
+) -> Result<Option<Affine>, Fault>
     ensures { Answers (objectives.linear (trees.span_of (tree whole.now)) (objectives.is_sum (operations.reduction word.now) && not
-        (objectives.braces_arc arcs.now (braces_of braces.now))) (and_then (values.index seen.now scope.now (braces_of braces.now))
-        (λ k. forms.total (trees.span_of (tree whole.now)) (λ row. objectives.objective arcs.now seen.now row.scope (tree body.now)) k.rows)))
-        result }
+        (objectives.braces_arc among.now.arcs.now (braces_of braces.now))) (and_then (values.index among.now.env.now among.now.scope.now (braces_of braces.now))
+        (λ k. forms.total (trees.span_of (tree whole.now)) (λ row. objectives.objective among.now.arcs.now among.now.env.now row.scope (tree body.now))
+        k.rows))) result }
 {
-    if is_sum(word) && !braces_arc(arcs, braces) {
-        let keys = index_of(alloc, seen, scope, braces)?;
-        total(alloc, arcs, seen, whole, body, keys)
+    if is_sum(word) && !braces_arc(among.arcs, braces) {
+        let keys = index_of(alloc, among.env, among.scope, braces)?;
+        total(alloc, among, whole, body, keys)
     } else {
         Err(refuse_tree(Defect::NotLinear, whole))
     }
@@ -192,19 +168,23 @@ fn reduced<'s>(
 #[cycle(forms)]
 fn total<'s>(
     alloc: Global,
-    arcs: &ArcNames<'s>,
-    seen: &Seen<'_, 's>,
+    among: &Among<'_, '_, 's>,
     whole: &Expr<'s>,
     body: &Expr<'s>,
     keys: Keys<'s>,
-) -> Result<Option<Form>, Fault>
-    ensures { Answers (forms.total (trees.span_of (tree whole.now)) (λ row. objectives.objective arcs.now seen.now row.scope (tree body.now))
+) -> Result<Option<Affine>, Fault>
+    ensures { Answers (forms.total (trees.span_of (tree whole.now)) (λ row. objectives.objective among.now.arcs.now among.now.env.now row.scope (tree body.now))
         keys.entry.rows) result }
 {
     let mut sum = Sum::number(alloc, &0);
     let rows = keys.rows.as_slice();
     for row in rows {
-        let term = term_of(alloc, arcs, seen, &row.scope, body)?;
+        let here = Among {
+            arcs: among.arcs,
+            env: among.env,
+            scope: &row.scope,
+        };
+        let term = term_of(alloc, &here, body)?;
         sum = gather(whole, sum, term)?;
     }
     sized(whole, sum)
@@ -214,20 +194,20 @@ fn total<'s>(
 #[cycle(forms)]
 fn chain<'s>(
     alloc: Global,
-    arcs: &ArcNames<'s>,
-    seen: &Seen<'_, 's>,
-    scope: &Scope<'s>,
+    among: &Among<'_, '_, 's>,
     whole: &Expr<'s>,
-    first: &Expr<'s>,
-    more: &[Link<'s>],
-) -> Result<Option<Form>, Fault>
-    ensures { Answers (objectives.linear (trees.span_of (tree whole.now)) (objectives.is_linear arcs.now (tree first.now) (links_of more.now))
-        (and_then (objectives.objective arcs.now seen.now scope.now (tree first.now)) (objectives.chained arcs.now (trees.span_of (tree whole.now))
-        seen.now scope.now (links_of more.now)))) result }
+    operands: &Series<'s>,
+) -> Result<Option<Affine>, Fault>
+    ensures { Answers (objectives.linear (trees.span_of (tree whole.now)) (objectives.is_linear among.now.arcs.now (tree (out-Series operands.now).first)
+        (links_of (out-Series operands.now).more)) (and_then (objectives.objective among.now.arcs.now among.now.env.now among.now.scope.now
+        (tree (out-Series operands.now).first)) (objectives.chained among.now.arcs.now (trees.span_of (tree whole.now)) among.now.env.now among.now.scope.now
+        (links_of (out-Series operands.now).more)))) result }
 {
-    if is_linear(arcs, first, more) {
-        let term = term_of(alloc, arcs, seen, scope, first)?;
-        chained(alloc, arcs, seen, scope, whole, more, term)
+    let Series { first, more } = operands;
+    let more = more.as_slice();
+    if is_linear(among.arcs, first, more) {
+        let term = term_of(alloc, among, first)?;
+        chained(alloc, among, whole, more, term)
     } else {
         Err(refuse_tree(Defect::NotLinear, whole))
     }
@@ -236,18 +216,17 @@ fn chain<'s>(
 #[cycle(forms)]
 fn chained<'s>(
     alloc: Global,
-    arcs: &ArcNames<'s>,
-    seen: &Seen<'_, 's>,
-    scope: &Scope<'s>,
+    among: &Among<'_, '_, 's>,
     whole: &Expr<'s>,
     links: &[Link<'s>],
-    first: Option<Form>,
-) -> Result<Option<Form>, Fault>
-    ensures { Answers (objectives.chained arcs.now (trees.span_of (tree whole.now)) seen.now scope.now (links_of links.now) first) result }
+    first: Option<Affine>,
+) -> Result<Option<Affine>, Fault>
+    ensures { Answers (objectives.chained among.now.arcs.now (trees.span_of (tree whole.now)) among.now.env.now among.now.scope.now
+        (links_of links.now) first) result }
 {
     let mut term = first;
     for link in links {
-        term = joined(alloc, arcs, seen, scope, whole, link, term)?;
+        term = joined(alloc, among, whole, link, term)?;
     }
     Ok(term)
 }
@@ -256,43 +235,40 @@ fn chained<'s>(
 #[cycle(forms)]
 fn joined<'s>(
     alloc: Global,
-    arcs: &ArcNames<'s>,
-    seen: &Seen<'_, 's>,
-    scope: &Scope<'s>,
+    among: &Among<'_, '_, 's>,
     whole: &Expr<'s>,
     link: &Link<'s>,
-    term: Option<Form>,
-) -> Result<Option<Form>, Fault>
-    ensures { Answers (and_then (objectives.objective arcs.now seen.now scope.now (tree link.now.operand)) (forms.join
-        (joints.joint link.now.operator) (trees.span_of (tree whole.now)) term)) result }
+    term: Option<Affine>,
+) -> Result<Option<Affine>, Fault>
+    ensures { Answers (and_then (objectives.objective among.now.arcs.now among.now.env.now among.now.scope.now (tree link.now.operand))
+        (forms.join (operations.operation link.now.operator) (trees.span_of (tree whole.now)) term)) result }
 {
-    let other = term_of(alloc, arcs, seen, scope, &link.operand)?;
-    join(alloc, joint_of(&link.operator), whole, term, &other)
+    let other = term_of(alloc, among, &link.operand)?;
+    join(alloc, link.operator.op(), whole, term, &other)
 }
 
 #[cycle(forms)]
 fn choice<'s>(
     alloc: Global,
-    arcs: &ArcNames<'s>,
-    seen: &Seen<'_, 's>,
-    scope: &Scope<'s>,
+    among: &Among<'_, '_, 's>,
     whole: &Expr<'s>,
     condition: &Expr<'s>,
     branch: &Expr<'s>,
     otherwise: &Option<Boxed<Part<'s>>>,
-) -> Result<Option<Form>, Fault>
-    ensures { Answers (objectives.linear (trees.span_of (tree whole.now)) (not (objectives.names_arc arcs.now (tree condition.now))) (and_then
-        (objectives.condition seen.now scope.now (trees.span_of (tree whole.now)) (tree condition.now)) (λ holds. if holds then objectives.objective
-        arcs.now seen.now scope.now (tree branch.now) else objectives.otherwise arcs.now seen.now scope.now (option_part otherwise.now)))) result }
+) -> Result<Option<Affine>, Fault>
+    ensures { Answers (objectives.linear (trees.span_of (tree whole.now)) (not (objectives.names_arc among.now.arcs.now (tree condition.now))) (and_then
+        (objectives.condition among.now.env.now among.now.scope.now (trees.span_of (tree whole.now)) (tree condition.now)) (λ holds.
+        if holds then objectives.objective among.now.arcs.now among.now.env.now among.now.scope.now (tree branch.now)
+        else objectives.otherwise among.now.arcs.now among.now.env.now among.now.scope.now (option_part otherwise.now)))) result }
 {
-    if names_arc(arcs, condition) {
+    if names_arc(among.arcs, condition) {
         Err(refuse_tree(Defect::NotLinear, whole))
     } else {
-        let holds = truth_of(alloc, seen, scope, whole, condition)?;
+        let holds = truth_of(alloc, among.env, among.scope, whole, condition)?;
         if holds {
-            term_of(alloc, arcs, seen, scope, branch)
+            term_of(alloc, among, branch)
         } else {
-            other_branch(alloc, arcs, seen, scope, otherwise)
+            other_branch(alloc, among, otherwise)
         }
     }
 }
@@ -302,29 +278,28 @@ fn choice<'s>(
 #[tactic(auto, using(net_tree::proofs::Views::views))]
 fn other_branch<'s>(
     alloc: Global,
-    arcs: &ArcNames<'s>,
-    seen: &Seen<'_, 's>,
-    scope: &Scope<'s>,
+    among: &Among<'_, '_, 's>,
     otherwise: &Option<Boxed<Part<'s>>>,
-) -> Result<Option<Form>, Fault>
-    ensures { Answers (objectives.otherwise arcs.now seen.now scope.now (option_part otherwise.now)) result }
+) -> Result<Option<Affine>, Fault>
+    ensures { Answers (objectives.otherwise among.now.arcs.now among.now.env.now among.now.scope.now (option_part otherwise.now)) result }
 {
     match otherwise {
-        None => Ok(Some(Form::zero(alloc))),
-        Some(part) => term_of(alloc, arcs, seen, scope, &part.get().value),
+        None => Ok(Some(Affine::zero(alloc))),
+        Some(part) => term_of(alloc, among, &part.get().value),
     }
 }
 
 fn form_of<'s>(
     alloc: Global,
     arcs: &ArcNames<'s>,
-    seen: &Seen<'_, 's>,
+    env: &Env<'_, 's>,
     scope: &Scope<'s>,
     expr: &Expr<'s>,
-) -> Result<Form, Fault>
-    ensures { Answers (objectives.objective_form arcs.now seen.now scope.now (tree expr.now)) result }
+) -> Result<Affine, Fault>
+    ensures { Answers (objectives.objective_form arcs.now env.now scope.now (tree expr.now)) result }
 {
-    match term_of(alloc, arcs, seen, scope, expr)? {
+    let among = Among { arcs, env, scope };
+    match term_of(alloc, &among, expr)? {
         Some(form) => Ok(form),
         None => Err(refuse_tree(Defect::KindMismatch, expr)),
     }
@@ -340,12 +315,12 @@ fn form_of<'s>(
 pub fn objective<'s>(
     alloc: Global,
     arcs: &ArcNames<'s>,
-    seen: &Seen<'_, 's>,
+    env: &Env<'_, 's>,
     scope: &Scope<'s>,
     expr: &Expr<'s>,
-) -> Result<Form, Fault>
-    ensures value { Answers (objectives.objective_form arcs.now seen.now scope.now (tree expr.now)) result }
-    ensures worth { IfOk result (λ form. (x : ℕ → ℤ) → forms.form_at x form ≡ worth arcs.now seen.now scope.now (tree expr.now) x) }
+) -> Result<Affine, Fault>
+    ensures value { Answers (objectives.objective_form arcs.now env.now scope.now (tree expr.now)) result }
+    ensures worth { IfOk result (λ form. (x : ℕ → ℤ) → forms.form_at x form ≡ worth arcs.now env.now scope.now (tree expr.now) x) }
 {
-    form_of(alloc, arcs, seen, scope, expr)
+    form_of(alloc, arcs, env, scope, expr)
 }

@@ -6,14 +6,14 @@ ghost use Rattle.net_tree.specs.View.{tree};
 ghost use Rattle.net_linear.specs.Forms as forms;
 ghost use Rattle.net_fault.specs.Outcomes.{Answers};
 
-use crate::form::Form;
+use crate::form::Affine;
 use crate::products::is_small;
 use net_eval::refuse_tree;
 use net_fault::{Defect, Fault};
 use net_tree::Expr;
 use std::alloc::Global;
 
-fn or_too_large(whole: &Expr<'_>, form: Option<Form>) -> Result<Form, Fault>
+fn or_too_large(whole: &Expr<'_>, form: Option<Affine>) -> Result<Affine, Fault>
     ensures { Answers (forms.or_too_large (trees.span_of (tree whole.now)) form) result }
 {
     match form {
@@ -24,15 +24,15 @@ fn or_too_large(whole: &Expr<'_>, form: Option<Form>) -> Result<Form, Fault>
 
 fn priced_wide(
     alloc: Global,
-    form: Form,
+    form: Affine,
     arc: usize,
     whole: &Expr<'_>,
     price: &i128,
-) -> Result<Form, Fault>
+) -> Result<Affine, Fault>
     ensures { Answers (forms.priced (trees.span_of (tree whole.now)) form arc price.now) result }
 {
     if is_small(price) {
-        let one = Form::arc(alloc, arc)?;
+        let one = Affine::arc(alloc, arc)?;
         let sum = form.plus(price, &one)?;
         or_too_large(whole, sum)
     } else {
@@ -42,11 +42,11 @@ fn priced_wide(
 
 fn priced(
     alloc: Global,
-    form: Form,
+    form: Affine,
     arc: usize,
     whole: &Expr<'_>,
     price: &i64,
-) -> Result<Form, Fault>
+) -> Result<Affine, Fault>
     ensures { Answers (forms.priced (trees.span_of (tree whole.now)) form arc price.now) result }
 {
     priced_wide(alloc, form, arc, whole, &i128::from(*price))
@@ -56,11 +56,11 @@ fn priced(
 /// at the phrase's expression, where the arc's coefficient would pass 1,000,000,000,000 in size.
 pub fn with_price(
     alloc: Global,
-    form: Form,
+    form: Affine,
     arc: usize,
     whole: &Expr<'_>,
     price: &i64,
-) -> Result<Form, Fault>
+) -> Result<Affine, Fault>
     ensures value { Answers (forms.priced (trees.span_of (tree whole.now)) form arc price.now) result }
     ensures worth { IfOk result (λ r. (x : ℕ → ℤ) → forms.form_at x r ≡ (forms.form_at x form +ℤ price.now *ℤ x arc)) }
 {

@@ -9,15 +9,14 @@ ghost use Rattle.net_linear.specs.Forms as forms;
 ghost use Rattle.net_linear.specs.Objectives as objectives;
 ghost use Rattle.net_fault.specs.Outcomes.{Answers};
 
-use crate::form::{Form, Sum};
-use crate::joint::Joint;
+use crate::form::{Affine, Sum};
 use crate::products::is_small;
 use net_eval::refuse_tree;
 use net_fault::{Defect, Fault};
-use net_tree::Expr;
+use net_tree::{BinOp, Expr};
 use std::alloc::Global;
 
-fn within(whole: &Expr<'_>, form: Option<Form>) -> Result<Option<Form>, Fault>
+fn within(whole: &Expr<'_>, form: Option<Affine>) -> Result<Option<Affine>, Fault>
     ensures { Answers (forms.within (trees.span_of (tree whole.now)) form) result }
 {
     match form {
@@ -27,11 +26,11 @@ fn within(whole: &Expr<'_>, form: Option<Form>) -> Result<Option<Form>, Fault>
 }
 
 /// A number alone.
-fn number_term(alloc: Global, whole: &Expr<'_>, number: &i128) -> Result<Option<Form>, Fault>
+fn number_term(alloc: Global, whole: &Expr<'_>, number: &i128) -> Result<Option<Affine>, Fault>
     ensures { Answers (forms.sized (trees.span_of (tree whole.now)) (forms.just number.now)) result }
 {
     if is_small(number) {
-        Ok(Some(Form::number(alloc, number)))
+        Ok(Some(Affine::number(alloc, number)))
     } else {
         Err(refuse_tree(Defect::ValueTooLarge, whole))
     }
@@ -42,7 +41,7 @@ pub(crate) fn plain_term(
     alloc: Global,
     whole: &Expr<'_>,
     number: &Option<i64>,
-) -> Result<Option<Form>, Fault>
+) -> Result<Option<Affine>, Fault>
     ensures { Answers (objectives.plain_term (trees.span_of (tree whole.now)) number.now) result }
 {
     match number {
@@ -52,7 +51,12 @@ pub(crate) fn plain_term(
 }
 
 /// A form, and a factor times another.
-fn added(whole: &Expr<'_>, left: Form, factor: &i128, right: &Form) -> Result<Option<Form>, Fault>
+fn added(
+    whole: &Expr<'_>,
+    left: Affine,
+    factor: &i128,
+    right: &Affine,
+) -> Result<Option<Affine>, Fault>
     requires { is_small factor.now ≡ true }
     ensures { Answers (forms.sized (trees.span_of (tree whole.now)) (forms.combined left factor.now right.now)) result }
 {
@@ -64,15 +68,20 @@ fn scaled(
     alloc: Global,
     whole: &Expr<'_>,
     factor: &i128,
-    form: &Form,
-) -> Result<Option<Form>, Fault>
+    form: &Affine,
+) -> Result<Option<Affine>, Fault>
     requires { is_small factor.now ≡ true }
     ensures { Answers (forms.scaled (trees.span_of (tree whole.now)) factor.now form.now) result }
 {
-    added(whole, Form::zero(alloc), factor, form)
+    added(whole, Affine::zero(alloc), factor, form)
 }
 
-fn times(alloc: Global, whole: &Expr<'_>, left: &Form, right: &Form) -> Result<Option<Form>, Fault>
+fn times(
+    alloc: Global,
+    whole: &Expr<'_>,
+    left: &Affine,
+    right: &Affine,
+) -> Result<Option<Affine>, Fault>
     ensures { Answers (forms.times (trees.span_of (tree whole.now)) left.now right.now) result }
 {
     if left.is_number() {
@@ -106,7 +115,7 @@ fn remainder_of(a: &i128, b: &i128) -> i128
     *a % *b
 }
 
-fn quotient(alloc: Global, whole: &Expr<'_>, a: &i128, b: &i128) -> Result<Option<Form>, Fault>
+fn quotient(alloc: Global, whole: &Expr<'_>, a: &i128, b: &i128) -> Result<Option<Affine>, Fault>
     ensures { Answers (forms.quotient (trees.span_of (tree whole.now)) int_div a.now b.now) result }
 {
     if divides(a, b) {
@@ -116,7 +125,7 @@ fn quotient(alloc: Global, whole: &Expr<'_>, a: &i128, b: &i128) -> Result<Optio
     }
 }
 
-fn remainder(alloc: Global, whole: &Expr<'_>, a: &i128, b: &i128) -> Result<Option<Form>, Fault>
+fn remainder(alloc: Global, whole: &Expr<'_>, a: &i128, b: &i128) -> Result<Option<Affine>, Fault>
     ensures { Answers (forms.quotient (trees.span_of (tree whole.now)) int_rem a.now b.now) result }
 {
     if divides(a, b) {
@@ -126,13 +135,18 @@ fn remainder(alloc: Global, whole: &Expr<'_>, a: &i128, b: &i128) -> Result<Opti
     }
 }
 
-fn are_numbers(left: &Form, right: &Form) -> bool
+fn are_numbers(left: &Affine, right: &Affine) -> bool
     ensures { result ≡ (forms.is_number left.now.products && forms.is_number right.now.products) }
 {
     left.is_number() && right.is_number()
 }
 
-fn div(alloc: Global, whole: &Expr<'_>, left: &Form, right: &Form) -> Result<Option<Form>, Fault>
+fn div(
+    alloc: Global,
+    whole: &Expr<'_>,
+    left: &Affine,
+    right: &Affine,
+) -> Result<Option<Affine>, Fault>
     ensures { Answers (forms.divided (trees.span_of (tree whole.now)) int_div left.now right.now) result }
 {
     if are_numbers(left, right) {
@@ -143,7 +157,12 @@ fn div(alloc: Global, whole: &Expr<'_>, left: &Form, right: &Form) -> Result<Opt
     }
 }
 
-fn modulo(alloc: Global, whole: &Expr<'_>, left: &Form, right: &Form) -> Result<Option<Form>, Fault>
+fn modulo(
+    alloc: Global,
+    whole: &Expr<'_>,
+    left: &Affine,
+    right: &Affine,
+) -> Result<Option<Affine>, Fault>
     ensures { Answers (forms.divided (trees.span_of (tree whole.now)) int_rem left.now right.now) result }
 {
     if are_numbers(left, right) {
@@ -156,7 +175,7 @@ fn modulo(alloc: Global, whole: &Expr<'_>, left: &Form, right: &Form) -> Result<
 
 /// A form less another.
 #[tactic(auto, unfolding(net_eval::specs::Limits::is_small))]
-fn less(whole: &Expr<'_>, left: Form, right: &Form) -> Result<Option<Form>, Fault>
+fn less(whole: &Expr<'_>, left: Affine, right: &Affine) -> Result<Option<Affine>, Fault>
     ensures { Answers (forms.sized (trees.span_of (tree whole.now)) (forms.combined left forms.minus_one right.now)) result }
 {
     added(whole, left, &-1, right)
@@ -165,44 +184,44 @@ fn less(whole: &Expr<'_>, left: Form, right: &Form) -> Result<Option<Form>, Faul
 #[tactic(auto, unfolding(net_eval::specs::Limits::is_small))]
 fn joined(
     alloc: Global,
-    joint: Joint,
+    op: BinOp,
     whole: &Expr<'_>,
-    left: Form,
-    right: &Form,
-) -> Result<Option<Form>, Fault>
-    ensures { Answers (forms.joined joint (trees.span_of (tree whole.now)) left right.now) result }
+    left: Affine,
+    right: &Affine,
+) -> Result<Option<Affine>, Fault>
+    ensures { Answers (forms.joined op (trees.span_of (tree whole.now)) left right.now) result }
 {
-    match joint {
-        Joint::Plus => added(whole, left, &1, right),
-        Joint::Minus => less(whole, left, right),
-        Joint::Times => times(alloc, whole, &left, right),
-        Joint::Div => div(alloc, whole, &left, right),
-        Joint::Mod => modulo(alloc, whole, &left, right),
-        Joint::Other => Err(refuse_tree(Defect::NotLinear, whole)),
+    match op {
+        BinOp::Plus => added(whole, left, &1, right),
+        BinOp::Minus => less(whole, left, right),
+        BinOp::Times => times(alloc, whole, &left, right),
+        BinOp::Div => div(alloc, whole, &left, right),
+        BinOp::Mod => modulo(alloc, whole, &left, right),
+        _ => Err(refuse_tree(Defect::NotLinear, whole)),
     }
 }
 
 /// What an operator makes of two terms.
 pub(crate) fn join(
     alloc: Global,
-    joint: Joint,
+    op: BinOp,
     whole: &Expr<'_>,
-    left: Option<Form>,
-    right: &Option<Form>,
-) -> Result<Option<Form>, Fault>
-    ensures { Answers (forms.join joint (trees.span_of (tree whole.now)) left right.now) result }
+    left: Option<Affine>,
+    right: &Option<Affine>,
+) -> Result<Option<Affine>, Fault>
+    ensures { Answers (forms.join op (trees.span_of (tree whole.now)) left right.now) result }
 {
     match left {
         None => Err(refuse_tree(Defect::KindMismatch, whole)),
         Some(left) => match right {
             None => Err(refuse_tree(Defect::KindMismatch, whole)),
-            Some(right) => joined(alloc, joint, whole, left, right),
+            Some(right) => joined(alloc, op, whole, left, right),
         },
     }
 }
 
 #[tactic(auto, unfolding(net_eval::specs::Limits::is_small))]
-fn turned(alloc: Global, whole: &Expr<'_>, form: &Form) -> Result<Option<Form>, Fault>
+fn turned(alloc: Global, whole: &Expr<'_>, form: &Affine) -> Result<Option<Affine>, Fault>
     ensures { Answers (forms.scaled (trees.span_of (tree whole.now)) forms.minus_one form.now) result }
 {
     scaled(alloc, whole, &-1, form)
@@ -213,8 +232,8 @@ pub(crate) fn turn(
     alloc: Global,
     minus: bool,
     whole: &Expr<'_>,
-    term: Option<Form>,
-) -> Result<Option<Form>, Fault>
+    term: Option<Affine>,
+) -> Result<Option<Affine>, Fault>
     ensures { Answers (forms.turn minus (trees.span_of (tree whole.now)) term) result }
 {
     match term {
@@ -230,7 +249,7 @@ pub(crate) fn turn(
 }
 
 /// A sum with one term more.
-pub(crate) fn gather(whole: &Expr<'_>, sum: Sum, term: Option<Form>) -> Result<Sum, Fault>
+pub(crate) fn gather(whole: &Expr<'_>, sum: Sum, term: Option<Affine>) -> Result<Sum, Fault>
     requires { forms.AreWithin (2 ^ 125) sum }
     ensures value { Answers (forms.gathered (trees.span_of (tree whole.now)) sum term) result }
     ensures room { IfOk result (λ r. (n : ℕ) → forms.AreWithin n sum → forms.AreWithin (n + 1000000000000) r) }
@@ -245,8 +264,8 @@ pub(crate) fn gather(whole: &Expr<'_>, sum: Sum, term: Option<Form>) -> Result<S
 }
 
 /// A sum whose total is within the limit.
-pub(crate) fn sized(whole: &Expr<'_>, sum: Sum) -> Result<Option<Form>, Fault>
+pub(crate) fn sized(whole: &Expr<'_>, sum: Sum) -> Result<Option<Affine>, Fault>
     ensures { Answers (forms.sized (trees.span_of (tree whole.now)) sum) result }
 {
-    within(whole, Form::of(sum))
+    within(whole, Affine::of(sum))
 }

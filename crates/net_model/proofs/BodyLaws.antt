@@ -8,12 +8,12 @@ use Rattle.net_tree.specs.Role.{role_of, is_name, is_else}
 use Rattle.net_tree.specs.Tree.{Tree, Links, leaf, indexed, Body, plain, valued, priced}
 use Rattle.net_tree.specs.Print.{put, put_links, put_body}
 use Rattle.net_tree.specs.Depth.{depth, body_depth}
-use Rattle.net_tree.specs.Level.{rank, IsLevel}
+use Rattle.net_tree.specs.WellFormed.{precedence, IsWellFormed}
 use Rattle.net_tree.specs.Phrases.{IsNothing, IsNumeral, IsBound, IsOperand, IsValue, IsReference, IsPrice}
 use Rattle.net_model.specs.declared.phrase.Slot.{Slot}
 use Rattle.net_model.specs.declared.phrase.Slot.TheVariants as slots
-use Rattle.net_model.specs.declared.sort.Sort.TheVariants as sorts
-use Rattle.net_model.specs.declared.stop.Awaiting.TheVariants as awaiting
+use Rattle.net_model.specs.declared.expected.Expected.TheVariants as sorts
+use Rattle.net_model.specs.declared.parse_error.Awaiting.TheVariants as awaiting
 use Rattle.net_model.specs.Reading.{Tokens, next_is}
 use Rattle.net_model.specs.Expressions.{Inner, all_links, climb, unary_at, unary, inside, is_subscripted, subscripts_at, named_at}
 use Rattle.net_model.specs.Phrases.{body_of}
@@ -63,7 +63,7 @@ named-named None n ts a h =
 named-named (Some i) n ts a h =
     elim (chosen (is_subscripted ts) _ _ _ h) [ on b e ↦ subscripts-named i n ts a e | off b e ↦ given (λ (y : Tree × Tokens). IsNamed n y.0) (leaf n, ts) a e refl ]
 
-reference : (n : Token) (x : Tree) → is_name (role_of n) ≡ true → IsNamed n x → IsLevel x → IsReference (valued x)
+reference : (n : Token) (x : Tree) → is_name (role_of n) ≡ true → IsNamed n x → IsWellFormed x → IsReference (valued x)
 reference n (leaf t) named is level = rw is named
 reference n (indexed m o x l c) named is level = level
 reference n x named is level = absurd is
@@ -85,7 +85,7 @@ body-sound d o inner slots.Sum ts a h =
 body-sound d o inner slots.Value ts a h =
     let x = bind_ok _ _ _ h in
     let sx = wide-sound d 7 o (omega arith) (omega arith) inner ts x.value x.first in
-    given (λ y. SoundBody d slots.Value ts y) (valued x.value.0, x.value.1) a x.after (record { text = sx.text; level = (sx.level, wide_value (rank x.value.0) sx.fits); within = sx.within })
+    given (λ y. SoundBody d slots.Value ts y) (valued x.value.0, x.value.1) a x.after (record { text = sx.text; level = (sx.level, wide_value (precedence x.value.0) sx.fits); within = sx.within })
 body-sound d o inner slots.Node ts a h =
     let n = bind_ok _ _ _ h in
     let sn = expect-sound sorts.Name awaiting.Other ts n.value n.first in
@@ -107,8 +107,8 @@ pub record Ends (ts : Tokens) : Type 0 where
   pub stops : Stops 6 ts
   pub no_else : next_is is_else ts ≡ false
 
-operand : (d p : ℕ) (x : Tree) (ts : Tokens) → IsLevel x → depth x ≤ d → rank x ≤ suc p → suc p ≤ 10 → 0 < p → Stops p ts → climb (suc p) (unary (inside d)) (put x ts) ≡ Ok (x, ts)
-operand d p x ts level deep fits high low stops = in_place d (suc p) p x ts (trees-complete x d) level deep fits high (omega arith) (reach-below (rank x) p fits low) stops
+operand : (d p : ℕ) (x : Tree) (ts : Tokens) → IsWellFormed x → depth x ≤ d → precedence x ≤ suc p → suc p ≤ 10 → 0 < p → Stops p ts → climb (suc p) (unary (inside d)) (put x ts) ≡ Ok (x, ts)
+operand d p x ts level deep fits high low stops = in_place d (suc p) p x ts (trees-complete x d) level deep fits high (omega arith) (reach-below (precedence x) p fits low) stops
 
 leaf_read : (o : Option Inner) (n : Token) (ts : Tokens) → Stops 0 ts → named_at o n ts ≡ Ok (leaf n, ts)
 unfolding named_at
@@ -120,7 +120,7 @@ unfolding unary_at
 at_name o n ts roles.Name h = refl
 at_name o n ts _ h = absurd (cc)
 
-indexed_read : (d : ℕ) (n o : Token) (x : Tree) (l : Links) (c : Token) (ts : Tokens) → IsLevel (indexed n o x l c) → depth (indexed n o x l c) ≤ d → Stops 0 ts
+indexed_read : (d : ℕ) (n o : Token) (x : Tree) (l : Links) (c : Token) (ts : Tokens) → IsWellFormed (indexed n o x l c) → depth (indexed n o x l c) ≤ d → Stops 0 ts
     → (rest : Tokens) → put (indexed n o x l c) ts ≡ n ∷ rest → named_at (inside d) n rest ≡ Ok (indexed n o x l c, ts)
 unfolding unary climb
 indexed_read d n o x l c ts level deep stops rest text =

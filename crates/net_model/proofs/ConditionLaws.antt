@@ -2,17 +2,17 @@
 use Rattle.std.specs.Prelude.{◌≡◌, ◌≤◌, ℕ, Bool, true, false, cond, ◌∷◌, Option, Ok}
 use Rattle.std.proofs.Common.{refl, ap, ◌∙◌, arith, inl, inr}
 use Rattle.net_lex.specs.declared.token.Token.{Token}
-use Rattle.net_tree.specs.declared.role.Relates.TheVariants as relates
+use Rattle.net_tree.specs.declared.role.Relation.TheVariants as relations
 use Rattle.net_tree.specs.declared.role.Role.{Role}
 use Rattle.net_tree.specs.declared.role.Role.TheVariants as roles
 use Rattle.net_tree.specs.Role.{role_of, is_colon, is_bound, is_semicolon}
 use Rattle.net_tree.specs.Tree.{Tree, Condition, unsaid, one, between}
 use Rattle.net_tree.specs.Print.{put, put_condition}
 use Rattle.net_tree.specs.Depth.{depth, condition_depth}
-use Rattle.net_tree.specs.Level.{rank}
+use Rattle.net_tree.specs.WellFormed.{precedence}
 use Rattle.net_tree.specs.Conditions.{IsSum, IsNetSum, same_order, IsCondition}
-use Rattle.net_model.specs.declared.sort.Sort.TheVariants as sorts
-use Rattle.net_model.specs.declared.stop.Awaiting.TheVariants as awaiting
+use Rattle.net_model.specs.declared.expected.Expected.TheVariants as sorts
+use Rattle.net_model.specs.declared.parse_error.Awaiting.TheVariants as awaiting
 use Rattle.net_model.specs.Reading.{Tokens, refused, next_is}
 use Rattle.net_model.specs.Expressions.{Inner, climb, unary, inside}
 use Rattle.net_model.specs.Conditions.{is_at_most, is_at_least, chains, chain_next, high_at, middle_at, bounded_at, said_at, condition_at}
@@ -31,18 +31,18 @@ pub record SoundCondition (d : ℕ) (ts : Tokens) (a : Condition × Tokens) : Ty
   pub within : condition_depth a.0 ≤ d
 
 pub chains-order : (p q : Role) → chains p q ≡ true → same_order p q ≡ true
-chains-order (roles.Relation relates.AtMost) (roles.Relation relates.AtMost) h = refl
-chains-order (roles.Relation relates.AtLeast) (roles.Relation relates.AtLeast) h = refl
+chains-order (roles.Relation relations.AtMost) (roles.Relation relations.AtMost) h = refl
+chains-order (roles.Relation relations.AtLeast) (roles.Relation relations.AtLeast) h = refl
 chains-order _ _ h = absurd (cc)
 
 pub order-chains : (p q : Role) → same_order p q ≡ true → chains p q ≡ true
-order-chains (roles.Relation relates.AtMost) (roles.Relation relates.AtMost) h = refl
-order-chains (roles.Relation relates.AtLeast) (roles.Relation relates.AtLeast) h = refl
+order-chains (roles.Relation relations.AtMost) (roles.Relation relations.AtMost) h = refl
+order-chains (roles.Relation relations.AtLeast) (roles.Relation relations.AtLeast) h = refl
 order-chains _ _ h = absurd (cc)
 
 pub order-bounds : (p q : Role) → same_order p q ≡ true → (is_bound p ≡ true) × (is_bound q ≡ true)
-order-bounds (roles.Relation relates.AtMost) (roles.Relation relates.AtMost) h = (refl, refl)
-order-bounds (roles.Relation relates.AtLeast) (roles.Relation relates.AtLeast) h = (refl, refl)
+order-bounds (roles.Relation relations.AtMost) (roles.Relation relations.AtMost) h = (refl, refl)
+order-bounds (roles.Relation relations.AtLeast) (roles.Relation relations.AtLeast) h = (refl, refl)
 order-bounds _ _ h = absurd (cc)
 
 -- behind the bound, where the first sum has the net term or none
@@ -139,12 +139,12 @@ at_least-no_semicolon roles.Semicolon h = refl
 at_least-no_semicolon _ h = absurd (cc)
 
 semicolon-no_chain : (p q : Role) → is_semicolon q ≡ true → chains p q ≡ false
-semicolon-no_chain (roles.Relation relates.AtMost) q h = at_most-no_semicolon q h
-semicolon-no_chain (roles.Relation relates.AtLeast) q h = at_least-no_semicolon q h
+semicolon-no_chain (roles.Relation relations.AtMost) q h = at_most-no_semicolon q h
+semicolon-no_chain (roles.Relation relations.AtLeast) q h = at_least-no_semicolon q h
 semicolon-no_chain _ q h = refl
 
 sum-read : (d : ℕ) (x : Tree) (ts : Tokens) → IsSum x → depth x ≤ d → Stops 2 ts → climb 3 (unary (inside d)) (put x ts) ≡ Ok (x, ts)
-sum-read d x ts sum deep stops = in_place d 3 2 x ts (trees-complete x d) sum.0 deep sum.1 (omega arith) (omega arith) (reach-below (rank x) 2 sum.1 (omega arith)) stops
+sum-read d x ts sum deep stops = in_place d 3 2 x ts (trees-complete x d) sum.0 deep sum.1 (omega arith) (omega arith) (reach-below (precedence x) 2 sum.1 (omega arith)) stops
 
 pub condition-complete : (d : ℕ) (c : Condition) (e : Token) (ts : Tokens) → IsCondition c → condition_depth c ≤ d → is_semicolon (role_of e) ≡ true
     → condition_at (inside d) (put_condition c (e ∷ ts)) ≡ Ok (c, e ∷ ts)

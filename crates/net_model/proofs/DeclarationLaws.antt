@@ -10,14 +10,14 @@ use Rattle.net_tree.specs.Role.{role_of, is_comma, is_colon, is_semicolon, is_op
 use Rattle.net_tree.specs.Tree.{Tree, Part, absent, part, Braces, empty, filled, Body, Condition, unsaid, one, between, Phrase, Declaration, set, param, check, node, arc, objective}
 use Rattle.net_tree.specs.Print.{put, put_part, put_braces, put_optional, put_body, put_indexing, put_phrases, put_condition, put_declaration}
 use Rattle.net_tree.specs.Depth.{part_depth, braces_depth, indexing_depth, phrases_depth, declaration_depth}
-use Rattle.net_tree.specs.Level.{rank, AreBraces}
+use Rattle.net_tree.specs.WellFormed.{precedence, AreBraces}
 use Rattle.net_tree.specs.Conditions.{IsCondition}
 use Rattle.net_tree.specs.Phrases.{ArePhrases, IsOptionalComma, AreSetPhrases, AreParamPhrases, AreArcPhrases}
 use Rattle.net_tree.specs.Declarations.{IsIndexing, IsObjective, IsDeclaration}
 use Rattle.net_model.specs.declared.phrase.Owner.{Owner}
 use Rattle.net_model.specs.declared.phrase.Owner.TheVariants as owners
-use Rattle.net_model.specs.declared.sort.Sort.TheVariants as sorts
-use Rattle.net_model.specs.declared.stop.Awaiting.TheVariants as awaiting
+use Rattle.net_model.specs.declared.expected.Expected.TheVariants as sorts
+use Rattle.net_model.specs.declared.parse_error.Awaiting.TheVariants as awaiting
 use Rattle.net_model.specs.Reading.{Tokens, next_is}
 use Rattle.net_model.specs.Expressions.{Inner, inside, unary, wide, part_at, present_at}
 use Rattle.net_model.specs.Phrases.{nothing_stood}
@@ -164,7 +164,7 @@ node-sound d o inner w ts a is h =
 
 pub part_objective : (p : Part) → IsPart sorts.Colon (Wide 7) p → IsObjective p
 part_objective absent h = tt
-part_objective (part m x) h = (h.0, h.1, wide_value (rank x) h.2)
+part_objective (part m x) h = (h.0, h.1, wide_value (precedence x) h.2)
 
 objective-sound : (d : ℕ) (o : Option Inner) → IsInside d o → (w : Token) (ts : Tokens) (a : Declaration × Tokens) → role_of w ≡ roles.Declaration declares.Objective → objective_at o w ts ≡ Ok a
     → SoundDeclaration d (w ∷ ts) a
@@ -292,7 +292,7 @@ check-complete : (d : ℕ) (w : Token) (b : Option Braces) (m : Token) (x : Tree
 unfolding check_at
 check-complete d w b m x e ts level deep =
     let indexed = indexing-complete d b (m ∷ put x (e ∷ ts)) level.1 (omega (arith, deep)) (colon-no_brace (role_of m) level.2) in
-    let inner = in_place d 10 10 x (e ∷ ts) (trees-complete x d) level.3 (omega (arith, deep)) level.4 (omega arith) (omega arith) (omega (arith, reach-le (rank x), level.4)) (semicolon-stops 10 e ts (omega arith) level.5) in
+    let inner = in_place d 10 10 x (e ∷ ts) (trees-complete x d) level.3 (omega (arith, deep)) level.4 (omega arith) (omega arith) (omega (arith, reach-le (precedence x), level.4)) (semicolon-stops 10 e ts (omega arith) level.5) in
     rw (indexed, expect-complete sorts.Colon awaiting.Other m (put x (e ∷ ts)) level.2, inner, expect-complete sorts.Semicolon awaiting.Other e ts level.5) refl
 
 node-complete : (d : ℕ) (w n : Token) (b : Option Braces) (c : Condition) (e : Token) (ts : Tokens) → IsDeclaration (node w n b c e) → declaration_depth (node w n b c e) ≤ d

@@ -2,15 +2,15 @@
 use Rattle.std.proofs.Common.{◌≡◌, ℕ, List, [], ◌∷◌, None, Ok, Err, inl, inr, refl, codes, arith}
 use Rattle.net_lex.specs.declared.token.Kind.TheVariants.{Name, Key, Num, Mark}
 use Rattle.net_lex.specs.declared.token.Token.{Token}
-use Rattle.net_tree.specs.declared.expr.Operator.TheVariants.{One}
+use Rattle.net_tree.specs.declared.operator.Words.TheVariants.{One}
 use Rattle.net_tree.specs.Role.{role_of, keys, marks}
 use Rattle.net_tree.specs.Tree.{Tree, leaf, reduced, chain, net, none, link, absent, filled, valued, Phrase, one, Declaration, check, node}
-use Rattle.net_tree.specs.Level.{IsLevel}
+use Rattle.net_tree.specs.WellFormed.{IsWellFormed}
 use Rattle.net_tree.specs.Conditions.{IsCondition}
 use Rattle.net_tree.specs.Phrases.{AreParamPhrases}
 use Rattle.net_tree.specs.Declarations.{IsDeclaration}
-use Rattle.net_model.specs.declared.stop.Awaiting.TheVariants.{Other}
-use Rattle.net_model.specs.declared.stop.Stop.TheVariants.{Refused, TooDeep}
+use Rattle.net_model.specs.declared.parse_error.Awaiting.TheVariants.{Other}
+use Rattle.net_model.specs.declared.parse_error.ParseError.TheVariants.{Refused, TooDeep}
 use Rattle.net_model.specs.Reading.{expect}
 use Rattle.net_model.specs.Expressions.{operator_at, chain_at, climb, named_at, unary_at, unary, inner_of, inside}
 use Rattle.net_model.specs.Declarations.{indexing_at, check_at, declared_at, declaration_at, declaration_step, model_at}
@@ -31,17 +31,17 @@ number text = record { kind = Num; text = text; span = record { start = 0; end =
 abbrev total : Tree
 total = reduced (key (codes "sum")) (filled (mark (codes "{")) (leaf (name (codes "A"))) none absent (mark (codes "}"))) (leaf (name (codes "a")))
 
-total_level : IsLevel total
+total_level : IsWellFormed total
 unfolding role_of keys marks
 total_level = (refl, (refl, refl, omega arith, tt, tt, refl), refl, omega arith)
 
 -- (sum {A} a) + 1, written without parentheses
-sum_level : IsLevel (chain 2 total (link (One (mark (codes "+"))) (leaf (number (codes "1"))) none))
+sum_level : IsWellFormed (chain 2 total (link (One (mark (codes "+"))) (leaf (number (codes "1"))) none))
 unfolding role_of keys marks
 sum_level = (omega arith, omega arith, (refl, (refl, refl, omega arith, tt, tt, refl), refl, omega arith), omega arith, tt, (refl, refl, refl, omega arith, tt))
 
 -- a product does not go on behind a reduction: (sum {A} a) * 2
-product_behind : IsLevel (chain 1 total (link (One (mark (codes "*"))) (leaf (number (codes "2"))) none)) → ⊥
+product_behind : IsWellFormed (chain 1 total (link (One (mark (codes "*"))) (leaf (number (codes "2"))) none)) → ⊥
 product_behind h = omega (arith, h.3)
 
 -- node N : net_in = 3 ;

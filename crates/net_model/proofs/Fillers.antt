@@ -4,17 +4,17 @@ use Rattle.std.proofs.Common.{refl, ap, ◌∙◌}
 use Rattle.net_lex.specs.declared.token.Token.{Token}
 use Rattle.net_lex.specs.declared.token.Kind.{Kind}
 use Rattle.net_lex.specs.declared.token.Kind.TheVariants as kinds
-use Rattle.net_tree.specs.declared.expr.Operator.{Operator}
-use Rattle.net_tree.specs.declared.expr.Operator.TheVariants.{One, Two}
+use Rattle.net_tree.specs.declared.operator.Words.{Words as Operator}
+use Rattle.net_tree.specs.declared.operator.Words.TheVariants.{One, Two}
 use Rattle.net_tree.specs.declared.role.Role.{Role}
 use Rattle.net_tree.specs.declared.role.Role.TheVariants as roles
 use Rattle.net_tree.specs.Role.{role_of, keys, marks, is_name, is_leaf}
 use Rattle.net_tree.specs.Tree.{Tree, Links, Part, Braces, leaf, indexed, parens, tuple, negated, braced, signed, reduced, chain, choice, net, none, link, absent, part, empty, filled}
 use Rattle.net_tree.specs.Print.{put, put_links, put_part, put_braces, put_operator, put_optional}
 use Rattle.net_tree.specs.Depth.{depth, links_depth, part_depth, braces_depth}
-use Rattle.net_tree.specs.Level.{rank, joins, head_of, IsOperator, IsLevel, AreLevel, AreBraces}
-use Rattle.net_model.specs.declared.sort.Sort.{Sort}
-use Rattle.net_model.specs.declared.sort.Sort.TheVariants as sorts
+use Rattle.net_tree.specs.WellFormed.{precedence, joins, head_of, IsOperator, IsWellFormed, AreWellFormed, AreBraces}
+use Rattle.net_model.specs.declared.expected.Expected.{Expected}
+use Rattle.net_model.specs.declared.expected.Expected.TheVariants as sorts
 use Rattle.net_model.specs.Reading.{Tokens, is_sort}
 use Rattle.net_model.proofs.Readers.{put_before}
 use Rattle.net_model.proofs.TreesSound.{IsPart}
@@ -24,7 +24,7 @@ abbrev pub made : Kind → List ℕ → Token
 made kind text = record { kind = kind; text = text; span = record { start = 0; end = 0 } }
 
 -- a token of each sort
-unfoldable pub filler : Sort → Token
+unfoldable pub filler : Expected → Token
 filler sorts.Name = made kinds.Name (codes "x")
 filler sorts.Number = made kinds.Num (codes "1")
 filler sorts.Open = made kinds.Mark (codes "(")
@@ -44,7 +44,7 @@ filler sorts.Bound = made kinds.Mark (codes "=")
 filler sorts.Sign = made kinds.Mark (codes "+")
 filler sorts.Net = made kinds.Key (codes "net_in")
 
-pub fills : (s : Sort) → is_sort s (role_of (filler s)) ≡ true
+pub fills : (s : Expected) → is_sort s (role_of (filler s)) ≡ true
 unfolding filler role_of keys marks
 fills sorts.Name = refl
 fills sorts.Number = refl
@@ -73,7 +73,7 @@ pub name-leaf : (r : Role) → is_name r ≡ true → is_leaf r ≡ true
 name-leaf roles.Name h = refl
 name-leaf _ h = absurd (cc)
 
-pub a_name_level : IsLevel a_name
+pub a_name_level : IsWellFormed a_name
 a_name_level = name-leaf (role_of (filler sorts.Name)) (fills sorts.Name)
 
 pub put_operator-front : (o : Operator) (v r : Tokens) → put_operator o (put_before v r) ≡ put_before (put_operator o v) r
@@ -118,21 +118,21 @@ mutual
       ∙ ap (λ k. o ∷ k) (put-front x (put_links l (put_part p (c ∷ v))) r)
 
 -- a token of a sort
-abbrev pub token : Sort → Written Token
+abbrev pub token : Expected → Written Token
 token s = record { put = λ t r. t ∷ r; fits = λ k t. is_sort s (role_of t) ≡ true; front = λ t v r. refl }
 
 -- an operator behind k links
 abbrev pub operator : ℕ → ℕ → Written Operator
 operator j k = record { put = put_operator; fits = λ i o. (joins j k (role_of (head_of o)) ≡ true) × IsOperator o; front = put_operator-front }
 
--- an expression of a rank
+-- an expression of a precedence
 abbrev pub tree : (ℕ → Type 0) → Written Tree
-tree Fits = record { put = put; fits = λ k x. IsLevel x × (depth x ≤ k) × Fits (rank x); front = put-front }
+tree Fits = record { put = put; fits = λ k x. IsWellFormed x × (depth x ≤ k) × Fits (precedence x); front = put-front }
 
 abbrev pub links_of : ℕ → ℕ → ℕ → Written Links
-links_of j n k = record { put = put_links; fits = λ i l. AreLevel j n k l × (links_depth l ≤ i); front = put_links-front }
+links_of j n k = record { put = put_links; fits = λ i l. AreWellFormed j n k l × (links_depth l ≤ i); front = put_links-front }
 
-abbrev pub part_of : Sort → (ℕ → Type 0) → Written Part
+abbrev pub part_of : Expected → (ℕ → Type 0) → Written Part
 part_of s Fits = record { put = put_part; fits = λ k p. IsPart s Fits p × (part_depth p ≤ k); front = put_part-front }
 
 abbrev pub braces_of : Written Braces

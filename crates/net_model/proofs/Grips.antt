@@ -3,17 +3,17 @@ use Rattle.std.specs.Prelude.{◌≡◌, ◌≤◌, ◌<◌, ◌&&◌, ℕ, zero
 use Rattle.std.proofs.Common.{refl, sym, ap, arith}
 use Rattle.std.proofs.lemmas.Bool.{eqb-true}
 use Rattle.std.proofs.lemmas.Bool.Decides.{nat_tests}
-use Rattle.net_tree.specs.declared.expr.Operator.{Operator}
-use Rattle.net_tree.specs.declared.expr.Operator.TheVariants.{One, Two}
+use Rattle.net_tree.specs.declared.operator.Words.{Words as Operator}
+use Rattle.net_tree.specs.declared.operator.Words.TheVariants.{One, Two}
 use Rattle.net_tree.specs.declared.role.Role.{Role}
 use Rattle.net_tree.specs.declared.role.Role.TheVariants as roles
 use Rattle.net_tree.specs.Role.{role_of, is_open_square, is_close, is_close_square, is_close_brace, is_colon, is_then, is_else, is_semicolon}
 use Rattle.net_tree.specs.Print.{put_operator}
-use Rattle.net_tree.specs.Level.{joins, head_of}
+use Rattle.net_tree.specs.WellFormed.{joins, head_of}
 use Rattle.net_model.specs.Reading.{Tokens, next_is}
 use Rattle.net_model.specs.Expressions.{is_hollow}
 
--- the rank of the operands that a token joins; 0 for what opens subscripts, 20 for what goes on with no operand
+-- the precedence of the operands that a token joins; 0 for what opens subscripts, 20 for what goes on with no operand
 abbrev pub grip : Role → ℕ
 grip roles.OpenSquare = 0
 grip (roles.Joining zero) = 20
@@ -29,7 +29,7 @@ abbrev pub next_grip : Tokens → ℕ
 next_grip [] = 20
 next_grip (t ∷ ts) = grip (role_of t)
 
--- the next token joins no operands of this rank or a tighter one
+-- the next token joins no operands of this precedence or a tighter one
 abbrev pub Stops : ℕ → Tokens → Type 0
 Stops n ts = n < next_grip ts
 
@@ -58,7 +58,7 @@ both false c h = absurd (cc)
 same_rank : (n m : ℕ) (b : Bool) → (nat_eq n m && b) ≡ true → n ≡ m
 same_rank n m b h = eqb-true n m (both (nat_eq n m) b h)
 
--- what joins operands of a rank has that grip
+-- what joins operands of a precedence has that grip
 pub joins-grip : (n k : ℕ) (r : Role) → 0 < n → joins n k r ≡ true → grip r ≡ n
 joins-grip n k roles.Comma low h = absurd (let e = eqb-true n 0 h in omega (arith, e))
 joins-grip n k (roles.Joining zero) low h = absurd (let e = eqb-true n 0 h in omega (arith, e))
@@ -138,7 +138,7 @@ pub close_brace-hollow : (r : Role) → is_close_brace r ≡ true → is_hollow 
 close_brace-hollow roles.CloseBrace h = refl
 close_brace-hollow _ h = absurd (cc)
 
--- how tight a token may join that comes behind a tree of this rank, at most
+-- how tight a token may join that comes behind a tree of this precedence, at most
 abbrev pub reach : ℕ → ℕ
 reach zero = 0
 reach (suc zero) = 1

@@ -28,7 +28,6 @@ pub mod LocalTrees
 pub mod LocalModels
 pub mod TreeLaws
 pub mod Examples
-pub mod NamedModels
 pub mod Mending
 pub mod Fillers
 pub mod MendingLinks
@@ -41,4 +40,3 @@ pub mod MendingPhrases
 pub mod MendingDeclarations
 pub mod MendingModels
 pub mod Promise
-pub mod FaultPlaces

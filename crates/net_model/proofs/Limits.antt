@@ -6,34 +6,34 @@ use Rattle.net_tree.specs.declared.role.Role.{Role}
 use Rattle.net_tree.specs.declared.role.Role.TheVariants as roles
 use Rattle.net_tree.specs.Role.{role_of, is_open, is_open_brace, is_if}
 use Rattle.net_tree.specs.Tree.{leaf, indexed, negated, braced, signed, reduced, choice, none, link, absent, part, empty, filled}
-use Rattle.net_tree.specs.Level.{rank, joins}
-use Rattle.net_model.specs.declared.sort.Sort.{Sort}
-use Rattle.net_model.specs.declared.sort.Sort.TheVariants as sorts
-use Rattle.net_model.specs.declared.stop.Awaiting.TheVariants as awaiting
-use Rattle.net_model.specs.declared.stop.Stop.{Stop}
-use Rattle.net_model.specs.declared.stop.Stop.TheVariants as stops
+use Rattle.net_tree.specs.WellFormed.{precedence, joins}
+use Rattle.net_model.specs.declared.expected.Expected.{Expected}
+use Rattle.net_model.specs.declared.expected.Expected.TheVariants as sorts
+use Rattle.net_model.specs.declared.parse_error.Awaiting.TheVariants as awaiting
+use Rattle.net_model.specs.declared.parse_error.ParseError.{ParseError}
+use Rattle.net_model.specs.declared.parse_error.ParseError.TheVariants as stops
 use Rattle.net_model.specs.Reading.{Tokens, Read, ◌>>=◌, read_as, refused, too_deep, next_is, is_sort, expect}
 use Rattle.net_model.specs.Expressions.{Reader, Inner, operator_at, links, all_links, chained, chain_at, climb, present_at, part_at, is_subscripted, subscripts_at, named_at, closed, listed, parens_from, parens_at, not_shut, negated_at, is_hollow, hollow_at, items_at, braces_at, braces, reduced_at, choice_at, unary_at, unary, if_at, wide, inner_of, inside}
 
 -- the second is the same, or the first stopped at a nesting too many
-pub data Agree {A : Type 0} (p q : Result A Stop) : Type 0 where
+pub data Agree {A : Type 0} (p q : Result A ParseError) : Type 0 where
   same : p ≡ q → Agree p q
   deep : (n : ℕ) → p ≡ Err (stops.TooDeep n) → Agree p q
 
-pub agreed : {A : Type 0} (p : Result A Stop) → Agree p p
+pub agreed : {A : Type 0} (p : Result A ParseError) → Agree p p
 agreed p = same refl
 
-both_read : {A B : Type 0} (x : A) (q : Result A Stop) (p : Result B Stop) (g : A → Result B Stop) → Ok x ≡ q → Agree p (g x) → Agree p (q >>= g)
+both_read : {A B : Type 0} (x : A) (q : Result A ParseError) (p : Result B ParseError) (g : A → Result B ParseError) → Ok x ≡ q → Agree p (g x) → Agree p (q >>= g)
 both_read x (Ok y) p g e m = let k : x ≡ y = cc in rw (← k) m
 both_read x (Err s) p g e m = absurd (cc)
 
-pub then_agree : {A B : Type 0} (p q : Result A Stop) (f g : A → Result B Stop) → Agree p q → ((x : A) → Agree (f x) (g x)) → Agree (p >>= f) (q >>= g)
+pub then_agree : {A B : Type 0} (p q : Result A ParseError) (f g : A → Result B ParseError) → Agree p q → ((x : A) → Agree (f x) (g x)) → Agree (p >>= f) (q >>= g)
 then_agree (Ok x) q f g (same e) more = both_read x q (f x) g e (more x)
 then_agree (Err s) q f g (same e) more = same (ap (λ w. w >>= g) e)
 then_agree (Ok x) q f g (deep n e) more = absurd (cc)
 then_agree (Err s) q f g (deep n e) more = deep n (ap (λ w. w >>= f) e)
 
-pub choose_agree : {A : Type 0} (b : Bool) (p q r s : Result A Stop) → Agree p q → Agree r s → Agree (cond b p r) (cond b q s)
+pub choose_agree : {A : Type 0} (b : Bool) (p q r s : Result A ParseError) → Agree p q → Agree r s → Agree (cond b p r) (cond b q s)
 choose_agree true p q r s yes' no' = yes'
 choose_agree false p q r s yes' no' = no'
 
@@ -66,7 +66,7 @@ unfolding present_at
 present-agree p q value [] = same refl
 present-agree p q value (t ∷ ts) = then_agree (p ts) (q ts) _ _ (value ts) λ x. agreed (read_as (part t x.0) x.1)
 
-pub part-agree : (s : Sort) (p q : Reader) → Agrees p q → Agrees (part_at s p) (part_at s q)
+pub part-agree : (s : Expected) (p q : Reader) → Agrees p q → Agrees (part_at s p) (part_at s q)
 unfolding part_at
 part-agree s p q value ts = choose_agree (next_is (is_sort s) ts) (present_at p ts) (present_at q ts) _ _ (present-agree p q value ts) (agreed (read_as absent ts))
 
@@ -102,7 +102,7 @@ parens-agree : (i j : Inner) → InnerAgree i j → (o : Token) → Agrees (pare
 unfolding parens_at parens_from
 parens-agree i j inner o ts =
     then_agree (i.wide 10 ts) (j.wide 10 ts) _ _ (inner.wide 10 ts) λ x.
-    choose_agree (nat_le (rank x.0) 3) _ _ _ _
+    choose_agree (nat_le (precedence x.0) 3) _ _ _ _
     (then_agree (all_links 0 (i.at 3) x.1) (all_links 0 (j.at 3) x.1) _ _ (list-agree i j inner 3 x.1) λ l. agreed (listed o x.0 l.0 l.1))
     (agreed (closed o x.0 x.1))
 

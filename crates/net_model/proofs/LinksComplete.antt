@@ -2,16 +2,16 @@
 use Rattle.std.specs.Prelude.{◌≡◌, ◌≤◌, ◌<◌, ℕ, zero, suc, Bool, true, false, cond, nat_eq, length, Ok}
 use Rattle.std.proofs.Common.{refl, arith, subst}
 use Rattle.std.proofs.lemmas.Bool.{eqb-true, eq-eqb}
-use Rattle.net_tree.specs.declared.expr.Operator.{Operator}
-use Rattle.net_tree.specs.declared.expr.Operator.TheVariants.{One, Two}
+use Rattle.net_tree.specs.declared.operator.Words.{Words as Operator}
+use Rattle.net_tree.specs.declared.operator.Words.TheVariants.{One, Two}
 use Rattle.net_tree.specs.declared.role.Role.{Role}
 use Rattle.net_tree.specs.Role.{role_of, is_else}
 use Rattle.net_tree.specs.Tree.{Tree, Links, none, link}
 use Rattle.net_tree.specs.Print.{put, put_links, put_operator}
 use Rattle.net_tree.specs.Depth.{depth, links_depth}
-use Rattle.net_tree.specs.Level.{rank, room, joins, head_of, IsOperator, IsLevel, AreLevel}
-use Rattle.net_model.specs.declared.sort.Sort.TheVariants as sorts
-use Rattle.net_model.specs.declared.stop.Awaiting.TheVariants as awaiting
+use Rattle.net_tree.specs.WellFormed.{precedence, room, joins, head_of, IsOperator, IsWellFormed, AreWellFormed}
+use Rattle.net_model.specs.declared.expected.Expected.TheVariants as sorts
+use Rattle.net_model.specs.declared.parse_error.Awaiting.TheVariants as awaiting
 use Rattle.net_model.specs.Reading.{Tokens, next_is}
 use Rattle.net_model.specs.Expressions.{Reader, operator_at, links, all_links, chain_at, climb, unary, if_at, inside}
 use Rattle.net_model.proofs.Tools.{expect-complete}
@@ -44,11 +44,11 @@ links-complete j p (suc turns) k (link o x l) ts enough are =
 
 -- The tree is read back from what is printed, where no token behind it goes on with it.
 pub record IsReadBack (d : ℕ) (x : Tree) (ts : Tokens) : Type 0 where
-  pub narrow : rank x ≤ 10 → Stops (reach (rank x)) ts → climb (rank x) (unary (inside d)) (put x ts) ≡ Ok (x, ts)
-  pub loose : rank x ≡ 11 → Stops 6 ts → next_is is_else ts ≡ false → if_at (inside d) (put x ts) ≡ Ok (x, ts)
+  pub narrow : precedence x ≤ 10 → Stops (reach (precedence x)) ts → climb (precedence x) (unary (inside d)) (put x ts) ≡ Ok (x, ts)
+  pub loose : precedence x ≡ 11 → Stops 6 ts → next_is is_else ts ≡ false → if_at (inside d) (put x ts) ≡ Ok (x, ts)
 
 abbrev pub Complete : ℕ → Tree → Type 0
-Complete d x = IsLevel x → depth x ≤ d → (ts : Tokens) → IsReadBack d x ts
+Complete d x = IsWellFormed x → depth x ≤ d → (ts : Tokens) → IsReadBack d x ts
 
 abbrev pub AllComplete : ℕ → Links → Type 0
 AllComplete d none = Unit {0}
@@ -80,11 +80,11 @@ lift (suc m) (suc zero) p u ts x r below low stops h = let same : suc m ≡ 1 = 
 lift m (suc (suc n)) p u ts x r below low stops h =
     lift_by m n p u ts x r (nat_eq m (suc (suc n))) refl stops low below h (λ fits. lift m (suc n) p u ts x r fits (omega arith) stops h)
 
--- a tree in a place that takes its rank
-pub in_place : (d n p : ℕ) (x : Tree) (ts : Tokens) → Complete d x → IsLevel x → depth x ≤ d → rank x ≤ n → n ≤ 10 → n ≤ suc p → reach (rank x) ≤ p → Stops p ts
+-- a tree in a place that takes its precedence
+pub in_place : (d n p : ℕ) (x : Tree) (ts : Tokens) → Complete d x → IsWellFormed x → depth x ≤ d → precedence x ≤ n → n ≤ 10 → n ≤ suc p → reach (precedence x) ≤ p → Stops p ts
     → climb n (unary (inside d)) (put x ts) ≡ Ok (x, ts)
 in_place d n p x ts complete level deep fits high low reaches stops =
-    lift (rank x) n p (unary (inside d)) (put x ts) x ts fits low stops ((complete level deep ts).narrow (omega arith) (omega arith))
+    lift (precedence x) n p (unary (inside d)) (put x ts) x ts fits low stops ((complete level deep ts).narrow (omega arith) (omega arith))
 
 -- the operands of a chain
 pub stops-links : (j k p : ℕ) (o : Operator) (r : Tokens) → ((k : ℕ) (r : Role) → joins j k r ≡ true → p < grip r) → joins j k (role_of (head_of o)) ≡ true → Stops p (put_operator o r)
@@ -102,17 +102,17 @@ closed_rank-le n = by (nat_eq n 1)
 
 pub operand-read : (d j n p k : ℕ) (x : Tree) (l : Links) (ts : Tokens) → Complete d x → n ≤ 10 → n ≤ suc p → p ≤ n
     → ((k : ℕ) (r : Role) → joins j k r ≡ true → p < grip r) → ((r : ℕ) → r ≤ closed_rank n → reach r ≤ p)
-    → IsLevel x → depth x ≤ d → rank x ≤ room n l → AreLevel j n k l → Stops n ts
+    → IsWellFormed x → depth x ≤ d → precedence x ≤ room n l → AreWellFormed j n k l → Stops n ts
     → climb n (unary (inside d)) (put x (put_links l ts)) ≡ Ok (x, put_links l ts)
 operand-read d j n p k x none ts complete high near under joint reaches level deep fits are stops =
-    in_place d n n x ts complete level deep fits high (omega arith) (omega (arith, reach-le (rank x))) stops
+    in_place d n n x ts complete level deep fits high (omega arith) (omega (arith, reach-le (precedence x))) stops
 operand-read d j n p k x (link o y l) ts complete high near under joint reaches level deep fits are stops =
-    in_place d n p x (put_links (link o y l) ts) complete level deep (omega (arith, fits, closed_rank-le n)) high near (reaches (rank x) fits)
+    in_place d n p x (put_links (link o y l) ts) complete level deep (omega (arith, fits, closed_rank-le n)) high near (reaches (precedence x) fits)
     (stops-links j k p o (put y (put_links l ts)) joint are.0)
 
 pub links-are_read : (d j n p k : ℕ) (l : Links) (ts : Tokens) → AllComplete d l → n ≤ 10 → n ≤ suc p → p ≤ n
     → ((k : ℕ) (r : Role) → joins j k r ≡ true → p < grip r) → ((r : ℕ) → r ≤ closed_rank n → reach r ≤ p)
-    → AreLevel j n k l → links_depth l ≤ d → Stops n ts → ((k : ℕ) → next_is (joins j k) ts ≡ false)
+    → AreWellFormed j n k l → links_depth l ≤ d → Stops n ts → ((k : ℕ) → next_is (joins j k) ts ≡ false)
     → AreRead j (climb n (unary (inside d))) k l ts
 links-are_read d j n p k none ts complete high near under joint reaches are deep stops over = over k
 links-are_read d j n p k (link o x l) ts complete high near under joint reaches are deep stops over = (

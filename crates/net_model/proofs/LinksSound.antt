@@ -2,30 +2,30 @@
 use Rattle.std.specs.Prelude.{◌≡◌, ◌≤◌, ◌<◌, ℕ, zero, suc, Bool, true, false, cond, nat_eq, [], ◌∷◌, length, Ok}
 use Rattle.std.proofs.Common.{refl, ap, ◌∙◌, arith, subst}
 use Rattle.std.proofs.lemmas.Bool.{eqb-true}
-use Rattle.net_tree.specs.declared.expr.Operator.{Operator}
-use Rattle.net_tree.specs.declared.expr.Operator.TheVariants.{One, Two}
+use Rattle.net_tree.specs.declared.operator.Words.{Words as Operator}
+use Rattle.net_tree.specs.declared.operator.Words.TheVariants.{One, Two}
 use Rattle.net_tree.specs.declared.role.Role.{Role}
 use Rattle.net_tree.specs.declared.role.Role.TheVariants as roles
 use Rattle.net_tree.specs.Role.{role_of, is_not}
 use Rattle.net_tree.specs.Tree.{Tree, Links, none, link}
 use Rattle.net_tree.specs.Print.{put, put_links, put_operator}
 use Rattle.net_tree.specs.Depth.{depth, links_depth}
-use Rattle.net_tree.specs.Level.{rank, room, joins, head_of, IsOperator, IsLevel, AreLevel}
-use Rattle.net_model.specs.declared.sort.Sort.TheVariants as sorts
-use Rattle.net_model.specs.declared.stop.Awaiting.TheVariants as awaiting
+use Rattle.net_tree.specs.WellFormed.{precedence, room, joins, head_of, IsOperator, IsWellFormed, AreWellFormed}
+use Rattle.net_model.specs.declared.expected.Expected.TheVariants as sorts
+use Rattle.net_model.specs.declared.parse_error.Awaiting.TheVariants as awaiting
 use Rattle.net_model.specs.Reading.{Tokens, Read, read_as, next_is}
 use Rattle.net_model.specs.Expressions.{Reader, operator_at, links, chained, chain_at, climb}
 use Rattle.net_model.proofs.Tools.{bind_ok, given, chosen, on, off, expect-sound}
 use Rattle.net_model.proofs.Longer.{put-longer, put_operator-longer}
 
--- A reader read x with r left: x is what is printed before r, level, of a rank that fits, and so deep at most; behind an open reduction
+-- A reader read x with r left: x is what is printed before r, level, of a precedence that fits, and so deep at most; behind an open reduction
 -- no product goes on.
 pub record Sound (d : ℕ) (Fits : ℕ → Type 0) (ts : Tokens) (a : Tree × Tokens) : Type 0 where
   pub text : ts ≡ put a.0 a.1
-  pub level : IsLevel a.0
+  pub level : IsWellFormed a.0
   pub within : depth a.0 ≤ d
-  pub fits : Fits (rank a.0)
-  pub ended : rank a.0 ≡ 1 → next_is (joins 1 0) a.1 ≡ false
+  pub fits : Fits (precedence a.0)
+  pub ended : precedence a.0 ≡ 1 → next_is (joins 1 0) a.1 ≡ false
 
 abbrev pub IsSound : ℕ → (ℕ → Type 0) → Reader → Type 0
 IsSound d Fits p = (ts : Tokens) (a : Tree × Tokens) → p ts ≡ Ok a → Sound d Fits ts a
@@ -58,23 +58,23 @@ next_product k (One t) r ended joined = let e = joins_product 0 k (role_of t) in
 next_product k (Two t u) r ended joined = let e = joins_product 0 k (role_of t) in cc
 
 -- an operand before further links of a product is closed
-pub room-fits : (j n k : ℕ) (l : Links) (x : Tree) (r : Tokens) → (n ≡ 1 → j ≡ 1) → rank x ≤ n → (rank x ≡ 1 → next_is (joins 1 0) (put_links l r) ≡ false)
-    → AreLevel j n k l → rank x ≤ room n l
+pub room-fits : (j n k : ℕ) (l : Links) (x : Tree) (r : Tokens) → (n ≡ 1 → j ≡ 1) → precedence x ≤ n → (precedence x ≡ 1 → next_is (joins 1 0) (put_links l r) ≡ false)
+    → AreWellFormed j n k l → precedence x ≤ room n l
 room-fits j n k none x r own fits ended level = fits
 room-fits j n k (link o y l) x r own fits ended level = by (nat_eq n 1) refl
   where
-    closed : n ≡ 1 → (rank x ≡ 1 → ⊥)
+    closed : n ≡ 1 → (precedence x ≡ 1 → ⊥)
     closed e f =
         let J : ℕ → Type 0 = λ m. joins m k (role_of (head_of o)) ≡ true in
         next_product k o (put y (put_links l r)) (ended f) (subst J (own e) level.0)
 
-    by : (b : Bool) → nat_eq n 1 ≡ b → rank x ≤ cond b 0 n
-    by true e = let same : n ≡ 1 = eqb-true n 1 e in let not_one : rank x ≡ 1 → ⊥ = closed same in omega (arith, not_one)
+    by : (b : Bool) → nat_eq n 1 ≡ b → precedence x ≤ cond b 0 n
+    by true e = let same : n ≡ 1 = eqb-true n 1 e in let not_one : precedence x ≡ 1 → ⊥ = closed same in omega (arith, not_one)
     by false e = fits
 
 pub record SoundLinks (d j n k : ℕ) (ts : Tokens) (a : Links × Tokens) : Type 0 where
   pub text : ts ≡ put_links a.0 a.1
-  pub level : AreLevel j n k a.0
+  pub level : AreWellFormed j n k a.0
   pub within : links_depth a.0 ≤ d
   pub count : ℕ
   pub done : next_is (joins j count) a.1 ≡ false
@@ -109,7 +109,7 @@ links-sound d j n p sound own (suc turns) k ts a enough h =
     more : (o : Operator) (r : Tokens) (x : Tree × Tokens) (l : Links × Tokens) → next_is (joins j k) ts ≡ true → SoundOperator ts (o, r) → Sound d (UpTo n) r x
         → SoundLinks d j n (suc k) x.1 l → (let w : Read Links = read_as (link o x.0 l.0) l.1 in w ≡ Ok a) → SoundLinks d j n k ts a
     more o r x l b so sx sl e =
-        let ended : rank x.0 ≡ 1 → next_is (joins 1 0) (put_links l.0 l.1) ≡ false = λ f. rw (← sl.text) (sx.ended f) in
+        let ended : precedence x.0 ≡ 1 → next_is (joins 1 0) (put_links l.0 l.1) ≡ false = λ f. rw (← sl.text) (sx.ended f) in
         given (λ y. SoundLinks d j n k ts y) (link o x.0 l.0, l.1) a e (record {
           text = so.text ∙ ap (put_operator o) (sx.text ∙ ap (put x.0) sl.text);
           level = (head_joins o r (rw so.text at b), so.level, sx.level, room-fits j n (suc k) l.0 x.0 l.1 own sx.fits ended sl.level, sl.level);
@@ -129,7 +129,7 @@ chained-sound d n x r ts none rest low high sx sl = record {
   ended = λ e. rw (← sl.text) (sx.ended e);
 }
 chained-sound d n x r ts (link o y l) rest low high sx sl =
-    let ended : rank x ≡ 1 → next_is (joins 1 0) (put_links (link o y l) rest) ≡ false = λ f. rw (← sl.text) (sx.ended f) in
+    let ended : precedence x ≡ 1 → next_is (joins 1 0) (put_links (link o y l) rest) ≡ false = λ f. rw (← sl.text) (sx.ended f) in
     record {
       text = sx.text ∙ ap (put x) sl.text;
       level = (low, high, sx.level, room-fits n n 0 (link o y l) x rest (λ e. e) sx.fits ended sl.level, tt, sl.level);

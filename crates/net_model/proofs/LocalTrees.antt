@@ -2,16 +2,16 @@
 use Rattle.std.specs.Prelude.{◌≡◌, ◌≤◌, ◌<◌, ℕ, zero, suc, Bool, true, false, nat_le, ◌∷◌, length, Option, None, Some, Ok, Err}
 use Rattle.std.proofs.Common.{refl, ap, arith, subst}
 use Rattle.net_lex.specs.declared.token.Token.{Token}
-use Rattle.net_tree.specs.declared.expr.Operator.{Operator}
-use Rattle.net_tree.specs.declared.expr.Operator.TheVariants.{One, Two}
+use Rattle.net_tree.specs.declared.operator.Words.{Words as Operator}
+use Rattle.net_tree.specs.declared.operator.Words.TheVariants.{One, Two}
 use Rattle.net_tree.specs.declared.role.Role.{Role}
 use Rattle.net_tree.specs.declared.role.Role.TheVariants as roles
 use Rattle.net_tree.specs.Role.{role_of, is_not, is_open, is_open_brace, is_open_square, is_if}
 use Rattle.net_tree.specs.Tree.{Tree, Links, leaf, indexed, parens, tuple, negated, braced, signed, reduced, choice, none, link, absent, part, empty, filled}
-use Rattle.net_tree.specs.Level.{rank, joins}
-use Rattle.net_model.specs.declared.sort.Sort.{Sort}
-use Rattle.net_model.specs.declared.sort.Sort.TheVariants as sorts
-use Rattle.net_model.specs.declared.stop.Awaiting.TheVariants as awaiting
+use Rattle.net_tree.specs.WellFormed.{precedence, joins}
+use Rattle.net_model.specs.declared.expected.Expected.{Expected}
+use Rattle.net_model.specs.declared.expected.Expected.TheVariants as sorts
+use Rattle.net_model.specs.declared.parse_error.Awaiting.TheVariants as awaiting
 use Rattle.net_model.specs.Meaning.{opens}
 use Rattle.net_model.specs.Reading.{Tokens, Read, ◌>>=◌, read_as, refused, next_is, is_sort, expect}
 use Rattle.net_model.specs.Expressions.{Reader, Inner, operator_at, links, all_links, chained, chain_at, climb, present_at, part_at, subscripts_at, named_at, closed, listed, parens_from, parens_at, not_shut, negated_at, is_hollow, hollow_at, items_at, braces_at, braces, reduced_at, choice_at, unary_at, unary, if_at, wide, inner_of, inside}
@@ -91,7 +91,7 @@ presenting : (p : Reader) → IsReader p → IsReader (present_at p)
 unfolding present_at
 presenting p value = heading awaiting.Other (present_at p) refl (λ t. takes (binding p (λ x. read_as (part t x.0) x.1) value λ x. reading (part t x)))
 
-pub parting : (s : Sort) (p : Reader) → IsReader p → IsReader (part_at s p)
+pub parting : (s : Expected) (p : Reader) → IsReader p → IsReader (part_at s p)
 unfolding part_at
 parting s p value = nexting (is_sort s) (present_at p) (read_as absent) (presenting p value) (reading absent)
 
@@ -145,7 +145,7 @@ parenthesizing : (i : Inner) → AreReaders i → (o : Token) → IsReader (pare
 unfolding parens_at parens_from
 parenthesizing i inner o =
     binding (i.wide 10) _ (inner.wide 10) λ x.
-    testing (λ ts. nat_le (rank x) 3) (λ ts. all_links 0 (i.at 3) ts >>= λ l. listed o x l.0 l.1) (closed o x) (λ f v. refl)
+    testing (λ ts. nat_le (precedence x) 3) (λ ts. all_links 0 (i.at 3) ts >>= λ l. listed o x l.0 l.1) (closed o x) (λ f v. refl)
     (binding (all_links 0 (i.at 3)) _ (linking (i.at 3) (inner.at 3) 0) λ l. listing o x l) (closing o x)
 
 negating : (o : Option Inner) → MayRead o → (n : Token) → IsReader (negated_at o n)

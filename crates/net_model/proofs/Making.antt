@@ -6,7 +6,7 @@ use Rattle.net_tree.specs.declared.expr.Expr.{Expr}
 use Rattle.net_tree.specs.declared.expr.Expr.TheVariants as e
 use Rattle.net_tree.specs.declared.expr.Braces.TheVariants as b
 use Rattle.net_tree.specs.declared.expr.Link.{Link, roll-Link}
-use Rattle.net_tree.specs.declared.expr.Operator.{Operator}
+use Rattle.net_tree.specs.declared.operator.Words.{Words as Operator}
 use Rattle.net_tree.specs.declared.expr.Braces.TheFolds.{fold-roll-Series, fold-roll-Link}
 use Rattle.net_tree.specs.declared.expr.Part.{Part}
 use Rattle.net_tree.specs.declared.expr.Series.{Series, roll-Series, out-Series}

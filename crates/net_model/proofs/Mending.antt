@@ -3,9 +3,9 @@ use Rattle.std.specs.Prelude.{◌≡◌, ◌≤◌, ℕ, suc, Bool, true, false,
 use Rattle.std.proofs.Common.{refl, sym, ap, ◌∙◌, arith, subst}
 use Rattle.net_lex.specs.declared.token.Token.{Token}
 use Rattle.net_tree.specs.Role.{role_of}
-use Rattle.net_model.specs.declared.stop.Awaiting.{Awaiting}
-use Rattle.net_model.specs.declared.stop.Stop.{Stop}
-use Rattle.net_model.specs.declared.stop.Stop.TheVariants as stops
+use Rattle.net_model.specs.declared.parse_error.Awaiting.{Awaiting}
+use Rattle.net_model.specs.declared.parse_error.ParseError.{ParseError}
+use Rattle.net_model.specs.declared.parse_error.ParseError.TheVariants as stops
 use Rattle.net_model.specs.Meaning.{announces}
 use Rattle.net_model.specs.Reading.{Tokens, Read, ◌>>=◌, refused, too_deep}
 use Rattle.net_model.proofs.Readers.{put_before, twice-before}
@@ -50,14 +50,14 @@ pub record Opening {A : Type 0} (K : Written A) (d : ℕ) (w : Tokens → Tokens
   pub shallow : Shallow K d w before
   pub goes_on : Sometime K d w (put_before before (token ∷ []))
 
-abbrev pub Mended : {A : Type 0} → Written A → ℕ → (Tokens → Tokens) → Tokens → Stop → Type 0
+abbrev pub Mended : {A : Type 0} → Written A → ℕ → (Tokens → Tokens) → Tokens → ParseError → Type 0
 Mended K d w ts stops.OutOfMemory = Unit {0}
 Mended K d w ts (stops.Refused n a) = Before K d w ts n
 Mended K d w ts (stops.TooDeep n) = Opening K d w ts n
 
 -- where this stops, what was read before it, after w, begins a thing
 abbrev pub Mending : {A : Type 0} → Written A → ℕ → (Tokens → Tokens) → Tokens → Read A → Type 0
-Mending K d w ts p = (s : Stop) → p ≡ Err s → Mended K d w ts s
+Mending K d w ts p = (s : ParseError) → p ≡ Err s → Mended K d w ts s
 
 abbrev pub same : Tokens → Tokens
 same r = r
@@ -103,7 +103,7 @@ shallow K L m d w v ends (announced front word is announces b c) =
     (subst P (moved-suc m d) (through K L (suc d) (moved m (suc d)) w v c (ends (suc d) c.thing (omega arith) c.fits)))
 
 -- a part stops
-part-stops : {A B : Type 0} (K : Written A) (L : Written B) (m : Move) (d : ℕ) (w : Tokens → Tokens) (ts : Tokens) (s : Stop) → Ended K L m d w → Mended K d same ts s → Mended L (moved m d) w ts s
+part-stops : {A B : Type 0} (K : Written A) (L : Written B) (m : Move) (d : ℕ) (w : Tokens → Tokens) (ts : Tokens) (s : ParseError) → Ended K L m d w → Mended K d same ts s → Mended L (moved m d) w ts s
 part-stops K L m d w ts stops.OutOfMemory ends h = tt
 part-stops K L m d w ts (stops.Refused n a) ends h = record { before = h.before; left = h.left; text = h.text; size = h.size; begun = sometime K L m d w h.before ends h.begun }
 part-stops K L m d w ts (stops.TooDeep n) ends h = record {
@@ -126,7 +126,7 @@ behind-shallow K L d w x v (announced front word is announces b c) =
     announced (K.put x front) word (sym (K.front x front (word ∷ [])) ∙ ap (K.put x) is) announces (behind K L d w x front b) (behind K L (suc d) w x v c)
 
 -- what follows a part stops
-pub rest-stops : {A B : Type 0} (K : Written A) (L : Written B) (d : ℕ) (w : Tokens → Tokens) (x : A) (ts r : Tokens) (s : Stop) → ts ≡ K.put x r → Mended L d (λ r. w (K.put x r)) r s → Mended L d w ts s
+pub rest-stops : {A B : Type 0} (K : Written A) (L : Written B) (d : ℕ) (w : Tokens → Tokens) (x : A) (ts r : Tokens) (s : ParseError) → ts ≡ K.put x r → Mended L d (λ r. w (K.put x r)) r s → Mended L d w ts s
 rest-stops K L d w x ts r stops.OutOfMemory is h = tt
 rest-stops K L d w x ts r (stops.Refused n a) is h = record {
   before = K.put x h.before;
@@ -152,7 +152,7 @@ pub record Behind {A B : Type 0} (K : Written A) (L : Written B) (d : ℕ) (w : 
 
 pub then_mends : {A B : Type 0} (K : Written A) (L : Written B) (m : Move) (d : ℕ) (w : Tokens → Tokens) (ts : Tokens) (p : Read A) (g : A × Tokens → Read B)
     → Mending K d same ts p
-    → ((s : Stop) → p ≡ Err s → Ended K L m d w)
+    → ((s : ParseError) → p ≡ Err s → Ended K L m d w)
     → ((x : A × Tokens) → p ≡ Ok x → Behind K L (moved m d) w ts x (g x))
     → Mending L (moved m d) w ts (p >>= g)
 then_mends K L m d w ts (Ok x) g first ends after s h = let b = after x refl in rest-stops K L (moved m d) w x.0 ts x.1 s b.text (b.mends s h)
@@ -164,8 +164,8 @@ then_mends {A} K L m d w ts (Err t) g first ends after s h =
 -- and where what follows only tells what was read
 pub last_mends : {A B : Type 0} (K : Written A) (L : Written B) (m : Move) (d : ℕ) (w : Tokens → Tokens) (ts : Tokens) (p : Read A) (g : A × Tokens → Read B)
     → Mending K d same ts p
-    → ((s : Stop) → p ≡ Err s → Ended K L m d w)
-    → ((x : A × Tokens) (s : Stop) → g x ≡ Err s → ⊥)
+    → ((s : ParseError) → p ≡ Err s → Ended K L m d w)
+    → ((x : A × Tokens) (s : ParseError) → g x ≡ Err s → ⊥)
     → Mending L (moved m d) w ts (p >>= g)
 last_mends K L m d w ts (Ok x) g first ends reads s h = absurd (reads x s h)
 last_mends {A} K L m d w ts (Err t) g first ends reads s h =
@@ -212,7 +212,7 @@ pub recast_mends : {A : Type 0} (K L : Written A) → ((k : ℕ) (x : A) → K.f
     → (d : ℕ) (w : Tokens → Tokens) (ts : Tokens) (p : Read A) → Mending K d w ts p → Mending L d w ts p
 recast_mends K L fits text d w ts p mends s h = by s (mends s h)
   where
-    by : (s : Stop) → Mended K d w ts s → Mended L d w ts s
+    by : (s : ParseError) → Mended K d w ts s → Mended L d w ts s
     by stops.OutOfMemory m = tt
     by (stops.Refused n a) m = record { before = m.before; left = m.left; text = m.text; size = m.size; begun = (m.begun.0, m.begun.1, recast K L fits text m.begun.0 w m.before m.begun.2) }
     by (stops.TooDeep n) m = record {

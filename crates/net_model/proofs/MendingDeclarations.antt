@@ -13,8 +13,8 @@ use Rattle.net_tree.specs.Print.{put, put_part, put_indexing, put_phrases, put_c
 use Rattle.net_tree.specs.Depth.{indexing_depth, declaration_depth}
 use Rattle.net_tree.specs.Declarations.{IsIndexing, IsDeclaration}
 use Rattle.net_model.specs.declared.phrase.Owner.TheVariants as owners
-use Rattle.net_model.specs.declared.sort.Sort.TheVariants as sorts
-use Rattle.net_model.specs.declared.stop.Awaiting.TheVariants as awaiting
+use Rattle.net_model.specs.declared.expected.Expected.TheVariants as sorts
+use Rattle.net_model.specs.declared.parse_error.Awaiting.TheVariants as awaiting
 use Rattle.net_model.specs.Reading.{Tokens, next_is}
 use Rattle.net_model.specs.Expressions.{Inner, climb, unary, wide, braces, part_at, inside}
 use Rattle.net_model.specs.Phrases.{phrases, phrases_end}

@@ -8,11 +8,11 @@ use Rattle.net_tree.specs.Role.{role_of, is_name, is_not, is_if, is_open, is_ope
 use Rattle.net_tree.specs.Tree.{Tree, Braces, leaf, indexed, parens, negated, braced, signed, reduced, choice, absent, empty, valued}
 use Rattle.net_tree.specs.Print.{put, put_braces}
 use Rattle.net_tree.specs.Depth.{depth}
-use Rattle.net_tree.specs.Level.{rank, IsLevel}
+use Rattle.net_tree.specs.WellFormed.{precedence, IsWellFormed}
 use Rattle.net_tree.specs.Phrases.{IsReference}
-use Rattle.net_model.specs.declared.sort.Sort.TheVariants as sorts
-use Rattle.net_model.specs.declared.stop.Awaiting.TheVariants as awaiting
-use Rattle.net_model.specs.declared.stop.Stop.TheVariants as stops
+use Rattle.net_model.specs.declared.expected.Expected.TheVariants as sorts
+use Rattle.net_model.specs.declared.parse_error.Awaiting.TheVariants as awaiting
+use Rattle.net_model.specs.declared.parse_error.ParseError.TheVariants as stops
 use Rattle.net_model.specs.Meaning.{announces}
 use Rattle.net_model.specs.Reading.{Tokens, Read, ◌>>=◌, read_as, refused, too_deep, next_is}
 use Rattle.net_model.specs.Expressions.{Inner, climb, named_at, not_shut, negated_at, braces_at, braces, reduced_at, unary_at, unary, if_at, wide, inner_of, inside}
@@ -31,7 +31,7 @@ announced_mends K d n t ts announces b c more s h =
     let e : stops.TooDeep (length (t ∷ ts)) ≡ s = cc in
     subst (Mended K d same (n ∷ t ∷ ts)) e (record { before = n ∷ []; token = t; after = ts; text = refl; size = refl; shallow = announced [] n refl announces b c; goes_on = more })
 
--- a name alone begins an expression of any rank
+-- a name alone begins an expression of any precedence
 name_begun : (Fits : ℕ → Type 0) (k : ℕ) → Fits 0 → Begun (tree Fits) k same []
 name_begun Fits k fits = record { thing = a_name; fits = (a_name_level, omega arith, fits); rest = filler sorts.Name ∷ []; text = λ r. refl }
 
@@ -75,7 +75,7 @@ negated-shut d n nots (t ∷ ts) =
     (λ opens. announced_mends (tree (UpTo 1)) d n t ts (not_announces (role_of n) nots) (name_begun (UpTo 1) d (omega arith)) (told (suc d) n (not_begun d n nots)) (negated_begun d n t nots opens))
     (λ b. passed_mends (tree (UpTo 1)) d same n (t ∷ ts) _ (refused_mends (tree (UpTo 1)) d (λ r. n ∷ r) (t ∷ ts) awaiting.Other (suc d, omega arith, not_begun d n nots)))
 
-reference_level : (x : Tree) → IsReference (valued x) → IsLevel x × (rank x ≤ 1)
+reference_level : (x : Tree) → IsReference (valued x) → IsWellFormed x × (precedence x ≤ 1)
 reference_level (leaf t) h = (name-leaf (role_of t) h, omega arith)
 reference_level (indexed n o x l c) h = (h, omega arith)
 reference_level x h = absurd h
@@ -120,7 +120,7 @@ reduction_begun k w o deep reduces opens = record {
   text = λ r. refl;
 }
 
-opened_begun : (d : ℕ) (t : Token) (x : Tree) (rest : Tokens) → IsLevel x → depth x ≤ 2 → rank x ≤ 1 → ((r : Tokens) → put x r ≡ t ∷ put_before rest r) → Sometime (tree (UpTo 1)) d same (t ∷ [])
+opened_begun : (d : ℕ) (t : Token) (x : Tree) (rest : Tokens) → IsWellFormed x → depth x ≤ 2 → precedence x ≤ 1 → ((r : Tokens) → put x r ≡ t ∷ put_before rest r) → Sometime (tree (UpTo 1)) d same (t ∷ [])
 opened_begun d t x rest level deep fits text = (suc (suc d), omega arith, record { thing = x; fits = (level, omega (arith, deep), fits); rest = rest; text = text })
 
 unary_at-shut : (d : ℕ) (r : Role) (t : Token) → role_of t ≡ r → (ts : Tokens) → Mending (tree (UpTo 1)) d same (t ∷ ts) (unary_at None r t ts)
@@ -154,7 +154,7 @@ unfolding unary
 unary-shut d [] = refused_mends (tree (UpTo 1)) d same [] awaiting.Other (d, omega arith, name_begun (UpTo 1) d (omega arith))
 unary-shut d (t ∷ ts) = unary_at-shut d (role_of t) t refl ts
 
--- an `if`, or an expression of a rank
+-- an `if`, or an expression of a precedence
 if-inside : (d n : ℕ) (i : Inner) → SoundInner d i → MendInner d i → (ts : Tokens) → next_is is_if ts ≡ true → Mending (tree (Wide n)) (suc d) same ts (if_at (Some i) ts)
 unfolding if_at
 if-inside d n i sound mends [] ifs = absurd (cc)

@@ -3,18 +3,18 @@ use Rattle.std.specs.Prelude.{◌≡◌, ◌≤◌, ◌<◌, ℕ, zero, suc, Boo
 use Rattle.std.proofs.Common.{refl, arith, subst}
 use Rattle.std.proofs.lemmas.Bool.{eqb-true}
 use Rattle.net_lex.specs.declared.token.Token.{Token}
-use Rattle.net_tree.specs.declared.expr.Operator.{Operator}
-use Rattle.net_tree.specs.declared.expr.Operator.TheVariants.{One, Two}
+use Rattle.net_tree.specs.declared.operator.Words.{Words as Operator}
+use Rattle.net_tree.specs.declared.operator.Words.TheVariants.{One, Two}
 use Rattle.net_tree.specs.Role.{role_of, is_not}
 use Rattle.net_tree.specs.Tree.{Tree, Links, none, link, chain, absent, part}
 use Rattle.net_tree.specs.Print.{put, put_links, put_operator}
 use Rattle.net_tree.specs.Depth.{depth, links_depth}
-use Rattle.net_tree.specs.Level.{rank, room, joins, head_of, IsOperator, IsLevel, AreLevel}
-use Rattle.net_model.specs.declared.sort.Sort.{Sort}
-use Rattle.net_model.specs.declared.sort.Sort.TheVariants as sorts
-use Rattle.net_model.specs.declared.stop.Awaiting.{Awaiting}
-use Rattle.net_model.specs.declared.stop.Awaiting.TheVariants as awaiting
-use Rattle.net_model.specs.declared.stop.Stop.{Stop}
+use Rattle.net_tree.specs.WellFormed.{precedence, room, joins, head_of, IsOperator, IsWellFormed, AreWellFormed}
+use Rattle.net_model.specs.declared.expected.Expected.{Expected}
+use Rattle.net_model.specs.declared.expected.Expected.TheVariants as sorts
+use Rattle.net_model.specs.declared.parse_error.Awaiting.{Awaiting}
+use Rattle.net_model.specs.declared.parse_error.Awaiting.TheVariants as awaiting
+use Rattle.net_model.specs.declared.parse_error.ParseError.{ParseError}
 use Rattle.net_model.specs.Reading.{Tokens, Read, ◌>>=◌, read_as, next_is, is_sort, expect}
 use Rattle.net_model.specs.Expressions.{Reader, operator_at, links, all_links, chain_at, climb, present_at, part_at}
 use Rattle.net_model.proofs.Tools.{expect-sound}
@@ -26,7 +26,7 @@ use Rattle.net_model.proofs.Fillers.{filler, fills, a_name, a_name_level, token,
 abbrev pub Mends : {A : Type 0} → Written A → ℕ → (Tokens → Read A) → Type 0
 Mends K d p = (ts : Tokens) → Mending K d same ts (p ts)
 
-pub expect-mends : (s : Sort) (a : Awaiting) (d : ℕ) → Mends (token s) d (expect s a)
+pub expect-mends : (s : Expected) (a : Awaiting) (d : ℕ) → Mends (token s) d (expect s a)
 unfolding expect
 expect-mends s a d [] = refused_mends (token s) d same [] a (d, omega arith, record { thing = filler s; fits = fills s; rest = filler s ∷ []; text = λ r. refl })
 expect-mends s a d (t ∷ ts) =
@@ -34,7 +34,7 @@ expect-mends s a d (t ∷ ts) =
     (λ b. refused_mends (token s) d same (t ∷ ts) a (d, omega arith, record { thing = filler s; fits = fills s; rest = filler s ∷ []; text = λ r. refl }))
 
 -- a token that is awaited, and what comes behind it
-pub expect_then : {B : Type 0} (s : Sort) (a : Awaiting) (L : Written B) (d : ℕ) (w : Tokens → Tokens) (ts : Tokens) (g : Token × Tokens → Read B)
+pub expect_then : {B : Type 0} (s : Expected) (a : Awaiting) (L : Written B) (d : ℕ) (w : Tokens → Tokens) (ts : Tokens) (g : Token × Tokens → Read B)
     → ((k : ℕ) (t : Token) → d ≤ k → is_sort s (role_of t) ≡ true → Begun L k (λ r. w (t ∷ r)) [])
     → ((t : Token) (r : Tokens) → is_sort s (role_of t) ≡ true → Mending L d (λ q. w (t ∷ q)) r (g (t, r)))
     → Mending L d w ts (expect s a ts >>= g)
@@ -43,9 +43,9 @@ expect_then s a L d w ts g ends after =
     (λ x e. let sx = expect-sound s a ts x e in record { text = sx.text; mends = after x.0 x.1 sx.sort })
 
 -- a token that is awaited at the end
-pub expect_last : {B : Type 0} (s : Sort) (a : Awaiting) (L : Written B) (d : ℕ) (w : Tokens → Tokens) (ts : Tokens) (g : Token × Tokens → Read B)
+pub expect_last : {B : Type 0} (s : Expected) (a : Awaiting) (L : Written B) (d : ℕ) (w : Tokens → Tokens) (ts : Tokens) (g : Token × Tokens → Read B)
     → ((k : ℕ) (t : Token) → d ≤ k → is_sort s (role_of t) ≡ true → Begun L k (λ r. w (t ∷ r)) [])
-    → ((x : Token × Tokens) (s : Stop) → g x ≡ Err s → ⊥)
+    → ((x : Token × Tokens) (s : ParseError) → g x ≡ Err s → ⊥)
     → Mending L d w ts (expect s a ts >>= g)
 expect_last s a L d w ts g ends reads = last_mends (token s) L here d w ts (expect s a ts) g (expect-mends s a d ts) (λ stop e. ends) reads
 
@@ -60,7 +60,7 @@ operator-mends d j k (t ∷ ts) joined =
     (λ u s h. cc)))
     (λ b. read_mends (operator j k) d same (t ∷ ts) (One t, ts))
 
-stops-joined : (turns j k : ℕ) (p : Reader) (ts : Tokens) (s : Stop) → links turns j k p ts ≡ Err s → next_is (joins j k) ts ≡ true
+stops-joined : (turns j k : ℕ) (p : Reader) (ts : Tokens) (s : ParseError) → links turns j k p ts ≡ Err s → next_is (joins j k) ts ≡ true
 stops-joined zero j k p ts s h = absurd (cc)
 stops-joined (suc turns) j k p ts s h = by (next_is (joins j k) ts) refl h
   where
@@ -73,11 +73,11 @@ product_next k [] = refl
 product_next k (t ∷ ts) = joins_product k 0 (role_of t)
 
 -- an operand behind which links go on has room for them
-room-open : (j n k : ℕ) (x : Tree) (l : Links) (ts : Tokens) → (n ≡ 1 → j ≡ 1) → rank x ≤ n → (rank x ≡ 1 → next_is (joins 1 0) ts ≡ false) → next_is (joins j k) ts ≡ true → rank x ≤ room n l
+room-open : (j n k : ℕ) (x : Tree) (l : Links) (ts : Tokens) → (n ≡ 1 → j ≡ 1) → precedence x ≤ n → (precedence x ≡ 1 → next_is (joins 1 0) ts ≡ false) → next_is (joins j k) ts ≡ true → precedence x ≤ room n l
 room-open j n k x none ts own fits ended joined = fits
 room-open j n k x (link o y l) ts own fits ended joined = by (nat_eq n 1) refl
   where
-    not_one : n ≡ 1 → rank x ≡ 1 → ⊥
+    not_one : n ≡ 1 → precedence x ≡ 1 → ⊥
     not_one e f =
         let J : ℕ → Type 0 = λ m. next_is (joins m k) ts ≡ true in
         let yes = subst J (own e) joined in
@@ -85,8 +85,8 @@ room-open j n k x (link o y l) ts own fits ended joined = by (nat_eq n 1) refl
         let alike = product_next k ts in
         cc
 
-    by : (b : Bool) → nat_eq n 1 ≡ b → rank x ≤ cond b 0 n
-    by true e = let is : n ≡ 1 = eqb-true n 1 e in let open' : rank x ≡ 1 → ⊥ = not_one is in omega (arith, open')
+    by : (b : Bool) → nat_eq n 1 ≡ b → precedence x ≤ cond b 0 n
+    by true e = let is : n ≡ 1 = eqb-true n 1 e in let open' : precedence x ≡ 1 → ⊥ = not_one is in omega (arith, open')
     by false e = fits
 
 head_joins : (j k : ℕ) (o : Operator) (r : Tokens) → next_is (joins j k) (put_operator o r) ≡ true → joins j k (role_of (head_of o)) ≡ true
@@ -124,7 +124,7 @@ links-mends d j n p operand sound own (suc turns) k ts =
         })
 
 -- a chain, where links were begun behind the first operand
-pub chained_begun : (n k : ℕ) (x : Tree) (l : Links) → 0 < n → n < 10 → IsLevel x → depth x ≤ k → rank x ≤ n → rank x ≤ room n l → AreLevel n n 0 l → links_depth l ≤ k
+pub chained_begun : (n k : ℕ) (x : Tree) (l : Links) → 0 < n → n < 10 → IsWellFormed x → depth x ≤ k → precedence x ≤ n → precedence x ≤ room n l → AreWellFormed n n 0 l → links_depth l ≤ k
     → Begun (tree (UpTo (suc n))) k (λ r. put x (put_links l r)) []
 chained_begun n k x none low high level within fits room links deep = record { thing = x; fits = (level, within, omega (arith, fits)); rest = []; text = λ r. refl }
 chained_begun n k x (link o y l) low high level within fits room links deep =
@@ -153,7 +153,7 @@ climb-mends d (suc zero) u unary sound low high = unary
 climb-mends d (suc (suc n)) u unary sound low high =
     chain-mends d (suc n) (climb (suc n) u) (climb-mends d (suc n) u unary sound (omega arith) (omega arith)) (climb-sound d (suc n) u (omega arith) (omega arith) sound) (omega arith) (omega arith)
 
-pub part-mends : (d : ℕ) (s : Sort) (Fits : ℕ → Type 0) (p : Reader) → Mends (tree Fits) d p → Mends (part_of s Fits) d (part_at s p)
+pub part-mends : (d : ℕ) (s : Expected) (Fits : ℕ → Type 0) (p : Reader) → Mends (tree Fits) d p → Mends (part_of s Fits) d (part_at s p)
 unfolding part_at present_at
 part-mends d s Fits p value [] = read_mends (part_of s Fits) d same [] (absent, [])
 part-mends d s Fits p value (t ∷ ts) =

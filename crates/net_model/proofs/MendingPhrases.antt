@@ -7,15 +7,15 @@ use Rattle.net_tree.specs.Role.{role_of, keys, is_name, is_comma, is_semicolon}
 use Rattle.net_tree.specs.Tree.{leaf, Body, plain, valued, priced, Phrase}
 use Rattle.net_tree.specs.Print.{put_optional, put_body, put_phrases}
 use Rattle.net_tree.specs.Depth.{body_depth, phrases_depth}
-use Rattle.net_tree.specs.Level.{rank}
+use Rattle.net_tree.specs.WellFormed.{precedence}
 use Rattle.net_tree.specs.Phrases.{IsOptionalComma, ArePhrases}
 use Rattle.net_model.specs.declared.phrase.Owner.{Owner}
 use Rattle.net_model.specs.declared.phrase.Owner.TheVariants as owners
 use Rattle.net_model.specs.declared.phrase.Slot.{Slot}
 use Rattle.net_model.specs.declared.phrase.Slot.TheVariants as slots
 use Rattle.net_model.specs.declared.phrase.Stood.{Stood}
-use Rattle.net_model.specs.declared.sort.Sort.TheVariants as sorts
-use Rattle.net_model.specs.declared.stop.Awaiting.TheVariants as awaiting
+use Rattle.net_model.specs.declared.expected.Expected.TheVariants as sorts
+use Rattle.net_model.specs.declared.parse_error.Awaiting.TheVariants as awaiting
 use Rattle.net_model.specs.Reading.{Tokens, Read, ◌>>=◌, read_as, refused, expect}
 use Rattle.net_model.specs.Expressions.{Inner, climb, unary, wide, named_at}
 use Rattle.net_model.specs.Phrases.{slot_of, stood_before, and_then_stood, nothing_stood, phrase_next, awaited, body_of, phrase_of_slot, worded, comma_at, phrase_at, phrases, phrases_end}
@@ -82,7 +82,7 @@ body-mends d o m slots.Sum ts =
     (λ x s h. cc)
 body-mends d o m slots.Value ts =
     last_mends (tree (Wide 7)) (body_kind slots.Value) here d same ts (wide o 7 ts) _ (m.wide 7 (omega arith) (omega arith) ts)
-    (λ s e k x le f. record { thing = valued x; fits = ((f.0, wide_value (rank x) f.2), f.1); rest = []; text = λ r. refl })
+    (λ s e k x le f. record { thing = valued x; fits = ((f.0, wide_value (precedence x) f.2), f.1); rest = []; text = λ r. refl })
     (λ x s h. cc)
 body-mends d o m slots.Node ts = node-mends d o m ts
 body-mends d o m slots.Price ts =

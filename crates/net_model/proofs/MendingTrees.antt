@@ -7,10 +7,10 @@ use Rattle.net_tree.specs.Role.{role_of, is_name, is_not, is_if, is_open, is_ope
 use Rattle.net_tree.specs.Tree.{Tree, Links, Part, leaf, indexed, parens, tuple, negated, choice, none, link, absent, part, empty, filled, valued}
 use Rattle.net_tree.specs.Print.{put, put_links, put_part}
 use Rattle.net_tree.specs.Depth.{depth, links_depth}
-use Rattle.net_tree.specs.Level.{rank, IsLevel, AreLevel, IsElse}
+use Rattle.net_tree.specs.WellFormed.{precedence, IsWellFormed, AreWellFormed, IsElse}
 use Rattle.net_tree.specs.Phrases.{IsReference}
-use Rattle.net_model.specs.declared.sort.Sort.TheVariants as sorts
-use Rattle.net_model.specs.declared.stop.Awaiting.TheVariants as awaiting
+use Rattle.net_model.specs.declared.expected.Expected.TheVariants as sorts
+use Rattle.net_model.specs.declared.parse_error.Awaiting.TheVariants as awaiting
 use Rattle.net_model.specs.Reading.{Tokens, next_is, is_sort}
 use Rattle.net_model.specs.Expressions.{Inner, all_links, part_at, is_subscripted, subscripts_at, named_at, closed, listed, parens_from, parens_at, negated_at, is_hollow, hollow_at, items_at, braces_at, braces, reduced_at, choice_at}
 use Rattle.net_model.proofs.LinksSound.{UpTo, links-sound}
@@ -101,20 +101,20 @@ wide_eleven : (r : ℕ) → Wide 10 r → r ≤ 11
 wide_eleven r (inl h) = omega (arith, h)
 wide_eleven r (inr h) = omega (arith, h)
 
-closed-mends : (d : ℕ) (o : Token) (x : Tree) (ts : Tokens) → is_open (role_of o) ≡ true → IsLevel x → depth x ≤ d → rank x ≤ 11 → Mending (tree (UpTo 0)) (suc d) (λ r. o ∷ put x r) ts (closed o x ts)
+closed-mends : (d : ℕ) (o : Token) (x : Tree) (ts : Tokens) → is_open (role_of o) ≡ true → IsWellFormed x → depth x ≤ d → precedence x ≤ 11 → Mending (tree (UpTo 0)) (suc d) (λ r. o ∷ put x r) ts (closed o x ts)
 closed-mends d o x ts opens level deep fits =
     expect_last sorts.Close awaiting.Other (tree (UpTo 0)) (suc d) (λ r. o ∷ put x r) ts _
     (λ k c le is. record { thing = parens o x c; fits = ((opens, level, fits, is), omega (arith, deep, le), omega arith); rest = []; text = λ r. refl })
     (λ c s h. cc)
 
-listed_begun : (k : ℕ) (o : Token) (x : Tree) (l : Links) (c : Token) → is_open (role_of o) ≡ true → IsLevel x → depth x < k → rank x ≤ 3 → AreLevel 0 3 0 l → links_depth l < k → is_sort sorts.Close (role_of c) ≡ true
+listed_begun : (k : ℕ) (o : Token) (x : Tree) (l : Links) (c : Token) → is_open (role_of o) ≡ true → IsWellFormed x → depth x < k → precedence x ≤ 3 → AreWellFormed 0 3 0 l → links_depth l < k → is_sort sorts.Close (role_of c) ≡ true
     → Begun (tree (UpTo 0)) k (λ r. o ∷ put x (put_links l r)) []
 listed_begun k o x none c opens level deep low links narrow shuts =
     record { thing = parens o x c; fits = ((opens, level, omega (arith, low), shuts), omega (arith, deep), omega arith); rest = c ∷ []; text = λ r. refl }
 listed_begun k o x (link p y l) c opens level deep low links narrow shuts =
     record { thing = tuple o x (link p y l) c; fits = ((opens, level, low, tt, links, shuts), omega (arith, deep, narrow), omega arith); rest = c ∷ []; text = λ r. refl }
 
-listed-mends : (d : ℕ) (o : Token) (x : Tree) (l : Links) (ts : Tokens) → is_open (role_of o) ≡ true → IsLevel x → depth x ≤ d → rank x ≤ 3 → AreLevel 0 3 0 l → links_depth l ≤ d
+listed-mends : (d : ℕ) (o : Token) (x : Tree) (l : Links) (ts : Tokens) → is_open (role_of o) ≡ true → IsWellFormed x → depth x ≤ d → precedence x ≤ 3 → AreWellFormed 0 3 0 l → links_depth l ≤ d
     → Mending (tree (UpTo 0)) (suc d) (λ r. o ∷ put x (put_links l r)) ts (listed o x l ts)
 listed-mends d o x none ts opens level deep low links narrow = closed-mends d o x ts opens level deep (omega (arith, low))
 listed-mends d o x (link p y l) ts opens level deep low links narrow =
@@ -129,7 +129,7 @@ parens-mends d i sound mends o opens ts =
     (then_mends (tree (Wide 10)) (tree (UpTo 0)) inward d (λ r. o ∷ r) ts (i.wide 10 ts) _ (mends.wide 10 (omega arith) (omega arith) ts)
     (λ s e k x le f. record {
       thing = parens o x (filler sorts.Close);
-      fits = ((opens, f.0, wide_eleven (rank x) f.2, fills sorts.Close), omega (arith, f.1), omega arith);
+      fits = ((opens, f.0, wide_eleven (precedence x) f.2, fills sorts.Close), omega (arith, f.1), omega arith);
       rest = filler sorts.Close ∷ [];
       text = λ r. refl;
     })
@@ -138,15 +138,15 @@ parens-mends d i sound mends o opens ts =
     record {
       text = sx.text;
       mends =
-          choose_mends (tree (UpTo 0)) (suc d) (λ r. o ∷ put x.0 r) x.1 (nat_le (rank x.0) 3) _ _
+          choose_mends (tree (UpTo 0)) (suc d) (λ r. o ∷ put x.0 r) x.1 (nat_le (precedence x.0) 3) _ _
           (λ b.
-          let low = leb-true (rank x.0) 3 b in
+          let low = leb-true (precedence x.0) 3 b in
           then_mends (links_of 0 3 0) (tree (UpTo 0)) inward d (λ r. o ∷ put x.0 r) x.1 (all_links 0 (i.at 3) x.1) _ (list-mends d 3 i sound mends (omega arith) (omega arith) x.1)
           (λ s e k l le f. listed_begun (suc k) o x.0 l (filler sorts.Close) opens sx.level (omega (arith, sx.within, le)) low f.0 (omega (arith, f.1)) (fills sorts.Close))
           (λ l e.
           let sl = links-sound d 0 3 (i.at 3) (sound.at 3 (omega arith) (omega arith)) (λ e. absurd (omega arith)) (length x.1) 0 x.1 l (omega arith) e in
           record { text = sl.text; mends = listed-mends d o x.0 l.0 l.1 opens sx.level sx.within low sl.level sl.within }))
-          (λ b. closed-mends d o x.0 x.1 opens sx.level sx.within (wide_eleven (rank x.0) sx.fits));
+          (λ b. closed-mends d o x.0 x.1 opens sx.level sx.within (wide_eleven (precedence x.0) sx.fits));
     }))
 
 -- behind `not`
@@ -267,7 +267,7 @@ braces-mends d i sound mends ts =
 -- behind `if`
 part_else : (p : Part) → IsPart sorts.Else (Wide 7) p → IsElse p
 part_else absent h = tt
-part_else (part m x) h = (h.0, h.1, wide_value (rank x) h.2)
+part_else (part m x) h = (h.0, h.1, wide_value (precedence x) h.2)
 
 pub choice-mends : (d : ℕ) (i : Inner) → SoundInner d i → MendInner d i → (w : Token) → is_if (role_of w) ≡ true → (ts : Tokens) → Mending (tree (λ r. r ≡ 11)) (suc d) same (w ∷ ts) (choice_at i w ts)
 unfolding choice_at

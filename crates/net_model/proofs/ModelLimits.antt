@@ -17,11 +17,11 @@ use Rattle.net_model.specs.declared.phrase.Owner.TheVariants as owners
 use Rattle.net_model.specs.declared.phrase.Slot.{Slot}
 use Rattle.net_model.specs.declared.phrase.Slot.TheVariants as slots
 use Rattle.net_model.specs.declared.phrase.Stood.{Stood}
-use Rattle.net_model.specs.declared.sort.Sort.TheVariants as sorts
-use Rattle.net_model.specs.declared.stop.Awaiting.{Awaiting}
-use Rattle.net_model.specs.declared.stop.Awaiting.TheVariants as awaiting
-use Rattle.net_model.specs.declared.stop.Stop.{Stop}
-use Rattle.net_model.specs.declared.stop.Stop.TheVariants as stops
+use Rattle.net_model.specs.declared.expected.Expected.TheVariants as sorts
+use Rattle.net_model.specs.declared.parse_error.Awaiting.{Awaiting}
+use Rattle.net_model.specs.declared.parse_error.Awaiting.TheVariants as awaiting
+use Rattle.net_model.specs.declared.parse_error.ParseError.{ParseError}
+use Rattle.net_model.specs.declared.parse_error.ParseError.TheVariants as stops
 use Rattle.net_model.specs.Reading.{Tokens, ◌>>=◌, read_as, refused, next_is, expect}
 use Rattle.net_model.specs.Rows.{Step, row}
 use Rattle.net_model.specs.Expressions.{Inner, operator_at, chained, climb, part_at, unary, wide, named_at, braces, inside}
@@ -176,7 +176,7 @@ unfolding model_at
 model-agree d e less ts =
     row-agree (declaration_step (inside d)) (declaration_step (inside e)) (λ s. any_left) (declaration-agree (inside d) (inside e) (inside-agree d e less)) (length ts) tt ts
 
-refused_too : {A : Type 0} (p q : Result A Stop) (n : ℕ) (a : Awaiting) → Agree p q → p ≡ Err (stops.Refused n a) → q ≡ Err (stops.Refused n a)
+refused_too : {A : Type 0} (p q : Result A ParseError) (n : ℕ) (a : Awaiting) → Agree p q → p ≡ Err (stops.Refused n a) → q ≡ Err (stops.Refused n a)
 refused_too p q n a (same e) h = sym e ∙ h
 refused_too p q n a (deep m e) h = absurd (let k = sym e ∙ h in cc)
 

@@ -2,7 +2,7 @@
 use Rattle.std.specs.Prelude.{◌≡◌, ◌<◌, Bool, true, false, cond, Option, Some, is_some}
 use Rattle.std.proofs.Common.{refl, ap, arith, subst}
 use Rattle.net_tree.specs.declared.role.Begins.TheVariants as begins
-use Rattle.net_tree.specs.declared.role.Relates.TheVariants as relates
+use Rattle.net_tree.specs.declared.role.Relation.TheVariants as relations
 use Rattle.net_tree.specs.declared.role.Role.{Role}
 use Rattle.net_tree.specs.declared.role.Role.TheVariants as roles
 use Rattle.net_tree.specs.Role.{is_comma, is_else, is_semicolon}
@@ -28,24 +28,26 @@ moved s t b h body = let same : t ≡ s = cc in let P : Slot → Type 0 = λ u. 
 
 set-body : (r : Role) (s : Slot) (b : Body) → set_slot r ≡ Some s → BodyOf s b → OfSet r b
 set-body (roles.Phrase begins.Dimen) s b h body = moved slots.Number s b h body
-set-body (roles.Relation relates.Within) s b h body = moved slots.Set s b h body
+set-body (roles.Relation relations.Within) s b h body = moved slots.Set s b h body
 set-body roles.Becomes s b h body = moved slots.Value s b h body
 set-body _ s b h body = absurd (cc)
 
 param-body : (r : Role) (s : Slot) (b : Body) → param_slot r ≡ Some s → BodyOf s b → OfParam r b
 param-body (roles.Phrase begins.Symbolic) s b h body = moved slots.Nothing s b h body
 param-body (roles.Phrase begins.Integer) s b h body = moved slots.Nothing s b h body
-param-body (roles.Relation relates.AtMost) s b h body = moved slots.Sum s b h body
-param-body (roles.Relation relates.AtLeast) s b h body = moved slots.Sum s b h body
-param-body (roles.Relation relates.Other) s b h body = moved slots.Sum s b h body
-param-body (roles.Relation relates.In) s b h body = moved slots.Set s b h body
+param-body (roles.Relation relations.AtMost) s b h body = moved slots.Sum s b h body
+param-body (roles.Relation relations.AtLeast) s b h body = moved slots.Sum s b h body
+param-body (roles.Relation relations.Less) s b h body = moved slots.Sum s b h body
+param-body (roles.Relation relations.Greater) s b h body = moved slots.Sum s b h body
+param-body (roles.Relation relations.Unequal) s b h body = moved slots.Sum s b h body
+param-body (roles.Relation relations.In) s b h body = moved slots.Set s b h body
 param-body (roles.Phrase begins.Default) s b h body = moved slots.Value s b h body
 param-body roles.Becomes s b h body = moved slots.Value s b h body
 param-body _ s b h body = absurd (cc)
 
 arc-body : (r : Role) (s : Slot) (b : Body) → arc_slot r ≡ Some s → BodyOf s b → OfArc r b
-arc-body (roles.Relation relates.AtMost) s b h body = moved slots.Sum s b h body
-arc-body (roles.Relation relates.AtLeast) s b h body = moved slots.Sum s b h body
+arc-body (roles.Relation relations.AtMost) s b h body = moved slots.Sum s b h body
+arc-body (roles.Relation relations.AtLeast) s b h body = moved slots.Sum s b h body
 arc-body (roles.Phrase begins.Integer) s b h body = moved slots.Nothing s b h body
 arc-body (roles.Phrase begins.From) s b h body = moved slots.Node s b h body
 arc-body (roles.Phrase begins.To) s b h body = moved slots.Node s b h body
@@ -63,24 +65,26 @@ HasSlot slot r b = (s : Slot) × (slot r ≡ Some s) × BodyOf s b
 
 set-has : (r : Role) (b : Body) → OfSet r b → HasSlot set_slot r b
 set-has (roles.Phrase begins.Dimen) b h = (slots.Number, refl, h)
-set-has (roles.Relation relates.Within) b h = (slots.Set, refl, h)
+set-has (roles.Relation relations.Within) b h = (slots.Set, refl, h)
 set-has roles.Becomes b h = (slots.Value, refl, h)
 set-has _ b h = absurd h
 
 param-has : (r : Role) (b : Body) → OfParam r b → HasSlot param_slot r b
 param-has (roles.Phrase begins.Symbolic) b h = (slots.Nothing, refl, h)
 param-has (roles.Phrase begins.Integer) b h = (slots.Nothing, refl, h)
-param-has (roles.Relation relates.AtMost) b h = (slots.Sum, refl, h)
-param-has (roles.Relation relates.AtLeast) b h = (slots.Sum, refl, h)
-param-has (roles.Relation relates.Other) b h = (slots.Sum, refl, h)
-param-has (roles.Relation relates.In) b h = (slots.Set, refl, h)
+param-has (roles.Relation relations.AtMost) b h = (slots.Sum, refl, h)
+param-has (roles.Relation relations.AtLeast) b h = (slots.Sum, refl, h)
+param-has (roles.Relation relations.Less) b h = (slots.Sum, refl, h)
+param-has (roles.Relation relations.Greater) b h = (slots.Sum, refl, h)
+param-has (roles.Relation relations.Unequal) b h = (slots.Sum, refl, h)
+param-has (roles.Relation relations.In) b h = (slots.Set, refl, h)
 param-has (roles.Phrase begins.Default) b h = (slots.Value, refl, h)
 param-has roles.Becomes b h = (slots.Value, refl, h)
 param-has _ b h = absurd h
 
 arc-has : (r : Role) (b : Body) → OfArc r b → HasSlot arc_slot r b
-arc-has (roles.Relation relates.AtMost) b h = (slots.Sum, refl, h)
-arc-has (roles.Relation relates.AtLeast) b h = (slots.Sum, refl, h)
+arc-has (roles.Relation relations.AtMost) b h = (slots.Sum, refl, h)
+arc-has (roles.Relation relations.AtLeast) b h = (slots.Sum, refl, h)
 arc-has (roles.Phrase begins.Integer) b h = (slots.Nothing, refl, h)
 arc-has (roles.Phrase begins.From) b h = (slots.Node, refl, h)
 arc-has (roles.Phrase begins.To) b h = (slots.Node, refl, h)
@@ -100,7 +104,7 @@ pub record IsWord (r : Role) : Type 0 where
 
 phrase-word : (r : Role) → is_some (set_slot r) ≡ true → IsWord r
 phrase-word (roles.Phrase begins.Dimen) h = record { loose = omega arith; no_else = refl; no_comma = refl }
-phrase-word (roles.Relation relates.Within) h = record { loose = omega arith; no_else = refl; no_comma = refl }
+phrase-word (roles.Relation relations.Within) h = record { loose = omega arith; no_else = refl; no_comma = refl }
 phrase-word roles.Becomes h = record { loose = omega arith; no_else = refl; no_comma = refl }
 phrase-word _ h = absurd (cc)
 
@@ -162,25 +166,25 @@ stood to s = s.to
 
 pub stood-after : (f : Single) (s : Stood) (w : Role) → stood f (and_then_stood s w) ≡ cond (is_word f w) true (stood f s)
 stood-after dimen s (roles.Phrase begins.Dimen) = refl
-stood-after dimen s (roles.Relation relates.AtLeast) = refl
+stood-after dimen s (roles.Relation relations.AtLeast) = refl
 stood-after dimen s _ = refl
 stood-after default s (roles.Phrase begins.Dimen) = refl
-stood-after default s (roles.Relation relates.AtLeast) = refl
+stood-after default s (roles.Relation relations.AtLeast) = refl
 stood-after default s _ = refl
 stood-after becomes s (roles.Phrase begins.Dimen) = refl
-stood-after becomes s (roles.Relation relates.AtLeast) = refl
+stood-after becomes s (roles.Relation relations.AtLeast) = refl
 stood-after becomes s _ = refl
 stood-after at_least s (roles.Phrase begins.Dimen) = refl
-stood-after at_least s (roles.Relation relates.AtLeast) = refl
+stood-after at_least s (roles.Relation relations.AtLeast) = refl
 stood-after at_least s _ = refl
 stood-after at_most s (roles.Phrase begins.Dimen) = refl
-stood-after at_most s (roles.Relation relates.AtLeast) = refl
+stood-after at_most s (roles.Relation relations.AtLeast) = refl
 stood-after at_most s _ = refl
 stood-after from s (roles.Phrase begins.Dimen) = refl
-stood-after from s (roles.Relation relates.AtLeast) = refl
+stood-after from s (roles.Relation relations.AtLeast) = refl
 stood-after from s _ = refl
 stood-after to s (roles.Phrase begins.Dimen) = refl
-stood-after to s (roles.Relation relates.AtLeast) = refl
+stood-after to s (roles.Relation relations.AtLeast) = refl
 stood-after to s _ = refl
 
 -- a word that may stand once only stood before, where it stood
@@ -188,8 +192,8 @@ pub stood-single : (o : Owner) (f : Single) (s : Stood) (r : Role) → is_single
 stood-single o dimen s (roles.Phrase begins.Dimen) single h = refl
 stood-single o default s (roles.Phrase begins.Default) single h = refl
 stood-single o becomes s roles.Becomes single h = refl
-stood-single owners.Arc at_least s (roles.Relation relates.AtLeast) single h = refl
-stood-single owners.Arc at_most s (roles.Relation relates.AtMost) single h = refl
+stood-single owners.Arc at_least s (roles.Relation relations.AtLeast) single h = refl
+stood-single owners.Arc at_most s (roles.Relation relations.AtMost) single h = refl
 stood-single o from s (roles.Phrase begins.From) single h = refl
 stood-single o to s (roles.Phrase begins.To) single h = refl
 stood-single o f s r single h = absurd (cc)
@@ -198,19 +202,21 @@ stood-single o f s r single h = absurd (cc)
 pub fresh : (o : Owner) (r : Role) (s : Stood) → is_some (slot_of o r) ≡ true → ((f : Single) → is_single o f ≡ true → is_word f r ≡ true → stood f s ≡ false) → stood_before o s r ≡ false
 fresh owners.Set (roles.Phrase begins.Dimen) s has none = none dimen refl refl
 fresh owners.Set roles.Becomes s has none = none becomes refl refl
-fresh owners.Set (roles.Relation relates.Within) s has none = refl
+fresh owners.Set (roles.Relation relations.Within) s has none = refl
 fresh owners.Set r s has none = absurd (cc)
 fresh owners.Param (roles.Phrase begins.Default) s has none = none default refl refl
 fresh owners.Param (roles.Phrase begins.Symbolic) s has none = refl
 fresh owners.Param (roles.Phrase begins.Integer) s has none = refl
 fresh owners.Param roles.Becomes s has none = none becomes refl refl
-fresh owners.Param (roles.Relation relates.AtMost) s has none = refl
-fresh owners.Param (roles.Relation relates.AtLeast) s has none = refl
-fresh owners.Param (roles.Relation relates.Other) s has none = refl
-fresh owners.Param (roles.Relation relates.In) s has none = refl
+fresh owners.Param (roles.Relation relations.AtMost) s has none = refl
+fresh owners.Param (roles.Relation relations.AtLeast) s has none = refl
+fresh owners.Param (roles.Relation relations.Less) s has none = refl
+fresh owners.Param (roles.Relation relations.Greater) s has none = refl
+fresh owners.Param (roles.Relation relations.Unequal) s has none = refl
+fresh owners.Param (roles.Relation relations.In) s has none = refl
 fresh owners.Param r s has none = absurd (cc)
-fresh owners.Arc (roles.Relation relates.AtLeast) s has none = none at_least refl refl
-fresh owners.Arc (roles.Relation relates.AtMost) s has none = none at_most refl refl
+fresh owners.Arc (roles.Relation relations.AtLeast) s has none = none at_least refl refl
+fresh owners.Arc (roles.Relation relations.AtMost) s has none = none at_most refl refl
 fresh owners.Arc (roles.Phrase begins.From) s has none = none from refl refl
 fresh owners.Arc (roles.Phrase begins.To) s has none = none to refl refl
 fresh owners.Arc (roles.Phrase begins.Integer) s has none = refl

@@ -1,4 +1,4 @@
--- What parse_declarations promises, from what is read.
+-- What parse_model promises, from what is read.
 use Rattle.std.proofs.Common.{◌≡◌, ◌≤◌, ◌<◌, ◌-◌, ◌&&◌, ℕ, Bool, true, false, cond, List, [], ◌∷◌, ◌++◌, length, drop, Option, Ok, Err, refl, sym, ap, ◌∙◌, arith, subst, append-nil, length-append}
 use Rattle.std.proofs.Math.Seq.{drop-append_seam}
 use Rattle.net_fault.specs.declared.span.Span.{Span}
@@ -12,9 +12,9 @@ use Rattle.net_fault.specs.declared.defect.Defect.{Defect}
 use Rattle.net_fault.specs.declared.defect.Defect.TheVariants as defects
 use Rattle.net_fault.specs.declared.fault.Fault.{Fault}
 use Rattle.net_fault.specs.declared.fault.Fault.TheVariants as faults
-use Rattle.net_model.specs.declared.stop.Awaiting.{Awaiting}
-use Rattle.net_model.specs.declared.stop.Stop.{Stop}
-use Rattle.net_model.specs.declared.stop.Stop.TheVariants as stops
+use Rattle.net_model.specs.declared.parse_error.Awaiting.{Awaiting}
+use Rattle.net_model.specs.declared.parse_error.ParseError.{ParseError}
+use Rattle.net_model.specs.declared.parse_error.ParseError.TheVariants as stops
 use Rattle.net_model.specs.Reading.{Tokens, Read, Fails, next_is}
 use Rattle.net_model.specs.Declarations.{model_at, nesting_limit}
 use Rattle.net_model.specs.Faults.{begins_gain, foreign_defect, foreign_for, misplaced, is_behind_node, defect_of, left_of, refused_fault, deep_fault, told, IsToldOf}
@@ -99,7 +99,7 @@ refused_left ts n a h before (t ∷ r) text size begins =
     wrong ts (defect_of a t.kind (role_of t)) t.span (defect-shallow a t.kind (role_of t))
     (at_token before t r text refl begins (λ others. refused_alike before t r others n a (omega (arith, size)) (ap (model_at nesting_limit) text ∙ h)))
 
-stop-within : (ts : Tokens) (s : Stop) → model_at nesting_limit ts ≡ Err s → Within {A = List Declaration × Unit {0}} ts (Err s)
+stop-within : (ts : Tokens) (s : ParseError) → model_at nesting_limit ts ≡ Err s → Within {A = List Declaration × Unit {0}} ts (Err s)
 stop-within ts s h = rw h at ((model_reading 63).within ts)
 
 -- as many tokens from the end on are the same ones
@@ -124,7 +124,7 @@ deep_left ts n h o rest tail size opening =
       deeper = λ others. deep_alike o.before o.token o.after others n (omega (arith, o.size)) (ap (model_at nesting_limit) o.text ∙ h);
     })
 
-pub refused_stop : (ts : Tokens) (s : Stop) → Fails s (model_at nesting_limit ts) → IsRefused ts (told s ts)
+pub refused_stop : (ts : Tokens) (s : ParseError) → Fails s (model_at nesting_limit ts) → IsRefused ts (told s ts)
 refused_stop ts stops.OutOfMemory h = tt
 refused_stop ts (stops.Refused n a) h =
     let b = refused_behind 63 ts n a h in
@@ -132,6 +132,6 @@ refused_stop ts (stops.Refused n a) h =
     rw is (refused_left ts n a h b.before b.left b.text b.size b.begins)
 refused_stop ts (stops.TooDeep n) h = let d = stop-within ts (stops.TooDeep n) h in deep_left ts n h (opened_behind 63 ts n h) d.0 d.1 d.2 d.3
 
-pub refused_told : (ts : Tokens) (s : Stop) (f : Fault) → Fails s (model_at nesting_limit ts) → IsToldOf s ts f → IsRefused ts f
+pub refused_told : (ts : Tokens) (s : ParseError) (f : Fault) → Fails s (model_at nesting_limit ts) → IsToldOf s ts f → IsRefused ts f
 refused_told ts s faults.OutOfMemory h is = tt
 refused_told ts s (faults.At f) h is = subst (IsRefused ts) is (refused_stop ts s h)

@@ -4,9 +4,9 @@ use Rattle.std.proofs.Common.{refl, ap, ◌∙◌, arith}
 use Rattle.net_lex.specs.declared.token.Token.{Token}
 use Rattle.net_tree.specs.declared.role.Role.{Role}
 use Rattle.net_tree.specs.Role.{role_of}
-use Rattle.net_model.specs.declared.sort.Sort.{Sort}
-use Rattle.net_model.specs.declared.stop.Awaiting.{Awaiting}
-use Rattle.net_model.specs.declared.stop.Stop.TheVariants as stops
+use Rattle.net_model.specs.declared.expected.Expected.{Expected}
+use Rattle.net_model.specs.declared.parse_error.Awaiting.{Awaiting}
+use Rattle.net_model.specs.declared.parse_error.ParseError.TheVariants as stops
 use Rattle.net_model.specs.Meaning.{opens}
 use Rattle.net_model.specs.Reading.{Tokens, Read, ◌>>=◌, read_as, refused, too_deep, next_is, is_sort, expect}
 
@@ -192,11 +192,11 @@ heading a p none head = record { within = all; local = forks }
     forks f [] = here f (head f.token)
     forks f (t ∷ v) = before f t v (head t)
 
-expect-head : (s : Sort) (a : Awaiting) (t : Token) (b : Bool) → is_sort s (role_of t) ≡ b → Head t (λ ts. expect s a (t ∷ ts))
+expect-head : (s : Expected) (a : Awaiting) (t : Token) (b : Bool) → is_sort s (role_of t) ≡ b → Head t (λ ts. expect s a (t ∷ ts))
 unfolding expect
 expect-head s a t true e = takes (record { within = λ ts. rw e (tail-self ts); local = λ f v. rw e (reads t v refl refl) })
 expect-head s a t false e = refuses_it a (λ ts. rw e refl)
 
-pub expecting : (s : Sort) (a : Awaiting) → IsReader (expect s a)
+pub expecting : (s : Expected) (a : Awaiting) → IsReader (expect s a)
 unfolding expect
 expecting s a = heading a (expect s a) refl (λ t. expect-head s a t (is_sort s (role_of t)) refl)

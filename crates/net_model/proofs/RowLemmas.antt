@@ -3,8 +3,8 @@ use Rattle.std.specs.Prelude.{◌≡◌, ◌<◌, ◌≤◌, ◌+◌, ◌-◌, �
 use Rattle.std.proofs.Common.{refl, sym, ap, ◌∙◌, arith, length-append, append_assoc}
 use Rattle.std.proofs.lemmas.List.{map-append}
 use Rattle.net_tree.specs.declared.role.Role.{Role}
-use Rattle.net_model.specs.declared.stop.Stop.{Stop}
-use Rattle.net_model.specs.declared.stop.Stop.TheVariants as stops
+use Rattle.net_model.specs.declared.parse_error.ParseError.{ParseError}
+use Rattle.net_model.specs.declared.parse_error.ParseError.TheVariants as stops
 use Rattle.net_model.specs.Reading.{Tokens, Read, ◌>>=◌, read_as, next_is, Fails}
 use Rattle.net_model.specs.Rows.{Step, row, with_row}
 use Rattle.net_model.proofs.Turning.{fails}
@@ -64,7 +64,7 @@ row_turn {X} view found next x whole step more s t ts r all left room h f made b
     ∙ before
 
 -- a step stops
-pub row_stops : {X A S : Type 0} (view : X → A) (found : List X) (whole : ℕ) (step : Step A S) (more : S → Tokens → Bool) (s : S) (ts : Tokens) (all : Read (List A × S)) (stop : Stop)
+pub row_stops : {X A S : Type 0} (view : X → A) (found : List X) (whole : ℕ) (step : Step A S) (more : S → Tokens → Bool) (s : S) (ts : Tokens) (all : Read (List A × S)) (stop : ParseError)
     → 1 ≤ length ts → length found + length ts ≤ whole → more s ts ≡ true
     → with_row (map view found) (row (whole - length found) step more s ts) ≡ all → Fails stop (step s ts) → Fails stop all
 row_stops view found whole step more s ts all stop left room h before stopped =

@@ -1,4 +1,4 @@
--- What is read where so many nestings are left, and for a place of this rank.
+-- What is read where so many nestings are left, and for a place of this precedence.
 use Rattle.std.specs.Prelude.{◌≡◌, ◌<◌, ◌≤◌, ◌-◌, ℕ, zero, suc, Option, None, Some}
 use Rattle.std.proofs.Common.{refl, sym, ap, ◌∙◌, arith}
 use Rattle.net_model.specs.Expressions.{Reader, inside, inner_of, climb, chain_at}

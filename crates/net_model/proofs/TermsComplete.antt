@@ -4,8 +4,8 @@ use Rattle.std.proofs.Common.{refl, sym, ap, ◌∙◌, arith, subst}
 use Rattle.std.proofs.lemmas.Bool.{eqb-true}
 use Rattle.std.proofs.lemmas.Bool.Decides.{nat_tests}
 use Rattle.net_lex.specs.declared.token.Token.{Token}
-use Rattle.net_tree.specs.declared.expr.Operator.{Operator}
-use Rattle.net_tree.specs.declared.expr.Operator.TheVariants.{One, Two}
+use Rattle.net_tree.specs.declared.operator.Words.{Words as Operator}
+use Rattle.net_tree.specs.declared.operator.Words.TheVariants.{One, Two}
 use Rattle.net_tree.specs.declared.role.Role.{Role}
 use Rattle.net_tree.specs.declared.role.Role.TheVariants as roles
 use Rattle.net_tree.specs.Role.{role_of, is_not, is_sign, is_net}
@@ -13,10 +13,10 @@ use Rattle.net_tree.specs.Tree.{Tree, Links, leaf, indexed, parens, tuple, negat
 use Rattle.net_tree.specs.View.{linked}
 use Rattle.net_tree.specs.Print.{put, put_links}
 use Rattle.net_tree.specs.Depth.{depth, links_depth}
-use Rattle.net_tree.specs.Level.{rank, room, IsOperator, IsLevel, AreLevel}
+use Rattle.net_tree.specs.WellFormed.{precedence, room, IsOperator, IsWellFormed, AreWellFormed}
 use Rattle.net_tree.specs.Conditions.{IsFirstTerm, IsFurtherTerm, AreTerms, nets, nets_in, IsNetSum}
-use Rattle.net_model.specs.declared.sort.Sort.TheVariants as sorts
-use Rattle.net_model.specs.declared.stop.Awaiting.TheVariants as awaiting
+use Rattle.net_model.specs.declared.expected.Expected.TheVariants as sorts
+use Rattle.net_model.specs.declared.parse_error.Awaiting.TheVariants as awaiting
 use Rattle.net_model.specs.Reading.{Tokens, next_is}
 use Rattle.net_model.specs.Expressions.{Inner, chained, chain_at, climb, unary_at, unary, inside, inner_of}
 use Rattle.net_model.specs.Conditions.{signed_net_next, net_at, signed_net_at, term_at, first_term_at, further_term_at, sign_next, further_terms, sum_at}
@@ -35,10 +35,10 @@ off : (free test : Bool) → test ≡ false → cond free test false ≡ false
 off true test h = h
 off false test h = refl
 
-term_plain : (d : ℕ) (x : Tree) (free : Bool) (ts : Tokens) → IsLevel x → rank x ≤ 2 → depth x ≤ d → Stops 1 ts → term_at (inside d) free (put x ts) ≡ Ok ((x, free), ts)
+term_plain : (d : ℕ) (x : Tree) (free : Bool) (ts : Tokens) → IsWellFormed x → precedence x ≤ 2 → depth x ≤ d → Stops 1 ts → term_at (inside d) free (put x ts) ≡ Ok ((x, free), ts)
 unfolding term_at
 term_plain d x free ts level fits deep stops =
-    let read = in_place d 2 1 x ts (trees-complete x d) level deep fits (omega arith) (omega arith) (reach-below (rank x) 1 fits (omega arith)) stops in
+    let read = in_place d 2 1 x ts (trees-complete x d) level deep fits (omega arith) (omega arith) (reach-below (precedence x) 1 fits (omega arith)) stops in
     rw (off free (next_is is_net (put x ts)) (climb-no_net 2 (inside d) (put x ts) (x, ts) read), read) refl
 
 taken : (free after : Bool) → 1 + left after ≡ left free → (free ≡ true) × (after ≡ false)
@@ -105,17 +105,17 @@ climb-no_signed_net zero d ts a h = unary-no_signed_net d ts a h
 climb-no_signed_net (suc zero) d ts a h = unary-no_signed_net d ts a h
 climb-no_signed_net (suc (suc n)) d ts a h = let x = bind_ok _ _ _ h in climb-no_signed_net (suc n) d ts x.value x.first
 
-first_plain : (d : ℕ) (x : Tree) (free : Bool) (ts : Tokens) → IsLevel x → rank x ≤ 2 → depth x ≤ d → Stops 1 ts → first_term_at (inside d) free (put x ts) ≡ Ok ((x, free), ts)
+first_plain : (d : ℕ) (x : Tree) (free : Bool) (ts : Tokens) → IsWellFormed x → precedence x ≤ 2 → depth x ≤ d → Stops 1 ts → first_term_at (inside d) free (put x ts) ≡ Ok ((x, free), ts)
 unfolding first_term_at
 first_plain d x free ts level fits deep stops =
-    let read = in_place d 2 1 x ts (trees-complete x d) level deep fits (omega arith) (omega arith) (reach-below (rank x) 1 fits (omega arith)) stops in
+    let read = in_place d 2 1 x ts (trees-complete x d) level deep fits (omega arith) (omega arith) (reach-below (precedence x) 1 fits (omega arith)) stops in
     rw (off free (signed_net_next (put x ts)) (climb-no_signed_net 2 d (put x ts) (x, ts) read)) (term_plain d x free ts level fits deep stops)
 
 net_no_sign : (r : Role) → is_net r ≡ true → is_sign r ≡ false
 net_no_sign roles.Net h = refl
 net_no_sign _ h = absurd (cc)
 
-first_net : (o : Option Inner) (s : Option Token) (w : Token) (ts : Tokens) → IsLevel (net s w) → first_term_at o true (put (net s w) ts) ≡ Ok ((net s w, false), ts)
+first_net : (o : Option Inner) (s : Option Token) (w : Token) (ts : Tokens) → IsWellFormed (net s w) → first_term_at o true (put (net s w) ts) ≡ Ok ((net s w, false), ts)
 unfolding first_term_at signed_net_at
 first_net o None w ts level = rw (net_no_sign (role_of w) level.1) (term_net o w ts level.1)
 first_net o (Some s) w ts level = rw (level.0, level.1, expect-complete sorts.Sign awaiting.Other s (w ∷ ts) level.0, expect-complete sorts.Net awaiting.Other w ts level.1) refl
@@ -218,14 +218,14 @@ record Terms (x : Tree) : Type 0 where
   are_terms : AreTerms more
   no_nets : nets first + nets_in more ≡ 0
 
-further_plain : (x : Tree) → IsLevel x → rank x ≤ 2 → IsFurtherTerm x × (nets x ≡ 0)
+further_plain : (x : Tree) → IsWellFormed x → precedence x ≤ 2 → IsFurtherTerm x × (nets x ≡ 0)
 further_plain x level fits = let p = product x level fits in (p.further, p.no_net)
 
-room-two : (x : Tree) (l : Links) → rank x ≤ room 2 l → rank x ≤ 2
+room-two : (x : Tree) (l : Links) → precedence x ≤ room 2 l → precedence x ≤ 2
 room-two x none h = h
 room-two x (link o y l) h = h
 
-plain_terms : (k : ℕ) (l : Links) → AreLevel 2 2 k l → AreTerms l × (nets_in l ≡ 0)
+plain_terms : (k : ℕ) (l : Links) → AreWellFormed 2 2 k l → AreTerms l × (nets_in l ≡ 0)
 plain_terms k none are = (tt, refl)
 plain_terms k (link (One t) x l) are =
     let p = further_plain x are.2 (room-two x l are.3) in
@@ -234,26 +234,26 @@ plain_terms k (link (One t) x l) are =
 plain_terms k (link (Two t u) x l) are =
     let s = sign_joins k t are.0 in absurd (let e = sign_no_not (role_of t) s in let k = are.1.0 in cc)
 
-alone : (x : Tree) → IsLevel x → rank x ≤ 2 → Terms x
+alone : (x : Tree) → IsWellFormed x → precedence x ≤ 2 → Terms x
 alone x level fits =
     let p = product x level fits in
     record { first = x; more = none; same = refl; is_first = p.first; are_terms = tt; no_nets = omega (arith, p.no_net) }
 
-several : (x : Tree) (l : Links) → IsLevel (chain 2 x l) → Terms (chain 2 x l)
+several : (x : Tree) (l : Links) → IsWellFormed (chain 2 x l) → Terms (chain 2 x l)
 several x none level = absurd level.4
 several x (link o y l) level =
     let p = product x level.2 level.3 in
     let t = plain_terms 0 (link o y l) level.5 in
     record { first = x; more = link o y l; same = refl; is_first = p.first; are_terms = t.0; no_nets = omega (arith, p.no_net, t.1) }
 
-chain_terms : (n : ℕ) (x : Tree) (l : Links) (b : Bool) → nat_eq n 2 ≡ b → IsLevel (chain n x l) → suc n ≤ 3 → Terms (chain n x l)
+chain_terms : (n : ℕ) (x : Tree) (l : Links) (b : Bool) → nat_eq n 2 ≡ b → IsWellFormed (chain n x l) → suc n ≤ 3 → Terms (chain n x l)
 chain_terms n x l true e level fits =
     let same : n ≡ 2 = eqb-true n 2 e in
-    let P : ℕ → Type 0 = λ k. IsLevel (chain k x l) → Terms (chain k x l) in
+    let P : ℕ → Type 0 = λ k. IsWellFormed (chain k x l) → Terms (chain k x l) in
     subst P (sym same) (several x l) level
 chain_terms n x l false e level fits = alone (chain n x l) level (grind (arith, nat_tests))
 
-sum_terms : (x : Tree) → IsLevel x → rank x ≤ 3 → Terms x
+sum_terms : (x : Tree) → IsWellFormed x → precedence x ≤ 3 → Terms x
 sum_terms (chain n x l) level fits = chain_terms n x l (nat_eq n 2) refl level fits
 sum_terms (signed s x) level fits = alone (signed s x) level (omega (arith, level.2))
 sum_terms (choice i x t y e) level fits = absurd (omega (arith, fits))

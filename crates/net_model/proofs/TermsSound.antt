@@ -2,8 +2,8 @@
 use Rattle.std.specs.Prelude.{◌≡◌, ◌≤◌, ◌+◌, ℕ, suc, Bool, true, false, cond, List, [], ◌∷◌, length, Option, None, Some, Ok}
 use Rattle.std.proofs.Common.{refl, sym, ap, ◌∙◌, arith}
 use Rattle.net_lex.specs.declared.token.Token.{Token}
-use Rattle.net_tree.specs.declared.expr.Operator.{Operator}
-use Rattle.net_tree.specs.declared.expr.Operator.TheVariants.{One, Two}
+use Rattle.net_tree.specs.declared.operator.Words.{Words as Operator}
+use Rattle.net_tree.specs.declared.operator.Words.TheVariants.{One, Two}
 use Rattle.net_tree.specs.declared.role.Role.{Role}
 use Rattle.net_tree.specs.declared.role.Role.TheVariants as roles
 use Rattle.net_tree.specs.Role.{role_of, is_not, is_sign}
@@ -11,10 +11,10 @@ use Rattle.net_tree.specs.Tree.{Tree, Links, net, none, link}
 use Rattle.net_tree.specs.View.{linked}
 use Rattle.net_tree.specs.Print.{put, put_links, put_operator}
 use Rattle.net_tree.specs.Depth.{depth, links_depth}
-use Rattle.net_tree.specs.Level.{rank, room, joins, IsOperator, IsLevel, AreLevel}
+use Rattle.net_tree.specs.WellFormed.{precedence, room, joins, IsOperator, IsWellFormed, AreWellFormed}
 use Rattle.net_tree.specs.Conditions.{IsSum, IsFirstTerm, IsFurtherTerm, AreTerms, nets, nets_in, IsNetSum}
-use Rattle.net_model.specs.declared.sort.Sort.TheVariants as sorts
-use Rattle.net_model.specs.declared.stop.Awaiting.TheVariants as awaiting
+use Rattle.net_model.specs.declared.expected.Expected.TheVariants as sorts
+use Rattle.net_model.specs.declared.parse_error.Awaiting.TheVariants as awaiting
 use Rattle.net_model.specs.Reading.{Tokens, next_is}
 use Rattle.net_model.specs.Expressions.{Inner, chained, unary}
 use Rattle.net_model.specs.Conditions.{net_next, signed_net_next, net_at, signed_net_at, term_at, first_term_at, further_term_at, sign_next, further_terms, sum_at}
@@ -40,7 +40,7 @@ pub record IsProduct (x : Tree) : Type 0 where
   pub further : IsFurtherTerm x
   pub no_net : nets x ≡ 0
 
-pub product : (x : Tree) → IsLevel x → rank x ≤ 2 → IsProduct x
+pub product : (x : Tree) → IsWellFormed x → precedence x ≤ 2 → IsProduct x
 product (net s w) level fits = absurd (omega (arith, fits))
 product x level fits = record { first = (level, fits); further = (level, fits); no_net = refl }
 
@@ -168,11 +168,11 @@ sign_joins : (k : ℕ) (r : Role) → is_sign r ≡ true → joins 2 k r ≡ tru
 sign_joins k roles.Sign h = refl
 sign_joins k _ h = absurd (cc)
 
-plain_term : (x : Tree) → IsFurtherTerm x → nets x ≡ 0 → IsLevel x × (rank x ≤ 2)
+plain_term : (x : Tree) → IsFurtherTerm x → nets x ≡ 0 → IsWellFormed x × (precedence x ≤ 2)
 plain_term (net s w) h no_net = absurd (omega (arith, no_net))
 plain_term x h no_net = h
 
-plain_first : (x : Tree) → IsFirstTerm x → nets x ≡ 0 → IsLevel x × (rank x ≤ 2)
+plain_first : (x : Tree) → IsFirstTerm x → nets x ≡ 0 → IsWellFormed x × (precedence x ≤ 2)
 plain_first (net s w) h no_net = absurd (omega (arith, no_net))
 plain_first x h no_net = h
 
@@ -180,11 +180,11 @@ net_first : (x : Tree) → IsFirstTerm x → nets x ≡ 1 → IsNetSum x
 net_first (net s w) h is_one = h
 net_first x h is_one = absurd (omega (arith, is_one))
 
-room_two : (x : Tree) (l : Links) → rank x ≤ 2 → rank x ≤ room 2 l
+room_two : (x : Tree) (l : Links) → precedence x ≤ 2 → precedence x ≤ room 2 l
 room_two x none h = h
 room_two x (link o y l) h = h
 
-plain_links : (k : ℕ) (l : Links) → AreTerms l → nets_in l ≡ 0 → AreLevel 2 2 k l
+plain_links : (k : ℕ) (l : Links) → AreTerms l → nets_in l ≡ 0 → AreWellFormed 2 2 k l
 plain_links k none terms no_net = tt
 plain_links k (link (One t) x l) terms no_net =
     let p = plain_term x terms.1 (omega (arith, no_net)) in

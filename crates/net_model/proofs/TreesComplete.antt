@@ -10,9 +10,9 @@ use Rattle.net_tree.specs.Role.{role_of, is_name, is_leaf, is_not, is_open_squar
 use Rattle.net_tree.specs.Tree.{Tree, Links, Part, Braces, leaf, indexed, parens, tuple, negated, braced, signed, reduced, chain, choice, net, none, link, absent, part, empty, filled}
 use Rattle.net_tree.specs.Print.{put, put_links, put_part, put_braces}
 use Rattle.net_tree.specs.Depth.{depth, links_depth, part_depth, braces_depth}
-use Rattle.net_tree.specs.Level.{rank, joins, is_value, IsLinked, IsLevel, AreLevel, IsElse, IsFilter, AreBraces}
-use Rattle.net_model.specs.declared.sort.Sort.TheVariants as sorts
-use Rattle.net_model.specs.declared.stop.Awaiting.TheVariants as awaiting
+use Rattle.net_tree.specs.WellFormed.{precedence, joins, is_value, IsLinked, IsWellFormed, AreWellFormed, IsElse, IsFilter, AreBraces}
+use Rattle.net_model.specs.declared.expected.Expected.TheVariants as sorts
+use Rattle.net_model.specs.declared.parse_error.Awaiting.TheVariants as awaiting
 use Rattle.net_model.specs.Reading.{Tokens, ◌>>=◌, read_as, next_is}
 use Rattle.net_model.specs.Expressions.{Reader, Inner, all_links, chain_at, climb, present_at, part_at, subscripts_at, named_at, closed, listed, parens_from, parens_at, negated_at, is_hollow, filter_at, hollow_at, items_at, braces_at, braces, reduced_at, choice_at, unary_at, unary, if_at, wide, inner_of, inside}
 use Rattle.net_model.proofs.Tools.{expect-complete}
@@ -26,10 +26,10 @@ climb_unary zero u low = refl
 climb_unary (suc zero) u low = refl
 climb_unary (suc (suc n)) u low = absurd (omega arith)
 
--- a tree of rank 0 or 1
-unary_back : (d : ℕ) (x : Tree) (ts : Tokens) → rank x ≤ 1 → (Stops (reach (rank x)) ts → unary (inside d) (put x ts) ≡ Ok (x, ts)) → IsReadBack d x ts
+-- a tree of precedence 0 or 1
+unary_back : (d : ℕ) (x : Tree) (ts : Tokens) → precedence x ≤ 1 → (Stops (reach (precedence x)) ts → unary (inside d) (put x ts) ≡ Ok (x, ts)) → IsReadBack d x ts
 unary_back d x ts low back = record {
-  narrow = λ fits stops. ap (λ (p : Reader). p (put x ts)) (climb_unary (rank x) (unary (inside d)) low) ∙ back stops;
+  narrow = λ fits stops. ap (λ (p : Reader). p (put x ts)) (climb_unary (precedence x) (unary (inside d)) low) ∙ back stops;
   loose = λ e. absurd (omega arith);
 }
 
@@ -49,16 +49,16 @@ leaf_rule d t level deep ts = unary_back d (leaf t) ts (omega arith) (λ stops. 
 shut : (p : ℕ) (t : Token) (ts : Tokens) → p < 20 → Shuts (role_of t) → Stops p (t ∷ ts)
 shut p t ts h s = omega (arith, s.grips)
 
--- a list of operands of rank n behind a first one
-list_first : (d n : ℕ) (x : Tree) (l : Links) (t : Token) (ts : Tokens) → n ≤ 8 → 1 < n → Complete d x → IsLevel x → depth x ≤ d → rank x ≤ n → AreLevel 0 n 0 l → Shuts (role_of t)
+-- a list of operands of precedence n behind a first one
+list_first : (d n : ℕ) (x : Tree) (l : Links) (t : Token) (ts : Tokens) → n ≤ 8 → 1 < n → Complete d x → IsWellFormed x → depth x ≤ d → precedence x ≤ n → AreWellFormed 0 n 0 l → Shuts (role_of t)
     → (m : ℕ) → n ≤ m → m ≤ 10 → climb m (unary (inside d)) (put x (put_links l (t ∷ ts))) ≡ Ok (x, put_links l (t ∷ ts))
 list_first d n x none t ts high low complete level deep fits are s m wider most =
-    in_place d m m x (t ∷ ts) complete level deep (omega (arith, fits, wider)) most (omega arith) (omega (arith, reach-le (rank x), fits, wider)) (shut m t ts (omega (arith, most)) s)
+    in_place d m m x (t ∷ ts) complete level deep (omega (arith, fits, wider)) most (omega arith) (omega (arith, reach-le (precedence x), fits, wider)) (shut m t ts (omega (arith, most)) s)
 list_first d n x (link o y l) t ts high low complete level deep fits are s m wider most =
-    in_place d m m x (put_links (link o y l) (t ∷ ts)) complete level deep (omega (arith, fits, wider)) most (omega arith) (omega (arith, reach-le (rank x), fits, wider))
+    in_place d m m x (put_links (link o y l) (t ∷ ts)) complete level deep (omega (arith, fits, wider)) most (omega arith) (omega (arith, reach-le (precedence x), fits, wider))
     (stops-links 0 0 m o (put y (put_links l (t ∷ ts))) (list-joint m (omega (arith, most))) are.0)
 
-list_rest : (d n : ℕ) (l : Links) (t : Token) (ts : Tokens) → n ≤ 8 → 1 < n → AllComplete d l → AreLevel 0 n 0 l → links_depth l ≤ d → Shuts (role_of t)
+list_rest : (d n : ℕ) (l : Links) (t : Token) (ts : Tokens) → n ≤ 8 → 1 < n → AllComplete d l → AreWellFormed 0 n 0 l → links_depth l ≤ d → Shuts (role_of t)
     → all_links 0 (climb n (unary (inside d))) (put_links l (t ∷ ts)) ≡ Ok (l, t ∷ ts)
 list_rest d n l t ts high low complete are deep s =
     links-complete 0 (climb n (unary (inside d))) (length (put_links l (t ∷ ts))) 0 l (t ∷ ts) (omega arith)
@@ -106,7 +106,7 @@ at_brace i o ts roles.OpenBrace h = refl
 at_brace i o ts _ h = absurd (cc)
 
 -- an `if` begins with that word
-pub begins_if : (x : Tree) (ts : Tokens) → IsLevel x → rank x ≡ 11 → next_is is_if (put x ts) ≡ true
+pub begins_if : (x : Tree) (ts : Tokens) → IsWellFormed x → precedence x ≡ 11 → next_is is_if (put x ts) ≡ true
 begins_if (choice i x t y e) ts level h = level.0
 begins_if (chain n x l) ts level h = absurd (omega (arith, level.1, h))
 begins_if (signed s x) ts level h = absurd (omega (arith, level.2, h))
@@ -124,7 +124,7 @@ pub wide_narrow : (d n : ℕ) (x : Tree) (ts : Tokens) → climb n (unary (insid
 unfolding wide
 wide_narrow d n x ts h = rw (climb-no_if n (inside d) (put x ts) (x, ts) h) h
 
-pub wide_loose : (d n : ℕ) (x : Tree) (ts : Tokens) → Complete d x → IsLevel x → depth x ≤ d → rank x ≡ 11 → Stops 6 ts → next_is is_else ts ≡ false → wide (inside d) n (put x ts) ≡ Ok (x, ts)
+pub wide_loose : (d n : ℕ) (x : Tree) (ts : Tokens) → Complete d x → IsWellFormed x → depth x ≤ d → precedence x ≡ 11 → Stops 6 ts → next_is is_else ts ≡ false → wide (inside d) n (put x ts) ≡ Ok (x, ts)
 unfolding wide
 wide_loose d n x ts complete level deep h stops no_else = rw (begins_if x ts level h) ((complete level deep ts).loose h stops no_else)
 
@@ -138,10 +138,10 @@ closed_parens d o x c ts closes false = rw (expect-complete sorts.Close awaiting
 pub ten_or_if : (r : ℕ) → r ≤ 11 → (r ≤ 10) ⊎ (r ≡ 11)
 ten_or_if r h = grind (arith)
 
-parens_wide : (d : ℕ) (x : Tree) (c : Token) (ts : Tokens) → Complete d x → IsLevel x → depth x ≤ d → is_close (role_of c) ≡ true → (rank x ≤ 10) ⊎ (rank x ≡ 11)
+parens_wide : (d : ℕ) (x : Tree) (c : Token) (ts : Tokens) → Complete d x → IsWellFormed x → depth x ≤ d → is_close (role_of c) ≡ true → (precedence x ≤ 10) ⊎ (precedence x ≡ 11)
     → wide (inside d) 10 (put x (c ∷ ts)) ≡ Ok (x, c ∷ ts)
 parens_wide d x c ts complete level deep closes (inl h) =
-    wide_narrow d 10 x (c ∷ ts) (in_place d 10 10 x (c ∷ ts) complete level deep h (omega arith) (omega arith) (omega (arith, reach-le (rank x))) (shut 10 c ts (omega arith) (close-shuts (role_of c) closes)))
+    wide_narrow d 10 x (c ∷ ts) (in_place d 10 10 x (c ∷ ts) complete level deep h (omega arith) (omega arith) (omega (arith, reach-le (precedence x))) (shut 10 c ts (omega arith) (close-shuts (role_of c) closes)))
 parens_wide d x c ts complete level deep closes (inr h) =
     wide_loose d 10 x (c ∷ ts) complete level deep h (shut 6 c ts (omega arith) (close-shuts (role_of c) closes)) (close-no_else (role_of c) closes)
 
@@ -150,9 +150,9 @@ unfolding unary inside inner_of parens_at parens_from
 parens_rule d o x c complete level deep ts =
     unary_back (suc d) (parens o x c) ts (omega arith)
     (λ stops.
-    let inner = parens_wide d x c ts complete level.1 (omega arith) level.3 (ten_or_if (rank x) level.2) in
+    let inner = parens_wide d x c ts complete level.1 (omega arith) level.3 (ten_or_if (precedence x) level.2) in
     at_open (inner_of (inside d)) o (put x (c ∷ ts)) (role_of o) level.0
-    ∙ (rw inner (closed_parens d o x c ts level.3 (nat_le (rank x) 3))))
+    ∙ (rw inner (closed_parens d o x c ts level.3 (nat_le (precedence x) 3))))
 
 tuple_read : (d : ℕ) (o : Token) (x : Tree) (l : Links) (c : Token) (ts : Tokens) → IsLinked l → is_close (role_of c) ≡ true → listed o x l (c ∷ ts) ≡ Ok (tuple o x l c, ts)
 tuple_read d o x none c ts linked closes = absurd linked
@@ -167,14 +167,14 @@ tuple_rule d o x l c cx cl level deep ts =
     let first = wide_narrow d 10 x (put_links l (c ∷ ts)) (list_first d 3 x l c ts (omega arith) (omega arith) cx level.1 (omega arith) level.2 level.4 s 10 (omega arith) (omega arith)) in
     let rest = list_rest d 3 l c ts (omega arith) (omega arith) cl level.4 (omega arith) s in
     at_open (inner_of (inside d)) o (put x (put_links l (c ∷ ts))) (role_of o) level.0
-    ∙ (rw (first, le-leb (rank x) 3 level.2, rest) (tuple_read d o x l c ts level.3 level.5)))
+    ∙ (rw (first, le-leb (precedence x) 3 level.2, rest) (tuple_read d o x l c ts level.3 level.5)))
 
 negated_rule : (d : ℕ) (n o : Token) (x : Tree) (c : Token) → Complete d x → Complete (suc d) (negated n o x c)
 unfolding unary inside inner_of negated_at
 negated_rule d n o x c complete level deep ts =
     unary_back (suc d) (negated n o x c) ts (omega arith)
     (λ stops.
-    let inner = in_place d 10 10 x (c ∷ ts) complete level.2 (omega arith) level.3 (omega arith) (omega arith) (omega (arith, reach-le (rank x), level.3)) (shut 10 c ts (omega arith) (close-shuts (role_of c) level.4)) in
+    let inner = in_place d 10 10 x (c ∷ ts) complete level.2 (omega arith) level.3 (omega arith) (omega arith) (omega (arith, reach-le (precedence x), level.3)) (shut 10 c ts (omega arith) (close-shuts (role_of c) level.4)) in
     at_not (Some (inner_of (inside d))) n (o ∷ put x (c ∷ ts)) (role_of n) level.0
     ∙ (rw (expect-complete sorts.Open awaiting.Other o (put x (c ∷ ts)) level.1, inner, expect-complete sorts.Close awaiting.Other c ts level.4) refl))
 
@@ -185,7 +185,7 @@ signed_rule d s x complete level deep ts =
     (λ stops.
     let narrow = (complete level.1 (omega arith) ts).narrow (omega (arith, level.2)) stops in
     let inner : climb 1 (unary (inside d)) (put x ts) ≡ Ok (x, ts) =
-    ap (λ (p : Reader). p (put x ts)) (climb_unary 1 (unary (inside d)) (omega arith) ∙ sym (climb_unary (rank x) (unary (inside d)) level.2)) ∙ narrow in
+    ap (λ (p : Reader). p (put x ts)) (climb_unary 1 (unary (inside d)) (omega arith) ∙ sym (climb_unary (precedence x) (unary (inside d)) level.2)) ∙ narrow in
     at_sign (inner_of (inside d)) s (put x ts) (role_of s) level.0 ∙ (rw inner refl))
 
 chain_rule : (d n : ℕ) (x : Tree) (l : Links) → Complete d x → AllComplete d l → Complete d (chain n x l)
@@ -215,7 +215,7 @@ filter-read : (d : ℕ) (p : Part) (c : Token) (ts : Tokens) → CompletePart d 
 unfolding part_at present_at inner_of
 filter-read d absent c ts complete level deep closes = rw (close_brace-no_colon (role_of c) closes) refl
 filter-read d (part m x) c ts complete level deep closes =
-    let inner = in_place d 10 10 x (c ∷ ts) complete level.1 deep level.2 (omega arith) (omega arith) (omega (arith, reach-le (rank x), level.2)) (shut 10 c ts (omega arith) (close_brace-shuts (role_of c) closes)) in
+    let inner = in_place d 10 10 x (c ∷ ts) complete level.1 deep level.2 (omega arith) (omega arith) (omega (arith, reach-le (precedence x), level.2)) (shut 10 c ts (omega arith) (close_brace-shuts (role_of c) closes)) in
     rw (level.0, inner) refl
 
 begins_hollow : (p : Part) (c : Token) (ts : Tokens) → IsFilter p → is_close_brace (role_of c) ≡ true → next_is is_hollow (put_part p (c ∷ ts)) ≡ true
@@ -277,7 +277,7 @@ unfolding unary inside inner_of reduced_at
 reduced_rule d w b x cb cx level deep ts =
     unary_back (suc d) (reduced w b x) ts (omega arith)
     (λ stops.
-    let inner = in_place d 2 1 x ts cx level.2 (omega arith) level.3 (omega arith) (omega arith) (reach-below (rank x) 1 level.3 (omega arith)) stops in
+    let inner = in_place d 2 1 x ts cx level.2 (omega arith) level.3 (omega arith) (omega arith) (reach-below (precedence x) 1 level.3 (omega arith)) stops in
     at_reduction (inner_of (inside d)) w (put_braces b (put x ts)) (role_of w) level.0 ∙ (rw (cb level.1 (omega arith) (put x ts), inner) refl))
 
 -- what follows the branch of `then`
@@ -288,10 +288,10 @@ behind_then (part m x) ts level stops = let s = else-shuts (role_of m) level.0 i
 seven_or_if : (r : ℕ) → is_value r ≡ true → (r ≤ 7) ⊎ (r ≡ 11)
 seven_or_if r h = grind (arith, nat_tests)
 
-pub value-read : (d : ℕ) (x : Tree) (ts : Tokens) → Complete d x → IsLevel x → depth x ≤ d → is_value (rank x) ≡ true → Stops 6 ts → next_is is_else ts ≡ false → wide (inside d) 7 (put x ts) ≡ Ok (x, ts)
+pub value-read : (d : ℕ) (x : Tree) (ts : Tokens) → Complete d x → IsWellFormed x → depth x ≤ d → is_value (precedence x) ≡ true → Stops 6 ts → next_is is_else ts ≡ false → wide (inside d) 7 (put x ts) ≡ Ok (x, ts)
 value-read d x ts complete level deep value stops no_else =
-    elim (seven_or_if (rank x) value) [
-      | inl h ↦ wide_narrow d 7 x ts (in_place d 7 6 x ts complete level deep h (omega arith) (omega arith) (reach-below (rank x) 6 h (omega arith)) stops)
+    elim (seven_or_if (precedence x) value) [
+      | inl h ↦ wide_narrow d 7 x ts (in_place d 7 6 x ts complete level deep h (omega arith) (omega arith) (reach-below (precedence x) 6 h (omega arith)) stops)
       | inr h ↦ wide_loose d 7 x ts complete level deep h stops no_else
     ]
 
@@ -305,8 +305,8 @@ unfolding inside inner_of if_at choice_at
 choice_rule d i x t y e cx cy ce level deep ts = record {
   narrow = λ fits. absurd (omega (arith, fits));
   loose = λ is stops no_else.
-      let first = in_place d 10 10 x (t ∷ put y (put_part e ts)) cx level.1 (omega arith) level.2 (omega arith) (omega arith) (omega (arith, reach-le (rank x), level.2)) (shut 10 t (put y (put_part e ts)) (omega arith) (then-shuts (role_of t) level.3)) in
-      let second = in_place d 7 6 y (put_part e ts) cy level.4 (omega arith) level.5 (omega arith) (omega arith) (reach-below (rank y) 6 level.5 (omega arith)) (behind_then e ts level.6 stops) in
+      let first = in_place d 10 10 x (t ∷ put y (put_part e ts)) cx level.1 (omega arith) level.2 (omega arith) (omega arith) (omega (arith, reach-le (precedence x), level.2)) (shut 10 t (put y (put_part e ts)) (omega arith) (then-shuts (role_of t) level.3)) in
+      let second = in_place d 7 6 y (put_part e ts) cy level.4 (omega arith) level.5 (omega arith) (omega arith) (reach-below (precedence y) 6 level.5 (omega arith)) (behind_then e ts level.6 stops) in
       rw (first, expect-complete sorts.Then awaiting.Other t (put y (put_part e ts)) level.3, second, else-read d e ts ce level.6 (omega arith) stops no_else) refl;
 }
 

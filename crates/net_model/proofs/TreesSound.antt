@@ -9,16 +9,16 @@ use Rattle.net_tree.specs.Role.{role_of, is_name, is_leaf, is_not, is_if, is_ope
 use Rattle.net_tree.specs.Tree.{Tree, Links, Part, Braces, leaf, indexed, parens, tuple, negated, braced, signed, reduced, choice, none, link, absent, part, empty, filled}
 use Rattle.net_tree.specs.Print.{put, put_links, put_part, put_braces}
 use Rattle.net_tree.specs.Depth.{part_depth, braces_depth}
-use Rattle.net_tree.specs.Level.{rank, joins, is_value, IsLevel, IsElse, IsFilter, AreBraces}
-use Rattle.net_model.specs.declared.sort.Sort.{Sort}
-use Rattle.net_model.specs.declared.sort.Sort.TheVariants as sorts
-use Rattle.net_model.specs.declared.stop.Awaiting.TheVariants as awaiting
+use Rattle.net_tree.specs.WellFormed.{precedence, joins, is_value, IsWellFormed, IsElse, IsFilter, AreBraces}
+use Rattle.net_model.specs.declared.expected.Expected.{Expected}
+use Rattle.net_model.specs.declared.expected.Expected.TheVariants as sorts
+use Rattle.net_model.specs.declared.parse_error.Awaiting.TheVariants as awaiting
 use Rattle.net_model.specs.Reading.{Tokens, Read, ◌>>=◌, read_as, next_is, is_sort}
 use Rattle.net_model.specs.Expressions.{Reader, Inner, climb, present_at, part_at, is_subscripted, subscripts_at, named_at, closed, listed, parens_from, parens_at, not_shut, negated_at, is_hollow, hollow_at, items_at, braces_at, braces, reduced_at, choice_at, unary_at, unary, if_at, wide, inner_of, inside}
 use Rattle.net_model.proofs.Tools.{bind_ok, given, chosen, on, off, expect-sound}
 use Rattle.net_model.proofs.LinksSound.{Sound, IsSound, UpTo, SoundLinks, links-sound, SoundChain, chain-sound, climb-sound, joins_product}
 
--- a rank up to n, or that of an `if`
+-- a precedence up to n, or that of an `if`
 abbrev pub Wide : ℕ → ℕ → Type 0
 Wide n r = (r ≤ n) ⊎ (r ≡ 11)
 
@@ -42,16 +42,16 @@ IsInside d None = Unit {0}
 IsInside d (Some i) = (e : ℕ) × (d ≡ suc e) × SoundInner e i
 
 -- a mark and what it introduces
-abbrev pub IsPart : Sort → (ℕ → Type 0) → Part → Type 0
+abbrev pub IsPart : Expected → (ℕ → Type 0) → Part → Type 0
 IsPart s Fits absent = Unit {0}
-IsPart s Fits (part m x) = (is_sort s (role_of m) ≡ true) × IsLevel x × Fits (rank x)
+IsPart s Fits (part m x) = (is_sort s (role_of m) ≡ true) × IsWellFormed x × Fits (precedence x)
 
-pub record SoundPart (d : ℕ) (s : Sort) (Fits : ℕ → Type 0) (ts : Tokens) (a : Part × Tokens) : Type 0 where
+pub record SoundPart (d : ℕ) (s : Expected) (Fits : ℕ → Type 0) (ts : Tokens) (a : Part × Tokens) : Type 0 where
   pub text : ts ≡ put_part a.0 a.1
   pub level : IsPart s Fits a.0
   pub within : part_depth a.0 ≤ d
 
-pub part-sound : (d : ℕ) (s : Sort) (Fits : ℕ → Type 0) (p : Reader) → IsSound d Fits p → (ts : Tokens) (a : Part × Tokens) → part_at s p ts ≡ Ok a → SoundPart d s Fits ts a
+pub part-sound : (d : ℕ) (s : Expected) (Fits : ℕ → Type 0) (p : Reader) → IsSound d Fits p → (ts : Tokens) (a : Part × Tokens) → part_at s p ts ≡ Ok a → SoundPart d s Fits ts a
 unfolding part_at present_at
 part-sound d s Fits p sound [] a h = given (λ y. SoundPart d s Fits [] y) (absent, []) a h (record { text = refl; level = tt; within = omega arith })
 part-sound d s Fits p sound (t ∷ ts) a h =
@@ -74,7 +74,7 @@ wide_value r (inr h) = rw h refl
 
 part_else : (p : Part) → IsPart sorts.Else (Wide 7) p → IsElse p
 part_else absent h = tt
-part_else (part m x) h = (h.0, h.1, wide_value (rank x) h.2)
+part_else (part m x) h = (h.0, h.1, wide_value (precedence x) h.2)
 
 subscripts-sound : (d : ℕ) (i : Inner) (n : Token) (ts : Tokens) (a : Tree × Tokens) → SoundInner d i → is_name (role_of n) ≡ true → is_subscripted ts ≡ true
     → subscripts_at i n ts ≡ Ok a → Sound (suc d) (UpTo 0) (n ∷ ts) a
@@ -125,13 +125,13 @@ closed-sound d o x r ts a opens sx h =
     let sc = expect-sound sorts.Close awaiting.Other r c.value c.first in
     given (λ y. Sound (suc d) (UpTo 0) (o ∷ ts) y) (parens o x c.value.0, c.value.1) a c.after (record {
       text = ap (λ k. o ∷ k) (sx.text ∙ ap (put x) sc.text);
-      level = (opens, sx.level, wide_ten (rank x) sx.fits, sc.sort);
+      level = (opens, sx.level, wide_ten (precedence x) sx.fits, sc.sort);
       within = omega (arith, sx.within);
       fits = omega arith;
       ended = λ e. absurd (omega arith);
     })
 
-listed-sound : (d : ℕ) (o : Token) (x : Tree) (l : Links) (r q ts : Tokens) (a : Tree × Tokens) → is_open (role_of o) ≡ true → Sound d (Wide 10) ts (x, q) → rank x ≤ 3
+listed-sound : (d : ℕ) (o : Token) (x : Tree) (l : Links) (r q ts : Tokens) (a : Tree × Tokens) → is_open (role_of o) ≡ true → Sound d (Wide 10) ts (x, q) → precedence x ≤ 3
     → SoundLinks d 0 3 0 q (l, r) → listed o x l r ≡ Ok a → Sound (suc d) (UpTo 0) (o ∷ ts) a
 listed-sound d o x none r q ts a opens sx low sl h =
     let sx' : Sound d (Wide 10) ts (x, r) = record { text = sx.text ∙ ap (put x) sl.text; level = sx.level; within = sx.within; fits = sx.fits; ended = λ e. rw (← sl.text) (sx.ended e) } in
@@ -152,11 +152,11 @@ unfolding parens_at parens_from
 parens-sound d i o ts a inner opens h =
     let x = bind_ok _ _ _ h in
     let sx = inner.wide 10 (omega arith) (omega arith) ts x.value x.first in
-    elim (chosen (nat_le (rank x.value.0) 3) _ _ _ x.after) [
+    elim (chosen (nat_le (precedence x.value.0) 3) _ _ _ x.after) [
       | on b e ↦
           let l = bind_ok _ _ _ e in
           let sl = links-sound d 0 3 (i.at 3) (inner.at 3 (omega arith) (omega arith)) (λ e. absurd (omega arith)) (length x.value.1) 0 x.value.1 l.value (omega arith) l.first in
-          listed-sound d o x.value.0 l.value.0 l.value.1 x.value.1 ts a opens sx (leb-true (rank x.value.0) 3 b) sl l.after
+          listed-sound d o x.value.0 l.value.0 l.value.1 x.value.1 ts a opens sx (leb-true (precedence x.value.0) 3 b) sl l.after
       | off b e ↦ closed-sound d o x.value.0 x.value.1 ts a opens sx e
     ]
 
@@ -261,7 +261,7 @@ choice-sound d i w ts a inner ifs h =
     })
 
 looser : (d : ℕ) (P Q : ℕ → Type 0) (ts : Tokens) (a : Tree × Tokens) → ((r : ℕ) → P r → Q r) → Sound d P ts a → Sound d Q ts a
-looser d P Q ts a more s = record { text = s.text; level = s.level; within = s.within; fits = more (rank a.0) s.fits; ended = s.ended }
+looser d P Q ts a more s = record { text = s.text; level = s.level; within = s.within; fits = more (precedence a.0) s.fits; ended = s.ended }
 
 deeper : (d e : ℕ) (P : ℕ → Type 0) (ts : Tokens) (a : Tree × Tokens) → d ≡ suc e → Sound (suc e) P ts a → Sound d P ts a
 deeper d e P ts a same s = subst (λ k. Sound k P ts a) (sym same) s

@@ -1,14 +1,14 @@
 -- Reading links one after the other.
 use Rattle.std.specs.Prelude.{◌≡◌, ◌<◌, ◌≤◌, ◌+◌, ◌-◌, ℕ, zero, suc, Bool, true, false, cond, if◌then◌else◌, List, [], ◌∷◌, ◌++◌, length, Result, Ok, Err}
 use Rattle.std.proofs.Common.{refl, sym, ap, ◌∙◌, arith, length-append}
-use Rattle.net_tree.specs.declared.expr.Operator.{Operator}
+use Rattle.net_tree.specs.declared.operator.Words.{Words as Operator}
 use Rattle.net_tree.specs.declared.expr.Link.{Link}
 use Rattle.net_tree.specs.declared.role.Role.{Role}
 use Rattle.net_tree.specs.Tree.{Tree, Links, none, link}
-use Rattle.net_tree.specs.Level.{joins}
+use Rattle.net_tree.specs.WellFormed.{joins}
 use Rattle.net_tree.specs.View.{tree, links_of, link_of}
-use Rattle.net_model.specs.declared.stop.Stop.{Stop}
-use Rattle.net_model.specs.declared.stop.Stop.TheVariants as stops
+use Rattle.net_model.specs.declared.parse_error.ParseError.{ParseError}
+use Rattle.net_model.specs.declared.parse_error.ParseError.TheVariants as stops
 use Rattle.net_model.specs.Reading.{Tokens, Read, ◌>>=◌, read_as, next_is, Fails}
 use Rattle.net_model.specs.Expressions.{Reader, operator_at, links}
 use Rattle.net_model.specs.Chains.{joined, with_links}
@@ -46,13 +46,13 @@ links-turn turns j k p ts o a x r some h e f =
     ∙ ap (λ (w : Read Tree). w >>= λ x. links (turns - 1) j (suc k) p x.1 >>= λ l. read_as (link o x.0 l.0) l.1) f
     ∙ with_one o x (links (turns - 1) j (suc k) p r)
 
-pub links-no_operator : (turns j k : ℕ) (p : Reader) (ts : Tokens) (s : Stop)
+pub links-no_operator : (turns j k : ℕ) (p : Reader) (ts : Tokens) (s : ParseError)
     → 1 ≤ turns → next_is (joins j k) ts ≡ true → operator_at ts ≡ Err s → links turns j k p ts ≡ Err s
 links-no_operator turns j k p ts s some h e =
     links-on turns j k p ts some h
     ∙ ap (λ (w : Read Operator). w >>= λ o. p o.1 >>= λ x. links (turns - 1) j (suc k) p x.1 >>= λ l. read_as (link o.0 x.0 l.0) l.1) e
 
-pub links-no_operand : (turns j k : ℕ) (p : Reader) (ts : Tokens) (o : Operator) (a : Tokens) (s : Stop)
+pub links-no_operand : (turns j k : ℕ) (p : Reader) (ts : Tokens) (o : Operator) (a : Tokens) (s : ParseError)
     → 1 ≤ turns → next_is (joins j k) ts ≡ true → operator_at ts ≡ Ok (o, a) → p a ≡ Err s → links turns j k p ts ≡ Err s
 links-no_operand turns j k p ts o a s some h e f =
     links-on turns j k p ts some h
@@ -104,12 +104,12 @@ one_read found more l whole j k p ts o x a r all same room h e f is made before 
     ∙ before
 
 -- a stop in a part is the stop of the whole
-pub fails : {A B : Type 0} (s : Stop) (part : Read A) (whole : Read B) → Fails s part → ((t : Stop) → part ≡ Err t → whole ≡ Err t) → Fails s whole
+pub fails : {A B : Type 0} (s : ParseError) (part : Read A) (whole : Read B) → Fails s part → ((t : ParseError) → part ≡ Err t → whole ≡ Err t) → Fails s whole
 fails stops.OutOfMemory part whole h onward = tt
 fails (stops.Refused n a) part whole h onward = onward (stops.Refused n a) h
 fails (stops.TooDeep n) part whole h onward = onward (stops.TooDeep n) h
 
-pub no_operator : (found : List Link) (whole j k : ℕ) (p : Reader) (ts : Tokens) (all : Read Links) (s : Stop)
+pub no_operator : (found : List Link) (whole j k : ℕ) (p : Reader) (ts : Tokens) (all : Read Links) (s : ParseError)
     → k ≡ length found → length found + length ts ≤ whole → next_is (joins j k) ts ≡ true
     → with_links (links_of found) (links (whole - length found) j (length found) p ts) ≡ all → Fails s (operator_at ts) → Fails s all
 no_operator found whole j k p ts all s same room h before stopped =
@@ -119,7 +119,7 @@ no_operator found whole j k p ts all s same room h before stopped =
     let joins_here : next_is (joins j (length found)) ts ≡ true = sym (ap (λ n. next_is (joins j n) ts) same) ∙ h in
     sym before ∙ ap (with_links (links_of found)) (links-no_operator (whole - length found) j (length found) p ts t some joins_here e))
 
-pub no_operand : (found : List Link) (whole j k : ℕ) (p : Reader) (ts : Tokens) (o : Operator) (a : Tokens) (all : Read Links) (s : Stop)
+pub no_operand : (found : List Link) (whole j k : ℕ) (p : Reader) (ts : Tokens) (o : Operator) (a : Tokens) (all : Read Links) (s : ParseError)
     → k ≡ length found → length found + length ts ≤ whole → next_is (joins j k) ts ≡ true → operator_at ts ≡ Ok (o, a)
     → with_links (links_of found) (links (whole - length found) j (length found) p ts) ≡ all → Fails s (p a) → Fails s all
 no_operand found whole j k p ts o a all s same room h e before stopped =

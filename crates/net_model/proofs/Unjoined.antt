@@ -9,7 +9,7 @@ use Rattle.net_lex.specs.declared.token.Kind.TheVariants as kinds
 use Rattle.net_tree.specs.declared.role.Role.{Role}
 use Rattle.net_tree.specs.declared.role.Role.TheVariants as roles
 use Rattle.net_tree.specs.Role.{marks, keys, found_in, role_as, role_of, is_sign}
-use Rattle.net_tree.specs.Level.{joins}
+use Rattle.net_tree.specs.WellFormed.{joins}
 
 -- a role that no table should give
 unjoining : Role → Bool

@@ -1,16 +1,17 @@
 -- Conditions of nodes: sums, in which once a net term stands.
 use Rattle.std.specs.Prelude.{◌≡◌, ℕ, Bool, true, false, ◌&&◌, not, List, [], ◌∷◌, length, Option, None, Some, if◌then◌else◌}
 use Rattle.net_lex.specs.declared.token.Token.{Token}
-use Rattle.net_tree.specs.declared.expr.Operator.{Operator}
+use Rattle.net_tree.specs.declared.operator.Words.{Words as Operator}
 use Rattle.net_tree.specs.declared.role.Role.{Role}
 use Rattle.net_tree.specs.declared.role.Role.TheVariants as roles
-use Rattle.net_tree.specs.declared.role.Relates.{Relates}
-use Rattle.net_tree.specs.declared.role.Relates.TheVariants as relates
+use Rattle.net_tree.specs.declared.role.Relation.{Relation}
+use Rattle.net_tree.specs.declared.role.Relation.TheVariants as relations
 use Rattle.net_tree.specs.Role.{role_of, is_net, is_sign, is_colon}
+use Rattle.net_tree.specs.Precedence.{of_product, of_sum}
 use Rattle.net_tree.specs.Tree.{Tree, net, Links, Condition, unsaid, one, between}
 use Rattle.net_tree.specs.View.{linked}
-use Rattle.net_model.specs.declared.stop.Awaiting.TheVariants as awaiting
-use Rattle.net_model.specs.declared.sort.Sort.TheVariants as sorts
+use Rattle.net_model.specs.declared.parse_error.Awaiting.TheVariants as awaiting
+use Rattle.net_model.specs.declared.expected.Expected.TheVariants as sorts
 use Rattle.net_model.specs.Reading.{Tokens, Read, ◌>>=◌, read_as, refused, next_is, is_sort, expect}
 use Rattle.net_model.specs.Expressions.{Inner, unary, climb, operator_at, chained}
 use Rattle.net_model.specs.Rows.{row}
@@ -38,7 +39,7 @@ unfoldable pub term_at : Option Inner → Bool → Tokens → Read (Tree × Bool
 term_at o free ts =
     if (if free then net_next ts else false)
     then (net_at ts >>= λ x. read_as (x.0, false) x.1)
-    else (climb 2 (unary o) ts >>= λ x. read_as (x.0, free) x.1)
+    else (climb of_product (unary o) ts >>= λ x. read_as (x.0, free) x.1)
 
 unfoldable pub first_term_at : Option Inner → Bool → Tokens → Read (Tree × Bool)
 first_term_at o free ts =
@@ -58,20 +59,20 @@ further_terms o free ts = row (length ts) (further_term_at o) sign_next free ts
 -- a sum, and whether no net term stood in it, where one may
 unfoldable pub sum_at : Option Inner → Bool → Tokens → Read (Tree × Bool)
 sum_at o free ts =
-    first_term_at o free ts >>= λ x. further_terms o x.0.1 x.1 >>= λ l. read_as (chained 2 x.0.0 (linked l.0.0), l.0.1) l.1
+    first_term_at o free ts >>= λ x. further_terms o x.0.1 x.1 >>= λ l. read_as (chained of_product x.0.0 (linked l.0.0), l.0.1) l.1
 
 -- whether a bound goes on with the same one, `<=` or `>=`
 abbrev pub is_at_most : Role → Bool
-is_at_most (roles.Relation relates.AtMost) = true
+is_at_most (roles.Relation relations.AtMost) = true
 is_at_most _ = false
 
 abbrev pub is_at_least : Role → Bool
-is_at_least (roles.Relation relates.AtLeast) = true
+is_at_least (roles.Relation relations.AtLeast) = true
 is_at_least _ = false
 
 abbrev pub chains : Role → Role → Bool
-chains (roles.Relation relates.AtMost) q = is_at_most q
-chains (roles.Relation relates.AtLeast) q = is_at_least q
+chains (roles.Relation relations.AtMost) q = is_at_most q
+chains (roles.Relation relations.AtLeast) q = is_at_least q
 chains _ q = false
 
 -- behind the second sum, where the first had no net term
@@ -81,7 +82,7 @@ chain_next p ts = next_is (chains p) ts
 unfoldable pub high_at : Option Inner → Token → Tree → Token → Tree → Tokens → Read Condition
 high_at o m x p y ts =
     if chain_next (role_of p) ts
-    then (expect sorts.Bound awaiting.Other ts >>= λ q. climb 3 (unary o) q.1 >>= λ z. read_as (between m x p y q.0 z.0) z.1)
+    then (expect sorts.Bound awaiting.Other ts >>= λ q. climb of_sum (unary o) q.1 >>= λ z. read_as (between m x p y q.0 z.0) z.1)
     else read_as (one m x p y) ts
 
 unfoldable pub middle_at : Option Inner → Token → Tree → Token → Tokens → Read Condition
@@ -90,7 +91,7 @@ middle_at o m x p ts = sum_at o true ts >>= λ y. if y.0.1 then refused awaiting
 -- behind the first sum and the bound
 unfoldable pub bounded_at : Option Inner → Token → Tree → Bool → Token → Tokens → Read Condition
 bounded_at o m x free p ts =
-    if free then middle_at o m x p ts else (climb 3 (unary o) ts >>= λ y. read_as (one m x p y.0) y.1)
+    if free then middle_at o m x p ts else (climb of_sum (unary o) ts >>= λ y. read_as (one m x p y.0) y.1)
 
 unfoldable pub said_at : Option Inner → Tokens → Read Condition
 said_at o ts =

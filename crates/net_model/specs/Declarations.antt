@@ -6,12 +6,13 @@ use Rattle.net_tree.specs.declared.role.Role.TheVariants as roles
 use Rattle.net_tree.specs.declared.role.Declares.{Declares}
 use Rattle.net_tree.specs.declared.role.Declares.TheVariants as declares
 use Rattle.net_tree.specs.Role.{role_of, is_open_brace}
+use Rattle.net_tree.specs.Precedence.{of_union, of_or}
 use Rattle.net_tree.specs.Tree.{Tree, Part, absent, part, Braces, Declaration, set, param, check, node, arc, objective}
 use Rattle.net_model.specs.declared.phrase.Owner.TheVariants as owners
-use Rattle.net_model.specs.declared.stop.Awaiting.{Awaiting}
-use Rattle.net_model.specs.declared.stop.Awaiting.TheVariants as awaiting
-use Rattle.net_model.specs.declared.stop.Stop.{Stop}
-use Rattle.net_model.specs.declared.sort.Sort.TheVariants as sorts
+use Rattle.net_model.specs.declared.parse_error.Awaiting.{Awaiting}
+use Rattle.net_model.specs.declared.parse_error.Awaiting.TheVariants as awaiting
+use Rattle.net_model.specs.declared.parse_error.ParseError.{ParseError}
+use Rattle.net_model.specs.declared.expected.Expected.TheVariants as sorts
 use Rattle.net_model.specs.Reading.{Tokens, Read, ◌>>=◌, read_as, refused, next_is, expect}
 use Rattle.net_model.specs.Expressions.{Inner, inside, unary, climb, wide, braces, part_at}
 use Rattle.net_model.specs.Rows.{row}
@@ -37,7 +38,7 @@ arc_at o w ts =
 
 unfoldable pub check_at : Option Inner → Token → Tokens → Read Declaration
 check_at o w ts =
-    indexing_at o ts >>= λ b. expect sorts.Colon awaiting.Other b.1 >>= λ m. climb 10 (unary o) m.1 >>= λ x. expect sorts.Semicolon awaiting.Other x.1 >>= λ e.
+    indexing_at o ts >>= λ b. expect sorts.Colon awaiting.Other b.1 >>= λ m. climb of_or (unary o) m.1 >>= λ x. expect sorts.Semicolon awaiting.Other x.1 >>= λ e.
     read_as (check w b.0 m.0 x.0 e.0) e.1
 
 unfoldable pub node_at : Option Inner → Token → Tokens → Read Declaration
@@ -52,7 +53,7 @@ behind_objective (part m x) = awaiting.Other
 
 unfoldable pub objective_at : Option Inner → Token → Tokens → Read Declaration
 objective_at o w ts =
-    expect sorts.Name awaiting.Other ts >>= λ n. part_at sorts.Colon (wide o 7) n.1 >>= λ p. expect sorts.Semicolon (behind_objective p.0) p.1 >>= λ e.
+    expect sorts.Name awaiting.Other ts >>= λ n. part_at sorts.Colon (wide o of_union) n.1 >>= λ p. expect sorts.Semicolon (behind_objective p.0) p.1 >>= λ e.
     read_as (objective w n.0 p.0 e.0) e.1
 
 unfoldable pub declared_at : Option Inner → Declares → Token → Tokens → Read Declaration

@@ -1,16 +1,17 @@
--- How expressions are read. The number of a reader is the rank that its trees may have.
+-- How expressions are read. The number of a reader is the precedence that its trees may have.
 use Rattle.std.specs.Prelude.{◌≡◌, ℕ, zero, suc, Bool, true, false, ◌||◌, nat_le, List, [], ◌∷◌, length, Option, None, Some, Ok, Err, if◌then◌else◌}
 use Rattle.net_lex.specs.declared.token.Token.{Token}
-use Rattle.net_tree.specs.declared.expr.Operator.{Operator}
-use Rattle.net_tree.specs.declared.expr.Operator.TheVariants.{One, Two}
+use Rattle.net_tree.specs.declared.operator.Words.{Words as Operator}
+use Rattle.net_tree.specs.declared.operator.Words.TheVariants.{One, Two}
 use Rattle.net_tree.specs.declared.role.Role.{Role}
 use Rattle.net_tree.specs.declared.role.Role.TheVariants as roles
 use Rattle.net_tree.specs.Tree.{Tree, Links, Part, Braces, leaf, indexed, parens, tuple, negated, braced, signed, reduced, chain, choice, net, none, link, absent, part, empty, filled}
 use Rattle.net_tree.specs.Role.{role_of, is_not, is_open_brace, is_close_brace, is_open_square, is_colon, is_if}
-use Rattle.net_tree.specs.Level.{rank, joins}
-use Rattle.net_model.specs.declared.sort.Sort.{Sort}
-use Rattle.net_model.specs.declared.sort.Sort.TheVariants as sorts
-use Rattle.net_model.specs.declared.stop.Awaiting.TheVariants as awaiting
+use Rattle.net_tree.specs.Precedence.{of_comma, of_reduction, of_product, of_sum, of_union, of_relation, of_or}
+use Rattle.net_tree.specs.WellFormed.{precedence, joins}
+use Rattle.net_model.specs.declared.expected.Expected.{Expected}
+use Rattle.net_model.specs.declared.expected.Expected.TheVariants as sorts
+use Rattle.net_model.specs.declared.parse_error.Awaiting.TheVariants as awaiting
 use Rattle.net_model.specs.Reading.{Tokens, Read, ◌>>=◌, read_as, refused, too_deep, next_is, is_sort, expect}
 
 abbrev pub Reader : Type 0
@@ -21,7 +22,7 @@ unfoldable pub operator_at : Tokens → Read Operator
 operator_at [] = refused awaiting.Other []
 operator_at (t ∷ ts) = if is_not (role_of t) then (expect sorts.Membership awaiting.Other ts >>= λ u. read_as (Two t u.0) u.1) else read_as (One t) ts
 
--- links joined by the tokens of level j, where k came before, at most so many
+-- links of tokens that join operands of precedence j, where k came before, at most so many
 abbrev pub links : ℕ → ℕ → ℕ → Reader → Tokens → Read Links
 links zero j k operand ts = read_as none ts
 links (suc turns) j k operand ts =
@@ -43,7 +44,7 @@ chained n x l = if is_none l then x else chain n x l
 unfoldable pub chain_at : ℕ → Reader → Tokens → Read Tree
 chain_at n operand ts = operand ts >>= λ x. all_links n operand x.1 >>= λ l. read_as (chained n x.0 l.0) l.1
 
--- a tree of this rank at most, up to 10
+-- a tree of this precedence at most, up to an `or`
 unfoldable pub climb : ℕ → Reader → Reader
 climb zero unary = unary
 climb (suc zero) unary = unary
@@ -54,14 +55,14 @@ unfoldable pub present_at : Reader → Tokens → Read Part
 present_at value [] = refused awaiting.Other []
 present_at value (t ∷ ts) = value ts >>= λ x. read_as (part t x.0) x.1
 
-unfoldable pub part_at : Sort → Reader → Tokens → Read Part
+unfoldable pub part_at : Expected → Reader → Tokens → Read Part
 part_at s value ts = if next_is (is_sort s) ts then present_at value ts else read_as absent ts
 
 -- the readers one nesting further in
 pub record Inner : Type 0 where
-  -- of trees of a rank
+  -- of trees of a precedence
   pub at : ℕ → Reader
-  -- of an `if`, or a tree of a rank
+  -- of an `if`, or a tree of a precedence
   pub wide : ℕ → Reader
   pub braces : Tokens → Read Braces
 
@@ -72,7 +73,7 @@ is_subscripted ts = next_is is_open_square ts
 unfoldable pub subscripts_at : Inner → Token → Tokens → Read Tree
 subscripts_at i n [] = refused awaiting.Other []
 subscripts_at i n (o ∷ ts) =
-    i.at 3 ts >>= λ x. all_links 0 (i.at 3) x.1 >>= λ l. expect sorts.CloseSquare awaiting.Other l.1 >>= λ c. read_as (indexed n o x.0 l.0 c.0) c.1
+    i.at of_sum ts >>= λ x. all_links of_comma (i.at of_sum) x.1 >>= λ l. expect sorts.CloseSquare awaiting.Other l.1 >>= λ c. read_as (indexed n o x.0 l.0 c.0) c.1
 
 unfoldable pub named_at : Option Inner → Token → Tokens → Read Tree
 named_at None n ts = if is_subscripted ts then too_deep ts else read_as (leaf n) ts
@@ -86,10 +87,10 @@ abbrev pub listed : Token → Tree → Links → Tokens → Read Tree
 listed o x l ts = if is_none l then closed o x ts else (expect sorts.Close awaiting.Other ts >>= λ c. read_as (tuple o x l c.0) c.1)
 
 unfoldable pub parens_from : Inner → Token → Tree → Tokens → Read Tree
-parens_from i o x ts = if nat_le (rank x) 3 then (all_links 0 (i.at 3) ts >>= λ l. listed o x l.0 l.1) else closed o x ts
+parens_from i o x ts = if nat_le (precedence x) of_sum then (all_links of_comma (i.at of_sum) ts >>= λ l. listed o x l.0 l.1) else closed o x ts
 
 unfoldable pub parens_at : Inner → Token → Tokens → Read Tree
-parens_at i o ts = i.wide 10 ts >>= λ x. parens_from i o x.0 x.1
+parens_at i o ts = i.wide of_or ts >>= λ x. parens_from i o x.0 x.1
 
 -- behind `not`
 unfoldable pub not_shut : Tokens → Read Tree
@@ -98,21 +99,21 @@ not_shut ts = if next_is (is_sort sorts.Open) ts then too_deep ts else refused a
 unfoldable pub negated_at : Option Inner → Token → Tokens → Read Tree
 negated_at None n ts = not_shut ts
 negated_at (Some i) n ts =
-    expect sorts.Open awaiting.Other ts >>= λ o. i.at 10 o.1 >>= λ x. expect sorts.Close awaiting.Other x.1 >>= λ c. read_as (negated n o.0 x.0 c.0) c.1
+    expect sorts.Open awaiting.Other ts >>= λ o. i.at of_or o.1 >>= λ x. expect sorts.Close awaiting.Other x.1 >>= λ c. read_as (negated n o.0 x.0 c.0) c.1
 
 -- behind `{`
 abbrev pub is_hollow : Role → Bool
 is_hollow r = is_colon r || is_close_brace r
 
 abbrev pub filter_at : Inner → Tokens → Read Part
-filter_at i ts = part_at sorts.Colon (i.at 10) ts
+filter_at i ts = part_at sorts.Colon (i.at of_or) ts
 
 unfoldable pub hollow_at : Inner → Token → Tokens → Read Braces
 hollow_at i o ts = filter_at i ts >>= λ p. expect sorts.CloseBrace awaiting.Other p.1 >>= λ c. read_as (empty o p.0 c.0) c.1
 
 unfoldable pub items_at : Inner → Token → Tokens → Read Braces
 items_at i o ts =
-    i.at 8 ts >>= λ x. all_links 0 (i.at 8) x.1 >>= λ l. filter_at i l.1 >>= λ p. expect sorts.CloseBrace awaiting.Other p.1 >>= λ c. read_as (filled o x.0 l.0 p.0 c.0) c.1
+    i.at of_relation ts >>= λ x. all_links of_comma (i.at of_relation) x.1 >>= λ l. filter_at i l.1 >>= λ p. expect sorts.CloseBrace awaiting.Other p.1 >>= λ c. read_as (filled o x.0 l.0 p.0 c.0) c.1
 
 unfoldable pub braces_at : Inner → Token → Tokens → Read Braces
 braces_at i o ts = if next_is is_hollow ts then hollow_at i o ts else items_at i o ts
@@ -123,12 +124,12 @@ braces (Some i) ts = expect sorts.OpenBrace awaiting.Other ts >>= λ o. braces_a
 
 -- behind `sum`, `min` or `max`
 unfoldable pub reduced_at : Inner → Token → Tokens → Read Tree
-reduced_at i w ts = i.braces ts >>= λ b. i.at 2 b.1 >>= λ x. read_as (reduced w b.0 x.0) x.1
+reduced_at i w ts = i.braces ts >>= λ b. i.at of_product b.1 >>= λ x. read_as (reduced w b.0 x.0) x.1
 
 -- behind `if`
 unfoldable pub choice_at : Inner → Token → Tokens → Read Tree
 choice_at i w ts =
-    i.at 10 ts >>= λ x. expect sorts.Then awaiting.Other x.1 >>= λ t. i.at 7 t.1 >>= λ y. part_at sorts.Else (i.wide 7) y.1 >>= λ e.
+    i.at of_or ts >>= λ x. expect sorts.Then awaiting.Other x.1 >>= λ t. i.at of_union t.1 >>= λ y. part_at sorts.Else (i.wide of_union) y.1 >>= λ e.
     read_as (choice w x.0 t.0 y.0 e.0) e.1
 
 unfoldable pub unary_at : Option Inner → Role → Token → Tokens → Read Tree
@@ -142,7 +143,7 @@ unary_at None roles.Sign t ts = too_deep (t ∷ ts)
 unary_at None roles.Reduction t ts = too_deep (t ∷ ts)
 unary_at (Some i) roles.Open t ts = parens_at i t ts
 unary_at (Some i) roles.OpenBrace t ts = braces_at i t ts >>= λ b. read_as (braced b.0) b.1
-unary_at (Some i) roles.Sign t ts = i.at 1 ts >>= λ x. read_as (signed t x.0) x.1
+unary_at (Some i) roles.Sign t ts = i.at of_reduction ts >>= λ x. read_as (signed t x.0) x.1
 unary_at (Some i) roles.Reduction t ts = reduced_at i t ts
 unary_at o _ t ts = refused awaiting.Other (t ∷ ts)
 

@@ -6,15 +6,15 @@ use Rattle.net_lex.specs.declared.token.Kind.TheVariants as kinds
 use Rattle.net_fault.specs.declared.span.Span.{Span}
 use Rattle.net_tree.specs.declared.role.Role.{Role}
 use Rattle.net_tree.specs.declared.role.Role.TheVariants as roles
-use Rattle.net_tree.specs.declared.role.Relates.TheVariants as relates
+use Rattle.net_tree.specs.declared.role.Relation.TheVariants as relations
 use Rattle.net_tree.specs.declared.declaration.Model.{Model}
 use Rattle.net_tree.specs.Role.{role_of}
 use Rattle.net_tree.specs.Tree.{Declaration}
 use Rattle.net_tree.specs.View as views
-use Rattle.net_model.specs.declared.stop.Awaiting.{Awaiting}
-use Rattle.net_model.specs.declared.stop.Awaiting.TheVariants as awaiting
-use Rattle.net_model.specs.declared.stop.Stop.{Stop}
-use Rattle.net_model.specs.declared.stop.Stop.TheVariants as stops
+use Rattle.net_model.specs.declared.parse_error.Awaiting.{Awaiting}
+use Rattle.net_model.specs.declared.parse_error.Awaiting.TheVariants as awaiting
+use Rattle.net_model.specs.declared.parse_error.ParseError.{ParseError}
+use Rattle.net_model.specs.declared.parse_error.ParseError.TheVariants as stops
 use Rattle.net_fault.specs.declared.defect.Defect.{Defect}
 use Rattle.net_fault.specs.declared.defect.Defect.TheVariants as defects
 use Rattle.net_fault.specs.declared.detail.Detail.{Detail}
@@ -39,7 +39,7 @@ begins_gain _ = false
 
 abbrev pub is_brace_or_equal : Role → Bool
 is_brace_or_equal roles.OpenBrace = true
-is_brace_or_equal (roles.Relation relates.Equal) = true
+is_brace_or_equal (roles.Relation relations.Equal) = true
 is_brace_or_equal _ = false
 
 -- in the place of a phrase or of a declaration: a word, `=`, `==`, `{`
@@ -103,13 +103,13 @@ abbrev pub deep_fault : (left whole : Tokens) → Finding
 deep_fault [] ts = bare languages.Model defects.TooDeep (end_of ts)
 deep_fault (t ∷ left) ts = bare languages.Model defects.TooDeep t.span
 
-abbrev pub told : Stop → Tokens → Fault
+abbrev pub told : ParseError → Tokens → Fault
 told stops.OutOfMemory ts = OutOfMemory
 told (stops.Refused left a) ts = At (refused_fault a (left_of left ts) ts)
 told (stops.TooDeep left) ts = At (deep_fault (left_of left ts) ts)
 
 -- the fault of where the reading stops, unless memory ran out
-abbrev pub IsToldOf : Stop → Tokens → Fault → Type 0
+abbrev pub IsToldOf : ParseError → Tokens → Fault → Type 0
 IsToldOf s ts OutOfMemory = Unit {0}
 IsToldOf s ts (At f) = told s ts ≡ At f
 
@@ -117,4 +117,4 @@ IsToldOf s ts (At f) = told s ts ≡ At f
 abbrev pub Tells : Tokens → Result Model Fault → Read (List Declaration × Unit {0}) → Type 0
 Tells ts (Ok m) read = read ≡ Ok ((views.model m, tt), [])
 Tells ts (Err OutOfMemory) read = Unit {0}
-Tells ts (Err (At f)) read = (s : Stop) × (read ≡ Err s) × (told s ts ≡ At f)
+Tells ts (Err (At f)) read = (s : ParseError) × (read ≡ Err s) × (told s ts ≡ At f)

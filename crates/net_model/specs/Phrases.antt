@@ -4,17 +4,18 @@ use Rattle.net_lex.specs.declared.token.Token.{Token}
 use Rattle.net_tree.specs.declared.role.Role.{Role}
 use Rattle.net_tree.specs.declared.role.Role.TheVariants as roles
 use Rattle.net_tree.specs.declared.role.Begins.TheVariants as begins
-use Rattle.net_tree.specs.declared.role.Relates.TheVariants as relates
+use Rattle.net_tree.specs.declared.role.Relation.TheVariants as relations
 use Rattle.net_tree.specs.Role.{role_of, is_comma, is_semicolon}
+use Rattle.net_tree.specs.Precedence.{of_sum, of_union}
 use Rattle.net_tree.specs.Tree.{Tree, leaf, Body, plain, valued, priced, Phrase}
 use Rattle.net_model.specs.declared.phrase.Owner.{Owner}
 use Rattle.net_model.specs.declared.phrase.Owner.TheVariants as owners
 use Rattle.net_model.specs.declared.phrase.Slot.{Slot}
 use Rattle.net_model.specs.declared.phrase.Slot.TheVariants as slots
 use Rattle.net_model.specs.declared.phrase.Stood.{Stood}
-use Rattle.net_model.specs.declared.stop.Awaiting.{Awaiting}
-use Rattle.net_model.specs.declared.stop.Awaiting.TheVariants as awaiting
-use Rattle.net_model.specs.declared.sort.Sort.TheVariants as sorts
+use Rattle.net_model.specs.declared.parse_error.Awaiting.{Awaiting}
+use Rattle.net_model.specs.declared.parse_error.Awaiting.TheVariants as awaiting
+use Rattle.net_model.specs.declared.expected.Expected.TheVariants as sorts
 use Rattle.net_model.specs.Reading.{Tokens, Read, ◌>>=◌, read_as, refused, next_is, is_sort, expect}
 use Rattle.net_model.specs.Expressions.{Inner, unary, climb, wide, named_at}
 use Rattle.net_model.specs.Rows.{row}
@@ -22,24 +23,26 @@ use Rattle.net_model.specs.Rows.{row}
 -- what a phrase that this word begins takes, if the declaration has such a phrase
 abbrev pub set_slot : Role → Option Slot
 set_slot (roles.Phrase begins.Dimen) = Some slots.Number
-set_slot (roles.Relation relates.Within) = Some slots.Set
+set_slot (roles.Relation relations.Within) = Some slots.Set
 set_slot roles.Becomes = Some slots.Value
 set_slot _ = None
 
 abbrev pub param_slot : Role → Option Slot
 param_slot (roles.Phrase begins.Symbolic) = Some slots.Nothing
 param_slot (roles.Phrase begins.Integer) = Some slots.Nothing
-param_slot (roles.Relation relates.AtMost) = Some slots.Sum
-param_slot (roles.Relation relates.AtLeast) = Some slots.Sum
-param_slot (roles.Relation relates.Other) = Some slots.Sum
-param_slot (roles.Relation relates.In) = Some slots.Set
+param_slot (roles.Relation relations.AtMost) = Some slots.Sum
+param_slot (roles.Relation relations.AtLeast) = Some slots.Sum
+param_slot (roles.Relation relations.Less) = Some slots.Sum
+param_slot (roles.Relation relations.Greater) = Some slots.Sum
+param_slot (roles.Relation relations.Unequal) = Some slots.Sum
+param_slot (roles.Relation relations.In) = Some slots.Set
 param_slot (roles.Phrase begins.Default) = Some slots.Value
 param_slot roles.Becomes = Some slots.Value
 param_slot _ = None
 
 abbrev pub arc_slot : Role → Option Slot
-arc_slot (roles.Relation relates.AtMost) = Some slots.Sum
-arc_slot (roles.Relation relates.AtLeast) = Some slots.Sum
+arc_slot (roles.Relation relations.AtMost) = Some slots.Sum
+arc_slot (roles.Relation relations.AtLeast) = Some slots.Sum
 arc_slot (roles.Phrase begins.Integer) = Some slots.Nothing
 arc_slot (roles.Phrase begins.From) = Some slots.Node
 arc_slot (roles.Phrase begins.To) = Some slots.Node
@@ -63,8 +66,8 @@ stood_before o s (roles.Phrase begins.Default) = s.default
 stood_before o s (roles.Phrase begins.From) = s.from
 stood_before o s (roles.Phrase begins.To) = s.to
 stood_before o s roles.Becomes = s.becomes
-stood_before o s (roles.Relation relates.AtLeast) = is_arc o && s.at_least
-stood_before o s (roles.Relation relates.AtMost) = is_arc o && s.at_most
+stood_before o s (roles.Relation relations.AtLeast) = is_arc o && s.at_least
+stood_before o s (roles.Relation relations.AtMost) = is_arc o && s.at_most
 stood_before _ _ _ = false
 
 -- what stood, with the phrase that this word begins
@@ -74,8 +77,8 @@ and_then_stood s (roles.Phrase begins.Default) = record s { default = true; behi
 and_then_stood s (roles.Phrase begins.From) = record s { from = true; behind_node = true }
 and_then_stood s (roles.Phrase begins.To) = record s { to = true; behind_node = true }
 and_then_stood s roles.Becomes = record s { becomes = true; behind_node = false }
-and_then_stood s (roles.Relation relates.AtLeast) = record s { at_least = true; behind_node = false }
-and_then_stood s (roles.Relation relates.AtMost) = record s { at_most = true; behind_node = false }
+and_then_stood s (roles.Relation relations.AtLeast) = record s { at_least = true; behind_node = false }
+and_then_stood s (roles.Relation relations.AtMost) = record s { at_most = true; behind_node = false }
 and_then_stood s _ = record s { behind_node = false }
 
 abbrev pub nothing_stood : Stood
@@ -98,11 +101,11 @@ awaited o s r = if stood_before o s r then awaiting.FurtherPhrase else if s.behi
 abbrev pub body_of : Option Inner → Slot → Tokens → Read Body
 body_of o slots.Nothing ts = read_as plain ts
 body_of o slots.Number ts = expect sorts.Number awaiting.Other ts >>= λ t. read_as (valued (leaf t.0)) t.1
-body_of o slots.Set ts = climb 7 (unary o) ts >>= λ x. read_as (valued x.0) x.1
-body_of o slots.Sum ts = climb 3 (unary o) ts >>= λ x. read_as (valued x.0) x.1
-body_of o slots.Value ts = wide o 7 ts >>= λ x. read_as (valued x.0) x.1
+body_of o slots.Set ts = climb of_union (unary o) ts >>= λ x. read_as (valued x.0) x.1
+body_of o slots.Sum ts = climb of_sum (unary o) ts >>= λ x. read_as (valued x.0) x.1
+body_of o slots.Value ts = wide o of_union ts >>= λ x. read_as (valued x.0) x.1
 body_of o slots.Node ts = expect sorts.Name awaiting.Other ts >>= λ n. named_at o n.0 n.1 >>= λ x. read_as (valued x.0) x.1
-body_of o slots.Price ts = expect sorts.Name awaiting.Objective ts >>= λ n. climb 3 (unary o) n.1 >>= λ x. read_as (priced n.0 x.0) x.1
+body_of o slots.Price ts = expect sorts.Name awaiting.Objective ts >>= λ n. climb of_sum (unary o) n.1 >>= λ x. read_as (priced n.0 x.0) x.1
 
 -- behind the word
 abbrev pub phrase_of_slot : Option Inner → Option Token → Token → Stood → Option Slot → Tokens → Read (Phrase × Stood)

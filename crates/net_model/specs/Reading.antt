@@ -3,21 +3,21 @@ use Rattle.std.specs.Prelude.{◌≡◌, ℕ, suc, Bool, true, false, List, [], 
 use Rattle.net_lex.specs.declared.token.Token.{Token}
 use Rattle.net_tree.specs.declared.role.Role.{Role}
 use Rattle.net_tree.specs.Role.{role_of, is_name, is_number, is_open, is_close, is_open_brace, is_close_brace, is_open_square, is_close_square, is_colon, is_semicolon, is_if, is_then, is_else, is_membership, is_bound, is_net, is_sign, is_comma}
-use Rattle.net_model.specs.declared.stop.Awaiting.{Awaiting}
-use Rattle.net_model.specs.declared.stop.Stop.{Stop}
-use Rattle.net_model.specs.declared.stop.Stop.TheVariants as stops
-use Rattle.net_model.specs.declared.sort.Sort.{Sort}
-use Rattle.net_model.specs.declared.sort.Sort.TheVariants as sorts
+use Rattle.net_model.specs.declared.parse_error.Awaiting.{Awaiting}
+use Rattle.net_model.specs.declared.parse_error.ParseError.{ParseError}
+use Rattle.net_model.specs.declared.parse_error.ParseError.TheVariants as stops
+use Rattle.net_model.specs.declared.expected.Expected.{Expected}
+use Rattle.net_model.specs.declared.expected.Expected.TheVariants as sorts
 
 abbrev pub Tokens : Type 0
 Tokens = List Token
 
 -- what was read and the tokens behind it
 abbrev pub Read : Type 0 → Type 0
-Read A = Result (A × Tokens) Stop
+Read A = Result (A × Tokens) ParseError
 
 infixl 10 ◌>>=◌
-abbrev pub ◌>>=◌ : {A B : Type 0} → Result A Stop → (A → Result B Stop) → Result B Stop
+abbrev pub ◌>>=◌ : {A B : Type 0} → Result A ParseError → (A → Result B ParseError) → Result B ParseError
 (Ok x) >>= f = f x
 (Err e) >>= f = Err e
 
@@ -39,7 +39,7 @@ abbrev pub next_is : (Role → Bool) → Tokens → Bool
 next_is test [] = false
 next_is test (t ∷ ts) = test (role_of t)
 
-abbrev pub is_sort : Sort → Role → Bool
+abbrev pub is_sort : Expected → Role → Bool
 is_sort sorts.Name r = is_name r
 is_sort sorts.Number r = is_number r
 is_sort sorts.Open r = is_open r
@@ -60,16 +60,16 @@ is_sort sorts.Sign r = is_sign r
 is_sort sorts.Net r = is_net r
 
 -- a token of this sort
-unfoldable pub expect : Sort → Awaiting → Tokens → Read Token
+unfoldable pub expect : Expected → Awaiting → Tokens → Read Token
 expect s a [] = refused a []
 expect s a (t ∷ ts) = if is_sort s (role_of t) then Ok (t, ts) else refused a (t ∷ ts)
 
 -- What a call answered, seen by view, and the tokens that it left are what is read, unless memory ran out.
-abbrev pub Fails : {A : Type 0} → Stop → Read A → Type 0
+abbrev pub Fails : {A : Type 0} → ParseError → Read A → Type 0
 Fails stops.OutOfMemory read = Unit {0}
 Fails (stops.Refused n a) read = read ≡ Err (stops.Refused n a)
 Fails (stops.TooDeep n) read = read ≡ Err (stops.TooDeep n)
 
-abbrev pub Gives : {X A : Type 0} → (X → A) → Result X Stop → Tokens → Read A → Type 0
+abbrev pub Gives : {X A : Type 0} → (X → A) → Result X ParseError → Tokens → Read A → Type 0
 Gives view (Ok x) rest read = read ≡ Ok (view x, rest)
 Gives view (Err e) rest read = Fails e read

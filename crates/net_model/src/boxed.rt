@@ -1,12 +1,12 @@
 ghost use Rattle.std.specs.Prelude.{◌≡◌, IfOk, IfErr};
-ghost use Rattle.net_model.specs.declared.stop.Stop.TheVariants.{OutOfMemory};
+ghost use Rattle.net_model.specs.declared.parse_error.ParseError.TheVariants.{OutOfMemory};
 
-use crate::stop::Stop;
+use crate::parse_error::ParseError;
 use net_views::Boxed;
 use std::alloc::Global;
 
 /// The value in a box of its own.
-pub(crate) fn boxed<T: Drop>(alloc: Global, value: T) -> Result<Boxed<T>, Stop>
+pub(crate) fn boxed<T: Drop>(alloc: Global, value: T) -> Result<Boxed<T>, ParseError>
     ensures value { IfOk result (λ b. b ≡ value) }
     ensures memory { IfErr result (λ e. e ≡ OutOfMemory) }
 {

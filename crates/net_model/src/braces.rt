@@ -1,7 +1,8 @@
 //! Braces, and reductions over them.
 
 ghost use Rattle.std.specs.Prelude.{◌≡◌, ◌<◌, ◌≤◌, Some, None, length, IfOk, IfErr};
-ghost use Rattle.net_model.specs.declared.stop.Stop.TheVariants.{OutOfMemory};
+ghost use Rattle.net_model.specs.declared.parse_error.ParseError.TheVariants.{OutOfMemory};
+ghost use Rattle.net_tree.specs.Precedence.{of_product};
 ghost use Rattle.net_tree.specs.Tree.{reduced};
 ghost use Rattle.net_tree.specs.View.{tree, braces_of, option_part};
 ghost use Rattle.net_model.specs.Expressions as grammar;
@@ -13,12 +14,12 @@ use crate::carried::Carried;
 use crate::chains::{climb_to, links_from};
 use crate::choices::introduced;
 use crate::cursor::{Cursor, expect};
-use crate::place::body_place;
-use crate::sort::Sort;
-use crate::stop::{Awaiting, Stop};
+use crate::expected::Expected;
+use crate::operand::loosest_in_body;
+use crate::parse_error::{Awaiting, ParseError};
 use crate::stored::Stored;
 use net_lex::Token;
-use net_tree::{Braces, Expr, Part, Series};
+use net_tree::{Braces, Expr, Part, Reducer, Series, precedence};
 use net_views::Boxed;
 use std::alloc::Global;
 
@@ -28,7 +29,7 @@ pub(crate) fn braces_of<'t, 's>(
     alloc: Global,
     depth: u8,
     tokens: &mut Cursor<'t, 's>,
-) -> Result<Stored<Braces<'s>>, Stop>
+) -> Result<Stored<Braces<'s>>, ParseError>
     ensures value { Gives braces_of result tokens.new (grammar.braces (inside depth) tokens.old) }
     ensures shorter { IfOk result (λ x. length tokens.new < length tokens.old) }
 {
@@ -40,16 +41,16 @@ pub(crate) fn braces_of<'t, 's>(
 }
 
 #[tactic(auto, unfolding(crate::specs::Expressions::braces))]
-fn shut_braces<'t, 's>(tokens: &mut Cursor<'t, 's>) -> Result<Stored<Braces<'s>>, Stop>
+fn shut_braces<'t, 's>(tokens: &mut Cursor<'t, 's>) -> Result<Stored<Braces<'s>>, ParseError>
     ensures value { Gives braces_of result tokens.new (grammar.braces None tokens.old) }
     ensures shorter { IfOk result (λ x. length tokens.new < length tokens.old) }
     // What takes no memory wants none.
     ensures sure { IfErr result (λ e. e ≡ OutOfMemory → ⊥) }
 {
-    if tokens.next_is(Sort::OpenBrace) {
-        Err(Stop::TooDeep(tokens.len()))
+    if tokens.next_is(Expected::OpenBrace) {
+        Err(ParseError::TooDeep(tokens.len()))
     } else {
-        Err(Stop::Refused(tokens.len(), Awaiting::Other))
+        Err(ParseError::Refused(tokens.len(), Awaiting::Other))
     }
 }
 
@@ -59,11 +60,11 @@ fn braces_opened<'t, 's>(
     alloc: Global,
     depth: u8,
     tokens: &mut Cursor<'t, 's>,
-) -> Result<Stored<Braces<'s>>, Stop>
+) -> Result<Stored<Braces<'s>>, ParseError>
     ensures value { Gives braces_of result tokens.new (grammar.braces (Some (inner_of (inside depth))) tokens.old) }
     ensures shorter { IfOk result (λ x. length tokens.new < length tokens.old) }
 {
-    let open = expect(Sort::OpenBrace, Awaiting::Other, tokens)?;
+    let open = expect(Expected::OpenBrace, Awaiting::Other, tokens)?;
     braces_inside(alloc, depth, open, tokens)
 }
 
@@ -75,7 +76,7 @@ pub(crate) fn braces_inside<'t, 's>(
     depth: u8,
     opening: Token<'s>,
     tokens: &mut Cursor<'t, 's>,
-) -> Result<Stored<Braces<'s>>, Stop>
+) -> Result<Stored<Braces<'s>>, ParseError>
     ensures value { Gives braces_of result tokens.new (grammar.braces_at (inner_of (inside depth)) opening.entry tokens.old) }
     ensures shorter { IfOk result (λ x. length tokens.new < length tokens.old) }
 {
@@ -94,12 +95,12 @@ fn hollow_inside<'t, 's>(
     depth: u8,
     opening: Token<'s>,
     tokens: &mut Cursor<'t, 's>,
-) -> Result<Stored<Braces<'s>>, Stop>
+) -> Result<Stored<Braces<'s>>, ParseError>
     ensures value { Gives braces_of result tokens.new (grammar.hollow_at (inner_of (inside depth)) opening.entry tokens.old) }
     ensures shorter { IfOk result (λ x. length tokens.new < length tokens.old) }
 {
     let filter = filter_of(alloc, depth, tokens)?;
-    let close = expect(Sort::CloseBrace, Awaiting::Other, tokens)?;
+    let close = expect(Expected::CloseBrace, Awaiting::Other, tokens)?;
     Stored::new(alloc, Braces::Empty(opening, filter.into_inner(), close))
 }
 
@@ -111,14 +112,20 @@ fn items_inside<'t, 's>(
     depth: u8,
     opening: Token<'s>,
     tokens: &mut Cursor<'t, 's>,
-) -> Result<Stored<Braces<'s>>, Stop>
+) -> Result<Stored<Braces<'s>>, ParseError>
     ensures value { Gives braces_of result tokens.new (grammar.items_at (inner_of (inside depth)) opening.entry tokens.old) }
     ensures shorter { IfOk result (λ x. length tokens.new < length tokens.old) }
 {
-    let first = climb_to(alloc, depth, 8, tokens)?;
-    let more = links_from(alloc, depth, 0, 8, tokens)?;
+    let first = climb_to(alloc, depth, precedence::RELATION, tokens)?;
+    let more = links_from(
+        alloc,
+        depth,
+        precedence::COMMA,
+        precedence::RELATION,
+        tokens,
+    )?;
     let filter = filter_of(alloc, depth, tokens)?;
-    let close = expect(Sort::CloseBrace, Awaiting::Other, tokens)?;
+    let close = expect(Expected::CloseBrace, Awaiting::Other, tokens)?;
     let first = first.into_inner();
     let more = more.into_inner();
     let braces = Braces::Filled(opening, Series { first, more }, filter.into_inner(), close);
@@ -132,17 +139,17 @@ fn filter_of<'t, 's>(
     alloc: Global,
     depth: u8,
     tokens: &mut Cursor<'t, 's>,
-) -> Result<Carried<Option<Boxed<Part<'s>>>>, Stop>
+) -> Result<Carried<Option<Boxed<Part<'s>>>>, ParseError>
     ensures value { Gives option_part result tokens.new (grammar.filter_at (inner_of (inside depth)) tokens.old) }
     ensures shorter { IfOk result (λ x. length tokens.new ≤ length tokens.old) }
 {
-    if !tokens.next_is(Sort::Colon) {
+    if !tokens.next_is(Expected::Colon) {
         return Ok(Carried::new(None));
     }
     let Some(mark) = tokens.next() else {
-        return Err(Stop::Refused(0, Awaiting::Other));
+        return Err(ParseError::Refused(0, Awaiting::Other));
     };
-    let condition = introduced(alloc, depth, 10, mark, tokens)?;
+    let condition = introduced(alloc, depth, precedence::OR, mark, tokens)?;
     Ok(Carried::new(Some(condition.into_boxed())))
 }
 
@@ -154,7 +161,7 @@ pub(crate) fn reduced_inside<'t, 's>(
     depth: u8,
     word: Token<'s>,
     tokens: &mut Cursor<'t, 's>,
-) -> Result<Stored<Expr<'s>>, Stop>
+) -> Result<Stored<Expr<'s>>, ParseError>
     ensures value { Gives tree result tokens.new (grammar.reduced_at (inner_of (inside depth)) word.entry tokens.old) }
     ensures shorter { IfOk result (λ x. length tokens.new < length tokens.old) }
 {
@@ -170,10 +177,10 @@ fn reduced<'s>(
     word: Token<'s>,
     braces: Stored<Braces<'s>>,
     body: Stored<Expr<'s>>,
-) -> Result<Stored<Expr<'s>>, Stop>
+) -> Result<Stored<Expr<'s>>, ParseError>
     ensures { (rest : Tokens) → Gives tree result rest (read_as (reduced word.entry (braces_of braces.entry) (tree body.entry)) rest) }
 {
-    let front = boxed(alloc, (word, braces.into_inner()))?;
+    let front = boxed(alloc, (Reducer::new(word), braces.into_inner()))?;
     Stored::new(alloc, Expr::Reduced(front, body.into_boxed()))
 }
 
@@ -183,9 +190,9 @@ fn body_inside<'t, 's>(
     alloc: Global,
     depth: u8,
     tokens: &mut Cursor<'t, 's>,
-) -> Result<Stored<Expr<'s>>, Stop>
-    ensures value { Gives tree result tokens.new (grammar.climb 2 (unary (inside depth)) tokens.old) }
+) -> Result<Stored<Expr<'s>>, ParseError>
+    ensures value { Gives tree result tokens.new (grammar.climb of_product (unary (inside depth)) tokens.old) }
     ensures shorter { IfOk result (λ x. length tokens.new < length tokens.old) }
 {
-    climb_to(alloc, depth, body_place(), tokens)
+    climb_to(alloc, depth, loosest_in_body(), tokens)
 }

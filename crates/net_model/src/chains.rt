@@ -1,4 +1,4 @@
-//! Chains of operands, from one rank to the next.
+//! Chains of operands, from one precedence to the next.
 
 ghost use Rattle.std.specs.Prelude.{◌≡◌, ◌<◌, ◌≤◌, length, IfOk};
 ghost use Rattle.net_tree.specs.View.{tree, links_of};
@@ -10,79 +10,79 @@ use crate::carried::Carried;
 use crate::cursor::{Cursor, operator_at};
 use crate::expressions::unary_of;
 use crate::list::push;
-use crate::place::right_place;
-use crate::stop::Stop;
+use crate::operand::loosest_at_right;
+use crate::parse_error::ParseError;
 use crate::stored::Stored;
 use crate::trees::{chained, linked};
-use net_tree::{Expr, Link};
+use net_tree::{Expr, Link, precedence};
 use net_views::Items;
 use std::alloc::Global;
 
-/// A tree for this place, up to 10.
+/// A tree that is no looser, up to an `or`.
 #[cycle(parser)]
 pub(crate) fn climb_to<'t, 's>(
     alloc: Global,
     depth: u8,
-    place: u8,
+    loosest: u8,
     tokens: &mut Cursor<'t, 's>,
-) -> Result<Stored<Expr<'s>>, Stop>
-    ensures value { Gives tree result tokens.new (grammar.climb place (unary (inside depth)) tokens.old) }
+) -> Result<Stored<Expr<'s>>, ParseError>
+    ensures value { Gives tree result tokens.new (grammar.climb loosest (unary (inside depth)) tokens.old) }
     ensures shorter { IfOk result (λ x. length tokens.new < length tokens.old) }
 {
-    if place < 2 {
+    if loosest < precedence::PRODUCT {
         unary_of(alloc, depth, tokens)
     } else {
-        chain_of(alloc, depth, place - 1, tokens)
+        chain_of(alloc, depth, loosest - 1, tokens)
     }
 }
 
-/// A chain of operands of this rank, or one alone.
+/// A chain of operands of this precedence, or one alone.
 #[cycle(parser)]
 #[tactic(auto, unfolding(crate::specs::Expressions::chain_at))]
 fn chain_of<'t, 's>(
     alloc: Global,
     depth: u8,
-    place: u8,
+    loosest: u8,
     tokens: &mut Cursor<'t, 's>,
-) -> Result<Stored<Expr<'s>>, Stop>
-    ensures value { Gives tree result tokens.new (grammar.chain_at place (grammar.climb place (unary (inside depth))) tokens.old) }
+) -> Result<Stored<Expr<'s>>, ParseError>
+    ensures value { Gives tree result tokens.new (grammar.chain_at loosest (grammar.climb loosest (unary (inside depth))) tokens.old) }
     ensures shorter { IfOk result (λ x. length tokens.new < length tokens.old) }
 {
-    let first = climb_to(alloc, depth, place, tokens)?;
-    let more = chain_links(alloc, depth, place, tokens)?;
-    Ok(chained(alloc, place, first, more)?)
+    let first = climb_to(alloc, depth, loosest, tokens)?;
+    let more = chain_links(alloc, depth, loosest, tokens)?;
+    Ok(chained(alloc, loosest, first, more)?)
 }
 
-/// The links of a chain whose first operand has this rank.
+/// The links of a chain whose first operand has this precedence.
 #[cycle(parser)]
 fn chain_links<'t, 's>(
     alloc: Global,
     depth: u8,
-    place: u8,
+    loosest: u8,
     tokens: &mut Cursor<'t, 's>,
-) -> Result<Carried<Items<Link<'s>>>, Stop>
-    ensures value { Gives links_of result tokens.new (grammar.all_links place (grammar.climb place (unary (inside depth))) tokens.old) }
+) -> Result<Carried<Items<Link<'s>>>, ParseError>
+    ensures value { Gives links_of result tokens.new (grammar.all_links loosest (grammar.climb loosest (unary (inside depth))) tokens.old) }
     ensures shorter { IfOk result (λ x. length tokens.new ≤ length tokens.old) }
 {
-    links_from(alloc, depth, place, right_place(place), tokens)
+    links_from(alloc, depth, loosest, loosest_at_right(loosest), tokens)
 }
 
-/// The links that tokens of this level join, with operands for this place.
+/// The links of tokens that join operands of a precedence, with operands no looser than another.
 #[cycle(parser)]
 pub(crate) fn links_from<'t, 's>(
     alloc: Global,
     depth: u8,
-    level: u8,
-    place: u8,
+    joining: u8,
+    loosest: u8,
     tokens: &mut Cursor<'t, 's>,
-) -> Result<Carried<Items<Link<'s>>>, Stop>
-    ensures value { Gives links_of result tokens.new (grammar.all_links level (grammar.climb place (unary (inside depth))) tokens.old) }
+) -> Result<Carried<Items<Link<'s>>>, ParseError>
+    ensures value { Gives links_of result tokens.new (grammar.all_links joining (grammar.climb loosest (unary (inside depth))) tokens.old) }
     ensures shorter { IfOk result (λ x. length tokens.new ≤ length tokens.old) }
 {
     let mut found = Vec::new(alloc);
-    while tokens.next_joins(level, found.len()) {
+    while tokens.next_joins(joining, found.len()) {
         let operator = operator_at(alloc, tokens)?;
-        let operand = climb_to(alloc, depth, place, tokens)?;
+        let operand = climb_to(alloc, depth, loosest, tokens)?;
         let link = linked(alloc, operator, operand)?;
         push(&mut found, link)?;
     }

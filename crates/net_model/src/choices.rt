@@ -1,41 +1,41 @@
 //! `if` with its branches, where one may stand.
 
 ghost use Rattle.std.specs.Prelude.{◌≡◌, ◌<◌, ◌≤◌, Some, None, length, IfOk, IfErr};
-ghost use Rattle.net_model.specs.declared.stop.Stop.TheVariants.{OutOfMemory};
+ghost use Rattle.net_model.specs.declared.parse_error.ParseError.TheVariants.{OutOfMemory};
 ghost use Rattle.net_tree.specs.View.{tree, option_part, part_of};
 ghost use Rattle.net_model.specs.Expressions as grammar;
 ghost use Rattle.net_model.specs.Expressions.{inside, inner_of, unary};
 ghost use Rattle.net_model.specs.Reading.{Gives};
-ghost use Rattle.net_model.specs.declared.sort.Sort.TheVariants as sorts;
+ghost use Rattle.net_model.specs.declared.expected.Expected.TheVariants as sorts;
 
 use crate::boxed::boxed;
 use crate::carried::Carried;
 use crate::chains::climb_to;
 use crate::cursor::{Cursor, expect};
-use crate::sort::Sort;
-use crate::stop::{Awaiting, Stop};
+use crate::expected::Expected;
+use crate::parse_error::{Awaiting, ParseError};
 use crate::stored::Stored;
 use net_lex::Token;
-use net_tree::{Expr, Part};
+use net_tree::{Expr, Part, precedence};
 use net_views::Boxed;
 use std::alloc::Global;
 
-/// An `if`, or a tree for this place.
+/// An `if`, or a tree that is no looser.
 #[cycle(parser)]
 #[tactic(auto, unfolding(crate::specs::Expressions::wide))]
 pub(crate) fn wide_of<'t, 's>(
     alloc: Global,
     depth: u8,
-    place: u8,
+    loosest: u8,
     tokens: &mut Cursor<'t, 's>,
-) -> Result<Stored<Expr<'s>>, Stop>
-    ensures value { Gives tree result tokens.new (grammar.wide (inside depth) place tokens.old) }
+) -> Result<Stored<Expr<'s>>, ParseError>
+    ensures value { Gives tree result tokens.new (grammar.wide (inside depth) loosest tokens.old) }
     ensures shorter { IfOk result (λ x. length tokens.new < length tokens.old) }
 {
-    if tokens.next_is(Sort::If) {
+    if tokens.next_is(Expected::If) {
         if_of(alloc, depth, tokens)
     } else {
-        climb_to(alloc, depth, place, tokens)
+        climb_to(alloc, depth, loosest, tokens)
     }
 }
 
@@ -44,7 +44,7 @@ fn if_of<'t, 's>(
     alloc: Global,
     depth: u8,
     tokens: &mut Cursor<'t, 's>,
-) -> Result<Stored<Expr<'s>>, Stop>
+) -> Result<Stored<Expr<'s>>, ParseError>
     ensures value { Gives tree result tokens.new (grammar.if_at (inside depth) tokens.old) }
     ensures shorter { IfOk result (λ x. length tokens.new < length tokens.old) }
 {
@@ -56,13 +56,13 @@ fn if_of<'t, 's>(
 }
 
 #[tactic(auto, unfolding(crate::specs::Expressions::if_at))]
-fn shut_if<'t, 's>(tokens: &mut Cursor<'t, 's>) -> Result<Stored<Expr<'s>>, Stop>
+fn shut_if<'t, 's>(tokens: &mut Cursor<'t, 's>) -> Result<Stored<Expr<'s>>, ParseError>
     ensures value { Gives tree result tokens.new (grammar.if_at None tokens.old) }
     ensures shorter { IfOk result (λ x. length tokens.new < length tokens.old) }
     // What takes no memory wants none.
     ensures sure { IfErr result (λ e. e ≡ OutOfMemory → ⊥) }
 {
-    Err(Stop::TooDeep(tokens.len()))
+    Err(ParseError::TooDeep(tokens.len()))
 }
 
 #[cycle(parser)]
@@ -71,31 +71,31 @@ fn if_inside<'t, 's>(
     alloc: Global,
     depth: u8,
     tokens: &mut Cursor<'t, 's>,
-) -> Result<Stored<Expr<'s>>, Stop>
+) -> Result<Stored<Expr<'s>>, ParseError>
     ensures value { Gives tree result tokens.new (grammar.if_at (Some (inner_of (inside depth))) tokens.old) }
     ensures shorter { IfOk result (λ x. length tokens.new < length tokens.old) }
 {
     match tokens.next() {
-        None => Err(Stop::Refused(0, Awaiting::Other)),
+        None => Err(ParseError::Refused(0, Awaiting::Other)),
         Some(word) => choice_inside(alloc, depth, word, tokens),
     }
 }
 
-/// A tree for this place, with the mark or word before it.
+/// A tree that is no looser, with the mark or word before it.
 #[cycle(parser)]
 #[tactic(auto, using(net_tree::proofs::Views::views))]
 pub(crate) fn introduced<'t, 's>(
     alloc: Global,
     depth: u8,
-    place: u8,
+    loosest: u8,
     mark: Token<'s>,
     tokens: &mut Cursor<'t, 's>,
-) -> Result<Stored<Part<'s>>, Stop>
-    ensures value { Gives (λ p. (part_of p).1) result tokens.new (grammar.climb place (unary (inside depth)) tokens.old) }
+) -> Result<Stored<Part<'s>>, ParseError>
+    ensures value { Gives (λ p. (part_of p).1) result tokens.new (grammar.climb loosest (unary (inside depth)) tokens.old) }
     ensures mark { IfOk result (λ p. (part_of p).0 ≡ mark.entry) }
     ensures shorter { IfOk result (λ x. length tokens.new < length tokens.old) }
 {
-    let value = climb_to(alloc, depth, place, tokens)?.into_inner();
+    let value = climb_to(alloc, depth, loosest, tokens)?.into_inner();
     Stored::new(alloc, Part { mark, value })
 }
 
@@ -107,13 +107,13 @@ fn choice_inside<'t, 's>(
     depth: u8,
     word: Token<'s>,
     tokens: &mut Cursor<'t, 's>,
-) -> Result<Stored<Expr<'s>>, Stop>
+) -> Result<Stored<Expr<'s>>, ParseError>
     ensures value { Gives tree result tokens.new (grammar.choice_at (inner_of (inside depth)) word.entry tokens.old) }
     ensures shorter { IfOk result (λ x. length tokens.new < length tokens.old) }
 {
-    let condition = introduced(alloc, depth, 10, word, tokens)?;
-    let then = expect(Sort::Then, Awaiting::Other, tokens)?;
-    let branch = introduced(alloc, depth, 7, then, tokens)?;
+    let condition = introduced(alloc, depth, precedence::OR, word, tokens)?;
+    let then = expect(Expected::Then, Awaiting::Other, tokens)?;
+    let branch = introduced(alloc, depth, precedence::UNION, then, tokens)?;
     let otherwise = otherwise_of(alloc, depth, tokens)?;
     let choice = Expr::Choice(
         condition.into_boxed(),
@@ -130,16 +130,16 @@ fn otherwise_of<'t, 's>(
     alloc: Global,
     depth: u8,
     tokens: &mut Cursor<'t, 's>,
-) -> Result<Carried<Option<Boxed<Part<'s>>>>, Stop>
+) -> Result<Carried<Option<Boxed<Part<'s>>>>, ParseError>
     ensures value { Gives option_part result tokens.new (grammar.part_at sorts.Else ((inner_of (inside depth)).wide 7) tokens.old) }
     ensures shorter { IfOk result (λ x. length tokens.new ≤ length tokens.old) }
 {
-    if !tokens.next_is(Sort::Else) {
+    if !tokens.next_is(Expected::Else) {
         return Ok(Carried::new(None));
     }
     let Some(mark) = tokens.next() else {
-        return Err(Stop::Refused(0, Awaiting::Other));
+        return Err(ParseError::Refused(0, Awaiting::Other));
     };
-    let value = wide_of(alloc, depth, 7, tokens)?.into_inner();
+    let value = wide_of(alloc, depth, precedence::UNION, tokens)?.into_inner();
     Ok(Carried::new(Some(boxed(alloc, Part { mark, value })?)))
 }

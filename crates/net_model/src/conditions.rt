@@ -1,34 +1,38 @@
 ghost use Rattle.std.specs.Prelude.{◌≡◌, ◌<◌, ◌≤◌, Some, None, length, map, IfOk, IfErr};
+ghost use Rattle.net_tree.specs.Precedence.{of_sum};
 ghost use Rattle.net_tree.specs.Tree.{one, between};
 ghost use Rattle.net_tree.specs.View.{tree, link_of, links_of, condition_of};
 ghost use Rattle.net_model.specs.Conditions as grammar;
 ghost use Rattle.net_model.specs.Expressions.{inside, climb, unary};
 ghost use Rattle.net_model.specs.Reading.{Gives, ◌>>=◌ as ◌▷◌, read_as, expect};
-ghost use Rattle.net_model.specs.declared.sort.Sort.TheVariants as sorts;
-ghost use Rattle.net_model.specs.declared.stop.Awaiting.TheVariants as awaiting;
-ghost use Rattle.net_model.specs.declared.stop.Stop.TheVariants.{OutOfMemory};
+ghost use Rattle.net_model.specs.declared.expected.Expected.TheVariants as sorts;
+ghost use Rattle.net_model.specs.declared.parse_error.Awaiting.TheVariants as awaiting;
+ghost use Rattle.net_model.specs.declared.parse_error.ParseError.TheVariants.{OutOfMemory};
 
 use crate::boxed::boxed;
 use crate::carried::Carried;
 use crate::chains::climb_to;
 use crate::cursor::{Cursor, expect, operator_at};
+use crate::expected::Expected;
 use crate::list::push;
-use crate::sort::Sort;
-use crate::stop::{Awaiting, Stop};
+use crate::parse_error::{Awaiting, ParseError};
 use crate::stored::Stored;
 use crate::trees::{chained, linked};
 use net_lex::Token;
-use net_tree::{Expr, Link, NetCond, Relates, Role, role_of};
+use net_tree::{Expr, Link, NetCond, Relation, Role, Sign, precedence, role_of};
 use net_views::Items;
 use std::alloc::Global;
 
 /// `net_in`, `net_out`.
 #[tactic(auto, using(net_tree::proofs::Views::views), unfolding(crate::specs::Conditions::net_at))]
-fn net_at<'t, 's>(alloc: Global, tokens: &mut Cursor<'t, 's>) -> Result<Stored<Expr<'s>>, Stop>
+fn net_at<'t, 's>(
+    alloc: Global,
+    tokens: &mut Cursor<'t, 's>,
+) -> Result<Stored<Expr<'s>>, ParseError>
     ensures value { Gives tree result tokens.new (grammar.net_at tokens.old) }
     ensures shorter { IfOk result (λ x. length tokens.new < length tokens.old) }
 {
-    let word = expect(Sort::Net, Awaiting::Other, tokens)?;
+    let word = expect(Expected::Net, Awaiting::Other, tokens)?;
     let parts = boxed(alloc, (None, word))?;
     Stored::new(alloc, Expr::Net(parts))
 }
@@ -37,7 +41,7 @@ fn net_at<'t, 's>(alloc: Global, tokens: &mut Cursor<'t, 's>) -> Result<Stored<E
 fn only_net_at<'t, 's>(
     alloc: Global,
     tokens: &mut Cursor<'t, 's>,
-) -> Result<(Stored<Expr<'s>>, bool), Stop>
+) -> Result<(Stored<Expr<'s>>, bool), ParseError>
     ensures value { Gives (λ x. (tree x.0, x.1)) result tokens.new (grammar.only_net_at tokens.old) }
     ensures shorter { IfOk result (λ x. length tokens.new < length tokens.old) }
 {
@@ -49,13 +53,13 @@ fn only_net_at<'t, 's>(
 fn signed_net_at<'t, 's>(
     alloc: Global,
     tokens: &mut Cursor<'t, 's>,
-) -> Result<Stored<Expr<'s>>, Stop>
+) -> Result<Stored<Expr<'s>>, ParseError>
     ensures value { Gives tree result tokens.new (grammar.signed_net_at tokens.old) }
     ensures shorter { IfOk result (λ x. length tokens.new < length tokens.old) }
 {
-    let sign = expect(Sort::Sign, Awaiting::Other, tokens)?;
-    let word = expect(Sort::Net, Awaiting::Other, tokens)?;
-    let parts = boxed(alloc, (Some(sign), word))?;
+    let sign = expect(Expected::Sign, Awaiting::Other, tokens)?;
+    let word = expect(Expected::Net, Awaiting::Other, tokens)?;
+    let parts = boxed(alloc, (Some(Sign::new(sign)), word))?;
     Stored::new(alloc, Expr::Net(parts))
 }
 
@@ -66,14 +70,14 @@ fn term_at<'t, 's>(
     depth: u8,
     free: bool,
     tokens: &mut Cursor<'t, 's>,
-) -> Result<(Stored<Expr<'s>>, bool), Stop>
+) -> Result<(Stored<Expr<'s>>, bool), ParseError>
     ensures value { Gives (λ x. (tree x.0, x.1)) result tokens.new (grammar.term_at (inside depth) free tokens.old) }
     ensures shorter { IfOk result (λ x. length tokens.new < length tokens.old) }
 {
-    if free && tokens.next_is(Sort::Net) {
+    if free && tokens.next_is(Expected::Net) {
         only_net_at(alloc, tokens)
     } else {
-        Ok((climb_to(alloc, depth, 2, tokens)?, free))
+        Ok((climb_to(alloc, depth, precedence::PRODUCT, tokens)?, free))
     }
 }
 
@@ -84,7 +88,7 @@ fn first_term_at<'t, 's>(
     depth: u8,
     free: bool,
     tokens: &mut Cursor<'t, 's>,
-) -> Result<(Stored<Expr<'s>>, bool), Stop>
+) -> Result<(Stored<Expr<'s>>, bool), ParseError>
     ensures value { Gives (λ x. (tree x.0, x.1)) result tokens.new (grammar.first_term_at (inside depth) free tokens.old) }
     ensures shorter { IfOk result (λ x. length tokens.new < length tokens.old) }
 {
@@ -102,7 +106,7 @@ fn further_term_at<'t, 's>(
     depth: u8,
     free: bool,
     tokens: &mut Cursor<'t, 's>,
-) -> Result<(Stored<Link<'s>>, bool), Stop>
+) -> Result<(Stored<Link<'s>>, bool), ParseError>
     ensures value { Gives (λ x. (link_of x.0, x.1)) result tokens.new (grammar.further_term_at (inside depth) free tokens.old) }
     ensures shorter { IfOk result (λ x. length tokens.new < length tokens.old) }
 {
@@ -118,13 +122,13 @@ fn further_terms<'t, 's>(
     depth: u8,
     first: bool,
     tokens: &mut Cursor<'t, 's>,
-) -> Result<(Carried<Items<Link<'s>>>, bool), Stop>
+) -> Result<(Carried<Items<Link<'s>>>, bool), ParseError>
     ensures value { Gives (λ x. (map link_of x.0, x.1)) result tokens.new (grammar.further_terms (inside depth) first tokens.old) }
     ensures shorter { IfOk result (λ x. length tokens.new ≤ length tokens.old) }
 {
     let mut found = Vec::new(alloc);
     let mut free = first;
-    while tokens.next_is(Sort::Sign) {
+    while tokens.next_is(Expected::Sign) {
         let (link, now) = further_term_at(alloc, depth, free, tokens)?;
         push(&mut found, link)?;
         free = now;
@@ -139,13 +143,13 @@ fn sum_at<'t, 's>(
     depth: u8,
     free: bool,
     tokens: &mut Cursor<'t, 's>,
-) -> Result<(Stored<Expr<'s>>, bool), Stop>
+) -> Result<(Stored<Expr<'s>>, bool), ParseError>
     ensures value { Gives (λ x. (tree x.0, x.1)) result tokens.new (grammar.sum_at (inside depth) free tokens.old) }
     ensures shorter { IfOk result (λ x. length tokens.new < length tokens.old) }
 {
     let (first, free) = first_term_at(alloc, depth, free, tokens)?;
     let (more, free) = further_terms(alloc, depth, free, tokens)?;
-    Ok((chained(alloc, 2, first, more)?, free))
+    Ok((chained(alloc, precedence::PRODUCT, first, more)?, free))
 }
 
 /// Whether a bound may go on with this one.
@@ -153,8 +157,8 @@ fn chains(first: Role, second: Role) -> bool
     ensures { result ≡ grammar.chains first second }
 {
     match first {
-        Role::Relation(Relates::AtMost) => matches!(second, Role::Relation(Relates::AtMost)),
-        Role::Relation(Relates::AtLeast) => matches!(second, Role::Relation(Relates::AtLeast)),
+        Role::Relation(Relation::AtMost) => matches!(second, Role::Relation(Relation::AtMost)),
+        Role::Relation(Relation::AtLeast) => matches!(second, Role::Relation(Relation::AtLeast)),
         _ => false,
     }
 }
@@ -168,17 +172,24 @@ fn chain_next(bound: Role, tokens: &Cursor<'_, '_>) -> bool
     }
 }
 
-/// One bound, with a sum on each side.
-fn one<'s>(
-    alloc: Global,
+/// The front of a condition: its colon, its first sum and the bound behind that.
+#[derive(Drop)]
+struct Begun<'s> {
     colon: Token<'s>,
     left: Stored<Expr<'s>>,
     bound: Token<'s>,
+}
+
+/// One bound, with a sum on each side.
+fn one<'s>(
+    alloc: Global,
+    begun: Begun<'s>,
     right: Stored<Expr<'s>>,
-) -> Result<Stored<NetCond<'s>>, Stop>
-    ensures value { IfOk result (λ c. condition_of c ≡ one colon.entry (tree left.entry) bound.entry (tree right.entry)) }
+) -> Result<Stored<NetCond<'s>>, ParseError>
+    ensures value { IfOk result (λ c. condition_of c ≡ one begun.entry.colon (tree begun.entry.left) begun.entry.bound (tree right.entry)) }
     ensures memory { IfErr result (λ e. e ≡ OutOfMemory) }
 {
+    let Begun { colon, left, bound } = begun;
     let condition = NetCond::One(colon, left.into_inner(), bound, right.into_inner());
     Stored::new(alloc, condition)
 }
@@ -187,21 +198,20 @@ fn one<'s>(
 fn between_at<'t, 's>(
     alloc: Global,
     depth: u8,
-    colon: Token<'s>,
-    low: Stored<Expr<'s>>,
-    bound: Token<'s>,
+    begun: Begun<'s>,
     middle: Stored<Expr<'s>>,
     tokens: &mut Cursor<'t, 's>,
-) -> Result<Stored<NetCond<'s>>, Stop>
-    ensures value { Gives condition_of result tokens.new (expect sorts.Bound awaiting.Other tokens.old ▷ λ q. climb 3 (unary (inside depth)) q.1 ▷ λ z.
-        read_as (between colon.entry (tree low.entry) bound.entry (tree middle.entry) q.0 z.0) z.1) }
+) -> Result<Stored<NetCond<'s>>, ParseError>
+    ensures value { Gives condition_of result tokens.new (expect sorts.Bound awaiting.Other tokens.old ▷ λ q. climb of_sum (unary (inside depth)) q.1 ▷ λ z.
+        read_as (between begun.entry.colon (tree begun.entry.left) begun.entry.bound (tree middle.entry) q.0 z.0) z.1) }
     ensures shorter { IfOk result (λ x. length tokens.new ≤ length tokens.old) }
 {
-    let second = expect(Sort::Bound, Awaiting::Other, tokens)?;
-    let high = climb_to(alloc, depth, 3, tokens)?;
+    let second = expect(Expected::Bound, Awaiting::Other, tokens)?;
+    let high = climb_to(alloc, depth, precedence::SUM, tokens)?;
+    let Begun { colon, left, bound } = begun;
     let condition = NetCond::Between(
         colon,
-        low.into_inner(),
+        left.into_inner(),
         bound,
         middle.into_inner(),
         second,
@@ -215,20 +225,18 @@ fn between_at<'t, 's>(
 fn high_at<'t, 's>(
     alloc: Global,
     depth: u8,
-    colon: Token<'s>,
-    low: Stored<Expr<'s>>,
-    bound: Token<'s>,
+    begun: Begun<'s>,
     middle: Stored<Expr<'s>>,
     tokens: &mut Cursor<'t, 's>,
-) -> Result<Stored<NetCond<'s>>, Stop>
-    ensures value { Gives condition_of result tokens.new (grammar.high_at (inside depth) colon.entry (tree low.entry) bound.entry
+) -> Result<Stored<NetCond<'s>>, ParseError>
+    ensures value { Gives condition_of result tokens.new (grammar.high_at (inside depth) begun.entry.colon (tree begun.entry.left) begun.entry.bound
         (tree middle.entry) tokens.old) }
     ensures shorter { IfOk result (λ x. length tokens.new ≤ length tokens.old) }
 {
-    if chain_next(role_of(&bound), tokens) {
-        between_at(alloc, depth, colon, low, bound, middle, tokens)
+    if chain_next(role_of(&begun.bound), tokens) {
+        between_at(alloc, depth, begun, middle, tokens)
     } else {
-        Ok(one(alloc, colon, low, bound, middle)?)
+        Ok(one(alloc, begun, middle)?)
     }
 }
 
@@ -236,19 +244,18 @@ fn high_at<'t, 's>(
 fn middle_at<'t, 's>(
     alloc: Global,
     depth: u8,
-    colon: Token<'s>,
-    low: Stored<Expr<'s>>,
-    bound: Token<'s>,
+    begun: Begun<'s>,
     tokens: &mut Cursor<'t, 's>,
-) -> Result<Stored<NetCond<'s>>, Stop>
-    ensures value { Gives condition_of result tokens.new (grammar.middle_at (inside depth) colon.entry (tree low.entry) bound.entry tokens.old) }
+) -> Result<Stored<NetCond<'s>>, ParseError>
+    ensures value { Gives condition_of result tokens.new (grammar.middle_at (inside depth) begun.entry.colon (tree begun.entry.left)
+        begun.entry.bound tokens.old) }
     ensures shorter { IfOk result (λ x. length tokens.new ≤ length tokens.old) }
 {
     let (middle, free) = sum_at(alloc, depth, true, tokens)?;
     if free {
-        return Err(Stop::Refused(tokens.len(), Awaiting::Other));
+        return Err(ParseError::Refused(tokens.len(), Awaiting::Other));
     }
-    high_at(alloc, depth, colon, low, bound, middle, tokens)
+    high_at(alloc, depth, begun, middle, tokens)
 }
 
 /// Behind the first sum and the bound.
@@ -256,20 +263,19 @@ fn middle_at<'t, 's>(
 fn bounded_at<'t, 's>(
     alloc: Global,
     depth: u8,
-    colon: Token<'s>,
-    left: Stored<Expr<'s>>,
+    begun: Begun<'s>,
     free: bool,
-    bound: Token<'s>,
     tokens: &mut Cursor<'t, 's>,
-) -> Result<Stored<NetCond<'s>>, Stop>
-    ensures value { Gives condition_of result tokens.new (grammar.bounded_at (inside depth) colon.entry (tree left.entry) free bound.entry tokens.old) }
+) -> Result<Stored<NetCond<'s>>, ParseError>
+    ensures value { Gives condition_of result tokens.new (grammar.bounded_at (inside depth) begun.entry.colon (tree begun.entry.left) free
+        begun.entry.bound tokens.old) }
     ensures shorter { IfOk result (λ x. length tokens.new ≤ length tokens.old) }
 {
     if free {
-        middle_at(alloc, depth, colon, left, bound, tokens)
+        middle_at(alloc, depth, begun, tokens)
     } else {
-        let right = climb_to(alloc, depth, 3, tokens)?;
-        Ok(one(alloc, colon, left, bound, right)?)
+        let right = climb_to(alloc, depth, precedence::SUM, tokens)?;
+        Ok(one(alloc, begun, right)?)
     }
 }
 
@@ -278,14 +284,15 @@ fn said_at<'t, 's>(
     alloc: Global,
     depth: u8,
     tokens: &mut Cursor<'t, 's>,
-) -> Result<Stored<NetCond<'s>>, Stop>
+) -> Result<Stored<NetCond<'s>>, ParseError>
     ensures value { Gives condition_of result tokens.new (grammar.said_at (inside depth) tokens.old) }
     ensures shorter { IfOk result (λ x. length tokens.new ≤ length tokens.old) }
 {
-    let colon = expect(Sort::Colon, Awaiting::Other, tokens)?;
+    let colon = expect(Expected::Colon, Awaiting::Other, tokens)?;
     let (left, free) = sum_at(alloc, depth, true, tokens)?;
-    let bound = expect(Sort::Bound, Awaiting::Other, tokens)?;
-    bounded_at(alloc, depth, colon, left, free, bound, tokens)
+    let bound = expect(Expected::Bound, Awaiting::Other, tokens)?;
+    let begun = Begun { colon, left, bound };
+    bounded_at(alloc, depth, begun, free, tokens)
 }
 
 /// What is said of a node's net flow.
@@ -294,11 +301,11 @@ pub(crate) fn condition_at<'t, 's>(
     alloc: Global,
     depth: u8,
     tokens: &mut Cursor<'t, 's>,
-) -> Result<Stored<NetCond<'s>>, Stop>
+) -> Result<Stored<NetCond<'s>>, ParseError>
     ensures value { Gives condition_of result tokens.new (grammar.condition_at (inside depth) tokens.old) }
     ensures shorter { IfOk result (λ x. length tokens.new ≤ length tokens.old) }
 {
-    if tokens.next_is(Sort::Colon) {
+    if tokens.next_is(Expected::Colon) {
         said_at(alloc, depth, tokens)
     } else {
         Stored::new(alloc, NetCond::Absent)

@@ -1,6 +1,6 @@
 ghost use Rattle.std.specs.Prelude.{◌≡◌, ◌<◌, ◌∷◌, [], length, IfOk, IfErr, MatchOption};
-ghost use Rattle.net_model.specs.declared.stop.Stop.TheVariants.{OutOfMemory};
-ghost use Rattle.net_tree.specs.Level.{joins};
+ghost use Rattle.net_model.specs.declared.parse_error.ParseError.TheVariants.{OutOfMemory};
+ghost use Rattle.net_tree.specs.WellFormed.{joins};
 ghost use Rattle.net_model.specs.Conditions.{signed_net_next};
 ghost use Rattle.net_model.specs.Declarations.{any_left};
 ghost use Rattle.net_model.specs.Expressions.{operator_at, is_hollow};
@@ -8,8 +8,8 @@ ghost use Rattle.net_model.specs.Reading.{Gives, IsFirst, next_is, is_sort, expe
 
 use crate::boxed::boxed;
 use crate::carried::Carried;
-use crate::sort::{Sort, is_hollow, is_not, is_sort, joins};
-use crate::stop::{Awaiting, Stop};
+use crate::expected::{Expected, is_hollow, is_not, is_sort, joins};
+use crate::parse_error::{Awaiting, ParseError};
 use net_lex::Token;
 use net_tree::{Operator, role_of};
 use std::alloc::Global;
@@ -78,7 +78,7 @@ impl<'t, 's> Cursor<'t, 's> {
     }
 
     /// Whether the first token is of this sort.
-    pub(crate) fn next_is(&self, sort: Sort) -> bool
+    pub(crate) fn next_is(&self, sort: Expected) -> bool
         ensures { result ≡ next_is (is_sort sort) self.now }
     {
         if self.at < self.tokens.len() {
@@ -97,18 +97,18 @@ impl<'t, 's> Cursor<'t, 's> {
                 tokens: self.tokens,
                 at: self.at + 1,
             };
-            is_sort(Sort::Sign, role_of(&self.tokens[self.at])) && behind.next_is(Sort::Net)
+            is_sort(Expected::Sign, role_of(&self.tokens[self.at])) && behind.next_is(Expected::Net)
         } else {
             false
         }
     }
 
-    /// Whether the first token joins operands of this rank, behind so many links.
-    pub(crate) fn next_joins(&self, level: u8, count: usize) -> bool
-        ensures { result ≡ next_is (joins level count) self.now }
+    /// Whether the first token joins operands of this precedence, behind so many links.
+    pub(crate) fn next_joins(&self, joining: u8, count: usize) -> bool
+        ensures { result ≡ next_is (joins joining count) self.now }
     {
         if self.at < self.tokens.len() {
-            joins(level, count, role_of(&self.tokens[self.at]))
+            joins(joining, count, role_of(&self.tokens[self.at]))
         } else {
             false
         }
@@ -129,10 +129,10 @@ impl<'t, 's> Cursor<'t, 's> {
 /// A token of this sort.
 #[tactic(auto, unfolding(crate::specs::Reading::expect))]
 pub(crate) fn expect<'t, 's>(
-    sort: Sort,
+    sort: Expected,
     awaiting: Awaiting,
     tokens: &mut Cursor<'t, 's>,
-) -> Result<Token<'s>, Stop>
+) -> Result<Token<'s>, ParseError>
     ensures value { Gives (λ t. t) result tokens.new (expect sort awaiting tokens.old) }
     ensures shorter { IfOk result (λ x. length tokens.new < length tokens.old) }
     // What takes no memory wants none.
@@ -141,7 +141,7 @@ pub(crate) fn expect<'t, 's>(
     let left = tokens.len();
     match tokens.next() {
         Some(token) if is_sort(sort, role_of(&token)) => Ok(token),
-        _ => Err(Stop::Refused(left, awaiting)),
+        _ => Err(ParseError::Refused(left, awaiting)),
     }
 }
 
@@ -150,19 +150,19 @@ pub(crate) fn expect<'t, 's>(
 pub(crate) fn operator_at<'t, 's>(
     alloc: Global,
     tokens: &mut Cursor<'t, 's>,
-) -> Result<Carried<Operator<'s>>, Stop>
+) -> Result<Carried<Operator<'s>>, ParseError>
     ensures value { Gives (λ o. o) result tokens.new (operator_at tokens.old) }
     ensures shorter { IfOk result (λ x. length tokens.new < length tokens.old) }
 {
     match tokens.next() {
-        None => Err(Stop::Refused(0, Awaiting::Other)),
+        None => Err(ParseError::Refused(0, Awaiting::Other)),
         Some(token) => {
             if is_not(role_of(&token)) {
-                let second = expect(Sort::Membership, Awaiting::Other, tokens)?;
+                let second = expect(Expected::Membership, Awaiting::Other, tokens)?;
                 let second = boxed(alloc, second)?;
-                Ok(Carried::new(Operator::Two(token, second)))
+                Ok(Carried::new(Operator::two(token, second)))
             } else {
-                Ok(Carried::new(Operator::One(token)))
+                Ok(Carried::new(Operator::one(token)))
             }
         }
     }

@@ -7,22 +7,22 @@ ghost use Rattle.net_model.specs.Declarations as grammar;
 ghost use Rattle.net_model.specs.Expressions.{inside, part_at, wide};
 ghost use Rattle.net_model.specs.Phrases.{phrases, phrases_end};
 ghost use Rattle.net_model.specs.Reading.{Gives, ◌>>=◌ as ◌▷◌, read_as, expect};
-ghost use Rattle.net_model.specs.declared.stop.Awaiting.TheVariants as awaiting;
-ghost use Rattle.net_model.specs.declared.sort.Sort.TheVariants as sorts;
+ghost use Rattle.net_model.specs.declared.parse_error.Awaiting.TheVariants as awaiting;
+ghost use Rattle.net_model.specs.declared.expected.Expected.TheVariants as sorts;
 
 use crate::braces::braces_of;
 use crate::chains::climb_to;
 use crate::choices::wide_of;
 use crate::conditions::condition_at;
 use crate::cursor::{Cursor, expect};
+use crate::expected::Expected;
 use crate::list::push;
+use crate::parse_error::{Awaiting, ParseError};
 use crate::phrase::Owner;
 use crate::phrases::{phrases, phrases_end};
-use crate::sort::Sort;
-use crate::stop::{Awaiting, Stop};
 use crate::stored::Stored;
 use net_lex::Token;
-use net_tree::{Braces, Decl, Declares, Part, Phrase, Role, role_of};
+use net_tree::{Braces, Decl, Declares, Part, Phrase, Role, precedence, role_of};
 use net_views::Items;
 use std::alloc::Global;
 
@@ -32,11 +32,11 @@ fn indexing_at<'t, 's>(
     alloc: Global,
     depth: u8,
     tokens: &mut Cursor<'t, 's>,
-) -> Result<Stored<Option<Braces<'s>>>, Stop>
+) -> Result<Stored<Option<Braces<'s>>>, ParseError>
     ensures value { Gives indexing_of result tokens.new (grammar.indexing_at (inside depth) tokens.old) }
     ensures shorter { IfOk result (λ x. length tokens.new ≤ length tokens.old) }
 {
-    if tokens.next_is(Sort::OpenBrace) {
+    if tokens.next_is(Expected::OpenBrace) {
         let braces = braces_of(alloc, depth, tokens)?.into_inner();
         Stored::new(alloc, Some(braces))
     } else {
@@ -50,7 +50,7 @@ fn phrased<'t, 's>(
     depth: u8,
     owner: Owner,
     tokens: &mut Cursor<'t, 's>,
-) -> Result<Stored<(Items<Phrase<'s>>, Token<'s>)>, Stop>
+) -> Result<Stored<(Items<Phrase<'s>>, Token<'s>)>, ParseError>
     ensures value { (made : List tree.Phrase → Token → Declaration)
         → Gives (λ p. made (map phrase_of p.0) p.1) result tokens.new
         (phrases (inside depth) owner tokens.old ▷ λ p. phrases_end owner p.0.1 p.1 ▷ λ e. read_as (made p.0.0 e.0) e.1) }
@@ -67,14 +67,14 @@ fn detailed<'t, 's>(
     depth: u8,
     owner: Owner,
     tokens: &mut Cursor<'t, 's>,
-) -> Result<Stored<(Token<'s>, Option<Braces<'s>>, Items<Phrase<'s>>, Token<'s>)>, Stop>
+) -> Result<Stored<(Token<'s>, Option<Braces<'s>>, Items<Phrase<'s>>, Token<'s>)>, ParseError>
     ensures value { (made : Token → Option tree.Braces → List tree.Phrase → Token → Declaration)
         → Gives (λ p. made p.0 (indexing_of p.1) (map phrase_of p.2) p.3) result tokens.new
         (expect sorts.Name awaiting.Other tokens.old ▷ λ n. grammar.indexing_at (inside depth) n.1 ▷ λ b. phrases (inside depth) owner b.1 ▷ λ p.
         phrases_end owner p.0.1 p.1 ▷ λ e. read_as (made n.0 b.0 p.0.0 e.0) e.1) }
     ensures shorter { IfOk result (λ x. length tokens.new ≤ length tokens.old) }
 {
-    let name = expect(Sort::Name, Awaiting::Other, tokens)?;
+    let name = expect(Expected::Name, Awaiting::Other, tokens)?;
     let indexing = indexing_at(alloc, depth, tokens)?;
     let (said, end) = phrased(alloc, depth, owner, tokens)?.into_inner();
     Stored::new(alloc, (name, indexing.into_inner(), said, end))
@@ -86,11 +86,11 @@ fn set_at<'t, 's>(
     depth: u8,
     word: Token<'s>,
     tokens: &mut Cursor<'t, 's>,
-) -> Result<Stored<Decl<'s>>, Stop>
+) -> Result<Stored<Decl<'s>>, ParseError>
     ensures value { Gives declaration_of result tokens.new (grammar.set_at (inside depth) word.entry tokens.old) }
     ensures shorter { IfOk result (λ x. length tokens.new ≤ length tokens.old) }
 {
-    let name = expect(Sort::Name, Awaiting::Other, tokens)?;
+    let name = expect(Expected::Name, Awaiting::Other, tokens)?;
     let (said, end) = phrased(alloc, depth, Owner::Set, tokens)?.into_inner();
     Stored::new(alloc, Decl::Set(word, name, said, end))
 }
@@ -101,7 +101,7 @@ fn param_at<'t, 's>(
     depth: u8,
     word: Token<'s>,
     tokens: &mut Cursor<'t, 's>,
-) -> Result<Stored<Decl<'s>>, Stop>
+) -> Result<Stored<Decl<'s>>, ParseError>
     ensures value { Gives declaration_of result tokens.new (grammar.param_at (inside depth) word.entry tokens.old) }
     ensures shorter { IfOk result (λ x. length tokens.new ≤ length tokens.old) }
 {
@@ -115,7 +115,7 @@ fn arc_at<'t, 's>(
     depth: u8,
     word: Token<'s>,
     tokens: &mut Cursor<'t, 's>,
-) -> Result<Stored<Decl<'s>>, Stop>
+) -> Result<Stored<Decl<'s>>, ParseError>
     ensures value { Gives declaration_of result tokens.new (grammar.arc_at (inside depth) word.entry tokens.old) }
     ensures shorter { IfOk result (λ x. length tokens.new ≤ length tokens.old) }
 {
@@ -129,14 +129,14 @@ fn check_at<'t, 's>(
     depth: u8,
     word: Token<'s>,
     tokens: &mut Cursor<'t, 's>,
-) -> Result<Stored<Decl<'s>>, Stop>
+) -> Result<Stored<Decl<'s>>, ParseError>
     ensures value { Gives declaration_of result tokens.new (grammar.check_at (inside depth) word.entry tokens.old) }
     ensures shorter { IfOk result (λ x. length tokens.new ≤ length tokens.old) }
 {
     let indexing = indexing_at(alloc, depth, tokens)?;
-    let colon = expect(Sort::Colon, Awaiting::Other, tokens)?;
-    let condition = climb_to(alloc, depth, 10, tokens)?;
-    let end = expect(Sort::Semicolon, Awaiting::Other, tokens)?;
+    let colon = expect(Expected::Colon, Awaiting::Other, tokens)?;
+    let condition = climb_to(alloc, depth, precedence::OR, tokens)?;
+    let end = expect(Expected::Semicolon, Awaiting::Other, tokens)?;
     let check = Decl::Check(
         word,
         indexing.into_inner(),
@@ -153,14 +153,14 @@ fn node_at<'t, 's>(
     depth: u8,
     word: Token<'s>,
     tokens: &mut Cursor<'t, 's>,
-) -> Result<Stored<Decl<'s>>, Stop>
+) -> Result<Stored<Decl<'s>>, ParseError>
     ensures value { Gives declaration_of result tokens.new (grammar.node_at (inside depth) word.entry tokens.old) }
     ensures shorter { IfOk result (λ x. length tokens.new ≤ length tokens.old) }
 {
-    let name = expect(Sort::Name, Awaiting::Other, tokens)?;
+    let name = expect(Expected::Name, Awaiting::Other, tokens)?;
     let indexing = indexing_at(alloc, depth, tokens)?;
     let condition = condition_at(alloc, depth, tokens)?;
-    let end = expect(Sort::Semicolon, Awaiting::Other, tokens)?;
+    let end = expect(Expected::Semicolon, Awaiting::Other, tokens)?;
     let node = Decl::Node(
         word,
         name,
@@ -177,17 +177,17 @@ fn value_part<'t, 's>(
     alloc: Global,
     depth: u8,
     tokens: &mut Cursor<'t, 's>,
-) -> Result<Stored<Option<Part<'s>>>, Stop>
+) -> Result<Stored<Option<Part<'s>>>, ParseError>
     ensures value { Gives option_part result tokens.new (part_at sorts.Colon (wide (inside depth) 7) tokens.old) }
     ensures shorter { IfOk result (λ x. length tokens.new ≤ length tokens.old) }
 {
-    if !tokens.next_is(Sort::Colon) {
+    if !tokens.next_is(Expected::Colon) {
         return Stored::new(alloc, None);
     }
     let Some(mark) = tokens.next() else {
-        return Err(Stop::Refused(0, Awaiting::Other));
+        return Err(ParseError::Refused(0, Awaiting::Other));
     };
-    let value = wide_of(alloc, depth, 7, tokens)?.into_inner();
+    let value = wide_of(alloc, depth, precedence::UNION, tokens)?.into_inner();
     Stored::new(alloc, Some(Part { mark, value }))
 }
 
@@ -207,13 +207,13 @@ fn objective_at<'t, 's>(
     depth: u8,
     word: Token<'s>,
     tokens: &mut Cursor<'t, 's>,
-) -> Result<Stored<Decl<'s>>, Stop>
+) -> Result<Stored<Decl<'s>>, ParseError>
     ensures value { Gives declaration_of result tokens.new (grammar.objective_at (inside depth) word.entry tokens.old) }
     ensures shorter { IfOk result (λ x. length tokens.new ≤ length tokens.old) }
 {
-    let name = expect(Sort::Name, Awaiting::Other, tokens)?;
+    let name = expect(Expected::Name, Awaiting::Other, tokens)?;
     let part = value_part(alloc, depth, tokens)?;
-    let end = expect(Sort::Semicolon, behind_objective(part.get()), tokens)?;
+    let end = expect(Expected::Semicolon, behind_objective(part.get()), tokens)?;
     Stored::new(alloc, Decl::Objective(word, name, part.into_inner(), end))
 }
 
@@ -225,7 +225,7 @@ fn declared_at<'t, 's>(
     kind: Declares,
     word: Token<'s>,
     tokens: &mut Cursor<'t, 's>,
-) -> Result<Stored<Decl<'s>>, Stop>
+) -> Result<Stored<Decl<'s>>, ParseError>
     ensures value { Gives declaration_of result tokens.new (grammar.declared_at (inside depth) kind word.entry tokens.old) }
     ensures shorter { IfOk result (λ x. length tokens.new ≤ length tokens.old) }
 {
@@ -245,17 +245,17 @@ fn declaration_at<'t, 's>(
     alloc: Global,
     depth: u8,
     tokens: &mut Cursor<'t, 's>,
-) -> Result<Stored<Decl<'s>>, Stop>
+) -> Result<Stored<Decl<'s>>, ParseError>
     ensures value { Gives declaration_of result tokens.new (grammar.declaration_at (inside depth) tokens.old) }
     ensures shorter { IfOk result (λ x. length tokens.new < length tokens.old) }
 {
     let left = tokens.len();
     let Some(word) = tokens.next() else {
-        return Err(Stop::Refused(0, Awaiting::Declaration));
+        return Err(ParseError::Refused(0, Awaiting::Declaration));
     };
     match role_of(&word) {
         Role::Declaration(kind) => declared_at(alloc, depth, kind, word, tokens),
-        _ => Err(Stop::Refused(left, Awaiting::Declaration)),
+        _ => Err(ParseError::Refused(left, Awaiting::Declaration)),
     }
 }
 
@@ -264,7 +264,7 @@ pub(crate) fn declarations<'t, 's>(
     alloc: Global,
     depth: u8,
     tokens: &mut Cursor<'t, 's>,
-) -> Result<Items<Decl<'s>>, Stop>
+) -> Result<Items<Decl<'s>>, ParseError>
     ensures value { Gives (λ d. (map declaration_of d, tt)) result tokens.new (grammar.model_at depth tokens.old) }
     ensures whole { IfOk result (λ d. tokens.new ≡ []) }
 {

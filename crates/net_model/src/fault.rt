@@ -2,10 +2,10 @@ ghost use Rattle.std.specs.Prelude.{◌≡◌, length, IfOk};
 ghost use Rattle.net_model.specs.Faults as faults;
 ghost use Rattle.net_fault.specs.declared.fault.Fault.TheVariants.{At};
 
-use crate::stop::{Awaiting, Stop};
+use crate::parse_error::{Awaiting, ParseError};
 use net_fault::{Defect, Detail, Fault, Language, Span};
 use net_lex::{Kind, Token};
-use net_tree::{Relates, Role, role_of};
+use net_tree::{Relation, Role, role_of};
 use std::alloc::{AllocError, Global};
 
 /// Whether a gain may begin with a token of this role.
@@ -26,7 +26,7 @@ fn is_foreign(kind: Kind, role: Role) -> bool
     match kind {
         Kind::Name | Kind::Key => true,
         Kind::Num | Kind::Str | Kind::Mark | Kind::Dot => {
-            matches!(role, Role::OpenBrace | Role::Relation(Relates::Equal))
+            matches!(role, Role::OpenBrace | Role::Relation(Relation::Equal))
         }
     }
 }
@@ -133,15 +133,15 @@ fn deep_fault(left: usize, tokens: &[Token<'_>]) -> Fault
 }
 
 /// The fault that is told where the reading of these tokens stops.
-pub(crate) fn told(alloc: Global, stop: Stop, tokens: &[Token<'_>]) -> Fault
+pub(crate) fn told(alloc: Global, stop: ParseError, tokens: &[Token<'_>]) -> Fault
     ensures { faults.IsToldOf stop tokens.now result }
 {
     match stop {
-        Stop::OutOfMemory => Fault::OutOfMemory,
-        Stop::Refused(left, awaiting) => match refused_fault(alloc, awaiting, left, tokens) {
+        ParseError::OutOfMemory => Fault::OutOfMemory,
+        ParseError::Refused(left, awaiting) => match refused_fault(alloc, awaiting, left, tokens) {
             Ok(fault) => fault,
             Err(_) => Fault::OutOfMemory,
         },
-        Stop::TooDeep(left) => deep_fault(left, tokens),
+        ParseError::TooDeep(left) => deep_fault(left, tokens),
     }
 }

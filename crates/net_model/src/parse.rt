@@ -19,8 +19,11 @@ fn deepest() -> u8
     64
 }
 
-/// The declarations that the tokens of a model text are, without a look at their names.
-pub fn parse_declarations<'s>(alloc: Global, tokens: &[Token<'s>]) -> Result<Model<'s>, Fault>
+/// The model that the tokens of a model text are, without a look at its names.
+///
+/// A text that the grammar does not allow is refused, whatever its names are: E10, E11, E14, E15 or E16 at the first token that is not
+/// allowed.
+pub fn parse_model<'s>(alloc: Global, tokens: &[Token<'s>]) -> Result<Model<'s>, Fault>
     // The tree that the grammar reads, or the fault at the first token that it does not allow.
     ensures value { Tells tokens.now result (model_at nesting_limit tokens.now) }
     // The tokens are the printing of the model, which is written as the grammar wants and not nested too deep.

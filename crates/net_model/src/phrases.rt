@@ -4,20 +4,20 @@ ghost use Rattle.net_tree.specs.View as view;
 ghost use Rattle.net_model.specs.Expressions.{inside};
 ghost use Rattle.net_model.specs.Phrases as grammar;
 ghost use Rattle.net_model.specs.Reading.{Gives};
-ghost use Rattle.net_model.specs.declared.stop.Stop.TheVariants.{OutOfMemory};
+ghost use Rattle.net_model.specs.declared.parse_error.ParseError.TheVariants.{OutOfMemory};
 
 use crate::carried::Carried;
 use crate::chains::climb_to;
 use crate::choices::wide_of;
 use crate::cursor::{Cursor, expect};
+use crate::expected::Expected;
 use crate::expressions::named_of;
 use crate::list::push;
+use crate::parse_error::{Awaiting, ParseError};
 use crate::phrase::{Owner, Slot, Stood};
-use crate::sort::Sort;
-use crate::stop::{Awaiting, Stop};
 use crate::stored::Stored;
 use net_lex::Token;
-use net_tree::{Begins, Body, Expr, Phrase, Relates, Role, role_of};
+use net_tree::{Begins, Body, Expr, Phrase, Relation, Role, precedence, role_of};
 use net_views::Items;
 use std::alloc::Global;
 
@@ -37,7 +37,7 @@ fn set_slot(role: Role) -> Option<Slot>
 {
     match role {
         Role::Phrase(Begins::Dimen) => Some(Slot::Number),
-        Role::Relation(Relates::Within) => Some(Slot::Set),
+        Role::Relation(Relation::Within) => Some(Slot::Set),
         Role::Becomes => Some(Slot::Value),
         _ => None,
     }
@@ -48,8 +48,9 @@ fn param_slot(role: Role) -> Option<Slot>
 {
     match role {
         Role::Phrase(Begins::Symbolic | Begins::Integer) => Some(Slot::Nothing),
-        Role::Relation(Relates::AtMost | Relates::AtLeast | Relates::Other) => Some(Slot::Sum),
-        Role::Relation(Relates::In) => Some(Slot::Set),
+        Role::Relation(Relation::AtMost | Relation::AtLeast | Relation::Less) => Some(Slot::Sum),
+        Role::Relation(Relation::Greater | Relation::Unequal) => Some(Slot::Sum),
+        Role::Relation(Relation::In) => Some(Slot::Set),
         Role::Phrase(Begins::Default) | Role::Becomes => Some(Slot::Value),
         _ => None,
     }
@@ -59,7 +60,7 @@ fn arc_slot(role: Role) -> Option<Slot>
     ensures { result ≡ grammar.arc_slot role }
 {
     match role {
-        Role::Relation(Relates::AtMost | Relates::AtLeast) => Some(Slot::Sum),
+        Role::Relation(Relation::AtMost | Relation::AtLeast) => Some(Slot::Sum),
         Role::Phrase(Begins::Integer) => Some(Slot::Nothing),
         Role::Phrase(Begins::From | Begins::To) => Some(Slot::Node),
         Role::Phrase(Begins::Obj) => Some(Slot::Price),
@@ -77,8 +78,8 @@ fn stood_before(owner: Owner, stood: Stood, role: Role) -> bool
         Role::Phrase(Begins::From) => stood.from,
         Role::Phrase(Begins::To) => stood.to,
         Role::Becomes => stood.becomes,
-        Role::Relation(Relates::AtLeast) => is_arc(owner) && stood.at_least,
-        Role::Relation(Relates::AtMost) => is_arc(owner) && stood.at_most,
+        Role::Relation(Relation::AtLeast) => is_arc(owner) && stood.at_least,
+        Role::Relation(Relation::AtMost) => is_arc(owner) && stood.at_most,
         _ => false,
     }
 }
@@ -110,8 +111,8 @@ fn and_then_stood(stood: Stood, role: Role) -> Stood
             stood.behind_node = true;
         }
         Role::Becomes => stood.becomes = true,
-        Role::Relation(Relates::AtLeast) => stood.at_least = true,
-        Role::Relation(Relates::AtMost) => stood.at_most = true,
+        Role::Relation(Relation::AtLeast) => stood.at_least = true,
+        Role::Relation(Relation::AtMost) => stood.at_most = true,
         _ => {}
     }
     stood
@@ -153,7 +154,7 @@ fn phrase_next(owner: Owner, stood: Stood, tokens: &Cursor<'_, '_>) -> bool
 }
 
 /// An expression as what follows a word.
-fn valued<'s>(alloc: Global, value: Stored<Expr<'s>>) -> Result<Stored<Body<'s>>, Stop>
+fn valued<'s>(alloc: Global, value: Stored<Expr<'s>>) -> Result<Stored<Body<'s>>, ParseError>
     ensures value { IfOk result (λ b. view.body_of b ≡ valued (view.tree value.entry)) }
     ensures memory { IfErr result (λ e. e ≡ OutOfMemory) }
 {
@@ -167,26 +168,26 @@ fn body_of<'t, 's>(
     depth: u8,
     slot: Slot,
     tokens: &mut Cursor<'t, 's>,
-) -> Result<Stored<Body<'s>>, Stop>
+) -> Result<Stored<Body<'s>>, ParseError>
     ensures value { Gives view.body_of result tokens.new (grammar.body_of (inside depth) slot tokens.old) }
     ensures shorter { IfOk result (λ x. length tokens.new ≤ length tokens.old) }
 {
     match slot {
         Slot::Nothing => Stored::new(alloc, Body::Plain),
         Slot::Number => {
-            let number = expect(Sort::Number, Awaiting::Other, tokens)?;
+            let number = expect(Expected::Number, Awaiting::Other, tokens)?;
             Stored::new(alloc, Body::Valued(Expr::Leaf(number)))
         }
-        Slot::Set => valued(alloc, climb_to(alloc, depth, 7, tokens)?),
-        Slot::Sum => valued(alloc, climb_to(alloc, depth, 3, tokens)?),
-        Slot::Value => valued(alloc, wide_of(alloc, depth, 7, tokens)?),
+        Slot::Set => valued(alloc, climb_to(alloc, depth, precedence::UNION, tokens)?),
+        Slot::Sum => valued(alloc, climb_to(alloc, depth, precedence::SUM, tokens)?),
+        Slot::Value => valued(alloc, wide_of(alloc, depth, precedence::UNION, tokens)?),
         Slot::Node => {
-            let name = expect(Sort::Name, Awaiting::Other, tokens)?;
+            let name = expect(Expected::Name, Awaiting::Other, tokens)?;
             valued(alloc, named_of(alloc, depth, name, tokens)?)
         }
         Slot::Price => {
-            let name = expect(Sort::Name, Awaiting::Objective, tokens)?;
-            let price = climb_to(alloc, depth, 3, tokens)?;
+            let name = expect(Expected::Name, Awaiting::Objective, tokens)?;
+            let price = climb_to(alloc, depth, precedence::SUM, tokens)?;
             Stored::new(alloc, Body::Priced(name, price.into_inner()))
         }
     }
@@ -194,13 +195,13 @@ fn body_of<'t, 's>(
 
 /// The comma before a phrase.
 #[tactic(auto, unfolding(crate::specs::Phrases::comma_at))]
-fn comma_at<'t, 's>(tokens: &mut Cursor<'t, 's>) -> Result<Option<Token<'s>>, Stop>
+fn comma_at<'t, 's>(tokens: &mut Cursor<'t, 's>) -> Result<Option<Token<'s>>, ParseError>
     ensures value { Gives (λ c. c) result tokens.new (grammar.comma_at tokens.old) }
     ensures shorter { IfOk result (λ x. length tokens.new ≤ length tokens.old) }
     // What takes no memory wants none.
     ensures sure { IfErr result (λ e. e ≡ OutOfMemory → ⊥) }
 {
-    if tokens.next_is(Sort::Comma) {
+    if tokens.next_is(Expected::Comma) {
         Ok(tokens.next())
     } else {
         Ok(None)
@@ -212,7 +213,7 @@ fn phrase_of<'s>(
     comma: Option<Token<'s>>,
     word: Token<'s>,
     body: Stored<Body<'s>>,
-) -> Result<Stored<Phrase<'s>>, Stop>
+) -> Result<Stored<Phrase<'s>>, ParseError>
     ensures value { IfOk result (λ p. view.phrase_of p ≡ record { comma = comma.entry; word = word.entry; body = view.body_of body.entry }) }
     ensures memory { IfErr result (λ e. e ≡ OutOfMemory) }
 {
@@ -229,20 +230,20 @@ fn worded<'t, 's>(
     stood: Stood,
     comma: Option<Token<'s>>,
     tokens: &mut Cursor<'t, 's>,
-) -> Result<(Stored<Phrase<'s>>, Stood), Stop>
+) -> Result<(Stored<Phrase<'s>>, Stood), ParseError>
     ensures value { Gives (λ p. (view.phrase_of p.0, p.1)) result tokens.new (grammar.worded (inside depth) owner stood comma.entry tokens.old) }
     ensures shorter { IfOk result (λ x. length tokens.new < length tokens.old) }
 {
     let left = tokens.len();
     let Some(word) = tokens.next() else {
-        return Err(Stop::Refused(0, Awaiting::Phrase));
+        return Err(ParseError::Refused(0, Awaiting::Phrase));
     };
     let role = role_of(&word);
     if stood_before(owner, stood, role) {
-        return Err(Stop::Refused(left, Awaiting::FurtherPhrase));
+        return Err(ParseError::Refused(left, Awaiting::FurtherPhrase));
     }
     match slot_of(owner, role) {
-        None => Err(Stop::Refused(left, Awaiting::Phrase)),
+        None => Err(ParseError::Refused(left, Awaiting::Phrase)),
         Some(slot) => {
             let body = body_of(alloc, depth, slot, tokens)?;
             let phrase = phrase_of(alloc, comma, word, body)?;
@@ -259,7 +260,7 @@ fn phrase_at<'t, 's>(
     owner: Owner,
     stood: Stood,
     tokens: &mut Cursor<'t, 's>,
-) -> Result<(Stored<Phrase<'s>>, Stood), Stop>
+) -> Result<(Stored<Phrase<'s>>, Stood), ParseError>
     ensures value { Gives (λ p. (view.phrase_of p.0, p.1)) result tokens.new (grammar.phrase_at (inside depth) owner stood tokens.old) }
     ensures shorter { IfOk result (λ x. length tokens.new < length tokens.old) }
 {
@@ -274,7 +275,7 @@ pub(crate) fn phrases<'t, 's>(
     depth: u8,
     owner: Owner,
     tokens: &mut Cursor<'t, 's>,
-) -> Result<(Carried<Items<Phrase<'s>>>, Stood), Stop>
+) -> Result<(Carried<Items<Phrase<'s>>>, Stood), ParseError>
     ensures value { Gives (λ p. (map view.phrase_of p.0, p.1)) result tokens.new (grammar.phrases (inside depth) owner tokens.old) }
     ensures shorter { IfOk result (λ x. length tokens.new ≤ length tokens.old) }
 {
@@ -303,7 +304,7 @@ pub(crate) fn phrases_end<'t, 's>(
     owner: Owner,
     stood: Stood,
     tokens: &mut Cursor<'t, 's>,
-) -> Result<Token<'s>, Stop>
+) -> Result<Token<'s>, ParseError>
     ensures value { Gives (λ t. t) result tokens.new (grammar.phrases_end owner stood tokens.old) }
     ensures shorter { IfOk result (λ x. length tokens.new < length tokens.old) }
     // What takes no memory wants none.
@@ -311,13 +312,13 @@ pub(crate) fn phrases_end<'t, 's>(
 {
     let left = tokens.len();
     match tokens.next() {
-        None => Err(Stop::Refused(0, Awaiting::Phrase)),
+        None => Err(ParseError::Refused(0, Awaiting::Phrase)),
         Some(token) => {
             let role = role_of(&token);
             if matches!(role, Role::Semicolon) {
                 Ok(token)
             } else {
-                Err(Stop::Refused(left, awaited(owner, stood, role)))
+                Err(ParseError::Refused(left, awaited(owner, stood, role)))
             }
         }
     }

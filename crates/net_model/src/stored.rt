@@ -1,7 +1,7 @@
 ghost use Rattle.std.specs.Prelude.{◌≡◌, IfOk, IfErr};
-ghost use Rattle.net_model.specs.declared.stop.Stop.TheVariants.{OutOfMemory};
+ghost use Rattle.net_model.specs.declared.parse_error.ParseError.TheVariants.{OutOfMemory};
 
-use crate::stop::Stop;
+use crate::parse_error::ParseError;
 use net_views::Boxed;
 use std::alloc::Global;
 use std::marker::Model;
@@ -27,7 +27,7 @@ impl<T: Drop> Drop for Stored<T> {
 }
 
 impl<T: Drop> Stored<T> {
-    pub(crate) fn new(alloc: Global, value: T) -> Result<Stored<T>, Stop>
+    pub(crate) fn new(alloc: Global, value: T) -> Result<Stored<T>, ParseError>
         ensures value { IfOk result (λ s. s ≡ value) }
         ensures memory { IfErr result (λ e. e ≡ OutOfMemory) }
     {

@@ -1,27 +1,28 @@
 ghost use Rattle.std.specs.Prelude.{◌≡◌, nat_le, IfOk, IfErr};
-ghost use Rattle.net_tree.specs.Level.{rank};
+ghost use Rattle.net_tree.specs.WellFormed.{precedence};
+ghost use Rattle.net_tree.specs.Precedence.{of_sum};
 ghost use Rattle.net_tree.specs.View.{tree, link_of, links_of};
 ghost use Rattle.net_model.specs.Expressions.{chained, is_none};
-ghost use Rattle.net_model.specs.declared.stop.Stop.TheVariants.{OutOfMemory};
+ghost use Rattle.net_model.specs.declared.parse_error.ParseError.TheVariants.{OutOfMemory};
 
 use crate::boxed::boxed;
 use crate::carried::Carried;
-use crate::stop::Stop;
+use crate::parse_error::ParseError;
 use crate::stored::Stored;
-use net_tree::{Expr, Link, Operator, Series};
+use net_tree::{Expr, Link, Operator, Series, precedence};
 use net_views::Items;
 use std::alloc::Global;
 
 /// Whether the tree may stand where a sum may.
 #[tactic(auto, using(net_tree::proofs::Views::views))]
 pub(crate) fn is_sum(expr: &Expr<'_>) -> bool
-    ensures { result ≡ nat_le (rank (tree expr.now)) 3 }
+    ensures { result ≡ nat_le (precedence (tree expr.now)) of_sum }
 {
     match expr {
         Expr::Leaf(_) | Expr::Indexed(_) | Expr::Parens(_) | Expr::Tuple(_) => true,
         Expr::Negated(_) | Expr::Braced(_) | Expr::Reduced(_, _) => true,
         Expr::Signed(parts) => is_sum(&parts.get().1),
-        Expr::Chain(place, _) => *place <= 2,
+        Expr::Chain(loosest, _) => *loosest < precedence::SUM,
         Expr::Choice(_, _, _) | Expr::Net(_) => false,
     }
 }
@@ -32,7 +33,7 @@ pub(crate) fn linked<'s>(
     alloc: Global,
     operator: Carried<Operator<'s>>,
     operand: Stored<Expr<'s>>,
-) -> Result<Stored<Link<'s>>, Stop>
+) -> Result<Stored<Link<'s>>, ParseError>
     ensures value { IfOk result (λ l. link_of l ≡ (operator.entry, tree operand.entry)) }
     ensures memory { IfErr result (λ e. e ≡ OutOfMemory) }
 {
@@ -55,11 +56,11 @@ pub(crate) fn is_none(links: &Items<Link<'_>>) -> bool
 #[tactic(auto, using(crate::proofs::Making::makings))]
 pub(crate) fn chained<'s>(
     alloc: Global,
-    place: u8,
+    loosest: u8,
     first: Stored<Expr<'s>>,
     more: Carried<Items<Link<'s>>>,
-) -> Result<Stored<Expr<'s>>, Stop>
-    ensures value { IfOk result (λ x. tree x ≡ chained place (tree first.entry) (links_of more.entry)) }
+) -> Result<Stored<Expr<'s>>, ParseError>
+    ensures value { IfOk result (λ x. tree x ≡ chained loosest (tree first.entry) (links_of more.entry)) }
     ensures memory { IfErr result (λ e. e ≡ OutOfMemory) }
 {
     if is_none(more.get()) {
@@ -68,5 +69,5 @@ pub(crate) fn chained<'s>(
     let first = first.into_inner();
     let more = more.into_inner();
     let operands = boxed(alloc, Series { first, more })?;
-    Stored::new(alloc, Expr::Chain(place, operands))
+    Stored::new(alloc, Expr::Chain(loosest, operands))
 }

@@ -3,7 +3,7 @@ use Rattle.std.specs.Prelude.{◌≡◌, ◌+◌, ◌<◌, ◌≤◌, ℕ, zero,
 use Rattle.std.proofs.Common.{refl, sym, ap, subst, ◌∙◌, arith, append_assoc}
 use Rattle.std.proofs.lemmas.List.{append-nil, take_at}
 use Rattle.net_lex.specs.declared.token.Token.{Token}
-use Rattle.net_tree.specs.declared.expr.Operator.{Operator}
+use Rattle.net_tree.specs.declared.operator.Words.{Words as Operator}
 use Rattle.net_tree.specs.declared.expr.Link.{Link, out-Link}
 use Rattle.net_tree.specs.Tree.{Tree, Links, Part, Braces, leaf, tuple, chain, none, link, empty, filled}
 use Rattle.net_tree.specs.View.{tree, links_of}
@@ -15,31 +15,16 @@ use Rattle.net_resolve.specs.declared.fault.NameFault.{NameFault}
 use Rattle.net_resolve.specs.declared.fault.NameFault.TheVariants as faults
 use Rattle.net_resolve.specs.Scopes.{Scope, meaning_in, with_name}
 use Rattle.net_resolve.specs.Told.{Fault, first, Tells}
-use Rattle.net_resolve.specs.Dummies.{is_in, set_behind, both, sides, with_component, with_components, with_left, with_sides, with_item, with_items, with_braces, with_bare, bare}
+use Rattle.net_tree.proofs.Items.{behind}
+use Rattle.net_tree.specs.Items.{is_in, both, sides, lone_name}
+use Rattle.net_tree.specs.Operations.{operation}
+use Rattle.net_resolve.specs.Dummies.{with_component, with_components, with_left, with_sides, with_item, with_items, with_braces, with_bare}
 use Rattle.net_resolve.specs.Names.{tree_fault, links_fault, items_fault, further_fault, part_fault, placed_fault, components_fault, braces_fault, is_tuple}
 use Rattle.net_resolve.specs.Items.{by_sides, component_fault, left_fault, item_fault, items_and_part}
 
--- what stands behind the only link, by its operator
-abbrev behind : Bool → Tree → Option Tree
-behind b y = if b then Some y else None
-
-pub one_link : (ls : List Link) (l : Link) (b : Bool) → 1 ≤ length ls → length ls < 2 → l ≡ get_or ls 0 l → is_in (out-Link l).operator ≡ b
-    → behind b (tree (out-Link l).operand) ≡ set_behind (links_of ls)
-one_link [] l b h i e f = absurd (omega arith)
-one_link (x ∷ []) l b h i e f =
-    ap (λ c. behind c (tree (out-Link l).operand)) (sym f)
-    ∙ ap (λ (k : Link). behind (is_in (out-Link k).operator) (tree (out-Link k).operand)) e
-    ∙ sym (ap set_behind (links_of-cons x []))
-one_link (x ∷ y ∷ ls) l b h i e f = absurd (omega arith)
-
-pub many_links : (ls : List Link) → 2 ≤ length ls → None ≡ set_behind (links_of ls)
-many_links [] b = absurd (omega arith)
-many_links (x ∷ []) b = absurd (omega arith)
-many_links (x ∷ y ∷ ls) b = refl
-
 -- the fault of an item as it stands in braces
 pub item_is : (n : Need) (s : Scope) (x : Tree) → (if is_some (sides x) then placed_fault n s x else tree_fault n s x) ≡ item_fault n s x
-item_is n s (chain k x (link r y none)) = go (is_in r)
+item_is n s (chain k x (link r y none)) = go (is_in (operation r))
   where
     go : (b : Bool) → (if is_some (both x (behind b y)) then placed_fault n s (chain k x (link r y none)) else tree_fault n s (chain k x (link r y none)))
         ≡ by_sides n s (chain k x (link r y none)) (both x (behind b y))
@@ -76,7 +61,7 @@ bare_begins s (Some t) = go (is_none (meaning_in t.text s))
     go false = begins_same s
 
 component_begins : (s : Scope) (x : Tree) → Begins s (with_component s x)
-component_begins s x = bare_begins s (bare x)
+component_begins s x = bare_begins s (lone_name x)
 
 components_begin : (s : Scope) (l : Links) → Begins s (with_components s l)
 components_begin s none = begins_same s
@@ -117,7 +102,7 @@ forgotten_components s t u x l n h e f =
 
 -- an item weighs more than its two sides
 pub sides_lighter : (x : Tree) (p : Tree × Tree) → sides x ≡ Some p → weight p.0 + weight p.1 < weight x
-sides_lighter (chain k x (link r y none)) p h = go (is_in r) h
+sides_lighter (chain k x (link r y none)) p h = go (is_in (operation r)) h
   where
     go : (b : Bool) → both x (behind b y) ≡ Some p → weight p.0 + weight p.1 < weight (chain k x (link r y none))
     go true e = let f : (x, y) ≡ p = cc in rw (← f) (omega arith)

@@ -1,43 +1,11 @@
 -- Which dummies braces bring into scope.
-use Rattle.std.specs.Prelude.{Bool, true, false, Option, None, Some, is_none, if◌then◌else◌}
+use Rattle.std.specs.Prelude.{Bool, false, Option, None, Some, is_none, if◌then◌else◌}
 use Rattle.net_lex.specs.declared.token.Token.{Token}
-use Rattle.net_tree.specs.declared.expr.Operator.{Operator}
-use Rattle.net_tree.specs.declared.expr.Operator.TheVariants.{One, Two}
-use Rattle.net_tree.specs.declared.role.Role.{Role}
-use Rattle.net_tree.specs.declared.role.Role.TheVariants as roles
-use Rattle.net_tree.specs.declared.role.Relates.TheVariants as relates
-use Rattle.net_tree.specs.Role.{role_of, is_name}
-use Rattle.net_tree.specs.Tree.{Tree, leaf, tuple, chain, Links, none, link, Braces, empty, filled}
+pub use Rattle.net_tree.specs.Items.{sides}
+use Rattle.net_tree.specs.Items.{lone_name}
+use Rattle.net_tree.specs.Tree.{Tree, tuple, Links, none, link, Braces, empty, filled}
 use Rattle.net_resolve.specs.declared.meaning.Meaning.TheVariants as meanings
 use Rattle.net_resolve.specs.Scopes.{Scope, meaning_in, with_name}
-
-abbrev pub is_in_word : Role → Bool
-is_in_word (roles.Relation relates.In) = true
-is_in_word _ = false
-
--- `in`, and not `not in`
-abbrev pub is_in : Operator → Bool
-is_in (One t) = is_in_word (role_of t)
-is_in (Two t u) = false
-
--- what stands behind a lone `in`
-abbrev pub set_behind : Links → Option Tree
-set_behind (link r y none) = if is_in r then Some y else None
-set_behind _ = None
-
-abbrev pub both : Tree → Option Tree → Option (Tree × Tree)
-both x None = None
-both x (Some y) = Some (x, y)
-
--- the two sides of an item with `in` at its top
-abbrev pub sides : Tree → Option (Tree × Tree)
-sides (chain n x l) = both x (set_behind l)
-sides _ = None
-
--- a bare name
-abbrev pub bare : Tree → Option Token
-bare (leaf t) = if is_name (role_of t) then Some t else None
-bare _ = None
 
 abbrev pub means_nothing : Scope → Option Token → Bool
 means_nothing s None = false
@@ -45,7 +13,7 @@ means_nothing s (Some t) = is_none (meaning_in t.text s)
 
 -- a bare name that means nothing yet
 abbrev pub is_new : Scope → Tree → Bool
-is_new s x = means_nothing s (bare x)
+is_new s x = means_nothing s (lone_name x)
 
 abbrev pub with_bare : Scope → Option Token → Scope
 with_bare s None = s
@@ -53,7 +21,7 @@ with_bare s (Some t) = if is_none (meaning_in t.text s) then with_name s t meani
 
 -- what stands alone at the left of `in`, or is a component there, is a dummy from now on, if it is new
 abbrev pub with_component : Scope → Tree → Scope
-with_component s x = with_bare s (bare x)
+with_component s x = with_bare s (lone_name x)
 
 abbrev pub with_components : Scope → Links → Scope
 with_components s none = s

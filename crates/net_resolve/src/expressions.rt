@@ -10,13 +10,13 @@ ghost use Rattle.net_resolve.specs.Told as told;
 ghost use Rattle.net_resolve.specs.Told.{Tells, name_fault, Decides};
 ghost use Rattle.net_tree.specs.Tree as trees;
 
-use crate::dummies::{add_component, add_left, is_new, sides_of};
+use crate::dummies::{add_component, add_left, is_new};
 use crate::fault::NameFault;
 use crate::meaning::{Need, in_subscripts, misfit};
 use crate::scope::Scope;
 use net_fault::Defect;
 use net_lex::Token;
-use net_tree::{Braces, Expr, Link, Part, Role, role_of};
+use net_tree::{Braces, Expr, Link, Part, Role, role_of, sides_of};
 use net_views::Boxed;
 
 /// A name that is used.

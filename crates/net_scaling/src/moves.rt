@@ -54,6 +54,8 @@ pub struct Moves {
     greatest: i64,
     /// The nodes into which none is open any more, in the order in which they came to that.
     pub ready: NodeQueue,
+    /// The nodes with excess that wait for their turn.
+    pub waiting: NodeQueue,
 }
 
 /// An index in 32 bits.
@@ -83,6 +85,7 @@ impl Moves {
             firsts: vec![in alloc; NO_MOVE; node_count]?,
             arriving: vec![in alloc; 0_u32; node_count]?,
             ready: NodeQueue::with_room(alloc, node_count)?,
+            waiting: NodeQueue::with_room(alloc, node_count)?,
         })
     }
 

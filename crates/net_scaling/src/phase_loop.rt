@@ -11,7 +11,6 @@ use crate::machine::Machine;
 use crate::moves::Moves;
 use crate::rows::Rows;
 use crate::targets::Targets;
-use net_guess::NodeQueue;
 use net_normal::Problem;
 
 /// More phases than there can be.
@@ -32,7 +31,6 @@ impl Machine {
         rows: &Rows,
         targets: &Targets,
         moves: &mut Moves,
-        waiting: &mut NodeQueue,
         scale: u64,
     ) -> bool
         requires rows { AreRows problem.now rows.now.starts.items rows.now.entries.items }
@@ -47,10 +45,10 @@ impl Machine {
         for _ in 0..PHASES {
             let before = self.steps;
             self.begin(problem, scale);
-            if !self.move_in_waves(problem, rows, targets, moves, waiting) {
+            if !self.move_in_waves(problem, rows, targets, moves) {
                 return false;
             }
-            self.refine(problem, rows, targets, waiting);
+            self.refine(problem, rows, targets, &mut moves.waiting);
             if !is_balanced(&self.carried.excess) {
                 return false;
             }

@@ -12,7 +12,7 @@ use crate::reduced::greatest_cost;
 use crate::row_building::rows_of;
 use crate::targets::Targets;
 use net_check::{Certificate, Side, Verdict, check};
-use net_guess::{Guess, NodeQueue, find_guess};
+use net_guess::{Guess, find_guess};
 use net_normal::Problem;
 use std::alloc::{AllocError, Global};
 
@@ -104,7 +104,6 @@ impl Scaling {
             Patience::beside(problem, looks, scale)
         };
         let targets = Targets::of(alloc, problem, flows, potentials, patience)?;
-        let mut waiting = NodeQueue::with_room(alloc, problem.supplies.len())?;
         let mut machine = Machine::start(alloc, problem, self.budget)?;
         if targets.are_too_far(scale / 2, self.budget) {
             return Ok(machine.broken_off());
@@ -113,7 +112,7 @@ impl Scaling {
             return Ok(machine.broken_off());
         };
         let mut moves = Moves::with_room(alloc, problem.supplies.len(), problem.arcs.len())?;
-        if !machine.run_phases(problem, &rows, &targets, &mut moves, &mut waiting, scale) {
+        if !machine.run_phases(problem, &rows, &targets, &mut moves, scale) {
             return Ok(machine.broken_off());
         }
         machine.ended(alloc, problem)

@@ -9,7 +9,6 @@ use crate::machine::Machine;
 use crate::moves::{Move, Moves, NO_MOVE, open_amount};
 use crate::rows::Rows;
 use crate::targets::{Targets, at};
-use net_guess::NodeQueue;
 use net_normal::Problem;
 
 /// How many waves a phase has at most.
@@ -78,7 +77,6 @@ impl Machine {
         rows: &Rows,
         targets: &Targets,
         moves: &mut Moves,
-        waiting: &mut NodeQueue,
         node: u32,
     ) -> bool
         requires node { node < vec_len problem.now.supplies }
@@ -99,7 +97,7 @@ impl Machine {
             let least = self.least_out(problem, rows, node);
             let amount = self.sinking(targets, moves, node, least);
             if least < 0 {
-                self.push_rest(problem, rows, waiting, node);
+                self.push_rest(problem, rows, &mut moves.waiting, node);
             } else {
                 self.lower(problem, node, &least, &amount);
             }
@@ -111,14 +109,7 @@ impl Machine {
     }
 
     /// One wave: all nodes that something is to leave, in their turns. Answers whether steps may be taken still.
-    fn wave(
-        &mut self,
-        problem: &Problem,
-        rows: &Rows,
-        targets: &Targets,
-        moves: &mut Moves,
-        waiting: &mut NodeQueue,
-    ) -> bool
+    fn wave(&mut self, problem: &Problem, rows: &Rows, targets: &Targets, moves: &mut Moves) -> bool
         requires rows { AreRows problem.now rows.now.starts.items rows.now.entries.items }
         requires running { IsRunning problem.now self.old }
         ensures running { IsRunning problem.now self.new }
@@ -137,7 +128,7 @@ impl Machine {
             if node as usize >= problem.supplies.len() {
                 return true;
             }
-            if !self.take_turn(problem, rows, targets, moves, waiting, node) {
+            if !self.take_turn(problem, rows, targets, moves, node) {
                 return false;
             }
         }
@@ -151,7 +142,6 @@ impl Machine {
         rows: &Rows,
         targets: &Targets,
         moves: &mut Moves,
-        waiting: &mut NodeQueue,
     ) -> bool
         requires rows { AreRows problem.now rows.now.starts.items rows.now.entries.items }
         requires running { IsRunning problem.now self.old }
@@ -164,7 +154,7 @@ impl Machine {
             if moves.count() == 0 {
                 return true;
             }
-            if !self.wave(problem, rows, targets, moves, waiting) {
+            if !self.wave(problem, rows, targets, moves) {
                 return false;
             }
             if self.steps == before {

@@ -4,11 +4,11 @@ pub mod Sets
 pub mod Orders
 pub mod Marks
 pub mod Kept
-pub mod Held
+pub mod Cow
 pub mod Laid
 pub mod Operations
 pub mod Components
-pub mod Ways
+pub mod Filters
 pub mod Made
 pub mod Ranges
 pub mod Laws

@@ -3,11 +3,11 @@ ghost use Rattle.net_sets.specs.Components.{agrees, indexed_components, next_pla
 ghost use Rattle.net_sets.specs.Operations.{narrowest};
 
 use crate::component_index::{Chains, chains_of};
+use crate::cursor::place_from;
 use crate::member::Member;
 use crate::operations::{narrowest, widest};
 use crate::shared_set::SharedSet;
 use crate::tuple_set::TupleSet;
-use crate::walk::place_from;
 use std::alloc::{AllocError, Global};
 use std::marker::Model;
 

@@ -2,8 +2,9 @@
 #![tactic(auto)]
 
 mod component_index;
+mod cow;
+mod cursor;
 mod fault;
-mod held;
 mod indexed_set;
 mod laws;
 mod mark;
@@ -15,10 +16,10 @@ mod table;
 mod text;
 mod tuple;
 mod tuple_set;
-mod walk;
 
+pub use cow::Cow;
+pub use cursor::Cursor;
 pub use fault::SetFault;
-pub use held::Held;
 pub use indexed_set::IndexedSet;
 pub use laws::{products_are_lists, range_has_what_it_lists, walks_those_that_agree};
 pub use member::Member;
@@ -31,4 +32,3 @@ pub use table::Table;
 pub use text::Text;
 pub use tuple::Tuple;
 pub use tuple_set::TupleSet;
-pub use walk::Walk;

@@ -20,15 +20,21 @@ use std::marker::Model;
 /// How many tuples a set may have.
 pub(crate) const TUPLES_LIMIT: usize = 1_000_000;
 
-/// Distinct tuples in the order of their first appearance, which contracts see as their list. They are found in an ordered
-/// map by their marks, and those whose mark an earlier tuple has in one by their members, so that no text can make it slow.
+/// Where tuples are found: in an ordered map by their marks, and those whose mark an earlier tuple has in one by their members, so
+/// that no text can make it slow.
 #[derive(Drop)]
-pub struct TupleSet<'s> {
-    tuples: Vec<Tuple<'s>>,
+struct Places<'s> {
     /// The place of the first tuple with each mark.
     marks: BTreeMap<u64, usize>,
     /// The place of each tuple whose mark an earlier one has, by its members.
     others: BTreeMap<Vec<Member<'s>>, usize>,
+}
+
+/// Distinct tuples in the order of their first appearance, which contracts see as their list.
+#[derive(Drop)]
+pub struct TupleSet<'s> {
+    tuples: Vec<Tuple<'s>>,
+    places: Places<'s>,
 }
 
 impl<'s> Model for TupleSet<'s> {
@@ -40,7 +46,7 @@ impl<'s> Model for TupleSet<'s> {
 
     ghost view = { λ s. s.tuples.items };
 
-    ghost invariant = { λ s. IsKept s.tuples.items s.marks s.others };
+    ghost invariant = { λ s. IsKept s.tuples.items s.places.marks s.places.others };
 }
 
 /// The members of a tuple, in no more memory than they take.
@@ -119,22 +125,21 @@ fn insert_mark(marks: &mut BTreeMap<u64, usize>, mark: u64, place: usize) -> Res
 /// Tells the place of a tuple, by its mark where no tuple has this yet.
 fn enter<'s>(
     alloc: Global,
-    marks: &mut BTreeMap<u64, usize>,
-    others: &mut BTreeMap<Vec<Member<'s>>, usize>,
+    places: &mut Places<'s>,
     mark: u64,
     first: Option<usize>,
     tuple: &Tuple<'s>,
     place: usize,
 ) -> Result<(), AllocError>
     requires mark { mark ≡ mark_of tuple.now }
-    ensures ok { OnOk result (IsEntered first tuple.now place marks.old marks.new others.old others.new) }
-    ensures err { OnErr result (IsSame marks.old marks.new others.old others.new) }
+    ensures ok { OnOk result (IsEntered first tuple.now place places.old.marks places.new.marks places.old.others places.new.others) }
+    ensures err { OnErr result (IsSame places.old.marks places.new.marks places.old.others places.new.others) }
 {
     match first {
-        None => insert_mark(marks, mark, place),
+        None => insert_mark(&mut places.marks, mark, place),
         Some(_) => {
             let members = members_of(alloc, tuple)?;
-            insert(others, members, place)
+            insert(&mut places.others, members, place)
         }
     }
 }
@@ -142,22 +147,22 @@ fn enter<'s>(
 /// Puts a tuple at the end, and tells its place.
 fn put<'s>(
     tuples: &mut Vec<Tuple<'s>>,
-    marks: &mut BTreeMap<u64, usize>,
-    others: &mut BTreeMap<Vec<Member<'s>>, usize>,
+    places: &mut Places<'s>,
     mark: u64,
     first: Option<usize>,
     tuple: Tuple<'s>,
 ) -> Result<(), AllocError>
     requires mark { mark ≡ mark_of tuple }
     ensures last { OnOk result (tuples.new.items ≡ tuples.old.items ++ tuple.entry ∷ []) }
-    ensures entered { OnOk result (IsEntered first tuple.entry (length tuples.old.items) marks.old marks.new others.old others.new) }
+    ensures entered { OnOk result (IsEntered first tuple.entry (length tuples.old.items) places.old.marks places.new.marks places.old.others
+        places.new.others) }
     ensures items { OnErr result (tuples.new.items ≡ tuples.old.items) }
-    ensures maps { OnErr result (IsSame marks.old marks.new others.old others.new) }
+    ensures maps { OnErr result (IsSame places.old.marks places.new.marks places.old.others places.new.others) }
 {
     let alloc = *tuples.allocator();
     let place = tuples.len();
     tuples.reserve(1)?;
-    enter(alloc, marks, others, mark, first, &tuple, place)?;
+    enter(alloc, places, mark, first, &tuple, place)?;
     tuples.push_reserved(tuple);
     Ok(())
 }
@@ -169,8 +174,10 @@ impl<'s> TupleSet<'s> {
     {
         TupleSet {
             tuples: Vec::new(alloc),
-            marks: BTreeMap::new(alloc),
-            others: BTreeMap::new(alloc),
+            places: Places {
+                marks: BTreeMap::new(alloc),
+                others: BTreeMap::new(alloc),
+            },
         }
     }
 
@@ -195,8 +202,8 @@ impl<'s> TupleSet<'s> {
     pub fn position(&self, tuple: &Tuple<'s>) -> Option<usize>
         ensures { result ≡ place_of self.now tuple.now }
     {
-        let first = first_marked(&self.marks, tuple.mark());
-        find(self.tuples.as_slice(), &self.others, first, tuple)
+        let first = first_marked(&self.places.marks, tuple.mark());
+        find(self.tuples.as_slice(), &self.places.others, first, tuple)
     }
 
     /// The same, where the tuple probably stands at a place: this is looked at first, and only where it has another the set is
@@ -233,15 +240,8 @@ impl<'s> TupleSet<'s> {
         ensures err { OnErr result (self.new ≡ self.old) }
     {
         let mark = tuple.mark();
-        let first = first_marked(&self.marks, mark);
-        put(
-            &mut self.tuples,
-            &mut self.marks,
-            &mut self.others,
-            mark,
-            first,
-            tuple,
-        )
+        let first = first_marked(&self.places.marks, mark);
+        put(&mut self.tuples, &mut self.places, mark, first, tuple)
     }
 
     /// Puts a tuple at the end, or leaves the set as it is where it has the tuple, and tells whether it was new. `TooMany` is
@@ -255,19 +255,12 @@ impl<'s> TupleSet<'s> {
         ensures memory { IsErrOf result SetFault.OutOfMemory → length (added self.old tuple.entry) ≤ tuples_limit }
     {
         let mark = tuple.mark();
-        let first = first_marked(&self.marks, mark);
-        let place = find(self.tuples.as_slice(), &self.others, first, &tuple);
+        let first = first_marked(&self.places.marks, mark);
+        let place = find(self.tuples.as_slice(), &self.places.others, first, &tuple);
         if place.is_some() {
             Ok(false)
         } else if self.tuples.len() < TUPLES_LIMIT {
-            put(
-                &mut self.tuples,
-                &mut self.marks,
-                &mut self.others,
-                mark,
-                first,
-                tuple,
-            )?;
+            put(&mut self.tuples, &mut self.places, mark, first, tuple)?;
             Ok(true)
         } else {
             Err(SetFault::TooMany)

@@ -2,3 +2,4 @@ pub mod Views
 pub mod Lasts
 pub mod TreesStand
 pub mod ModelsStand
+pub mod Items

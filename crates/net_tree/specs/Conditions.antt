@@ -1,25 +1,26 @@
 -- Which conditions of nodes are written as the grammar wants: sums and bounds, where one sum has one net term.
 use Rattle.std.specs.Prelude.{◌≡◌, ◌≤◌, ◌⊎◌, ℕ, ◌+◌, Bool, true, false, None}
-use Rattle.net_tree.specs.declared.expr.Operator.TheVariants.{One, Two}
-use Rattle.net_tree.specs.declared.role.Relates.TheVariants as relates
+use Rattle.net_tree.specs.declared.operator.Words.TheVariants.{One, Two}
+use Rattle.net_tree.specs.declared.role.Relation.TheVariants as relations
 use Rattle.net_tree.specs.declared.role.Role.{Role}
 use Rattle.net_tree.specs.declared.role.Role.TheVariants as roles
+use Rattle.net_tree.specs.Precedence.{of_product, of_sum}
 use Rattle.net_tree.specs.Tree.{Tree, Links, chain, net, none, link, Condition, unsaid, one, between}
 use Rattle.net_tree.specs.Role.{role_of, is_sign, is_net, is_colon, is_bound}
-use Rattle.net_tree.specs.Level.{rank, IsLevel, IsLinked}
+use Rattle.net_tree.specs.WellFormed.{precedence, IsWellFormed, IsLinked}
 
 -- a sum without a net term
 abbrev pub IsSum : Tree → Type 0
-IsSum x = IsLevel x × (rank x ≤ 3)
+IsSum x = IsWellFormed x × (precedence x ≤ of_sum)
 
 -- a term is a product or a net term, and the first term may be a net term with a sign
 abbrev pub IsFirstTerm : Tree → Type 0
-IsFirstTerm (net s w) = IsLevel (net s w)
-IsFirstTerm x = IsLevel x × (rank x ≤ 2)
+IsFirstTerm (net s w) = IsWellFormed (net s w)
+IsFirstTerm x = IsWellFormed x × (precedence x ≤ of_product)
 
 abbrev pub IsFurtherTerm : Tree → Type 0
 IsFurtherTerm (net s w) = (s ≡ None) × (is_net (role_of w) ≡ true)
-IsFurtherTerm x = IsLevel x × (rank x ≤ 2)
+IsFurtherTerm x = IsWellFormed x × (precedence x ≤ of_product)
 
 -- terms with `+` and `-` before them
 abbrev pub AreTerms : Links → Type 0
@@ -38,14 +39,14 @@ nets_in (link o x l) = nets x + nets_in l
 
 -- a sum in which exactly one term is a net term
 abbrev pub IsNetSum : Tree → Type 0
-IsNetSum (net s w) = IsLevel (net s w)
-IsNetSum (chain n x l) = (n ≡ 2) × IsFirstTerm x × IsLinked l × AreTerms l × (nets x + nets_in l ≡ 1)
+IsNetSum (net s w) = IsWellFormed (net s w)
+IsNetSum (chain n x l) = (n ≡ of_product) × IsFirstTerm x × IsLinked l × AreTerms l × (nets x + nets_in l ≡ 1)
 IsNetSum _ = ⊥
 
 -- `<=` and `<=`, or `>=` and `>=`
 abbrev pub same_order : Role → Role → Bool
-same_order (roles.Relation relates.AtMost) (roles.Relation relates.AtMost) = true
-same_order (roles.Relation relates.AtLeast) (roles.Relation relates.AtLeast) = true
+same_order (roles.Relation relations.AtMost) (roles.Relation relations.AtMost) = true
+same_order (roles.Relation relations.AtLeast) (roles.Relation relations.AtLeast) = true
 same_order _ _ = false
 
 abbrev pub IsCondition : Condition → Type 0

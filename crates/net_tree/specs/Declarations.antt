@@ -4,7 +4,8 @@ use Rattle.net_tree.specs.declared.role.Declares.TheVariants as declares
 use Rattle.net_tree.specs.declared.role.Role.TheVariants as roles
 use Rattle.net_tree.specs.Tree.{Part, absent, part, Braces, Declaration, set, param, check, node, arc, objective}
 use Rattle.net_tree.specs.Role.{role_of, is_name, is_colon, is_semicolon}
-use Rattle.net_tree.specs.Level.{rank, is_value, IsLevel, AreBraces}
+use Rattle.net_tree.specs.Precedence.{of_or}
+use Rattle.net_tree.specs.WellFormed.{precedence, is_value, IsWellFormed, AreBraces}
 use Rattle.net_tree.specs.Conditions.{IsCondition}
 use Rattle.net_tree.specs.Phrases.{AreSetPhrases, AreParamPhrases, AreArcPhrases}
 
@@ -15,7 +16,7 @@ IsIndexing (Some b) = AreBraces b
 -- what an objective is, if that is said: a value
 abbrev pub IsObjective : Part → Type 0
 IsObjective absent = Unit {0}
-IsObjective (part m x) = (is_colon (role_of m) ≡ true) × IsLevel x × (is_value (rank x) ≡ true)
+IsObjective (part m x) = (is_colon (role_of m) ≡ true) × IsWellFormed x × (is_value (precedence x) ≡ true)
 
 abbrev pub IsDeclaration : Declaration → Type 0
 IsDeclaration (set w n ps e) =
@@ -23,7 +24,7 @@ IsDeclaration (set w n ps e) =
 IsDeclaration (param w n b ps e) =
     (role_of w ≡ roles.Declaration declares.Param) × (is_name (role_of n) ≡ true) × IsIndexing b × AreParamPhrases ps × (is_semicolon (role_of e) ≡ true)
 IsDeclaration (check w b m x e) =
-    (role_of w ≡ roles.Declaration declares.Check) × IsIndexing b × (is_colon (role_of m) ≡ true) × IsLevel x × (rank x ≤ 10) × (is_semicolon (role_of e) ≡ true)
+    (role_of w ≡ roles.Declaration declares.Check) × IsIndexing b × (is_colon (role_of m) ≡ true) × IsWellFormed x × (precedence x ≤ of_or) × (is_semicolon (role_of e) ≡ true)
 IsDeclaration (node w n b c e) =
     (role_of w ≡ roles.Declaration declares.Node) × (is_name (role_of n) ≡ true) × IsIndexing b × IsCondition c × (is_semicolon (role_of e) ≡ true)
 IsDeclaration (arc w n b ps e) =

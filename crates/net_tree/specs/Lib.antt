@@ -1,12 +1,15 @@
 pub mod Role
+pub mod Operations
 pub mod Tree
 pub mod Print
 pub mod Weights
 pub mod Depth
 pub mod View
+pub mod Items
 pub mod Spans
 pub mod Standing
-pub mod Level
+pub mod Precedence
+pub mod WellFormed
 pub mod Conditions
 pub mod Phrases
 pub mod Declarations

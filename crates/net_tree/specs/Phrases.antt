@@ -2,12 +2,13 @@
 use Rattle.std.specs.Prelude.{◌≡◌, ◌≤◌, ℕ, suc, Bool, true, false, if◌then◌else◌, List, [], ◌∷◌, Option, None, Some}
 use Rattle.net_lex.specs.declared.token.Token.{Token}
 use Rattle.net_tree.specs.declared.role.Begins.TheVariants as begins
-use Rattle.net_tree.specs.declared.role.Relates.TheVariants as relates
+use Rattle.net_tree.specs.declared.role.Relation.TheVariants as relations
 use Rattle.net_tree.specs.declared.role.Role.{Role}
 use Rattle.net_tree.specs.declared.role.Role.TheVariants as roles
 use Rattle.net_tree.specs.Tree.{leaf, indexed, Body, plain, valued, priced, Phrase}
 use Rattle.net_tree.specs.Role.{role_of, is_name, is_number, is_comma}
-use Rattle.net_tree.specs.Level.{rank, is_value, IsLevel}
+use Rattle.net_tree.specs.Precedence.{of_sum, of_union}
+use Rattle.net_tree.specs.WellFormed.{precedence, is_value, IsWellFormed}
 
 -- what follows the word of a phrase: nothing
 abbrev pub IsNothing : Body → Type 0
@@ -21,51 +22,53 @@ IsNumeral _ = ⊥
 
 -- a sum
 abbrev pub IsBound : Body → Type 0
-IsBound (valued x) = IsLevel x × (rank x ≤ 3)
+IsBound (valued x) = IsWellFormed x × (precedence x ≤ of_sum)
 IsBound _ = ⊥
 
 -- a set or a member
 abbrev pub IsOperand : Body → Type 0
-IsOperand (valued x) = IsLevel x × (rank x ≤ 7)
+IsOperand (valued x) = IsWellFormed x × (precedence x ≤ of_union)
 IsOperand _ = ⊥
 
 -- the same or an `if`
 abbrev pub IsValue : Body → Type 0
-IsValue (valued x) = IsLevel x × (is_value (rank x) ≡ true)
+IsValue (valued x) = IsWellFormed x × (is_value (precedence x) ≡ true)
 IsValue _ = ⊥
 
 -- a name, with or without subscripts
 abbrev pub IsReference : Body → Type 0
 IsReference (valued (leaf t)) = is_name (role_of t) ≡ true
-IsReference (valued (indexed n o x l c)) = IsLevel (indexed n o x l c)
+IsReference (valued (indexed n o x l c)) = IsWellFormed (indexed n o x l c)
 IsReference _ = ⊥
 
 -- a name and a sum
 abbrev pub IsPrice : Body → Type 0
-IsPrice (priced n x) = (is_name (role_of n) ≡ true) × IsLevel x × (rank x ≤ 3)
+IsPrice (priced n x) = (is_name (role_of n) ≡ true) × IsWellFormed x × (precedence x ≤ of_sum)
 IsPrice _ = ⊥
 
 -- what follows each word in a set, in a parameter and in an arc
 abbrev pub OfSet : Role → Body → Type 0
 OfSet (roles.Phrase begins.Dimen) b = IsNumeral b
-OfSet (roles.Relation relates.Within) b = IsOperand b
+OfSet (roles.Relation relations.Within) b = IsOperand b
 OfSet roles.Becomes b = IsValue b
 OfSet _ b = ⊥
 
 abbrev pub OfParam : Role → Body → Type 0
 OfParam (roles.Phrase begins.Symbolic) b = IsNothing b
 OfParam (roles.Phrase begins.Integer) b = IsNothing b
-OfParam (roles.Relation relates.AtMost) b = IsBound b
-OfParam (roles.Relation relates.AtLeast) b = IsBound b
-OfParam (roles.Relation relates.Other) b = IsBound b
-OfParam (roles.Relation relates.In) b = IsOperand b
+OfParam (roles.Relation relations.AtMost) b = IsBound b
+OfParam (roles.Relation relations.AtLeast) b = IsBound b
+OfParam (roles.Relation relations.Less) b = IsBound b
+OfParam (roles.Relation relations.Greater) b = IsBound b
+OfParam (roles.Relation relations.Unequal) b = IsBound b
+OfParam (roles.Relation relations.In) b = IsOperand b
 OfParam (roles.Phrase begins.Default) b = IsValue b
 OfParam roles.Becomes b = IsValue b
 OfParam _ b = ⊥
 
 abbrev pub OfArc : Role → Body → Type 0
-OfArc (roles.Relation relates.AtMost) b = IsBound b
-OfArc (roles.Relation relates.AtLeast) b = IsBound b
+OfArc (roles.Relation relations.AtMost) b = IsBound b
+OfArc (roles.Relation relations.AtLeast) b = IsBound b
 OfArc (roles.Phrase begins.Integer) b = IsNothing b
 OfArc (roles.Phrase begins.From) b = IsReference b
 OfArc (roles.Phrase begins.To) b = IsReference b
@@ -98,11 +101,11 @@ is_becomes roles.Becomes = true
 is_becomes _ = false
 
 abbrev pub is_at_least : Role → Bool
-is_at_least (roles.Relation relates.AtLeast) = true
+is_at_least (roles.Relation relations.AtLeast) = true
 is_at_least _ = false
 
 abbrev pub is_at_most : Role → Bool
-is_at_most (roles.Relation relates.AtMost) = true
+is_at_most (roles.Relation relations.AtMost) = true
 is_at_most _ = false
 
 abbrev pub is_from : Role → Bool

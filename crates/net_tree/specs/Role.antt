@@ -6,34 +6,35 @@ use Rattle.net_lex.specs.declared.token.Kind.{Kind}
 use Rattle.net_lex.specs.declared.token.Kind.TheVariants as kinds
 use Rattle.net_tree.specs.declared.role.Declares.TheVariants as declares
 use Rattle.net_tree.specs.declared.role.Begins.TheVariants as begins
-use Rattle.net_tree.specs.declared.role.Relates.{Relates}
-use Rattle.net_tree.specs.declared.role.Relates.TheVariants as relates
+use Rattle.net_tree.specs.declared.role.Relation.{Relation}
+use Rattle.net_tree.specs.declared.role.Relation.TheVariants as relations
 use Rattle.net_tree.specs.declared.role.Role.{Role}
 use Rattle.net_tree.specs.declared.role.Role.TheVariants as roles
+use Rattle.net_tree.specs.Precedence.{of_reduction, of_range, of_cross, of_inter, of_relation, of_and}
 
 -- the marks, each with its role
 unfoldable pub marks : List (List ℕ × Role)
 marks =
     (codes ",", roles.Comma) ∷ (codes ";", roles.Semicolon) ∷ (codes "[", roles.OpenSquare) ∷ (codes "]", roles.CloseSquare) ∷ (codes "(", roles.Open)
     ∷ (codes ")", roles.Close) ∷ (codes "{", roles.OpenBrace) ∷ (codes "}", roles.CloseBrace) ∷ (codes ":", roles.Colon) ∷ (codes "+", roles.Sign)
-    ∷ (codes "-", roles.Sign) ∷ (codes "*", roles.Joining 1) ∷ (codes "=", roles.Relation relates.Equal) ∷ (codes "<=", roles.Relation relates.AtMost)
-    ∷ (codes ">=", roles.Relation relates.AtLeast) ∷ (codes "<", roles.Relation relates.Other) ∷ (codes ">", roles.Relation relates.Other)
-    ∷ (codes "..", roles.Range) ∷ (codes ":=", roles.Becomes) ∷ (codes "<>", roles.Relation relates.Other) ∷ (codes "==", roles.Relation relates.Equal)
-    ∷ (codes "!=", roles.Relation relates.Other) ∷ (codes ".", roles.LeftOut) ∷ (codes "/", roles.LeftOut) ∷ (codes "**", roles.LeftOut)
+    ∷ (codes "-", roles.Sign) ∷ (codes "*", roles.Joining of_reduction) ∷ (codes "=", roles.Relation relations.Equal) ∷ (codes "<=", roles.Relation relations.AtMost)
+    ∷ (codes ">=", roles.Relation relations.AtLeast) ∷ (codes "<", roles.Relation relations.Less) ∷ (codes ">", roles.Relation relations.Greater)
+    ∷ (codes "..", roles.Range) ∷ (codes ":=", roles.Becomes) ∷ (codes "<>", roles.Relation relations.Unequal) ∷ (codes "==", roles.Relation relations.Equal)
+    ∷ (codes "!=", roles.Relation relations.Unequal) ∷ (codes ".", roles.LeftOut) ∷ (codes "/", roles.LeftOut) ∷ (codes "**", roles.LeftOut)
     ∷ (codes "^", roles.LeftOut) ∷ (codes "&", roles.LeftOut) ∷ (codes "&&", roles.LeftOut) ∷ (codes "||", roles.LeftOut) ∷ (codes "!", roles.LeftOut) ∷ []
 
 -- the reserved words, each with its role
 unfoldable pub keys : List (List ℕ × Role)
 keys =
-    (codes "in", roles.Relation relates.In) ∷ (codes "sum", roles.Reduction) ∷ (codes "param", roles.Declaration declares.Param)
-    ∷ (codes "set", roles.Declaration declares.Set) ∷ (codes "cross", roles.Joining 4) ∷ (codes "within", roles.Relation relates.Within)
-    ∷ (codes "and", roles.Joining 8) ∷ (codes "obj", roles.Phrase begins.Obj) ∷ (codes "from", roles.Phrase begins.From)
+    (codes "in", roles.Relation relations.In) ∷ (codes "sum", roles.Reduction) ∷ (codes "param", roles.Declaration declares.Param)
+    ∷ (codes "set", roles.Declaration declares.Set) ∷ (codes "cross", roles.Joining of_range) ∷ (codes "within", roles.Relation relations.Within)
+    ∷ (codes "and", roles.Joining of_relation) ∷ (codes "obj", roles.Phrase begins.Obj) ∷ (codes "from", roles.Phrase begins.From)
     ∷ (codes "to", roles.Phrase begins.To) ∷ (codes "if", roles.If) ∷ (codes "then", roles.Then) ∷ (codes "else", roles.Else)
-    ∷ (codes "or", roles.Joining 9) ∷ (codes "not", roles.Not) ∷ (codes "arc", roles.Declaration declares.Arc)
+    ∷ (codes "or", roles.Joining of_and) ∷ (codes "not", roles.Not) ∷ (codes "arc", roles.Declaration declares.Arc)
     ∷ (codes "node", roles.Declaration declares.Node) ∷ (codes "net_in", roles.Net) ∷ (codes "net_out", roles.Net) ∷ (codes "by", roles.By)
-    ∷ (codes "check", roles.Declaration declares.Check) ∷ (codes "div", roles.Joining 1) ∷ (codes "mod", roles.Joining 1) ∷ (codes "min", roles.Reduction)
-    ∷ (codes "max", roles.Reduction) ∷ (codes "union", roles.Joining 6) ∷ (codes "diff", roles.Joining 6) ∷ (codes "symdiff", roles.Joining 6)
-    ∷ (codes "inter", roles.Joining 5) ∷ (codes "minimize", roles.Declaration declares.Objective)
+    ∷ (codes "check", roles.Declaration declares.Check) ∷ (codes "div", roles.Joining of_reduction) ∷ (codes "mod", roles.Joining of_reduction) ∷ (codes "min", roles.Reduction)
+    ∷ (codes "max", roles.Reduction) ∷ (codes "union", roles.Joining of_inter) ∷ (codes "diff", roles.Joining of_inter) ∷ (codes "symdiff", roles.Joining of_inter)
+    ∷ (codes "inter", roles.Joining of_cross) ∷ (codes "minimize", roles.Declaration declares.Objective)
     ∷ (codes "maximize", roles.Declaration declares.Objective) ∷ (codes "default", roles.Phrase begins.Default)
     ∷ (codes "dimen", roles.Phrase begins.Dimen) ∷ (codes "symbolic", roles.Phrase begins.Symbolic) ∷ (codes "integer", roles.Phrase begins.Integer)
     ∷ (codes "exists", roles.LeftOut) ∷ (codes "forall", roles.LeftOut) ∷ (codes "Infinity", roles.LeftOut) ∷ (codes "less", roles.LeftOut)
@@ -137,15 +138,15 @@ is_net _ = false
 
 -- what may stand behind `not` between two operands
 abbrev pub is_membership : Role → Bool
-is_membership (roles.Relation relates.In) = true
-is_membership (roles.Relation relates.Within) = true
+is_membership (roles.Relation relations.In) = true
+is_membership (roles.Relation relations.Within) = true
 is_membership _ = false
 
 -- what may stand between the sides of a node's condition
-abbrev pub bounds : Relates → Bool
-bounds relates.Equal = true
-bounds relates.AtMost = true
-bounds relates.AtLeast = true
+abbrev pub bounds : Relation → Bool
+bounds relations.Equal = true
+bounds relations.AtMost = true
+bounds relations.AtLeast = true
 bounds _ = false
 
 abbrev pub is_bound : Role → Bool

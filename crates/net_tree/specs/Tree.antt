@@ -1,7 +1,7 @@
 -- Model texts as the definitions read them: trees with every token of the text.
 use Rattle.std.specs.Prelude.{ℕ, List, Option}
 use Rattle.net_lex.specs.declared.token.Token.{Token}
-use Rattle.net_tree.specs.declared.expr.Operator.{Operator}
+use Rattle.net_tree.specs.declared.operator.Words.{Words as Operator}
 
 mutual
   -- an expression; the comments have a text for each

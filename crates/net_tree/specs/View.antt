@@ -1,7 +1,7 @@
 -- The tree of an expression, and the declarations of a model, of the code.
 use Rattle.std.specs.Prelude.{List, [], ◌∷◌, Option, None, Some, map}
 use Rattle.net_lex.specs.declared.token.Token.{Token}
-use Rattle.net_tree.specs.declared.expr.Operator.{Operator}
+use Rattle.net_tree.specs.declared.operator.Words.{Words as Operator}
 use Rattle.net_tree.specs.declared.expr.Expr.{Expr}
 use Rattle.net_tree.specs.declared.expr.Series.{Series}
 use Rattle.net_tree.specs.declared.expr.Link.{Link}

@@ -1,14 +1,6 @@
+use crate::operator::{Operator, Reducer, Sign};
 use net_lex::Token;
 use net_views::{Boxed, Items};
-
-/// An operator between two operands.
-#[derive(Drop)]
-pub enum Operator<'s> {
-    /// `+`, `and`, `in`; between the parts of a list `,`
-    One(Token<'s>),
-    /// `not in`, `not within`
-    Two(Token<'s>, Boxed<Token<'s>>),
-}
 
 /// An expression of any kind: number, member, set or condition. It keeps all its tokens, brackets and commas too.
 #[derive(Drop)]
@@ -27,15 +19,15 @@ pub enum Expr<'s> {
     /// `{i in A: a[i] > 0}` as a set
     Braced(Boxed<Braces<'s>>),
     /// `- a`: the sign, its operand
-    Signed(Boxed<(Token<'s>, Expr<'s>)>),
+    Signed(Boxed<(Sign<'s>, Expr<'s>)>),
     /// `sum {i in A} a[i]`: the word with the braces, and what is added up
-    Reduced(Boxed<(Token<'s>, Braces<'s>)>, Boxed<Expr<'s>>),
-    /// `a + b - c`: how loose an operand may be (see `rank`), the operands with their operators
+    Reduced(Boxed<(Reducer<'s>, Braces<'s>)>, Boxed<Expr<'s>>),
+    /// `a + b - c`: how loose an operand may be (see [`precedence`](crate::precedence)), the operands with their operators
     Chain(u8, Boxed<Series<'s>>),
     /// `if a then b else c`: `if` and the condition, `then` and its branch, `else` and its branch
     Choice(Boxed<Part<'s>>, Boxed<Part<'s>>, Option<Boxed<Part<'s>>>),
     /// `net_in` in a node's condition, `- net_in` as its first term
-    Net(Boxed<(Option<Token<'s>>, Token<'s>)>),
+    Net(Boxed<(Option<Sign<'s>>, Token<'s>)>),
 }
 
 /// Expressions in a row: of `a, b` and of `a + b` the first one, and the others with the commas or operators before them.

@@ -3,10 +3,15 @@
 
 mod declaration;
 mod expr;
+mod item;
+mod operator;
+pub mod precedence;
 mod role;
 mod span;
 
 pub use declaration::{Body, Decl, Model, NetCond, Phrase};
-pub use expr::{Braces, Expr, Link, Operator, Part, Series};
-pub use role::{Begins, Declares, Relates, Role, role_of};
+pub use expr::{Braces, Expr, Link, Part, Series};
+pub use item::{lone_name, sides_of};
+pub use operator::{BinOp, Operator, Reducer, Reduction, Sign};
+pub use role::{Begins, Declares, Relation, Role, role_of};
 pub use span::{braces_span, condition_span, span_between, span_of};

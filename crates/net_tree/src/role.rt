@@ -1,6 +1,7 @@
 ghost use Rattle.std.specs.Prelude.{◌≡◌, map};
 ghost use Rattle.net_tree.specs.Role.{marks, keys, found_in, role_of};
 
+use crate::precedence;
 use net_lex::{Kind, Token};
 
 /// The word that begins a declaration.
@@ -27,17 +28,21 @@ pub enum Begins {
     Obj,
 }
 
-/// What an operator of the level of relations says.
+/// What an operator that compares says.
 #[derive(Clone, Copy)]
-pub enum Relates {
+pub enum Relation {
     /// `=`, `==`
     Equal,
+    /// `<>`, `!=`
+    Unequal,
+    /// `<`
+    Less,
     /// `<=`
     AtMost,
+    /// `>`
+    Greater,
     /// `>=`
     AtLeast,
-    /// `<`, `>`, `<>`, `!=`
-    Other,
     In,
     Within,
 }
@@ -70,10 +75,10 @@ pub enum Role {
     /// `..`
     Range,
     By,
-    /// An operator that joins any number of operands, with its level (see `joins`): `*`, `div`, `mod`, `cross`, `inter`,
-    /// `union`, `diff`, `symdiff`, `and`, `or`.
+    /// An operator that joins any number of operands, with how loose these may be: `*`, `div`, `mod`, `cross`, `inter`, `union`, `diff`,
+    /// `symdiff`, `and`, `or`.
     Joining(u8),
-    Relation(Relates),
+    Relation(Relation),
     Not,
     If,
     Then,
@@ -108,17 +113,17 @@ fn marks() -> &'static [(&'static [u8], Role)]
         (b":", Role::Colon),
         (b"+", Role::Sign),
         (b"-", Role::Sign),
-        (b"*", Role::Joining(1)),
-        (b"=", Role::Relation(Relates::Equal)),
-        (b"<=", Role::Relation(Relates::AtMost)),
-        (b">=", Role::Relation(Relates::AtLeast)),
-        (b"<", Role::Relation(Relates::Other)),
-        (b">", Role::Relation(Relates::Other)),
+        (b"*", Role::Joining(precedence::REDUCTION)),
+        (b"=", Role::Relation(Relation::Equal)),
+        (b"<=", Role::Relation(Relation::AtMost)),
+        (b">=", Role::Relation(Relation::AtLeast)),
+        (b"<", Role::Relation(Relation::Less)),
+        (b">", Role::Relation(Relation::Greater)),
         (b"..", Role::Range),
         (b":=", Role::Becomes),
-        (b"<>", Role::Relation(Relates::Other)),
-        (b"==", Role::Relation(Relates::Equal)),
-        (b"!=", Role::Relation(Relates::Other)),
+        (b"<>", Role::Relation(Relation::Unequal)),
+        (b"==", Role::Relation(Relation::Equal)),
+        (b"!=", Role::Relation(Relation::Unequal)),
         (b".", Role::LeftOut),
         (b"/", Role::LeftOut),
         (b"**", Role::LeftOut),
@@ -136,20 +141,20 @@ fn keys() -> &'static [(&'static [u8], Role)]
     ensures { map (λ word. (word.0.now, word.1)) result.now ≡ keys }
 {
     &[
-        (b"in", Role::Relation(Relates::In)),
+        (b"in", Role::Relation(Relation::In)),
         (b"sum", Role::Reduction),
         (b"param", Role::Declaration(Declares::Param)),
         (b"set", Role::Declaration(Declares::Set)),
-        (b"cross", Role::Joining(4)),
-        (b"within", Role::Relation(Relates::Within)),
-        (b"and", Role::Joining(8)),
+        (b"cross", Role::Joining(precedence::RANGE)),
+        (b"within", Role::Relation(Relation::Within)),
+        (b"and", Role::Joining(precedence::RELATION)),
         (b"obj", Role::Phrase(Begins::Obj)),
         (b"from", Role::Phrase(Begins::From)),
         (b"to", Role::Phrase(Begins::To)),
         (b"if", Role::If),
         (b"then", Role::Then),
         (b"else", Role::Else),
-        (b"or", Role::Joining(9)),
+        (b"or", Role::Joining(precedence::AND)),
         (b"not", Role::Not),
         (b"arc", Role::Declaration(Declares::Arc)),
         (b"node", Role::Declaration(Declares::Node)),
@@ -157,14 +162,14 @@ fn keys() -> &'static [(&'static [u8], Role)]
         (b"net_out", Role::Net),
         (b"by", Role::By),
         (b"check", Role::Declaration(Declares::Check)),
-        (b"div", Role::Joining(1)),
-        (b"mod", Role::Joining(1)),
+        (b"div", Role::Joining(precedence::REDUCTION)),
+        (b"mod", Role::Joining(precedence::REDUCTION)),
         (b"min", Role::Reduction),
         (b"max", Role::Reduction),
-        (b"union", Role::Joining(6)),
-        (b"diff", Role::Joining(6)),
-        (b"symdiff", Role::Joining(6)),
-        (b"inter", Role::Joining(5)),
+        (b"union", Role::Joining(precedence::INTER)),
+        (b"diff", Role::Joining(precedence::INTER)),
+        (b"symdiff", Role::Joining(precedence::INTER)),
+        (b"inter", Role::Joining(precedence::CROSS)),
         (b"minimize", Role::Declaration(Declares::Objective)),
         (b"maximize", Role::Declaration(Declares::Objective)),
         (b"default", Role::Phrase(Begins::Default)),

@@ -5,6 +5,7 @@ ghost use Rattle.net_tree.specs.Weights.{weight, weights, part_weight};
 
 use crate::declaration::NetCond;
 use crate::expr::{Braces, Expr, Link, Part};
+use crate::operator::Sign;
 use net_fault::Span;
 use net_lex::Token;
 use net_views::Boxed;
@@ -21,19 +22,19 @@ fn start_of(expr: &Expr<'_>) -> usize
         Expr::Tuple(parts) => parts.get().0.span.start,
         Expr::Negated(parts) => parts.get().0.span.start,
         Expr::Braced(braces) => opening_of(braces.get()),
-        Expr::Signed(parts) => parts.get().0.span.start,
-        Expr::Reduced(parts, _) => parts.get().0.span.start,
+        Expr::Signed(parts) => parts.get().0.token().span.start,
+        Expr::Reduced(parts, _) => parts.get().0.token().span.start,
         Expr::Chain(_, operands) => start_of(&operands.get().first),
         Expr::Choice(condition, _, _) => condition.get().mark.span.start,
         Expr::Net(parts) => net_start(&parts.get().0, &parts.get().1),
     }
 }
 
-fn net_start(sign: &Option<Token<'_>>, word: &Token<'_>) -> usize
+fn net_start(sign: &Option<Sign<'_>>, word: &Token<'_>) -> usize
     ensures { result ≡ (spans.first_or sign.now word.now).span.start }
 {
     match sign {
-        Some(sign) => sign.span.start,
+        Some(sign) => sign.token().span.start,
         None => word.span.start,
     }
 }

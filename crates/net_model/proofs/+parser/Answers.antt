@@ -1,6 +1,6 @@
 use Rattle.std.proofs.Common.{◌≡◌, ◌+◌, ◌-◌, sym, ap, ◌∙◌, arith, length, length-append, [], ◌∷◌}
 use Rattle.std.proofs.lemmas.Result.{err_from_is_err_and}
-use Rattle.net_tree.specs.Level.{joins}
+use Rattle.net_tree.specs.WellFormed.{joins}
 use Rattle.net_tree.specs.View.{tree, links_of}
 use Rattle.net_model.specs.Expressions.{inside, climb, unary, links, part_at, present_at, inner_of, choice_at, items_at, hollow_at, braces_at, braces, reduced_at, chain_at, if_at, wide, named_at, negated_at, parens_from, parens_at, subscripts_at, unary_at}
 use Rattle.net_model.specs.Reading.{next_is, read_as}
@@ -29,37 +29,37 @@ expressions::unary_of-returns-then-depth-eq0-clause-value t c = rw (inside-none 
 pub expressions::unary_of-returns-else-depth-eq0-clause-value : goal.expressions::unary_of-returns-else-depth-eq0-clause-value
 expressions::unary_of-returns-else-depth-eq0-clause-value t c = rw (inside-some c.args.depth c.if-depth-eq0.false) c.unary_inside.ensures.value
 
-pub chains::climb_to-returns-then-place-lt2-clause-value : goal.chains::climb_to-returns-then-place-lt2-clause-value
-chains::climb_to-returns-then-place-lt2-clause-value t c = rw (climb-low c.args.place (unary (inside c.args.depth)) c.if-place-lt2.true) c.unary_of.ensures.value
+pub chains::climb_to-returns-then-loosest-lt-PRODUCT-clause-value : goal.chains::climb_to-returns-then-loosest-lt-PRODUCT-clause-value
+chains::climb_to-returns-then-loosest-lt-PRODUCT-clause-value t c = rw (climb-low c.args.loosest (unary (inside c.args.depth)) c.if-loosest-lt-PRODUCT.true) c.unary_of.ensures.value
 
-pub chains::climb_to-returns-else-place-lt2-clause-value : goal.chains::climb_to-returns-else-place-lt2-clause-value
-chains::climb_to-returns-else-place-lt2-clause-value t c = rw (climb-high c.args.place (unary (inside c.args.depth)) c.if-place-lt2.false) c.chain_of.ensures.value
+pub chains::climb_to-returns-else-loosest-lt-PRODUCT-clause-value : goal.chains::climb_to-returns-else-loosest-lt-PRODUCT-clause-value
+chains::climb_to-returns-else-loosest-lt-PRODUCT-clause-value t c = rw (climb-high c.args.loosest (unary (inside c.args.depth)) c.if-loosest-lt-PRODUCT.false) c.chain_of.ensures.value
 
 pub braces::body_inside-returns-clause-value : goal.braces::body_inside-returns-clause-value
-braces::body_inside-returns-clause-value t c = rw c.body_place.ensures at c.climb_to.ensures.value
+braces::body_inside-returns-clause-value t c = rw c.loosest_in_body.ensures at c.climb_to.ensures.value
 
 pub chains::chain_links-returns-clause-value : goal.chains::chain_links-returns-clause-value
-chains::chain_links-returns-clause-value t c = rw c.right_place.ensures at c.links_from.ensures.value
+chains::chain_links-returns-clause-value t c = rw c.loosest_at_right.ensures at c.links_from.ensures.value
 
 pub chains::links_from-returns-in_err-operator-clause-value : goal.chains::links_from-returns-in_err-operator-clause-value
 chains::links_from-returns-in_err-operator-clause-value t c =
     let same : c.len.result ≡ length c.loop-alloc.found.items = omega (arith, c.len.ensures, c.loop-alloc.found.ok) in
     let y = err_from_is_err_and c.from_residual.result c.from_residual.ensures.1 in
-    rw y.1 (rw y.2 (no_operator c.loop-alloc.found.items (length c.args.tokens.now) c.args.level c.len.result (climb c.args.place (unary (inside c.args.depth))) c.loop-alloc.tokens (links (length c.args.tokens.now) c.args.level 0 (climb c.args.place (unary (inside c.args.depth))) c.args.tokens.now) c.in_err-operator.field-0.0
+    rw y.1 (rw y.2 (no_operator c.loop-alloc.found.items (length c.args.tokens.now) c.args.joining c.len.result (climb c.args.loosest (unary (inside c.args.depth))) c.loop-alloc.tokens (links (length c.args.tokens.now) c.args.joining 0 (climb c.args.loosest (unary (inside c.args.depth))) c.args.tokens.now) c.in_err-operator.field-0.0
     same c.loop-alloc.invariant.room (sym c.next_joins.ensures ∙ c.loop-alloc-test.true) c.loop-alloc.invariant.read c.in_err-operator.ensures.value))
 
 pub chains::links_from-returns-in_err-operand-clause-value : goal.chains::links_from-returns-in_err-operand-clause-value
 chains::links_from-returns-in_err-operand-clause-value t c =
     let same : c.len.result ≡ length c.loop-alloc.found.items = omega (arith, c.len.ensures, c.loop-alloc.found.ok) in
     let y = err_from_is_err_and c.from_residual-in_err-operand.result c.from_residual-in_err-operand.ensures.1 in
-    rw y.1 (rw y.2 (no_operand c.loop-alloc.found.items (length c.args.tokens.now) c.args.level c.len.result (climb c.args.place (unary (inside c.args.depth))) c.loop-alloc.tokens c.in_ok-operator.operator c.operator_at.new.tokens (links (length c.args.tokens.now) c.args.level 0 (climb c.args.place (unary (inside c.args.depth))) c.args.tokens.now) c.in_err-operand.field-0.0
+    rw y.1 (rw y.2 (no_operand c.loop-alloc.found.items (length c.args.tokens.now) c.args.joining c.len.result (climb c.args.loosest (unary (inside c.args.depth))) c.loop-alloc.tokens c.in_ok-operator.operator c.operator_at.new.tokens (links (length c.args.tokens.now) c.args.joining 0 (climb c.args.loosest (unary (inside c.args.depth))) c.args.tokens.now) c.in_err-operand.field-0.0
     same c.loop-alloc.invariant.room (sym c.next_joins.ensures ∙ c.loop-alloc-test.true) c.in_ok-operator.ensures.value c.loop-alloc.invariant.read c.in_err-operand.ensures.value))
 
 pub chains::links_from-returns-clause-value : goal.chains::links_from-returns-clause-value
 chains::links_from-returns-clause-value t c =
     let same : c.len.result ≡ length c.loop-alloc.found.items = omega (arith, c.len.ensures, c.loop-alloc.found.ok) in
-    all_read c.loop-alloc.found.items (length c.args.tokens.now - length c.loop-alloc.found.items) c.args.level (length c.loop-alloc.found.items) (climb c.args.place (unary (inside c.args.depth))) c.loop-alloc.tokens (links (length c.args.tokens.now) c.args.level 0 (climb c.args.place (unary (inside c.args.depth))) c.args.tokens.now)
-    (sym (ap (λ n. next_is (joins c.args.level n) c.loop-alloc.tokens) same) ∙ (sym c.next_joins.ensures ∙ c.loop-alloc-test.false)) c.loop-alloc.invariant.read
+    all_read c.loop-alloc.found.items (length c.args.tokens.now - length c.loop-alloc.found.items) c.args.joining (length c.loop-alloc.found.items) (climb c.args.loosest (unary (inside c.args.depth))) c.loop-alloc.tokens (links (length c.args.tokens.now) c.args.joining 0 (climb c.args.loosest (unary (inside c.args.depth))) c.args.tokens.now)
+    (sym (ap (λ n. next_is (joins c.args.joining n) c.loop-alloc.tokens) same) ∙ (sym c.next_joins.ensures ∙ c.loop-alloc-test.false)) c.loop-alloc.invariant.read
     ∙ ap (λ l. read_as (links_of l) c.loop-alloc.tokens) (sym (c.new-2.ensures ∙ c.new.ensures))
 
 pub chains::links_from-loop-alloc-preserved : goal.chains::links_from-loop-alloc-preserved
@@ -69,8 +69,8 @@ chains::links_from-loop-alloc-preserved t c =
     record {
       read =
           one_read c.loop-alloc.found.items c.push.new.list.items c.in_ok-link.link
-          (length c.args.tokens.now) c.args.level c.len.result (climb c.args.place (unary (inside c.args.depth))) c.loop-alloc.tokens
-          c.in_ok-operator.operator (tree c.in_ok-operand.operand) c.operator_at.new.tokens c.climb_to.new.tokens (links (length c.args.tokens.now) c.args.level 0 (climb c.args.place (unary (inside c.args.depth))) c.args.tokens.now)
+          (length c.args.tokens.now) c.args.joining c.len.result (climb c.args.loosest (unary (inside c.args.depth))) c.loop-alloc.tokens
+          c.in_ok-operator.operator (tree c.in_ok-operand.operand) c.operator_at.new.tokens c.climb_to.new.tokens (links (length c.args.tokens.now) c.args.joining 0 (climb c.args.loosest (unary (inside c.args.depth))) c.args.tokens.now)
           same c.loop-alloc.invariant.room (sym c.next_joins.ensures ∙ c.loop-alloc-test.true) c.in_ok-operator.ensures.value c.in_ok-operand.ensures.value
           c.in_ok-link.ensures.value c.in_ok-push.ensures.items c.loop-alloc.invariant.read;
       room = omega (arith, more, c.in_ok-operator.ensures.shorter, c.in_ok-operand.ensures.shorter, c.loop-alloc.invariant.room);

@@ -1,7 +1,7 @@
 use Rattle.std.proofs.Common.{refl, ap, sym, ◌∙◌, subst, arith}
 use Rattle.std.proofs.lemmas.Grind.{common_steps}
 use Rattle.net_sets.specs.Operations.{widest}
-use Rattle.net_bind.specs.Fences.{AreLong}
+use Rattle.net_bind.specs.Supersets.{AreLong}
 use Rattle.net_bind.proofs.Products.{tested, are_long, crossed_by}
 use Rattle.net_bind.proofs.crossing.product.Goals as goal
 

@@ -4,4 +4,4 @@ use Rattle.net_bind.specs.BoundParameters.{fit_values}
 use Rattle.net_bind.proofs.param.fit_values.Given as goal
 
 abbrev pub invariant-loop-row : goal.invariant-loop-row
-invariant-loop-row l = fit_values l.fn.seen l.fn.name l.fn.keys (map phrase_of l.fn.phrases) l.fn.text l.fn.at l.fn.places l.fn.table (drop l.row-index l.fn.rows) ≡ fit_values l.fn.seen l.fn.name l.fn.keys (map phrase_of l.fn.phrases) l.fn.text l.fn.at l.fn.places l.fn.table l.fn.rows
+invariant-loop-row l = fit_values l.fn.env l.fn.parameter.name.now l.fn.parameter.keys (map phrase_of l.fn.parameter.phrases.now) l.fn.values.text l.fn.values.at l.fn.values.cells.now l.fn.values.table.now (drop l.row-index l.fn.rows) ≡ fit_values l.fn.env l.fn.parameter.name.now l.fn.parameter.keys (map phrase_of l.fn.parameter.phrases.now) l.fn.values.text l.fn.values.at l.fn.values.cells.now l.fn.values.table.now l.fn.rows

@@ -5,10 +5,10 @@ use Rattle.net_bind.specs.Rows.{with_statement}
 use Rattle.net_bind.proofs.Turns.{in_turn}
 use Rattle.net_bind.proofs.param_data.said_of.Goals as goal
 
-pub loop-mention-preserved : goal.loop-mention-preserved
-loop-mention-preserved c =
-    let done : with_statement c.args.widths.now c.args.keys c.args.index.now (key_count c.args.keys) c.args.is_assigned c.mention-item.result ((c.loop-mention.table, c.loop-mention.places.items), c.loop-mention.default) ≡ Ok ((c.taken.new.table, c.taken.new.places.items), c.either-default.result) = search rules in
-    in_turn _ _ _ _ _ _ _ c.loop-mention.invariant c.loop-mention-test.true c.mention-item.is done
+pub loop-named-preserved : goal.loop-named-preserved
+loop-named-preserved c =
+    let done : with_statement c.args.widths.now c.args.parameter.now.keys c.args.parameter.now.index.now (key_count c.args.parameter.now.keys) c.args.is_assigned c.named-item.result (c.loop-named.values, c.loop-named.default) ≡ Ok (c.taken.new.values, c.either-default.result) = search rules in
+    in_turn _ _ _ _ _ _ _ c.loop-named.invariant c.loop-named-test.true c.named-item.is done
 
 pub returns-in_err-taken : goal.returns-in_err-taken
 returns-in_err-taken c = grind (arith, common_steps)

@@ -4,5 +4,5 @@ use Rattle.net_fault.specs.Outcomes.{each}
 use Rattle.net_bind.specs.Rows.{with_statement}
 use Rattle.net_bind.proofs.param_data.said_of.Given as goal
 
-abbrev pub invariant-loop-mention : goal.invariant-loop-mention
-invariant-loop-mention l = each (with_statement l.fn.widths l.fn.keys l.fn.index (key_count l.fn.keys) l.fn.is_assigned) (drop l.mention-index l.fn.mentions) ((l.table, l.places.items), l.default) ≡ each (with_statement l.fn.widths l.fn.keys l.fn.index (key_count l.fn.keys) l.fn.is_assigned) l.fn.mentions ((l.fn.table, l.fn.places.items), None)
+abbrev pub invariant-loop-named : goal.invariant-loop-named
+invariant-loop-named l = each (with_statement l.fn.widths l.fn.parameter.keys l.fn.parameter.index.now (key_count l.fn.parameter.keys) l.fn.is_assigned) (drop l.named-index l.fn.named_data) (l.values, l.default) ≡ each (with_statement l.fn.widths l.fn.parameter.keys l.fn.parameter.index.now (key_count l.fn.parameter.keys) l.fn.is_assigned) l.fn.named_data (l.fn.values, None)

@@ -2,8 +2,8 @@ use Rattle.std.proofs.Common.{arith}
 use Rattle.std.proofs.lemmas.Grind.{common_steps}
 use Rattle.net_bind.proofs.restriction.related.Goals as goal
 
-pub returns-in-Among : goal.returns-in-Among
-returns-in-Among c = grind (arith, common_steps)
+pub returns-in-In : goal.returns-in-In
+returns-in-In c = grind (arith, common_steps)
 
 pub returns-in-AtMost : goal.returns-in-AtMost
 returns-in-AtMost c = grind (arith, common_steps)

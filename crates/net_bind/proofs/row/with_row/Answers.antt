@@ -7,13 +7,13 @@ pub returns-then-is_some : goal.returns-then-is_some
 returns-then-is_some c = grind (arith, common_steps)
 
 pub returns-then-is_none : goal.returns-then-is_none
-returns-then-is_none c = grind (arith, common_steps, has_place c.tuple_in-key.result 0 c.args.index.now)
+returns-then-is_none c = grind (arith, common_steps, has_place c.tuple_in-key.result 0 c.args.parameter.now.index.now)
 
 pub returns : goal.returns
-returns c = grind (arith, common_steps, has_place c.tuple_in-key.result 0 c.args.index.now)
+returns c = grind (arith, common_steps, has_place c.tuple_in-key.result 0 c.args.parameter.now.index.now)
 
 pub with_value-requires : goal.with_value-requires
 with_value-requires c = grind (arith)
 
 pub returns-in_err-with_value : goal.returns-in_err-with_value
-returns-in_err-with_value c = grind (arith, common_steps, has_place c.tuple_in-key.result 0 c.args.index.now)
+returns-in_err-with_value c = grind (arith, common_steps, has_place c.tuple_in-key.result 0 c.args.parameter.now.index.now)

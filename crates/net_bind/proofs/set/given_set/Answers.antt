@@ -8,5 +8,5 @@ returns c = grind (arith, common_steps)
 pub returns-in_err-found : goal.returns-in_err-found
 returns-in_err-found c = grind (arith, common_steps)
 
-pub loop-mention-preserved : goal.loop-mention-preserved
-loop-mention-preserved c = grind (arith, common_steps)
+pub loop-named-preserved : goal.loop-named-preserved
+loop-named-preserved c = grind (arith, common_steps)

@@ -9,8 +9,8 @@ use Rattle.net_bind.proofs.set_phrase.set_phrases.Goals as goal
 pub loop-phrase-preserved : goal.loop-phrase-preserved
 loop-phrase-preserved c =
     let phrase = phrase_of c.phrase-item.result in
-    let done : in_body c.args.seen.now (set_word (role_of phrase.word)) phrase.body c.loop-phrase.claims ≡ Ok c.in_ok-claims.claims = search rules in
-    in_turn_by phrase_of (λ p. in_body c.args.seen.now (set_word (role_of p.word)) p.body) _ _ _ _ _ _ c.loop-phrase.invariant c.loop-phrase-test.true c.phrase-item.is done
+    let done : in_body c.args.env.now (set_word (role_of phrase.word)) phrase.body c.loop-phrase.claims ≡ Ok c.in_ok-claims.claims = search rules in
+    in_turn_by phrase_of (λ p. in_body c.args.env.now (set_word (role_of p.word)) p.body) _ _ _ _ _ _ c.loop-phrase.invariant c.loop-phrase-test.true c.phrase-item.is done
 
 pub offset_bounds-all-phrase-index : goal.offset_bounds-all-phrase-index
 offset_bounds-all-phrase-index c = grind (arith, common_steps)

@@ -5,4 +5,4 @@ use Rattle.net_bind.specs.BoundParameters.{with_key, as_tree}
 use Rattle.net_bind.proofs.source.with_keys.Given as goal
 
 abbrev pub invariant-loop-row : goal.invariant-loop-row
-invariant-loop-row l = each (with_key l.fn.seen l.fn.at (as_tree (option_copied l.fn.expr), option_copied l.fn.word)) (drop l.row-index l.fn.rows) l.table ≡ each (with_key l.fn.seen l.fn.at (as_tree (option_copied l.fn.expr), option_copied l.fn.word)) l.fn.rows l.fn.table
+invariant-loop-row l = each (with_key l.fn.env l.fn.source.declared_at (as_tree (option_copied l.fn.source.expr), option_copied l.fn.source.word)) (drop l.row-index l.fn.rows) l.table ≡ each (with_key l.fn.env l.fn.source.declared_at (as_tree (option_copied l.fn.source.expr), option_copied l.fn.source.word)) l.fn.rows l.fn.table

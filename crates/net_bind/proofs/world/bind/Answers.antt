@@ -5,5 +5,5 @@ use Rattle.net_bind.proofs.world.bind.Goals as goal
 pub returns : goal.returns
 returns c = grind (arith, common_steps)
 
-pub bind_sheets-requires : goal.bind_sheets-requires
-bind_sheets-requires c = grind (arith, common_steps)
+pub bind_statements-requires : goal.bind_statements-requires
+bind_statements-requires c = grind (arith, common_steps)

@@ -1,52 +1,58 @@
-use Rattle.std.proofs.Common.{rules, arith}
-use Rattle.net_driver.specs.Settled.{Settles}
+use Rattle.std.proofs.Common.{rules, arith, refl, []}
+use Rattle.net_driver.specs.Checked.{IsProblemRefusal}
+use Rattle.net_driver.specs.Settled.{Settles, settled_ending}
 use Rattle.net_driver.proofs.Reading.{read_whole}
+use Rattle.net_driver.proofs.Running.{texts_of, refused_run}
 use Rattle.net_driver.proofs.line_runs.run_min.Goals as goal
 
-pub returns-in-Ok-clause-ok : goal.returns-in-Ok-clause-ok
-returns-in-Ok-clause-ok g c =
+pub returns-in-Ok : goal.returns-in-Ok
+returns-in-Ok g c =
     let gave = c.in_ok-reading.ensures.value in
     let settles : Settles gave.text c.in_ok-settled.settled c.in_ok-settled.text.items = c.in_ok-settled.ensures.value gave.text gave.known in
     record {
-      problem_text = gave.text;
-      problem_read = read_whole _ _ _ gave.read settles.is_problem.short;
-      settled = c.in_ok-settled.settled;
-      text = c.in_ok-settled.text.items;
-      settles = settles;
-      ends = c.settled_ending-ending.ensures;
-      written = search rules;
+      run = record {
+        ok = record {
+          texts = texts_of [] [] gave.text [];
+          read = (read_whole _ _ _ gave.read settles.is_problem.short, tt);
+          text = c.in_ok-settled.text.items;
+          answer = (c.in_ok-settled.settled, settles, c.settled_ending-ending.ensures);
+          written = search rules;
+        };
+        err = tt;
+        unread = (grind (arith), tt);
+        unwritten = grind (arith);
+        reads = (search rules, tt);
+      };
     }
 
-pub returns-clause-front : goal.returns-clause-front
-returns-clause-front g c =
+pub returns : goal.returns
+returns g c =
     let gave = c.in_ok-reading.ensures.value in
     let settles : Settles gave.text c.in_ok-settled.settled c.in_ok-settled.text.items = c.in_ok-settled.ensures.value gave.text gave.known in
-    λ fault. record {
-      problem_text = gave.text;
-      problem_read = read_whole _ _ _ gave.read settles.is_problem.short;
-      settled = c.in_ok-settled.settled;
-      text = c.in_ok-settled.text.items;
-      settles = settles;
-      written = search rules;
+    record {
+      run = record {
+        ok = tt;
+        err = (
+          settled_ending c.in_ok-settled.settled,
+          record {
+            texts = texts_of [] [] gave.text [];
+            read = (read_whole _ _ _ gave.read settles.is_problem.short, tt);
+            text = c.in_ok-settled.text.items;
+            answer = (c.in_ok-settled.settled, settles, refl);
+            written = search rules;
+          },
+        );
+        unread = (grind (arith), tt);
+        unwritten = grind (arith);
+        reads = (search rules, tt);
+      };
     }
 
-pub returns-in-Ok-clause-output : goal.returns-in-Ok-clause-output
-returns-in-Ok-clause-output g c = grind (arith)
-
-pub returns-clause-problem : goal.returns-clause-problem
-returns-clause-problem g c = grind (arith)
-
-pub returns-in-Ok-clause-front : goal.returns-in-Ok-clause-front
-returns-in-Ok-clause-front g c = grind (arith)
-
-pub returns-in-Ok-clause-problem : goal.returns-in-Ok-clause-problem
-returns-in-Ok-clause-problem g c = grind (arith)
-
-pub returns-clause-output : goal.returns-clause-output
-returns-clause-output g c = grind (arith)
-
-pub returns-clause-refused : goal.returns-clause-refused
-returns-clause-refused g c = grind (arith)
-
-pub returns-in_err-settled-clause-refused : goal.returns-in_err-settled-clause-refused
-returns-in_err-settled-clause-refused g c = grind (arith)
+pub returns-in_err-settled : goal.returns-in_err-settled
+returns-in_err-settled g c =
+    let gave = c.in_ok-reading.ensures.value in
+    let wrong : IsProblemRefusal gave.text c.in_err-settled.field-0.0 = c.in_err-settled.ensures.refused gave.text gave.known in
+    record {
+      run = refused_run _ _ _ _ (texts_of [] [] gave.text []) (λ name h. h) (λ h. h) (gave.read, tt) refl (grind (arith), tt) (grind (arith)) (c.in_ok-reading.ensures.reads, tt)
+          c.in_err-settled.field-0.0 wrong _ _ (λ e h. h) c.from_residual-in_err-settled.ensures.1;
+    }

@@ -1,101 +1,60 @@
-use Rattle.std.proofs.Common.{rules, arith}
+use Rattle.std.proofs.Common.{rules, arith, refl, []}
+use Rattle.std.specs.Option.{option_copied}
 use Rattle.net_driver.specs.Headline.{Headline}
 use Rattle.net_driver.specs.Linked.{whole}
+use Rattle.net_driver.specs.Telling.{IsRefusal}
 use Rattle.net_driver.proofs.Reading.{read_whole}
+use Rattle.net_driver.proofs.Running.{texts_of, refused_run}
 use Rattle.net_driver.proofs.run.run_compile_with.Goals as goal
 
-pub returns-in-Ok-clause-ok : goal.returns-in-Ok-clause-ok
-returns-in-Ok-clause-ok g c =
+pub returns-in-Ok-clause-run : goal.returns-in-Ok-clause-run
+returns-in-Ok-clause-run g c =
     let m = c.in_ok-model_text.model_text.items in
     let d = c.in_ok-data_text.data_text.items in
     let answer = whole c.in_ok-linked.linked in
-    let promise : Headline _ _ m d answer = search rules in
+    let promise : Headline c.args.options.lean (option_copied c.args.options.objective) m d answer = search rules in
     record {
-      answer = answer;
-      made = record {
-        model_text = m;
-        data_text = d;
-        model_read = read_whole _ _ _ c.in_ok-model_text.ensures.value promise.accepts.model.read.short;
-        data_read = read_whole _ _ _ c.in_ok-data_text.ensures.value promise.accepts.statements.read.short;
-        compiled = promise;
+      ok = record {
+        texts = texts_of m d [] [];
+        read = (read_whole _ _ _ c.in_ok-model_text.ensures.value promise.accepts.model.read.short, (read_whole _ _ _ c.in_ok-data_text.ensures.value promise.accepts.statements.read.short, tt));
+        text = answer.text.items;
+        answer = (answer, promise, refl);
+        written = search rules;
       };
-      written = search rules;
+      err = tt;
+      unread = (grind (arith), (grind (arith), tt));
+      unwritten = grind (arith);
+      reads = (search rules, (search rules, tt));
     }
 
-pub returns-clause-front : goal.returns-clause-front
-returns-clause-front g c =
+pub returns-clause-run : goal.returns-clause-run
+returns-clause-run g c =
     let m = c.in_ok-model_text.model_text.items in
     let d = c.in_ok-data_text.data_text.items in
     let answer = whole c.in_ok-linked.linked in
-    let promise : Headline _ _ m d answer = search rules in
-    λ fault. record {
-      answer = answer;
-      made = record {
-        model_text = m;
-        data_text = d;
-        model_read = read_whole _ _ _ c.in_ok-model_text.ensures.value promise.accepts.model.read.short;
-        data_read = read_whole _ _ _ c.in_ok-data_text.ensures.value promise.accepts.statements.read.short;
-        compiled = promise;
-      };
-      written = search rules;
+    let promise : Headline c.args.options.lean (option_copied c.args.options.objective) m d answer = search rules in
+    record {
+      ok = tt;
+      err = (
+        tt,
+        record {
+          texts = texts_of m d [] [];
+          read = (read_whole _ _ _ c.in_ok-model_text.ensures.value promise.accepts.model.read.short, (read_whole _ _ _ c.in_ok-data_text.ensures.value promise.accepts.statements.read.short, tt));
+          text = answer.text.items;
+          answer = (answer, promise, refl);
+          written = search rules;
+        },
+      );
+      unread = (grind (arith), (grind (arith), tt));
+      unwritten = grind (arith);
+      reads = (search rules, (search rules, tt));
     }
 
-pub returns-in-Ok-clause-told : goal.returns-in-Ok-clause-told
-returns-in-Ok-clause-told g c = grind (arith)
-
-pub returns-in-Ok-clause-data : goal.returns-in-Ok-clause-data
-returns-in-Ok-clause-data g c = grind (arith)
-
-pub returns-in-Ok-clause-output : goal.returns-in-Ok-clause-output
-returns-in-Ok-clause-output g c = grind (arith)
-
-pub returns-in_err-model_text-clause-front : goal.returns-in_err-model_text-clause-front
-returns-in_err-model_text-clause-front g c = grind (arith)
-
-pub returns-in-Ok-clause-ends : goal.returns-in-Ok-clause-ends
-returns-in-Ok-clause-ends g c = grind (arith)
-
-pub returns-in-Ok-clause-refused : goal.returns-in-Ok-clause-refused
-returns-in-Ok-clause-refused g c = grind (arith)
-
-pub returns-in-Ok-clause-first : goal.returns-in-Ok-clause-first
-returns-in-Ok-clause-first g c = grind (arith)
-
-pub returns-clause-model : goal.returns-clause-model
-returns-clause-model g c = grind (arith)
-
-pub returns-clause-refused : goal.returns-clause-refused
-returns-clause-refused g c = grind (arith)
-
-pub returns-clause-data : goal.returns-clause-data
-returns-clause-data g c = grind (arith)
-
-pub returns-in_err-data_text-clause-front : goal.returns-in_err-data_text-clause-front
-returns-in_err-data_text-clause-front g c = grind (arith)
-
-pub returns-in-Ok-clause-front : goal.returns-in-Ok-clause-front
-returns-in-Ok-clause-front g c = grind (arith)
-
-pub returns-clause-ok : goal.returns-clause-ok
-returns-clause-ok g c = grind (arith)
-
-pub returns-in-Ok-clause-model : goal.returns-in-Ok-clause-model
-returns-in-Ok-clause-model g c = grind (arith)
-
-pub returns-clause-output : goal.returns-clause-output
-returns-clause-output g c = grind (arith)
-
-pub returns-clause-told : goal.returns-clause-told
-returns-clause-told g c = grind (arith)
-
-pub returns-clause-ends : goal.returns-clause-ends
-returns-clause-ends g c = grind (arith)
-
-pub returns-clause-first : goal.returns-clause-first
-returns-clause-first g c = grind (arith)
-
-pub returns-in_err-model_text-clause-first : goal.returns-in_err-model_text-clause-first
-returns-in_err-model_text-clause-first g c = grind (arith)
-
-pub returns-in_err-linked-clause-told : goal.returns-in_err-linked-clause-told
-returns-in_err-linked-clause-told g c = grind (arith)
+pub returns-in_err-linked-clause-run : goal.returns-in_err-linked-clause-run
+returns-in_err-linked-clause-run g c =
+    let m = c.in_ok-model_text.model_text.items in
+    let d = c.in_ok-data_text.data_text.items in
+    let wrong : IsRefusal (option_copied c.args.options.objective) m d c.in_err-linked.field-0.0 = search rules in
+    refused_run _ _ _ _ (texts_of m d [] []) (λ name h. h) (λ h. h) (c.in_ok-model_text.ensures.value, (c.in_ok-data_text.ensures.value, tt)) refl
+    (grind (arith), (grind (arith), tt)) (grind (arith)) (c.in_ok-model_text.ensures.reads, (c.in_ok-data_text.ensures.reads, tt))
+    c.in_err-linked.field-0.0 wrong _ _ (λ e h. h) c.from_residual-in_err-linked.ensures.1

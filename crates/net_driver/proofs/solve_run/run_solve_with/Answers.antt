@@ -1,98 +1,70 @@
-use Rattle.std.proofs.Common.{rules, arith}
+use Rattle.std.proofs.Common.{rules, arith, refl, []}
+use Rattle.std.specs.Option.{option_copied}
+use Rattle.net_driver.specs.Answers.{text_of, ending_of}
 use Rattle.net_driver.specs.Headline.{Headline}
 use Rattle.net_driver.specs.Linked.{written}
+use Rattle.net_driver.specs.Telling.{IsRefusal}
 use Rattle.net_driver.proofs.Reading.{read_whole}
+use Rattle.net_driver.proofs.Running.{texts_of, refused_run, stopped_run}
 use Rattle.net_driver.proofs.solve_run.run_solve_with.Goals as goal
 
-pub returns-in-Ok-clause-ok : goal.returns-in-Ok-clause-ok
-returns-in-Ok-clause-ok g c =
+pub returns-in-Ok-clause-run : goal.returns-in-Ok-clause-run
+returns-in-Ok-clause-run g c =
     let m = c.in_ok-model_text.model_text.items in
     let d = c.in_ok-data_text.data_text.items in
-    let promise : Headline _ _ m d (written c.in_ok-unwritten.unwritten) = search rules in
+    let compiled = written c.in_ok-unwritten.unwritten in
+    let outcome = c.in_ok-outcome.outcome in
+    let promise : Headline c.args.options.lean (option_copied c.args.options.objective) m d compiled = search rules in
     let solved = c.in_ok-outcome.ensures _ _ m d promise in
-    let accepts = promise.accepts in
     record {
-      answer = record { compiled = written c.in_ok-unwritten.unwritten; outcome = c.in_ok-outcome.outcome };
-      made = record {
-        model_text = m;
-        data_text = d;
-        model_read = read_whole _ _ _ c.in_ok-model_text.ensures.value accepts.model.read.short;
-        data_read = read_whole _ _ _ c.in_ok-data_text.ensures.value accepts.statements.read.short;
-        solved = solved;
+      ok = record {
+        texts = texts_of m d [] [];
+        read = (read_whole _ _ _ c.in_ok-model_text.ensures.value promise.accepts.model.read.short, (read_whole _ _ _ c.in_ok-data_text.ensures.value promise.accepts.statements.read.short, tt));
+        text = text_of outcome;
+        answer = (record { compiled = compiled; outcome = outcome }, solved, c.ending_of-ending.ensures, refl);
+        written = search rules;
       };
-      ends = c.ending_of-ending.ensures;
-      written = search rules;
+      err = tt;
+      unread = (grind (arith), (grind (arith), tt));
+      unwritten = grind (arith);
+      reads = (search rules, (search rules, tt));
     }
 
-pub returns-clause-front : goal.returns-clause-front
-returns-clause-front g c =
+pub returns-clause-run : goal.returns-clause-run
+returns-clause-run g c =
     let m = c.in_ok-model_text.model_text.items in
     let d = c.in_ok-data_text.data_text.items in
-    let promise : Headline _ _ m d (written c.in_ok-unwritten.unwritten) = search rules in
+    let compiled = written c.in_ok-unwritten.unwritten in
+    let outcome = c.in_ok-outcome.outcome in
+    let promise : Headline c.args.options.lean (option_copied c.args.options.objective) m d compiled = search rules in
     let solved = c.in_ok-outcome.ensures _ _ m d promise in
-    let accepts = promise.accepts in
-    λ fault. record {
-      answer = record { compiled = written c.in_ok-unwritten.unwritten; outcome = c.in_ok-outcome.outcome };
-      made = record {
-        model_text = m;
-        data_text = d;
-        model_read = read_whole _ _ _ c.in_ok-model_text.ensures.value accepts.model.read.short;
-        data_read = read_whole _ _ _ c.in_ok-data_text.ensures.value accepts.statements.read.short;
-        solved = solved;
-      };
-      written = search rules;
+    record {
+      ok = tt;
+      err = (
+        ending_of outcome,
+        record {
+          texts = texts_of m d [] [];
+          read = (read_whole _ _ _ c.in_ok-model_text.ensures.value promise.accepts.model.read.short, (read_whole _ _ _ c.in_ok-data_text.ensures.value promise.accepts.statements.read.short, tt));
+          text = text_of outcome;
+          answer = (record { compiled = compiled; outcome = outcome }, solved, refl, refl);
+          written = search rules;
+        },
+      );
+      unread = (grind (arith), (grind (arith), tt));
+      unwritten = grind (arith);
+      reads = (search rules, (search rules, tt));
     }
 
-pub returns-clause-model : goal.returns-clause-model
-returns-clause-model g c = grind (arith)
+pub returns-in_err-unwritten-clause-run : goal.returns-in_err-unwritten-clause-run
+returns-in_err-unwritten-clause-run g c =
+    let m = c.in_ok-model_text.model_text.items in
+    let d = c.in_ok-data_text.data_text.items in
+    let wrong : IsRefusal (option_copied c.args.options.objective) m d c.in_err-unwritten.field-0.0 = search rules in
+    refused_run _ _ _ _ (texts_of m d [] []) (λ name h. h) (λ h. h) (c.in_ok-model_text.ensures.value, (c.in_ok-data_text.ensures.value, tt)) refl
+    (grind (arith), (grind (arith), tt)) (grind (arith)) (c.in_ok-model_text.ensures.reads, (c.in_ok-data_text.ensures.reads, tt))
+    c.in_err-unwritten.field-0.0 wrong _ _ (λ e h. h) c.from_residual-in_err-unwritten.ensures.1
 
-pub returns-in-Ok-clause-first : goal.returns-in-Ok-clause-first
-returns-in-Ok-clause-first g c = grind (arith)
-
-pub returns-in-Ok-clause-model : goal.returns-in-Ok-clause-model
-returns-in-Ok-clause-model g c = grind (arith)
-
-pub returns-in-Ok-clause-output : goal.returns-in-Ok-clause-output
-returns-in-Ok-clause-output g c = grind (arith)
-
-pub returns-clause-refused : goal.returns-clause-refused
-returns-clause-refused g c = grind (arith)
-
-pub returns-in_err-model_text-clause-front : goal.returns-in_err-model_text-clause-front
-returns-in_err-model_text-clause-front g c = grind (arith)
-
-pub returns-clause-data : goal.returns-clause-data
-returns-clause-data g c = grind (arith)
-
-pub returns-in-Ok-clause-front : goal.returns-in-Ok-clause-front
-returns-in-Ok-clause-front g c = grind (arith)
-
-pub returns-in_err-data_text-clause-front : goal.returns-in_err-data_text-clause-front
-returns-in_err-data_text-clause-front g c = grind (arith)
-
-pub returns-clause-ends : goal.returns-clause-ends
-returns-clause-ends g c = grind (arith)
-
-pub returns-in-Ok-clause-ends : goal.returns-in-Ok-clause-ends
-returns-in-Ok-clause-ends g c = grind (arith)
-
-pub returns-in-Ok-clause-refused : goal.returns-in-Ok-clause-refused
-returns-in-Ok-clause-refused g c = grind (arith)
-
-pub returns-in-Ok-clause-told : goal.returns-in-Ok-clause-told
-returns-in-Ok-clause-told g c = grind (arith)
-
-pub returns-clause-told : goal.returns-clause-told
-returns-clause-told g c = grind (arith)
-
-pub returns-clause-first : goal.returns-clause-first
-returns-clause-first g c = grind (arith)
-
-pub returns-clause-ok : goal.returns-clause-ok
-returns-clause-ok g c = grind (arith)
-
-pub returns-in-Ok-clause-data : goal.returns-in-Ok-clause-data
-returns-in-Ok-clause-data g c = grind (arith)
-
-pub returns-clause-output : goal.returns-clause-output
-returns-clause-output g c = grind (arith)
+pub returns-in_err-outcome-clause-run : goal.returns-in_err-outcome-clause-run
+returns-in_err-outcome-clause-run g c =
+    stopped_run _ _ _ _ refl (grind (arith), (grind (arith), tt)) (grind (arith)) (c.in_ok-model_text.ensures.reads, (c.in_ok-data_text.ensures.reads, tt))
+    _ _ (λ e h. h) c.from_residual-in_err-outcome.ensures.1

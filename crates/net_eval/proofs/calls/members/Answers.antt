@@ -8,4 +8,4 @@ use Rattle.net_eval.proofs.calls.members.Goals as goal
 
 pub returns : goal.returns
 returns c =
-    answers_by _ _ _ (ap (λ at. and_then (value c.args.seen.now c.args.scope.now (tree c.args.expr.now)) (tuples_of at)) (sym c.span_of.ensures)) (c.tuples_of.ensures _ c.evaluate.ensures)
+    answers_by _ _ _ (ap (λ at. and_then (value c.args.env.now c.args.scope.now (tree c.args.expr.now)) (tuples_of at)) (sym c.span_of.ensures)) (c.tuples_of.ensures _ c.evaluate.ensures)

@@ -4,4 +4,4 @@ use Rattle.net_eval.specs.Selecting.{selecting_from}
 use Rattle.net_eval.proofs.selecting.selecting_behind.Given as goal
 
 abbrev pub invariant-loop-place : goal.invariant-loop-place
-invariant-loop-place l = selecting_from l.seen l.scope (l.place + 1) (links_of (drop l.place l.links)) ≡ selecting_from l.fn.seen l.fn.scope 1 (links_of l.fn.links)
+invariant-loop-place l = selecting_from l.env l.scope (l.place + 1) (links_of (drop l.place l.links)) ≡ selecting_from l.fn.env l.fn.scope 1 (links_of l.fn.links)

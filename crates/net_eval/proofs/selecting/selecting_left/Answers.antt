@@ -9,7 +9,7 @@ use Rattle.net_eval.proofs.selecting.selecting_left.Goals as goal
 pub returns-in-Tuple : goal.returns-in-Tuple
 returns-in-Tuple c =
     c.selecting_first.ensures
-    ∙ left-tuple c.args.seen.now c.args.scope.now (tree c.args.left.now) _ _ _ _ (in_tuple c.args.left.now c.in-Tuple.parts c.get.result.now c.as_slice.result.now c.in-Tuple.is c.get.ensures c.as_slice.ensures)
+    ∙ left-tuple c.args.env.now c.args.scope.now (tree c.args.left.now) _ _ _ _ (in_tuple c.args.left.now c.in-Tuple.parts c.get.result.now c.as_slice.result.now c.in-Tuple.is c.get.ensures c.as_slice.ensures)
 
 pub returns-in-Leaf : goal.returns-in-Leaf
 returns-in-Leaf c = grind (arith, common_steps, views)

@@ -24,8 +24,8 @@ decreases-with_item l = 6 * weight (tree l.item.now) + 1
 
 abbrev pub invariant-chain_width-loop-link : goal.invariant-chain_width-loop-link
 invariant-chain_width-loop-link l =
-    widths.chain_width l.fn.seen l.fn.scope l.so_far (links_of (drop l.link-index l.more)) ≡ widths.chain_width l.fn.seen l.fn.scope (widths.width l.fn.seen l.fn.scope (tree l.fn.first)) (links_of l.fn.more)
+    widths.chain_width l.fn.env l.fn.scope l.so_far (links_of (drop l.link-index l.more)) ≡ widths.chain_width l.fn.env l.fn.scope (widths.width l.fn.env l.fn.scope (tree l.fn.first)) (links_of l.fn.more)
 
 abbrev pub invariant-items_form-loop-link : goal.invariant-items_form-loop-link
 invariant-items_form-loop-link l =
-    widths.with_items l.fn.seen l.form (links_of (drop l.link-index l.more)) ≡ widths.with_items l.fn.seen (widths.with_item l.fn.seen (widths.begin l.fn.scope) (tree l.fn.item)) (links_of l.fn.more)
+    widths.with_items l.fn.env l.form (links_of (drop l.link-index l.more)) ≡ widths.with_items l.fn.env (widths.with_item l.fn.env (widths.begin l.fn.scope) (tree l.fn.item)) (links_of l.fn.more)

@@ -5,7 +5,7 @@ use Rattle.net_eval.proofs.Walking.{set_first}
 use Rattle.net_eval.proofs.width.begin_set.Goals as goal
 
 pub returns-in-len1-up : goal.returns-in-len1-up
-returns-in-len1-up c = c.makes_set.ensures ∙ ap makes_set c.operation_of.ensures ∙ set_first c.args.links.now c.link-item.result c.in-len1-up.len_at_least c.link-item.is
+returns-in-len1-up c = c.makes_set.ensures ∙ ap makes_set c.op.ensures ∙ set_first c.args.links.now c.link-item.result c.in-len1-up.len_at_least c.link-item.is
 
 pub returns-in-empty : goal.returns-in-empty
 returns-in-empty c = grind (arith, common_steps)

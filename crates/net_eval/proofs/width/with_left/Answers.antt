@@ -8,7 +8,7 @@ use Rattle.net_eval.proofs.width.with_left.Goals as goal
 
 pub returns-in-Tuple : goal.returns-in-Tuple
 returns-in-Tuple c =
-    ok_by _ _ _ (ap (with_left c.args.seen.now c.args.form) (in_tuple c.args.left.now c.in-Tuple.parts c.get.result.now c.as_slice.result.now c.in-Tuple.is c.get.ensures c.as_slice.ensures)) c.with_tuple.ensures
+    ok_by _ _ _ (ap (with_left c.args.env.now c.args.form) (in_tuple c.args.left.now c.in-Tuple.parts c.get.result.now c.as_slice.result.now c.in-Tuple.is c.get.ensures c.as_slice.ensures)) c.with_tuple.ensures
 
 pub returns-in-Choice : goal.returns-in-Choice
 returns-in-Choice c = grind (arith, common_steps, views)

@@ -11,13 +11,13 @@ returns-in_err-push_range-clause-value c =
     let y = err_from_is_err_and c.from_residual.result c.from_residual.ensures.1 in
     rw y.1 (rw y.2
     (halts _ _ _ c.in_err-push_range.field-0.0 _ _
-    (ranges-left c.args.seen.now c.args.name.now c.args.count.now (condition_of c.args.condition.now) c.args.rows.now c.loop-row.row-index c.row-item.result (map sides_of c.loop-row.ranges.items) _ c.loop-row-test.true c.row-item.is c.loop-row.invariant.0)
+    (ranges-left c.args.env.now c.args.text.now.name.now c.args.count.now (condition_of c.args.text.now.condition.now) c.args.rows.now c.loop-row.row-index c.row-item.result (map sides_of c.loop-row.ranges.items) _ c.loop-row-test.true c.row-item.is c.loop-row.invariant.0)
     c.in_err-push_range.ensures.value))
 
 pub loop-row-preserved : goal.loop-row-preserved
 loop-row-preserved c = (
   sym (goes _ _ _ _
-      (ranges-left c.args.seen.now c.args.name.now c.args.count.now (condition_of c.args.condition.now) c.args.rows.now c.loop-row.row-index c.row-item.result (map sides_of c.loop-row.ranges.items) _ c.loop-row-test.true c.row-item.is c.loop-row.invariant.0)
+      (ranges-left c.args.env.now c.args.text.now.name.now c.args.count.now (condition_of c.args.text.now.condition.now) c.args.rows.now c.loop-row.row-index c.row-item.result (map sides_of c.loop-row.ranges.items) _ c.loop-row-test.true c.row-item.is c.loop-row.invariant.0)
       c.in_ok-push_range.ensures.value),
   c.push_range.ensures.few,
   one_more _ _ _ c.loop-row.invariant.2 c.in_ok-push_range.ensures.count,

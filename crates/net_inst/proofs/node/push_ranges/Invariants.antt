@@ -6,6 +6,6 @@ use Rattle.net_inst.proofs.node.push_ranges.Given as goal
 
 abbrev pub invariant-loop-row : goal.invariant-loop-row
 invariant-loop-row l =
-    (ranges_at l.seen l.name l.count (condition_of l.condition) (drop l.row-index l.rows) (map sides_of l.ranges.items)
-    ≡ ranges_at l.fn.seen l.fn.name l.fn.count (condition_of l.fn.condition) l.fn.rows (map sides_of l.fn.ranges.items))
+    (ranges_at l.env l.text.name.now l.count (condition_of l.text.condition.now) (drop l.row-index l.rows) (map sides_of l.ranges.items)
+    ≡ ranges_at l.fn.env l.fn.text.name.now l.fn.count (condition_of l.fn.text.condition.now) l.fn.rows (map sides_of l.fn.ranges.items))
     × (length l.ranges.items ≤ node_limit) × (l.row-index ≤ length l.ranges.items)

@@ -7,6 +7,3 @@ returns-in-None c = grind (arith, common_steps)
 
 pub returns-in-Some-default-None : goal.returns-in-Some-default-None
 returns-in-Some-default-None c = grind (arith)
-
-pub returns-in-Some-default-Some : goal.returns-in-Some-default-Some
-returns-in-Some-default-Some c = grind (arith)

@@ -15,5 +15,5 @@ returns-in-Valued c = grind (arith, common_steps)
 
 pub returns-then-is_goal : goal.returns-then-is_goal
 returns-then-is_goal c =
-    price_taken c.args.goal.now c.args.seen.now c.args.scope.now c.args.arc (body_of c.args.body.now) c.in-Priced.name (tree c.in-Priced.expr) _ _ _
+    price_taken c.args.visible.now.goal.now c.args.visible.now.env.now c.args.scope.now c.args.arc (body_of c.args.body.now) c.in-Priced.name (tree c.in-Priced.expr) _ _ _
     (ap body_of c.in-Priced.is) (sym c.is_goal.ensures ∙ c.if-is_goal.true) c.add_value.ensures

@@ -9,13 +9,13 @@ returns-in_err-add_phrase c =
     let y = err_from_is_err_and c.from_residual.result c.from_residual.ensures.1 in
     rw y.1 (rw y.2
     (halts _ _ _ c.in_err-add_phrase.field-0.0 _ _
-    (prices-left c.args.goal.now c.args.seen.now c.args.scope.now c.args.arc c.args.phrases.now c.loop-phrase.phrase-index c.phrase-item.result c.loop-phrase.form _ c.loop-phrase-test.true c.phrase-item.is c.loop-phrase.invariant)
+    (prices-left c.args.visible.now.goal.now c.args.visible.now.env.now c.args.scope.now c.args.arc c.args.phrases.now c.loop-phrase.phrase-index c.phrase-item.result c.loop-phrase.form _ c.loop-phrase-test.true c.phrase-item.is c.loop-phrase.invariant)
     c.in_err-add_phrase.ensures))
 
 pub loop-phrase-preserved : goal.loop-phrase-preserved
 loop-phrase-preserved c =
     sym (goes _ _ _ _
-    (prices-left c.args.goal.now c.args.seen.now c.args.scope.now c.args.arc c.args.phrases.now c.loop-phrase.phrase-index c.phrase-item.result c.loop-phrase.form _ c.loop-phrase-test.true c.phrase-item.is c.loop-phrase.invariant)
+    (prices-left c.args.visible.now.goal.now c.args.visible.now.env.now c.args.scope.now c.args.arc c.args.phrases.now c.loop-phrase.phrase-index c.phrase-item.result c.loop-phrase.form _ c.loop-phrase-test.true c.phrase-item.is c.loop-phrase.invariant)
     c.in_ok-add_phrase.ensures)
 
 pub returns : goal.returns

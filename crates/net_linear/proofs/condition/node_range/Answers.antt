@@ -3,7 +3,7 @@ use Rattle.net_linear.proofs.Ranges.{exact_by, crossed_by}
 use Rattle.net_linear.proofs.condition.node_range.Goals as goal
 
 pub returns-clause-exact : goal.returns-clause-exact
-returns-clause-exact c = exact_by c.args.seen.now c.args.scope.now (condition_of c.args.condition.now) c.range_of.result c.range_of.ensures
+returns-clause-exact c = exact_by c.args.env.now c.args.scope.now (condition_of c.args.condition.now) c.range_of.result c.range_of.ensures
 
 pub returns-clause-crossed : goal.returns-clause-crossed
-returns-clause-crossed c = crossed_by c.args.seen.now c.args.scope.now (condition_of c.args.condition.now) c.range_of.result c.range_of.ensures
+returns-clause-crossed c = crossed_by c.args.env.now c.args.scope.now (condition_of c.args.condition.now) c.range_of.result c.range_of.ensures

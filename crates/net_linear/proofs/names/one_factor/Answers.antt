@@ -7,14 +7,14 @@ use Rattle.net_linear.proofs.names.one_factor.Goals as goal
 
 pub returns-then-not-may_join : goal.returns-then-not-may_join
 returns-then-not-may_join c =
-    factor_stops c.args.arcs.now c.args.links.now c.loop-link.link-index c.link-item.result c.joint_of.result c.loop-link.before c.names_arc-here.result c.loop-link-test.true c.link-item.is c.joint_of.ensures c.names_arc-here.ensures
+    factor_stops c.args.arcs.now c.args.links.now c.loop-link.link-index c.link-item.result c.op.result c.loop-link.before c.names_arc-here.result c.loop-link-test.true c.link-item.is c.op.ensures c.names_arc-here.ensures
     (sym c.may_join.ensures ∙ c.if-not-may_join.true)
     ∙ c.loop-link.invariant
 
 pub loop-link-preserved : goal.loop-link-preserved
 loop-link-preserved c =
     ap (λ b. one_factor c.args.arcs.now b (links_of (drop (c.loop-link.link-index + 1) c.args.links.now))) c.either-before.ensures
-    ∙ factor_goes c.args.arcs.now c.args.links.now c.loop-link.link-index c.link-item.result c.joint_of.result c.loop-link.before c.names_arc-here.result c.loop-link-test.true c.link-item.is c.joint_of.ensures c.names_arc-here.ensures
+    ∙ factor_goes c.args.arcs.now c.args.links.now c.loop-link.link-index c.link-item.result c.op.result c.loop-link.before c.names_arc-here.result c.loop-link-test.true c.link-item.is c.op.ensures c.names_arc-here.ensures
     (sym c.may_join.ensures ∙ c.if-not-may_join.false)
     ∙ c.loop-link.invariant
 

@@ -5,11 +5,11 @@ use Rattle.net_linear.proofs.net_term.are_terms.Goals as goal
 
 pub returns-then-not-is_sign : goal.returns-then-not-is_sign
 returns-then-not-is_sign c =
-    terms_stop c.args.links.now c.loop-link.link-index c.link-item.result _ c.loop-link-test.true c.link-item.is c.joint_of.ensures (search (c.is_sign.ensures, c.if-not-is_sign.true)) ∙ c.loop-link.invariant
+    terms_stop c.args.links.now c.loop-link.link-index c.link-item.result _ c.loop-link-test.true c.link-item.is c.op.ensures (search (c.is_sign.ensures, c.if-not-is_sign.true)) ∙ c.loop-link.invariant
 
 pub loop-link-preserved : goal.loop-link-preserved
 loop-link-preserved c =
-    terms_go c.args.links.now c.loop-link.link-index c.link-item.result _ c.loop-link-test.true c.link-item.is c.joint_of.ensures (search (c.is_sign.ensures, c.if-not-is_sign.false)) ∙ c.loop-link.invariant
+    terms_go c.args.links.now c.loop-link.link-index c.link-item.result _ c.loop-link-test.true c.link-item.is c.op.ensures (search (c.is_sign.ensures, c.if-not-is_sign.false)) ∙ c.loop-link.invariant
 
 pub offset_bounds-links-link-index : goal.offset_bounds-links-link-index
 offset_bounds-links-link-index c = grind (arith, common_steps)

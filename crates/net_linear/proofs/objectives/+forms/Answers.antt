@@ -1,4 +1,4 @@
-use Rattle.std.proofs.Common.{ap, sym, ◌∙◌, ◌*◌, ◌+◌, drop, arith}
+use Rattle.std.proofs.Common.{ap, sym, ◌∙◌, ◌*◌, ◌+◌, drop, refl, arith}
 use Rattle.std.proofs.lemmas.Grind.{common_steps}
 use Rattle.std.proofs.lemmas.Result.{err_from_is_err_and}
 use Rattle.net_tree.proofs.Views.{tree-tuple, tree-negated, views}
@@ -15,31 +15,31 @@ use Rattle.net_linear.proofs.objectives.+forms.Goals as goal
 
 pub arcs_term-returns-in-Indexed : goal.arcs_term-returns-in-Indexed
 arcs_term-returns-in-Indexed t c =
-    answers_by _ _ _ (with-indexed c.args.arcs.now c.args.seen.now c.args.scope.now (tree c.args.expr.now) _ _ _ _ _ (in_indexed c.args.expr.now c.in-Indexed.parts c.get.result.now c.as_slice.result.now c.in-Indexed.is c.get.ensures c.as_slice.ensures)) c.indexed.ensures
+    answers_by _ _ _ (with-indexed c.args.among.now.arcs.now c.args.among.now.env.now c.args.among.now.scope.now (tree c.args.expr.now) _ _ _ _ _ (in_indexed c.args.expr.now c.in-Indexed.parts c.get.result.now _ c.in-Indexed.is c.get.ensures refl)) c.indexed.ensures
 
 pub arcs_term-returns-in-Parens : goal.arcs_term-returns-in-Parens
 arcs_term-returns-in-Parens t c =
-    answers_by _ _ _ (ap (with_arcs c.args.arcs.now c.args.seen.now c.args.scope.now) (in_parens c.args.expr.now c.in-Parens.parts c.get-in-Parens.result.now c.in-Parens.is c.get-in-Parens.ensures)) c.term_of.ensures
+    answers_by _ _ _ (ap (with_arcs c.args.among.now.arcs.now c.args.among.now.env.now c.args.among.now.scope.now) (in_parens c.args.expr.now c.in-Parens.parts c.get-in-Parens.result.now c.in-Parens.is c.get-in-Parens.ensures)) c.term_of.ensures
 
 pub arcs_term-returns-in-Signed : goal.arcs_term-returns-in-Signed
 arcs_term-returns-in-Signed t c =
-    answers_by _ _ _ (with-signed c.args.arcs.now c.args.seen.now c.args.scope.now (tree c.args.expr.now) _ _ (in_signed c.args.expr.now c.in-Signed.parts c.get-in-Signed.result.now c.in-Signed.is c.get-in-Signed.ensures)) c.signed.ensures
+    answers_by _ _ _ (with-signed c.args.among.now.arcs.now c.args.among.now.env.now c.args.among.now.scope.now (tree c.args.expr.now) _ _ (in_signed c.args.expr.now c.in-Signed.parts c.get-in-Signed.result.now c.in-Signed.is c.get-in-Signed.ensures)) c.signed.ensures
 
 pub arcs_term-returns-in-Reduced : goal.arcs_term-returns-in-Reduced
 arcs_term-returns-in-Reduced t c =
-    answers_by _ _ _ (with-reduced c.args.arcs.now c.args.seen.now c.args.scope.now (tree c.args.expr.now) _ _ _ (in_reduced c.args.expr.now c.in-Reduced.parts c.get-in-Reduced.result.now c.in-Reduced.body c.get-in-Reduced-2.result.now c.in-Reduced.is c.get-in-Reduced.ensures c.get-in-Reduced-2.ensures)) c.reduced.ensures
+    answers_by _ _ _ (with-reduced c.args.among.now.arcs.now c.args.among.now.env.now c.args.among.now.scope.now (tree c.args.expr.now) _ _ _ (in_reduced c.args.expr.now c.in-Reduced.front c.get-in-Reduced.result.now c.in-Reduced.body c.get-in-Reduced-2.result.now c.in-Reduced.is c.get-in-Reduced.ensures c.get-in-Reduced-2.ensures)) c.reduced.ensures
 
 pub arcs_term-returns-in-Choice : goal.arcs_term-returns-in-Choice
 arcs_term-returns-in-Choice t c =
-    answers_by _ _ _ (with-choice c.args.arcs.now c.args.seen.now c.args.scope.now (tree c.args.expr.now) _ _ _ _ _ (in_choice c.args.expr.now c.in-Choice.condition c.in-Choice.branch c.get-in-Choice.result.now c.get-in-Choice-2.result.now c.in-Choice.otherwise c.in-Choice.is c.get-in-Choice.ensures c.get-in-Choice-2.ensures)) c.choice.ensures
+    answers_by _ _ _ (with-choice c.args.among.now.arcs.now c.args.among.now.env.now c.args.among.now.scope.now (tree c.args.expr.now) _ _ _ _ _ (in_choice c.args.expr.now c.in-Choice.condition c.in-Choice.branch c.get-in-Choice.result.now c.get-in-Choice-2.result.now c.in-Choice.otherwise c.in-Choice.is c.get-in-Choice.ensures c.get-in-Choice-2.ensures)) c.choice.ensures
 
 pub arcs_term-returns-in-Tuple : goal.arcs_term-returns-in-Tuple
 arcs_term-returns-in-Tuple t c =
-    refuses _ c.refuse_tree.result _ (with-tuple c.args.arcs.now c.args.seen.now c.args.scope.now (tree c.args.expr.now) _ _ _ _ (ap tree c.in-Tuple.is ∙ tree-tuple c.in-Tuple.field-0.0 c.in-Tuple.field-0.1 c.in-Tuple.field-0.2)) c.refuse_tree.ensures
+    refuses _ c.refuse_tree.result _ (with-tuple c.args.among.now.arcs.now c.args.among.now.env.now c.args.among.now.scope.now (tree c.args.expr.now) _ _ _ _ (ap tree c.in-Tuple.is ∙ tree-tuple c.in-Tuple.field-0.0 c.in-Tuple.field-0.1 c.in-Tuple.field-0.2)) c.refuse_tree.ensures
 
 pub arcs_term-returns-in-Negated : goal.arcs_term-returns-in-Negated
 arcs_term-returns-in-Negated t c =
-    refuses _ c.refuse_tree-in-Negated.result _ (with-negated c.args.arcs.now c.args.seen.now c.args.scope.now (tree c.args.expr.now) _ _ _ _ (ap tree c.in-Negated.is ∙ tree-negated c.in-Negated.field-0.0 c.in-Negated.field-0.1 c.in-Negated.field-0.2 c.in-Negated.field-0.3)) c.refuse_tree-in-Negated.ensures
+    refuses _ c.refuse_tree-in-Negated.result _ (with-negated c.args.among.now.arcs.now c.args.among.now.env.now c.args.among.now.scope.now (tree c.args.expr.now) _ _ _ _ (ap tree c.in-Negated.is ∙ tree-negated c.in-Negated.field-0.0 c.in-Negated.field-0.1 c.in-Negated.field-0.2 c.in-Negated.field-0.3)) c.refuse_tree-in-Negated.ensures
 
 pub chained-joined-requires : goal.chained-joined-requires
 chained-joined-requires t c = omega (arith, link_lighter c.args.links.now c.loop-link.link-index c.link-item.result c.loop-link-test.true c.link-item.is)
@@ -49,20 +49,20 @@ chained-returns-in_err-term t c =
     let y = err_from_is_err_and c.from_residual.result c.from_residual.ensures.1 in
     rw y.1 (rw y.2
     (stops _ _ _ c.in_err-term.field-0.0
-    (chained-left c.args.arcs.now (span_of (tree c.args.whole.now)) c.args.seen.now c.args.scope.now c.args.links.now c.loop-link.link-index c.link-item.result c.loop-link.term _ c.loop-link-test.true c.link-item.is c.loop-link.invariant)
+    (chained-left c.args.among.now.arcs.now (span_of (tree c.args.whole.now)) c.args.among.now.env.now c.args.among.now.scope.now c.args.links.now c.loop-link.link-index c.link-item.result c.loop-link.term _ c.loop-link-test.true c.link-item.is c.loop-link.invariant)
     c.in_err-term.ensures))
 
 pub chained-loop-link-preserved : goal.chained-loop-link-preserved
 chained-loop-link-preserved t c =
     sym (goes _ _ _ _
-    (chained-left c.args.arcs.now (span_of (tree c.args.whole.now)) c.args.seen.now c.args.scope.now c.args.links.now c.loop-link.link-index c.link-item.result c.loop-link.term _ c.loop-link-test.true c.link-item.is c.loop-link.invariant)
+    (chained-left c.args.among.now.arcs.now (span_of (tree c.args.whole.now)) c.args.among.now.env.now c.args.among.now.scope.now c.args.links.now c.loop-link.link-index c.link-item.result c.loop-link.term _ c.loop-link-test.true c.link-item.is c.loop-link.invariant)
     c.in_ok-term.ensures)
 
 pub total-loop-row-preserved : goal.total-loop-row-preserved
 total-loop-row-preserved t c = record {
   same = sym (goes _ _ _ _
       (goes _ _ _ _
-      (rows-left (span_of (tree c.args.whole.now)) (λ (row : Row). objective c.args.arcs.now c.args.seen.now row.scope (tree c.args.body.now)) c.as_slice-rows.result.now c.loop-row.row-index c.row-item.result c.loop-row.sum _ c.loop-row-test.true c.row-item.is c.loop-row.invariant.same)
+      (rows-left (span_of (tree c.args.whole.now)) (λ (row : Row). objective c.args.among.now.arcs.now c.args.among.now.env.now row.scope (tree c.args.body.now)) c.as_slice-rows.result.now c.loop-row.row-index c.row-item.result c.loop-row.sum _ c.loop-row-test.true c.row-item.is c.loop-row.invariant.same)
       c.in_ok-term.ensures)
       c.in_ok-sum.ensures.value);
   room = grown c.loop-row.row-index c.in_ok-sum.sum (c.in_ok-sum.ensures.room (c.loop-row.row-index * 1000000000000) c.loop-row.invariant.room);

@@ -2,6 +2,7 @@ use Rattle.std.specs.Prelude.{◌≡◌, ◌≤◌, ◌+◌, ◌*◌, drop, pos}
 use Rattle.net_tree.specs.View.{tree, links_of, option_part}
 use Rattle.net_tree.specs.Weights.{weight, weights, part_weight}
 use Rattle.net_tree.specs.Spans.{span_of}
+use Rattle.net_tree.specs.declared.expr.Series.{out-Series}
 use Rattle.net_linear.specs.Forms.{AreWithin, gathered_over, just}
 use Rattle.net_linear.specs.Objectives as objectives
 use Rattle.net_linear.proofs.objectives.+forms.Given as goal
@@ -22,7 +23,7 @@ abbrev pub decreases-total : goal.decreases-total
 decreases-total l = 12 * weight (tree l.body.now) + 2
 
 abbrev pub decreases-chain : goal.decreases-chain
-decreases-chain l = 12 * (weight (tree l.first.now) + weights (links_of l.more.now)) + 4
+decreases-chain l = 12 * (weight (tree (out-Series l.operands.now).first) + weights (links_of (out-Series l.operands.now).more)) + 4
 
 abbrev pub decreases-chained : goal.decreases-chained
 decreases-chained l = 12 * weights (links_of l.links.now) + 3
@@ -38,11 +39,11 @@ decreases-other_branch l = 12 * part_weight (option_part l.otherwise.now) + 2
 
 abbrev pub invariant-chained-loop-link : goal.invariant-chained-loop-link
 invariant-chained-loop-link l =
-    objectives.chained l.fn.arcs (span_of (tree l.fn.whole)) l.fn.seen l.fn.scope (links_of (drop l.link-index l.links)) l.term ≡ objectives.chained l.fn.arcs (span_of (tree l.fn.whole)) l.fn.seen l.fn.scope (links_of l.fn.links) l.fn.first
+    objectives.chained l.fn.among.arcs.now (span_of (tree l.fn.whole)) l.fn.among.env.now l.fn.among.scope.now (links_of (drop l.link-index l.links)) l.term ≡ objectives.chained l.fn.among.arcs.now (span_of (tree l.fn.whole)) l.fn.among.env.now l.fn.among.scope.now (links_of l.fn.links) l.fn.first
 
 abbrev pub invariant-total-loop-row : goal.invariant-total-loop-row
 invariant-total-loop-row l = record {
-  same : gathered_over (span_of (tree l.fn.whole)) (λ row. objectives.objective l.fn.arcs l.fn.seen row.scope (tree l.fn.body)) (drop l.row-index l.rows) l.sum
-      ≡ gathered_over (span_of (tree l.fn.whole)) (λ row. objectives.objective l.fn.arcs l.fn.seen row.scope (tree l.fn.body)) l.fn.keys.rows (just (pos 0));
+  same : gathered_over (span_of (tree l.fn.whole)) (λ row. objectives.objective l.fn.among.arcs.now l.fn.among.env.now row.scope (tree l.fn.body)) (drop l.row-index l.rows) l.sum
+      ≡ gathered_over (span_of (tree l.fn.whole)) (λ row. objectives.objective l.fn.among.arcs.now l.fn.among.env.now row.scope (tree l.fn.body)) l.fn.keys.rows (just (pos 0));
   room : AreWithin (l.row-index * 1000000000000) l.sum;
 }

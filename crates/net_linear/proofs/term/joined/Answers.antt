@@ -19,9 +19,9 @@ pub returns-in-Div : goal.returns-in-Div
 unfolding is_small
 returns-in-Div c = grind (arith, common_steps)
 
-pub returns-in-Other : goal.returns-in-Other
+pub returns-in_default : goal.returns-in_default
 unfolding is_small
-returns-in-Other c = grind (arith)
+returns-in_default c = grind (arith)
 
 pub returns-in-Plus : goal.returns-in-Plus
 unfolding is_small

@@ -4,8 +4,8 @@ use Rattle.std.proofs.lemmas.Result.{err_from_is_err_and}
 use Rattle.net_tree.specs.View.{declaration_of}
 use Rattle.net_tree.specs.declared.declaration.Decl.{Decl}
 use Rattle.net_model.specs.Declarations.{declaration_at, declaration_step, any_left, model_at}
-use Rattle.net_model.specs.declared.stop.Stop.{Stop}
-use Rattle.net_model.specs.declared.stop.Stop.TheVariants.{OutOfMemory, Refused, TooDeep}
+use Rattle.net_model.specs.declared.parse_error.ParseError.{ParseError}
+use Rattle.net_model.specs.declared.parse_error.ParseError.TheVariants.{OutOfMemory, Refused, TooDeep}
 use Rattle.net_model.specs.Expressions.{Inner, inside}
 use Rattle.net_model.specs.Rows.{row}
 use Rattle.net_model.proofs.RowLemmas.{row_read, row_turn, row_stops}
@@ -20,7 +20,7 @@ none_left : (ts : Tokens) → any_left ts ≡ false → ts ≡ []
 none_left [] h = refl
 none_left (t ∷ ts) h = cc
 
-step_stops : (o : Option Inner) (ts : Tokens) (e : Stop) → Fails e (declaration_at o ts) → Fails e (declaration_step o tt ts)
+step_stops : (o : Option Inner) (ts : Tokens) (e : ParseError) → Fails e (declaration_at o ts) → Fails e (declaration_step o tt ts)
 unfolding declaration_step
 step_stops o ts OutOfMemory h = tt
 step_stops o ts (Refused n a) h = rw h refl

@@ -1,6 +1,5 @@
 use Rattle.net_model.proofs.ModelLaws.{model-complete}
 use Rattle.net_model.proofs.ModelLimits.{deep-stops}
-use Rattle.net_model.proofs.NamedModels.{named_meant}
 use Rattle.net_model.proofs.laws.read_back.Goals as goal
 
 pub returns-clause-kept : goal.returns-clause-kept
@@ -8,6 +7,3 @@ returns-clause-kept c = model-complete
 
 pub returns-clause-exceeded : goal.returns-clause-exceeded
 returns-clause-exceeded c = deep-stops
-
-pub returns-clause-meant : goal.returns-clause-meant
-returns-clause-meant c = named_meant

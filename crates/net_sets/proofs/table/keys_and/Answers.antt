@@ -4,7 +4,7 @@ use Rattle.net_sets.specs.Laid.{keys_at}
 use Rattle.net_sets.specs.Sets.{Tuple, has}
 use Rattle.net_sets.proofs.Distinct.{room_in_turn}
 use Rattle.net_sets.proofs.Laying.{long_keys}
-use Rattle.net_sets.proofs.Own.{within_at, key_new_in_turn, one_key_taken, all_taken}
+use Rattle.net_sets.proofs.Owned.{within_at, key_new_in_turn, one_key_taken, all_taken}
 use Rattle.net_sets.proofs.table.keys_and.Goals as goal
 
 pub loop-place-init : goal.loop-place-init

@@ -11,13 +11,13 @@ returns-in_err-add_arc-clause-value c =
     let y = err_from_is_err_and c.from_residual.result c.from_residual.ensures.1 in
     rw y.1 (rw y.2
     (halts _ _ _ c.in_err-add_arc.field-0.0 _ _
-    (arcs-left c.args.goal.now c.args.nodes.now c.args.seen.now c.args.text.now.name.now c.args.count.now (parts_seen c.args.text.now.parts) (map phrase_of c.args.text.now.phrases.now) c.args.rows.now c.loop-row.row-index c.row-item.result c.loop-row.self _ c.loop-row-test.true c.row-item.is c.loop-row.invariant.0)
+    (arcs-left c.args.visible.now.goal.now c.args.visible.now.nodes.now c.args.visible.now.env.now c.args.text.now.name.now c.args.count.now (parts_seen c.args.text.now.parts) (map phrase_of c.args.text.now.phrases.now) c.args.rows.now c.loop-row.row-index c.row-item.result c.loop-row.self _ c.loop-row-test.true c.row-item.is c.loop-row.invariant.0)
     c.in_err-add_arc.ensures.value))
 
 pub loop-row-preserved : goal.loop-row-preserved
 loop-row-preserved c = (
   sym (goes _ _ _ _
-      (arcs-left c.args.goal.now c.args.nodes.now c.args.seen.now c.args.text.now.name.now c.args.count.now (parts_seen c.args.text.now.parts) (map phrase_of c.args.text.now.phrases.now) c.args.rows.now c.loop-row.row-index c.row-item.result c.loop-row.self _ c.loop-row-test.true c.row-item.is c.loop-row.invariant.0)
+      (arcs-left c.args.visible.now.goal.now c.args.visible.now.nodes.now c.args.visible.now.env.now c.args.text.now.name.now c.args.count.now (parts_seen c.args.text.now.parts) (map phrase_of c.args.text.now.phrases.now) c.args.rows.now c.loop-row.row-index c.row-item.result c.loop-row.self _ c.loop-row-test.true c.row-item.is c.loop-row.invariant.0)
       c.in_ok-add_arc.ensures.value),
   one_more _ _ _ c.loop-row.invariant.1 c.in_ok-add_arc.ensures.count,
 )

@@ -6,6 +6,6 @@ use Rattle.net_inst.proofs.arc_draft.ArcDraft.add_rows.Given as goal
 
 abbrev pub invariant-loop-row : goal.invariant-loop-row
 invariant-loop-row l =
-    (arcs_at l.goal l.nodes l.seen l.text.name.now l.count (parts_seen l.text.parts) (map phrase_of l.text.phrases.now) (drop l.row-index l.rows) l.self
-    ≡ arcs_at l.fn.goal l.fn.nodes l.fn.seen l.fn.text.name.now l.fn.count (parts_seen l.fn.text.parts) (map phrase_of l.fn.text.phrases.now) l.fn.rows l.fn.self)
+    (arcs_at l.visible.goal.now l.visible.nodes.now l.visible.env.now l.text.name.now l.count (parts_seen l.text.parts) (map phrase_of l.text.phrases.now) (drop l.row-index l.rows) l.self
+    ≡ arcs_at l.fn.visible.goal.now l.fn.visible.nodes.now l.fn.visible.env.now l.fn.text.name.now l.fn.count (parts_seen l.fn.text.parts) (map phrase_of l.fn.text.phrases.now) l.fn.rows l.fn.self)
     × (l.row-index ≤ length l.self.arcs)

@@ -6,7 +6,7 @@ use Rattle.std.proofs.lemmas.List.FromFn.{length-range_with_len}
 use Rattle.net_sets.specs.Laid.{keys_at}
 use Rattle.net_sets.specs.Sets.{Tuple, at_key, has, place_of}
 use Rattle.net_sets.proofs.Laying.{place_within, laid_after, rows_after, even_keys}
-use Rattle.net_sets.proofs.Own.{laid_own_behind, rows_own_behind, rows_left_own}
+use Rattle.net_sets.proofs.Owned.{laid_own_behind, rows_own_behind, rows_left_own}
 use Rattle.net_sets.proofs.Rows.{length_rows, no_row}
 use Rattle.net_sets.proofs.table.Table.put_near.Goals as goal
 

@@ -1,6 +1,0 @@
-use Rattle.std.proofs.Common.{◌≡◌, ◌++◌, drop}
-use Rattle.net_dimacs.specs.Written.{node_lines}
-use Rattle.net_dimacs.proofs.problem_writer.push_nodes.Given as goal
-
-abbrev pub invariant-loop-node : goal.invariant-loop-node
-invariant-loop-node l = l.text.items ++ node_lines l.node (drop l.node l.supplies) ≡ l.fn.text.items ++ node_lines 0 l.supplies

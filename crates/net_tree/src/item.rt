@@ -1,0 +1,77 @@
+//! Items of braces and names that stand alone, by their form.
+
+ghost use Rattle.std.specs.Prelude.{◌≡◌};
+ghost use Rattle.std.specs.Option.{option_map};
+ghost use Rattle.net_tree.specs.Items as items;
+ghost use Rattle.net_tree.specs.Operations as operations;
+ghost use Rattle.net_tree.specs.Tree.{leaf};
+ghost use Rattle.net_tree.specs.View.{tree, links_of};
+
+use crate::expr::{Expr, Link};
+use crate::operator::{BinOp, Operator};
+use crate::role::{Role, role_of};
+use net_lex::Token;
+
+fn is_in(operator: &Operator<'_>) -> bool
+    ensures { result ≡ items.is_in (operations.operation operator.now) }
+{
+    matches!(operator.op(), BinOp::In)
+}
+
+/// What stands behind a lone `in`.
+fn behind_in<'a, 's>(links: &'a [Link<'s>]) -> Option<&'a Expr<'s>>
+    ensures { option_map (λ x. tree x.now) result ≡ items.behind_in (links_of links.entry.now) }
+{
+    match links {
+        [] => None,
+        [link] => {
+            if is_in(&link.operator) {
+                Some(&link.operand)
+            } else {
+                None
+            }
+        }
+        [_, _, ..] => None,
+    }
+}
+
+/// The two sides of an item with `in` at its top.
+#[tactic(auto, using(crate::proofs::Views::views))]
+pub fn sides_of<'a, 's>(item: &'a Expr<'s>) -> Option<(&'a Expr<'s>, &'a Expr<'s>)>
+    ensures { option_map (λ p. (tree p.0.now, tree p.1.now)) result ≡ items.sides (tree item.entry.now) }
+{
+    match item {
+        Expr::Chain(_, operands) => {
+            let series = operands.get();
+            match behind_in(series.more.as_slice()) {
+                None => None,
+                Some(set) => Some((&series.first, set)),
+            }
+        }
+        Expr::Leaf(_) | Expr::Indexed(_) | Expr::Parens(_) | Expr::Tuple(_) => None,
+        Expr::Negated(_) | Expr::Braced(_) | Expr::Signed(_) | Expr::Reduced(_, _) => None,
+        Expr::Choice(_, _, _) | Expr::Net(_) => None,
+    }
+}
+
+fn if_name<'a, 's>(token: &'a Token<'s>) -> Option<&'a Token<'s>>
+    ensures { option_map (λ t. t.now) result ≡ items.lone_name (leaf token.entry.now) }
+{
+    match role_of(token) {
+        Role::Name => Some(token),
+        _ => None,
+    }
+}
+
+/// The name that stands alone.
+#[tactic(auto, using(crate::proofs::Views::views))]
+pub fn lone_name<'a, 's>(component: &'a Expr<'s>) -> Option<&'a Token<'s>>
+    ensures { option_map (λ t. t.now) result ≡ items.lone_name (tree component.entry.now) }
+{
+    match component {
+        Expr::Leaf(token) => if_name(token),
+        Expr::Indexed(_) | Expr::Parens(_) | Expr::Tuple(_) | Expr::Negated(_) => None,
+        Expr::Braced(_) | Expr::Signed(_) | Expr::Reduced(_, _) | Expr::Chain(_, _) => None,
+        Expr::Choice(_, _, _) | Expr::Net(_) => None,
+    }
+}
