@@ -155,12 +155,12 @@ keys_keep w at x index [] t u among h e = subst (IsParameterOf index) (is_ok t u
 keys_keep w at x index (r ∷ rows) t u among h e =
     then_ok (with_key w at x r t) (each (with_key w at x) rows) u e (λ v i k. keys_keep w at x index rows v u among.1 (key_keeps w at x index r t v among.0 h i) k)
 
-values_keep : (w : World) (name : Token) (n : Option ℕ) (ps : List Phrase) (x : Source) (index : List Tuple) (rows : List Row) (data_by_name : Taken) (t : Table) → AreAmong index rows → IsSaid index data_by_name
-    → values w name n ps x rows data_by_name ≡ Ok t → IsParameterOf index t
-values_keep w name n ps x index rows data_by_name t among h e =
-    then_ok (each (with_key w name.span x) rows data_by_name.0) (valued_by w name n ps x rows data_by_name) t e (λ u i k.
-    then_ok (fit_values w name n ps (source_text x.1) (source_at name.span x) data_by_name.1 u rows) (λ v. Ok u) t k (λ v j l.
-    subst (IsParameterOf index) (is_ok u t l) (keys_keep w name.span x index rows data_by_name.0 u among h i)))
+values_keep : (w : World) (name : Token) (n : Option ℕ) (ps : List Phrase) (x : Source) (index : List Tuple) (rows : List Row) (said : Taken) (t : Table) → AreAmong index rows → IsSaid index said
+    → values w name n ps x rows said ≡ Ok t → IsParameterOf index t
+values_keep w name n ps x index rows said t among h e =
+    then_ok (each (with_key w name.span x) rows said.0) (valued_by w name n ps x rows said) t e (λ u i k.
+    then_ok (fit_values w name n ps (source_text x.1) (source_at name.span x) said.1 u rows) (λ v. Ok u) t k (λ v j l.
+    subst (IsParameterOf index) (is_ok u t l) (keys_keep w name.span x index rows said.0 u among h i)))
 
 -- ---- the index list
 

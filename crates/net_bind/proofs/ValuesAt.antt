@@ -242,12 +242,12 @@ keys_filled w at x (r ∷ rows) t u once e =
       others = λ key apart. rest.others key apart.1 ∙ one.others key apart.0;
     })
 
-values_filled : (w : World) (name : Token) (n : Option ℕ) (ps : List Phrase) (x : Source) (rows : List Row) (data_by_name : Taken) (t : Table) → IsDistinct same_tuple (keys_of rows) → values w name n ps x rows data_by_name ≡ Ok t
-    → AreFilled w x rows data_by_name.0 t
-values_filled w name n ps x rows data_by_name t once e =
-    then_ok (each (with_key w name.span x) rows data_by_name.0) (valued_by w name n ps x rows data_by_name) t e (λ u i k.
-    then_ok (fit_values w name n ps (source_text x.1) (source_at name.span x) data_by_name.1 u rows) (λ v. Ok u) t k (λ v j l.
-    subst (AreFilled w x rows data_by_name.0) (is_ok u t l) (keys_filled w name.span x rows data_by_name.0 u once i)))
+values_filled : (w : World) (name : Token) (n : Option ℕ) (ps : List Phrase) (x : Source) (rows : List Row) (said : Taken) (t : Table) → IsDistinct same_tuple (keys_of rows) → values w name n ps x rows said ≡ Ok t
+    → AreFilled w x rows said.0 t
+values_filled w name n ps x rows said t once e =
+    then_ok (each (with_key w name.span x) rows said.0) (valued_by w name n ps x rows said) t e (λ u i k.
+    then_ok (fit_values w name n ps (source_text x.1) (source_at name.span x) said.1 u rows) (λ v. Ok u) t k (λ v j l.
+    subst (AreFilled w x rows said.0) (is_ok u t l) (keys_filled w name.span x rows said.0 u once i)))
 
 -- ---- the parameter
 

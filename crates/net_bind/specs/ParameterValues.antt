@@ -68,7 +68,7 @@ IsValue (Some m) later found = found ≡ Some m
 IsValue None later found = later ≡ Ok found
 
 abbrev pub IsValueAt : World → List Phrase → Table → List NamedData → Table → Row → Type 0
-IsValueAt w ps data_by_name ms t r = IsValue (at_key data_by_name r.key) (from_source w r.scope (source_of ps ms)) (at_key t r.key)
+IsValueAt w ps said ms t r = IsValue (at_key said r.key) (from_source w r.scope (source_of ps ms)) (at_key t r.key)
 
 -- a parameter that is bound has at each key of its braces the value of the data's row with this key; where there is no such row, what
 -- stands behind `:=`, the data's default, or what stands behind `default`; and where there is none of these, none

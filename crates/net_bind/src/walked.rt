@@ -219,11 +219,8 @@ fn read_phrases<'s>(walked: &mut Walked<'s>, phrases: &[Phrase<'s>]) -> Result<(
     Ok(())
 }
 
-fn read_condition<'s>(
-    walked: &mut Walked<'s>,
-    data_by_name: &NetCond<'s>,
-) -> Result<(), AllocError> {
-    match data_by_name {
+fn read_condition<'s>(walked: &mut Walked<'s>, condition: &NetCond<'s>) -> Result<(), AllocError> {
+    match condition {
         NetCond::Absent => Ok(()),
         NetCond::One(_, left, _, right) => {
             read(walked, left)?;
@@ -248,9 +245,9 @@ fn read_declaration<'s>(walked: &mut Walked<'s>, decl: &Decl<'s>) -> Result<(), 
             read_index(walked, braces)?;
             read(walked, condition)
         }
-        Decl::Node(_, _, braces, data_by_name, _) => {
+        Decl::Node(_, _, braces, condition, _) => {
             read_index(walked, braces)?;
-            read_condition(walked, data_by_name)
+            read_condition(walked, condition)
         }
         Decl::Objective(_, _, None, _) => Ok(()),
         Decl::Objective(_, _, Some(part), _) => read(walked, &part.value),

@@ -1,4 +1,4 @@
--- What is read as a chain is printed so, and is level.
+-- What is read as a chain is printed so, and is as the grammar wants.
 use Rattle.std.specs.Prelude.{◌≡◌, ◌≤◌, ◌<◌, ℕ, zero, suc, Bool, true, false, cond, nat_eq, [], ◌∷◌, length, Ok}
 use Rattle.std.proofs.Common.{refl, ap, ◌∙◌, arith, subst}
 use Rattle.std.proofs.lemmas.Bool.{eqb-true}
@@ -18,7 +18,7 @@ use Rattle.net_model.specs.Expressions.{Reader, operator_at, links, chained, cha
 use Rattle.net_model.proofs.Tools.{bind_ok, given, chosen, on, off, expect-sound}
 use Rattle.net_model.proofs.Longer.{put-longer, put_operator-longer}
 
--- A reader read x with r left: x is what is printed before r, level, of a precedence that fits, and so deep at most; behind an open reduction
+-- A reader read x with r left: x is what is printed before r, as the grammar wants, of a precedence that fits, and so deep at most; behind an open reduction
 -- no product goes on.
 pub record Sound (d : ℕ) (Fits : ℕ → Type 0) (ts : Tokens) (a : Tree × Tokens) : Type 0 where
   pub text : ts ≡ put a.0 a.1

@@ -73,7 +73,7 @@ model-complete d xs are deep =
     (omega arith) (steps_of d xs are deep) tt refl in
     rw text at read
 
--- no two level models print the same tokens
+-- no two models that are as the grammar wants print the same tokens
 pub one_model : (xs ys : List Declaration) → AreDeclarations xs → AreDeclarations ys → print xs ≡ print ys → xs ≡ ys
 one_model xs ys are others same =
     let d = max (model_depth xs) (model_depth ys) in

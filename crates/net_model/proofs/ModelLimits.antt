@@ -180,7 +180,7 @@ refused_too : {A : Type 0} (p q : Result A ParseError) (n : ℕ) (a : Awaiting) 
 refused_too p q n a (same e) h = sym e ∙ h
 refused_too p q n a (deep m e) h = absurd (let k = sym e ∙ h in cc)
 
--- where a token is refused, no level model of any depth prints the tokens
+-- where a token is refused, no model that is as the grammar wants, of any depth, prints the tokens
 pub refused-none : (d n : ℕ) (a : Awaiting) (ts : Tokens) → model_at d ts ≡ Err (stops.Refused n a) → (xs : List Declaration) → AreDeclarations xs → print xs ≡ ts → ⊥
 refused-none d n a ts h xs are printed =
     let e = max d (model_depth xs) in
@@ -189,13 +189,13 @@ refused-none d n a ts h xs are printed =
     let both = sym (ap (model_at e) printed ∙ stop) ∙ read in
     cc
 
--- where a nesting too many is opened, each level model that prints the tokens is deeper
+-- where a nesting too many is opened, each such model that prints the tokens is deeper
 pub deep-deeper : (d n : ℕ) (ts : Tokens) → model_at d ts ≡ Err (stops.TooDeep n) → (xs : List Declaration) → AreDeclarations xs → print xs ≡ ts → d < model_depth xs
 deep-deeper d n ts h xs are printed =
     let shallow : model_depth xs ≤ d → ⊥ = λ fits. let read = model-complete d xs are fits in let both = sym (ap (model_at d) printed ∙ h) ∙ read in cc in
     omega (arith, shallow)
 
--- and the tokens of each deeper level model are read up to a nesting too many
+-- and the tokens of each such model that is deeper are read up to a nesting too many
 pub deep-stops : (d : ℕ) (xs : List Declaration) → AreDeclarations xs → d < model_depth xs → (n : ℕ) × (model_at d (print xs) ≡ Err (stops.TooDeep n))
 deep-stops d xs are deeper = by (model-agree d (model_depth xs) (omega arith) (print xs))
   where

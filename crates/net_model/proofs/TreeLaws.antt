@@ -1,4 +1,4 @@
--- No two level expressions print the same tokens.
+-- No two expressions that are as the grammar wants print the same tokens.
 use Rattle.std.specs.Prelude.{◌≡◌, ◌≤◌, ◌⊎◌, ℕ, true, false, max, [], ◌∷◌, Option, None, Some, Ok}
 use Rattle.std.proofs.Common.{refl, sym, ap, ◌∙◌, arith, subst, inl, inr}
 use Rattle.net_lex.specs.declared.token.Token.{Token}
@@ -98,7 +98,7 @@ plain_no_net x y level other fits is same =
     let net_level : IsWellFormed (net n.0 n.1) = subst IsWellFormed n.2 other in
     apart (put x []) (put (net n.0 n.1) []) text (plain_start (depth x) x level (omega arith) fits) (net_start n.0 n.1 net_level)
 
--- no two level expressions print the same tokens
+-- no two such expressions print the same tokens
 pub one_tree : (x y : Tree) → IsWellFormed x → IsWellFormed y → put x [] ≡ put y [] → x ≡ y
 one_tree x y level other same =
     elim (plain_or_net x level) [

@@ -1,4 +1,4 @@
--- What is printed as a level expression is read as that expression.
+-- What is printed as an expression, as the grammar wants it, is read as that expression.
 use Rattle.std.specs.Prelude.{◌≡◌, ◌≤◌, ◌<◌, ◌⊎◌, ℕ, zero, suc, Bool, true, false, cond, nat_le, ◌∷◌, length, Option, None, Some, Ok}
 use Rattle.std.proofs.Common.{refl, sym, ap, ◌∙◌, arith, inl, inr}
 use Rattle.std.proofs.lemmas.Bool.{le-leb}

@@ -1,4 +1,4 @@
--- What is read as an expression is printed so, is level, and is no deeper than nestings may be opened.
+-- What is read as an expression is printed so, is as the grammar wants, and is no deeper than nestings may be opened.
 use Rattle.std.specs.Prelude.{◌≡◌, ◌≤◌, ◌<◌, ◌⊎◌, ℕ, zero, suc, true, false, nat_le, [], ◌∷◌, length, Option, None, Some, Ok}
 use Rattle.std.proofs.Common.{refl, sym, ap, ◌∙◌, arith, subst, inl, inr}
 use Rattle.std.proofs.lemmas.Bool.{leb-true, le-leb}
