@@ -1,1 +1,1 @@
-"""Checks of the programs in share/companions, which scripts/check_companions runs."""
+"""Tests of the helper tools, which scripts/check_companions runs."""

@@ -1,9 +1,10 @@
-"""What netflow-why tells, beside the answers to changed data: the least change gives a plan, and prices hold."""
+"""What netflow-why says, compared with the answers to changed data: the least change gives a plan, and prices are exact."""
 import random
 
-import netflow_reasons
-import netflow_texts
 from companions.common import run, write
+from netflow import reasons as netflow_reasons
+from netflow import sensitivity
+from netflow import texts as netflow_texts
 
 PLAIN = """set P; set L within P cross P; param low {P}; param high {P}; param least {L}; param most {L}; param price {L};
 minimize Cost;
@@ -36,11 +37,14 @@ class Plain:
         return words, run("netflow", "solve", *words)
 
     def take(self, change):
-        """A change as it is told, made in the data; one of the arc that the model itself bounds cannot be."""
+        """Makes a change in the data; False if it is one of the arc that the model itself bounds."""
         name, key = netflow_texts.reference(change.text)
         if name == "In":
             return False
         target, place = (self.nodes[key[0]], None) if name == "At" else (self.arcs[tuple(key)], 1 if change.what == "at most" else 0)
+        if place is None and target[0] == target[1]:
+            target[:] = [change.becomes if change.what == "needs" else -change.becomes] * 2
+            return True
         if place is None:
             place = 0 if change.what in ("needs", "gives at most") else 1
             becomes = change.becomes if change.what in ("needs", "takes at most") else -change.becomes
@@ -51,24 +55,24 @@ class Plain:
 
 
 def check_changes(complaints, folder, seeds):
-    """Each least change that is told, made in the data, gives a plan."""
+    """Each least change that is listed, made in the data, gives a plan."""
     tried = 0
     for seed in range(seeds):
         made = Plain(seed)
         words, (status, text, _) = made.solve(folder)
-        told = run("netflow-why", *words, "--all")
-        complaints.same(f"plain {seed}: status of netflow-why", status, told[0])
+        said = run("netflow-why", *words, "--all")
+        complaints.same(f"plain {seed}: status of netflow-why", status, said[0])
         if status != 2:
             continue
         net = netflow_texts.read_compiled(run("netflow", "compile", *words)[1])
         short = max(it.short() for it in netflow_reasons.reasons(net, *netflow_texts.read_cut(text, net)))
-        complaints.want(f"{short} short" in told[1] or f"{short} too much" in told[1], f"plain {seed}: {short} is not told as short")
+        complaints.want(f"{short} short" in said[1] or f"{short} too much" in said[1], f"plain {seed}: {short} is not reported as short")
         for what, changes in netflow_reasons.least_changes(net)[0].items():
             complaints.want(changes is None or sum(it.amount for it in changes) >= short, f"plain {seed}: {what}: less than is short")
             other = Plain(seed)
             if changes and all([other.take(it) for it in changes]):
                 tried += 1
-                complaints.same(f"plain {seed}: {what}: with {[it.told() for it in changes]}", 0, other.solve(folder)[1][0])
+                complaints.same(f"plain {seed}: {what}: with {[it.sentence() for it in changes]}", 0, other.solve(folder)[1][0])
     complaints.want(tried * 6 > seeds, f"only {tried} changes were tried")
 
 
@@ -77,36 +81,50 @@ def value(answer):
 
 
 def check_prices(complaints, folder, seeds):
-    """What one more unit costs at least, or saves at most, beside the plan of the changed data."""
+    """What one more unit costs or saves, compared with the plan of the changed data: exactly, and no plan if it says so."""
     tried = 0
     for seed in range(seeds):
-        made = Plain(seed)
-        words, answer = made.solve(folder)
+        words, answer = Plain(seed).solve(folder)
         if answer[0]:
             continue
         text = run("netflow", "compile", *words)[1]
         net = netflow_texts.read_compiled(text)
         netflow_texts.read_plan(answer[1], net)
         netflow_texts.read_prices(run("netflow", "min", "/dev/stdin", text=text)[1], net)
-        for node in net.nodes:
-            if node.low == node.high and node.worth:
-                key, other = netflow_texts.reference(node.text)[1][0], Plain(seed)
-                other.nodes[key] = [it + 1 for it in other.nodes[key]]
-                tried += check_price(complaints, f"plain {seed}: {node.text}", value(other.solve(folder)[1]), net.value + node.worth)
+        marginal = sensitivity.Marginal(net)
+        for number, node in enumerate(net.nodes):
+            tried += check_place(complaints, folder, seed, net, node, marginal.more[number], marginal.less[number])
         for arc in net.arcs:
-            if arc.is_full() and arc.worth and arc.name == "Go":
+            if arc.name == "Go" and (arc.is_full() or arc.is_lowest()):
                 other = Plain(seed)
-                other.arcs[tuple(arc.key)][1] += 1
-                tried += check_price(complaints, f"plain {seed}: {arc.text}", value(other.solve(folder)[1]), net.value + arc.worth)
-    complaints.want(tried > seeds // 2, f"only {tried} prices were tried")
+                other.arcs[tuple(arc.key)][1 if arc.is_full() else 0] += 1 if arc.is_full() else -1
+                wanted = net.value - sensitivity.arc_change(net, marginal.residual, arc)
+                complaints.same(f"plain {seed}: {arc.text}, one unit past the bound", wanted, value(other.solve(folder)[1]))
+                tried += 1
+    complaints.want(tried > seeds, f"only {tried} prices were tried")
 
 
-def check_price(complaints, name, found, least):
-    complaints.want(found is None or found >= least, f"{name}: the changed plan is worth {found}, and {least} at least was told")
-    return found is not None
+def check_place(complaints, folder, seed, net, node, more, less):
+    """One more unit, and one less, of a place's need; at a side of a range that side alone is moved."""
+    key = netflow_texts.reference(node.text)[1][0]
+    moves = []
+    if node.low == node.high:
+        moves = [((1, 1), more, None), ((-1, -1), less, None)]
+    elif node.inflow == node.low and node.has_low():
+        moves = [((1, 0), more, max)]
+    elif node.inflow == node.high and node.has_high():
+        moves = [((0, 1), more, min)]
+    for (low, high), cost, side in moves:
+        other = Plain(seed)
+        other.nodes[key] = [other.nodes[key][0] + low, other.nodes[key][1] + high]
+        if side is min and cost is None:
+            cost = 0
+        wanted = None if cost is None else net.value + (side(0, cost) if side else cost)
+        complaints.same(f"plain {seed}: {node.text} {node.wish()}, moved by {low} and {high}", wanted, value(other.solve(folder)[1]))
+    return len(moves)
 
 
-# The usual shapes of models without a plan, and what has to be told of each, worked out by hand.
+# The usual shapes of models without a plan, and what has to be said of each, worked out by hand.
 SHAPES = (
     ("too little in all", """minimize C; node Depot {d in 1..2}: net_out <= (if d = 1 then 200 else 120);
 node Shop {s in 1..3}: net_in = (if s = 1 then 200 else if s = 2 then 160 else 100);
@@ -126,6 +144,9 @@ arc X >= 0, <= 70, from Shop, to Depot;
     ("two units", """minimize C; node Depot: net_out <= 10; node Shop: net_in = 5000;
 arc X >= 0, <= 6, from Depot, to Shop; arc Y >= 0, <= 4, from Depot, to Shop;
 """, ("Shop: 5000 needed, 10 can come at most: 4990 short", "6 by X from Depot")),
+    ("a choice is no bound", """minimize C; node Nurse {n in 1..2}: net_out <= 1; node Day {d in 1..3}: net_in = 1;
+arc Works {n in 1..2, d in 1..3} >= 0, <= 1, from Nurse[n], to Day[d];
+""", ("All 5 places together: 3 needed, 2 can come at most: 1 short", "carry: none is enough")),
     ("two shortages", """minimize C; node Depot: net_out <= 100; node Shop {s in 1..2}: net_in = 40;
 arc X {s in 1..2} >= 0, <= 10 * s, from Depot, to Shop[s];
 """, ("arcs may carry: 50 in all", "30 X[1]: at most 40 in place of 10", "20 X[2]: at most 40 in place of 20")),
@@ -133,13 +154,26 @@ arc X {s in 1..2} >= 0, <= 10 * s, from Depot, to Shop[s];
 arc X >= 0, <= 1, from Plant, to Hall; arc Y >= 2, <= 9, from Hall, to Shop;
 """, ("Hall: 2 needed, 1 can come at most: 1 short", "2 by Y to Shop, which carries 2 to 9", "1 by X from Plant, which carries 0 to 1",
       "pass on what they get: Hall")),
+    ("an equation that gives too little", """minimize C; node Plant: net_out = 5; arc X >= 16, <= 20, from Plant;
+""", ("11 Plant: gives 16 in place of 5", "11 X: at least 5 in place of 16")),
+    ("an equation that takes too little", """minimize C; node Shop: net_in = 60; arc X >= 65, <= 70, to Shop;
+""", ("5 Shop: needs 65 in place of 60", "5 X: at least 60 in place of 65")),
+)
+
+# Models with a plan, and what has to be said of the arcs at their bounds.
+PLANS = (
+    ("no arc at a bound", """minimize C; node Shop: net_in = 5; arc X >= 0, <= 9, to Shop, obj C 1; arc Y >= 0, <= 9, to Shop, obj C 2;
+""", ("No arc is at a bound. Arcs at their lower bound 0 are not counted.",)),
+    ("two full arcs in a row", """minimize C; node Hall; node Shop: net_in = 7;
+arc X >= 0, <= 5, to Hall; arc Z >= 0, <= 5, from Hall, to Shop, obj C 1; arc Y >= 0, <= 9, to Shop, obj C 3;
+""", ("Arcs at a bound: 2 of 3. Arcs at their lower bound 0 are not counted.", "More room saves nothing at: ")),
 )
 
 
 def check_shapes(complaints, folder):
-    for name, model, wanted in SHAPES:
-        status, text, told = run("netflow-why", write(folder, "shape.mod", model), "/dev/null")
-        complaints.same(f"why, {name}: status", (2, ""), (status, told))
+    for code, (name, model, wanted) in [*((2, it) for it in SHAPES), *((0, it) for it in PLANS)]:
+        status, text, stderr = run("netflow-why", write(folder, "shape.mod", model), "/dev/null")
+        complaints.same(f"why, {name}: status", (code, ""), (status, stderr))
         found = " ".join(text.split())
         for it in wanted:
             complaints.want(it in found, f"why, {name}: no {it!r} in {found}")

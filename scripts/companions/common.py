@@ -1,4 +1,4 @@
-"""What the checks share: complaints, calls of the companions and of the program, texts on disk, networks that were read."""
+"""What the checks share: complaints, calls of the tools and of the program, files, networks that were read."""
 import importlib.machinery
 import importlib.util
 import pathlib
@@ -7,21 +7,19 @@ import sys
 
 TOP = pathlib.Path(__file__).resolve().parent.parent.parent
 COMPANIONS = TOP / "share" / "companions"
-sys.path[:0] = [str(TOP / "scripts"), str(COMPANIONS)]
+sys.path[:0] = [str(TOP / "scripts"), str(TOP / "python")]
 
-import netflow_calls  # noqa: E402
-import netflow_texts  # noqa: E402
+from netflow import program, texts  # noqa: E402
 
 
 def script(path):
-    """A script without a suffix, as a module."""
+    """Returns a script without a suffix as a module."""
     loader = importlib.machinery.SourceFileLoader(path.name.replace("-", "_"), str(path))
     module = importlib.util.module_from_spec(importlib.util.spec_from_loader(loader.name, loader))
     loader.exec_module(module)
     return module
 
 
-EXPLAIN = script(COMPANIONS / "netflow-explain")
 EXAMPLES = script(TOP / "scripts" / "check_examples")
 
 
@@ -35,8 +33,8 @@ class Complaints(list):
 
 
 def run(name, *words, text=None):
-    """A companion, or with netflow as its name the program: status, standard output and standard error."""
-    call = [netflow_calls.program()] if name == "netflow" else [sys.executable, str(COMPANIONS / name)]
+    """Runs a tool, or the program if the name is netflow; returns status, standard output and standard error."""
+    call = [program.program()] if name == "netflow" else [sys.executable, str(COMPANIONS / name)]
     done = subprocess.run([*call, *map(str, words)], input=text, capture_output=True, encoding="utf-8", errors="surrogateescape")
     return done.returncode, done.stdout, done.stderr
 
@@ -48,9 +46,9 @@ def write(folder, name, text):
 
 
 def question(*words):
-    """The network of a model with its answer: the network, the status and the answer's text."""
-    net = netflow_texts.read_compiled(run("netflow", "compile", *words)[1])
+    """Returns the network of a model, the status and the text of its answer."""
+    net = texts.read_compiled(run("netflow", "compile", *words)[1])
     status, text, _ = run("netflow", "solve", *words)
     if status == 0:
-        netflow_texts.read_plan(text, net)
+        texts.read_plan(text, net)
     return net, status, text

@@ -1,45 +1,46 @@
-"""What netflow-explain says of refused texts, and what all companions pass on."""
+"""What netflow-explain says of rejected inputs, and what all tools pass on."""
+import pathlib
 import re
 
-import netflow_faults
-from companions import mistakes
-from companions.common import EXAMPLES, EXPLAIN, TOP, run, write
+from companions import bread_mistakes, mistakes, port_mistakes
+from companions.common import EXAMPLES, TOP, run, write
+from netflow import diagnostics, explain
 
 
 def check_catalogue(complaints):
-    """Each number has a section with a first paragraph and how to mend it, by rising number."""
-    page = (TOP / "docs" / "FAULTS.md").read_text(encoding="utf-8")
+    """Each code has a section with a first paragraph and a fix, by rising number."""
+    page = (TOP / "docs" / "reference" / "errors.md").read_text(encoding="utf-8")
     numbers = re.findall(r"(?m)^## (E\d\d) ", page)
-    complaints.same("the order of docs/FAULTS.md", sorted(set(numbers)), numbers)
+    complaints.same("the order of docs/reference/errors.md", sorted(set(numbers)), numbers)
     for number in numbers:
-        complaints.want(all(netflow_faults.catalogue(number)), f"docs/FAULTS.md: {number} has no sentence or no 'To mend:'")
-    named = set(re.findall(r"(?m)\bE\d\d\b", page + (TOP / "docs" / "DATA.md").read_text() + (TOP / "docs" / "FORMATS.md").read_text()))
+        complaints.want(all(diagnostics.catalogue(number)), f"docs/reference/errors.md: {number} has no sentence or no 'Fix:'")
+    named = set(re.findall(r"(?m)\bE\d\d\b", page + "".join((TOP / "docs" / "reference" / it).read_text(encoding="utf-8") for it in ("language.md", "command-line.md"))))
     complaints.same("numbers without a section", set(), named - set(numbers))
 
 
 def check_marks(complaints, folder):
-    """Refused texts of examples and rows: the mark stands under the byte of the fault's column."""
-    refused = 0
+    """Rejected inputs of examples and rows: the mark is under the byte of the error's column."""
+    rejected = 0
     rows = [row for name in ("tokens", "grammar", "names", "data", "binding") for row in EXAMPLES.rows_of(TOP / "examples" / "rows" / f"{name}.txt")]
     for row in rows[::4]:
         words = [write(folder, "r.mod", row.text(">")), write(folder, "r.dat", row.text("|"))]
         status, _, line = run("netflow", "compile", *words)
         if status != 3:
             continue
-        refused += 1
-        fault = netflow_faults.Fault(line.rstrip("\n"), "compile", list(map(str, words)), list(map(str, words)))
-        told = EXPLAIN.told(fault)
-        mark = next((it for it in told if it.strip() == "^"), None)
-        if fault.shown.strip() and mark is None:
+        rejected += 1
+        found = diagnostics.Diagnostic(line.rstrip("\n"), "compile", list(map(str, words)), list(map(str, words)))
+        lines = explain.lines_of(found)
+        mark = next((it for it in lines if it.strip() == "^"), None)
+        if found.shown.strip() and mark is None:
             complaints.append(f"{row.place}: no mark")
-        elif mark and fault.shown.isascii() and fault.column <= 60:
-            complaints.same(f"{row.place}: the mark", fault.column + 3, mark.index("^"))
-        list(netflow_faults.guesses(fault))
-    complaints.want(refused > 50, f"only {refused} rows are refused")
+        elif mark and found.shown.isascii() and found.column <= 60:
+            complaints.same(f"{row.place}: the mark", found.column + 3, mark.index("^"))
+        found.hints()
+    complaints.want(rejected > 50, f"only {rejected} rows are rejected")
 
 
 def check_mistakes(complaints, folder):
-    """Usual mistakes: the fault, and what is guessed; the line and the status are the program's."""
+    """Usual mistakes: the error and the hint; the line and the status are the program's."""
     for mistake in mistakes.MISTAKES:
         model, data = mistake.texts()
         words = ["solve", write(folder, "x.mod", model), write(folder, "x.dat", data)]
@@ -53,14 +54,68 @@ def check_mistakes(complaints, folder):
     complaints.want((status, out) == (4, "") and "No such file" in told, f"a missing file: {status}, {told!r}")
 
 
+def check_bread(complaints, folder):
+    """Mistakes of a planner's first hours: the explanation names the mistake, and gives no advice that is wrong there."""
+    cases = [(bread_mistakes.TEXTS, *it, None) for it in bread_mistakes.MISTAKES] + [(port_mistakes.TEXTS, *it) for it in port_mistakes.MISTAKES]
+    for whole, name, text, right, wrong, code, named, absent in cases:
+        texts = dict(whole)
+        if right:
+            complaints.want(right in texts[text], f"{name}: {right!r} is not in the text")
+            texts[text] = texts[text].replace(right, wrong, 1)
+        else:
+            texts[text] = wrong
+        paths = {kind: write_raw(folder, f"bread.{kind[:3]}", it) for kind, it in texts.items()}
+        status, _, told = run("netflow-explain", paths["model"], paths["data"])
+        complaints.want(status == 3 and told.startswith(code) and named in " ".join(told.split()), f"{name}: no {code} and {named!r} in {told!r}")
+        advice = " ".join(told.split("\n  ", 1)[-1].split())
+        complaints.want(absent is None or absent not in advice.replace(named, ""), f"{name}: {absent!r} in {told!r}")
+
+
+def write_raw(folder, name, content):
+    """Writes a text, or bytes."""
+    path = pathlib.Path(folder) / name
+    path.write_bytes(content if isinstance(content, bytes) else content.encode("utf-8"))
+    return path
+
+
+def check_rewritten(complaints, folder, bread):
+    """netflow-explain takes several data files and the options of all tools; what it prints of a plan has the decimals of the model."""
+    files = [bread / "bread.mod", bread / "bread.dat"]
+    plan = run("netflow", "solve", *files)[1]
+    complaints.same("explain --set: the plan", (0, plan, ""), run("netflow-explain", *files, "--set", "van=40"))
+    status, out, told = run("netflow-explain", *files, bread / "busy.dat")
+    complaints.same("explain: two data files", (2, "infeasible\nunder -85 -80\nnode Shop['lake']\n", ""), (status, out, told))
+    complaints.same("explain: decimals", (0, "Total = 442.5\nDrive :=\n'north' 'hill' 30\n'north' 'lake' 19.5\n'north' 'mill' 0\n"
+                    "'south' 'hill' 0\n'south' 'lake' 25.5\n'south' 'mill' 24.5\n;\n", ""),
+                    run("netflow-explain", "solve", *files, "--set", "cost[north,hill]=4.15", "--set", "wants[mill]=24.5"))
+    complaints.same("explain --bounds", 0, run("netflow-explain", *files, "--bounds")[0])
+    complaints.want(run("netflow-explain", "compile", *files, "--set", "van=40")[1].count("\na ") == 8, "explain compile --set: no problem")
+    for words, said in ((["--set", "van=x"], "E36 KindMismatch data\nin --set van=x\n--set van=x: A number, text"),
+                        (["--set", "wants[hil]=3"], "Hint: hil: is hill meant?"), (["--set", "fan=3"], "fan: the model declares no such set or parameter")):
+        status, out, told = run("netflow-explain", *files, *words)
+        complaints.want((status, out) == (3, "") and said in told and "^" not in told, f"explain {words}: no {said!r} in {told!r}")
+    wrong = write(folder, "wrong.dat", "# two lines\nparam wants := lake 5\n")
+    status, out, told = run("netflow-explain", *files, wrong)
+    complaints.want((status, out) == (3, "") and told.startswith("E20 Syntax data 2:22\n") and f"\n{wrong}:2:22: " in told and
+                    "is a ; missing at the end of line 2?" in told, f"explain: a second file with an error: {told!r}")
+
+
 def check_refusals(complaints, folder):
-    """What the program refuses, each companion passes on; and a text that comes by a pipe is read once."""
+    """Each tool passes on the program's errors; and input from a pipe is read once."""
     wrong = write(folder, "w.mod", "node ;\n")
     for words in (["netflow-why"], ["netflow-report"], ["netflow-sheet", "plan"]):
         complaints.same(f"{words}: refused", (3, "", "E10 Syntax model 1:6\n"), run(*words, wrong, "/dev/null"))
-        complaints.same(f"{words}: no file", (4, "", "E90 ReadFault model\n"), run(*words, "/nowhere/x", "/dev/null"))
+        complaints.same(f"{words}: no file", (4, "", "E90 ReadFault model: /nowhere/x: No such file or directory\n"), run(*words, "/nowhere/x", "/dev/null"))
         complaints.same(f"{words}: no words", 64, run(*words)[0])
         complaints.same(f"{words}: help", 0, run(*words, "--help")[0])
         complaints.same(f"{words}: a pipe", (3, "", "E10 Syntax model 1:6\n"), run(*words, "/dev/stdin", "/dev/null", text="node ;\n"))
+    bread = TOP / "examples" / "bread"
+    for words in (["netflow-why"], ["netflow-report"], ["netflow-sheet", "plan"]):
+        found = run(*words, bread / "bread.mod", bread / "bread.dat", "--set", "van=x")
+        complaints.same(f"{words}: a wrong --set", (3, "", "E36 KindMismatch data\nin --set van=x\n"), found)
+    more = write(folder, "more.dat", "# two lines\nparam wants := hil 3;\n")
+    check_rewritten(complaints, folder, bread)
+    complaints.same("an error in the second file", (3, "", f"E33 OutsideSet data 2:16 wants['hil']\nin {more}:2:16\n"),
+                    run("netflow-why", bread / "bread.mod", bread / "bread.dat", more))
     complaints.same("explain: a pipe", 3, run("netflow-explain", "solve", "/dev/stdin", "/dev/null", text="node ;\n")[0])
     complaints.same("explain: no words", 64, run("netflow-explain")[0])

@@ -1,5 +1,5 @@
-"""Usual mistakes of those who write models and data, with the fault that docs/FAULTS.md says they give and what
-netflow-explain should guess. Each is one change of a small model that is right."""
+"""Usual mistakes in models and data, with the error that each gives and the hint of netflow-explain. Each is one change of a small
+correct model."""
 import dataclasses
 
 MODEL = """set DEPOTS;
@@ -72,7 +72,7 @@ MISTAKES = [Mistake(*it) for it in (
     ("a name with a blank", "data", "'Sankt Veit' 5 25", "Sankt Veit 5 25", "E21 RowWidth data 10:", "line 10 has 4 cells, and 3 are wanted"),
     ("a fraction", "data", "Linz 90", "Linz 90.5", "E04 NotWhole data 5:6", "scale the column"),
     ("a letter in a number", "data", "Graz 100", "Graz 1O0", "E36 KindMismatch data 6:6", "1O0: is 100 meant?"),
-    ("= in data", "data", "param last := 2", "param last = 2", "E01 BadCharacter data 3:12", "is := meant?"),
+    ("= in data", "data", "param last := 2", "param last = 2", "E01 BadCharacter data 3:12", "write := for = in data"),
     ("a typographic quote", "data", "'Sankt Veit'", "\u2018Sankt Veit\u2019", "E01 BadCharacter data 2:", "LEFT SINGLE QUOTATION MARK"),
     ("a byte order mark", "data", "set DEPOTS", "\ufeffset DEPOTS", "E01 BadCharacter data 1:1", "a byte order mark"),
     ("a member misspelt", "data", "Enns 15 30", "Ens 15 30", "E33 OutsideSet data 9:1 wants['Ens',1]", "Ens: is Enns meant?"),
@@ -82,10 +82,10 @@ MISTAKES = [Mistake(*it) for it in (
     ("a name in another case", "model", "obj Total 1", "obj total 1", "E12 Undeclared model 14:43 total", "total: is Total meant?"),
     ("a table that is not turned", "data", "param cost: Wien Enns 'Sankt Veit' :=\nLinz 3 1 9\nGraz 5 6 4;",
      "param cost: Linz Graz :=\nWien 3 5\nEnns 1 6\n'Sankt Veit' 9 4;", "E33 OutsideSet data 12:1 cost['Wien','Linz']", "are the two members exchanged?"),
-    ("a row forgotten", "data", "Enns 15 30\n", "", "E32 NoValue model 10:48 wants['Enns',1]", "the data speak of wants in line 7"),
-    ("no data for a set", "data", "set SHOPS := Wien Enns 'Sankt Veit';\n", "", "E32 NoValue model 2:5", "give the row in the data"),
-    ("a row twice", "data", "Graz 100;", "Graz 100 Linz 5;", "E31 DoubleValue data 6:10 has['Linz']", "take one of the two away"),
-    ("below 0", "data", "Linz 90", "Linz -90", "E34 Restriction model 4:23 has['Linz']", "the data speak of has in line 5"),
+    ("a row forgotten", "data", "Enns 15 30\n", "", "E32 NoValue model 10:48 wants['Enns',1]", "the data name wants in line 7"),
+    ("no data for a set", "data", "set SHOPS := Wien Enns 'Sankt Veit';\n", "", "E32 NoValue model 2:5", "add the row to the data"),
+    ("a row twice", "data", "Graz 100;", "Graz 100 Linz 5;", "E31 DoubleValue data 6:10 has['Linz']", "remove one of the two"),
+    ("below 0", "data", "Linz 90", "Linz -90", "E34 Restriction model 4:23 has['Linz']", "the data name has in line 5"),
     ("a pair of no set", "data", "(Graz, Enns)", "(Graz, Ens)", "E34 Restriction model 6:45 NEAR", "line 15 of the data has Ens, which SHOPS has not"),
     ("an arc too far", "model", "t in 1..last - 1} >=", "t in 1..last} >=", "E50 NoSuchNode model 14:24 Shop['Wien',3]", "its braces end one period earlier"),
     ("no upper bound", "model", ">= 0, <= room,", ">= 0,", "E52 NoUpper model 13:5 Keep",
@@ -93,16 +93,16 @@ MISTAKES = [Mistake(*it) for it in (
     ("= as a bound", "model", ">= 0, <= room,", "= room,", "E14 LeftOut model 13:41 =", "are >= and <= meant?"),
     ("from without to", "model", "from Shop[s,t], to Shop", "from Shop[s,t], Shop", "E14 LeftOut model 14:21 Shop", "is a to missing before Shop?"),
     ("if in a sum", "model", "net_in = wants[s,t]", "net_in = wants[s,t] - if t = 1 then 1", "E10 Syntax model 10:61",
-     "an if inside a sum stands in parentheses"),
-    ("subject to", "model", "minimize Total;", "minimize Total;\nsubject to Limit: 1 <= 2;", "E14 LeftOut model 9:1 subject", "FROM_AMPL.md"),
+     "put an if that is an operand in parentheses"),
+    ("subject to", "model", "minimize Total;", "minimize Total;\nsubject to Limit: 1 <= 2;", "E14 LeftOut model 9:1 subject", "becomes a node: node B"),
     ("no : before a condition", "model", "}: net_out", "} net_out", "E16 NetPlace model 9:26", "is a : missing before net_out?"),
     ("a ; too many", "data", "param last := 2;", "param last := 2;;", "E20 Syntax data 3:17", "is this ; one too many?"),
     ("no param in the data", "data", "param last", "last", "E20 Syntax data 3:1", "is set or param missing before last?"),
     ("no ; inside a line", "model", "set SHOPS;", "set SHOPS param x;", "E14 LeftOut model 2:11", "is a ; missing before param?"),
-    ("a word twice", "data", "param last", "param param last", "E20 Syntax data 3:13", "does param stand there twice?"),
+    ("a word twice", "data", "param last", "param param last", "E20 Syntax data 3:13", "is param written twice?"),
     ("a cell missing in a list", "data", "Linz 90\nGraz 100;", "Linz 90 Graz;", "E37 Arity data 5:9", "the cells from Graz on do not fit"),
     ("a bracket that is not closed", "model", "wants[s,t];", "wants[s,t;", "E10 Syntax model 10:57", "is the [ before it not closed?"),
-    ("a bracket too many", "model", "<= has[d];", "<= has[d]];", "E10 Syntax model 9:44", "does a [ for it stand nowhere?"),
+    ("a bracket too many", "model", "<= has[d];", "<= has[d]];", "E10 Syntax model 9:44", "is this ] one too many, or its [ missing?"),
     ("two words exchanged", "model", "param last;", "last param;", "E14 LeftOut model 3:1 last", "are last and param the wrong way round?"),
-    ("no objective", "model", "minimize Total;\n", "", "E12 Undeclared model 11:38 Total", "declare it in an earlier declaration"),
+    ("no objective", "model", "minimize Total;\n", "", "E12 Undeclared model 11:38 Total", "declare the name in an earlier declaration"),
 )]

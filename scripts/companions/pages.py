@@ -1,4 +1,4 @@
-"""The pages of netflow-report: well-formed, whole, and in a browser."""
+"""The pages of netflow-report: well-formed, complete, nothing on top of anything else, and in a browser."""
 import html
 import html.parser
 import json
@@ -9,6 +9,7 @@ import subprocess
 
 from companions import mistakes
 from companions.common import EXAMPLES, TOP, question, run, write
+from netflow import draw
 
 
 class Page(html.parser.HTMLParser):
@@ -37,7 +38,7 @@ class Page(html.parser.HTMLParser):
 
 
 def transport(depots, shops, is_short):
-    """A model of so many depots and shops, with a name that wants to be told apart from marks."""
+    """A model of so many depots and shops, with a name that has to be escaped."""
     dice = random.Random(f"{depots} {shops}")
     need = [dice.randint(5, 40) for _ in range(shops)]
     has = sum(need) // depots + (-2 if is_short else 12)
@@ -85,7 +86,7 @@ def check_pages(complaints, folder):
         complaints.want("url(" not in re.sub(r"url\(#\w+\)", "", text), f"report {name}: something is fetched")
         tables = re.findall(r"<section><h2>([^<]*)</h2>\n<p>(\d+) arcs?,.*?</section>", text, re.S)
         complaints.same(f"report {name}: arcs", {it: len(arcs) for it, arcs in net.declared().items()}, {it: int(count) for it, count in tables})
-        rows = sum(part.count("<tr") - 1 for part in re.findall(r"<section><h2>[^<]*</h2>\n<p>\d+ arcs?,(.*?)(?:<details>|</section>)", text, re.S))
+        rows = sum(part.count("<tr") - 1 for part in re.findall(r"<section><h2>[^<]*</h2>\n<p>\d+ arcs?,(.*?)(?:<details|</section>)", text, re.S))
         complaints.same(f"report {name}: rows", len(net.arcs), rows)
         complaints.same(f"report {name}: nodes on one another", [], overlapping(text))
         complaints.want(status == 0 or re.search(r'class="reason">[^<]* (short|too much)\.', text), f"report {name}: no reason")
@@ -93,11 +94,13 @@ def check_pages(complaints, folder):
         complaints.same(f"report {name}: the drawing's tags", [], Page(drawn).faults if drawn else [])
         complaints.want(drawn.startswith("<svg ") and "<style>" in drawn or "so none is drawn" in text, f"report {name}: no drawing")
         if status == 0 and net.nodes:
-            cells = re.findall(r"<td[^>]*>([^<]*)</td>", re.search(r"<h2>Places</h2>(.*?)</section>", text, re.S)[1])
+            cells = cells_of(re.search(r"<h2>Places</h2>(.*?)</section>", text, re.S)[1])
             each = len(cells) // len(net.nodes)
             inflows = [int(cells[it + 2]) - int(cells[it + 3]) for it in range(0, len(cells), each)]
             complaints.same(f"report {name}: what comes in less what goes out", [it.inflow for it in net.nodes], inflows)
-        complaints.want(status or f"{net.objective} = {net.value}<" in text, f"report {name}: no value")
+        complaints.want(status or f"{net.objective} = {draw.grouped(net.value)}<" in text, f"report {name}: no value")
+        complaints.same(f"report {name}: numbers on one another or on nodes", [], crowded(text))
+        check_grids(complaints, name, net, text)
         check_totals(complaints, name, net, text)
 
 
@@ -108,8 +111,41 @@ def check_totals(complaints, name, net, text):
         declared = re.findall(r"<h2>([^<]*)</h2>", text[:found.start()])[-1]
         flows = sum(it.flow for it in net.declared()[declared])
         for table in re.findall(r"<tbody>(.*?)</tbody>", found[1], re.S):
-            cells = re.findall(r'<td class="number flow">([^<]*)</td>', table)
+            cells = [data or shown for data, shown in re.findall(r'<td class="number flow"(?: data-n="([^"]*)")?>([^<]*)</td>', table)]
             complaints.same(f"report {name}: totals of {declared}", flows, sum(map(int, cells)))
+
+
+def cells_of(part):
+    """Returns the cells of tables, numbers without the marks between their groups."""
+    return [data or shown for data, shown in re.findall(r'<td[^>]*?(?: data-n="([^"]*)")?>([^<]*)</td>', part)]
+
+
+def crowded(text):
+    """Returns the numbers of a small drawing that overlap another number or a node, by the widths that the drawing assumes."""
+    svg = re.search(r"<svg .*?</svg>", text, re.S)
+    if not svg or 'class="large"' in svg[0]:
+        return []
+    nodes = [tuple(map(float, it)) for it in re.findall(r'<rect x="([-\d.]+)" y="([-\d.]+)" width="([\d.]+)" height="([\d.]+)"', svg[0])]
+    boxes = [(x, y, x + wide, y + high) for x, y, wide, high in nodes]
+    numbers = []
+    for x, y, shown in re.findall(r'marker-end="[^"]*"/><text x="([-\d]+)" y="([-\d]+)">([^<]*)</text>', svg[0]):
+        half = draw.LETTER * len(shown) / 2 - 1
+        numbers.append((float(x) - half, float(y) - 10, float(x) + half, float(y) + 1, shown))
+    found = [it[4] for it in numbers if any(draw.overlaps(it, box) for box in boxes)]
+    return found + [one[4] for here, one in enumerate(numbers) for two in numbers[:here] if draw.overlaps(one, two)]
+
+
+def check_grids(complaints, name, net, text):
+    """The cells of a grid come to what flows in all, and so does the total in its corner."""
+    for title, part in re.findall(r"<h2>([^<]*)</h2>(?:(?!</section>).)*?<table class=\"grid\">(.*?)</table>", text, re.S):
+        if '<tfoot>' not in part:
+            continue
+        flows = sum(it.flow for it in net.declared()[title])
+        body, foot = part.split("<tfoot>")
+        cells = [float(it) for it in re.findall(r'<td class="(?:full|zero)?" data-n="([^"]*)"', body)]
+        complaints.same(f"report {name}: the grid of {title}", flows, sum(cells))
+        last = re.findall(r"<td>([^<]*)</td>", foot)[-1]
+        complaints.same(f"report {name}: the total of {title}'s grid", draw.grouped(flows), last)
 
 
 # In a browser

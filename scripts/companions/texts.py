@@ -1,15 +1,15 @@
 """What is read of compiled texts, plans and cuts is the model that they are of."""
 import tempfile
 
-import netflow_reasons
-import netflow_texts
 from companions.common import EXAMPLES, TOP, question, run, write
 from models.instance import reference
 from models.model import Model
+from netflow import reasons as netflow_reasons
+from netflow import texts as netflow_texts
 
 
 def check_seeded(complaints, folder, seeds):
-    """Models whose network is known by other means: what is read, and what is told where there is no plan."""
+    """Models whose network is known by other means: what is read, and what is said if there is no plan."""
     cuts = 0
     for seed in range(1, seeds + 1):
         model = Model(seed)

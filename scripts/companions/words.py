@@ -1,4 +1,4 @@
-"""The companions' words beside their manual page and completions, and how scripts/first_look hands files on."""
+"""The tools' words, compared with their manual page and completions, and how scripts/first_look passes files on."""
 import pathlib
 import re
 
@@ -8,7 +8,7 @@ LOOK = script(TOP / "scripts" / "first_look")
 
 
 def check_words(complaints):
-    """Each companion and each of its options stands in the manual page and in the completions, and is installed."""
+    """Each tool and each of its options is in the manual page and in the completions, and is installed."""
     manual = (TOP / "share" / "netflow-companions.1").read_text(encoding="utf-8").replace("\\-", "-")
     completions = [(TOP / "share" / "completions" / it).read_text(encoding="utf-8") for it in ("netflow.bash", "netflow.fish", "_netflow-companions")]
     installed = re.search(r"for companion in (.*); do", (TOP / "scripts" / "install").read_text(encoding="utf-8"))[1].split()

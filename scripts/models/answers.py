@@ -1,4 +1,4 @@
-"""What netflow answers to a model, beside what the model comes to."""
+"""Compares netflow's answers to a model with the model's own network."""
 import re
 
 from models.expressions import shown
@@ -19,26 +19,26 @@ def number_of(text):
     return int(text)
 
 
-def behind(line, front):
-    wanted(line.startswith(front), f"{line!r} where {front!r} should begin a line")
-    return number_of(line[len(front):])
+def after(line, prefix):
+    wanted(line.startswith(prefix), f"{line!r}: the line should begin with {prefix!r}")
+    return number_of(line[len(prefix):])
 
 
 def plan_of(text, model):
     """The displayed value, and the number of each arc."""
     wanted(text.endswith("\n"), "a plan without its last line end")
     lines = iter(text[:-1].split("\n"))
-    value, plan = behind(next(lines), f"{model.instance.objective} = "), []
+    value, plan = after(next(lines), f"{model.instance.objective} = "), []
     for decl in model.layout.arcs:
         if decl.braces is None:
-            plan.append(behind(next(lines, ""), f"{decl.name} = "))
+            plan.append(after(next(lines, ""), f"{decl.name} = "))
             continue
         line = next(lines, "")
-        wanted(line == f"{decl.name} :=", f"{line!r} where the arcs of {decl.name} should begin")
+        wanted(line == f"{decl.name} :=", f"{line!r}: the arcs of {decl.name} should begin here")
         for key in decl.keys:
-            plan.append(behind(next(lines, ""), "".join(f"{shown(it)} " for it in key)))
-        wanted(next(lines, "") == ";", f"the arcs of {decl.name} do not end where they should")
-    wanted(next(lines, None) is None, "lines behind the last arc")
+            plan.append(after(next(lines, ""), "".join(f"{shown(it)} " for it in key)))
+        wanted(next(lines, "") == ";", f"the arcs of {decl.name} do not end with ';'")
+    wanted(next(lines, None) is None, "lines after the last arc")
     return value, plan
 
 
@@ -68,37 +68,37 @@ def check_cut(text, model, form):
         last = names.index(line)
         places.add(last)
     supply, most, least = form.across(places)
-    said, room = number_of(found[2]), number_of(found[3])
+    said, allowed = number_of(found[2]), number_of(found[3])
     wanted(said == supply, f"the set supplies {supply}, not {said}")
-    wanted(room == (most if found[1] == "over" else least), f"the arcs allow {most} at most and {least} at least, not {room}")
+    wanted(allowed == (most if found[1] == "over" else least), f"the arcs allow {most} at most and {least} at least, not {allowed}")
     wanted(supply > most if found[1] == "over" else supply < least, f"{lines[1]!r} shows nothing")
 
 
 def check_solve(call, model, best, form, words):
-    """`best` is the value that is right, or None where there is no plan; `words` ask for the form of the problem."""
-    status, text, told = call(["solve", "model.mod", "model.dat", *model.words(), *words])
-    wanted(status in (0, 2) and not told, f"solve: status {status}: {told.strip()}")
+    """Checks the answer of `solve`. `best` is the correct value, or None if there is no plan; `words` choose the form of the problem."""
+    status, text, stderr = call(["solve", "model.mod", "model.dat", *model.words(), *words])
+    wanted(status in (0, 2) and not stderr, f"solve: status {status}: {stderr.strip()}")
     said = "no plan" if best is None else best
-    wanted((status == 0) == (best is not None), f"solve: status {status}, where glpsol finds {said}")
+    wanted((status == 0) == (best is not None), f"solve: status {status}, but glpsol finds {said}")
     if status == 2:
         check_cut(text, model, form)
         return
     value = check_plan(text, model)
-    wanted(value == best, f"solve: {value}, where glpsol finds {best}")
+    wanted(value == best, f"solve: {value}, but glpsol finds {best}")
 
 
 def check_compile(call, model, best, form, words, keep):
     """The text is the model's problem in this form, line by line; and what `min` finds of it leads to the same value."""
-    status, text, told = call(["compile", "model.mod", "model.dat", *model.words(), *words])
-    wanted(status == 0 and not told, f"compile: status {status}: {told.strip()}")
+    status, text, stderr = call(["compile", "model.mod", "model.dat", *model.words(), *words])
+    wanted(status == 0 and not stderr, f"compile: status {status}: {stderr.strip()}")
     keep("model.min", text)
     whole = form.links(model.instance) + form.text()
     for line, right in zip(text.split("\n"), whole.split("\n")):
-        wanted(line == right, f"compile: {line!r}, where {right!r} is right")
+        wanted(line == right, f"compile: {line!r}, but {right!r} is correct")
     wanted(text == whole, "compile: a text of another length")
-    status, text, told = call(["min", "model.min"])
-    wanted(status == (2 if best is None else 0) and not told, f"min: status {status}: {told.strip()}")
+    status, text, stderr = call(["min", "model.min"])
+    wanted(status == (2 if best is None else 0) and not stderr, f"min: status {status}: {stderr.strip()}")
     if best is not None:
-        cost = behind(text.split("\n")[0], "s ")
+        cost = after(text.split("\n")[0], "s ")
         value = form.constant + form.sign * cost
-        wanted(value == best, f"min: the cost {cost} leads to {value}, where glpsol finds {best}")
+        wanted(value == best, f"min: the cost {cost} leads to {value}, but glpsol finds {best}")

@@ -21,7 +21,7 @@ class Author:
         return self.rng.random() < share
 
     def dummy_names(self, count, scope):
-        """New names, which mean nothing yet where the scope's dummies are."""
+        """Makes names that mean nothing yet in the scope."""
         taken = self.names | {it.name for it in scope}
         free = [it for it in DUMMIES if it not in taken]
         free += [f"z{it}" for it in range(40) if f"z{it}" not in taken][: max(0, count - len(free))]
@@ -33,7 +33,7 @@ class Author:
     # Members
 
     def subscript(self, scope, kind, domain):
-        """A member of the domain, most likely; None where nothing fits."""
+        """Makes a subscript, usually a member of the domain; None if nothing fits."""
         fitting = [it for it in scope if it.domain == domain and it.kind == kind]
         numbers = [it for it in fitting if it.kind == "number"]
         if numbers and self.chance(0.12):
@@ -187,7 +187,7 @@ class Author:
     def set_braces(self, scope, depth, dimen):
         items, inside, every = [], list(scope), [self.set_of(scope, depth, 1) for _ in range(dimen)]
         for place, members in enumerate(every):
-            later = [it for behind in every[place + 1:] for it in every_dummy(behind)]
+            later = [it for following in every[place + 1:] for it in every_dummy(following)]
             items.append(self.item(inside + later, members, fresh=True))
             inside += items[-1].new
         return Comprehension(Braces(items, self.condition(inside, 1) if self.chance(0.7) else None))
@@ -207,7 +207,7 @@ class Author:
         return Item(pattern, members, new)
 
     def selecting(self, scope, kind, domain, is_tuple):
-        """A component that is no new dummy, or None: a dummy of before, the number beside it, or a member."""
+        """Makes a component that is not a new dummy, or None: an earlier dummy, a number next to it, or a member."""
         old = [it for it in scope if it.domain == domain and it.kind == kind]
         if old and kind == "number" and self.chance(0.15):
             return Binary(self.rng.choice("+-"), self.rng.choice(old), Member(1))
@@ -227,7 +227,7 @@ class Author:
     # What is without fault
 
     def sound(self, make, envs, good=lambda value, env: True, tries=25):
-        """What `make` gives, once it has a good value for each of the dummies; None where that does not come."""
+        """Returns what `make` gives when it has a good value for each dummy; None if that does not happen."""
         for _ in range(tries):
             made = make()
             try:

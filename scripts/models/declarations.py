@@ -3,7 +3,7 @@ from models.expressions import PRODUCT, SET, SUM, VALUE, Fault
 
 
 class Declared:
-    """What is declared stays the same where an expression that names it is copied."""
+    """Declared things stay the same when an expression that names them is copied."""
 
     def __deepcopy__(self, memo):
         return self
@@ -17,15 +17,15 @@ def in_order(rng, phrases):
 
 
 class SetDecl(Declared):
-    """A set: its rows, and where they come from: `made`, an expression, or else the data."""
+    """A set with its rows, which come from `made`, an expression, or from the data."""
 
     def __init__(self, name, rows, kinds, domains, made=None):
         self.name, self.rows, self.kinds, self.domains, self.made = name, rows, kinds, domains, made
         self.dimen, self.within, self.phrases = len(kinds), [], ""
 
     def finish(self, rng):
-        told = self.made is None and not self.within and self.dimen > 1
-        phrases = [f"dimen {self.dimen}"] if told or rng.random() < 0.2 else []
+        is_explicit = self.made is None and not self.within and self.dimen > 1
+        phrases = [f"dimen {self.dimen}"] if is_explicit or rng.random() < 0.2 else []
         phrases += [f"within {it.at(SET)}" for it in self.within]
         phrases += [f":= {self.made.at(VALUE)}"] if self.made else []
         self.phrases = in_order(rng, phrases)
@@ -116,7 +116,7 @@ class NetCondition:
         return sum(sign * term.value(env) for sign, term in self.terms if term)
 
     def sign(self):
-        """1 where the middle grows with what flows in."""
+        """Returns 1 if the middle grows with inflow, else -1."""
         own = next(sign for sign, term in self.terms if term is None)
         return own if self.word == "net_in" else -own
 
@@ -130,7 +130,7 @@ class NetCondition:
         return low, high
 
     def range(self, env):
-        """The least and the greatest net inflow; None where there is no side."""
+        """Returns the least and the greatest net inflow; None for a missing side."""
         low, high = (None if it is None else it - self.base(env) for it in self.middle_range(env))
         if self.sign() == 1:
             return low, high

@@ -10,12 +10,12 @@ class Fault(Exception):
 
 
 class Expr:
-    """`text` is the netflow text at the expression's own level, `twin` a MathProg text that may stand anywhere."""
+    """`text` is the netflow text at the expression's own precedence, `twin` a MathProg text for any position."""
 
     level = PRIMARY
 
     def ends_open(self):
-        """Whether a product behind it would be taken in."""
+        """Returns whether a following product would become part of it."""
         return False
 
     def at(self, level, closed=False):
@@ -33,7 +33,7 @@ def shown(member):
 
 
 class Member(Expr):
-    """A number or a text that stands for itself."""
+    """A literal number or text."""
 
     def __init__(self, member, mark="'"):
         self.member, self.mark = member, mark
@@ -50,7 +50,7 @@ class Member(Expr):
 
 
 class Dummy(Expr):
-    """A name that braces let run; one without a name stands for a component that has none in netflow's text."""
+    """A dummy; one without a name is a component that has no name in netflow's text."""
 
     numbers = itertools.count(1)
 
@@ -211,7 +211,7 @@ class Relation(Expr):
 
 
 class Joined(Expr):
-    """`and` and `or`; the right side counts only where the left does not decide."""
+    """`and` and `or`; the right side counts only if the left one does not decide."""
 
     def __init__(self, word, left, right):
         self.word, self.left, self.right = word, left, right
@@ -267,5 +267,5 @@ def copied(expr):
 
 
 def every_dummy(thing):
-    """All named dummies of braces or a set, inner ones too; none where there is no thing."""
+    """Returns all named dummies of braces or a set, including inner ones; none for None."""
     return [it for it in copied(thing)[1] if it.name] if thing else []

@@ -89,8 +89,8 @@ class Instance:
 
 
 class Normal:
-    """The problem of docs/NORMAL_FORM.md, or its lean form: supplies by node, the outside last, and arcs as (src, dst, low, cap,
-    cost); and for each arc of the model its offset and its number, which is 0 where it is left out."""
+    """The normal form of docs/reference/command-line.md, or its lean form: supplies by node, the outside last, and arcs as (src, dst, low, cap,
+    cost); and for each arc of the model its offset and its number, which is 0 if it is left out."""
 
     def __init__(self, instance, lean=False):
         outside, sign = len(instance.nodes), 1 if instance.sense == "minimize" else -1

@@ -59,7 +59,7 @@ class Layout(World):
         self.nodes.append(node)
 
     def empty_key(self):
-        """Braces whose one key has no members, as an item that selects and binds nothing; None where there is no set."""
+        """Makes braces whose one key has no members, by an item that selects and binds nothing; None if there is no set."""
         there = [it for it in self.sets if it.rows]
         if not there:
             return None
@@ -221,7 +221,7 @@ class Layout(World):
         return Member(0)
 
     def total(self):
-        """A sum over arcs, with numbers beside it."""
+        """A sum over arcs, and numbers."""
         made = self.number([], 1) if self.chance(0.4) else None
         for arc in self.rng.sample(self.arcs, self.rng.randint(1, len(self.arcs))):
             term = self.over_arc(arc)

@@ -12,7 +12,7 @@ MARKS = "+ - * = <> < <= > >= .. :=".split()
 
 
 class Model:
-    """Of a seed; another one of the same seed where `attempt` is another number."""
+    """A model of a seed; another `attempt` gives another model of the same seed."""
 
     def __init__(self, seed, attempt=0):
         self.seed, self.rng = seed, random.Random(f"model {seed} {attempt}")

@@ -9,7 +9,7 @@ class TwinFault(Exception):
 
 
 def solved(folder):
-    """The least or greatest value of twin.mod in the folder, or None where there is no plan."""
+    """Returns the optimal value of twin.mod in the folder, or None if there is no plan."""
     words = ["glpsol", "--math", "twin.mod", "--nopresol", "-w", "twin.sol"]
     done = subprocess.run(words, cwd=folder, capture_output=True, text=True, check=False, timeout=SECONDS)
     (folder / "twin.txt").write_text(done.stdout)

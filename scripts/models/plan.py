@@ -23,8 +23,8 @@ def chosen_plan(instance, ranges, rng):
 
 
 def way(instance, plan, ranges, sums, start, is_over):
-    """A path on which one unit less comes into the node, or one more: (arc, step) pairs; None where there is none."""
-    # A step moves a unit away from the node at hand, or, where it lacks one, to it.
+    """A path on which one unit less comes into the node, or one more: (arc, step) pairs; None if there is none."""
+    # A step moves a unit away from the node, or to it if it lacks one.
     seen, line = {start: None}, collections.deque([start])
     while line:
         place = line.popleft()
@@ -57,7 +57,7 @@ FAR = 10**6
 
 
 def fixed_ranges(instance):
-    """The ranges that the plan has to meet; where a parameter is free, any net inflow will do."""
+    """Returns the ranges that the plan must meet; with a free parameter any net inflow will do."""
     ranges = []
     for decl in instance.decls:
         for _, env in decl.steps:

@@ -7,8 +7,8 @@ MOST = 400
 
 
 class SetExpr(Expr):
-    """MathProg runs through no braces behind an `in`, so a set has two more texts there: `wider` is a set without braces
-    that has it all, and `has` the condition that a tuple of texts is in it. `twin` stands behind `:=`."""
+    """MathProg allows no braces after `in`, so a set has two more texts there: `wider` is a set without braces that contains it,
+    and `has` the condition that a tuple of texts is in it. `twin` is its text after `:=`."""
 
     is_exact = True
 
@@ -66,7 +66,7 @@ class Range(SetExpr):
         first, last = self.first.twin(), self.last.twin()
         if self.step is None:
             return f"({first} .. {last})"
-        # glpsol breaks where the last number is no step of the range.
+        # glpsol fails if the last number is not a step of the range.
         step = self.step.twin()
         return f"({first} .. ({first} + {step} * floor(({last} - {first}) / {step})) by {step})"
 
@@ -99,7 +99,7 @@ class Literal(SetExpr):
         return "{" + ", ".join(it.at(SET) for it in self.items) + "}"
 
     def twin(self):
-        # A member may stand twice, which MathProg refuses within one pair of braces.
+        # A member can occur twice, which MathProg rejects within one pair of braces.
         return "(" + " union ".join("{" + it.twin() + "}" for it in self.items) + ")" if self.items else "{}"
 
 
@@ -165,7 +165,7 @@ class Comprehension(SetExpr):
 
     def value(self, env):
         for item in self.braces.items:
-            # MathProg looks at every set, even where one before it is empty.
+            # MathProg evaluates every set, even after an empty one.
             item.members.value(env)
         return [key for key, _ in self.braces.walk(env)]
 
@@ -284,7 +284,7 @@ class Item:
         return f"{f'({inside})' if len(self.pattern) > 1 else inside} in {self.members.at(SET)}"
 
     def twin(self):
-        """The item, and conditions: MathProg is told of what selects by these."""
+        """Returns the item and the conditions that express its selection in MathProg."""
         names = [it.twin() if is_new else f"c{next(Item.slots)}" for it, is_new in self.components()]
         item, condition = self.members.through(names)
         selects = [f"({name} = {it.twin()})" for name, (it, is_new) in zip(names, self.components()) if not is_new]
@@ -339,7 +339,7 @@ class Braces:
 
 
 def whole(set_expr, names):
-    """The item that runs through a whole set with new dummies; a name of None stands for a set alone."""
+    """The item that runs through a whole set with new dummies; a name of None means a set alone."""
     new = [Dummy(name, kind, domain) for name, kind, domain in zip(names, set_expr.kinds, set_expr.domains)]
     return Item(new, set_expr, new)
 

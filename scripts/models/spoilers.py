@@ -12,32 +12,32 @@ def last_number(text, pattern, more):
 
 
 def spoiler(command, statuses, pattern, more=1):
-    def spoil(words, status, text, told):
+    def spoil(words, status, text, stderr):
         if words[0] != command or status not in statuses:
-            return status, text, told
-        return status, last_number(text, pattern, more), told
+            return status, text, stderr
+        return status, last_number(text, pattern, more), stderr
     return spoil
 
 
-def no_plan(words, status, text, told):
+def no_plan(words, status, text, stderr):
     """Says that there is none, by the empty set."""
-    return (2, "infeasible\nover 1 0\n", told) if words[0] == "solve" and status == 0 else (status, text, told)
+    return (2, "infeasible\nover 1 0\n", stderr) if words[0] == "solve" and status == 0 else (status, text, stderr)
 
 
-def refused(words, status, text, told):
-    return (3, "", "E12 Undeclared model 1:1 a\n") if words[0] == "compile" else (status, text, told)
+def refused(words, status, text, stderr):
+    return (3, "", "E12 Undeclared model 1:1 a\n") if words[0] == "compile" else (status, text, stderr)
 
 
-def worse(words, status, text, told):
+def worse(words, status, text, stderr):
     """Says that a problem has no flow."""
-    return (2, "x over\n", told) if words[0] == "min" and status == 0 else (status, text, told)
+    return (2, "x over\n", stderr) if words[0] == "min" and status == 0 else (status, text, stderr)
 
 
-def node_twice(words, status, text, told):
+def node_twice(words, status, text, stderr):
     """A cut that names its last node twice."""
     if words[0] != "solve" or status != 2:
-        return status, text, told
-    return status, re.sub(r"((?:node [^\n]*|outside)\n)\Z", r"\1\1", text), told
+        return status, text, stderr
+    return status, re.sub(r"((?:node [^\n]*|outside)\n)\Z", r"\1\1", text), stderr
 
 
 SPOILERS = {
@@ -46,7 +46,7 @@ SPOILERS = {
     "the value": spoiler("solve", (0,), r"\A\w+ = (-?\d+)$"),
     "no plan": no_plan,
     "a cut's supply": spoiler("solve", (2,), r"^(?:over|under) (-?\d+)"),
-    "a cut's room": spoiler("solve", (2,), r"^(?:over|under) -?\d+ (-?\d+)"),
+    "a cut's capacity": spoiler("solve", (2,), r"^(?:over|under) -?\d+ (-?\d+)"),
     "a node twice": node_twice,
     "a refusal": refused,
     "a cost": spoiler("compile", (0,), r"^a .* (-?\d+)$"),

@@ -1,4 +1,4 @@
-"""Data texts in the forms that docs/DATA.md has, and MathProg's in its plainest one."""
+"""Data files in all forms of the language reference, and MathProg's in its plainest one."""
 import re
 
 from models.declarations import Param, SetDecl
@@ -82,7 +82,7 @@ class Tables:
         return f"param {param.name}{said}{turned} :{self.joined(map(self.cell, across))} :={self.joined(words)};\n"
 
     def columns(self, params, declared):
-        """Several parameters side by side, beside the set of their keys if there is one."""
+        """Several parameters in columns, with the set of their keys if there is one."""
         keys = declared.rows if declared else dict.fromkeys(key for it in params for key in it.rows)
         words = []
         for key in keys:
@@ -93,7 +93,7 @@ class Tables:
         return f"param :{front}{names} :={self.joined(words)};\n"
 
     def together(self, sets, params):
-        """Takes out of both lists what stands in one statement: (parameters, set or None)."""
+        """Removes what one statement holds from both lists: (parameters, set or None)."""
         groups = []
         for width in (1, 2, 3, 4):
             fitting = [it for it in params if it.rows and it.data_default is None and len(next(iter(it.rows))) == width]

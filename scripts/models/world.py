@@ -116,7 +116,7 @@ class World(Author):
         return braces.named() if braces else []
 
     def new_param(self, braces, kind="number", domain=None, is_apart=False):
-        """With a name that is no dummy's, where others' dummies are there already."""
+        """Makes a name that no dummy in scope has."""
         names = [it for it in PARAM_NAMES if it not in DUMMIES] if is_apart else PARAM_NAMES
         return Param(self.new_name(names, every_dummy(braces)), braces, kind, domain)
 

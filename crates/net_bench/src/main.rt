@@ -1,23 +1,20 @@
-//! What bench/run measures: reads texts, and says how much processor time that took.
+//! The measurements of bench/run: processes files, and prints the processor time.
 #![tactic(auto)]
 
 use net_check::Certificate;
 use net_data::parse_data;
 use net_dimacs::{read_problem, write_problem};
-use net_growth::settle;
 use net_lex::{lex_data, lex_model};
-use net_model::{free_model, parse_model};
+use net_model::{free_model, parse_declarations};
 use net_resolve::check_names;
-use net_solve::{Plain, Scaling, ScalingRun, Settled, Solver, find_guess, solve};
+use net_solve::{Plain, Scaling, ScalingRun, Settled, settle, solve, solve_problem};
 use std::alloc::{AllocError, Global};
 use std::process::ExitCode;
 use std::time::CpuClock;
 use std::{env, fs, io};
 
-/// The solver that the program asks first.
-const FIRST: Scaling = Scaling { budget: 10_000_000 };
-
-/// How much processor time there was until now, in microseconds; 0 where the clock fails, which main has read before.
+/// Returns the processor time so far, in microseconds; 0 if the clock fails, which main has already
+/// checked.
 fn now<R: CpuClock>(rt: &R) -> u128 {
     match rt.thread_cpu_time() {
         Ok(time) => time.as_micros(),
@@ -25,14 +22,14 @@ fn now<R: CpuClock>(rt: &R) -> u128 {
     }
 }
 
-/// Counts of what was read, and the times that the stages took, in microseconds.
+/// Counts of what was read, and the times of the stages, in microseconds.
 #[derive(Drop)]
 struct Told {
     counts: (usize, usize, usize),
     times: (u128, u128),
 }
 
-/// A problem text, read and written again: its nodes, arcs and bytes.
+/// Reads a problem and writes it again; returns its numbers of nodes, arcs and bytes.
 fn problem<R: AllocGlobal + CpuClock>(rt: &R, text: &[u8]) -> Option<Told> {
     let start = now(rt);
     let Ok(problem) = read_problem(rt.alloc(), text) else {
@@ -50,7 +47,7 @@ fn problem<R: AllocGlobal + CpuClock>(rt: &R, text: &[u8]) -> Option<Told> {
     })
 }
 
-/// A data text, cut into its tokens: how many, and room for how many.
+/// Splits a data file into tokens; returns their number and the capacity of the vector.
 fn data<R: AllocGlobal + CpuClock>(rt: &R, text: &[u8]) -> Option<Told> {
     let start = now(rt);
     let Ok(tokens) = lex_data(rt.alloc(), text) else {
@@ -64,7 +61,7 @@ fn data<R: AllocGlobal + CpuClock>(rt: &R, text: &[u8]) -> Option<Told> {
     })
 }
 
-/// A data text, cut into its tokens and those read as statements: how many of both.
+/// Splits a data file into tokens and parses them; returns the numbers of tokens and statements.
 fn tables<R: AllocGlobal + CpuClock>(rt: &R, text: &[u8]) -> Option<Told> {
     let start = now(rt);
     let Ok(tokens) = lex_data(rt.alloc(), text) else {
@@ -83,14 +80,15 @@ fn tables<R: AllocGlobal + CpuClock>(rt: &R, text: &[u8]) -> Option<Told> {
     })
 }
 
-/// A model text, cut into its tokens and those read as declarations whose names are checked: how many of both, and room for how many tokens.
+/// Splits a model into tokens, parses them and resolves the names; returns the numbers of tokens
+/// and declarations, and the capacity of the vector of tokens.
 fn model<R: AllocGlobal + CpuClock>(rt: &R, text: &[u8]) -> Option<Told> {
     let start = now(rt);
     let Ok(tokens) = lex_model(rt.alloc(), text) else {
         return None;
     };
     let lexed = now(rt);
-    let Ok(model) = parse_model(rt.alloc(), &tokens) else {
+    let Ok(model) = parse_declarations(rt.alloc(), &tokens) else {
         return None;
     };
     let is_named = check_names(rt.alloc(), &model).is_ok();
@@ -107,7 +105,7 @@ fn model<R: AllocGlobal + CpuClock>(rt: &R, text: &[u8]) -> Option<Told> {
     })
 }
 
-/// What was counted and what was done, for each kind of text.
+/// Returns the labels of the counts and of the stages, for each kind of file.
 fn words_of(what: &str) -> [&'static str; 5] {
     match what {
         "problem" => ["nodes", "arcs", "bytes", "read", "write"],
@@ -116,7 +114,7 @@ fn words_of(what: &str) -> [&'static str; 5] {
     }
 }
 
-/// Counts on standard output, and times on standard error, where there are any.
+/// Prints the counts on standard output and the times on standard error, if there are any.
 fn tell<R: Print + Eprint>(rt: &R, what: &str, told: Option<Told>) -> io::Result<bool> {
     let Some(told) = told else {
         return Ok(false);
@@ -129,7 +127,7 @@ fn tell<R: Print + Eprint>(rt: &R, what: &str, told: Option<Told>) -> io::Result
     Ok(true)
 }
 
-/// Numbers of each size and sign, the same for the same seed.
+/// Returns numbers of all sizes and signs, determined by the seed.
 fn numbers(alloc: Global, count: usize, seed: u64) -> Result<Vec<i64>, AllocError> {
     let mut numbers = Vec::with_capacity(alloc, count)?;
     let mut state = seed;
@@ -144,8 +142,8 @@ fn numbers(alloc: Global, count: usize, seed: u64) -> Result<Vec<i64>, AllocErro
     Ok(numbers)
 }
 
-/// A problem, settled by the growth alone: from nothing at seed 0, else from numbers that have nothing to do with it. What it
-/// takes in microseconds; its value or a cut is told.
+/// Solves a problem with the primal-dual algorithm alone: from zero if the seed is 0, else from
+/// random numbers. Prints the value or a cut; returns the time in microseconds.
 fn grown<R: AllocGlobal + CpuClock + Print>(rt: &R, text: &[u8], seed: u64) -> Option<u128> {
     let Ok(problem) = read_problem(rt.alloc(), text) else {
         return None;
@@ -159,35 +157,40 @@ fn grown<R: AllocGlobal + CpuClock + Print>(rt: &R, text: &[u8], seed: u64) -> O
         return None;
     };
     let end = now(rt);
-    let told = match &settled {
-        Certificate::Optimal { value, .. } => rt.println(format_args!("s {value}")),
-        Certificate::Cut { side, .. } => rt.println(format_args!("cut {side:?}")),
-    };
-    told.is_ok().then_some(end.saturating_sub(start))
+    tell_settled(rt, &settled)
+        .is_ok()
+        .then_some(end.saturating_sub(start))
 }
 
-/// A problem, settled by a solver that is asked first: what it takes in microseconds; its value or a cut is told.
-fn solved<R: AllocGlobal + CpuClock + Print, S: Solver>(
-    rt: &R,
-    solver: &S,
-    text: &[u8],
-) -> Option<u128> {
+/// Prints the value of a certificate, or the side of a cut.
+fn tell_settled<R: Print>(rt: &R, settled: &Settled) -> io::Result<()> {
+    match settled {
+        Settled::Optimal { value, .. } => rt.println(format_args!("s {value}")),
+        Settled::Cut { side, .. } => rt.println(format_args!("cut {side:?}")),
+    }
+}
+
+/// Settles a problem by `Plain` or as the program does, prints its value or a cut, and returns the microseconds that this took.
+fn solved<R: AllocGlobal + CpuClock + Print>(rt: &R, text: &[u8], is_plain: bool) -> Option<u128> {
     let Ok(problem) = read_problem(rt.alloc(), text) else {
         return None;
     };
     let start = now(rt);
-    let Ok(settled) = solve(rt.alloc(), solver, &problem) else {
-        return None;
+    let settled = if is_plain {
+        solve(rt.alloc(), &Plain, &problem)
+    } else {
+        solve_problem(rt.alloc(), &problem)
     };
     let end = now(rt);
-    let told = match &settled {
-        Settled::Optimal { value, .. } => rt.println(format_args!("s {value}")),
-        Settled::Cut { side, .. } => rt.println(format_args!("cut {side:?}")),
-    };
-    told.is_ok().then_some(end.saturating_sub(start))
+    match settled {
+        Ok(settled) => tell_settled(rt, &settled)
+            .is_ok()
+            .then_some(end.saturating_sub(start)),
+        Err(_) => None,
+    }
 }
 
-/// What a run of cost scaling came to: its value, a cut or none, and its counts.
+/// Prints the result of a cost-scaling run: its value, a cut or none, and its counts.
 fn tell_run<R: Print>(rt: &R, run: &ScalingRun) -> io::Result<()> {
     match &run.answer {
         Some(Certificate::Optimal { value, .. }) => rt.println(format_args!("s {value}"))?,
@@ -197,40 +200,22 @@ fn tell_run<R: Print>(rt: &R, run: &ScalingRun) -> io::Result<()> {
     rt.println(format_args!("{} phases, {} steps", run.phases, run.steps))
 }
 
-/// A run of cost scaling with a budget: what its guess takes in microseconds, and what it takes itself.
-fn scaled<R: AllocGlobal + CpuClock + Print>(
-    rt: &R,
-    text: &[u8],
-    budget: u64,
-) -> Option<(u128, u128)> {
+/// Runs cost scaling within a budget, prints what it came to, and returns the microseconds that this took.
+fn scaled<R: AllocGlobal + CpuClock + Print>(rt: &R, text: &[u8], budget: u64) -> Option<u128> {
     let Ok(problem) = read_problem(rt.alloc(), text) else {
         return None;
     };
     let start = now(rt);
-    let Ok(guess) = find_guess(rt.alloc(), &problem) else {
-        return None;
-    };
-    let guessed = now(rt);
-    let Ok(run) = Scaling { budget }.run_from(rt.alloc(), &problem, &guess) else {
+    let Ok(run) = Scaling { budget }.run(rt.alloc(), &problem) else {
         return None;
     };
     let end = now(rt);
-    let times = (guessed.saturating_sub(start), end.saturating_sub(guessed));
-    tell_run(rt, &run).is_ok().then_some(times)
+    tell_run(rt, &run)
+        .is_ok()
+        .then_some(end.saturating_sub(start))
 }
 
-/// The times of a guess and of a run on standard error.
-fn tell_times<R: Eprint>(rt: &R, times: Option<(u128, u128)>) -> io::Result<bool> {
-    match times {
-        None => Ok(false),
-        Some((guess, run)) => {
-            rt.eprintln(format_args!("guess {guess} us, run {run} us"))?;
-            Ok(true)
-        }
-    }
-}
-
-/// A time on standard error.
+/// Prints a time on standard error.
 fn tell_time<R: Eprint>(rt: &R, doing: &str, time: Option<u128>) -> io::Result<bool> {
     match time {
         None => Ok(false),
@@ -241,7 +226,7 @@ fn tell_time<R: Eprint>(rt: &R, doing: &str, time: Option<u128>) -> io::Result<b
     }
 }
 
-/// What is asked for, of a text; whether it was done.
+/// Runs the requested measurement on a file; returns whether it succeeded.
 fn measured<R: AllocGlobal + CpuClock + Print + Eprint>(
     rt: &R,
     what: &str,
@@ -253,15 +238,15 @@ fn measured<R: AllocGlobal + CpuClock + Print + Eprint>(
         "data" => tell(rt, what, data(rt, text)),
         "tables" => tell(rt, what, tables(rt, text)),
         "model" => tell(rt, what, model(rt, text)),
-        "solve" => tell_time(rt, what, solved(rt, &FIRST, text)),
-        "plain" => tell_time(rt, what, solved(rt, &Plain, text)),
-        "scale" => tell_times(rt, scaled(rt, text, number)),
+        "solve" => tell_time(rt, what, solved(rt, text, false)),
+        "plain" => tell_time(rt, what, solved(rt, text, true)),
+        "scale" => tell_time(rt, what, scaled(rt, text, number)),
         "grow" => tell_time(rt, what, grown(rt, text, number)),
         _ => Ok(false),
     }
 }
 
-/// Measures what is asked for; how the program ends.
+/// Runs the requested measurement; returns the exit code.
 fn run<R: AllocGlobal + CpuClock + Print + Eprint>(
     rt: &R,
     what: &str,

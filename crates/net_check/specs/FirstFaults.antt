@@ -1,5 +1,6 @@
--- Which condition of a certificate fails first: Shape, Bounds arc by arc, Balance node by node, Value, and then arc by arc Positive or
--- Negative; for a cut Shape, then NotViolated. Arcs and nodes are numbered from 1, and what concerns neither has number 0.
+-- Which condition of a certificate fails first. For a flow: Shape, Bounds in arc order, Balance in
+-- node order, Value, then Positive or Negative in arc order. For a cut: Shape, then NotViolated.
+-- Arcs and nodes are numbered from 1; a condition on neither has number 0.
 use Rattle.std.specs.Prelude.{◌≡◌, ◌≢◌, ℕ, ◌+◌, ◌-◌, ◌<◌, Bool, List, length, Some, ℤ, pos, ◌<ℤ◌, vec_len, slice_get}
 use Rattle.std.specs.List.{AllZip}
 use Rattle.net_normal.specs.Flows.{IsWithinCapacity, IsFeasibleFlow, net_outflow, cost_of}
@@ -12,22 +13,22 @@ use Rattle.net_check.specs.declared.certificate.Certificate.TheVariants.{Optimal
 use Rattle.net_check.specs.declared.verdict.Reason.{Reason}
 use Rattle.net_check.specs.declared.verdict.Reason.TheVariants.{Shape, Bounds, Balance, Value, Positive, Negative, NotViolated}
 
--- this number, counted from 1, is that of the first index at which P fails
+-- the first index at which P fails is number - 1
 pub record IsFirstFailing (P : ℕ → Type 0) (number : ℕ) : Type 0 where
   pub index : ℕ
   pub counted : number ≡ index + 1
   pub fails : P index → ⊥
   pub before : (k : ℕ) → k < index → P k
 
--- arc i and its flow keep R
+-- arc i and its flow satisfy R
 abbrev pub ArcKeeps : (FlowArc → ℤ → Type 0) → List FlowArc → List ℤ → ℕ → Type 0
 ArcKeeps R arcs flows i = (arc : FlowArc) (flow : ℤ) → slice_get arcs i ≡ Some arc → slice_get flows i ≡ Some flow → R arc flow
 
--- node v sends out its supply
+-- the net outflow of node v equals its supply
 abbrev pub NodeKeeps : Problem → List ℤ → ℕ → Type 0
 NodeKeeps problem flows v = (supply : ℤ) → slice_get problem.supplies.items v ≡ Some supply → net_outflow problem.arcs.items flows v ≡ supply
 
--- how a flow breaks complementary slackness
+-- in which way a flow violates complementary slackness
 abbrev pub IsSlack : List ℤ → FlowArc → ℤ → Reason → Type 0
 IsSlack potentials arc flow Positive = (pos 0 <ℤ reduced_cost potentials arc) × (flow ≢ arc.low)
 IsSlack potentials arc flow Negative = (reduced_cost potentials arc <ℤ pos 0) × (flow ≢ arc.cap)
@@ -37,7 +38,8 @@ IsSlack potentials arc flow Balance = ⊥
 IsSlack potentials arc flow Value = ⊥
 IsSlack potentials arc flow NotViolated = ⊥
 
--- the flow is feasible, the value is its cost, and the arc of this number is the first that breaks complementary slackness, in this way
+-- the flow is feasible, the value is its cost, and the arc with this number is the first that
+-- violates complementary slackness, in this way
 pub record IsFirstSlack (problem : Problem) (value : ℤ) (flows potentials : List ℤ) (reason : Reason) (number : ℕ) : Type 0 where
   pub shape : HasFlowShape problem flows potentials
   pub feasible : IsFeasibleFlow problem flows
@@ -66,7 +68,7 @@ IsFirstFaultOfCut problem flags side Value number = ⊥
 IsFirstFaultOfCut problem flags side Positive number = ⊥
 IsFirstFaultOfCut problem flags side Negative number = ⊥
 
--- this condition fails at this number, and each condition before it in the order holds
+-- this condition fails at this number, and all conditions before it hold
 abbrev pub IsFirstFault : Problem → Certificate → Reason → ℕ → Type 0
 IsFirstFault problem (Optimal value flows potentials) reason number = IsFirstFaultOfFlow problem value flows.items potentials.items reason number
 IsFirstFault problem (Cut flags side) reason number = IsFirstFaultOfCut problem flags.items side reason number

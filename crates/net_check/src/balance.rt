@@ -1,4 +1,4 @@
-//! Whether each node sends out its supply.
+//! Checking that each node's net outflow equals its supply.
 
 ghost use Rattle.std.specs.Prelude.{◌≡◌, ℕ, ◌+◌, ◌*◌, ◌<◌, ◌≤◌, ◌^◌, pos, ◌+ℤ◌, ◌-ℤ◌, All, IfSome, IfNone, ◌==◌, length, slice_index_or, vec_len};
 ghost use Rattle.std.specs.Prelude.{if◌then◌else◌};
@@ -10,10 +10,11 @@ ghost use Rattle.net_check.specs.FirstFaults.{IsFirstFailing, NodeKeeps};
 use crate::wide::wide;
 use net_normal::{FlowArc, Problem};
 
-/// How many nodes' balances stand on the stack at once, 16 bytes each.
+/// The number of nodes whose balances are computed in one pass; they take 16 bytes each on the
+/// stack.
 const BLOCK: usize = 3_500;
 
-/// Adds to one node's balance, where it is one of the `N` nodes from `first` on.
+/// Adds `amount` to the balance of `node` if it is one of the `N` nodes from `first` on.
 #[inline(always)]
 fn add_at<const N: usize>(balances: &mut [i128; N], first: usize, node: u32, amount: i64)
     requires few { N ≤ flow_node_limit }
@@ -24,14 +25,14 @@ fn add_at<const N: usize>(balances: &mut [i128; N], first: usize, node: u32, amo
     ensures value { (v : ℕ) → v < N → slice_index_or balances.new v (pos 0)
         ≡ slice_index_or balances.old v (pos 0) +ℤ (if node == first + v then amount else pos 0) }
 {
-    // A node before the first is far behind the last, so that one test serves.
+    // A node before `first` wraps to an index beyond `N`, so one comparison is enough.
     let place = (node as usize).wrapping_sub(first);
     if place < N {
         balances[place] += wide(&amount);
     }
 }
 
-/// Counts an arc's flow at the node that it leaves and at the one where it arrives.
+/// Adds an arc's flow to the balance of its tail and subtracts it from the balance of its head.
 #[inline(always)]
 fn carry<const N: usize>(balances: &mut [i128; N], first: usize, arc: &FlowArc, flow: &i64)
     requires few { N ≤ flow_node_limit }
@@ -47,7 +48,7 @@ fn carry<const N: usize>(balances: &mut [i128; N], first: usize, arc: &FlowArc, 
     add_at(balances, first, arc.dst, -*flow);
 }
 
-/// Counts the flows of all arcs at the `N` nodes from `first` on, where nothing has been counted before.
+/// Computes the net outflow of the `N` nodes from `first` on; `balances` is 0 before.
 fn carry_all<const N: usize>(
     balances: &mut [i128; N],
     first: usize,
@@ -66,7 +67,8 @@ fn carry_all<const N: usize>(
     }
 }
 
-/// The number of the first node that does not send out its supply, counted from 1, if it is one of the `N` nodes from `first` on.
+/// Returns the number, counted from 1, of the first node whose net outflow differs from its supply,
+/// if it is one of the `N` nodes from `first` on.
 fn first_in_block<const N: usize>(problem: &Problem, flows: &[i64], first: usize) -> Option<u32>
     requires few { N ≤ flow_node_limit }
     requires first { first ≤ vec_len problem.now.supplies }
@@ -86,7 +88,8 @@ fn first_in_block<const N: usize>(problem: &Problem, flows: &[i64], first: usize
     None
 }
 
-/// The number of the first node that does not send out its supply, counted from 1: a pass over the arcs for each block of nodes.
+/// Returns the number, counted from 1, of the first node whose net outflow differs from its supply.
+/// Takes one pass over the arcs for each block of nodes.
 pub fn first_unbalanced(problem: &Problem, flows: &[i64]) -> Option<u32>
     requires { AllZip IsWithinCapacity problem.now.arcs.items flows.now }
     ensures none { IfNone result ((v : ℕ) → NodeKeeps problem.now flows.now v) }

@@ -1,4 +1,4 @@
-//! Whether each flow is from LOW to CAP.
+//! Checking that each flow is between LOW and CAP.
 
 ghost use Rattle.std.specs.Prelude.{◌≡◌, ◌≤◌, ◌↔◌, IsTrue, IfSome, IfNone, length};
 ghost use Rattle.std.specs.List.{AllZip};
@@ -8,14 +8,14 @@ ghost use Rattle.net_check.specs.FirstFaults.{IsFirstFailing, ArcKeeps};
 
 use net_normal::FlowArc;
 
-/// Whether an arc may carry this flow.
+/// Returns whether a flow is between the arc's LOW and CAP.
 fn is_within(arc: &FlowArc, flow: &i64) -> bool
     ensures { IsTrue result ↔ IsWithinCapacity arc.now flow.now }
 {
     arc.low <= *flow && *flow <= arc.cap
 }
 
-/// The number of the first arc whose flow is out of its bounds, counted from 1.
+/// Returns the number, counted from 1, of the first arc whose flow is outside its bounds.
 pub fn first_out_of_bounds(arcs: &[FlowArc], flows: &[i64]) -> Option<u32>
     requires few { length arcs.now ≤ flow_arc_limit }
     requires one_each { length flows.now ≡ length arcs.now }

@@ -1,6 +1,6 @@
 //! What settles a problem: a flow with potentials, or a set of nodes.
 
-/// On which side the supply of a set of nodes is wrong.
+/// The direction in which the supply of a set of nodes is infeasible.
 #[derive(Clone, Copy, Debug, PartialEq, Eq)]
 pub enum Side {
     /// The set supplies more than its arcs can carry out of it.
@@ -9,12 +9,12 @@ pub enum Side {
     Under,
 }
 
-/// What is said to settle a problem; `check` tells whether it does.
+/// A claimed solution of a problem, which `check` accepts or rejects.
 ///
-/// Flows are indexed as the problem's arcs, potentials and flags as its nodes, all from 0.
+/// Flows are indexed like the problem's arcs, potentials and flags like its nodes, all from 0.
 #[derive(Drop)]
 pub enum Certificate {
-    /// A flow of least cost, and potentials that show it.
+    /// A flow of minimum cost, and potentials that prove it.
     Optimal {
         /// The cost of the flow.
         value: i128,
@@ -23,11 +23,11 @@ pub enum Certificate {
         /// The potential of each node.
         potentials: Vec<i64>,
     },
-    /// A set of nodes that shows that there is no feasible flow.
+    /// A set of nodes that proves that no feasible flow exists.
     Cut {
-        /// Whether each node is in the set.
+        /// For each node, whether it is in the set.
         flags: Vec<bool>,
-        /// On which side the set's supply is wrong.
+        /// The direction in which the set's supply is infeasible.
         side: Side,
     },
 }

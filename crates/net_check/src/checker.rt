@@ -1,4 +1,4 @@
-//! The check of a certificate.
+//! Checking a certificate.
 
 ghost use Rattle.std.specs.Prelude.{◌≡◌, ℕ, ◌↔◌};
 ghost use Rattle.net_check.specs.Certificates.{IsCertificate, IsOptimal, IsViolatedCut};
@@ -13,7 +13,7 @@ use crate::slackness::check_slackness;
 use crate::verdict::{Reason, Verdict};
 use net_normal::Problem;
 
-/// Checks a flow with potentials.
+/// Checks a flow with potentials; returns the first condition that fails.
 fn check_flow(problem: &Problem, value: &i128, flows: &[i64], potentials: &[i64]) -> Verdict
     ensures yes { result ≡ Verdict.Yes → IsOptimal problem.now value.now flows.now potentials.now }
     ensures no { (reason : Reason) (number : ℕ) → result ≡ Verdict.No reason number
@@ -34,7 +34,7 @@ fn check_flow(problem: &Problem, value: &i128, flows: &[i64], potentials: &[i64]
     check_slackness(&problem.arcs, flows, potentials)
 }
 
-/// Checks a set of nodes.
+/// Checks a set of nodes; returns the first condition that fails.
 fn check_cut(problem: &Problem, flags: &[bool], side: Side) -> Verdict
     ensures yes { result ≡ Verdict.Yes → IsViolatedCut problem.now flags.now side }
     ensures no { (reason : Reason) (number : ℕ) → result ≡ Verdict.No reason number
@@ -49,12 +49,13 @@ fn check_cut(problem: &Problem, flags: &[bool], side: Side) -> Verdict
     Verdict::Yes
 }
 
-/// Tells whether a certificate settles its problem, in one pass over the nodes and a few over the arcs: one of these for every
-/// 3,500 nodes.
+/// Checks whether a certificate settles its problem, in one pass over the nodes and a few over the
+/// arcs, one of these for every 3,500 nodes.
 ///
-/// Any certificate may be given. `No` has the first condition that fails, in the order of `Reason`, and the number of the
-/// first arc or node where it fails, counted from 1; an arc's `Positive` and `Negative` come in the order of the arcs.
-/// No memory is asked for: the balances of 3,500 nodes stand on the stack, 56,000 bytes.
+/// The certificate can be arbitrary. `No` carries the first condition that fails, in the order of
+/// `Reason`, and the number of the first arc or node that violates it, counted from 1; `Positive`
+/// and `Negative` are checked together, in arc order. Allocates no memory: the balances of 3,500
+/// nodes take 56,000 bytes on the stack.
 pub fn check(problem: &Problem, certificate: &Certificate) -> Verdict
     ensures yes { (result ≡ Verdict.Yes) ↔ IsCertificate problem.now certificate.now }
     ensures no { (reason : Reason) (number : ℕ) → result ≡ Verdict.No reason number

@@ -1,4 +1,4 @@
-//! What a flow costs.
+//! The cost of a flow.
 
 ghost use Rattle.std.specs.Prelude.{◌≡◌, ◌*ℤ◌, ◌*◌, ◌^◌};
 ghost use Rattle.std.specs.List.{AllZip};
@@ -7,7 +7,7 @@ ghost use Rattle.net_normal.specs.Limits.{IsSized, flow_limit, cost_limit};
 
 use net_normal::Problem;
 
-/// What the flow of one arc costs.
+/// Returns the cost of one arc's flow.
 fn price(cost: &i64, flow: &i64) -> i128
     requires cost { IsSized cost_limit cost.now }
     requires flow { IsSized flow_limit flow.now }
@@ -17,7 +17,7 @@ fn price(cost: &i64, flow: &i64) -> i128
     i128::from(*cost) * i128::from(*flow)
 }
 
-/// What flows within the capacities cost together.
+/// Returns the total cost of flows that are within the capacities.
 pub fn cost(problem: &Problem, flows: &[i64]) -> i128
     requires { AllZip IsWithinCapacity problem.now.arcs.items flows.now }
     ensures { result ≡ cost_of problem.now flows.now }

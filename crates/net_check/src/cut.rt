@@ -1,4 +1,4 @@
-//! What a set of nodes supplies, and what its arcs allow.
+//! The supply of a set of nodes, and the range that its arcs allow.
 
 ghost use Rattle.std.specs.Prelude.{◌≡◌, ◌↔◌, ◌^◌, pos, ◌-ℤ◌, IsTrue, length, vec_len, if◌then◌else◌};
 ghost use Rattle.net_normal.specs.Limits.{IsSized, IsFlowArcOf, flow_limit};
@@ -8,7 +8,7 @@ use crate::certificate::Side;
 use crate::wide::wide;
 use net_normal::{FlowArc, Problem};
 
-/// What the nodes of a set supply together; there is one flag a node.
+/// Returns the total supply of a set of nodes; there is one flag for each node.
 pub fn supply_in(problem: &Problem, flags: &[bool]) -> i128
     requires { length flags.now ≡ vec_len problem.now.supplies }
     ensures { result ≡ supply_in problem.now.supplies.items flags.now }
@@ -22,7 +22,7 @@ pub fn supply_in(problem: &Problem, flags: &[bool]) -> i128
     total
 }
 
-/// What one arc counts where it goes out of a set, less what it counts where it comes in.
+/// Returns `out` if the arc leaves the set, minus `into` if it enters the set, and 0 otherwise.
 fn across(arc: &FlowArc, flags: &[bool], out: &i64, into: &i64) -> i128
     requires arc { IsFlowArcOf (length flags.now) arc.now }
     requires out { IsSized flow_limit out.now }
@@ -37,7 +37,8 @@ fn across(arc: &FlowArc, flags: &[bool], out: &i64, into: &i64) -> i128
     }
 }
 
-/// The most that the arcs can carry out of a set: CAP of those that go out less LOW of those that come in.
+/// Returns the most that the arcs can carry out of a set: CAP of leaving arcs minus LOW of entering
+/// arcs.
 pub fn most_out(problem: &Problem, flags: &[bool]) -> i128
     requires { length flags.now ≡ vec_len problem.now.supplies }
     ensures { result ≡ most_out problem.now.arcs.items flags.now }
@@ -49,7 +50,8 @@ pub fn most_out(problem: &Problem, flags: &[bool]) -> i128
     total
 }
 
-/// The least that the arcs must carry out of a set: LOW of those that go out less CAP of those that come in.
+/// Returns the least that the arcs must carry out of a set: LOW of leaving arcs minus CAP of
+/// entering arcs.
 pub fn least_out(problem: &Problem, flags: &[bool]) -> i128
     requires { length flags.now ≡ vec_len problem.now.supplies }
     ensures { result ≡ least_out problem.now.arcs.items flags.now }
@@ -61,7 +63,7 @@ pub fn least_out(problem: &Problem, flags: &[bool]) -> i128
     total
 }
 
-/// Whether a set's supply is past what its arcs allow.
+/// Returns whether a set's supply is outside the range that its arcs allow.
 pub fn is_violated(problem: &Problem, flags: &[bool], side: Side) -> bool
     requires { length flags.now ≡ vec_len problem.now.supplies }
     ensures { IsTrue result ↔ IsViolated problem.now flags.now side }

@@ -1,4 +1,4 @@
-//! Certificates of minimum-cost flow problems, and the check that decides them.
+//! Certificates of minimum-cost flow problems, and their verified checker.
 #![tactic(auto)]
 
 mod balance;

@@ -10,7 +10,7 @@ use crate::verdict::{Reason, Verdict};
 use crate::wide::wide;
 use net_normal::FlowArc;
 
-/// What a unit of flow costs, with the potential of the node that it leaves and less that of the node where it arrives.
+/// Returns the arc's cost plus the potential of its tail minus the potential of its head.
 pub fn reduced_cost(arc: &FlowArc, potentials: &[i64]) -> i128
     requires { IsFlowArcOf (length potentials.now) arc.now }
     ensures value { result ≡ reduced_cost potentials.now arc.now }
@@ -21,7 +21,7 @@ pub fn reduced_cost(arc: &FlowArc, potentials: &[i64]) -> i128
     wide(&arc.cost) + src - dst
 }
 
-/// How an arc's flow breaks complementary slackness, if it does.
+/// Returns how an arc's flow violates complementary slackness, if it does.
 fn slack(arc: &FlowArc, flow: &i64, potentials: &[i64]) -> Option<Reason>
     requires { IsFlowArcOf (length potentials.now) arc.now }
     ensures none { IfNone result (IsComplementary potentials.now arc.now flow.now) }
@@ -37,7 +37,7 @@ fn slack(arc: &FlowArc, flow: &i64, potentials: &[i64]) -> Option<Reason>
     None
 }
 
-/// The first arc, by its number counted from 1, whose flow breaks complementary slackness.
+/// Finds the first arc whose flow violates complementary slackness. Its number is counted from 1.
 pub fn check_slackness(arcs: &[FlowArc], flows: &[i64], potentials: &[i64]) -> Verdict
     requires few { length arcs.now ≤ flow_arc_limit }
     requires one_each { length flows.now ≡ length arcs.now }

@@ -1,4 +1,5 @@
--- Where reading stops at a token, the tokens before it begin statements, and no statements go on with it.
+-- If parsing stops at a token, the tokens before it begin valid statements, and no valid statements
+-- continue with that token.
 use Rattle.std.specs.Prelude.{◌≡◌, List, ◌∷◌, ◌++◌, Some, None, Err}
 use Rattle.net_fault.specs.declared.span.Span.{Span}
 use Rattle.net_lex.specs.declared.token.Token.{Token}
@@ -7,11 +8,11 @@ use Rattle.net_data.specs.declared.tables.Tables.{Tables}
 use Rattle.net_data.specs.Meaning.{Mean}
 use Rattle.net_data.specs.Reading.{stop, end_of, span_or_end, tables}
 
--- with some tokens behind them, these mean statements
+-- followed by some tokens, these are valid statements
 abbrev pub Begins : List Token → Type 0
 Begins tokens = (others : List Token) × (x : Tables) × Mean (tokens ++ others) x
 
--- a token of this place among the tokens: those before it begin statements
+-- a token with this span is among the tokens, and those before it begin valid statements
 pub record BeginsBefore (tokens : List Token) (span : Span) : Type 0 where
   pub front : List Token
   pub token : Token
@@ -20,7 +21,7 @@ pub record BeginsBefore (tokens : List Token) (span : Span) : Type 0 where
   pub at : token.span ≡ span
   pub begins : Begins front
 
--- and with it no statements are meant, whatever comes behind
+-- the same, and no valid statements continue with this token, whatever follows
 pub record EndsAt (tokens : List Token) (span : Span) : Type 0 where
   pub front : List Token
   pub token : Token
@@ -33,7 +34,7 @@ pub record EndsAt (tokens : List Token) (span : Span) : Type 0 where
 abbrev pub NoneGoOn : Type 0
 NoneGoOn = (tokens : List Token) (span : Span) → tables tokens ≡ Err (stop DataSyntax (Some span)) → EndsAt tokens span
 
--- the tokens begin statements, and mean none
+-- the tokens begin valid statements, but are not valid by themselves
 pub record EndsOpen (tokens : List Token) : Type 0 where
   pub begins : Begins tokens
   pub none : (x : Tables) → ¬ Mean tokens x
@@ -41,7 +42,8 @@ pub record EndsOpen (tokens : List Token) : Type 0 where
 abbrev pub AllBegin : Type 0
 AllBegin = (tokens : List Token) → tables tokens ≡ Err (stop DataSyntax None) → EndsOpen tokens
 
--- the tokens are wrong at this place: at the first token with which no statements go on, or at the end
+-- the error is at this span: at the first token after which no valid statements can continue, or at
+-- the end
 pub data IsWrong (tokens : List Token) (span : Span) : Type 0 where
   at_token : EndsAt tokens span → IsWrong tokens span
   at_end : span_or_end (end_of tokens) None ≡ span → EndsOpen tokens → IsWrong tokens span

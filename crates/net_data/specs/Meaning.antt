@@ -1,4 +1,5 @@
--- What it is for tokens to mean statements: they are the statements' printing, but for commas outside tuples.
+-- Which statements some tokens are: apart from commas outside tuples, the tokens are those of the
+-- statements.
 use Rattle.std.specs.Prelude.{◌≡◌, ℕ, true, List, [], ◌∷◌, Some, IfSome, Result, Ok, Err, codes}
 use Rattle.std.specs.List.{list_all, AllByRecursion}
 use Rattle.net_lex.specs.declared.token.Token.{Token}
@@ -21,13 +22,14 @@ use Rattle.net_data.specs.Commas.{before, bare}
 use Rattle.net_data.specs.Printing.{print}
 use Rattle.net_data.specs.Reading.{semicolon, colon, assign, stop, filled}
 
--- behind the first member of a tuple: commas and members in turn, one of each at least, and `)`; what follows
+-- after the first member of a tuple: one or more pairs of a comma and a member, and `)`; then the
+-- rest
 pub data IsTupleRest : List Token → List Token → Type 0 where
   last : {comma member closing : Token} {rest : List Token} → is_comma comma ≡ true → is_member member ≡ true → is_mark (codes ")") closing ≡ true
       → IsTupleRest (comma ∷ member ∷ closing ∷ rest) rest
   more : {comma member : Token} {tokens rest : List Token} → is_comma comma ≡ true → is_member member ≡ true → IsTupleRest tokens rest → IsTupleRest (comma ∷ member ∷ tokens) rest
 
--- members and tuples of two members or more
+-- members, and tuples of two or more members
 pub data AreItems : List Token → Type 0 where
   nothing : AreItems []
   member : {member : Token} {rest : List Token} → is_member member ≡ true → AreItems rest → AreItems (member ∷ rest)
@@ -61,7 +63,7 @@ pub record IsTransposed (transposed : Transposed) : Type 0 where
   pub word : is_word (codes "tr") transposed.word ≡ true
   pub closing : is_mark (codes ")") transposed.closing ≡ true
 
--- what stands before the cells of a table
+-- the part of a table before its cells
 pub record IsTableHeading (table : TableStatement) : Type 0 where
   pub keyword : is_word (codes "param") table.keyword ≡ true
   pub name : is_name table.name ≡ true
@@ -92,7 +94,7 @@ pub record IsColumns (columns : ColumnsStatement) : Type 0 where
   pub cells : list_all is_cell columns.cells ≡ true
   pub end : semicolon columns.end ≡ true
 
--- each token of the statement is what the grammar wants there
+-- the statement is well-formed: each of its tokens is of the sort that the grammar requires
 abbrev pub IsStatement : Statement → Type 0
 IsStatement (Set set) = IsSet set
 IsStatement (Listed list) = IsList list
@@ -108,12 +110,12 @@ pub record AreTables (tables : Tables) : Type 0 where
   pub statements : AllByRecursion IsStatement tables.statements
   pub ending : IfSome tables.ending (IsLone (codes "end"))
 
--- the tokens without commas outside tuples are the printing of the statements
+-- apart from commas outside tuples, the tokens are those of these well-formed statements
 pub record Mean (tokens : List Token) (tables : Tables) : Type 0 where
   pub printed : bare before tokens ≡ print tables
   pub are : AreTables tables
 
--- a heading has a column
+-- a heading has at least one column
 abbrev pub heading_judged : List Token → Token → Result (Unit {0}) ParseError
 heading_judged [] assign = Err (stop TableWidth (Some assign.span))
 heading_judged (column ∷ columns) assign = Ok tt
@@ -122,7 +124,7 @@ abbrev pub and_then : Result (Unit {0}) ParseError → Result (Unit {0}) ParseEr
 and_then (Ok x) next = next
 and_then (Err e) next = Err e
 
--- whether a heading has its columns and cells fill their rows, or the fault
+-- a heading has columns and the cells fill complete rows, or else the error
 abbrev pub judged : Statement → Result (Unit {0}) ParseError
 judged (Set set) = Ok tt
 judged (Listed list) = Ok tt
@@ -137,6 +139,6 @@ abbrev pub unless_faulty : Result (Unit {0}) ParseError → Tables → Result Ta
 unless_faulty (Ok full) tables = Ok tables
 unless_faulty (Err e) tables = Err e
 
--- the tables, or the first fault that one of them has
+-- the tables, or the first error in one of them
 abbrev pub checked : Tables → Result Tables ParseError
 checked tables = unless_faulty (all_judged tables.statements) tables

@@ -1,4 +1,4 @@
--- How statements are written: their tokens in order, with the commas of tuples and no others.
+-- The tokens of statements in order, with the commas of tuples and no others.
 use Rattle.std.specs.Prelude.{List, [], ◌∷◌, ◌++◌, Option, Some, None}
 use Rattle.net_lex.specs.declared.token.Token.{Token}
 use Rattle.net_data.specs.declared.statement.DefaultValue.{DefaultValue}
@@ -12,7 +12,7 @@ use Rattle.net_data.specs.declared.statement.Statement.TheVariants.{Set, List as
 use Rattle.net_data.specs.declared.tables.Lone.{Lone}
 use Rattle.net_data.specs.declared.tables.Tables.{Tables}
 
--- the tokens of a part, and then the rest
+-- the tokens of a part, followed by the rest
 abbrev pub put_default : Option DefaultValue → List Token → List Token
 put_default None rest = rest
 put_default (Some default) rest = default.keyword ∷ default.value ∷ rest
@@ -37,7 +37,7 @@ put_table_heading table rest =
 abbrev pub put_columns_heading : ColumnsStatement → List Token → List Token
 put_columns_heading columns rest = columns.keyword ∷ columns.colon ∷ put_set columns.set (columns.names ++ columns.assign ∷ rest)
 
--- the tokens of a statement, and then the rest
+-- the tokens of a statement, followed by the rest
 abbrev pub put : Statement → List Token → List Token
 put (Set set) rest = set.keyword ∷ set.name ∷ set.assign ∷ (set.items ++ set.end ∷ rest)
 put (Listed list) rest = list.keyword ∷ list.name ∷ put_default list.default (put_given list.given (list.end ∷ rest))
@@ -52,6 +52,6 @@ abbrev pub put_lone : Option Lone → List Token → List Token
 put_lone None rest = rest
 put_lone (Some lone) rest = lone.word ∷ lone.end ∷ rest
 
--- all tokens of a data text
+-- all tokens of a data file
 abbrev pub print : Tables → List Token
 print tables = put_lone tables.opening (put_all tables.statements (put_lone tables.ending []))

@@ -1,4 +1,4 @@
--- The statements that tokens are read as, or the first fault.
+-- The statements that tokens are parsed as, or the first error.
 use Rattle.std.specs.Prelude.{◌≡◌, slice_get, ◌-◌, ℕ, suc, zero, ◌+◌, ◌%◌, ◌==◌, Bool, ◌||◌, List, [], ◌∷◌, length, take, drop, if◌then◌else◌, codes, Option, Some, None, Result, Ok, Err, IsOk}
 use Rattle.std.specs.List.{prefix_len}
 use Rattle.std.specs.Borrow.{Bor}
@@ -32,19 +32,20 @@ abbrev pub ◌>>=◌ : {A B : Type 0} → Result A ParseError → (A → Result 
 (Ok x) >>= f = f x
 (Err e) >>= f = Err e
 
--- what is read at the front, and what follows it, or the first fault
+-- the parsed value and the remaining tokens, or the first error
 abbrev pub Read : Type 0 → Type 0
 Read A = Result (A × List Token) ParseError
 
 abbrev pub stop : Defect → Option Span → ParseError
 stop defect at = record { defect = defect; at = at }
 
--- the next token that is no comma, and what follows it
+-- the next token that is not a comma, and the tokens after it
 abbrev pub front : List Token → Option (Token × List Token)
 front [] = None
 front (token ∷ tokens) = if is_comma token then front tokens else Some (token, tokens)
 
--- what a function returned, where what it returned stands before the tokens that follow
+-- the result of a function is the value and the remaining tokens that the definition gives, or its
+-- error
 abbrev pub Reads : {A : Type 0} → Read A → Result (A × Bor (List Token)) ParseError → Type 0
 Reads read (Ok x) = read ≡ Ok (x.0, x.1.now)
 Reads read (Err e) = read ≡ Err e
@@ -72,12 +73,12 @@ ReadsOn read rest (Ok None) = read ≡ Ok None
 ReadsOn read rest (Ok (Some x)) = read ≡ Ok (Some (x, rest))
 ReadsOn read rest (Err e) = Stops read e
 
--- what was read, where what followed it is what is left
+-- the value that was parsed is the result, and the tokens after it are left
 abbrev pub GoesBehind : {A : Type 0} → Result (A × Bor (List Token)) StatementStop → List Token → Result (Option A) StatementStop → Type 0
 GoesBehind (Ok x) rest result = (result ≡ Ok (Some x.0)) × (rest ≡ x.1.now)
 GoesBehind (Err e) rest result = result ≡ Err e
 
--- the end of the last token
+-- the position after the last token
 abbrev pub end_at : Option Token → ℕ
 end_at None = 0
 end_at (Some token) = token.span.end
@@ -85,7 +86,7 @@ end_at (Some token) = token.span.end
 abbrev pub end_of : List Token → ℕ
 end_of tokens = end_at (slice_get tokens (length tokens - 1))
 
--- the fault that a stop is, in a text that ends there
+-- the error reported for a stop, given the end of the text
 abbrev pub span_or_end : ℕ → Option Span → Span
 span_or_end end None = record { start = end; end = end }
 span_or_end end (Some span) = span
@@ -97,7 +98,7 @@ abbrev pub statement_fault : ℕ → StatementStop → Fault
 statement_fault end statement_stops.OutOfMemory = OutOfMemory
 statement_fault end (statement_stops.Reading stop) = fault_of end stop
 
--- what a function returned is what is read, or the fault that stops it, unless memory ran out
+-- the result of a function is what the definition gives, or its error, unless memory ran out
 abbrev pub Fails : ℕ → {A : Type 0} → Result A ParseError → Fault → Type 0
 Fails end read OutOfMemory = Unit {0}
 Fails end read (At f) = (e : ParseError) × (read ≡ Err e) × (At f ≡ fault_of end e)
@@ -110,7 +111,7 @@ abbrev pub AnswersRest : ℕ → {A : Type 0} → Read A → Result (A × Bor (L
 AnswersRest end read (Ok x) = read ≡ Ok (x.0, x.1.now)
 AnswersRest end read (Err fault) = Fails end read fault
 
--- how many tokens are read
+-- the number of tokens that are parsed
 abbrev pub CountsItems : List Token → Read (List Token) → Result ℕ ParseError → Type 0
 CountsItems tokens read (Ok n) = read ≡ Ok (take n tokens, drop n tokens)
 CountsItems tokens read (Err e) = read ≡ Err e
@@ -119,7 +120,7 @@ abbrev pub Finds : Option (Token × List Token) → Option (Bor Token × Bor (Li
 Finds next None = next ≡ None
 Finds next (Some x) = next ≡ Some (x.0.now, x.1.now)
 
--- the next token, if it passes a test
+-- the next token, if it satisfies a test
 abbrev pub met_by : (Token → Bool) → Option (Token × List Token) → Option (Token × List Token)
 met_by test None = None
 met_by test (Some x) = if test x.0 then Some x else None
@@ -131,11 +132,11 @@ abbrev pub span_of : Option Token → Option Span
 span_of None = None
 span_of (Some token) = Some token.span
 
--- the stop at the next token, which is not allowed
+-- the error for the next token, which is not allowed
 unfoldable pub refused : List Token → ParseError
 refused tokens = stop DataSyntax (span_of (option_map (λ x. x.0) (front tokens)))
 
--- the next token, which has to pass a test
+-- the next token, which must satisfy a test
 abbrev pub wanted_by : List Token → Option (Token × List Token) → Read Token
 wanted_by tokens None = Err (refused tokens)
 wanted_by tokens (Some x) = Ok x
@@ -143,14 +144,14 @@ wanted_by tokens (Some x) = Ok x
 unfoldable pub wanted : (Token → Bool) → List Token → Read Token
 wanted test tokens = wanted_by tokens (met test tokens)
 
--- the tokens at the front that pass a test, with commas among them
+-- the length of the longest prefix of tokens that satisfy a test or are commas
 abbrev pub run_len : (Token → Bool) → List Token → ℕ
 run_len test tokens = prefix_len (λ token. test token || is_comma token) tokens
 
 unfoldable pub run : (Token → Bool) → List Token → List Token × List Token
 run test tokens = (uncommaed (take (run_len test tokens) tokens), drop (run_len test tokens) tokens)
 
--- the members and tuples at the front, from a spot on
+-- the members and tuples at the beginning, starting in a given state
 abbrev pub with_token : Token → Read (List Token) → Read (List Token)
 with_token token (Ok x) = Ok (token ∷ x.0, x.1)
 with_token token (Err e) = Err e
@@ -184,7 +185,7 @@ colon = is_mark (codes ":")
 abbrev pub assign : Token → Bool
 assign = is_mark (codes ":=")
 
--- what follows the word `set`
+-- after the keyword `set`
 unfoldable pub set : Token → List Token → Read Statement
 set keyword tokens = do
   name ← wanted is_name tokens
@@ -193,7 +194,7 @@ set keyword tokens = do
   end ← wanted semicolon items.1
   Ok (kinds.Set (record { keyword = keyword; name = name.0; assign = assign.0; items = items.0; end = end.0 }), end.1)
 
--- a heading up to its `:=`, with one column at least
+-- a heading up to its `:=`, with at least one column
 abbrev pub headed : List Token → Token → List Token → Read (List Token × Token)
 headed [] assign tokens = Err (stop TableWidth (Some assign.span))
 headed (column ∷ columns) assign tokens = Ok ((column ∷ columns, assign), tokens)
@@ -209,11 +210,11 @@ cells tokens = do
   end ← wanted semicolon (run is_cell tokens).1
   Ok (((run is_cell tokens).0, end.0), end.1)
 
--- the cells are rows of a member and a value for each column
+-- the cells fill complete rows of a member and one value for each column
 abbrev pub fills : List Token → List Token → Bool
 fills columns cells = length cells % (length columns + 1) == 0
 
--- where the last token stands
+-- the span of the last token
 abbrev pub last_span_or : Option Span → List Token → Option Span
 last_span_or found [] = found
 last_span_or found (token ∷ tokens) = last_span_or (Some token.span) tokens
@@ -224,7 +225,7 @@ last_span tokens = last_span_or None tokens
 unfoldable pub filled : List Token → List Token → Result (Unit {0}) ParseError
 filled columns cells = if fills columns cells then Ok tt else Err (stop RowWidth (last_span cells))
 
--- what follows the colon of a table
+-- after the colon of a table
 unfoldable pub table : Token → Token → Option DefaultValue → Option Transposed → Token → List Token → Read Statement
 table keyword name default transposed colon tokens = do
   head ← heading is_member tokens
@@ -232,7 +233,7 @@ table keyword name default transposed colon tokens = do
   full ← filled head.0.0 cells.0.0
   Ok (kinds.Table (record { keyword = keyword; name = name; default = default; transposed = transposed; colon = colon; columns = head.0.0; assign = head.0.1; cells = cells.0.0; end = cells.0.1 }), cells.1)
 
--- what follows the `(` of `(tr)`
+-- after the `(` of `(tr)`
 unfoldable pub turned : Token → Token → Option DefaultValue → Token → List Token → Read Statement
 turned keyword name default opening tokens = do
   word ← wanted (is_word (codes "tr")) tokens
@@ -247,7 +248,7 @@ given_by tokens (Some assign) = (Some (record { assign = assign.0; cells = (run 
 unfoldable pub given : List Token → Option Given × List Token
 given tokens = given_by tokens (met assign tokens)
 
--- a list of cells, if there is one
+-- a list of cells, if present
 unfoldable pub list : Token → Token → Option DefaultValue → List Token → Read Statement
 list keyword name default tokens = do
   end ← wanted semicolon (given tokens).1
@@ -258,7 +259,7 @@ body_by keyword name default tokens (Some opening) colon = turned keyword name d
 body_by keyword name default tokens None (Some colon) = table keyword name default None colon.0 colon.1
 body_by keyword name default tokens None None = list keyword name default tokens
 
--- what follows the name and the default of a parameter
+-- after the name and the default of a parameter
 unfoldable pub body : Token → Token → Option DefaultValue → List Token → Read Statement
 body keyword name default tokens = body_by keyword name default tokens (met (is_mark (codes "(")) tokens) (met colon tokens)
 
@@ -271,7 +272,7 @@ default_by tokens (Some word) = do
 unfoldable pub default : List Token → Read (Option DefaultValue)
 default tokens = default_by tokens (met (is_word (codes "default")) tokens)
 
--- what follows the word `param` where no colon does
+-- after the keyword `param`, if no colon follows
 unfoldable pub named : Token → List Token → Read Statement
 named keyword tokens = do
   name ← wanted is_name tokens
@@ -291,7 +292,7 @@ met_behind test (Some x) = met test x.1
 unfoldable pub named_set : List Token → Option NamedSet × List Token
 named_set tokens = named_set_by tokens (met is_name tokens) (met_behind colon (met is_name tokens))
 
--- what follows the word `param` and a colon
+-- after the keyword `param` and a colon
 unfoldable pub columns : Token → Token → List Token → Read Statement
 columns keyword colon tokens = do
   head ← heading is_name (named_set tokens).1
@@ -302,7 +303,7 @@ abbrev pub param_by : Token → List Token → Option (Token × List Token) → 
 param_by keyword tokens (Some colon) = columns keyword colon.0 colon.1
 param_by keyword tokens None = named keyword tokens
 
--- what follows the word `param`
+-- after the keyword `param`
 unfoldable pub param : Token → List Token → Read Statement
 param keyword tokens = param_by keyword tokens (met colon tokens)
 
@@ -315,7 +316,7 @@ statement_by (Some keyword) param_word = found (set keyword.0 keyword.1)
 statement_by None (Some keyword) = found (param keyword.0 keyword.1)
 statement_by None None = Ok None
 
--- the statement that comes next, if one does
+-- the next statement, if there is one
 unfoldable pub statement : List Token → Result (Option (Statement × List Token)) ParseError
 statement tokens = statement_by (met (is_word (codes "set")) tokens) (met (is_word (codes "param")) tokens)
 
@@ -328,7 +329,7 @@ statements_by more tokens (Ok (Some x)) = with_statement x.0 (more x.1)
 statements_by more tokens (Ok None) = Ok ([], tokens)
 statements_by more tokens (Err e) = Err e
 
--- the statements that come next, of which there are no more than so many
+-- at most `turns` statements
 unfoldable pub statements : ℕ → List Token → Read (List Statement)
 statements zero tokens = Ok ([], tokens)
 statements (suc turns) tokens = statements_by (statements turns) tokens (statement tokens)
@@ -339,7 +340,7 @@ lone_by tokens (Some word) = do
   end ← wanted semicolon word.1
   Ok (Some (record { word = word.0; end = end.0 }), end.1)
 
--- a word with its semicolon, if it comes next
+-- a keyword with its semicolon, if it comes next
 unfoldable pub lone : List ℕ → List Token → Read (Option Lone)
 lone word tokens = lone_by tokens (met (is_word word) tokens)
 
@@ -351,7 +352,7 @@ finished_by (Some x) = Err (stop DataSyntax (Some x.0.span))
 unfoldable pub finished : List Token → Result (Unit {0}) ParseError
 finished tokens = finished_by (front tokens)
 
--- the statements of a data text
+-- the statements of a data file
 unfoldable pub tables : List Token → Result Tables ParseError
 tables tokens = do
   opening ← lone (codes "data") tokens

@@ -1,4 +1,4 @@
--- What it is for tokens to have a fault.
+-- Which errors some tokens have.
 use Rattle.std.specs.Prelude.{◌≡◌, false, List, [], Option, Some, IfSome, Ok, codes}
 use Rattle.std.specs.List.{AllByRecursion}
 use Rattle.net_fault.specs.declared.span.Span.{Span}
@@ -20,7 +20,8 @@ use Rattle.net_data.specs.Printing.{put, put_table_heading, put_columns_heading,
 use Rattle.net_data.specs.Meaning.{IsTable, IsTableHeading, IsColumnsHeading, IsStatement, IsLone, heading_judged, all_judged}
 use Rattle.net_data.specs.Reading.{fills, last_span}
 
--- tokens that begin with a table whose cells do not fill its rows, or with a heading without a column or a name; the place
+-- the tokens begin with a table whose cells do not fill complete rows, or with a heading without
+-- columns or names; with the span of the error
 pub data IsFaulty (tokens : List Token) (span : Span) : Defect → Type 0 where
   short_row : (table : TableStatement) (more : List Token) → tokens ≡ put (Table table) more → IsTable table → heading_judged table.columns table.assign ≡ Ok tt
       → fills table.columns table.cells ≡ false → last_span table.cells ≡ Some span → IsFaulty tokens span RowWidth
@@ -29,7 +30,7 @@ pub data IsFaulty (tokens : List Token) (span : Span) : Defect → Type 0 where
   no_name : (columns : ColumnsStatement) (more : List Token) → tokens ≡ put_columns_heading columns more → IsColumnsHeading columns → columns.names ≡ []
       → columns.assign.span ≡ span → IsFaulty tokens span TableWidth
 
--- behind statements without a fault a table with this one stands
+-- after statements without an error there is a table with this error
 pub record HasFault (tokens : List Token) (defect : Defect) (span : Span) : Type 0 where
   pub opening : Option Lone
   pub statements : List Statement
@@ -40,12 +41,13 @@ pub record HasFault (tokens : List Token) (defect : Defect) (span : Span) : Type
   pub judged : all_judged statements ≡ Ok tt
   pub faulty : IsFaulty rest span defect
 
--- the tokens are wrong at that place, or a table has the fault, and the tokens before it begin statements
+-- the tokens are wrong at this span, or a table has this error and the tokens before it begin valid
+-- statements
 abbrev pub IsDefectAt : List Token → Defect → Span → Type 0
 IsDefectAt tokens DataSyntax span = IsWrong tokens span
 IsDefectAt tokens defect span = HasFault tokens defect span × BeginsBefore tokens span
 
--- a refusal is for want of memory, or for what is wrong, told with its place alone
+-- the error is that memory ran out, or one that the tokens have, reported with its span alone
 abbrev pub IsRefusal : List Token → Fault → Type 0
 IsRefusal tokens OutOfMemory = Unit {0}
 IsRefusal tokens (At f) = (f ≡ outcomes.bare Data f.defect f.at) × IsDefectAt tokens f.defect f.at

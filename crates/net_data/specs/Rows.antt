@@ -1,4 +1,5 @@
--- The rows of a statement for a number of keys: each its keys and its value. A point gives no row.
+-- The rows of a statement for a number of keys: each has its keys and its value. A missing-value
+-- dot gives no row.
 use Rattle.std.specs.Prelude.{ℕ, zero, suc, ◌+◌, Bool, true, false, not, List, [], ◌∷◌, length, take, drop, map, slice_get, if◌then◌else◌, unwrap_or, Option, Some, None, codes}
 use Rattle.std.specs.List.{flat_map, zip, prefix_len}
 use Rattle.net_lex.specs.declared.token.Kind.{Kind}
@@ -20,7 +21,7 @@ abbrev pub points : Kind → Bool
 points Dot = true
 points _ = false
 
--- a row with this value, or none at a point and where the group is too short
+-- a row with this value; none for a dot or an incomplete group
 abbrev pub row_of : List Token → Option Token → List Row
 row_of keys None = []
 row_of keys (Some value) = if points value.kind then [] else record { keys = keys; value = value } ∷ []
@@ -30,15 +31,15 @@ groups_from size zero tokens = []
 groups_from size (suc turns) [] = []
 groups_from size (suc turns) (token ∷ tokens) = take size (token ∷ tokens) ∷ groups_from size turns (drop size (token ∷ tokens))
 
--- cut into groups of a size that is not 0; the last one may be short
+-- groups of a nonzero size; the last one can be shorter
 abbrev pub groups : ℕ → List Token → List (List Token)
 groups size tokens = groups_from size (length tokens) tokens
 
--- keys, and so many values behind them, of which the one at this place is the rows'
+-- rows of keys followed by values, of which the value with index `place` is used
 abbrev pub list_rows : (keys values place : ℕ) → List Token → List Row
 list_rows keys values place cells = flat_map (λ group. row_of (take keys group) (slice_get group (keys + place))) (groups (keys + values) cells)
 
--- the row member and the column's, or the other way round with `(tr)`
+-- the row's member and the column's member; swapped by `(tr)`
 abbrev pub table_keys : Option Transposed → Token → Token → List Token
 table_keys None row column = row ∷ column ∷ []
 table_keys (Some transposed) row column = column ∷ row ∷ []
@@ -54,25 +55,26 @@ abbrev pub given_rows : ℕ → Option Given → List Row
 given_rows keys None = []
 given_rows keys (Some given) = list_rows keys 1 0 given.cells
 
--- the rows of a statement: with this number of keys, of the parameter at this place of its heading, counted from 0
+-- the rows of a statement with this number of keys, for the parameter with this index in its
+-- heading, counted from 0
 abbrev pub rows : (keys place : ℕ) → Statement → List Row
 rows keys place (Set set) = []
 rows keys place (Listed list) = given_rows keys list.given
 rows keys place (Table table) = table_rows table
 rows keys place (Columns columns) = list_rows keys (length columns.names) place columns.cells
 
--- the keys of a statement of several parameters, which are the members of its set too
+-- the keys of a statement with several parameters, which are also the members of its set
 abbrev pub key_rows : ℕ → Statement → List (List Token)
 key_rows keys (Set set) = []
 key_rows keys (Listed list) = []
 key_rows keys (Table table) = []
 key_rows keys (Columns columns) = map (λ group. take keys group) (groups (keys + length columns.names) columns.cells)
 
--- how many tokens of a tuple stand before its `)`
+-- the number of tokens of a tuple before its `)`
 abbrev pub inside_len : List Token → ℕ
 inside_len tokens = prefix_len (λ token. not (is_mark (codes ")") token)) tokens
 
--- the members of the first item of a set: of a tuple, or one that stands alone
+-- the members of the first item of a set: those of a tuple, or a single member
 abbrev pub first_item : List Token → Option (List Token)
 first_item [] = None
 first_item (token ∷ tokens) = if is_mark (codes "(") token then Some (uncommaed (take (inside_len tokens) tokens)) else Some (token ∷ [])
@@ -82,7 +84,7 @@ abbrev pub begins_tuple : List Token → Bool
 begins_tuple [] = false
 begins_tuple (token ∷ tokens) = is_mark (codes "(") token
 
--- the items behind the first one; a semicolon is none, and ends them
+-- the items after the first one; a semicolon ends them
 abbrev pub more_items : List Token → List Token
 more_items [] = []
 more_items (token ∷ tokens) =
@@ -90,12 +92,12 @@ more_items (token ∷ tokens) =
     else if is_mark (codes ";") token then []
     else tokens
 
--- how many members stand alone before the next tuple
+-- the number of single members before the next tuple
 abbrev pub alone_len : List Token → ℕ
 alone_len tokens = prefix_len (λ token. not (is_mark (codes "(") token)) tokens
 
--- the first row of a set of this dimension: a tuple, or members that stand alone, no more than the dimension and up to
--- the next tuple
+-- the first row of a set of this dimension: a tuple, or as many single members as the dimension, or
+-- fewer before the next tuple
 abbrev pub first_row : ℕ → List Token → List Token
 first_row dimension tokens = if begins_tuple tokens then unwrap_or (first_item tokens) [] else take dimension (take (alone_len tokens) tokens)
 
@@ -107,6 +109,6 @@ set_rows_from dimension zero tokens = []
 set_rows_from dimension (suc turns) [] = []
 set_rows_from dimension (suc turns) (token ∷ tokens) = first_row dimension (token ∷ tokens) ∷ set_rows_from dimension turns (more_rows dimension (token ∷ tokens))
 
--- the rows of a set of a dimension that is not 0; a row of another length is no member of it
+-- the rows of a set of a nonzero dimension; a row of another length is not a member of the set
 abbrev pub set_rows : ℕ → List Token → List (List Token)
 set_rows dimension tokens = set_rows_from dimension (length tokens) tokens

@@ -1,11 +1,11 @@
--- Where a token stands among the members and tuples of a set.
+-- The position of a token among the members and tuples of a set.
 use Rattle.std.specs.Prelude.{Bool, true, false, ◌||◌, if◌then◌else◌, codes, Option, Some, None}
 use Rattle.net_lex.specs.declared.token.Token.{Token}
 use Rattle.net_data.specs.declared.spot.Spot.{Spot}
 use Rattle.net_data.specs.declared.spot.Spot.TheVariants.{Outside, Opened, First, Parted, Later}
 use Rattle.net_data.specs.Tests.{is_member, is_mark, is_comma}
 
--- the spot behind a token, if it may stand there
+-- the position after a token, or None if the token is not allowed
 abbrev pub spot_after : Spot → Token → Option Spot
 spot_after Outside token = if is_member token || is_comma token then Some Outside else if is_mark (codes "(") token then Some Opened else None
 spot_after Opened token = if is_member token then Some First else None

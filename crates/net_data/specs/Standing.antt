@@ -1,4 +1,4 @@
--- Statements whose names and cells stand at some places.
+-- Statements all of whose spans satisfy a predicate P.
 use Rattle.std.specs.Prelude.{List, Option, None, Some, ⊤}
 use Rattle.std.specs.List.{AllByRecursion}
 use Rattle.net_fault.specs.declared.span.Span.{Span}
@@ -9,7 +9,7 @@ use Rattle.net_data.specs.declared.statement.NamedSet.{NamedSet}
 use Rattle.net_data.specs.declared.statement.Statement.{Statement}
 use Rattle.net_data.specs.declared.statement.Statement.TheVariants.{Set, List as Listed, Table, Columns}
 
--- tokens at some places
+-- P holds for the spans of these tokens
 abbrev pub TokensStand : (Span → Type 0) → List Token → Type 0
 TokensStand P ts = AllByRecursion (λ (t : Token). P t.span) ts
 
@@ -25,7 +25,7 @@ abbrev pub NamedSetStands : (Span → Type 0) → Option NamedSet → Type 0
 NamedSetStands P None = ⊤
 NamedSetStands P (Some s) = P s.name.span
 
--- the names and the cells of a statement
+-- P holds for the spans of the names and the cells of a statement
 abbrev pub StatementStands : (Span → Type 0) → Statement → Type 0
 StatementStands P (Set s) = P s.name.span × TokensStand P s.items
 StatementStands P (Listed l) = P l.name.span × DefaultStands P l.default × GivenStands P l.given

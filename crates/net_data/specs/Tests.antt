@@ -1,4 +1,5 @@
--- What a token is for the grammar of data statements (AMPL book, chapter 9, whose words these are; the profile's forms are its own).
+-- The sort of a token in the grammar of data statements (keywords as in the AMPL book, chapter 9;
+-- the forms are those of this profile).
 use Rattle.std.specs.Prelude.{ℕ, Bool, true, false, ◌&&◌, List, codes}
 use Rattle.std.specs.Str.{bytes_eq}
 use Rattle.net_lex.specs.declared.token.Kind.{Kind}
@@ -18,7 +19,7 @@ stands_for_member Num = true
 stands_for_member Str = true
 stands_for_member _ = false
 
--- a member, or the point, which gives no value
+-- a member, or the missing-value dot
 abbrev pub fills_cell : Kind → Bool
 fills_cell Name = true
 fills_cell Num = true
@@ -39,11 +40,11 @@ is_member token = stands_for_member token.kind
 abbrev pub is_cell : Token → Bool
 is_cell token = fills_cell token.kind
 
--- the name that is spelled so
+-- the name with this text
 abbrev pub is_word : List ℕ → Token → Bool
 is_word text token = names token.kind && bytes_eq text token.text
 
--- the mark that is spelled so
+-- the punctuation with this text
 abbrev pub is_mark : List ℕ → Token → Bool
 is_mark text token = marks token.kind && bytes_eq text token.text
 

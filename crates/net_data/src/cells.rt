@@ -1,3 +1,5 @@
+//! The tokens of a row or table of data, without the commas among them.
+
 ghost use Rattle.std.specs.Prelude.{◌≡◌, ◌+◌, ◌<◌, ◌≤◌, ◌^◌, length, take, drop, slice_get};
 ghost use Rattle.std.specs.Option.{option_copied};
 ghost use Rattle.net_data.specs.Reading.{last_span};
@@ -9,7 +11,7 @@ use net_fault::Span;
 use net_lex::Token;
 use std::marker::Model;
 
-/// Tokens that stand one after the other, with commas anywhere among them: contracts see the tokens without the commas.
+/// Consecutive tokens with commas anywhere among them; contracts see the tokens without the commas.
 #[derive(Drop)]
 pub struct Cells<'t, 's> {
     tokens: &'t [Token<'s>],
@@ -32,7 +34,7 @@ impl<'t, 's> Cells<'t, 's> {
         Cells { tokens }
     }
 
-    /// How many there are.
+    /// Returns the number of cells.
     pub fn len(&self) -> usize
         ensures value { result ≡ length self.now }
         ensures room { result + 1 < 2 ^ 64 }
@@ -40,14 +42,14 @@ impl<'t, 's> Cells<'t, 's> {
         cell_count(self.tokens)
     }
 
-    /// The first one.
+    /// Returns the first cell.
     pub fn first(&self) -> Option<&'t Token<'s>>
         ensures { option_copied result ≡ slice_get self.now 0 }
     {
         first_cell(self.tokens)
     }
 
-    /// The first `count` of them, and the others; no token is copied.
+    /// Splits after the first `count` cells; copies no tokens.
     pub fn split_at(&self, count: usize) -> (Cells<'t, 's>, Cells<'t, 's>)
         ensures front { result.0 ≡ take count self.now }
         ensures back { result.1 ≡ drop count self.now }
@@ -55,14 +57,14 @@ impl<'t, 's> Cells<'t, 's> {
         split_cells(self.tokens, count)
     }
 
-    /// Those behind the first `count`; no token is copied.
+    /// Returns the cells after the first `count`; copies no tokens.
     pub fn behind(&self, count: usize) -> Cells<'t, 's>
         ensures { result ≡ drop count self.now }
     {
         cells_behind(self.tokens, count)
     }
 
-    /// The same ones once more; no token is copied.
+    /// Returns a copy of the slice reference; copies no tokens.
     pub fn again(&self) -> Cells<'t, 's>
         ensures { result ≡ self.now }
     {
@@ -71,7 +73,7 @@ impl<'t, 's> Cells<'t, 's> {
         }
     }
 
-    /// Where the last one stands.
+    /// Returns the span of the last cell.
     pub fn last_span(&self) -> Option<Span>
         ensures { result ≡ last_span self.now }
     {
@@ -107,7 +109,8 @@ fn first_cell<'t, 's>(tokens: &'t [Token<'s>]) -> Option<&'t Token<'s>>
     }
 }
 
-/// How many tokens the first cells have, with the commas among and behind them.
+/// Returns the number of tokens in the first `count` cells, including the commas among and after
+/// them.
 fn cells_len(tokens: &[Token<'_>], count: usize) -> usize
     ensures front { uncommaed (take result tokens.now) ≡ take count (uncommaed tokens.now) }
     ensures back { uncommaed (drop result tokens.now) ≡ drop count (uncommaed tokens.now) }

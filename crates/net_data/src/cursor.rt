@@ -1,4 +1,4 @@
-//! The next token, with commas skipped.
+//! Reading the next token, skipping commas.
 ghost use Rattle.std.specs.Prelude.{◌≡◌, ◌<◌, ◌≤◌, length, MatchOption, IfSome, IfOk};
 ghost use Rattle.std.specs.List.{prefix_len};
 ghost use Rattle.net_data.specs.Tests.{is_comma, is_of};
@@ -11,13 +11,13 @@ use crate::word::Word;
 use net_fault::Defect;
 use net_lex::Token;
 
-/// A token, and what follows it.
+/// A token, and the tokens after it.
 pub(crate) type Next<'t, 's> = (&'t Token<'s>, &'t [Token<'s>]);
 
-/// A token that is kept, and what follows it.
+/// A token that is stored, and the tokens after it.
 pub(crate) type Kept<'t, 's> = (Word<'t, 's>, &'t [Token<'s>]);
 
-/// The next token that is no comma, and what follows it.
+/// Returns the next token that is not a comma, and the tokens after it.
 
 pub(crate) fn front<'t, 's>(tokens: &'t [Token<'s>]) -> Option<Next<'t, 's>>
     ensures value { MatchOption result (front tokens.entry.now ≡ None) (λ x. front tokens.entry.now ≡ Some (x.0.now, x.1.now)) }
@@ -34,7 +34,7 @@ fn commas_len(tokens: &[Token<'_>]) -> usize
     tokens.iter().take_while(|token| is_comma(token)).count()
 }
 
-/// The next token, if it is of this sort.
+/// Returns the next token if it is of this sort, and the tokens after it.
 #[tactic(auto, unfolding(crate::specs::Reading::met))]
 pub(crate) fn met<'t, 's>(sort: Expected, tokens: &'t [Token<'s>]) -> Option<Next<'t, 's>>
     ensures value { Finds (met (is_of sort) tokens.entry.now) result }
@@ -52,7 +52,7 @@ pub(crate) fn met<'t, 's>(sort: Expected, tokens: &'t [Token<'s>]) -> Option<Nex
     }
 }
 
-/// The stop at the next token, which is not allowed.
+/// Returns the error for the next token, which is not allowed.
 #[tactic(auto, unfolding(crate::specs::Reading::refused))]
 pub(crate) fn refused(tokens: &[Token<'_>]) -> ParseError
     ensures { result ≡ refused tokens.now }
@@ -67,7 +67,7 @@ pub(crate) fn refused(tokens: &[Token<'_>]) -> ParseError
     }
 }
 
-/// The next token, which has to be of this sort.
+/// Returns the next token, which must be of this sort, and the tokens after it.
 #[tactic(auto, unfolding(crate::specs::Reading::wanted))]
 pub(crate) fn wanted<'t, 's>(
     sort: Expected,
@@ -82,7 +82,7 @@ pub(crate) fn wanted<'t, 's>(
     }
 }
 
-/// The same tokens, where a pattern's slice is to be kept at its own lifetime.
+/// Returns the tokens; used to give a slice from a pattern its full lifetime.
 pub(crate) fn same<'t, 's>(tokens: &'t [Token<'s>]) -> &'t [Token<'s>]
     ensures { result.now ≡ tokens.entry.now }
 {

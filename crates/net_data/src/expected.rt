@@ -1,11 +1,13 @@
-/// What a token may have to be.
+//! The sorts of tokens that the grammar of data expects.
+
+/// The sort of a token.
 #[derive(Clone, Copy)]
 pub enum Expected {
     /// A name.
     Name,
     /// A name, a number or a string.
     Member,
-    /// A member or the point.
+    /// A member or the missing-value dot.
     Cell,
     /// `:=`
     Assign,

@@ -12,10 +12,10 @@ use crate::word::Word;
 use net_fault::Defect;
 use net_lex::Token;
 
-/// Cells and the mark behind them, and what follows.
+/// Cells, the punctuation after them, and the remaining tokens.
 pub(crate) type Row<'t, 's> = (Cells<'t, 's>, Word<'t, 's>, &'t [Token<'s>]);
 
-/// A heading up to its `:=`, with one column at least.
+/// Returns a heading up to its `:=`, or an error if it has no column.
 fn headed<'t, 's>(
     columns: Cells<'t, 's>,
     assign: Word<'t, 's>,
@@ -33,7 +33,7 @@ fn headed<'t, 's>(
     Ok((columns, assign, tokens))
 }
 
-/// A heading of tokens of a sort.
+/// Parses a heading of tokens of a sort.
 #[tactic(auto, unfolding(crate::specs::Reading::heading))]
 pub(crate) fn heading<'t, 's>(
     sort: Expected,
@@ -47,7 +47,7 @@ pub(crate) fn heading<'t, 's>(
     headed(columns, assign, rest)
 }
 
-/// Cells up to the semicolon.
+/// Parses cells up to the semicolon.
 #[tactic(auto, unfolding(crate::specs::Reading::cells))]
 pub(crate) fn cells<'t, 's>(tokens: &'t [Token<'s>]) -> Result<Row<'t, 's>, ParseError>
     ensures value { ReadsPair (cells tokens.entry.now) result }
@@ -58,7 +58,7 @@ pub(crate) fn cells<'t, 's>(tokens: &'t [Token<'s>]) -> Result<Row<'t, 's>, Pars
     Ok((cells, end, rest))
 }
 
-/// Nothing, if the cells are rows of a member and a value for each column.
+/// Checks that the cells fill complete rows of a member and one value for each column.
 #[tactic(auto, unfolding(crate::specs::Reading::filled))]
 pub(crate) fn filled(columns: &Cells<'_, '_>, cells: &Cells<'_, '_>) -> Result<(), ParseError>
     ensures { result ≡ filled columns.now cells.now }

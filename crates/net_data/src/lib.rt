@@ -1,4 +1,4 @@
-//! Data statements: what the tables of a data text say.
+//! The parser of data files: the statements with their tables.
 #![tactic(auto)]
 
 mod cells;
@@ -23,6 +23,7 @@ mod word;
 pub use cells::Cells;
 pub use laws::{group_by_group, no_statements_go_on, one_meaning, set_row_by_row};
 pub use members::Members;
+pub use net_fault::Fault as DataFault;
 pub use parse::parse_data;
 pub use statement::{
     ColumnsStatement, DefaultValue, Given, ListStatement, NamedSet, SetStatement, Statement,

@@ -1,3 +1,5 @@
+//! The members and tuples of a set in a data file.
+
 ghost use Rattle.std.specs.Prelude.{◌≡◌, ◌≤◌, length, drop};
 ghost use Rattle.net_data.specs.Meaning.{AreItems};
 ghost use Rattle.net_data.specs.Rows.{first_item, begins_tuple, more_items, inside_len};
@@ -9,7 +11,7 @@ use crate::test::is_mark;
 use net_lex::Token;
 use std::marker::Model;
 
-/// The members and tuples of a set: contracts see their tokens, without the commas outside tuples.
+/// The members and tuples of a set; contracts see their tokens, without the commas outside tuples.
 #[derive(Drop)]
 pub struct Members<'t, 's> {
     tokens: &'t [Token<'s>],
@@ -34,7 +36,7 @@ impl<'t, 's> Members<'t, 's> {
 }
 
 impl<'t, 's> Members<'t, 's> {
-    /// The same ones once more; no token is copied.
+    /// Returns a copy of the slice reference; copies no tokens.
     pub fn again(&self) -> Members<'t, 's>
         ensures { result ≡ self.now }
     {
@@ -43,21 +45,21 @@ impl<'t, 's> Members<'t, 's> {
         }
     }
 
-    /// The members of the first item: of a tuple, or the one that stands alone.
+    /// Returns the members of the first item: those of a tuple, or a single member.
     pub fn first(&self) -> Option<Cells<'t, 's>>
         ensures { result ≡ first_item self.now }
     {
         first_item(self.tokens)
     }
 
-    /// Whether the first item is a tuple.
+    /// Returns whether the first item is a tuple.
     pub fn begins_tuple(&self) -> bool
         ensures { result ≡ begins_tuple self.now }
     {
         begins_tuple(self.tokens)
     }
 
-    /// The items behind the first one.
+    /// Returns the items after the first one.
     pub fn rest(&self) -> Members<'t, 's>
         ensures value { result ≡ more_items self.now }
         ensures items { AreItems self.now → AreItems result }
@@ -75,7 +77,7 @@ fn begins_tuple(tokens: &[Token<'_>]) -> bool
     }
 }
 
-/// How many tokens of a tuple stand before its `)`.
+/// Returns the number of tokens of a tuple before its `)`.
 fn inside_len(tokens: &[Token<'_>]) -> usize
     ensures value { result ≡ inside_len tokens.now }
     ensures within { result ≤ length tokens.now }

@@ -17,7 +17,7 @@ use crate::word::Word;
 use net_lex::Token;
 use std::alloc::Global;
 
-/// What stands before the cells of a parameter.
+/// The part of a parameter's statement before its cells.
 #[derive(Drop)]
 struct Parameter<'t, 's> {
     keyword: Word<'t, 's>,
@@ -25,7 +25,7 @@ struct Parameter<'t, 's> {
     default: Option<DefaultValue<'t, 's>>,
 }
 
-/// What follows the colon of a table.
+/// Parses a table after its colon.
 #[tactic(auto, unfolding(crate::specs::Reading::table))]
 fn table<'t, 's>(
     alloc: Global,
@@ -60,7 +60,7 @@ fn table<'t, 's>(
     stated(alloc, Statement::Table(statement), rest)
 }
 
-/// What follows the `(` of `(tr)`.
+/// Parses a transposed table after the `(` of `(tr)`.
 #[tactic(auto, unfolding(crate::specs::Reading::turned))]
 fn turned<'t, 's>(
     alloc: Global,
@@ -82,7 +82,7 @@ fn turned<'t, 's>(
     table(alloc, parameter, Some(transposed), colon, rest)
 }
 
-/// The cells of a list, if there are any, and what follows them.
+/// Parses the cells of a list, if present; also returns the remaining tokens.
 #[tactic(auto, unfolding(crate::specs::Reading::given))]
 fn given<'t, 's>(tokens: &'t [Token<'s>]) -> (Option<Given<'t, 's>>, &'t [Token<'s>])
     ensures value { (result.0, result.1.now) ≡ given tokens.entry.now }
@@ -98,7 +98,7 @@ fn given<'t, 's>(tokens: &'t [Token<'s>]) -> (Option<Given<'t, 's>>, &'t [Token<
     }
 }
 
-/// What follows the name and the default of a list.
+/// Parses a list after the name and the default.
 #[tactic(auto, unfolding(crate::specs::Reading::list))]
 fn list<'t, 's>(
     alloc: Global,
@@ -125,7 +125,7 @@ fn list<'t, 's>(
     stated(alloc, Statement::List(statement), rest)
 }
 
-/// What follows the name and the default of a parameter.
+/// Parses a statement after the name and the default of its parameter.
 #[tactic(auto, unfolding(crate::specs::Reading::body))]
 fn body<'t, 's>(
     alloc: Global,
@@ -144,7 +144,7 @@ fn body<'t, 's>(
     }
 }
 
-/// The default of a parameter, if there is one, and what follows it.
+/// Parses the default of a parameter, if present; also returns the remaining tokens.
 #[tactic(auto, unfolding(crate::specs::Reading::default))]
 fn default<'t, 's>(
     tokens: &'t [Token<'s>],
@@ -162,7 +162,7 @@ fn default<'t, 's>(
     }
 }
 
-/// What follows the word `param` where no colon does.
+/// Parses a statement after the keyword `param`, if no colon follows.
 #[tactic(auto, unfolding(crate::specs::Reading::named))]
 fn named<'t, 's>(
     alloc: Global,
@@ -182,7 +182,7 @@ fn named<'t, 's>(
     body(alloc, parameter, rest)
 }
 
-/// The name of a set and a colon, if they come next, and what follows them.
+/// Parses the name of a set and a colon, if they come next; also returns the remaining tokens.
 #[tactic(auto, unfolding(crate::specs::Reading::named_set))]
 fn named_set<'t, 's>(tokens: &'t [Token<'s>]) -> (Option<NamedSet<'t, 's>>, &'t [Token<'s>])
     ensures value { (result.0, result.1.now) ≡ named_set tokens.entry.now }
@@ -201,7 +201,7 @@ fn named_set<'t, 's>(tokens: &'t [Token<'s>]) -> (Option<NamedSet<'t, 's>>, &'t 
     }
 }
 
-/// What follows the word `param` and a colon.
+/// Parses a statement after the keyword `param` and a colon.
 #[tactic(auto, unfolding(crate::specs::Reading::columns))]
 fn columns<'t, 's>(
     alloc: Global,
@@ -227,7 +227,7 @@ fn columns<'t, 's>(
     stated(alloc, Statement::Columns(statement), rest)
 }
 
-/// What follows the word `param`.
+/// Parses a statement after the keyword `param`.
 #[tactic(auto, unfolding(crate::specs::Reading::param))]
 pub(crate) fn param<'t, 's>(
     alloc: Global,

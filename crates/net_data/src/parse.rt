@@ -1,4 +1,4 @@
-//! The statements of a data text.
+//! The statements of a data file.
 ghost use Rattle.std.specs.Prelude.{◌≡◌, ◌<◌, ◌≤◌, length, suc, IfOk, IfErr, IfSome, IfNone};
 ghost use Rattle.net_data.specs.Reading.{statement, statements, lone_by, met, finished, tables, end_of, fault_of, statement_fault, Reads, GoesBehind};
 ghost use Rattle.net_data.specs.Reading.{ReadsOn, Answers, AnswersRest};
@@ -22,7 +22,7 @@ use net_lex::Token;
 use net_views::{Boxed, Items};
 use std::alloc::Global;
 
-/// The end of the last token.
+/// Returns the position after the last token.
 fn end_of(tokens: &[Token<'_>]) -> usize
     ensures { result ≡ end_of tokens.now }
 {
@@ -32,7 +32,7 @@ fn end_of(tokens: &[Token<'_>]) -> usize
     }
 }
 
-/// The fault that a stop is, in a text that ends there.
+/// Returns the error reported for a stop, given the end of the text.
 fn fault_of(stop: ParseError, end: usize) -> Fault
     ensures { result ≡ fault_of end stop }
 {
@@ -42,7 +42,7 @@ fn fault_of(stop: ParseError, end: usize) -> Fault
     }
 }
 
-/// The fault that keeps a statement from being read, in a text that ends there.
+/// Returns the error that prevents a statement from being parsed, given the end of the text.
 fn statement_fault(stop: StatementStop, end: usize) -> Fault
     ensures { result ≡ statement_fault end stop }
 {
@@ -52,14 +52,14 @@ fn statement_fault(stop: StatementStop, end: usize) -> Fault
     }
 }
 
-/// The tokens that are not yet read.
+/// The tokens that are not yet parsed.
 #[derive(Drop)]
 struct Unread<'t, 's> {
     tokens: &'t [Token<'s>],
 }
 
 impl<'t, 's> Unread<'t, 's> {
-    /// The statement that was read, behind which reading goes on.
+    /// Stores the tokens after a parsed statement, and returns the statement.
     fn behind(
         &mut self,
         stated: Result<Stated<'t, 's>, StatementStop>,
@@ -71,7 +71,7 @@ impl<'t, 's> Unread<'t, 's> {
         Ok(Some(found))
     }
 
-    /// Reads the statement that comes next, if one does.
+    /// Parses the next statement, if there is one.
     #[tactic(auto, unfolding(crate::specs::Reading::statement))]
     fn statement(
         &mut self,
@@ -91,7 +91,7 @@ impl<'t, 's> Unread<'t, 's> {
     }
 }
 
-/// The statements that come next, and what follows them.
+/// Parses the statements that come next; also returns the remaining tokens.
 fn statements<'t, 's>(
     alloc: Global,
     end: usize,
@@ -110,7 +110,7 @@ fn statements<'t, 's>(
     }
 }
 
-/// A word with its semicolon, if it comes next, and what follows them.
+/// Parses a keyword with its semicolon, if it comes next; also returns the remaining tokens.
 fn lone<'t, 's>(
     sort: Expected,
     tokens: &'t [Token<'s>],
@@ -127,7 +127,7 @@ fn lone<'t, 's>(
     }
 }
 
-/// Nothing, if nothing but commas follows.
+/// Returns an error unless nothing but commas follows.
 #[tactic(auto, unfolding(crate::specs::Reading::finished))]
 fn finished(tokens: &[Token<'_>]) -> Result<(), ParseError>
     ensures { result ≡ finished tokens.now }
@@ -141,7 +141,7 @@ fn finished(tokens: &[Token<'_>]) -> Result<(), ParseError>
     }
 }
 
-/// The statements of a data text whose end is given.
+/// Parses the statements of a data file, given its end.
 #[tactic(auto, unfolding(crate::specs::Reading::tables, crate::specs::Reading::lone))]
 fn tables<'t, 's>(
     alloc: Global,
@@ -169,19 +169,20 @@ fn tables<'t, 's>(
     }
 }
 
-/// The statements of a data text, from its tokens in order. Commas may stand anywhere, and say
-/// something in tuples only. The first fault is `Syntax` at the first token that is not allowed, or
-/// at the end of the last one; `TableWidth` at the `:=` of a heading without a column or a name; or
-/// `RowWidth` at the last cell of a table that does not fill its rows.
+/// Parses the tokens of a data file. Commas are allowed anywhere and significant only in tuples.
+/// The first error is `Syntax` at the first token that is not allowed, or at the end of the last
+/// one; `TableWidth` at the `:=` of a heading without a column or a name; or `RowWidth` at the last
+/// cell of a table that does not fill complete rows.
 pub fn parse_data<'t, 's>(alloc: Global, tokens: &'t [Token<'s>]) -> Result<Tables<'t, 's>, Fault>
     ensures ok { IfOk result (λ x. Mean tokens.entry.now x) }
-    // The tables of an answer have no fault.
+    // The tables of a successful result have no error.
     ensures full { IfOk result (λ x. all_judged x.statements ≡ Ok tt) }
     ensures refused { IfErr result (IsRefusal tokens.entry.now) }
-    // What the tokens mean is the answer, or the first fault of its tables is.
+    // If the tokens are statements, the result is these statements, or the first error in their
+    // tables.
     ensures complete { (x : Tables) → Mean tokens.entry.now x
         → Answers (end_of tokens.entry.now) (checked x) result }
-    // Which fault is the first, and where.
+    // Which error is the first, and its span.
     ensures place { Answers (end_of tokens.entry.now) (tables tokens.entry.now) result }
 {
     tables(alloc, end_of(tokens), tokens)

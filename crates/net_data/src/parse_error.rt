@@ -1,6 +1,8 @@
+//! Errors of parsing a data file.
+
 use net_fault::{Defect, Span};
 
-/// Why reading stops: a defect at a token, or at the end of the text where there is no place.
+/// Why parsing stops: an error at a token, or at the end of the text if there is no span.
 #[derive(Clone, Copy)]
 pub struct ParseError {
     pub defect: Defect,

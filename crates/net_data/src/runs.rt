@@ -18,7 +18,7 @@ fn run_len(sort: Expected, tokens: &[Token<'_>]) -> usize
         .count()
 }
 
-/// The tokens of a sort at the front, and what follows them.
+/// Splits off the leading tokens of a sort.
 #[tactic(auto, unfolding(crate::specs::Reading::run))]
 pub(crate) fn run<'t, 's>(
     sort: Expected,

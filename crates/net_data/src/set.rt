@@ -16,7 +16,7 @@ use net_fault::Defect;
 use net_lex::Token;
 use std::alloc::Global;
 
-/// How many tokens the members and tuples at the front have, with the commas among them.
+/// Returns the number of tokens in the leading members and tuples, including the commas among them.
 fn items_len(tokens: &[Token<'_>]) -> Result<usize, ParseError>
     ensures value { CountsItems tokens.now (items_from outside tokens.now) result }
     ensures within { IfOk result (λ n. n ≤ length tokens.now) }
@@ -45,7 +45,7 @@ fn items_len(tokens: &[Token<'_>]) -> Result<usize, ParseError>
     })
 }
 
-/// The members and tuples at the front, and what follows them.
+/// Splits off the leading members and tuples.
 fn items_at<'t, 's>(
     tokens: &'t [Token<'s>],
 ) -> Result<(Members<'t, 's>, &'t [Token<'s>]), ParseError>
@@ -61,7 +61,7 @@ fn items_at<'t, 's>(
     }
 }
 
-/// What follows the word `set`.
+/// Parses a statement after the keyword `set`.
 #[tactic(auto, unfolding(crate::specs::Reading::set))]
 pub(crate) fn set<'t, 's>(
     alloc: Global,

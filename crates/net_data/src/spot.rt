@@ -1,27 +1,27 @@
-//! Where a token stands among the members and tuples of a set.
+//! The position of a token among the members and tuples of a set.
 ghost use Rattle.std.specs.Prelude.{◌≡◌};
 ghost use Rattle.net_data.specs.Spots.{spot_after, rests};
 
 use crate::test::{is_comma, is_mark, is_member};
 use net_lex::Token;
 
-/// Where a token stands in the items of a set, as what may follow it goes by.
+/// The position of a token in the items of a set, as far as it determines which tokens can follow.
 #[derive(Clone, Copy)]
 pub enum Spot {
-    /// In no tuple.
+    /// Outside tuples.
     Outside,
-    /// Behind the `(` of a tuple.
+    /// After the `(` of a tuple.
     Opened,
-    /// Behind the first member of a tuple.
+    /// After the first member of a tuple.
     First,
-    /// Behind a comma of a tuple.
+    /// After a comma of a tuple.
     Parted,
-    /// Behind a later member of a tuple.
+    /// After a later member of a tuple.
     Later,
 }
 
 impl Spot {
-    /// The spot behind a token, if it may stand here.
+    /// Returns the position after a token, or `None` if the token is not allowed here.
     pub fn after(self, token: &Token<'_>) -> Option<Spot>
         ensures { result ≡ spot_after self token.now }
     {
@@ -41,7 +41,7 @@ impl Spot {
         }
     }
 
-    /// Whether no tuple is open.
+    /// Returns whether no tuple is open.
     pub fn rests(self) -> bool
         ensures { result ≡ rests self }
     {

@@ -1,4 +1,4 @@
-//! A value in a box, and what follows it.
+//! A value in a box, and the remaining tokens.
 ghost use Rattle.std.specs.Prelude.{◌≡◌, [], ◌∷◌, ◌++◌, OnOk, IfOk, IfErr};
 ghost use Rattle.net_fault.specs.declared.fault.Fault.TheVariants.{OutOfMemory};
 ghost use Rattle.net_data.specs.declared.statement_stop.StatementStop.TheVariants as statement_stops;
@@ -10,10 +10,10 @@ use net_lex::Token;
 use net_views::Boxed;
 use std::alloc::Global;
 
-/// A statement, and what follows it.
+/// A statement, and the remaining tokens.
 pub(crate) type Stated<'t, 's> = (Boxed<Statement<'t, 's>>, &'t [Token<'s>]);
 
-/// A statement that was read is put into a box, as it has many forms.
+/// Boxes a parsed statement, since it has many forms. Fails only if memory runs out.
 pub(crate) fn stated<'t, 's, T: Drop>(
     alloc: Global,
     statement: T,
@@ -29,7 +29,7 @@ pub(crate) fn stated<'t, 's, T: Drop>(
     }
 }
 
-/// Takes in a statement behind the others.
+/// Appends a statement. Fails only if memory runs out.
 pub(crate) fn push<T: Drop>(statements: &mut Vec<T>, statement: Boxed<T>) -> Result<(), Fault>
     ensures items { OnOk result (statements.new.items ≡ statements.old.items ++ (statement ∷ [])) }
     ensures memory { IfErr result (λ e. e ≡ OutOfMemory) }

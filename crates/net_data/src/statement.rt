@@ -1,4 +1,4 @@
-//! The statements, each with all its tokens but for the commas outside tuples.
+//! The statements, each with all its tokens except the commas outside tuples.
 use crate::cells::Cells;
 use crate::members::Members;
 use crate::word::Word;
@@ -78,7 +78,7 @@ pub struct ColumnsStatement<'t, 's> {
     pub end: Word<'t, 's>,
 }
 
-/// One statement of a data text.
+/// One statement of a data file.
 #[derive(Drop)]
 pub enum Statement<'t, 's> {
     /// `set CITIES := PITT NE;`

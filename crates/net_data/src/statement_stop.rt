@@ -1,11 +1,11 @@
-//! Why no statement is read.
+//! Why no statement is parsed.
 ghost use Rattle.std.specs.Prelude.{◌≡◌};
 ghost use Rattle.net_data.specs.declared.statement_stop.StatementStop.TheVariants as statement_stops;
 
 use crate::parse_error::ParseError;
 use std::alloc::AllocFailed;
 
-/// Why no statement is read: memory runs out, or reading stops at a defect.
+/// Why no statement is parsed: memory ran out, or there is an error in the text.
 #[derive(Clone, Copy)]
 pub enum StatementStop {
     OutOfMemory,

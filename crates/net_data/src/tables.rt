@@ -1,3 +1,5 @@
+//! The statements of a data file.
+
 use crate::statement::Statement;
 use crate::word::Word;
 use net_views::Items;
@@ -9,7 +11,7 @@ pub struct Lone<'t, 's> {
     pub end: Word<'t, 's>,
 }
 
-/// What a data text says: its statements in order.
+/// The content of a data file: its statements in order.
 #[derive(Drop)]
 pub struct Tables<'t, 's> {
     /// `data;`

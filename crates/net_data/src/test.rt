@@ -1,4 +1,4 @@
-//! What a token is for the grammar of data.
+//! The sort of a token in the grammar of data files.
 ghost use Rattle.std.specs.Prelude.{◌≡◌};
 ghost use Rattle.net_data.specs.Tests.{is_name, is_member, is_cell, is_word, is_mark, is_comma, is_of};
 
@@ -14,7 +14,7 @@ fn is_name(token: &Token<'_>) -> bool
     }
 }
 
-/// Whether it is a name, a number or a string.
+/// Returns whether a token is a name, a number or a string.
 pub(crate) fn is_member(token: &Token<'_>) -> bool
     ensures { result ≡ is_member token.now }
 {
@@ -24,7 +24,7 @@ pub(crate) fn is_member(token: &Token<'_>) -> bool
     }
 }
 
-/// Whether it is a member or the point.
+/// Returns whether a token is a member or the missing-value dot.
 fn is_cell(token: &Token<'_>) -> bool
     ensures { result ≡ is_cell token.now }
 {
@@ -34,7 +34,7 @@ fn is_cell(token: &Token<'_>) -> bool
     }
 }
 
-/// Whether it is of this sort.
+/// Returns whether a token is of this sort.
 pub(crate) fn is_of(sort: Expected, token: &Token<'_>) -> bool
     ensures { result ≡ is_of sort token.now }
 {
@@ -56,7 +56,7 @@ pub(crate) fn is_of(sort: Expected, token: &Token<'_>) -> bool
     }
 }
 
-/// Whether it is this name.
+/// Returns whether a token is this name.
 pub(crate) fn is_word(text: &[u8], token: &Token<'_>) -> bool
     ensures { result ≡ is_word text.now token.now }
 {
@@ -66,7 +66,7 @@ pub(crate) fn is_word(text: &[u8], token: &Token<'_>) -> bool
     }
 }
 
-/// Whether it is this mark.
+/// Returns whether a token is this punctuation.
 pub(crate) fn is_mark(text: &[u8], token: &Token<'_>) -> bool
     ensures { result ≡ is_mark text.now token.now }
 {

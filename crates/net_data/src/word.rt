@@ -1,9 +1,11 @@
+//! References to tokens of a data file.
+
 ghost use Rattle.std.specs.Prelude.{◌≡◌};
 
 use net_lex::Token;
 use std::marker::Model;
 
-/// A token of a data text, which contracts see as that token.
+/// A token of a data file, which contracts see as that token.
 #[derive(Drop)]
 pub struct Word<'t, 's> {
     token: &'t Token<'s>,
@@ -24,7 +26,7 @@ impl<'t, 's> Word<'t, 's> {
         Word { token }
     }
 
-    /// The token, with its place in the text.
+    /// Returns the token, with its span in the text.
     pub fn token(&self) -> &'t Token<'s>
         ensures { result.now ≡ self.now }
     {

@@ -1,4 +1,4 @@
--- What a reader keeps of a certificate text.
+-- The state of the reader of a certificate file.
 use Rattle.std.specs.Prelude.{◌≡◌, Bool, true, false, IsTrue, Option, Some, None, List, Result, Ok, Err}
 use Rattle.std.specs.Global.{Vec}
 use Rattle.net_check.specs.declared.certificate.Certificate.{Certificate}
@@ -10,12 +10,12 @@ use Rattle.net_dimacs.specs.Drafts.{FailsLine}
 use Rattle.net_dimacs.specs.Certificates.{Account, account_of}
 use Rattle.net_dimacs.specs.CertificateReading.{Progress, Start, Open, Refused}
 
--- a list or a fault is what reading gives, unless memory ran out
+-- the result is the list or the error that the definition gives, unless memory ran out
 abbrev pub GivesList : {A : Type 0} → Result (List A) LineFault → Result (Vec A) LineStop → Type 0
 GivesList read (Ok list) = read ≡ Ok list.items
 GivesList read (Err e) = FailsLine read e
 
--- the same for a certificate so far
+-- the same for a partial certificate
 abbrev pub GivesPart : Result Account LineFault → Result Certificate LineStop → Type 0
 GivesPart read (Ok certificate) = read ≡ Ok (account_of certificate)
 GivesPart read (Err e) = FailsLine read e
@@ -29,12 +29,13 @@ is_open Start = false
 is_open (Open account) = true
 is_open (Refused refusal) = false
 
--- memory runs out only over a line that is not refused
+-- memory can run out only at a line that is accepted
 abbrev pub Stops : Progress → ProblemFault → Type 0
 Stops progress faults.OutOfMemory = IsTrue (is_open progress)
 Stops progress (faults.Refused refusal) = progress ≡ Refused refusal
 
--- a certificate so far or a refusal is what has come of the lines, unless memory ran out
+-- the result is the partial certificate or the error that the definition gives, unless memory ran
+-- out
 abbrev pub Comes : Progress → Result Certificate ProblemFault → Type 0
 Comes progress (Ok certificate) = progress ≡ Open (account_of certificate)
 Comes progress (Err e) = Stops progress e

@@ -1,4 +1,4 @@
--- Reading a certificate text line by line, with the first fault.
+-- Reading a certificate file line by line, up to the first error.
 use Rattle.std.specs.Prelude.{◌≡◌, ℕ, ◌+◌, ◌-◌, Bool, true, false, ◌&&◌, ◌==◌, nat_le, nat_lt, if◌then◌else◌, List, [], ◌∷◌, ◌++◌, length, replicate, slice_get, ℤ, Option, Some, None, Result, Ok, Err}
 use Rattle.std.specs.Str.Lines.{lines}
 use Rattle.net_normal.specs.declared.problem.FlowArc.{FlowArc}
@@ -16,34 +16,34 @@ use Rattle.net_dimacs.specs.Reading.{OnRefused}
 use Rattle.net_dimacs.specs.Claims.{claimed}
 use Rattle.net_dimacs.specs.Certificates.{Account, Optimal, Cut, account_of}
 
--- ---- one line more
+-- ---- one more line
 
--- with one more number, if it is in its type
+-- appends a number if it fits its type
 abbrev pub with_number : List ℤ → Option ℤ → Result (List ℤ) LineFault
 with_number zs None = Err TooLarge
 with_number zs (Some z) = Ok (zs ++ z ∷ [])
 
--- a place is that of this node
+-- whether an index is that of node v
 abbrev pub is_node : Option ℕ → ℕ → Bool
 is_node None v = false
 is_node (Some w) v = w == v
 
--- two places are the ends of the arc, if there is one
+-- whether two indices are the tail and the head of the arc, if there is one
 abbrev pub are_ends : Option FlowArc → Option ℕ → Option ℕ → Bool
 are_ends None src dst = false
 are_ends (Some arc) src dst = is_node src arc.src && is_node dst arc.dst
 
--- the flow of the next arc
+-- appends the flow of the next arc
 abbrev pub with_flow : List FlowArc → List ℤ → Option ℕ → Option ℕ → Option ℤ → Result (List ℤ) LineFault
 with_flow arcs flows src dst flow = if are_ends (slice_get arcs (length flows)) src dst then with_number flows flow else Err line_faults.Certificate
 
--- the potential of the next node, behind all flows
+-- appends the potential of the next node, after all flows
 abbrev pub with_potential : ℕ → Bool → List ℤ → Option ℕ → Option ℤ → Result (List ℤ) LineFault
 with_potential nodes have_flows potentials node potential =
     if have_flows && (nat_lt (length potentials) nodes && is_node node (length potentials)) then with_number potentials potential
     else Err line_faults.Certificate
 
--- a node of a set, behind those that have their flags
+-- adds a node to the set; nodes must be in increasing order
 abbrev pub with_member : ℕ → List Bool → Option ℕ → Result (List Bool) LineFault
 with_member nodes flags None = Err line_faults.Certificate
 with_member nodes flags (Some v) =
@@ -66,9 +66,9 @@ next_claim nodes arcs (Optimal value flows potentials) (claims.Potential node po
 next_claim nodes arcs (Cut flags side) (claims.Member node) = in_account (λ bs. Cut bs side) (with_member nodes flags node)
 next_claim nodes arcs account claim = Err line_faults.Certificate
 
--- ---- a whole text
+-- ---- a whole file
 
--- nothing yet, a certificate so far, or the first fault
+-- nothing yet, a partial certificate, or the first error
 pub data Progress : Type 0 where
   Start : Progress
   Open : Account → Progress
@@ -87,7 +87,7 @@ abbrev pub with_claimed : ℕ → List FlowArc → ℕ → Progress → Option C
 with_claimed nodes arcs line progress None = progress
 with_claimed nodes arcs line progress (Some claim) = with_claim nodes arcs line progress claim
 
--- a line is missing, where a line more would have this number
+-- a line is missing at the end of the file; `line` is the number of the line after the last
 abbrev pub missing : ℕ → Result Account Refusal
 missing line = Err (record { fault = line_faults.Certificate; line = line })
 
@@ -101,27 +101,27 @@ finished nodes arcs line Start = missing line
 finished nodes arcs line (Open account) = completed nodes arcs line account
 finished nodes arcs line (Refused r) = Err r
 
--- the lines from this number on
+-- reads the lines, of which the first has this number
 abbrev pub read_lines : ℕ → List FlowArc → ℕ → Progress → List (List ℕ) → Result Account Refusal
 read_lines nodes arcs number progress [] = finished nodes arcs number progress
 read_lines nodes arcs number progress (line ∷ more) = read_lines nodes arcs (number + 1) (with_claimed nodes arcs number progress (claimed line)) more
 
--- the certificate of a text, or its first fault
+-- the certificate of a file, or its first error
 abbrev pub read_text : ℕ → List FlowArc → List ℕ → Result Account Refusal
 read_text nodes arcs text = if nat_lt text_limit (length text) then Err (record { fault = TooLarge; line = 1 }) else read_lines nodes arcs 1 Start (lines text)
 
--- ---- what a reader answers
+-- ---- the result of a reader
 
 abbrev pub Fails : Result Account Refusal → ProblemFault → Type 0
 Fails read faults.OutOfMemory = Unit {0}
 Fails read (faults.Refused refusal) = read ≡ Err refusal
 
--- a certificate or a refusal is what reading gives, unless memory ran out
+-- the result is the certificate or the error that the definition gives, unless memory ran out
 abbrev pub Gives : Result Account Refusal → Result certificates.Certificate ProblemFault → Type 0
 Gives read (Ok certificate) = read ≡ Ok (account_of certificate)
 Gives read (Err e) = Fails read e
 
--- a fact of a refusal, where there is one
+-- P holds for the error, if the result is one
 abbrev pub IfRefused : Result certificates.Certificate ProblemFault → (Refusal → Type 0) → Type 0
 IfRefused (Ok certificate) P = Unit {0}
 IfRefused (Err fault) P = OnRefused fault P

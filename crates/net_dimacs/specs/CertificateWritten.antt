@@ -1,4 +1,4 @@
--- The text that is written of a certificate: plain decimals, one blank between fields, no comments.
+-- The text written for a certificate: plain decimals, one space between fields, no comments.
 use Rattle.std.specs.Prelude.{◌≡◌, ◌^◌, ℕ, ◌+◌, Bool, true, pos, slice_index_or, EachIndex, if◌then◌else◌, ℤ, List, [], ◌∷◌, ◌++◌, codes}
 use Rattle.net_normal.specs.declared.problem.FlowArc.{FlowArc}
 use Rattle.net_check.specs.declared.certificate.Side.{Side}
@@ -13,7 +13,7 @@ value_line value = line (codes "s") (value ∷ [])
 abbrev pub flow_line : FlowArc → ℤ → List ℕ
 flow_line arc flow = line (codes "f") (node_number arc.src ∷ node_number arc.dst ∷ flow ∷ [])
 
--- each arc with its flow
+-- a line for each arc with its flow
 abbrev pub flow_lines : List FlowArc → List ℤ → List ℕ
 flow_lines [] flows = []
 flow_lines (arc ∷ arcs) [] = []
@@ -22,7 +22,7 @@ flow_lines (arc ∷ arcs) (flow ∷ flows) = flow_line arc flow ++ flow_lines ar
 abbrev pub potential_line : ℕ → ℤ → List ℕ
 potential_line v potential = line (codes "v") (node_number v ∷ potential ∷ [])
 
--- the nodes from v on, each with its potential
+-- the nodes from v on, a line each with its potential
 abbrev pub potential_lines : ℕ → List ℤ → List ℕ
 potential_lines v [] = []
 potential_lines v (potential ∷ potentials) = potential_line v potential ++ potential_lines (v + 1) potentials
@@ -34,7 +34,7 @@ side_line Under = line (codes "x under") []
 abbrev pub member_line : ℕ → List ℕ
 member_line v = line (codes "m") (node_number v ∷ [])
 
--- the nodes from v on that are in the set
+-- the nodes from v on that are in the set, a line each
 abbrev pub member_lines : ℕ → List Bool → List ℕ
 member_lines v [] = []
 member_lines v (is_in ∷ flags) = if is_in then member_line v ++ member_lines (v + 1) flags else member_lines (v + 1) flags
@@ -43,7 +43,7 @@ abbrev pub certificate_text : List FlowArc → Account → List ℕ
 certificate_text arcs (Optimal value flows potentials) = value_line value ++ (flow_lines arcs flows ++ potential_lines 0 potentials)
 certificate_text arcs (Cut flags side) = side_line side ++ member_lines 0 flags
 
--- ---- what the types say of the numbers
+-- ---- ranges of the number types
 
 abbrev pub IsValue : ℤ → Type 0
 IsValue z = is_within (2 ^ 127) z ≡ true

@@ -1,4 +1,4 @@
--- What a line of a certificate text claims.
+-- The meaning of a line of a certificate file.
 use Rattle.std.specs.Prelude.{ℕ, ◌-◌, ◌^◌, ◌&&◌, Bool, if◌then◌else◌, List, [], ◌∷◌, codes, map, ℤ, pos, neg_ℤ, unsigned_abs, int_lt, int_le, Option, Some, None}
 use Rattle.net_check.specs.declared.certificate.Side.TheVariants.{Over, Under}
 use Rattle.net_dimacs.specs.Lines.{fields_of, number_of, is_text, begins_with}
@@ -13,7 +13,7 @@ use Rattle.net_dimacs.specs.declared.claim.Mark.TheVariants as marks
 
 -- ---- numbers and their types
 
--- within the signed type whose least number is that much below 0
+-- z is in the range of the signed type with minimum -limit
 abbrev pub is_within : ℕ → ℤ → Bool
 is_within limit z = int_le (neg_ℤ (pos limit)) z && int_lt z (pos limit)
 
@@ -30,12 +30,12 @@ abbrev pub amount_of : Integer → Option ℤ
 amount_of (integers.Of z) = if is_within (2 ^ 63) z then Some z else None
 amount_of integers.TooLarge = None
 
--- the place of a node, counted from 0, of which the text has the number, counted from 1
+-- the index of a node, counted from 0; the file numbers nodes from 1
 abbrev pub place_of : Integer → Option ℕ
 place_of (integers.Of z) = if int_le (pos 1) z && int_le z (pos (2 ^ 32)) then Some (unsigned_abs z - 1) else None
 place_of integers.TooLarge = None
 
--- up to three numbers, and nothing else
+-- zero to three numbers, and nothing else
 abbrev pub numbers_in : List (Option ℤ) → Numbers
 numbers_in [] = Zero
 numbers_in (Some a ∷ []) = One (integer_of a)
@@ -43,7 +43,7 @@ numbers_in (Some a ∷ Some b ∷ []) = Two (integer_of a) (integer_of b)
 numbers_in (Some a ∷ Some b ∷ Some c ∷ []) = Three (integer_of a) (integer_of b) (integer_of c)
 numbers_in fields = Other
 
--- ---- the five kinds of line
+-- ---- the five kinds of lines
 
 -- `s VALUE`
 abbrev pub value_claim : Numbers → Claim
@@ -70,7 +70,7 @@ abbrev pub side_claim : List (List ℕ) → Claim
 side_claim (word ∷ []) = if is_text (codes "over") word then claims.Side Over else if is_text (codes "under") word then claims.Side Under else claims.Other
 side_claim words = claims.Other
 
--- what a first field says of its line
+-- the kind of line that a first field indicates
 abbrev pub mark_of : List ℕ → Mark
 mark_of field =
     if begins_with 99 field then marks.Comment
@@ -81,7 +81,7 @@ mark_of field =
     else if is_text (codes "m") field then marks.Member
     else marks.Other
 
--- behind that field
+-- the meaning of the fields after the first
 abbrev pub claim_by : Mark → List (List ℕ) → Option Claim
 claim_by marks.Comment fields = None
 claim_by marks.Value fields = Some (value_claim (numbers_in (map number_of fields)))
@@ -91,7 +91,7 @@ claim_by marks.Side fields = Some (side_claim fields)
 claim_by marks.Member fields = Some (member_claim (numbers_in (map number_of fields)))
 claim_by marks.Other fields = Some claims.Other
 
--- a blank line and a comment claim nothing
+-- blank lines and comments have no meaning
 abbrev pub claimed_by : List (List ℕ) → Option Claim
 claimed_by [] = None
 claimed_by (field ∷ fields) = claim_by (mark_of field) fields

@@ -1,4 +1,4 @@
--- What a reader keeps of the lines of a DIMACS text.
+-- The state of the reader of a DIMACS file.
 use Rattle.std.specs.Prelude.{◌≡◌, ◌∷◌, [], Result, Ok, Err, IsOk}
 use Rattle.std.specs.declared.alloc.AllocError.{AllocError}
 use Rattle.net_dimacs.specs.declared.problem_fault.LineFault.{LineFault}
@@ -14,17 +14,17 @@ use Rattle.net_dimacs.specs.Problems.{BeginsProblem}
 abbrev pub sketch_of : Draft → Sketch
 sketch_of d = record { supplies = d.supplies.items; named = d.named.items; arcs = d.arcs.items; arc_count = d.arc_count }
 
--- memory runs out only over a line that has no fault
+-- memory can run out only at a line without an error
 abbrev pub FailsLine : {A : Type 0} → Result A LineFault → LineStop → Type 0
 FailsLine read line_stops.OutOfMemory = IsOk read
 FailsLine read (line_stops.Line fault) = read ≡ Err fault
 
--- a draft or a fault is what reading gives, unless memory ran out
+-- the result is the draft or the error that the definition gives, unless memory ran out
 abbrev pub GivesDraft : Result Sketch LineFault → Result Draft LineStop → Type 0
 GivesDraft read (Ok d) = read ≡ Ok (sketch_of d)
 GivesDraft read (Err e) = FailsLine read e
 
--- where a line has no fault, this is the sketch with it
+-- if the line has no error, `next` is the new sketch
 abbrev pub GivesSketch : Result Sketch LineFault → Result (Unit {0}) LineFault → Sketch → Type 0
 GivesSketch read (Ok taken) next = read ≡ Ok next
 GivesSketch read (Err fault) next = read ≡ Err fault
@@ -34,7 +34,7 @@ state_of progresses.Start = Start
 state_of (progresses.Open d) = Open (sketch_of d)
 state_of (progresses.Refused refusal) = Refused refusal
 
--- the state behind the first statement; memory runs out only over a `p` line that is taken
+-- the state after the first statement; memory can run out only at an accepted `p` line
 abbrev pub GivesState : State → Statement → Result Progress AllocError → Type 0
 GivesState state statement (Ok progress) = state_of progress ≡ state
 GivesState state statement (Err e) = BeginsProblem (statement ∷ [])

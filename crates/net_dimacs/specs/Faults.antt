@@ -1,7 +1,10 @@
--- The numbers and names of the faults of a DIMACS text (First DIMACS Implementation Challenge), as netflow prints them.
+-- The numbers and names of the errors in a DIMACS file (First DIMACS Implementation Challenge), as
+-- netflow prints them.
 use Rattle.std.specs.Prelude.{ℕ, List, ◌++◌, codes}
 use Rattle.std.specs.Fmt.{decimal}
 use Rattle.net_dimacs.specs.declared.problem_fault.LineFault.{LineFault}
+use Rattle.net_dimacs.specs.declared.problem_fault.ProblemFault.{ProblemFault}
+use Rattle.net_dimacs.specs.declared.problem_fault.ProblemFault.TheVariants.{OutOfMemory, Refused}
 use Rattle.net_dimacs.specs.declared.problem_fault.Refusal.{Refusal}
 use Rattle.net_dimacs.specs.declared.problem_fault.LineFault.TheVariants.{BadLine, NoProblemLine, LineOrder, NodeNumber, DoubleNode, Count, Bounds, TooLarge, Certificate}
 
@@ -27,6 +30,14 @@ name_of Bounds = codes "Bounds"
 name_of TooLarge = codes "TooLarge"
 name_of Certificate = codes "Certificate"
 
--- number, name, the word problem, line
+-- as `E75 Count`
+abbrev pub line_fault_text : LineFault → List ℕ
+line_fault_text fault = codes "E" ++ (decimal (number_of fault) ++ (codes " " ++ name_of fault))
+
+-- as `E76 Bounds problem 2`: number, name, the word `problem`, line number
 abbrev pub refusal_text : Refusal → List ℕ
-refusal_text r = codes "E" ++ decimal (number_of r.fault) ++ codes " " ++ name_of r.fault ++ codes " problem " ++ decimal r.line
+refusal_text r = line_fault_text r.fault ++ (codes " problem " ++ decimal r.line)
+
+abbrev pub problem_fault_text : ProblemFault → List ℕ
+problem_fault_text OutOfMemory = codes "out of memory"
+problem_fault_text (Refused r) = refusal_text r

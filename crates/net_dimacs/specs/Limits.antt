@@ -1,14 +1,15 @@
--- The limit of a DIMACS text, a problem's or a certificate's, as netflow sets it, and what is kept of a line that is not whole yet.
+-- The size limit that netflow sets for a DIMACS file, problem or certificate, and the limits of the
+-- buffer for an incomplete line.
 use Rattle.std.specs.Prelude.{ℕ, ◌*◌}
 
 -- 64 MiB
 abbrev pub text_limit : ℕ
 text_limit = 64 * 1024 * 1024
 
--- of a line that is not whole yet: seven fields that are kept, a blank behind each, and one byte more
+-- buffer for an incomplete line: seven shortened fields, a space after each, and one more byte
 abbrev pub open_line_limit : ℕ
 open_line_limit = 155
 
--- a field that is kept: a sign and a number of 64 bits
+-- length of a shortened field: a sign and a number of 64 bits
 abbrev pub open_field_limit : ℕ
 open_field_limit = 21

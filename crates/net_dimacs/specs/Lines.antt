@@ -1,4 +1,5 @@
--- Lines, fields and numbers of a DIMACS text (First DIMACS Implementation Challenge, minimum-cost flow).
+-- Lines, fields and numbers of a DIMACS file (First DIMACS Implementation Challenge, minimum-cost
+-- flow).
 use Rattle.std.specs.Prelude.{◌≡◌, ◌<◌, length, slice_index, ℕ, ◌+◌, ◌-◌, ◌*◌, Bool, true, false, ◌||◌, ◌&&◌, ◌==◌, if◌then◌else◌, List, [], ◌∷◌, ◌++◌, codes, filter, ℤ, pos, neg_ℤ, Option, Some, None}
 use Rattle.std.specs.List.{slice_split, AllByRecursion}
 use Rattle.std.specs.Option.{option_map}
@@ -6,18 +7,18 @@ use Rattle.std.specs.Str.{all_ascii_digits}
 use Rattle.net_dimacs.specs.Words.{Word}
 use Rattle.net_dimacs.specs.Words as words
 
--- blanks and tabs separate fields
+-- spaces and tabs separate fields
 abbrev pub is_blank : ℕ → Bool
 is_blank b = b == 32 || b == 9
 
 abbrev pub is_feed : ℕ → Bool
 is_feed b = b == 10
 
--- no byte passes
+-- no byte satisfies the test
 abbrev pub HasNone : (ℕ → Bool) → List ℕ → Type 0
 HasNone test bytes = AllByRecursion (λ b. test b ≡ false) bytes
 
--- the last byte is LF, if there is one
+-- the last byte is LF, unless there are no bytes
 abbrev pub EndsLine : List ℕ → Type 0
 EndsLine bytes = 0 < length bytes → slice_index bytes (length bytes - 1) ≡ 10
 
@@ -25,11 +26,11 @@ abbrev pub has_byte : List ℕ → Bool
 has_byte [] = false
 has_byte (b ∷ bs) = true
 
--- what stands between blanks and tabs
+-- the fields of a line: the parts between spaces and tabs
 abbrev pub fields_of : List ℕ → List (List ℕ)
 fields_of line = filter has_byte (slice_split is_blank line)
 
--- a blank stands in front, or nothing is left
+-- empty, or begins with a space or a tab
 abbrev pub BeginsBlank : List ℕ → Type 0
 BeginsBlank [] = Unit {0}
 BeginsBlank (b ∷ bs) = is_blank b ≡ true
@@ -43,16 +44,16 @@ pub record IsFirstField (bytes field after : List ℕ) : Type 0 where
   pub solid : HasNone is_blank field
   pub behind : BeginsBlank after
 
--- n, and then these digits
+-- the number n followed by these digits
 abbrev pub value_after : ℕ → List ℕ → ℕ
 value_after n [] = n
 value_after n (d ∷ ds) = value_after (n * 10 + (d - 48)) ds
 
--- a digit or more
+-- one or more digits
 abbrev pub natural_of : List ℕ → Option ℕ
 natural_of ds = if has_byte ds && all_ascii_digits ds then Some (value_after 0 ds) else None
 
--- an optional sign and digits
+-- an optional sign and one or more digits
 abbrev pub number_of : List ℕ → Option ℤ
 number_of [] = None
 number_of (b ∷ bs) =
@@ -74,7 +75,7 @@ abbrev pub number_or_other : Option ℤ → Word
 number_or_other None = words.Other
 number_or_other (Some z) = words.Number z
 
--- what a field is
+-- the meaning of a field
 abbrev pub word_of : List ℕ → Word
 word_of field =
     if begins_with 99 field then words.Comment

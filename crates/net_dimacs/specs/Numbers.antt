@@ -1,4 +1,5 @@
--- The numbers of a problem line as a reader keeps them: cut off at the ends of 64 bits, which changes no fault.
+-- The numbers of a problem line as the reader stores them: saturated to 64 bits, which changes no
+-- error.
 use Rattle.std.specs.Prelude.{◌≡◌, ℕ, ◌-◌, ◌^◌, ◌<◌, ◌≤◌, true, length, take, drop, slice_index, min, if◌then◌else◌, List, [], ◌∷◌, map, codes, ℤ, pos, negsuc, neg_ℤ, suc, Option, Some, None, unwrap_or}
 use Rattle.std.specs.Option.{option_map, option_and_then}
 use Rattle.std.specs.Str.{all_ascii_digits}
@@ -11,7 +12,7 @@ use Rattle.net_dimacs.specs.declared.statement.Kind.TheVariants as kinds
 abbrev pub greatest_signed : ℕ
 greatest_signed = 2 ^ 63 - 1
 
--- cut off at the ends of i64, less its last
+-- saturated to the range -(2^63 - 1) to 2^63 - 1
 abbrev pub cut : ℤ → ℤ
 cut (pos n) = pos (min n greatest_signed)
 cut (negsuc n) = neg_ℤ (pos (min (suc n) greatest_signed))
@@ -22,7 +23,7 @@ cut_statement (statements.Node node supply) = statements.Node (cut node) (cut su
 cut_statement (statements.Arc src dst low cap cost) = statements.Arc (cut src) (cut dst) (cut low) (cut cap) (cut cost)
 cut_statement statements.Other = statements.Other
 
--- what the fields are as numbers
+-- the fields as numbers, or None for a field that is not a number
 abbrev pub Numerals : Type 0
 Numerals = List (Option ℤ)
 
@@ -32,13 +33,14 @@ cut_number field = option_map cut (number_of field)
 abbrev pub cut_numbers : List ℕ → Numerals
 cut_numbers bytes = map cut_number (fields_of bytes)
 
--- the first field, if it is a number, and those behind it
+-- the first field, if it is a number, and the fields after it
 abbrev pub first_number : Numerals → Option (ℤ × Numerals)
 first_number [] = None
 first_number (None ∷ more) = None
 first_number (Some z ∷ more) = Some (z, more)
 
--- the bytes begin with digits, which end at a blank or with the bytes: the number that they are, and what follows
+-- the bytes begin with digits that extend to a space, a tab or the end: their number, and what
+-- follows
 pub record BeginsWithDigits (bytes after : List ℕ) (number : ℤ) : Type 0 where
   pub count : ℕ
   pub some : 0 < count
@@ -49,16 +51,16 @@ pub record BeginsWithDigits (bytes after : List ℕ) (number : ℤ) : Type 0 whe
   pub rest : after ≡ drop count bytes
   pub ends : 0 < length after → is_blank (slice_index after 0) ≡ true
 
--- if no field is left
+-- x, if no field is left
 abbrev pub at_end : {A : Type 0} → A → Numerals → Option A
 at_end x [] = Some x
 at_end x (field ∷ more) = None
 
--- two numbers, and nothing else
+-- exactly two numbers
 abbrev pub two_in : Numerals → Option (ℤ × ℤ)
 two_in fields = option_and_then (λ a. option_and_then (λ b. at_end (a.0, b.0) b.1) (first_number a.1)) (first_number fields)
 
--- the five numbers of an arc, and nothing else
+-- exactly the five numbers of an arc
 abbrev pub arc_in : Numerals → Option Statement
 arc_in fields =
     option_and_then (λ a. option_and_then (λ b. option_and_then (λ c. option_and_then (λ d. option_and_then
@@ -67,12 +69,12 @@ arc_in fields =
 abbrev pub node_in : Numerals → Option Statement
 node_in fields = option_map (λ p. statements.Node p.0 p.1) (two_in fields)
 
--- behind the field `p`
+-- the fields after `p`
 abbrev pub problem_in : List (List ℕ) → Option Statement
 problem_in [] = None
 problem_in (field ∷ more) = if is_text (codes "min") field then option_map (λ p. statements.Problem p.0 p.1) (two_in (map cut_number more)) else None
 
--- the kind of line that a first field begins
+-- the kind of line that a first field indicates
 abbrev pub kind_of : List ℕ → Kind
 kind_of field =
     if begins_with 99 field then kinds.Comment
@@ -84,7 +86,7 @@ kind_of field =
 abbrev pub or_other : Option Statement → Statement
 or_other said = unwrap_or said statements.Other
 
--- what a line of this kind says, behind its first field
+-- the statement of a line of this kind, from the fields after the first
 abbrev pub said_by_kind : Kind → List (List ℕ) → Option Statement
 said_by_kind kinds.Comment fields = None
 said_by_kind kinds.Problem fields = Some (or_other (problem_in fields))

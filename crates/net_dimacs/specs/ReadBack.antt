@@ -1,4 +1,4 @@
--- What is written is read back.
+-- Written files can be read back.
 use Rattle.std.specs.Prelude.{◌≡◌, ℤ, List, length, Ok}
 use Rattle.net_normal.specs.declared.problem.FlowArc.{FlowArc}
 use Rattle.net_normal.specs.Limits.{IsWithinLimits}
@@ -11,7 +11,7 @@ use Rattle.net_dimacs.specs.Written.{problem_text}
 abbrev pub AreProblemsReadBack : Type 0
 AreProblemsReadBack = (supplies : List ℤ) (arcs : List FlowArc) → IsWithinLimits supplies arcs → read_text (problem_text supplies arcs) ≡ Ok (supplies, arcs)
 
--- a certificate for the problem of these supplies and arcs
+-- a certificate for the problem with these supplies and arcs
 abbrev pub AreCertificatesReadBack : Type 0
 AreCertificatesReadBack = (supplies : List ℤ) (arcs : List FlowArc) (account : Account) → IsWithinLimits supplies arcs → IsOfSize (length supplies) arcs account → FitsTypes account
     → certificates.read_text (length supplies) arcs (certificate_text arcs account) ≡ Ok account

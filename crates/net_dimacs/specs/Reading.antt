@@ -1,4 +1,5 @@
--- Reading a DIMACS text line by line, with the first fault (First DIMACS Implementation Challenge, minimum-cost flow).
+-- Reading a DIMACS file line by line, up to the first error (First DIMACS Implementation Challenge,
+-- minimum-cost flow).
 use Rattle.std.specs.Prelude.{◌≡◌, ℕ, ◌+◌, ◌-◌, Bool, true, false, ◌||◌, ◌&&◌, ◌==◌, nat_le, nat_lt, if◌then◌else◌, List, [], ◌∷◌, ◌++◌, length, replicate, map, slice_index_or, slice_set, ℤ, pos, neg_ℤ, unsigned_abs, int_lt, int_le, Option, Some, None, Result, Ok, Err}
 use Rattle.std.specs.Str.Lines.{lines}
 use Rattle.net_normal.specs.Limits.{flow_node_limit, flow_arc_limit, flow_limit, cost_limit}
@@ -16,9 +17,9 @@ use Rattle.net_dimacs.specs.declared.problem_fault.Refusal.{Refusal}
 use Rattle.net_dimacs.specs.declared.problem_fault.ProblemFault.{ProblemFault}
 use Rattle.net_dimacs.specs.declared.problem_fault.ProblemFault.TheVariants as faults
 
--- ---- what a line says
+-- ---- the meaning of a line
 
--- the three kinds of line; a blank line and a comment say nothing
+-- the three kinds of lines; blank lines and comments have no meaning
 abbrev pub said_by : List Word → Option Statement
 said_by [] = None
 said_by (Comment ∷ words) = None
@@ -30,20 +31,21 @@ said_by words = Some statements.Other
 abbrev pub said : List ℕ → Option Statement
 said line = said_by (map word_of (fields_of line))
 
--- ---- what is known after some lines
+-- ---- the state after some lines
 
--- behind the `p` line: the supplies so far, 0 where no line named the node, which nodes a line named, the arcs so far, and ARCS
+-- after the `p` line: the supplies (0 for a node without a line), which nodes had a line, the arcs,
+-- and ARCS
 pub record Sketch : Type 0 where
   pub supplies : List ℤ
   pub named : List Bool
   pub arcs : List FlowArc
   pub arc_count : ℕ
 
--- more than this limit in size
+-- the absolute value of z exceeds the limit
 abbrev pub is_past : ℤ → ℤ → Bool
 is_past limit z = int_lt limit z || int_lt z (neg_ℤ limit)
 
--- a node's place, counted from 0
+-- the index of a node, counted from 0, or None if there is no such node
 abbrev pub place_of : Sketch → ℤ → Option ℕ
 place_of d node = if int_le (pos 1) node && int_le node (pos (length d.supplies)) then Some (unsigned_abs node - 1) else None
 
@@ -87,7 +89,7 @@ abbrev pub with_arc : Sketch → ℤ → ℤ → ℤ → ℤ → ℤ → Result 
 with_arc d src dst low cap cost =
     if nat_le d.arc_count (length d.arcs) then Err Count else with_arc_at d (place_of d src) (place_of d dst) low cap cost
 
--- nothing yet, a problem so far, or the first fault
+-- nothing yet, a partial problem, or the first error
 pub data State : Type 0 where
   Start : State
   Open : Sketch → State
@@ -100,14 +102,14 @@ abbrev pub kept : ℕ → Result Sketch LineFault → State
 kept line (Ok d) = Open d
 kept line (Err fault) = refused line fault
 
--- the first line that says something
+-- the state after the first line with a meaning
 abbrev pub new_state : ℕ → Statement → State
 new_state line (statements.Problem nodes arcs) = kept line (new_sketch nodes arcs)
 new_state line (statements.Node node supply) = refused line NoProblemLine
 new_state line (statements.Arc src dst low cap cost) = refused line NoProblemLine
 new_state line statements.Other = refused line BadLine
 
--- a line behind the `p` line
+-- a line after the `p` line
 abbrev pub next_sketch : Sketch → Statement → Result Sketch LineFault
 next_sketch d (statements.Problem nodes arcs) = Err LineOrder
 next_sketch d (statements.Node node supply) = with_node d node supply
@@ -123,38 +125,38 @@ abbrev pub with_said : ℕ → State → Option Statement → State
 with_said line state None = state
 with_said line state (Some statement) = with_statement line state statement
 
--- ---- a whole text
+-- ---- a whole file
 
 abbrev pub Numbers : Type 0
 Numbers = List ℤ × List FlowArc
 
--- at the end of the text, where a line more would have this number
+-- at the end of the file; `line` is the number of the line after the last
 abbrev pub finished : ℕ → State → Result Numbers Refusal
 finished line Start = Err (record { fault = NoProblemLine; line = line })
 finished line (Open d) = if nat_lt (length d.arcs) d.arc_count then Err (record { fault = Count; line = line }) else Ok (d.supplies, d.arcs)
 finished line (Refused r) = Err r
 
--- the lines from this number on
+-- reads the lines, of which the first has this number
 abbrev pub read_lines : ℕ → State → List (List ℕ) → Result Numbers Refusal
 read_lines number state [] = finished number state
 read_lines number state (line ∷ more) = read_lines (number + 1) (with_said number state (said line)) more
 
--- the problem of a text, or its first fault
+-- the problem of a file, or its first error
 abbrev pub read_text : List ℕ → Result Numbers Refusal
 read_text text = if nat_lt text_limit (length text) then Err (record { fault = TooLarge; line = 1 }) else read_lines 1 Start (lines text)
 
--- ---- what a reader answers
+-- ---- the result of a reader
 
 abbrev pub Fails : Result Numbers Refusal → ProblemFault → Type 0
 Fails read faults.OutOfMemory = Unit {0}
 Fails read (faults.Refused refusal) = read ≡ Err refusal
 
--- a problem or a refusal is what reading gives, unless memory ran out
+-- the result is the problem or the error that the definition gives, unless memory ran out
 abbrev pub Gives : Result Numbers Refusal → Result problems.Problem ProblemFault → Type 0
 Gives read (Ok problem) = read ≡ Ok (problem.supplies.items, problem.arcs.items)
 Gives read (Err e) = Fails read e
 
--- a fact of a refusal, where there is one
+-- P holds for the error, unless memory ran out
 abbrev pub OnRefused : ProblemFault → (Refusal → Type 0) → Type 0
 OnRefused faults.OutOfMemory P = Unit {0}
 OnRefused (faults.Refused refusal) P = P refusal

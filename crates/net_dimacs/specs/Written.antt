@@ -1,10 +1,11 @@
--- The text that is written of a problem (First DIMACS Implementation Challenge, minimum-cost flow): plain decimals, one blank between fields, no comments.
+-- The text written for a problem (First DIMACS Implementation Challenge, minimum-cost flow): plain
+-- decimals, one space between fields, no comments.
 use Rattle.std.specs.Prelude.{ℕ, zero, suc, ◌+◌, ℤ, pos, negsuc, List, [], ◌∷◌, ◌++◌, length, codes}
 use Rattle.std.specs.List.{flat_map}
 use Rattle.std.specs.Fmt.{signed_decimal}
 use Rattle.net_normal.specs.declared.problem.FlowArc.{FlowArc}
 
--- numbers, each behind a blank
+-- numbers, each after a space
 abbrev pub row : List ℤ → List ℕ
 row [] = []
 row (z ∷ zs) = 32 ∷ (signed_decimal z ++ row zs)
@@ -13,14 +14,14 @@ row (z ∷ zs) = 32 ∷ (signed_decimal z ++ row zs)
 abbrev pub line : List ℕ → List ℤ → List ℕ
 line kind zs = kind ++ (row zs ++ 10 ∷ [])
 
--- an index, counted from 0, as a number, counted from 1
+-- a node's number, counted from 1, from its index, counted from 0
 abbrev pub node_number : ℕ → ℤ
 node_number v = pos (v + 1)
 
 abbrev pub head_line : List ℤ → List FlowArc → List ℕ
 head_line supplies arcs = line (codes "p min") (pos (length supplies) ∷ pos (length arcs) ∷ [])
 
--- the line of node v, where its supply is not 0
+-- the line of node v; empty if its supply is 0
 abbrev pub node_line : ℕ → ℤ → List ℕ
 node_line v (pos zero) = []
 node_line v (pos (suc n)) = line (codes "n") (node_number v ∷ pos (suc n) ∷ [])

@@ -1,4 +1,4 @@
-//! A certificate that is being read: its lists so far.
+//! The state of the reader of a certificate: its lists so far.
 
 ghost use Rattle.std.specs.Prelude.{◌≡◌, ◌+◌, ◌-◌, ◌≤◌, ◌==◌, ◌++◌, length, replicate, false, vec_len, Some, IfOk, IsOk, IsErrOf};
 ghost use Rattle.net_dimacs.specs.Certificates.{Cut, account_of};
@@ -13,7 +13,8 @@ use net_check::{Certificate, Side};
 use net_normal::{FlowArc, Problem};
 use std::alloc::{AllocError, Global};
 
-/// The certificate so far with what the line of this number claims.
+/// Adds the claim of the line with this number to a partial certificate. Returns the error of the
+/// line if it is invalid, or `OutOfMemory`.
 pub fn with_claim(
     alloc: Global,
     problem: &Problem,
@@ -34,7 +35,8 @@ pub fn with_claim(
     }
 }
 
-/// The certificate of a text that ends where one more line would have this number.
+/// Completes a certificate at the end of the file; `line` is the number of the line after the last.
+/// Returns an error if lines are missing, or `OutOfMemory`.
 pub fn completed(
     problem: &Problem,
     line: usize,
@@ -117,7 +119,7 @@ fn next_claim(
     }
 }
 
-/// With the node that a line claims.
+/// Adds the node that a line claims.
 fn next_member(
     problem: &Problem,
     flags: Vec<bool>,
@@ -182,7 +184,7 @@ fn with_member(nodes: usize, flags: Vec<bool>, node: Option<u32>) -> Result<Vec<
     Err(LineStop::Line(LineFault::Certificate))
 }
 
-/// With one more number, if it is in its type.
+/// Appends a number. Returns `TooLarge` if it does not fit its type.
 fn with_number(mut numbers: Vec<i64>, number: Option<i64>) -> Result<Vec<i64>, LineStop>
     ensures { GivesList (with_number numbers.items number) result }
 {
@@ -193,7 +195,8 @@ fn with_number(mut numbers: Vec<i64>, number: Option<i64>) -> Result<Vec<i64>, L
     Ok(numbers)
 }
 
-/// The flags of so many nodes: those without one are not in the set.
+/// Extends the flags to `nodes` entries: nodes without a line are not in the set. Fails only if
+/// memory runs out.
 fn with_absent(mut flags: Vec<bool>, nodes: usize) -> Result<Vec<bool>, AllocError>
     ensures { IfOk result (λ all. all.items ≡ flags.items ++ replicate (nodes - length flags.items) false) }
 {
@@ -203,14 +206,14 @@ fn with_absent(mut flags: Vec<bool>, nodes: usize) -> Result<Vec<bool>, AllocErr
     Ok(flags)
 }
 
-/// Whether two places are the ends of an arc.
+/// Returns whether two indices are the tail and the head of an arc.
 fn are_ends(arc: &FlowArc, src: Option<u32>, dst: Option<u32>) -> bool
     ensures { result ≡ are_ends (Some arc.now) src dst }
 {
     is_node(src, arc.src as usize) && is_node(dst, arc.dst as usize)
 }
 
-/// Whether a place is that of this node.
+/// Returns whether an index is that of this node.
 fn is_node(place: Option<u32>, node: usize) -> bool
     ensures { result ≡ is_node place node }
 {

@@ -1,4 +1,4 @@
-//! Certificates from their texts.
+//! Reading certificates.
 
 ghost use Rattle.std.specs.Prelude.{◌≡◌, ◌+◌, ◌<◌, ◌≤◌, ◌⊎◌, length, IfOk, IsErrOf};
 ghost use Rattle.std.specs.Str.Lines.{lines};
@@ -16,34 +16,36 @@ use net_check::Certificate;
 use net_normal::Problem;
 use std::alloc::Global;
 
-/// The certificate of a text for this problem, or the text's first fault and its line, from 1.
+/// Reads the certificate of a problem from a file. Returns the first error, with its line counted
+/// from 1, if there is one.
 ///
-/// The text numbers the problem's nodes from 1; the certificate's lists have a place for each arc
-/// or node in the problem's order. `Certificate` is a line that may not stand there, or a missing
-/// one, which is one past the last; `TooLarge` is a line that may, but for a number outside
-/// its type. A text past 64 MiB is `TooLarge` at line 1, whatever stands in it. Whether the
-/// certificate settles the problem is not asked.
+/// The file numbers the problem's nodes from 1; the certificate's lists are in the problem's order
+/// of arcs and nodes. `Certificate` reports a line that is not allowed at its position, or a
+/// missing line, with the number of the line after the last. `TooLarge` reports a line that is
+/// allowed but has a number outside its type. A file of more than 64 MiB is `TooLarge` at line 1,
+/// whatever its contents. Does not check whether the certificate settles the problem.
 pub fn read_certificate(
     alloc: Global,
     problem: &Problem,
     text: &[u8],
 ) -> Result<Certificate, ProblemFault>
-    // The certificate, or the first fault.
+    // The result is the certificate, or the first error.
     ensures value { Gives (read_text (length problem.now.supplies.items) problem.now.arcs.items text.now) result }
 
-    // What is read is what the text is, and it is no other certificate of the problem.
+    // A certificate that is returned is the content of the file, and the file contains no other
+    // certificate of the problem.
     ensures ok { IfOk result (λ certificate.
         IsCertificateText text.now (length problem.now.supplies.items) problem.now.arcs.items (account_of certificate)) }
     ensures only { IfOk result (λ certificate.
         IsOnlyCertificate text.now (length problem.now.supplies.items) problem.now.arcs.items (account_of certificate)) }
     ensures shape { IfOk result (λ certificate. HasShape problem.now certificate) }
 
-    // A text is refused only where it is no certificate of the problem, or past the limit.
+    // A file is rejected only if it contains no certificate of the problem or exceeds the limit.
     ensures refused { IfRefused result (λ _.
         (text_limit < length text.now) ⊎ IsNoCertificateText text.now (length problem.now.supplies.items) problem.now.arcs.items) }
     ensures place { IfRefused result (λ refusal. (1 ≤ refusal.line) × (refusal.line ≤ length (lines text.now) + 1)) }
 
-    // Memory is asked for only behind a first line that a certificate may have.
+    // Memory is allocated only after a first line that can begin a certificate.
     ensures memory { IsErrOf result ProblemFault.OutOfMemory →
         (length text.now ≤ text_limit) × BeginsCertificate (claims_of text.now) }
 {

@@ -1,4 +1,4 @@
-//! Certificates as texts.
+//! Writing certificates.
 
 ghost use Rattle.std.specs.Prelude.{◌≡◌, ◌<◌, ◌≤◌, ◌++◌, IfOk, OnOk, length};
 ghost use Rattle.net_normal.specs.Limits.{flow_node_limit};
@@ -8,26 +8,28 @@ ghost use Rattle.net_dimacs.specs.CertificateWritten.{value_line, flow_line, flo
 ghost use Rattle.net_dimacs.specs.Written.{line};
 ghost use Rattle.net_dimacs.specs.CertificateWritten.{certificate_text, IsValue, IsAmount, AreAmounts, FitsTypes};
 
+use crate::OutOfMemory;
 use itoa::Buffer;
 use net_check::{Certificate, Side};
 use net_normal::{FlowArc, Problem};
 use std::alloc::{AllocError, Global};
 
-/// The text of a certificate of a problem: its value, a line for each arc with its flow and for
-/// each node with its potential; or the side of a cut, a line for each node of its set.
+/// Formats a certificate of a problem: its value, a line for each arc with its flow and a line for
+/// each node with its potential; or the side of a cut and a line for each node of its set.
 ///
-/// Nodes are numbered from 1, and an arc is named by its two nodes; both come in the problem's
-/// order. Whether the certificate settles the problem is not asked.
+/// Nodes are numbered from 1, and an arc is identified by its two nodes; both are in the problem's
+/// order. Does not check whether the certificate settles the problem. Fails only if memory runs
+/// out.
 pub fn write_certificate(
     alloc: Global,
     problem: &Problem,
     certificate: &Certificate,
-) -> Result<Vec<u8>, AllocError>
+) -> Result<Vec<u8>, OutOfMemory>
     requires { HasShape problem.now certificate.now }
     ensures value { IfOk result (λ text.
         text.items ≡ certificate_text problem.now.arcs.items (account_of certificate.now)) }
 
-    // What is written is that certificate, and no other of the problem.
+    // The text contains this certificate, and no other certificate of the problem.
     ensures ok { IfOk result (λ text.
         IsCertificateText text.items (length problem.now.supplies.items) problem.now.arcs.items (account_of certificate.now)) }
     ensures only { IfOk result (λ text.
@@ -135,7 +137,7 @@ fn push_members(text: &mut Vec<u8>, flags: &[bool]) -> Result<(), AllocError>
     Ok(())
 }
 
-/// Writes one line: its kind, and its numbers, each behind a blank.
+/// Appends one line: its kind, and its numbers, each after a space. Fails only if memory runs out.
 fn push_line(text: &mut Vec<u8>, kind: &[u8], numbers: &[i64]) -> Result<(), AllocError>
     ensures ok { OnOk result (text.new.items ≡ text.old.items ++ line kind.now numbers.now) }
 {

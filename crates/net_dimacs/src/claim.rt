@@ -1,4 +1,4 @@
-//! What a line of a certificate text claims.
+//! The meaning of a line of a certificate file.
 
 ghost use Rattle.std.specs.Prelude.{◌≡◌};
 ghost use Rattle.net_dimacs.specs.Lines.{fields_of};
@@ -8,25 +8,25 @@ use crate::fields::split_field;
 use crate::integer::{Numbers, numbers_of};
 use net_check::Side;
 
-/// What a line claims that is not skipped. Nodes are counted from 0. A number outside its type
-/// is `None`.
+/// The meaning of a line that is neither blank nor a comment. Nodes are counted from 0. A number
+/// that does not fit its type is `None`.
 #[derive(Clone, Copy)]
 pub enum Claim {
-    /// The value, as `s 8`.
+    /// The value, as in `s 8`.
     Value(Option<i128>),
-    /// An arc's two nodes and its flow, as `f 1 2 4`.
+    /// An arc's tail and head and its flow, as in `f 1 2 4`.
     Flow(Option<u32>, Option<u32>, Option<i64>),
-    /// A node and its potential, as `v 2 1`.
+    /// A node and its potential, as in `v 2 1`.
     Potential(Option<u32>, Option<i64>),
-    /// The side of a cut, as `x over`.
+    /// The side of a cut, as in `x over`.
     Side(Side),
-    /// A node of a cut, as `m 3`.
+    /// A node of a cut, as in `m 3`.
     Member(Option<u32>),
     /// Anything else, as `q` or `f 1 2`.
     Other,
 }
 
-/// What a first field says of its line.
+/// The kind of line that a first field indicates.
 #[derive(Clone, Copy)]
 pub enum Mark {
     /// It begins with `c`.
@@ -45,7 +45,7 @@ pub enum Mark {
     Other,
 }
 
-/// What a line claims. A blank line and a comment claim nothing.
+/// Parses a line. Returns `None` for a blank line and for a comment.
 pub fn claim_of(line: &[u8]) -> Option<Claim>
     ensures { result ≡ claimed line.now }
 {

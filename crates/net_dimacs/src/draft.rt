@@ -1,4 +1,4 @@
-//! A problem that is being read.
+//! The state of the reader of a problem.
 
 ghost use Rattle.std.specs.Prelude.{◌≡◌, ◌<◌, ◌≤◌, true, All, ◌++◌, ◌∷◌, [], vec_len, vec_capacity, slice_set, pos, ◌≤ℤ◌, IfSome, IsNone};
 ghost use Rattle.net_normal.specs.Limits.{IsSized, IsFlowArcOf, flow_node_limit, flow_arc_limit, flow_limit, cost_limit};
@@ -10,16 +10,16 @@ use crate::statement::Statement;
 use net_normal::{COST_LIMIT, FLOW_ARC_LIMIT, FLOW_LIMIT, FLOW_NODE_LIMIT, FlowArc, Problem};
 use std::alloc::Global;
 
-/// What the lines from the `p` line on said so far.
+/// The content of the lines from the `p` line on, so far.
 #[derive(Drop)]
 pub struct Draft {
-    /// The supply of each node, 0 where no line named it.
+    /// The supply of each node, 0 if no line has set it.
     pub supplies: Vec<i64>,
-    /// Whether a line named the node.
+    /// For each node, whether a line has set its supply.
     pub named: Vec<bool>,
     /// The arcs so far.
     pub arcs: Vec<FlowArc>,
-    /// How many arcs the `p` line announced.
+    /// The number of arcs in the `p` line.
     pub arc_count: usize,
     pub ghost some_node: { 1 ≤ vec_len supplies },
     pub ghost few_nodes: { vec_len supplies ≤ flow_node_limit },
@@ -35,7 +35,8 @@ impl Draft {
     ghost use Rattle.net_dimacs.specs.Reading.{place_of, new_sketch, with_node, with_arc, next_sketch};
     ghost use Rattle.net_dimacs.specs.Drafts.{sketch_of, GivesDraft, GivesSketch};
 
-    /// What a `p` line announces. Its counts are tested before memory is asked for.
+    /// Starts a problem with the counts of a `p` line. Checks the counts before it allocates
+    /// memory.
     pub fn new(alloc: Global, nodes: i64, arcs: i64) -> Result<Draft, LineStop>
         ensures { GivesDraft (new_sketch nodes arcs) result }
     {
@@ -55,7 +56,7 @@ impl Draft {
         })
     }
 
-    /// Takes what the next line says. It needs no memory.
+    /// Adds the next line. Allocates no memory.
     pub fn take(&mut self, statement: Statement) -> Result<(), LineFault>
         ensures { GivesSketch (next_sketch (sketch_of self.old) statement) result (sketch_of self.new) }
     {
@@ -67,7 +68,7 @@ impl Draft {
         }
     }
 
-    /// Takes the supply of a node.
+    /// Sets the supply of a node.
     fn take_node(&mut self, node: i64, supply: i64) -> Result<(), LineFault>
         ensures { GivesSketch (with_node (sketch_of self.old) node supply) result (sketch_of self.new) }
     {
@@ -87,7 +88,7 @@ impl Draft {
         Ok(())
     }
 
-    /// Takes one more arc.
+    /// Adds an arc.
     fn take_arc(
         &mut self,
         src: i64,
@@ -120,7 +121,7 @@ impl Draft {
         Ok(())
     }
 
-    /// The problem that the lines said.
+    /// Returns the complete problem.
     pub fn problem(self) -> Problem
         ensures supplies { result.supplies.items ≡ self.supplies.items }
         ensures arcs { result.arcs.items ≡ self.arcs.items }
@@ -131,7 +132,7 @@ impl Draft {
         }
     }
 
-    /// Where a node stands, if a number is that of a node.
+    /// Returns the index of a node from its number, or `None` if there is no such node.
     fn place_of(&self, node: i64) -> Option<u32>
         ensures value { result ≡ place_of (sketch_of self.now) node }
         ensures within { IfSome result (λ place. place < vec_len self.now.supplies) }
@@ -164,7 +165,7 @@ impl Draft {
     }
 }
 
-/// Whether a number is past a limit, of either sign.
+/// Returns whether the absolute value of a number exceeds `limit`.
 fn is_past(limit: i64, number: i64) -> bool
     requires { pos 0 ≤ℤ limit }
     ensures { result ≡ is_past limit number }
@@ -172,7 +173,7 @@ fn is_past(limit: i64, number: i64) -> bool
     number > limit || number < -limit
 }
 
-/// What is wrong with the bounds and the cost of an arc.
+/// Returns the error in the bounds and the cost of an arc, if there is one.
 fn bounds_fault(low: i64, cap: i64, cost: i64) -> Option<LineFault>
     ensures value { result ≡ bounds_fault low cap cost }
     ensures low { IsNone result → pos 0 ≤ℤ low }

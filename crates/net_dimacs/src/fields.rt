@@ -1,13 +1,13 @@
-//! The front of a text, line by line, and of a line, field by field.
+//! Splitting a text into lines, and a line into fields.
 
 ghost use Rattle.std.specs.Prelude.{◌≡◌, ◌==◌, not, true, ◌-◌, ◌<◌, ◌≤◌, slice_index, ◌∷◌, [], length, drop, IfSome, MatchOption};
 ghost use Rattle.std.specs.List.{position, AllByRecursion};
 ghost use Rattle.std.specs.Str.Lines.{lines, strip_carriage_return};
 ghost use Rattle.net_dimacs.specs.Lines.{is_blank, is_feed, fields_of, HasNone, IsFirstField};
 
-/// The first line of a text and the text after it, if a line is left.
+/// Splits off the first line of a text. Returns `None` if the text is empty.
 ///
-/// The line lacks its LF and a CR before that. A CR that ends a text stays.
+/// Removes the LF of the line and a CR before it. A CR at the end of the text stays.
 pub fn split_line(text: &[u8]) -> Option<(&[u8], &[u8])>
     ensures parts { MatchOption result (lines text.now ≡ []) (λ p. lines text.now ≡ p.0.now ∷ lines p.1.now) }
     ensures shorter { IfSome result (λ p. length p.1.now < length text.now) }
@@ -23,7 +23,7 @@ pub fn split_line(text: &[u8]) -> Option<(&[u8], &[u8])>
     Some((without_return(line), &rest[1..]))
 }
 
-/// Where the bytes end that end with the last LF, or the front, where there is none.
+/// Returns the length of the prefix that ends with the last LF, or 0 if there is none.
 pub fn after_last_feed(bytes: &[u8]) -> usize
     ensures within { result ≤ length bytes.now }
     ensures feed { 0 < result → slice_index bytes.now (result - 1) ≡ 10 }
@@ -36,14 +36,14 @@ pub fn after_last_feed(bytes: &[u8]) -> usize
     end
 }
 
-/// Where the first LF stands.
+/// Returns the index of the first LF.
 pub fn first_feed(text: &[u8]) -> Option<usize>
     ensures { result ≡ position (λ b. b == 10) text.now }
 {
     text.iter().position(|byte| *byte == b'\n')
 }
 
-/// A line without the CR at its end, where there is one.
+/// Removes a CR at the end of a line, if there is one.
 fn without_return(line: &[u8]) -> &[u8]
     ensures { result.now ≡ strip_carriage_return line.now }
 {
@@ -53,7 +53,7 @@ fn without_return(line: &[u8]) -> &[u8]
     &line[..line.len() - 1]
 }
 
-/// The first field of some bytes and the bytes after it, if a field is left.
+/// Splits off the first field of some bytes. Returns `None` if there is no field.
 pub fn split_field(bytes: &[u8]) -> Option<(&[u8], &[u8])>
     ensures parts { MatchOption result (fields_of bytes.now ≡ []) (λ p. fields_of bytes.now ≡ p.0.now ∷ fields_of p.1.now) }
     ensures cut { MatchOption result (AllByRecursion (λ b. is_blank b ≡ true) bytes.now) (λ p. IsFirstField bytes.now p.0.now p.1.now) }
@@ -68,21 +68,21 @@ pub fn split_field(bytes: &[u8]) -> Option<(&[u8], &[u8])>
     Some(rest.split_at(end))
 }
 
-/// Where the first byte stands that is no blank.
+/// Returns the index of the first byte that is neither a space nor a tab.
 fn first_other(bytes: &[u8]) -> Option<usize>
     ensures { result ≡ position (λ b. not (is_blank b)) bytes.now }
 {
     bytes.iter().position(|byte| !is_blank(*byte))
 }
 
-/// Where the first blank stands.
+/// Returns the index of the first space or tab.
 fn first_blank(bytes: &[u8]) -> Option<usize>
     ensures { result ≡ position is_blank bytes.now }
 {
     bytes.iter().position(|byte| is_blank(*byte))
 }
 
-/// Whether a byte separates fields: a blank or a tab.
+/// Returns whether a byte separates fields: a space or a tab.
 #[inline(always)]
 pub fn is_blank(byte: u8) -> bool
     ensures { result ≡ is_blank byte }

@@ -1,4 +1,4 @@
-//! Whole numbers of a certificate text.
+//! Integers of a certificate file.
 
 ghost use Rattle.std.specs.Prelude.{◌≡◌, ◌≤◌, ℕ, ◌-◌, ◌^◌, ℤ, pos, neg_ℤ, min, map, if◌then◌else◌};
 ghost use Rattle.std.specs.Option.{option_map};
@@ -8,27 +8,27 @@ ghost use Rattle.net_dimacs.specs.Numerals.{with_digit, size_after, size_of, wit
 
 use crate::fields::split_field;
 
-/// A number of any length, as far as it matters.
+/// An integer with any number of digits.
 #[derive(Clone, Copy)]
 pub enum Integer {
     Of(i128),
-    /// It is outside `i128`.
+    /// The integer does not fit `i128`.
     TooLarge,
 }
 
-/// Numbers that stand on a line behind its first field.
+/// The numbers after the first field of a line.
 #[derive(Clone, Copy)]
 pub enum Numbers {
     Zero,
     One(Integer),
     Two(Integer, Integer),
     Three(Integer, Integer, Integer),
-    /// Something else, or more of them.
+    /// Anything else, or more than three numbers.
     Other,
 }
 
 impl Integer {
-    /// The number, if it is within `i128`.
+    /// Returns the number if it fits `i128`.
     pub fn value(self) -> Option<i128>
         ensures { result ≡ value_of self }
     {
@@ -38,7 +38,7 @@ impl Integer {
         }
     }
 
-    /// The number, if it is within `i64`.
+    /// Returns the number if it fits `i64`.
     pub fn amount(self) -> Option<i64>
         ensures { result ≡ amount_of self }
     {
@@ -50,7 +50,7 @@ impl Integer {
         }
     }
 
-    /// The place of the node of this number: they are numbered from 1, and their places count from 0.
+    /// Returns the index of a node, counted from 0, from its number, counted from 1.
     pub fn place(self) -> Option<u32>
         ensures { result ≡ place_of self }
     {
@@ -67,7 +67,7 @@ impl Integer {
 const GREATEST: i128 = 9_223_372_036_854_775_807;
 
 impl Numbers {
-    /// With one field more: a number, or something else.
+    /// Adds a field: a number, or `None` for anything else.
     #[inline(always)]
     fn with(self, next: Option<Integer>) -> Numbers
         ensures { result ≡ with_integer self next }
@@ -81,7 +81,7 @@ impl Numbers {
     }
 }
 
-/// The numbers of the fields of some bytes.
+/// Parses all fields as numbers.
 pub fn numbers_of(bytes: &[u8]) -> Numbers
     ensures { result ≡ numbers_in (map number_of (fields_of bytes.now)) }
 {
@@ -94,7 +94,7 @@ pub fn numbers_of(bytes: &[u8]) -> Numbers
     numbers
 }
 
-/// The number that a field is, if it is one: an optional sign and digits.
+/// Parses a field as an optional sign and digits.
 fn integer_of(field: &[u8]) -> Option<Integer>
     ensures { result ≡ option_map integer_of (number_of field.now) }
 {
@@ -106,7 +106,7 @@ fn integer_of(field: &[u8]) -> Option<Integer>
     }
 }
 
-/// The number of this sign and size.
+/// Returns the number with this sign and absolute value.
 fn signed(negative: bool, size: u128) -> Integer
     ensures { (n : ℕ) → size ≡ min n (2 ^ 128 - 1) → result ≡ integer_of (if negative then neg_ℤ (pos n) else pos n) }
 {
@@ -121,7 +121,8 @@ fn signed(negative: bool, size: u128) -> Integer
     }
 }
 
-/// The number that digits are, cut off at the end of `u128`, if they are digits.
+/// Parses digits, saturating at `u128::MAX`. Returns `None` if a byte is not a digit or there are
+/// none.
 fn size_of(digits: &[u8]) -> Option<u128>
     ensures { result ≡ option_map (λ n. min n (2 ^ 128 - 1)) (natural_of digits.now) }
 {
@@ -133,7 +134,8 @@ fn size_of(digits: &[u8]) -> Option<u128>
     long_size_of(digits)
 }
 
-/// The number that digits are, cut off at the end of `u64`, if they are digits.
+/// Parses digits, saturating at `u64::MAX`. Returns `None` if a byte is not a digit or there are
+/// none.
 pub fn short_size_of(digits: &[u8]) -> Option<u64>
     ensures { result ≡ size_of (2 ^ 64 - 1) digits.now }
 {
@@ -156,7 +158,8 @@ fn with_short_digit(size: u64, digit: u8) -> u64
         .saturating_add(u64::from(digit - b'0'))
 }
 
-/// The number that digits are, cut off at the end of `u128`, if they are digits.
+/// Parses digits, saturating at `u128::MAX`. Returns `None` if a byte is not a digit or there are
+/// none.
 #[inline(never)]
 fn long_size_of(digits: &[u8]) -> Option<u128>
     ensures { result ≡ size_of (2 ^ 128 - 1) digits.now }

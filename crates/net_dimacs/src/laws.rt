@@ -1,9 +1,9 @@
-//! Laws of texts; they run nothing.
+//! Theorems about written files. The functions are empty: their contracts state theorems.
 
 ghost use Rattle.net_dimacs.specs.ReadBack as read_back;
 
-/// What is written of a problem within the limits, and of a certificate for one, is no longer than a text may be, and is read
-/// as that problem and that certificate.
+/// Theorem: the text written for a problem within the limits, or for a certificate of one, is
+/// within the size limit and is read back as the same problem or certificate.
 pub fn written_texts_are_read_back()
     ensures problems { read_back.AreProblemsReadBack }
     ensures certificates { read_back.AreCertificatesReadBack }

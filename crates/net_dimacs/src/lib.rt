@@ -1,4 +1,5 @@
-//! Texts of minimum-cost flow problems in the DIMACS format and of their certificates.
+//! The DIMACS file format for minimum-cost flow problems, and the file format of their
+//! certificates.
 #![tactic(auto)]
 
 mod certificate_draft;
@@ -31,3 +32,4 @@ pub use problem_fault::{LineFault, ProblemFault, Refusal};
 pub use problem_reader::read_problem;
 pub use problem_writer::{write_problem, write_problem_to};
 pub use reading::Reading;
+pub use std::alloc::AllocError as OutOfMemory;

@@ -1,4 +1,4 @@
-//! The limit of texts.
+//! The size limit of files.
 
-/// The most bytes of a problem text or a certificate text: 64 MiB.
+/// The maximum size of a problem file or a certificate file: 64 MiB.
 pub const TEXT_LIMIT: usize = 64 * 1024 * 1024;

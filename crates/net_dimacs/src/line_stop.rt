@@ -1,4 +1,4 @@
-//! Why a line was not taken.
+//! Why a line was not accepted.
 
 ghost use Rattle.std.specs.Prelude.{◌≡◌};
 ghost use Rattle.net_dimacs.specs.declared.line_stop.LineStop.TheVariants as line_stops;
@@ -6,7 +6,7 @@ ghost use Rattle.net_dimacs.specs.declared.line_stop.LineStop.TheVariants as lin
 use crate::problem_fault::LineFault;
 use std::alloc::{AllocError, AllocFailed};
 
-/// Why a line was not taken.
+/// Why a line was not accepted.
 #[derive(Clone, Copy)]
 pub enum LineStop {
     OutOfMemory,

@@ -1,4 +1,4 @@
-//! Numbers of a text: the one scanner of fields that are numbers.
+//! Numbers of a file: the one scanner of fields that are numbers.
 
 ghost use Rattle.std.specs.Prelude.{◌≡◌, ℕ, ◌-◌, ◌^◌, ◌<◌, ◌≤◌, ◌∷◌, List, Some, None, true, IfSome, MatchOption, length, take, min, neg_ℤ, pos, if◌then◌else◌};
 ghost use Rattle.std.specs.Option.{option_map};
@@ -9,7 +9,8 @@ ghost use Rattle.net_dimacs.specs.Numbers.{cut, cut_number, cut_numbers, first_n
 use crate::fields::{is_blank, split_field};
 use crate::integer::short_size_of;
 
-/// The number that the first field of some bytes is, cut off, and the bytes after the field, if it is one.
+/// Splits off the first field of some bytes as a saturated number. Returns `None` if it is not a
+/// number.
 #[inline(always)]
 pub fn split_number(bytes: &[u8]) -> Option<(i64, &[u8])>
     ensures { MatchOption result (first_number (cut_numbers bytes.now) ≡ None)
@@ -31,7 +32,7 @@ fn split_any_number(bytes: &[u8]) -> Option<(i64, &[u8])>
     Some((number, rest))
 }
 
-/// The number that a field is, cut off, if it is one: an optional sign and digits.
+/// Parses a field as an optional sign and digits, saturating.
 fn cut_number(field: &[u8]) -> Option<i64>
     ensures { result ≡ cut_number field.now }
 {
@@ -43,14 +44,16 @@ fn cut_number(field: &[u8]) -> Option<i64>
     }
 }
 
-/// The number that digits are, cut off at the end of `u64`, if they are digits.
+/// Parses digits, saturating at `u64::MAX`. Returns `None` if a byte is not a digit or there are
+/// none.
 fn size_of(digits: &[u8]) -> Option<u64>
     ensures { result ≡ option_map (λ n. min n (2 ^ 64 - 1)) (natural_of digits.now) }
 {
     short_size_of(digits)
 }
 
-/// The number of this sign and size, cut off at the ends of `i64` less its last.
+/// Returns the number with this sign and absolute value, saturated to the range -(2^63 - 1) to 2^63
+/// - 1.
 fn signed(negative: bool, size: u64) -> i64
     ensures { (n : ℕ) → size ≡ min n (2 ^ 64 - 1) → result ≡ cut (if negative then neg_ℤ (pos n) else pos n) }
 {
@@ -58,8 +61,8 @@ fn signed(negative: bool, size: u64) -> i64
     if negative { -size } else { size }
 }
 
-/// The number that the first field of some bytes is, and the bytes after the field, where one blank stands before it, no
-/// `+`, and at most 18 digits. Most numbers stand so.
+/// Splits off the first field as a number in the most frequent form: one space or tab before it, no
+/// `+`, and at most 18 digits.
 #[inline(always)]
 pub fn split_short_number(bytes: &[u8]) -> Option<(i64, &[u8])>
     ensures number { IfSome result (λ p. (field : List ℕ) × (fields_of bytes.now ≡ field ∷ fields_of p.1.now) × (number_of field ≡ Some p.0)) }
@@ -79,7 +82,8 @@ pub fn split_short_number(bytes: &[u8]) -> Option<(i64, &[u8])>
     }
 }
 
-/// The number that the digits before the first blank are, and the bytes from there on.
+/// Parses the digits up to the first space or tab; returns the number and the bytes after the
+/// digits.
 #[inline(always)]
 fn split_digits(bytes: &[u8]) -> Option<(i64, &[u8])>
     ensures { IfSome result (λ p. BeginsWithDigits bytes.now p.1.now p.0) }
@@ -95,7 +99,7 @@ fn split_digits(bytes: &[u8]) -> Option<(i64, &[u8])>
     }
 }
 
-/// The number that the digits in front are, at most 18 of them, and how many they are.
+/// Parses at most 18 digits at the beginning; returns the number and the count of digits.
 #[inline(always)]
 fn leading_digits(bytes: &[u8]) -> (u64, usize)
     ensures within { result.1 ≤ length bytes.now }

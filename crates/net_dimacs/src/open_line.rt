@@ -1,4 +1,4 @@
-//! What is kept of a line that is not whole yet.
+//! The buffer for an incomplete line.
 
 ghost use Rattle.std.specs.Prelude.{◌≡◌, ◌+◌, ◌<◌, ◌≤◌, ◌++◌, OnOk, length, vec_len};
 ghost use Rattle.arrayvec.specs.ArrayVec.{array_vec_len};
@@ -13,19 +13,20 @@ use arrayvec::ArrayVec;
 use itoa::Buffer;
 use std::alloc::AllocError;
 
-/// No more bytes of a line that is not whole yet are kept: seven fields, a blank behind each, and its last byte.
+/// The maximum number of bytes stored of an incomplete line: seven fields, a space after each, and
+/// the last byte.
 const OPEN_LINE: usize = 155;
 
-/// No field that is longer is kept as it is: a sign and a number of 64 bits have as many bytes.
+/// The maximum length of a field that is stored unchanged: a sign and a number of 64 bits.
 const OPEN_FIELD: usize = 21;
 
-/// No line that says something has as many fields.
+/// A line with this many fields is invalid.
 const TOO_MANY: usize = 7;
 
-/// What is kept of a line.
+/// A shortened line.
 type Front = ArrayVec<u8, OPEN_LINE>;
 
-/// Shortens the bytes of a line that is not whole yet to what decides.
+/// Shortens an incomplete line to the bytes that determine its meaning.
 ///
 /// The last byte stays, since it may be a CR.
 pub fn shorten(pending: &mut Vec<u8>) -> Result<(), AllocError>
@@ -48,7 +49,7 @@ pub fn shorten(pending: &mut Vec<u8>) -> Result<(), AllocError>
     Ok(())
 }
 
-/// A front of a line, each field cut to what decides, and no more fields than decide.
+/// Returns a shortened line: the fields that determine its meaning, each shortened.
 fn front_of(line: &[u8]) -> Front
     requires { HasNone is_feed line.now }
     ensures alike { IsSaidAlike result.items line.now }
@@ -71,7 +72,7 @@ fn front_of(line: &[u8]) -> Front
     front
 }
 
-/// Puts what decides of a field behind the fields before it.
+/// Appends the shortened form of a field.
 fn push_field(front: &mut Front, field: &[u8])
     requires { array_vec_len front.old + OPEN_FIELD ≤ OPEN_LINE }
     ensures text { front.new.items ≡ front.old.items ++ short_field field.now }
@@ -98,7 +99,8 @@ fn push_long_field(front: &mut Front, field: &[u8])
     }
 }
 
-/// Puts a sign and the number that digits are, or what is no field of any line.
+/// Appends a sign and the number of the digits, or `x` if they are not digits, which is invalid in
+/// any line.
 fn push_number(front: &mut Front, sign: u8, digits: &[u8])
     requires { array_vec_len front.old + OPEN_FIELD ≤ OPEN_LINE }
     ensures text { front.new.items ≡ front.old.items ++ short_number sign digits.now }

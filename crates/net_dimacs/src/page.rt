@@ -1,4 +1,4 @@
-//! A page of lines that is held back until it goes out whole.
+//! An output buffer of one page.
 
 ghost use Rattle.std.specs.Prelude.{◌≡◌, ◌+◌, ◌≤◌, ◌||◌, [], ◌∷◌, ◌++◌, OnOk, is_err, length};
 ghost use Rattle.std.specs.Fmt.{signed_decimal};
@@ -10,16 +10,17 @@ use arrayvec::ArrayVec;
 use itoa::Buffer;
 use net_io::{Failed, Sink, write_whole};
 
-/// How many bytes a page holds.
+/// The size of the buffer in bytes.
 const PAGE: usize = 4096;
 
-/// No line is longer: a kind of 8 bytes, five numbers of 40 bytes, each behind a blank, and LF.
+/// The maximum length of a line: a kind of 8 bytes, five numbers of 40 bytes, each after a space,
+/// and LF.
 const LINE: usize = 214;
 
-/// Bytes that are held back.
+/// The buffered bytes.
 pub type Page = ArrayVec<u8, PAGE>;
 
-/// Puts a line on the page. Where there might be no room for it, what is held goes out first.
+/// Appends a line to the buffer. Writes the buffer out first if the line may not fit.
 pub fn send_line<W: Sink>(
     sink: &mut W,
     page: &mut Page,

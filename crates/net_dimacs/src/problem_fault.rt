@@ -1,4 +1,4 @@
-//! Why a problem text or a certificate text was not read.
+//! Errors of reading a problem file or a certificate file.
 
 ghost use Rattle.std.specs.Prelude.{◌≡◌};
 ghost use Rattle.net_dimacs.specs.declared.problem_fault.ProblemFault.TheVariants as faults;
@@ -6,32 +6,34 @@ ghost use Rattle.net_dimacs.specs.Faults.{number_of, name_of};
 
 use std::alloc::AllocError;
 use std::fmt;
+use thiserror::Error;
 
-/// What is wrong with a line, or missing at the end of the text.
-#[derive(Clone, Copy, Debug, PartialEq, Eq)]
+/// The error in a line, or of a missing line at the end of the file.
+#[derive(Clone, Copy, Debug, PartialEq, Eq, Error)]
 pub enum LineFault {
-    /// Another kind of line, number of fields or form of number, as `a 1 2`.
+    /// The kind of line, the number of fields or the form of a number is invalid, as in `a 1 2`.
     BadLine,
-    /// No `p` line stands before, as in the text `n 1 4`, or none at all.
+    /// There is no `p` line before this line, as in the file `n 1 4`, or none at all.
     NoProblemLine,
     /// A second `p` line, or an `n` line after an `a` line.
     LineOrder,
-    /// A node outside 1 to NODES, as `n 3 1` below `p min 2 0`.
+    /// A node outside 1 to NODES, as in `n 3 1` after `p min 2 0`.
     NodeNumber,
     /// A second `n` line for a node.
     DoubleNode,
-    /// One `a` line too many or too few, NODES below 1, or a negative ARCS, as `p min 0 0`.
+    /// Too many or too few `a` lines, NODES below 1, or a negative ARCS, as in `p min 0 0`.
     Count,
-    /// LOW below 0 or above CAP, as `a 1 2 5 3 1`.
+    /// LOW below 0 or above CAP, as in `a 1 2 5 3 1`.
     Bounds,
-    /// A number past its limit, as `p min 20001 0`, or a text past its own.
+    /// A number exceeds its limit, as in `p min 20001 0`, or the file does.
     TooLarge,
-    /// Not the line that a certificate of the problem has there, as `v 2 0` first, or a missing one.
+    /// A line that is not the one that a certificate of the problem has at this position, as
+    /// `v 2 0` at the beginning, or a missing line.
     Certificate,
 }
 
 impl LineFault {
-    /// The number of the fault, from 70 to 78.
+    /// Returns the number of the error, from 70 to 78.
     pub fn number(self) -> u8
         ensures { result ≡ number_of self }
     {
@@ -48,7 +50,7 @@ impl LineFault {
         }
     }
 
-    /// The name of the fault.
+    /// Returns the name of the error.
     pub fn name(self) -> &'static str
         ensures { result.now ≡ name_of self }
     {
@@ -66,11 +68,25 @@ impl LineFault {
     }
 }
 
-/// A fault and its line.
-#[derive(Clone, Copy, Debug, PartialEq, Eq)]
+impl fmt::Display for LineFault {
+    ghost use Rattle.std.specs.Prelude.{Some};
+    ghost use Rattle.net_dimacs.specs.Faults.{line_fault_text};
+
+    ghost output = { λ fault. Some (line_fault_text fault) };
+
+    /// Writes the code and the name: `E75 Count`.
+    fn fmt<W: fmt::Write>(&self, f: &mut fmt::Formatter<W>) -> fmt::Result {
+        let number = self.number();
+        let name = self.name();
+        write!(f, "E{number} {name}")
+    }
+}
+
+/// An error and its line.
+#[derive(Clone, Copy, Debug, PartialEq, Eq, Error)]
 pub struct Refusal {
     pub fault: LineFault,
-    /// The number of the line, from 1. Where something is missing at the end, it is one past the last.
+    /// The number of the line, from 1. For a missing line, the number of the line after the last.
     pub line: usize,
 }
 
@@ -80,30 +96,45 @@ impl fmt::Display for Refusal {
 
     ghost output = { λ refusal. Some (refusal_text refusal) };
 
-    /// As `E76 Bounds problem 2`. The fault of another text than a problem's is named by its caller.
+    /// Prints the error in the form `E76 Bounds problem 2`. For other files than problems, the
+    /// caller prints the name of the input.
     fn fmt<W: fmt::Write>(&self, f: &mut fmt::Formatter<W>) -> fmt::Result {
-        let number = self.fault.number();
-        let name = self.fault.name();
+        let fault = self.fault;
         let line = self.line;
-        write!(f, "E{number} {name} problem {line}")
+        write!(f, "{fault} problem {line}")
     }
 }
 
-/// Why a problem text or a certificate text was not read.
-#[derive(Clone, Copy, Debug, PartialEq, Eq)]
+/// Why a problem file or a certificate file was not read.
+#[derive(Clone, Copy, Debug, PartialEq, Eq, Error)]
 pub enum ProblemFault {
-    /// There was no memory for the problem or the certificate.
+    /// Allocation failed.
     OutOfMemory,
-    /// The text is no problem text, or no certificate text of its problem: its first fault.
+    /// The file is not a valid problem, or not a valid certificate of its problem: its first error.
     Refused(Refusal),
 }
 
 impl ProblemFault {
-    /// A fault and its line.
+    /// Builds the error of a line.
     pub(crate) fn refused(fault: LineFault, line: usize) -> ProblemFault
         ensures { result ≡ ProblemFault.Refused (record { fault = fault; line = line }) }
     {
         ProblemFault::Refused(Refusal { fault, line })
+    }
+}
+
+impl fmt::Display for ProblemFault {
+    ghost use Rattle.std.specs.Prelude.{Some};
+    ghost use Rattle.net_dimacs.specs.Faults.{problem_fault_text};
+
+    ghost output = { λ fault. Some (problem_fault_text fault) };
+
+    /// Writes `out of memory`, or the error with its line: `E76 Bounds problem 2`.
+    fn fmt<W: fmt::Write>(&self, f: &mut fmt::Formatter<W>) -> fmt::Result {
+        match self {
+            ProblemFault::OutOfMemory => f.write_str("out of memory"),
+            ProblemFault::Refused(refusal) => write!(f, "{refusal}"),
+        }
     }
 }
 

@@ -1,4 +1,4 @@
-//! Problems from DIMACS texts.
+//! Reading problems from DIMACS files.
 
 ghost use Rattle.std.specs.Prelude.{◌≡◌, ◌+◌, ◌<◌, ◌≤◌, ◌⊎◌, length, IfOk, IsErrOf};
 ghost use Rattle.std.specs.Str.Lines.{lines};
@@ -12,22 +12,24 @@ use crate::scan::Scan;
 use net_normal::Problem;
 use std::alloc::Global;
 
-/// The problem of a text, or its first fault.
+/// Reads a problem from a file. Returns the first error if there is one.
 ///
-/// Memory is asked for at the `p` line, and then no more.
+/// Allocates memory only at the `p` line.
 pub fn read_problem(alloc: Global, text: &[u8]) -> Result<Problem, ProblemFault>
-    // The problem, or the first fault.
+    // The result is the problem, or the first error.
     ensures value { Gives (read_text text.now) result }
 
-    // What is read is what the text is, and it is no other problem.
+    // A problem that is returned is the content of the file, and the file contains no other
+    // problem.
     ensures ok { IfOk result (λ problem. IsProblemText text.now problem.supplies.items problem.arcs.items) }
     ensures only { IfOk result (λ problem. IsOnlyProblem text.now problem.supplies.items problem.arcs.items) }
 
-    // A text is refused only where it is no problem, or past the limit.
+    // A file is rejected only if it contains no problem or exceeds the limit.
     ensures refused { IfRefused result (λ _. (text_limit < length text.now) ⊎ IsNoProblemText text.now) }
     ensures place { IfRefused result (λ refusal. (1 ≤ refusal.line) × (refusal.line ≤ length (lines text.now) + 1)) }
 
-    // Memory is asked for only behind a `p` line of counts within the limits, which nothing but blank lines and comments precedes.
+    // Memory is allocated only after a `p` line with counts within the limits, before which there
+    // are only blank lines and comments.
     ensures memory { IsErrOf result ProblemFault.OutOfMemory →
         (length text.now ≤ text_limit) × BeginsProblem (statements_of text.now) }
 {

@@ -1,4 +1,4 @@
-//! Problems as DIMACS texts, which go out while they are made.
+//! Writing problems as DIMACS files, with streaming output.
 
 ghost use Rattle.std.specs.Prelude.{◌≡◌, ◌<◌, ◌≤◌, ◌||◌, IfOk, OnOk, OnErr, is_err, length};
 ghost use Rattle.std.specs.List.{flat_map};
@@ -9,17 +9,19 @@ ghost use Rattle.net_dimacs.specs.Written.{head_line, node_line, node_lines, arc
 ghost use Rattle.net_dimacs.specs.Problems.{IsProblemText, IsOnlyProblem};
 ghost use Rattle.net_dimacs.specs.Sending.{Sends};
 
+use crate::OutOfMemory;
 use crate::page::{Page, send_line};
 use net_io::{Failed, GrowingSink, Sink, write_whole};
 use net_normal::{FlowArc, Problem};
 use std::alloc::{AllocError, Global};
 
-/// The text of a problem: its counts, a line for each supply other than 0, a line for each arc.
-pub fn write_problem(alloc: Global, problem: &Problem) -> Result<Vec<u8>, AllocError>
+/// Formats a problem: its counts, a line for each nonzero supply, and a line for each arc. Fails
+/// only if memory runs out.
+pub fn write_problem(alloc: Global, problem: &Problem) -> Result<Vec<u8>, OutOfMemory>
     ensures value { IfOk result (λ text.
         text.items ≡ problem_text problem.now.supplies.items problem.now.arcs.items) }
 
-    // What is written is that problem, and no other.
+    // The text contains this problem, and no other.
     ensures ok { IfOk result (λ text.
         IsProblemText text.items problem.now.supplies.items problem.now.arcs.items) }
     ensures only { IfOk result (λ text.
@@ -32,9 +34,10 @@ pub fn write_problem(alloc: Global, problem: &Problem) -> Result<Vec<u8>, AllocE
     }
 }
 
-/// Writes the text of a problem, as [`write_problem`] makes it, by pages of 4,096 bytes. It takes no memory.
+/// Writes the text of a problem, the same as [`write_problem`], through a buffer of 4,096 bytes.
+/// Allocates no memory.
 ///
-/// After a `Failed` a front of the text went out.
+/// On `Failed`, a prefix of the text was written.
 pub fn write_problem_to<W: Sink>(problem: &Problem, sink: &mut W) -> Result<(), Failed>
     ensures ok { OnOk result (Appends (W.taken sink.old) (W.taken sink.new)
         (problem_text problem.now.supplies.items problem.now.arcs.items)) }
@@ -42,7 +45,7 @@ pub fn write_problem_to<W: Sink>(problem: &Problem, sink: &mut W) -> Result<(), 
         (problem_text problem.now.supplies.items problem.now.arcs.items)) }
     ensures flag { W.failed sink.new ≡ (W.failed sink.old || is_err result) }
 
-    // What is written is that problem, and no other.
+    // The text contains this problem, and no other.
     ensures problem { IsProblemText (problem_text problem.now.supplies.items problem.now.arcs.items)
         problem.now.supplies.items problem.now.arcs.items }
     ensures only { IsOnlyProblem (problem_text problem.now.supplies.items problem.now.arcs.items)

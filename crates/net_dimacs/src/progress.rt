@@ -1,4 +1,4 @@
-//! What the lines so far said.
+//! The state after the lines read so far.
 
 ghost use Rattle.std.specs.Prelude.{◌≡◌, OnOk, OnErr, IsErrOf, option_to_list};
 
@@ -9,14 +9,14 @@ use crate::statement::Statement;
 use net_normal::Problem;
 use std::alloc::{AllocError, Global};
 
-/// What the lines so far said.
+/// The state after the lines read so far.
 #[derive(Drop)]
 pub enum Progress {
     /// Nothing yet.
     Start,
-    /// A problem so far.
+    /// A partial problem.
     Open(Draft),
-    /// The first fault.
+    /// The first error.
     Refused(Refusal),
 }
 
@@ -25,7 +25,8 @@ impl Progress {
     ghost use Rattle.net_dimacs.specs.Problems.{BeginsProblem};
     ghost use Rattle.net_dimacs.specs.Drafts.{state_of, GivesState};
 
-    /// Takes what the line of this number says. Only a `p` line that is taken needs memory.
+    /// Adds the content of the line with this number. Allocates memory only for an accepted `p`
+    /// line.
     pub fn take(
         &mut self,
         alloc: Global,
@@ -50,7 +51,7 @@ impl Progress {
         Ok(())
     }
 
-    /// What the first line that says something begins.
+    /// Returns the state after the first line with a meaning.
     fn begun(alloc: Global, line: usize, statement: Statement) -> Result<Progress, AllocError>
         ensures { GivesState (new_state line statement) statement result }
     {
@@ -66,7 +67,8 @@ impl Progress {
         }
     }
 
-    /// The problem, at the end of a text where one more line would have this number.
+    /// Completes the problem at the end of the file; `line` is the number of the line after the
+    /// last.
     pub fn finished(self, line: usize) -> Result<Problem, ProblemFault>
         ensures value { Gives (finished line (state_of self)) result }
         ensures memory { IsErrOf result ProblemFault.OutOfMemory → ⊥ }

@@ -1,27 +1,29 @@
-//! Reading a problem text in pieces.
+//! Reading a problem file in pieces.
 
 ghost use Rattle.std.specs.Prelude.{◌≡◌, ℕ, ◌+◌, ◌<◌, ◌≤◌, ◌⊎◌, List, [], ◌++◌, IfOk, length, vec_len};
 ghost use Rattle.std.proofs.Props.{props};
 ghost use Rattle.net_dimacs.specs.Limits.{open_line_limit};
 ghost use Rattle.net_dimacs.specs.Lines.{is_feed, HasNone};
 
+use crate::OutOfMemory;
 use crate::fields::after_last_feed;
 use crate::limits::TEXT_LIMIT;
 use crate::open_line::shorten;
 use crate::problem_fault::{LineFault, ProblemFault};
 use crate::scan::Scan;
 use net_normal::Problem;
-use std::alloc::{AllocError, Global};
+use std::alloc::Global;
 
-/// A problem text that is being read. Of the text nothing is kept but, of a line that is not whole yet, what decides of it.
+/// The state of reading a problem file. Of the text, only the shortened form of an incomplete line
+/// is stored.
 #[derive(Drop)]
 pub struct Reading {
     alloc: Global,
-    /// How many bytes came.
+    /// The number of bytes read so far.
     length: usize,
-    /// What the whole lines said, unless the text passes the limit.
+    /// The content of the complete lines, unless the file exceeds the limit.
     scan: Scan,
-    /// The bytes behind the last LF, or what decides of them.
+    /// The bytes after the last LF, possibly shortened.
     pending: Vec<u8>,
     ghost few_lines: { scan.line + vec_len pending ≤ length + 1 },
     ghost no_feed: { HasNone is_feed pending.items } by { Prim.hlevel props },
@@ -35,7 +37,7 @@ impl Reading {
     ghost use Rattle.net_dimacs.specs.Reading.{read_text, Gives, IfRefused};
     ghost use Rattle.net_dimacs.specs.Scans.{Stands};
 
-    /// Before the first byte. It takes no memory.
+    /// Creates the state before the first byte. Allocates no memory.
     pub fn new(alloc: Global) -> Reading
         ensures { Stands result [] }
     {
@@ -47,8 +49,8 @@ impl Reading {
         }
     }
 
-    /// Takes the next piece of the text.
-    pub fn feed(self, piece: &[u8]) -> Result<Reading, AllocError>
+    /// Reads the next piece of the file. Fails only if memory runs out.
+    pub fn feed(self, piece: &[u8]) -> Result<Reading, OutOfMemory>
         ensures { IfOk result (λ r. (text : List ℕ) → Stands self text → Stands r (text ++ piece.now)) }
     {
         let Reading {
@@ -72,17 +74,18 @@ impl Reading {
         })
     }
 
-    /// The problem of the text, or its first fault, as [`crate::read_problem`] has them.
+    /// Completes the problem, with the same result as [`crate::read_problem`].
     pub fn finish(self) -> Result<Problem, ProblemFault>
         ensures value { (text : List ℕ) → Stands self text → Gives (read_text text) result }
 
-        // What is read is what the text is, and it is no other problem.
+        // A problem that is returned is the content of the file, and the file contains no other
+        // problem.
         ensures ok { (text : List ℕ) → Stands self text →
             IfOk result (λ problem. IsProblemText text problem.supplies.items problem.arcs.items) }
         ensures only { (text : List ℕ) → Stands self text →
             IfOk result (λ problem. IsOnlyProblem text problem.supplies.items problem.arcs.items) }
 
-        // A text is refused only where it is no problem, or past the limit.
+        // A file is rejected only if it contains no problem or exceeds the limit.
         ensures refused { (text : List ℕ) → Stands self text →
             IfRefused result (λ _. (text_limit < length text) ⊎ IsNoProblemText text) }
         ensures place { (text : List ℕ) → Stands self text →

@@ -1,4 +1,4 @@
-//! The lines of a text, one after the other.
+//! Reading the lines of a file in order.
 
 ghost use Rattle.std.specs.Prelude.{◌≡◌, ◌+◌, ◌-◌, ◌<◌, ◌≤◌, ◌^◌, ◌++◌, ℕ, List, length, vec_len, OnOk, OnErr, IsErrOf};
 ghost use Rattle.std.specs.Str.Lines.{lines};
@@ -10,12 +10,12 @@ use crate::statement::statement_of;
 use net_normal::Problem;
 use std::alloc::{AllocError, Global};
 
-/// A text up to the end of some line.
+/// The state after some complete lines.
 #[derive(Drop)]
 pub struct Scan {
     /// The number of the next line, from 1.
     pub line: usize,
-    /// What the lines before it said.
+    /// The content of the lines before it.
     pub progress: Progress,
 }
 
@@ -26,7 +26,7 @@ impl Scan {
     ghost use Rattle.net_dimacs.specs.Reading.{Start, Gives};
     ghost use Rattle.net_dimacs.specs.Problems.{BeginsProblem, statements_of};
 
-    /// No byte of a text so far.
+    /// Creates the state before the first line.
     pub fn new() -> Scan
         ensures { result ≡ record { line = 1; progress = Progress.Start } }
     {
@@ -36,7 +36,7 @@ impl Scan {
         }
     }
 
-    /// Takes the lines of the next bytes.
+    /// Reads the lines of the next bytes.
     pub fn take_lines(&mut self, alloc: Global, text: &[u8]) -> Result<(), AllocError>
         requires { self.old.line + length text.now < 2 ^ 64 - 1 }
         ensures lines { OnOk result ((more : List (List ℕ)) → reads self.new more ≡ reads self.old (lines text.now ++ more)) }
@@ -52,7 +52,8 @@ impl Scan {
         Ok(())
     }
 
-    /// Takes the lines of some bytes that end with an LF, behind a line that had begun, of which nothing is pending then.
+    /// Reads bytes that end with an LF. They continue the incomplete line `pending`, which is empty
+    /// afterwards.
     pub fn take_whole(
         &mut self,
         alloc: Global,
@@ -75,7 +76,7 @@ impl Scan {
         Ok(())
     }
 
-    /// The problem of the text whose last bytes these are.
+    /// Reads the last bytes of the file and completes the problem.
     pub fn ended(mut self, alloc: Global, rest: &[u8]) -> Result<Problem, ProblemFault>
         requires { self.line + length rest.now < 2 ^ 64 - 1 }
         ensures value { Gives (reads self (lines rest.now)) result }

@@ -1,4 +1,4 @@
-//! What a line of a problem text says.
+//! The meaning of a line of a problem file.
 
 ghost use Rattle.std.specs.Prelude.{◌≡◌};
 ghost use Rattle.std.specs.Option.{option_map};
@@ -9,21 +9,20 @@ ghost use Rattle.net_dimacs.specs.Numbers.{cut_statement, cut_numbers, two_in, a
 use crate::fields::split_field;
 use crate::number::split_number;
 
-/// What a line says that is not skipped. The numbers are as they are written, but that the
-/// reader cuts those past `i64` off at its ends.
+/// The meaning of a line that is neither blank nor a comment. Numbers outside `i64` are saturated.
 #[derive(Clone, Copy)]
 pub enum Statement {
-    /// The number of nodes and the number of arcs, as `p min 3 2`.
+    /// The number of nodes and the number of arcs, as in `p min 3 2`.
     Problem(i64, i64),
-    /// A node's number and its supply, as `n 1 -5`.
+    /// A node's number and its supply, as in `n 1 -5`.
     Node(i64, i64),
-    /// An arc's two nodes, LOW, CAP and COST, as `a 1 2 0 5 3`.
+    /// An arc's tail and head, LOW, CAP and COST, as in `a 1 2 0 5 3`.
     Arc(i64, i64, i64, i64, i64),
     /// Anything else, as `q` or `a 1 2`.
     Other,
 }
 
-/// The kind of line that a first field begins.
+/// The kind of line that a first field indicates.
 #[derive(Clone, Copy)]
 pub enum Kind {
     /// It begins with `c`.
@@ -38,7 +37,7 @@ pub enum Kind {
     Other,
 }
 
-/// What a line says. A blank line and a comment say nothing.
+/// Parses a line. Returns `None` for a blank line and for a comment.
 pub fn statement_of(line: &[u8]) -> Option<Statement>
     ensures { result ≡ option_map cut_statement (said line.now) }
 {

@@ -4,7 +4,7 @@ use Rattle.std.specs.List.{flat_map}
 use Rattle.std.proofs.lemmas.List.{length-map}
 use Rattle.net_check.specs.Certificates.{IsCertificate, IsViolatedCut}
 use Rattle.net_check.specs.declared.certificate.Side.{Side}
-use Rattle.net_eval.specs.Worlds.{Name}
+use Rattle.net_expr.specs.Worlds.{Name}
 use Rattle.net_inst.specs.AsWritten.{Node, Arc, nodes, arcs, arc_declared, AreDistinct, Assignment, numbers_on, IsFeasible}
 use Rattle.net_inst.specs.ByName.{CorrespondsByName, up, Agree}
 use Rattle.net_inst.specs.Instances.{Network, seen_as}

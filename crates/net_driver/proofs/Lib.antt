@@ -1,6 +1,6 @@
-pub mod NamedModels
 pub mod Meant
 pub mod OneFault
+pub mod Existence
 pub mod Stops
 pub mod NamesOnce
 pub mod Apart

@@ -2,8 +2,8 @@
 use Rattle.std.specs.Prelude.{◌≡◌, ℕ, List, Ok}
 use Rattle.std.proofs.Common.{ap, ◌∙◌}
 use Rattle.net_tree.specs.Tree.{Declaration}
-use Rattle.net_driver.specs.Models.{meant}
-use Rattle.net_driver.proofs.NamedModels.{named_meant}
+use Rattle.net_model.specs.Models.{meant}
+use Rattle.net_model.proofs.NamedModels.{named_meant}
 use Rattle.net_data.specs.declared.tables.Tables.{Tables}
 use Rattle.net_data.specs.Reading.{tables, ◌>>=◌}
 use Rattle.net_data.proofs.TablesMean.{tables-complete}

@@ -17,7 +17,7 @@ use Rattle.net_model.specs.declared.parse_error.ParseError.TheVariants as stops
 use Rattle.net_model.specs.declared.parse_error.Awaiting.{Awaiting}
 use Rattle.net_model.specs.Declarations.{model_at, nesting_limit}
 use Rattle.net_model.specs.Faults.{end_of, left_of, refused_fault, deep_fault, told}
-use Rattle.net_driver.specs.Models.{unless_fault, meant_by, meant}
+use Rattle.net_model.specs.Models.{unless_fault, meant_by, meant}
 use Rattle.net_model.specs.Reading.{Tokens, Read}
 use Rattle.net_model.proofs.ModelLaws.{model-begins}
 use Rattle.net_model.proofs.RowLaws.{put_all}

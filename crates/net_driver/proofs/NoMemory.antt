@@ -3,7 +3,7 @@ use Rattle.std.specs.Prelude.{◌≡◌, ℕ, List, Option, Result, Ok, Err, IfE
 use Rattle.std.specs.Result.{IsErrAnd}
 use Rattle.std.proofs.Common.{sym, subst}
 use Rattle.net_tree.specs.Tree.{Declaration}
-use Rattle.net_eval.specs.Worlds.{Name}
+use Rattle.net_expr.specs.Worlds.{Name}
 use Rattle.net_driver.specs.declared.fault.Fault.{Fault}
 use Rattle.net_driver.specs.declared.fault.Fault.TheVariants.{OutOfMemory}
 use Rattle.net_driver.specs.FirstFaults.{MayBeModel}

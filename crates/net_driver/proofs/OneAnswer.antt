@@ -1,7 +1,7 @@
 -- Two texts have one compiled form.
 use Rattle.std.proofs.Common.{◌≡◌, ℕ, Bool, suc, List, [], ◌∷◌, ◌++◌, map, vec_len, length, Option, ℤ, pos, ◌+ℤ◌, ◌-ℤ◌, neg_ℤ, if◌then◌else◌, refl, sym, ap, ◌∙◌, arith}
 use Rattle.std.proofs.lemmas.List.{length-map}
-use Rattle.net_eval.specs.Worlds.{Name}
+use Rattle.net_expr.specs.Worlds.{Name}
 use Rattle.net_dimacs.specs.Written.{problem_text}
 use Rattle.net_linear.specs.declared.condition.Sides.{Sides}
 use Rattle.net_inst.specs.Instances.{Network, seen_as}

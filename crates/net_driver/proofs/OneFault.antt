@@ -10,12 +10,12 @@ use Rattle.net_lex.specs.Lexing.{AreTokensOf}
 use Rattle.net_lex.proofs.FirstFaults as lexer
 use Rattle.net_lex.proofs.UniqueReading.{reads_same}
 use Rattle.net_tree.specs.Tree.{Declaration}
-use Rattle.net_driver.specs.Models.{meant}
+use Rattle.net_model.specs.Models.{meant}
 use Rattle.net_data.specs.declared.parse_error.ParseError.{ParseError as DataStop}
 use Rattle.net_data.specs.declared.tables.Tables.{Tables}
 use Rattle.net_data.specs.Reading as data_reading
-use Rattle.net_bind.specs.Binding as binding
-use Rattle.net_eval.specs.Worlds.{Name, World}
+use Rattle.net_eval.specs.Binding as binding
+use Rattle.net_expr.specs.Worlds.{Name, World}
 use Rattle.net_inst.specs.Instances.{Network, network}
 use Rattle.net_fault.specs.declared.finding.Finding.{Finding}
 use Rattle.net_fault.specs.declared.fault.Fault.{Fault}

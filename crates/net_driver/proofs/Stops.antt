@@ -12,11 +12,11 @@ use Rattle.net_lex.specs.declared.token.Token.{Token}
 use Rattle.net_lex.specs.Lexing as lex
 use Rattle.net_lex.specs.Lexing.{AreTokensOf}
 use Rattle.net_tree.specs.Tree.{Declaration}
-use Rattle.net_driver.specs.Models.{meant, Parses}
+use Rattle.net_model.specs.Models.{meant, Parses}
 use Rattle.net_data.specs.declared.tables.Tables.{Tables}
 use Rattle.net_data.specs.Reading as data_reading
-use Rattle.net_bind.specs.Binding as binding
-use Rattle.net_eval.specs.Worlds.{Name, World}
+use Rattle.net_eval.specs.Binding as binding
+use Rattle.net_expr.specs.Worlds.{Name, World}
 use Rattle.net_inst.specs.Instances as instances
 use Rattle.net_driver.specs.FirstFaults as faults
 use Rattle.net_driver.specs.FirstFaults.{MayBeModel, IsModelFault, IsModelStop, IsNetworkStop, IsStop}

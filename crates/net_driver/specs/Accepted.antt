@@ -1,4 +1,5 @@
--- What settles a problem's text is accepted as its certificate (First DIMACS Implementation Challenge, minimum-cost flow).
+-- The certificates that `solve_min` writes are accepted by `check_bytes` (First DIMACS
+-- Implementation Challenge, minimum-cost flow).
 use Rattle.std.specs.Prelude.{◌≡◌, ℕ, List}
 use Rattle.net_check.specs.declared.verdict.Verdict.{Verdict}
 use Rattle.net_check.specs.declared.verdict.Verdict.TheVariants.{Yes}
@@ -8,7 +9,7 @@ use Rattle.net_driver.specs.declared.fault.Fault.TheVariants.{OutOfMemory}
 use Rattle.net_driver.specs.Checked.{Judges, IsLineRefusal}
 use Rattle.net_driver.specs.Settled.{Settles}
 
--- the verdict is yes, and neither text is refused but for want of memory
+-- the verdict is yes, and both inputs are accepted unless memory runs out
 pub record IsAccepted (problem_text answer : List ℕ) : Type 0 where
   pub yes : (verdict : Verdict) → Judges problem_text answer verdict → verdict ≡ Yes
   pub taken : (fault : Fault) → IsLineRefusal problem_text answer fault → fault ≡ OutOfMemory

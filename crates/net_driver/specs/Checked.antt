@@ -1,4 +1,5 @@
--- What is answered of a problem's text and a certificate's (First DIMACS Implementation Challenge, minimum-cost flow).
+-- The result of checking a certificate file for a problem file (First DIMACS Implementation
+-- Challenge, minimum-cost flow).
 use Rattle.std.specs.Prelude.{◌≡◌, ◌↔◌, ℕ, List, [], ◌∷◌, ◌++◌, codes, decimal}
 use Rattle.net_normal.specs.declared.problem.Problem.{Problem}
 use Rattle.net_check.specs.declared.certificate.Certificate.{Certificate}
@@ -19,12 +20,12 @@ use Rattle.net_driver.specs.declared.fault.Fault.TheVariants.{OutOfMemory, Refus
 use Rattle.net_driver.specs.declared.fault.TextName.{TextName}
 use Rattle.net_driver.specs.declared.fault.TextName.TheVariants as texts
 
--- the fault of a text of this name
+-- the error of an input with this name
 abbrev pub fault_of : TextName → ProblemFault → Fault
 fault_of name reading.OutOfMemory = OutOfMemory
 fault_of name (reading.Refused refusal) = RefusedLine (record { text = name; fault = refusal.fault; line = refusal.line })
 
--- the verdict on the problem and the certificate that the texts are
+-- the verdict on the certificate for the problem in these files
 pub record Judges (problem_text certificate_text : List ℕ) (verdict : Verdict) : Type 0 where
   pub problem : Problem
   pub is_problem : IsProblemOf problem_text problem
@@ -33,7 +34,8 @@ pub record Judges (problem_text certificate_text : List ℕ) (verdict : Verdict)
   pub yes : (verdict ≡ Yes) ↔ IsCertificate problem certificate
   pub no : (reason : Reason) (number : ℕ) → verdict ≡ No reason number → IsFirstFault problem certificate reason number
 
--- the first fault of the problem's text, or of the certificate's where the first is a problem
+-- the first error of the problem file, or of the certificate file if the first one is a valid
+-- problem
 abbrev pub IsFirstLineFault : (problem_text certificate_text : List ℕ) → TextName → LineFault → ℕ → Type 0
 IsFirstLineFault problem_text certificate_text texts.Model fault line = ⊥
 IsFirstLineFault problem_text certificate_text texts.Data fault line = ⊥
@@ -48,7 +50,7 @@ IsLineRefusal problem_text certificate_text (RefusedLine r) = IsFirstLineFault p
 IsLineRefusal problem_text certificate_text (Unread text) = ⊥
 IsLineRefusal problem_text certificate_text Unwritten = ⊥
 
--- the first fault of a problem's text
+-- the first error of a problem file
 abbrev pub IsProblemRefusal : List ℕ → Fault → Type 0
 IsProblemRefusal problem_text OutOfMemory = Unit {0}
 IsProblemRefusal problem_text (Refused r) = ⊥
@@ -56,7 +58,7 @@ IsProblemRefusal problem_text (RefusedLine r) = (r.text ≡ texts.Problem) × Is
 IsProblemRefusal problem_text (Unread text) = ⊥
 IsProblemRefusal problem_text Unwritten = ⊥
 
--- the first fault of a certificate's text for this problem
+-- the first error of a certificate file for this problem
 abbrev pub IsCertificateStop : Problem → List ℕ → Fault → Type 0
 IsCertificateStop problem text OutOfMemory = Unit {0}
 IsCertificateStop problem text (Refused r) = ⊥

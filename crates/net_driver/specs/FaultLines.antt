@@ -1,7 +1,7 @@
--- The line that tells a fault.
-use Rattle.std.specs.Prelude.{ℕ, ◌/◌, ◌%◌, List, [], ◌∷◌, ◌++◌, codes, decimal, string_bytes}
-use Rattle.net_dimacs.specs.Faults as dimacs
-use Rattle.net_fault.specs.Defects.{number_of, name_of}
+-- The printed line of an error.
+use Rattle.std.specs.Prelude.{ℕ, List, [], ◌∷◌, ◌++◌, codes, decimal, string_bytes}
+use Rattle.net_dimacs.specs.Faults.{line_fault_text}
+use Rattle.net_fault.specs.ErrorLines.{defect_shown}
 use Rattle.net_driver.specs.declared.fault.Fault.{Fault}
 use Rattle.net_driver.specs.declared.fault.Fault.TheVariants.{OutOfMemory, Refused, RefusedLine, Unread, Unwritten}
 use Rattle.net_driver.specs.declared.fault.Refusal.{Refusal}
@@ -15,24 +15,19 @@ text_word Data = codes "data"
 text_word Problem = codes "problem"
 text_word Certificate = codes "certificate"
 
--- as `E04 NotWhole data`, the number with two digits
-abbrev pub head_of : ℕ → List ℕ → TextName → List ℕ
-head_of number name text = codes "E" ++ decimal (number / 10) ++ decimal (number % 10) ++ codes " " ++ name ++ codes " " ++ text_word text
-
--- a blank before a detail, where there is one
+-- a space before the detail, if there is one
 abbrev pub detail_gap : List ℕ → List ℕ
 detail_gap [] = []
 detail_gap (byte ∷ rest) = codes " "
 
--- as `E12 Undeclared model 3:34 B`
+-- for example `E12 Undeclared model 3:34 B`
 abbrev pub refusal_line : Refusal → List ℕ
 refusal_line r =
-    head_of (number_of r.kind) (name_of r.kind) r.text
-    ++ (codes " " ++ (decimal r.line ++ (codes ":" ++ (decimal r.column ++ (detail_gap (string_bytes r.detail) ++ string_bytes r.detail)))))
+    defect_shown r.kind ++ (codes " " ++ (text_word r.text ++ (codes " " ++ (decimal r.line ++ (codes ":" ++ (decimal r.column ++ (detail_gap (string_bytes r.detail) ++ string_bytes r.detail)))))))
 
--- as `E75 Count problem 3`
+-- for example `E75 Count problem 3`
 abbrev pub line_refusal_line : LineRefusal → List ℕ
-line_refusal_line r = head_of (dimacs.number_of r.fault) (dimacs.name_of r.fault) r.text ++ codes " " ++ decimal r.line
+line_refusal_line r = line_fault_text r.fault ++ (codes " " ++ (text_word r.text ++ (codes " " ++ decimal r.line)))
 
 abbrev pub fault_line : Fault → List ℕ
 fault_line OutOfMemory = codes "out of memory"

@@ -1,6 +1,6 @@
--- What is wrong first with two texts: the tokens, the grammar and the names of the model, the tokens and the statements of
--- the data, what the two say together, and the network.
-use Rattle.std.specs.Prelude.{◌≡◌, ◌≤◌, ℕ, List, Option, Ok, Err, length}
+-- The first error of a model with its data, in this order: tokens, grammar and names of the model;
+-- tokens and statements of the data; evaluation of both; the network.
+use Rattle.std.specs.Prelude.{◌≡◌, ◌≤◌, ℕ, List, Option, Ok, Err, length, ◌⊎◌}
 use Rattle.std.specs.Str.{IsUtf8}
 use Rattle.net_fault.specs.declared.defect.Defect.{Defect}
 use Rattle.net_fault.specs.declared.language.Language.{Language}
@@ -11,25 +11,29 @@ use Rattle.net_lex.specs.Lexing as lex
 use Rattle.net_lex.specs.Lexing.{AreTokensOf}
 use Rattle.net_lex.specs.Limits.{text_limit}
 use Rattle.net_tree.specs.Tree.{Declaration}
-use Rattle.net_driver.specs.Models.{meant}
+use Rattle.net_model.specs.Models.{meant}
 use Rattle.net_data.specs.declared.parse_error.ParseError.{ParseError as DataStop}
 use Rattle.net_data.specs.declared.tables.Tables.{Tables}
 use Rattle.net_data.specs.Reading as data_reading
 use Rattle.net_fault.specs.declared.finding.Finding.{Finding}
-use Rattle.net_bind.specs.Binding as binding
-use Rattle.net_eval.specs.Worlds.{Name, World}
+use Rattle.net_eval.specs.Binding as binding
+use Rattle.net_expr.specs.Worlds.{Name, World}
 use Rattle.net_inst.specs.Instances.{network}
 use Rattle.net_fault.specs.declared.fault.Fault.{Fault}
 use Rattle.net_fault.specs.declared.fault.Fault.TheVariants.{OutOfMemory, At}
 use Rattle.net_fault.specs.Outcomes.{bare}
 use Rattle.net_driver.specs.Reading.{IsModel, IsData}
 
+-- the text has tokens, or a first error among them; `first_error` of net_lex shows which
+abbrev pub IsLexed : Language → List ℕ → Type 0
+IsLexed language text = ((tokens : List Token) × AreTokensOf language text tokens) ⊎ ((d : Defect) × (at : Span) × lex.IsFirstFault language text d at)
+
 pub data IsModelFault (text : List ℕ) : Finding → Type 0 where
   token : (d : Defect) (at : Span) → lex.IsFirstFault languages.Model text d at → IsModelFault text (bare languages.Model d at)
   grammar : (tokens : List Token) (finding : Finding) → AreTokensOf languages.Model text tokens
       → meant tokens ≡ Err (At finding) → IsModelFault text finding
 
--- where a data statement is not read on
+-- the span at which parsing a data statement stops
 abbrev pub place_of : List Token → DataStop → Span
 place_of tokens s = data_reading.span_or_end (data_reading.end_of tokens) s.at
 
@@ -38,7 +42,7 @@ pub data IsDataFault (text : List ℕ) : Finding → Type 0 where
   statement : (tokens : List Token) (s : DataStop) → AreTokensOf languages.Data text tokens
       → data_reading.tables tokens ≡ Err s → IsDataFault text (bare languages.Data s.defect (place_of tokens s))
 
--- what declarations and statements are refused for together
+-- errors of evaluating declarations with statements
 pub data IsNetworkFault (wanted : Option Name) (ds : List Declaration) (tables : Tables) : Finding → Type 0 where
   unbound : (r : Finding) → binding.world ds tables.statements ≡ Err r → IsNetworkFault wanted ds tables r
   undrawn : (w : World) (r : Finding) → binding.world ds tables.statements ≡ Ok w → network wanted w ds ≡ Err r → IsNetworkFault wanted ds tables r
@@ -49,22 +53,23 @@ pub data IsFirstFault (wanted : Option Name) (model_text data_text : List ℕ) :
   both : (ds : List Declaration) (tables : Tables) (finding : Finding) → IsModel model_text ds → IsData data_text tables → IsNetworkFault wanted ds tables finding
       → IsFirstFault wanted model_text data_text finding
 
--- what a text is that memory is asked for: short enough, and UTF-8
+-- a condition for memory to be allocated: the text is within the limit and UTF-8
 pub record MayBeModel (text : List ℕ) : Type 0 where
   pub short : length text ≤ text_limit languages.Model
   pub utf8 : IsUtf8 text
 
--- the first fault of a model text, or want of memory
+-- the first error of a model, or memory ran out
 abbrev pub IsModelStop : List ℕ → Fault → Type 0
 IsModelStop text OutOfMemory = MayBeModel text
 IsModelStop text (At finding) = IsModelFault text finding
 
--- of declarations and statements
+-- the first error of declarations with statements
 abbrev pub IsNetworkStop : Option Name → List Declaration → Tables → Fault → Type 0
 IsNetworkStop wanted ds tables OutOfMemory = Unit {0}
 IsNetworkStop wanted ds tables (At finding) = IsNetworkFault wanted ds tables finding
 
--- the first fault of two texts, or want of memory, which is asked for a model text that may be one
+-- the first error of a model with its data, or memory ran out, which requires that the model is
+-- within the limit and UTF-8
 abbrev pub IsStop : Option Name → (model_text data_text : List ℕ) → Fault → Type 0
 IsStop wanted model_text data_text OutOfMemory = MayBeModel model_text
 IsStop wanted model_text data_text (At finding) = IsFirstFault wanted model_text data_text finding

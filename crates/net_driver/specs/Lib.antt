@@ -1,5 +1,4 @@
 pub mod Reading
-pub mod Models
 pub mod FirstFaults
 pub mod FaultLines
 pub mod Texts

@@ -1,5 +1,5 @@
--- The problem and the certificate that texts are, and what is wrong first with texts that are none (First DIMACS Implementation
--- Challenge, minimum-cost flow).
+-- The problem and the certificate in a file, and the first error of a file without one (First
+-- DIMACS Implementation Challenge, minimum-cost flow).
 use Rattle.std.specs.Prelude.{◌≡◌, ◌⊎◌, ℕ, ◌+◌, ◌<◌, ◌≤◌, List, length, Err}
 use Rattle.std.specs.Str.Lines.{lines}
 use Rattle.net_normal.specs.declared.problem.Problem.{Problem}
@@ -11,30 +11,32 @@ use Rattle.net_dimacs.specs.Problems.{IsProblemText, IsOnlyProblem, IsNoProblemT
 use Rattle.net_dimacs.specs.Reading as problems
 use Rattle.net_dimacs.specs.Limits.{text_limit}
 
--- the text is short enough, and is this problem and no other
+-- the file is within the limit, and contains this problem and no other
 pub record IsProblemOf (text : List ℕ) (problem : Problem) : Type 0 where
   pub short : length text ≤ text_limit
   pub is : IsProblemText text problem.supplies.items problem.arcs.items
   pub only : IsOnlyProblem text problem.supplies.items problem.arcs.items
 
--- what a text is that memory is asked for: short enough, and its first line that says something is a `p` line of counts within the limits
+-- a condition for memory to be allocated: the file is within the limit, and its first line with a
+-- meaning is a `p` line with counts within the limits
 pub record MayBeProblem (text : List ℕ) : Type 0 where
   pub short : length text ≤ text_limit
   pub begins : BeginsProblem (statements_of text)
 
--- the text is short enough, and is this certificate of the problem and no other
+-- the file is within the limit, and contains this certificate of the problem and no other
 pub record IsCertificateOf (problem : Problem) (text : List ℕ) (certificate : Certificate) : Type 0 where
   pub short : length text ≤ text_limit
   pub is : IsCertificateText text (length problem.supplies.items) problem.arcs.items (account_of certificate)
   pub only : IsOnlyCertificate text (length problem.supplies.items) problem.arcs.items (account_of certificate)
 
--- what is wrong first with a problem's text, which is too long or is no problem; the line is one of its lines, or one past the last
+-- the first error of a problem file, which exceeds the limit or contains no problem; the line is
+-- one of its lines, or the one after the last
 pub record IsProblemFault (text : List ℕ) (fault : LineFault) (line : ℕ) : Type 0 where
   pub first : problems.read_text text ≡ Err (record { fault = fault; line = line })
   pub none : (text_limit < length text) ⊎ IsNoProblemText text
   pub place : (1 ≤ line) × (line ≤ length (lines text) + 1)
 
--- what is wrong first with a certificate's text for this problem
+-- the first error of a certificate file for this problem
 pub record IsCertificateFault (problem : Problem) (text : List ℕ) (fault : LineFault) (line : ℕ) : Type 0 where
   pub first : certificates.read_text (length problem.supplies.items) problem.arcs.items text ≡ Err (record { fault = fault; line = line })
   pub none : (text_limit < length text) ⊎ IsNoCertificateText text (length problem.supplies.items) problem.arcs.items

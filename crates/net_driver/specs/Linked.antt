@@ -1,4 +1,4 @@
--- A model compiled whose text is not in memory, or not all of it.
+-- A compiled model whose text is not in memory, or only partly.
 use Rattle.std.specs.Prelude.{◌++◌}
 use Rattle.net_dimacs.specs.Written.{problem_text}
 use Rattle.net_report.specs.Links.{link_text}
@@ -6,10 +6,10 @@ use Rattle.net_driver.specs.declared.compiled.Compiled.{Compiled}
 use Rattle.net_driver.specs.declared.linked.Linked.{Linked}
 use Rattle.net_driver.specs.declared.unwritten.Unwritten.{Unwritten}
 
--- the model compiled, with its text: the link lines, then the problem's lines
+-- the compiled model with its text: the name map, then the problem's lines
 abbrev pub written : Unwritten → Compiled
 written u = record { text = record { items = link_text u.names u.link ++ problem_text u.problem.supplies.items u.problem.arcs.items }; problem = u.problem; link = u.link; names = u.names }
 
--- the same where the link lines are there
+-- the same, if the name map is in memory
 abbrev pub whole : Linked → Compiled
 whole l = record { text = record { items = l.lines.items ++ problem_text l.problem.supplies.items l.problem.arcs.items }; problem = l.problem; link = l.link; names = l.names }

@@ -1,9 +1,9 @@
--- What a compiled model is made of, by numbers.
+-- The parts of a compiled model, by number.
 use Rattle.std.specs.Prelude.{◌≡◌, ℕ, ◌+◌, ◌≤◌, List, ◌++◌, length, vec_len, Option, Bool, true, false}
 use Rattle.std.specs.List.{AllByRecursion}
 use Rattle.net_dimacs.specs.Problems.{IsProblemText, IsOnlyProblem}
 use Rattle.net_dimacs.specs.Written.{problem_text}
-use Rattle.net_eval.specs.Worlds.{Name}
+use Rattle.net_expr.specs.Worlds.{Name}
 use Rattle.net_inst.specs.Instances.{seen_as}
 use Rattle.net_inst.specs.declared.network.Named.{Named}
 use Rattle.net_normal.specs.Correspondence.{CorrespondsOneToOne}
@@ -14,13 +14,13 @@ use Rattle.net_driver.specs.Reading.{IsNetworkOf}
 use Rattle.net_report.specs.Links.{link_text}
 use Rattle.net_driver.specs.declared.compiled.Compiled.{Compiled}
 
--- the form that is asked for
+-- the requested form
 abbrev pub profile_of : Bool → Profile
 profile_of true = Lean
 profile_of false = Plain
 
--- the names are those of the texts' network; node by node and arc by arc the problem is its normal form or, where that is asked for, its lean form, so the printed numbers are
--- those of these names
+-- the names are those of the network; node by node and arc by arc the problem is its normal form
+-- or, if requested, its lean form, so the printed numbers belong to these names
 pub record IsNormalFormOf (lean : Bool) (wanted : Option Name) (model_text data_text : List ℕ) (c : Compiled) : Type 0 where
   pub named : Named
   pub network : IsNetworkOf wanted model_text data_text (seen_as named)
@@ -31,8 +31,8 @@ pub record IsNormalFormOf (lean : Bool) (wanted : Option Name) (model_text data_
   pub problem : IsProblemText (problem_text c.problem.supplies.items c.problem.arcs.items) c.problem.supplies.items c.problem.arcs.items
   pub only : IsOnlyProblem (problem_text c.problem.supplies.items c.problem.arcs.items) c.problem.supplies.items c.problem.arcs.items
 
--- there is a node of the problem for each node's name, and one more for the outside, and a number for each arc's name, which is 0 or
--- that of an arc of the problem
+-- the problem has one node for each node name, and the outside node; each arc name has a number,
+-- which is 0 or that of an arc of the problem
 pub record SizesAgree (c : Compiled) : Type 0 where
   pub nodes : vec_len c.problem.supplies ≡ length c.names.nodes.keys + 1
   pub arcs : vec_len c.link.numbers ≡ length c.names.arcs.keys

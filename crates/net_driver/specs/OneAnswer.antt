@@ -1,6 +1,7 @@
--- Two answers to the same two texts are one: the texts decide the problem, the way back, the names and every printed byte.
+-- The result for a model with its data is unique: the two files determine the problem, the link,
+-- the names and every printed byte.
 use Rattle.std.specs.Prelude.{◌≡◌, ℕ, Bool, List, Option}
-use Rattle.net_eval.specs.Worlds.{Name}
+use Rattle.net_expr.specs.Worlds.{Name}
 use Rattle.net_fault.specs.declared.finding.Finding.{Finding}
 use Rattle.net_driver.specs.FirstFaults.{IsFirstFault}
 use Rattle.net_driver.specs.declared.answer.Answer.{Answer}
@@ -19,16 +20,16 @@ pub record IsOneWith (c other : Compiled) : Type 0 where
   pub sense : c.link.sense ≡ other.link.sense
   pub names : c.names ≡ other.names
 
--- what is compiled of two texts is the same each time
+-- compiling the same files twice gives the same result
 abbrev pub IsOneAnswer : Type 0
 IsOneAnswer = (lean : Bool) (wanted : Option Name) (model_text data_text : List ℕ) (c other : Compiled) → Headline lean wanted model_text data_text c → Headline lean wanted model_text data_text other
     → IsOneWith c other
 
--- what is solved is what is compiled, whether there is a plan or a cut
+-- solving uses the compiled problem, whether there is a plan or a cut
 abbrev pub IsSolvedAsCompiled : Type 0
 IsSolvedAsCompiled = (lean : Bool) (wanted : Option Name) (model_text data_text : List ℕ) (a : Answer) (c : Compiled) → Answers lean wanted model_text data_text a → Headline lean wanted model_text data_text c
     → IsOneWith a.compiled c
 
--- two texts that are compiled have no fault
+-- files that compile have no error
 abbrev pub IsNoFaultCompiled : Type 0
 IsNoFaultCompiled = (lean : Bool) (wanted : Option Name) (model_text data_text : List ℕ) (c : Compiled) (finding : Finding) → Headline lean wanted model_text data_text c → IsFirstFault wanted model_text data_text finding → ⊥

@@ -1,4 +1,4 @@
--- What an outcome is of what settles its problem, by numbers.
+-- The outcome for a certificate of the problem, by number.
 use Rattle.std.specs.Prelude.{◌≡◌, ℕ, List, Bool, ℤ}
 use Rattle.net_check.specs.declared.certificate.Side.{Side}
 use Rattle.net_normal.specs.Links.{lifted, value_at}
@@ -10,7 +10,7 @@ use Rattle.net_driver.specs.declared.answer.Outcome.{Outcome}
 use Rattle.net_driver.specs.declared.answer.Outcome.TheVariants.{Displayed, Infeasible}
 use Rattle.net_driver.specs.declared.compiled.Compiled.{Compiled}
 
--- the lifted flow, with the value that its cost stands for
+-- the flow mapped back to an assignment, with the objective value for its cost
 pub record IsLifted (c : Compiled) (flows : List ℤ) (cost : ℤ) (text : List ℕ) (numbers : List ℤ) (value : ℤ) : Type 0 where
   pub lifts : numbers ≡ lifted c.link flows
   pub worth : value ≡ value_at c.link cost
@@ -20,7 +20,7 @@ abbrev pub IsDisplayOf : Compiled → List ℤ → ℤ → Outcome → Type 0
 IsDisplayOf c flows cost (Displayed text assignment value) = IsLifted c flows cost text.items assignment.items value
 IsDisplayOf c flows cost (Infeasible text flags side) = ⊥
 
--- the text of this very cut
+-- the printed form of this cut
 pub record IsToldCut (c : Compiled) (flags : List Bool) (side : Side) (text : List ℕ) (set : List Bool) (on : Side) : Type 0 where
   pub same_set : set ≡ flags
   pub same_side : on ≡ side

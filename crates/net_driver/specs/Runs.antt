@@ -1,9 +1,9 @@
--- What a run reads and writes (the words of Rust's std::io, Read and Write).
+-- What a run reads and writes (terms of Rust's std::io, Read and Write).
 use Rattle.std.specs.Prelude.{◌≡◌, ◌≤◌, ◌↔◌, ◌⊎◌, ℕ, ◌+◌, Bool, true, List, [], ◌∷◌, Option, Result, ⊤, IfOk, IfErr, IsErrOf}
 use Rattle.std.specs.Io.KnownBytes.{Appends, Consumes, IsAtEnd}
 use Rattle.net_fault.specs.declared.language.Language.TheVariants as languages
 use Rattle.net_lex.specs.Limits.{text_limit}
-use Rattle.net_eval.specs.Worlds.{Name}
+use Rattle.net_expr.specs.Worlds.{Name}
 use Rattle.net_dimacs.specs.Limits as dimacs
 use Rattle.net_io.specs.Ends.{ReadsToLimit, WritesFront}
 use Rattle.net_driver.specs.declared.answer.Answer.{Answer}
@@ -28,29 +28,30 @@ model_limit = text_limit languages.Model
 abbrev pub data_limit : ℕ
 data_limit = text_limit languages.Data
 
--- the most bytes of a problem text and of a certificate text
+-- the maximum size of a problem file and of a certificate file
 abbrev pub lines_limit : ℕ
 lines_limit = dimacs.text_limit
 
--- what a source had, and has left
+-- the bytes of a source before and after a run
 pub record Stream : Type 0 where
   pub old : Option (List ℕ)
   pub new : Option (List ℕ)
 
--- a source was read to its end, and this is what it gave
+-- a source was read to its end, and returned this text
 pub record ReadsWhole (source : Stream) (text : List ℕ) : Type 0 where
   pub bytes : Consumes source.old source.new text
   pub at_end : IsAtEnd source.new
 
--- a source was read to its end or to one byte past the limit
+-- a source was read to its end, or to one byte past the limit
 abbrev pub ReadsUpTo : ℕ → Stream → List ℕ → Type 0
 ReadsUpTo limit source text = ReadsToLimit limit source.old source.new text
 
--- a source is asked for bytes at most once more than its text may have bytes, however few it gives at once
+-- the number of reads from a source is at most the size limit plus one, however few bytes each read
+-- returns
 abbrev pub IsAskedFew : (limit before after : ℕ) → Type 0
 IsAskedFew limit before after = after ≤ before + (limit + 1)
 
--- a source before and behind a run
+-- a source before and after a run
 pub record Source (S : Type 0) : Type 0 where
   pub remaining : S → Option (List ℕ)
   pub failed : S → Bool
@@ -58,14 +59,15 @@ pub record Source (S : Type 0) : Type 0 where
   pub old : S
   pub new : S
 
--- a sink before and behind a run
+-- a sink before and after a run
 pub record Sink (S : Type 0) : Type 0 where
   pub taken : S → Option (List ℕ)
   pub failed : S → Bool
   pub old : S
   pub new : S
 
--- what a run did with a source: which text that gives, the most bytes of it, whether a read of it has failed, and how many reads there were
+-- what a run does with a source: its name, its size limit, its bytes, whether a read has failed,
+-- and the number of reads
 pub record Input : Type 0 where
   pub name : TextName
   pub limit : ℕ
@@ -84,21 +86,22 @@ input name limit s = record {
   reads_after = s.reads s.new;
 }
 
--- of each source of a run, this
+-- P holds for each source of a run
 abbrev pub Each : (Input → Type 0) → List Input → Type 0
 Each P [] = ⊤
 Each P (i ∷ inputs) = P i × Each P inputs
 
--- of one of the sources, this
+-- P holds for one source of a run
 abbrev pub OneOf : (Input → Type 0) → List Input → Type 0
 OneOf P [] = ⊥
 OneOf P (i ∷ inputs) = P i ⊎ OneOf P inputs
 
--- the text of each name
+-- the text of each input
 abbrev pub Texts : Type 0
 Texts = TextName → List ℕ
 
--- the sources were read to their ends, and this went out of the answer to their texts, and nothing else
+-- the sources were read to their ends, and `GoesOut` holds for the output that is the result for
+-- their texts
 pub record Writes (inputs : List Input) (IsAnswer : Texts → List ℕ → Type 0) (GoesOut : List ℕ → Type 0) : Type 0 where
   pub texts : Texts
   pub read : Each (λ i. ReadsWhole i.bytes (texts i.name)) inputs
@@ -106,13 +109,14 @@ pub record Writes (inputs : List Input) (IsAnswer : Texts → List ℕ → Type 
   pub answer : IsAnswer texts text
   pub written : GoesOut text
 
--- the sources were read up to their limits, and this is what is wrong with their texts
+-- the sources were read up to their limits, and their texts have this error
 pub record Refuses (inputs : List Input) (IsWrong : Texts → Type 0) : Type 0 where
   pub texts : Texts
   pub read : Each (λ i. ReadsUpTo i.limit i.bytes (texts i.name)) inputs
   pub refused : IsWrong texts
 
--- what a run tells by a fault. But for a failed write, of which a front of the answer is left, it has written nothing
+-- what an error means; except for a failed write, after which a prefix of the result is written,
+-- nothing was written
 abbrev pub Tells : {A S : Type 0} → List Input → Sink S → (Texts → A → List ℕ → Type 0) → (Texts → Fault → Type 0) → Fault → Type 0
 Tells inputs output IsAnswer IsWrong OutOfMemory = output.new ≡ output.old
 Tells inputs output IsAnswer IsWrong (Refused r) = (output.new ≡ output.old) × Refuses inputs (λ texts. IsWrong texts (Refused r))
@@ -121,23 +125,25 @@ Tells inputs output IsAnswer IsWrong (Unread name) = (output.new ≡ output.old)
 Tells {A} inputs output IsAnswer IsWrong Unwritten =
     (a : A) × Writes inputs (λ texts. IsAnswer texts a) (WritesFront (output.taken output.old) (output.taken output.new))
 
--- a run from these sources into this sink: which answers with which text belong to texts, and which faults
+-- a run from these sources to this sink: which results with which output are possible for the
+-- inputs, and which errors
 pub record IsRun {A S : Type 0} (inputs : List Input) (output : Sink S) (IsAnswer : Texts → A → List ℕ → Type 0) (IsWrong : Texts → Fault → Type 0)
     (result : Result A Fault) : Type 0 where
-  -- the sources were read whole, and the answer's text was written, and nothing else
+  -- the sources were read completely, and exactly the output of the result was written
   pub ok : IfOk result (λ a. Writes inputs (λ texts. IsAnswer texts a) (Appends (output.taken output.old) (output.taken output.new)))
   pub err : IfErr result (Tells inputs output IsAnswer IsWrong)
-  -- an end is blamed exactly where it failed
+  -- a stream is reported if and only if it failed
   pub unread : Each (λ i. IsErrOf result (Unread i.name) ↔ (i.failed ≡ true)) inputs
   pub unwritten : IsErrOf result Unwritten ↔ (output.failed output.new ≡ true)
-  -- however few bytes a source gives at once, it is asked for no more than its text may have, and once to see its end
+  -- however few bytes a source returns at once, the number of reads is at most the size limit plus
+  -- one for the end
   pub reads : Each (λ i. IsAskedFew i.limit i.reads_before i.reads_after) inputs
 
--- the text of a model and its data compiled
+-- the text of a compiled model with its data
 abbrev pub IsCompiledText : Bool → Option Name → Texts → Unit {0} → List ℕ → Type 0
 IsCompiledText lean wanted texts done text = (c : Compiled) × Headline lean wanted (texts Model) (texts Data) c × (text ≡ c.text.items)
 
--- the plan of a model and its data, or the cut that shows why there is none
+-- the plan of a model with its data, or the cut that proves that there is none
 abbrev pub IsSolvedText : Bool → Option Name → Texts → Ending → List ℕ → Type 0
 IsSolvedText lean wanted texts ending text =
     (a : Answer) × Answers lean wanted (texts Model) (texts Data) a × (ending ≡ answers.ending_of a.outcome) × (text ≡ text_of a.outcome)

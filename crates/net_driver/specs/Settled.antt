@@ -1,4 +1,4 @@
--- What is answered of a problem's text alone (First DIMACS Implementation Challenge, minimum-cost flow).
+-- The result for a problem file (First DIMACS Implementation Challenge, minimum-cost flow).
 use Rattle.std.specs.Prelude.{◌≡◌, ℕ, List, length}
 use Rattle.net_normal.specs.declared.problem.Problem.{Problem}
 use Rattle.net_check.specs.Certificates.{IsCertificate}
@@ -11,18 +11,19 @@ use Rattle.net_driver.specs.LineTexts.{IsProblemOf}
 use Rattle.net_driver.specs.declared.ending.Ending.{Ending}
 use Rattle.net_driver.specs.declared.ending.Ending.TheVariants.{Done, Refuted}
 
--- the text of a certificate of this problem, which it is
+-- the text of a valid certificate of this problem
 abbrev pub IsAnswerText : Problem → Certificate → List ℕ → Type 0
 IsAnswerText problem certificate text =
     (text ≡ certificate_text problem.arcs.items (account_of certificate))
     × IsCertificateText text (length problem.supplies.items) problem.arcs.items (account_of certificate)
 
--- the problem that the text is, settled by a certificate, and that certificate's text
+-- the problem in the file, a certificate that settles it, and the text of the certificate
 pub record Settles (problem_text : List ℕ) (settled : Certificate) (text : List ℕ) : Type 0 where
   pub problem : Problem
   pub is_problem : IsProblemOf problem_text problem
   pub certificate : IsCertificate problem settled
-  -- no feasible flow costs less than an optimal value, and where there is a cut there is none
+  -- no feasible flow costs less than an optimal value, and if there is a cut there is no feasible
+  -- flow
   pub optimal : BoundsEachFlow problem settled
   pub cut : LeavesNoFlow problem settled
   pub answer : IsAnswerText problem settled text

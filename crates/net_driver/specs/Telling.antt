@@ -1,4 +1,4 @@
--- How the first fault of two texts is told.
+-- How the first error of a model with its data is reported.
 use Rattle.std.specs.Prelude.{◌≡◌, ℕ, List, Option, length, take, string_bytes, ⊤}
 use Rattle.net_fault.specs.declared.language.Language.{Language}
 use Rattle.net_fault.specs.declared.language.Language.TheVariants as languages
@@ -6,8 +6,8 @@ use Rattle.net_lex.specs.Places.{line_of, column_of}
 use Rattle.net_fault.specs.declared.fault.Fault.{Fault as TextFault}
 use Rattle.net_fault.specs.declared.fault.Fault.TheVariants as text_faults
 use Rattle.net_fault.specs.Places.{LiesIn}
-use Rattle.net_eval.specs.Worlds.{Name}
-use Rattle.net_eval.specs.References.{detail_text}
+use Rattle.net_expr.specs.Worlds.{Name}
+use Rattle.net_expr.specs.References.{detail_text}
 use Rattle.net_fault.specs.declared.finding.Finding.{Finding}
 use Rattle.net_driver.specs.FirstFaults.{IsFirstFault, MayBeModel}
 use Rattle.net_report.specs.Links.{in_line}
@@ -25,12 +25,13 @@ abbrev pub text_of : (model_text data_text : List ℕ) → Language → List ℕ
 text_of model_text data_text languages.Model = model_text
 text_of model_text data_text languages.Data = data_text
 
--- a finding's place lies in its text
+-- the span of the error is within its file
 abbrev pub LiesThere : (model_text data_text : List ℕ) → TextFault → Type 0
 LiesThere model_text data_text text_faults.OutOfMemory = ⊤
 LiesThere model_text data_text (text_faults.At f) = LiesIn (length (text_of model_text data_text f.text)) f.at
 
--- a finding in a text, with the line and the column of its start, and as a text of one line what is told beside the place
+-- an error in a text, with the line and the column of its start, and its detail as text within one
+-- line
 pub record IsTold (text : List ℕ) (finding : Finding) (r : Refusal) : Type 0 where
   pub kind : r.kind ≡ finding.defect
   pub named : r.text ≡ name_of finding.text
@@ -40,7 +41,8 @@ pub record IsTold (text : List ℕ) (finding : Finding) (r : Refusal) : Type 0 w
   pub column : r.column ≡ column_of (take r.span.start text)
   pub detail : string_bytes r.detail ≡ in_line (detail_text finding.detail)
 
--- the first fault, told with its place in its text, or want of memory where the model text may be one
+-- the first error, reported with its position; or out of memory, if the model is within the limit
+-- and UTF-8
 abbrev pub IsRefusal : Option Name → (model_text data_text : List ℕ) → Fault → Type 0
 IsRefusal wanted model_text data_text OutOfMemory = MayBeModel model_text
 IsRefusal wanted model_text data_text (Refused r) =

@@ -1,4 +1,4 @@
-//! The answer to a model with its data.
+//! The result for a model with its data.
 
 ghost use Rattle.std.specs.Prelude.{◌≡◌, ℕ, List, Bool, Option, None, false, IfOk, IfErr};
 ghost use Rattle.std.specs.Option.{option_copied};
@@ -9,7 +9,7 @@ ghost use Rattle.net_driver.specs.Answers.{Answers, text_of};
 ghost use Rattle.net_driver.specs.Headline.{Headline};
 ghost use Rattle.net_driver.specs.Linked.{written};
 ghost use Rattle.net_driver.specs.Made.{SizesAgree};
-ghost use Rattle.net_eval.specs.Worlds.{Name};
+ghost use Rattle.net_expr.specs.Worlds.{Name};
 ghost use Rattle.net_driver.specs.Outcomes.{IsOutcomeOf, IsDisplayOf, IsCutOf};
 ghost use Rattle.net_driver.specs.Telling.{IsRefusal};
 
@@ -19,34 +19,34 @@ use crate::unwritten::{Unwritten, read_model};
 use net_check::Side;
 use net_inst::objective_is_written;
 use net_report::{lift, write_cut, write_display};
-use net_solve::{Settled, first_asked, solve};
+use net_solve::{Settled, solve_problem};
 use std::alloc::{AllocError, Global};
 
-/// What comes out of a model.
+/// The result of solving a model.
 #[derive(Drop)]
 pub enum Outcome {
-    /// A feasible assignment than which none is better.
+    /// An optimal assignment.
     Displayed {
-        /// The objective's value and the number of each arc, by name.
+        /// The objective's value and the value of each arc, by name.
         text: Vec<u8>,
-        /// The number of each arc, in the order of the names.
+        /// The value of each arc, in the order of the names.
         assignment: Vec<i64>,
         /// The objective's value.
         value: i128,
     },
-    /// No assignment is feasible, as a set of nodes shows.
+    /// No assignment is feasible, as a set of nodes proves.
     Infeasible {
         /// The set's supply, what its arcs allow, and the names of its nodes.
         text: Vec<u8>,
-        /// Whether each node of the problem is in the set.
+        /// For each node of the problem, whether it is in the set.
         flags: Vec<bool>,
-        /// On which side the set's supply is wrong.
+        /// The direction in which the set's supply is infeasible.
         side: Side,
     },
 }
 
 impl Outcome {
-    /// The text that tells it.
+    /// Returns the text of the outcome.
     pub fn text(&self) -> &[u8]
         ensures { result.now ≡ text_of self.now }
     {
@@ -57,7 +57,7 @@ impl Outcome {
     }
 }
 
-/// A model solved: as it is compiled, and what comes out.
+/// A solved model: the compiled model, and the outcome.
 #[derive(Drop)]
 pub struct Answer<'s> {
     pub compiled: Compiled<'s>,
@@ -69,18 +69,18 @@ pub fn solve_model<'s>(alloc: Global, model: &'s [u8], data: &'s [u8]) -> Result
     ensures value { IfOk result (Answers false None model.entry.now «data».entry.now) }
     ensures refused { IfErr result (IsRefusal None model.entry.now «data».entry.now) }
 {
-    solve_model_with(alloc, Options::new(), model, data)
+    solve_model_with(alloc, &Options::new(), model, data)
 }
 
-/// Solves a model with its data, with what is chosen. Faults are those of [`crate::compile_with`].
+/// Solves a model with its data and options. Returns the same errors as [`crate::compile_with`].
 pub fn solve_model_with<'s>(
     alloc: Global,
-    options: Options<'s>,
+    options: &Options<'_>,
     model: &'s [u8],
     data: &'s [u8],
 ) -> Result<Answer<'s>, Fault>
-    ensures value { IfOk result (Answers options.entry.lean (option_copied options.entry.objective) model.entry.now «data».entry.now) }
-    ensures refused { IfErr result (IsRefusal (option_copied options.entry.objective) model.entry.now «data».entry.now) }
+    ensures value { IfOk result (Answers options.now.lean (option_copied options.now.objective) model.entry.now «data».entry.now) }
+    ensures refused { IfErr result (IsRefusal (option_copied options.now.objective) model.entry.now «data».entry.now) }
 {
     let unwritten = read_model(alloc, options, model, data)?;
     let outcome = solve_unwritten(alloc, &unwritten)?;
@@ -88,7 +88,7 @@ pub fn solve_model_with<'s>(
     Ok(Answer { compiled, outcome })
 }
 
-/// What comes out of a model that is compiled; its text is not needed for it.
+/// Solves a compiled model, for which no text is needed. Fails only if memory runs out.
 pub(crate) fn solve_unwritten(
     alloc: Global,
     unwritten: &Unwritten<'_>,
@@ -97,13 +97,13 @@ pub(crate) fn solve_unwritten(
     ensures { (lean : Bool) (wanted : Option Name) (m d : List ℕ) → Headline lean wanted m d (written unwritten.now)
         → IfOk result (λ outcome. Answers lean wanted m d (record { compiled = written unwritten.now; outcome = outcome })) }
 {
-    let settled = solve(alloc, &first_asked(), &unwritten.problem)?;
+    let settled = solve_problem(alloc, &unwritten.problem)?;
     let outcome = outcome_of(alloc, unwritten, settled)?;
     objective_is_written();
     Ok(outcome)
 }
 
-/// What a problem's certificate tells of its model.
+/// Returns the outcome for a certificate of the problem. Fails only if memory runs out.
 fn outcome_of(
     alloc: Global,
     unwritten: &Unwritten<'_>,
@@ -119,7 +119,7 @@ fn outcome_of(
     }
 }
 
-/// The plan that a feasible flow stands for.
+/// Returns the plan that corresponds to a feasible flow. Fails only if memory runs out.
 fn displayed(
     alloc: Global,
     unwritten: &Unwritten<'_>,
@@ -141,7 +141,7 @@ fn displayed(
     })
 }
 
-/// Why there is no plan, by a violated cut.
+/// Returns the explanation of a violated cut. Fails only if memory runs out.
 fn infeasible(
     alloc: Global,
     unwritten: &Unwritten<'_>,

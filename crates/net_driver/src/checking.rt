@@ -1,4 +1,4 @@
-//! Certificates of problems, from text to verdict.
+//! Checking certificates of problems, from files to a verdict.
 
 ghost use Rattle.std.specs.Prelude.{◌≡◌, ◌++◌, List, ℕ, IfOk, IfErr, OnOk, IsErrOf};
 ghost use Rattle.net_driver.specs.LineTexts.{IsProblemOf, IsCertificateOf, MayBeProblem};
@@ -11,12 +11,13 @@ use net_dimacs::{ProblemFault, read_certificate, read_problem};
 use net_normal::Problem;
 use std::alloc::{AllocError, Global};
 
-/// The verdict on a certificate of a problem, both as texts.
+/// Checks a certificate of a problem, both as files in memory. Returns the first error of a file if
+/// there is one.
 pub fn check_bytes(alloc: Global, problem: &[u8], certificate: &[u8]) -> Result<Verdict, Fault>
     ensures value { IfOk result (Judges problem.now certificate.now) }
     ensures refused { IfErr result (IsLineRefusal problem.now certificate.now) }
 
-    // Memory is asked for where the problem's text begins a problem, and else not.
+    // Memory is allocated only if the file begins a problem.
     ensures memory { IsErrOf result Fault.OutOfMemory → MayBeProblem problem.now }
 {
     let network = match problem_of(alloc, problem) {
@@ -26,7 +27,7 @@ pub fn check_bytes(alloc: Global, problem: &[u8], certificate: &[u8]) -> Result<
     judge(alloc, &network, certificate)
 }
 
-/// The verdict on a certificate's text of a problem.
+/// Checks a certificate file for a problem.
 pub(crate) fn judge(alloc: Global, network: &Problem, certificate: &[u8]) -> Result<Verdict, Fault>
     ensures value { (problem : List ℕ) → IsProblemOf problem network.now → IfOk result (Judges problem certificate.now) }
     ensures refused { (problem : List ℕ) → IsProblemOf problem network.now → IfErr result (IsLineRefusal problem certificate.now) }
@@ -38,7 +39,7 @@ pub(crate) fn judge(alloc: Global, network: &Problem, certificate: &[u8]) -> Res
     Ok(check(network, &claim))
 }
 
-/// The problem of a text.
+/// Reads a problem.
 #[tactic(auto, using(crate::proofs::Reading::short_problem))]
 pub(crate) fn problem_of(alloc: Global, text: &[u8]) -> Result<Problem, Fault>
     ensures ok { IfOk result (IsProblemOf text.now) }
@@ -51,7 +52,7 @@ pub(crate) fn problem_of(alloc: Global, text: &[u8]) -> Result<Problem, Fault>
     }
 }
 
-/// The certificate of a text for this problem.
+/// Reads a certificate of this problem.
 #[tactic(auto, using(crate::proofs::Reading::short_certificate))]
 fn certificate_of(alloc: Global, problem: &Problem, text: &[u8]) -> Result<Certificate, Fault>
     ensures ok { IfOk result (IsCertificateOf problem.now text.now) }
@@ -90,7 +91,8 @@ fn reason_word(reason: Reason) -> &'static [u8]
     }
 }
 
-/// The line of a verdict: `yes`, or `no` with the reason and the number of its arc or node.
+/// Formats the line of a verdict: `yes`, or `no` with the reason and the number of its arc or node.
+/// Fails only if memory runs out.
 pub(crate) fn verdict_line(alloc: Global, verdict: Verdict) -> Result<Vec<u8>, AllocError>
     ensures { IfOk result (λ text. text.items ≡ verdict_line verdict) }
 {

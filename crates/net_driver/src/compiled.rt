@@ -1,4 +1,4 @@
-//! From a model text and a data text to a problem text.
+//! Compiling a model with its data to a problem.
 
 ghost use Rattle.std.specs.Prelude.{◌≡◌, None, false, IfOk, IfErr};
 ghost use Rattle.std.specs.Option.{option_copied};
@@ -17,17 +17,18 @@ use net_io::GrowingSink;
 use net_normal::{Link, Problem};
 use std::alloc::{AllocError, Global};
 
-/// What a caller may choose.
+/// Options of the caller.
 #[derive(Clone, Copy)]
 pub struct Options<'s> {
-    /// The name of the objective; none where the model has only one.
+    /// The name of the objective; `None` if the model has only one.
     pub objective: Option<&'s str>,
-    /// Whether the problem is the lean form of the network: no arc has a lower bound, and an arc of equal bounds is left out.
+    /// Whether the problem is the lean form of the network, without lower bounds and without arcs
+    /// whose bounds are equal.
     pub lean: bool,
 }
 
 impl<'s> Options<'s> {
-    /// The model's only objective, in the normal form.
+    /// Creates the default options: the model's only objective, and the normal form.
     pub fn new() -> Options<'s>
         ensures objective { option_copied result.objective ≡ None }
         ensures lean { result.lean ≡ false }
@@ -39,10 +40,10 @@ impl<'s> Options<'s> {
     }
 }
 
-/// A model compiled: its problem, the way back, its names, and the text of all three.
+/// A compiled model: its problem, the link, its names, and the text of all three.
 #[derive(Drop)]
 pub struct Compiled<'s> {
-    /// The link lines, then the problem's lines.
+    /// The name map, then the problem's lines.
     pub text: Text,
     pub problem: Problem,
     pub link: Link,
@@ -54,28 +55,29 @@ pub fn compile<'s>(alloc: Global, model: &'s [u8], data: &'s [u8]) -> Result<Com
     ensures value { IfOk result (Headline false None model.entry.now «data».entry.now) }
     ensures refused { IfErr result (IsRefusal None model.entry.now «data».entry.now) }
 {
-    compile_with(alloc, Options::new(), model, data)
+    compile_with(alloc, &Options::new(), model, data)
 }
 
-/// Compiles a model with its data, with what is chosen.
+/// Compiles a model with its data and options.
 ///
-/// The first fault is told, in the order of tokens, grammar and names of the model, tokens and statements of the data,
-/// binding with the checks, and the network; and want of memory.
+/// Returns the first error in this order: tokens, grammar and names of the model; tokens and
+/// statements of the data; evaluation with the checks; the network. Can also run out of memory.
 pub fn compile_with<'s>(
     alloc: Global,
-    options: Options<'s>,
+    options: &Options<'_>,
     model: &'s [u8],
     data: &'s [u8],
 ) -> Result<Compiled<'s>, Fault>
-    ensures value { IfOk result (Headline options.entry.lean (option_copied options.entry.objective) model.entry.now «data».entry.now) }
-    ensures refused { IfErr result (IsRefusal (option_copied options.entry.objective) model.entry.now «data».entry.now) }
+    ensures value { IfOk result (Headline options.now.lean (option_copied options.now.objective) model.entry.now «data».entry.now) }
+    ensures refused { IfErr result (IsRefusal (option_copied options.now.objective) model.entry.now «data».entry.now) }
 {
     let unwritten = read_model(alloc, options, model, data)?;
     let compiled = with_text(alloc, unwritten)?;
     Ok(compiled)
 }
 
-/// The model compiled with its text: the link lines, then the problem's lines.
+/// Adds the text to a compiled model: the name map, then the problem's lines. Fails only if memory
+/// runs out.
 pub(crate) fn with_text(alloc: Global, unwritten: Unwritten<'_>) -> Result<Compiled<'_>, AllocError>
     requires { SizesAgree (written unwritten) }
     ensures { IfOk result (λ compiled. compiled ≡ written unwritten.entry) }

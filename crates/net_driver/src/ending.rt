@@ -1,10 +1,10 @@
-//! How a run ends that was not refused.
+//! The results of runs without an error.
 
-/// How a run ends that was not refused.
+/// The result of a run without an error.
 #[derive(Clone, Copy, Debug, PartialEq, Eq)]
 pub enum Ending {
     /// Done: `yes`, or an optimal flow.
     Done,
-    /// The answer is no: a certificate that does not hold, or a problem without a feasible flow.
+    /// A negative result: a rejected certificate, or a problem without a feasible flow.
     Refuted,
 }

@@ -1,4 +1,4 @@
-//! Why a call is refused, as it is told to the user.
+//! Errors of a call, as they are reported to the user.
 
 ghost use Rattle.std.specs.Prelude.{◌≡◌};
 ghost use Rattle.net_driver.specs.FaultLines.{detail_gap, text_word};
@@ -6,10 +6,10 @@ ghost use Rattle.net_driver.specs.FaultLines.{detail_gap, text_word};
 use net_dimacs::LineFault;
 use net_fault::{Defect, Span};
 use std::alloc::{AllocError, AllocFailed};
-use std::error::Error;
 use std::fmt;
+use thiserror::Error;
 
-/// Which text a fault speaks of.
+/// The input in which an error is.
 #[derive(Clone, Copy, Debug, PartialEq, Eq)]
 pub enum TextName {
     Model,
@@ -19,7 +19,7 @@ pub enum TextName {
 }
 
 impl TextName {
-    /// The word by which a fault's line names the text.
+    /// Returns the name of the input in the line of an error.
     pub fn word(self) -> &'static str
         ensures { result.now ≡ text_word self }
     {
@@ -32,39 +32,16 @@ impl TextName {
     }
 }
 
-/// How a fault's line begins: `E04 NotWhole data`.
-#[derive(Clone, Copy)]
-struct Head {
-    number: u64,
-    name: &'static str,
-    text: TextName,
-}
-
-impl fmt::Display for Head {
-    ghost use Rattle.std.specs.Prelude.{Some};
-    ghost use Rattle.net_driver.specs.FaultLines.{head_of};
-
-    ghost output = { λ head. Some (head_of head.number head.name.now head.text) };
-
-    fn fmt<W: fmt::Write>(&self, f: &mut fmt::Formatter<W>) -> fmt::Result {
-        let tens = self.number / 10;
-        let ones = self.number % 10;
-        let name = self.name;
-        let text = self.text.word();
-        write!(f, "E{tens}{ones} {name} {text}")
-    }
-}
-
-/// A fault of a text, with its place.
-#[derive(Debug, Drop)]
+/// An error in a model or its data, with its position.
+#[derive(Debug, Drop, Error)]
 pub struct Refusal {
     pub kind: Defect,
     pub text: TextName,
     pub span: Span,
-    /// The place of the span's start, both from 1.
+    /// The position of the start of the span, both counted from 1.
     pub line: u64,
     pub column: u64,
-    /// What is said of the place besides, as a name with its key; empty for most kinds.
+    /// The detail of the error, such as a name with its key; empty for most errors.
     pub detail: String,
 }
 
@@ -80,27 +57,25 @@ impl fmt::Display for Refusal {
 
     ghost output = { λ refusal. Some (refusal_line refusal) };
 
-    /// As `E12 Undeclared model 3:34 B`.
+    /// Prints the error in the form `E12 Undeclared model 3:34 B`.
     fn fmt<W: fmt::Write>(&self, f: &mut fmt::Formatter<W>) -> fmt::Result {
-        let head = Head {
-            number: self.kind.number(),
-            name: self.kind.name(),
-            text: self.text,
-        };
+        let kind = self.kind;
+        let text = self.text.word();
         let line = self.line;
         let column = self.column;
         let detail = self.detail.as_str();
         let gap = detail_gap(detail);
-        write!(f, "{head} {line}:{column}{gap}{detail}")
+        write!(f, "{kind} {text} {line}:{column}{gap}{detail}")
     }
 }
 
-/// A fault of a text of lines, with its line.
-#[derive(Clone, Copy, Debug)]
+/// An error in a problem or certificate file, with its line.
+#[derive(Clone, Copy, Debug, Error)]
 pub struct LineRefusal {
     pub text: TextName,
     pub fault: LineFault,
-    /// The number of the line, from 1; one past the last where something is missing at the end.
+    /// The number of the line, from 1; for a missing line at the end, the number of the line after
+    /// the last.
     pub line: usize,
 }
 
@@ -110,20 +85,17 @@ impl fmt::Display for LineRefusal {
 
     ghost output = { λ refusal. Some (line_refusal_line refusal) };
 
-    /// As `E75 Count problem 3`.
+    /// Prints the error in the form `E75 Count problem 3`.
     fn fmt<W: fmt::Write>(&self, f: &mut fmt::Formatter<W>) -> fmt::Result {
-        let head = Head {
-            number: u64::from(self.fault.number()),
-            name: self.fault.name(),
-            text: self.text,
-        };
+        let fault = self.fault;
+        let text = self.text.word();
         let line = self.line;
-        write!(f, "{head} {line}")
+        write!(f, "{fault} {text} {line}")
     }
 }
 
-/// Why a call is refused. It borrows nothing, and shown it is the one line that tells it.
-#[derive(Debug, Drop)]
+/// An error of a call. It borrows nothing, and prints as one line.
+#[derive(Debug, Drop, Error)]
 pub enum Fault {
     /// `out of memory`
     OutOfMemory,
@@ -156,8 +128,6 @@ impl fmt::Display for Fault {
         }
     }
 }
-
-impl Error for Fault {}
 
 impl From<AllocError> for Fault {
     ghost use Rattle.net_driver.specs.declared.fault.Fault.TheVariants.{OutOfMemory};

@@ -1,30 +1,40 @@
-//! Laws of what is read and refused; they run nothing.
+//! Theorems about accepted and rejected inputs. The functions are empty: their contracts state
+//! theorems.
 
-ghost use Rattle.std.specs.Prelude.{◌≡◌, ℕ, List, Option, length};
-ghost use Rattle.net_eval.specs.Worlds.{Name};
+ghost use Rattle.std.specs.Prelude.{◌≡◌, ◌⊎◌, ℕ, List, Option, length};
+ghost use Rattle.net_expr.specs.Worlds.{Name};
 ghost use Rattle.net_inst.specs.Instances.{Network};
 ghost use Rattle.net_fault.specs.declared.finding.Finding.{Finding};
 ghost use Rattle.net_driver.specs.Reading.{IsNetworkOf};
 ghost use Rattle.net_fault.specs.Places.{LiesIn};
-ghost use Rattle.net_driver.specs.FirstFaults.{IsFirstFault};
+ghost use Rattle.net_fault.specs.declared.language.Language.TheVariants as languages;
+ghost use Rattle.net_driver.specs.FirstFaults.{IsFirstFault, IsLexed};
 ghost use Rattle.net_driver.specs.Telling.{text_of};
 
-/// No two texts both have a network and are refused for a fault.
+/// Theorem: no model with its data has both a network and an error.
 pub fn read_or_refused()
     ensures value { (wanted : Option Name) (model_text data_text : List ℕ) (n : Network) (finding : Finding)
         → IsNetworkOf wanted model_text data_text n → IsFirstFault wanted model_text data_text finding → ⊥ }
 {}
 
-/// The first fault of two texts lies in its text: from its start to its end, which is no more than the text's.
+/// Theorem: the span of the first error is within its file.
 pub fn first_fault_lies_in_its_text()
     ensures value { (wanted : Option Name) (model_text data_text : List ℕ) (finding : Finding)
         → IsFirstFault wanted model_text data_text finding → LiesIn (length (text_of model_text data_text finding.text)) finding.at }
 {}
 
-/// Two texts have at most one first fault: what is wrong, its text, its place and what is told of it; and at most one network.
+/// Theorem: a model with its data has at most one first error (kind, file, span and detail), and at
+/// most one network.
 pub fn one_first_fault()
     ensures fault { (wanted : Option Name) (model_text data_text : List ℕ) (finding found : Finding)
         → IsFirstFault wanted model_text data_text finding → IsFirstFault wanted model_text data_text found → finding ≡ found }
     ensures network { (wanted : Option Name) (model_text data_text : List ℕ) (n m : Network)
         → IsNetworkOf wanted model_text data_text n → IsNetworkOf wanted model_text data_text m → n ≡ m }
+{}
+
+/// Theorem: two texts have a network or a first error. `first_error` of net_lex decides of each text
+/// whether it has tokens, which is all that this needs.
+pub fn one_of_network_and_error()
+    ensures value { (wanted : Option Name) (model_text data_text : List ℕ) → IsLexed languages.Model model_text → IsLexed languages.Data data_text
+        → ((n : Network) × IsNetworkOf wanted model_text data_text n) ⊎ ((finding : Finding) × IsFirstFault wanted model_text data_text finding) }
 {}

@@ -1,15 +1,16 @@
-//! Laws of the calls; they run nothing.
+//! Theorems about the calls. The functions are empty: their contracts state theorems.
 
 ghost use Rattle.net_driver.specs.Accepted.{AreAnswersAccepted};
 ghost use Rattle.net_driver.specs.OneAnswer.{IsOneAnswer, IsSolvedAsCompiled, IsNoFaultCompiled};
 
-/// What `solve_min` answers for a problem's text, `check_bytes` says yes to; it refuses neither text but for want of memory.
+/// Theorem: `check_bytes` accepts the certificates of `solve_min`; it rejects neither file unless
+/// memory runs out.
 pub fn answers_are_accepted()
     ensures value { AreAnswersAccepted }
 {}
 
-/// Two answers of `compile` to the same two texts are equal; `solve_model` settles the problem that `compile` prints; and no two
-/// texts are both compiled and refused for a fault.
+/// Theorem: `compile` returns equal results for equal inputs; `solve_model` solves the problem that
+/// `compile` prints; and no inputs are both compiled and rejected.
 pub fn texts_have_one_answer()
     ensures compiled { IsOneAnswer }
     ensures solved { IsSolvedAsCompiled }

@@ -1,4 +1,4 @@
-//! The calls from end to end: texts in, an answer's text out.
+//! The public calls: from input files to an output text.
 #![tactic(auto)]
 
 mod answer;
@@ -10,7 +10,6 @@ mod first_fault;
 mod laws;
 mod line_runs;
 mod linked;
-mod named;
 mod naming;
 mod network;
 mod problem_source;
@@ -27,12 +26,22 @@ pub use checking::check_bytes;
 pub use compiled::{Compiled, Options, compile, compile_with};
 pub use ending::Ending;
 pub use fault::{Fault, LineRefusal, Refusal, TextName};
-pub use first_fault::{first_fault_lies_in_its_text, one_first_fault, read_or_refused};
+pub use first_fault::{
+    first_fault_lies_in_its_text, one_first_fault, one_of_network_and_error, read_or_refused,
+};
 pub use laws::{answers_are_accepted, texts_have_one_answer};
 pub use line_runs::{run_check, run_min};
 pub use naming::{names_are_declared_once, nodes_and_arcs_are_apart, well_named};
+pub use net_check::{Reason, Side, Verdict};
+pub use net_dimacs::LineFault;
+pub use net_fault::{Defect, Span};
+pub use net_inst::{Named, Names};
+pub use net_io::{Failed, Sink, Source};
+pub use net_normal::{Link, Problem};
+pub use net_solve::Settled;
 pub use network::read_network;
 pub use run::{run_compile, run_compile_with};
 pub use settling::solve_min;
 pub use solve_run::{run_solve, run_solve_with};
+pub use std::alloc::AllocError as OutOfMemory;
 pub use text::Text;

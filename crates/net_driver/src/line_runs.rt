@@ -1,4 +1,5 @@
-//! Runs over texts of lines: a problem is read by pieces and a certificate whole, then the answer is computed whole, then it is written.
+//! Runs on problems and certificates: reads the problem in pieces and the certificate as a whole,
+//! computes the complete result, then writes it.
 
 ghost use Rattle.std.specs.Prelude.{◌≡◌, ◌⊎◌, List, ℕ, true, false, IfOk, IfErr};
 ghost use Rattle.net_dimacs.specs.Limits.{text_limit};
@@ -38,7 +39,7 @@ fn settled_ending(settled: &Settled) -> Ending
     }
 }
 
-/// The text of a certificate, or one byte past the limit.
+/// Reads a certificate file, up to one byte past the limit.
 fn read_certificate<C: Source>(alloc: Global, certificate: &mut C) -> Result<Vec<u8>, Fault>
     ensures value { IfOk result (λ text. ReadsToLimit text_limit (C.remaining certificate.old) (C.remaining certificate.new) text.items) }
     ensures err { IfErr result (λ fault. (fault ≡ Fault.OutOfMemory)
@@ -49,7 +50,7 @@ fn read_certificate<C: Source>(alloc: Global, certificate: &mut C) -> Result<Vec
     read_text(alloc, certificate, TEXT_LIMIT, TextName::Certificate)
 }
 
-/// The verdict on a certificate's text of the problem that was read.
+/// Checks a certificate file for the problem that was read.
 fn check_read(alloc: Global, reading: Reading, certificate: &[u8]) -> Result<Verdict, Fault>
     ensures value { (text : List ℕ) → Stands reading text → IfOk result (Judges text certificate.now) }
     ensures refused { (text : List ℕ) → Stands reading text → IfErr result (IsLineRefusal text certificate.now) }
@@ -61,7 +62,7 @@ fn check_read(alloc: Global, reading: Reading, certificate: &[u8]) -> Result<Ver
     judge(alloc, &network, certificate)
 }
 
-/// Settles the problem that was read. The second part is the text of its certificate.
+/// Solves the problem that was read; also returns the text of its certificate.
 fn solve_read(alloc: Global, reading: Reading) -> Result<(Settled, Vec<u8>), Fault>
     ensures value { (text : List ℕ) → Stands reading text → IfOk result (λ answer. Settles text answer.0 answer.1.items) }
     ensures refused { (text : List ℕ) → Stands reading text → IfErr result (IsProblemRefusal text) }
@@ -74,7 +75,8 @@ fn solve_read(alloc: Global, reading: Reading) -> Result<(Settled, Vec<u8>), Fau
     Ok(answer)
 }
 
-/// Checks the certificate that the second source gives of the problem that the first gives, and writes the verdict's line.
+/// Checks the certificate of the second source for the problem of the first, and writes the line of
+/// the verdict.
 pub fn run_check<P: Source, C: Source, W: Sink>(
     alloc: Global,
     problem: &mut P,
@@ -103,7 +105,7 @@ pub fn run_check<P: Source, C: Source, W: Sink>(
     }
 }
 
-/// Settles the problem that the source gives, and writes its certificate's text.
+/// Solves the problem of the source, and writes the text of its certificate.
 pub fn run_min<P: Source, W: Sink>(
     alloc: Global,
     problem: &mut P,

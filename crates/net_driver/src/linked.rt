@@ -1,4 +1,4 @@
-//! A model compiled whose problem lines are made while they go out.
+//! Compiled models whose problem lines are streamed to the output.
 
 ghost use Rattle.std.specs.Prelude.{◌≡◌, ◌||◌, IfOk, IfErr, OnOk, OnErr, is_err};
 ghost use Rattle.std.specs.Option.{option_copied};
@@ -19,7 +19,7 @@ use net_normal::{Link, Problem};
 use net_report::write_links;
 use std::alloc::{AllocError, Global};
 
-/// A model compiled, and of its text the link lines. The problem's lines stand behind them.
+/// A compiled model with the name map of its text; the problem's lines follow it.
 #[derive(Drop)]
 pub(crate) struct Linked<'s> {
     pub lines: Vec<u8>,
@@ -28,22 +28,22 @@ pub(crate) struct Linked<'s> {
     pub names: Names<'s>,
 }
 
-/// Compiles a model with its data and what is chosen, up to the link lines.
+/// Compiles a model with its data and options, including the name map.
 pub(crate) fn link_model<'s>(
     alloc: Global,
-    options: Options<'s>,
+    options: &Options<'_>,
     model: &'s [u8],
     data: &'s [u8],
 ) -> Result<Linked<'s>, Fault>
-    ensures value { IfOk result (λ l. Headline options.entry.lean (option_copied options.entry.objective) model.entry.now «data».entry.now (whole l)) }
-    ensures refused { IfErr result (IsRefusal (option_copied options.entry.objective) model.entry.now «data».entry.now) }
+    ensures value { IfOk result (λ l. Headline options.now.lean (option_copied options.now.objective) model.entry.now «data».entry.now (whole l)) }
+    ensures refused { IfErr result (IsRefusal (option_copied options.now.objective) model.entry.now «data».entry.now) }
 {
     let unwritten = read_model(alloc, options, model, data)?;
     let linked = linked_of(alloc, unwritten)?;
     Ok(linked)
 }
 
-/// A model compiled with its link lines.
+/// Adds the name map to a compiled model. Fails only if memory runs out.
 pub(crate) fn linked_of(alloc: Global, unwritten: Unwritten<'_>) -> Result<Linked<'_>, AllocError>
     requires { SizesAgree (written unwritten) }
     ensures { IfOk result (λ linked. whole linked ≡ written unwritten.entry) }
@@ -62,7 +62,8 @@ pub(crate) fn linked_of(alloc: Global, unwritten: Unwritten<'_>) -> Result<Linke
     })
 }
 
-/// Writes the text of a model compiled: its link lines, then the problem's lines by pages. It takes no memory.
+/// Writes the text of a compiled model: its name map, then the problem's lines through a buffer.
+/// Allocates no memory.
 pub(crate) fn write_linked<W: Sink>(sink: &mut W, linked: &Linked<'_>) -> Result<(), Failed>
     ensures ok { OnOk result (Appends (W.taken sink.old) (W.taken sink.new) (whole linked.now).text.items) }
     ensures err { OnErr result (WritesFront (W.taken sink.old) (W.taken sink.new) (whole linked.now).text.items) }

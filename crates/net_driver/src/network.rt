@@ -1,16 +1,16 @@
-//! The network of a model text and a data text.
+//! The network of a model with its data.
 
 ghost use Rattle.std.specs.Prelude.{[], List, ℕ, IfOk, IfErr};
 ghost use Rattle.std.specs.Option.{option_copied};
 ghost use Rattle.net_tree.specs.View as view;
 ghost use Rattle.net_inst.specs.Instances.{seen_as};
-ghost use Rattle.net_bind.specs.Binding.{AreNew};
+ghost use Rattle.net_eval.specs.Binding.{AreNew};
 ghost use Rattle.net_driver.specs.Reading.{ComeTo, IsModel, IsNetworkOf};
 ghost use Rattle.net_driver.specs.FirstFaults.{IsNetworkStop, IsStop};
 
 use crate::texts::read_model;
-use net_bind::bind;
 use net_data::{Tables, parse_data};
+use net_eval::bind;
 use net_fault::Fault;
 use net_inst::{Named, instantiate_for};
 use net_lex::lex_data;
@@ -18,12 +18,12 @@ use net_model::free_model;
 use net_tree::Model;
 use std::alloc::Global;
 
-/// The network of declarations and statements.
+/// Returns the network of declarations with statements.
 fn network_of<'s>(
     alloc: Global,
     model: &Model<'s>,
     tables: &Tables<'_, 's>,
-    objective: Option<&'s str>,
+    objective: Option<&str>,
 ) -> Result<Named<'s>, Fault>
     requires { AreNew [] (view.model model.now) }
     ensures ok { IfOk result (λ n. ComeTo (option_copied objective.entry) (view.model model.now) tables.now (seen_as n)) }
@@ -39,12 +39,12 @@ fn network_of<'s>(
     }
 }
 
-/// The network of the declarations of a model text with a data text.
+/// Returns the network of a parsed model with a data file.
 fn network_with<'s>(
     alloc: Global,
     declared: &Model<'s>,
     data: &'s [u8],
-    objective: Option<&'s str>,
+    objective: Option<&str>,
 ) -> Result<Named<'s>, Fault>
     requires { AreNew [] (view.model declared.now) }
     ensures ok { (text : List ℕ) → IsModel text (view.model declared.now) → IfOk result (λ n. IsNetworkOf (option_copied objective.entry) text
@@ -65,15 +65,16 @@ fn network_with<'s>(
     }
 }
 
-/// The network of a model text with a data text, and its names: with the objective of this name, or with the only one.
+/// Returns the network of a model with its data, and its names, for the objective of the given name
+/// or the only one.
 ///
-/// The first fault is told, in the order of tokens, grammar and names of the model, tokens and statements of the data,
-/// binding with the checks, and the network.
+/// Returns the first error in this order: tokens, grammar and names of the model; tokens and
+/// statements of the data; evaluation with the checks; the network.
 pub fn read_network<'s>(
     alloc: Global,
     model: &'s [u8],
     data: &'s [u8],
-    objective: Option<&'s str>,
+    objective: Option<&str>,
 ) -> Result<Named<'s>, Fault>
     ensures ok { IfOk result (λ n. IsNetworkOf (option_copied objective.entry) model.entry.now «data».entry.now (seen_as n)) }
     ensures refused { IfErr result (IsStop (option_copied objective.entry) model.entry.now «data».entry.now) }

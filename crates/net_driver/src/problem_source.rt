@@ -1,4 +1,4 @@
-//! Problems that sources give by pieces.
+//! Reading problems from sources in pieces.
 
 ghost use Rattle.std.specs.Prelude.{◌≡◌, ◌==◌, ◌⊎◌, List, ℕ, true, IfOk, IfErr, IsErrOf};
 ghost use Rattle.net_dimacs.specs.Scans.{Stands};
@@ -14,11 +14,12 @@ use net_io::{ReadFault, Source};
 use net_normal::Problem;
 use std::alloc::Global;
 
-/// How much is read at once.
+/// The size of the read buffer, in bytes.
 const PIECE: usize = 4096;
 
-/// Reads the text of a problem from a source, to its end or to one byte past the limit. Whether the text is a problem is told by
-/// [`finished`]; of the text itself only a piece is in memory, and what decides of a line that is not whole yet.
+/// Reads a problem file from a source, to its end or to one byte past the limit. [`finished`]
+/// returns whether it is valid. Only the read buffer and the shortened form of an incomplete line
+/// are in memory.
 pub(crate) fn read_problem_from<S: Source>(alloc: Global, source: &mut S) -> Result<Reading, Fault>
     ensures value { IfOk result (GivesText (record { old = S.remaining source.old; new = S.remaining source.new })) }
     ensures err { IfErr result (λ fault. (fault ≡ Fault.OutOfMemory)
@@ -33,7 +34,7 @@ pub(crate) fn read_problem_from<S: Source>(alloc: Global, source: &mut S) -> Res
     }
 }
 
-/// Whether a read that gave so many bytes met the end. One that gave few did not.
+/// Returns whether a read of `count` bytes reached the end. A short read did not.
 fn is_end(count: usize) -> bool
     ensures { result ≡ (count == 0) }
 {
@@ -61,7 +62,7 @@ fn read_pieces<S: Source>(alloc: Global, source: &mut S) -> Result<Reading, Read
     Ok(reading)
 }
 
-/// The problem of the text that was read, or its first fault.
+/// Returns the problem of the file that was read, or its first error.
 pub(crate) fn finished(reading: Reading) -> Result<Problem, Fault>
     ensures ok { (text : List ℕ) → Stands reading text → IfOk result (IsProblemOf text) }
     ensures refused { (text : List ℕ) → Stands reading text → IfErr result (IsProblemRefusal text) }

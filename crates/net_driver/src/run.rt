@@ -1,4 +1,5 @@
-//! Runs that compile: texts are read whole, then the problem and its link lines are made, then they are written.
+//! Runs that compile: read both files completely, build the problem and its name map, then write
+//! them.
 
 ghost use Rattle.std.specs.Prelude.{◌≡◌, ◌+◌, ◌^◌, ◌<◌, ◌⊎◌, None, true, false, IfOk, IfErr};
 ghost use Rattle.std.specs.Option.{option_copied};
@@ -12,7 +13,8 @@ use net_io::{ReadFault, Sink, Source, read_to_limit};
 use net_lex::{DATA_LIMIT, MODEL_LIMIT};
 use std::alloc::Global;
 
-/// Compiles what the two sources give, with the model's only objective, in the normal form, and writes the text of the answer.
+/// Compiles the model and data of two sources, with the model's only objective, in the normal form,
+/// and writes the text.
 pub fn run_compile<M: Source, D: Source, W: Sink>(
     alloc: Global,
     model: &mut M,
@@ -30,13 +32,13 @@ pub fn run_compile<M: Source, D: Source, W: Sink>(
     // The model is read first.
     ensures first { M.failed model.new ≡ true → «data».new ≡ «data».old }
 {
-    run_compile_with(alloc, Options::new(), model, data, output)
+    run_compile_with(alloc, &Options::new(), model, data, output)
 }
 
-/// Compiles what the two sources give, with what is chosen, and writes the text of the answer.
-pub fn run_compile_with<'o, M: Source, D: Source, W: Sink>(
+/// Compiles the model and data of two sources with options, and writes the text.
+pub fn run_compile_with<M: Source, D: Source, W: Sink>(
     alloc: Global,
-    options: Options<'o>,
+    options: &Options<'_>,
     model: &mut M,
     data: &mut D,
     output: &mut W,
@@ -44,7 +46,7 @@ pub fn run_compile_with<'o, M: Source, D: Source, W: Sink>(
     requires model_unread { M.failed model.old ≡ false }
     requires data_unread { D.failed «data».old ≡ false }
     requires unwritten { W.failed output.old ≡ false }
-    ensures run { IsCompileRun options.entry.lean (option_copied options.entry.objective)
+    ensures run { IsCompileRun options.now.lean (option_copied options.now.objective)
         (record { remaining = M.remaining; failed = M.failed; reads = M.reads; old = model.old; new = model.new })
         (record { remaining = D.remaining; failed = D.failed; reads = D.reads; old = «data».old; new = «data».new })
         (record { taken = W.taken; failed = W.failed; old = output.old; new = output.new }) result }
@@ -61,7 +63,7 @@ pub fn run_compile_with<'o, M: Source, D: Source, W: Sink>(
     }
 }
 
-/// The whole of a source, or one byte past the limit.
+/// Reads a source completely, up to one byte past the limit.
 pub(crate) fn read_text<S: Source>(
     alloc: Global,
     source: &mut S,

@@ -1,4 +1,4 @@
-//! Problems, from text to certificate.
+//! Solving problems, from a file to a certificate.
 
 ghost use Rattle.std.specs.Prelude.{List, ℕ, IfOk, IfErr, IsErrOf};
 ghost use Rattle.net_driver.specs.Checked.{IsProblemRefusal};
@@ -9,15 +9,15 @@ use crate::checking::problem_of;
 use crate::fault::Fault;
 use net_dimacs::write_certificate;
 use net_normal::Problem;
-use net_solve::{Settled, first_asked, solve};
+use net_solve::{Settled, solve_problem};
 use std::alloc::{AllocError, Global};
 
-/// Settles the problem of a text. The second part is the text of its certificate.
+/// Solves the problem of a file in memory; also returns the text of its certificate.
 pub fn solve_min(alloc: Global, problem: &[u8]) -> Result<(Settled, Vec<u8>), Fault>
     ensures value { IfOk result (λ answer. Settles problem.now answer.0 answer.1.items) }
     ensures refused { IfErr result (IsProblemRefusal problem.now) }
 
-    // Memory is asked for where the text begins a problem, and else not.
+    // Memory is allocated only if the file begins a problem.
     ensures memory { IsErrOf result Fault.OutOfMemory → MayBeProblem problem.now }
 {
     let network = match problem_of(alloc, problem) {
@@ -28,11 +28,11 @@ pub fn solve_min(alloc: Global, problem: &[u8]) -> Result<(Settled, Vec<u8>), Fa
     Ok(answer)
 }
 
-/// Settles a problem. The second part is the text of its certificate.
+/// Solves a problem; also returns the text of its certificate. Fails only if memory runs out.
 pub(crate) fn settle(alloc: Global, network: &Problem) -> Result<(Settled, Vec<u8>), AllocError>
     ensures { (problem : List ℕ) → IsProblemOf problem network.now → IfOk result (λ answer. Settles problem answer.0 answer.1.items) }
 {
-    let settled = solve(alloc, &first_asked(), network)?;
+    let settled = solve_problem(alloc, network)?;
     let text = write_certificate(alloc, network, &settled)?;
     Ok((settled, text))
 }

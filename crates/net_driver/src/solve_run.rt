@@ -1,4 +1,5 @@
-//! Runs that solve models: texts are read whole, then the answer is computed whole, then it is written. The problem's text is never made.
+//! Runs that solve models: read both files completely, compute the complete result, then write it.
+//! The problem's text is never built.
 
 ghost use Rattle.std.specs.Prelude.{◌≡◌, None, true, false};
 ghost use Rattle.std.specs.Option.{option_copied};
@@ -24,7 +25,8 @@ fn ending_of(outcome: &Outcome) -> Ending
     }
 }
 
-/// Solves what the two sources give, with the model's only objective, and writes the plan, or the cut that shows why there is none.
+/// Solves the model and data of two sources, with the model's only objective, and writes the plan,
+/// or the cut that proves that there is none.
 pub fn run_solve<M: Source, D: Source, W: Sink>(
     alloc: Global,
     model: &mut M,
@@ -42,13 +44,14 @@ pub fn run_solve<M: Source, D: Source, W: Sink>(
     // The model is read first.
     ensures first { M.failed model.new ≡ true → «data».new ≡ «data».old }
 {
-    run_solve_with(alloc, Options::new(), model, data, output)
+    run_solve_with(alloc, &Options::new(), model, data, output)
 }
 
-/// Solves what the two sources give, with what is chosen, and writes the plan, or the cut that shows why there is none.
-pub fn run_solve_with<'o, M: Source, D: Source, W: Sink>(
+/// Solves the model and data of two sources with options, and writes the plan, or the cut that
+/// proves that there is none.
+pub fn run_solve_with<M: Source, D: Source, W: Sink>(
     alloc: Global,
-    options: Options<'o>,
+    options: &Options<'_>,
     model: &mut M,
     data: &mut D,
     output: &mut W,
@@ -56,7 +59,7 @@ pub fn run_solve_with<'o, M: Source, D: Source, W: Sink>(
     requires model_unread { M.failed model.old ≡ false }
     requires data_unread { D.failed «data».old ≡ false }
     requires unwritten { W.failed output.old ≡ false }
-    ensures run { IsSolveRun options.entry.lean (option_copied options.entry.objective)
+    ensures run { IsSolveRun options.now.lean (option_copied options.now.objective)
         (record { remaining = M.remaining; failed = M.failed; reads = M.reads; old = model.old; new = model.new })
         (record { remaining = D.remaining; failed = D.failed; reads = D.reads; old = «data».old; new = «data».new })
         (record { taken = W.taken; failed = W.failed; old = output.old; new = output.new }) result }

@@ -1,9 +1,9 @@
-//! How a finding in a text is told.
+//! Reporting errors in a model or its data.
 
 ghost use Rattle.std.specs.Prelude.{◌≡◌, Option, IfOk, IsErr, length, string_bytes};
 ghost use Rattle.net_fault.specs.declared.detail.Detail.TheVariants.{Nothing};
-ghost use Rattle.net_eval.specs.References.{detail_text};
-ghost use Rattle.net_eval.specs.Worlds.{Name};
+ghost use Rattle.net_expr.specs.References.{detail_text};
+ghost use Rattle.net_expr.specs.Worlds.{Name};
 ghost use Rattle.net_driver.specs.FirstFaults.{IsStop};
 ghost use Rattle.net_fault.specs.Places.{LiesIn};
 ghost use Rattle.net_report.specs.Links.{in_line};
@@ -33,7 +33,7 @@ fn text_of<'a>(model: &'a [u8], data: &'a [u8], text: Language) -> &'a [u8]
     }
 }
 
-/// What is told beside a place, as it stands in a line. Memory is asked for only where something is.
+/// Returns a detail as text within one line. Allocates memory only if there is a detail.
 fn line_of(alloc: Global, detail: &Detail) -> Result<String, AllocError>
     ensures ok { IfOk result (λ line. string_bytes line ≡ in_line (detail_text detail.now)) }
     ensures err { IsErr result → detail.now ≡ Nothing → ⊥ }
@@ -48,7 +48,7 @@ fn line_of(alloc: Global, detail: &Detail) -> Result<String, AllocError>
     }
 }
 
-/// A finding in its text, with line and column.
+/// Returns an error in its file with line and column. Fails only if memory runs out.
 fn refusal_of(alloc: Global, text: &[u8], finding: &Finding) -> Result<Refusal, AllocError>
     requires { LiesIn (length text.now) finding.now.at }
     ensures ok { IfOk result (IsTold text.now finding.now) }
@@ -67,7 +67,7 @@ fn refusal_of(alloc: Global, text: &[u8], finding: &Finding) -> Result<Refusal, 
     })
 }
 
-/// The fault that is told of two texts, in one of which it lies.
+/// Returns the error as it is reported to the user, given the two files.
 pub(crate) fn told(alloc: Global, model: &[u8], data: &[u8], fault: &TextFault) -> Fault
     requires { LiesThere model.now «data».now fault.now }
     ensures { (wanted : Option Name) → IsStop wanted model.now «data».now fault.now → IsRefusal wanted model.now «data».now result }

@@ -1,10 +1,10 @@
-//! A text that is held.
+//! Owned output text.
 
 ghost use Rattle.std.specs.Prelude.{◌≡◌};
 
 use std::marker::Model;
 
-/// A text, which contracts see as its bytes and not by where they lie.
+/// A text, which contracts see as its bytes, independent of their address.
 #[derive(Drop)]
 pub struct Text {
     bytes: Vec<u8>,
@@ -21,17 +21,25 @@ impl Model for Text {
 }
 
 impl Text {
-    /// The text of these bytes.
+    /// Wraps bytes as a text.
     pub fn new(bytes: Vec<u8>) -> Text
         ensures { result.items ≡ bytes.items }
     {
         Text { bytes }
     }
 
-    /// The bytes of the text.
+    /// Returns the bytes of the text.
     pub fn as_bytes(&self) -> &[u8]
         ensures { result.now ≡ self.now.items }
     {
         self.bytes.as_slice()
+    }
+
+    /// Returns the vector of the text's bytes; nothing is copied.
+    pub fn into_vec(self) -> Vec<u8>
+        ensures { result.items ≡ self.items }
+    {
+        let Text { bytes } = self;
+        bytes
     }
 }

@@ -1,4 +1,4 @@
-//! A model compiled of which no text is made.
+//! Compiled models without their text.
 
 ghost use Rattle.std.specs.Prelude.{IfOk, IfErr};
 ghost use Rattle.std.specs.Option.{option_copied};
@@ -20,7 +20,7 @@ use net_inst::{
 use net_normal::{Instance, Link, Problem, normalise, normalise_lean};
 use std::alloc::{AllocError, Global};
 
-/// A model compiled, without its text.
+/// A compiled model without its text.
 #[derive(Drop)]
 pub(crate) struct Unwritten<'s> {
     pub problem: Problem,
@@ -28,15 +28,15 @@ pub(crate) struct Unwritten<'s> {
     pub names: Names<'s>,
 }
 
-/// Compiles a model with its data and what is chosen, but for the text.
+/// Compiles a model with its data and options, except for the text.
 pub(crate) fn read_model<'s>(
     alloc: Global,
-    options: Options<'s>,
+    options: &Options<'_>,
     model: &'s [u8],
     data: &'s [u8],
 ) -> Result<Unwritten<'s>, Fault>
-    ensures value { IfOk result (λ u. Headline options.entry.lean (option_copied options.entry.objective) model.entry.now «data».entry.now (written u)) }
-    ensures refused { IfErr result (IsRefusal (option_copied options.entry.objective) model.entry.now «data».entry.now) }
+    ensures value { IfOk result (λ u. Headline options.now.lean (option_copied options.now.objective) model.entry.now «data».entry.now (written u)) }
+    ensures refused { IfErr result (IsRefusal (option_copied options.now.objective) model.entry.now «data».entry.now) }
 {
     let unwritten = made_of(alloc, options, model, data)?;
     names_are_declared();
@@ -49,12 +49,12 @@ pub(crate) fn read_model<'s>(
 
 fn made_of<'s>(
     alloc: Global,
-    options: Options<'s>,
+    options: &Options<'_>,
     model: &'s [u8],
     data: &'s [u8],
 ) -> Result<Unwritten<'s>, Fault>
-    ensures made { IfOk result (λ u. IsNormalFormOf options.entry.lean (option_copied options.entry.objective) model.entry.now «data».entry.now (written u)) }
-    ensures refused { IfErr result (IsRefusal (option_copied options.entry.objective) model.entry.now «data».entry.now) }
+    ensures made { IfOk result (λ u. IsNormalFormOf options.now.lean (option_copied options.now.objective) model.entry.now «data».entry.now (written u)) }
+    ensures refused { IfErr result (IsRefusal (option_copied options.now.objective) model.entry.now «data».entry.now) }
 {
     let named = match read_network(alloc, model, data, options.objective) {
         Ok(named) => named,
@@ -68,7 +68,8 @@ fn made_of<'s>(
     })
 }
 
-/// The normal form of a network, or its lean form.
+/// Returns the normal form of a network, or its lean form if requested. Fails only if memory runs
+/// out.
 fn form_of(alloc: Global, lean: bool, instance: &Instance) -> Result<(Problem, Link), AllocError>
     ensures value { IfOk result (λ made. IsFormIn (profile_of lean) instance.now made.0 made.1) }
     ensures corresponds { IfOk result (λ made. CorrespondsOneToOne instance.now made.0 made.1) }

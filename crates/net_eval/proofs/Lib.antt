@@ -1,30 +1,22 @@
-pub mod Numerals
-mod Doubling
-pub mod Seeing
-pub mod Cases
-pub mod Walking
-pub mod Ranging
-pub mod Passing
-pub mod Subscripting
-pub mod Framing
-pub mod Scoping
-pub mod Parting
-pub mod Distinct
-pub mod Walked
-pub mod KeysOnce
-pub mod Alike
-pub mod SetsGiven
-mod Trees
-mod ReferenceExamples
-mod NumberExamples
-mod KindExamples
-mod ConditionExamples
-mod NameExamples
-mod SetExamples
-mod ListExamples
-mod IndexExamples
-mod SelectingExamples
-mod Numbering
-pub mod OperatorFaults
-pub mod RowFaults
-pub mod ValueFaults
+pub mod Cells
+pub mod Naming
+pub mod Items
+pub mod Lists
+pub mod Listed
+pub mod Fresh
+pub mod Turns
+mod Examples
+pub mod NewNames
+pub mod RowsTaken
+pub mod DataRowsTaken
+pub mod SetRowsTaken
+pub mod Products
+pub mod Claiming
+pub mod HeldParameters
+pub mod HeldEntries
+pub mod ValuesAt
+pub mod NameFaults
+pub mod SetFaults
+pub mod ParameterFaults
+pub mod WorldFaults
+mod SoundRestrictions

@@ -1,14 +1,13 @@
--- How declared names are kept: a map beside the list tells each name's place.
-use Rattle.std.specs.Prelude.{◌≡◌, ℕ, Option}
-use Rattle.std.specs.BTreeMap.{BTreeMap, get_by}
-use Rattle.std.specs.Cmp.Lexicographic.{slice_cmp}
-use Rattle.std.specs.Ordering.{nat_cmp}
-use denote.Ref.{Bor}
-use Rattle.net_eval.specs.Worlds.{Name, World, place_behind}
+-- How declared names are stored: a map gives the position of each name.
+use Rattle.std.specs.Prelude.{◌≡◌, ℕ, Bool, Option, None, Some, List}
+use Rattle.net_sets.specs.Names.{named}
+use Rattle.net_expr.specs.Worlds.{Name}
+use Rattle.net_eval.specs.Names.{found_behind}
 
--- what a map tells of a name
-abbrev pub told : BTreeMap (Bor Name) ℕ → Name → Option ℕ
-told places name = get_by (λ key. slice_cmp nat_cmp name key.now) places
+-- the first value if there is one, else the second
+abbrev pub or_else : {A : Type 0} → Option A → Option A → Option A
+or_else None b = b
+or_else (Some a) b = Some a
 
-pub record IsKept (w : World) (places : BTreeMap (Bor Name) ℕ) : Type 0 where
-  pub tells : (name : Name) → told places name ≡ place_behind 0 w name
+pub record IsKept (ns : List (Name × Bool)) (places : List (Name × (ℕ × Bool))) : Type 0 where
+  pub tells : (name : Name) → named places name ≡ found_behind 0 ns name

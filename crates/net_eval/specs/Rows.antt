@@ -1,171 +1,107 @@
--- Walks over braces: where they stand, and the keys that they find.
-use Rattle.std.specs.Prelude.{ℕ, Bool, true, false, List, [], ◌∷◌, ◌++◌, length, map, nat_eq, nat_le, nat_lt, Option, None, Some, if◌then◌else◌, Ok, ℤ, pos}
+-- The data statements of a parameter: rows of a key and a value.
+use Rattle.std.specs.Prelude.{ℕ, ◌+◌, Bool, true, false, ◌&&◌, ◌||◌, List, [], ◌∷◌, ◌++◌, length, nat_eq, nat_lt, slice_get, take, is_some, Option, None, Some, if◌then◌else◌, Result, Ok, Err, ⊤, ◌≡◌}
+use Rattle.net_fault.specs.declared.language.Language.{Language}
+use Rattle.net_fault.specs.declared.language.Language.TheVariants.{Data}
 use Rattle.net_fault.specs.declared.span.Span.{Span}
+use Rattle.net_lex.specs.declared.token.Token.{Token}
 use Rattle.net_sets.specs.declared.member.Member.{Member}
-use Rattle.net_sets.specs.declared.member.Member.TheVariants.{Number}
 use Rattle.net_sets.specs.Limits.{tuples_limit}
-use Rattle.net_sets.specs.Sets.{Tuple, same_member, same_tuple}
-use Rattle.net_sets.specs.Operations.{union}
-use Rattle.net_fault.specs.declared.defect.Defect.TheVariants.{NoValue, KindMismatch, Arity, TooMany}
-use Rattle.net_tree.specs.declared.operator.Reduction.{Reduction}
-use Rattle.net_tree.specs.declared.operator.Reduction.TheVariants.{Sum, Min, Max}
-use Rattle.net_eval.specs.declared.value.Value.{Value}
-use Rattle.net_eval.specs.declared.value.Value.TheVariants.{One, Several, Many}
-use Rattle.net_eval.specs.declared.row.Place.{Place}
-use Rattle.net_eval.specs.declared.row.Row.{Row}
-use Rattle.net_eval.specs.declared.row.Keys.{Keys}
-use Rattle.net_fault.specs.Outcomes.{Outcome, and_then, refused}
-use Rattle.net_eval.specs.Worlds.{Name, Scope, with_dummy}
-use Rattle.net_eval.specs.Operators.{longer}
-use Rattle.net_eval.specs.Numbers.{number, sized, gathered}
+use Rattle.net_sets.specs.Sets.{Tuple, has, at_key}
+use Rattle.net_data.specs.Rows.{points}
+use Rattle.net_fault.specs.declared.detail.Detail.TheVariants.{Nothing}
+use Rattle.net_fault.specs.declared.defect.Defect.TheVariants.{Arity, OutsideSet, TooMany, DoubleValue}
+use Rattle.net_expr.specs.Worlds.{reference}
+use Rattle.net_fault.specs.declared.fault.Fault.{Fault}
+use Rattle.net_fault.specs.declared.fault.Fault.TheVariants.{OutOfMemory, At}
+use Rattle.net_eval.specs.declared.given.Given.{Given}
+use Rattle.net_eval.specs.declared.given.Given.TheVariants as given
+use Rattle.net_eval.specs.declared.given.NamedData.{NamedData}
+use Rattle.net_eval.specs.Cells.{member_in, tuple_in}
+use Rattle.net_fault.specs.Outcomes.{Outcome, and_then, each, refused_as, refused_there}
+use Rattle.net_eval.specs.SetData.{begins_at, whole_groups, cut, told_by, agrees, doubled}
 
-abbrev pub start : Scope → Place
-start s = record { scope = s; key = Some [] }
+-- the values of a parameter with their keys
+abbrev pub Table : Type 0
+Table = List (Tuple × Member)
 
--- a tuple behind the key
-abbrev pub with_key : Tuple → Place → Place
-with_key t p = record { scope = p.scope; key = longer t p.key }
+-- the values given so far, and the spans of those from data
+abbrev pub Taken : Type 0
+Taken = Table × List Span
 
--- a new dummy takes a member, which is one of the key
-abbrev pub bind : Name → Member → Place → Place
-bind name m p = record { scope = with_dummy name m p.scope; key = longer (m ∷ []) p.key }
+-- adds a value, if there are not too many
+abbrev pub with_value : Language → Span → Tuple → Member → Table → Outcome Table
+with_value text at key m t = if nat_lt (length t) tuples_limit then Ok (t ++ (key, m) ∷ []) else refused_as text TooMany at Nothing
 
--- the place stays where the value of a component is the member
-abbrev pub matches_member : Span → Member → Place → Value → Outcome (Option Place)
-matches_member at m p (One v) = Ok (if same_member v m then Some p else None)
-matches_member at m p _ = refused KindMismatch at
+-- adds a row; its key must be in the index set and have no value yet
+abbrev pub with_row : Token → Option ℕ → List Tuple → List Token → Token → Taken → Outcome Taken
+with_row word n index key value t =
+    if is_some (at_key t.0 (tuple_in key)) then refused_as Data DoubleValue (begins_at value.span key) (reference word.text n (tuple_in key))
+    else if has index (tuple_in key) then and_then (with_value Data (begins_at value.span key) (tuple_in key) (member_in value) t.0) (λ u. Ok (u, t.1 ++ value.span ∷ []))
+    else refused_as Data OutsideSet (begins_at value.span key) (reference word.text n (tuple_in key))
 
-abbrev pub matches_tuple : Span → Tuple → Place → Tuple → Outcome (Option Place)
-matches_tuple at t p v = if nat_eq (length v) (length t) then Ok (if same_tuple v t then Some p else None) else refused Arity at
+-- adds a cell with a value; a missing-value dot gives none
+abbrev pub with_cell : Token → Option ℕ → List Tuple → List Token → Option Token → Taken → Outcome Taken
+with_cell word n index key None t = Ok t
+with_cell word n index key (Some value) t = if points value.kind then Ok t else with_row word n index key value t
 
--- the same of what is no tuple by its form
-abbrev pub matches_as_tuple : Span → Tuple → Place → Value → Outcome (Option Place)
-matches_as_tuple at t p (One v) = matches_tuple at t p (v ∷ [])
-matches_as_tuple at t p (Several v) = matches_tuple at t p v
-matches_as_tuple at t p _ = refused KindMismatch at
+-- adds a group: the members of a key, and values of which one is used
+abbrev pub with_group : Token → Option ℕ → List Tuple → (keys place : ℕ) → List Token → Taken → Outcome Taken
+with_group word n index keys place g t = with_cell word n index (take keys g) (slice_get g (keys + place)) t
 
--- a new dummy takes the member; any other component must have it for its value
-abbrev pub fitted : Span → Option Name → Outcome Value → Member → Place → Outcome (Option Place)
-fitted at (Some name) own m p = Ok (Some (bind name m p))
-fitted at None own m p = and_then own (matches_member at m p)
+abbrev pub pair_of : Bool → Token → Token → List Token
+pair_of false row column = row ∷ column ∷ []
+pair_of true row column = column ∷ row ∷ []
 
--- the one member of a tuple
-abbrev pub bound_first : Name → Tuple → Place → Outcome (Option Place)
-bound_first name [] p = Ok (Some p)
-bound_first name (m ∷ ms) p = Ok (Some (bind name m p))
+-- the cells of a row in a table, column by column
+abbrev pub across : Token → Option ℕ → List Tuple → Bool → Token → List Token → List Token → Taken → Outcome Taken
+across word n index transposed row [] cells t = Ok t
+across word n index transposed row (c ∷ cs) [] t = Ok t
+across word n index transposed row (c ∷ cs) (cell ∷ cells) t =
+    and_then (with_cell word n index (pair_of transposed row c) (Some cell) t) (across word n index transposed row cs cells)
 
--- the same of what stands alone at the left of `in`
-abbrev pub fitted_alone : Span → Option Name → Outcome Value → Tuple → Place → Outcome (Option Place)
-fitted_alone at (Some name) own t p = bound_first name t p
-fitted_alone at None own t p = and_then own (matches_as_tuple at t p)
+-- adds a row of a table: a member, and a cell for each column
+abbrev pub with_line : Token → Option ℕ → List Tuple → Bool → List Token → List Token → Taken → Outcome Taken
+with_line word n index transposed columns [] t = Ok t
+with_line word n index transposed columns (row ∷ cells) t = across word n index transposed row columns cells t
 
-abbrev pub if_fits : (Place → Outcome (Option Place)) → Option Place → Outcome (Option Place)
-if_fits next None = Ok None
-if_fits next (Some p) = next p
+-- a table requires a parameter with two keys
+abbrev pub has_two : Token → ℕ → Outcome (Unit {0})
+has_two word n = if nat_eq n 2 then Ok tt else refused_there Arity word.span
 
-abbrev pub go_on : (Place → List Row → Outcome (List Row)) → List Row → Option Place → Outcome (List Row)
-go_on next found None = Ok found
-go_on next found (Some p) = next p found
+-- checks the shape of a statement: the number of its keys, and complete groups
+abbrev pub shaped : List ℕ → ℕ → Token → Given → Outcome (Unit {0})
+shaped widths n word (given.Members ts) = Ok tt
+shaped widths n word (given.Groups g) = and_then (agrees word (told_by widths g.leader n) n) (λ u. whole_groups word.span n (n + g.values) (cut (n + g.values) g.cells))
+shaped widths n word (given.Grid g) = and_then (has_two word n) (λ u. whole_groups word.span 1 (1 + length g.columns) (cut (1 + length g.columns) g.cells))
 
--- the rest of a walk from where a tuple leads to
-abbrev pub onward : (Tuple → Place → Outcome (Option Place)) → (Place → List Row → Outcome (List Row)) → Place → Tuple → List Row → Outcome (List Row)
-onward place next p t found = and_then (place t p) (go_on next found)
+-- adds its rows
+abbrev pub with_rows : Option ℕ → List Tuple → ℕ → Token → Given → Taken → Outcome Taken
+with_rows n index size word (given.Members ts) t = Ok t
+with_rows n index size word (given.Groups g) t = each (with_group word n index size g.place) (cut (size + g.values) g.cells) t
+with_rows n index size word (given.Grid g) t = each (with_line word n index g.transposed g.columns) (cut (1 + length g.columns) g.cells) t
 
--- keys have the same number of members
-abbrev pub same_arity : Tuple → List Row → Bool
-same_arity key [] = true
-same_arity key (r ∷ rows) = nat_eq (length r.key) (length key)
+-- checks the shape of a statement, then that it does not repeat earlier data, then adds its rows
+abbrev pub taken : List ℕ → Option ℕ → List Tuple → ℕ → Token → Given → Bool → Taken → Outcome Taken
+taken widths n index size word g is_doubled t =
+    and_then (shaped widths size word g) (λ u. if is_doubled then doubled word else with_rows n index size word g t)
 
-abbrev pub add_row : Span → Scope → Tuple → List Row → Outcome (List Row)
-add_row at s key found =
-    if same_arity key found
-    then if nat_lt (length found) tuples_limit then Ok (found ++ (record { key = key; scope = s }) ∷ []) else refused TooMany at
-    else refused Arity at
+-- the first default in the data so far
+abbrev pub either : Option Token → Option Token → Option Token
+either None later = later
+either (Some c) later = Some c
 
--- a key that is complete: of at most four members, of as many as those before, and at most a million of them
-abbrev pub finished_key : Span → Scope → Option Tuple → List Row → Outcome (List Row)
-finished_key at s None found = refused Arity at
-finished_key at s (Some key) found = add_row at s key found
+-- the content of all statements of a parameter so far
+abbrev pub All : Type 0
+All = Taken × Option Token
 
-abbrev pub finished : Span → Place → List Row → Outcome (List Row)
-finished at p found = finished_key at p.scope p.key found
+-- adds a statement: checks its shape, then that there is no `:=` and no second default, then adds
+-- its rows
+abbrev pub with_statement : List ℕ → Option ℕ → List Tuple → ℕ → Bool → NamedData → All → Outcome All
+with_statement widths n index size is_assigned m all =
+    and_then (taken widths n index size m.word m.given (is_assigned || (is_some m.default && is_some all.1)) all.0) (λ t. Ok (t, either all.1 m.default))
 
-abbrev pub keep : Row → List Row → Bool → List Row
-keep r found true = found ++ r ∷ []
-keep r found false = found
-
--- the rows at which the condition holds
-abbrev pub kept : (Scope → Outcome Bool) → List Row → List Row → Outcome (List Row)
-kept holds [] found = Ok found
-kept holds (r ∷ rows) found = and_then (holds r.scope) (λ b. kept holds rows (keep r found b))
-
--- the number of members of the keys; where there is none, that which their form gives
-abbrev pub width_of : List Row → Outcome ℕ → Outcome ℕ
-width_of [] by_form = by_form
-width_of (r ∷ rows) by_form = Ok (length r.key)
-
-abbrev pub keys : ℕ → List Row → Keys
-keys n rows = record { width = Some n; rows = rows }
-
--- the rows that items lead to, and then those at which the condition holds
-abbrev pub selected : Outcome ℕ → (Scope → Outcome Bool) → List Row → Outcome Keys
-selected by_form holds rows = and_then (width_of rows by_form) (λ n. and_then (kept holds rows []) (λ left. Ok (keys n left)))
-
--- `{}`
-abbrev pub no_keys : Keys
-no_keys = record { width = None; rows = [] }
-
-abbrev pub keys_of : List Row → List Tuple
-keys_of rows = map (λ r. r.key) rows
-
--- the keys as a set
-abbrev pub as_set : Span → Keys → Outcome Value
-as_set at k = if nat_le (length (union [] (keys_of k.rows))) tuples_limit then Ok (Many k.width (union [] (keys_of k.rows))) else refused TooMany at
-
-abbrev pub rows_of : Scope → List Tuple → List Row
-rows_of s ts = map (λ t. record { key = t; scope = s }) ts
-
--- what braces list: members and tuples
-abbrev pub tuple_in : Span → Value → Outcome (Tuple)
-tuple_in at (One m) = Ok (m ∷ [])
-tuple_in at (Several t) = Ok t
-tuple_in at _ = refused KindMismatch at
-
-abbrev pub tuples_in : Span → List Value → List Tuple → Outcome (List Tuple)
-tuples_in at [] found = Ok found
-tuples_in at (v ∷ vs) found = and_then (tuple_in at v) (λ t. tuples_in at vs (found ++ t ∷ []))
-
--- all tuples have n members
-abbrev pub all_of : ℕ → List Tuple → Bool
-all_of n [] = true
-all_of n (t ∷ ts) = if nat_eq (length t) n then all_of n ts else false
-
-abbrev pub keys_within : Span → Scope → ℕ → List Tuple → Outcome Keys
-keys_within at s n ts = if nat_le (length ts) tuples_limit then Ok (keys n (rows_of s ts)) else refused TooMany at
-
-abbrev pub listed_as : Span → Scope → List Tuple → List Tuple → Outcome Keys
-listed_as at s [] each_once = Ok no_keys
-listed_as at s (t ∷ ts) each_once = if all_of (length t) ts then keys_within at s (length t) each_once else refused Arity at
-
--- braces without a condition list tuples of the same length, each once
-abbrev pub listed : Span → Scope → Bool → List Value → Outcome Keys
-listed at s conditioned vs = and_then (if conditioned then refused KindMismatch at else tuples_in at vs []) (λ ts. listed_as at s ts (union [] ts))
-
--- the numbers that a reduction comes to, one after the other
-abbrev pub gathered_over : Span → Reduction → (Scope → Outcome Value) → List Row → Option ℤ → Outcome (Option ℤ)
-gathered_over at r body [] so_far = Ok so_far
-gathered_over at r body (row ∷ rows) so_far =
-    and_then (body row.scope) (λ v. and_then (number at v) (λ n. gathered_over at r body rows (Some (gathered r so_far n))))
-
--- what is made of no numbers
-abbrev pub nothing_reduced : Span → Reduction → Outcome Value
-nothing_reduced at Sum = Ok (One (Number (pos 0)))
-nothing_reduced at Min = refused NoValue at
-nothing_reduced at Max = refused NoValue at
-
-abbrev pub reduced_to : Span → Reduction → Option ℤ → Outcome Value
-reduced_to at r None = nothing_reduced at r
-reduced_to at r (Some n) = sized at n
-
-abbrev pub reduce : Span → Reduction → (Scope → Outcome Value) → Keys → Outcome Value
-reduce at r body k = and_then (gathered_over at r body k.rows None) (reduced_to at r)
+-- the code returns the default, and modifies the values in place
+abbrev pub Gives : Outcome All → Result (Option Token) Fault → Taken → Type 0
+Gives wanted (Ok default) new = wanted ≡ Ok (new, default)
+Gives wanted (Err OutOfMemory) new = ⊤
+Gives wanted (Err (At r)) new = wanted ≡ Err r

@@ -1,70 +1,63 @@
-//! What an expression is where one kind is needed; any other kind is a fault of the expression.
+//! Calls on a bound world: an expression as the one kind of value that is needed; any other kind is an error of the expression.
 
 ghost use Rattle.std.specs.Prelude.{◌≡◌};
 ghost use Rattle.net_tree.specs.Spans as trees;
 ghost use Rattle.net_tree.specs.View.{tree, braces_of};
-ghost use Rattle.net_eval.specs.Items as items;
-ghost use Rattle.net_eval.specs.Operators as operators;
+ghost use Rattle.net_expr.specs.Items as items;
+ghost use Rattle.net_expr.specs.Operators as operators;
 ghost use Rattle.net_fault.specs.Outcomes.{Answers, and_then};
-ghost use Rattle.net_eval.specs.Values as values;
+ghost use Rattle.net_expr.specs.Values as values;
 
-use crate::eval::{evaluate, is_met};
-use crate::item::tuples_of;
-use crate::keys::index;
-use crate::operator::member_of;
-use crate::row::Keys;
-use crate::scope::Scope;
-use crate::world::Env;
+use net_expr::{Env, Keys, Member, Scope, World};
 use net_fault::Fault;
-use net_sets::{Cow, Member};
-use net_tree::{Braces, Expr, span_of};
+use net_sets::Cow;
+use net_tree::{Braces, Expr};
 use std::alloc::Global;
 
-/// The number or text that an expression is.
-pub fn member<'s>(
+/// Evaluates an expression to a number or a text.
+pub fn value<'s>(
     alloc: Global,
-    env: &Env<'_, 's>,
+    world: &World<'s>,
     scope: &Scope<'s>,
     expr: &Expr<'s>,
 ) -> Result<Member<'s>, Fault>
-    ensures { Answers (and_then (values.value env.now scope.now (tree expr.now)) (operators.member (trees.span_of (tree expr.now)))) result }
+    ensures { Answers (and_then (values.value world.now scope.now (tree expr.now)) (operators.member (trees.span_of (tree expr.now)))) result }
 {
-    let found = evaluate(alloc, env, scope, expr)?;
-    member_of(expr, &found)
+    net_expr::member(alloc, &Env::of_world(world), scope, expr)
 }
 
-/// The tuples of the set that an expression is, in order.
+/// Evaluates an expression to a set, and returns its tuples in order.
 pub fn members<'w, 's>(
     alloc: Global,
-    env: &Env<'w, 's>,
+    world: &'w World<'s>,
     scope: &Scope<'s>,
     expr: &Expr<'s>,
 ) -> Result<Cow<'w, 's>, Fault>
-    ensures { Answers (and_then (values.value env.now scope.now (tree expr.now)) (items.tuples_of (trees.span_of (tree expr.now)))) result }
+    ensures { Answers (and_then (values.value world.entry.now scope.now (tree expr.now)) (items.tuples_of (trees.span_of (tree expr.now)))) result }
 {
-    tuples_of(span_of(expr), evaluate(alloc, env, scope, expr))
+    net_expr::members(alloc, &Env::of_world(world), scope, expr)
 }
 
-/// The truth of the condition that an expression is.
+/// Evaluates a condition.
 pub fn holds<'s>(
     alloc: Global,
-    env: &Env<'_, 's>,
+    world: &World<'s>,
     scope: &Scope<'s>,
     expr: &Expr<'s>,
 ) -> Result<bool, Fault>
-    ensures { Answers (and_then (values.value env.now scope.now (tree expr.now)) (operators.truth (trees.span_of (tree expr.now)))) result }
+    ensures { Answers (and_then (values.value world.now scope.now (tree expr.now)) (operators.truth (trees.span_of (tree expr.now)))) result }
 {
-    is_met(alloc, env, scope, expr, expr)
+    net_expr::holds(alloc, &Env::of_world(world), scope, expr)
 }
 
-/// The keys by which braces index, in order, each with the dummies in scope at it.
+/// Returns the keys of an indexing expression, in order, each with the dummies in scope at it.
 pub fn index_of<'s>(
     alloc: Global,
-    env: &Env<'_, 's>,
+    world: &World<'s>,
     scope: &Scope<'s>,
     braces: &Braces<'s>,
 ) -> Result<Keys<'s>, Fault>
-    ensures { Answers (values.index env.now scope.now (braces_of braces.now)) result }
+    ensures { Answers (values.index world.now scope.now (braces_of braces.now)) result }
 {
-    index(alloc, env, scope, braces)
+    net_expr::index_of(alloc, &Env::of_world(world), scope, braces)
 }

@@ -1,16 +1,25 @@
-ghost use Rattle.std.specs.Prelude.{◌≡◌};
-ghost use Rattle.net_tree.specs.Spans as trees;
-ghost use Rattle.net_tree.specs.View.{tree};
-ghost use Rattle.net_fault.specs.Outcomes.{bare};
-ghost use Rattle.net_fault.specs.declared.language.Language.TheVariants.{Model as InModel};
+//! Building errors about declared sets and parameters.
+
+ghost use Rattle.std.specs.Prelude.{◌≡◌, IfOk};
+ghost use Rattle.net_fault.specs.Outcomes.{found};
+ghost use Rattle.net_fault.specs.declared.detail.Detail.TheVariants.{Told};
 ghost use Rattle.net_fault.specs.declared.fault.Fault.TheVariants.{At};
 
-use net_fault::{Defect, Fault};
-use net_tree::{Expr, span_of};
+use net_fault::{Defect, Detail, Fault, Language, Span};
+use net_views::Excerpt;
+use std::alloc::{AllocError, Global};
 
-/// A fault at a tree; its place is looked for here, and not where nothing is at fault.
-pub fn refuse_tree(defect: Defect, whole: &Expr<'_>) -> Fault
-    ensures { result ≡ At (bare InModel defect (trees.span_of (tree whole.now))) }
+/// Builds an error at a name or at a part of its declaration; the name is its detail. Fails only if
+/// memory runs out.
+pub(crate) fn refuse_name(
+    alloc: Global,
+    text: Language,
+    defect: Defect,
+    at: Span,
+    name: &Excerpt<'_>,
+) -> Result<Fault, AllocError>
+    ensures { IfOk result (λ f. f ≡ At (found text defect at (Told name.now))) }
 {
-    Fault::of_model(defect, span_of(whole))
+    let detail = Detail::of_name(alloc, name)?;
+    Ok(Fault::of_text(text, defect, at, detail))
 }

@@ -1,186 +1,162 @@
-//! Items of braces, by their form.
+//! The items of a set's data, and its rows.
 
-ghost use Rattle.std.specs.Prelude.{◌≡◌, ◌+◌, Some};
-ghost use Rattle.std.specs.Option.{option_map};
-ghost use Rattle.net_tree.specs.Spans as trees;
-ghost use Rattle.net_tree.specs.View.{tree, links_of, option_part};
-ghost use Rattle.net_eval.specs.Items as items;
-ghost use Rattle.net_tree.specs.Operations as operations;
-ghost use Rattle.net_fault.specs.Outcomes.{Answers, Outcome, and_then, Decides};
-ghost use Rattle.net_eval.specs.declared.value.Value.{Value as Found};
-ghost use Rattle.net_eval.specs.declared.value.Value.TheVariants.{Many};
-ghost use Rattle.net_eval.specs.Worlds as worlds;
+ghost use Rattle.std.specs.Prelude.{◌≡◌, ◌++◌, ◌∷◌, [], IfOk};
+ghost use Rattle.net_eval.specs.SetData as set_data;
 
-use crate::fault::refuse_tree;
-use crate::scope::Scope;
-use crate::value::Value;
-use crate::world::Env;
-use net_fault::{Defect, Fault, Span};
-use net_sets::Cow;
-use net_tree::{BinOp, Expr, Link, Operator, Part, lone_name, sides_of};
-use net_views::{Boxed, Excerpt};
+use crate::cell::Cell;
+use crate::flattened::cells_of;
+use net_data::{Cells, Members};
+use net_views::Items;
+use std::alloc::{AllocError, Global};
 
-pub(crate) fn has_in(item: &Expr<'_>) -> bool
-    ensures { result ≡ items.has_in (tree item.now) }
-{
-    sides_of(item).is_some()
+/// A tuple of a set, or a single member.
+#[derive(Drop)]
+pub(crate) struct Item<'t, 's> {
+    pub(crate) is_tuple: bool,
+    pub(crate) members: Cells<'t, 's>,
 }
 
-pub(crate) fn any_in(links: &[Link<'_>]) -> bool
-    ensures { result ≡ items.any_in (links_of links.now) }
+/// Rows of a set, and the single members after them that are not a complete row yet.
+#[derive(Drop)]
+pub(crate) struct Rows<'t, 's> {
+    pub(crate) rows: Items<Items<Cell<'t, 's>>>,
+    pub(crate) alone: Items<Cell<'t, 's>>,
+}
+
+fn items_of<'t, 's>(
+    alloc: Global,
+    members: &Members<'t, 's>,
+) -> Result<Items<Item<'t, 's>>, AllocError>
+    ensures { IfOk result (λ all. all ≡ set_data.items members.now) }
 {
-    for link in links {
-        if has_in(&link.operand) {
-            return true;
-        }
+    let mut all = Vec::new(alloc);
+    let mut left = members.again();
+    while let Some(members) = left.first() {
+        let is_tuple = left.begins_tuple();
+        all.push(Item { is_tuple, members })?;
+        left = left.rest();
     }
-    false
+    Ok(Items::new(all))
 }
 
-fn is_range(operator: &Operator<'_>) -> bool
-    ensures { result ≡ operations.is_range (operations.operation operator.now) }
+fn with_row<'t, 's>(
+    rows: Items<Items<Cell<'t, 's>>>,
+    row: Items<Cell<'t, 's>>,
+) -> Result<Items<Items<Cell<'t, 's>>>, AllocError>
+    ensures { IfOk result (λ all. all ≡ rows.entry ++ row.entry ∷ []) }
 {
-    matches!(operator.op(), BinOp::Range)
+    let mut all = rows.into_vec();
+    all.push(row)?;
+    Ok(Items::new(all))
 }
 
-/// Whether a chain is a range.
-pub(crate) fn begins_range(links: &[Link<'_>]) -> bool
-    ensures { result ≡ items.begins_range (links_of links.now) }
+/// Adds the pending single members as a row, if there are any. Fails only if memory runs out.
+fn closed<'t, 's>(rows: Rows<'t, 's>) -> Result<Items<Items<Cell<'t, 's>>>, AllocError>
+    ensures { IfOk result (λ all. all ≡ set_data.closed rows.entry) }
 {
-    match links {
-        [] => false,
-        [link, ..] => is_range(&link.operator),
-    }
-}
-
-pub(crate) fn has_part(part: &Option<Boxed<Part<'_>>>) -> bool
-    ensures { result ≡ items.has_part (option_part part.now) }
-{
-    match part {
-        None => false,
-        Some(_) => true,
-    }
-}
-
-/// The text of a name that stands alone.
-pub(crate) fn bare<'a, 's>(component: &'a Expr<'s>) -> Option<&'a Excerpt<'s>>
-    ensures { option_map (λ t. t.now) result ≡ items.bare (tree component.entry.now) }
-{
-    match lone_name(component) {
-        None => None,
-        Some(name) => Some(&name.text),
-    }
-}
-
-fn is_known<'s>(env: &Env<'_, 's>, scope: &Scope<'s>, name: &Excerpt<'s>) -> bool
-    ensures { result ≡ worlds.is_known env.now scope.now name.now }
-{
-    scope.get(name).is_some() || env.find(name).is_some()
-}
-
-/// The name of a new dummy: it stands alone, and means nothing so far.
-pub(crate) fn new_dummy<'a, 's>(
-    env: &Env<'_, 's>,
-    scope: &Scope<'s>,
-    component: &'a Expr<'s>,
-) -> Option<&'a Excerpt<'s>>
-    ensures { option_map (λ t. t.now) result ≡ items.new_dummy env.now scope.now (tree component.entry.now) }
-{
-    match bare(component) {
-        None => None,
-        Some(name) => {
-            if is_known(env, scope, name) {
-                None
-            } else {
-                Some(name)
-            }
-        }
-    }
-}
-
-pub(crate) fn links_len(links: &[Link<'_>]) -> usize
-    ensures { result ≡ items.size (links_of links.now) }
-{
-    links.len()
-}
-
-/// How many members the tuples of an item's set must have, where its left tells that by its form. Those past four are
-/// not told apart.
-#[tactic(auto, using(net_tree::proofs::Views::views))]
-fn fits_needed(dimension: Option<u8>, left: &Expr<'_>) -> bool
-    ensures { result ≡ items.fits_needed dimension (items.needed (tree left.now)) }
-{
-    match left {
-        Expr::Tuple(parts) => fits_size(dimension, links_len(parts.get().1.more.as_slice())),
-        Expr::Leaf(_) => fits_size(dimension, 0),
-        Expr::Indexed(_) | Expr::Parens(_) | Expr::Negated(_) | Expr::Braced(_) => true,
-        Expr::Signed(_) | Expr::Reduced(_, _) | Expr::Chain(_, _) => true,
-        Expr::Choice(_, _, _) | Expr::Net(_) => true,
-    }
-}
-
-/// Whether a set of a dimension has tuples of one member and so many more.
-fn fits_size(dimension: Option<u8>, more: usize) -> bool
-    ensures { result ≡ items.fits_needed dimension (Some (1 + more)) }
-{
-    match dimension {
-        None => more < 4,
-        Some(dimension) => more < 4 && usize::from(dimension) == more + 1,
-    }
-}
-
-/// The tuples of a set, where they have as many components as the left of `in` needs.
-fn fitting<'w, 's>(
-    item: &Expr<'_>,
-    left: &Expr<'_>,
-    dimension: Option<u8>,
-    tuples: Cow<'w, 's>,
-) -> Result<Cow<'w, 's>, Fault>
-    ensures { Decides (items.chosen (trees.span_of (tree item.now)) (items.needed (tree left.now)) (Many dimension tuples.entry)) result }
-{
-    if fits_needed(dimension, left) {
-        Ok(tuples)
+    let Rows { rows, alone } = rows;
+    if alone.as_slice().is_empty() {
+        Ok(rows)
     } else {
-        Err(refuse_tree(Defect::Arity, item))
+        with_row(rows, alone)
     }
 }
 
-/// The tuples of the set behind `in`.
-pub(crate) fn chosen<'w, 's>(
-    item: &Expr<'_>,
-    left: &Expr<'_>,
-    value: Result<Value<'w, 's>, Fault>,
-) -> Result<Cow<'w, 's>, Fault>
-    ensures { (wanted : Outcome Found) → Answers wanted value.entry
-        → Answers (and_then wanted (items.chosen (trees.span_of (tree item.now)) (items.needed (tree left.now)))) result }
+/// Makes the pending single members a row if they are as many as the dimension. Fails only if
+/// memory runs out.
+fn opened<'t, 's>(
+    alloc: Global,
+    dimension: usize,
+    rows: Items<Items<Cell<'t, 's>>>,
+    alone: Items<Cell<'t, 's>>,
+) -> Result<Rows<'t, 's>, AllocError>
+    ensures { IfOk result (λ all. all ≡ set_data.opened dimension rows.entry alone.entry) }
 {
-    match value {
-        Ok(value) => match value.into_set() {
-            Some((dimension, tuples)) => fitting(item, left, dimension, tuples),
-            None => Err(refuse_tree(Defect::KindMismatch, item)),
-        },
-        Err(fault) => Err(fault),
+    if dimension <= alone.as_slice().len() {
+        let rows = with_row(rows, alone)?;
+        Ok(Rows {
+            rows,
+            alone: Items::new(Vec::new(alloc)),
+        })
+    } else {
+        Ok(Rows { rows, alone })
     }
 }
 
-/// The tuples of an item that is a set.
-pub(crate) fn tuples_of<'w, 's>(
-    at: Span,
-    value: Result<Value<'w, 's>, Fault>,
-) -> Result<Cow<'w, 's>, Fault>
-    ensures { (wanted : Outcome Found) → Answers wanted value.entry → Answers (and_then wanted (items.tuples_of at)) result }
+fn joined<'t, 's>(
+    front: Items<Cell<'t, 's>>,
+    back: &[Cell<'t, 's>],
+) -> Result<Items<Cell<'t, 's>>, AllocError>
+    ensures { IfOk result (λ all. all ≡ front.entry ++ back.now) }
 {
-    match value {
-        Ok(value) => match value.into_set() {
-            Some((_dimension, tuples)) => Ok(tuples),
-            None => Err(Fault::of_model(Defect::KindMismatch, at)),
-        },
-        Err(fault) => Err(fault),
+    let mut all = front.into_vec();
+    for cell in back {
+        all.push(cell.again())?;
+    }
+    Ok(Items::new(all))
+}
+
+/// Adds a tuple as a row, after the pending single members. Fails only if memory runs out.
+fn with_tuple<'t, 's>(
+    alloc: Global,
+    rows: Rows<'t, 's>,
+    members: Items<Cell<'t, 's>>,
+) -> Result<Rows<'t, 's>, AllocError>
+    ensures { IfOk result (λ all. all ≡ record { rows = set_data.closed rows.entry ++ members.entry ∷ []; alone = [] }) }
+{
+    let rows = with_row(closed(rows)?, members)?;
+    Ok(Rows {
+        rows,
+        alone: Items::new(Vec::new(alloc)),
+    })
+}
+
+/// Adds single members to the pending ones. Fails only if memory runs out.
+fn with_alone<'t, 's>(
+    alloc: Global,
+    dimension: usize,
+    rows: Rows<'t, 's>,
+    members: &[Cell<'t, 's>],
+) -> Result<Rows<'t, 's>, AllocError>
+    ensures { IfOk result (λ all. all ≡ set_data.opened dimension rows.entry.rows (rows.entry.alone ++ members.now)) }
+{
+    let Rows { rows, alone } = rows;
+    let alone = joined(alone, members)?;
+    opened(alloc, dimension, rows, alone)
+}
+
+fn with_item<'t, 's>(
+    alloc: Global,
+    dimension: usize,
+    rows: Rows<'t, 's>,
+    item: &Item<'t, 's>,
+) -> Result<Rows<'t, 's>, AllocError>
+    ensures { IfOk result (λ all. all ≡ set_data.with_item dimension rows.entry item.now) }
+{
+    let members = cells_of(alloc, item.members.again())?;
+    if item.is_tuple {
+        with_tuple(alloc, rows, members)
+    } else {
+        with_alone(alloc, dimension, rows, members.as_slice())
     }
 }
 
-pub(crate) fn is_set(value: &Value<'_, '_>) -> bool
-    ensures { result ≡ items.is_set value.now }
+/// Returns the rows of a set of this dimension: each tuple is one, and so is each sequence of as
+/// many single members. Fails only if memory runs out.
+pub(crate) fn set_rows<'t, 's>(
+    alloc: Global,
+    dimension: usize,
+    members: &Members<'t, 's>,
+) -> Result<Items<Items<Cell<'t, 's>>>, AllocError>
+    ensures { IfOk result (λ all. all ≡ set_data.set_rows dimension members.now) }
 {
-    matches!(value, Value::Many(_, _))
+    let items = items_of(alloc, members)?;
+    let mut rows = Rows {
+        rows: Items::new(Vec::new(alloc)),
+        alone: Items::new(Vec::new(alloc)),
+    };
+    for item in items.as_slice() {
+        rows = with_item(alloc, dimension, rows, item)?;
+    }
+    closed(rows)
 }

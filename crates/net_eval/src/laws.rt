@@ -1,13 +1,56 @@
-//! Laws of values; they run nothing.
+//! Theorems about worlds. The functions are empty: their contracts state theorems.
 
-ghost use Rattle.net_eval.specs.SetValues.{HaveDistinctKeys, KeepsSets};
+ghost use Rattle.std.specs.Prelude.{◌≡◌, ℕ, List, [], Ok};
+ghost use Rattle.net_data.specs.declared.statement.Statement.{Statement};
+ghost use Rattle.net_data.specs.Standing.{StatementsStand};
+ghost use Rattle.net_fault.specs.Places.{Finds, LieIn, LiesIn};
+ghost use Rattle.net_tree.specs.Standing.{DeclarationsStand};
+ghost use Rattle.net_expr.specs.SetValues.{HasSets};
+ghost use Rattle.net_expr.specs.Worlds.{World};
+ghost use Rattle.net_tree.specs.Tree.{Declaration};
+ghost use Rattle.net_resolve.specs.Names.{IsWellNamed};
+ghost use Rattle.net_eval.specs.Binding as binding;
+ghost use Rattle.net_eval.specs.Binding.{AreNew};
+ghost use Rattle.net_eval.specs.DataRows as rows;
+ghost use Rattle.net_eval.specs.ParameterValues.{HasParameters, AreValued};
 
-/// Where values that are sets have their tuples once, no key of braces stands twice.
-pub fn keys_are_distinct()
-    ensures value { HaveDistinctKeys }
+/// Theorem: a model without name errors declares no set or parameter twice.
+pub fn well_named_are_new()
+    ensures value { (ds : List Declaration) → IsWellNamed ds → AreNew [] ds }
 {}
 
-/// Where the declared sets have their tuples once and of their dimension, so have values that are sets.
-pub fn values_keep_sets()
-    ensures value { KeepsSets }
+/// Theorem: in the world of a model and its data, the tuples of each declared set are distinct and
+/// have its dimension.
+pub fn bound_worlds_have_sets()
+    ensures value { (ds : List Declaration) (ss : List Statement) (w : World) → binding.world ds ss ≡ Ok w → HasSets w }
+{}
+
+/// Theorem: in the world of a model and its data, each declared parameter has values only at keys
+/// of its index set, at most one at each.
+pub fn bound_worlds_have_parameters()
+    ensures value { (ds : List Declaration) (ss : List Statement) (w : World) → binding.world ds ss ≡ Ok w → HasParameters w }
+{}
+
+/// Theorem: statements are processed row by row. The values of a parameter and the members of a set
+/// are the rows of the data statements, for the number of keys or the dimension.
+pub fn statements_are_taken_by_rows()
+    ensures lists { rows.TakesLists }
+    ensures tables { rows.TakesTables }
+    ensures columns { rows.TakesColumns }
+    ensures members { rows.TakesMembers }
+    ensures keys { rows.TakesKeys }
+{}
+
+/// Theorem: the value of a parameter at each key is that of the data's row with this key; without
+/// such a row, the value of `:=`, else the data's default, else the value of `default`; without any
+/// of these, none.
+pub fn rows_come_before_sources()
+    ensures value { AreValued }
+{}
+
+/// Theorem: if the spans of all declarations and of all data statements are in texts of these
+/// sizes, so is that of an error of binding, in its text.
+pub fn errors_lie_in_model_or_data()
+    ensures value { (model_size data_size : ℕ) (ds : List Declaration) (ss : List Statement) → DeclarationsStand (LiesIn model_size) ds
+        → StatementsStand (LiesIn data_size) ss → Finds (LieIn model_size data_size) (binding.world ds ss) }
 {}

@@ -1,41 +1,40 @@
-//! Values of expressions: members, sets, truths, and the keys that braces index by.
+//! Evaluation of a model with its data: the members of declared sets and the values of declared
+//! parameters.
 #![tactic(auto)]
 
+mod by_name;
 mod calls;
-mod eval;
+mod cell;
+mod check;
+mod crossing;
+mod earlier;
 mod fault;
-mod fitting;
-mod frame;
-mod inside;
+mod flattened;
+mod given;
+mod group;
+mod indexing;
 mod item;
-mod keys;
 mod laws;
-mod list;
-mod name;
-mod number;
-mod operator;
-mod range;
-mod reference;
+mod names;
+mod param;
+mod param_data;
+mod restriction;
 mod row;
-mod scope;
-mod selecting;
 mod set;
-mod source_set;
-mod subscripts;
-mod value;
-mod width;
+mod set_phrase;
+mod soundness;
+mod source;
+mod stored;
+mod superset;
+mod walked;
 mod world;
 
-pub use calls::{holds, index_of, member, members};
-pub use eval::evaluate;
-pub use fault::refuse_tree;
-pub use laws::{keys_are_distinct, values_keep_sets};
-pub use net_sets::{Member, Text, Tuple};
-pub use operator::truth;
-pub use reference::{push_member, push_reference, told_reference};
-pub use row::{Keys, Row};
-pub use scope::{Binding, Scope};
-pub use source_set::set_of_braces;
-pub use subscripts::key_of;
-pub use value::Value;
-pub use world::{Entry, Env, World};
+pub use calls::{holds, index_of, members, value};
+pub use laws::{
+    bound_worlds_have_parameters, bound_worlds_have_sets, errors_lie_in_model_or_data,
+    rows_come_before_sources, statements_are_taken_by_rows, well_named_are_new,
+};
+pub use net_expr::{Entry, Keys, Member, Scope, Text, Tuple, World};
+pub use net_fault::Fault as EvalFault;
+pub use soundness::restrictions_are_sound;
+pub use world::bind;

@@ -1,316 +1,233 @@
-//! Walks over braces: where they stand, and the keys that they find.
+//! Rows of a parameter's data, each a key and its value.
 
-ghost use Rattle.std.specs.Prelude.{◌≡◌, ◌∷◌, [], Bool, Ok, Some, IfOk};
-ghost use Rattle.net_tree.specs.Spans as trees;
-ghost use Rattle.net_tree.specs.View.{tree};
-ghost use Rattle.net_eval.specs.Operators as operators;
+ghost use Rattle.std.specs.Prelude.{◌≡◌, ◌+◌, [], IfOk, None, Some, slice_get};
+ghost use Rattle.std.specs.Option.{option_copied};
+ghost use Rattle.net_fault.specs.declared.defect.Defect.TheVariants.{TooMany};
+ghost use Rattle.net_fault.specs.declared.fault.Fault.TheVariants.{At};
+ghost use Rattle.net_fault.specs.declared.language.Language.TheVariants.{Data};
+ghost use Rattle.net_sets.specs.Sets.{at_key};
+ghost use Rattle.net_expr.specs.Worlds as worlds;
 ghost use Rattle.net_eval.specs.Rows as rows;
-ghost use Rattle.net_fault.specs.Outcomes.{Answers, Leaves, Outcome, and_then, Decides};
-ghost use Rattle.net_eval.specs.declared.value.Value.{Value as Found};
+ghost use Rattle.net_fault.specs.Outcomes.{Leaves, each, bare, found};
 
-use crate::fault::refuse_tree;
-use crate::scope::Scope;
-use crate::value::Value;
-use net_fault::{Defect, Fault, Span};
-use net_sets::{Member, Tuple};
-use net_tree::Expr;
-use net_views::{Excerpt, Items};
+use crate::cell::{Cell, tuple_in};
+use crate::given::Line;
+use crate::group::{begins_at, front, is_point};
+use net_expr::told_reference;
+use net_fault::{Defect, Detail, Fault, Language, Span};
+use net_sets::{Member, SetFault, SharedSet, Table, Tuple, TupleSet};
+use net_views::Items;
 use std::alloc::{AllocError, Global};
+use std::marker::Model;
 
-/// Where a walk over braces stands. Dropping it is one call, as walks carry it past many places where they may stop.
-pub(crate) struct Place<'s> {
-    pub(crate) scope: Scope<'s>,
-    /// The key so far; none where it has more than four members.
-    pub(crate) key: Option<Tuple<'s>>,
+/// The values of a parameter so far, and the spans of those from data. Contracts see the rows of
+/// the table and the spans.
+#[derive(Drop)]
+pub(crate) struct Values<'s> {
+    pub(crate) table: Table<'s>,
+    pub(crate) places: Vec<Span>,
 }
 
-impl<'s> Drop for Place<'s> {
-    fn drop(self) {
-        let Place {
-            scope: _scope,
-            key: _key,
+impl<'s> Model for Values<'s> {
+    ghost use Rattle.net_eval.specs.Rows.{Taken};
+
+    ghost Value = { Taken };
+
+    ghost view = { λ v. (v.table, v.places.items) };
+}
+
+impl<'s> Values<'s> {
+    /// Creates an empty table over an index set. Fails only if memory runs out.
+    pub(crate) fn over(alloc: Global, index: SharedSet<'s>) -> Result<Values<'s>, AllocError>
+        ensures { IfOk result (λ v. v ≡ ([], [])) }
+    {
+        Ok(Values {
+            table: Table::over(alloc, index)?,
+            places: Vec::new(alloc),
+        })
+    }
+
+    pub(crate) fn into_table(self) -> Table<'s>
+        ensures { result ≡ self.entry.0 }
+    {
+        let Values {
+            table,
+            places: _places,
         } = self;
+        table
     }
 }
 
-/// A key of braces, and the dummies in scope at it.
+/// A parameter that a statement names.
 #[derive(Drop)]
-pub struct Row<'s> {
-    pub key: Tuple<'s>,
-    pub scope: Scope<'s>,
+pub(crate) struct NamedParameter<'a, 't, 's> {
+    pub(crate) word: &'a Cell<'t, 's>,
+    /// The number of members of a key, or `None` without indexing.
+    pub(crate) keys: Option<u8>,
+    /// The index set.
+    pub(crate) index: &'a TupleSet<'s>,
 }
 
-/// The keys of braces in order, and how many members each has; `{}` has no such number.
-#[derive(Drop)]
-pub struct Keys<'s> {
-    pub width: Option<u8>,
-    pub rows: Items<Row<'s>>,
-}
-
-/// A row at which the condition holds stands behind those found before.
-pub(crate) fn keep_if<'s>(
-    holds: Result<bool, Fault>,
-    row: Row<'s>,
-    found: &mut Vec<Row<'s>>,
-) -> Result<(), Fault>
-    ensures { (wanted : Outcome Bool) → Answers wanted holds → Leaves
-        (and_then wanted (λ b. Ok (rows.keep row.entry found.old.items b))) result found.new.items }
+/// Builds an error at a row; the parameter with the key is its detail. Fails only if memory runs
+/// out.
+fn refuse_row(
+    alloc: Global,
+    parameter: &NamedParameter<'_, '_, '_>,
+    defect: Defect,
+    at: Span,
+    key: &Tuple<'_>,
+) -> Result<Fault, AllocError>
+    ensures { IfOk result (λ f. f ≡ At (found Data defect at (worlds.reference parameter.now.word.now.text parameter.now.keys key.now))) }
 {
-    let holds = holds?;
-    if holds {
-        found.push(row)?;
+    let name = &parameter.word.token().text;
+    let detail = told_reference(alloc, name, parameter.keys, key)?;
+    Ok(Fault::of_text(Language::Data, defect, at, detail))
+}
+
+/// Adds a value, unless there are too many. `near` is a hint: the likely index of the key in the
+/// index set.
+pub(crate) fn with_value<'s>(
+    text: Language,
+    at: Span,
+    near: usize,
+    key: &Tuple<'s>,
+    member: Member<'s>,
+    table: &mut Table<'s>,
+) -> Result<(), Fault>
+    requires { at_key table.old key.now ≡ None }
+    ensures { Leaves (rows.with_value text at key.now member.entry table.old) result table.new }
+{
+    match table.insert_near(near, key, member) {
+        Ok(()) => Ok(()),
+        Err(SetFault::OutOfMemory) => Err(Fault::OutOfMemory),
+        Err(SetFault::TooMany) => Err(too_many(text, at)),
+    }
+}
+
+fn too_many(text: Language, at: Span) -> Fault
+    ensures { result ≡ At (bare text TooMany at) }
+{
+    Fault::of_text(text, Defect::TooMany, at, Detail::Nothing)
+}
+
+/// Adds a row; its key must be in the index set and have no value yet.
+fn with_row<'s>(
+    alloc: Global,
+    parameter: &NamedParameter<'_, '_, 's>,
+    cells: &[Cell<'_, 's>],
+    value: &Cell<'_, 's>,
+    values: &mut Values<'s>,
+) -> Result<(), Fault>
+    ensures { Leaves (rows.with_row parameter.now.word.now parameter.now.keys parameter.now.index.now cells.now value.now values.old) result values.new }
+{
+    let key = tuple_in(cells);
+    let at = begins_at(value.token().span, cells);
+    let place = parameter.index.position_near(values.table.next(), &key);
+    let near = place.unwrap_or(0);
+    if values.table.get_near(near, &key).is_some() {
+        let defect = Defect::DoubleValue;
+        return Err(refuse_row(alloc, parameter, defect, at, &key)?);
+    }
+    if place.is_none() {
+        let defect = Defect::OutsideSet;
+        return Err(refuse_row(alloc, parameter, defect, at, &key)?);
+    }
+    with_value(
+        Language::Data,
+        at,
+        near,
+        &key,
+        value.member(),
+        &mut values.table,
+    )?;
+    values.places.push(value.token().span)?;
+    Ok(())
+}
+
+/// Adds a cell with a value; a missing-value dot gives none.
+pub(crate) fn with_cell<'s>(
+    alloc: Global,
+    parameter: &NamedParameter<'_, '_, 's>,
+    cells: &[Cell<'_, 's>],
+    value: &Cell<'_, 's>,
+    values: &mut Values<'s>,
+) -> Result<(), Fault>
+    ensures { Leaves (rows.with_cell parameter.now.word.now parameter.now.keys parameter.now.index.now cells.now (Some value.now) values.old) result
+        values.new }
+{
+    if is_point(value.token().kind) {
+        Ok(())
+    } else {
+        with_row(alloc, parameter, cells, value, values)
+    }
+}
+
+/// Adds a group: the members of a key, and values of which one is used.
+fn with_group<'s>(
+    alloc: Global,
+    parameter: &NamedParameter<'_, '_, 's>,
+    size: usize,
+    place: usize,
+    group: &[Cell<'_, 's>],
+    values: &mut Values<'s>,
+) -> Result<(), Fault>
+    ensures { Leaves (rows.with_group parameter.now.word.now parameter.now.keys parameter.now.index.now size place group.now values.old) result
+        values.new }
+{
+    match value_at(size, place, group) {
+        None => Ok(()),
+        Some(value) => with_cell(alloc, parameter, front(size, group), value, values),
+    }
+}
+
+/// Returns the value with this index after the key.
+fn value_at<'c, 't, 's>(
+    size: usize,
+    place: usize,
+    group: &'c [Cell<'t, 's>],
+) -> Option<&'c Cell<'t, 's>>
+    ensures { option_copied result ≡ slice_get group.entry.now (size + place) }
+{
+    if size < group.len() && place < group.len() - size {
+        group.get(size + place)
+    } else {
+        None
+    }
+}
+
+/// Adds a statement of groups.
+pub(crate) fn with_groups<'s>(
+    alloc: Global,
+    parameter: &NamedParameter<'_, '_, 's>,
+    size: usize,
+    place: usize,
+    groups: &[Line<'_, '_, 's>],
+    values: &mut Values<'s>,
+) -> Result<(), Fault>
+    ensures { Leaves (each (rows.with_group parameter.now.word.now parameter.now.keys parameter.now.index.now size place) groups.now values.old) result
+        values.new }
+{
+    for group in groups {
+        with_group(alloc, parameter, size, place, group.cells(), values)?;
     }
     Ok(())
 }
 
-/// Keys of so many members.
-pub(crate) fn as_keys<'s>(width: u8, found: Items<Row<'s>>) -> Keys<'s>
-    ensures { result ≡ rows.keys width found.entry }
-{
-    Keys {
-        width: Some(width),
-        rows: found,
-    }
-}
-
-/// The place before the first item.
-pub(crate) fn start<'s>(alloc: Global, scope: &Scope<'s>) -> Result<Place<'s>, Fault>
-    ensures { Answers (Ok (rows.start scope.now)) result }
-{
-    Ok(Place {
-        scope: scope.again(alloc)?,
-        key: Some(Tuple::new()),
-    })
-}
-
-fn key_again<'s>(key: &Option<Tuple<'s>>) -> Option<Tuple<'s>>
-    ensures { result ≡ key.now }
-{
-    match key {
-        None => None,
-        Some(key) => Some(key.again()),
-    }
-}
-
-/// A key with one member more, as long as it has at most four.
-pub(crate) fn longer_by_one<'s>(key: Option<Tuple<'s>>, member: &Member<'s>) -> Option<Tuple<'s>>
-    ensures { result ≡ operators.longer (member.now ∷ []) key.entry }
-{
-    match key {
-        None => None,
-        Some(key) => {
-            if key.len() < 4 {
-                let mut longer = key;
-                longer.add(member.again());
-                Some(longer)
-            } else {
-                None
-            }
-        }
-    }
-}
-
-/// A key with more members, as long as it has at most four.
-fn longer<'s>(key: &Option<Tuple<'s>>, more: &Tuple<'s>) -> Option<Tuple<'s>>
-    ensures { result ≡ operators.longer more.now key.now }
-{
-    match key {
-        None => None,
-        Some(key) => {
-            if key.len() + more.len() <= 4 {
-                Some(key.beside(more))
-            } else {
-                None
-            }
-        }
-    }
-}
-
-impl<'s> Place<'s> {
-    /// The same place once more.
-    pub(crate) fn again(&self, alloc: Global) -> Result<Place<'s>, AllocError>
-        ensures { IfOk result (λ p. p ≡ self.now) }
-    {
-        Ok(Place {
-            scope: self.scope.again(alloc)?,
-            key: key_again(&self.key),
-        })
-    }
-
-    /// A new dummy takes a member, which is one of the key.
-    pub(crate) fn bind(
-        self,
-        name: &Excerpt<'s>,
-        member: &Member<'s>,
-    ) -> Result<Option<Place<'s>>, Fault>
-        ensures { Answers (Ok (Some (rows.bind name.now member.now self.entry))) result }
-    {
-        let Place { scope, key } = self;
-        let scope = scope.extended(name.again(), member.again())?;
-        let key = longer_by_one(key, member);
-        Ok(Some(Place { scope, key }))
-    }
-
-    /// Adds a key that is complete.
-    pub(crate) fn finish(self, at: Span, found: &mut Vec<Row<'s>>) -> Result<(), Fault>
-        ensures { Leaves (rows.finished at self.entry found.old.items) result found.new.items }
-    {
-        let Place { scope, key } = self;
-        match key {
-            None => Err(Fault::of_model(Defect::Arity, at)),
-            Some(key) => add_row(at, scope, key, found),
-        }
-    }
-}
-
-/// The same place.
-pub(crate) fn stay<'s>(alloc: Global, place: &Place<'s>) -> Result<Option<Place<'s>>, Fault>
-    ensures { Answers (Ok (Some place.now)) result }
-{
-    Ok(Some(place.again(alloc)?))
-}
-
-/// The place with a tuple behind its key.
-pub(crate) fn with_key<'s>(
+pub(crate) fn pair_of<'t, 's>(
     alloc: Global,
-    tuple: &Tuple<'s>,
-    place: &Place<'s>,
-) -> Result<Option<Place<'s>>, Fault>
-    ensures { Answers (Ok (Some (rows.with_key tuple.now place.now))) result }
+    transposed: bool,
+    row: &Cell<'t, 's>,
+    column: &Cell<'t, 's>,
+) -> Result<Items<Cell<'t, 's>>, AllocError>
+    ensures { IfOk result (λ all. all ≡ rows.pair_of transposed row.now column.now) }
 {
-    let scope = place.scope.again(alloc)?;
-    let key = longer(&place.key, tuple);
-    Ok(Some(Place { scope, key }))
-}
-
-/// The place stays where a value is the member.
-fn matches_value<'s>(
-    whole: &Expr<'_>,
-    member: &Member<'s>,
-    place: Place<'s>,
-    value: &Value<'_, 's>,
-) -> Result<Option<Place<'s>>, Fault>
-    ensures { Decides (rows.matches_member (trees.span_of (tree whole.now)) member.now place.entry value.now) result }
-{
-    match value {
-        Value::One(found) if *found == *member => Ok(Some(place)),
-        Value::One(_) => Ok(None),
-        _ => Err(refuse_tree(Defect::KindMismatch, whole)),
-    }
-}
-
-/// The place stays where the value of a component is the member.
-pub(crate) fn matches_member<'s>(
-    whole: &Expr<'_>,
-    member: &Member<'s>,
-    place: Place<'s>,
-    value: Result<Value<'_, 's>, Fault>,
-) -> Result<Option<Place<'s>>, Fault>
-    ensures { (wanted : Outcome Found) → Answers wanted value.entry
-        → Answers (and_then wanted (rows.matches_member (trees.span_of (tree whole.now)) member.now place.entry)) result }
-{
-    match value {
-        Ok(value) => matches_value(whole, member, place, &value),
-        Err(fault) => Err(fault),
-    }
-}
-
-fn matches_tuple<'s>(
-    alloc: Global,
-    whole: &Expr<'_>,
-    tuple: &Tuple<'s>,
-    place: &Place<'s>,
-    found: &Tuple<'s>,
-) -> Result<Option<Place<'s>>, Fault>
-    ensures { Answers (rows.matches_tuple (trees.span_of (tree whole.now)) tuple.now place.now found.now) result }
-{
-    if found.len() == tuple.len() {
-        if *found == *tuple {
-            stay(alloc, place)
-        } else {
-            Ok(None)
-        }
+    let mut all = Vec::new(alloc);
+    if transposed {
+        all.push(column.again())?;
+        all.push(row.again())?;
     } else {
-        Err(refuse_tree(Defect::Arity, whole))
+        all.push(row.again())?;
+        all.push(column.again())?;
     }
-}
-
-/// The place stays where a value is the tuple, or the member that is alone in it.
-fn matches_tuple_value<'s>(
-    alloc: Global,
-    whole: &Expr<'_>,
-    tuple: &Tuple<'s>,
-    place: &Place<'s>,
-    value: &Value<'_, 's>,
-) -> Result<Option<Place<'s>>, Fault>
-    ensures { Answers (rows.matches_as_tuple (trees.span_of (tree whole.now)) tuple.now place.now value.now) result }
-{
-    match value {
-        Value::One(found) => {
-            matches_tuple(alloc, whole, tuple, place, &Tuple::single(found.again()))
-        }
-        Value::Several(found) => matches_tuple(alloc, whole, tuple, place, found),
-        _ => Err(refuse_tree(Defect::KindMismatch, whole)),
-    }
-}
-
-/// The same of what is no tuple by its form.
-pub(crate) fn matches_as_tuple<'s>(
-    alloc: Global,
-    whole: &Expr<'_>,
-    tuple: &Tuple<'s>,
-    place: &Place<'s>,
-    value: Result<Value<'_, 's>, Fault>,
-) -> Result<Option<Place<'s>>, Fault>
-    ensures { (wanted : Outcome Found) → Answers wanted value.entry
-        → Answers (and_then wanted (rows.matches_as_tuple (trees.span_of (tree whole.now)) tuple.now place.now)) result }
-{
-    match value {
-        Ok(value) => matches_tuple_value(alloc, whole, tuple, place, &value),
-        Err(fault) => Err(fault),
-    }
-}
-
-/// A new dummy that stands alone takes the one member of a tuple.
-pub(crate) fn bind_first<'s>(
-    alloc: Global,
-    name: &Excerpt<'s>,
-    members: &[Member<'s>],
-    place: &Place<'s>,
-) -> Result<Option<Place<'s>>, Fault>
-    ensures { Answers (rows.bound_first name.now members.now place.now) result }
-{
-    match members {
-        [] => stay(alloc, place),
-        [member, ..] => place.again(alloc)?.bind(name, member),
-    }
-}
-
-fn same_arity<'s>(key: &Tuple<'s>, found: &[Row<'s>]) -> bool
-    ensures { result ≡ rows.same_arity key.now found.now }
-{
-    match found {
-        [] => true,
-        [row, ..] => row.key.len() == key.len(),
-    }
-}
-
-fn add_row<'s>(
-    at: Span,
-    scope: Scope<'s>,
-    key: Tuple<'s>,
-    found: &mut Vec<Row<'s>>,
-) -> Result<(), Fault>
-    ensures { Leaves (rows.add_row at scope.entry key.entry found.old.items) result found.new.items }
-{
-    if same_arity(&key, found.as_slice()) {
-        if found.len() < 1_000_000 {
-            found.push(Row { key, scope })?;
-            Ok(())
-        } else {
-            Err(Fault::of_model(Defect::TooMany, at))
-        }
-    } else {
-        Err(Fault::of_model(Defect::Arity, at))
-    }
+    Ok(Items::new(all))
 }

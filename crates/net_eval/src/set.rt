@@ -1,262 +1,310 @@
-//! What operators make of sets.
+//! Evaluating declared sets.
 
-ghost use Rattle.std.specs.Prelude.{◌≡◌, [], List, Ok};
-ghost use Rattle.net_sets.specs.Limits.{tuples_limit};
-ghost use Rattle.net_sets.specs.Made.{IsMade, IsCrossed};
-ghost use Rattle.net_sets.specs.Operations as set_operations;
-ghost use Rattle.net_sets.specs.Sets.{Tuple as Members};
-ghost use Rattle.net_fault.specs.declared.span.Span.{Span as Place};
-ghost use Rattle.net_tree.specs.Spans as trees;
-ghost use Rattle.net_tree.specs.View.{tree};
-ghost use Rattle.net_eval.specs.Operators as operators;
-ghost use Rattle.net_fault.specs.Outcomes.{Answers, Decides};
-ghost use Rattle.net_eval.specs.Sets as sets;
+ghost use Rattle.std.specs.Prelude.{◌≡◌, ◌||◌, [], IfOk, is_some, map};
+ghost use Rattle.std.specs.Option.{option_copied};
+ghost use Rattle.net_expr.specs.declared.world.Entry.TheVariants.{Set as ASet};
+ghost use Rattle.net_fault.specs.declared.language.Language.TheVariants.{Data as InData};
+ghost use Rattle.net_fault.specs.declared.detail.Detail.TheVariants.{Told};
+ghost use Rattle.net_fault.specs.declared.fault.Fault.TheVariants.{At};
+ghost use Rattle.net_fault.specs.declared.defect.Defect.TheVariants.{DoubleValue};
+ghost use Rattle.net_eval.specs.declared.given.Given.TheVariants as given;
+ghost use Rattle.net_tree.specs.View.{phrase_of};
+ghost use Rattle.net_eval.specs.BoundSets as bound;
+ghost use Rattle.net_eval.specs.SetData as set_data;
+ghost use Rattle.net_fault.specs.Outcomes.{Answers, Leaves, each, found};
 
-use crate::fault::refuse_tree;
-use crate::value::Value;
-use net_fault::{Defect, Fault};
-use net_sets::{
-    Cow, SetFault, Tuple, TupleSet, cross, difference, intersection, is_within,
-    symmetric_difference, union, widest,
-};
-use net_tree::{BinOp, Expr};
-use std::alloc::Global;
+use crate::cell::{Cell, tuple_in};
+use crate::earlier::Earlier;
+use crate::fault::refuse_name;
+use crate::given::{Given, Groups, NamedData};
+use crate::group::{all_of_size, begins_at, cut, keys_of, whole_groups};
+use crate::item::set_rows;
+use crate::set_phrase::{Claim, Claims, SetPhrase, assigned, set_phrases};
+use crate::stored::{boxed, unboxed};
+use net_data::Members;
+use net_expr::Entry;
+use net_fault::{Defect, Fault, Language};
+use net_lex::Token;
+use net_sets::{HashKey, IndexedSet, KeyDigest, SetFault, TupleSet};
+use net_tree::Phrase;
+use net_views::{Boxed, Items};
+use std::alloc::{AllocError, Global};
 
-/// `{}` counts as of one component.
-fn counted(dimension: Option<u8>) -> usize
-    ensures { result ≡ sets.counted dimension }
+/// Returns the number of members of a key: that of the first declared name of the heading, if it is
+/// already evaluated.
+pub(crate) fn told_by(widths: &[usize], leader: usize, own: usize) -> usize
+    ensures { result ≡ set_data.told_by widths.now leader own }
 {
-    match dimension {
-        None => 1,
-        Some(dimension) => usize::from(dimension),
+    match widths.get(leader) {
+        Some(width) => *width,
+        None => own,
     }
 }
 
-/// `{}` fits every dimension.
-fn fits(dimension: Option<u8>, size: usize) -> bool
-    ensures { result ≡ sets.fits dimension size }
+pub(crate) fn agrees(word: &Cell<'_, '_>, told: usize, own: usize) -> Result<(), Fault>
+    ensures { Answers (set_data.agrees word.now told own) result }
 {
-    match dimension {
-        None => true,
-        Some(dimension) => usize::from(dimension) == size,
+    if told == own {
+        Ok(())
+    } else {
+        Err(Fault::of_data(Defect::Arity, word.token().span))
     }
 }
 
-/// The dimension that two sets share.
-fn shared(first: Option<u8>, second: Option<u8>) -> Option<u8>
-    ensures { result ≡ sets.shared first second }
+/// Builds the error for a statement that repeats earlier data for a name. Fails only if memory runs
+/// out.
+pub(crate) fn doubled(alloc: Global, word: &Cell<'_, '_>) -> Result<Fault, AllocError>
+    ensures { IfOk result (λ f. f ≡ At (found InData DoubleValue word.now.span (Told word.now.text))) }
 {
-    match first {
-        None => Some(second.unwrap_or(1)),
-        Some(dimension) => {
-            if fits(second, usize::from(dimension)) {
-                Some(dimension)
-            } else {
-                None
-            }
-        }
+    let token = word.token();
+    refuse_name(
+        alloc,
+        Language::Data,
+        Defect::DoubleValue,
+        token.span,
+        &token.text,
+    )
+}
+
+fn member_rows<'t, 's>(
+    alloc: Global,
+    dimension: usize,
+    word: &Cell<'t, 's>,
+    members: &Members<'t, 's>,
+) -> Result<Items<Items<Cell<'t, 's>>>, Fault>
+    ensures { Answers (set_data.given_rows [] dimension word.now (given.Members members.now)) result }
+{
+    let rows = set_rows(alloc, dimension, members)?;
+    all_of_size(word.token().span, dimension, rows.as_slice())?;
+    Ok(rows)
+}
+
+fn key_rows<'t, 's>(
+    alloc: Global,
+    widths: &[usize],
+    dimension: usize,
+    word: &Cell<'t, 's>,
+    groups: &Groups<'_, 't, 's>,
+) -> Result<Items<Items<Cell<'t, 's>>>, Fault>
+    ensures { Answers (set_data.given_rows widths.now dimension word.now (given.Groups groups.now)) result }
+{
+    agrees(word, told_by(widths, groups.leader, dimension), dimension)?;
+    let cells = cut(alloc, dimension, groups.values, groups.cells.cells())?;
+    whole_groups(
+        word.token().span,
+        dimension,
+        groups.values,
+        cells.as_slice(),
+    )?;
+    Ok(keys_of(alloc, dimension, cells.as_slice())?)
+}
+
+fn given_rows<'t, 's>(
+    alloc: Global,
+    widths: &[usize],
+    dimension: usize,
+    named: &NamedData<'_, 't, 's>,
+) -> Result<Items<Items<Cell<'t, 's>>>, Fault>
+    ensures { Answers (set_data.given_rows widths.now dimension named.now.word named.now.given) result }
+{
+    match &named.given {
+        Given::Members(members) => member_rows(alloc, dimension, &named.word, members),
+        Given::Groups(groups) => key_rows(alloc, widths, dimension, &named.word, groups),
+        Given::Grid(_) => Ok(Items::new(Vec::new(alloc))),
     }
 }
 
-/// A set of its own, which is not too large, as each is.
-fn set_value<'w, 's>(dimension: u8, set: TupleSet<'s>) -> Value<'w, 's>
-    ensures { (at : Place) → sets.within_size at dimension set.entry ≡ Ok result }
+fn with_member<'s>(
+    alloc: Global,
+    word: &Cell<'_, 's>,
+    row: &[Cell<'_, 's>],
+    set: &mut TupleSet<'s>,
+) -> Result<(), Fault>
+    ensures { Leaves (set_data.with_member word.now row.now set.old) result set.new }
 {
+    let token = word.token();
+    let at = begins_at(token.span, row);
     let _few = set.len();
-    Value::Many(Some(dimension), Cow::owned(set))
-}
-
-/// A set that was made, if it is not too large.
-pub(crate) fn made<'w, 's>(
-    whole: &Expr<'_>,
-    dimension: u8,
-    set: Result<TupleSet<'s>, SetFault>,
-) -> Result<Value<'w, 's>, Fault>
-    ensures { (wanted : List Members) → IsMade wanted set.entry → Answers (sets.within_size (trees.span_of (tree whole.now)) dimension wanted) result }
-{
-    match set {
-        Ok(set) => Ok(set_value(dimension, set)),
-        Err(SetFault::TooMany) => Err(refuse_tree(Defect::TooMany, whole)),
+    match set.add_new(tuple_in(row)) {
+        Ok(true) => Ok(()),
+        Ok(false) => Err(refuse_name(alloc, Language::Data, Defect::DoubleValue, at, &token.text)?),
         Err(SetFault::OutOfMemory) => Err(Fault::OutOfMemory),
+        Err(SetFault::TooMany) => Err(Fault::of_data(Defect::TooMany, at)),
     }
 }
 
-/// A set, which is not too large, as each is.
-fn few<'s>(set: TupleSet<'s>) -> Result<TupleSet<'s>, SetFault>
-    ensures { IsMade set.entry result }
-{
-    let _few = set.len();
-    Ok(set)
-}
-
-/// The set that an operator makes of two.
-fn mixed<'s>(
-    alloc: Global,
-    operation: BinOp,
-    first: &TupleSet<'s>,
-    second: &TupleSet<'s>,
-) -> Result<TupleSet<'s>, SetFault>
-    ensures { IsMade (sets.mixed operation first.now second.now) result }
-{
-    match operation {
-        BinOp::Union => union(first.again(alloc)?, second),
-        BinOp::Diff => few(difference(alloc, first, second)?),
-        BinOp::Inter => few(intersection(alloc, first, second)?),
-        _ => symmetric_difference(alloc, first, second),
+/// Derives the key for a set of the tuples of rows.
+fn key_of(rows: &[Items<Cell<'_, '_>>]) -> HashKey {
+    let mut digest = KeyDigest::new();
+    for row in rows {
+        digest.update(&tuple_in(row.as_slice()));
     }
+    digest.finish()
 }
 
-/// The same as a value, if the two have the same dimension.
-fn set_of<'w, 's>(
+fn members_of<'s>(
     alloc: Global,
-    operation: BinOp,
-    whole: &Expr<'_>,
-    dimension: Option<u8>,
-    first: &TupleSet<'s>,
-    second: &TupleSet<'s>,
-) -> Result<Value<'w, 's>, Fault>
-    ensures { Answers (sets.set_of (trees.span_of (tree whole.now)) dimension (sets.mixed operation first.now second.now)) result }
+    word: &Cell<'_, 's>,
+    rows: &[Items<Cell<'_, 's>>],
+) -> Result<Boxed<TupleSet<'s>>, Fault>
+    ensures { Answers (each (set_data.with_member word.now) rows.now []) result }
 {
-    match dimension {
-        None => Err(refuse_tree(Defect::Arity, whole)),
-        Some(dimension) => made(whole, dimension, mixed(alloc, operation, first, second)),
+    let mut set = TupleSet::new(alloc, key_of(rows));
+    for row in rows {
+        with_member(alloc, word, row.as_slice(), &mut set)?;
     }
+    Ok(boxed(alloc, set)?)
 }
 
-/// What an operator makes of two values that have to be sets.
-pub(crate) fn of_sets<'w, 's>(
-    alloc: Global,
-    operation: BinOp,
-    whole: &Expr<'_>,
-    x: &Value<'_, 's>,
-    y: &Value<'_, 's>,
-) -> Result<Value<'w, 's>, Fault>
-    ensures { Answers (operators.of_sets (trees.span_of (tree whole.now)) (sets.mixed operation) x.now y.now) result }
+/// Returns whether the set already has a value from `:=` or an earlier statement.
+fn is_given(is_assigned: bool, found: &Option<Boxed<TupleSet<'_>>>) -> bool
+    ensures { result ≡ (is_assigned || is_some found.now) }
 {
-    match (x, y) {
-        (Value::Many(d, first), Value::Many(e, second)) => {
-            set_of(
-                alloc,
-                operation,
-                whole,
-                shared(*d, *e),
-                first.get(),
-                second.get(),
-            )
-        }
-        _ => Err(refuse_tree(Defect::KindMismatch, whole)),
-    }
+    is_assigned || found.is_some()
 }
 
-fn crossed<'w, 's>(
+/// Adds a statement with the members of a set, which must not have a value yet.
+fn with_statement<'s>(
     alloc: Global,
-    whole: &Expr<'_>,
-    d: Option<u8>,
-    first: &TupleSet<'s>,
-    e: Option<u8>,
-    second: &TupleSet<'s>,
-) -> Result<Value<'w, 's>, Fault>
-    ensures { Answers (sets.cross (trees.span_of (tree whole.now)) d first.now e second.now) result }
+    widths: &[usize],
+    dimension: usize,
+    is_assigned: bool,
+    named: &NamedData<'_, '_, 's>,
+    found: Option<Boxed<TupleSet<'s>>>,
+) -> Result<Option<Boxed<TupleSet<'s>>>, Fault>
+    ensures { Answers (set_data.with_statement widths.now dimension is_assigned named.now found.entry) result }
 {
-    let size = counted(d) + counted(e);
-    if size <= 4 && widest(first) + widest(second) <= 4 {
-        match cross(alloc, first, second) {
-            Ok(set) => Ok(Value::Many(Some(size as u8), Cow::owned(set))),
-            Err(SetFault::TooMany) => Err(refuse_tree(Defect::TooMany, whole)),
-            Err(SetFault::OutOfMemory) => Err(Fault::OutOfMemory),
-        }
+    let rows = given_rows(alloc, widths, dimension, named)?;
+    if is_given(is_assigned, &found) {
+        Err(doubled(alloc, &named.word)?)
     } else {
-        Err(refuse_tree(Defect::Arity, whole))
+        Ok(Some(members_of(alloc, &named.word, rows.as_slice())?))
     }
 }
 
-pub(crate) fn cross_values<'w, 's>(
+/// Returns the set in the data statements, if they give one.
+fn given_set<'s>(
     alloc: Global,
-    whole: &Expr<'_>,
-    x: &Value<'_, 's>,
-    y: &Value<'_, 's>,
-) -> Result<Value<'w, 's>, Fault>
-    ensures { Answers (operators.crossed (trees.span_of (tree whole.now)) x.now y.now) result }
+    widths: &[usize],
+    dimension: usize,
+    is_assigned: bool,
+    named_data: &[NamedData<'_, '_, 's>],
+) -> Result<Option<Boxed<TupleSet<'s>>>, Fault>
+    ensures { Answers (set_data.given_set widths.now dimension is_assigned named_data.now) result }
 {
-    match (x, y) {
-        (Value::Many(d, first), Value::Many(e, second)) => {
-            crossed(alloc, whole, *d, first.get(), *e, second.get())
-        }
-        _ => Err(refuse_tree(Defect::KindMismatch, whole)),
+    let mut found = None;
+    for named in named_data {
+        found = with_statement(alloc, widths, dimension, is_assigned, named, found)?;
+    }
+    Ok(found)
+}
+
+/// Returns the set of `:=`, or else the set from the data.
+fn one_of<'s>(
+    alloc: Global,
+    name: &Token<'s>,
+    assigned: Option<&TupleSet<'s>>,
+    found: Option<Boxed<TupleSet<'s>>>,
+) -> Result<Boxed<TupleSet<'s>>, Fault>
+    ensures { Answers (bound.one_of name.now (option_copied assigned.entry) found.entry) result }
+{
+    match (assigned, found) {
+        (Some(set), _found) => Ok(boxed(alloc, set.again(alloc)?)?),
+        (None, Some(set)) => Ok(set),
+        (None, None) => Err(refuse_name(
+            alloc,
+            Language::Model,
+            Defect::NoValue,
+            name.span,
+            &name.text,
+        )?),
     }
 }
 
-fn among<'s>(
-    whole: &Expr<'_>,
-    tuple: &Tuple<'s>,
-    dimension: Option<u8>,
+fn is_allowed<'s>(set: &TupleSet<'s>, claim: &Claim<'_, 's>) -> bool
+    ensures { result ≡ bound.is_allowed set.now claim.now }
+{
+    match claim {
+        Claim::Within(_, superset) => superset.contains_all(set),
+        Claim::Nothing => true,
+        Claim::Dimension(_) => true,
+        Claim::Becomes(_, _) => true,
+    }
+}
+
+/// Checks that the set is a subset of each set that its phrases name.
+fn allowed<'s>(
+    alloc: Global,
+    name: &Token<'s>,
     set: &TupleSet<'s>,
-) -> Result<bool, Fault>
-    ensures { Decides (sets.among (trees.span_of (tree whole.now)) tuple.now dimension set.now) result }
+    phrases: &[SetPhrase<'_, 's>],
+) -> Result<(), Fault>
+    ensures { Answers (bound.allowed name.now set.now phrases.now) result }
 {
-    if fits(dimension, tuple.len()) {
-        Ok(set.contains(tuple))
-    } else {
-        Err(refuse_tree(Defect::Arity, whole))
-    }
-}
-
-/// Whether a member or tuple is in a set.
-pub(crate) fn belongs<'s>(
-    whole: &Expr<'_>,
-    x: &Value<'_, 's>,
-    y: &Value<'_, 's>,
-) -> Result<bool, Fault>
-    ensures { Answers (operators.belongs (trees.span_of (tree whole.now)) x.now y.now) result }
-{
-    match (x, y) {
-        (Value::One(member), Value::Many(dimension, set)) => {
-            among(whole, &Tuple::single(member.again()), *dimension, set.get())
+    for phrase in phrases {
+        if !is_allowed(set, &phrase.claim) {
+            return Err(refuse_name(
+                alloc,
+                Language::Model,
+                Defect::Restriction,
+                phrase.at,
+                &name.text,
+            )?);
         }
-        (Value::Several(tuple), Value::Many(dimension, set)) => {
-            among(whole, tuple, *dimension, set.get())
-        }
-        _ => Err(refuse_tree(Defect::KindMismatch, whole)),
     }
+    Ok(())
 }
 
-fn inside<'s>(
-    whole: &Expr<'_>,
-    dimension: Option<u8>,
-    first: &TupleSet<'s>,
-    second: &TupleSet<'s>,
-) -> Result<bool, Fault>
-    ensures { Decides (sets.inside (trees.span_of (tree whole.now)) dimension first.now second.now) result }
+/// Builds the entry of a set, with an index by components if it is likely to be used. The
+/// representation of a set in a world is chosen only here.
+fn set_entry<'s>(
+    alloc: Global,
+    is_walked: bool,
+    dimension: u8,
+    set: Boxed<TupleSet<'s>>,
+) -> Result<Boxed<Entry<'s>>, AllocError>
+    ensures { IfOk result (λ e. e ≡ ASet dimension set.entry) }
 {
-    match dimension {
-        None => Err(refuse_tree(Defect::Arity, whole)),
-        Some(_) => Ok(is_within(first, second)),
-    }
+    let set = IndexedSet::new(alloc, is_walked, unboxed(set))?;
+    boxed(alloc, Entry::Set(dimension, set))
 }
 
-/// Whether a set is within another.
-pub(crate) fn contained<'s>(
-    whole: &Expr<'_>,
-    x: &Value<'_, 's>,
-    y: &Value<'_, 's>,
-) -> Result<bool, Fault>
-    ensures { Answers (operators.contained (trees.span_of (tree whole.now)) x.now y.now) result }
+fn set_of<'s>(
+    alloc: Global,
+    is_walked: bool,
+    widths: &[usize],
+    name: &Token<'s>,
+    named_data: &[NamedData<'_, '_, 's>],
+    claims: &Claims<'_, 's>,
+) -> Result<Boxed<Entry<'s>>, Fault>
+    ensures { Answers (bound.set_of widths.now name.now named_data.now claims.now) result }
 {
-    match (x, y) {
-        (Value::Many(d, first), Value::Many(e, second)) => {
-            inside(whole, shared(*d, *e), first.get(), second.get())
-        }
-        _ => Err(refuse_tree(Defect::KindMismatch, whole)),
-    }
+    let phrases = claims.phrases.as_slice();
+    let dimension = claims.dimension.unwrap_or(1);
+    let assigned = assigned(phrases);
+    let found = given_set(
+        alloc,
+        widths,
+        usize::from(dimension),
+        assigned.is_some(),
+        named_data,
+    )?;
+    let set = one_of(alloc, name, assigned, found)?;
+    allowed(alloc, name, set.get(), phrases)?;
+    Ok(set_entry(alloc, is_walked, dimension, set)?)
 }
 
-/// The tuples, each once.
-pub(crate) fn once<'s>(alloc: Global, tuples: &[Tuple<'s>]) -> Result<TupleSet<'s>, SetFault>
-    ensures { IsMade (set_operations.union [] tuples.now) result }
+/// Evaluates a declared set: its phrases, then its data, then its value.
+pub(crate) fn bound_set<'s>(
+    alloc: Global,
+    is_walked: bool,
+    earlier: &Earlier<'_, 's>,
+    name: &Token<'s>,
+    phrases: &[Phrase<'s>],
+    named_data: &[NamedData<'_, '_, 's>],
+) -> Result<Boxed<Entry<'s>>, Fault>
+    ensures { Answers (bound.bound_set earlier.now.env earlier.now.widths.now name.now (map phrase_of phrases.now) named_data.now) result }
 {
-    let mut all = TupleSet::new(alloc);
-    for tuple in tuples {
-        all.add(tuple.again())?;
-    }
-    Ok(all)
+    let claims = set_phrases(alloc, &earlier.env, phrases)?;
+    set_of(alloc, is_walked, earlier.widths, name, named_data, &claims)
 }

@@ -1,183 +1,226 @@
-ghost use Rattle.std.specs.Prelude.{◌≡◌, [], ◌∷◌, ◌++◌, None, Some, take, slice_get, option_map, if◌then◌else◌, ℕ, List, OnOk, OnErr};
-ghost use Rattle.std.specs.Str.{bytes_eq};
-ghost use Rattle.std.specs.Option.{option_copied};
-ghost use Rattle.net_eval.specs.Worlds.{entry_of, place_behind};
-ghost use Rattle.net_eval.specs.Kept.{told, IsKept};
+//! Computing the world of a model and its data.
 
-use crate::scope::is_same_name;
-use net_sets::{IndexedSet, SharedSet, Table};
-use net_views::Excerpt;
+ghost use Rattle.std.specs.Prelude.{◌≡◌, [], None, OnOk, map};
+ghost use Rattle.net_tree.specs.View as view;
+ghost use Rattle.net_tree.specs.View.{declaration_of, phrase_of, indexing_of};
+ghost use Rattle.net_eval.specs.BoundSets as sets;
+ghost use Rattle.net_eval.specs.BoundParameters as parameters;
+ghost use Rattle.net_expr.specs.Worlds.{entry_of};
+ghost use Rattle.net_eval.specs.Binding as binding;
+ghost use Rattle.net_expr.specs.declared.world.Entry.{Entry as AnEntry};
+ghost use Rattle.net_fault.specs.Outcomes.{Outcome, Answers, Leaves, and_then, each};
+
+use crate::by_name::data_by_name;
+use crate::check::all_checked;
+use crate::earlier::Earlier;
+use crate::flattened::{Flattened, laid_out};
+use crate::given::{DataFor, NamedData};
+use crate::names::declared;
+use crate::param::bound_parameter;
+use crate::set::bound_set;
+use crate::stored::unboxed;
+use crate::walked::{Walked, walked_sets};
+use net_data::Tables;
+use net_expr::{Entry, Env, World, name_key};
+use net_fault::Fault;
+use net_lex::Token;
+use net_tree::{Braces, Decl, Model, Phrase};
+use net_views::Boxed;
 use std::alloc::{AllocError, Global};
-use std::collections::BTreeMap;
-use std::marker::Model;
 
-/// So many declarations are looked through for a name; where there are more, it is searched in a map.
-const FEW: usize = 16;
-
-/// What a declared set or parameter is.
-#[derive(Drop)]
-pub enum Entry<'s> {
-    /// A set: the number of components of its tuples, and these.
-    Set(u8, IndexedSet<'s>),
-    /// A parameter: the number of its keys, none where it has no braces; its index list, and the values at keys of this.
-    Parameter(Option<u8>, SharedSet<'s>, Table<'s>),
-}
-
-/// The declared sets and parameters in order. Where they are many they are found in an ordered map, which no
-/// text can make slow.
-#[derive(Drop)]
-pub struct World<'s> {
-    entries: Vec<(Excerpt<'s>, Entry<'s>)>,
-    places: BTreeMap<&'s str, usize>,
-}
-
-impl<'s> Model for World<'s> {
-    ghost use Rattle.std.specs.Prelude.{List, ℕ};
-    ghost use Rattle.net_eval.specs.declared.world.Entry.{Entry};
-    ghost use Rattle.net_eval.specs.Kept.{IsKept};
-
-    ghost Value = { List (List ℕ × Entry) };
-
-    ghost view = { λ w. w.entries.items };
-
-    ghost invariant = { λ w. IsKept w.entries.items w.places };
-}
-
-fn insert<'s>(
-    places: &mut BTreeMap<&'s str, usize>,
-    name: &Excerpt<'s>,
-    place: usize,
-) -> Result<(), AllocError>
-    ensures ok { OnOk result ((q : List ℕ) → told places.new q ≡ if bytes_eq name.now q then Some place else told places.old q) }
-    ensures err { OnErr result ((q : List ℕ) → told places.new q ≡ told places.old q) }
+/// Returns the number of members of a parameter's keys or a set's tuples.
+fn width_of(entry: &Entry<'_>) -> usize
+    ensures { result ≡ binding.width_of entry.now }
 {
-    match places.insert(name.as_str(), place) {
-        Ok(_) => Ok(()),
-        Err(_) => Err(AllocError),
+    match entry {
+        Entry::Set(dimension, _) => usize::from(*dimension),
+        Entry::Parameter(None, _, _) => 0,
+        Entry::Parameter(Some(count), _, _) => usize::from(*count),
     }
 }
 
-/// The first of the declarations.
-fn front<'w, 's>(
-    entries: &'w [(Excerpt<'s>, Entry<'s>)],
-    known: usize,
-) -> &'w [(Excerpt<'s>, Entry<'s>)]
-    ensures { result.now ≡ take known entries.entry.now }
+/// Adds an evaluated entry for a name that is not declared yet.
+fn with_entry<'s>(
+    name: &Token<'s>,
+    entry: Result<Boxed<Entry<'s>>, Fault>,
+    world: &mut World<'s>,
+    widths: &mut Vec<usize>,
+) -> Result<(), Fault>
+    requires fresh { entry_of world.old name.now.text ≡ None }
+    requires kept { widths.old.items ≡ binding.widths world.old }
+    ensures value { (wanted : Outcome AnEntry) → Answers wanted entry.entry → Leaves (and_then wanted (binding.with_entry world.old name.now))
+        result world.new }
+    ensures kept { OnOk result (widths.new.items ≡ binding.widths world.new) }
 {
-    if known < entries.len() {
-        &entries[..known]
-    } else {
-        entries
-    }
+    let entry = entry?;
+    widths.push(width_of(entry.get()))?;
+    world.add(&name.text, unboxed(entry))?;
+    Ok(())
 }
 
-/// What a name is among declarations, which are looked through from the first on.
-fn entry_in<'w, 's>(
-    entries: &'w [(Excerpt<'s>, Entry<'s>)],
-    name: &Excerpt<'s>,
-) -> Option<&'w Entry<'s>>
-    ensures { option_copied result ≡ entry_of entries.entry.now name.now }
+/// Returns everything declared so far.
+fn whole<'w, 's>(world: &'w World<'s>, widths: &'w [usize]) -> Earlier<'w, 's>
+    requires { widths.now ≡ binding.widths world.now }
+    ensures world { result.env ≡ world.entry.now }
+    ensures widths { result.widths.now ≡ binding.widths world.entry.now }
 {
-    for declared in entries {
-        if is_same_name(&declared.0, name) {
-            return Some(&declared.1);
-        }
+    Earlier {
+        env: Env::new(world, widths.len()),
+        widths,
     }
-    None
 }
 
-impl<'s> World<'s> {
-    /// Nothing declared.
-    pub fn new(alloc: Global) -> World<'s>
-        ensures { result ≡ [] }
-    {
-        World {
-            entries: Vec::new(alloc),
-            places: BTreeMap::new(alloc),
+fn entry_of_set<'s>(
+    alloc: Global,
+    is_walked: bool,
+    given: &[DataFor<'_, '_, 's>],
+    name: &Token<'s>,
+    phrases: &[Phrase<'s>],
+    earlier: &Earlier<'_, 's>,
+) -> Result<Boxed<Entry<'s>>, Fault>
+    requires { earlier.now.widths.now ≡ binding.widths earlier.now.env }
+    ensures { Answers (sets.bound_set earlier.now.env (binding.widths earlier.now.env) name.now (map phrase_of phrases.now) (binding.said_next
+        given.now earlier.now.env)) result }
+{
+    match given.get(earlier.widths.len()) {
+        Some(named_data) => {
+            let named_data = named_data.as_slice();
+            bound_set(alloc, is_walked, earlier, name, phrases, named_data)
         }
-    }
-
-    /// Declares a name that means nothing so far.
-    pub fn add(&mut self, name: &Excerpt<'s>, entry: Entry<'s>) -> Result<(), AllocError>
-        requires { entry_of self.old name.now ≡ None }
-        ensures ok { OnOk result (self.new ≡ self.old ++ (name.now, entry.entry) ∷ []) }
-        ensures err { OnErr result (self.new ≡ self.old) }
-    {
-        let place = self.entries.len();
-        self.entries.push((name.again(), entry))?;
-        match insert(&mut self.places, name, place) {
-            Ok(()) => Ok(()),
-            Err(refused) => {
-                self.entries.truncate(place);
-                Err(refused)
-            }
-        }
-    }
-
-    /// The place of a declared name.
-    fn place(&self, name: &Excerpt<'s>) -> Option<usize>
-        ensures { result ≡ place_behind 0 self.now name.now }
-    {
-        self.places.get(&name.as_str()).copied()
-    }
-
-    fn entry(&self, place: usize) -> Option<&Entry<'s>>
-        ensures { option_copied result ≡ option_map (λ e. e.1) (slice_get self.now place) }
-    {
-        match self.entries.get(place) {
-            Some(entry) => Some(&entry.1),
-            None => None,
-        }
-    }
-
-    /// What a name is among the first declarations. A few are looked through, which is faster than a search of the map.
-    fn find_among(&self, known: usize, name: &Excerpt<'s>) -> Option<&Entry<'s>>
-        ensures { option_copied result ≡ entry_of (take known self.now) name.now }
-    {
-        if known <= FEW {
-            return entry_in(front(self.entries.as_slice(), known), name);
-        }
-        match self.place(name) {
-            None => None,
-            Some(place) => {
-                if place < known {
-                    self.entry(place)
-                } else {
-                    None
-                }
-            }
+        None => {
+            let none: Vec<NamedData<'_, '_, 's>> = Vec::new(alloc);
+            bound_set(alloc, is_walked, earlier, name, phrases, none.as_slice())
         }
     }
 }
 
-/// The first declarations of a world, those that an expression may name; contracts see these alone.
-#[derive(Drop)]
-pub struct Env<'w, 's> {
-    world: &'w World<'s>,
-    known: usize,
+fn entry_of_parameter<'s>(
+    alloc: Global,
+    given: &[DataFor<'_, '_, 's>],
+    name: &Token<'s>,
+    braces: &Option<Braces<'s>>,
+    phrases: &[Phrase<'s>],
+    earlier: &Earlier<'_, 's>,
+) -> Result<Boxed<Entry<'s>>, Fault>
+    requires { earlier.now.widths.now ≡ binding.widths earlier.now.env }
+    ensures { Answers (parameters.bound_parameter earlier.now.env (binding.widths earlier.now.env) name.now (indexing_of braces.now) (map phrase_of
+        phrases.now) (binding.said_next given.now earlier.now.env)) result }
+{
+    match given.get(earlier.widths.len()) {
+        Some(named_data) => {
+            let named_data = named_data.as_slice();
+            bound_parameter(alloc, earlier, name, braces, phrases, named_data)
+        }
+        None => {
+            let none: Vec<NamedData<'_, '_, 's>> = Vec::new(alloc);
+            bound_parameter(alloc, earlier, name, braces, phrases, none.as_slice())
+        }
+    }
 }
 
-impl<'w, 's> Model for Env<'w, 's> {
-    ghost use Rattle.std.specs.Prelude.{List, ℕ, take};
-    ghost use Rattle.net_eval.specs.declared.world.Entry.{Entry};
-
-    ghost Value = { List (List ℕ × Entry) };
-
-    ghost view = { λ s. take s.known s.world.now };
+/// Evaluates a declaration and adds it.
+fn declare<'s>(
+    alloc: Global,
+    walked: &Walked<'s>,
+    given: &[DataFor<'_, '_, 's>],
+    decl: &Decl<'s>,
+    world: &mut World<'s>,
+    widths: &mut Vec<usize>,
+) -> Result<(), Fault>
+    requires fresh { binding.IsFresh world.old (declaration_of decl.now) }
+    requires kept { widths.old.items ≡ binding.widths world.old }
+    ensures value { Leaves (binding.declare given.now (declaration_of decl.now) world.old) result world.new }
+    ensures kept { OnOk result (widths.new.items ≡ binding.widths world.new) }
+{
+    match decl {
+        Decl::Set(_, name, phrases, _) => {
+            let phrases = phrases.as_slice();
+            let is_walked = walked.has(&name.text);
+            let earlier = whole(world, widths);
+            let entry = entry_of_set(alloc, is_walked, given, name, phrases, &earlier);
+            with_entry(name, entry, world, widths)
+        }
+        Decl::Param(_, name, braces, phrases, _) => {
+            let phrases = phrases.as_slice();
+            let earlier = whole(world, widths);
+            let entry = entry_of_parameter(alloc, given, name, braces, phrases, &earlier);
+            with_entry(name, entry, world, widths)
+        }
+        Decl::Check(_, _, _, _, _) => Ok(()),
+        Decl::Node(_, _, _, _, _) => Ok(()),
+        Decl::Arc(_, _, _, _, _) => Ok(()),
+        Decl::Objective(_, _, _, _) => Ok(()),
+    }
 }
 
-impl<'w, 's> Env<'w, 's> {
-    /// So many declarations of the world, from the first on.
-    pub fn new(world: &'w World<'s>, known: usize) -> Env<'w, 's>
-        ensures { result ≡ take known world.entry.now }
-    {
-        Env { world, known }
+#[tactic(auto, using(crate::proofs::Fresh::fresh))]
+fn declare_all<'s>(
+    alloc: Global,
+    given: &[DataFor<'_, '_, 's>],
+    decls: &[Decl<'s>],
+) -> Result<World<'s>, Fault>
+    requires { binding.AreNew [] (map declaration_of decls.now) }
+    ensures { Answers (each (binding.declare given.now) (map declaration_of decls.now) []) result }
+{
+    let walked = walked_sets(alloc, decls)?;
+    let mut world = World::new(alloc, name_key(decls));
+    let mut widths = Vec::new(alloc);
+    for decl in decls {
+        declare(alloc, &walked, given, decl, &mut world, &mut widths)?;
     }
+    Ok(world)
+}
 
-    /// What a name is.
-    pub(crate) fn find(&self, name: &Excerpt<'s>) -> Option<&'w Entry<'s>>
-        ensures { option_copied result ≡ entry_of self.now name.now }
-    {
-        self.world.find_among(self.known, name)
+/// Evaluates the checks and returns the world.
+fn after_checks<'s>(alloc: Global, decls: &[Decl<'s>], world: World<'s>) -> Result<World<'s>, Fault>
+    ensures { Answers (binding.after_checks (map declaration_of decls.now) world.entry) result }
+{
+    match all_checked(alloc, &world, decls) {
+        Ok(_) => Ok(world),
+        Err(fault) => Err(fault),
     }
+}
+
+/// Returns the world, given the data for each name.
+fn bind_given<'s>(
+    alloc: Global,
+    decls: &[Decl<'s>],
+    given: &[DataFor<'_, '_, 's>],
+) -> Result<World<'s>, Fault>
+    requires { binding.AreNew [] (map declaration_of decls.now) }
+    ensures { Answers (binding.with_given (map declaration_of decls.now) given.now) result }
+{
+    let world = declare_all(alloc, given, decls)?;
+    after_checks(alloc, decls, world)
+}
+
+#[tactic(auto, unfolding(crate::specs::Binding::world))]
+fn bind_statements<'m, 's>(
+    alloc: Global,
+    decls: &[Decl<'s>],
+    sheets: &'m [Flattened<'m, '_, 's>],
+) -> Result<World<'s>, Fault>
+    requires { binding.AreNew [] (map declaration_of decls.now) }
+    ensures { Answers (binding.world (map declaration_of decls.now) sheets.entry.now) result }
+{
+    let names = declared(alloc, decls)?;
+    let given = data_by_name(alloc, &names, sheets)?;
+    bind_given(alloc, decls, given.as_slice())
+}
+
+/// Evaluates a model with its data. No two sets or parameters of the model have the same name.
+///
+/// The names of all statements are looked up first: E30 at a name in the data that is not a set or
+/// a parameter as the statement requires. Then the sets and parameters are evaluated in order of
+/// declaration, and finally the `check` statements in order. Returns the first error.
+pub fn bind<'s>(
+    alloc: Global,
+    model: &Model<'s>,
+    tables: &Tables<'_, 's>,
+) -> Result<World<'s>, Fault>
+    requires { binding.AreNew [] (view.model model.now) }
+    ensures { Answers (binding.world (view.model model.now) tables.now.statements) result }
+{
+    let sheets = laid_out(alloc, tables.statements.as_slice())?;
+    bind_statements(alloc, model.declarations.as_slice(), sheets.as_slice())
 }

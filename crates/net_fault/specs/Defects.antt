@@ -1,4 +1,4 @@
--- The numbers and names of what can be wrong with a model or its data, as they are printed.
+-- The numbers and names of errors in a model or its data, as they are printed.
 use Rattle.std.specs.Prelude.{ℕ, List, codes}
 use Rattle.net_fault.specs.declared.defect.Defect.{Defect}
 use Rattle.net_fault.specs.declared.defect.Defect.TheVariants.{BadCharacter, OpenString, OpenComment, NotWhole, NumeralTooLarge, NotUtf8, TextTooLong, ModelSyntax, TooDeep, Undeclared, Redeclared, LeftOut, Gain, NetPlace, DataSyntax, RowWidth, TableWidth, NoSuchName, DoubleValue, NoValue, OutsideSet, Restriction, CheckFailed, KindMismatch, Arity, DivMod, ValueTooLarge, TooMany, NoSuchNode, NoLower, NoUpper, ArcCrossed, NodeCrossed, NoEnds, NoObjective, TwoObjectives, NotLinear, TooManyNodes, TooManyArcs, NoSuchObjective}

@@ -1,3 +1,4 @@
 pub mod Defects
+pub mod ErrorLines
 pub mod Outcomes
 pub mod Places

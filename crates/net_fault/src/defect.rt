@@ -1,11 +1,13 @@
+//! The kinds of errors, with their numbers and names.
+
 ghost use Rattle.std.specs.Prelude.{◌≡◌};
 ghost use Rattle.net_fault.specs.Defects.{number_of, name_of};
 
 use std::fmt;
 
-/// What can be wrong with a model or its data: with their tokens (E01 to E07), with the grammar and the names of the model
-/// (E10 to E16), with the statements of the data (E20 to E22), with what the data say of the model and with values (E30 to
-/// E40), and with nodes, arcs and objectives (E50 to E61).
+/// The errors in a model or its data: in their tokens (E01 to E07), in the grammar and the names of
+/// the model (E10 to E16), in the statements of the data (E20 to E22), in the data for declared
+/// names and in values (E30 to E40), and in nodes, arcs and objectives (E50 to E61).
 #[derive(Clone, Copy, PartialEq, Eq)]
 pub enum Defect {
     /// E01: `param a @ 3;`
@@ -18,53 +20,56 @@ pub enum Defect {
     NotWhole,
     /// E05: `1e13`
     NumeralTooLarge,
-    /// E06: A byte that is part of no character.
+    /// E06: A byte that is not part of a UTF-8 character.
     NotUtf8,
-    /// E07: A text or a token past its limit.
+    /// E07: A file or a token that exceeds its length limit.
     TextTooLong,
     /// E10: `set set;`
     ModelSyntax,
-    /// E11: The token that opens the 65th nesting.
+    /// E11: The token that opens the 65th nesting level.
     TooDeep,
-    /// E12: `check: a = 1;` without a declaration of `a` that can stand there.
+    /// E12: `check: a = 1;` without a declaration of `a` that is allowed here.
     Undeclared,
     /// E13: `set A; set A;`
     Redeclared,
-    /// E14: `var x;`, a part of AMPL that this profile leaves out.
+    /// E14: `var x;`, a construct of AMPL that this profile does not support.
     LeftOut,
-    /// E15: `from A, to B 2`, a gain behind the end of an arc.
+    /// E15: `from A, to B 2`, a gain factor after the end of an arc.
     Gain,
     /// E16: `node A: net_in = net_in;`
     NetPlace,
-    /// E20: A token that the statements do not allow, or the end where one is missing: `param cost 3;`
+    /// E20: A token that is not allowed in a statement, or the end of the file if one is missing:
+    /// `param cost 3;`
     DataSyntax,
-    /// E21: Cells that do not fill the rows of their table: `param cost : BOS EWR := PITT 25;`
+    /// E21: Cells that do not fill complete rows of their table: `param cost : BOS EWR := PITT 25;`
     RowWidth,
-    /// E22: A heading without a column, or without a parameter: `param cost : := ;`
+    /// E22: A heading without columns, or without parameters: `param cost : := ;`
     TableWidth,
-    /// E30: Data name what the model does not declare, or not as a set or a parameter as they do.
+    /// E30: A name in the data that is not declared, or not as a set or a parameter as the
+    /// statement requires.
     NoSuchName,
-    /// E31: A member, a value, a default or a whole set is given a second time.
+    /// E31: A second value for a member, a key, a default or a whole set.
     DoubleValue,
-    /// E32: A parameter has no value at a key of its index list, or there is nothing that `min` or `max` could choose from.
+    /// E32: A parameter without a value at a key of its index set, or `min` or `max` over nothing.
     NoValue,
-    /// E33: A key is not in a parameter's index list.
+    /// E33: A key that is not in a parameter's index set.
     OutsideSet,
-    /// E34: A member or a value is not what its declaration allows.
+    /// E34: A member or a value that its declaration does not allow.
     Restriction,
-    /// E35: The condition of a `check` does not hold.
+    /// E35: The condition of a `check` is false.
     CheckFailed,
-    /// E36: A number, text, tuple, set or condition stands where another kind is needed.
+    /// E36: A number, string, tuple, set or condition of the wrong kind for its position.
     KindMismatch,
-    /// E37: A tuple, a key or a set has another number of components than is needed.
+    /// E37: A tuple, a key or a set with the wrong number of components.
     Arity,
-    /// E38: `div` and `mod` of a negative number or by less than 1; steps of less than 1 in a range.
+    /// E38: `div` and `mod` of a negative number or by less than 1; a range with a step of less
+    /// than 1.
     DivMod,
-    /// E39: A number of more than 1,000,000,000,000 in size.
+    /// E39: A number with absolute value above 1,000,000,000,000.
     ValueTooLarge,
     /// E40: A set or list of more than 1,000,000 tuples.
     TooMany,
-    /// E50: `from` or `to` names a node that is not there.
+    /// E50: `from` or `to` with a node that does not exist.
     NoSuchNode,
     /// E51: An arc without `>=`.
     NoLower,
@@ -72,26 +77,26 @@ pub enum Defect {
     NoUpper,
     /// E53: The lower bound of an arc is above its upper bound.
     ArcCrossed,
-    /// E54: No net inflow meets the condition of a node.
+    /// E54: No net inflow satisfies the condition of a node.
     NodeCrossed,
     /// E55: An arc with neither `from` nor `to`.
     NoEnds,
     /// E56: A model without an objective.
     NoObjective,
-    /// E57: A second objective, where none was chosen.
+    /// E57: A second objective, if none was chosen.
     TwoObjectives,
-    /// E58: An arc stands where an objective would not be linear.
+    /// E58: An arc in a position that would make the objective nonlinear.
     NotLinear,
     /// E59: More than 10,000 nodes.
     TooManyNodes,
     /// E60: More than 100,000 arcs.
     TooManyArcs,
-    /// E61: The objective that was chosen is not declared.
+    /// E61: The chosen objective is not declared.
     NoSuchObjective,
 }
 
 impl Defect {
-    /// The number that a fault's line begins with, as 12 of `E12`.
+    /// Returns the number of the error, such as 12 for `E12`.
     pub fn number(self) -> u64
         ensures { result ≡ number_of self }
     {
@@ -139,7 +144,7 @@ impl Defect {
         }
     }
 
-    /// The name that stands behind the number, as `Undeclared`.
+    /// Returns the name of the error, such as `Undeclared`.
     pub fn name(self) -> &'static str
         ensures { result.now ≡ name_of self }
     {
@@ -196,5 +201,20 @@ impl fmt::Debug for Defect {
 
     fn fmt<W: fmt::Write>(&self, f: &mut fmt::Formatter<W>) -> fmt::Result {
         f.write_str(self.name())
+    }
+}
+
+impl fmt::Display for Defect {
+    ghost use Rattle.std.specs.Prelude.{Some};
+    ghost use Rattle.net_fault.specs.ErrorLines.{defect_shown};
+
+    ghost output = { λ defect. Some (defect_shown defect) };
+
+    #[tactic(auto, using(crate::proofs::TwoDigits::two_digits))]
+    /// Writes the code with two digits and the name: `E04 NotWhole`.
+    fn fmt<W: fmt::Write>(&self, f: &mut fmt::Formatter<W>) -> fmt::Result {
+        let number = self.number();
+        let name = self.name();
+        write!(f, "E{number:02} {name}")
     }
 }

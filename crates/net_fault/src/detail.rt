@@ -1,23 +1,44 @@
+//! The detail of an error, such as a name with its key.
+
 ghost use Rattle.std.specs.Prelude.{◌≡◌, IfOk};
 ghost use Rattle.net_fault.specs.declared.detail.Detail.TheVariants.{Told};
 
 use net_views::{Excerpt, OwnedText};
 use std::alloc::{AllocError, Global};
+use std::fmt;
 
-/// What a fault tells beside its place. Like the fault it borrows nothing.
-#[derive(Drop)]
+/// The detail of an error. Like the error, it borrows nothing.
+#[derive(Debug, Drop)]
 pub enum Detail {
     Nothing,
-    /// A name, with its key where it has one, as it is displayed: `Ship['PITT','NE']`.
+    /// A name, with its key if it is indexed, as it is printed: `Ship['PITT','NE']`.
     Told(OwnedText),
 }
 
 impl Detail {
-    /// A name, as faults tell it.
+    /// Builds a detail from a name. Fails only if memory runs out.
     pub fn of_name(alloc: Global, name: &Excerpt<'_>) -> Result<Detail, AllocError>
         ensures { IfOk result (λ d. d ≡ Told name.now) }
     {
         let text = String::from_str(alloc, name.as_str())?;
         Ok(Detail::Told(OwnedText::new(text)))
+    }
+}
+
+impl fmt::Display for Detail {
+    ghost use Rattle.std.specs.Prelude.{Some};
+    ghost use Rattle.net_fault.specs.ErrorLines.{detail_shown};
+
+    ghost output = { λ detail. Some (detail_shown detail) };
+
+    /// Writes a colon and the detail, or nothing if there is none.
+    fn fmt<W: fmt::Write>(&self, f: &mut fmt::Formatter<W>) -> fmt::Result {
+        match self {
+            Detail::Nothing => Ok(()),
+            Detail::Told(text) => {
+                let text = text.as_str();
+                write!(f, ": {text}")
+            }
+        }
     }
 }

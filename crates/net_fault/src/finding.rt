@@ -1,15 +1,35 @@
+//! An error with its file, its span and its detail.
+
 use crate::defect::Defect;
 use crate::detail::Detail;
 use crate::language::Language;
 use crate::span::Span;
+use std::fmt;
 
-/// What is wrong, in which text and where, and what is told beside the place.
-#[derive(Drop)]
+/// The kind of an error, its file, its span, and its detail.
+#[derive(Debug, Drop)]
 pub struct Finding {
     pub defect: Defect,
-    /// Which of the two texts it is in.
+    /// The file that contains the error.
     pub text: Language,
-    /// From the first byte to behind the last one, counted from 0.
+    /// The bytes of the error, counted from 0.
     pub at: Span,
     pub detail: Detail,
+}
+
+impl fmt::Display for Finding {
+    ghost use Rattle.std.specs.Prelude.{Some};
+    ghost use Rattle.net_fault.specs.ErrorLines.{finding_shown};
+
+    ghost output = { λ finding. Some (finding_shown finding) };
+
+    /// Writes the error with its bytes in the text: `E12 Undeclared in the model, bytes 30..31: B`.
+    fn fmt<W: fmt::Write>(&self, f: &mut fmt::Formatter<W>) -> fmt::Result {
+        let defect = self.defect;
+        let text = self.text.word();
+        let start = self.at.start;
+        let end = self.at.end;
+        let detail = &self.detail;
+        write!(f, "{defect} in the {text}, bytes {start}..{end}{detail}")
+    }
 }

@@ -1,4 +1,4 @@
-//! What can be wrong with a model and its data, where it stands, and what is told beside.
+//! Errors in a model and its data: error codes, spans and details.
 #![tactic(auto)]
 
 mod defect;

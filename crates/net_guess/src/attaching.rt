@@ -1,37 +1,38 @@
-//! A part of a spanning tree that is hung up anew, at another of its nodes and below another node. The cyclic order of nodes that
-//! makes it cheap is from Barr, Glover and Klingman (1979); see also Ahuja, Magnanti, Orlin: Network Flows, section 11.3.
+//! Re-rooting a subtree of a spanning tree and attaching it below another node. The cyclic node
+//! order that makes this cheap is from Barr, Glover and Klingman (1979); see also Ahuja, Magnanti,
+//! Orlin: Network Flows, section 11.3.
 
 use crate::halt::Halt;
 use crate::tree::{NO_NODE, Rooms, Tree};
 
-/// How a subtree is hung up anew.
+/// How to re-attach a subtree.
 #[derive(Clone, Copy)]
 pub struct Attachment {
     /// The root of the subtree, which leaves its parent.
     pub leaving: u32,
-    /// The node of the subtree that becomes its root.
+    /// The node of the subtree that becomes its new root.
     pub stem: u32,
-    /// The node, outside the subtree, below which it comes.
+    /// The new parent of that node, outside the subtree.
     pub parent: u32,
-    /// The arc to that node, and what it takes.
+    /// The arc between them, and its residual capacities.
     pub arc: u32,
     pub rooms: Rooms,
-    /// The nearest node above both parents.
+    /// The lowest common ancestor of both parents.
     pub join: u32,
 }
 
-/// A place on the way from a subtree's new root to its old one.
+/// A position on the path from a subtree's new root to its old one.
 #[derive(Clone, Copy)]
 struct Turn {
     node: u32,
-    /// What becomes its parent.
+    /// Its new parent.
     above: u32,
-    /// The last node of what it takes along, and the one behind that.
+    /// The last node of what it takes along, and the node after that.
     last: u32,
     behind: u32,
 }
 
-/// What is remembered of the subtree's root before the change.
+/// The state of the subtree's root before the change.
 #[derive(Clone, Copy)]
 struct Before {
     previous: u32,
@@ -41,7 +42,7 @@ struct Before {
 }
 
 impl Tree {
-    /// Hangs a subtree up anew. `turned` is room to work in.
+    /// Re-attaches a subtree. `turned` is scratch space.
     pub fn attach(&mut self, attachment: &Attachment, turned: &mut Vec<u32>) -> Result<(), Halt> {
         let leaving = self.node(attachment.leaving);
         let before = Before {
@@ -83,8 +84,8 @@ impl Tree {
         self.follow(before.last, behind);
     }
 
-    /// Turns the cyclic order of a subtree that gets a new root: each node on the way to the old root takes what is left of its
-    /// own subtree behind it.
+    /// Updates the cyclic order of a subtree with a new root: each node on the path to the old root
+    /// is followed by what is left of its own subtree.
     fn turn_order(
         &mut self,
         attachment: &Attachment,
@@ -124,7 +125,7 @@ impl Tree {
         Ok(())
     }
 
-    /// Lets each of these nodes be the one before the next.
+    /// Sets the predecessors of the nodes after these.
     fn mend_previous(&mut self, turned: &Vec<u32>) {
         for node in turned {
             let next = self.thread(*node).next;
@@ -132,7 +133,7 @@ impl Tree {
         }
     }
 
-    /// Takes what is left of a node's subtree behind it. Answers the next place, its old parent.
+    /// Places what is left of a node's subtree after it. Returns the next position, its old parent.
     #[inline]
     fn turn_node(&mut self, turn: Turn) -> Turn {
         let above = turn.node;
@@ -153,7 +154,8 @@ impl Tree {
         }
     }
 
-    /// Turns the arcs on the way from a subtree's old root to its new one, and gives each of its nodes its new size.
+    /// Reverses the arcs on the path from a subtree's old root to its new one, and updates the
+    /// sizes of its nodes.
     fn turn_arcs(&mut self, attachment: &Attachment, before: Before) {
         let last = self.node(attachment.leaving).last;
         let mut place = attachment.leaving;
@@ -181,7 +183,7 @@ impl Tree {
         self.put_rooms(attachment.stem, attachment.rooms);
     }
 
-    /// Gives the nodes above both places their new last nodes.
+    /// Updates the last nodes of the ancestors of both positions.
     fn mend_lasts(&mut self, attachment: &Attachment, before: Before) -> Result<(), Halt> {
         let parent = attachment.parent;
         let limit = if self.node(attachment.join).last == parent {
@@ -203,7 +205,8 @@ impl Tree {
         self.change_lasts(before.parent, limit, before.last, new_last)
     }
 
-    /// Changes the last node of a node and of those above it, as long as it is this one, and up to a limit.
+    /// Replaces the last node of a node and of its ancestors, as long as it is the old one, up to a
+    /// limit.
     fn change_lasts(&mut self, from: u32, limit: u32, old: u32, new: u32) -> Result<(), Halt> {
         let mut place = from;
         for _ in 0..=self.nodes.len() {
@@ -220,7 +223,7 @@ impl Tree {
         Err(Halt::OutOfRange)
     }
 
-    /// Adds to the sizes of a node and of those above it, below an ancestor.
+    /// Adds to the sizes of a node and of its ancestors below `ancestor`.
     fn grow(&mut self, from: u32, ancestor: u32, count: u32) -> Result<(), Halt> {
         let mut place = from;
         for _ in 0..=self.nodes.len() {

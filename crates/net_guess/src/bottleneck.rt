@@ -1,12 +1,13 @@
-//! A node that is a cut by itself: it supplies more than its arcs take away, or wants more than they bring.
+//! Finding a node that is a cut by itself: it supplies more than its arcs out can carry, or demands
+//! more than its arcs in can carry.
 
-use crate::guess::Guess;
+use crate::guess::Cut;
 use crate::places::{at, put};
 use net_check::Side;
 use net_normal::Problem;
 use std::alloc::{AllocError, Global};
 
-/// How much more than its lower bounds the arcs out of each node, and those into it, can carry.
+/// The total capacity above the lower bounds of the arcs out of each node, and of those into it.
 #[derive(Drop)]
 struct Rooms {
     out: Vec<i128>,
@@ -29,7 +30,7 @@ fn rooms_of(alloc: Global, problem: &Problem) -> Result<Rooms, AllocError> {
     Ok(rooms)
 }
 
-/// A node that is a cut by itself, and the side on which.
+/// A node that is a cut by itself, and the direction.
 #[derive(Clone, Copy)]
 struct Neck {
     node: u32,
@@ -37,7 +38,7 @@ struct Neck {
 }
 
 impl Rooms {
-    /// Adds what each arc that leads to another node can carry more.
+    /// Adds the capacity above the lower bound of each arc that is not a loop.
     fn add_arcs(&mut self, problem: &Problem) {
         for arc in &problem.arcs {
             if arc.src != arc.dst {
@@ -48,7 +49,7 @@ impl Rooms {
         }
     }
 
-    /// The side on which a node with this excess is a cut by itself.
+    /// Returns the direction in which a node with this excess is a cut by itself, if it is one.
     fn side(&self, node: u32, excess: i128) -> Option<Side> {
         if excess > at(&self.out, node, 0) {
             Some(Side::Over)
@@ -60,7 +61,7 @@ impl Rooms {
     }
 }
 
-/// The first node that is a cut by itself.
+/// Returns the first node that is a cut by itself.
 fn first_neck(rooms: &Rooms, excess: &[i128]) -> Option<Neck> {
     let mut node = 0u32;
     for excess in excess {
@@ -72,12 +73,14 @@ fn first_neck(rooms: &Rooms, excess: &[i128]) -> Option<Neck> {
     None
 }
 
-/// The first node with more excess at the lower bounds than its own arcs can take away, or less than they can bring, as a cut.
+/// Returns the first node that is a cut by itself as a cut: its excess at the lower bounds is more
+/// than its arcs out can carry, or its deficit more than its arcs in can. Fails only if memory runs
+/// out.
 pub fn bottleneck(
     alloc: Global,
     problem: &Problem,
     excess: &[i128],
-) -> Result<Option<Guess>, AllocError> {
+) -> Result<Option<Cut>, AllocError> {
     let Ok(rooms) = rooms_of(alloc, problem) else {
         return Err(AllocError);
     };
@@ -87,12 +90,12 @@ pub fn bottleneck(
     }
 }
 
-/// The cut that a node is by itself.
-fn cut_at(alloc: Global, problem: &Problem, neck: Neck) -> Result<Option<Guess>, AllocError> {
+/// Returns the cut of a single node. Fails only if memory runs out.
+fn cut_at(alloc: Global, problem: &Problem, neck: Neck) -> Result<Option<Cut>, AllocError> {
     let Ok(mut flags) = vec![in alloc; false; problem.supplies.len()] else {
         return Err(AllocError);
     };
     put(&mut flags, neck.node, true);
     let side = neck.side;
-    Ok(Some(Guess::Cut { flags, side }))
+    Ok(Some(Cut { flags, side }))
 }

@@ -1,4 +1,4 @@
-//! The cheapest ways to the nodes that want flow, where no arc is priced below 0 (Dijkstra 1959).
+//! Shortest paths to the nodes with a deficit, over nonnegative costs (Dijkstra 1959).
 
 use crate::places::{at, fill, index, put, row_at};
 use crate::simplex_arc::PricedArc;
@@ -6,13 +6,13 @@ use std::alloc::{AllocError, Global};
 use std::cmp::Reverse;
 use std::collections::BinaryHeap;
 
-/// The place of no arc.
+/// The index of no arc.
 pub const NO_PLACE: u32 = u32::MAX;
 
-/// What a way costs that there is not.
+/// The cost of a path that does not exist.
 const FAR: i64 = i64::MAX;
 
-/// What the way costs of a node to which none is searched for.
+/// The cost of a node from which no path is searched.
 const BARRED: i64 = i64::MIN;
 
 /// An arc into a node.
@@ -31,23 +31,24 @@ impl Arrival {
     };
 }
 
-/// The cheapest ways.
+/// The shortest paths.
 #[derive(Drop)]
 pub struct CheapestWays {
-    /// Where the arcs into each node start, and where those of all end.
+    /// The start of each node's incoming arcs, and the end of the last.
     starts: Vec<u32>,
     arrivals: Vec<Arrival>,
-    /// What the way from each node costs.
+    /// The cost of the path from each node.
     costs: Vec<i64>,
-    /// The place of the first arc of each node's way.
+    /// The index of the first arc of each node's path.
     firsts: Vec<u32>,
-    /// The nodes from which there is a way, the nearest first.
+    /// The nodes with a path, nearest first.
     pub order: Vec<u32>,
     waiting: BinaryHeap<Reverse<(i64, u32)>>,
 }
 
 impl CheapestWays {
-    /// Without an arc, and with room for those that `put_arrival` is to be told, each of which `count_arrival` was told before.
+    /// Creates empty lists with space for the arcs, each of which is first counted by
+    /// `count_arrival` and then added by `put_arrival`. Fails only if memory runs out.
     pub fn with_room(
         alloc: Global,
         node_count: usize,
@@ -91,7 +92,8 @@ impl CheapestWays {
         put(&mut self.starts, head, count);
     }
 
-    /// Makes places of the counts: each node's arcs end where its own and those before it are counted.
+    /// Converts the counts to positions: each node's arcs end at the sum of its count and those
+    /// before it.
     pub fn end_count(&mut self) {
         let mut end = 0u32;
         for count in &mut self.starts {
@@ -100,7 +102,7 @@ impl CheapestWays {
         }
     }
 
-    /// Takes in the arc at a place.
+    /// Adds the arc with this index.
     pub fn put_arrival(&mut self, place: u32, arc: PricedArc) {
         let free = at(&self.starts, arc.dst, 0).wrapping_sub(1);
         put(&mut self.starts, arc.dst, free);
@@ -112,12 +114,13 @@ impl CheapestWays {
         put(&mut self.arrivals, free, arrival);
     }
 
-    /// The place of the first arc of a node's way, or none where it begins or there is no way.
+    /// Returns the index of the first arc of a node's path, or `NO_PLACE` if the path is empty or
+    /// does not exist.
     pub fn first(&self, node: u32) -> u32 {
         at(&self.firsts, node, NO_PLACE)
     }
 
-    /// Finds the ways from nodes without excess to those with a deficit.
+    /// Computes the paths from nodes without excess to those with a deficit.
     pub fn find(&mut self, excess: &[i128]) -> Result<(), AllocError> {
         for (place, amount) in excess.iter().enumerate() {
             let node = index(place);
@@ -141,7 +144,7 @@ impl CheapestWays {
         Ok(())
     }
 
-    /// Finds cheaper ways over the arcs into a node.
+    /// Relaxes the arcs into a node.
     fn reach_back(&mut self, node: u32, cost: i64) -> Result<(), AllocError> {
         for place in row_at(&self.starts, node) {
             let arrival = at(&self.arrivals, place, Arrival::NONE);

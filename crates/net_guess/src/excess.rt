@@ -1,6 +1,6 @@
-//! What each node has too much of, or too little.
+//! The excess or deficit of each node.
 
-use crate::places::{at, put};
+use crate::places::{arc_at, at, index, put};
 use net_normal::{FlowArc, Problem};
 use std::alloc::{AllocError, Global};
 
@@ -10,7 +10,7 @@ fn add_excess(excess: &mut Vec<i128>, node: u32, amount: i128) {
     put(excess, node, sum);
 }
 
-/// The flow that is at each arc's lower bound.
+/// Returns the flow with each arc at its lower bound.
 pub fn lows_of(alloc: Global, problem: &Problem) -> Result<Vec<i64>, AllocError> {
     let mut lows = Vec::with_capacity(alloc, problem.arcs.len())?;
     for arc in &problem.arcs {
@@ -19,7 +19,7 @@ pub fn lows_of(alloc: Global, problem: &Problem) -> Result<Vec<i64>, AllocError>
     Ok(lows)
 }
 
-/// Each node's supply.
+/// Returns each node's supply.
 fn supplies_of(alloc: Global, problem: &Problem) -> Result<Vec<i128>, AllocError> {
     let mut supplies = Vec::with_capacity(alloc, problem.supplies.len())?;
     for supply in &problem.supplies {
@@ -28,7 +28,8 @@ fn supplies_of(alloc: Global, problem: &Problem) -> Result<Vec<i128>, AllocError
     Ok(supplies)
 }
 
-/// Each node's supply less what leaves it where each arc has its lower bound; a negative one is a deficit.
+/// Returns each node's supply minus its net outflow, with each arc at its lower bound; a negative
+/// excess is a deficit.
 pub fn excess_at_lows(alloc: Global, problem: &Problem) -> Result<Vec<i128>, AllocError> {
     let mut excess = supplies_of(alloc, problem)?;
     for arc in &problem.arcs {
@@ -41,12 +42,86 @@ pub fn excess_at_lows(alloc: Global, problem: &Problem) -> Result<Vec<i128>, All
     Ok(excess)
 }
 
-/// The most room with which an arc of negative cost starts full where no node has excess.
+/// The greatest capacity above LOW with which an arc of negative cost starts full if no node has excess.
 const FULL_ROOM: i64 = 1 << 40;
 
-/// The most room with which an arc of negative cost starts full, where this is the excess at the lower bounds: what all nodes have
-/// too much of. More than that hardly goes over one arc.
-pub fn full_limit(excess: &[i128]) -> i64 {
+/// The most excess that a network simplex takes on at a node; its numbers leave room for one more arc.
+const LARGE: i128 = 1 << 60;
+
+/// How often all arcs are tried to bring nodes below that.
+const RELIEF_PASSES: u32 = 64;
+
+/// The bounds at which arcs start, and the excess of each node there.
+#[derive(Drop)]
+pub struct Start {
+    /// Whether each arc starts at its capacity, and not at its lower bound.
+    is_full: Vec<bool>,
+    pub excess: Vec<i128>,
+}
+
+impl Start {
+    /// Most arcs of negative cost start full, as most of them stay full, and arcs that relieve a node of large excess or deficit.
+    pub fn new(alloc: Global, problem: &Problem, excess: &[i128]) -> Result<Start, AllocError> {
+        let Ok(is_full) = vec![in alloc; false; problem.arcs.len()] else {
+            return Err(AllocError);
+        };
+        let excess = Vec::from_slice(alloc, excess)?;
+        let mut start = Start { is_full, excess };
+        start.fill_saving(problem);
+        start.relieve(problem);
+        Ok(start)
+    }
+
+    /// Whether an arc starts at its capacity.
+    pub fn is_full(&self, number: u32) -> bool {
+        at(&self.is_full, number, false)
+    }
+
+    /// Fills the arcs of negative cost, unless one carries more than all nodes together have too much of.
+    fn fill_saving(&mut self, problem: &Problem) {
+        let limit = full_limit(&self.excess);
+        for number in 0..index(problem.arcs.len()) {
+            let arc = arc_at(problem, number);
+            if arc.cost < 0 && arc.cap.wrapping_sub(arc.low) <= limit {
+                self.fill(number, &arc);
+            }
+        }
+    }
+
+    /// Moves an arc from its lower bound to its capacity.
+    fn fill(&mut self, number: u32, arc: &FlowArc) {
+        let room = i128::from(arc.cap.wrapping_sub(arc.low));
+        put(&mut self.is_full, number, true);
+        add_excess(&mut self.excess, arc.src, room.wrapping_neg());
+        add_excess(&mut self.excess, arc.dst, room);
+    }
+
+    /// Fills arcs out of nodes with large excess and into nodes with large deficits, as long as there are such nodes.
+    fn relieve(&mut self, problem: &Problem) {
+        for _ in 0..RELIEF_PASSES {
+            if !self.excess.iter().any(|amount| is_large(*amount)) {
+                return;
+            }
+            for number in 0..index(problem.arcs.len()) {
+                let arc = arc_at(problem, number);
+                let has_much = at(&self.excess, arc.src, 0) > LARGE;
+                let lacks_much = at(&self.excess, arc.dst, 0) < LARGE.wrapping_neg();
+                if (has_much || lacks_much) && !self.is_full(number) {
+                    self.fill(number, &arc);
+                }
+            }
+        }
+    }
+}
+
+/// Whether a node's excess or deficit is large.
+fn is_large(amount: i128) -> bool {
+    amount > LARGE || amount < LARGE.wrapping_neg()
+}
+
+/// The most that an arc of negative cost may carry above LOW to start full: what all nodes have too much of. More than that hardly flows
+/// over one arc.
+fn full_limit(excess: &[i128]) -> i64 {
     let mut total = 0i128;
     for amount in excess {
         total = total.wrapping_add((*amount).max(0));
@@ -55,27 +130,4 @@ pub fn full_limit(excess: &[i128]) -> i64 {
         return FULL_ROOM;
     }
     i64::try_from(total).unwrap_or(FULL_ROOM).min(FULL_ROOM)
-}
-
-/// Whether a simplex begins with an arc at its capacity: most of those that save something stay there.
-pub fn starts_full(arc: &FlowArc, limit: i64) -> bool {
-    arc.cost < 0 && arc.cap.wrapping_sub(arc.low) <= limit
-}
-
-/// The excess of each node where those arcs are full, from that at the lower bounds.
-pub fn excess_at_start(
-    alloc: Global,
-    problem: &Problem,
-    excess: &[i128],
-    limit: i64,
-) -> Result<Vec<i128>, AllocError> {
-    let mut excess = Vec::from_slice(alloc, excess)?;
-    for arc in &problem.arcs {
-        if starts_full(arc, limit) {
-            let room = i128::from(arc.cap.wrapping_sub(arc.low));
-            add_excess(&mut excess, arc.src, room.wrapping_neg());
-            add_excess(&mut excess, arc.dst, room);
-        }
-    }
-    Ok(excess)
 }

@@ -1,6 +1,7 @@
-//! A first tree in which nodes hang by the cheapest ways to those that want flow.
+//! An initial tree in which nodes are attached by shortest paths to the nodes with a deficit.
 //!
-//! From the root alone a simplex would grow these ways arc by arc, and price many arcs for each.
+//! Starting from the root alone, a simplex would build these paths arc by arc, and price many arcs
+//! for each.
 
 use crate::cheapest_ways::{CheapestWays, NO_PLACE};
 use crate::halt::Halt;
@@ -10,7 +11,7 @@ use crate::tree::Rooms;
 use std::alloc::{AllocError, Global};
 
 impl Simplex {
-    /// Hangs nodes without excess below those that want flow, each by its cheapest way.
+    /// Attaches nodes without excess below those with a deficit, each by its shortest path.
     pub fn hang_by_ways(&mut self, alloc: Global, excess: &[i128]) -> Result<(), Halt> {
         let Ok(ways) = self.ways(alloc, excess) else {
             return Err(Halt::OutOfMemory);
@@ -27,7 +28,7 @@ impl Simplex {
         Ok(())
     }
 
-    /// The cheapest ways over arcs with room.
+    /// Returns the shortest paths over arcs with residual capacity.
     fn ways(&self, alloc: Global, excess: &[i128]) -> Result<CheapestWays, AllocError> {
         let count = self.numbers.len();
         let Ok(mut ways) = CheapestWays::with_room(alloc, excess.len(), count) else {
@@ -46,7 +47,7 @@ impl Simplex {
         }
     }
 
-    /// Hangs a node that is a leaf at the root by the arc at a place, without flow.
+    /// Attaches a leaf of the root by the arc with this index, without flow.
     fn hang(&mut self, node: u32, place: u32) {
         if place == NO_PLACE {
             return;

@@ -1,24 +1,44 @@
-//! What is guessed of a problem.
+//! A proposed answer to a problem.
 
 use net_check::Side;
 
-/// What is guessed of a problem. Nothing of it is certain: a flow is where a growth may start, and a cut is to be checked.
+/// A set of nodes whose supply may be past what its arcs allow.
+#[derive(Drop)]
+pub struct Cut {
+    /// For each node, whether it is in the set.
+    pub flags: Vec<bool>,
+    /// The direction in which the set's supply is infeasible.
+    pub side: Side,
+}
+
+impl Cut {
+    /// The set, or if it has more than half of the nodes but not all, the set of all others.
+    pub fn with_few_nodes(self) -> Cut {
+        let mut cut = self;
+        let count = cut.flags.iter().filter(|flag| **flag).count();
+        if count > cut.flags.len() / 2 && count < cut.flags.len() {
+            for flag in &mut cut.flags {
+                *flag = !*flag;
+            }
+            cut.side = match cut.side {
+                Side::Over => Side::Under,
+                Side::Under => Side::Over,
+            };
+        }
+        cut
+    }
+}
+
+/// A proposed answer to a problem. It may be wrong in any way.
 #[derive(Drop)]
 pub enum Guess {
-    /// A flow, with potentials: the best that are known, or none, where a guess was given up.
+    /// A flow with potentials, from which the verified algorithm starts. Both are empty if the heuristics found nothing.
     Flow {
         /// The flow of each arc.
         flows: Vec<i64>,
         /// The potential of each node.
         potentials: Vec<i64>,
-        /// How many arcs and nodes were looked at for it, about.
-        looks: u64,
     },
-    /// A set of nodes whose supply is past what its arcs allow.
-    Cut {
-        /// Whether each node is in the set.
-        flags: Vec<bool>,
-        /// On which side the set's supply is wrong.
-        side: Side,
-    },
+    /// A reason why no flow is feasible.
+    Cut(Cut),
 }

@@ -1,76 +1,86 @@
-//! The ways in which a problem's answer is guessed.
+//! The heuristics, in the order in which they are tried, each with a bound on its work.
 
 use crate::bottleneck::bottleneck;
 use crate::excess::excess_at_lows;
-use crate::guess::Guess;
+use crate::guess::{Cut, Guess};
 use crate::halt::Halt;
-use crate::probe::{Probe, Seen};
-use crate::scaling::scaled;
-use crate::simplex::{Ended, Simplex};
+use crate::preflow::{Feasibility, Preflow};
+use crate::simplex::Simplex;
 use net_check::Side;
 use net_normal::Problem;
 use std::alloc::{AllocError, Global};
 
-/// How much a probe looks at before a network simplex, for each node and arc: most cuts are seen by then.
-const SHORT_LOOKS: u64 = 8;
+// Each bound is a number of nodes and arcs to inspect, for each node and arc of the problem.
 
-/// How much it looks at where nothing costs anything, and where a network simplex has left excess.
-const PROBE_LOOKS: u64 = 40;
+/// After so much work, a network simplex that still has excess waits for a preflow to decide whether there is a flow. Most problems that
+/// have one need less.
+const EARLY_LOOKS: u64 = 40;
 
-/// How much a network simplex looks at, for each node and arc.
-const SIMPLEX_LOOKS: u64 = 4000;
+/// The bound of a preflow.
+const PREFLOW_LOOKS: u64 = 2_000;
 
-/// What is guessed of a problem, each way with a bound on its work: the supplies' sum; a node that is a cut by itself; a probe; a
-/// network simplex; cost scaling. The one error is want of memory.
+/// The bound of a network simplex. Paths and long grids need the most.
+const SIMPLEX_LOOKS: u64 = 30_000;
+
+/// Proposes an answer to a problem. The only error is running out of memory.
 pub fn find_guess(alloc: Global, problem: &Problem) -> Result<Guess, AllocError> {
     match guessed(alloc, problem) {
         Ok(guess) => Ok(guess),
         Err(Halt::OutOfRange) => Ok(Guess::Flow {
             flows: Vec::new(alloc),
             potentials: Vec::new(alloc),
-            looks: 0,
         }),
         Err(Halt::OutOfMemory) => Err(AllocError),
     }
 }
 
-/// The first guess that comes to something.
+/// Proposes a set of nodes that shows that no flow is feasible, or `None` if it finds no such set. The only error is running out of
+/// memory.
+pub fn find_cut(alloc: Global, problem: &Problem) -> Result<Option<Cut>, AllocError> {
+    match decided(alloc, problem) {
+        Ok(cut) => Ok(cut),
+        Err(Halt::OutOfRange) => Ok(None),
+        Err(Halt::OutOfMemory) => Err(AllocError),
+    }
+}
+
+/// A cut, if one is found in any way.
+fn decided(alloc: Global, problem: &Problem) -> Result<Option<Cut>, Halt> {
+    let excess = excess_at_lows(alloc, problem)?;
+    match simple_cut(alloc, problem, &excess)? {
+        Some(cut) => Ok(Some(cut)),
+        None => cut_by_preflow(alloc, problem, &excess),
+    }
+}
+
+/// The first answer that a heuristic proposes.
 fn guessed(alloc: Global, problem: &Problem) -> Result<Guess, Halt> {
+    let excess = excess_at_lows(alloc, problem)?;
+    if let Some(cut) = simple_cut(alloc, problem, &excess)? {
+        return Ok(Guess::Cut(cut));
+    }
+    if problem.arcs.iter().all(|arc| arc.cost == 0) {
+        by_preflow(alloc, problem, &excess)
+    } else {
+        by_simplex(alloc, problem, &excess)
+    }
+}
+
+/// A cut that needs no search: all nodes, if the supplies do not sum to 0, or one node.
+fn simple_cut(alloc: Global, problem: &Problem, excess: &[i128]) -> Result<Option<Cut>, Halt> {
     let total = supplies_sum(problem)?;
     if total != 0 {
         let side = if total > 0 { Side::Over } else { Side::Under };
         let flags = vec![in alloc; true; problem.supplies.len()]?;
-        return Ok(Guess::Cut { flags, side });
+        return Ok(Some(Cut { flags, side }));
     }
-    let excess = excess_at_lows(alloc, problem)?;
-    if let Some(guess) = bottleneck(alloc, problem, &excess)? {
-        return Ok(guess);
-    }
-    let looks = if is_free(problem) {
-        PROBE_LOOKS
-    } else {
-        SHORT_LOOKS
+    let Ok(cut) = bottleneck(alloc, problem, excess) else {
+        return Err(Halt::OutOfMemory);
     };
-    if let Some(guess) = probed(alloc, problem, &excess, looks)? {
-        return Ok(guess);
-    }
-    match by_simplex(alloc, problem, &excess) {
-        Ok(Some(guess)) => Ok(guess),
-        Ok(None) => short_of_flow(alloc, problem, &excess),
-        Err(Halt::OutOfRange) => scaled(alloc, problem, &excess),
-        Err(Halt::OutOfMemory) => Err(Halt::OutOfMemory),
-    }
+    Ok(cut)
 }
 
-/// Where a network simplex has left excess: a longer probe, and then cost scaling.
-fn short_of_flow(alloc: Global, problem: &Problem, excess: &[i128]) -> Result<Guess, Halt> {
-    match probed(alloc, problem, excess, PROBE_LOOKS)? {
-        Some(guess) => Ok(guess),
-        None => scaled(alloc, problem, excess),
-    }
-}
-
-/// The sum of all supplies.
+/// Returns the sum of all supplies.
 fn supplies_sum(problem: &Problem) -> Result<i128, Halt> {
     let mut total = 0i128;
     for supply in &problem.supplies {
@@ -81,81 +91,68 @@ fn supplies_sum(problem: &Problem) -> Result<i128, Halt> {
     Ok(total)
 }
 
-/// Nodes and arcs together.
+/// Returns the number of nodes and arcs together.
 fn size_of(problem: &Problem) -> u64 {
     (problem.supplies.len() as u64).saturating_add(problem.arcs.len() as u64)
 }
 
-/// What a probe says: a cut, or where nothing costs anything, the flow.
-fn probed(
+/// A preflow that has come to its end or its bound, with what it shows.
+fn run_preflow(
     alloc: Global,
     problem: &Problem,
     excess: &[i128],
-    looks: u64,
-) -> Result<Option<Guess>, Halt> {
-    let limit = looks.saturating_mul(size_of(problem));
-    let mut probe = Probe::new(alloc, problem, excess, limit)?;
-    seen_by(&mut probe, alloc, problem)
+) -> Result<(Preflow, Feasibility), Halt> {
+    let limit = PREFLOW_LOOKS.saturating_mul(size_of(problem));
+    let mut preflow = Preflow::new(alloc, problem, excess, limit)?;
+    let shown = preflow.run();
+    Ok((preflow, shown))
 }
 
-/// What a probe says that has not begun.
-fn seen_by(probe: &mut Probe, alloc: Global, problem: &Problem) -> Result<Option<Guess>, Halt> {
-    match probe.run()? {
-        Seen::Cut => {
-            let Ok(flags) = probe.reached(alloc) else {
-                return Err(Halt::OutOfMemory);
-            };
-            let side = Side::Over;
-            Ok(Some(Guess::Cut { flags, side }))
-        }
-        Seen::Flow if is_free(problem) => {
-            let Ok(flows) = probe.incidence.flows(alloc, problem) else {
-                return Err(Halt::OutOfMemory);
-            };
-            let Ok(potentials) = vec![in alloc; 0i64; problem.supplies.len()] else {
-                return Err(Halt::OutOfMemory);
-            };
-            Ok(Some(Guess::Flow {
-                flows,
-                potentials,
-                looks: probe.work,
-            }))
-        }
-        Seen::Flow | Seen::Unknown => Ok(None),
+/// The cut that a preflow shows, if it shows one.
+fn cut_by_preflow(alloc: Global, problem: &Problem, excess: &[i128]) -> Result<Option<Cut>, Halt> {
+    let (mut preflow, shown) = run_preflow(alloc, problem, excess)?;
+    match shown {
+        Feasibility::Infeasible => Ok(Some(cut_of(&mut preflow, alloc)?)),
+        Feasibility::Feasible | Feasibility::Unknown => Ok(None),
     }
 }
 
-/// Whether no arc costs anything.
-fn is_free(problem: &Problem) -> bool {
-    problem.arcs.iter().all(|arc| arc.cost == 0)
+/// The cut that a preflow shows whose excess reaches no deficit, with few nodes.
+fn cut_of(preflow: &mut Preflow, alloc: Global) -> Result<Cut, Halt> {
+    let flags = preflow.reached(alloc)?;
+    let side = Side::Over;
+    Ok(Cut { flags, side }.with_few_nodes())
 }
 
-/// What a network simplex says, where it ends at a flow.
-fn by_simplex(alloc: Global, problem: &Problem, excess: &[i128]) -> Result<Option<Guess>, Halt> {
+/// What a preflow finds for a problem without costs: a flow or a cut.
+fn by_preflow(alloc: Global, problem: &Problem, excess: &[i128]) -> Result<Guess, Halt> {
+    let (mut preflow, shown) = run_preflow(alloc, problem, excess)?;
+    if let Feasibility::Infeasible = shown {
+        return Ok(Guess::Cut(cut_of(&mut preflow, alloc)?));
+    }
+    let flows = preflow.incidence.flows(alloc, problem)?;
+    let Ok(potentials) = vec![in alloc; 0i64; problem.supplies.len()] else {
+        return Err(Halt::OutOfMemory);
+    };
+    Ok(Guess::Flow { flows, potentials })
+}
+
+/// What a network simplex finds: a flow; or if it has excess after a while, the cut that a preflow shows.
+fn by_simplex(alloc: Global, problem: &Problem, excess: &[i128]) -> Result<Guess, Halt> {
+    let size = size_of(problem);
     let mut simplex = Simplex::new(alloc, problem, excess)?;
-    ended_at(&mut simplex, alloc, problem)
-}
-
-/// What a network simplex says that has not begun, where it ends at a flow.
-fn ended_at(
-    simplex: &mut Simplex,
-    alloc: Global,
-    problem: &Problem,
-) -> Result<Option<Guess>, Halt> {
-    match simplex.run(SIMPLEX_LOOKS.saturating_mul(size_of(problem)))? {
-        Ended::Optimal => {
-            let Ok(flows) = simplex.flows(alloc, problem) else {
-                return Err(Halt::OutOfMemory);
-            };
-            let Ok(potentials) = simplex.potentials(alloc, problem) else {
-                return Err(Halt::OutOfMemory);
-            };
-            Ok(Some(Guess::Flow {
-                flows,
-                potentials,
-                looks: simplex.work,
-            }))
+    let is_done = simplex.run(EARLY_LOOKS.saturating_mul(size))?;
+    if simplex.has_excess() {
+        if let Some(cut) = cut_by_preflow(alloc, problem, excess)? {
+            return Ok(Guess::Cut(cut));
         }
-        Ended::Infeasible => Ok(None),
     }
+    if !is_done {
+        simplex.run(SIMPLEX_LOOKS.saturating_mul(size))?;
+    }
+    let flows = simplex.flows(alloc, problem)?;
+    let Ok(potentials) = simplex.potentials(alloc, problem) else {
+        return Err(Halt::OutOfMemory);
+    };
+    Ok(Guess::Flow { flows, potentials })
 }

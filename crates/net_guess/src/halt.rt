@@ -1,14 +1,14 @@
-//! Why a guess ends before it has an answer.
+//! Why a heuristic stops without a result.
 
 ghost use Rattle.std.specs.Prelude.{◌≡◌};
 ghost use Rattle.net_guess.specs.declared.halt.Halt.TheVariants as halts;
 
 use std::alloc::{AllocError, AllocFailed};
 
-/// Why a guess ends before it has an answer.
+/// Why a heuristic stops without a result.
 #[derive(Clone, Copy)]
 pub enum Halt {
-    /// There was no memory.
+    /// Allocation failed.
     OutOfMemory,
     /// A number would leave its range.
     OutOfRange,

@@ -1,38 +1,63 @@
-//! The arcs at each node, those out of it and those into it, with the room for flow on them both ways.
+//! Adjacency lists: the arcs out of and into each node, with their residual capacities in both
+//! directions.
 
 use crate::places::{at, put, row_at};
-use crate::rows::row_ends;
 use net_normal::Problem;
 use std::alloc::{AllocError, Global};
 use std::ops::Range;
 
-/// An arc at a node, seen from there.
+/// The number of arcs at each node, and 0 after the last: each arc of the problem is at both of its ends.
+fn degrees(alloc: Global, problem: &Problem) -> Result<Vec<u32>, AllocError> {
+    let mut counts = vec![in alloc; 0u32; problem.supplies.len().saturating_add(1)]?;
+    for arc in &problem.arcs {
+        let leaving = at(&counts, arc.src, 0).wrapping_add(1);
+        put(&mut counts, arc.src, leaving);
+        let arriving = at(&counts, arc.dst, 0).wrapping_add(1);
+        put(&mut counts, arc.dst, arriving);
+    }
+    Ok(counts)
+}
+
+/// The index at which the arcs of each node end, if they are listed in the order of their nodes, and that at which all end.
+fn row_ends(alloc: Global, problem: &Problem) -> Result<Vec<u32>, AllocError> {
+    let mut ends = degrees(alloc, problem)?;
+    let mut end = 0u32;
+    for count in &mut ends {
+        end = end.wrapping_add(*count);
+        *count = end;
+    }
+    Ok(ends)
+}
+
+/// An arc as seen from one of its ends.
 #[derive(Clone, Copy)]
 pub struct Incident {
     /// The other end.
     pub head: u32,
-    /// Where the room for flow to the other end stands; at `back_of` it stands for flow from there.
+    /// The index of the residual capacity towards the other end; `back_of` is that of the opposite
+    /// direction.
     pub place: u32,
 }
 
-/// The place of the room for flow the other way.
+/// Returns the index of the residual capacity in the opposite direction.
 #[inline]
 pub fn back_of(place: u32) -> u32 {
     place ^ 1
 }
 
-/// The arcs at all nodes, those of one node beside each other.
+/// The adjacency lists of all nodes; the arcs of a node are contiguous.
 #[derive(Drop)]
 pub struct Incidence {
-    /// Where the arcs at each node start, and where those of all end.
+    /// The start of each node's arcs, and the end of the last.
     pub starts: Vec<u32>,
     pub ends: Vec<Incident>,
-    /// The room ahead and the room back of each arc of the problem.
+    /// The forward and the backward residual capacity of each arc of the problem.
     pub rooms: Vec<i64>,
 }
 
 impl Incidence {
-    /// Of the flow at all lower bounds.
+    /// Builds the lists for the flow with each arc at its lower bound. Fails only if memory runs
+    /// out.
     pub fn at_lows(alloc: Global, problem: &Problem) -> Result<Incidence, AllocError> {
         let count = problem.arcs.len().saturating_mul(2);
         let none = Incident { head: 0, place: 0 };
@@ -52,7 +77,7 @@ impl Incidence {
         Ok(incidence)
     }
 
-    /// Takes in the arcs of a problem, in their order.
+    /// Adds the arcs of a problem in order.
     fn add_arcs(&mut self, problem: &Problem) {
         let mut place = 0u32;
         for arc in &problem.arcs {
@@ -63,31 +88,31 @@ impl Incidence {
         }
     }
 
-    /// Takes the last free place at a node.
+    /// Adds an arc at the last free position of a node.
     fn add(&mut self, node: u32, head: u32, place: u32) {
         let free = at(&self.starts, node, 0).wrapping_sub(1);
         put(&mut self.starts, node, free);
         put(&mut self.ends, free, Incident { head, place });
     }
 
-    /// The places of the arcs at a node.
+    /// Returns the positions of a node's arcs.
     pub fn row(&self, node: u32) -> Range<u32> {
         row_at(&self.starts, node)
     }
 
-    /// An arc at a node by its place.
+    /// Returns the arc at a position.
     #[inline]
     pub fn end(&self, place: u32) -> Incident {
         at(&self.ends, place, Incident { head: 0, place: 0 })
     }
 
-    /// The room for flow that stands at a place.
+    /// Returns the residual capacity at an index.
     #[inline]
     pub fn room(&self, place: u32) -> i64 {
         at(&self.rooms, place, 0)
     }
 
-    /// Sends flow over an arc, seen as this one is.
+    /// Sends flow over an arc, in the direction of this index.
     pub fn send(&mut self, place: u32, amount: i64) {
         let ahead = self.room(place);
         put(&mut self.rooms, place, ahead.wrapping_sub(amount));
@@ -95,7 +120,7 @@ impl Incidence {
         put(&mut self.rooms, back_of(place), back.wrapping_add(amount));
     }
 
-    /// The flow on each arc of the problem.
+    /// Returns the flow on each arc of the problem. Fails only if memory runs out.
     pub fn flows(&self, alloc: Global, problem: &Problem) -> Result<Vec<i64>, AllocError> {
         let mut flows = Vec::with_capacity(alloc, problem.arcs.len())?;
         let mut place = 0u32;

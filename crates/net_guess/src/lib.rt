@@ -1,15 +1,14 @@
-//! Guesses at the answer of a minimum-cost flow problem. What is proved of them is that they end and keep within their lists; what they
-//! say is for those who ask to test.
+//! The unverified part of the solver: heuristics that propose an answer to a minimum-cost flow problem.
+//!
+//! It is proved that each call returns and that no index leaves its list, and nothing else. net_solve verifies each answer.
 #![tactic(auto)]
 
 mod attaching;
 mod block;
 mod bottleneck;
 mod cheapest_ways;
-mod distances;
 mod excess;
 mod first_forest;
-mod fitting;
 mod guess;
 mod guessing;
 mod halt;
@@ -17,17 +16,14 @@ mod incidence;
 mod node_queue;
 mod pivoting;
 mod places;
+mod preflow;
 mod prices;
 mod pricing;
-mod probe;
-mod rows;
-mod scaling;
-mod search;
 mod simplex;
 mod simplex_arc;
 mod starting;
 mod tree;
 
-pub use guess::Guess;
-pub use guessing::find_guess;
+pub use guess::{Cut, Guess};
+pub use guessing::{find_cut, find_guess};
 pub use node_queue::NodeQueue;

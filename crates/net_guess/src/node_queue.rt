@@ -1,22 +1,22 @@
-//! Nodes that wait.
+//! A queue of nodes.
 
 use crate::places::{at, index, put};
 use std::alloc::{AllocError, Global};
 
-/// Nodes that wait, first in, first out. Each waits once at a time, so that there is room for all.
+/// A first-in, first-out queue of nodes. Each node is in it at most once, so the capacity suffices.
 #[derive(Drop)]
 pub struct NodeQueue {
-    /// A ring with a place for each node.
+    /// A ring buffer with space for each node.
     nodes: Vec<u32>,
-    /// Whether each node waits.
+    /// For each node, whether it is in the queue.
     is_waiting: Vec<bool>,
-    /// Where the first one stands, and how many there are.
+    /// The position of the first node, and the number of nodes.
     first: u32,
     count: u32,
 }
 
 impl NodeQueue {
-    /// Without a node, and with room for so many.
+    /// Creates an empty queue with space for this many nodes. Fails only if memory runs out.
     pub fn with_room(alloc: Global, node_count: usize) -> Result<NodeQueue, AllocError> {
         let Ok(nodes) = vec![in alloc; 0u32; node_count] else {
             return Err(AllocError);
@@ -32,7 +32,7 @@ impl NodeQueue {
         })
     }
 
-    /// Puts a node at the end, where it does not wait yet.
+    /// Appends a node, unless it is in the queue.
     #[inline]
     pub fn push(&mut self, node: u32) {
         if !at(&self.is_waiting, node, true) {
@@ -43,7 +43,16 @@ impl NodeQueue {
         }
     }
 
-    /// Takes the first node.
+    /// Removes all nodes.
+    pub fn clear(&mut self) {
+        for _ in 0..self.nodes.len() {
+            if self.pop().is_none() {
+                return;
+            }
+        }
+    }
+
+    /// Removes and returns the first node.
     #[inline]
     pub fn pop(&mut self) -> Option<u32> {
         if self.count == 0 {
@@ -56,7 +65,7 @@ impl NodeQueue {
         Some(node)
     }
 
-    /// The place so many behind the first one.
+    /// Returns the position at this offset from the first one.
     #[inline]
     fn place(&self, offset: u32) -> u32 {
         let size = index(self.nodes.len());

@@ -1,4 +1,4 @@
-//! An arc that comes into the tree of a network simplex, and the one that goes for it.
+//! Pivots of a network simplex: the entering and the leaving arc.
 
 use crate::attaching::Attachment;
 use crate::halt::Halt;
@@ -7,32 +7,32 @@ use crate::prices::Part;
 use crate::simplex::Simplex;
 use crate::tree::Rooms;
 
-/// Which arc of a cycle goes.
+/// The leaving arc of a cycle.
 #[derive(Clone, Copy)]
 enum Going {
-    /// The one that came: it passes from one bound to the other.
+    /// The entering arc itself, which moves from one bound to the other.
     Itself,
-    /// The one above this node, on the way from the join down to where the flow starts.
+    /// The arc above this node, on the path from the join down to the start of the flow.
     Before(u32),
-    /// The one above this node, on the way from where the flow ends up to the join.
+    /// The arc above this node, on the path from the end of the flow up to the join.
     Behind(u32),
 }
 
-/// The cycle that an arc closes.
+/// The cycle that an entering arc closes.
 #[derive(Clone, Copy)]
 struct Cycle {
-    /// The arc's end where the flow over it starts, and where it ends.
+    /// The nodes at which the flow over the arc starts and ends.
     first: u32,
     second: u32,
-    /// The nearest node above both.
+    /// Their lowest common ancestor.
     join: u32,
-    /// How much flow goes around.
+    /// The amount of flow sent around the cycle.
     amount: i64,
     going: Going,
 }
 
 impl Simplex {
-    /// Lets the arc at this place come in.
+    /// Performs a pivot with this entering arc.
     pub fn enter(&mut self, place: u32) -> Result<(), Halt> {
         let arc = self.prices.arc(place);
         let room = at(&self.rooms, place, 0);
@@ -70,7 +70,7 @@ impl Simplex {
         }
     }
 
-    /// The cycle that an arc between these nodes closes, with this room.
+    /// Returns the cycle that an arc between these nodes with this residual capacity closes.
     fn cycle(&mut self, first: u32, second: u32, room: i64) -> Result<Cycle, Halt> {
         let join = self.tree.join(first, second)?;
         let mut cycle = Cycle {
@@ -87,8 +87,8 @@ impl Simplex {
         Ok(cycle)
     }
 
-    /// Narrows a cycle to the least room on the way from where the flow ends up to the join. Of several the last goes, and before the
-    /// arc itself.
+    /// Limits a cycle to the minimum residual capacity on the path from the end of the flow up to
+    /// the join. Among equals the last one is chosen, and before the entering arc.
     fn narrow_behind(&self, cycle: &mut Cycle) -> Result<(), Halt> {
         let mut node = cycle.second;
         for _ in 0..self.tree.nodes.len() {
@@ -105,7 +105,8 @@ impl Simplex {
         Err(Halt::OutOfRange)
     }
 
-    /// Narrows it to what is less on the way from the join down to where the flow starts. Of several the last goes, which is seen first.
+    /// Limits a cycle to a smaller residual capacity on the path from the join down to the start of
+    /// the flow. Among equals the last one is chosen, which is found first.
     fn narrow_before(&self, cycle: &mut Cycle) -> Result<(), Halt> {
         let mut node = cycle.first;
         for _ in 0..self.tree.nodes.len() {
@@ -122,8 +123,8 @@ impl Simplex {
         Err(Halt::OutOfRange)
     }
 
-    /// Exchanges the arc above a node for the one that comes: the part of the tree below that node is hung up at its end of that arc, the
-    /// first of these ends, below the other.
+    /// Replaces the arc above a node by the entering arc: the subtree below that node is attached
+    /// at `ends.0`, its end of the entering arc, below the other end.
     fn exchange(
         &mut self,
         place: u32,
@@ -145,7 +146,7 @@ impl Simplex {
         self.tree.attach(&attachment, &mut self.turned)
     }
 
-    /// Lets the arc above a node be priced from the end from which it takes flow.
+    /// Makes the arc above a node nonbasic, with the direction in which it has residual capacity.
     fn leave(&mut self, node: u32) {
         let place = self.tree.node(node).arc;
         if (place as usize) < self.rooms.len() {
@@ -159,7 +160,7 @@ impl Simplex {
         }
     }
 
-    /// Adds to the potentials of a subtree, or takes as much from all others where those are fewer.
+    /// Adds to the potentials of a subtree, or subtracts from all others if those are fewer.
     fn lift(&mut self, top: u32, amount: i64) -> Result<(), Halt> {
         let node = self.tree.node(top);
         self.work = self.work.wrapping_add(u64::from(node.size));

@@ -1,15 +1,15 @@
-//! Reads and writes at places of a list.
+//! Access to lists by unverified indices.
 //!
-//! A guess keeps its lists by indices of which nothing is proved, so each read and write tests its own: outside its list a guess reads
-//! what stands for nothing there, and writes nothing; in the loops that take most of its time it gives up. All loops are bounded, and
-//! what it says is for others to test.
+//! The heuristic's indices are unverified, so each read and write is bounds-checked. Outside a
+//! list, a read returns a default value, and a write does nothing; in the innermost loops the
+//! heuristic gives up instead. All loops are bounded, and callers check the results.
 
 use crate::halt::Halt;
 use net_normal::{FlowArc, Problem};
 use std::alloc::{AllocError, Global};
 use std::ops::Range;
 
-/// What stands at a place, or what stands for nothing where the list has no such place.
+/// Returns the item at an index, or `nothing` if it is out of range.
 #[inline]
 pub fn at<T: Copy>(items: &Vec<T>, place: u32, nothing: T) -> T {
     match items.get(place as usize) {
@@ -18,7 +18,7 @@ pub fn at<T: Copy>(items: &Vec<T>, place: u32, nothing: T) -> T {
     }
 }
 
-/// What stands at a place; a guess that points outside gives up.
+/// Returns the item at an index. Returns `OutOfRange` if it is out of range.
 #[inline]
 pub fn try_at<T: Copy>(items: &Vec<T>, place: u32) -> Result<T, Halt> {
     match items.get(place as usize) {
@@ -27,7 +27,7 @@ pub fn try_at<T: Copy>(items: &Vec<T>, place: u32) -> Result<T, Halt> {
     }
 }
 
-/// An arc of a problem by its index.
+/// Returns an arc of a problem by its index.
 #[inline]
 pub fn arc_at(problem: &Problem, number: u32) -> FlowArc {
     match problem.arcs.get(number as usize) {
@@ -42,13 +42,13 @@ pub fn arc_at(problem: &Problem, number: u32) -> FlowArc {
     }
 }
 
-/// A place or a length as a number of 32 bits; one that has none is past all others.
+/// Converts an index or a length to 32 bits; returns the maximum if it does not fit.
 #[inline]
 pub fn index(place: usize) -> u32 {
     u32::try_from(place).unwrap_or(u32::MAX)
 }
 
-/// Puts an item at a place.
+/// Stores an item at an index, if it is in range.
 #[inline]
 pub fn put<T: Copy>(items: &mut Vec<T>, place: u32, item: T) {
     if let Some(slot) = items.get_mut(place as usize) {
@@ -56,7 +56,7 @@ pub fn put<T: Copy>(items: &mut Vec<T>, place: u32, item: T) {
     }
 }
 
-/// Lets a list be one item so many times.
+/// Sets a list to `count` copies of an item. Fails only if memory runs out.
 pub fn fill<T: Copy>(
     alloc: Global,
     items: &mut Vec<T>,
@@ -72,7 +72,7 @@ pub fn fill<T: Copy>(
     }
 }
 
-/// The places of what stands at a node, where these are the starts of each node's and of the end of all.
+/// Returns the positions of a node's items, given the start of each node's and the end of the last.
 #[inline]
 pub fn row_at(starts: &Vec<u32>, node: u32) -> Range<u32> {
     at(starts, node, 0)..at(starts, node.wrapping_add(1), 0)

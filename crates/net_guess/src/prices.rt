@@ -1,7 +1,8 @@
-//! What arcs are priced by in a network simplex: the cost of a unit on each, and the potential of each node.
+//! Pricing data of a network simplex: the cost of a unit on each arc, and the potential of each
+//! node.
 //!
-//! Pricing takes most of the time, and most of that goes into reading. So where all numbers fit, they stand in 32 bits, of which twice
-//! as many are near the processor at a time.
+//! Pricing takes most of the time, and most of that is memory access. So if all numbers fit, they
+//! are stored in 32 bits, which doubles the number of them in the cache.
 
 use crate::halt::Halt;
 use crate::places::{at, fill, index, put, try_at};
@@ -9,15 +10,16 @@ use crate::simplex_arc::PricedArc;
 use crate::tree::Thread;
 use std::alloc::{AllocError, Global};
 
-/// The greatest cost of a unit from the root with which no potential and no price passes 32 bits.
+/// The maximum cost of a unit from the root with which no potential and no reduced cost exceeds 32
+/// bits.
 pub const NARROW_LIMIT: i64 = 1 << 29;
 
-/// How far from 0 the potential of the root may be moved, in 32 and in 64 bits.
+/// The maximum distance of the root's potential from 0, in 32 and in 64 bits.
 const NARROW_DRIFT: i64 = 1 << 29;
 
 const WIDE_DRIFT: i64 = 1 << 59;
 
-/// An arc as it is priced, in 32 bits.
+/// An arc for pricing, in 32 bits.
 #[derive(Clone, Copy)]
 struct NarrowArc {
     src: u32,
@@ -26,7 +28,7 @@ struct NarrowArc {
 }
 
 impl NarrowArc {
-    /// What stands for no arc: nothing is saved over it.
+    /// The value of a missing arc, which is never eligible.
     const NONE: NarrowArc = NarrowArc {
         src: 0,
         dst: 0,
@@ -34,7 +36,7 @@ impl NarrowArc {
     };
 }
 
-/// A number in 32 bits; one that does not fit is nothing there.
+/// Converts a number to 32 bits; returns 0 if it does not fit.
 #[inline]
 fn narrow(number: i64) -> i32 {
     i32::try_from(number).unwrap_or(0)
@@ -63,7 +65,7 @@ fn add_wide(potentials: &mut Vec<i64>, node: u32, amount: i64) -> Result<(), Hal
     }
 }
 
-/// The place of the arc at an offset of a block of this length that begins there, or none where the offset is past its end.
+/// Returns the index of the arc at an offset in a block of this length, or `None` past its end.
 fn place_in(length: usize, from: usize, offset: usize) -> Option<u32> {
     if offset < length {
         Some(index(from.saturating_add(offset)))
@@ -72,7 +74,7 @@ fn place_in(length: usize, from: usize, offset: usize) -> Option<u32> {
     }
 }
 
-/// Nodes that stand together in the cyclic order: the first and the last of them, and how many there are.
+/// Consecutive nodes in the cyclic order: the first and the last, and their number.
 #[derive(Clone, Copy)]
 pub struct Part {
     pub first: u32,
@@ -80,7 +82,7 @@ pub struct Part {
     pub count: u32,
 }
 
-/// The arcs and the potentials: the lists in 32 bits or those in 64 are there, and the others empty.
+/// The arcs and the potentials, either in the 32-bit or in the 64-bit lists; the others are empty.
 #[derive(Drop)]
 pub struct Prices {
     is_narrow: bool,
@@ -91,7 +93,8 @@ pub struct Prices {
 }
 
 impl Prices {
-    /// Of so many nodes, the root among them, and so many arcs, where a unit from the root costs this.
+    /// Creates lists for this many nodes, including the root, and this many arcs, given the cost of
+    /// a unit from the root. Fails only if memory runs out.
     pub fn with_room(
         alloc: Global,
         root_cost: i64,
@@ -130,7 +133,7 @@ impl Prices {
         }
     }
 
-    /// The arc at a place.
+    /// Returns the arc at an index.
     #[inline]
     pub fn arc(&self, place: u32) -> PricedArc {
         if self.is_narrow {
@@ -145,7 +148,7 @@ impl Prices {
         }
     }
 
-    /// Puts an arc at a place.
+    /// Stores an arc at an index.
     #[inline]
     pub fn put_arc(&mut self, place: u32, arc: PricedArc) {
         if self.is_narrow {
@@ -160,7 +163,7 @@ impl Prices {
         }
     }
 
-    /// A node's potential.
+    /// Returns a node's potential.
     #[inline]
     pub fn potential(&self, node: u32) -> i64 {
         if self.is_narrow {
@@ -170,7 +173,7 @@ impl Prices {
         }
     }
 
-    /// Gives a node a potential.
+    /// Sets a node's potential.
     #[inline]
     pub fn put_potential(&mut self, node: u32, potential: i64) {
         if self.is_narrow {
@@ -180,7 +183,7 @@ impl Prices {
         }
     }
 
-    /// Whether the potential of the root is near enough to 0 to be moved.
+    /// Returns whether the root's potential is close enough to 0 to be changed.
     pub fn may_move(&self, root: u32) -> bool {
         let drift = if self.is_narrow {
             NARROW_DRIFT
@@ -190,7 +193,8 @@ impl Prices {
         self.potential(root).wrapping_abs() < drift
     }
 
-    /// What a unit of flow over an arc, and through the tree back, costs.
+    /// Returns the reduced cost of an arc: the cost of a unit of flow over it and back through the
+    /// tree.
     pub fn price(&self, place: u32) -> i64 {
         let arc = self.arc(place);
         arc.cost
@@ -198,7 +202,8 @@ impl Prices {
             .wrapping_sub(self.potential(arc.dst))
     }
 
-    /// Adds to the potentials of nodes that stand together: from both ends, as each step waits for the one before it.
+    /// Adds to the potentials of consecutive nodes, from both ends, since each step depends on the
+    /// one before it.
     pub fn raise(&mut self, threads: &Vec<Thread>, part: Part, amount: i64) -> Result<(), Halt> {
         if self.is_narrow {
             return self.raise_narrow(threads, part, narrow(amount));
@@ -230,7 +235,8 @@ impl Prices {
         Ok(())
     }
 
-    /// The place of the arc of the most negative price among those at these places. One test, of the greater end, does for both.
+    /// Returns the index of the arc with the most negative reduced cost in this range. A single
+    /// test, of the upper limit, covers both limits.
     #[inline(never)]
     pub fn dearest_between(&self, from: usize, to: usize) -> Result<Option<u32>, Halt> {
         if self.is_narrow {

@@ -1,10 +1,12 @@
-//! Which arc comes into the tree of a network simplex: the dearest of a block.
+//! Choosing the entering arc of a network simplex: the one with the most negative reduced cost in a
+//! block.
 
 use crate::halt::Halt;
 use crate::simplex::Simplex;
 
 impl Simplex {
-    /// The arc of the most negative price in the first block that has one, from where the search ended last.
+    /// Returns the arc with the most negative reduced cost in the first block with an eligible arc,
+    /// starting at the end of the last search.
     pub fn dearest(&mut self) -> Result<Option<u32>, Halt> {
         let count = self.numbers.len();
         let mut left = count;

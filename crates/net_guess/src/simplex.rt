@@ -1,13 +1,14 @@
-//! A network simplex, as a guess: what it ends with is tested by those who ask.
+//! A network simplex, as a heuristic: callers check its result.
 //!
-//! A spanning tree of arcs holds the flow that is not at a bound; potentials make the reduced costs of its arcs 0. An arc whose
-//! reduced cost says that flow on it should change comes in, and the first arc of the cycle that it closes whose room is used up
-//! goes. Of several such arcs the last on the way around from the cycle's top goes, so that no basis comes again (Cunningham 1976;
-//! Ahuja, Magnanti, Orlin: Network Flows, chapter 11).
+//! A spanning tree contains the arcs whose flow is not at a bound; potentials make their reduced
+//! costs 0. An arc with a favorable reduced cost enters, and the first arc of its cycle to run out
+//! of residual capacity leaves. Among several such arcs, the last one around the cycle from its
+//! join leaves, so that no basis repeats (Cunningham 1976; Ahuja, Magnanti, Orlin: Network Flows,
+//! chapter 11).
 
 use crate::block::Block;
 use crate::cheapest_ways::NO_PLACE;
-use crate::excess::{excess_at_start, full_limit, lows_of, starts_full};
+use crate::excess::{Start, lows_of};
 use crate::halt::Halt;
 use crate::places::{arc_at, at, fill, index, put};
 use crate::prices::Prices;
@@ -17,57 +18,44 @@ use crate::tree::Tree;
 use net_normal::{FlowArc, Problem};
 use std::alloc::{AllocError, Global};
 
-/// A network simplex under way.
+/// The state of a network simplex.
 #[derive(Drop)]
 pub struct Simplex {
-    /// The index in the problem of each arc, in the order in which they are priced.
+    /// The index in the problem of each arc, in pricing order.
     pub numbers: Vec<u32>,
     /// The arcs in that order, and the potentials of the nodes.
     pub prices: Prices,
-    /// The room on each, in the same order.
+    /// The residual capacity of each arc, in the same order.
     pub rooms: Vec<i64>,
     pub tree: Tree,
-    /// Where the next block of arcs to be priced begins.
+    /// The start of the next block of arcs.
     pub next: usize,
-    /// How many arcs are priced together.
+    /// The number of arcs in a block.
     pub block: Block,
-    /// How many arcs the last search looked at.
+    /// The number of arcs that the last search priced.
     pub looked: u64,
-    /// How many arcs and nodes were looked at.
+    /// The number of arcs and nodes examined.
     pub work: u64,
-    /// Room to work in.
+    /// Scratch space.
     pub turned: Vec<u32>,
-    /// Whether an arc to the root has gone with flow on it.
+    /// Whether an arc to the root has left the tree with flow on it.
     pub is_short: bool,
 }
 
-/// How a network simplex ends.
-#[derive(Clone, Copy)]
-pub enum Ended {
-    /// At a flow of least cost, as far as its numbers can be trusted.
-    Optimal,
-    /// At one that leaves excess.
-    Infeasible,
-}
-
 impl Simplex {
-    /// Before its first change of the tree: arcs of negative cost are at their capacities where `starts_full` says so, all others at
-    /// their lower bounds. Each node with excess then hangs below the root, and the others by the cheapest arcs or ways to those that
-    /// want flow.
+    /// A simplex before its first pivot, with the arcs at the bounds that `Start` chooses. Each node with excess hangs below the root, and
+    /// the others by the cheapest arcs or paths to those that want flow.
     pub fn new(alloc: Global, problem: &Problem, excess: &[i128]) -> Result<Simplex, Halt> {
         let Ok(is_bipartite) = is_bipartite(alloc, problem) else {
             return Err(Halt::OutOfMemory);
         };
-        let cost = root_cost(problem)?;
+        let cost = root_cost(problem);
         let nodes = excess.len().saturating_add(1);
         let Ok(mut prices) = Prices::with_room(alloc, cost, nodes, problem.arcs.len()) else {
             return Err(Halt::OutOfMemory);
         };
-        let limit = full_limit(excess);
-        let Ok(excess) = excess_at_start(alloc, problem, excess, limit) else {
-            return Err(Halt::OutOfMemory);
-        };
-        let tree = first_tree(alloc, problem, &excess, &mut prices, cost)?;
+        let start = Start::new(alloc, problem, excess)?;
+        let tree = first_tree(alloc, problem, &start.excess, &mut prices, cost)?;
         let mut simplex = Simplex {
             numbers: Vec::new(alloc),
             prices,
@@ -80,17 +68,18 @@ impl Simplex {
             turned: Vec::new(alloc),
             is_short: false,
         };
-        simplex.take_arcs(alloc, problem, limit)?;
+        simplex.take_arcs(alloc, problem, &start)?;
         if is_bipartite {
-            simplex.enter_cheapest(alloc, &excess)?;
+            simplex.enter_cheapest(alloc, &start.excess)?;
         } else {
-            simplex.hang_by_ways(alloc, &excess)?;
+            simplex.hang_by_ways(alloc, &start.excess)?;
         }
         Ok(simplex)
     }
 
-    /// Takes in the arcs of a problem, each at the bound where it starts. One with no room stays out: nothing is saved over it.
-    fn take_arcs(&mut self, alloc: Global, problem: &Problem, limit: i64) -> Result<(), Halt> {
+    /// Stores the arcs of a problem, each at its initial bound. Arcs without capacity are omitted,
+    /// since they are never eligible.
+    fn take_arcs(&mut self, alloc: Global, problem: &Problem, start: &Start) -> Result<(), Halt> {
         let count = problem.arcs.len();
         let Ok(()) = fill(alloc, &mut self.numbers, NO_PLACE, count) else {
             return Err(Halt::OutOfMemory);
@@ -104,7 +93,7 @@ impl Simplex {
             let room = arc.cap.wrapping_sub(arc.low);
             if room != 0 {
                 let ahead = PricedArc::of(&arc);
-                let is_full = starts_full(&arc, limit);
+                let is_full = start.is_full(at(&self.numbers, place, NO_PLACE));
                 self.prices
                     .put_arc(place, if is_full { ahead.turned() } else { ahead });
                 put(&mut self.rooms, place, room);
@@ -113,12 +102,12 @@ impl Simplex {
         Ok(())
     }
 
-    /// What the problem says of the arc at a place.
+    /// Returns the arc of the problem at an index in pricing order.
     pub fn known(&self, problem: &Problem, place: u32) -> FlowArc {
         arc_at(problem, at(&self.numbers, place, NO_PLACE))
     }
 
-    /// The cheapest arc into each node that wants flow.
+    /// Returns the cheapest arc into each node with a deficit.
     fn cheapest(&self, alloc: Global, excess: &[i128]) -> Result<Vec<u32>, Halt> {
         let mut best = vec![in alloc; NO_PLACE; excess.len()]?;
         for place in 0..index(self.numbers.len()) {
@@ -137,7 +126,7 @@ impl Simplex {
         Ok(best)
     }
 
-    /// Lets the cheapest arc into each node that wants flow come in, where that saves something.
+    /// Lets the cheapest arc into each node with a deficit enter, if its reduced cost is negative.
     fn enter_cheapest(&mut self, alloc: Global, excess: &[i128]) -> Result<(), Halt> {
         let cheapest = self.cheapest(alloc, excess)?;
         for place in &cheapest {
@@ -148,37 +137,33 @@ impl Simplex {
         Ok(())
     }
 
-    /// Changes the tree until no arc's price is negative, with at most so much work.
-    pub fn run(&mut self, limit: u64) -> Result<Ended, Halt> {
+    /// Changes the tree until no arc's price is negative, or until there was so much work. Returns whether it came to the end.
+    pub fn run(&mut self, limit: u64) -> Result<bool, Halt> {
         for _ in 0..limit {
             match self.dearest()? {
                 Some(place) => self.enter(place)?,
-                None => return Ok(self.ended()),
+                None => return Ok(true),
             }
             if self.work > limit {
-                return Err(Halt::OutOfRange);
+                return Ok(false);
             }
         }
-        Err(Halt::OutOfRange)
+        Ok(false)
     }
 
-    /// Whether flow is left on arcs to the root.
-    fn ended(&self) -> Ended {
-        let mut ended = Ended::Optimal;
+    /// Returns the result: whether there is flow left on arcs of the root.
+    pub fn has_excess(&self) -> bool {
         for node in 0..index(self.tree.nodes.len()) {
             let number = self.tree.node(node).arc;
             if number as usize >= self.numbers.len() && self.root_flow(node, number) != 0 {
-                ended = Ended::Infeasible;
+                return true;
             }
         }
-        if self.is_short {
-            Ended::Infeasible
-        } else {
-            ended
-        }
+        self.is_short
     }
 
-    /// The flow over a node's arc to or from the root, whose number is this: those from it have the greater ones.
+    /// Returns the flow over a node's arc to or from the root with this number: arcs from the root
+    /// have the greater numbers.
     pub fn root_flow(&self, node: u32, number: u32) -> i64 {
         let first_down = self.numbers.len().saturating_add(self.tree.nodes.len());
         let rooms = self.tree.rooms(node);
@@ -189,7 +174,7 @@ impl Simplex {
         }
     }
 
-    /// The flow on each arc of the problem.
+    /// Returns the flow on each arc of the problem. Fails only if memory runs out.
     pub fn flows(&self, alloc: Global, problem: &Problem) -> Result<Vec<i64>, AllocError> {
         let mut flows = lows_of(alloc, problem)?;
         self.add_bounds(problem, &mut flows);
@@ -197,7 +182,7 @@ impl Simplex {
         Ok(flows)
     }
 
-    /// Puts arcs at their capacities that are turned: those with no room are there as well.
+    /// Sets reversed arcs to CAP; arcs without capacity are there anyway.
     fn add_bounds(&self, problem: &Problem, flows: &mut Vec<i64>) {
         let mut place = 0u32;
         for number in &self.numbers {
@@ -209,7 +194,7 @@ impl Simplex {
         }
     }
 
-    /// Puts the flow on the arcs of the tree.
+    /// Sets the flow on the arcs of the tree.
     fn add_tree(&self, problem: &Problem, flows: &mut Vec<i64>) {
         for (place, node) in self.tree.nodes.iter().enumerate() {
             if let Some(number) = self.numbers.get(node.arc as usize) {
@@ -222,7 +207,7 @@ impl Simplex {
         }
     }
 
-    /// The potential of each node of the problem.
+    /// Returns the potential of each node of the problem. Fails only if memory runs out.
     pub fn potentials(&self, alloc: Global, problem: &Problem) -> Result<Vec<i64>, AllocError> {
         let mut potentials = Vec::with_capacity(alloc, problem.supplies.len())?;
         for node in 0..index(problem.supplies.len()) {
@@ -232,7 +217,7 @@ impl Simplex {
     }
 }
 
-/// Whether no node has arcs both in and out.
+/// Returns whether no node has arcs both in and out. Fails only if memory runs out.
 fn is_bipartite(alloc: Global, problem: &Problem) -> Result<bool, AllocError> {
     let mut leaves = vec![in alloc; false; problem.supplies.len()]?;
     for arc in &problem.arcs {

@@ -1,10 +1,11 @@
-//! The arcs of a problem as a network simplex prices them.
+//! The arcs of a problem in the form used for pricing.
 
 use crate::places::{index, put};
 use net_normal::FlowArc;
 
-/// An arc as it is priced: flow on it changes from its source to its target. One at its capacity is turned, so that whatever has a
-/// negative price saves something; one in the tree has the price 0 either way.
+/// An arc for pricing, in the direction in which its flow can change. An arc at CAP is reversed, so
+/// every arc with a negative reduced cost is eligible; an arc of the tree has reduced cost 0 in
+/// both directions.
 #[derive(Clone, Copy)]
 pub struct PricedArc {
     pub src: u32,
@@ -13,14 +14,14 @@ pub struct PricedArc {
 }
 
 impl PricedArc {
-    /// What stands for no arc: nothing is saved over it.
+    /// The value of a missing arc, which is never eligible.
     pub const NONE: PricedArc = PricedArc {
         src: 0,
         dst: 0,
         cost: 0,
     };
 
-    /// An arc at its lower bound.
+    /// Converts an arc at its lower bound.
     pub fn of(arc: &FlowArc) -> PricedArc {
         PricedArc {
             src: arc.src,
@@ -29,7 +30,7 @@ impl PricedArc {
         }
     }
 
-    /// The same arc at its other bound.
+    /// Returns the arc at its other bound.
     pub fn turned(self) -> PricedArc {
         PricedArc {
             src: self.dst,
@@ -38,13 +39,13 @@ impl PricedArc {
         }
     }
 
-    /// Whether this is the arc at its lower bound.
+    /// Returns whether this is the arc at its lower bound.
     pub fn is_ahead(&self, arc: &FlowArc) -> bool {
         self.src == arc.src && self.dst == arc.dst && self.cost == arc.cost
     }
 }
 
-/// The whole number next below the square root.
+/// Returns the integer part of the square root.
 pub fn root_of(number: usize) -> usize {
     let mut root = 0usize;
     for candidate in 1..1000usize {
@@ -56,8 +57,9 @@ pub fn root_of(number: usize) -> usize {
     root
 }
 
-/// Puts the indices of a problem's arcs in the order in which they are priced: the list, from its end, is cut into as many parts as a
-/// node has arcs, about, and one of each part comes in turn, as files often list all arcs out of one node together.
+/// Arranges the indices of a problem's arcs in pricing order: the list, from its end, is divided
+/// into about as many parts as a node has arcs, and one arc of each part is taken in turn, since
+/// files often list all arcs out of one node together.
 pub fn put_priced_order(numbers: &mut Vec<u32>, node_count: usize) {
     let count = numbers.len();
     let parts = (count / node_count.max(1)).max(3);

@@ -1,4 +1,4 @@
-//! The tree that a network simplex begins with.
+//! The initial tree of a network simplex.
 
 use crate::halt::Halt;
 use crate::places::index;
@@ -7,16 +7,16 @@ use crate::tree::{NO_NODE, Rooms, Thread, Tree, TreeNode};
 use net_normal::Problem;
 use std::alloc::Global;
 
-/// The room of an arc to the root. Greater numbers than half of it are not taken on.
+/// The capacity of an arc of the root. Numbers greater than half of it are not supported.
 pub const ROOT_ROOM: i64 = 1 << 61;
 
-/// The greatest cost that an arc from the root may have.
+/// The maximum cost of an arc from the root.
 const ROOT_COST_LIMIT: i64 = 1 << 58;
 
-/// More arcs than a way of least cost has in most problems.
+/// A number of arcs that shortest paths do not exceed in most problems.
 const LONG_WAY: i64 = 2000;
 
-/// The greatest size of a cost.
+/// Returns the maximum absolute value of a cost.
 pub fn greatest_cost(problem: &Problem) -> i64 {
     let mut greatest = 0i64;
     for arc in &problem.arcs {
@@ -25,20 +25,18 @@ pub fn greatest_cost(problem: &Problem) -> i64 {
     greatest
 }
 
-/// What a unit from the root costs: more than any way through the problem, or where that is the difference between 32 bits and 64, than any
-/// that is not very long.
-pub fn root_cost(problem: &Problem) -> Result<i64, Halt> {
-    let greatest = greatest_cost(problem);
-    let nodes = problem.supplies.len() as i64;
-    let dear = greatest.wrapping_add(1).saturating_mul(LONG_WAY);
-    match greatest.wrapping_add(1).checked_mul(nodes) {
-        Some(cost) if dear <= NARROW_LIMIT => Ok(cost.min(NARROW_LIMIT)),
-        Some(cost) if cost <= ROOT_COST_LIMIT => Ok(cost),
-        _ => Err(Halt::OutOfRange),
+/// The cost of a unit from the root: more than any path through the problem costs, unless such a path is very long and its arcs dear.
+pub fn root_cost(problem: &Problem) -> i64 {
+    let dearest = greatest_cost(problem).wrapping_add(1);
+    let cost = dearest.saturating_mul(problem.supplies.len() as i64);
+    if dearest.saturating_mul(LONG_WAY) <= NARROW_LIMIT {
+        cost.min(NARROW_LIMIT)
+    } else {
+        cost.min(ROOT_COST_LIMIT)
     }
 }
 
-/// What the arc between a node with this excess and the root takes.
+/// Returns the residual capacities of the arc between a node with this excess and the root.
 fn root_rooms(excess: i64) -> Rooms {
     if excess >= 0 {
         Rooms {
@@ -53,7 +51,8 @@ fn root_rooms(excess: i64) -> Rooms {
     }
 }
 
-/// The number of that arc, with these many arcs and nodes: those from nodes to the root come first, and then those from it.
+/// Returns the number of that arc, given the numbers of arcs and nodes: arcs to the root come
+/// first, then those from it.
 fn root_number(arcs: u32, nodes: u32, node: u32, excess: i64) -> u32 {
     if excess >= 0 {
         arcs.wrapping_add(node)
@@ -62,7 +61,8 @@ fn root_number(arcs: u32, nodes: u32, node: u32, excess: i64) -> u32 {
     }
 }
 
-/// Each node below the root: what it has too much of goes up, what it lacks comes down at this cost, which is past all others.
+/// Builds the tree with each node below the root: its excess flows up, its deficit is supplied from
+/// the root at this cost, which exceeds all others.
 pub fn first_tree(
     alloc: Global,
     problem: &Problem,
@@ -93,14 +93,14 @@ pub fn first_tree(
     Ok(tree)
 }
 
-/// A node's neighbours where all stand in their order, behind the root.
+/// Returns a node's neighbors if all nodes are in order after the root.
 fn thread_at(node: u32, root: u32) -> Thread {
     let previous = if node == 0 { root } else { node - 1 };
     let next = node.wrapping_add(1);
     Thread { next, previous }
 }
 
-/// Puts the root, whose number this is, above all nodes of the problem.
+/// Places the root, which has this number, above all nodes of the problem.
 fn put_root(tree: &mut Tree, root: u32) {
     let last = root.wrapping_sub(1);
     let top = TreeNode {

@@ -1,26 +1,27 @@
-//! The spanning tree of a network simplex, with its nodes in a cyclic order in which each subtree stands together.
+//! The spanning tree of a network simplex, with its nodes in a cyclic order in which each subtree
+//! is contiguous.
 
 use crate::halt::Halt;
 use crate::places::{at, put, try_at};
 use std::alloc::{AllocError, Global};
 
-/// No node.
+/// The number of no node.
 pub const NO_NODE: u32 = u32::MAX;
 
-/// How much more flow the arc between a node and its parent takes.
+/// The residual capacities of the arc between a node and its parent.
 #[derive(Clone, Copy)]
 pub struct Rooms {
-    /// To the parent.
+    /// Towards the parent.
     pub up: i64,
-    /// From the parent.
+    /// Away from the parent.
     pub down: i64,
 }
 
 impl Rooms {
-    /// Of no arc.
+    /// The capacities of no arc.
     pub const NONE: Rooms = Rooms { up: 0, down: 0 };
 
-    /// The same, seen from the other end.
+    /// Returns the capacities as seen from the other end.
     pub fn turned(self) -> Rooms {
         Rooms {
             up: self.down,
@@ -33,16 +34,17 @@ impl Rooms {
 #[derive(Clone, Copy)]
 pub struct TreeNode {
     pub parent: u32,
-    /// How many nodes its subtree has.
+    /// The number of nodes in its subtree.
     pub size: u32,
     /// The last node of its subtree in the cyclic order.
     pub last: u32,
-    /// The number of the arc to its parent; those of arcs to and from the root that no problem has are past those of the problem's.
+    /// The number of the arc to its parent; artificial arcs to and from the root have numbers after
+    /// those of the problem's arcs.
     pub arc: u32,
 }
 
 impl TreeNode {
-    /// What stands for no node: it has no parent and no arc.
+    /// The value of a missing node: it has no parent and no arc.
     pub const NONE: TreeNode = TreeNode {
         parent: NO_NODE,
         size: 0,
@@ -51,7 +53,7 @@ impl TreeNode {
     };
 }
 
-/// A node's neighbours in the cyclic order.
+/// A node's neighbors in the cyclic order.
 #[derive(Clone, Copy)]
 pub struct Thread {
     pub next: u32,
@@ -59,27 +61,28 @@ pub struct Thread {
 }
 
 impl Thread {
-    /// The neighbours of no node.
+    /// The neighbors of no node.
     pub const NONE: Thread = Thread {
         next: NO_NODE,
         previous: NO_NODE,
     };
 }
 
-/// The nodes of a problem and a root above them, whose number is that of the problem's nodes. Ways to the root are read most, so that
-/// rooms stand apart.
+/// The nodes of a problem and a root above them, whose number is the number of the problem's nodes.
+/// Paths to the root are read most often, so capacities are stored separately.
 #[derive(Drop)]
 pub struct Tree {
     pub nodes: Vec<TreeNode>,
     pub rooms: Vec<Rooms>,
-    /// The mark that was last put on each node, and on any.
+    /// The last mark on each node, and on any node.
     marks: Vec<u32>,
     mark: u32,
     pub threads: Vec<Thread>,
 }
 
 impl Tree {
-    /// So many nodes, the root among them, each still to be put in its place.
+    /// Creates this many nodes, including the root, which still have to be placed. Fails only if
+    /// memory runs out.
     pub fn of_size(alloc: Global, count: usize) -> Result<Tree, AllocError> {
         let Ok(nodes) = vec![in alloc; TreeNode::NONE; count] else {
             return Err(AllocError);
@@ -102,14 +105,14 @@ impl Tree {
         })
     }
 
-    /// Puts a node in its place, with its neighbours in the cyclic order.
+    /// Places a node, with its neighbors in the cyclic order.
     pub fn put_whole(&mut self, place: u32, node: TreeNode, rooms: Rooms, thread: Thread) {
         put(&mut self.nodes, place, node);
         put(&mut self.rooms, place, rooms);
         put(&mut self.threads, place, thread);
     }
 
-    /// A node by its number, or one that has no parent and no arc.
+    /// Returns a node by its number, or `NONE` if it is out of range.
     #[inline]
     pub fn node(&self, node: u32) -> TreeNode {
         match self.nodes.get(node as usize) {
@@ -118,19 +121,19 @@ impl Tree {
         }
     }
 
-    /// What the arc above a node takes.
+    /// Returns the residual capacities of the arc above a node.
     #[inline]
     pub fn rooms(&self, node: u32) -> Rooms {
         at(&self.rooms, node, Rooms::NONE)
     }
 
-    /// Sets what the arc above a node takes.
+    /// Sets the residual capacities of the arc above a node.
     #[inline]
     pub fn put_rooms(&mut self, node: u32, rooms: Rooms) {
         put(&mut self.rooms, node, rooms);
     }
 
-    /// A node's neighbours in the cyclic order.
+    /// Returns a node's neighbors in the cyclic order.
     #[inline]
     pub fn thread(&self, node: u32) -> Thread {
         match self.threads.get(node as usize) {
@@ -139,20 +142,20 @@ impl Tree {
         }
     }
 
-    /// Sets the node at a place.
+    /// Sets the node with this number.
     #[inline]
     pub fn put_node(&mut self, place: u32, node: TreeNode) {
         put(&mut self.nodes, place, node);
     }
 
-    /// Lets one node follow another in the cyclic order.
+    /// Makes one node follow another in the cyclic order.
     #[inline]
     pub fn follow(&mut self, node: u32, next: u32) {
         self.set_next(node, next);
         self.set_previous(next, node);
     }
 
-    /// Sets the node behind another in the cyclic order.
+    /// Sets the node after another in the cyclic order.
     #[inline]
     pub fn set_next(&mut self, node: u32, next: u32) {
         if let Some(thread) = self.threads.get_mut(node as usize) {
@@ -168,7 +171,7 @@ impl Tree {
         }
     }
 
-    /// Hangs a node below another.
+    /// Sets the parent of a node.
     #[inline]
     pub fn set_parent(&mut self, node: u32, parent: u32) {
         if let Some(node) = self.nodes.get_mut(node as usize) {
@@ -184,8 +187,8 @@ impl Tree {
         }
     }
 
-    /// The nearest node above both of these, or one of them. Both ways up are gone at once, each step marked, so that neither waits for the
-    /// other: the first node that is marked by the other way is it.
+    /// Returns the lowest common ancestor of two nodes. Walks up from both at once and marks each
+    /// node: the first node with the other side's mark is the result.
     pub fn join(&mut self, first: u32, second: u32) -> Result<u32, Halt> {
         let own = self.mark.wrapping_add(1);
         let others = self.mark.wrapping_add(2);
@@ -210,7 +213,7 @@ impl Tree {
         Err(Halt::OutOfRange)
     }
 
-    /// Sends an amount down from a node's ancestor to it, or where it is negative, up.
+    /// Sends an amount down from a node's ancestor to it, or up if the amount is negative.
     pub fn send_down(&mut self, ancestor: u32, from: u32, amount: i64) -> Result<(), Halt> {
         let mut place = from;
         for _ in 0..=self.nodes.len() {
@@ -229,7 +232,8 @@ impl Tree {
         Err(Halt::OutOfRange)
     }
 
-    /// Hangs a leaf of the root below another node, as the first behind it. Sizes and last nodes are left to `count_below_parent`.
+    /// Attaches a leaf of the root below another node, directly after it. Leaves sizes and last
+    /// nodes to `count_below_parent`.
     pub fn hang_leaf(&mut self, node: u32, parent: u32, arc: u32, rooms: Rooms) {
         let own = self.thread(node);
         self.follow(own.previous, own.next);
@@ -243,7 +247,8 @@ impl Tree {
         }
     }
 
-    /// Counts a node's subtree in its parent's, which ends where the first of those that were hung there ends: it is to be counted last.
+    /// Adds a node's subtree to its parent's, which ends with the subtree of its first attached
+    /// child: that one must be counted last.
     pub fn count_below_parent(&mut self, node: u32) {
         let own = self.node(node);
         if let Some(parent) = self.nodes.get_mut(own.parent as usize) {
@@ -252,7 +257,7 @@ impl Tree {
         }
     }
 
-    /// Lets the root's subtree end before the root.
+    /// Ends the root's subtree before the root.
     pub fn end_at_last(&mut self, root: u32) {
         let last = self.thread(root).previous;
         self.set_last(root, last);

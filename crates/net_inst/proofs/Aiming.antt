@@ -7,7 +7,7 @@ use Rattle.std.proofs.lemmas.Int.{ints}
 use Rattle.std.proofs.lemmas.List.{length-map}
 use Rattle.net_lex.specs.declared.token.Token.{Token}
 use Rattle.net_tree.specs.Tree.{Declaration, set, param, check, node, arc, objective}
-use Rattle.net_eval.specs.Worlds.{Name, World}
+use Rattle.net_expr.specs.Worlds.{Name, World}
 use Rattle.net_linear.specs.Forms.{Linear, form_at, all_apart}
 use Rattle.net_inst.specs.declared.goal.ChosenObjective.{ChosenObjective}
 use Rattle.net_inst.specs.Arcs.{with_arcs}

@@ -5,13 +5,13 @@ use Rattle.net_fault.specs.declared.span.Span.{Span}
 use Rattle.net_sets.specs.Sets.{Tuple}
 use Rattle.net_tree.specs.Spans.{span_of}
 use Rattle.net_tree.specs.Tree.{Tree, Links, Part, leaf, indexed, parens, tuple, negated, braced, signed, reduced, chain, choice, net, none, link, absent, part}
-use Rattle.net_eval.specs.declared.row.Row.{Row}
+use Rattle.net_expr.specs.declared.row.Row.{Row}
 use Rattle.net_fault.specs.declared.defect.Defect.TheVariants.{ValueTooLarge, NotLinear}
-use Rattle.net_eval.specs.Limits.{is_small}
-use Rattle.net_eval.specs.Numbers.{divides}
+use Rattle.net_expr.specs.Limits.{is_small}
+use Rattle.net_expr.specs.Numbers.{divides}
 use Rattle.net_tree.specs.Operations.{reduction, is_minus, operation}
-use Rattle.net_eval.specs.Values.{index}
-use Rattle.net_eval.specs.Worlds.{Name, World, Scope}
+use Rattle.net_expr.specs.Values.{index}
+use Rattle.net_expr.specs.Worlds.{Name, World, Scope}
 use Rattle.net_tree.specs.declared.operator.BinOp.{BinOp}
 use Rattle.net_tree.specs.declared.operator.BinOp.TheVariants.{Plus, Minus, Times, Div, Mod}
 use Rattle.net_linear.specs.Arcs.{Arcs, declared, is_arc, arc_at}

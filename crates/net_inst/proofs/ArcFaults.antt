@@ -6,8 +6,8 @@ use Rattle.net_lex.specs.declared.token.Token.{Token}
 use Rattle.net_tree.specs.Role.{role_of}
 use Rattle.net_tree.specs.Spans.{span_of}
 use Rattle.net_tree.specs.Tree.{Tree, Braces, Body, plain, valued, priced, Phrase}
-use Rattle.net_eval.specs.declared.row.Row.{Row}
-use Rattle.net_eval.specs.Worlds.{World, Scope}
+use Rattle.net_expr.specs.declared.row.Row.{Row}
+use Rattle.net_expr.specs.Worlds.{World, Scope}
 use Rattle.net_linear.specs.Forms as forms
 use Rattle.net_inst.specs.declared.phrases.ArcWord.{ArcWord}
 use Rattle.net_inst.specs.declared.phrases.ArcWord.TheVariants.{AtLeast, AtMost, From, To}
@@ -22,7 +22,7 @@ use Rattle.net_tree.specs.Standing.{Stands, IndexingStands, BodyStands, PhrasesS
 use Rattle.net_fault.proofs.Found.{Gives, finds_then, finds_if, finds_behind}
 use Rattle.net_linear.proofs.FormFaults.{finds_priced}
 use Rattle.net_inst.proofs.NodeFaults.{finds_indexing_in, finds_number, finds_node_named}
-use Rattle.net_eval.proofs.ValueFaults.{whole_stands}
+use Rattle.net_expr.proofs.ValueFaults.{whole_stands}
 
 -- what is said behind a word of a phrase, where it is said
 abbrev SaidStands : (Span → Type 0) → Option Tree → Type 0

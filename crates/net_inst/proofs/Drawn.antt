@@ -7,10 +7,10 @@ use Rattle.net_lex.specs.declared.token.Token.{Token}
 use Rattle.net_sets.specs.declared.member.Member.TheVariants.{Number}
 use Rattle.net_tree.specs.Tree.{Braces, Condition, Phrase}
 use Rattle.net_normal.specs.Limits.{node_limit}
-use Rattle.net_eval.specs.declared.row.Row.{Row}
-use Rattle.net_eval.specs.declared.value.Value.TheVariants.{One}
-use Rattle.net_eval.specs.Values.{value}
-use Rattle.net_eval.specs.Worlds.{World, reference}
+use Rattle.net_expr.specs.declared.row.Row.{Row}
+use Rattle.net_expr.specs.declared.value.Value.TheVariants.{One}
+use Rattle.net_expr.specs.Values.{value}
+use Rattle.net_expr.specs.Worlds.{World, reference}
 use Rattle.net_linear.specs.declared.condition.Sides.{Sides}
 use Rattle.net_linear.specs.Conditions.{range_in}
 use Rattle.net_inst.specs.declared.arc.Drawn.{Drawn}

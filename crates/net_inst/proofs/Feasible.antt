@@ -16,10 +16,10 @@ use Rattle.net_normal.specs.Assignments as by_number
 use Rattle.net_normal.specs.Sums.{is_node, flow_on}
 use Rattle.net_normal.specs.declared.instance.InstArc.{InstArc}
 use Rattle.net_normal.specs.declared.instance.NodeRange.{NodeRange}
-use Rattle.net_eval.specs.declared.value.Value.{Value}
-use Rattle.net_eval.specs.declared.value.Value.TheVariants.{One}
-use Rattle.net_eval.specs.Values.{value}
-use Rattle.net_eval.specs.Worlds.{Name, World, Scope}
+use Rattle.net_expr.specs.declared.value.Value.{Value}
+use Rattle.net_expr.specs.declared.value.Value.TheVariants.{One}
+use Rattle.net_expr.specs.Values.{value}
+use Rattle.net_expr.specs.Worlds.{Name, World, Scope}
 use Rattle.net_linear.specs.Conditions.{number_of}
 use Rattle.net_linear.specs.Amounts.{as_number}
 use Rattle.net_inst.specs.AsWritten.{Label, Node, Arc, nodes, arcs, same_label, Assignment, number_on, numbers_on, by_label, is_named, from_end, to_end, carried, net_inflow, amount, IsWithin, IsMet}

@@ -17,11 +17,11 @@ use Rattle.net_normal.specs.declared.instance.InstArc.{InstArc}
 use Rattle.net_normal.specs.Limits.{IsArcOf, arc_limit, node_limit}
 use Rattle.net_fault.specs.declared.detail.Detail.{Detail}
 use Rattle.net_fault.specs.declared.defect.Defect.TheVariants.{Arity, ValueTooLarge, NoSuchNode, ArcCrossed, TooManyArcs, TooManyNodes}
-use Rattle.net_eval.specs.declared.row.Row.{Row}
-use Rattle.net_eval.specs.Limits.{is_small}
-use Rattle.net_eval.specs.Operators.{member}
-use Rattle.net_eval.specs.Values.{value}
-use Rattle.net_eval.specs.Worlds.{Name, World, Scope, key_count, reference}
+use Rattle.net_expr.specs.declared.row.Row.{Row}
+use Rattle.net_expr.specs.Limits.{is_small}
+use Rattle.net_expr.specs.Operators.{member}
+use Rattle.net_expr.specs.Values.{value}
+use Rattle.net_expr.specs.Worlds.{Name, World, Scope, key_count, reference}
 use Rattle.net_linear.specs.declared.arc.ArcKeys.{ArcKeys}
 use Rattle.net_linear.specs.declared.condition.Sides.{Sides}
 use Rattle.net_fault.specs.declared.defect.Defect.TheVariants as defects

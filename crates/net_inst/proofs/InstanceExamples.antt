@@ -13,9 +13,9 @@ use Rattle.net_tree.specs.Tree.{Tree, leaf, indexed, chain, net, none, link, Bra
 use Rattle.net_normal.specs.declared.instance.Sense.TheVariants.{Minimise, Maximise}
 use Rattle.net_fault.specs.declared.language.Language.TheVariants as languages
 use Rattle.net_fault.specs.declared.detail.Detail.TheVariants.{Nothing, Told}
-use Rattle.net_eval.specs.Limits.{is_small}
-use Rattle.net_eval.specs.Numbers.{number_in}
-use Rattle.net_eval.specs.References.{reference_text}
+use Rattle.net_expr.specs.Limits.{is_small}
+use Rattle.net_expr.specs.Numbers.{number_in}
+use Rattle.net_expr.specs.References.{reference_text}
 use Rattle.net_tree.specs.Operations.{operations, operation, reduction, is_minus}
 use Rattle.net_fault.specs.declared.defect.Defect.TheVariants.{NodeCrossed, NoSuchNode, NoLower, NoObjective, TwoObjectives, NoSuchObjective}
 use Rattle.net_linear.specs.NetTerms.{is_outflow}

@@ -6,14 +6,14 @@ use Rattle.std.proofs.Common.{refl}
 use Rattle.std.proofs.lemmas.Map.Keys.{IsDistinct-cons}
 use Rattle.net_sets.specs.Sets.{same_tuple}
 use Rattle.net_tree.specs.Tree.{Braces, Declaration, set, param, check, node, arc, objective}
-use Rattle.net_eval.specs.declared.row.Keys.{Keys}
-use Rattle.net_eval.specs.declared.world.Entry.{Entry}
-use Rattle.net_eval.specs.declared.world.Entry.TheVariants.{Set}
-use Rattle.net_eval.specs.SetValues.{HasSets}
-use Rattle.net_eval.specs.Values.{index}
-use Rattle.net_eval.specs.Worlds.{Name, World, entry_of}
-use Rattle.net_eval.proofs.KeysOnce.{have_distinct_keys}
-use Rattle.net_eval.proofs.SetsGiven.{keeps_sets}
+use Rattle.net_expr.specs.declared.row.Keys.{Keys}
+use Rattle.net_expr.specs.declared.world.Entry.{Entry}
+use Rattle.net_expr.specs.declared.world.Entry.TheVariants.{Set}
+use Rattle.net_expr.specs.SetValues.{HasSets}
+use Rattle.net_expr.specs.Values.{index}
+use Rattle.net_expr.specs.Worlds.{Name, World, entry_of}
+use Rattle.net_expr.proofs.KeysOnce.{have_distinct_keys}
+use Rattle.net_expr.proofs.SetsGiven.{keeps_sets}
 use Rattle.net_inst.specs.AsWritten.{rows_of, known_behind}
 use Rattle.net_inst.specs.Indexings.{by_keys, indexing_in, tuples_of}
 use Rattle.net_inst.specs.Laws.{keys_by, HaveKeysOnce, AreDistinctInSets}

@@ -10,9 +10,9 @@ use Rattle.net_sets.specs.Sets.{Tuple, same_tuple, place_of}
 use Rattle.net_sets.proofs.Sames.{tuple_decides}
 use Rattle.net_sets.proofs.Unions.{all_last}
 use Rattle.net_tree.specs.Tree.{Braces}
-use Rattle.net_eval.specs.declared.row.Row.{Row}
-use Rattle.net_eval.specs.Values.{index}
-use Rattle.net_eval.specs.Worlds.{Name, World}
+use Rattle.net_expr.specs.declared.row.Row.{Row}
+use Rattle.net_expr.specs.Values.{index}
+use Rattle.net_expr.specs.Worlds.{Name, World}
 use Rattle.net_linear.specs.declared.arc.ArcKeys.{ArcKeys}
 use Rattle.net_linear.specs.Arcs.{declared, is_arc}
 use Rattle.net_inst.specs.declared.group.Group.{Group}

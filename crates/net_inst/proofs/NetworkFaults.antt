@@ -4,7 +4,7 @@ use Rattle.net_fault.specs.declared.span.Span.{Span}
 use Rattle.net_fault.specs.declared.language.Language.TheVariants.{Model}
 use Rattle.net_lex.specs.declared.token.Token.{Token}
 use Rattle.net_tree.specs.Tree.{Tree, Braces, Condition, Phrase, Part, absent, part, Declaration, set, param, check, node, arc, objective}
-use Rattle.net_eval.specs.Worlds.{Name, World}
+use Rattle.net_expr.specs.Worlds.{Name, World}
 use Rattle.net_inst.specs.Arcs.{with_arcs}
 use Rattle.net_inst.specs.Drafts.{Drawing, nothing, env, is_chosen, said_tree, said_form, with_goal, with_objective, with_node_declaration, with_arc_declaration, declare, draw}
 use Rattle.net_inst.specs.Groups.{Numbers}

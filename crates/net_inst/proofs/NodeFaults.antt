@@ -10,11 +10,11 @@ use Rattle.net_sets.specs.declared.member.Member.{Member}
 use Rattle.net_sets.specs.declared.member.Member.TheVariants as members
 use Rattle.net_tree.specs.Spans.{span_of}
 use Rattle.net_tree.specs.Tree.{Tree, Links, Braces, leaf, indexed, parens, tuple, negated, braced, signed, reduced, chain, choice, net, Condition}
-use Rattle.net_eval.specs.declared.row.Row.{Row}
-use Rattle.net_eval.specs.Limits.{is_small}
-use Rattle.net_eval.specs.Operators as operators
-use Rattle.net_eval.specs.Values.{value, index}
-use Rattle.net_eval.specs.Worlds.{Name, World, Scope, key_count, reference}
+use Rattle.net_expr.specs.declared.row.Row.{Row}
+use Rattle.net_expr.specs.Limits.{is_small}
+use Rattle.net_expr.specs.Operators as operators
+use Rattle.net_expr.specs.Values.{value, index}
+use Rattle.net_expr.specs.Worlds.{Name, World, Scope, key_count, reference}
 use Rattle.net_linear.specs.declared.arc.ArcKeys.{ArcKeys}
 use Rattle.net_linear.specs.declared.condition.Sides.{Sides}
 use Rattle.net_linear.specs.Arcs.{declared}
@@ -26,8 +26,8 @@ use Rattle.net_inst.specs.Numbers.{number_in, number}
 use Rattle.net_fault.specs.Places.{Places, Finds}
 use Rattle.net_tree.specs.Standing.{Stands, LinksStand, ConditionStands, IndexingStands}
 use Rattle.net_fault.proofs.Found.{finds_then, finds_if}
-use Rattle.net_eval.proofs.OperatorFaults.{finds_member}
-use Rattle.net_eval.proofs.ValueFaults.{whole_stands, finds_value, finds_index}
+use Rattle.net_expr.proofs.OperatorFaults.{finds_member}
+use Rattle.net_expr.proofs.ValueFaults.{whole_stands, finds_value, finds_index}
 use Rattle.net_linear.proofs.ConditionFaults.{finds_range_in}
 use Rattle.net_linear.proofs.ObjectiveFaults.{finds_key_of}
 

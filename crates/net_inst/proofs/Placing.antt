@@ -10,13 +10,13 @@ use Rattle.net_tree.specs.Spans.{span_of}
 use Rattle.net_tree.specs.Tree.{Tree, leaf, indexed, parens, tuple, negated, braced, signed, reduced, chain, choice, net}
 use Rattle.net_fault.specs.declared.detail.Detail.{Detail}
 use Rattle.net_fault.specs.declared.defect.Defect.TheVariants.{ValueTooLarge, Arity, NoSuchNode, ArcCrossed}
-use Rattle.net_eval.specs.declared.row.Row.{Row}
-use Rattle.net_eval.specs.declared.value.Value.{Value}
-use Rattle.net_eval.specs.declared.value.Value.TheVariants.{One, Several, Many, Truth}
-use Rattle.net_eval.specs.Limits.{is_small}
-use Rattle.net_eval.specs.Operators.{member}
-use Rattle.net_eval.specs.Values.{value}
-use Rattle.net_eval.specs.Worlds.{Name, World, Scope, key_count, reference}
+use Rattle.net_expr.specs.declared.row.Row.{Row}
+use Rattle.net_expr.specs.declared.value.Value.{Value}
+use Rattle.net_expr.specs.declared.value.Value.TheVariants.{One, Several, Many, Truth}
+use Rattle.net_expr.specs.Limits.{is_small}
+use Rattle.net_expr.specs.Operators.{member}
+use Rattle.net_expr.specs.Values.{value}
+use Rattle.net_expr.specs.Worlds.{Name, World, Scope, key_count, reference}
 use Rattle.net_linear.specs.declared.arc.ArcKeys.{ArcKeys}
 use Rattle.net_fault.specs.declared.defect.Defect.TheVariants as defects
 use Rattle.net_linear.specs.Arcs.{declared}

@@ -3,7 +3,7 @@ use Rattle.std.specs.Prelude.{◌≡◌, ℕ, true, Option, Result}
 use Rattle.std.proofs.Common.{sym, subst}
 use Rattle.net_lex.specs.declared.token.Token.{Token}
 use Rattle.net_tree.specs.Tree.{Tree, Body, priced}
-use Rattle.net_eval.specs.Worlds.{World, Scope}
+use Rattle.net_expr.specs.Worlds.{World, Scope}
 use Rattle.net_linear.specs.Forms.{Linear}
 use Rattle.net_fault.specs.declared.fault.Fault.{Fault}
 use Rattle.net_fault.specs.Outcomes.{Leaves}

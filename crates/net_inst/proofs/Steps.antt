@@ -10,8 +10,8 @@ use Rattle.net_tree.specs.Tree.{Condition, Phrase}
 use Rattle.net_tree.specs.View.{phrase_of, declaration_of}
 use Rattle.net_tree.specs.declared.declaration.Decl.{Decl}
 use Rattle.net_tree.proofs.Views.{next_phrase, next_declaration}
-use Rattle.net_eval.specs.declared.row.Row.{Row}
-use Rattle.net_eval.specs.Worlds.{Name, World, Scope}
+use Rattle.net_expr.specs.declared.row.Row.{Row}
+use Rattle.net_expr.specs.Worlds.{Name, World, Scope}
 use Rattle.net_linear.specs.Forms.{Linear}
 use Rattle.net_linear.specs.declared.condition.Sides.{Sides}
 use Rattle.net_fault.specs.declared.fault.Fault.{Fault}

@@ -13,9 +13,9 @@ use Rattle.net_tree.specs.Spans.{span_of}
 use Rattle.net_tree.specs.Tree.{Tree, Braces, Part, absent, part, Body, plain, valued, priced, Phrase}
 use Rattle.net_fault.specs.declared.detail.Detail.{Detail}
 use Rattle.net_fault.specs.declared.defect.Defect.TheVariants.{Arity}
-use Rattle.net_eval.specs.declared.row.Row.{Row}
-use Rattle.net_eval.specs.declared.value.Value.{Value}
-use Rattle.net_eval.specs.Worlds.{Name, World, Scope, key_count, reference}
+use Rattle.net_expr.specs.declared.row.Row.{Row}
+use Rattle.net_expr.specs.declared.value.Value.{Value}
+use Rattle.net_expr.specs.Worlds.{Name, World, Scope, key_count, reference}
 use Rattle.net_linear.specs.declared.arc.ArcKeys.{ArcKeys}
 use Rattle.net_linear.specs.Arcs.{declared, arc_at, numbered}
 use Rattle.net_linear.specs.Conditions.{number_of}

@@ -5,7 +5,7 @@ use Rattle.std.specs.Option.{ForSome}
 use Rattle.std.proofs.Common.{refl, ap, sym, ◌∙◌, subst, append_assoc, append-nil}
 use Rattle.net_lex.specs.declared.token.Token.{Token}
 use Rattle.net_tree.specs.Tree.{Part, Declaration, set, param, check, node, arc, objective}
-use Rattle.net_eval.specs.Worlds.{Name, World}
+use Rattle.net_expr.specs.Worlds.{Name, World}
 use Rattle.net_linear.specs.declared.condition.Sides.{Sides}
 use Rattle.net_linear.specs.Forms.{Products}
 use Rattle.net_linear.proofs.Ranges.{IsWithin, range_exact}

@@ -1,12 +1,12 @@
--- The arcs of declarations, and what they give to the objective.
+-- The arcs of declarations, and their contributions to the objective.
 use Rattle.std.specs.Prelude.{ℕ, Bool, false, List, [], ◌∷◌, ◌++◌, length, nat_lt, Option, None, Some, if◌then◌else◌, Ok, ℤ, pos, int_lt}
 use Rattle.std.specs.Str.{bytes_eq}
 use Rattle.net_lex.specs.declared.token.Token.{Token}
 use Rattle.net_tree.specs.Spans.{span_of}
 use Rattle.net_tree.specs.Tree.{Tree, Braces, Body, plain, valued, priced, Phrase}
 use Rattle.net_normal.specs.Limits.{arc_limit}
-use Rattle.net_eval.specs.declared.row.Row.{Row}
-use Rattle.net_eval.specs.Worlds.{Name, World, Scope, reference}
+use Rattle.net_expr.specs.declared.row.Row.{Row}
+use Rattle.net_expr.specs.Worlds.{Name, World, Scope, reference}
 use Rattle.net_linear.specs.Forms as forms
 use Rattle.net_inst.specs.declared.arc.Drawn.{Drawn}
 use Rattle.net_fault.specs.declared.defect.Defect.TheVariants.{ArcCrossed, TooManyArcs}
@@ -21,7 +21,7 @@ use Rattle.net_fault.specs.Outcomes.{Outcome, and_then, refused_of}
 use Rattle.net_inst.specs.Refusals.{refused_name}
 use Rattle.net_inst.specs.Phrases.{Parts, parts_of}
 
--- arcs in order without their coefficients, and the form of the objective
+-- arcs in order without their coefficients, and the linear form of the objective
 pub record DrawnArcs : Type 0 where
   pub arcs : List Drawn
   pub form : forms.Linear
@@ -37,7 +37,7 @@ end_at ns w s (Some t) = and_then (node_named ns w s t) (λ v. Ok (Some v))
 abbrev pub with_ends : DrawnNodes → World → Scope → Parts → ℤ → ℤ → Outcome Drawn
 with_ends ns w s p l u = and_then (end_at ns w s p.tail) (λ t. and_then (end_at ns w s p.head) (λ h. Ok (record { lower = l; upper = u; tail = t; head = h })))
 
--- an arc at a key: its bounds, and then its ends
+-- the arc at a key: first its bounds, then its ends
 abbrev pub drawn : DrawnNodes → World → Token → Option ℕ → Parts → Row → Outcome Drawn
 drawn ns w n k p row =
     and_then (number w row.scope p.lower) (λ l. and_then (number w row.scope p.upper) (λ u.
@@ -50,7 +50,8 @@ is_goal (Some g) name = bytes_eq g.name name
 abbrev pub priced_by : World → Scope → ℕ → Tree → forms.Linear → Outcome forms.Linear
 priced_by w s a x f = and_then (number w s x) (λ c. forms.priced (span_of x) f a c)
 
--- the form with what a phrase gives arc a in the objective; phrases of other objectives are passed over
+-- adds the coefficient that a phrase gives to arc a in the objective; phrases for other objectives
+-- are skipped
 abbrev pub price_in : Option ChosenObjective → World → Scope → ℕ → Body → forms.Linear → Outcome forms.Linear
 price_in g w s a (priced n x) f = if is_goal g n.text then priced_by w s a x f else Ok f
 price_in g w s a plain f = Ok f
@@ -60,19 +61,19 @@ abbrev pub prices_in : Option ChosenObjective → World → Scope → ℕ → Li
 prices_in g w s a [] f = Ok f
 prices_in g w s a (p ∷ ps) f = and_then (price_in g w s a p.body f) (prices_in g w s a ps)
 
--- one arc more, at a key
+-- adds the arc at a key
 abbrev pub next_arc : Option ChosenObjective → DrawnNodes → World → Token → Option ℕ → Parts → List Phrase → Row → DrawnArcs → Outcome DrawnArcs
 next_arc g ns w n k p ps row d =
     if nat_lt (length d.arcs) arc_limit then
     and_then (drawn ns w n k p row) (λ x. and_then (prices_in g w row.scope (length d.arcs) ps d.form) (λ f. Ok (record { arcs = d.arcs ++ x ∷ []; form = f; group = d.group })))
     else refused_name TooManyArcs n
 
--- an arc for each key, behind those found before
+-- adds an arc for each key
 abbrev pub arcs_at : Option ChosenObjective → DrawnNodes → World → Token → Option ℕ → Parts → List Phrase → List Row → DrawnArcs → Outcome DrawnArcs
 arcs_at g ns w n k p ps [] d = Ok d
 arcs_at g ns w n k p ps (row ∷ rows) d = and_then (next_arc g ns w n k p ps row d) (arcs_at g ns w n k p ps rows)
 
--- with another form of the objective
+-- replaces the linear form of the objective
 abbrev pub formed : DrawnArcs → forms.Linear → DrawnArcs
 formed d f = record { arcs = d.arcs; form = f; group = d.group }
 
@@ -82,6 +83,6 @@ named_arcs name first i d = record { arcs = d.arcs; form = d.form; group = group
 abbrev pub arcs_by : Option ChosenObjective → DrawnNodes → World → Token → List Phrase → DrawnArcs → Parts → Indexing → Outcome DrawnArcs
 arcs_by g ns w n ps d p i = and_then (arcs_at g ns w n i.count p ps i.rows d) (λ found. Ok (named_arcs n.text (length d.arcs) i found))
 
--- the arcs of a declaration behind those of the declarations before it; what its phrases lack is told first
+-- adds the arcs of a declaration; a missing phrase is reported first
 abbrev pub with_arcs : Option ChosenObjective → DrawnNodes → World → Token → Option Braces → List Phrase → DrawnArcs → Outcome DrawnArcs
 with_arcs g ns w n b ps d = and_then (parts_of n ps) (λ p. and_then (indexing_in w b) (arcs_by g ns w n ps d p))

@@ -1,5 +1,5 @@
--- The nodes and arcs of a model as they are written, by name and key, and when an assignment is feasible (Fourer, Gay,
--- Kernighan: AMPL, second edition, chapter 15).
+-- The nodes and arcs of a model as written, by name and key, and when an assignment is feasible
+-- (Fourer, Gay, Kernighan: AMPL, second edition, chapter 15).
 use Rattle.std.specs.Prelude.{ℕ, ◌+◌, Bool, false, ◌&&◌, List, [], ◌∷◌, ◌++◌, map, take, Option, None, Some, is_some, if◌then◌else◌, Ok, Err, ℤ, pos, ◌+ℤ◌, ◌-ℤ◌, ◌≤ℤ◌}
 use Rattle.std.specs.List.{AllByRecursion, IsDistinct}
 use Rattle.std.specs.Str.{bytes_eq}
@@ -7,8 +7,8 @@ use Rattle.net_lex.specs.declared.token.Token.{Token}
 use Rattle.net_sets.specs.Sets.{Tuple, same_tuple}
 use Rattle.net_tree.specs.Spans.{span_of}
 use Rattle.net_tree.specs.Tree.{Tree, leaf, indexed, Braces, Condition, Phrase, Declaration, set, param, node, arc}
-use Rattle.net_eval.specs.declared.row.Row.{Row}
-use Rattle.net_eval.specs.Worlds.{Name, World, Scope}
+use Rattle.net_expr.specs.declared.row.Row.{Row}
+use Rattle.net_expr.specs.Worlds.{Name, World, Scope}
 use Rattle.net_linear.specs.Conditions.{Holds, number_of}
 use Rattle.net_linear.specs.Objectives.{key_of}
 use Rattle.net_linear.specs.Amounts.{number_or_none}
@@ -18,20 +18,22 @@ use Rattle.net_inst.specs.Indexings.{indexing_in}
 use Rattle.net_fault.specs.Outcomes.{Outcome}
 use Rattle.net_inst.specs.Phrases.{Parts, parts_of}
 
--- what a node or an arc is called: its declared name, whether braces index it, and its key, which is empty without braces
+-- the identity of a node or an arc: its declared name, whether it is indexed, and its key, which is
+-- empty if it is not
 pub record Label : Type 0 where
   pub name : Name
   pub indexed : Bool
   pub key : Tuple
 
--- a node at a key: the sets and parameters that its declaration sees, the dummies that the key binds, and its condition
+-- the node at a key: the sets and parameters visible to its declaration, the dummies that the key
+-- binds, and its condition
 pub record Node : Type 0 where
   pub label : Label
   pub env : World
   pub scope : Scope
   pub condition : Condition
 
--- an arc at a key, with what its phrases say of its bounds and ends, and all its phrases
+-- the arc at a key, with the bounds and ends from its phrases, and all its phrases
 pub record Arc : Type 0 where
   pub label : Label
   pub env : World
@@ -39,7 +41,8 @@ pub record Arc : Type 0 where
   pub parts : Parts
   pub phrases : List Phrase
 
--- the keys by which a declaration declares, each with the dummies that it binds
+-- the keys of a declaration, each with the dummies that it binds; empty on an error, which the
+-- field `has_network` of `Headline` excludes
 abbrev pub rows_of : Outcome Indexing → List Row
 rows_of (Ok i) = i.rows
 rows_of (Err r) = []
@@ -53,39 +56,42 @@ node_at_row w n b c row = record { label = label_at n b row; env = w; scope = ro
 abbrev pub arc_at_row : World → Token → Option Braces → List Phrase → Parts → Row → Arc
 arc_at_row w n b ps p row = record { label = label_at n b row; env = w; scope = row.scope; parts = p; phrases = ps }
 
--- the nodes of a declaration, one at each key
+-- the nodes of a declaration, one for each key
 abbrev pub nodes_of : World → Declaration → List Node
 nodes_of w (node t n b c e) = map (node_at_row w n b c) (rows_of (indexing_in w b))
 nodes_of w _ = []
 
+-- the arcs with these phrases, one for each key; none if the phrases have an error
 abbrev pub arcs_with : World → Token → Option Braces → List Phrase → Outcome Parts → List Arc
 arcs_with w n b ps (Ok p) = map (arc_at_row w n b ps p) (rows_of (indexing_in w b))
 arcs_with w n b ps (Err r) = []
 
--- the arcs of a declaration, one at each key
+-- the arcs of a declaration, one for each key
 abbrev pub arcs_of : World → Declaration → List Arc
 arcs_of w (arc t n b ps e) = arcs_with w n b ps (parts_of n ps)
 arcs_of w _ = []
 
--- how many sets and parameters are known behind a declaration
+-- The number of sets and parameters that are visible after a declaration. A world has them in order
+-- of declaration, so those visible to a declaration are its first k entries.
 abbrev pub known_behind : ℕ → Declaration → ℕ
 known_behind k (set t n ps e) = k + 1
 known_behind k (param t n b ps e) = k + 1
 known_behind k _ = k
 
--- what declarations declare in order, where each sees the sets and parameters before it; k of them are known at the start
+-- the concatenated results of f for all declarations; the first one sees the first k sets and
+-- parameters of the world, each later one also those declared in between
 abbrev pub in_order : {A : Type 0} → (World → Declaration → List A) → World → ℕ → List Declaration → List A
 in_order f w k [] = []
 in_order f w k (d ∷ ds) = f (take k w) d ++ in_order f w (known_behind k d) ds
 
--- the nodes of a model in its world, and its arcs
+-- the nodes (`nodes`) and the arcs (`arcs`) of a model in its world
 abbrev pub nodes : World → List Declaration → List Node
 nodes w ds = in_order nodes_of w 0 ds
 
 abbrev pub arcs : World → List Declaration → List Arc
 arcs w ds = in_order arcs_of w 0 ds
 
--- the names that are declared, each with whether braces index it
+-- the declared names, each with whether it is indexed
 abbrev pub node_declared : Declaration → List Declared
 node_declared (node t n b c e) = (record { name = n.text; indexed = is_some b }) ∷ []
 node_declared _ = []
@@ -94,7 +100,7 @@ abbrev pub arc_declared : Declaration → List Declared
 arc_declared (arc t n b ps e) = (record { name = n.text; indexed = is_some b }) ∷ []
 arc_declared _ = []
 
--- no two have both the name and the key
+-- equal names and equal keys; `indexed` follows from the name, because no name is declared twice
 abbrev pub same_label : Label → Label → Bool
 same_label l m = bytes_eq l.name m.name && same_tuple l.key m.key
 
@@ -102,18 +108,18 @@ pub record AreDistinct (ns : List Node) (all : List Arc) : Type 0 where
   pub nodes : IsDistinct same_label (map (λ n. n.label) ns)
   pub arcs : IsDistinct same_label (map (λ a. a.label) all)
 
--- an assignment gives a whole number to each name and key of an arc
+-- an assignment: an integer for each name and key of an arc
 abbrev pub Assignment : Type 0
 Assignment = Name → Tuple → ℤ
 
--- the number of an arc
+-- the value of an arc
 abbrev pub number_on : Assignment → Arc → ℤ
 number_on x a = x a.label.name a.label.key
 
 abbrev pub numbers_on : Assignment → List Arc → List ℤ
 numbers_on x all = map (number_on x) all
 
--- these numbers by these labels in order
+-- the assignment of these numbers to these labels, in order
 abbrev pub by_label : List Label → List ℤ → Assignment
 by_label [] numbers n key = pos 0
 by_label (l ∷ ls) [] n key = pos 0
@@ -123,7 +129,7 @@ abbrev pub with_key : Name → Outcome Tuple → Option (Name × Tuple)
 with_key n (Ok key) = Some (n, key)
 with_key n (Err r) = None
 
--- the name and the key that an end says, with its subscripts evaluated
+-- the name and the evaluated subscripts of a reference
 abbrev pub reference_in : World → Scope → Tree → Option (Name × Tuple)
 reference_in w s (leaf t) = Some (t.text, [])
 reference_in w s (indexed n o x l c) = with_key n.text (key_of w s (span_of (indexed n o x l c)) x l)
@@ -133,7 +139,7 @@ abbrev pub end_of : World → Scope → Option Tree → Option (Name × Tuple)
 end_of w s None = None
 end_of w s (Some t) = reference_in w s t
 
--- what the arc says behind `from`, and behind `to`
+-- the node of the arc's `from` phrase (`from_end`) and of its `to` phrase (`to_end`)
 abbrev pub from_end : Arc → Option (Name × Tuple)
 from_end a = end_of a.env a.scope a.parts.tail
 
@@ -144,16 +150,16 @@ abbrev pub is_named : Label → Option (Name × Tuple) → Bool
 is_named l None = false
 is_named l (Some r) = bytes_eq r.0 l.name && same_tuple r.1 l.key
 
--- what the arcs carry that have this end at the node
+-- the total value of the arcs whose end is the node; the function `end` is `from_end` or `to_end`
 abbrev pub carried : (Arc → Option (Name × Tuple)) → Label → List Arc → Assignment → ℤ
 carried end v [] x = pos 0
 carried end v (a ∷ all) x = (if is_named v (end a) then number_on x a else pos 0) +ℤ carried end v all x
 
--- what comes into a node less what goes out of it
+-- inflow minus outflow of a node
 abbrev pub net_inflow : List Arc → Assignment → Label → ℤ
 net_inflow all x v = carried to_end v all x -ℤ carried from_end v all x
 
--- the number that an expression without arcs is
+-- the value of an expression without arcs; 0 on an error, which `has_network` of `Headline` excludes
 abbrev pub amount : World → Scope → Tree → ℤ
 amount w s t = number_of (number_or_none w s t)
 
@@ -161,7 +167,7 @@ pub record IsWithin (x : Assignment) (a : Arc) : Type 0 where
   pub lower : amount a.env a.scope a.parts.lower ≤ℤ number_on x a
   pub upper : number_on x a ≤ℤ amount a.env a.scope a.parts.upper
 
--- the condition of the node is true of its net inflow
+-- the condition of the node is true for its net inflow
 abbrev pub IsMet : List Arc → Assignment → Node → Type 0
 IsMet all x n = Holds n.env n.scope n.condition (net_inflow all x n.label)
 

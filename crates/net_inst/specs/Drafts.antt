@@ -1,11 +1,11 @@
--- What the declarations of a model come to, one after the other.
+-- Processing the declarations of a model, one after the other.
 use Rattle.std.specs.Prelude.{◌+◌, Bool, true, false, List, [], ◌∷◌, codes, take, Option, None, Some, if◌then◌else◌, Ok, pos}
 use Rattle.std.specs.Str.{bytes_eq}
 use Rattle.net_lex.specs.declared.token.Token.{Token}
 use Rattle.net_tree.specs.Tree.{Tree, Braces, Condition, Phrase, Part, absent, part, Declaration, set, param, check, node, arc, objective}
 use Rattle.net_normal.specs.declared.instance.Sense.{Sense}
 use Rattle.net_normal.specs.declared.instance.Sense.TheVariants.{Minimise, Maximise}
-use Rattle.net_eval.specs.Worlds.{Name, World}
+use Rattle.net_expr.specs.Worlds.{Name, World}
 use Rattle.net_linear.specs.Forms.{Linear, just}
 use Rattle.net_linear.specs.Objectives.{objective_form}
 use Rattle.net_fault.specs.declared.defect.Defect.TheVariants.{TwoObjectives}
@@ -17,14 +17,14 @@ use Rattle.net_inst.specs.Nodes.{DrawnNodes, no_nodes, with_nodes}
 use Rattle.net_fault.specs.Outcomes.{Outcome, and_then}
 use Rattle.net_inst.specs.Refusals.{refused_name}
 
--- what the declarations so far come to
+-- the result of the declarations so far
 abbrev pub Drawing : Type 0
 Drawing = Draft
 
 abbrev pub nothing : Drawing
 nothing = record { known = 0; nodes = no_nodes; arcs = no_arcs; goal = None; has_objective = false }
 
--- the world as it is declared so far
+-- the world as declared so far
 abbrev pub env : World → Drawing → World
 env w d = take d.known w
 
@@ -32,7 +32,8 @@ env w d = take d.known w
 unfoldable pub sense_of : Token → Sense
 sense_of t = if bytes_eq (codes "minimize") t.text then Minimise else Maximise
 
--- whether an objective is the chosen one: that of the given name, and where none is given the only one
+-- whether an objective is the chosen one: the one with the given name, or the only one if no name
+-- is given
 abbrev pub is_chosen : Option Name → Option ChosenObjective → Token → Outcome Bool
 is_chosen (Some name) g n = Ok (bytes_eq name n.text)
 is_chosen None None n = Ok true
@@ -41,7 +42,7 @@ is_chosen None (Some g) n = refused_name TwoObjectives n
 abbrev pub said_tree : Numbers → World → Tree → Outcome Linear
 said_tree a w x = (objective_form a w [] x)
 
--- what an objective says itself of the arcs declared before it
+-- the linear form of the objective's own expression, over the arcs declared before it
 abbrev pub said_form : Numbers → World → Part → Outcome Linear
 said_form a w absent = Ok (just (pos 0))
 said_form a w (part m x) = said_tree a w x
@@ -79,7 +80,7 @@ with_node_declaration w n b c d = and_then (with_nodes w n b c d.nodes) (λ ns. 
 abbrev pub with_arc_declaration : World → Token → Option Braces → List Phrase → Drawing → Outcome Drawing
 with_arc_declaration w n b ps d = and_then (with_arcs d.goal d.nodes w n b ps d.arcs) (λ xs. Ok (arcs_more d xs))
 
--- one declaration more
+-- adds a declaration
 abbrev pub declare : Option Name → World → Declaration → Drawing → Outcome Drawing
 declare wanted w (set t n ps e) d = Ok (known_more d)
 declare wanted w (param t n b ps e) d = Ok (known_more d)
@@ -88,7 +89,7 @@ declare wanted w (node t n b c e) d = with_node_declaration (env w d) n b c d
 declare wanted w (arc t n b ps e) d = with_arc_declaration (env w d) n b ps d
 declare wanted w (objective t n p e) d = with_objective wanted (env w d) t n p d
 
--- the declarations in order
+-- adds the declarations in order
 abbrev pub draw : Option Name → World → List Declaration → Drawing → Outcome Drawing
 draw wanted w [] d = Ok d
 draw wanted w (x ∷ xs) d = and_then (declare wanted w x d) (draw wanted w xs)

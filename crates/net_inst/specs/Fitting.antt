@@ -1,11 +1,11 @@
--- Arcs as a network can take them, their bounds and ends apart from their coefficients.
+-- Arcs that a network accepts: conditions on bounds and ends, and on coefficients.
 use Rattle.std.specs.Prelude.{ℕ, ◌<◌, ◌||◌, ◌≤ℤ◌, IsTrue, is_some}
 use Rattle.std.specs.Option.{ForSome}
 use Rattle.net_normal.specs.declared.instance.InstArc.{InstArc}
 use Rattle.net_normal.specs.Limits.{IsSized, value_limit}
 use Rattle.net_inst.specs.declared.arc.Drawn.{Drawn}
 
--- an arc of a network with this number of nodes
+-- an arc, without its coefficient, of a network with this many nodes
 pub record IsDrawnOf (nodes : ℕ) (arc : Drawn) : Type 0 where
   pub lower : IsSized value_limit arc.lower
   pub upper : IsSized value_limit arc.upper

@@ -1,14 +1,15 @@
--- Declared nodes, or arcs: their names for those who read, and the numbers that references find.
+-- Declared nodes, or arcs: their names for output, and their numbers for references.
 use Rattle.std.specs.Prelude.{ℕ, Bool, true, false, [], ◌∷◌, ◌++◌}
 use Rattle.net_sets.specs.Operations.{union}
-use Rattle.net_eval.specs.Worlds.{Name}
+use Rattle.net_expr.specs.Worlds.{Name}
 use Rattle.net_linear.specs.Arcs as numbers
 use Rattle.net_inst.specs.declared.group.Group.{Group}
 use Rattle.net_inst.specs.declared.indexing.Indexing.{Indexing}
 use Rattle.net_inst.specs.Indexings.{tuples_of}
 use Rattle.net_inst.specs.Lists.{no_names, listed_with}
 
--- what a name with subscripts refers to: of each declared name the number of its first node or arc, and its keys
+-- the target of a name with subscripts: for each declared name, the number of its first node or
+-- arc, and its keys
 abbrev pub Numbers : Type 0
 Numbers = numbers.Arcs
 
@@ -16,7 +17,7 @@ abbrev pub unless_known : Bool → Numbers → Numbers → Numbers
 unless_known true a b = a
 unless_known false a b = b
 
--- with a declared name more, unless it has a meaning
+-- adds a declared name, unless it is already there
 abbrev pub numbers_with : Numbers → Name → ℕ → Indexing → Numbers
 numbers_with a name first i = unless_known (numbers.is_arc a name) a (a ++ (name, record { keys = i.count; first = first; index = union [] (tuples_of i.rows) }) ∷ [])
 

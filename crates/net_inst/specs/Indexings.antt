@@ -1,19 +1,19 @@
--- The keys by which a declaration declares.
+-- The keys of a declaration.
 use Rattle.std.specs.Prelude.{ℕ, List, [], ◌∷◌, map, Option, None, Some, Ok}
 use Rattle.net_sets.specs.Sets.{Tuple}
 use Rattle.net_tree.specs.Tree.{Braces}
-use Rattle.net_eval.specs.declared.row.Keys.{Keys}
-use Rattle.net_eval.specs.declared.row.Row.{Row}
-use Rattle.net_eval.specs.Values.{index}
-use Rattle.net_eval.specs.Worlds.{World}
+use Rattle.net_expr.specs.declared.row.Keys.{Keys}
+use Rattle.net_expr.specs.declared.row.Row.{Row}
+use Rattle.net_expr.specs.Values.{index}
+use Rattle.net_expr.specs.Worlds.{World}
 use Rattle.net_inst.specs.declared.indexing.Indexing.{Indexing}
 use Rattle.net_fault.specs.Outcomes.{Outcome, and_then}
 
--- without braces there is one key, which is empty
+-- a declaration without indexing has one empty key
 abbrev pub alone : Indexing
 alone = record { count = None; rows = (record { key = []; scope = [] }) ∷ [] }
 
--- `{}` counts as one key
+-- `{}` counts as one member
 abbrev pub counted : Option ℕ → ℕ
 counted None = 1
 counted (Some n) = n

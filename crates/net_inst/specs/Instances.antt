@@ -1,4 +1,5 @@
--- The network of a model: its nodes and arcs in order of declaration and of keys, its objective, and all their names.
+-- The network of a model: its nodes and arcs in order of declaration and of keys, its objective,
+-- and all their names.
 use Rattle.std.specs.Prelude.{ℕ, suc, Bool, true, false, List, [], ◌∷◌, map, Option, None, Some, unwrap_or, Result, Ok, ℤ}
 use Rattle.net_fault.specs.declared.span.Span.{Span}
 pub use Rattle.net_tree.specs.Spans.{point}
@@ -7,7 +8,7 @@ use Rattle.net_tree.specs.Tree.{Declaration, set, param, check, node, arc, objec
 use Rattle.net_normal.specs.declared.instance.InstArc.{InstArc}
 use Rattle.net_normal.specs.declared.instance.Sense.{Sense}
 use Rattle.net_fault.specs.declared.detail.Detail.TheVariants.{Nothing, Told}
-use Rattle.net_eval.specs.Worlds.{Name, World}
+use Rattle.net_expr.specs.Worlds.{Name, World}
 use Rattle.net_linear.specs.declared.condition.Sides.{Sides}
 use Rattle.net_linear.specs.Forms.{Products, coefficient}
 use Rattle.net_inst.specs.declared.arc.Drawn.{Drawn}
@@ -45,7 +46,7 @@ network_of ns xs g = record {
   names = record { objective = g.name; nodes = ns.group.list; arcs = xs.group.list };
 }
 
--- where no objective is declared, or not the one of the given name
+-- the error if no objective is declared, or none with the given name
 abbrev pub without_goal : {A : Type 0} → Option Name → Span → Bool → Outcome A
 without_goal wanted at false = refused_of NoObjective at Nothing
 without_goal wanted at true = refused_of NoSuchObjective at (Told (unwrap_or wanted []))
@@ -63,19 +64,20 @@ semicolon (node t n b c e) = e
 semicolon (arc t n b ps e) = e
 semicolon (objective t n p e) = e
 
--- where the declarations end; that of none is at the start of the text
+-- the end of the declarations; the start of the text if there are none
 abbrev pub end_of : ℕ → List Declaration → ℕ
 end_of at [] = at
 end_of at (d ∷ ds) = end_of (semicolon d).span.end ds
 
--- the network of a model with the objective of a name, or with the only one
+-- the network of a model with the objective of the given name, or with its only objective
 unfoldable pub network : Option Name → World → List Declaration → Outcome Network
 network wanted w ds = and_then (draw wanted w ds nothing) (λ d. finished wanted (point (end_of 0 ds)) d d.goal)
 
--- what contracts see of a network with its names
+-- the part of a network with names that contracts see
 abbrev pub seen_as : NamedOfCode → Network
 seen_as n = record { nodes = map sides_of n.instance.nodes.items; arcs = n.instance.arcs.items; sense = n.instance.sense; constant = n.instance.constant; names = n.names }
 
--- the code answers the network that is wanted, or the first fault, unless memory runs out
+-- the code returns the network that the definition gives, or the first error, unless memory runs
+-- out
 abbrev pub AnswersNetwork : Outcome Network → Result NamedOfCode Fault → Type 0
 AnswersNetwork wanted result = AnswersAs seen_as wanted result

@@ -1,4 +1,4 @@
--- What is proved of networks: they are the model as it is written.
+-- Theorems about networks: they correspond to the model as written.
 use Rattle.std.specs.Prelude.{◌≡◌, ◌↔◌, ℕ, Bool, List, [], ◌∷◌, take, length, map, slice_get, Option, None, Some, Ok, ⊤, ℤ, ◌+ℤ◌, ◌≤ℤ◌}
 use Rattle.std.specs.List.{AllZip, IsDistinct, flat_map}
 use Rattle.std.specs.Option.{ForSome}
@@ -9,10 +9,10 @@ use Rattle.net_tree.specs.Tree.{Declaration, node, arc}
 use Rattle.net_normal.specs.Assignments.{IsFeasibleAssignment}
 use Rattle.net_normal.specs.Sums.{price_of}
 use Rattle.net_normal.specs.declared.instance.InstArc.{InstArc}
-use Rattle.net_eval.specs.declared.value.Value.TheVariants.{One}
-use Rattle.net_eval.specs.SetValues.{HasSets}
-use Rattle.net_eval.specs.Values.{value}
-use Rattle.net_eval.specs.Worlds.{Name, World}
+use Rattle.net_expr.specs.declared.value.Value.TheVariants.{One}
+use Rattle.net_expr.specs.SetValues.{HasSets}
+use Rattle.net_expr.specs.Values.{value}
+use Rattle.net_expr.specs.Worlds.{Name, World}
 use Rattle.net_linear.specs.declared.condition.Sides.{Sides}
 use Rattle.net_linear.specs.Conditions.{Holds}
 use Rattle.net_inst.specs.declared.arc.Drawn.{Drawn}
@@ -25,7 +25,7 @@ use Rattle.net_inst.specs.Instances.{Network, network, seen_as}
 use Rattle.net_inst.specs.Lists.{Listed, AreInOrder}
 use Rattle.net_inst.specs.Readings.{Objective, objectives, chosen, value_of}
 
--- an arc but for its coefficient
+-- an arc without its coefficient
 abbrev pub shape_of : InstArc → Drawn
 shape_of a = record { lower = a.lower; upper = a.upper; tail = a.tail; head = a.head }
 
@@ -36,7 +36,7 @@ pub record HaveOneShape (m n : Network) : Type 0 where
   pub node_names : m.names.nodes ≡ n.names.nodes
   pub arc_names : m.names.arcs ≡ n.names.arcs
 
--- whichever objective is chosen
+-- the choice of the objective does not change the rest of the network
 abbrev pub AreOneNetwork : Type 0
 AreOneNetwork = (name other : Option Name) (w : World) (ds : List Declaration) (m n : Network) → network name w ds ≡ Ok m → network other w ds ≡ Ok n → HaveOneShape m n
 
@@ -44,19 +44,20 @@ pub record IsInSides (r : Sides) (inflow : ℤ) : Type 0 where
   pub low : ForSome r.low (λ low. low ≤ℤ inflow)
   pub high : ForSome r.high (λ high. inflow ≤ℤ high)
 
--- a node's range has a number exactly when the condition as it is written is true of it as net inflow
+-- a node's range contains a number if and only if the condition as written is true for it as the
+-- net inflow
 abbrev pub IsRangeOf : Node → Sides → Type 0
 IsRangeOf n r = (y : ℤ) → IsInSides r y ↔ Holds n.env n.scope n.condition y
 
 abbrev pub HaveExactRanges : Type 0
 HaveExactRanges = (wanted : Option Name) (w : World) (ds : List Declaration) (n : Network) → network wanted w ds ≡ Ok n → AllZip IsRangeOf (nodes w ds) n.nodes
 
--- a listed key is that of the label, and its number is that of the label's declaration
+-- a listed key is that of the label, and its declaration is that of the label
 pub record IsKeyOf (declared : List Declared) (l : Label) (k : Key) : Type 0 where
   pub declaration : slice_get declared k.declaration ≡ Some (record { name = l.name; indexed = l.indexed })
   pub key : k.tuple ≡ l.key
 
--- the declared names in order, and the key of each node or arc in order, those of a declaration together
+-- the declared names in order, and the keys of the nodes or arcs in order, grouped by declaration
 pub record AreNames (declared : List Declared) (labels : List Label) (listed : Listed) : Type 0 where
   pub declarations : listed.declarations ≡ declared
   pub keys : AllZip (IsKeyOf declared) labels listed.keys
@@ -69,14 +70,14 @@ pub record AreNamesOf (w : World) (ds : List Declaration) (n : Network) : Type 0
 abbrev pub HaveNames : Type 0
 HaveNames = (wanted : Option Name) (w : World) (ds : List Declaration) (n : Network) → network wanted w ds ≡ Ok n → AreNamesOf w ds n
 
--- a number of a node is the place of the node that the end names
+-- the number of a node is the index of the node that the end names
 abbrev pub IsPlaceOf : List Label → Option (Name × Tuple) → Option ℕ → Type 0
 IsPlaceOf labels None None = ⊤
 IsPlaceOf labels None (Some v) = ⊥
 IsPlaceOf labels (Some r) None = ⊥
 IsPlaceOf labels (Some r) (Some v) = (l : Label) × (slice_get labels v ≡ Some l) × (l.name ≡ r.0) × (l.key ≡ r.1)
 
--- the bounds are the values of those that are written
+-- the bounds are the values of the bounds as written
 pub record IsBoundedAs (a : Arc) (x : InstArc) : Type 0 where
   pub lower : value a.env a.scope a.parts.lower ≡ Ok (One (Number x.lower))
   pub upper : value a.env a.scope a.parts.upper ≡ Ok (One (Number x.upper))
@@ -84,7 +85,7 @@ pub record IsBoundedAs (a : Arc) (x : InstArc) : Type 0 where
 abbrev pub HaveBounds : Type 0
 HaveBounds = (wanted : Option Name) (w : World) (ds : List Declaration) (n : Network) → network wanted w ds ≡ Ok n → AllZip IsBoundedAs (arcs w ds) n.arcs
 
--- the ends stand for the nodes that are named
+-- the ends are the nodes that are named
 pub record HasEndsOf (labels : List Label) (a : Arc) (x : InstArc) : Type 0 where
   pub from : IsPlaceOf labels (from_end a) x.tail
   pub to : IsPlaceOf labels (to_end a) x.head
@@ -93,11 +94,11 @@ abbrev pub HaveEnds : Type 0
 HaveEnds = (wanted : Option Name) (w : World) (ds : List Declaration) (n : Network) → network wanted w ds ≡ Ok n → AreDistinct (nodes w ds) (arcs w ds)
     → AllZip (HasEndsOf (map (λ v. v.label) (nodes w ds))) (arcs w ds) n.arcs
 
--- the constant, and each arc's coefficient times its number
+-- the constant plus the sum of coefficient times value over all arcs
 abbrev pub total_of : Network → List ℤ → ℤ
 total_of n numbers = n.constant +ℤ price_of (λ a. a.coefficient) n.arcs numbers
 
--- the objective is the chosen one, and the network's sum is its value at every assignment
+-- the objective is the chosen one, and the network's objective has its value at every assignment
 pub record IsObjectiveOf (o : Objective) (n : Network) (all : List Arc) : Type 0 where
   pub name : n.names.objective ≡ o.name
   pub sense : n.sense ≡ o.sense
@@ -107,14 +108,14 @@ abbrev pub HaveObjective : Type 0
 HaveObjective = (wanted : Option Name) (w : World) (ds : List Declaration) (n : Network) → network wanted w ds ≡ Ok n
     → (o : Objective) × (chosen wanted (objectives w ds) ≡ Some o) × IsObjectiveOf o n (arcs w ds)
 
--- an assignment of names and keys is feasible exactly when its numbers in the arcs' order are so
+-- an assignment of names and keys is feasible if and only if its values in arc order are feasible
 abbrev pub IsFeasibleAlike : World → List Declaration → NamedOfCode → Type 0
 IsFeasibleAlike w ds n = (x : Assignment) → IsFeasible (nodes w ds) (arcs w ds) x ↔ IsFeasibleAssignment n.instance (numbers_on x (arcs w ds))
 
 abbrev pub HaveFeasible : Type 0
 HaveFeasible = (wanted : Option Name) (w : World) (ds : List Declaration) (n : NamedOfCode) → network wanted w ds ≡ Ok (seen_as n) → AreDistinct (nodes w ds) (arcs w ds) → IsFeasibleAlike w ds n
 
--- each list of numbers, one for each arc, is that of an assignment
+-- each list with one number for each arc comes from an assignment
 abbrev pub HaveAssignments : Type 0
 HaveAssignments = (all : List Arc) (numbers : List ℤ) → IsDistinct same_label (map (λ a. a.label) all) → length numbers ≡ length all → numbers_on (by_label (map (λ a. a.label) all) numbers) all ≡ numbers
 
@@ -132,7 +133,7 @@ HaveKeysOnce w k (d ∷ ds) = IsDistinct same_tuple (keys_by (take k w) d) × Ha
 abbrev pub same_name : Declared → Declared → Bool
 same_name d e = bytes_eq d.name e.name
 
--- no name is declared twice, and no key twice by a declaration
+-- no name is declared twice, and no declaration has a key twice
 pub record AreDeclaredOnce (w : World) (ds : List Declaration) : Type 0 where
   pub nodes : IsDistinct same_name (flat_map node_declared ds)
   pub arcs : IsDistinct same_name (flat_map arc_declared ds)
@@ -141,6 +142,6 @@ pub record AreDeclaredOnce (w : World) (ds : List Declaration) : Type 0 where
 abbrev pub AreDistinctAsDeclared : Type 0
 AreDistinctAsDeclared = (w : World) (ds : List Declaration) → AreDeclaredOnce w ds → AreDistinct (nodes w ds) (arcs w ds)
 
--- with names declared once, in a world whose declared sets are sets
+-- the same, if names are declared once, in a world whose declared sets are sets
 abbrev pub AreDistinctInSets : Type 0
 AreDistinctInSets = (w : World) (ds : List Declaration) → HasSets w → IsDistinct same_name (flat_map node_declared ds) → IsDistinct same_name (flat_map arc_declared ds) → AreDistinct (nodes w ds) (arcs w ds)

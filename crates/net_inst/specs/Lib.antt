@@ -14,3 +14,4 @@ pub mod AsWritten
 pub mod Readings
 pub mod Laws
 pub mod ByName
+pub mod Soundness

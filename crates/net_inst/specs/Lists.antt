@@ -1,11 +1,12 @@
--- The declared names of nodes or of arcs, and what is declared by each.
+-- The declared names of nodes or of arcs, and their keys.
 use Rattle.std.specs.Prelude.{ℕ, ◌≤◌, List, [], ◌∷◌, ◌++◌, length, map, Option, is_some}
-use Rattle.net_eval.specs.declared.row.Row.{Row}
-use Rattle.net_eval.specs.Worlds.{Name}
+use Rattle.net_expr.specs.declared.row.Row.{Row}
+use Rattle.net_expr.specs.Worlds.{Name}
 use Rattle.net_inst.specs.declared.names.Declared.{Declared}
 use Rattle.net_inst.specs.declared.names.Key.{Key}
 
--- the declarations in order, and of each node or arc in order the number of its declaration, counted from 0, and its key
+-- the declarations in order, and for each node or arc in order the index of its declaration,
+-- counted from 0, and its key
 pub record Listed : Type 0 where
   pub declarations : List Declared
   pub keys : List Key
@@ -16,14 +17,14 @@ no_names = record { declarations = []; keys = [] }
 abbrev pub keyed : ℕ → Row → Key
 keyed d row = record { declaration = d; tuple = row.key }
 
--- with one more declaration; the number of its keys is none where it has no braces
+-- adds a declaration; the number of its subscripts is None without indexing
 abbrev pub listed_with : Listed → Name → Option ℕ → List Row → Listed
 listed_with l name count rows = record {
   declarations = l.declarations ++ (record { name = name; indexed = is_some count }) ∷ [];
   keys = l.keys ++ map (keyed (length l.declarations)) rows;
 }
 
--- each node or arc stands behind those of the declarations before its own
+-- the nodes or arcs are in the order of their declarations
 abbrev pub AreInOrder : (least : ℕ) → List Key → Type 0
 AreInOrder least [] = Unit {0}
 AreInOrder least (k ∷ ks) = (least ≤ k.declaration) × AreInOrder k.declaration ks

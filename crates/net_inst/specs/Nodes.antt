@@ -1,4 +1,4 @@
--- The nodes of declarations, and those that `from` and `to` name.
+-- The nodes of declarations, and the nodes that `from` and `to` refer to.
 use Rattle.std.specs.Prelude.{ℕ, ◌+◌, List, [], ◌∷◌, ◌++◌, length, nat_eq, nat_lt, Option, None, Some, if◌then◌else◌, Ok}
 use Rattle.net_fault.specs.declared.span.Span.{Span}
 use Rattle.net_lex.specs.declared.token.Token.{Token}
@@ -10,8 +10,8 @@ use Rattle.net_normal.specs.Limits.{node_limit}
 use Rattle.net_fault.specs.declared.detail.Detail.{Detail}
 use Rattle.net_fault.specs.declared.detail.Detail.TheVariants.{Told}
 use Rattle.net_fault.specs.declared.defect.Defect.TheVariants.{KindMismatch, Arity, NoSuchNode, NodeCrossed, TooManyNodes}
-use Rattle.net_eval.specs.declared.row.Row.{Row}
-use Rattle.net_eval.specs.Worlds.{Name, World, Scope, key_count, reference}
+use Rattle.net_expr.specs.declared.row.Row.{Row}
+use Rattle.net_expr.specs.Worlds.{Name, World, Scope, key_count, reference}
 use Rattle.net_linear.specs.declared.arc.ArcKeys.{ArcKeys}
 use Rattle.net_linear.specs.declared.condition.Sides.{Sides}
 use Rattle.net_linear.specs.Arcs.{declared}
@@ -24,7 +24,7 @@ use Rattle.net_inst.specs.Indexings.{indexing_in}
 use Rattle.net_fault.specs.Outcomes.{Outcome, and_then, refused_of, refused}
 use Rattle.net_inst.specs.Refusals.{refused_name}
 
--- nodes in order, each with the net inflows that it allows
+-- nodes in order, each with its range of net inflows
 pub record DrawnNodes : Type 0 where
   pub ranges : List Sides
   pub group : Group
@@ -35,21 +35,21 @@ sides_of r = record { low = r.low; high = r.high }
 abbrev pub no_nodes : DrawnNodes
 no_nodes = record { ranges = []; group = no_group }
 
--- that a condition is met by no net inflow is told of the node
+-- a condition that no net inflow satisfies is an error of the node
 abbrev pub of_node : Span → Detail → Option Sides → Outcome Sides
 of_node at d None = refused_of NodeCrossed at d
 of_node at d (Some r) = Ok r
 
--- the net inflows of a node at a key
+-- the range of the node at a key
 abbrev pub node_sides : World → Token → Option ℕ → Condition → Row → Outcome Sides
 node_sides w n k c row = and_then (range_in w row.scope c) (of_node n.span (reference n.text k row.key))
 
--- one node more, at a key
+-- adds the node at a key
 abbrev pub next_range : World → Token → Option ℕ → Condition → Row → List Sides → Outcome (List Sides)
 next_range w n k c row found =
     if nat_lt (length found) node_limit then and_then (node_sides w n k c row) (λ r. Ok (found ++ r ∷ [])) else refused_name TooManyNodes n
 
--- a node for each key, behind those found before
+-- adds a node for each key
 abbrev pub ranges_at : World → Token → Option ℕ → Condition → List Row → List Sides → Outcome (List Sides)
 ranges_at w n k c [] found = Ok found
 ranges_at w n k c (row ∷ rows) found = and_then (next_range w n k c row found) (ranges_at w n k c rows)
@@ -58,19 +58,19 @@ abbrev pub nodes_by : World → Token → Condition → DrawnNodes → Indexing 
 nodes_by w n c d i =
     and_then (ranges_at w n i.count c i.rows d.ranges) (λ ranges. Ok (record { ranges = ranges; group = group_with d.group n.text (length d.ranges) i }))
 
--- the nodes of a declaration behind those of the declarations before it
+-- adds the nodes of a declaration
 abbrev pub with_nodes : World → Token → Option Braces → Condition → DrawnNodes → Outcome DrawnNodes
 with_nodes w n b c d = and_then (indexing_in w b) (nodes_by w n c d)
 
 abbrev pub among : ℕ → Span → Detail → ℕ → Outcome ℕ
 among count at d v = if nat_lt v count then Ok v else refused_of NoSuchNode at d
 
--- the node at a place of a declaration
+-- the node with an index in a declaration
 abbrev pub numbered : ℕ → Span → Detail → ℕ → Option ℕ → Outcome ℕ
 numbered count at d first None = refused_of NoSuchNode at d
 numbered count at d first (Some place) = among count at d (first + place)
 
--- the node that a name has at a key
+-- the node with a name and a key
 abbrev pub node_at : ℕ → Span → Name → Option ArcKeys → Tuple → Outcome ℕ
 node_at count at name None key = refused_of NoSuchNode at (Told name)
 node_at count at name (Some k) key =
@@ -79,7 +79,7 @@ node_at count at name (Some k) key =
 abbrev pub indexed_node : DrawnNodes → World → Scope → Span → Token → Tree → Links → Outcome ℕ
 indexed_node d w s at n x l = and_then (key_of w s at x l) (node_at (length d.ranges) at n.text (declared d.group.numbers n.text))
 
--- a name, and its subscripts where it has any
+-- a name and its subscripts, if there are any
 abbrev pub name_in : Tree → Option (Token × Option (Tree × Links))
 name_in (leaf t) = Some (t, None)
 name_in (indexed n o x l c) = Some (n, Some (x, l))
@@ -93,6 +93,6 @@ abbrev pub node_by : DrawnNodes → World → Scope → Span → Option (Token �
 node_by d w s at None = refused KindMismatch at
 node_by d w s at (Some p) = node_of d w s at p.0 p.1
 
--- the node that is named; its subscripts are evaluated first
+-- the node of a reference; its subscripts are evaluated first
 abbrev pub node_named : DrawnNodes → World → Scope → Tree → Outcome ℕ
 node_named d w s t = node_by d w s (span_of t) (name_in t)

@@ -1,4 +1,4 @@
--- The trees of what the code found in the phrases of an arc.
+-- The syntax trees of what the code finds in the phrases of an arc.
 use Rattle.std.specs.Prelude.{option_map, option_copied}
 use Rattle.net_tree.specs.View.{tree}
 use Rattle.net_inst.specs.declared.phrases.ArcParts.{ArcParts}

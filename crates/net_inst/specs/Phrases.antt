@@ -1,4 +1,4 @@
--- What the phrases of an arc say.
+-- The contents of an arc's phrases.
 use Rattle.std.specs.Prelude.{Bool, true, false, List, [], ◌∷◌, Option, None, Some, if◌then◌else◌, Ok}
 use Rattle.net_lex.specs.declared.token.Token.{Token}
 use Rattle.net_tree.specs.declared.role.Begins.TheVariants as begins
@@ -25,7 +25,7 @@ value_in (valued x) = Some x
 value_in plain = None
 value_in (priced n x) = None
 
--- what stands behind the word
+-- the expression of the phrase with this keyword
 abbrev pub said : ArcWord → List Phrase → Option Tree
 said a [] = None
 said a (p ∷ ps) = if is_word a (role_of p.word) then value_in p.body else said a ps
@@ -37,7 +37,7 @@ pub record Parts : Type 0 where
   pub tail : Option Tree
   pub head : Option Tree
 
--- both bounds have to be there, and one end
+-- both bounds and at least one end are required
 abbrev pub parts_from : Token → Option Tree → Option Tree → Option Tree → Option Tree → Outcome Parts
 parts_from n None u t h = refused_name NoLower n
 parts_from n (Some l) None t h = refused_name NoUpper n

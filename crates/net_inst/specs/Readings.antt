@@ -1,14 +1,15 @@
--- The objective of a model as it is written, and its value at an assignment: each arc is read as its number. No size is tested.
+-- The objective of a model as written, and its value at an assignment: each arc is replaced by its
+-- value. Sizes are not checked.
 use Rattle.std.specs.Prelude.{ℕ, Bool, true, List, [], ◌∷◌, ◌++◌, map, take, Option, None, Some, if◌then◌else◌, Ok, Err, ℤ, pos, ◌+ℤ◌, ◌*ℤ◌}
 use Rattle.std.specs.Str.{bytes_eq}
 use Rattle.net_sets.specs.Sets.{Tuple}
 use Rattle.net_tree.specs.Spans.{span_of}
 use Rattle.net_tree.specs.Tree.{Tree, Links, Part, leaf, indexed, parens, tuple, negated, braced, signed, reduced, chain, choice, net, none, link, absent, part, Body, plain, valued, priced, Phrase, Declaration, objective}
 use Rattle.net_normal.specs.declared.instance.Sense.{Sense}
-use Rattle.net_eval.specs.Numbers.{turned}
+use Rattle.net_expr.specs.Numbers.{turned}
 use Rattle.net_tree.specs.Operations.{is_minus, operation}
-use Rattle.net_eval.specs.Values.{index}
-use Rattle.net_eval.specs.Worlds.{Name, World, Scope}
+use Rattle.net_expr.specs.Values.{index}
+use Rattle.net_expr.specs.Worlds.{Name, World, Scope}
 use Rattle.net_linear.specs.declared.arc.ArcKeys.{ArcKeys}
 use Rattle.net_linear.specs.Objectives.{names_arc, key_of, condition}
 use Rattle.net_fault.specs.Outcomes.{Outcome}
@@ -17,12 +18,13 @@ use Rattle.net_inst.specs.declared.names.Declared.{Declared}
 use Rattle.net_inst.specs.AsWritten.{Arc, Assignment, number_on, amount, arcs_of, arc_declared, in_order, known_behind}
 use Rattle.net_inst.specs.Drafts.{sense_of}
 
--- the number of the arc of a name at a key
+-- the value of the arc with a name and a key
 abbrev pub number_at_key : Assignment → Name → Outcome Tuple → ℤ
 number_at_key x n (Ok key) = x n key
 number_at_key x n (Err r) = pos 0
 
--- an expression with each arc read as its number; a tree in which no arc stands is its value
+-- the value of an expression with each arc replaced by its value; a tree without arcs has the
+-- evaluator's value
 abbrev mutual
   pub reading : (Tree → Bool) → World → Scope → Tree → Assignment → ℤ
   reading arc_in w s (leaf t) x = read w s (leaf t) (arc_in (leaf t)) (number_at_key x t.text (Ok []))
@@ -43,37 +45,37 @@ abbrev mutual
   reading_else arc_in w s absent x = pos 0
   reading_else arc_in w s (part m y) x = reading arc_in w s y x
 
-  -- the operators of a chain from the left
+  -- applies the operators of a chain from left to right
   pub reading_chain : (Tree → Bool) → World → Scope → Links → ℤ → Assignment → ℤ
   reading_chain arc_in w s none n x = n
   reading_chain arc_in w s (link o y l) n x = reading_chain arc_in w s l (combine (operation o) n (reading arc_in w s y x)) x
 
--- names of arcs, of which only the name is told
+-- a name of arcs without their keys
 abbrev pub name_alone : Declared → Name × ArcKeys
 name_alone d = (d.name, record { keys = None; first = 0; index = [] })
 
--- one of these arcs stands in the tree
+-- the tree contains one of these arcs
 abbrev pub stands_in : List Declared → Tree → Bool
 stands_in ds t = names_arc (map name_alone ds) t
 
--- what each unit on an arc adds to the objective of a name by a phrase
+-- the coefficient that a phrase gives to an arc in the objective with this name
 abbrev pub price_in : Name → World → Scope → Body → ℤ
 price_in goal w s (priced n t) = if bytes_eq goal n.text then amount w s t else pos 0
 price_in goal w s plain = pos 0
 price_in goal w s (valued t) = pos 0
 
--- the sum of what its `obj` phrases say
+-- the sum of the coefficients in its `obj` phrases
 abbrev pub price_of : Name → World → Scope → List Phrase → ℤ
 price_of goal w s [] = pos 0
 price_of goal w s (p ∷ ps) = price_in goal w s p.body +ℤ price_of goal w s ps
 
--- what arcs add to the objective of a name
+-- the contribution of arcs to the objective with this name
 abbrev pub prices : Name → List Arc → Assignment → ℤ
 prices goal [] x = pos 0
 prices goal (a ∷ all) x = (price_of goal a.env a.scope a.phrases *ℤ number_on x a) +ℤ prices goal all x
 
--- a declared objective, with the arcs declared before it, which its expression may name, and those behind it, whose `obj`
--- phrases may name it
+-- a declared objective, with the arcs declared before it, to which its expression can refer, and
+-- those after it, whose `obj` phrases can refer to it
 pub record Objective : Type 0 where
   pub sense : Sense
   pub name : Name
@@ -82,7 +84,7 @@ pub record Objective : Type 0 where
   pub before : List Declared
   pub behind : List Arc
 
--- what the objective says itself
+-- the value of the objective's own expression
 abbrev pub said_value : List Declared → World → Part → Assignment → ℤ
 said_value ds w absent x = pos 0
 said_value ds w (part m t) x = reading (stands_in ds) w [] t x
@@ -104,7 +106,7 @@ objectives_from before w k (d ∷ ds) =
 abbrev pub objectives : World → List Declaration → List Objective
 objectives w ds = objectives_from [] w 0 ds
 
--- the objective of the given name, or any where no name is given
+-- the objective with the given name, or any objective if no name is given
 abbrev pub is_wanted : Option Name → Objective → Bool
 is_wanted None o = true
 is_wanted (Some name) o = bytes_eq name o.name
@@ -113,7 +115,7 @@ abbrev pub or_else : Option Objective → Option Objective → Option Objective
 or_else None o = o
 or_else (Some p) o = Some p
 
--- the last one that is wanted
+-- the last objective that is wanted
 abbrev pub chosen : Option Name → List Objective → Option Objective
 chosen wanted [] = None
 chosen wanted (o ∷ os) = or_else (chosen wanted os) (if is_wanted wanted o then Some o else None)

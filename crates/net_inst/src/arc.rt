@@ -3,7 +3,7 @@
 ghost use Rattle.std.specs.Prelude.{◌≡◌, All, IfOk, option_map};
 ghost use Rattle.std.specs.Option.{option_copied};
 ghost use Rattle.net_tree.specs.View.{tree};
-ghost use Rattle.net_eval.specs.Worlds.{reference};
+ghost use Rattle.net_expr.specs.Worlds.{reference};
 ghost use Rattle.net_inst.specs.Arcs as found;
 ghost use Rattle.net_inst.specs.Fitting.{IsPriced};
 ghost use Rattle.net_inst.specs.Instances as network;
@@ -15,7 +15,7 @@ use crate::node_name::node_named;
 use crate::number::number_of;
 use crate::phrases::ArcParts;
 use crate::visible::Visible;
-use net_eval::{Row, Scope, told_reference};
+use net_expr::{Row, Scope, told_reference};
 use net_fault::{Defect, Fault};
 use net_lex::Token;
 use net_linear::Affine;
@@ -23,7 +23,7 @@ use net_normal::InstArc;
 use net_tree::{Expr, Phrase};
 use std::alloc::{AllocError, Global};
 
-/// An arc at a key without its coefficient: its bounds, and its nodes by their numbers.
+/// The arc at a key without its coefficient: its bounds, and the numbers of its nodes.
 #[derive(Clone, Copy)]
 pub(crate) struct Drawn {
     pub(crate) lower: i64,
@@ -32,7 +32,7 @@ pub(crate) struct Drawn {
     pub(crate) head: Option<u32>,
 }
 
-/// What a declaration says of its arcs.
+/// The parts of a declaration of arcs.
 #[derive(Clone, Copy)]
 pub(crate) struct ArcText<'a, 's> {
     /// The declared name.
@@ -41,7 +41,7 @@ pub(crate) struct ArcText<'a, 's> {
     pub(crate) phrases: &'a [Phrase<'s>],
 }
 
-/// The node at an end, where one is said.
+/// Returns the node at an end, or `None` if the end is not given.
 fn end_at<'s>(
     alloc: Global,
     visible: &Visible<'_, 's>,
@@ -59,7 +59,7 @@ fn end_at<'s>(
     }
 }
 
-/// An arc with these bounds, where its ends are said.
+/// Builds an arc with these bounds and its ends.
 fn with_ends<'s>(
     alloc: Global,
     visible: &Visible<'_, 's>,
@@ -80,7 +80,7 @@ fn with_ends<'s>(
     })
 }
 
-/// An arc at a key: its bounds, and then its ends.
+/// Returns the arc at a key: evaluates first its bounds, then its ends.
 pub(crate) fn arc_at<'s>(
     alloc: Global,
     visible: &Visible<'_, 's>,
@@ -101,7 +101,7 @@ pub(crate) fn arc_at<'s>(
     }
 }
 
-/// The arc with its coefficient.
+/// Returns the arc with its coefficient.
 fn with_coefficient(arc: &Drawn, coefficient: &i64) -> InstArc
     ensures { result ≡ network.with_coefficient arc.now coefficient.now }
 {
@@ -114,7 +114,7 @@ fn with_coefficient(arc: &Drawn, coefficient: &i64) -> InstArc
     }
 }
 
-/// The arcs with their coefficients in the objective.
+/// Returns the arcs with their coefficients in the objective. Fails only if memory runs out.
 pub(crate) fn priced(
     alloc: Global,
     form: &Affine,

@@ -1,4 +1,4 @@
-//! The arcs of a model, draft by draft.
+//! Collecting the arcs of a model.
 
 ghost use Rattle.std.specs.Prelude.{◌≡◌, ◌≤◌, ◌+◌, All, length, map, IfOk, OnOk, Ok};
 ghost use Rattle.net_tree.specs.View.{indexing_of, option_part, phrase_of};
@@ -20,20 +20,18 @@ use crate::objective_form::said_form;
 use crate::phrases::parts_of;
 use crate::price::add_phrases;
 use crate::visible::Visible;
-use net_eval::{Env, Row};
+use net_expr::{Env, Row};
 use net_fault::{Defect, Fault};
 use net_lex::Token;
 use net_linear::Affine;
-use net_normal::InstArc;
+use net_normal::{ARC_LIMIT, InstArc};
+use net_sets::HashKey;
 use net_tree::{Braces, Part, Phrase};
 use std::alloc::{AllocError, Global};
 use std::marker::Model;
 use std::mem;
 
-/// How many arcs a network may have.
-const ARC_LIMIT: usize = 100_000;
-
-/// The arcs of the declarations so far, in order, and the objective's form.
+/// The arcs of the declarations so far, in order, and the linear form of the objective.
 #[derive(Drop)]
 pub(crate) struct ArcDraft<'s> {
     arcs: Vec<Drawn>,
@@ -54,14 +52,14 @@ impl<'s> Model for ArcDraft<'s> {
 }
 
 impl<'s> ArcDraft<'s> {
-    /// No arcs.
-    pub(crate) fn new(alloc: Global) -> ArcDraft<'s>
+    /// Creates a draft without arcs. The key has to come from all names that will be declared.
+    pub(crate) fn new(alloc: Global, key: HashKey) -> ArcDraft<'s>
         ensures { result ≡ found.no_arcs }
     {
         ArcDraft {
             arcs: Vec::new(alloc),
             form: Affine::zero(alloc),
-            group: Group::new(alloc),
+            group: Group::new(alloc, key),
         }
     }
 
@@ -96,7 +94,7 @@ impl<'s> ArcDraft<'s> {
         }
     }
 
-    /// Adds an arc for each key behind those so far.
+    /// Adds an arc for each key.
     fn add_rows(
         &mut self,
         alloc: Global,
@@ -115,7 +113,7 @@ impl<'s> ArcDraft<'s> {
         Ok(())
     }
 
-    /// Declares the name of arcs that are drawn.
+    /// Declares the name of arcs that are already added. Fails only if memory runs out.
     fn declare_name(
         &mut self,
         alloc: Global,
@@ -129,7 +127,7 @@ impl<'s> ArcDraft<'s> {
         self.group.declare(alloc, &name.text, first, indexing)
     }
 
-    /// Adds the arcs at some keys of a declaration behind those so far.
+    /// Adds the arcs of a declaration at its keys.
     fn declare_at(
         &mut self,
         alloc: Global,
@@ -147,7 +145,7 @@ impl<'s> ArcDraft<'s> {
         Ok(())
     }
 
-    /// Adds the arcs of a declaration whose phrases say what they have to.
+    /// Adds the arcs of a declaration that has all required phrases.
     fn declare_said(
         &mut self,
         alloc: Global,
@@ -163,8 +161,8 @@ impl<'s> ArcDraft<'s> {
         self.declare_at(alloc, visible, text, &indexing)
     }
 
-    /// Adds the arcs of a declaration behind those of the declarations before it. What its phrases lack is told first, even
-    /// where it has no keys.
+    /// Adds the arcs of a declaration. A missing phrase is reported first, even if there are no
+    /// keys.
     pub(crate) fn declare(
         &mut self,
         alloc: Global,
@@ -185,7 +183,7 @@ impl<'s> ArcDraft<'s> {
         self.declare_said(alloc, visible, &text, braces)
     }
 
-    /// How many arcs there are.
+    /// Returns the number of arcs.
     pub(crate) fn len(&self) -> usize
         ensures value { result ≡ length self.now.arcs }
         ensures few { result ≤ arc_limit }
@@ -193,7 +191,7 @@ impl<'s> ArcDraft<'s> {
         self.arcs.len()
     }
 
-    /// Begins the form of the objective with what the objective says itself.
+    /// Initializes the linear form of the objective with its own expression.
     pub(crate) fn begin_form(
         &mut self,
         alloc: Global,
@@ -206,7 +204,7 @@ impl<'s> ArcDraft<'s> {
         Ok(())
     }
 
-    /// The arcs with their coefficients in the objective.
+    /// Returns the arcs with their coefficients in the objective. Fails only if memory runs out.
     pub(crate) fn priced(&self, alloc: Global) -> Result<Vec<InstArc>, AllocError>
         ensures value { IfOk result (λ all. all.items ≡ with_coefficients self.now.form.products 0 self.now.arcs) }
         ensures size { IfOk result (λ all. All IsPriced all.items) }
@@ -215,7 +213,7 @@ impl<'s> ArcDraft<'s> {
         priced(alloc, &self.form, self.arcs.as_slice())
     }
 
-    /// What the objective adds to its arcs' terms.
+    /// Returns the constant term of the objective.
     pub(crate) fn constant(&self) -> i64
         ensures value { result ≡ self.now.form.constant }
         ensures size { IsSized value_limit result }
@@ -223,7 +221,7 @@ impl<'s> ArcDraft<'s> {
         self.form.constant()
     }
 
-    /// The arcs' names, which it has no more then.
+    /// Moves the names of the arcs out of the draft.
     pub(crate) fn take_names(&mut self, alloc: Global) -> NameList<'s>
         ensures { result ≡ self.old.group.list }
     {

@@ -1,4 +1,4 @@
-//! What the declarations of a model come to, one after the other.
+//! Processing the declarations of a model, one after the other.
 
 ghost use Rattle.std.specs.Prelude.{◌≡◌, ◌+◌, ◌<◌, ◌≤◌, ◌^◌, map, OnOk};
 ghost use Rattle.std.specs.Option.{option_copied};
@@ -11,14 +11,15 @@ use crate::fault::refuse_name;
 use crate::goal::ChosenObjective;
 use crate::node::NodeDraft;
 use crate::visible::Visible;
-use net_eval::{Env, World};
+use net_expr::{Env, World};
 use net_fault::{Defect, Fault};
 use net_lex::Token;
 use net_normal::Sense;
+use net_sets::HashKey;
 use net_tree::{Braces, Decl, NetCond, Part, Phrase};
 use std::alloc::Global;
 
-/// What a declaration says of an objective.
+/// The parts of a declaration of an objective.
 #[derive(Clone, Copy)]
 struct ObjectiveText<'a, 's> {
     /// `minimize` or `maximize`.
@@ -28,15 +29,15 @@ struct ObjectiveText<'a, 's> {
     part: &'a Option<Part<'s>>,
 }
 
-/// What the declarations so far come to. Dropping it is one call.
+/// The result of the declarations so far. Its drop is one call.
 pub(crate) struct Draft<'s> {
-    /// How many sets and parameters they declare.
+    /// The number of sets and parameters that they declare.
     pub(crate) known: usize,
     pub(crate) nodes: NodeDraft<'s>,
     pub(crate) arcs: ArcDraft<'s>,
     /// The chosen objective.
     pub(crate) goal: Option<ChosenObjective<'s>>,
-    /// Whether there is an objective at all.
+    /// Whether there is any objective.
     pub(crate) has_objective: bool,
 }
 
@@ -62,10 +63,10 @@ fn sense_of(word: &Token<'_>) -> Sense
     }
 }
 
-/// Whether an objective is the chosen one.
+/// Returns whether an objective is the chosen one.
 fn is_chosen<'s>(
     alloc: Global,
-    wanted: &Option<&'s str>,
+    wanted: &Option<&str>,
     goal: &Option<ChosenObjective<'s>>,
     name: &Token<'s>,
 ) -> Result<bool, Fault>
@@ -81,20 +82,20 @@ fn is_chosen<'s>(
 }
 
 impl<'s> Draft<'s> {
-    /// Nothing declared.
-    pub(crate) fn new(alloc: Global) -> Draft<'s>
+    /// Creates an empty draft. The key has to come from all names that will be declared.
+    pub(crate) fn new(alloc: Global, key: HashKey) -> Draft<'s>
         ensures { result ≡ found.nothing }
     {
         Draft {
             known: 0,
-            nodes: NodeDraft::new(alloc),
-            arcs: ArcDraft::new(alloc),
+            nodes: NodeDraft::new(alloc, key),
+            arcs: ArcDraft::new(alloc, key),
             goal: None,
             has_objective: false,
         }
     }
 
-    /// Takes an objective as the chosen one.
+    /// Makes an objective the chosen one.
     fn choose(
         &mut self,
         alloc: Global,
@@ -117,7 +118,7 @@ impl<'s> Draft<'s> {
         &mut self,
         alloc: Global,
         env: &Env<'_, 's>,
-        wanted: &Option<&'s str>,
+        wanted: &Option<&str>,
         text: &ObjectiveText<'_, 's>,
     ) -> Result<(), Fault>
         ensures { Leaves (found.with_objective (option_copied wanted.now) env.now text.now.word.now text.now.name.now
@@ -164,7 +165,7 @@ impl<'s> Draft<'s> {
         self.arcs.declare(alloc, &visible, name, braces, phrases)
     }
 
-    /// Counts a set or a parameter, of which no more is seen from there on.
+    /// Counts a set or a parameter, which is visible from here on.
     fn count_known(&mut self)
         requires { self.now.known < 2 ^ 63 }
         ensures { self.new ≡ found.known_more self.old }
@@ -172,11 +173,11 @@ impl<'s> Draft<'s> {
         self.known += 1;
     }
 
-    /// Adds one declaration more.
+    /// Adds a declaration.
     pub(crate) fn declare(
         &mut self,
         alloc: Global,
-        wanted: &Option<&'s str>,
+        wanted: &Option<&str>,
         world: &World<'s>,
         declaration: &Decl<'s>,
     ) -> Result<(), Fault>

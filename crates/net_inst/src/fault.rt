@@ -1,3 +1,5 @@
+//! Building errors about nodes, arcs and objectives.
+
 ghost use Rattle.std.specs.Prelude.{◌≡◌, IfOk};
 ghost use Rattle.net_fault.specs.Outcomes.{found};
 ghost use Rattle.net_fault.specs.declared.detail.Detail.TheVariants.{Told};
@@ -8,14 +10,14 @@ use net_fault::{Defect, Detail, Fault, Language, Span};
 use net_lex::Token;
 use std::alloc::{AllocError, Global};
 
-/// A fault with its place and what is told beside.
+/// Builds an error with its span and its detail.
 pub(crate) fn refuse(defect: Defect, at: Span, detail: Detail) -> Fault
     ensures { result ≡ At (found InModel defect at detail) }
 {
     Fault::of_text(Language::Model, defect, at, detail)
 }
 
-/// What is wrong with a declaration, at its name.
+/// Builds an error at a declared name, with the name as its detail. Fails only if memory runs out.
 pub(crate) fn refuse_name(
     alloc: Global,
     defect: Defect,

@@ -1,3 +1,5 @@
+//! The chosen objective.
+
 use net_normal::Sense;
 use net_views::Excerpt;
 

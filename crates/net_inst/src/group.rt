@@ -1,4 +1,4 @@
-//! Declared nodes or arcs: their names, and the numbers that references find.
+//! Declared nodes or arcs: their names for output, and their numbers for references.
 
 ghost use Rattle.std.specs.Prelude.{◌≡◌, ◌≤◌, ◌<◌, ◌^◌, [], IfOk, OnOk, length};
 ghost use Rattle.net_sets.specs.Limits.{tuples_limit};
@@ -8,9 +8,9 @@ ghost use Rattle.net_inst.specs.Indexings.{tuples_of};
 
 use crate::indexing::Indexing;
 use crate::names::NameList;
-use net_eval::Row;
+use net_expr::Row;
 use net_linear::{ArcKeys, ArcNames};
-use net_sets::{SetFault, TupleSet};
+use net_sets::{HashKey, KeyDigest, SetFault, TupleSet};
 use net_views::Excerpt;
 use std::alloc::{AllocError, Global};
 
@@ -21,12 +21,21 @@ pub(crate) struct Group<'s> {
     pub(crate) numbers: ArcNames<'s>,
 }
 
-/// The keys of rows, each once.
+/// Derives the key for a set of the keys of rows.
+fn key_of(rows: &[Row<'_>]) -> HashKey {
+    let mut digest = KeyDigest::new();
+    for row in rows {
+        digest.update(&row.key);
+    }
+    digest.finish()
+}
+
+/// Returns the set of the keys of rows. Fails only if memory runs out.
 fn keys_in<'s>(alloc: Global, rows: &[Row<'s>]) -> Result<TupleSet<'s>, AllocError>
     requires { length rows.now ≤ tuples_limit }
     ensures { IfOk result (λ keys. keys ≡ union [] (tuples_of rows.now)) }
 {
-    let mut keys = TupleSet::new(alloc);
+    let mut keys = TupleSet::new(alloc, key_of(rows));
     for row in rows {
         match keys.add(row.key.again()) {
             Ok(()) => {}
@@ -37,7 +46,7 @@ fn keys_in<'s>(alloc: Global, rows: &[Row<'s>]) -> Result<TupleSet<'s>, AllocErr
     Ok(keys)
 }
 
-/// Declares a name, unless it has a meaning.
+/// Declares a name, unless it is already declared. Fails only if memory runs out.
 fn declare_number<'s>(
     alloc: Global,
     name: &Excerpt<'s>,
@@ -60,17 +69,17 @@ fn declare_number<'s>(
 }
 
 impl<'s> Group<'s> {
-    /// Nothing declared.
-    pub(crate) fn new(alloc: Global) -> Group<'s>
+    /// Creates a group without declarations. The key has to come from all names that will be declared.
+    pub(crate) fn new(alloc: Global, key: HashKey) -> Group<'s>
         ensures { result ≡ groups.no_group }
     {
         Group {
             list: NameList::new(alloc),
-            numbers: ArcNames::new(alloc),
+            numbers: ArcNames::new(alloc, key),
         }
     }
 
-    /// Adds a declaration, whose first node or arc has this number.
+    /// Adds a declaration whose first node or arc has this number. Fails only if memory runs out.
     pub(crate) fn declare(
         &mut self,
         alloc: Global,

@@ -1,26 +1,26 @@
-//! The keys by which declarations declare.
+//! The keys of declarations.
 
 ghost use Rattle.std.specs.Prelude.{◌≡◌, OnOk, IfOk};
 ghost use Rattle.net_tree.specs.View.{indexing_of};
 ghost use Rattle.net_inst.specs.Indexings as indexings;
 ghost use Rattle.net_fault.specs.Outcomes.{Answers};
 
-use net_eval::{Env, Keys, Row, Scope, index_of};
+use net_expr::{Env, Keys, Row, Scope, index_of};
 use net_fault::Fault;
 use net_sets::Tuple;
 use net_tree::Braces;
 use net_views::Items;
 use std::alloc::{AllocError, Global};
 
-/// The keys of a declaration in order, each with the dummies in scope at it, and how many members a key has; that is none
-/// where there are no braces.
+/// The keys of a declaration in order, each with the dummies in scope, and the number of members of
+/// a key; `None` without indexing.
 #[derive(Drop)]
 pub(crate) struct Indexing<'s> {
     pub(crate) count: Option<u8>,
     pub(crate) rows: Items<Row<'s>>,
 }
 
-/// The one key of a declaration without braces.
+/// Returns the single empty key of a declaration without indexing. Fails only if memory runs out.
 fn alone<'s>(alloc: Global) -> Result<Indexing<'s>, AllocError>
     ensures { IfOk result (λ i. i ≡ indexings.alone) }
 {
@@ -35,7 +35,7 @@ fn alone<'s>(alloc: Global) -> Result<Indexing<'s>, AllocError>
     })
 }
 
-/// How many members the keys have; those of `{}` count as one.
+/// Returns the number of members of the keys; those of `{}` count as one.
 fn counted(width: Option<u8>) -> u8
     ensures { result ≡ indexings.counted width }
 {
@@ -55,7 +55,7 @@ fn by_keys(keys: Keys<'_>) -> Indexing<'_>
     }
 }
 
-/// The keys of a declaration with these braces.
+/// Returns the keys of a declaration with this indexing.
 pub(crate) fn indexing_of<'s>(
     alloc: Global,
     env: &Env<'_, 's>,

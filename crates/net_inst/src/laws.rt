@@ -1,51 +1,70 @@
-//! Laws of networks; they run nothing.
+//! Theorems about networks. The functions are empty: their contracts state theorems.
 
+ghost use Rattle.std.specs.Prelude.{ℕ, List, Option};
+ghost use Rattle.net_fault.specs.Places.{Finds, LieIn, LiesIn};
+ghost use Rattle.net_tree.specs.Standing.{ModelStands};
+ghost use Rattle.net_tree.specs.Tree.{Declaration};
+ghost use Rattle.net_expr.specs.Worlds.{Name, World};
+ghost use Rattle.net_inst.specs.Instances.{network};
 ghost use Rattle.net_inst.specs.ByName.{CorrespondAsWritten};
 ghost use Rattle.net_inst.specs.Laws as laws;
 
-/// Whichever objective is chosen, a model in a world has the same nodes, ranges, arcs, bounds and ends.
+/// Theorem: the choice of the objective does not change the nodes, ranges, arcs, bounds and ends of
+/// a model's network.
 pub fn network_without_objective_is_one()
     ensures value { laws.AreOneNetwork }
 {}
 
-/// A node's range has a number exactly when its condition as it is written is true of it as net inflow.
+/// Theorem: a node's range contains a number if and only if its condition as written is true for it
+/// as the net inflow.
 pub fn ranges_are_conditions()
     ensures value { laws.HaveExactRanges }
 {}
 
-/// The names and keys of nodes and arcs are those that the model declares, in order.
+/// Theorem: the names and keys of nodes and arcs are those that the model declares, in order.
 pub fn names_are_declared()
     ensures value { laws.HaveNames }
 {}
 
-/// An arc's bounds are the values of those that are written. Where no two nodes have both a name and a key, the numbers of its
-/// ends are the places of the nodes that are named.
+/// Theorem: an arc's bounds are the values of the bounds as written. If no two nodes have the same
+/// name and key, the numbers of its ends are the indices of the nodes that are named.
 pub fn arcs_are_written()
     ensures bounds { laws.HaveBounds }
     ensures ends { laws.HaveEnds }
 {}
 
-/// The objective is the chosen one, and constant and coefficients times numbers sum to its value at every assignment.
+/// Theorem: the objective is the chosen one, and the constant plus the sum of coefficient times
+/// value is its value at every assignment.
 pub fn objective_is_written()
     ensures value { laws.HaveObjective }
 {}
 
-/// Where no two nodes, and no two arcs, have both a name and a key, an assignment of names and keys is feasible exactly when
-/// its numbers in the arcs' order are so, and each list of as many numbers as arcs is that of an assignment.
+/// Theorem: if no two nodes, and no two arcs, have the same name and key, an assignment of names
+/// and keys is feasible if and only if its values in arc order are feasible, and each list with one
+/// number for each arc comes from an assignment.
 pub fn assignments_are_alike()
     ensures feasible { laws.HaveFeasible }
     ensures each { laws.HaveAssignments }
 {}
 
-/// A problem whose feasible flows stand one to one for the feasible assignments of a network has flows that stand one to one
-/// for the feasible assignments of names and keys of the model as it is written, with the chosen objective's values.
+/// Theorem: a problem whose feasible flows correspond one to one to the feasible assignments of a
+/// network has flows that correspond one to one to the feasible assignments of names and keys of
+/// the model as written, with the values of the chosen objective.
 pub fn flows_stand_for_assignments()
     ensures value { CorrespondAsWritten }
 {}
 
-/// Where no name of nodes or of arcs is declared twice, and no key twice by a declaration, no two nodes and no two arcs have
-/// both a name and a key. In a world whose declared sets are sets no declaration has a key twice.
+/// Theorem: if no name of nodes or of arcs is declared twice, and no declaration has a key twice,
+/// no two nodes and no two arcs have the same name and key. In a world whose declared sets are
+/// sets, no declaration has a key twice.
 pub fn names_declared_once_are_apart()
     ensures value { laws.AreDistinctAsDeclared }
     ensures sets { laws.AreDistinctInSets }
+{}
+
+/// Theorem: if the spans of all parts of the declarations are in a text of this size, so is that of
+/// the first error of their network.
+pub fn errors_lie_in_model()
+    ensures value { (size : ℕ) (wanted : Option Name) (w : World) (ds : List Declaration) → ModelStands (LiesIn size) ds
+        → Finds (LieIn size 0) (network wanted w ds) }
 {}

@@ -4,27 +4,29 @@ ghost use Rattle.std.specs.Prelude.{◌≡◌, ◌++◌, List, map, slice_get, I
 ghost use Rattle.std.specs.Option.{option_copied};
 ghost use Rattle.net_inst.specs.Lists as lists;
 
-use net_eval::Row;
+use net_expr::Row;
 use net_sets::Tuple;
 use net_views::Excerpt;
 use std::alloc::{AllocError, Global};
 use std::marker::Model;
 
-/// A declared name, and whether braces index it.
+/// A declared name, and whether it is indexed.
 #[derive(Drop)]
 pub struct Declared<'s> {
     pub name: Excerpt<'s>,
     pub indexed: bool,
 }
 
-/// A node or an arc: the number of its declaration, counted from 0, and its key; without braces that is the empty one.
+/// A node or an arc: the index of its declaration, counted from 0, and its key, which is empty
+/// without indexing.
 #[derive(Drop)]
 pub struct Key<'s> {
     pub declaration: usize,
     pub tuple: Tuple<'s>,
 }
 
-/// The declarations of nodes or of arcs in the model's order, and what they declare, in the order of declarations and of keys.
+/// The declarations of nodes or of arcs in model order, and their nodes or arcs in the order of
+/// declarations and of keys.
 #[derive(Drop)]
 pub struct NameList<'s> {
     declarations: Vec<Declared<'s>>,
@@ -48,7 +50,7 @@ pub struct Names<'s> {
 }
 
 impl<'s> NameList<'s> {
-    /// Nothing declared.
+    /// Creates an empty list.
     pub fn new(alloc: Global) -> NameList<'s>
         ensures { result ≡ lists.no_names }
     {
@@ -58,21 +60,22 @@ impl<'s> NameList<'s> {
         }
     }
 
-    /// The declared names, in the model's order, each with what is declared by it.
+    /// Returns the declared names, in model order.
     pub fn declarations(&self) -> &[Declared<'s>]
         ensures { result.now ≡ self.now.declarations }
     {
         self.declarations.as_slice()
     }
 
-    /// The nodes or arcs, those of one declaration together.
+    /// Returns the nodes or arcs, grouped by declaration.
     pub fn keys(&self) -> &[Key<'s>]
         ensures { result.now ≡ self.now.keys }
     {
         self.keys.as_slice()
     }
 
-    /// These, and one declaration more: its name, how many members its keys have where braces index it, and its keys.
+    /// Adds a declaration: its name, the number of its subscripts (`None` without indexing), and
+    /// its keys. Fails only if memory runs out.
     pub fn with(
         self,
         name: &Excerpt<'s>,
@@ -86,7 +89,7 @@ impl<'s> NameList<'s> {
         Ok(list)
     }
 
-    /// Adds a declaration behind those so far.
+    /// Adds a declaration. Fails only if memory runs out.
     pub(crate) fn declare(
         &mut self,
         name: &Excerpt<'s>,

@@ -15,7 +15,7 @@ use crate::fault::refuse;
 use crate::goal::ChosenObjective;
 use crate::names::Names;
 use crate::node::NodeDraft;
-use net_eval::World;
+use net_expr::{World, name_key};
 use net_fault::{Defect, Detail, Fault, Span};
 use net_lex::Token;
 use net_normal::Instance;
@@ -23,14 +23,14 @@ use net_tree::{Decl, Model};
 use net_views::Excerpt;
 use std::alloc::{AllocError, Global};
 
-/// A network of nodes and arcs by number, and the names that lead back to the model.
+/// A network of numbered nodes and arcs, and their names in the model.
 #[derive(Drop)]
 pub struct Named<'s> {
     pub instance: Instance,
     pub names: Names<'s>,
 }
 
-/// The last token of a declaration.
+/// Returns the last token of a declaration.
 fn semicolon<'a, 's>(declaration: &'a Decl<'s>) -> &'a Token<'s>
     ensures { result.now ≡ found.semicolon (declaration_of declaration.entry.now) }
 {
@@ -44,7 +44,7 @@ fn semicolon<'a, 's>(declaration: &'a Decl<'s>) -> &'a Token<'s>
     }
 }
 
-/// Where declarations end.
+/// Returns the end of the declarations.
 fn end_of(declarations: &[Decl<'_>]) -> usize
     ensures { result ≡ found.end_of 0 (map declaration_of declarations.now) }
 {
@@ -55,10 +55,10 @@ fn end_of(declarations: &[Decl<'_>]) -> usize
     end
 }
 
-/// Adds declarations in order to nothing.
+/// Adds declarations in order to a draft.
 fn draw<'s>(
     alloc: Global,
-    wanted: &Option<&'s str>,
+    wanted: &Option<&str>,
     world: &World<'s>,
     declarations: &[Decl<'s>],
     draft: &mut Draft<'s>,
@@ -72,7 +72,7 @@ fn draw<'s>(
     Ok(())
 }
 
-/// The network of these nodes and arcs, which are taken out of their drafts.
+/// Builds the network of these nodes and arcs; moves them out of their drafts.
 fn with_names<'s>(
     alloc: Global,
     nodes: &mut NodeDraft<'s>,
@@ -99,7 +99,8 @@ fn with_names<'s>(
     })
 }
 
-/// That there is no objective at all, or not the one of the given name.
+/// Builds the error for a missing objective: none at all, or none with the given name. Fails only
+/// if memory runs out.
 fn without_goal(
     alloc: Global,
     wanted: &Option<&str>,
@@ -119,10 +120,10 @@ fn without_goal(
     Ok(refuse(Defect::NoSuchObjective, at, detail))
 }
 
-/// What the declarations come to, once all are drawn.
+/// Builds the network after all declarations.
 fn finished<'s>(
     alloc: Global,
-    wanted: &Option<&'s str>,
+    wanted: &Option<&str>,
     end: usize,
     draft: &mut Draft<'s>,
 ) -> Result<Named<'s>, Fault>
@@ -138,11 +139,11 @@ fn finished<'s>(
     }
 }
 
-/// The network that declarations come to, which are drawn on an empty draft.
+/// Builds the network of declarations, starting from an empty draft.
 #[tactic(auto, unfolding(crate::specs::Instances::network))]
 fn network_on<'s>(
     alloc: Global,
-    wanted: &Option<&'s str>,
+    wanted: &Option<&str>,
     world: &World<'s>,
     declarations: &[Decl<'s>],
     draft: &mut Draft<'s>,
@@ -154,38 +155,48 @@ fn network_on<'s>(
     finished(alloc, wanted, end_of(declarations), draft)
 }
 
-/// The network of a model in its world.
+/// Creates the empty draft of a model, with the key of its declared names.
+fn empty_draft<'s>(alloc: Global, model: &Model<'s>) -> Draft<'s>
+    ensures { result ≡ drafts.nothing }
+{
+    Draft::new(alloc, name_key(model.declarations.as_slice()))
+}
+
+/// Returns the network of a model in its world.
 fn network_of<'s>(
     alloc: Global,
-    wanted: &Option<&'s str>,
+    wanted: &Option<&str>,
     world: &World<'s>,
     model: &Model<'s>,
 ) -> Result<Named<'s>, Fault>
     ensures { AnswersNetwork (found.network (option_copied wanted.now) world.now (declared_in model.now)) result }
 {
+    let mut draft = empty_draft(alloc, model);
     let declarations = model.declarations.as_slice();
-    let mut draft = Draft::new(alloc);
     network_on(alloc, wanted, world, declarations, &mut draft)
 }
 
-/// The network of a model in its world, with the objective of a name, or where none is given with the model's only one.
-/// Nodes and arcs are numbered in the order of their declarations, and within one in the order of its keys.
+/// Returns the network of a model in its world, with the objective of the given name, or the
+/// model's only objective if no name is given. Nodes and arcs are numbered in the order of their
+/// declarations, and within a declaration in the order of its keys.
 ///
-/// The first fault in that order is told: E50 to E55, E58 to E60 and the faults of values as the declarations come to them,
-/// E57 at a second objective where no name is given. Behind all declarations E56 is told where the model has no objective, and
-/// E61 where no objective has the given name. Other objectives than that one are not evaluated.
+/// Returns the first error in that order: E50 to E55, E58 to E60 and errors of values for each
+/// declaration in turn, and E57 at a second objective if no name is given. After all declarations,
+/// returns E56 if the model has no objective, and E61 if no objective has the given name. Does not
+/// evaluate other objectives.
 pub fn instantiate_for<'s>(
     alloc: Global,
     model: &Model<'s>,
     world: &World<'s>,
-    objective: Option<&'s str>,
+    objective: Option<&str>,
 ) -> Result<Named<'s>, Fault>
     ensures { AnswersNetwork (found.network (option_copied objective.entry) world.now (declared_in model.now)) result }
 {
     network_of(alloc, &objective, world, model)
 }
 
-/// The network of a model in its world, with the model's only objective; else as [`instantiate_for`].
+/// Returns the network of a model in its world with the model's only objective, like
+/// [`instantiate_for`] without a name.
 pub fn instantiate<'s>(
     alloc: Global,
     model: &Model<'s>,

@@ -13,21 +13,19 @@ use crate::fault::{refuse, refuse_name};
 use crate::group::Group;
 use crate::indexing::{Indexing, indexing_of};
 use crate::names::NameList;
-use net_eval::{Env, Row, told_reference};
+use net_expr::{Env, Row, told_reference};
 use net_fault::{Defect, Fault};
 use net_lex::Token;
 use net_linear::{ArcKeys, node_range};
-use net_normal::NodeRange;
+use net_normal::{NODE_LIMIT, NodeRange};
+use net_sets::HashKey;
 use net_tree::{Braces, NetCond};
 use net_views::Excerpt;
 use std::alloc::Global;
 use std::marker::Model;
 use std::mem;
 
-/// How many nodes a network may have.
-const NODE_LIMIT: usize = 10_000;
-
-/// What a declaration says of its nodes.
+/// The parts of a declaration of nodes.
 #[derive(Clone, Copy)]
 struct NodeText<'a, 's> {
     /// The declared name.
@@ -54,7 +52,8 @@ impl<'s> Model for NodeDraft<'s> {
     ghost invariant = { λ d. length d.ranges.items ≤ node_limit };
 }
 
-/// The range of a node at a key; that no net inflow meets its condition is told of the node, at its declared name.
+/// Returns the range of the node at a key. A condition that no net inflow satisfies is reported at
+/// the declared name, with the node.
 fn range_at<'s>(
     alloc: Global,
     env: &Env<'_, 's>,
@@ -73,7 +72,7 @@ fn range_at<'s>(
     }
 }
 
-/// One node more, at a key.
+/// Adds the node at a key.
 fn push_range<'s>(
     alloc: Global,
     env: &Env<'_, 's>,
@@ -97,7 +96,7 @@ fn push_range<'s>(
     }
 }
 
-/// A node for each key, behind those so far.
+/// Adds a node for each key.
 fn push_ranges<'s>(
     alloc: Global,
     env: &Env<'_, 's>,
@@ -119,17 +118,17 @@ fn push_ranges<'s>(
 }
 
 impl<'s> NodeDraft<'s> {
-    /// No nodes.
-    pub(crate) fn new(alloc: Global) -> NodeDraft<'s>
+    /// Creates a draft without nodes. The key has to come from all names that will be declared.
+    pub(crate) fn new(alloc: Global, key: HashKey) -> NodeDraft<'s>
         ensures { result ≡ nodes.no_nodes }
     {
         NodeDraft {
             ranges: Vec::new(alloc),
-            group: Group::new(alloc),
+            group: Group::new(alloc, key),
         }
     }
 
-    /// How many nodes there are.
+    /// Returns the number of nodes.
     pub(crate) fn len(&self) -> usize
         ensures value { result ≡ length self.now.ranges }
         ensures few { result ≤ node_limit }
@@ -137,21 +136,21 @@ impl<'s> NodeDraft<'s> {
         self.ranges.len()
     }
 
-    /// The number of the next node.
+    /// Returns the number of the next node.
     fn next_number(&self) -> u32
         ensures { result ≡ length self.now.ranges }
     {
         self.len() as u32
     }
 
-    /// The keys of a declared name, and the number of its first node.
+    /// Returns the keys of a declared name, and the number of its first node.
     pub(crate) fn keys_of(&self, name: &Excerpt<'s>) -> Option<&ArcKeys<'s>>
         ensures { option_copied result ≡ declared self.now.group.numbers name.now }
     {
         self.group.numbers.get(name)
     }
 
-    /// Adds the nodes at some keys of a declaration behind those so far.
+    /// Adds the nodes of a declaration at its keys.
     fn declare_at(
         &mut self,
         alloc: Global,
@@ -168,7 +167,7 @@ impl<'s> NodeDraft<'s> {
         Ok(())
     }
 
-    /// Adds the nodes of a declaration behind those of the declarations before it.
+    /// Adds the nodes of a declaration.
     pub(crate) fn declare(
         &mut self,
         alloc: Global,
@@ -184,7 +183,7 @@ impl<'s> NodeDraft<'s> {
         self.declare_at(alloc, env, &text, &indexing)
     }
 
-    /// The nodes' ranges, which it has no more then.
+    /// Moves the ranges of the nodes out of the draft.
     pub(crate) fn take_ranges(&mut self, alloc: Global) -> Vec<NodeRange>
         ensures ranges { map sides_of result.items ≡ self.old.ranges }
         ensures count { length result.items ≡ length self.old.ranges }
@@ -194,7 +193,7 @@ impl<'s> NodeDraft<'s> {
         mem::replace(&mut self.ranges, Vec::new(alloc))
     }
 
-    /// The nodes' names, which it has no more then.
+    /// Moves the names of the nodes out of the draft.
     pub(crate) fn take_names(&mut self, alloc: Global) -> NameList<'s>
         ensures { result ≡ self.old.group.list }
     {

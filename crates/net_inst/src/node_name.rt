@@ -1,4 +1,4 @@
-//! The nodes that `from` and `to` name.
+//! The nodes that `from` and `to` refer to.
 
 ghost use Rattle.std.specs.Prelude.{◌≡◌, ◌+◌, ◌<◌, ◌≤◌, ◌^◌, [], option_map, length, IfOk};
 ghost use Rattle.std.specs.Option.{option_copied};
@@ -6,7 +6,7 @@ ghost use Rattle.net_sets.specs.Sets.{place_of};
 ghost use Rattle.net_tree.specs.Spans as trees;
 ghost use Rattle.net_tree.specs.View.{tree, links_of};
 ghost use Rattle.net_normal.specs.Limits.{node_limit};
-ghost use Rattle.net_eval.specs.Worlds as worlds;
+ghost use Rattle.net_expr.specs.Worlds as worlds;
 ghost use Rattle.net_linear.specs.Arcs.{declared};
 ghost use Rattle.net_fault.specs.declared.defect.Defect.TheVariants.{NoSuchNode};
 ghost use Rattle.net_fault.specs.declared.fault.Fault.TheVariants.{At};
@@ -16,7 +16,7 @@ ghost use Rattle.net_fault.specs.Outcomes.{Answers, found as finding};
 
 use crate::fault::refuse;
 use crate::node::NodeDraft;
-use net_eval::{Env, Scope, refuse_tree, told_reference};
+use net_expr::{Env, Scope, refuse_tree, told_reference};
 use net_fault::{Defect, Detail, Fault, Span};
 use net_lex::Token;
 use net_linear::{ArcKeys, key_of};
@@ -25,13 +25,13 @@ use net_tree::{Expr, Link, span_of};
 use net_views::Excerpt;
 use std::alloc::{AllocError, Global};
 
-/// A reference to a node, by a declared name at a key.
+/// A reference to a node, by a declared name and a key.
 #[derive(Clone, Copy)]
 struct Reference<'a, 's> {
-    /// Where it stands.
+    /// Its span.
     at: Span,
     name: &'a Excerpt<'s>,
-    /// How many members the keys of the name have.
+    /// The number of members of the keys of the name.
     count: Option<u8>,
     key: &'a Tuple<'s>,
 }
@@ -45,7 +45,8 @@ fn key_count(count: Option<u8>) -> usize
     }
 }
 
-/// The fault of a node that there is none of, told with its key.
+/// Builds the error for a node that does not exist; the reference is its detail. Fails only if
+/// memory runs out.
 fn no_such_node(alloc: Global, reference: &Reference<'_, '_>) -> Result<Fault, AllocError>
     ensures { IfOk result (λ f. f ≡ At (finding InModel NoSuchNode reference.now.at (worlds.reference reference.now.name.now reference.now.count
         reference.now.key.now))) }
@@ -54,7 +55,7 @@ fn no_such_node(alloc: Global, reference: &Reference<'_, '_>) -> Result<Fault, A
     Ok(refuse(Defect::NoSuchNode, reference.at, detail))
 }
 
-/// The number of the node at a place of a declaration.
+/// Returns the number of the node with this index in its declaration.
 fn number_behind(keys: &ArcKeys<'_>, place: usize) -> usize
     requires { place < length keys.now.index }
     ensures { result ≡ keys.now.first + place }
@@ -64,7 +65,7 @@ fn number_behind(keys: &ArcKeys<'_>, place: usize) -> usize
     keys.first as usize + place
 }
 
-/// A number, where it is that of one of so many nodes.
+/// Returns a number if it is that of one of `count` nodes, or an error.
 fn among(
     alloc: Global,
     count: usize,
@@ -82,7 +83,7 @@ fn among(
     }
 }
 
-/// The node at a key of a declaration.
+/// Returns the node with a key in a declaration.
 fn numbered<'s>(
     alloc: Global,
     count: usize,
@@ -110,7 +111,7 @@ fn numbered<'s>(
     }
 }
 
-/// The node that a name has at a key.
+/// Returns the node with a name and a key.
 fn node_at<'s>(
     alloc: Global,
     count: usize,
@@ -137,7 +138,7 @@ fn node_at<'s>(
     }
 }
 
-/// The node that a declared name has at a key.
+/// Returns the node with a declared name and a key.
 fn declared_node<'s>(
     alloc: Global,
     nodes: &NodeDraft<'s>,
@@ -152,7 +153,7 @@ fn declared_node<'s>(
     node_at(alloc, nodes.len(), whole, &name.text, keys, key)
 }
 
-/// A name, and its subscripts where it has any.
+/// Returns a name and its subscripts, if there are any.
 #[tactic(auto, using(net_tree::proofs::Views::views))]
 fn name_in<'a, 's>(
     expr: &'a Expr<'s>,
@@ -171,7 +172,7 @@ fn name_in<'a, 's>(
     }
 }
 
-/// The number of the node that is named; its subscripts are evaluated first.
+/// Returns the number of the node of a reference; its subscripts are evaluated first.
 pub(crate) fn node_named<'s>(
     alloc: Global,
     env: &Env<'_, 's>,

@@ -1,16 +1,16 @@
-//! What objectives say themselves.
+//! The expressions of objectives.
 
 ghost use Rattle.net_tree.specs.View.{tree, option_part};
 ghost use Rattle.net_inst.specs.Drafts as found;
 ghost use Rattle.net_fault.specs.Outcomes.{Answers};
 
-use net_eval::{Env, Scope};
+use net_expr::{Env, Scope};
 use net_fault::Fault;
 use net_linear::{Affine, ArcNames, objective};
 use net_tree::{Expr, Part};
 use std::alloc::Global;
 
-/// The form of an objective's expression.
+/// Returns the linear form of an objective's expression.
 fn form_of<'s>(
     alloc: Global,
     arcs: &ArcNames<'s>,
@@ -23,7 +23,7 @@ fn form_of<'s>(
     objective(alloc, arcs, env, &scope, expr)
 }
 
-/// What an objective says itself of the arcs declared before it.
+/// Returns the linear form of the objective's own expression, over the arcs declared before it.
 #[tactic(auto, using(net_tree::proofs::Views::views))]
 pub(crate) fn said_form<'s>(
     alloc: Global,

@@ -1,4 +1,4 @@
-//! What the phrases of an arc say.
+//! The contents of an arc's phrases.
 
 ghost use Rattle.std.specs.Prelude.{◌≡◌, map, option_map};
 ghost use Rattle.std.specs.Option.{option_copied};
@@ -14,7 +14,7 @@ use net_lex::Token;
 use net_tree::{Begins, Body, Expr, Phrase, Relation, Role, role_of};
 use std::alloc::Global;
 
-/// The words of an arc's phrases that stand at most once.
+/// The keyword of an arc's phrase that is allowed only once.
 #[derive(Clone, Copy)]
 pub(crate) enum ArcWord {
     /// `>=`
@@ -25,7 +25,7 @@ pub(crate) enum ArcWord {
     To,
 }
 
-/// What the phrases of an arc say of its bounds, and of its ends where they are said.
+/// The bounds of an arc, and its ends if given, from its phrases.
 #[derive(Clone, Copy)]
 pub(crate) struct ArcParts<'a, 's> {
     pub(crate) lower: &'a Expr<'s>,
@@ -56,7 +56,7 @@ fn value_in<'a, 's>(body: &'a Body<'s>) -> Option<&'a Expr<'s>>
     }
 }
 
-/// What stands behind a word.
+/// Returns the expression of the phrase with this keyword.
 fn said<'a, 's>(word: ArcWord, phrases: &'a [Phrase<'s>]) -> Option<&'a Expr<'s>>
     ensures { option_map tree (option_copied result) ≡ saying.said word (map phrase_of phrases.entry.now) }
 {
@@ -68,7 +68,7 @@ fn said<'a, 's>(word: ArcWord, phrases: &'a [Phrase<'s>]) -> Option<&'a Expr<'s>
     None
 }
 
-/// Both bounds have to be there, and one end.
+/// Returns the parts of an arc; both bounds and at least one end are required.
 fn parts_from<'a, 's>(
     alloc: Global,
     name: &Token<'s>,
@@ -93,7 +93,8 @@ fn parts_from<'a, 's>(
     }
 }
 
-/// What the phrases of an arc say; the first that is lacking is told at the declared name.
+/// Returns the parts of an arc from its phrases; the first missing one is reported at the declared
+/// name.
 pub(crate) fn parts_of<'a, 's>(
     alloc: Global,
     name: &Token<'s>,

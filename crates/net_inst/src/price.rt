@@ -1,4 +1,4 @@
-//! What arcs give to the chosen objective.
+//! The contributions of arcs to the chosen objective.
 
 ghost use Rattle.std.specs.Prelude.{◌≡◌, map};
 ghost use Rattle.net_tree.specs.Spans as trees;
@@ -10,7 +10,7 @@ ghost use Rattle.net_fault.specs.Outcomes.{Leaves};
 use crate::goal::ChosenObjective;
 use crate::number::number_of;
 use crate::visible::Visible;
-use net_eval::{Env, Scope};
+use net_expr::{Env, Scope};
 use net_fault::Fault;
 use net_linear::{Affine, with_price};
 use net_tree::{Body, Expr, Phrase};
@@ -18,7 +18,7 @@ use net_views::Excerpt;
 use std::alloc::Global;
 use std::mem;
 
-/// Whether a name is that of the chosen objective.
+/// Returns whether a name is that of the chosen objective.
 fn is_goal<'s>(goal: &Option<ChosenObjective<'s>>, name: &Excerpt<'s>) -> bool
     ensures { result ≡ found.is_goal goal.now name.now }
 {
@@ -28,7 +28,7 @@ fn is_goal<'s>(goal: &Option<ChosenObjective<'s>>, name: &Excerpt<'s>) -> bool
     }
 }
 
-/// Adds a price of an arc.
+/// Adds to the coefficient of an arc.
 fn add_price(
     alloc: Global,
     arc: usize,
@@ -43,7 +43,7 @@ fn add_price(
     Ok(())
 }
 
-/// Adds what an expression gives an arc.
+/// Adds the value of an expression to the coefficient of an arc.
 fn add_value<'s>(
     alloc: Global,
     env: &Env<'_, 's>,
@@ -58,7 +58,8 @@ fn add_value<'s>(
     add_price(alloc, arc, expr, &price, form)
 }
 
-/// Adds what a phrase gives an arc; phrases of other objectives are passed over.
+/// Adds the contribution of a phrase to the coefficient of an arc; skips phrases for other
+/// objectives.
 fn add_phrase<'s>(
     alloc: Global,
     visible: &Visible<'_, 's>,
@@ -82,7 +83,7 @@ fn add_phrase<'s>(
     }
 }
 
-/// Adds what all phrases give an arc, in the order of the text.
+/// Adds the contributions of all phrases to the coefficient of an arc, in text order.
 pub(crate) fn add_phrases<'s>(
     alloc: Global,
     visible: &Visible<'_, 's>,

@@ -1,8 +1,10 @@
+//! The names that are visible to a declaration of arcs.
+
 use crate::goal::ChosenObjective;
 use crate::node::NodeDraft;
-use net_eval::Env;
+use net_expr::Env;
 
-/// What a declaration of arcs may refer to: what is declared before it.
+/// What is visible to a declaration of arcs: what is declared before it.
 #[derive(Clone, Copy)]
 pub(crate) struct Visible<'a, 's> {
     /// The sets and parameters.

@@ -1,20 +1,24 @@
-//! Why bytes did not come or go.
+//! Errors of reading and writing.
 
 ghost use Rattle.std.specs.Prelude.{◌≡◌};
 ghost use Rattle.net_io.specs.declared.failed.ReadFault.TheVariants as read_faults;
 
 use std::alloc::AllocError;
+use thiserror::Error;
 
-/// A read or a write failed.
-#[derive(Clone, Copy, Debug)]
+/// An error of a read or a write.
+#[derive(Clone, Copy, Debug, Error)]
+#[error("a read or a write failed")]
 pub struct Failed;
 
 /// Why a source could not be read.
-#[derive(Clone, Copy, Debug)]
+#[derive(Clone, Copy, Debug, Error)]
 pub enum ReadFault {
-    /// There was no memory for the text.
+    /// Allocation failed.
+    #[error("out of memory")]
     OutOfMemory,
     /// A read of the source failed.
+    #[error("a read failed")]
     Failed,
 }
 

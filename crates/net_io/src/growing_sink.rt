@@ -5,17 +5,17 @@ ghost use Rattle.std.specs.Prelude.{◌≡◌, false, Some};
 use crate::failed::Failed;
 use crate::sink::Sink;
 
-/// A sink that puts bytes behind those of a vector. A write fails where there is no memory for them.
+/// A sink that appends to a vector. A write fails if allocation fails.
 #[derive(Drop)]
 pub struct GrowingSink {
-    /// The vector with the bytes taken so far.
+    /// The vector with the bytes written so far.
     pub taken: Vec<u8>,
     /// Whether a write has failed.
     pub failed: bool,
 }
 
 impl GrowingSink {
-    /// No write has failed yet.
+    /// Creates a sink for which no write has failed.
     pub fn new(taken: Vec<u8>) -> GrowingSink
         ensures taken { result.taken ≡ taken }
         ensures flag { result.failed ≡ false }

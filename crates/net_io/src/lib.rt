@@ -1,4 +1,4 @@
-//! The ends that bytes come from and go to: sources and sinks, in memory and of std's readers and writers.
+//! Byte streams: sources and sinks, in memory or based on std's readers and writers.
 #![tactic(auto)]
 
 mod failed;

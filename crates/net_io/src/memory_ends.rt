@@ -1,4 +1,4 @@
-//! Sources and sinks in memory, which can be told to fail.
+//! Sources and sinks in memory, which can simulate failures.
 
 ghost use Rattle.std.specs.Prelude.{◌≡◌, ℕ, ◌+◌, ◌-◌, ◌^◌, ◌<◌, ◌≤◌, ◌||◌, ◌&&◌, ◌==◌, ◌++◌, min, false, not, is_err, length, take, IfOk, OnErr, Some};
 ghost use Rattle.std.specs.Prelude.{vec_len, vec_capacity};
@@ -10,24 +10,25 @@ use crate::failed::Failed;
 use crate::sink::Sink;
 use crate::source::Source;
 
-/// A source of known bytes.
+/// A source that returns known bytes.
 #[derive(Drop)]
 pub struct MemorySource<'b> {
-    /// The bytes to come.
+    /// The bytes that are left to read.
     pub rest: &'b [u8],
-    /// The most bytes that one read gives.
+    /// The most bytes that one read returns.
     pub bytes_per_call: usize,
-    /// Where a read is to fail, the number of reads before it. All reads after it fail too.
+    /// The number of reads before the first failing one, if reads are to fail. All later reads fail
+    /// too.
     pub calls_before_failure: Option<u64>,
     /// Whether a read has failed.
     pub failed: bool,
-    /// How many reads there were, or `u64::MAX`.
+    /// The number of reads so far, at most `u64::MAX`.
     pub reads: u64,
     pub ghost some_bytes: { 1 ≤ bytes_per_call },
 }
 
 impl<'b> MemorySource<'b> {
-    /// A source of these bytes, at most so many a call.
+    /// Creates a source of `rest`, which returns at most `bytes_per_call` bytes in each read.
     pub fn new(
         rest: &'b [u8],
         bytes_per_call: usize,
@@ -82,7 +83,7 @@ impl Source for MemorySource<'_> {
     }
 }
 
-/// Counts one call. Answers false where it is to fail.
+/// Counts one call. Returns false if the call must fail.
 fn counts_down(calls: &mut Option<u64>) -> bool
     ensures due { result ≡ not (is_due calls.old) }
     ensures left { calls.new ≡ counted calls.old }
@@ -97,16 +98,17 @@ fn counts_down(calls: &mut Option<u64>) -> bool
     }
 }
 
-/// A sink that fills the room of a vector, and takes no memory.
+/// A sink that fills a vector up to its capacity and allocates nothing.
 #[derive(Drop)]
 pub struct MemorySink {
-    /// The vector with the bytes taken so far.
+    /// The vector with the bytes written so far.
     pub taken: Vec<u8>,
-    /// How many bytes it still takes.
+    /// The number of bytes that still fit.
     pub room: usize,
-    /// The most bytes that one write takes.
+    /// The most bytes that one write accepts.
     pub bytes_per_call: usize,
-    /// Where a write is to fail, the number of writes before it. All writes after it fail too.
+    /// The number of writes before the first failing one, if writes are to fail. All later writes
+    /// fail too.
     pub calls_before_failure: Option<u64>,
     /// Whether a write has failed.
     pub failed: bool,
@@ -115,7 +117,8 @@ pub struct MemorySink {
 }
 
 impl MemorySink {
-    /// A sink that fills the room of a vector, by at most so many bytes a call.
+    /// Creates a sink that fills a vector up to its capacity, with at most `bytes_per_call` bytes
+    /// in each write.
     pub fn new(
         taken: Vec<u8>,
         bytes_per_call: usize,
@@ -138,7 +141,7 @@ impl MemorySink {
         }
     }
 
-    /// Takes the bytes that one write takes, and answers how many.
+    /// Appends the bytes that one write accepts, and returns their number.
     fn fill(&mut self, bytes: &[u8]) -> usize
         ensures count { result ≡ min (min self.old.bytes_per_call (length bytes.now)) self.old.room }
         ensures bytes { self.new.taken.items ≡ self.old.taken.items ++ take result bytes.now }

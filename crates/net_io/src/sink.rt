@@ -1,4 +1,4 @@
-//! Where bytes go to.
+//! Sinks of bytes.
 
 ghost use Rattle.std.specs.Prelude.{◌≡◌, ℕ, ◌<◌, Bool, ◌||◌, List, Option, None, is_err, IfOk, OnOk, OnErr, length};
 ghost use Rattle.std.specs.Io.{WritesAtMost};
@@ -7,15 +7,16 @@ ghost use Rattle.net_io.specs.Ends.{WritesFront};
 
 use crate::failed::Failed;
 
-/// What takes bytes.
+/// A destination of bytes.
 pub trait Sink {
-    // The bytes that it took, where they are known.
+    // The bytes written so far, if they are known.
     ghost taken: { Self → Option (List ℕ) } = { λ _. None };
 
     // Whether a write has failed.
     ghost failed: { Self → Bool };
 
-    /// Takes a front of the bytes, and answers how many that were: at least one, where there is one.
+    /// Writes a prefix of `bytes` and returns its length, which is positive unless `bytes` is
+    /// empty.
     fn write(&mut self, bytes: &[u8]) -> Result<usize, Failed>
         ensures bound { WritesAtMost result bytes.now }
         ensures some { IfOk result (λ n. 0 < length bytes.now → 0 < n) }
@@ -23,7 +24,7 @@ pub trait Sink {
         ensures flag { failed self.new ≡ (failed self.old || is_err result) };
 }
 
-/// Writes a text whole. After a `Failed` a front of it went out.
+/// Writes all of `text`. On an error, a prefix was written.
 pub fn write_whole<W: Sink>(sink: &mut W, text: &[u8]) -> Result<(), Failed>
     ensures ok { OnOk result (Appends (W.taken sink.old) (W.taken sink.new) text.now) }
     ensures err { OnErr result (WritesFront (W.taken sink.old) (W.taken sink.new) text.now) }

@@ -1,4 +1,4 @@
-//! Where bytes come from.
+//! Sources of bytes.
 
 ghost use Rattle.std.specs.Prelude.{◌≡◌, ℕ, ◌+◌, ◌-◌, ◌^◌, ◌<◌, ◌≤◌, ◌⊎◌, Bool, true, ◌||◌, min, List, Option, None, is_err, IfOk, OnErr, IsErrOf, vec_len};
 ghost use Rattle.std.specs.Io.{ReadsAtMost};
@@ -10,17 +10,17 @@ use std::alloc::Global;
 
 /// A source of bytes.
 pub trait Source {
-    // The bytes that reads will give from here on, where they are known.
+    // The bytes that are left to read, if they are known.
     ghost remaining: { Self → Option (List ℕ) } = { λ _. None };
 
     // Whether a read has failed.
     ghost failed: { Self → Bool };
 
-    // How many reads there were, cut off at the greatest number of 64 bits.
+    // The number of reads so far, at most 2^64 - 1.
     ghost reads: { Self → ℕ };
 
-    /// Reads into the front of `buf`, and answers how many bytes that were: 0 into a slice with
-    /// room is the end.
+    /// Reads into the beginning of `buf` and returns the number of bytes. 0 means the end, if `buf`
+    /// is not empty.
     fn read(&mut self, buf: &mut [u8]) -> Result<usize, Failed>
         ensures bound { ReadsAtMost result buf.new }
         ensures bytes { ReadConsumes (remaining self.old) (remaining self.new) result buf.new }
@@ -28,12 +28,12 @@ pub trait Source {
         ensures reads { reads self.new ≡ min (reads self.old + 1) (2 ^ 64 - 1) };
 }
 
-/// How much is read at once.
+/// The size of the read buffer, in bytes.
 const PIECE: usize = 4096;
 
-/// Reads a source to its end, or to one byte past a limit, by at most one read more than the limit.
+/// Reads a source to its end, or up to `limit + 1` bytes, with at most `limit + 1` reads.
 ///
-/// Where it fails, what was read so far is gone: a front of at most one byte past the limit.
+/// On an error, the bytes read so far (at most `limit + 1`) are lost.
 pub fn read_to_limit<S: Source>(
     alloc: Global,
     source: &mut S,

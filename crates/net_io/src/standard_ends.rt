@@ -1,4 +1,4 @@
-//! Sources and sinks made of the readers and writers of std.
+//! Sources and sinks based on std's readers and writers.
 
 ghost use Rattle.std.specs.Prelude.{◌≡◌, false};
 
@@ -7,18 +7,18 @@ use crate::sink::Sink;
 use crate::source::Source;
 use std::io::{Read, Write};
 
-/// A reader as a source. Each error of the reader, an interruption too, is `Failed`.
+/// A reader as a source. Each error of the reader, including an interruption, is `Failed`.
 #[derive(Drop)]
 pub struct OfRead<R> {
     pub reader: R,
     /// Whether a read has failed.
     pub failed: bool,
-    /// How many reads there were, or `u64::MAX`.
+    /// The number of reads so far, at most `u64::MAX`.
     pub reads: u64,
 }
 
 impl<R> OfRead<R> {
-    /// Nothing was read yet.
+    /// Creates a source from which nothing has been read.
     pub fn new(reader: R) -> OfRead<R>
         ensures reader { result.reader ≡ reader }
         ensures flag { result.failed ≡ false }
@@ -51,7 +51,8 @@ impl<R: Read> Source for OfRead<R> {
     }
 }
 
-/// A writer as a sink. Each error of the writer is `Failed`, and so is a write that takes no byte.
+/// A writer as a sink. Each error of the writer is `Failed`, and so is a write that accepts no
+/// bytes.
 #[derive(Drop)]
 pub struct OfWrite<W> {
     pub writer: W,
@@ -60,7 +61,7 @@ pub struct OfWrite<W> {
 }
 
 impl<W> OfWrite<W> {
-    /// No write has failed yet.
+    /// Creates a sink for which no write has failed.
     pub fn new(writer: W) -> OfWrite<W>
         ensures writer { result.writer ≡ writer }
         ensures flag { result.failed ≡ false }

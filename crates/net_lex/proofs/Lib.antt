@@ -21,6 +21,8 @@ pub mod Unique
 pub mod UniqueReading
 pub mod FaultReading
 pub mod SpanLemmas
+pub mod Existence
 pub mod Telling
 pub mod FirstFaults
 pub mod Rising
+pub mod LineEnds

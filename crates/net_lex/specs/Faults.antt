@@ -1,4 +1,5 @@
--- The first fault of a text (AMPL book, section A.1, for the forms; the limits and the order are this profile's).
+-- The first error of a text (AMPL book, section A.1, for the forms; the limits and the order are
+-- those of this profile).
 use Rattle.std.specs.Prelude.{◌≡◌, ℕ, ◌+◌, ◌≤◌, ◌<◌, true, false, List, ◌∷◌, ◌++◌, length}
 use Rattle.std.specs.Char.{encode_utf8}
 use Rattle.std.specs.Str.{IsUtf8, IsValidUpTo}
@@ -21,11 +22,12 @@ use Rattle.net_lex.specs.Numerals.{IsNumFault}
 use Rattle.net_lex.specs.Tokens.{IsInside, Allows}
 use Rattle.net_lex.specs.Reading.{IsLongest, IsNext, BeginsNoComment, StandIn, IsSound}
 
--- a string ends where its delimiter is not doubled
+-- a string token is not followed by its delimiter, which would continue it as a doubled delimiter
 abbrev pub EndsWhole : Kind → (text after : List ℕ) → Type 0
 EndsWhole kind text after = kind ≡ Str → first after ≡ first text → ⊥
 
--- what is wrong where a token should begin, from one byte up to another, counted from there
+-- an error in `text` at the position of the next token: its kind, and the range of bytes that it
+-- covers
 pub data IsDefect (limits : Limits) (language : Language) (text : List ℕ) : Defect → ℕ → ℕ → Type 0 where
   -- a character with which no token begins
   no_token : (c : ℕ) (after : List ℕ) → IsUtf8 text → text ≡ encode_utf8 c ++ after → is_quote (first text) ≡ false
@@ -34,7 +36,7 @@ pub data IsDefect (limits : Limits) (language : Language) (text : List ℕ) : De
   -- a control character in a string
   control : (delimiter c : ℕ) (inside after : List ℕ) → is_quote delimiter ≡ true → IsInside delimiter inside → is_control c ≡ true
       → text ≡ delimiter ∷ (inside ++ c ∷ after) → IsDefect limits language text BadCharacter (length inside + 1) (length inside + 2)
-  -- a string that the text's end leaves open
+  -- a string without a closing delimiter
   open_string : (delimiter : ℕ) (inside : List ℕ) → is_quote delimiter ≡ true → IsInside delimiter inside
       → text ≡ delimiter ∷ inside → IsDefect limits language text OpenString 0 1
   too_long : (kind : Kind) (word after : List ℕ) → text ≡ word ++ after → IsLongest language kind word after → EndsWhole kind word after
@@ -44,20 +46,20 @@ pub data IsDefect (limits : Limits) (language : Language) (text : List ℕ) : De
   too_large : (word after : List ℕ) → text ≡ word ++ after → IsLongest language Num word after
       → length word ≤ limits.token → IsNumFault limits.value word num.TooLarge → IsDefect limits language text NumeralTooLarge 0 (length word)
 
--- what is wrong behind the blanks and comments from the byte `at` on
+-- an error after the blanks and comments at byte `at`
 pub data IsFault (limits : Limits) (language : Language) (at : ℕ) (rest : List ℕ) (defect : Defect) (span : Span) : Type 0 where
   comment : (gap opened : List ℕ) → rest ≡ gap ++ opened → IsGap gap → IsOpenComment opened
       → defect ≡ OpenComment → span ≡ record { start = at + length gap; end = at + length gap + 2 } → IsFault limits language at rest defect span
   token : (gap text : List ℕ) (from to : ℕ) → rest ≡ gap ++ text → IsGap gap → is_blank (first text) ≡ false → BeginsNoComment text → IsDefect limits language text defect from to
       → span ≡ record { start = at + length gap + from; end = at + length gap + to } → IsFault limits language at rest defect span
 
--- a token that is read before the fault is sound, and a string among them ends whole
+-- the next token, which precedes the error, is valid, and if it is a string it is complete
 pub record IsSoundNext (limits : Limits) (language : Language) (at : ℕ) (rest : List ℕ) (token : Token) (gap after : List ℕ) : Type 0 where
   pub next : IsNext language at rest token gap after
   pub whole : EndsWhole token.kind token.text after
   pub sound : IsSound limits.token limits.value token.kind token.text
 
--- the first fault of a text of a language with a greatest length
+-- the first error of a text in a language with a length limit
 pub data IsFirstFault (limits : Limits) (language : Language) (text_limit : ℕ) (text : List ℕ) (defect : Defect) (span : Span) : Type 0 where
   text_too_long : text_limit < length text → defect ≡ TextTooLong → span ≡ record { start = 0; end = 0 } → IsFirstFault limits language text_limit text defect span
   not_utf8 : (good : ℕ) → length text ≤ text_limit → IsValidUpTo text good → defect ≡ NotUtf8 → span ≡ record { start = good; end = good + 1 }
@@ -66,21 +68,21 @@ pub data IsFirstFault (limits : Limits) (language : Language) (text_limit : ℕ)
       → StandIn (IsSoundNext limits language) (λ at rest. IsFault limits language at rest defect span) 0 text tokens
       → IsFirstFault limits language text_limit text defect span
 
--- the tokens stand in the text, each sound, and Ends holds behind them
+-- the tokens occur in the text in order, each valid, and Ends holds after them
 abbrev pub StandSound : Limits → Language → (ℕ → List ℕ → Type 0) → ℕ → List ℕ → List Token → Type 0
 StandSound limits language Ends at rest tokens = StandIn (IsSoundNext limits language) Ends at rest tokens
 
--- a sound token begins the text
+-- the text begins with a valid token
 abbrev pub BeginsWithToken : Limits → Language → List ℕ → Type 0
 BeginsWithToken limits language text = (token : Token) × (gap : List ℕ) × (after : List ℕ) × IsSoundNext limits language 0 text token gap after
 
--- what is wrong behind tokens that are sound; memory is wanted for a first token, and not before
+-- an error after valid tokens; memory can run out only after a first token
 abbrev pub IsFaultBehind : Limits → Language → List ℕ → Fault → Type 0
 IsFaultBehind limits language text OutOfMemory = BeginsWithToken limits language text
 IsFaultBehind limits language text (At f) =
     (f ≡ bare language f.defect f.at) × (tokens : List Token) × StandSound limits language (λ at rest. IsFault limits language at rest f.defect f.at) 0 text tokens
 
--- a fault's place is in the text
+-- the span of the error is within the text
 abbrev pub HasPlace : List ℕ → Fault → Type 0
 HasPlace text OutOfMemory = Unit {0}
 HasPlace text (At f) = (f.at.start ≤ f.at.end) × (f.at.end ≤ length text)

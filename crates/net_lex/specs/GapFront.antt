@@ -1,11 +1,12 @@
--- The blanks and comments at the front of a text, byte by byte (AMPL book, section A.1).
+-- The blanks and comments at the beginning of a text, byte by byte (AMPL book, section A.1).
 use Rattle.std.specs.Prelude.{ℕ, ◌==◌, ◌&&◌, List, [], ◌∷◌, if◌then◌else◌, Option, Some, None, is_some, unwrap_or, Result, Ok, Err}
 use Rattle.net_lex.specs.declared.gap.Place.{Place}
 use Rattle.net_lex.specs.declared.gap.Place.TheVariants.{Between, Line, Opening, Block, Closing}
 use Rattle.net_lex.specs.Bytes.{first}
 use Rattle.net_lex.specs.Characters.{is_blank, line_feed, hash, slash, star}
 
--- the place after the byte c, which `next` follows, or `None` where the blanks and comments end
+-- the state after the byte c, which is followed by `next`; `None` at the end of the blanks and
+-- comments
 abbrev pub place_after : Place → ℕ → ℕ → Option Place
 place_after Between c next =
     if is_blank c then Some Between
@@ -17,7 +18,7 @@ place_after Opening c next = Some Block
 place_after Block c next = if c == star && next == slash then Some Closing else Some Block
 place_after Closing c next = Some Between
 
--- where the last comment opened, if one is open
+-- the text from the start of the last comment that was opened
 abbrev pub opened_at : Place → List ℕ → List ℕ → List ℕ
 opened_at Between here opened = here
 opened_at Line here opened = opened
@@ -25,7 +26,7 @@ opened_at Opening here opened = opened
 opened_at Block here opened = opened
 opened_at Closing here opened = opened
 
--- what the text's end is in a place: the end, or a comment that was opened and not closed
+-- the result at the end of the text: the empty rest, or an unclosed comment
 abbrev pub gap_end : Place → List ℕ → Result (List ℕ) (List ℕ)
 gap_end Between opened = Ok []
 gap_end Line opened = Ok []
@@ -33,7 +34,7 @@ gap_end Opening opened = Err opened
 gap_end Block opened = Err opened
 gap_end Closing opened = Err opened
 
--- what follows the blanks and comments, or the text from the comment on that is not closed
+-- the text after the leading blanks and comments, or the text from an unclosed comment on
 unfoldable pub after_gap : Place → List ℕ → List ℕ → Result (List ℕ) (List ℕ)
 after_gap place opened [] = gap_end place opened
 after_gap place opened (c ∷ cs) =

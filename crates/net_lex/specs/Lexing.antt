@@ -1,4 +1,5 @@
--- What is answered of a model text or of a data text (AMPL book, section A.1): its tokens, or its first fault.
+-- The result of lexing a model or data file (AMPL book, section A.1): its tokens, or its first
+-- error.
 use Rattle.std.specs.Prelude.{◌≡◌, ℕ, ◌≤◌, List, length, Result, IfOk, IfErr, MatchResult}
 use Rattle.std.specs.List.{AllByRecursion}
 use Rattle.std.specs.Str.{IsUtf8}
@@ -14,29 +15,30 @@ use Rattle.net_lex.specs.Reading.{Reads, AreSound, IsSliceOf}
 use Rattle.net_lex.specs.Faults as faults
 use Rattle.net_lex.specs.Faults.{BeginsWithToken, HasPlace}
 
--- The text is short enough and UTF-8; these tokens read it; each is short enough, and each number of them has a whole
--- value that is small enough.
+-- The text is within the length limit and UTF-8; it consists of these tokens; each token is within
+-- its length limit, and the value of each numeral is an integer within its limit.
 pub record AreTokensOf (language : Language) (text : List ℕ) (tokens : List Token) : Type 0 where
   pub short : length text ≤ text_limit language
   pub utf8 : IsUtf8 text
   pub read : Reads language text tokens
   pub sound : AreSound limits.token limits.value tokens
 
--- the first fault of the text
+-- the first error of the text
 abbrev pub IsFirstFault : Language → List ℕ → Defect → Span → Type 0
 IsFirstFault language text defect span = faults.IsFirstFault limits language (text_limit language) text defect span
 
--- the first fault of the text, told with its place alone, or want of memory, where a token begins a text that is short enough and UTF-8
+-- the first error of the text, reported with its span alone; or memory ran out, in a text that is
+-- within the limit, is UTF-8 and begins with a token
 abbrev pub IsRefusal : Language → List ℕ → Fault → Type 0
 IsRefusal language text OutOfMemory = (length text ≤ text_limit language) × IsUtf8 text × BeginsWithToken limits language text
 IsRefusal language text (At f) = (f ≡ bare language f.defect f.at) × IsFirstFault language text f.defect f.at
 
--- The promise of the lexer.
+-- The contract of the lexer.
 pub record Lexes {V : Type 0} (items : V → List Token) (language : Language) (text : List ℕ) (answer : Result V Fault) : Type 0 where
-  -- the tokens of the text, or its first fault
+  -- the result is the tokens of the text, or its first error
   pub ok : IfOk answer (λ v. AreTokensOf language text (items v))
   pub refused : IfErr answer (IsRefusal language text)
-  -- a text that has tokens is refused for want of memory alone
+  -- a text that has tokens is rejected only if memory runs out
   pub complete : (tokens : List Token) → AreTokensOf language text tokens → MatchResult answer (λ v. items v ≡ tokens) (λ e. e ≡ OutOfMemory)
-  -- tokens are the slices at their spans, and a fault's span is in the text
+  -- each token is the slice of the text at its span, and the span of an error is within the text
   pub place : MatchResult answer (λ v. AllByRecursion (IsSliceOf text) (items v)) (HasPlace text)

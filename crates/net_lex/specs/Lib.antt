@@ -15,4 +15,5 @@ pub mod Tokens
 pub mod Reading
 pub mod Faults
 pub mod Scanning
+pub mod LineEnds
 pub mod Lexing

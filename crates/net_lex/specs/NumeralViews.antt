@@ -1,4 +1,4 @@
--- What the code's parts of a numeral say, whose fields are slices.
+-- The parts of a numeral in the code, whose fields are slices, as parts in the specification.
 use Rattle.net_lex.specs.declared.numeral.Parts as code_parts
 use Rattle.net_lex.specs.declared.numeral.Mantissa as code_mantissa
 use Rattle.net_lex.specs.declared.numeral.Power as code_power

@@ -1,4 +1,4 @@
--- What each step of the scanner gives (AMPL book, section A.1, for the forms).
+-- The result of each step of the scanner (AMPL book, section A.1, for the forms).
 use Rattle.std.specs.Prelude.{◌≡◌, ℕ, ◌+◌, ◌<◌, ◌⊎◌, List, ◌++◌, length, None, Result, Ok, Err, ℤ}
 use Rattle.std.specs.Str.{IsUtf8}
 use Rattle.net_fault.specs.declared.defect.Defect.{Defect}
@@ -18,11 +18,11 @@ use Rattle.net_lex.specs.Reading.{IsLongest, IsSound}
 use Rattle.net_lex.specs.Limits.{limits}
 use Rattle.net_lex.specs.Faults.{EndsWhole, IsDefect, IsSoundNext}
 
--- neither a blank nor a comment begins the text
+-- the text begins with neither a blank nor a comment
 abbrev pub BeginsNoGap : List ℕ → Type 0
 BeginsNoGap text = place_after Between (first text) (second text) ≡ None
 
--- a numeral with a value that is small enough, or one without, or no numeral
+-- the kind of a numeral, the error in its value, or the result for a word that is not a numeral
 abbrev pub IsNumeralKind : List ℕ → Result Kind Defect → Result Kind Defect → Type 0
 IsNumeralKind word otherwise found =
     ((found ≡ Ok Num) × ((v : ℤ) × IsValue limits.value word v))
@@ -30,14 +30,14 @@ IsNumeralKind word otherwise found =
     ⊎ ((found ≡ Err NumeralTooLarge) × IsNumFault limits.value word num.TooLarge)
     ⊎ ((found ≡ otherwise) × IsNumFault limits.value word num.NotNumeral)
 
--- the kind of a word with the value of its numeral, or what is wrong with the numeral
+-- the kind of a word, with a valid value if it is a numeral, or the error in the numeral
 abbrev pub IsKindOf : Language → List ℕ → Result Kind Defect → Type 0
 IsKindOf language word (Ok kind) = Allows language kind word × (kind ≡ Num → (v : ℤ) × IsValue limits.value word v)
 IsKindOf language word (Err defect) =
     Allows language Num word
     × ((defect ≡ NotWhole) × IsNumFault limits.value word num.NotWhole ⊎ (defect ≡ NumeralTooLarge) × IsNumFault limits.value word num.TooLarge)
 
--- the token stands at the front of a text, which goes on after it
+-- the token is at the beginning of the text, which continues after it
 pub record IsTokenAt (language : Language) (at : ℕ) (text : List ℕ) (token : Token) (after : List ℕ) : Type 0 where
   pub some : 0 < length token.text
   pub joined : text ≡ token.text ++ after
@@ -50,6 +50,6 @@ pub record IsTokenAt (language : Language) (at : ℕ) (text : List ℕ) (token :
 abbrev pub IsDefectAt : Language → ℕ → List ℕ → Defect → Span → Type 0
 IsDefectAt language at text defect span = (from : ℕ) × (to : ℕ) × IsDefect limits language text defect from to × (span ≡ record { start = at + from; end = at + to })
 
--- the next token, behind a gap
+-- the next token, after blanks and comments
 abbrev pub IsStep : Language → ℕ → List ℕ → Token → List ℕ → Type 0
 IsStep language at rest token after = (gap : List ℕ) × IsSoundNext limits language at rest token gap after × (length after < length rest) × IsUtf8 after

@@ -1,4 +1,5 @@
--- What stands at the front of a text, byte by byte, where neither a blank nor a comment begins (AMPL book, section A.1).
+-- The token at the beginning of a text that starts with neither a blank nor a comment, byte by byte
+-- (AMPL book, section A.1).
 use Rattle.std.specs.Prelude.{ℕ, ◌+◌, ◌-◌, ◌<◌, ◌≤◌, ◌==◌, Bool, true, false, List, [], ◌∷◌, length, take, drop, if◌then◌else◌, Option, Some, None, is_some, unwrap_or, Result, Ok, Err}
 use Rattle.std.specs.List.{prefix_len, take_while}
 use Rattle.std.specs.Str.{chars, encode_utf8_all}
@@ -16,7 +17,8 @@ use Rattle.net_lex.specs.Numerals.{Parts}
 use Rattle.net_lex.specs.NumeralFront.{numeral_at}
 use Rattle.net_lex.specs.Words.{model_mark_len, data_mark_len}
 
--- whether the byte c inside a string is a delimiter that another must follow, or `None` where the inside stops before it
+-- the state inside a string after the byte c: whether c is a delimiter that another must follow;
+-- `None` if the string stops before c
 abbrev pub delimited_after : (delimiter : ℕ) → (delimited : Bool) → ℕ → Option Bool
 delimited_after q delimited c =
     if delimited then (if c == q then Some false else None)
@@ -24,7 +26,8 @@ delimited_after q delimited c =
     else if is_control c then None
     else Some false
 
--- Where a string ends whose inside goes on here; `delimited` says that a delimiter came just before.
+-- The end of a string, from its inside on; `delimited` means that the previous byte was a
+-- delimiter.
 unfoldable pub string_end : (delimiter : ℕ) → (delimited : Bool) → (at : ℕ) → List ℕ → StringEnd
 string_end q delimited at [] = if delimited then Closed at else Open
 string_end q delimited at (c ∷ cs) =
@@ -32,13 +35,13 @@ string_end q delimited at (c ∷ cs) =
     else if delimited then Closed at
     else Control at
 
--- the end is in the text
+-- the end is within the text
 abbrev pub IsEndWithin : ℕ → StringEnd → Type 0
 IsEndWithin n (Closed at) = at ≤ n
 IsEndWithin n (Control at) = at < n
 IsEndWithin n Open = Unit {0}
 
--- a shape and its length, or what is wrong and where, counted from here
+-- a shape and its length, or an error and its range from here
 abbrev pub Front : Type 0
 Front = Result (Shape × ℕ) BadFront
 
@@ -47,19 +50,19 @@ quoted_front (Closed n) = Ok (Quoted, n + 1)
 quoted_front (Control n) = Err (record { defect = BadCharacter; from = n + 1; to = n + 2 })
 quoted_front Open = Err (record { defect = OpenString; from = 0; to = 1 })
 
--- the string that begins here
+-- the string at the beginning of the text
 abbrev pub string_at : List ℕ → Front
 string_at text = quoted_front (string_end (first text) false 0 (drop 1 text))
 
--- the length of the first character
+-- the length in bytes of the first character
 unfoldable pub char_len : List ℕ → ℕ
 char_len text = length (encode_utf8_all (take 1 (chars text)))
 
--- the mark of this length, or a character with which nothing begins
+-- the punctuation token of this length, or a character with which no token begins
 abbrev pub mark_front : List ℕ → ℕ → Front
 mark_front text n = if n == 0 then Err (record { defect = BadCharacter; from = 0; to = char_len text }) else Ok (Mark, n)
 
--- a numeral, whose length is that of the text before the rest; else a string or a mark
+-- a numeral, which extends to the rest; else a string or punctuation
 abbrev pub unnamed_front : List ℕ → Option (Parts × List ℕ) → Front
 unnamed_front text (Some x) = Ok (Numeral, length text - length x.1)
 unnamed_front text None = if is_quote (first text) then string_at text else mark_front text (model_mark_len text)
@@ -69,7 +72,7 @@ model_front text =
     if starts_name (first text) then Ok (Word, prefix_len continues_name text)
     else unnamed_front text (numeral_at text)
 
--- the length of the bare word of data that begins here, in bytes
+-- the length in bytes of the bare data word at the beginning of the text
 unfoldable pub word_len : List ℕ → ℕ
 word_len text = length (encode_utf8_all (take_while is_word_char (chars text)))
 

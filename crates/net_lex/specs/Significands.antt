@@ -1,9 +1,10 @@
--- A number as its significant digits and the zeros after them (AMPL book, section A.1, gives the numerals that are read so).
+-- A number as its significant digits and its trailing zeros (used for the numerals of the AMPL
+-- book, section A.1).
 use Rattle.std.specs.Prelude.{ℕ, ◌+◌, ◌-◌, ◌*◌, ◌^◌, ◌==◌, nat_lt, List, fold, if◌then◌else◌, Result, Ok, Err}
 use Rattle.net_lex.specs.declared.whole.NumFault.{NumFault}
 use Rattle.net_lex.specs.declared.whole.NumFault.TheVariants.{NotWhole, TooLarge}
 
--- the number is digits times ten to the power zeros
+-- the number is digits * 10 ^ zeros
 pub record Significand : Type 0 where
   pub digits : ℕ
   pub zeros : ℕ
@@ -16,7 +17,7 @@ with_digit g c =
 abbrev pub with_digits : Significand → List ℕ → Significand
 with_digits g text = fold with_digit g text
 
--- the whole value of digits * 10 ^ (up - down), whose last digit is not 0, up to the limit
+-- the integer value of digits * 10 ^ (up - down), up to the limit; the last digit is not 0
 unfoldable pub whole_value : (limit digits up down : ℕ) → Result ℕ NumFault
 whole_value limit digits up down =
     if digits == 0 then Ok 0

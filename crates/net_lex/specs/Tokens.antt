@@ -1,4 +1,5 @@
--- What a token of each kind is (AMPL book, section A.1; in this profile data text has no reserved words).
+-- The tokens of each kind (AMPL book, section A.1; data files have no reserved words in this
+-- profile).
 use Rattle.std.specs.Prelude.{◌≡◌, ℕ, ◌<◌, Bool, true, false, List, [], ◌∷◌, ◌++◌, length}
 use Rattle.std.specs.List.{list_all}
 use Rattle.std.specs.Str.{all_scalars, encode_utf8_all}
@@ -13,7 +14,7 @@ use Rattle.net_lex.specs.Characters.{is_quote, is_control, starts_name, continue
 use Rattle.net_lex.specs.Numerals.{Parts, SpellsNumeral, SpellsSigned}
 use Rattle.net_lex.specs.Words.{model_marks, data_marks, is_among, is_reserved}
 
--- a letter or an underscore, and then letters, digits and underscores
+-- a letter or an underscore, followed by letters, digits and underscores
 pub record IsName (text : List ℕ) : Type 0 where
   pub begins : starts_name (first text) ≡ true
   pub goes_on : list_all continues_name text ≡ true
@@ -26,7 +27,7 @@ pub record IsWord (text : List ℕ) : Type 0 where
   pub spelled : encode_utf8_all characters ≡ text
   pub all : list_all is_word_char characters ≡ true
 
--- what may stand between delimiters: no control character, and the delimiter doubled
+-- the inside of a string: no control characters, and delimiters only doubled
 pub data IsInside (delimiter : ℕ) : List ℕ → Type 0 where
   nothing : IsInside delimiter []
   plain : {c : ℕ} {rest : List ℕ} → (c ≡ delimiter → ⊥) → is_control c ≡ false → IsInside delimiter rest → IsInside delimiter (c ∷ rest)
@@ -39,7 +40,7 @@ pub record IsString (text : List ℕ) : Type 0 where
   pub body : IsInside delimiter inside
   pub joined : text ≡ delimiter ∷ (inside ++ delimiter ∷ [])
 
--- what the forms are in each language
+-- the texts of each shape in each language
 abbrev pub HasShape : Language → Shape → List ℕ → Type 0
 HasShape Model Word text = IsName text
 HasShape Model Numeral text = (p : Parts) × SpellsNumeral text p
@@ -50,7 +51,7 @@ HasShape Data Numeral text = ⊥
 HasShape Data Quoted text = IsString text
 HasShape Data Mark text = is_among data_marks text ≡ true
 
--- what the kinds are in each language
+-- the texts of each kind in each language
 abbrev pub Allows : Language → Kind → List ℕ → Type 0
 Allows Model kinds.Name text = IsName text × (is_reserved text ≡ false)
 Allows Model kinds.Key text = is_reserved text ≡ true

@@ -1,4 +1,4 @@
-//! Bare words of data text.
+//! Bare words of data files.
 ghost use Rattle.std.specs.Prelude.{◌≡◌, ◌≤◌, ◌&&◌, nat_lt, length};
 ghost use Rattle.std.specs.List.{prefix_len};
 ghost use Rattle.std.specs.Str.{IsCharBoundary};
@@ -8,7 +8,8 @@ ghost use Rattle.net_lex.specs.Shapes.{char_len, word_len};
 
 use crate::cursor::byte_at;
 
-/// Unicode's table is asked for characters past ASCII alone.
+/// Returns whether an identifier can continue with this character. Uses Unicode's table only for
+/// characters outside ASCII.
 #[inline]
 fn continues_identifier(c: char) -> bool
     ensures { result ≡ is_xid_continue c }
@@ -20,7 +21,7 @@ fn continues_identifier(c: char) -> bool
     }
 }
 
-/// A character of a bare word.
+/// Returns whether a bare word can contain this character.
 #[inline]
 fn is_word_char(c: char) -> bool
     ensures { result ≡ is_word_char c }
@@ -28,7 +29,7 @@ fn is_word_char(c: char) -> bool
     continues_identifier(c) || c == '.' || c == '+' || c == '-'
 }
 
-/// The length of the first character, in bytes.
+/// Returns the length of the first character in bytes, or 0 for an empty text.
 pub(crate) fn char_len(text: &str) -> usize
     ensures { result ≡ char_len text.now }
 {
@@ -38,7 +39,7 @@ pub(crate) fn char_len(text: &str) -> usize
     }
 }
 
-/// A character of a bare word, among those of ASCII.
+/// Returns whether a bare word can contain this byte as an ASCII character.
 #[inline]
 #[tactic(auto, using(crate::proofs::WordReading::word_tests))]
 fn is_ascii_word_char(byte: u8) -> bool
@@ -47,7 +48,7 @@ fn is_ascii_word_char(byte: u8) -> bool
     byte.is_ascii_alphanumeric() || matches!(byte, b'_' | b'.' | b'+' | b'-')
 }
 
-/// The length of the ASCII characters with which a bare word begins.
+/// Returns the length of the ASCII prefix of a bare word.
 fn ascii_len(bytes: &[u8]) -> usize
     ensures value { result ≡ prefix_len (λ c. nat_lt c 128 && is_word_char c) bytes.now }
     ensures within { result ≤ length bytes.now }
@@ -55,7 +56,7 @@ fn ascii_len(bytes: &[u8]) -> usize
     bytes.iter().take_while(|b| is_ascii_word_char(**b)).count()
 }
 
-/// The length of the bare word at the front, in bytes.
+/// Returns the length in bytes of the bare word at the beginning of a text.
 fn unicode_len(text: &str) -> usize
     ensures value { result ≡ word_len text.now }
     ensures cut { IsCharBoundary text.now result }
@@ -70,7 +71,8 @@ fn unicode_len(text: &str) -> usize
     len
 }
 
-/// The same; a word of ASCII alone is read by its bytes.
+/// Returns the length in bytes of the bare word at the beginning of a text, with a fast path for
+/// ASCII.
 pub(crate) fn word_len(text: &str) -> usize
     ensures value { result ≡ word_len text.now }
     ensures cut { IsCharBoundary text.now result }

@@ -1,4 +1,4 @@
-//! Tokens of data text.
+//! Tokens of data files.
 ghost use Rattle.std.specs.Prelude.{◌≡◌, ◌+◌, ◌<◌, ◌^◌, length};
 ghost use Rattle.net_fault.specs.declared.language.Language.TheVariants.{Data};
 ghost use Rattle.net_lex.specs.Lexing.{Lexes};
@@ -14,7 +14,8 @@ use crate::words::data_mark_len;
 use net_fault::{Fault, Language};
 use std::alloc::Global;
 
-/// What stands at the front, where neither a blank nor a comment begins.
+/// Returns the shape and length of the token at the beginning of a text that starts with neither a
+/// blank nor a comment.
 #[tactic(auto, unfolding(crate::specs::Shapes::data_front))]
 pub(crate) fn data_front(text: &str) -> Result<(Shape, usize), BadFront>
     requires { length text.now + 2 < 2 ^ 64 }
@@ -30,11 +31,11 @@ pub(crate) fn data_front(text: &str) -> Result<(Shape, usize), BadFront>
     }
 }
 
-/// The greatest length of a data text: 16 MiB.
+/// The maximum size of a data file: 16 MiB.
 pub const DATA_LIMIT: usize = 0x100_0000;
 
-/// The tokens of a data text, in order, or its first fault with its span: a text past its limit, then one that
-/// is not UTF-8, then what stands first. Spans count bytes from 0.
+/// Splits a data file into tokens. Returns the first error with its span: the size limit is checked
+/// first, then UTF-8, then the tokens in order. Spans count bytes from 0.
 pub fn lex_data<'s>(alloc: Global, text: &'s [u8]) -> Result<Vec<Token<'s>>, Fault>
     ensures value { Lexes (λ v. v.items) Data text.entry.now result }
 {

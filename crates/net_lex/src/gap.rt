@@ -8,17 +8,17 @@ ghost use Rattle.net_lex.specs.declared.gap.Place.TheVariants.{Between};
 
 use crate::cursor::byte_at;
 
-/// Where a byte stands among blanks and comments.
+/// The state between two bytes of blanks and comments.
 #[derive(Clone, Copy)]
 enum Place {
     Between,
-    /// In `# a comment`.
+    /// Inside `# a comment`.
     Line,
-    /// At the `*` of `/*`.
+    /// Before the `*` of `/*`.
     Opening,
-    /// In `/* a comment */`.
+    /// Inside `/* a comment */`.
     Block,
-    /// At the `/` of `*/`.
+    /// Before the `/` of `*/`.
     Closing,
 }
 
@@ -62,7 +62,8 @@ fn blank_len(bytes: &[u8]) -> usize
     bytes.iter().take_while(|b| is_blank(**b)).count()
 }
 
-/// The length of the blanks and comments at the front, or the place of a comment that is not closed.
+/// Returns the length of the leading blanks and comments, or the position of an unclosed comment as
+/// the error.
 fn commented_len(text: &str) -> Result<usize, usize>
     ensures value { MatchResult result
         (λ n. after_gap Between text.now text.now ≡ Ok (drop n text.now))
@@ -85,7 +86,8 @@ fn commented_len(text: &str) -> Result<usize, usize>
     }
 }
 
-/// The same; where no comment can follow, the blanks alone are counted.
+/// Returns the length of the leading blanks and comments, or the position of an unclosed comment as
+/// the error. Counts blanks alone unless a comment may follow.
 pub(crate) fn gap_len(text: &str) -> Result<usize, usize>
     ensures value { MatchResult result
         (λ n. after_gap Between text.now text.now ≡ Ok (drop n text.now))

@@ -1,10 +1,12 @@
-//! Tokens of model and data texts.
+//! The lexer: tokens of model and data files.
 #![tactic(auto)]
 
 mod bare_word;
 mod cursor;
 mod data_text;
+mod error_search;
 mod gap;
+mod line_ends;
 mod model_text;
 mod numeral;
 mod places;
@@ -19,8 +21,11 @@ mod whole;
 mod words;
 
 pub use data_text::{DATA_LIMIT, lex_data};
+pub use error_search::first_error;
+pub use line_ends::tokens_have_no_line_ends;
 pub use model_text::{MODEL_LIMIT, lex_model};
+pub use net_fault::{Fault as LexFault, Span};
 pub use places::line_column;
 pub use reading::{one_first_fault, one_reading, read_or_refused};
 pub use token::{Kind, Token};
-pub use whole::{NumFault, whole_of};
+pub use whole::{NumFault, VALUE_LIMIT, whole_of};

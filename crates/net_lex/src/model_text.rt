@@ -1,4 +1,4 @@
-//! Tokens of model text.
+//! Tokens of models.
 ghost use Rattle.std.specs.Prelude.{◌≡◌, ◌+◌, ◌<◌, ◌^◌, ◌≤◌, length, None};
 ghost use Rattle.std.specs.List.{prefix_len};
 ghost use Rattle.net_fault.specs.declared.language.Language.TheVariants.{Model};
@@ -32,7 +32,7 @@ fn name_len(bytes: &[u8]) -> usize
         .count()
 }
 
-/// A string or a mark.
+/// Reads a string or punctuation.
 fn unnamed_front(text: &str) -> Result<(Shape, usize), BadFront>
     requires { length text.now + 2 < 2 ^ 64 }
     ensures { result ≡ unnamed_front text.now None }
@@ -45,7 +45,8 @@ fn unnamed_front(text: &str) -> Result<(Shape, usize), BadFront>
     }
 }
 
-/// What stands at the front, where neither a blank nor a comment begins.
+/// Returns the shape and length of the token at the beginning of a text that starts with neither a
+/// blank nor a comment.
 #[tactic(auto, unfolding(crate::specs::Shapes::model_front))]
 pub(crate) fn model_front(text: &str) -> Result<(Shape, usize), BadFront>
     requires { length text.now + 2 < 2 ^ 64 }
@@ -61,11 +62,11 @@ pub(crate) fn model_front(text: &str) -> Result<(Shape, usize), BadFront>
     }
 }
 
-/// The greatest length of a model text: 1 MiB.
+/// The maximum size of a model: 1 MiB.
 pub const MODEL_LIMIT: usize = 0x10_0000;
 
-/// The tokens of a model text, in order, or its first fault with its span: a text past its limit, then one that
-/// is not UTF-8, then what stands first. Spans count bytes from 0.
+/// Splits a model into tokens. Returns the first error with its span: the size limit is checked
+/// first, then UTF-8, then the tokens in order. Spans count bytes from 0.
 pub fn lex_model<'s>(alloc: Global, text: &'s [u8]) -> Result<Vec<Token<'s>>, Fault>
     ensures value { Lexes (λ v. v.items) Model text.entry.now result }
 {

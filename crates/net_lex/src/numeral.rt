@@ -1,3 +1,5 @@
+//! Splitting a numeral into digits and exponent.
+
 ghost use Rattle.std.specs.Prelude.{◌≡◌, ◌==◌, ◌||◌, option_map};
 ghost use Rattle.std.specs.Char.{is_ascii_digit};
 ghost use Rattle.net_lex.specs.Bytes.{after_sign, marks_power, point};
@@ -6,7 +8,7 @@ ghost use Rattle.net_lex.specs.NumeralViews.{mantissa_view, power_view, parts_vi
 
 use crate::cursor::{digits, first, rest, second};
 
-/// The parts of a numeral: the digits before and after the point, and the power of ten.
+/// The parts of a numeral: the digits before and after the decimal point, and the exponent.
 #[derive(Clone, Copy)]
 pub(crate) struct Parts<'s> {
     pub(crate) whole: &'s [u8],
@@ -90,7 +92,7 @@ fn power_at(bytes: &[u8]) -> Power<'_>
     }
 }
 
-/// The numeral at the front, without a sign, and what follows it.
+/// Reads the unsigned numeral at the beginning; returns its parts and the bytes after it.
 #[inline(never)]
 #[tactic(auto, unfolding(crate::specs::NumeralFront::numeral_at))]
 fn parts_at(bytes: &[u8]) -> Option<(Parts<'_>, &[u8])>
@@ -113,7 +115,8 @@ fn starts_numeral(byte: u8) -> bool
     byte.is_ascii_digit() || byte == b'.'
 }
 
-/// The same; what begins no numeral is seen by its first byte, with no call.
+/// Reads the unsigned numeral at the beginning; returns its parts and the bytes after it. Tests the
+/// first byte before it calls the parser.
 #[inline]
 pub(crate) fn numeral_at(bytes: &[u8]) -> Option<(Parts<'_>, &[u8])>
     ensures { option_map (λ x. (parts_view x.0, x.1.now)) result ≡ numeral_at bytes.now }

@@ -1,8 +1,10 @@
+//! Converting a byte offset to line and column.
+
 ghost use Rattle.std.specs.Prelude.{◌≡◌, ◌≤◌, length, take};
 ghost use Rattle.net_lex.specs.Places.{line_of, column_of};
 
-/// The line and the column of a byte of a text, both from 1. A line ends with its LF, and columns
-/// count bytes.
+/// Returns the line and the column of a byte of a text, both counted from 1. A line ends with its
+/// LF, and columns count bytes.
 pub fn line_column(text: &[u8], offset: usize) -> (u64, u64)
     requires { offset ≤ length text.now }
     ensures line { result.0 ≡ line_of (take offset text.now) }

@@ -1,4 +1,4 @@
-//! Laws of readings and faults; they run nothing.
+//! Theorems about tokens and errors. The functions are empty: their contracts state theorems.
 ghost use Rattle.std.specs.Prelude.{◌≡◌, ℕ, List};
 ghost use Rattle.net_lex.specs.Lexing.{AreTokensOf, IsFirstFault};
 ghost use Rattle.net_lex.specs.Reading.{Reads};
@@ -7,19 +7,19 @@ ghost use Rattle.net_fault.specs.declared.language.Language.{Language};
 ghost use Rattle.net_fault.specs.declared.span.Span.{Span};
 ghost use Rattle.net_lex.specs.declared.token.Token.{Token};
 
-/// No two lists of tokens read one text.
+/// Theorem: a text consists of at most one list of tokens.
 pub fn one_reading()
     ensures value { (language : Language) (text : List ℕ) (tokens others : List Token)
         → Reads language text tokens → Reads language text others → tokens ≡ others }
 {}
 
-/// No text has both tokens and a first fault.
+/// Theorem: no text has both tokens and a first error.
 pub fn read_or_refused()
     ensures value { (language : Language) (text : List ℕ) (tokens : List Token) (defect : Defect) (span : Span)
         → AreTokensOf language text tokens → IsFirstFault language text defect span → ⊥ }
 {}
 
-/// A text has at most one first fault.
+/// Theorem: a text has at most one first error.
 pub fn one_first_fault()
     ensures value { (language : Language) (text : List ℕ) (defect other : Defect) (span place : Span)
         → IsFirstFault language text defect span → IsFirstFault language text other place → (defect ≡ other) × (span ≡ place) }

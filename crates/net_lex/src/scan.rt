@@ -1,4 +1,4 @@
-//! Tokens one by one, for both languages.
+//! Reading single tokens, for both languages.
 ghost use Rattle.std.specs.Prelude.{◌≡◌, ◌+◌, ◌<◌, ◌≤◌, ◌^◌, MatchResult, MatchOption, length};
 ghost use Rattle.net_lex.specs.Shapes.{front};
 ghost use Rattle.net_lex.specs.Tokens.{HasShape};
@@ -18,7 +18,7 @@ use crate::words::is_reserved;
 use net_fault::{Defect, Language, Span};
 use net_views::Excerpt;
 
-/// The greatest length of a token, in bytes.
+/// The maximum length of a token, in bytes.
 const TOKEN_LIMIT: usize = 255;
 
 #[tactic(auto, unfolding(crate::specs::Shapes::front))]
@@ -32,7 +32,8 @@ fn front(language: Language, text: &str) -> Result<(Shape, usize), BadFront>
     }
 }
 
-/// The kind of a numeral that is taken for one, or of another word.
+/// Returns the kind of a numeral after checking its value, or `otherwise` for a word that is not a
+/// numeral.
 fn numeral_kind(word: &str, otherwise: Result<Kind, Defect>) -> Result<Kind, Defect>
     ensures { IsNumeralKind word.now otherwise result }
 {
@@ -44,7 +45,7 @@ fn numeral_kind(word: &str, otherwise: Result<Kind, Defect>) -> Result<Kind, Def
     }
 }
 
-/// The kind of a text of this form, whose numeral is read.
+/// Returns the kind of a word of this shape, after checking the value of a numeral.
 fn kind_of(language: Language, shape: Shape, word: &str) -> Result<Kind, Defect>
     requires { HasShape language shape word.now }
     ensures { IsKindOf language word.now result }
@@ -69,7 +70,8 @@ fn word_kind(language: Language, word: &str) -> Result<Kind, Defect>
     }
 }
 
-/// The token of this form and length, with which the text begins, and what follows it.
+/// Builds the token of this shape and length at the beginning of the text; also returns the text
+/// after it.
 fn token_of<'s>(
     language: Language,
     shape: Shape,
@@ -99,7 +101,7 @@ fn token_of<'s>(
     }
 }
 
-/// What is wrong with a text that begins at `at`.
+/// Returns the error and its span, for a token that begins at byte `at`.
 fn fault_at(stop: BadFront, at: usize) -> (Defect, Span)
     requires from { at + stop.from < 2 ^ 64 }
     requires to { at + stop.to < 2 ^ 64 }
@@ -113,7 +115,7 @@ fn fault_at(stop: BadFront, at: usize) -> (Defect, Span)
     (stop.defect, span)
 }
 
-/// The token that begins here, and what follows it.
+/// Reads the token at the beginning of the text; also returns the text after it.
 fn token_at<'s>(
     language: Language,
     text: &'s str,
@@ -140,7 +142,7 @@ fn token_at<'s>(
     }
 }
 
-/// The next token and what follows it, or nothing behind the last one.
+/// Reads the next token; also returns the text after it. Returns `None` after the last token.
 pub(crate) fn step<'s>(
     language: Language,
     rest: &'s str,

@@ -1,10 +1,12 @@
+//! The lexical forms of tokens.
+
 ghost use Rattle.std.specs.Prelude.{◌≡◌};
 ghost use Rattle.net_lex.specs.Shapes.{mark_front};
 
 use crate::bare_word::char_len;
 use net_fault::Defect;
 
-/// What a piece of a text is by its form alone.
+/// The lexical form of a token.
 #[derive(Clone, Copy)]
 pub(crate) enum Shape {
     Word,
@@ -13,7 +15,7 @@ pub(crate) enum Shape {
     Mark,
 }
 
-/// What is wrong from one byte up to another, both counted from where a token was to begin.
+/// An error and its range of bytes, counted from the beginning of the token.
 #[derive(Clone, Copy)]
 pub(crate) struct BadFront {
     pub defect: Defect,
@@ -21,7 +23,8 @@ pub(crate) struct BadFront {
     pub to: usize,
 }
 
-/// The mark of this length, or a character with which nothing begins.
+/// Returns punctuation of this length, or the error for a character with which no token begins if
+/// `len` is 0.
 pub(crate) fn mark_front(text: &str, len: usize) -> Result<(Shape, usize), BadFront>
     ensures { result ≡ mark_front text.now len }
 {

@@ -1,8 +1,10 @@
+//! The digits of a number without its trailing zeros.
+
 ghost use Rattle.std.specs.Prelude.{◌≡◌, ◌+◌, ◌*◌, ◌^◌, ◌<◌, ◌≤◌, length, min};
 ghost use Rattle.net_lex.specs.Significands.{with_digit, with_digits};
 ghost use Rattle.net_lex.specs.Saturation.{Follows};
 
-/// Stands for every number past the limit.
+/// Represents every number above the limit.
 pub(crate) const PAST_LIMIT: u64 = 1_000_000_000_001;
 
 pub(crate) fn ten_to(power: u32) -> u64
@@ -13,7 +15,8 @@ pub(crate) fn ten_to(power: u32) -> u64
     10u64.pow(power)
 }
 
-/// Digits, then as many zeros and a digit that is not 0, up to `PAST_LIMIT`.
+/// Returns the number `digits` followed by `places - 1` zeros and a digit, saturated at
+/// `PAST_LIMIT`.
 fn grown(digits: u64, places: u128, digit: u8) -> u64
     requires { digits ≤ PAST_LIMIT }
     ensures { result ≡ min (digits * 10 ^ places + digit) PAST_LIMIT }
@@ -30,7 +33,8 @@ fn grown(digits: u64, places: u128, digit: u8) -> u64
     }
 }
 
-/// The digits of a number up to `PAST_LIMIT`, without the zeros at its end, and the count of these.
+/// The digits of a number without its trailing zeros, saturated at `PAST_LIMIT`, and the number of
+/// trailing zeros.
 #[derive(Clone, Copy)]
 pub(crate) struct Significand {
     pub(crate) digits: u64,

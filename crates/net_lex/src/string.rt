@@ -1,4 +1,4 @@
-//! Strings in quotation marks.
+//! Quoted strings.
 ghost use Rattle.std.specs.Prelude.{◌≡◌, ◌+◌, ◌<◌, ◌^◌, false, length};
 ghost use Rattle.net_lex.specs.Shapes.{delimited_after, string_end, IsEndWithin, string_at};
 ghost use Rattle.net_lex.specs.Characters.{is_control, is_quote};
@@ -7,18 +7,18 @@ use crate::cursor::{first, rest};
 use crate::shape::{BadFront, Shape};
 use net_fault::Defect;
 
-/// Where a string ends, counted from after its first quotation mark.
+/// The end of a string, counted from the byte after its opening quotation mark.
 #[derive(Clone, Copy)]
 pub(crate) enum StringEnd {
-    /// After the last quotation mark.
+    /// After the closing quotation mark.
     Closed(usize),
-    /// At a character that no string holds.
+    /// At a control character, which is not allowed.
     Control(usize),
-    /// Nowhere.
+    /// The string is not closed.
     Open,
 }
 
-/// No string holds one of these.
+/// Returns whether a byte is a control character, which is not allowed in strings.
 fn is_control(byte: u8) -> bool
     ensures { result ≡ is_control byte }
 {
@@ -64,7 +64,7 @@ fn string_end(delimiter: u8, inside: &[u8]) -> StringEnd
     }
 }
 
-/// The string that begins here.
+/// Reads the string at the beginning of the text.
 pub(crate) fn string_at(bytes: &[u8]) -> Result<(Shape, usize), BadFront>
     requires { length bytes.now + 2 < 2 ^ 64 }
     ensures { result ≡ string_at bytes.now }

@@ -1,26 +1,28 @@
+//! Tokens.
+
 ghost use Rattle.std.specs.Prelude.{◌≡◌};
 
 use net_fault::Span;
 use net_views::Excerpt;
 
-/// What a token is.
+/// The kind of a token.
 #[derive(Clone, Copy, Debug, PartialEq, Eq)]
 pub enum Kind {
-    /// `supply`, and in data also `2nd`.
+    /// `supply`; in data files also `2nd`.
     Name,
-    /// `param`, a reserved word of model text.
+    /// `param`, a reserved word of models.
     Key,
-    /// `1.5e3`, and in data also `-2`.
+    /// `1.5e3`; in data files also `-2`.
     Num,
     /// `'New York'`.
     Str,
-    /// `:=`.
+    /// `:=`, punctuation.
     Mark,
-    /// `.` alone in data, a cell without a value.
+    /// A single `.` in data: a missing value.
     Dot,
 }
 
-/// A token, with its place in the text that it is a slice of.
+/// A token: its kind, its text as a slice of the source, and its span.
 #[derive(Drop)]
 pub struct Token<'s> {
     pub kind: Kind,
@@ -29,7 +31,7 @@ pub struct Token<'s> {
 }
 
 impl<'s> Token<'s> {
-    /// The same token once more; no byte is copied.
+    /// Returns a copy of the token; copies no text.
     pub fn again(&self) -> Token<'s>
         ensures { result ≡ self.now }
     {

@@ -1,4 +1,4 @@
-//! All tokens of a text.
+//! Splitting a whole text into tokens.
 ghost use Rattle.std.specs.Prelude.{◌≡◌, ◌≤◌, ◌^◌, length, MatchResult};
 ghost use Rattle.net_lex.specs.Limits.{limits, text_limit};
 ghost use Rattle.net_lex.specs.Reading.{EndsInGap};
@@ -41,8 +41,8 @@ fn tokens_of<'s>(alloc: Global, language: Language, text: &'s str) -> Result<Vec
     }
 }
 
-/// The greatest length of a text.
-fn text_limit(language: Language) -> usize
+/// Returns the maximum length of a text in a language.
+pub(crate) fn text_limit(language: Language) -> usize
     ensures { result ≡ text_limit language }
 {
     match language {
@@ -51,7 +51,7 @@ fn text_limit(language: Language) -> usize
     }
 }
 
-/// The tokens of a text.
+/// Splits a text into tokens, or returns its first error.
 pub(crate) fn lex<'s>(
     alloc: Global,
     language: Language,

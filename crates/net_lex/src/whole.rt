@@ -1,3 +1,5 @@
+//! The integer value of a numeral.
+
 ghost use Rattle.std.specs.Prelude.{◌≡◌, ◌≤◌, min, MatchResult};
 ghost use Rattle.net_lex.specs.Limits.{limits};
 ghost use Rattle.net_lex.specs.NumeralViews.{parts_view};
@@ -7,25 +9,29 @@ ghost use Rattle.net_lex.specs.Significands.{whole_value};
 use crate::cursor::first;
 use crate::numeral::{Parts, numeral_at, skip_sign};
 use crate::significand::{PAST_LIMIT, Significand, ten_to, with_digits};
+use thiserror::Error;
 
-/// Why a text has no whole value.
-#[derive(Clone, Copy, Debug, PartialEq, Eq)]
+/// Why a text has no integer value.
+#[derive(Clone, Copy, Debug, PartialEq, Eq, Error)]
 pub enum NumFault {
     /// `1e`
+    #[error("not a numeral")]
     NotNumeral,
     /// `0.5`
+    #[error("not a whole number")]
     NotWhole,
     /// `1e13`
+    #[error("absolute value above 1000000000000")]
     TooLarge,
 }
 
-/// The greatest size of a value.
-pub(crate) const LIMIT: u64 = 1_000_000_000_000;
+/// The maximum absolute value of a numeral.
+pub const VALUE_LIMIT: u64 = 1_000_000_000_000;
 
-/// Stands for every power of ten that is greater than any count of digits.
+/// Represents every exponent that is greater than any possible number of digits.
 const FAR: u128 = 0x1_0000_0000_0000_0000_0000;
 
-/// The number that digits stand for, up to `FAR`.
+/// Returns the number written by digits, saturated at `FAR`.
 fn power_of(digits: &[u8]) -> u128
     ensures { result ≡ min (digits_value digits.now) FAR }
 {
@@ -36,7 +42,7 @@ fn power_of(digits: &[u8]) -> u128
     power
 }
 
-/// The whole value of digits times ten to the power `up - down`.
+/// Returns the integer value of `digits * 10 ^ (up - down)`.
 #[tactic(auto, unfolding(crate::specs::Significands::whole_value))]
 fn scaled(digits: u64, up: u128, down: u128) -> Result<u64, NumFault>
     requires { digits ≤ PAST_LIMIT }
@@ -53,13 +59,13 @@ fn scaled(digits: u64, up: u128, down: u128) -> Result<u64, NumFault>
         return Err(NumFault::TooLarge);
     }
     let value = u128::from(digits) * u128::from(ten_to(places as u32));
-    if value > u128::from(LIMIT) {
+    if value > u128::from(VALUE_LIMIT) {
         return Err(NumFault::TooLarge);
     }
     Ok(value as u64)
 }
 
-/// The whole value of a numeral's parts.
+/// Returns the integer value of a numeral's parts, or the reason why there is none.
 fn size_of(parts: &Parts<'_>) -> Result<u64, NumFault>
     requires whole { AllDigits parts.now.whole.now }
     requires fraction { AllDigits parts.now.fraction.now }
@@ -90,7 +96,8 @@ fn with_sign(negative: bool, size: u64) -> i64
     }
 }
 
-/// The exact value of a numeral with an optional sign.
+/// Returns the exact value of a numeral with an optional sign, if it is an integer of absolute
+/// value at most 10^12.
 pub fn whole_of(numeral: &str) -> Result<i64, NumFault>
     ensures value { MatchResult result (λ v. IsValue limits.value numeral.now v) (λ why. IsNumFault limits.value numeral.now why) }
 {

@@ -1,3 +1,5 @@
+//! Reserved words, and the punctuation of models and data.
+
 ghost use Rattle.std.specs.Prelude.{◌≡◌, ◌==◌, [], ◌∷◌, map};
 ghost use Rattle.std.specs.List.{filter};
 ghost use Rattle.net_lex.specs.Bytes.{first};
@@ -5,7 +7,7 @@ ghost use Rattle.net_lex.specs.Words.{reserved, is_among, is_reserved, model_mar
 
 use crate::cursor::{first, second};
 
-/// The reserved words of model text that begin with this letter.
+/// Returns the reserved words of models that begin with this letter.
 fn reserved_with(letter: u8) -> &'static [&'static [u8]]
     ensures { map (λ word. word.now) result.now ≡ filter (λ word. first word == letter) reserved }
 {
@@ -31,7 +33,7 @@ fn reserved_with(letter: u8) -> &'static [&'static [u8]]
     }
 }
 
-/// Whether the text is a reserved word of model text.
+/// Returns whether a text is a reserved word of models.
 #[tactic(auto, unfolding(crate::specs::Words::is_reserved))]
 pub(crate) fn is_reserved(text: &[u8]) -> bool
     ensures { result ≡ is_reserved text.now }
@@ -39,7 +41,7 @@ pub(crate) fn is_reserved(text: &[u8]) -> bool
     reserved_with(first(text)).contains(&text)
 }
 
-/// The length of the mark of data text at the front, or 0.
+/// Returns the length of the data punctuation with which a text begins, or 0.
 #[tactic(auto, unfolding(crate::specs::Words::data_mark_len))]
 pub(crate) fn data_mark_len(text: &[u8]) -> usize
     ensures { result ≡ data_mark_len text.now }
@@ -51,7 +53,7 @@ pub(crate) fn data_mark_len(text: &[u8]) -> usize
     }
 }
 
-/// Whether two bytes are a mark of model text.
+/// Returns whether two bytes are a punctuation token of models.
 fn is_model_pair(front: u8, next: u8) -> bool
     ensures { result ≡ is_among model_marks (front ∷ next ∷ []) }
 {
@@ -63,7 +65,7 @@ fn is_model_pair(front: u8, next: u8) -> bool
     }
 }
 
-/// Whether a byte alone is a mark of model text.
+/// Returns whether a single byte is a punctuation token of models.
 fn is_model_mark(byte: u8) -> bool
     ensures { result ≡ is_among model_marks (byte ∷ []) }
 {
@@ -74,7 +76,7 @@ fn is_model_mark(byte: u8) -> bool
     }
 }
 
-/// The length of the mark of model text at the front, or 0.
+/// Returns the length of the model punctuation with which a text begins, or 0.
 pub(crate) fn model_mark_len(text: &[u8]) -> usize
     ensures { result ≡ model_mark_len text.now }
 {

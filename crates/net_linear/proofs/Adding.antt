@@ -5,7 +5,7 @@ use mir.Val.{hbits}
 use mir.Syntax.{w128}
 use Rattle.std.proofs.lemmas.Int.{fits_signed_from_abs, to_z-of_z, unsigned_abs-mul}
 use Rattle.std.proofs.lemmas.Bool.{eqb-true}
-use Rattle.net_eval.specs.Limits.{is_small}
+use Rattle.net_expr.specs.Limits.{is_small}
 use Rattle.net_linear.specs.Forms.{Products, coefficient, more, with_times, all_small, stands_in, all_apart}
 use Rattle.net_linear.proofs.Coefficients.{step_test, stays_large, head_apart, tail_apart, coefficient_more}
 use Rattle.net_linear.proofs.Sizes.{small_abs}

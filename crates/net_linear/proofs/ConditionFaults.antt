@@ -5,9 +5,9 @@ use Rattle.net_fault.specs.declared.language.Language.TheVariants.{Model}
 use Rattle.net_lex.specs.declared.token.Token.{Token}
 use Rattle.net_tree.specs.Role.{role_of}
 use Rattle.net_tree.specs.Tree.{Tree, Condition, unsaid, one, between}
-use Rattle.net_eval.specs.Limits.{is_small}
-use Rattle.net_eval.specs.Values.{value}
-use Rattle.net_eval.specs.Worlds.{World, Scope}
+use Rattle.net_expr.specs.Limits.{is_small}
+use Rattle.net_expr.specs.Values.{value}
+use Rattle.net_expr.specs.Worlds.{World, Scope}
 use Rattle.net_linear.specs.declared.condition.Comparison.{Comparison}
 use Rattle.net_linear.specs.declared.condition.Sides.{Sides}
 use Rattle.net_linear.specs.declared.net_term.NetTerm.{NetTerm}
@@ -18,7 +18,7 @@ use Rattle.net_linear.specs.NetTerms.{net_side}
 use Rattle.net_fault.specs.Places.{Places, Finds}
 use Rattle.net_tree.specs.Standing.{Stands, ConditionStands}
 use Rattle.net_fault.proofs.Found.{finds_then, finds_if}
-use Rattle.net_eval.proofs.ValueFaults.{finds_value}
+use Rattle.net_expr.proofs.ValueFaults.{finds_value}
 
 module _ (P : Places) (at : Span) (h : P Model at) where
   finds_solved : (c : Option Comparison) (m n : NetTerm) (a b : ℤ) → Finds P (solved at c m n a b)

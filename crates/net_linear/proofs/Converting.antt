@@ -11,10 +11,10 @@ use Rattle.net_tree.specs.Spans.{span_of}
 use Rattle.net_tree.specs.Tree.{Tree, Links, Part, Braces, leaf, indexed, parens, tuple, negated, braced, signed, reduced, chain, choice, net}
 use Rattle.net_tree.specs.View.{tree, links_of}
 use Rattle.net_tree.proofs.Views.{next_link}
-use Rattle.net_eval.specs.declared.row.Row.{Row}
+use Rattle.net_expr.specs.declared.row.Row.{Row}
 use Rattle.net_tree.specs.Operations.{reduction, is_minus, operation}
-use Rattle.net_eval.specs.Values.{index}
-use Rattle.net_eval.specs.Worlds.{World, Scope}
+use Rattle.net_expr.specs.Values.{index}
+use Rattle.net_expr.specs.Worlds.{World, Scope}
 use Rattle.net_fault.specs.declared.fault.Fault.{Fault}
 use Rattle.net_fault.specs.declared.fault.Fault.TheVariants.{OutOfMemory, At}
 use Rattle.net_linear.specs.Arcs.{Arcs}

@@ -12,9 +12,9 @@ use Rattle.net_tree.specs.Tree.{Tree, leaf, chain, net, none, link, one, between
 use Rattle.net_fault.specs.declared.language.Language.TheVariants as languages
 use Rattle.net_fault.specs.declared.detail.Detail.TheVariants.{Nothing}
 use Rattle.net_fault.specs.declared.defect.Defect.TheVariants.{KindMismatch, NodeCrossed, NotLinear}
-use Rattle.net_eval.specs.Limits.{is_small}
+use Rattle.net_expr.specs.Limits.{is_small}
 use Rattle.net_tree.specs.Operations.{operations, operation, reduction, is_minus}
-use Rattle.net_eval.specs.Numbers.{number_in}
+use Rattle.net_expr.specs.Numbers.{number_in}
 use Rattle.net_linear.specs.Arcs.{Arcs}
 use Rattle.net_linear.specs.Conditions.{range_in}
 use Rattle.net_linear.specs.NetTerms.{is_outflow}

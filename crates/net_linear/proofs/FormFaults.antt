@@ -5,9 +5,9 @@ use Rattle.net_fault.specs.declared.detail.Detail.{Detail}
 use Rattle.net_fault.specs.declared.language.Language.TheVariants.{Model}
 use Rattle.net_fault.specs.Outcomes.{Outcome}
 use Rattle.net_sets.specs.Sets.{Tuple, place_of}
-use Rattle.net_eval.specs.Limits.{is_small}
-use Rattle.net_eval.specs.Numbers.{divides}
-use Rattle.net_eval.specs.Worlds.{Name, key_count, reference}
+use Rattle.net_expr.specs.Limits.{is_small}
+use Rattle.net_expr.specs.Numbers.{divides}
+use Rattle.net_expr.specs.Worlds.{Name, key_count, reference}
 use Rattle.net_linear.specs.declared.arc.ArcKeys.{ArcKeys}
 use Rattle.net_tree.specs.declared.operator.BinOp.{BinOp}
 use Rattle.net_tree.specs.declared.operator.BinOp.TheVariants as joints

@@ -6,12 +6,12 @@ use lib.IntN.{*ℤ_comm}
 use Rattle.net_fault.specs.declared.span.Span.{Span}
 use Rattle.net_tree.specs.Spans.{span_of}
 use Rattle.net_tree.specs.Tree.{Tree}
-use Rattle.net_eval.specs.declared.row.Row.{Row}
-use Rattle.net_eval.specs.declared.row.Keys.{Keys}
+use Rattle.net_expr.specs.declared.row.Row.{Row}
+use Rattle.net_expr.specs.declared.row.Keys.{Keys}
 use Rattle.net_fault.specs.declared.defect.Defect.TheVariants.{ValueTooLarge, DivMod, NotLinear}
-use Rattle.net_eval.specs.Limits.{is_small}
-use Rattle.net_eval.specs.Numbers.{turned, divides}
-use Rattle.net_eval.specs.Worlds.{World, Scope}
+use Rattle.net_expr.specs.Limits.{is_small}
+use Rattle.net_expr.specs.Numbers.{turned, divides}
+use Rattle.net_expr.specs.Worlds.{World, Scope}
 use Rattle.net_tree.specs.declared.operator.BinOp.{BinOp}
 use Rattle.net_tree.specs.declared.operator.BinOp.TheVariants.{Plus, Minus, Times, Div, Mod}
 use Rattle.net_linear.specs.Conditions.{number_of}

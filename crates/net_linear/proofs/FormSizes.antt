@@ -3,7 +3,7 @@ use Rattle.std.specs.Prelude.{◌≡◌, ℕ, ◌≤◌, ◌<◌, ◌+◌, ◌*�
 use Rattle.std.proofs.Common.{refl, ap, sym, ◌∙◌, subst, arith}
 use Rattle.std.proofs.lemmas.Int.{ints, unsigned_abs-mul}
 use Rattle.net_normal.specs.Limits.{IsSized, value_limit}
-use Rattle.net_eval.specs.Limits.{is_small}
+use Rattle.net_expr.specs.Limits.{is_small}
 use Rattle.net_linear.specs.Forms.{Products, Linear, coefficient, with_times, all_small, all_apart, combined, is_sized, AreWithin, just, one_arc}
 use Rattle.net_linear.proofs.Adding.{abs_product}
 use Rattle.net_linear.proofs.Coefficients.{each_small, apart_with, coefficient_with}

@@ -1,4 +1,4 @@
-mod Keeping
+mod Positions
 mod Sizes
 mod NetTerms
 pub mod Ranges
@@ -15,3 +15,5 @@ mod Terms
 pub mod FormFaults
 pub mod ConditionFaults
 pub mod ObjectiveFaults
+pub mod ObjectivesSound
+pub mod ConditionsSound

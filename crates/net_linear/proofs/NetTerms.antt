@@ -16,15 +16,15 @@ use Rattle.net_tree.proofs.Views.{next_link}
 use Rattle.net_tree.specs.declared.operator.BinOp.{BinOp}
 use Rattle.net_tree.specs.declared.operator.BinOp.TheVariants as op
 use Rattle.net_fault.specs.declared.defect.Defect.TheVariants.{ValueTooLarge, KindMismatch}
-use Rattle.net_eval.specs.declared.value.Value.{Value}
-use Rattle.net_eval.specs.declared.value.Value.TheVariants as values
-use Rattle.net_eval.specs.Limits.{is_small}
-use Rattle.net_eval.specs.Items.{begins_range}
-use Rattle.net_eval.specs.Numbers.{number, turned, plus, less as minus, range_of}
+use Rattle.net_expr.specs.declared.value.Value.{Value}
+use Rattle.net_expr.specs.declared.value.Value.TheVariants as values
+use Rattle.net_expr.specs.Limits.{is_small}
+use Rattle.net_expr.specs.Items.{begins_range}
+use Rattle.net_expr.specs.Numbers.{number, turned, plus, less as minus, range_of}
 use Rattle.net_tree.specs.Operations.{operation, operations, operation_in, is_range}
-use Rattle.net_eval.specs.Operators.{apply, decided, of_numbers}
-use Rattle.net_eval.specs.Values.{value, values as each_value, chained, either}
-use Rattle.net_eval.specs.Worlds.{World, Scope}
+use Rattle.net_expr.specs.Operators.{apply, decided, of_numbers}
+use Rattle.net_expr.specs.Values.{value, values as each_value, chained, either}
+use Rattle.net_expr.specs.Worlds.{World, Scope}
 use Rattle.net_tree.specs.declared.operator.BinOp.{BinOp}
 use Rattle.net_tree.specs.declared.operator.BinOp.TheVariants.{Plus, Minus, Times, Div, Mod}
 use Rattle.net_linear.specs.declared.net_term.NetTerm.{NetTerm}

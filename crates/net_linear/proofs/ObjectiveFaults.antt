@@ -7,9 +7,9 @@ use Rattle.net_sets.specs.Sets.{Tuple}
 use Rattle.net_tree.specs.Spans.{span_of}
 use Rattle.net_tree.specs.Tree.{Tree, Links, Part, leaf, indexed, parens, tuple, negated, braced, signed, reduced, chain, choice, net, none, link, absent, part}
 use Rattle.net_tree.specs.Operations.{reduction, is_minus, operation}
-use Rattle.net_eval.specs.Operators.{truth, tuple_of}
-use Rattle.net_eval.specs.Values.{value, values, index}
-use Rattle.net_eval.specs.Worlds.{Name, World, Scope}
+use Rattle.net_expr.specs.Operators.{truth, tuple_of}
+use Rattle.net_expr.specs.Values.{value, values, index}
+use Rattle.net_expr.specs.Worlds.{Name, World, Scope}
 use Rattle.net_linear.specs.Amounts.{number_or_none}
 use Rattle.net_linear.specs.Arcs.{Arcs, declared, arc_at}
 use Rattle.net_linear.specs.Forms.{Term, just, join, turn, total, as_form}
@@ -18,8 +18,8 @@ use Rattle.net_linear.specs.Objectives.{with_arcs, objective_form}
 use Rattle.net_fault.specs.Places.{Places, Finds}
 use Rattle.net_tree.specs.Standing.{Stands, LinksStand, PartStands}
 use Rattle.net_fault.proofs.Found.{finds_then, finds_if}
-use Rattle.net_eval.proofs.OperatorFaults.{finds_truth, finds_tuple_of}
-use Rattle.net_eval.proofs.ValueFaults.{whole_stands, finds_value, finds_values, finds_index}
+use Rattle.net_expr.proofs.OperatorFaults.{finds_truth, finds_tuple_of}
+use Rattle.net_expr.proofs.ValueFaults.{whole_stands, finds_value, finds_values, finds_index}
 use Rattle.net_linear.proofs.FormFaults.{finds_sized, finds_join, finds_turn, finds_total, finds_as_form, finds_arc_at}
 use Rattle.net_linear.proofs.ConditionFaults.{finds_number_or_none}
 

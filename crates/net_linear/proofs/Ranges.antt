@@ -11,8 +11,8 @@ use Rattle.net_normal.specs.Limits.{IsSized, range_limit}
 use Rattle.net_tree.specs.Tree.{Tree, Condition, unsaid, one, between}
 use Rattle.net_tree.specs.Role.{role_of}
 use Rattle.net_fault.specs.declared.defect.Defect.TheVariants.{ValueTooLarge}
-use Rattle.net_eval.specs.Limits.{is_small}
-use Rattle.net_eval.specs.Worlds.{World, Scope}
+use Rattle.net_expr.specs.Limits.{is_small}
+use Rattle.net_expr.specs.Worlds.{World, Scope}
 use Rattle.net_linear.specs.declared.condition.Comparison.{Comparison}
 use Rattle.net_linear.specs.declared.condition.Comparison.TheVariants.{Equal, AtMost, AtLeast}
 use Rattle.net_linear.specs.declared.condition.Sides.{Sides}

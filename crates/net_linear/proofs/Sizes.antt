@@ -6,7 +6,7 @@ use mir.Syntax.{w128}
 use Rattle.std.proofs.lemmas.Int.{ints, fits_signed_from_abs, to_z-of_z}
 use Rattle.std.proofs.lemmas.Bool.{leb-true}
 use Rattle.net_normal.specs.Limits.{IsSized, range_limit}
-use Rattle.net_eval.specs.Limits.{is_small}
+use Rattle.net_expr.specs.Limits.{is_small}
 
 pub both_true : (a b : Bool) → IsTrue (a && b) → (a ≡ true) × (b ≡ true)
 both_true true true h = (refl, refl)

@@ -4,10 +4,10 @@ use Rattle.std.proofs.Common.{ap, sym, ◌∙◌}
 use Rattle.net_fault.specs.declared.span.Span.{Span}
 use Rattle.net_tree.specs.Spans.{span_of}
 use Rattle.net_tree.specs.Tree.{Tree, Links, Part, leaf, indexed, parens, tuple, negated, braced, signed, reduced, chain, choice, net, none, link, absent, part}
-use Rattle.net_eval.specs.Numbers.{turned}
+use Rattle.net_expr.specs.Numbers.{turned}
 use Rattle.net_tree.specs.Operations.{reduction, is_minus, operation}
-use Rattle.net_eval.specs.Values.{index}
-use Rattle.net_eval.specs.Worlds.{World, Scope}
+use Rattle.net_expr.specs.Values.{index}
+use Rattle.net_expr.specs.Worlds.{World, Scope}
 use Rattle.net_linear.specs.Arcs.{Arcs, declared, is_arc, arc_at}
 use Rattle.net_linear.specs.Forms.{Linear, Term, just, join, turn, as_form, form_at}
 use Rattle.net_linear.specs.Laws.{HaveWorth}

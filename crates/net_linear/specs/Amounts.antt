@@ -1,14 +1,14 @@
--- The numbers that expressions come to.
+-- The numeric values of expressions.
 use Rattle.std.specs.Prelude.{Option, None, Some, Ok, ℤ}
 use Rattle.net_sets.specs.declared.member.Member.TheVariants.{Number}
 use Rattle.net_tree.specs.Tree.{Tree}
 use Rattle.net_fault.specs.Outcomes.{Outcome, and_then}
-use Rattle.net_eval.specs.declared.value.Value.{Value}
-use Rattle.net_eval.specs.declared.value.Value.TheVariants.{One}
-use Rattle.net_eval.specs.Values.{value}
-use Rattle.net_eval.specs.Worlds.{World, Scope}
+use Rattle.net_expr.specs.declared.value.Value.{Value}
+use Rattle.net_expr.specs.declared.value.Value.TheVariants.{One}
+use Rattle.net_expr.specs.Values.{value}
+use Rattle.net_expr.specs.Worlds.{World, Scope}
 
--- the number that a value is; none where it is of another kind
+-- a value as a number; None if it is not one
 abbrev pub as_number : Value → Option ℤ
 as_number (One (Number n)) = Some n
 as_number _ = None

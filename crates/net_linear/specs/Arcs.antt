@@ -1,11 +1,11 @@
 -- The declared arcs: what a name with subscripts refers to.
 use Rattle.std.specs.Prelude.{ℕ, ◌+◌, Bool, List, [], ◌∷◌, length, nat_eq, Option, None, Some, is_some, if◌then◌else◌, Ok, Err}
-use Rattle.std.specs.Str.{bytes_eq}
 use Rattle.net_fault.specs.declared.span.Span.{Span}
+use Rattle.net_sets.specs.Names.{named}
 use Rattle.net_sets.specs.Sets.{Tuple, place_of}
 use Rattle.net_fault.specs.declared.detail.Detail.{Detail}
 use Rattle.net_fault.specs.declared.defect.Defect.TheVariants.{OutsideSet, Arity, NotLinear}
-use Rattle.net_eval.specs.Worlds.{Name, key_count, reference}
+use Rattle.net_expr.specs.Worlds.{Name, key_count, reference}
 use Rattle.net_linear.specs.declared.arc.ArcKeys.{ArcKeys}
 use Rattle.net_fault.specs.Outcomes.{Outcome, refused, refused_of}
 
@@ -15,18 +15,17 @@ Arcs = List (Name × ArcKeys)
 
 -- the first declaration of a name
 abbrev pub declared : Arcs → Name → Option ArcKeys
-declared [] name = None
-declared (a ∷ arcs) name = if bytes_eq a.0 name then Some a.1 else declared arcs name
+declared arcs name = named arcs name
 
 abbrev pub is_arc : Arcs → Name → Bool
 is_arc arcs name = is_some (declared arcs name)
 
--- the number of the arc at this place among those of its declaration
+-- the number of the arc at this index in its declaration
 abbrev pub numbered : Span → Detail → ℕ → Option ℕ → Outcome ℕ
 numbered at d first None = refused_of OutsideSet at d
 numbered at d first (Some place) = Ok (first + place)
 
--- the number of the arc that a name has at a key
+-- the number of the arc with a name and a key
 abbrev pub arc_at : Span → Name → Option ArcKeys → Tuple → Outcome ℕ
 arc_at at name None key = refused NotLinear at
 arc_at at name (Some a) key =

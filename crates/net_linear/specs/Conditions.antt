@@ -1,4 +1,4 @@
--- Conditions of nodes: when a net inflow meets one, and the range that it comes to.
+-- Conditions of nodes: when a net inflow satisfies one, and the range that it is equivalent to.
 use Rattle.std.specs.Prelude.{◌≡◌, Bool, true, false, ◌&&◌, ◌||◌, Option, None, Some, is_some, IsTrue, if◌then◌else◌, Result, Ok, Err, ⊤, ℤ, pos, ◌+ℤ◌, ◌-ℤ◌, ◌≤ℤ◌, int_lt}
 use Rattle.std.specs.Option.{ForSome}
 use Rattle.net_fault.specs.declared.span.Span.{Span}
@@ -13,10 +13,10 @@ use Rattle.net_tree.specs.Spans.{span_of}
 pub use Rattle.net_tree.specs.Spans.{from_to}
 use Rattle.net_tree.specs.Tree.{Tree, Links, net, chain, none, link, Condition, unsaid, one, between}
 use Rattle.net_fault.specs.declared.defect.Defect.TheVariants.{KindMismatch, ValueTooLarge}
-use Rattle.net_eval.specs.Limits.{is_small}
-use Rattle.net_eval.specs.Numbers.{turned}
+use Rattle.net_expr.specs.Limits.{is_small}
+use Rattle.net_expr.specs.Numbers.{turned}
 use Rattle.net_tree.specs.Operations.{is_minus, operation}
-use Rattle.net_eval.specs.Worlds.{World, Scope}
+use Rattle.net_expr.specs.Worlds.{World, Scope}
 use Rattle.net_linear.specs.declared.condition.Comparison.{Comparison}
 use Rattle.net_linear.specs.declared.condition.Comparison.TheVariants.{Equal, AtMost, AtLeast}
 use Rattle.net_linear.specs.declared.condition.Sides.{Sides}
@@ -30,19 +30,19 @@ use Rattle.net_linear.specs.NetTerms.{has_minus, is_outflow, are_terms, net_side
 use Rattle.net_fault.specs.Outcomes.{Outcome, and_then, refused}
 use Rattle.net_linear.specs.Amounts.{number_or_none}
 
--- `=`, `==`, `<=` and `>=` compare
+-- the relations `=`, `==`, `<=` and `>=`
 abbrev pub comparison_in : Role → Option Comparison
 comparison_in (roles.Relation relations.Equal) = Some Equal
 comparison_in (roles.Relation relations.AtMost) = Some AtMost
 comparison_in (roles.Relation relations.AtLeast) = Some AtLeast
 comparison_in _ = None
 
--- a number, 0 where there is none
+-- a number; 0 if there is none
 abbrev pub number_of : Outcome (Option ℤ) → ℤ
 number_of (Ok (Some n)) = n
 number_of _ = pos 0
 
--- a term where the net inflow is y
+-- the value of a term if the net inflow is y
 abbrev pub term_at : World → Scope → Tree → ℤ → ℤ
 term_at w s (net sign word) y = turned (has_minus sign) (turned (is_outflow word) y)
 term_at w s x y = number_of (number_or_none w s x)
@@ -52,12 +52,12 @@ with_term Plus a b = a +ℤ b
 with_term Minus a b = a -ℤ b
 with_term _ a b = a
 
--- terms with `+` and `-` before them, added to a number
+-- the sum of a number and further terms, each with `+` or `-`
 abbrev pub terms_at : World → Scope → Links → ℤ → ℤ → ℤ
 terms_at w s none a y = a
 terms_at w s (link o x l) a y = terms_at w s l (with_term (operation o) a (term_at w s x y)) y
 
--- a side as it is written, where the net inflow is y; no size is tested
+-- the value of a side as written if the net inflow is y; sizes are not checked
 abbrev pub side_at : World → Scope → Tree → ℤ → ℤ
 side_at w s (chain n x l) y = if are_terms l then terms_at w s l (term_at w s x y) y else number_of (number_or_none w s (chain n x l))
 side_at w s x y = term_at w s x y
@@ -68,14 +68,14 @@ Compares (Some AtMost) a b = a ≤ℤ b
 Compares (Some AtLeast) a b = b ≤ℤ a
 Compares None a b = ⊥
 
--- the condition as it is written is true where the net inflow is y; a node without one has net inflow 0
+-- the condition as written is true if the net inflow is y; without a condition, y is 0
 abbrev pub Holds : World → Scope → Condition → ℤ → Type 0
 Holds w s unsaid y = y ≡ pos 0
 Holds w s (one m x o z) y = Compares (comparison_in (role_of o)) (side_at w s x y) (side_at w s z y)
 Holds w s (between m x o z p u) y =
     Compares (comparison_in (role_of o)) (side_at w s x y) (side_at w s z y) × Compares (comparison_in (role_of p)) (side_at w s z y) (side_at w s u y)
 
--- the net inflows that compare so with a number
+-- the net inflows that satisfy a comparison with a number
 abbrev pub compared_with : Comparison → ℤ → Sides
 compared_with Equal n = record { low = Some n; high = Some n }
 compared_with AtMost n = record { low = None; high = Some n }
@@ -86,7 +86,7 @@ flipped Equal = Equal
 flipped AtMost = AtLeast
 flipped AtLeast = AtMost
 
--- the net inflows y for which a + y, or a - y, at the left or the right compares so with the other number
+-- the net inflows y for which a + y, or a - y, satisfies the comparison with the other side
 abbrev pub solved : Span → Option Comparison → NetTerm → NetTerm → ℤ → ℤ → Outcome Sides
 solved at (Some c) Inflow Absent a b = Ok (compared_with c (b -ℤ a))
 solved at (Some c) Absent Outflow a b = Ok (compared_with c (b -ℤ a))
@@ -94,12 +94,12 @@ solved at (Some c) Outflow Absent a b = Ok (compared_with (flipped c) (a -ℤ b)
 solved at (Some c) Absent Inflow a b = Ok (compared_with (flipped c) (a -ℤ b))
 solved at _ _ _ a b = refused KindMismatch at
 
--- two sides, each compared
+-- two sides with a comparison
 abbrev pub solved_sides : Span → Option Comparison → NetTerm → NetTerm → Option ℤ → Option ℤ → Outcome Sides
 solved_sides at c m n (Some a) (Some b) = if is_small a && is_small b then solved at c m n a b else refused ValueTooLarge at
 solved_sides at c m n _ _ = refused KindMismatch at
 
--- both of two, where one has the low side and the other the high one
+-- the intersection of two ranges, of which one has the low side and the other the high one
 abbrev pub met_ends : Span → Option ℤ → Option ℤ → Option ℤ → Option ℤ → Outcome Sides
 met_ends at None (Some h) (Some l) None = Ok (record { low = Some l; high = Some h })
 met_ends at (Some l) None None (Some h) = Ok (record { low = Some l; high = Some h })
@@ -111,14 +111,14 @@ met at r q = met_ends at r.low r.high q.low q.high
 abbrev pub solved_twice : Span → Option Comparison → Option Comparison → NetTerm → NetTerm → NetTerm → Option ℤ → Option ℤ → Option ℤ → Outcome Sides
 solved_twice at c d m n k a b e = and_then (solved_sides at c m n a b) (λ r. and_then (solved_sides at d n k b e) (met at r))
 
--- the sides of the range of two compared expressions; all parts are evaluated first, with the net inflow as 0, and a part of
--- a wrong kind is a fault of the whole condition
+-- the range of a condition with two sides; all parts are evaluated first with net inflow 0, and a
+-- part that is not a number is an error of the whole condition
 abbrev pub one_in : World → Scope → Tree → Token → Tree → Outcome Sides
 one_in w s x o z =
     and_then (number_or_none w s x) (λ a. and_then (number_or_none w s z) (λ b.
     solved_sides (from_to x z) (comparison_in (role_of o)) (net_side x) (net_side z) a b))
 
--- the same of three
+-- the range of a condition with three sides
 abbrev pub between_in : World → Scope → Tree → Token → Tree → Token → Tree → Outcome Sides
 between_in w s x o z p u =
     and_then (number_or_none w s x) (λ a. and_then (number_or_none w s z) (λ b. and_then (number_or_none w s u) (λ e.
@@ -133,15 +133,15 @@ abbrev pub are_crossed : Option ℤ → Option ℤ → Bool
 are_crossed (Some l) (Some h) = int_lt h l
 are_crossed _ _ = false
 
--- no number lies between crossed sides
+-- crossed sides: no number is in the range
 abbrev pub uncrossed : Sides → Option Sides
 uncrossed r = if are_crossed r.low r.high then None else Some r
 
--- the range of a node's condition; none where no net inflow meets it
+-- the range of a node's condition; None if no net inflow satisfies it
 abbrev pub range_in : World → Scope → Condition → Outcome (Option Sides)
 range_in w s c = and_then (sides_in w s c) (λ r. Ok (uncrossed r))
 
--- a range has a side, and each is of a size that a network takes
+-- a range has a low or a high side, and both are within the limits of a network
 pub record AreSides (r : Sides) : Type 0 where
   pub given : IsTrue (is_some r.low || is_some r.high)
   pub low_fits : ForSome r.low (IsSized range_limit)
@@ -152,7 +152,7 @@ abbrev pub HasSides : Option Sides → Option NodeRange → Type 0
 HasSides wanted None = wanted ≡ None
 HasSides wanted (Some r) = wanted ≡ Some (record { low = r.low; high = r.high })
 
--- the code answers the range that is wanted, unless memory runs out
+-- the code returns the range that the definition gives, unless memory runs out
 abbrev pub AnswersRange : Outcome (Option Sides) → Result (Option NodeRange) Fault → Type 0
 AnswersRange wanted (Ok None) = wanted ≡ Ok None
 AnswersRange wanted (Ok (Some r)) = wanted ≡ Ok (Some (record { low = r.low; high = r.high }))

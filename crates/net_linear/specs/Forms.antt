@@ -1,14 +1,14 @@
--- Sums of arcs with coefficients, and what arithmetic makes of them.
+-- Linear forms: sums of arcs with coefficients, and their arithmetic.
 use Rattle.std.specs.Prelude.{ℕ, ◌≤◌, unsigned_abs, Bool, true, false, not, ◌&&◌, ◌||◌, List, [], ◌∷◌, nat_eq, Option, None, Some, if◌then◌else◌, Ok, ℤ, pos, negsuc, ◌+ℤ◌, ◌*ℤ◌, int_div, int_rem}
 use Rattle.net_fault.specs.declared.span.Span.{Span}
 use Rattle.net_fault.specs.declared.defect.Defect.TheVariants.{KindMismatch, DivMod, ValueTooLarge, NotLinear}
-use Rattle.net_eval.specs.Limits.{is_small}
-use Rattle.net_eval.specs.Numbers.{divides}
+use Rattle.net_expr.specs.Limits.{is_small}
+use Rattle.net_expr.specs.Numbers.{divides}
 use Rattle.net_tree.specs.declared.operator.BinOp.{BinOp}
 use Rattle.net_tree.specs.declared.operator.BinOp.TheVariants.{Plus, Minus, Times, Div, Mod}
 use Rattle.net_fault.specs.Outcomes.{Outcome, and_then, refused}
 
--- numbers of arcs, each once, with their coefficients
+-- numbers of arcs, each at most once, with their coefficients
 abbrev pub Products : Type 0
 Products = List (ℕ × ℤ)
 
@@ -17,12 +17,12 @@ abbrev pub coefficient : Products → ℕ → ℤ
 coefficient [] a = pos 0
 coefficient (p ∷ ps) a = if nat_eq a p.0 then p.1 else coefficient ps a
 
--- with c more of arc a
+-- c added to the coefficient of arc a
 abbrev pub more : Products → ℕ → ℤ → Products
 more [] a c = (a, c) ∷ []
 more (p ∷ ps) a c = if nat_eq a p.0 then (p.0, p.1 +ℤ c) ∷ ps else p ∷ more ps a c
 
--- with k times all of the second
+-- k times the second sum added to the first
 abbrev pub with_times : Products → ℤ → Products → Products
 with_times ps k [] = ps
 with_times ps k (q ∷ qs) = with_times (more ps q.0 (k *ℤ q.1)) k qs
@@ -31,7 +31,7 @@ abbrev pub all_small : Products → Bool
 all_small [] = true
 all_small (p ∷ ps) = is_small p.1 && all_small ps
 
--- a number, and the products that are added to it
+-- a linear form: a constant plus a sum of products
 pub record Linear : Type 0 where
   pub constant : ℤ
   pub products : Products
@@ -54,11 +54,11 @@ abbrev pub is_number : Products → Bool
 is_number [] = true
 is_number (p ∷ ps) = false
 
--- what an expression comes to; none where that is no number
+-- the value of an expression; None if it is not numeric
 abbrev pub Term : Type 0
 Term = Option Linear
 
--- the number and each coefficient are within the limit
+-- the constant and each coefficient are within the limit
 abbrev pub is_sized : Linear → Bool
 is_sized f = is_small f.constant && all_small f.products
 
@@ -69,14 +69,14 @@ abbrev pub within : Span → Term → Outcome Term
 within at (Some f) = Ok (Some f)
 within at None = refused ValueTooLarge at
 
--- a result of arithmetic
+-- the result of arithmetic
 abbrev pub sized : Span → Linear → Outcome Term
 sized at f = within at (if_sized f)
 
 abbrev pub minus_one : ℤ
 minus_one = negsuc 0
 
--- at least one side is a number alone
+-- at least one side must be constant
 abbrev pub times : Span → Linear → Linear → Outcome Term
 times at f g =
     if is_number f.products then sized at (combined (just (pos 0)) f.constant g)
@@ -86,7 +86,7 @@ times at f g =
 abbrev pub quotient : Span → (ℤ → ℤ → ℤ) → ℤ → ℤ → Outcome Term
 quotient at h m n = if divides m n then sized at (just (h m n)) else refused DivMod at
 
--- both sides are numbers alone
+-- both sides must be constant
 abbrev pub divided : Span → (ℤ → ℤ → ℤ) → Linear → Linear → Outcome Term
 divided at h f g = if is_number f.products && is_number g.products then quotient at h f.constant g.constant else refused NotLinear at
 
@@ -106,7 +106,7 @@ join j at _ _ = refused KindMismatch at
 abbrev pub scaled : Span → ℤ → Linear → Outcome Term
 scaled at k f = sized at (combined (just (pos 0)) k f)
 
--- with a sign
+-- with an optional minus sign
 abbrev pub turn : Bool → Span → Term → Outcome Term
 turn minus at None = refused KindMismatch at
 turn true at (Some f) = scaled at minus_one f
@@ -116,11 +116,11 @@ abbrev pub or_too_large : Span → Term → Outcome Linear
 or_too_large at (Some f) = Ok f
 or_too_large at None = refused ValueTooLarge at
 
--- with a price of an arc more, which is a number within the limit
+-- adds a cost coefficient of an arc, which is within the limit
 abbrev pub priced : Span → Linear → ℕ → ℤ → Outcome Linear
 priced at f arc price = if is_small price then or_too_large at (if_sized (combined f price (one_arc arc))) else refused ValueTooLarge at
 
--- one more of the terms of a sum; only the total is tested
+-- adds a term of a sum; only the total is checked against the limit
 abbrev pub gathered : Span → Linear → Term → Outcome Linear
 gathered at sum None = refused KindMismatch at
 gathered at sum (Some f) = Ok (combined sum (pos 1) f)
@@ -132,12 +132,12 @@ gathered_over at body (s ∷ ss) sum = and_then (body s) (λ u. and_then (gather
 abbrev pub total : {S : Type 0} → Span → (S → Outcome Term) → List S → Outcome Term
 total at body ss = and_then (gathered_over at body ss (just (pos 0))) (sized at)
 
--- a term has to be a number
+-- a term must be numeric
 abbrev pub as_form : Span → Term → Outcome Linear
 as_form at None = refused KindMismatch at
 as_form at (Some f) = Ok f
 
--- no arc stands twice
+-- no arc occurs twice
 abbrev pub stands_in : ℕ → Products → Bool
 stands_in a [] = false
 stands_in a (p ∷ ps) = nat_eq a p.0 || stands_in a ps
@@ -146,7 +146,7 @@ abbrev pub all_apart : Products → Bool
 all_apart [] = true
 all_apart (p ∷ ps) = not (stands_in p.0 ps) && all_apart ps
 
--- the sum of the products with these numbers of the arcs
+-- the value of the products at these values of the arcs
 abbrev pub products_at : (ℕ → ℤ) → Products → ℤ
 products_at x [] = pos 0
 products_at x (p ∷ ps) = (p.1 *ℤ x p.0) +ℤ products_at x ps
@@ -154,7 +154,7 @@ products_at x (p ∷ ps) = (p.1 *ℤ x p.0) +ℤ products_at x ps
 abbrev pub form_at : (ℕ → ℤ) → Linear → ℤ
 form_at x f = f.constant +ℤ products_at x f.products
 
--- the number and each coefficient are at most n in size
+-- the absolute values of the constant and of each coefficient are at most n
 pub record AreWithin (n : ℕ) (f : Linear) : Type 0 where
   pub constant : unsigned_abs f.constant ≤ n
   pub products : (a : ℕ) → unsigned_abs (coefficient f.products a) ≤ n

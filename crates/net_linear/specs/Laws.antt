@@ -1,12 +1,12 @@
--- What is proved of objectives.
+-- Theorems about objectives.
 use Rattle.std.specs.Prelude.{◌≡◌, ℕ, ℤ, Ok}
 use Rattle.net_tree.specs.Tree.{Tree}
-use Rattle.net_eval.specs.Worlds.{World, Scope}
+use Rattle.net_expr.specs.Worlds.{World, Scope}
 use Rattle.net_linear.specs.Arcs.{Arcs}
 use Rattle.net_linear.specs.Forms.{Linear, form_at}
 use Rattle.net_linear.specs.Objectives.{objective_form}
 use Rattle.net_linear.specs.Worths.{worth}
 
--- at each assignment of numbers to arcs, an objective's form is worth what its expression is
+-- at each assignment, the value of an objective's linear form is the value of its expression
 abbrev pub HaveWorth : Type 0
 HaveWorth = (a : Arcs) (w : World) (s : Scope) (t : Tree) (f : Linear) → objective_form a w s t ≡ Ok f → (x : ℕ → ℤ) → form_at x f ≡ worth a w s t x

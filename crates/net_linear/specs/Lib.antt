@@ -3,8 +3,8 @@ pub mod Signs
 pub mod NetTerms
 pub mod Conditions
 pub mod Arcs
-pub mod Kept
 pub mod Forms
 pub mod Objectives
 pub mod Worths
 pub mod Laws
+pub mod Soundness

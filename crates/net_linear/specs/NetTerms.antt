@@ -1,4 +1,4 @@
--- How the net inflow of a node stands in the sides of its condition.
+-- The occurrences of a node's net inflow in its condition.
 use Rattle.std.specs.Prelude.{Bool, true, false, ◌&&◌, Option, None, Some, if◌then◌else◌, codes, ℤ, pos, neg_ℤ}
 use Rattle.std.specs.Str.{bytes_eq}
 use Rattle.net_lex.specs.declared.token.Token.{Token}
@@ -27,18 +27,18 @@ abbrev pub with_sign : Bool → NetTerm → NetTerm
 with_sign true n = negated n
 with_sign false n = n
 
--- how it stands in a term
+-- how the net inflow occurs in a term
 abbrev pub net_term : Tree → NetTerm
 net_term (net sign word) = with_sign (has_minus sign) (with_sign (is_outflow word) Inflow)
 net_term _ = Absent
 
--- in two terms that are added up
+-- in two terms that are added
 abbrev pub beside : NetTerm → NetTerm → NetTerm
 beside Absent n = n
 beside n Absent = n
 beside _ _ = Unclear
 
--- in what is so far, and in a term behind `+` or `-`
+-- in the terms so far, and in a term after `+` or `-`
 abbrev pub behind : BinOp → NetTerm → NetTerm → NetTerm
 behind Minus so_far n = beside so_far (negated n)
 behind _ so_far n = beside so_far n
@@ -47,17 +47,18 @@ abbrev pub net_terms : Links → NetTerm → NetTerm
 net_terms none so_far = so_far
 net_terms (link o x l) so_far = net_terms l (behind (operation o) so_far (net_term x))
 
--- terms with `+` and `-` alone between them
+-- terms with only `+` and `-` between them
 abbrev pub are_terms : Links → Bool
 are_terms none = true
 are_terms (link o x l) = is_sign (operation o) && are_terms l
 
--- how it stands in a side; under other operators than these it is read as 0, as no text has it that the grammar takes
+-- how the net inflow occurs in a side; with other operators it counts as absent (the grammar does
+-- not allow net terms there)
 abbrev pub net_side : Tree → NetTerm
 net_side (chain n x l) = if are_terms l then net_terms l (net_term x) else Absent
 net_side x = net_term x
 
--- what a net term comes to where the net inflow is y
+-- the value of a net term if the net inflow is y
 abbrev pub at_inflow : NetTerm → ℤ → ℤ
 at_inflow Absent y = pos 0
 at_inflow Inflow y = y

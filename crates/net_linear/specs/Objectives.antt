@@ -1,4 +1,4 @@
--- What an objective's expression comes to, and what it is worth at an assignment.
+-- The linear form of an objective's expression, and its value at an assignment.
 use Rattle.std.specs.Prelude.{ℕ, Bool, true, false, not, ◌&&◌, ◌||◌, List, [], ◌∷◌, Option, None, Some, if◌then◌else◌, Ok, Err, ℤ, pos, ◌+ℤ◌, ◌-ℤ◌, ◌*ℤ◌, neg_ℤ, int_div, int_rem}
 use Rattle.net_fault.specs.declared.span.Span.{Span}
 use Rattle.net_lex.specs.declared.token.Token.{Token}
@@ -6,12 +6,12 @@ use Rattle.net_tree.specs.Spans.{span_of}
 use Rattle.net_tree.specs.Tree.{Tree, Links, Part, Braces, leaf, indexed, parens, tuple, negated, braced, signed, reduced, chain, choice, net, none, link, absent, part, empty, filled}
 use Rattle.net_tree.specs.declared.operator.Reduction.{Reduction}
 use Rattle.net_tree.specs.declared.operator.Reduction.TheVariants as reductions
-use Rattle.net_eval.specs.declared.row.Keys.{Keys}
-use Rattle.net_eval.specs.declared.row.Row.{Row}
+use Rattle.net_expr.specs.declared.row.Keys.{Keys}
+use Rattle.net_expr.specs.declared.row.Row.{Row}
 use Rattle.net_tree.specs.Operations.{reduction, is_minus, operation}
-use Rattle.net_eval.specs.Operators.{truth, tuple_of}
-use Rattle.net_eval.specs.Values.{value, values, index}
-use Rattle.net_eval.specs.Worlds.{Name, World, Scope}
+use Rattle.net_expr.specs.Operators.{truth, tuple_of}
+use Rattle.net_expr.specs.Values.{value, values, index}
+use Rattle.net_expr.specs.Worlds.{Name, World, Scope}
 use Rattle.net_sets.specs.Sets.{Tuple}
 use Rattle.net_fault.specs.declared.defect.Defect.{Defect}
 use Rattle.net_fault.specs.declared.defect.Defect.TheVariants.{NotLinear}
@@ -24,7 +24,7 @@ use Rattle.net_linear.specs.Signs.{is_sign}
 use Rattle.net_fault.specs.Outcomes.{Outcome, and_then, refused}
 use Rattle.net_linear.specs.Amounts.{number_or_none}
 
--- an arc stands in the tree
+-- the tree contains an arc
 abbrev mutual
   pub names_arc : Arcs → Tree → Bool
   names_arc a (leaf t) = is_arc a t.text
@@ -54,13 +54,13 @@ abbrev mutual
 abbrev pub first_or_any : Arcs → Tree → Links → Bool
 first_or_any a x l = names_arc a x || any_arc a l
 
--- `+` and `-` alone
+-- only `+` and `-`
 abbrev pub are_signs : Links → Bool
 are_signs none = true
 are_signs (link o x l) = is_sign (operation o) && are_signs l
 
--- an operator between what stands before it and the operand behind it, by whether an arc stands there: `*` takes one arc, and
--- the others that make numbers take none
+-- whether an operator is allowed, given whether its left and its right operand contain an arc: `*`
+-- allows an arc on one side, the other arithmetic operators on neither
 abbrev pub may_join : BinOp → Bool → Bool → Bool
 may_join Times before here = not (before && here)
 may_join Plus before here = not (before || here)
@@ -69,12 +69,12 @@ may_join Div before here = not (before || here)
 may_join Mod before here = not (before || here)
 may_join _ before here = false
 
--- at most one operand names an arc, and each operator with an arc on one of its sides is `*`
+-- at most one operand contains an arc, and each operator with an arc on one of its sides is `*`
 abbrev pub one_factor : Arcs → Bool → Links → Bool
 one_factor a before none = true
 one_factor a before (link o x l) = may_join (operation o) before (names_arc a x) && one_factor a (before || names_arc a x) l
 
--- a sum, or a product with at most one operand that names an arc
+-- a sum, or a product with at most one operand that contains an arc
 abbrev pub is_linear : Arcs → Tree → Links → Bool
 is_linear a x l = are_signs l || one_factor a (names_arc a x) l
 
@@ -82,22 +82,22 @@ abbrev pub is_sum : Reduction → Bool
 is_sum reductions.Sum = true
 is_sum _ = false
 
--- a number that no arc is part of
+-- a number without arcs
 abbrev pub plain_term : Span → Option ℤ → Outcome Term
 plain_term at None = Ok None
 plain_term at (Some n) = sized at (just n)
 
--- what a tree comes to: its value where no arc stands in it
+-- the term of a tree: its value if it contains no arc
 abbrev pub mixed : World → Scope → Tree → Bool → Outcome Term → Outcome Term
 mixed w s t true u = u
 mixed w s t false u = and_then (number_or_none w s t) (plain_term (span_of t))
 
--- the outcome, where nothing forbids an arc there
+-- the outcome u if an arc is allowed there, else NotLinear
 abbrev pub linear : Span → Bool → Outcome Term → Outcome Term
 linear at true u = u
 linear at false u = refused NotLinear at
 
--- the arc of a reference; its subscripts are evaluated first
+-- the key of a reference to an arc; its subscripts are evaluated first
 abbrev pub key_of : World → Scope → Span → Tree → Links → Outcome Tuple
 key_of w s at x l = and_then (and_then (value w s x) (λ v. values w s l (v ∷ []))) (λ vs. (tuple_of at vs))
 
@@ -139,12 +139,12 @@ abbrev mutual
   otherwise a w s absent = Ok (Some (just (pos 0)))
   otherwise a w s (part m x) = objective a w s x
 
-  -- the operators of a chain from the left
+  -- applies the operators of a chain from left to right
   pub chained : Arcs → Span → World → Scope → Links → Term → Outcome Term
   chained a at w s none u = Ok u
   chained a at w s (link o x l) u = and_then (objective a w s x) (λ v. and_then (join (operation o) at u v) (chained a at w s l))
 
--- what a tree in which an arc stands comes to
+-- the term of a tree that contains an arc
 abbrev pub with_arcs : Arcs → World → Scope → Tree → Outcome Term
 with_arcs a w s (leaf t) = arc_term a (span_of (leaf t)) t.text (Ok [])
 with_arcs a w s (indexed n o x l c) = linear (span_of (indexed n o x l c)) (not (first_or_any a x l)) (arc_term a (span_of (indexed n o x l c)) n.text (key_of w s (span_of (indexed n o x l c)) x l))
@@ -159,6 +159,6 @@ with_arcs a w s (choice i x t y e) =
     (and_then (condition w s (span_of (choice i x t y e)) x) (λ holds. if holds then objective a w s y else otherwise a w s e))
 with_arcs a w s t = refused NotLinear (span_of t)
 
--- the objective has to be a number
+-- the objective must be numeric
 abbrev pub objective_form : Arcs → World → Scope → Tree → Outcome Linear
 objective_form a w s t = and_then (objective a w s t) (as_form (span_of t))

@@ -1,14 +1,15 @@
--- What an objective's expression is worth at an assignment: its value with each arc read as its number. No size is tested.
+-- The value of an objective's expression at an assignment, with each arc replaced by its value.
+-- Sizes are not checked.
 use Rattle.std.specs.Prelude.{ℕ, Bool, true, false, ◌&&◌, ◌||◌, List, [], ◌∷◌, Option, None, Some, if◌then◌else◌, Result, Ok, Err, ℤ, pos, ◌+ℤ◌, ◌-ℤ◌, ◌*ℤ◌, neg_ℤ, int_div, int_rem}
 use Rattle.net_fault.specs.declared.span.Span.{Span}
 use Rattle.net_tree.specs.Spans.{span_of}
 use Rattle.net_tree.specs.Tree.{Tree, Links, Part, Braces, leaf, indexed, parens, tuple, negated, braced, signed, reduced, chain, choice, net, none, link, absent, part}
-use Rattle.net_eval.specs.declared.row.Keys.{Keys}
-use Rattle.net_eval.specs.declared.row.Row.{Row}
-use Rattle.net_eval.specs.Numbers.{turned}
+use Rattle.net_expr.specs.declared.row.Keys.{Keys}
+use Rattle.net_expr.specs.declared.row.Row.{Row}
+use Rattle.net_expr.specs.Numbers.{turned}
 use Rattle.net_tree.specs.Operations.{is_minus, operation}
-use Rattle.net_eval.specs.Values.{index}
-use Rattle.net_eval.specs.Worlds.{Name, World, Scope}
+use Rattle.net_expr.specs.Values.{index}
+use Rattle.net_expr.specs.Worlds.{Name, World, Scope}
 use Rattle.net_sets.specs.Sets.{Tuple}
 use Rattle.net_tree.specs.declared.operator.BinOp.{BinOp}
 use Rattle.net_tree.specs.declared.operator.BinOp.TheVariants.{Plus, Minus, Times, Div, Mod}
@@ -18,7 +19,7 @@ use Rattle.net_linear.specs.Objectives.{names_arc, any_arc, braces_arc, key_of, 
 use Rattle.net_fault.specs.Outcomes.{Outcome, and_then}
 use Rattle.net_linear.specs.Amounts.{number_or_none}
 
--- a tree without arcs is worth its value
+-- the value of a tree without arcs is that of the evaluator
 abbrev pub read : World → Scope → Tree → Bool → ℤ → ℤ
 read w s t true n = n
 read w s t false n = number_of (number_or_none w s t)
@@ -71,7 +72,7 @@ abbrev mutual
   worth_else a w s absent x = pos 0
   worth_else a w s (part m y) x = worth a w s y x
 
-  -- the operators of a chain from the left
+  -- applies the operators of a chain from left to right
   pub worth_chain : Arcs → World → Scope → Links → ℤ → (ℕ → ℤ) → ℤ
   worth_chain a w s none n x = n
   worth_chain a w s (link o y l) n x = worth_chain a w s l (combine (operation o) n (worth a w s y x)) x

@@ -4,21 +4,21 @@ ghost use Rattle.std.specs.Prelude.{◌≡◌, ◌&&◌, ◌↔◌, ◌-ℤ◌, 
 ghost use Rattle.net_normal.specs.Assignments.{IsInRange};
 ghost use Rattle.net_tree.specs.Role as role;
 ghost use Rattle.net_tree.specs.View.{tree, condition_of};
-ghost use Rattle.net_eval.specs.Limits.{is_small};
+ghost use Rattle.net_expr.specs.Limits.{is_small};
 ghost use Rattle.net_linear.specs.Conditions as conditions;
 ghost use Rattle.net_fault.specs.Outcomes.{Answers};
 ghost use Rattle.net_linear.specs.declared.condition.Comparison.TheVariants.{Equal};
 
 use crate::net_term::{NetTerm, net_side};
 use crate::value::number_or_none;
-use net_eval::{Env, Scope};
+use net_expr::{Env, Scope, is_small};
 use net_fault::{Defect, Fault, Span};
 use net_lex::Token;
 use net_normal::NodeRange;
 use net_tree::{Expr, NetCond, Relation, Role, role_of, span_of};
 use std::alloc::Global;
 
-/// How a condition compares its sides.
+/// The relation of a condition.
 #[derive(Clone, Copy)]
 pub enum Comparison {
     /// `=`, `==`
@@ -29,7 +29,7 @@ pub enum Comparison {
     AtLeast,
 }
 
-/// The least and the greatest net inflow that a condition allows, where it says so.
+/// The least and the greatest net inflow that a condition allows, if limited.
 #[derive(Clone, Copy)]
 pub struct Sides {
     pub low: Option<i64>,
@@ -54,16 +54,6 @@ fn from_to(first: &Expr<'_>, last: &Expr<'_>) -> Span
         start: span_of(first).start,
         end: span_of(last).end,
     }
-}
-
-/// The greatest size of a number.
-const LIMIT: u64 = 1_000_000_000_000;
-
-#[tactic(auto, unfolding(net_eval::specs::Limits::is_small))]
-fn is_small(number: &i64) -> bool
-    ensures { result ≡ is_small number.now }
-{
-    number.unsigned_abs() <= LIMIT
 }
 
 fn less(a: &i64, b: &i64) -> i64
@@ -102,7 +92,8 @@ fn flipped(comparison: Comparison) -> Comparison
     }
 }
 
-/// The net inflows for which the two sides compare so; the numbers are the sides with the net inflow as 0.
+/// Returns the net inflows that satisfy a comparison; `a` and `b` are the values of its sides with
+/// net inflow 0.
 fn solved(
     at: Span,
     comparison: Option<Comparison>,
@@ -153,7 +144,8 @@ fn solved_sides(
     }
 }
 
-/// The net inflows of two ranges, of which one has the low side and the other the high one.
+/// Returns the intersection of two ranges, of which one has the low side and the other the high
+/// one.
 fn met(at: Span, first: Sides, second: Sides) -> Result<Sides, Fault>
     ensures { Answers (conditions.met at first second) result }
 {
@@ -222,7 +214,7 @@ fn between<'s>(
     solved_twice(at, comparisons, terms, &low, &sum, &high)
 }
 
-/// What a node without a condition asks: as much flows in as out.
+/// Returns the range of a node without a condition: net inflow 0.
 fn balanced() -> Sides
     ensures { result ≡ conditions.compared_with Equal (pos 0) }
 {
@@ -260,7 +252,7 @@ fn are_crossed(low: &Option<i64>, high: &Option<i64>) -> bool
     }
 }
 
-/// The range with these sides; none where no number is between them.
+/// Returns the range with these sides, or `None` if it contains no number.
 fn uncrossed(sides: &Sides) -> Option<NodeRange>
     requires { conditions.AreSides sides.now }
     ensures { conditions.HasSides (conditions.uncrossed sides.now) result }
@@ -287,12 +279,12 @@ fn range_of<'s>(
     Ok(uncrossed(&sides))
 }
 
-/// The net inflows that a node's condition allows: exactly those of which the condition is true as it is written, with
-/// `net_in` as the net inflow and `net_out` as its negation; none where no net inflow meets it. A node without a condition has
-/// net inflow 0.
+/// Returns the net inflows that a node's condition allows: exactly those for which the condition as
+/// written is true, with `net_in` as the net inflow and `net_out` as its negation. Returns `None`
+/// if there are none. A node without a condition has net inflow 0.
 ///
-/// All parts are evaluated from the left, with the net inflow as 0, and the first fault is answered. `KindMismatch` at the
-/// whole condition is answered behind that where a side is no number.
+/// All parts are evaluated from left to right with net inflow 0; the first error is returned. Then,
+/// if a side is not a number, the error is `KindMismatch` at the whole condition.
 pub fn node_range<'s>(
     alloc: Global,
     env: &Env<'_, 's>,

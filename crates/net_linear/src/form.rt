@@ -1,16 +1,17 @@
 //! Sums of arcs with their coefficients.
 
 ghost use Rattle.std.specs.Prelude.{◌≡◌, [], ◌≤◌, ◌+◌, ◌^◌, ◌&&◌, ℕ, pos, true, OnOk, IfOk, unsigned_abs};
-ghost use Rattle.net_eval.specs.Limits.{is_small};
+ghost use Rattle.net_expr.specs.Limits.{is_small};
 ghost use Rattle.net_normal.specs.Limits.{IsSized, value_limit};
 ghost use Rattle.net_linear.specs.Forms as forms;
 
-use crate::products::{add_times, are_small, both, coefficient_of, is_small, product_of, sum_of};
+use crate::products::{add_times, are_small, both, coefficient_of, product_of, sum_of};
 use indexmap::IndexMap;
+use net_expr::is_small_wide;
 use std::alloc::{AllocError, AllocFailed, Global};
 use std::marker::Model;
 
-/// A number, and products of arcs with coefficients that are added to it.
+/// A constant plus products of arcs and coefficients.
 #[derive(Drop)]
 pub(crate) struct Sum {
     constant: i128,
@@ -28,7 +29,7 @@ impl Model for Sum {
     ghost invariant = { λ s. all_apart s.products.entries ≡ true };
 }
 
-/// A number, and a factor times another.
+/// Returns `constant + factor * other`.
 fn next_constant(constant: &i128, factor: &i128, other: &i128) -> i128
     requires constant { unsigned_abs constant.now ≤ 2 ^ 125 }
     requires factor { unsigned_abs factor.now ≤ 2 ^ 40 }
@@ -39,7 +40,7 @@ fn next_constant(constant: &i128, factor: &i128, other: &i128) -> i128
     sum_of(constant, &product)
 }
 
-/// A number within the limit.
+/// Converts a number within the limit to `i64`.
 fn narrow(number: &i128) -> i64
     requires { is_small number.now ≡ true }
     ensures value { result ≡ number.now }
@@ -49,7 +50,7 @@ fn narrow(number: &i128) -> i64
 }
 
 impl Sum {
-    /// A number alone.
+    /// Builds a constant.
     pub(crate) fn number(alloc: Global, number: &i128) -> Sum
         ensures { result ≡ forms.just number.now }
     {
@@ -59,7 +60,7 @@ impl Sum {
         }
     }
 
-    /// An arc, once.
+    /// Builds the sum of one arc with coefficient 1. Fails only if memory runs out.
     fn arc(alloc: Global, arc: usize) -> Result<Sum, AllocFailed<(usize, i128)>>
         ensures { IfOk result (λ sum. sum ≡ forms.one_arc arc) }
     {
@@ -71,7 +72,8 @@ impl Sum {
         })
     }
 
-    /// With a factor times a form; and whether all is within the limit then, where it was before.
+    /// Adds `factor * form`; also returns whether all numbers are within the limit, if they were
+    /// before. Fails only if memory runs out.
     pub(crate) fn with(
         self,
         factor: &i128,
@@ -89,26 +91,27 @@ impl Sum {
         } = self;
         let small = add_times(&mut products, factor, &form.sum.products)?;
         let constant = next_constant(&constant, factor, &form.sum.constant);
-        let fits = both(is_small(&constant), small);
+        let fits = both(is_small_wide(&constant), small);
         Ok((Sum { constant, products }, fits))
     }
 
-    /// The coefficient of an arc.
+    /// Returns the coefficient of an arc.
     fn coefficient(&self, arc: usize) -> i128
         ensures { result ≡ forms.coefficient self.now.products arc }
     {
         coefficient_of(&self.products, arc)
     }
 
-    /// Whether all is within the limit.
+    /// Returns whether all numbers are within the limit.
     fn is_sized(&self) -> bool
         ensures { result ≡ forms.is_sized self.now }
     {
-        is_small(&self.constant) && are_small(&self.products)
+        is_small_wide(&self.constant) && are_small(&self.products)
     }
 }
 
-/// What an objective comes to: a number, and arcs with their coefficients. Each of these is at most 1,000,000,000,000 in size.
+/// A linear form: a constant and arcs with their coefficients. The absolute value of each number is
+/// at most 1,000,000,000,000.
 #[derive(Drop)]
 pub struct Affine {
     sum: Sum,
@@ -126,7 +129,7 @@ impl Model for Affine {
 }
 
 impl Affine {
-    /// A number alone.
+    /// Builds a constant.
     pub(crate) fn number(alloc: Global, number: &i128) -> Affine
         requires { is_small number.now ≡ true }
         ensures { result ≡ forms.just number.now }
@@ -136,15 +139,15 @@ impl Affine {
         }
     }
 
-    /// 0, which no arc is part of.
-    #[tactic(auto, unfolding(net_eval::specs::Limits::is_small))]
+    /// Builds the form 0, without arcs.
+    #[tactic(auto, unfolding(net_expr::specs::Limits::is_small))]
     pub fn zero(alloc: Global) -> Affine
         ensures { result ≡ forms.just (pos 0) }
     {
         Affine::number(alloc, &0)
     }
 
-    /// An arc, once.
+    /// Builds the form of one arc with coefficient 1. Fails only if memory runs out.
     pub(crate) fn arc(alloc: Global, arc: usize) -> Result<Affine, AllocFailed<(usize, i128)>>
         ensures { IfOk result (λ form. form ≡ forms.one_arc arc) }
     {
@@ -153,7 +156,7 @@ impl Affine {
         })
     }
 
-    /// The form of a sum within the limit.
+    /// Converts a sum to a form. Returns `None` if a number exceeds the limit.
     pub(crate) fn of(sum: Sum) -> Option<Affine>
         ensures { result ≡ forms.if_sized sum }
     {
@@ -164,7 +167,7 @@ impl Affine {
         }
     }
 
-    /// A factor times another form added to this one, where all stays within the limit.
+    /// Adds `factor * other`. Returns `None` if a number exceeds the limit.
     pub(crate) fn plus(
         self,
         factor: &i128,
@@ -182,14 +185,14 @@ impl Affine {
         }
     }
 
-    /// Whether no arc stands in it.
+    /// Returns whether the form contains no arc.
     pub(crate) fn is_number(&self) -> bool
         ensures { result ≡ forms.is_number self.now.products }
     {
         self.sum.products.is_empty()
     }
 
-    /// The number that is added to the arcs' products.
+    /// Returns the constant.
     pub(crate) fn wide_constant(&self) -> i128
         ensures value { result ≡ self.now.constant }
         ensures small { is_small result ≡ true }
@@ -197,7 +200,7 @@ impl Affine {
         self.sum.constant
     }
 
-    /// The number that is added to the arcs' products, at most 1,000,000,000,000 in size.
+    /// Returns the constant, of absolute value at most 1,000,000,000,000.
     pub fn constant(&self) -> i64
         ensures value { result ≡ self.now.constant }
         ensures size { IsSized value_limit result }
@@ -205,7 +208,8 @@ impl Affine {
         narrow(&self.sum.constant)
     }
 
-    /// The coefficient of an arc, at most 1,000,000,000,000 in size; 0 where the arc does not stand in the form.
+    /// Returns the coefficient of an arc, of absolute value at most 1,000,000,000,000; 0 if the
+    /// form does not contain the arc.
     pub fn coefficient(&self, arc: usize) -> i64
         ensures value { result ≡ forms.coefficient self.now.products arc }
         ensures size { IsSized value_limit result }

@@ -1,18 +1,18 @@
-//! Keys that subscripts say.
+//! Evaluating subscripts to keys.
 
 ghost use Rattle.net_tree.specs.Spans as trees;
 ghost use Rattle.net_tree.specs.View.{tree, links_of};
 ghost use Rattle.net_fault.specs.Outcomes.{Answers};
 ghost use Rattle.net_linear.specs.Objectives as objectives;
 
-use net_eval::{Env, Scope};
+use net_expr::{Env, Scope};
 use net_fault::Fault;
 use net_sets::Tuple;
 use net_tree::{Expr, Link};
 use std::alloc::Global;
 
-/// The key of a reference, all of whose subscripts are evaluated first. `KindMismatch` is answered at the reference where one
-/// of them is no member, and `Arity` where they are more than four.
+/// Evaluates the subscripts of a reference to a key, all of them first. Returns `KindMismatch` at
+/// the reference if one is not a member, and `Arity` if there are more than four.
 pub fn key_of<'s>(
     alloc: Global,
     env: &Env<'_, 's>,
@@ -23,5 +23,5 @@ pub fn key_of<'s>(
 ) -> Result<Tuple<'s>, Fault>
     ensures { Answers (objectives.key_of env.now scope.now (trees.span_of (tree whole.now)) (tree first.now) (links_of more.now)) result }
 {
-    net_eval::key_of(alloc, env, scope, whole, first, more)
+    net_expr::key_of(alloc, env, scope, whole, first, more)
 }

@@ -1,6 +1,9 @@
+//! Theorems about linear forms.
+
 ghost use Rattle.net_linear.specs.Laws.{HaveWorth};
 
-/// At each assignment of numbers to arcs, an objective's form is worth what its expression is.
+/// Theorem: at each assignment, the value of an objective's linear form is the value of its
+/// expression.
 pub fn forms_have_worth()
     ensures worth { HaveWorth }
 {}

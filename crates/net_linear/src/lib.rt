@@ -1,4 +1,5 @@
-//! What conditions of nodes and objectives come to: ranges of the net inflow, and sums of arcs with their coefficients.
+//! Linear evaluation: ranges of the net inflow from conditions of nodes, and linear forms from
+//! objectives.
 #![tactic(auto)]
 
 mod arc;
@@ -11,6 +12,7 @@ mod net_term;
 mod objectives;
 mod price;
 mod products;
+mod soundness;
 mod term;
 mod value;
 
@@ -22,3 +24,4 @@ pub use laws::forms_have_worth;
 pub use net_term::NetTerm;
 pub use objectives::objective;
 pub use price::with_price;
+pub use soundness::{conditions_are_sound, objectives_are_sound};

@@ -1,4 +1,4 @@
-//! Where arcs stand.
+//! Occurrences of arcs in expressions.
 
 ghost use Rattle.std.specs.Prelude.{◌≡◌, ◌||◌};
 ghost use Rattle.net_tree.specs.View.{tree, braces_of, links_of, option_part};
@@ -9,7 +9,7 @@ use crate::net_term::is_sign;
 use net_tree::{BinOp, Braces, Expr, Link, Part};
 use net_views::Boxed;
 
-/// Whether an arc stands in the expression.
+/// Returns whether an expression contains an arc.
 #[cycle(names)]
 #[tactic(auto, using(net_tree::proofs::Views::views))]
 pub(crate) fn names_arc<'s>(arcs: &ArcNames<'s>, expr: &Expr<'s>) -> bool
@@ -99,8 +99,8 @@ fn are_signs(links: &[Link<'_>]) -> bool
     true
 }
 
-/// Whether an operator may join operands: `*` where an arc stands on one of its sides, and any but those that make no
-/// numbers where none does.
+/// Returns whether an operator is allowed, given whether its left and its right operand contain an
+/// arc: `*` allows an arc on one side, the other arithmetic operators on neither.
 fn may_join(op: BinOp, before: bool, here: bool) -> bool
     ensures { result ≡ objectives.may_join op before here }
 {
@@ -131,7 +131,7 @@ fn one_factor<'s>(arcs: &ArcNames<'s>, first: bool, links: &[Link<'s>]) -> bool
     true
 }
 
-/// Whether a chain is a sum, or a product with at most one operand in which an arc stands.
+/// Returns whether a chain is a sum, or a product with at most one operand that contains an arc.
 pub(crate) fn is_linear<'s>(arcs: &ArcNames<'s>, first: &Expr<'s>, more: &[Link<'s>]) -> bool
     ensures { result ≡ objectives.is_linear arcs.now (tree first.now) (links_of more.now) }
 {

@@ -1,4 +1,4 @@
-//! Where the net inflow stands in a side of a node's condition.
+//! Occurrences of the net inflow in a side of a node's condition.
 
 ghost use Rattle.std.specs.Prelude.{◌≡◌, if◌then◌else◌};
 ghost use Rattle.net_tree.specs.View.{tree, links_of};
@@ -8,16 +8,16 @@ ghost use Rattle.net_linear.specs.Signs.{is_sign};
 use net_lex::Token;
 use net_tree::{BinOp, Expr, Link, Sign};
 
-/// How the net inflow of a node stands in a term or a side of its condition.
+/// How the net inflow of a node occurs in a term or a side of its condition.
 #[derive(Clone, Copy)]
 pub enum NetTerm {
-    /// It does not stand there.
+    /// It does not occur.
     Absent,
-    /// It is added, as `net_in` and `- net_out`.
+    /// It is added, as in `net_in` and `- net_out`.
     Inflow,
-    /// It is taken away, as `net_out` and `- net_in`.
+    /// It is subtracted, as in `net_out` and `- net_in`.
     Outflow,
-    /// It stands there twice, as no text has it that the grammar takes.
+    /// It occurs twice, which the grammar does not allow.
     Unclear,
 }
 
@@ -63,7 +63,7 @@ fn net_word(sign: &Option<Sign<'_>>, word: &Token<'_>) -> NetTerm
     )
 }
 
-/// How it stands in a term.
+/// Returns how the net inflow occurs in a term.
 #[tactic(auto, using(net_tree::proofs::Views::views))]
 fn net_term(term: &Expr<'_>) -> NetTerm
     ensures { result ≡ terms.net_term (tree term.now) }
@@ -108,14 +108,14 @@ fn net_terms(links: &[Link<'_>], first: NetTerm) -> NetTerm
     so_far
 }
 
-/// Whether it is `+` or `-`.
+/// Returns whether the operator is `+` or `-`.
 pub(crate) fn is_sign(op: BinOp) -> bool
     ensures { result ≡ is_sign op }
 {
     matches!(op, BinOp::Plus | BinOp::Minus)
 }
 
-/// Whether the operators are `+` and `-` alone.
+/// Returns whether all operators are `+` and `-`.
 fn are_terms(links: &[Link<'_>]) -> bool
     ensures { result ≡ terms.are_terms (links_of links.now) }
 {
@@ -137,7 +137,7 @@ fn net_chain(first: &Expr<'_>, more: &[Link<'_>]) -> NetTerm
     }
 }
 
-/// How it stands in a side.
+/// Returns how the net inflow occurs in a side.
 #[tactic(auto, using(net_tree::proofs::Views::views))]
 pub(crate) fn net_side(side: &Expr<'_>) -> NetTerm
     ensures { result ≡ terms.net_side (tree side.now) }

@@ -5,7 +5,7 @@ ghost use Rattle.net_tree.specs.Spans as trees;
 ghost use Rattle.net_tree.specs.declared.expr.Series.{out-Series};
 ghost use Rattle.net_tree.specs.View.{tree, braces_of, links_of, option_part};
 ghost use Rattle.net_tree.specs.Operations as operations;
-ghost use Rattle.net_eval.specs.Values as values;
+ghost use Rattle.net_expr.specs.Values as values;
 ghost use Rattle.net_linear.specs.Forms as forms;
 ghost use Rattle.net_linear.specs.Objectives as objectives;
 ghost use Rattle.net_fault.specs.Outcomes.{Answers, and_then};
@@ -17,7 +17,7 @@ use crate::key::key_of;
 use crate::names::{any_arc, braces_arc, is_linear, names_arc};
 use crate::term::{gather, join, plain_term, sized, turn};
 use crate::value::{is_sum, number_or_none, truth_of};
-use net_eval::{Env, Keys, Scope, index_of, refuse_tree};
+use net_expr::{Env, Keys, Scope, index_of, refuse_tree};
 use net_fault::{Defect, Fault, Span};
 use net_lex::Token;
 use net_sets::Tuple;
@@ -25,7 +25,7 @@ use net_tree::{Braces, Expr, Link, Part, Reducer, Series, Sign, span_of};
 use net_views::Boxed;
 use std::alloc::Global;
 
-/// What an expression is read among: the arcs, the declarations that it may name, and its dummies.
+/// The context of an expression: the arcs, the declarations that are visible, and the dummies.
 #[derive(Drop)]
 struct Among<'a, 'w, 's> {
     arcs: &'a ArcNames<'s>,
@@ -33,7 +33,7 @@ struct Among<'a, 'w, 's> {
     scope: &'a Scope<'s>,
 }
 
-/// The arc that a name has at a key.
+/// Returns the term of the arc with a name and a key.
 fn arc_term<'s>(
     alloc: Global,
     arcs: &ArcNames<'s>,
@@ -69,7 +69,7 @@ fn indexed<'s>(
     }
 }
 
-/// What an expression comes to.
+/// Returns the term of an expression.
 #[cycle(forms)]
 fn term_of<'s>(
     alloc: Global,
@@ -86,7 +86,7 @@ fn term_of<'s>(
     }
 }
 
-/// What an expression comes to in which an arc stands.
+/// Returns the term of an expression that contains an arc.
 #[cycle(forms)]
 #[tactic(auto, using(net_tree::proofs::Views::views))]
 fn arcs_term<'s>(
@@ -142,7 +142,7 @@ fn signed<'s>(
     turn(alloc, sign.is_minus(), whole, term)
 }
 
-/// The sum over braces.
+/// Returns the sum over an indexing expression.
 #[cycle(forms)]
 fn reduced<'s>(
     alloc: Global,
@@ -190,7 +190,7 @@ fn total<'s>(
     sized(whole, sum)
 }
 
-/// The operands of a chain, and their operators from the left.
+/// Returns the term of a chain: its operands, and its operators from left to right.
 #[cycle(forms)]
 fn chain<'s>(
     alloc: Global,
@@ -231,7 +231,7 @@ fn chained<'s>(
     Ok(term)
 }
 
-/// A term with the operand of one link more.
+/// Joins a term with the operand of one more link.
 #[cycle(forms)]
 fn joined<'s>(
     alloc: Global,
@@ -273,7 +273,7 @@ fn choice<'s>(
     }
 }
 
-/// A missing `else` is 0.
+/// Returns the term of the `else` branch; a missing one is 0.
 #[cycle(forms)]
 #[tactic(auto, using(net_tree::proofs::Views::views))]
 fn other_branch<'s>(
@@ -305,13 +305,15 @@ fn form_of<'s>(
     }
 }
 
-/// What an objective's expression comes to: a number, and arcs with their coefficients, which at each assignment of numbers
-/// to arcs are worth what the expression is worth with each arc read as its number.
+/// Returns the linear form of an objective's expression: a constant, and arcs with their
+/// coefficients. At each assignment, its value is the value of the expression with each arc
+/// replaced by its value.
 ///
-/// Where evaluation comes to a part in which an arc stands as no objective may have it, `NotLinear` is answered at that part,
-/// before its operands are evaluated. `TooLarge` is answered at the first result of arithmetic whose number or one of whose
-/// coefficients is past 1,000,000,000,000 in size, where a `sum` is tested as a total; `OutsideSet` at a reference to an arc
-/// whose key does not exist; `KindMismatch` at the expression where it is no number.
+/// Errors: `NotLinear` at a part with an arc in a position that does not allow one, before its
+/// operands are evaluated; `TooLarge` at the first result of arithmetic with a constant or
+/// coefficient of absolute value above 1,000,000,000,000 (a `sum` is checked as a total);
+/// `OutsideSet` at a reference to an arc with a key that does not exist; `KindMismatch` at the
+/// expression if it is not numeric.
 pub fn objective<'s>(
     alloc: Global,
     arcs: &ArcNames<'s>,

@@ -1,4 +1,4 @@
-//! Coefficients that arcs themselves give to an objective.
+//! Coefficients that arcs add to an objective.
 
 ghost use Rattle.std.specs.Prelude.{◌≡◌, ◌+ℤ◌, ◌*ℤ◌, IfOk, ℕ, ℤ};
 ghost use Rattle.net_tree.specs.Spans as trees;
@@ -7,8 +7,7 @@ ghost use Rattle.net_linear.specs.Forms as forms;
 ghost use Rattle.net_fault.specs.Outcomes.{Answers};
 
 use crate::form::Affine;
-use crate::products::is_small;
-use net_eval::refuse_tree;
+use net_expr::{is_small_wide, refuse_tree};
 use net_fault::{Defect, Fault};
 use net_tree::Expr;
 use std::alloc::Global;
@@ -31,7 +30,7 @@ fn priced_wide(
 ) -> Result<Affine, Fault>
     ensures { Answers (forms.priced (trees.span_of (tree whole.now)) form arc price.now) result }
 {
-    if is_small(price) {
+    if is_small_wide(price) {
         let one = Affine::arc(alloc, arc)?;
         let sum = form.plus(price, &one)?;
         or_too_large(whole, sum)
@@ -52,8 +51,9 @@ fn priced(
     priced_wide(alloc, form, arc, whole, &i128::from(*price))
 }
 
-/// The form with a price of an arc more, as a phrase `obj` gives one; several prices of an arc add up. `TooLarge` is answered
-/// at the phrase's expression, where the arc's coefficient would pass 1,000,000,000,000 in size.
+/// Adds a cost coefficient of an arc, as an `obj` phrase gives one; several coefficients of an arc
+/// are added. Returns `TooLarge` at the phrase's expression if the absolute value of the arc's
+/// coefficient exceeds 1,000,000,000,000.
 pub fn with_price(
     alloc: Global,
     form: Affine,

@@ -1,24 +1,14 @@
-//! Coefficients of arcs, in a map that keeps the order in which arcs came.
+//! Coefficients of arcs, in a map that preserves insertion order.
 
 ghost use Rattle.std.specs.Prelude.{◌≡◌, ◌&&◌, ◌+◌, ◌<◌, ◌≤◌, ◌^◌, ◌+ℤ◌, ◌*ℤ◌, ℕ, ℤ, true, OnOk, IfOk, unsigned_abs};
-ghost use Rattle.net_eval.specs.Limits.{is_small};
+ghost use Rattle.net_expr.specs.Limits.{is_small};
 ghost use Rattle.net_linear.specs.Forms as forms;
 
 use indexmap::IndexMap;
+use net_expr::is_small_wide;
 use std::alloc::AllocFailed;
 
-/// The greatest size of a number.
-const LIMIT: u128 = 1_000_000_000_000;
-
-/// Whether a number is within the limit.
-#[tactic(auto, unfolding(net_eval::specs::Limits::is_small))]
-pub(crate) fn is_small(number: &i128) -> bool
-    ensures { result ≡ is_small number.now }
-{
-    number.unsigned_abs() <= LIMIT
-}
-
-/// The coefficient of an arc.
+/// Returns the coefficient of an arc.
 pub(crate) fn coefficient_of(products: &IndexMap<usize, i128>, arc: usize) -> i128
     ensures { result ≡ forms.coefficient products.now.entries arc }
 {
@@ -32,7 +22,7 @@ pub(crate) fn sum_of(a: &i128, b: &i128) -> i128
     *a + *b
 }
 
-/// A factor times a number within the limit.
+/// Returns the product of a factor and a number within the limit.
 pub(crate) fn product_of(factor: &i128, number: &i128) -> i128
     requires factor { unsigned_abs factor.now ≤ 2 ^ 40 }
     requires number { is_small number.now ≡ true }
@@ -41,14 +31,15 @@ pub(crate) fn product_of(factor: &i128, number: &i128) -> i128
     *factor * *number
 }
 
-/// Whether both are so.
+/// Returns whether both are true.
 pub(crate) fn both(a: bool, b: bool) -> bool
     ensures { result ≡ (a && b) }
 {
     a && b
 }
 
-/// Adds to the coefficient of an arc. Says whether it is within the limit then.
+/// Adds to the coefficient of an arc; returns whether the result is within the limit. Fails only if
+/// memory runs out.
 fn add_product(
     products: &mut IndexMap<usize, i128>,
     arc: usize,
@@ -59,12 +50,13 @@ fn add_product(
     ensures fits { IfOk result (λ fits. fits ≡ is_small (forms.coefficient products.old.entries arc +ℤ by.now)) }
 {
     let sum = sum_of(&coefficient_of(products, arc), by);
-    let fits = is_small(&sum);
+    let fits = is_small_wide(&sum);
     products.insert(arc, sum)?;
     Ok(fits)
 }
 
-/// Adds a factor times all of the right. Says whether each coefficient is within the limit then, where each was before.
+/// Adds `factor * right`; returns whether each coefficient is within the limit, if each was before.
+/// Fails only if memory runs out.
 pub(crate) fn add_times(
     left: &mut IndexMap<usize, i128>,
     factor: &i128,
@@ -88,13 +80,13 @@ pub(crate) fn add_times(
     Ok(fits)
 }
 
-/// Whether each coefficient is within the limit.
+/// Returns whether each coefficient is within the limit.
 pub(crate) fn are_small(products: &IndexMap<usize, i128>) -> bool
     ensures { result ≡ forms.all_small products.now.entries }
 {
     for index in 0..products.len() {
         if let Some((_, coefficient)) = products.get_index(index) {
-            if !is_small(coefficient) {
+            if !is_small_wide(coefficient) {
                 return false;
             }
         }

@@ -1,17 +1,16 @@
-//! Arithmetic of what expressions come to: forms, or nothing where they are no numbers.
+//! Arithmetic on the terms of expressions: linear forms, or `None` if they are not numeric.
 
 ghost use Rattle.std.specs.Prelude.{◌≡◌, ◌≤◌, ◌+◌, ◌^◌, ◌&&◌, ℕ, pos, true, IfOk, int_div, int_rem};
 ghost use Rattle.net_tree.specs.Spans as trees;
 ghost use Rattle.net_tree.specs.View.{tree};
-ghost use Rattle.net_eval.specs.Limits.{is_small};
-ghost use Rattle.net_eval.specs.Numbers as numbers;
+ghost use Rattle.net_expr.specs.Limits.{is_small};
+ghost use Rattle.net_expr.specs.Numbers as numbers;
 ghost use Rattle.net_linear.specs.Forms as forms;
 ghost use Rattle.net_linear.specs.Objectives as objectives;
 ghost use Rattle.net_fault.specs.Outcomes.{Answers};
 
 use crate::form::{Affine, Sum};
-use crate::products::is_small;
-use net_eval::refuse_tree;
+use net_expr::{is_small_wide, refuse_tree};
 use net_fault::{Defect, Fault};
 use net_tree::{BinOp, Expr};
 use std::alloc::Global;
@@ -25,18 +24,18 @@ fn within(whole: &Expr<'_>, form: Option<Affine>) -> Result<Option<Affine>, Faul
     }
 }
 
-/// A number alone.
+/// Returns a constant as a term.
 fn number_term(alloc: Global, whole: &Expr<'_>, number: &i128) -> Result<Option<Affine>, Fault>
     ensures { Answers (forms.sized (trees.span_of (tree whole.now)) (forms.just number.now)) result }
 {
-    if is_small(number) {
+    if is_small_wide(number) {
         Ok(Some(Affine::number(alloc, number)))
     } else {
         Err(refuse_tree(Defect::ValueTooLarge, whole))
     }
 }
 
-/// What no arc is part of.
+/// Returns the term of an expression without arcs.
 pub(crate) fn plain_term(
     alloc: Global,
     whole: &Expr<'_>,
@@ -50,7 +49,7 @@ pub(crate) fn plain_term(
     }
 }
 
-/// A form, and a factor times another.
+/// Returns `left + factor * right`.
 fn added(
     whole: &Expr<'_>,
     left: Affine,
@@ -173,15 +172,15 @@ fn modulo(
     }
 }
 
-/// A form less another.
-#[tactic(auto, unfolding(net_eval::specs::Limits::is_small))]
+/// Returns the difference of two forms.
+#[tactic(auto, unfolding(net_expr::specs::Limits::is_small))]
 fn less(whole: &Expr<'_>, left: Affine, right: &Affine) -> Result<Option<Affine>, Fault>
     ensures { Answers (forms.sized (trees.span_of (tree whole.now)) (forms.combined left forms.minus_one right.now)) result }
 {
     added(whole, left, &-1, right)
 }
 
-#[tactic(auto, unfolding(net_eval::specs::Limits::is_small))]
+#[tactic(auto, unfolding(net_expr::specs::Limits::is_small))]
 fn joined(
     alloc: Global,
     op: BinOp,
@@ -201,7 +200,7 @@ fn joined(
     }
 }
 
-/// What an operator makes of two terms.
+/// Applies an operator to two terms.
 pub(crate) fn join(
     alloc: Global,
     op: BinOp,
@@ -220,14 +219,14 @@ pub(crate) fn join(
     }
 }
 
-#[tactic(auto, unfolding(net_eval::specs::Limits::is_small))]
+#[tactic(auto, unfolding(net_expr::specs::Limits::is_small))]
 fn turned(alloc: Global, whole: &Expr<'_>, form: &Affine) -> Result<Option<Affine>, Fault>
     ensures { Answers (forms.scaled (trees.span_of (tree whole.now)) forms.minus_one form.now) result }
 {
     scaled(alloc, whole, &-1, form)
 }
 
-/// A term behind a sign.
+/// Returns a term with an optional minus sign.
 pub(crate) fn turn(
     alloc: Global,
     minus: bool,
@@ -248,7 +247,7 @@ pub(crate) fn turn(
     }
 }
 
-/// A sum with one term more.
+/// Adds a term to a sum.
 pub(crate) fn gather(whole: &Expr<'_>, sum: Sum, term: Option<Affine>) -> Result<Sum, Fault>
     requires { forms.AreWithin (2 ^ 125) sum }
     ensures value { Answers (forms.gathered (trees.span_of (tree whole.now)) sum term) result }
@@ -263,7 +262,7 @@ pub(crate) fn gather(whole: &Expr<'_>, sum: Sum, term: Option<Affine>) -> Result
     }
 }
 
-/// A sum whose total is within the limit.
+/// Returns a sum as a term; its total must be within the limit.
 pub(crate) fn sized(whole: &Expr<'_>, sum: Sum) -> Result<Option<Affine>, Fault>
     ensures { Answers (forms.sized (trees.span_of (tree whole.now)) sum) result }
 {

@@ -8,13 +8,13 @@ ghost use Rattle.net_linear.specs.Objectives as objectives;
 ghost use Rattle.net_fault.specs.Outcomes.{Answers};
 ghost use Rattle.net_linear.specs.Amounts.{as_number, number_or_none};
 
-use net_eval::{Env, Scope, Value, evaluate, truth};
+use net_expr::{Env, Scope, Value, evaluate, truth};
 use net_fault::Fault;
 use net_sets::Member;
 use net_tree::{Expr, Reducer, Reduction};
 use std::alloc::Global;
 
-/// The number that a value is; none where it is of another kind.
+/// Returns a value as a number, or `None` if it is not one.
 pub(crate) fn number_in(value: &Value<'_, '_>) -> Option<i64>
     ensures { result ≡ as_number value.now }
 {
@@ -27,7 +27,7 @@ pub(crate) fn number_in(value: &Value<'_, '_>) -> Option<i64>
     }
 }
 
-/// The number that an expression comes to; none where it comes to something else.
+/// Evaluates an expression to a number, or `None` if it is not one.
 pub(crate) fn number_or_none<'s>(
     alloc: Global,
     env: &Env<'_, 's>,
@@ -40,7 +40,7 @@ pub(crate) fn number_or_none<'s>(
     Ok(number_in(&value))
 }
 
-/// The truth of the condition of an `if`.
+/// Evaluates the condition of an `if`.
 pub(crate) fn truth_of<'s>(
     alloc: Global,
     env: &Env<'_, 's>,
@@ -54,7 +54,7 @@ pub(crate) fn truth_of<'s>(
     truth(whole, &value)
 }
 
-/// Whether a reduction is a sum.
+/// Returns whether a reduction is a sum.
 pub(crate) fn is_sum(reducer: &Reducer<'_>) -> bool
     ensures { result ≡ objectives.is_sum (operations.reduction reducer.now) }
 {

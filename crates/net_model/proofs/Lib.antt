@@ -1,3 +1,4 @@
+pub mod Roles
 pub mod Making
 pub mod Steps
 pub mod Turning
@@ -21,6 +22,7 @@ pub mod PhraseWords
 pub mod PhraseLaws
 pub mod DeclarationLaws
 pub mod ModelLaws
+pub mod NamedModels
 pub mod Limits
 pub mod ModelLimits
 pub mod Readers
@@ -40,3 +42,4 @@ pub mod MendingPhrases
 pub mod MendingDeclarations
 pub mod MendingModels
 pub mod Promise
+pub mod Deciding

@@ -1,6 +1,6 @@
 -- The trees of nodes that are made of a row of expressions.
-use Rattle.std.specs.Prelude.{◌≡◌, ℕ, List, Option, Bool, true, false, cond, if◌then◌else◌}
-use Rattle.std.proofs.Common.{refl, sym, ap, ◌∙◌}
+use Rattle.std.specs.Prelude.{◌≡◌, ℕ, List, Option}
+use Rattle.std.proofs.Common.{sym, ap, ◌∙◌}
 use Rattle.net_lex.specs.declared.token.Token.{Token}
 use Rattle.net_tree.specs.declared.expr.Expr.{Expr}
 use Rattle.net_tree.specs.declared.expr.Expr.TheVariants as e
@@ -9,7 +9,7 @@ use Rattle.net_tree.specs.declared.expr.Link.{Link, roll-Link}
 use Rattle.net_tree.specs.declared.operator.Words.{Words as Operator}
 use Rattle.net_tree.specs.declared.expr.Braces.TheFolds.{fold-roll-Series, fold-roll-Link}
 use Rattle.net_tree.specs.declared.expr.Part.{Part}
-use Rattle.net_tree.specs.declared.expr.Series.{Series, roll-Series, out-Series}
+use Rattle.net_tree.specs.declared.expr.Series.{roll-Series, out-Series}
 use Rattle.net_tree.specs.Tree.{Tree, Links, Braces, indexed, tuple, chain, filled}
 use Rattle.net_tree.specs.View.{tree, link_of, series_of, part_of, links_of, braces_of, option_part, expr_step, link_step, part_step, braces_step, series_step}
 use Rattle.net_tree.proofs.Views.{tree-indexed, tree-tuple, tree-chain, braces_of-filled, series_of-out}

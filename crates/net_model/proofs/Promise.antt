@@ -1,5 +1,5 @@
--- What parse_model promises, from what is read.
-use Rattle.std.proofs.Common.{◌≡◌, ◌≤◌, ◌<◌, ◌-◌, ◌&&◌, ℕ, Bool, true, false, cond, List, [], ◌∷◌, ◌++◌, length, drop, Option, Ok, Err, refl, sym, ap, ◌∙◌, arith, subst, append-nil, length-append}
+-- What parse_declarations promises, from what is read.
+use Rattle.std.proofs.Common.{◌≡◌, ◌≤◌, ◌<◌, ◌-◌, ◌&&◌, ℕ, Bool, true, false, cond, List, [], ◌∷◌, ◌++◌, length, drop, Ok, Err, refl, sym, ap, ◌∙◌, arith, subst, append-nil, length-append}
 use Rattle.std.proofs.Math.Seq.{drop-append_seam}
 use Rattle.net_fault.specs.declared.span.Span.{Span}
 use Rattle.net_lex.specs.declared.token.Token.{Token}
@@ -99,7 +99,7 @@ refused_left ts n a h before (t ∷ r) text size begins =
     wrong ts (defect_of a t.kind (role_of t)) t.span (defect-shallow a t.kind (role_of t))
     (at_token before t r text refl begins (λ others. refused_alike before t r others n a (omega (arith, size)) (ap (model_at nesting_limit) text ∙ h)))
 
-stop-within : (ts : Tokens) (s : ParseError) → model_at nesting_limit ts ≡ Err s → Within {A = List Declaration × Unit {0}} ts (Err s)
+pub stop-within : (ts : Tokens) (s : ParseError) → model_at nesting_limit ts ≡ Err s → Within {A = List Declaration × Unit {0}} ts (Err s)
 stop-within ts s h = rw h at ((model_reading 63).within ts)
 
 -- as many tokens from the end on are the same ones

@@ -68,19 +68,19 @@ tail-length r ts h = omega (arith, length-before h.0 r, ap length h.1)
 -- what is left, or the place of the stop, is among these tokens; a nesting too many is opened by a token that opens one
 abbrev pub Within : {A : Type 0} → Tokens → Read A → Type 0
 Within ts (Ok x) = IsTail x.1 ts
-Within ts (Err stops.OutOfMemory) = Unit {0}
+Within ts (Err stops.OutOfMemory) = ⊥
 Within ts (Err (stops.Refused n a)) = n ≤ length ts
 Within ts (Err (stops.TooDeep n)) = (rest : Tokens) × IsTail rest ts × (length rest ≡ n) × (next_is opens rest ≡ true)
 
 pub within-le : {A : Type 0} (r ts : Tokens) (p : Read A) → IsTail r ts → Within r p → Within ts p
 within-le r ts (Ok x) less h = tail-tail x.1 r ts h less
-within-le r ts (Err stops.OutOfMemory) less h = tt
+within-le r ts (Err stops.OutOfMemory) less h = absurd h
 within-le r ts (Err (stops.Refused k a)) less h = omega (arith, tail-length r ts less, h)
 within-le r ts (Err (stops.TooDeep k)) less h = (h.0, tail-tail h.0 r ts h.1 less, h.2, h.3)
 
 pub bind-within : {A B : Type 0} (ts : Tokens) (p : Read A) (g : A × Tokens → Read B) → Within ts p → ((x : A × Tokens) → IsTail x.1 ts → Within ts (g x)) → Within ts (p >>= g)
 bind-within ts (Ok x) g h more = more x h
-bind-within ts (Err stops.OutOfMemory) g h more = tt
+bind-within ts (Err stops.OutOfMemory) g h more = absurd h
 bind-within ts (Err (stops.Refused k a)) g h more = h
 bind-within ts (Err (stops.TooDeep k)) g h more = h
 

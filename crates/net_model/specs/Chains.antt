@@ -1,4 +1,4 @@
--- Links behind links that were read before.
+-- Links appended to links that were read before.
 use Rattle.std.specs.Prelude.{Ok, Err}
 use Rattle.net_tree.specs.Tree.{Links, none, link}
 use Rattle.net_model.specs.Reading.{Read}

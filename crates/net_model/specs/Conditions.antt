@@ -1,22 +1,21 @@
--- Conditions of nodes: sums, in which once a net term stands.
-use Rattle.std.specs.Prelude.{◌≡◌, ℕ, Bool, true, false, ◌&&◌, not, List, [], ◌∷◌, length, Option, None, Some, if◌then◌else◌}
+-- Conditions of nodes: sums in which one net term can occur.
+use Rattle.std.specs.Prelude.{Bool, true, false, List, [], ◌∷◌, length, Option, None, Some, if◌then◌else◌}
 use Rattle.net_lex.specs.declared.token.Token.{Token}
 use Rattle.net_tree.specs.declared.operator.Words.{Words as Operator}
 use Rattle.net_tree.specs.declared.role.Role.{Role}
 use Rattle.net_tree.specs.declared.role.Role.TheVariants as roles
-use Rattle.net_tree.specs.declared.role.Relation.{Relation}
 use Rattle.net_tree.specs.declared.role.Relation.TheVariants as relations
 use Rattle.net_tree.specs.Role.{role_of, is_net, is_sign, is_colon}
 use Rattle.net_tree.specs.Precedence.{of_product, of_sum}
-use Rattle.net_tree.specs.Tree.{Tree, net, Links, Condition, unsaid, one, between}
+use Rattle.net_tree.specs.Tree.{Tree, net, Condition, unsaid, one, between}
 use Rattle.net_tree.specs.View.{linked}
 use Rattle.net_model.specs.declared.parse_error.Awaiting.TheVariants as awaiting
 use Rattle.net_model.specs.declared.expected.Expected.TheVariants as sorts
-use Rattle.net_model.specs.Reading.{Tokens, Read, ◌>>=◌, read_as, refused, next_is, is_sort, expect}
+use Rattle.net_model.specs.Reading.{Tokens, Read, ◌>>=◌, read_as, refused, next_is, expect}
 use Rattle.net_model.specs.Expressions.{Inner, unary, climb, operator_at, chained}
 use Rattle.net_model.specs.Rows.{row}
 
--- whether a net term comes, with a sign before it or not
+-- whether a net term comes next (`net_next`), or a sign and a net term (`signed_net_next`)
 abbrev pub net_next : Tokens → Bool
 net_next ts = next_is is_net ts
 
@@ -27,14 +26,14 @@ signed_net_next (t ∷ ts) = if is_sign (role_of t) then next_is is_net ts else 
 unfoldable pub net_at : Tokens → Read Tree
 net_at ts = expect sorts.Net awaiting.Other ts >>= λ w. read_as (net None w.0) w.1
 
--- a net term, behind which no other may come
+-- a net term, after which no other is allowed
 abbrev pub only_net_at : Tokens → Read (Tree × Bool)
 only_net_at ts = net_at ts >>= λ x. read_as (x.0, false) x.1
 
 unfoldable pub signed_net_at : Tokens → Read Tree
 signed_net_at ts = expect sorts.Sign awaiting.Other ts >>= λ s. expect sorts.Net awaiting.Other s.1 >>= λ w. read_as (net (Some s.0) w.0) w.1
 
--- a term, and whether a net term may still come; the first one may have a sign
+-- a term, and whether a net term is still allowed; the first term can have a sign
 unfoldable pub term_at : Option Inner → Bool → Tokens → Read (Tree × Bool)
 term_at o free ts =
     if (if free then net_next ts else false)
@@ -56,12 +55,12 @@ sign_next free ts = next_is is_sign ts
 unfoldable pub further_terms : Option Inner → Bool → Tokens → Read (List (Operator × Tree) × Bool)
 further_terms o free ts = row (length ts) (further_term_at o) sign_next free ts
 
--- a sum, and whether no net term stood in it, where one may
+-- a sum, and whether a net term is still allowed after it
 unfoldable pub sum_at : Option Inner → Bool → Tokens → Read (Tree × Bool)
 sum_at o free ts =
     first_term_at o free ts >>= λ x. further_terms o x.0.1 x.1 >>= λ l. read_as (chained of_product x.0.0 (linked l.0.0), l.0.1) l.1
 
--- whether a bound goes on with the same one, `<=` or `>=`
+-- whether a bound can be followed by the same one: `<=` or `>=`
 abbrev pub is_at_most : Role → Bool
 is_at_most (roles.Relation relations.AtMost) = true
 is_at_most _ = false
@@ -75,7 +74,7 @@ chains (roles.Relation relations.AtMost) q = is_at_most q
 chains (roles.Relation relations.AtLeast) q = is_at_least q
 chains _ q = false
 
--- behind the second sum, where the first had no net term
+-- after the second sum, if the first had no net term
 abbrev pub chain_next : Role → Tokens → Bool
 chain_next p ts = next_is (chains p) ts
 
@@ -88,7 +87,7 @@ high_at o m x p y ts =
 unfoldable pub middle_at : Option Inner → Token → Tree → Token → Tokens → Read Condition
 middle_at o m x p ts = sum_at o true ts >>= λ y. if y.0.1 then refused awaiting.Other y.1 else high_at o m x p y.0.0 y.1
 
--- behind the first sum and the bound
+-- after the first sum and the relation
 unfoldable pub bounded_at : Option Inner → Token → Tree → Bool → Token → Tokens → Read Condition
 bounded_at o m x free p ts =
     if free then middle_at o m x p ts else (climb of_sum (unary o) ts >>= λ y. read_as (one m x p y.0) y.1)

@@ -1,5 +1,5 @@
 -- Declarations and whole models.
-use Rattle.std.specs.Prelude.{◌≡◌, ℕ, Bool, true, false, List, [], ◌∷◌, length, Option, None, Some, Result, Ok, Err, if◌then◌else◌}
+use Rattle.std.specs.Prelude.{ℕ, Bool, true, false, List, [], ◌∷◌, length, Option, None, Some, if◌then◌else◌}
 use Rattle.net_lex.specs.declared.token.Token.{Token}
 use Rattle.net_tree.specs.declared.role.Role.{Role}
 use Rattle.net_tree.specs.declared.role.Role.TheVariants as roles
@@ -7,11 +7,10 @@ use Rattle.net_tree.specs.declared.role.Declares.{Declares}
 use Rattle.net_tree.specs.declared.role.Declares.TheVariants as declares
 use Rattle.net_tree.specs.Role.{role_of, is_open_brace}
 use Rattle.net_tree.specs.Precedence.{of_union, of_or}
-use Rattle.net_tree.specs.Tree.{Tree, Part, absent, part, Braces, Declaration, set, param, check, node, arc, objective}
+use Rattle.net_tree.specs.Tree.{Part, absent, part, Braces, Declaration, set, param, check, node, arc, objective}
 use Rattle.net_model.specs.declared.phrase.Owner.TheVariants as owners
 use Rattle.net_model.specs.declared.parse_error.Awaiting.{Awaiting}
 use Rattle.net_model.specs.declared.parse_error.Awaiting.TheVariants as awaiting
-use Rattle.net_model.specs.declared.parse_error.ParseError.{ParseError}
 use Rattle.net_model.specs.declared.expected.Expected.TheVariants as sorts
 use Rattle.net_model.specs.Reading.{Tokens, Read, ◌>>=◌, read_as, refused, next_is, expect}
 use Rattle.net_model.specs.Expressions.{Inner, inside, unary, climb, wide, braces, part_at}
@@ -46,7 +45,7 @@ node_at o w ts =
     expect sorts.Name awaiting.Other ts >>= λ n. indexing_at o n.1 >>= λ b. condition_at o b.1 >>= λ c. expect sorts.Semicolon awaiting.Other c.1 >>= λ e.
     read_as (node w n.0 b.0 c.0 e.0) e.1
 
--- behind an objective without an expression
+-- what is expected after an objective without an expression
 abbrev pub behind_objective : Part → Awaiting
 behind_objective absent = awaiting.Objective
 behind_objective (part m x) = awaiting.Other
@@ -79,10 +78,10 @@ any_left (t ∷ ts) = true
 unfoldable pub declaration_step : Option Inner → Unit {0} → Tokens → Read (Declaration × Unit {0})
 declaration_step o s ts = declaration_at o ts >>= λ d. read_as (d.0, s) d.1
 
--- how deep a model may be nested
+-- the maximum nesting depth of a model
 abbrev pub nesting_limit : ℕ
 nesting_limit = 64
 
--- the declarations that the tokens are, up to their end
+-- parses all tokens as declarations
 unfoldable pub model_at : ℕ → Tokens → Read (List Declaration × Unit {0})
 model_at depth ts = row (length ts) (declaration_step (inside depth)) (λ s. any_left) tt ts

@@ -1,11 +1,12 @@
--- How expressions are read. The number of a reader is the precedence that its trees may have.
-use Rattle.std.specs.Prelude.{◌≡◌, ℕ, zero, suc, Bool, true, false, ◌||◌, nat_le, List, [], ◌∷◌, length, Option, None, Some, Ok, Err, if◌then◌else◌}
+-- The grammar of expressions. The number in a parser's name or argument is the maximum precedence
+-- of its trees.
+use Rattle.std.specs.Prelude.{ℕ, zero, suc, Bool, true, false, ◌||◌, nat_le, [], ◌∷◌, length, Option, None, Some, if◌then◌else◌}
 use Rattle.net_lex.specs.declared.token.Token.{Token}
 use Rattle.net_tree.specs.declared.operator.Words.{Words as Operator}
 use Rattle.net_tree.specs.declared.operator.Words.TheVariants.{One, Two}
 use Rattle.net_tree.specs.declared.role.Role.{Role}
 use Rattle.net_tree.specs.declared.role.Role.TheVariants as roles
-use Rattle.net_tree.specs.Tree.{Tree, Links, Part, Braces, leaf, indexed, parens, tuple, negated, braced, signed, reduced, chain, choice, net, none, link, absent, part, empty, filled}
+use Rattle.net_tree.specs.Tree.{Tree, Links, Part, Braces, leaf, indexed, parens, tuple, negated, braced, signed, reduced, chain, choice, none, link, absent, part, empty, filled}
 use Rattle.net_tree.specs.Role.{role_of, is_not, is_open_brace, is_close_brace, is_open_square, is_colon, is_if}
 use Rattle.net_tree.specs.Precedence.{of_comma, of_reduction, of_product, of_sum, of_union, of_relation, of_or}
 use Rattle.net_tree.specs.WellFormed.{precedence, joins}
@@ -17,12 +18,12 @@ use Rattle.net_model.specs.Reading.{Tokens, Read, ◌>>=◌, read_as, refused, t
 abbrev pub Reader : Type 0
 Reader = Tokens → Read Tree
 
--- an operator; `not` comes with `in` or `within`
+-- an operator; `not` is followed by `in` or `within`
 unfoldable pub operator_at : Tokens → Read Operator
 operator_at [] = refused awaiting.Other []
 operator_at (t ∷ ts) = if is_not (role_of t) then (expect sorts.Membership awaiting.Other ts >>= λ u. read_as (Two t u.0) u.1) else read_as (One t) ts
 
--- links of tokens that join operands of precedence j, where k came before, at most so many
+-- at most `turns` links whose tokens join operands of precedence j, after k links
 abbrev pub links : ℕ → ℕ → ℕ → Reader → Tokens → Read Links
 links zero j k operand ts = read_as none ts
 links (suc turns) j k operand ts =
@@ -33,7 +34,7 @@ links (suc turns) j k operand ts =
 abbrev pub all_links : ℕ → Reader → Tokens → Read Links
 all_links j operand ts = links (length ts) j 0 operand ts
 
--- an operand alone is no chain
+-- an operand alone is not a chain
 abbrev pub is_none : Links → Bool
 is_none none = true
 is_none (link o x l) = false
@@ -44,13 +45,13 @@ chained n x l = if is_none l then x else chain n x l
 unfoldable pub chain_at : ℕ → Reader → Tokens → Read Tree
 chain_at n operand ts = operand ts >>= λ x. all_links n operand x.1 >>= λ l. read_as (chained n x.0 l.0) l.1
 
--- a tree of this precedence at most, up to an `or`
+-- a tree of at most this precedence, up to an `or`
 unfoldable pub climb : ℕ → Reader → Reader
 climb zero unary = unary
 climb (suc zero) unary = unary
 climb (suc (suc n)) unary = chain_at (suc n) (climb (suc n) unary)
 
--- a mark or word and what it introduces, if it is there
+-- a clause introduced by punctuation or a keyword, if present
 unfoldable pub present_at : Reader → Tokens → Read Part
 present_at value [] = refused awaiting.Other []
 present_at value (t ∷ ts) = value ts >>= λ x. read_as (part t x.0) x.1
@@ -58,15 +59,15 @@ present_at value (t ∷ ts) = value ts >>= λ x. read_as (part t x.0) x.1
 unfoldable pub part_at : Expected → Reader → Tokens → Read Part
 part_at s value ts = if next_is (is_sort s) ts then present_at value ts else read_as absent ts
 
--- the readers one nesting further in
+-- the parsers one nesting level deeper
 pub record Inner : Type 0 where
-  -- of trees of a precedence
+  -- trees of a precedence
   pub at : ℕ → Reader
-  -- of an `if`, or a tree of a precedence
+  -- an `if`, or a tree of a precedence
   pub wide : ℕ → Reader
   pub braces : Tokens → Read Braces
 
--- behind a name: subscripts, if there are some
+-- after a name: subscripts, if present
 abbrev pub is_subscripted : Tokens → Bool
 is_subscripted ts = next_is is_open_square ts
 
@@ -79,7 +80,7 @@ unfoldable pub named_at : Option Inner → Token → Tokens → Read Tree
 named_at None n ts = if is_subscripted ts then too_deep ts else read_as (leaf n) ts
 named_at (Some i) n ts = if is_subscripted ts then subscripts_at i n ts else read_as (leaf n) ts
 
--- behind `(`
+-- after `(` and an expression
 abbrev pub closed : Token → Tree → Tokens → Read Tree
 closed o x ts = expect sorts.Close awaiting.Other ts >>= λ c. read_as (parens o x c.0) c.1
 
@@ -92,7 +93,7 @@ parens_from i o x ts = if nat_le (precedence x) of_sum then (all_links of_comma 
 unfoldable pub parens_at : Inner → Token → Tokens → Read Tree
 parens_at i o ts = i.wide of_or ts >>= λ x. parens_from i o x.0 x.1
 
--- behind `not`
+-- after `not`, at the maximum depth
 unfoldable pub not_shut : Tokens → Read Tree
 not_shut ts = if next_is (is_sort sorts.Open) ts then too_deep ts else refused awaiting.Other ts
 
@@ -101,7 +102,7 @@ negated_at None n ts = not_shut ts
 negated_at (Some i) n ts =
     expect sorts.Open awaiting.Other ts >>= λ o. i.at of_or o.1 >>= λ x. expect sorts.Close awaiting.Other x.1 >>= λ c. read_as (negated n o.0 x.0 c.0) c.1
 
--- behind `{`
+-- after `{`: the braces have no items
 abbrev pub is_hollow : Role → Bool
 is_hollow r = is_colon r || is_close_brace r
 
@@ -122,11 +123,11 @@ unfoldable pub braces : Option Inner → Tokens → Read Braces
 braces None ts = if next_is is_open_brace ts then too_deep ts else refused awaiting.Other ts
 braces (Some i) ts = expect sorts.OpenBrace awaiting.Other ts >>= λ o. braces_at i o.0 o.1
 
--- behind `sum`, `min` or `max`
+-- after `sum`, `min` or `max`
 unfoldable pub reduced_at : Inner → Token → Tokens → Read Tree
 reduced_at i w ts = i.braces ts >>= λ b. i.at of_product b.1 >>= λ x. read_as (reduced w b.0 x.0) x.1
 
--- behind `if`
+-- after `if`
 unfoldable pub choice_at : Inner → Token → Tokens → Read Tree
 choice_at i w ts =
     i.at of_or ts >>= λ x. expect sorts.Then awaiting.Other x.1 >>= λ t. i.at of_union t.1 >>= λ y. part_at sorts.Else (i.wide of_union) y.1 >>= λ e.
@@ -163,7 +164,7 @@ wide o n ts = if next_is is_if ts then if_at o ts else climb n (unary o) ts
 unfoldable pub inner_of : Option Inner → Inner
 inner_of o = record { at = λ n. climb n (unary o); wide = wide o; braces = braces o }
 
--- so many nestings may still be opened
+-- the parsers inside, if n more nesting levels are allowed
 unfoldable pub inside : ℕ → Option Inner
 inside zero = None
 inside (suc n) = Some (inner_of (inside n))

@@ -1,6 +1,5 @@
--- Which fault is told where the reading stops, at which place, and with which word.
+-- The error that is reported when parsing stops: its kind, its span and its detail.
 use Rattle.std.specs.Prelude.{◌≡◌, ℕ, ◌-◌, Bool, true, false, ◌&&◌, List, [], ◌∷◌, length, drop, Result, Ok, Err, if◌then◌else◌}
-use Rattle.net_lex.specs.declared.token.Token.{Token}
 use Rattle.net_lex.specs.declared.token.Kind.{Kind}
 use Rattle.net_lex.specs.declared.token.Kind.TheVariants as kinds
 use Rattle.net_fault.specs.declared.span.Span.{Span}
@@ -42,7 +41,7 @@ is_brace_or_equal roles.OpenBrace = true
 is_brace_or_equal (roles.Relation relations.Equal) = true
 is_brace_or_equal _ = false
 
--- in the place of a phrase or of a declaration: a word, `=`, `==`, `{`
+-- in the position of a phrase or of a declaration: a word, `=`, `==` or `{`
 abbrev pub is_foreign : Kind → Role → Bool
 is_foreign kinds.Name r = true
 is_foreign kinds.Key r = true
@@ -76,22 +75,22 @@ abbrev pub is_behind_node : Awaiting → Bool
 is_behind_node awaiting.PhraseBehindNode = true
 is_behind_node _ = false
 
--- what is wrong with a token in the place of what is awaited
+-- the error of a token in the position of what is expected
 abbrev pub defect_of : Awaiting → Kind → Role → Defect
 defect_of a k r = if is_behind_node a && begins_gain r then defects.Gain else misplaced a k r
 
--- of what is left out the word is told
+-- an unsupported construct is reported with its word
 abbrev pub detail_of : Defect → List ℕ → Detail
 detail_of defects.LeftOut text = Told text
 detail_of _ text = Nothing
 
--- the end of the last token, or 0
+-- the position after the last token, or 0
 abbrev pub end_of : Tokens → Span
 end_of [] = record { start = 0; end = 0 }
 end_of (t ∷ []) = record { start = t.span.end; end = t.span.end }
 end_of (t ∷ u ∷ ts) = end_of (u ∷ ts)
 
--- the last so many tokens
+-- the last `left` tokens
 abbrev pub left_of : ℕ → Tokens → Tokens
 left_of left ts = drop (length ts - left) ts
 
@@ -108,12 +107,13 @@ told stops.OutOfMemory ts = OutOfMemory
 told (stops.Refused left a) ts = At (refused_fault a (left_of left ts) ts)
 told (stops.TooDeep left) ts = At (deep_fault (left_of left ts) ts)
 
--- the fault of where the reading stops, unless memory ran out
+-- the error for a stop of the parser, unless memory ran out
 abbrev pub IsToldOf : ParseError → Tokens → Fault → Type 0
 IsToldOf s ts OutOfMemory = Unit {0}
 IsToldOf s ts (At f) = told s ts ≡ At f
 
--- the answer is what these tokens are read as, or the fault of where the reading stops, unless memory ran out
+-- the result is the model that these tokens are parsed as, or the error for the parser's stop,
+-- unless memory ran out
 abbrev pub Tells : Tokens → Result Model Fault → Read (List Declaration × Unit {0}) → Type 0
 Tells ts (Ok m) read = read ≡ Ok ((views.model m, tt), [])
 Tells ts (Err OutOfMemory) read = Unit {0}

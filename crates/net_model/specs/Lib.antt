@@ -4,6 +4,7 @@ pub mod Declarations
 pub mod Expressions
 pub mod Faults
 pub mod Meaning
+pub mod Models
 pub mod Phrases
 pub mod Reading
 pub mod Rows

@@ -1,4 +1,4 @@
--- What the tokens of a model text mean, and when they mean nothing.
+-- Which model the tokens of a text are, and when they are none.
 use Rattle.std.specs.Prelude.{◌≡◌, ◌≤◌, ◌<◌, ℕ, suc, Bool, true, false, List, [], ◌∷◌, ◌++◌}
 use Rattle.net_fault.specs.declared.span.Span.{Span}
 use Rattle.net_lex.specs.declared.token.Token.{Token}
@@ -17,13 +17,13 @@ use Rattle.net_model.specs.Reading.{Tokens}
 use Rattle.net_model.specs.Declarations.{nesting_limit}
 use Rattle.net_model.specs.Faults.{end_of}
 
--- the model is written so and not otherwise, as the grammar wants, and is not nested too deep
+-- the model has these tokens, is well-formed, and is within the nesting limit
 pub record Means (tokens : Tokens) (model : List Declaration) : Type 0 where
   pub printed : print model ≡ tokens
   pub level : AreDeclarations model
   pub shallow : model_depth model ≤ nesting_limit
 
--- whether a token of this role opens a nesting
+-- whether a token of this role opens a nesting level
 abbrev pub opens : Role → Bool
 opens roles.Open = true
 opens roles.OpenBrace = true
@@ -33,44 +33,48 @@ opens roles.If = true
 opens roles.Reduction = true
 opens _ = false
 
--- whether a word of this role announces a nesting: behind `not` only `(` may stand, behind `sum`, `min` and `max` only `{`
+-- whether a keyword of this role requires a nesting level: only `(` can follow `not`, and only `{`
+-- can follow `sum`, `min` and `max`
 abbrev pub announces : Role → Bool
 announces roles.Not = true
 announces roles.Reduction = true
 announces _ = false
 
--- some model that is written as the grammar wants begins with these tokens
+-- a well-formed model begins with these tokens
 abbrev pub Begins : Tokens → Type 0
 Begins tokens = (model : List Declaration) × AreDeclarations model × (rest : Tokens) × (print model ≡ tokens ++ rest)
 
--- and one that is nested so deep at most
+-- a well-formed model within this nesting limit begins with these tokens
 abbrev pub BeginsWithin : ℕ → Tokens → Type 0
 BeginsWithin limit tokens = (model : List Declaration) × AreDeclarations model × (model_depth model ≤ limit) × (rest : Tokens) × (print model ≡ tokens ++ rest)
 
--- These tokens open no more nestings than may be open: a model within the limit begins with them. Or their last word announces one nesting
--- more: then such a model begins with those before this word, and one that is nested one deeper with all of them.
+-- These tokens do not exceed the nesting limit: a model within the limit begins with them. Or their
+-- last word requires one more nesting level: then a model within the limit begins with the tokens
+-- before this word, and a model nested one level deeper begins with all of them.
 pub data KeepsLimit (limit : ℕ) (tokens : Tokens) : Type 0 where
   kept : BeginsWithin limit tokens → KeepsLimit limit tokens
   announced : (front : Tokens) (word : Token) → front ++ word ∷ [] ≡ tokens → announces (role_of word) ≡ true
       → BeginsWithin limit front → BeginsWithin (suc limit) tokens → KeepsLimit limit tokens
 
--- no model that is written as the grammar wants has these tokens
+-- no well-formed model has these tokens
 abbrev pub NoModel : Tokens → Type 0
 NoModel tokens = (model : List Declaration) → AreDeclarations model → print model ≡ tokens → ⊥
 
--- each that has them is nested too deep
+-- each well-formed model with these tokens exceeds the nesting limit
 abbrev pub TooDeep : Tokens → Type 0
 TooDeep tokens = (model : List Declaration) → AreDeclarations model → print model ≡ tokens → nesting_limit < model_depth model
 
--- The text is wrong at this place. A token stands there: some model begins with the tokens before it, and none has the same tokens up to
--- this one and with it, whatever follows. Or it is the end: some model begins with the tokens, and none has them alone.
+-- The error is at this position. At a token: a well-formed model begins with the tokens before it,
+-- and none begins with the tokens up to and including it. At the end: a well-formed model begins
+-- with the tokens, and none consists of them.
 pub data WrongAt (tokens : Tokens) (place : Span) : Type 0 where
   at_token : (before : Tokens) (token : Token) (after : Tokens) → before ++ token ∷ after ≡ tokens → token.span ≡ place
       → Begins before → ((others : Tokens) → NoModel (before ++ token ∷ others)) → WrongAt tokens place
   at_end : end_of tokens ≡ place → Begins tokens → NoModel tokens → WrongAt tokens place
 
--- The first nesting too many is opened by the token at this place: those before it keep the limit; some model goes on with this token, and
--- each that has the same tokens up to this one and with it is nested too deep, whatever follows.
+-- The token at this position exceeds the nesting limit: the tokens before it are within the limit;
+-- a well-formed model begins with the tokens up to and including this one, and each such model
+-- exceeds the limit.
 pub record DeepAt (tokens : Tokens) (place : Span) : Type 0 where
   pub before : Tokens
   pub token : Token
@@ -82,7 +86,7 @@ pub record DeepAt (tokens : Tokens) (place : Span) : Type 0 where
   pub goes_on : Begins (before ++ token ∷ [])
   pub deeper : (others : Tokens) → TooDeep (before ++ token ∷ others)
 
--- what a fault of the grammar says
+-- the meaning of a syntax error
 abbrev pub IsDefectAt : Tokens → Defect → Span → Type 0
 IsDefectAt tokens defects.TooDeep place = DeepAt tokens place
 IsDefectAt tokens defect place = WrongAt tokens place

@@ -1,5 +1,5 @@
--- The phrases of sets, parameters and arcs, in any order, with a comma before each that may be left out.
-use Rattle.std.specs.Prelude.{◌≡◌, ℕ, Bool, true, false, ◌&&◌, ◌||◌, not, List, [], ◌∷◌, length, Option, None, Some, is_some, if◌then◌else◌}
+-- The phrases of sets, parameters and arcs, in any order, each with an optional comma before it.
+use Rattle.std.specs.Prelude.{Bool, true, false, ◌&&◌, List, [], ◌∷◌, length, Option, None, Some, is_some, if◌then◌else◌}
 use Rattle.net_lex.specs.declared.token.Token.{Token}
 use Rattle.net_tree.specs.declared.role.Role.{Role}
 use Rattle.net_tree.specs.declared.role.Role.TheVariants as roles
@@ -7,7 +7,7 @@ use Rattle.net_tree.specs.declared.role.Begins.TheVariants as begins
 use Rattle.net_tree.specs.declared.role.Relation.TheVariants as relations
 use Rattle.net_tree.specs.Role.{role_of, is_comma, is_semicolon}
 use Rattle.net_tree.specs.Precedence.{of_sum, of_union}
-use Rattle.net_tree.specs.Tree.{Tree, leaf, Body, plain, valued, priced, Phrase}
+use Rattle.net_tree.specs.Tree.{leaf, Body, plain, valued, priced, Phrase}
 use Rattle.net_model.specs.declared.phrase.Owner.{Owner}
 use Rattle.net_model.specs.declared.phrase.Owner.TheVariants as owners
 use Rattle.net_model.specs.declared.phrase.Slot.{Slot}
@@ -16,11 +16,11 @@ use Rattle.net_model.specs.declared.phrase.Stood.{Stood}
 use Rattle.net_model.specs.declared.parse_error.Awaiting.{Awaiting}
 use Rattle.net_model.specs.declared.parse_error.Awaiting.TheVariants as awaiting
 use Rattle.net_model.specs.declared.expected.Expected.TheVariants as sorts
-use Rattle.net_model.specs.Reading.{Tokens, Read, ◌>>=◌, read_as, refused, next_is, is_sort, expect}
+use Rattle.net_model.specs.Reading.{Tokens, Read, ◌>>=◌, read_as, refused, next_is, expect}
 use Rattle.net_model.specs.Expressions.{Inner, unary, climb, wide, named_at}
 use Rattle.net_model.specs.Rows.{row}
 
--- what a phrase that this word begins takes, if the declaration has such a phrase
+-- what follows this keyword in a phrase, if the declaration has such a phrase
 abbrev pub set_slot : Role → Option Slot
 set_slot (roles.Phrase begins.Dimen) = Some slots.Number
 set_slot (roles.Relation relations.Within) = Some slots.Set
@@ -59,7 +59,8 @@ is_arc owners.Set = false
 is_arc owners.Param = false
 is_arc owners.Arc = true
 
--- whether this word began a phrase that may stand once only, and stood; a comparison of a parameter may stand again
+-- whether this keyword begins a phrase that is allowed only once and has occurred; comparisons of
+-- parameters can be repeated
 abbrev pub stood_before : Owner → Stood → Role → Bool
 stood_before o s (roles.Phrase begins.Dimen) = s.dimen
 stood_before o s (roles.Phrase begins.Default) = s.default
@@ -70,7 +71,7 @@ stood_before o s (roles.Relation relations.AtLeast) = is_arc o && s.at_least
 stood_before o s (roles.Relation relations.AtMost) = is_arc o && s.at_most
 stood_before _ _ _ = false
 
--- what stood, with the phrase that this word begins
+-- the phrases that have occurred, including the one that this keyword begins
 abbrev pub and_then_stood : Stood → Role → Stood
 and_then_stood s (roles.Phrase begins.Dimen) = record s { dimen = true; behind_node = false }
 and_then_stood s (roles.Phrase begins.Default) = record s { default = true; behind_node = false }
@@ -84,7 +85,7 @@ and_then_stood s _ = record s { behind_node = false }
 abbrev pub nothing_stood : Stood
 nothing_stood = record { dimen = false; default = false; becomes = false; at_least = false; at_most = false; from = false; to = false; behind_node = false }
 
--- whether this word begins a phrase here
+-- whether this keyword begins a phrase here
 abbrev pub begins_phrase : Owner → Stood → Role → Bool
 begins_phrase o s r = if stood_before o s r then false else is_some (slot_of o r)
 
@@ -94,7 +95,7 @@ goes_on o s r = if is_comma r then true else begins_phrase o s r
 abbrev pub phrase_next : Owner → Stood → Tokens → Bool
 phrase_next o s ts = next_is (goes_on o s) ts
 
--- what is awaited where this token is none of it
+-- what is expected at a token that is not accepted
 abbrev pub awaited : Owner → Stood → Role → Awaiting
 awaited o s r = if stood_before o s r then awaiting.FurtherPhrase else if s.behind_node then awaiting.PhraseBehindNode else awaiting.Phrase
 
@@ -107,7 +108,7 @@ body_of o slots.Value ts = wide o of_union ts >>= λ x. read_as (valued x.0) x.1
 body_of o slots.Node ts = expect sorts.Name awaiting.Other ts >>= λ n. named_at o n.0 n.1 >>= λ x. read_as (valued x.0) x.1
 body_of o slots.Price ts = expect sorts.Name awaiting.Objective ts >>= λ n. climb of_sum (unary o) n.1 >>= λ x. read_as (priced n.0 x.0) x.1
 
--- behind the word
+-- after the keyword
 abbrev pub phrase_of_slot : Option Inner → Option Token → Token → Stood → Option Slot → Tokens → Read (Phrase × Stood)
 phrase_of_slot o c w s None ts = refused awaiting.Phrase (w ∷ ts)
 phrase_of_slot o c w s (Some slot) ts = body_of o slot ts >>= λ b. read_as (record { comma = c; word = w; body = b.0 }, s) b.1
@@ -129,11 +130,11 @@ comma_at ts = if next_is is_comma ts then comma_taken ts else read_as None ts
 unfoldable pub phrase_at : Option Inner → Owner → Stood → Tokens → Read (Phrase × Stood)
 phrase_at o owner s ts = comma_at ts >>= λ c. worded o owner s c.0 c.1
 
--- the phrases, and what stood in the end
+-- the phrases, and which of them have occurred
 unfoldable pub phrases : Option Inner → Owner → Tokens → Read (List Phrase × Stood)
 phrases o owner ts = row (length ts) (phrase_at o owner) (phrase_next owner) nothing_stood ts
 
--- the semicolon behind phrases
+-- the semicolon after the phrases
 unfoldable pub phrases_end : Owner → Stood → Tokens → Read Token
 phrases_end owner s [] = refused awaiting.Phrase []
 phrases_end owner s (t ∷ ts) = if is_semicolon (role_of t) then read_as t ts else refused (awaited owner s (role_of t)) (t ∷ ts)

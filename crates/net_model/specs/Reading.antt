@@ -1,5 +1,6 @@
--- Reading from the left: a reader takes what it reads off the front of the tokens, or stops at the first token that is not allowed.
-use Rattle.std.specs.Prelude.{◌≡◌, ℕ, suc, Bool, true, false, List, [], ◌∷◌, length, Result, Ok, Err, if◌then◌else◌}
+-- Parsing from left to right: a parser consumes tokens from the beginning, or stops at the first
+-- token that is not allowed.
+use Rattle.std.specs.Prelude.{◌≡◌, Bool, false, List, [], ◌∷◌, length, Option, None, Some, Result, Ok, Err, if◌then◌else◌}
 use Rattle.net_lex.specs.declared.token.Token.{Token}
 use Rattle.net_tree.specs.declared.role.Role.{Role}
 use Rattle.net_tree.specs.Role.{role_of, is_name, is_number, is_open, is_close, is_open_brace, is_close_brace, is_open_square, is_close_square, is_colon, is_semicolon, is_if, is_then, is_else, is_membership, is_bound, is_net, is_sign, is_comma}
@@ -12,7 +13,7 @@ use Rattle.net_model.specs.declared.expected.Expected.TheVariants as sorts
 abbrev pub Tokens : Type 0
 Tokens = List Token
 
--- what was read and the tokens behind it
+-- the parsed value and the remaining tokens, or an error
 abbrev pub Read : Type 0 → Type 0
 Read A = Result (A × Tokens) ParseError
 
@@ -28,12 +29,13 @@ read_as x rest = Ok (x, rest)
 abbrev pub refused : {A : Type 0} → Awaiting → Tokens → Read A
 refused a ts = Err (stops.Refused (length ts) a)
 
--- the first of these tokens opens a nesting too many
+-- the first of these tokens exceeds the nesting limit
 abbrev pub too_deep : {A : Type 0} → Tokens → Read A
 too_deep ts = Err (stops.TooDeep (length ts))
 
-abbrev pub IsFirst : Token → Tokens → Type 0
-IsFirst t ts = (rest : Tokens) × (ts ≡ t ∷ rest)
+abbrev pub first_role : Tokens → Option Role
+first_role [] = None
+first_role (t ∷ ts) = Some (role_of t)
 
 abbrev pub next_is : (Role → Bool) → Tokens → Bool
 next_is test [] = false
@@ -64,7 +66,8 @@ unfoldable pub expect : Expected → Awaiting → Tokens → Read Token
 expect s a [] = refused a []
 expect s a (t ∷ ts) = if is_sort s (role_of t) then Ok (t, ts) else refused a (t ∷ ts)
 
--- What a call answered, seen by view, and the tokens that it left are what is read, unless memory ran out.
+-- The result of a call, as the specification sees it, and the remaining tokens are as the
+-- definition gives, unless memory ran out.
 abbrev pub Fails : {A : Type 0} → ParseError → Read A → Type 0
 Fails stops.OutOfMemory read = Unit {0}
 Fails (stops.Refused n a) read = read ≡ Err (stops.Refused n a)

@@ -1,7 +1,6 @@
-//! Braces, and reductions over them.
+//! Indexing expressions, and reductions over them.
 
-ghost use Rattle.std.specs.Prelude.{◌≡◌, ◌<◌, ◌≤◌, Some, None, length, IfOk, IfErr};
-ghost use Rattle.net_model.specs.declared.parse_error.ParseError.TheVariants.{OutOfMemory};
+ghost use Rattle.std.specs.Prelude.{◌≡◌, ◌<◌, ◌≤◌, length, IfOk};
 ghost use Rattle.net_tree.specs.Precedence.{of_product};
 ghost use Rattle.net_tree.specs.Tree.{reduced};
 ghost use Rattle.net_tree.specs.View.{tree, braces_of, option_part};
@@ -23,7 +22,7 @@ use net_tree::{Braces, Expr, Part, Reducer, Series, precedence};
 use net_views::Boxed;
 use std::alloc::Global;
 
-/// Braces.
+/// Parses an indexing expression.
 #[cycle(parser)]
 pub(crate) fn braces_of<'t, 's>(
     alloc: Global,
@@ -33,42 +32,16 @@ pub(crate) fn braces_of<'t, 's>(
     ensures value { Gives braces_of result tokens.new (grammar.braces (inside depth) tokens.old) }
     ensures shorter { IfOk result (λ x. length tokens.new < length tokens.old) }
 {
-    if depth == 0 {
-        shut_braces(tokens)
-    } else {
-        braces_opened(alloc, depth - 1, tokens)
-    }
-}
-
-#[tactic(auto, unfolding(crate::specs::Expressions::braces))]
-fn shut_braces<'t, 's>(tokens: &mut Cursor<'t, 's>) -> Result<Stored<Braces<'s>>, ParseError>
-    ensures value { Gives braces_of result tokens.new (grammar.braces None tokens.old) }
-    ensures shorter { IfOk result (λ x. length tokens.new < length tokens.old) }
-    // What takes no memory wants none.
-    ensures sure { IfErr result (λ e. e ≡ OutOfMemory → ⊥) }
-{
-    if tokens.next_is(Expected::OpenBrace) {
-        Err(ParseError::TooDeep(tokens.len()))
-    } else {
-        Err(ParseError::Refused(tokens.len(), Awaiting::Other))
-    }
-}
-
-#[cycle(parser)]
-#[tactic(auto, unfolding(crate::specs::Expressions::braces))]
-fn braces_opened<'t, 's>(
-    alloc: Global,
-    depth: u8,
-    tokens: &mut Cursor<'t, 's>,
-) -> Result<Stored<Braces<'s>>, ParseError>
-    ensures value { Gives braces_of result tokens.new (grammar.braces (Some (inner_of (inside depth))) tokens.old) }
-    ensures shorter { IfOk result (λ x. length tokens.new < length tokens.old) }
-{
+    let left = tokens.len();
     let open = expect(Expected::OpenBrace, Awaiting::Other, tokens)?;
-    braces_inside(alloc, depth, open, tokens)
+    if depth == 0 {
+        Err(ParseError::TooDeep(left))
+    } else {
+        braces_inside(alloc, depth - 1, open, tokens)
+    }
 }
 
-/// What `{` begins.
+/// Parses an indexing expression after its opening brace.
 #[cycle(parser)]
 #[tactic(auto, unfolding(crate::specs::Expressions::braces_at))]
 pub(crate) fn braces_inside<'t, 's>(
@@ -87,7 +60,7 @@ pub(crate) fn braces_inside<'t, 's>(
     }
 }
 
-/// Braces without items.
+/// Parses braces without items.
 #[cycle(parser)]
 #[tactic(auto, using(net_tree::proofs::Views::views), unfolding(crate::specs::Expressions::hollow_at))]
 fn hollow_inside<'t, 's>(
@@ -104,7 +77,7 @@ fn hollow_inside<'t, 's>(
     Stored::new(alloc, Braces::Empty(opening, filter.into_inner(), close))
 }
 
-/// Braces with items.
+/// Parses braces with items.
 #[cycle(parser)]
 #[tactic(auto, using(crate::proofs::Making::makings), unfolding(crate::specs::Expressions::items_at, crate::specs::Expressions::inner_of))]
 fn items_inside<'t, 's>(
@@ -132,7 +105,7 @@ fn items_inside<'t, 's>(
     Stored::new(alloc, braces)
 }
 
-/// The condition of braces, if there is one.
+/// Parses the condition of an indexing expression, if present.
 #[cycle(parser)]
 #[tactic(auto, using(net_tree::proofs::Views::views), unfolding(crate::specs::Expressions::part_at, crate::specs::Expressions::present_at, crate::specs::Expressions::inner_of))]
 fn filter_of<'t, 's>(
@@ -153,7 +126,7 @@ fn filter_of<'t, 's>(
     Ok(Carried::new(Some(condition.into_boxed())))
 }
 
-/// What `sum`, `min` or `max` begins.
+/// Parses a reduction after `sum`, `min` or `max`.
 #[cycle(parser)]
 #[tactic(auto, unfolding(crate::specs::Expressions::reduced_at, crate::specs::Expressions::inner_of))]
 pub(crate) fn reduced_inside<'t, 's>(
@@ -170,7 +143,7 @@ pub(crate) fn reduced_inside<'t, 's>(
     reduced(alloc, word, braces, body)
 }
 
-/// A reduction of what it takes.
+/// Builds a reduction.
 #[tactic(auto, using(net_tree::proofs::Views::views))]
 fn reduced<'s>(
     alloc: Global,
@@ -184,7 +157,7 @@ fn reduced<'s>(
     Stored::new(alloc, Expr::Reduced(front, body.into_boxed()))
 }
 
-/// What a reduction takes behind its braces.
+/// Parses the summand of a reduction, after its braces.
 #[cycle(parser)]
 fn body_inside<'t, 's>(
     alloc: Global,

@@ -1,9 +1,11 @@
+//! A wrapper that makes dropping a value one call.
+
 ghost use Rattle.std.specs.Prelude.{◌≡◌};
 
 use std::marker::Model;
 
-/// A value that is carried past places where reading may stop; contracts see the value. Dropping it is one call: the prover
-/// would else go through all forms of the value at each `?` behind it.
+/// A value that stays alive across `?`; contracts see the value. Dropping it is one call, so that
+/// the prover does not analyze each form of the value at every `?`.
 pub(crate) struct Carried<T: Drop> {
     inner: T,
 }

@@ -1,4 +1,4 @@
-//! Chains of operands, from one precedence to the next.
+//! Chains of operands, one precedence level at a time.
 
 ghost use Rattle.std.specs.Prelude.{◌≡◌, ◌<◌, ◌≤◌, length, IfOk};
 ghost use Rattle.net_tree.specs.View.{tree, links_of};
@@ -18,7 +18,7 @@ use net_tree::{Expr, Link, precedence};
 use net_views::Items;
 use std::alloc::Global;
 
-/// A tree that is no looser, up to an `or`.
+/// Parses a tree of at most this precedence, up to an `or`.
 #[cycle(parser)]
 pub(crate) fn climb_to<'t, 's>(
     alloc: Global,
@@ -36,7 +36,7 @@ pub(crate) fn climb_to<'t, 's>(
     }
 }
 
-/// A chain of operands of this precedence, or one alone.
+/// Parses a chain of operands of this precedence, or a single operand.
 #[cycle(parser)]
 #[tactic(auto, unfolding(crate::specs::Expressions::chain_at))]
 fn chain_of<'t, 's>(
@@ -53,7 +53,7 @@ fn chain_of<'t, 's>(
     Ok(chained(alloc, loosest, first, more)?)
 }
 
-/// The links of a chain whose first operand has this precedence.
+/// Parses the links of a chain whose first operand has this precedence.
 #[cycle(parser)]
 fn chain_links<'t, 's>(
     alloc: Global,
@@ -67,7 +67,8 @@ fn chain_links<'t, 's>(
     links_from(alloc, depth, loosest, loosest_at_right(loosest), tokens)
 }
 
-/// The links of tokens that join operands of a precedence, with operands no looser than another.
+/// Parses links whose tokens join operands of precedence `joining`, with operands of at most
+/// precedence `loosest`.
 #[cycle(parser)]
 pub(crate) fn links_from<'t, 's>(
     alloc: Global,

@@ -1,7 +1,7 @@
-//! `if` with its branches, where one may stand.
+//! `if` expressions, in the positions that allow them.
 
-ghost use Rattle.std.specs.Prelude.{◌≡◌, ◌<◌, ◌≤◌, Some, None, length, IfOk, IfErr};
-ghost use Rattle.net_model.specs.declared.parse_error.ParseError.TheVariants.{OutOfMemory};
+ghost use Rattle.std.specs.Prelude.{◌≡◌, ◌<◌, ◌≤◌, length, IfOk};
+ghost use Rattle.net_tree.specs.Precedence.{of_union};
 ghost use Rattle.net_tree.specs.View.{tree, option_part, part_of};
 ghost use Rattle.net_model.specs.Expressions as grammar;
 ghost use Rattle.net_model.specs.Expressions.{inside, inner_of, unary};
@@ -20,7 +20,7 @@ use net_tree::{Expr, Part, precedence};
 use net_views::Boxed;
 use std::alloc::Global;
 
-/// An `if`, or a tree that is no looser.
+/// Parses an `if`, or a tree of at most this precedence.
 #[cycle(parser)]
 #[tactic(auto, unfolding(crate::specs::Expressions::wide))]
 pub(crate) fn wide_of<'t, 's>(
@@ -39,6 +39,7 @@ pub(crate) fn wide_of<'t, 's>(
     }
 }
 
+/// Parses an `if` expression.
 #[cycle(parser)]
 fn if_of<'t, 's>(
     alloc: Global,
@@ -49,39 +50,15 @@ fn if_of<'t, 's>(
     ensures shorter { IfOk result (λ x. length tokens.new < length tokens.old) }
 {
     if depth == 0 {
-        shut_if(tokens)
-    } else {
-        if_inside(alloc, depth - 1, tokens)
+        return Err(ParseError::TooDeep(tokens.len()));
     }
-}
-
-#[tactic(auto, unfolding(crate::specs::Expressions::if_at))]
-fn shut_if<'t, 's>(tokens: &mut Cursor<'t, 's>) -> Result<Stored<Expr<'s>>, ParseError>
-    ensures value { Gives tree result tokens.new (grammar.if_at None tokens.old) }
-    ensures shorter { IfOk result (λ x. length tokens.new < length tokens.old) }
-    // What takes no memory wants none.
-    ensures sure { IfErr result (λ e. e ≡ OutOfMemory → ⊥) }
-{
-    Err(ParseError::TooDeep(tokens.len()))
-}
-
-#[cycle(parser)]
-#[tactic(auto, unfolding(crate::specs::Expressions::if_at))]
-fn if_inside<'t, 's>(
-    alloc: Global,
-    depth: u8,
-    tokens: &mut Cursor<'t, 's>,
-) -> Result<Stored<Expr<'s>>, ParseError>
-    ensures value { Gives tree result tokens.new (grammar.if_at (Some (inner_of (inside depth))) tokens.old) }
-    ensures shorter { IfOk result (λ x. length tokens.new < length tokens.old) }
-{
     match tokens.next() {
         None => Err(ParseError::Refused(0, Awaiting::Other)),
-        Some(word) => choice_inside(alloc, depth, word, tokens),
+        Some(word) => choice_inside(alloc, depth - 1, word, tokens),
     }
 }
 
-/// A tree that is no looser, with the mark or word before it.
+/// Parses a tree of at most this precedence; its clause includes the token before it.
 #[cycle(parser)]
 #[tactic(auto, using(net_tree::proofs::Views::views))]
 pub(crate) fn introduced<'t, 's>(
@@ -99,7 +76,7 @@ pub(crate) fn introduced<'t, 's>(
     Stored::new(alloc, Part { mark, value })
 }
 
-/// What `if` begins.
+/// Parses an `if` expression after its keyword.
 #[cycle(parser)]
 #[tactic(auto, using(net_tree::proofs::Views::views), unfolding(crate::specs::Expressions::choice_at, crate::specs::Expressions::inner_of))]
 fn choice_inside<'t, 's>(
@@ -123,7 +100,7 @@ fn choice_inside<'t, 's>(
     Stored::new(alloc, choice)
 }
 
-/// The part of `else`, if there is one.
+/// Parses the `else` clause, if present.
 #[cycle(parser)]
 #[tactic(auto, using(net_tree::proofs::Views::views), unfolding(crate::specs::Expressions::part_at, crate::specs::Expressions::present_at, crate::specs::Expressions::inner_of))]
 fn otherwise_of<'t, 's>(
@@ -131,7 +108,7 @@ fn otherwise_of<'t, 's>(
     depth: u8,
     tokens: &mut Cursor<'t, 's>,
 ) -> Result<Carried<Option<Boxed<Part<'s>>>>, ParseError>
-    ensures value { Gives option_part result tokens.new (grammar.part_at sorts.Else ((inner_of (inside depth)).wide 7) tokens.old) }
+    ensures value { Gives option_part result tokens.new (grammar.part_at sorts.Else ((inner_of (inside depth)).wide of_union) tokens.old) }
     ensures shorter { IfOk result (λ x. length tokens.new ≤ length tokens.old) }
 {
     if !tokens.next_is(Expected::Else) {

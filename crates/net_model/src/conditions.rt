@@ -1,3 +1,5 @@
+//! Parsing the conditions of nodes.
+
 ghost use Rattle.std.specs.Prelude.{◌≡◌, ◌<◌, ◌≤◌, Some, None, length, map, IfOk, IfErr};
 ghost use Rattle.net_tree.specs.Precedence.{of_sum};
 ghost use Rattle.net_tree.specs.Tree.{one, between};
@@ -23,7 +25,7 @@ use net_tree::{Expr, Link, NetCond, Relation, Role, Sign, precedence, role_of};
 use net_views::Items;
 use std::alloc::Global;
 
-/// `net_in`, `net_out`.
+/// Parses `net_in` or `net_out`.
 #[tactic(auto, using(net_tree::proofs::Views::views), unfolding(crate::specs::Conditions::net_at))]
 fn net_at<'t, 's>(
     alloc: Global,
@@ -37,7 +39,7 @@ fn net_at<'t, 's>(
     Stored::new(alloc, Expr::Net(parts))
 }
 
-/// A net term, behind which no other may come.
+/// Parses a net term, after which no other is allowed.
 fn only_net_at<'t, 's>(
     alloc: Global,
     tokens: &mut Cursor<'t, 's>,
@@ -48,7 +50,7 @@ fn only_net_at<'t, 's>(
     Ok((net_at(alloc, tokens)?, false))
 }
 
-/// `- net_in`
+/// Parses `- net_in`.
 #[tactic(auto, using(net_tree::proofs::Views::views), unfolding(crate::specs::Conditions::signed_net_at))]
 fn signed_net_at<'t, 's>(
     alloc: Global,
@@ -63,7 +65,7 @@ fn signed_net_at<'t, 's>(
     Stored::new(alloc, Expr::Net(parts))
 }
 
-/// A term, and whether a net term may still come.
+/// Parses a term; also returns whether a net term is still allowed.
 #[tactic(auto, unfolding(crate::specs::Conditions::term_at))]
 fn term_at<'t, 's>(
     alloc: Global,
@@ -81,7 +83,7 @@ fn term_at<'t, 's>(
     }
 }
 
-/// The first term, which may be a net term with a sign.
+/// Parses the first term, which can be a net term with a sign.
 #[tactic(auto, unfolding(crate::specs::Conditions::first_term_at))]
 fn first_term_at<'t, 's>(
     alloc: Global,
@@ -99,7 +101,7 @@ fn first_term_at<'t, 's>(
     }
 }
 
-/// A sign and the term behind it.
+/// Parses a sign and the term after it.
 #[tactic(auto, using(net_tree::proofs::Views::views, crate::proofs::Making::link_made), unfolding(crate::specs::Conditions::further_term_at))]
 fn further_term_at<'t, 's>(
     alloc: Global,
@@ -115,7 +117,7 @@ fn further_term_at<'t, 's>(
     Ok((linked(alloc, operator, operand)?, free))
 }
 
-/// The terms behind the first one.
+/// Parses the terms after the first one.
 #[tactic(auto, unfolding(crate::specs::Conditions::further_terms))]
 fn further_terms<'t, 's>(
     alloc: Global,
@@ -136,7 +138,7 @@ fn further_terms<'t, 's>(
     Ok((Carried::new(Items::new(found)), free))
 }
 
-/// A sum, and whether no net term stood in it, where one may.
+/// Parses a sum; also returns whether a net term is still allowed after it.
 #[tactic(auto, using(net_tree::proofs::Views::views), unfolding(crate::specs::Conditions::sum_at))]
 fn sum_at<'t, 's>(
     alloc: Global,
@@ -152,7 +154,7 @@ fn sum_at<'t, 's>(
     Ok((chained(alloc, precedence::PRODUCT, first, more)?, free))
 }
 
-/// Whether a bound may go on with this one.
+/// Returns whether a second relation can follow the first one in a condition.
 fn chains(first: Role, second: Role) -> bool
     ensures { result ≡ grammar.chains first second }
 {
@@ -163,16 +165,17 @@ fn chains(first: Role, second: Role) -> bool
     }
 }
 
+#[tactic(auto, using(crate::proofs::Roles::roles))]
 fn chain_next(bound: Role, tokens: &Cursor<'_, '_>) -> bool
     ensures { result ≡ grammar.chain_next bound tokens.now }
 {
-    match tokens.first() {
-        Some(token) => chains(bound, role_of(token)),
+    match tokens.role() {
+        Some(role) => chains(bound, role),
         None => false,
     }
 }
 
-/// The front of a condition: its colon, its first sum and the bound behind that.
+/// The beginning of a condition: its colon, its first sum and its first relation.
 #[derive(Drop)]
 struct Begun<'s> {
     colon: Token<'s>,
@@ -180,7 +183,7 @@ struct Begun<'s> {
     bound: Token<'s>,
 }
 
-/// One bound, with a sum on each side.
+/// Builds a condition with one relation.
 fn one<'s>(
     alloc: Global,
     begun: Begun<'s>,
@@ -194,7 +197,7 @@ fn one<'s>(
     Stored::new(alloc, condition)
 }
 
-/// The second of two bounds.
+/// Parses the second of two relations and the last sum.
 fn between_at<'t, 's>(
     alloc: Global,
     depth: u8,
@@ -220,7 +223,7 @@ fn between_at<'t, 's>(
     Stored::new(alloc, condition)
 }
 
-/// Behind the second sum, where the first had no net term.
+/// Continues after the second sum, if the first had no net term.
 #[tactic(auto, unfolding(crate::specs::Conditions::high_at))]
 fn high_at<'t, 's>(
     alloc: Global,
@@ -258,7 +261,7 @@ fn middle_at<'t, 's>(
     high_at(alloc, depth, begun, middle, tokens)
 }
 
-/// Behind the first sum and the bound.
+/// Continues after the first sum and the relation.
 #[tactic(auto, unfolding(crate::specs::Conditions::bounded_at))]
 fn bounded_at<'t, 's>(
     alloc: Global,
@@ -295,7 +298,7 @@ fn said_at<'t, 's>(
     bounded_at(alloc, depth, begun, free, tokens)
 }
 
-/// What is said of a node's net flow.
+/// Parses the condition of a node's net flow.
 #[tactic(auto, unfolding(crate::specs::Conditions::condition_at))]
 pub(crate) fn condition_at<'t, 's>(
     alloc: Global,

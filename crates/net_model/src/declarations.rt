@@ -1,5 +1,8 @@
+//! Parsing declarations.
+
 ghost use Rattle.std.specs.Prelude.{◌≡◌, ◌<◌, ◌≤◌, List, [], Option, length, map, IfOk};
 ghost use Rattle.net_lex.specs.declared.token.Token.{Token};
+ghost use Rattle.net_tree.specs.Precedence.{of_union};
 ghost use Rattle.net_tree.specs.Tree as tree;
 ghost use Rattle.net_tree.specs.Tree.{Declaration};
 ghost use Rattle.net_tree.specs.View.{declaration_of, indexing_of, option_part, phrase_of};
@@ -22,11 +25,11 @@ use crate::phrase::Owner;
 use crate::phrases::{phrases, phrases_end};
 use crate::stored::Stored;
 use net_lex::Token;
-use net_tree::{Braces, Decl, Declares, Part, Phrase, Role, precedence, role_of};
+use net_tree::{Braces, Decl, Declares, Part, Phrase, Role, precedence};
 use net_views::Items;
 use std::alloc::Global;
 
-/// The braces of a declaration, if it has some.
+/// Parses the indexing of a declaration, if present.
 #[tactic(auto, unfolding(crate::specs::Declarations::indexing_at))]
 fn indexing_at<'t, 's>(
     alloc: Global,
@@ -44,7 +47,7 @@ fn indexing_at<'t, 's>(
     }
 }
 
-/// The phrases of a declaration and the semicolon behind them.
+/// Parses the phrases of a declaration and the semicolon after them.
 fn phrased<'t, 's>(
     alloc: Global,
     depth: u8,
@@ -61,7 +64,7 @@ fn phrased<'t, 's>(
     Stored::new(alloc, (said.into_inner(), end))
 }
 
-/// The name of a parameter or an arc, its braces, its phrases and its semicolon.
+/// Parses the name of a parameter or an arc, its indexing, its phrases and its semicolon.
 fn detailed<'t, 's>(
     alloc: Global,
     depth: u8,
@@ -171,14 +174,14 @@ fn node_at<'t, 's>(
     Stored::new(alloc, node)
 }
 
-/// The expression of an objective, if it has one.
+/// Parses the expression of an objective, if present.
 #[tactic(auto, using(net_tree::proofs::Views::views), unfolding(crate::specs::Expressions::part_at, crate::specs::Expressions::present_at))]
 fn value_part<'t, 's>(
     alloc: Global,
     depth: u8,
     tokens: &mut Cursor<'t, 's>,
 ) -> Result<Stored<Option<Part<'s>>>, ParseError>
-    ensures value { Gives option_part result tokens.new (part_at sorts.Colon (wide (inside depth) 7) tokens.old) }
+    ensures value { Gives option_part result tokens.new (part_at sorts.Colon (wide (inside depth) of_union) tokens.old) }
     ensures shorter { IfOk result (λ x. length tokens.new ≤ length tokens.old) }
 {
     if !tokens.next_is(Expected::Colon) {
@@ -191,7 +194,7 @@ fn value_part<'t, 's>(
     Stored::new(alloc, Some(Part { mark, value }))
 }
 
-/// What is awaited behind an objective without an expression, and behind one with an expression.
+/// Returns what is expected after an objective, depending on whether it has an expression.
 fn behind_objective(part: &Option<Part<'_>>) -> Awaiting
     ensures { result ≡ grammar.behind_objective (option_part part.now) }
 {
@@ -217,7 +220,7 @@ fn objective_at<'t, 's>(
     Stored::new(alloc, Decl::Objective(word, name, part.into_inner(), end))
 }
 
-/// The declaration that this word begins.
+/// Parses the declaration that begins with this keyword.
 #[tactic(auto, unfolding(crate::specs::Declarations::declared_at))]
 fn declared_at<'t, 's>(
     alloc: Global,
@@ -239,7 +242,7 @@ fn declared_at<'t, 's>(
     }
 }
 
-/// A declaration.
+/// Parses a declaration.
 #[tactic(auto, unfolding(crate::specs::Declarations::declaration_at))]
 fn declaration_at<'t, 's>(
     alloc: Global,
@@ -250,16 +253,16 @@ fn declaration_at<'t, 's>(
     ensures shorter { IfOk result (λ x. length tokens.new < length tokens.old) }
 {
     let left = tokens.len();
-    let Some(word) = tokens.next() else {
+    let Some((role, word)) = tokens.next_with_role() else {
         return Err(ParseError::Refused(0, Awaiting::Declaration));
     };
-    match role_of(&word) {
+    match role {
         Role::Declaration(kind) => declared_at(alloc, depth, kind, word, tokens),
         _ => Err(ParseError::Refused(left, Awaiting::Declaration)),
     }
 }
 
-/// The declarations that the tokens are, up to their end.
+/// Parses all tokens as declarations.
 pub(crate) fn declarations<'t, 's>(
     alloc: Global,
     depth: u8,

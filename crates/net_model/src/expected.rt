@@ -1,3 +1,5 @@
+//! The sorts of tokens that the grammar of models expects.
+
 ghost use Rattle.std.specs.Prelude.{◌≡◌};
 ghost use Rattle.net_tree.specs.WellFormed.{joins};
 ghost use Rattle.net_tree.specs.Role.{is_not};
@@ -6,7 +8,7 @@ ghost use Rattle.net_model.specs.Reading.{is_sort};
 
 use net_tree::{Relation, Role, precedence};
 
-/// A token that is awaited.
+/// A sort of token that is expected.
 #[derive(Clone, Copy)]
 pub enum Expected {
     Name,
@@ -31,7 +33,7 @@ pub enum Expected {
     Net,
 }
 
-/// Whether a token of this role is of the sort.
+/// Returns whether a token of this role is of the sort.
 pub(crate) fn is_sort(sort: Expected, role: Role) -> bool
     ensures { result ≡ is_sort sort role }
 {
@@ -60,7 +62,8 @@ pub(crate) fn is_sort(sort: Expected, role: Role) -> bool
     }
 }
 
-/// Whether a token of this role joins operands of this precedence, behind so many links.
+/// Returns whether a token of this role joins operands of precedence `joining`, after `count`
+/// links.
 pub(crate) fn joins(joining: u8, count: usize, role: Role) -> bool
     ensures { result ≡ joins joining count role }
 {
@@ -81,7 +84,7 @@ pub(crate) fn is_not(role: Role) -> bool
     matches!(role, Role::Not)
 }
 
-/// Whether braces that go on with this have no items.
+/// Returns whether braces that continue with a token of this role have no items.
 pub(crate) fn is_hollow(role: Role) -> bool
     ensures { result ≡ is_hollow role }
 {

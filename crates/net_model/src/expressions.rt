@@ -1,8 +1,8 @@
-//! Expressions. `depth` says how many nestings may still be opened; a function `.._inside` stands one further in than its
-//! caller. `loosest` is the greatest precedence that a tree may have there.
+//! Expressions. `depth` is the number of nesting levels that are still allowed; a function
+//! `.._inside` has already entered its own level. `loosest` is the maximum precedence of a tree at
+//! that position.
 
-ghost use Rattle.std.specs.Prelude.{◌≡◌, ◌<◌, ◌≤◌, Some, None, length, IfOk, IfErr};
-ghost use Rattle.net_model.specs.declared.parse_error.ParseError.TheVariants.{OutOfMemory};
+ghost use Rattle.std.specs.Prelude.{◌≡◌, ◌<◌, ◌≤◌, length, IfOk};
 ghost use Rattle.net_tree.specs.Tree.{braced, indexed, negated, signed};
 ghost use Rattle.net_tree.specs.View.{tree, braces_of, links_of};
 ghost use Rattle.net_model.specs.Expressions as grammar;
@@ -22,12 +22,13 @@ use crate::parse_error::{Awaiting, ParseError};
 use crate::stored::Stored;
 use crate::trees::{is_none, is_sum};
 use net_lex::Token;
-use net_tree::{Braces, Expr, Link, Role, Series, Sign, precedence, role_of};
+use net_tree::{Braces, Expr, Link, Role, Series, Sign, precedence};
 use net_views::Items;
 use std::alloc::Global;
 
-/// A tree that stands by itself or behind a sign, or a reduction.
+/// Parses an atom, a signed operand or a reduction.
 #[cycle(parser)]
+#[tactic(auto, using(net_tree::proofs::Views::views), unfolding(crate::specs::Expressions::unary, crate::specs::Expressions::unary_at, crate::specs::Expressions::inner_of))]
 pub(crate) fn unary_of<'t, 's>(
     alloc: Global,
     depth: u8,
@@ -36,98 +37,32 @@ pub(crate) fn unary_of<'t, 's>(
     ensures value { Gives tree result tokens.new (unary (inside depth) tokens.old) }
     ensures shorter { IfOk result (λ x. length tokens.new < length tokens.old) }
 {
-    if depth == 0 {
-        shut(alloc, tokens)
-    } else {
-        unary_inside(alloc, depth - 1, tokens)
-    }
-}
-
-/// The same where no nesting may be opened.
-#[tactic(auto, using(net_tree::proofs::Views::views), unfolding(crate::specs::Expressions::unary, crate::specs::Expressions::unary_at, crate::specs::Expressions::negated_at))]
-fn shut<'t, 's>(alloc: Global, tokens: &mut Cursor<'t, 's>) -> Result<Stored<Expr<'s>>, ParseError>
-    ensures value { Gives tree result tokens.new (unary None tokens.old) }
-    ensures shorter { IfOk result (λ x. length tokens.new < length tokens.old) }
-{
     let left = tokens.len();
-    let Some(token) = tokens.next() else {
+    let Some((role, token)) = tokens.next_with_role() else {
         return Err(ParseError::Refused(0, Awaiting::Other));
     };
-    match role_of(&token) {
-        Role::Name => name_shut(alloc, token, tokens),
+    match role {
+        Role::Name => named_of(alloc, depth, token, tokens),
         Role::Number | Role::Text => Stored::new(alloc, Expr::Leaf(token)),
-        Role::Not => not_shut(tokens),
-        Role::Open | Role::OpenBrace | Role::Sign | Role::Reduction => Err(ParseError::TooDeep(
-            left,
-        )),
-        _ => Err(ParseError::Refused(left, Awaiting::Other)),
-    }
-}
-
-#[tactic(auto, using(net_tree::proofs::Views::views), unfolding(crate::specs::Expressions::named_at))]
-fn name_shut<'t, 's>(
-    alloc: Global,
-    name: Token<'s>,
-    tokens: &mut Cursor<'t, 's>,
-) -> Result<Stored<Expr<'s>>, ParseError>
-    ensures value { Gives tree result tokens.new (grammar.named_at None name.entry tokens.old) }
-    ensures shorter { IfOk result (λ x. length tokens.new ≤ length tokens.old) }
-{
-    if tokens.next_is(Expected::OpenSquare) {
-        Err(ParseError::TooDeep(tokens.len()))
-    } else {
-        Stored::new(alloc, Expr::Leaf(name))
-    }
-}
-
-#[tactic(auto, unfolding(crate::specs::Expressions::not_shut))]
-fn not_shut<'t, 's>(tokens: &mut Cursor<'t, 's>) -> Result<Stored<Expr<'s>>, ParseError>
-    ensures value { Gives tree result tokens.new (grammar.not_shut tokens.old) }
-    ensures shorter { IfOk result (λ x. length tokens.new ≤ length tokens.old) }
-    // What takes no memory wants none.
-    ensures sure { IfErr result (λ e. e ≡ OutOfMemory → ⊥) }
-{
-    if tokens.next_is(Expected::Open) {
-        Err(ParseError::TooDeep(tokens.len()))
-    } else {
-        Err(ParseError::Refused(tokens.len(), Awaiting::Other))
-    }
-}
-
-/// The same where so many nestings may be opened further in.
-#[cycle(parser)]
-#[tactic(auto, using(net_tree::proofs::Views::views), unfolding(crate::specs::Expressions::unary, crate::specs::Expressions::unary_at, crate::specs::Expressions::inner_of))]
-fn unary_inside<'t, 's>(
-    alloc: Global,
-    depth: u8,
-    tokens: &mut Cursor<'t, 's>,
-) -> Result<Stored<Expr<'s>>, ParseError>
-    ensures value { Gives tree result tokens.new (unary (Some (inner_of (inside depth))) tokens.old) }
-    ensures shorter { IfOk result (λ x. length tokens.new < length tokens.old) }
-{
-    let left = tokens.len();
-    let Some(token) = tokens.next() else {
-        return Err(ParseError::Refused(0, Awaiting::Other));
-    };
-    match role_of(&token) {
-        Role::Name => named_inside(alloc, depth, token, tokens),
-        Role::Number | Role::Text => Stored::new(alloc, Expr::Leaf(token)),
-        Role::Not => negated_inside(alloc, depth, token, tokens),
-        Role::Open => parens_inside(alloc, depth, token, tokens),
+        Role::Not => negated_of(alloc, depth, token, tokens),
+        Role::Open | Role::OpenBrace | Role::Sign | Role::Reduction if depth == 0 => {
+            Err(ParseError::TooDeep(left))
+        }
+        Role::Open => parens_inside(alloc, depth - 1, token, tokens),
         Role::OpenBrace => {
-            let braces = braces_inside(alloc, depth, token, tokens)?;
+            let braces = braces_inside(alloc, depth - 1, token, tokens)?;
             braced(alloc, braces)
         }
         Role::Sign => {
-            let operand = climb_to(alloc, depth, precedence::REDUCTION, tokens)?;
+            let operand = climb_to(alloc, depth - 1, precedence::REDUCTION, tokens)?;
             signed(alloc, token, operand)
         }
-        Role::Reduction => reduced_inside(alloc, depth, token, tokens),
+        Role::Reduction => reduced_inside(alloc, depth - 1, token, tokens),
         _ => Err(ParseError::Refused(left, Awaiting::Other)),
     }
 }
 
-/// Braces as a set.
+/// Builds a set from an indexing expression.
 #[tactic(auto, using(net_tree::proofs::Views::views))]
 fn braced<'s>(alloc: Global, braces: Stored<Braces<'s>>) -> Result<Stored<Expr<'s>>, ParseError>
     ensures { (rest : Tokens) → Gives tree result rest (read_as (braced (braces_of braces.entry)) rest) }
@@ -135,7 +70,7 @@ fn braced<'s>(alloc: Global, braces: Stored<Braces<'s>>) -> Result<Stored<Expr<'
     Stored::new(alloc, Expr::Braced(braces.into_boxed()))
 }
 
-/// A sign with its operand.
+/// Builds a signed operand.
 #[tactic(auto, using(net_tree::proofs::Views::views))]
 fn signed<'s>(
     alloc: Global,
@@ -148,7 +83,9 @@ fn signed<'s>(
     Stored::new(alloc, Expr::Signed(parts))
 }
 
-/// What a name begins.
+/// Parses a name with optional subscripts, after the name.
+#[cycle(parser)]
+#[tactic(auto, using(net_tree::proofs::Views::views), unfolding(crate::specs::Expressions::named_at))]
 pub(crate) fn named_of<'t, 's>(
     alloc: Global,
     depth: u8,
@@ -158,33 +95,16 @@ pub(crate) fn named_of<'t, 's>(
     ensures value { Gives tree result tokens.new (grammar.named_at (inside depth) name.entry tokens.old) }
     ensures shorter { IfOk result (λ x. length tokens.new ≤ length tokens.old) }
 {
-    if depth == 0 {
-        name_shut(alloc, name, tokens)
-    } else {
-        named_inside(alloc, depth - 1, name, tokens)
-    }
-}
-
-/// What a name begins where so many nestings may be opened further in.
-#[cycle(parser)]
-#[tactic(auto, using(net_tree::proofs::Views::views), unfolding(crate::specs::Expressions::named_at))]
-fn named_inside<'t, 's>(
-    alloc: Global,
-    depth: u8,
-    name: Token<'s>,
-    tokens: &mut Cursor<'t, 's>,
-) -> Result<Stored<Expr<'s>>, ParseError>
-    ensures value { Gives tree result tokens.new (grammar.named_at (Some (inner_of (inside depth))) name.entry tokens.old) }
-    ensures shorter { IfOk result (λ x. length tokens.new ≤ length tokens.old) }
-{
-    if tokens.next_is(Expected::OpenSquare) {
-        subscripts_inside(alloc, depth, name, tokens)
-    } else {
+    if !tokens.next_is(Expected::OpenSquare) {
         Stored::new(alloc, Expr::Leaf(name))
+    } else if depth == 0 {
+        Err(ParseError::TooDeep(tokens.len()))
+    } else {
+        subscripts_inside(alloc, depth - 1, name, tokens)
     }
 }
 
-/// A name with the subscripts behind it.
+/// Parses the subscripts of a name.
 #[cycle(parser)]
 #[tactic(auto, unfolding(crate::specs::Expressions::subscripts_at, crate::specs::Expressions::inner_of))]
 fn subscripts_inside<'t, 's>(
@@ -204,7 +124,7 @@ fn subscripts_inside<'t, 's>(
     indexed(alloc, name, open, first, more, tokens)
 }
 
-/// The end of the subscripts of a name.
+/// Parses the end of the subscripts of a name.
 #[tactic(auto, using(net_tree::proofs::Views::views, crate::proofs::Making::makings))]
 fn indexed<'t, 's>(
     alloc: Global,
@@ -226,7 +146,7 @@ fn indexed<'t, 's>(
     Stored::new(alloc, Expr::Indexed(parts))
 }
 
-/// What `(` begins.
+/// Parses parentheses, after `(`.
 #[cycle(parser)]
 #[tactic(auto, unfolding(crate::specs::Expressions::parens_at, crate::specs::Expressions::inner_of))]
 fn parens_inside<'t, 's>(
@@ -242,7 +162,7 @@ fn parens_inside<'t, 's>(
     parens_from(alloc, depth, opening, inner, tokens)
 }
 
-/// Behind what stands first in parentheses.
+/// Parses parentheses, after their first expression.
 #[cycle(parser)]
 #[tactic(auto, unfolding(crate::specs::Expressions::parens_from, crate::specs::Expressions::inner_of))]
 fn parens_from<'t, 's>(
@@ -263,7 +183,7 @@ fn parens_from<'t, 's>(
     }
 }
 
-/// The end of parentheses around one tree.
+/// Parses the end of parentheses around one expression.
 #[tactic(auto, using(net_tree::proofs::Views::views))]
 fn closed<'t, 's>(
     alloc: Global,
@@ -280,7 +200,7 @@ fn closed<'t, 's>(
     Stored::new(alloc, Expr::Parens(parts))
 }
 
-/// The end of parentheses around one tree or around a tuple.
+/// Parses the end of parentheses around one expression or a tuple.
 #[tactic(auto, using(net_tree::proofs::Views::views, crate::proofs::Making::makings))]
 fn listed<'t, 's>(
     alloc: Global,
@@ -303,24 +223,27 @@ fn listed<'t, 's>(
     Stored::new(alloc, Expr::Tuple(parts))
 }
 
-/// What `not` begins.
+/// Parses a negation, after `not`.
 #[cycle(parser)]
-#[tactic(auto, unfolding(crate::specs::Expressions::negated_at, crate::specs::Expressions::inner_of))]
-fn negated_inside<'t, 's>(
+fn negated_of<'t, 's>(
     alloc: Global,
     depth: u8,
     word: Token<'s>,
     tokens: &mut Cursor<'t, 's>,
 ) -> Result<Stored<Expr<'s>>, ParseError>
-    ensures value { Gives tree result tokens.new (grammar.negated_at (Some (inner_of (inside depth))) word.entry tokens.old) }
+    ensures value { Gives tree result tokens.new (grammar.negated_at (inside depth) word.entry tokens.old) }
     ensures shorter { IfOk result (λ x. length tokens.new < length tokens.old) }
 {
+    let left = tokens.len();
     let open = expect(Expected::Open, Awaiting::Other, tokens)?;
-    let inner = climb_to(alloc, depth, precedence::OR, tokens)?;
+    if depth == 0 {
+        return Err(ParseError::TooDeep(left));
+    }
+    let inner = climb_to(alloc, depth - 1, precedence::OR, tokens)?;
     negated(alloc, word, open, inner, tokens)
 }
 
-/// The end of what `not` takes.
+/// Parses the end of a negation.
 #[tactic(auto, using(net_tree::proofs::Views::views))]
 fn negated<'t, 's>(
     alloc: Global,

@@ -1,3 +1,5 @@
+//! The error for a token that the grammar does not allow.
+
 ghost use Rattle.std.specs.Prelude.{◌≡◌, length, IfOk};
 ghost use Rattle.net_model.specs.Faults as faults;
 ghost use Rattle.net_fault.specs.declared.fault.Fault.TheVariants.{At};
@@ -8,7 +10,7 @@ use net_lex::{Kind, Token};
 use net_tree::{Relation, Role, role_of};
 use std::alloc::{AllocError, Global};
 
-/// Whether a gain may begin with a token of this role.
+/// Returns whether a gain factor can begin with a token of this role.
 fn begins_gain(role: Role) -> bool
     ensures { result ≡ faults.begins_gain role }
 {
@@ -19,7 +21,8 @@ fn begins_gain(role: Role) -> bool
     }
 }
 
-/// Whether a token in a phrase's or a declaration's place is AMPL that is left out: a word, `=`, `{`.
+/// Returns whether a token in the position of a phrase or of a declaration is an unsupported
+/// construct of AMPL: a word, `=` or `{`.
 fn is_foreign(kind: Kind, role: Role) -> bool
     ensures { result ≡ faults.is_foreign kind role }
 {
@@ -41,7 +44,7 @@ fn foreign_defect(foreign: bool) -> Defect
     }
 }
 
-/// What is wrong with a token that is none of what is awaited, and is no gain.
+/// Returns the error of a token that is not expected and is not a gain factor.
 fn misplaced(awaiting: Awaiting, kind: Kind, role: Role) -> Defect
     ensures { result ≡ faults.misplaced awaiting kind role }
 {
@@ -71,7 +74,7 @@ fn is_behind_node(awaiting: Awaiting) -> bool
     matches!(awaiting, Awaiting::PhraseBehindNode)
 }
 
-/// What is wrong with a token in the place of what is awaited.
+/// Returns the error of a token in the position of what is expected.
 fn defect_of(awaiting: Awaiting, kind: Kind, role: Role) -> Defect
     ensures { result ≡ faults.defect_of awaiting kind role }
 {
@@ -82,7 +85,7 @@ fn defect_of(awaiting: Awaiting, kind: Kind, role: Role) -> Defect
     }
 }
 
-/// The word that a defect is told with.
+/// Returns the detail that is reported with an error: the word of an unsupported construct.
 fn detail_of(alloc: Global, defect: Defect, token: &Token<'_>) -> Result<Detail, AllocError>
     ensures { IfOk result (λ d. d ≡ faults.detail_of defect token.now.text) }
 {
@@ -92,7 +95,7 @@ fn detail_of(alloc: Global, defect: Defect, token: &Token<'_>) -> Result<Detail,
     }
 }
 
-/// The end of the text, as a place.
+/// Returns the span of the end of the text.
 fn end_of(tokens: &[Token<'_>]) -> Span
     ensures { result ≡ faults.end_of tokens.now }
 {
@@ -132,7 +135,7 @@ fn deep_fault(left: usize, tokens: &[Token<'_>]) -> Fault
     }
 }
 
-/// The fault that is told where the reading of these tokens stops.
+/// Returns the error for a stop of the parser.
 pub(crate) fn told(alloc: Global, stop: ParseError, tokens: &[Token<'_>]) -> Fault
     ensures { faults.IsToldOf stop tokens.now result }
 {

@@ -1,3 +1,5 @@
+//! Theorems about the grammar of models.
+
 ghost use Rattle.std.specs.Prelude.{◌≡◌, ◌≤◌, ◌<◌, ℕ, List, [], Ok, Err};
 ghost use Rattle.net_tree.specs.Tree.{Tree, Declaration};
 ghost use Rattle.net_tree.specs.Print.{put, print};
@@ -5,18 +7,25 @@ ghost use Rattle.net_tree.specs.Depth.{model_depth};
 ghost use Rattle.net_tree.specs.WellFormed.{IsWellFormed};
 ghost use Rattle.net_tree.specs.Declarations.{AreDeclarations};
 ghost use Rattle.net_model.specs.Declarations.{model_at};
+ghost use Rattle.net_model.specs.Models.{Decided};
+ghost use Rattle.net_model.specs.Reading.{Tokens};
 ghost use Rattle.net_model.specs.declared.parse_error.ParseError.TheVariants.{TooDeep};
 
-/// A law alone: no two expressions, and no two models, that are written as the grammar wants have the same tokens.
+/// Theorem: two well-formed expressions, or two well-formed models, with the same tokens are equal.
 pub fn one_tree()
     ensures expressions { (x y : Tree) → IsWellFormed x → IsWellFormed y → put x [] ≡ put y [] → x ≡ y }
     ensures models { (x y : List Declaration) → AreDeclarations x → AreDeclarations y → print x ≡ print y → x ≡ y }
 {}
 
-/// A law alone: the tokens of each model that is written as the grammar wants are read as that model, with any limit of nestings
-/// that it keeps, and up to a nesting too many with any that it does not keep.
+/// Theorem: the tokens of each well-formed model are parsed as that model if it is within the
+/// nesting limit, and otherwise up to the token that exceeds the limit.
 pub fn read_back()
     ensures kept { (limit : ℕ) (x : List Declaration) → AreDeclarations x → model_depth x ≤ limit → model_at limit (print x) ≡ Ok ((x, tt), []) }
     ensures exceeded { (limit : ℕ) (x : List Declaration) → AreDeclarations x → limit < model_depth x → (left : ℕ)
         × (model_at limit (print x) ≡ Err (TooDeep left)) }
+{}
+
+/// Theorem: any tokens are a model whose names are valid, or have a first error.
+pub fn parsed_or_rejected()
+    ensures value { (tokens : Tokens) → Decided tokens }
 {}

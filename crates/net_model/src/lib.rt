@@ -1,4 +1,4 @@
-//! From the tokens of a model text to its declarations.
+//! The parser: from the tokens of a model to its declarations.
 #![tactic(auto)]
 
 mod boxed;
@@ -15,6 +15,7 @@ mod fault;
 mod laws;
 mod list;
 mod model;
+mod named;
 mod operand;
 mod parse;
 mod parse_error;
@@ -23,7 +24,9 @@ mod phrases;
 mod stored;
 mod trees;
 
-pub use laws::{one_tree, read_back};
+pub use laws::{one_tree, parsed_or_rejected, read_back};
 pub use model::free_model;
+pub use named::parse_model;
+pub use net_fault::Fault as ModelFault;
 pub use net_tree::{Decl, Expr, Model, NetCond};
-pub use parse::parse_model;
+pub use parse::parse_declarations;

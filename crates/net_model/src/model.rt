@@ -1,6 +1,8 @@
+//! Freeing a model.
+
 use net_tree::Model;
 
 /// Frees a model.
 ///
-/// What frees one is long, and proved here; a caller that drops a model has it proved once more.
+/// Verifying the drop of a model is expensive. It is done once here instead of in each caller.
 pub fn free_model(_model: Model<'_>) {}

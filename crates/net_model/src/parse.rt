@@ -1,3 +1,5 @@
+//! Parsing the tokens of a model.
+
 ghost use Rattle.std.specs.Prelude.{◌≡◌, IfOk, IfErr};
 ghost use Rattle.net_tree.specs.View.{model};
 ghost use Rattle.net_model.specs.Declarations.{model_at, nesting_limit};
@@ -12,24 +14,25 @@ use net_lex::Token;
 use net_tree::Model;
 use std::alloc::Global;
 
-/// How many nestings may be opened, each in the one before.
+/// Returns the maximum nesting depth.
 fn deepest() -> u8
     ensures { result ≡ nesting_limit }
 {
     64
 }
 
-/// The model that the tokens of a model text are, without a look at its names.
+/// Parses the tokens of a model by the grammar alone. Does not check names.
 ///
-/// A text that the grammar does not allow is refused, whatever its names are: E10, E11, E14, E15 or E16 at the first token that is not
-/// allowed.
-pub fn parse_model<'s>(alloc: Global, tokens: &[Token<'s>]) -> Result<Model<'s>, Fault>
-    // The tree that the grammar reads, or the fault at the first token that it does not allow.
+/// Returns E10, E11, E14, E15 or E16 at the first token that is not allowed, or an error that
+/// memory ran out.
+pub fn parse_declarations<'s>(alloc: Global, tokens: &[Token<'s>]) -> Result<Model<'s>, Fault>
+    // The result is the tree that the grammar gives, or the error at the first token that is not
+    // allowed.
     ensures value { Tells tokens.now result (model_at nesting_limit tokens.now) }
-    // The tokens are the printing of the model, which is written as the grammar wants and not nested too deep.
+    // The tokens are those of the model, which is well-formed and within the nesting limit.
     ensures means { IfOk result (λ m. Means tokens.now (model m)) }
-    // The place of a fault is the first token with which, after those before it, no model goes on, or for a nesting too many none that is
-    // nested no deeper than allowed; or it is the end.
+    // An error is at the first token after which no well-formed model (for the nesting limit: none
+    // within the limit) can continue, or at the end.
     ensures refused { IfErr result (IsRefused tokens.now) }
 {
     let mut cursor = Cursor::new(tokens);

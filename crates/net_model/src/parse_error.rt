@@ -1,29 +1,32 @@
+//! Errors of parsing a model, before they have a kind and a span.
+
 use std::alloc::{AllocError, AllocFailed};
 
-/// What the grammar waits for where a token is refused.
+/// What the grammar expects at the position of a rejected token.
 #[derive(Clone, Copy)]
 pub enum Awaiting {
-    /// The word of a declaration, or the end of the text.
+    /// The keyword of a declaration, or the end of the text.
     Declaration,
     /// A phrase, or the end of the declaration.
     Phrase,
-    /// The same, and the token would begin a phrase that stood already.
+    /// The same as `Phrase`, and the token would begin a phrase that has already occurred.
     FurtherPhrase,
-    /// The same as `Phrase`, directly behind the node of `from` or `to`.
+    /// The same as `Phrase`, directly after the node of `from` or `to`.
     PhraseBehindNode,
-    /// The name of an objective behind `obj`, or what follows the name of an objective that is declared.
+    /// The name of an objective after `obj`, or the rest of a declared objective after its name.
     Objective,
     /// Anything else: an operand, a bracket, a name.
     Other,
 }
 
-/// Why no tree is read.
+/// Why parsing stops.
 #[derive(Clone, Copy)]
 pub enum ParseError {
     OutOfMemory,
-    /// A token that is not allowed, by the number of tokens from it to the end, and what was awaited in its place.
+    /// A token that is not allowed: the number of tokens from it to the end, and what was expected
+    /// instead.
     Refused(usize, Awaiting),
-    /// A token that opens a nesting too many, by the number of tokens from it to the end.
+    /// A token that exceeds the nesting limit: the number of tokens from it to the end.
     TooDeep(usize),
 }
 

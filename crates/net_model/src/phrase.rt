@@ -1,4 +1,6 @@
-/// What has phrases.
+//! The phrases of declarations, and what follows their keywords.
+
+/// A declaration with phrases.
 #[derive(Clone, Copy)]
 pub enum Owner {
     Set,
@@ -6,7 +8,7 @@ pub enum Owner {
     Arc,
 }
 
-/// What the word of a phrase is followed by.
+/// What follows the keyword of a phrase.
 #[derive(Clone, Copy)]
 pub enum Slot {
     Nothing,
@@ -24,7 +26,7 @@ pub enum Slot {
     Price,
 }
 
-/// Which phrases stood that may stand once only.
+/// Which of the phrases that are allowed only once have occurred.
 #[derive(Clone, Copy)]
 pub struct Stood {
     pub dimen: bool,

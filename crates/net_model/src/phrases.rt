@@ -1,3 +1,5 @@
+//! Parsing phrases.
+
 ghost use Rattle.std.specs.Prelude.{◌≡◌, ◌<◌, ◌≤◌, Some, None, length, map, IfOk, IfErr};
 ghost use Rattle.net_tree.specs.Tree.{valued};
 ghost use Rattle.net_tree.specs.View as view;
@@ -17,11 +19,11 @@ use crate::parse_error::{Awaiting, ParseError};
 use crate::phrase::{Owner, Slot, Stood};
 use crate::stored::Stored;
 use net_lex::Token;
-use net_tree::{Begins, Body, Expr, Phrase, Relation, Role, precedence, role_of};
+use net_tree::{Begins, Body, Expr, Phrase, Relation, Role, precedence};
 use net_views::Items;
 use std::alloc::Global;
 
-/// What a phrase that this word begins takes, if the declaration has such a phrase.
+/// Returns what follows this keyword in a phrase, if the declaration has such a phrase.
 fn slot_of(owner: Owner, role: Role) -> Option<Slot>
     ensures { result ≡ grammar.slot_of owner role }
 {
@@ -68,7 +70,7 @@ fn arc_slot(role: Role) -> Option<Slot>
     }
 }
 
-/// Whether this word began a phrase that may stand once only, and stood.
+/// Returns whether this keyword begins a phrase that is allowed only once and has occurred.
 fn stood_before(owner: Owner, stood: Stood, role: Role) -> bool
     ensures { result ≡ grammar.stood_before owner stood role }
 {
@@ -93,7 +95,7 @@ fn is_arc(owner: Owner) -> bool
     }
 }
 
-/// What stood, with the phrase that this word begins.
+/// Returns the phrases that have occurred, including the one that this keyword begins.
 fn and_then_stood(stood: Stood, role: Role) -> Stood
     ensures { result ≡ grammar.and_then_stood stood role }
 {
@@ -130,7 +132,7 @@ fn goes_on(owner: Owner, stood: Stood, role: Role) -> bool
     slot_of(owner, role).is_some()
 }
 
-/// What is awaited where this token is none of it.
+/// Returns what is expected at a token that is not accepted.
 fn awaited(owner: Owner, stood: Stood, role: Role) -> Awaiting
     ensures { result ≡ grammar.awaited owner stood role }
 {
@@ -143,17 +145,18 @@ fn awaited(owner: Owner, stood: Stood, role: Role) -> Awaiting
     }
 }
 
-/// Whether a phrase comes, or the comma before one.
+/// Returns whether a phrase comes next, or the comma before one.
+#[tactic(auto, using(crate::proofs::Roles::roles))]
 fn phrase_next(owner: Owner, stood: Stood, tokens: &Cursor<'_, '_>) -> bool
     ensures { result ≡ grammar.phrase_next owner stood tokens.now }
 {
-    match tokens.first() {
-        Some(token) => goes_on(owner, stood, role_of(token)),
+    match tokens.role() {
+        Some(role) => goes_on(owner, stood, role),
         None => false,
     }
 }
 
-/// An expression as what follows a word.
+/// Builds the body of a phrase from an expression.
 fn valued<'s>(alloc: Global, value: Stored<Expr<'s>>) -> Result<Stored<Body<'s>>, ParseError>
     ensures value { IfOk result (λ b. view.body_of b ≡ valued (view.tree value.entry)) }
     ensures memory { IfErr result (λ e. e ≡ OutOfMemory) }
@@ -161,7 +164,7 @@ fn valued<'s>(alloc: Global, value: Stored<Expr<'s>>) -> Result<Stored<Body<'s>>
     Stored::new(alloc, Body::Valued(value.into_inner()))
 }
 
-/// What follows the word.
+/// Parses the body of a phrase, after its keyword.
 #[tactic(auto, using(net_tree::proofs::Views::views))]
 fn body_of<'t, 's>(
     alloc: Global,
@@ -193,12 +196,12 @@ fn body_of<'t, 's>(
     }
 }
 
-/// The comma before a phrase.
+/// Parses an optional comma before a phrase.
 #[tactic(auto, unfolding(crate::specs::Phrases::comma_at))]
 fn comma_at<'t, 's>(tokens: &mut Cursor<'t, 's>) -> Result<Option<Token<'s>>, ParseError>
     ensures value { Gives (λ c. c) result tokens.new (grammar.comma_at tokens.old) }
     ensures shorter { IfOk result (λ x. length tokens.new ≤ length tokens.old) }
-    // What takes no memory wants none.
+    // Allocates no memory, so it never returns `OutOfMemory`.
     ensures sure { IfErr result (λ e. e ≡ OutOfMemory → ⊥) }
 {
     if tokens.next_is(Expected::Comma) {
@@ -221,7 +224,7 @@ fn phrase_of<'s>(
     Stored::new(alloc, Phrase { comma, word, body })
 }
 
-/// A phrase behind its comma, and what stood with it.
+/// Parses a phrase after its comma; also returns which phrases have occurred.
 #[tactic(auto, unfolding(crate::specs::Phrases::worded))]
 fn worded<'t, 's>(
     alloc: Global,
@@ -235,10 +238,9 @@ fn worded<'t, 's>(
     ensures shorter { IfOk result (λ x. length tokens.new < length tokens.old) }
 {
     let left = tokens.len();
-    let Some(word) = tokens.next() else {
+    let Some((role, word)) = tokens.next_with_role() else {
         return Err(ParseError::Refused(0, Awaiting::Phrase));
     };
-    let role = role_of(&word);
     if stood_before(owner, stood, role) {
         return Err(ParseError::Refused(left, Awaiting::FurtherPhrase));
     }
@@ -252,7 +254,7 @@ fn worded<'t, 's>(
     }
 }
 
-/// A phrase, and what stood with it.
+/// Parses a phrase; also returns which phrases have occurred.
 #[tactic(auto, unfolding(crate::specs::Phrases::phrase_at))]
 fn phrase_at<'t, 's>(
     alloc: Global,
@@ -268,7 +270,7 @@ fn phrase_at<'t, 's>(
     worded(alloc, depth, owner, stood, comma, tokens)
 }
 
-/// The phrases, and what stood in the end.
+/// Parses all phrases; also returns which phrases have occurred.
 #[tactic(auto, unfolding(crate::specs::Phrases::phrases))]
 pub(crate) fn phrases<'t, 's>(
     alloc: Global,
@@ -298,7 +300,7 @@ pub(crate) fn phrases<'t, 's>(
     Ok((Carried::new(Items::new(found)), stood))
 }
 
-/// The semicolon behind phrases.
+/// Parses the semicolon after the phrases.
 #[tactic(auto, unfolding(crate::specs::Phrases::phrases_end))]
 pub(crate) fn phrases_end<'t, 's>(
     owner: Owner,
@@ -307,14 +309,13 @@ pub(crate) fn phrases_end<'t, 's>(
 ) -> Result<Token<'s>, ParseError>
     ensures value { Gives (λ t. t) result tokens.new (grammar.phrases_end owner stood tokens.old) }
     ensures shorter { IfOk result (λ x. length tokens.new < length tokens.old) }
-    // What takes no memory wants none.
+    // Allocates no memory, so it never returns `OutOfMemory`.
     ensures sure { IfErr result (λ e. e ≡ OutOfMemory → ⊥) }
 {
     let left = tokens.len();
-    match tokens.next() {
+    match tokens.next_with_role() {
         None => Err(ParseError::Refused(0, Awaiting::Phrase)),
-        Some(token) => {
-            let role = role_of(&token);
+        Some((role, token)) => {
             if matches!(role, Role::Semicolon) {
                 Ok(token)
             } else {

@@ -1,3 +1,5 @@
+//! A boxed wrapper that makes dropping a large value one call.
+
 ghost use Rattle.std.specs.Prelude.{◌≡◌, IfOk, IfErr};
 ghost use Rattle.net_model.specs.declared.parse_error.ParseError.TheVariants.{OutOfMemory};
 
@@ -6,8 +8,8 @@ use net_views::Boxed;
 use std::alloc::Global;
 use std::marker::Model;
 
-/// A value of many forms that is carried past places where reading may stop, in a box; contracts see the value. A box is the
-/// same few words to the prover whatever is in it, and dropping it is one call.
+/// A boxed value of a type with many forms that stays alive across `?`; contracts see the value. To
+/// the prover a box is a small value, independent of its contents, and dropping it is one call.
 pub(crate) struct Stored<T: Drop> {
     inner: Box<T>,
 }

@@ -1,3 +1,5 @@
+//! Building chains of operators.
+
 ghost use Rattle.std.specs.Prelude.{◌≡◌, nat_le, IfOk, IfErr};
 ghost use Rattle.net_tree.specs.WellFormed.{precedence};
 ghost use Rattle.net_tree.specs.Precedence.{of_sum};
@@ -13,7 +15,7 @@ use net_tree::{Expr, Link, Operator, Series, precedence};
 use net_views::Items;
 use std::alloc::Global;
 
-/// Whether the tree may stand where a sum may.
+/// Returns whether the tree is allowed in the position of a sum.
 #[tactic(auto, using(net_tree::proofs::Views::views))]
 pub(crate) fn is_sum(expr: &Expr<'_>) -> bool
     ensures { result ≡ nat_le (precedence (tree expr.now)) of_sum }
@@ -27,7 +29,7 @@ pub(crate) fn is_sum(expr: &Expr<'_>) -> bool
     }
 }
 
-/// An operator and the operand behind it.
+/// Builds a link from an operator and the operand after it.
 #[tactic(auto, using(crate::proofs::Making::link_made))]
 pub(crate) fn linked<'s>(
     alloc: Global,
@@ -42,7 +44,7 @@ pub(crate) fn linked<'s>(
     Stored::new(alloc, Link { operator, operand })
 }
 
-/// Whether there are no links.
+/// Returns whether there are no links.
 pub(crate) fn is_none(links: &Items<Link<'_>>) -> bool
     ensures { result ≡ is_none (links_of links.now) }
 {
@@ -52,7 +54,7 @@ pub(crate) fn is_none(links: &Items<Link<'_>>) -> bool
     }
 }
 
-/// A chain, or its first operand where that is alone.
+/// Builds a chain, or returns the first operand if there are no links.
 #[tactic(auto, using(crate::proofs::Making::makings))]
 pub(crate) fn chained<'s>(
     alloc: Global,

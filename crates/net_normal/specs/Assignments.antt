@@ -1,4 +1,5 @@
--- Assignments of a network (Fourer, Gay, Kernighan: AMPL, second edition, chapter 15): one whole number for each arc, in the arcs' order.
+-- Assignments of a network (Fourer, Gay, Kernighan: AMPL, second edition, chapter 15): one integer
+-- for each arc, in arc order.
 use Rattle.std.specs.Prelude.{◌≡◌, ℕ, Bool, List, Some, ℤ, ◌+ℤ◌, ◌-ℤ◌, ◌≤ℤ◌, slice_get}
 use Rattle.std.specs.Option.{ForSome}
 use Rattle.std.specs.List.{AllZip}
@@ -7,15 +8,15 @@ use Rattle.net_normal.specs.declared.instance.InstArc.{InstArc}
 use Rattle.net_normal.specs.declared.instance.NodeRange.{NodeRange}
 use Rattle.net_normal.specs.declared.instance.Instance.{Instance}
 
--- the arc leads `to` node v
+-- whether the arc's head (`to`) is node v
 abbrev pub enters : ℕ → InstArc → Bool
 enters v arc = is_node v arc.head
 
--- the arc leads `from` node v
+-- whether the arc's tail (`from`) is node v
 abbrev pub leaves : ℕ → InstArc → Bool
 leaves v arc = is_node v arc.tail
 
--- what comes into node v less what goes out of it
+-- inflow minus outflow of node v
 abbrev pub net_inflow : List InstArc → List ℤ → ℕ → ℤ
 net_inflow arcs assignment v = flow_on (enters v) arcs assignment -ℤ flow_on (leaves v) arcs assignment
 
@@ -27,11 +28,11 @@ pub record IsInRange (range : NodeRange) (inflow : ℤ) : Type 0 where
   pub low : ForSome range.low (λ low. low ≤ℤ inflow)
   pub high : ForSome range.high (λ high. inflow ≤ℤ high)
 
--- each arc is within its bounds, and each node's net inflow in its range
+-- each arc is within its bounds, and each node's net inflow is within its range
 pub record IsFeasibleAssignment (instance : Instance) (assignment : List ℤ) : Type 0 where
   pub bounds : AllZip IsWithinBounds instance.arcs.items assignment
   pub ranges : (v : ℕ) (range : NodeRange) → slice_get instance.nodes.items v ≡ Some range → IsInRange range (net_inflow instance.arcs.items assignment v)
 
--- the objective: the constant, and each arc's coefficient times its number
+-- the objective: the constant plus the sum of coefficient times value over all arcs
 abbrev pub value_of : Instance → List ℤ → ℤ
 value_of instance assignment = instance.constant +ℤ price_of (λ arc. arc.coefficient) instance.arcs.items assignment

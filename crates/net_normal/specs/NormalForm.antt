@@ -1,5 +1,6 @@
--- The normal form of a network as netflow lays it down, and its lean form: which problem and which link an instance has. Nodes keep
--- their numbers, and the outside node, which stands for the arcs' missing ends and for the room in the nodes' ranges, comes after them.
+-- The normal form and the lean form of a network: which problem and which link belong to an
+-- instance. Nodes keep their numbers. The outside node follows them: it is the end of arcs with a
+-- missing end, and absorbs the slack in the nodes' ranges.
 use Rattle.std.specs.Prelude.{◌≡◌, ℕ, suc, Bool, true, false, List, [], ◌∷◌, ◌++◌, map, Option, Some, None, ℤ, pos, ◌+ℤ◌, ◌-ℤ◌, neg_ℤ, int_lt, vec_len, unwrap_or, if◌then◌else◌}
 use Rattle.std.specs.Int.{int_min, int_max}
 use Rattle.std.specs.Ordering.{int_eq}
@@ -16,7 +17,7 @@ use Rattle.net_normal.specs.declared.link.Link.{Link}
 use Rattle.net_normal.specs.declared.profile.Profile.{Profile}
 use Rattle.net_normal.specs.declared.profile.Profile.TheVariants.{Plain, Lean}
 
--- a negative lower bound is moved to 0, in the lean form each lower bound
+-- the normal form shifts negative lower bounds to 0, the lean form all lower bounds
 abbrev pub offset_of : Profile → InstArc → ℤ
 offset_of Plain arc = int_min arc.lower (pos 0)
 offset_of Lean arc = arc.lower
@@ -24,12 +25,12 @@ offset_of Lean arc = arc.lower
 abbrev pub offsets_of : Profile → List InstArc → List ℤ
 offsets_of p arcs = map (offset_of p) arcs
 
--- the lean form has no arc for one of equal bounds
+-- the lean form omits arcs whose bounds are equal
 abbrev pub is_left_out : Profile → InstArc → Bool
 is_left_out Plain arc = false
 is_left_out Lean arc = int_eq arc.lower arc.upper
 
--- counted from this number; 0 for an arc that is left out
+-- the arcs' numbers in the problem, counted from n; 0 for an omitted arc
 abbrev pub numbers_from : Profile → ℕ → List InstArc → List ℕ
 numbers_from p n [] = []
 numbers_from p n (arc ∷ arcs) = if is_left_out p arc then 0 ∷ numbers_from p n arcs else n ∷ numbers_from p (suc n) arcs
@@ -44,32 +45,32 @@ flow_arc_of p sense outside arc =
       cost = signed sense arc.coefficient;
     }
 
--- one for each arc that is not left out
+-- one arc for each arc that is not omitted
 abbrev pub written_arcs : Profile → Sense → ℕ → List InstArc → List FlowArc
 written_arcs p sense outside [] = []
 written_arcs p sense outside (arc ∷ arcs) =
     if is_left_out p arc then written_arcs p sense outside arcs
     else flow_arc_of p sense outside arc ∷ written_arcs p sense outside arcs
 
--- the greatest net inflow that the bounds allow
+-- the greatest net inflow of node v that the arcs' bounds allow
 abbrev pub most_inflow : List InstArc → ℕ → ℤ
 most_inflow arcs v = flow_on (enters v) arcs (map (λ arc. arc.upper) arcs) -ℤ flow_on (leaves v) arcs (map (λ arc. arc.lower) arcs)
 
--- the least
+-- the least net inflow of node v that the arcs' bounds allow
 abbrev pub least_inflow : List InstArc → ℕ → ℤ
 least_inflow arcs v = flow_on (enters v) arcs (map (λ arc. arc.lower) arcs) -ℤ flow_on (leaves v) arcs (map (λ arc. arc.upper) arcs)
 
--- what the offsets bring into a node
+-- the net inflow of node v that the offsets contribute
 abbrev pub shift_of : Profile → List InstArc → ℕ → ℤ
 shift_of p arcs v = net_inflow arcs (offsets_of p arcs) v
 
--- a missing low side is the lesser of the high side and the least inflow
+-- a missing low side is the minimum of the high side and the least net inflow
 abbrev pub low_side : Option ℤ → Option ℤ → ℤ → ℤ
 low_side (Some low) high least = low
 low_side None (Some high) least = int_min high least
 low_side None None least = least
 
--- a missing high side is the greater of the low side and the greatest inflow
+-- a missing high side is the maximum of the low side and the greatest net inflow
 abbrev pub high_side : Option ℤ → Option ℤ → ℤ → ℤ
 high_side low (Some high) most = high
 high_side (Some low) None most = int_max low most
@@ -81,7 +82,7 @@ low_of arcs v range = low_side range.low range.high (least_inflow arcs v)
 abbrev pub high_of : List InstArc → ℕ → NodeRange → ℤ
 high_of arcs v range = high_side range.low range.high (most_inflow arcs v)
 
--- the range, as it is given, leaves more than one net inflow open
+-- whether the declared range allows more than one net inflow
 abbrev pub is_open : Option ℤ → Option ℤ → Bool
 is_open (Some low) (Some high) = int_lt low high
 is_open (Some low) None = true
@@ -90,12 +91,12 @@ is_open None high = true
 abbrev pub supply_of : Profile → List InstArc → ℕ → NodeRange → ℤ
 supply_of p arcs v range = shift_of p arcs v -ℤ low_of arcs v range
 
--- of the nodes from number v on
+-- the supplies of the nodes from number v on
 abbrev pub supplies_from : Profile → List InstArc → ℕ → List NodeRange → List ℤ
 supplies_from p arcs v [] = []
 supplies_from p arcs v (range ∷ ranges) = supply_of p arcs v range ∷ supplies_from p arcs (suc v) ranges
 
--- the arc that takes what a node receives above its low side to the outside node
+-- the slack arc of a node: it carries the node's inflow above its low side to the outside node
 abbrev pub room_arc : List InstArc → ℕ → ℕ → NodeRange → FlowArc
 room_arc arcs outside v range = record { src = v; dst = outside; low = pos 0; cap = high_of arcs v range -ℤ low_of arcs v range; cost = pos 0 }
 
@@ -105,17 +106,18 @@ room_arcs_from arcs outside v (range ∷ ranges) =
     if is_open range.low range.high then room_arc arcs outside v range ∷ room_arcs_from arcs outside (suc v) ranges
     else room_arcs_from arcs outside (suc v) ranges
 
--- the outside node makes the supplies sum to 0
+-- the supply of the outside node makes the supplies sum to 0
 abbrev pub supplies_of : Profile → Instance → List ℤ
 supplies_of p instance = let inner = supplies_from p instance.arcs.items 0 instance.nodes.items in inner ++ neg_ℤ (sum_of inner) ∷ []
 
--- those of the network's arcs in order, then one arc for each node with an open range, in the nodes' order
+-- the arcs of the network in order, then one slack arc for each node with an open range, in node
+-- order
 abbrev pub flow_arcs_of : Profile → Instance → List FlowArc
 flow_arcs_of p instance =
     let outside = vec_len instance.nodes in
     written_arcs p instance.sense outside instance.arcs.items ++ room_arcs_from instance.arcs.items outside 0 instance.nodes.items
 
--- the constant, and what the offsets cost
+-- the objective's constant plus the cost of the offsets
 abbrev pub constant_of : Profile → Instance → ℤ
 constant_of p instance = instance.constant +ℤ price_of (λ arc. arc.coefficient) instance.arcs.items (offsets_of p instance.arcs.items)
 

@@ -1,4 +1,4 @@
-//! One arc counted at its ends.
+//! Counting an arc at its two end nodes.
 
 ghost use Rattle.std.specs.Prelude.{◌≡◌, ◌<◌, ◌*◌, ◌^◌, All, vec_len};
 ghost use Rattle.std.specs.Option.{ForSome};
@@ -9,7 +9,7 @@ use crate::instance::InstArc;
 use crate::node_sums::NodeSums;
 use crate::profile::Profile;
 
-/// Counts an arc at the node that it leads to, where there is one.
+/// Adds an arc to the sums of its head node, if it has one.
 fn count_head(sums: &mut Vec<NodeSums>, profile: Profile, arc: &InstArc)
     requires sums { All (AreSized flow_limit) sums.old.items }
     requires head { ForSome arc.now.head (λ v. v < vec_len sums.old) }
@@ -24,7 +24,7 @@ fn count_head(sums: &mut Vec<NodeSums>, profile: Profile, arc: &InstArc)
     }
 }
 
-/// Counts an arc at the node that it leads from, where there is one.
+/// Adds an arc to the sums of its tail node, if it has one.
 fn count_tail(sums: &mut Vec<NodeSums>, profile: Profile, arc: &InstArc)
     requires sums { All (AreSized flow_limit) sums.old.items }
     requires tail { ForSome arc.now.tail (λ v. v < vec_len sums.old) }
@@ -39,7 +39,8 @@ fn count_tail(sums: &mut Vec<NodeSums>, profile: Profile, arc: &InstArc)
     }
 }
 
-/// Counts an arc at both its ends, where they are nodes. A loop counts at its node as it comes and as it goes.
+/// Adds an arc to the sums of its head node and of its tail node, if present. A loop is added twice
+/// to its node, once in each direction.
 pub fn count_arc(sums: &mut Vec<NodeSums>, profile: Profile, arc: &InstArc)
     requires sums { All (AreSized sum_limit) sums.old.items }
     requires tail { ForSome arc.now.tail (λ v. v < vec_len sums.old) }

@@ -1,4 +1,4 @@
-//! The part of a normal form that the arcs of a network make, in their order.
+//! The part of a normal form that is computed from the arcs of a network, in their order.
 
 ghost use Rattle.std.specs.Prelude.{◌≡◌, ◌*◌, ◌+◌, ◌+ℤ◌, ◌*ℤ◌, ◌^◌, ◌<◌, ◌≤◌, ◌++◌, ◌∷◌, [], All, IfOk, OnOk, replicate, vec_len, if◌then◌else◌};
 ghost use Rattle.net_normal.specs.Links.{signed};
@@ -12,22 +12,23 @@ use crate::problem::FlowArc;
 use crate::profile::Profile;
 use std::alloc::{AllocError, Global};
 
-/// What the arcs make.
+/// The result of the pass over the arcs.
 #[derive(Drop)]
 pub struct ArcPart {
-    /// An arc of the problem for each arc of the network that the profile does not leave out.
+    /// An arc of the problem for each arc of the network that the profile does not omit.
     pub arcs: Vec<FlowArc>,
-    /// For each arc of the network, the number of that arc, counted from 1, or 0 where it is left out.
+    /// For each arc of the network, its number in the problem, counted from 1, or 0 if it is
+    /// omitted.
     pub numbers: Vec<u32>,
     /// For each arc of the network, its offset.
     pub offsets: Vec<i64>,
-    /// The objective's constant with what the offsets cost.
+    /// The objective's constant plus the cost of the offsets.
     pub constant: i128,
-    /// For each node, what the arcs say of it.
+    /// For each node, the sums over its arcs.
     pub sums: Vec<NodeSums>,
 }
 
-/// The cost of each unit of flow: to maximise is to minimise the negated number.
+/// Returns the cost of a unit of flow: the coefficient, negated if the sense is to maximize.
 fn cost(sense: Sense, coefficient: &i64) -> i64
     requires { IsSized value_limit coefficient.now }
     ensures { result ≡ signed sense coefficient.now }
@@ -38,7 +39,7 @@ fn cost(sense: Sense, coefficient: &i64) -> i64
     }
 }
 
-/// The arc of the problem for an arc of the network; a missing end is at the outside node.
+/// Builds the arc of the problem for an arc of the network; a missing end becomes the outside node.
 fn flow_arc(profile: Profile, sense: Sense, outside: u32, arc: &InstArc) -> FlowArc
     requires lower { IsSized value_limit arc.now.lower }
     requires upper { IsSized value_limit arc.now.upper }
@@ -55,8 +56,8 @@ fn flow_arc(profile: Profile, sense: Sense, outside: u32, arc: &InstArc) -> Flow
     }
 }
 
-/// Adds the arc of the problem for an arc of the network and answers its number; an arc that is left out has none, and the
-/// answer is 0.
+/// Appends the arc of the problem for an arc of the network and returns its number, counted from 1.
+/// Appends nothing and returns 0 if the profile omits the arc. Fails only if memory runs out.
 fn write_arc(
     arcs: &mut Vec<FlowArc>,
     profile: Profile,
@@ -79,7 +80,7 @@ fn write_arc(
     Ok(arcs.len() as u32)
 }
 
-/// What an offset costs.
+/// Returns the cost of an offset.
 fn offset_price(coefficient: &i64, offset: &i64) -> i128
     requires coefficient { IsSized value_limit coefficient.now }
     requires offset { IsSized value_limit offset.now }
@@ -92,7 +93,7 @@ fn offset_price(coefficient: &i64, offset: &i64) -> i128
 impl ArcPart {
     ghost use Rattle.net_normal.specs.NodeSums.{AreSized, AreSumsOf, CountsArc, no_sums};
 
-    /// Before the first arc.
+    /// Creates an empty result, with sums of 0 for each node. Fails only if memory runs out.
     fn new(alloc: Global, instance: &Instance) -> Result<ArcPart, AllocError>
         ensures arcs { IfOk result (λ part. part.arcs.items ≡ []) }
         ensures numbers { IfOk result (λ part. part.numbers.items ≡ []) }
@@ -111,7 +112,7 @@ impl ArcPart {
         })
     }
 
-    /// Takes the next arc.
+    /// Adds the next arc. Fails only if memory runs out.
     fn add(&mut self, profile: Profile, sense: Sense, arc: &InstArc) -> Result<(), AllocError>
         requires arc { IsArcOf (vec_len self.old.sums) arc.now }
         requires few_nodes { vec_len self.old.sums ≤ node_limit }
@@ -137,7 +138,7 @@ impl ArcPart {
         Ok(())
     }
 
-    /// Takes all arcs of a network, in one pass.
+    /// Processes all arcs of a network in one pass. Fails only if memory runs out.
     pub fn of(alloc: Global, profile: Profile, instance: &Instance) -> Result<ArcPart, AllocError>
         ensures arcs { IfOk result (λ part. part.arcs.items ≡ written_arcs profile instance.now.sense (vec_len instance.now.nodes) instance.now.arcs.items) }
         ensures numbers { IfOk result (λ part. part.numbers.items ≡ numbers_from profile 1 instance.now.arcs.items) }

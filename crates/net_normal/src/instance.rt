@@ -1,4 +1,4 @@
-//! A network in the model's terms, without its names.
+//! A network as the model describes it, without names.
 
 ghost use Rattle.std.specs.Prelude.{◌≡◌, ◌<◌, ◌≤◌, ◌≤ℤ◌, ◌↔◌, ◌||◌, All, IsTrue, IsSome, IfSome, is_some, vec_len};
 ghost use Rattle.std.specs.Option.{ForSome};
@@ -6,7 +6,7 @@ ghost use Rattle.net_normal.specs.Limits.{IsSized, IsArcOf, IsNetworkWithinLimit
 
 use crate::limits::{ARC_LIMIT, NODE_LIMIT, VALUE_LIMIT, is_sized};
 
-/// What is wanted of the objective's value.
+/// The direction of optimization.
 #[derive(Clone, Copy)]
 pub enum Sense {
     /// `minimize Cost;`
@@ -18,9 +18,9 @@ pub enum Sense {
 /// The net inflows that a node's condition allows, as `1 <= net_in <= 4`.
 #[derive(Clone, Copy)]
 pub struct NodeRange {
-    /// The least net inflow, where there is one.
+    /// The least net inflow, if limited.
     pub low: Option<i64>,
-    /// The greatest net inflow, where there is one.
+    /// The greatest net inflow, if limited.
     pub high: Option<i64>,
     pub ghost given: { IsTrue (is_some low || is_some high) },
     pub ghost low_fits: { ForSome low (IsSized range_limit) },
@@ -31,28 +31,29 @@ pub struct NodeRange {
 /// An arc of a network. A node is an index into the instance's nodes.
 #[derive(Clone, Copy)]
 pub struct InstArc {
-    /// The least number that the arc may have.
+    /// The lower bound of the arc's value.
     pub lower: i64,
-    /// The greatest number that the arc may have.
+    /// The upper bound of the arc's value.
     pub upper: i64,
-    /// What each unit adds to the objective.
+    /// The change of the objective for each unit.
     pub coefficient: i64,
-    /// The node of `from`.
+    /// The node of `from`, if there is one.
     pub tail: Option<u32>,
-    /// The node of `to`.
+    /// The node of `to`, if there is one.
     pub head: Option<u32>,
 }
 
-/// A network within the limits of a model: its nodes with their ranges, its arcs, and one objective.
+/// A network within the limits of a model: its nodes with their ranges, its arcs, and one
+/// objective.
 #[derive(Drop)]
 pub struct Instance {
     /// The range of each node's net inflow.
     pub nodes: Vec<NodeRange>,
     /// The arcs, in the order of the model.
     pub arcs: Vec<InstArc>,
-    /// What is wanted of the objective.
+    /// The direction of optimization.
     pub sense: Sense,
-    /// What the objective adds to its arcs' terms.
+    /// The constant term of the objective.
     pub constant: i64,
     pub ghost few_nodes: { vec_len nodes ≤ node_limit },
     pub ghost few_arcs: { vec_len arcs ≤ arc_limit },
@@ -61,7 +62,7 @@ pub struct Instance {
 }
 
 impl Instance {
-    /// The network of these nodes and arcs, exactly where it is within the limits.
+    /// Builds a network from nodes and arcs. Returns `None` if and only if a limit is exceeded.
     pub fn checked(
         nodes: Vec<NodeRange>,
         arcs: Vec<InstArc>,
@@ -87,7 +88,7 @@ impl Instance {
     }
 }
 
-/// Whether all arcs may be those of a network with this number of nodes.
+/// Returns whether each arc is valid in a network with this many nodes.
 fn are_arcs(arcs: &[InstArc], nodes: usize) -> bool
     ensures { IsTrue result ↔ All (IsArcOf nodes) arcs.now }
 {
@@ -99,7 +100,7 @@ fn are_arcs(arcs: &[InstArc], nodes: usize) -> bool
     true
 }
 
-/// Whether an arc may be one of a network with this number of nodes.
+/// Returns whether an arc is valid in a network with this many nodes.
 fn is_arc(arc: &InstArc, nodes: usize) -> bool
     ensures { IsTrue result ↔ IsArcOf nodes arc.now }
 {
@@ -115,14 +116,14 @@ fn is_arc(arc: &InstArc, nodes: usize) -> bool
     is_among(&arc.head, nodes)
 }
 
-/// Whether an arc has a node at one end at least.
+/// Returns whether an arc has a node at one end at least.
 fn has_end(arc: &InstArc) -> bool
     ensures { result ≡ (is_some arc.now.tail || is_some arc.now.head) }
 {
     arc.tail.is_some() || arc.head.is_some()
 }
 
-/// Whether an end is missing or one of this number of nodes.
+/// Returns whether an end is missing or an index below `nodes`.
 fn is_among(end: &Option<u32>, nodes: usize) -> bool
     ensures { IsTrue result ↔ ForSome end.now (λ v. v < nodes) }
 {

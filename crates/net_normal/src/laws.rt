@@ -1,8 +1,9 @@
-//! Laws of the forms of a network; they run nothing.
+//! Theorems about the forms of a network. The functions are empty: their contracts state theorems.
 
 ghost use Rattle.net_normal.specs.Laws.{AreAlike};
 
-/// The normal form and the lean form of a network stand for the same assignments, with the same values.
+/// Theorem: the normal form and the lean form of a network have the same feasible assignments, with
+/// the same objective values.
 pub fn forms_are_alike()
     ensures value { AreAlike }
 {}

@@ -1,4 +1,5 @@
-//! The normal form of a network: an instance in the model's terms becomes a minimum-cost flow problem, and a link leads back.
+//! The normal form: translates an instance into a minimum-cost flow problem and a link that maps
+//! flows back to assignments.
 #![tactic(auto)]
 
 mod arc_count;
@@ -24,3 +25,4 @@ pub use link::Link;
 pub use normal_form::{normalise, normalise_lean};
 pub use problem::{FlowArc, Problem};
 pub use profile::Profile;
+pub use std::alloc::AllocError as OutOfMemory;

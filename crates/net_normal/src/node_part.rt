@@ -1,4 +1,4 @@
-//! The part of a normal form that the nodes of a network make, in their order.
+//! The part of a normal form that is computed from the nodes of a network, in their order.
 
 ghost use Rattle.std.specs.Prelude.{◌≡◌, ◌<◌, ◌≤◌, ◌+◌, ◌*◌, ◌^◌, ◌++◌, ◌∷◌, [], pos, ◌-ℤ◌, ◌≤ℤ◌, length, IfOk, OnOk, vec_len, if◌then◌else◌};
 ghost use Rattle.net_normal.specs.Limits.{IsSized, node_limit, range_limit, flow_limit, sum_limit};
@@ -11,7 +11,8 @@ use crate::node_sums::NodeSums;
 use crate::problem::FlowArc;
 use std::alloc::{AllocError, Global};
 
-/// What a node has to send out, where the outside node takes what it receives above its low side.
+/// Returns the supply of a node. Its slack arc carries inflow above the low side to the outside
+/// node.
 fn own_supply(range: &NodeRange, sums: &NodeSums) -> i64
     requires { AreSized sum_limit sums.now }
     ensures value { result ≡ own_supply range.now sums.now }
@@ -20,7 +21,7 @@ fn own_supply(range: &NodeRange, sums: &NodeSums) -> i64
     sums.shift - range.low_side(&sums.least)
 }
 
-/// The arc that takes what a node receives above its low side to the outside node.
+/// Builds a node's slack arc, which carries its inflow above the low side to the outside node.
 fn own_room(node: u32, outside: u32, range: &NodeRange, sums: &NodeSums) -> FlowArc
     requires { AreSized sum_limit sums.now }
     ensures { result ≡ own_room node outside range.now sums.now }
@@ -34,19 +35,19 @@ fn own_room(node: u32, outside: u32, range: &NodeRange, sums: &NodeSums) -> Flow
     }
 }
 
-/// What the nodes make.
+/// The result of the pass over the nodes.
 #[derive(Drop)]
 pub struct NodePart {
     /// Each node's supply.
     pub supplies: Vec<i64>,
-    /// The arcs of the network, and those for the room in the nodes' ranges.
+    /// The arcs of the network, followed by the nodes' slack arcs.
     pub arcs: Vec<FlowArc>,
-    /// What the supplies are short of 0 together.
+    /// The negated sum of the supplies so far: what the outside node must supply.
     pub balance: i64,
 }
 
 impl NodePart {
-    /// Takes the next node.
+    /// Adds the next node. Fails only if memory runs out.
     fn add(&mut self, outside: u32, range: &NodeRange, sums: &NodeSums) -> Result<(), AllocError>
         requires few { vec_len self.old.supplies < node_limit }
         requires sums { AreSized sum_limit sums.now }
@@ -66,7 +67,8 @@ impl NodePart {
         Ok(())
     }
 
-    /// Takes all nodes of a network, in one pass; the arcs before are those of its arcs, and the sums what these say of its nodes.
+    /// Processes all nodes of a network in one pass. Takes the arcs of the problem so far, and for
+    /// each node the sums over its arcs. Fails only if memory runs out.
     pub fn of(
         alloc: Global,
         instance: &Instance,

@@ -1,4 +1,4 @@
-//! What the arcs of a network say of its nodes.
+//! Sums over the arcs at each node of a network.
 
 ghost use Rattle.std.specs.Prelude.{◌≡◌, ◌<◌, ◌^◌, All, vec_len};
 ghost use Rattle.std.specs.Option.{ForSome};
@@ -7,28 +7,28 @@ ghost use Rattle.net_normal.specs.Limits.{IsSized, value_limit, flow_limit};
 use crate::instance::InstArc;
 use crate::profile::Profile;
 
-/// Sums over the arcs that lead to a node, less sums over those that lead from it.
+/// Sums over the arcs into a node minus sums over the arcs out of it.
 #[derive(Clone, Copy)]
 pub struct NodeSums {
     /// The least net inflow that the bounds allow.
     pub least: i64,
     /// The greatest net inflow that the bounds allow.
     pub most: i64,
-    /// What the offsets bring in.
+    /// The net inflow that the offsets contribute.
     pub shift: i64,
 }
 
 impl NodeSums {
     ghost use Rattle.net_normal.specs.NodeSums.{AreSized, entered, left};
 
-    /// Of a node without arcs.
+    /// The sums of a node without arcs.
     pub const NONE: NodeSums = NodeSums {
         least: 0,
         most: 0,
         shift: 0,
     };
 
-    /// With an arc that leads to the node.
+    /// Returns the sums with an arc into the node added.
     pub fn entered(&self, profile: Profile, arc: &InstArc) -> NodeSums
         requires sums { AreSized flow_limit self.now }
         requires lower { IsSized value_limit arc.now.lower }
@@ -42,7 +42,7 @@ impl NodeSums {
         }
     }
 
-    /// With an arc that leads from the node.
+    /// Returns the sums with an arc out of the node added.
     pub fn left(&self, profile: Profile, arc: &InstArc) -> NodeSums
         requires sums { AreSized flow_limit self.now }
         requires lower { IsSized value_limit arc.now.lower }

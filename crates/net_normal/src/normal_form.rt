@@ -1,34 +1,37 @@
-//! From an instance to its problem and its link.
+//! Translating an instance into its problem and its link.
 
 ghost use Rattle.std.specs.Prelude.{◌≡◌, ◌↔◌, All, IfOk, pos};
 ghost use Rattle.std.specs.List.{AllZip};
 ghost use Rattle.net_normal.specs.NormalForm.{IsFormIn, IsNormalForm, IsLeanForm};
 ghost use Rattle.net_normal.specs.Correspondence.{CorrespondsOneToOne};
 
+use crate::OutOfMemory;
 use crate::arc_part::ArcPart;
 use crate::instance::Instance;
 use crate::link::Link;
 use crate::node_part::NodePart;
 use crate::problem::Problem;
 use crate::profile::Profile;
-use std::alloc::{AllocError, Global};
+use std::alloc::Global;
 
-/// The normal form of a network: a minimum-cost flow problem whose feasible flows stand one to one for the network's
-/// feasible assignments, and the link that leads back.
+/// Translates a network into its normal form: a minimum-cost flow problem whose feasible flows
+/// correspond one to one to the network's feasible assignments, and the link that maps them back.
 ///
-/// Fails only where memory runs out.
-pub fn normalise(alloc: Global, instance: &Instance) -> Result<(Problem, Link), AllocError>
+/// Fails only if memory runs out.
+pub fn normalise(alloc: Global, instance: &Instance) -> Result<(Problem, Link), OutOfMemory>
     ensures value { IfOk result (λ made. IsNormalForm instance.now made.0 made.1) }
     ensures corresponds { IfOk result (λ made. CorrespondsOneToOne instance.now made.0 made.1) }
 {
     form(alloc, Profile::Plain, instance)
 }
 
-/// The lean form of a network, for solvers that take no lower bounds: each flow is at least 0, and an arc of equal bounds, whose
-/// number is known, has no arc in the problem.
+/// Translates a network into its lean form, for solvers that accept no lower bounds. All lower
+/// bounds are 0, and an arc whose bounds are equal has no arc in the problem, since its value is
+/// known.
 ///
-/// It stands for the same assignments, with the same values, as the normal form. Fails only where memory runs out.
-pub fn normalise_lean(alloc: Global, instance: &Instance) -> Result<(Problem, Link), AllocError>
+/// The lean form has the same feasible assignments, with the same objective values, as the normal
+/// form. Fails only if memory runs out.
+pub fn normalise_lean(alloc: Global, instance: &Instance) -> Result<(Problem, Link), OutOfMemory>
     ensures value { IfOk result (λ made. IsLeanForm instance.now made.0 made.1) }
     ensures corresponds { IfOk result (λ made. CorrespondsOneToOne instance.now made.0 made.1) }
     ensures no_low { IfOk result (λ made. All (λ arc. arc.low ≡ pos 0) made.0.arcs.items) }
@@ -37,8 +40,12 @@ pub fn normalise_lean(alloc: Global, instance: &Instance) -> Result<(Problem, Li
     form(alloc, Profile::Lean, instance)
 }
 
-/// The form of a network in a profile.
-fn form(alloc: Global, profile: Profile, instance: &Instance) -> Result<(Problem, Link), AllocError>
+/// Translates a network into its form in a profile. Fails only if memory runs out.
+fn form(
+    alloc: Global,
+    profile: Profile,
+    instance: &Instance,
+) -> Result<(Problem, Link), OutOfMemory>
     ensures value { IfOk result (λ made. IsFormIn profile instance.now made.0 made.1) }
     ensures corresponds { IfOk result (λ made. CorrespondsOneToOne instance.now made.0 made.1) }
 {

@@ -1,4 +1,4 @@
-//! A minimum-cost flow problem, as the First DIMACS Implementation Challenge has it.
+//! A minimum-cost flow problem, as defined by the First DIMACS Implementation Challenge.
 
 ghost use Rattle.std.specs.Prelude.{◌≡◌, ◌≤◌, ◌↔◌, All, IsTrue, IsSome, IfSome, length, vec_len};
 ghost use Rattle.net_normal.specs.Limits.{IsSized, IsFlowArcOf, IsWithinLimits, flow_node_limit, flow_arc_limit, flow_limit};
@@ -8,9 +8,9 @@ use crate::limits::{COST_LIMIT, FLOW_ARC_LIMIT, FLOW_LIMIT, FLOW_NODE_LIMIT, is_
 /// An arc of a problem.
 #[derive(Clone, Copy, Debug, PartialEq, Eq)]
 pub struct FlowArc {
-    /// Where the flow leaves, an index into the problem's supplies.
+    /// The tail, an index into the problem's supplies.
     pub src: u32,
-    /// Where the flow arrives, an index into the problem's supplies.
+    /// The head, an index into the problem's supplies.
     pub dst: u32,
     /// The least flow.
     pub low: i64,
@@ -20,9 +20,9 @@ pub struct FlowArc {
     pub cost: i64,
 }
 
-/// A minimum-cost flow problem within the limits of the DIMACS texts.
+/// A minimum-cost flow problem within the limits of the DIMACS files.
 ///
-/// A node is an index into `supplies`, counted from 0; its number in a DIMACS text is one more.
+/// A node is an index into `supplies`, counted from 0; in a DIMACS file it is counted from 1.
 /// Parallel arcs and loops are allowed, and supplies need not sum to 0.
 #[derive(Drop)]
 pub struct Problem {
@@ -38,7 +38,7 @@ pub struct Problem {
 }
 
 impl Problem {
-    /// The problem of these supplies and arcs, exactly where it is within the limits.
+    /// Builds a problem from supplies and arcs. Returns `None` if and only if a limit is exceeded.
     pub fn checked(supplies: Vec<i64>, arcs: Vec<FlowArc>) -> Option<Problem>
         ensures some { IsSome result ↔ IsWithinLimits supplies.items arcs.items }
         ensures value { IfSome result (λ problem. (problem.supplies ≡ supplies) × (problem.arcs ≡ arcs)) }
@@ -53,7 +53,7 @@ impl Problem {
     }
 }
 
-/// Whether all numbers may be supplies.
+/// Returns whether each number is valid as a supply.
 fn are_supplies(numbers: &[i64]) -> bool
     ensures { IsTrue result ↔ All (IsSized flow_limit) numbers.now }
 {
@@ -65,7 +65,7 @@ fn are_supplies(numbers: &[i64]) -> bool
     true
 }
 
-/// Whether all arcs may be those of a problem with this number of nodes.
+/// Returns whether each arc is valid in a problem with this many nodes.
 fn are_arcs(arcs: &[FlowArc], nodes: usize) -> bool
     ensures { IsTrue result ↔ All (IsFlowArcOf nodes) arcs.now }
 {
@@ -77,7 +77,7 @@ fn are_arcs(arcs: &[FlowArc], nodes: usize) -> bool
     true
 }
 
-/// Whether an arc may be one of a problem with this number of nodes.
+/// Returns whether an arc is valid in a problem with this many nodes.
 fn is_arc(arc: &FlowArc, nodes: usize) -> bool
     ensures { IsTrue result ↔ IsFlowArcOf nodes arc.now }
 {

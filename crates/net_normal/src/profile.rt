@@ -1,4 +1,4 @@
-//! The two profiles in which a network becomes a problem.
+//! The two profiles for translating a network into a problem.
 
 ghost use Rattle.std.specs.Prelude.{◌≡◌};
 ghost use Rattle.net_normal.specs.Limits.{IsSized, value_limit};
@@ -6,17 +6,17 @@ ghost use Rattle.net_normal.specs.NormalForm.{offset_of, is_left_out};
 
 use crate::instance::InstArc;
 
-/// Which arcs of a network a problem has, and how far their flows are moved.
+/// Which arcs of a network the problem contains, and by how much their flows are shifted.
 #[derive(Clone, Copy)]
 pub enum Profile {
-    /// Each arc is there, and a negative lower bound is moved to 0.
+    /// All arcs are present; a negative lower bound is shifted to 0.
     Plain,
-    /// Each lower bound is moved to 0, and an arc of equal bounds is left out.
+    /// Each lower bound is shifted to 0; an arc with equal bounds is omitted.
     Lean,
 }
 
 impl Profile {
-    /// What an arc's flow is short of its number in the assignment.
+    /// Returns the difference between an arc's value in the assignment and its flow.
     pub(crate) fn offset(self, arc: &InstArc) -> i64
         ensures value { result ≡ offset_of self arc.now }
         ensures size { IsSized value_limit arc.now.lower → IsSized value_limit result }
@@ -27,7 +27,7 @@ impl Profile {
         }
     }
 
-    /// Whether the problem has no arc for an arc of the network.
+    /// Returns whether the problem omits an arc of the network.
     pub(crate) fn leaves_out(self, arc: &InstArc) -> bool
         ensures { result ≡ is_left_out self arc.now }
     {

@@ -8,7 +8,8 @@ use crate::instance::NodeRange;
 impl NodeRange {
     ghost use Rattle.net_normal.specs.NormalForm.{low_side, high_side, is_open};
 
-    /// The low side; a missing one is the lesser of the high side and the least net inflow.
+    /// Returns the low side. If there is none, it is the minimum of the high side and the least net
+    /// inflow.
     pub(crate) fn low_side(&self, least: &i64) -> i64
         ensures value { result ≡ low_side self.now.low self.now.high least.now }
         ensures size { IsSized sum_limit least.now → IsSized sum_limit result }
@@ -20,7 +21,8 @@ impl NodeRange {
         }
     }
 
-    /// The high side; a missing one is the greater of the low side and the greatest net inflow.
+    /// Returns the high side. If there is none, it is the maximum of the low side and the greatest
+    /// net inflow.
     pub(crate) fn high_side(&self, most: &i64) -> i64
         ensures value { result ≡ high_side self.now.low self.now.high most.now }
         ensures size { IsSized sum_limit most.now → IsSized sum_limit result }
@@ -32,7 +34,7 @@ impl NodeRange {
         }
     }
 
-    /// Whether the range, as it is given, leaves more than one net inflow open.
+    /// Returns whether the declared range allows more than one net inflow.
     pub(crate) fn is_open(&self) -> bool
         ensures { result ≡ is_open self.now.low self.now.high }
     {

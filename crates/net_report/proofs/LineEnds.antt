@@ -6,7 +6,8 @@ use Rattle.std.proofs.lemmas.Bool.{cases_Bool}
 use Rattle.std.proofs.lemmas.Bool.Decides.{nat_tests}
 use Rattle.std.proofs.lemmas.List.{map-append}
 use Rattle.std.proofs.Math.Seq.{get_or-append_seam, drop-append-add}
-use Rattle.net_report.specs.Links.{ends_line, within_line, in_line}
+use Rattle.net_lex.specs.LineEnds.{ends_line}
+use Rattle.net_report.specs.Links.{within_line, in_line}
 
 abbrev pub stays : ℕ → Bool
 stays b = not (ends_line b)

@@ -1,4 +1,5 @@
--- Why there is no plan: a set of nodes that supplies more than its arcs can carry out of it, or less than they must.
+-- Why there is no plan: a set of nodes that supplies more than its arcs can carry out of it, or
+-- less than they must.
 use Rattle.std.specs.Prelude.{ℕ, ◌-◌, Bool, true, false, ℤ, List, [], ◌∷◌, ◌++◌, vec_len, if◌then◌else◌, codes}
 use Rattle.std.specs.Fmt.{signed_decimal}
 use Rattle.net_normal.specs.declared.problem.Problem.{Problem}
@@ -8,11 +9,11 @@ use Rattle.net_check.specs.declared.certificate.Side.TheVariants.{Over, Under}
 use Rattle.net_inst.specs.declared.names.Names.{Names}
 use Rattle.net_report.specs.References.{names_in}
 
--- what the set supplies
+-- the supply of the set
 abbrev pub need : Problem → List Bool → ℤ
 need problem flags = supply_in problem.supplies.items flags
 
--- what its arcs allow: the most that they can carry out of it, or the least that they must
+-- what the set's arcs allow: the most that they can carry out of it, or the least that they must
 abbrev pub room : Problem → List Bool → Side → ℤ
 room problem flags Over = most_out problem.arcs.items flags
 room problem flags Under = least_out problem.arcs.items flags
@@ -27,13 +28,13 @@ sums_line side need room = side_word side ++ (signed_decimal need ++ (32 ∷ (si
 abbrev pub node_line : List ℕ → List ℕ
 node_line name = codes "node " ++ (name ++ 10 ∷ [])
 
--- the nodes of the set, each by its name
+-- the names of the nodes in the set, one line each
 abbrev pub node_lines : List Bool → (names : List (List ℕ)) → List ℕ
 node_lines flags [] = []
 node_lines [] (name ∷ names) = []
 node_lines (is_in ∷ flags) (name ∷ names) = (if is_in then node_line name else []) ++ node_lines flags names
 
--- the outside node, which no name is of, is the problem's last
+-- the index of the outside node: the problem's last node, which has no name
 abbrev pub outside : Problem → ℕ
 outside problem = vec_len problem.supplies - 1
 

@@ -1,14 +1,14 @@
--- The plan as it is displayed: the objective's value, and each arc's number under its declared name.
+-- The printed plan: the objective's value, and the value of each arc under its declared name.
 use Rattle.std.specs.Prelude.{ℕ, suc, Bool, ℤ, List, [], ◌∷◌, ◌++◌, drop, nat_eq, if◌then◌else◌, codes}
 use Rattle.std.specs.Fmt.{signed_decimal}
 use Rattle.std.specs.List.{zip, flat_map, filter, take_while, prefix_len}
 use Rattle.net_sets.specs.Sets.{Tuple}
-use Rattle.net_eval.specs.References.{member_text}
+use Rattle.net_expr.specs.References.{member_text}
 use Rattle.net_inst.specs.declared.names.Declared.{Declared}
 use Rattle.net_inst.specs.declared.names.Key.{Key}
 use Rattle.net_inst.specs.declared.names.Names.{Names}
 
--- an arc, and its number in the assignment
+-- an arc's key and its value in the assignment
 abbrev pub Assigned : Type 0
 Assigned = Key × ℤ
 
@@ -16,30 +16,31 @@ Assigned = Key × ℤ
 abbrev pub value_line : List ℕ → ℤ → List ℕ
 value_line name number = name ++ (codes " = " ++ (signed_decimal number ++ 10 ∷ []))
 
--- the members of a key, with a blank behind each
+-- the members of a key, each followed by a space
 abbrev pub fields : Tuple → List ℕ
 fields [] = []
 fields (m ∷ ms) = member_text m ++ (32 ∷ fields ms)
 
--- an arc's members and its number
+-- an arc's members and its value
 abbrev pub row : Assigned → List ℕ
 row a = fields a.0.tuple ++ (signed_decimal a.1 ++ 10 ∷ [])
 
--- a declaration with its arcs: rows below the name where it is indexed, else the number beside the name
+-- a declaration with its arcs: if indexed, a row for each arc below the name; otherwise the value
+-- after the name
 abbrev pub block : Declared → List Assigned → List ℕ
 block d arcs =
     if d.indexed then d.name ++ (codes " :=\n" ++ (flat_map row arcs ++ codes ";\n")) else flat_map (λ a. value_line d.name a.1) arcs
 
--- the arc is of the declaration of this number, counted from 0
+-- whether the arc belongs to the declaration with this index, counted from 0
 abbrev pub is_of : ℕ → Assigned → Bool
 is_of d a = nat_eq a.0.declaration d
 
--- the declarations from number d on, each with its arcs, which stand next
+-- the declarations from index d on, each with the run of its arcs at the head of the list
 abbrev pub blocks : ℕ → List Declared → List Assigned → List ℕ
 blocks d [] arcs = []
 blocks d (x ∷ xs) arcs = block x (take_while (is_of d) arcs) ++ blocks (suc d) xs (drop (prefix_len (is_of d) arcs) arcs)
 
--- the declarations from number d on, each with all arcs that are of it
+-- the declarations from index d on, each with all of its arcs
 abbrev pub blocks_of_all : ℕ → List Declared → List Assigned → List ℕ
 blocks_of_all d [] arcs = []
 blocks_of_all d (x ∷ xs) arcs = block x (filter (is_of d) arcs) ++ blocks_of_all (suc d) xs arcs
@@ -47,6 +48,7 @@ blocks_of_all d (x ∷ xs) arcs = block x (filter (is_of d) arcs) ++ blocks_of_a
 abbrev pub display_text : Names → (assignment : List ℤ) (value : ℤ) → List ℕ
 display_text names assignment value = value_line names.objective value ++ blocks 0 names.arcs.declarations (zip names.arcs.keys assignment)
 
--- the same where the arcs are in order
+-- the printed plan by all arcs of each declaration; it is the same text if the arcs are in
+-- declaration order
 abbrev pub display_of_all : Names → (assignment : List ℤ) (value : ℤ) → List ℕ
 display_of_all names assignment value = value_line names.objective value ++ blocks_of_all 0 names.arcs.declarations (zip names.arcs.keys assignment)

@@ -3,3 +3,4 @@ pub mod Links
 pub mod Lifts
 pub mod Displays
 pub mod Cuts
+pub mod LineNames

@@ -1,10 +1,11 @@
-//! Why there is no plan.
+//! Writing why there is no plan.
 
 ghost use Rattle.std.specs.Prelude.{◌≡◌, ◌+◌, ◌≤◌, ◌++◌, IfOk, OnOk, length, vec_len};
 ghost use Rattle.net_check.specs.Certificates.{is_in};
 ghost use Rattle.net_report.specs.References.{name_in, names_in};
 ghost use Rattle.net_report.specs.Cuts as cuts;
 
+use crate::OutOfMemory;
 use crate::reference::push_name;
 use itoa::Buffer;
 use net_check::Side;
@@ -13,18 +14,19 @@ use net_inst::{Key, NameList, Names};
 use net_normal::Problem;
 use std::alloc::{AllocError, Global};
 
-/// A cut: `infeasible`, on which side the set's supply is wrong, the supply, what the arcs allow, and the names of the set's
-/// nodes; behind them `outside` where the outside node, the problem's last, is in the set.
+/// Formats a cut: `infeasible`, the direction in which the set's supply is infeasible, the supply,
+/// what the arcs allow, and the names of the set's nodes. A last line `outside` follows if the
+/// outside node, the problem's last, is in the set.
 ///
-/// The problem has one node more than there are node names, and there is a flag for each node of the problem. Fails only
-/// where memory runs out.
+/// The problem has one node more than there are node names, and one flag for each node. Fails only
+/// if memory runs out.
 pub fn write_cut(
     alloc: Global,
     names: &Names<'_>,
     problem: &Problem,
     flags: &[bool],
     side: Side,
-) -> Result<Vec<u8>, AllocError>
+) -> Result<Vec<u8>, OutOfMemory>
     requires nodes { vec_len problem.now.supplies ≡ length names.now.nodes.keys + 1 }
     requires flags { length flags.now ≡ vec_len problem.now.supplies }
     ensures value { IfOk result (λ text. text.items ≡ cuts.cut_text names.now problem.now flags.now side) }
@@ -42,7 +44,8 @@ pub fn write_cut(
     Ok(text)
 }
 
-/// What the set's arcs allow.
+/// Returns what the set's arcs allow: the most that they can carry out of it, or the least that
+/// they must.
 fn room(problem: &Problem, flags: &[bool], side: Side) -> i128
     requires { length flags.now ≡ vec_len problem.now.supplies }
     ensures { result ≡ cuts.room problem.now flags.now side }
@@ -74,7 +77,7 @@ fn push_sums(text: &mut Vec<u8>, side: Side, need: i128, room: i128) -> Result<(
     Ok(())
 }
 
-/// The names of the nodes that are in the set.
+/// Appends the names of the nodes that are in the set. Fails only if memory runs out.
 fn push_nodes(
     alloc: Global,
     text: &mut Vec<u8>,
@@ -108,7 +111,7 @@ fn push_node(
     Ok(())
 }
 
-/// Whether the outside node is in the set.
+/// Returns whether the outside node is in the set.
 fn is_outside_in(problem: &Problem, flags: &[bool]) -> bool
     requires { length flags.now ≡ vec_len problem.now.supplies }
     ensures { result ≡ is_in flags.now (cuts.outside problem.now) }

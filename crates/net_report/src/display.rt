@@ -1,32 +1,34 @@
-//! The plan as it is displayed.
+//! Writing a plan.
 
 ghost use Rattle.std.specs.Prelude.{◌≡◌, ◌≤◌, ◌++◌, IfOk, OnOk, length, nat_eq};
 ghost use Rattle.std.specs.List.{zip, flat_map, prefix_len, take_while};
 ghost use Rattle.net_inst.specs.Lists.{AreInOrder};
 ghost use Rattle.net_report.specs.Displays as displays;
 
+use crate::OutOfMemory;
 use itoa::Buffer;
 use net_check::wide::wide;
-use net_eval::push_member;
+use net_expr::push_member;
 use net_inst::{Declared, Key, NameList, Names};
 use net_sets::Tuple;
 use net_views::Excerpt;
 use std::alloc::{AllocError, Global};
 
-/// A plan: the objective's name and value, and the number of each arc under its declared name. An indexed declaration has a
-/// line for each of its arcs, with the members of its key before the number, and a last line `;`.
+/// Formats a plan: the objective's name and value, and the value of each arc under its declared
+/// name. An indexed declaration has a line for each of its arcs, with the members of its key before
+/// the value, and a final line `;`.
 ///
-/// The assignment has a number for each arc name. Fails only where memory runs out.
+/// The assignment has one value for each arc name. Fails only if memory runs out.
 pub fn write_display(
     alloc: Global,
     names: &Names<'_>,
     assignment: &[i64],
     value: i128,
-) -> Result<Vec<u8>, AllocError>
+) -> Result<Vec<u8>, OutOfMemory>
     requires { length assignment.now ≡ length names.now.arcs.keys }
     ensures value { IfOk result (λ text. text.items ≡ displays.display_text names.now assignment.now value) }
 
-    // Where the arcs stand in the order of their declarations, no arc of a declaration is left out.
+    // If the arcs are in declaration order, all arcs of each declaration are printed.
     ensures all { AreInOrder 0 names.now.arcs.keys →
         IfOk result (λ text. text.items ≡ displays.display_of_all names.now assignment.now value) }
 {
@@ -59,7 +61,7 @@ fn push_value(text: &mut Vec<u8>, name: &Excerpt<'_>, number: i128) -> Result<()
     Ok(())
 }
 
-/// The declarations in order, each with its arcs.
+/// Appends the declarations in order, each with its arcs. Fails only if memory runs out.
 fn push_blocks(
     alloc: Global,
     text: &mut Vec<u8>,
@@ -84,7 +86,8 @@ fn push_blocks(
     Ok(())
 }
 
-/// A declaration with those of the arcs that are of it, from the front on; answers how many these are.
+/// Appends a declaration with the run of its arcs at the head of `keys`; returns their number.
+/// Fails only if memory runs out.
 fn push_next(
     alloc: Global,
     text: &mut Vec<u8>,
@@ -103,7 +106,7 @@ fn push_next(
     Ok(count)
 }
 
-/// How many arcs from the front on are of a declaration.
+/// Returns the length of the run of arcs of a declaration at the head of `keys`.
 fn count_own(declaration: usize, keys: &[Key<'_>]) -> usize
     ensures value { result ≡ prefix_len (λ k. nat_eq k.declaration declaration) keys.now }
     ensures fits { result ≤ length keys.now }
@@ -116,7 +119,7 @@ fn count_own(declaration: usize, keys: &[Key<'_>]) -> usize
     keys.len()
 }
 
-/// A declaration with its arcs.
+/// Appends a declaration with its arcs. Fails only if memory runs out.
 fn push_block(
     alloc: Global,
     text: &mut Vec<u8>,
@@ -161,7 +164,7 @@ fn push_rows(
     Ok(())
 }
 
-/// The members of an arc's key, and its number.
+/// Appends the members of an arc's key and its value. Fails only if memory runs out.
 fn push_row(alloc: Global, text: &mut Vec<u8>, key: &Key<'_>, number: i64) -> Result<(), AllocError>
     ensures ok { OnOk result (text.new.items ≡ text.old.items ++ displays.row (key.now, number)) }
 {
@@ -172,7 +175,7 @@ fn push_row(alloc: Global, text: &mut Vec<u8>, key: &Key<'_>, number: i64) -> Re
     Ok(())
 }
 
-/// The members, with a blank behind each.
+/// Appends the members, each followed by a space. Fails only if memory runs out.
 fn push_fields(alloc: Global, text: &mut Vec<u8>, key: &Tuple<'_>) -> Result<(), AllocError>
     ensures ok { OnOk result (text.new.items ≡ text.old.items ++ displays.fields key.now) }
 {

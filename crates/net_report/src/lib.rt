@@ -1,13 +1,17 @@
-//! Answers in the model's names: the assignment that a flow stands for, and the texts of links, plans and cuts.
+//! Results in the model's names: mapping flows back to assignments, and the text of name maps,
+//! plans and cuts.
 #![tactic(auto)]
 
 mod cut;
 mod display;
+mod laws;
 mod lifting;
 mod links;
 mod reference;
 
 pub use cut::write_cut;
 pub use display::write_display;
+pub use laws::{line_names_are_names, names_stay_within_lines};
 pub use lifting::lift;
 pub use links::{push_in_line, write_links};
+pub use std::alloc::AllocError as OutOfMemory;

@@ -1,14 +1,16 @@
-//! From a flow to the assignment that it stands for.
+//! Mapping a flow back to its assignment.
 
 ghost use Rattle.std.specs.Prelude.{◌≡◌, ◌<◌, IfOk};
 ghost use Rattle.net_normal.specs.Limits.{IsSized, value_limit};
 ghost use Rattle.net_normal.specs.Links.{lifted, lifted_at};
 ghost use Rattle.net_report.specs.Lifts.{IsCarried, AreCarried};
 
+use crate::OutOfMemory;
 use net_normal::Link;
-use std::alloc::{AllocError, Global};
+use std::alloc::Global;
 
-/// The flow at a number, counted from 1, and an offset; at number 0 the offset alone.
+/// Returns the flow of the arc with this number (counted from 1) plus the offset, or only the
+/// offset if the number is 0.
 fn number_of(flows: &[i64], number: &u32, offset: &i64) -> i64
     requires flow { 0 < number.now → IsCarried flows.now number.now }
     requires offset { IsSized value_limit offset.now }
@@ -20,11 +22,12 @@ fn number_of(flows: &[i64], number: &u32, offset: &i64) -> i64
     flows[*number as usize - 1] + *offset
 }
 
-/// The assignment that a flow stands for: for each arc of the model the flow at its number, counted from 1, plus its offset;
-/// where the number is 0 the problem has no arc for it, and it is the offset.
+/// Maps a flow back to its assignment. The value of an arc of the model is the flow of the arc with
+/// its number (counted from 1) plus its offset; number 0 means that the problem omits the arc, and
+/// the value is the offset.
 ///
-/// There is a flow from 0 to 10^18 at each other number of the link. Fails only where memory runs out.
-pub fn lift(alloc: Global, link: &Link, flows: &[i64]) -> Result<Vec<i64>, AllocError>
+/// Each nonzero number of the link has a flow between 0 and 10^18. Fails only if memory runs out.
+pub fn lift(alloc: Global, link: &Link, flows: &[i64]) -> Result<Vec<i64>, OutOfMemory>
     requires { AreCarried flows.now link.now.numbers.items }
     ensures value { IfOk result (λ assignment. assignment.items ≡ lifted link.now flows.now) }
 {

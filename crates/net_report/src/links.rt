@@ -1,23 +1,25 @@
-//! The lines that lead from the numbers of a problem back to the names of its model.
+//! The lines that map the numbers of a problem back to the names of its model.
 
 ghost use Rattle.std.specs.Prelude.{◌≡◌, ◌+◌, ◌^◌, ◌<◌, ◌≤◌, ◌∷◌, ◌++◌, IfOk, OnOk, MatchOption, length, not, string_bytes, vec_len};
 ghost use Rattle.std.specs.List.{prefix_len};
 ghost use Rattle.std.specs.Str.{IsUtf8};
+ghost use Rattle.net_lex.specs.LineEnds.{ends_line};
 ghost use Rattle.net_report.specs.References.{name_in, names_in};
 ghost use Rattle.net_report.specs.Links as lines;
 
+use crate::OutOfMemory;
 use crate::reference::push_name;
 use itoa::Buffer;
 use net_inst::{Key, NameList, Names};
 use net_normal::{Link, Sense};
 use std::alloc::{AllocError, Global};
 
-/// The comment lines above a problem: the constant and the sign that lead from a cost to the objective's value, and what
-/// each number is called.
+/// Formats the comment lines at the top of a problem: the constant and the sign that give the
+/// objective value from a cost, and the name for each number.
 ///
-/// Each arc name has its number and offset in the link; number 0 is that of an arc which the problem leaves out. Fails only
-/// where memory runs out.
-pub fn write_links(alloc: Global, names: &Names<'_>, link: &Link) -> Result<Vec<u8>, AllocError>
+/// The link has a number and an offset for each arc name; number 0 means that the problem omits the
+/// arc. Fails only if memory runs out.
+pub fn write_links(alloc: Global, names: &Names<'_>, link: &Link) -> Result<Vec<u8>, OutOfMemory>
     requires { vec_len link.now.numbers ≡ length names.now.arcs.keys }
     ensures value { IfOk result (λ text. text.items ≡ lines.link_text names.now link.now) }
 {
@@ -110,7 +112,7 @@ fn push_arc(
     text.push_str("\n")
 }
 
-/// A name in a line.
+/// Appends a name as written within a line. Fails only if memory runs out.
 fn push_name_in_line(
     alloc: Global,
     text: &mut String,
@@ -124,7 +126,8 @@ fn push_name_in_line(
     push_in_line(text, name.as_str())
 }
 
-/// Appends a name, or another text, as it stands in a line: with a blank for each byte that ends one, LF or CR.
+/// Appends a text as written within a line: with a space for each line-ending byte, LF or CR. Fails
+/// only if memory runs out.
 pub fn push_in_line(line: &mut String, text: &str) -> Result<(), AllocError>
     ensures ok { OnOk result (string_bytes line.new ≡ string_bytes line.old ++ lines.in_line text.now) }
 {
@@ -137,7 +140,7 @@ pub fn push_in_line(line: &mut String, text: &str) -> Result<(), AllocError>
     line.push_str(left)
 }
 
-/// What stands before the first byte that ends a line, and behind it.
+/// Splits a text at the first line-ending byte, which is dropped. Returns `None` if there is none.
 fn cut_at_line_end(text: &str) -> Option<(&str, &str)>
     ensures { MatchOption result
         (lines.in_line text.now ≡ text.now)
@@ -151,16 +154,16 @@ fn cut_at_line_end(text: &str) -> Option<(&str, &str)>
     }
 }
 
-/// How many bytes stand before the first that ends a line.
+/// Returns the number of bytes before the first line-ending byte.
 fn plain_len(bytes: &[u8]) -> usize
-    ensures value { result ≡ prefix_len (λ b. not (lines.ends_line b)) bytes.now }
+    ensures value { result ≡ prefix_len (λ b. not (ends_line b)) bytes.now }
     ensures within { result ≤ length bytes.now }
 {
     bytes.iter().take_while(|b| !ends_line(**b)).count()
 }
 
 fn ends_line(byte: u8) -> bool
-    ensures { result ≡ lines.ends_line byte }
+    ensures { result ≡ ends_line byte }
 {
     byte == b'\n' || byte == b'\r'
 }

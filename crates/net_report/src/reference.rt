@@ -1,13 +1,14 @@
-//! What nodes and arcs are called in texts.
+//! The printed names of nodes and arcs.
 
 ghost use Rattle.std.specs.Prelude.{◌≡◌, ◌++◌, OnOk, string_bytes};
 ghost use Rattle.net_report.specs.References.{name_in};
 
-use net_eval::push_reference;
+use net_expr::push_reference;
 use net_inst::{Key, NameList};
 use std::alloc::{AllocError, Global};
 
-/// Appends the name of a node or an arc, with its key in brackets where braces index it.
+/// Appends the name of a node or an arc, followed by its key in brackets if it is indexed. Fails
+/// only if memory runs out.
 pub(crate) fn push_name(
     alloc: Global,
     text: &mut String,

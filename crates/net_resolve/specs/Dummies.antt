@@ -1,4 +1,4 @@
--- Which dummies braces bring into scope.
+-- Which dummies an indexing expression declares.
 use Rattle.std.specs.Prelude.{Bool, false, Option, None, Some, is_none, if◌then◌else◌}
 use Rattle.net_lex.specs.declared.token.Token.{Token}
 pub use Rattle.net_tree.specs.Items.{sides}
@@ -11,7 +11,7 @@ abbrev pub means_nothing : Scope → Option Token → Bool
 means_nothing s None = false
 means_nothing s (Some t) = is_none (meaning_in t.text s)
 
--- a bare name that means nothing yet
+-- a simple name that is not declared
 abbrev pub is_new : Scope → Tree → Bool
 is_new s x = means_nothing s (lone_name x)
 
@@ -19,7 +19,7 @@ abbrev pub with_bare : Scope → Option Token → Scope
 with_bare s None = s
 with_bare s (Some t) = if is_none (meaning_in t.text s) then with_name s t meanings.Dummy else s
 
--- what stands alone at the left of `in`, or is a component there, is a dummy from now on, if it is new
+-- adds a simple name that is not declared as a dummy: the left side of `in`, or a component of it
 abbrev pub with_component : Scope → Tree → Scope
 with_component s x = with_bare s (lone_name x)
 

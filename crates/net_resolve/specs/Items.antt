@@ -1,4 +1,4 @@
--- The fault of an item of braces, by its two sides.
+-- The error of an item in an indexing expression, from its two sides.
 use Rattle.std.specs.Prelude.{Option, None, Some, if◌then◌else◌}
 use Rattle.net_tree.specs.Tree.{Tree, Links, Part, Declaration, set, param, check, node, arc, objective}
 use Rattle.net_resolve.specs.declared.meaning.Need.{Need}
@@ -20,7 +20,7 @@ by_sides n s x (Some p) = first (left_fault n s p.0) (tree_fault n s p.1)
 abbrev pub item_fault : Need → Scope → Tree → Option Fault
 item_fault n s x = by_sides n s x (sides x)
 
--- what stands in braces
+-- the first error in the items and the condition of an indexing expression
 abbrev pub items_and_part : Need → Scope → Tree → Links → Part → Option Fault
 items_and_part n s x l p = first (item_fault n s x) (first (items_fault n (with_item s x) l) (part_fault n (with_items (with_item s x) l) p))
 

@@ -1,4 +1,4 @@
--- How names are kept.
+-- The representation of a scope.
 use Rattle.std.specs.Prelude.{◌≡◌, [], ◌∷◌, Option, None}
 use Rattle.std.specs.BTreeMap.{BTreeMap, get_by}
 use Rattle.std.specs.Cmp.Lexicographic.{slice_cmp}
@@ -7,16 +7,16 @@ use denote.Ref.{Bor}
 use Rattle.net_resolve.specs.declared.meaning.Meaning.{Meaning}
 use Rattle.net_resolve.specs.Scopes.{Name, Scope, meaning_in}
 
--- what a map tells of a name
+-- looks up a name in the map
 abbrev pub told : BTreeMap (Bor Name) Meaning → Name → Option Meaning
 told m name = get_by (λ key. slice_cmp nat_cmp name key.now) m
 
--- no name comes twice
+-- no name occurs twice
 abbrev pub AreDistinct : Scope → Type 0
 AreDistinct [] = Unit {0}
 AreDistinct (e ∷ s) = (meaning_in e.0 s ≡ None) × AreDistinct s
 
--- the map tells of each name what it means
+-- the map and the list have the same meaning for each name
 pub record IsKept (s : Scope) (m : BTreeMap (Bor Name) Meaning) : Type 0 where
   pub tells : (name : Name) → told m name ≡ meaning_in name s
   pub distinct : AreDistinct s

@@ -1,4 +1,4 @@
--- The first fault of the names of a model, from the left.
+-- The first name error of a model, from left to right.
 use Rattle.std.specs.Prelude.{◌≡◌, Bool, true, false, List, [], ◌∷◌, Option, None, Some, is_some, if◌then◌else◌}
 use Rattle.net_lex.specs.declared.token.Token.{Token}
 use Rattle.net_tree.specs.declared.role.Role.{Role}
@@ -20,7 +20,7 @@ is_tuple (tuple o x l c) = true
 is_tuple _ = false
 
 abbrev mutual
-  -- the first fault of a tree whose names must mean what is needed
+  -- the first error of a tree whose names must satisfy a need
   pub tree_fault : Need → Scope → Tree → Option Fault
   tree_fault n s (leaf t) = if is_name (role_of t) then name_fault n s t else None
   tree_fault n s (indexed t o x l c) = first (name_fault n s t) (first (tree_fault (in_subscripts n) s x) (links_fault (in_subscripts n) s l))
@@ -42,7 +42,7 @@ abbrev mutual
   part_fault n s absent = None
   part_fault n s (part m x) = tree_fault n s x
 
-  -- each item, and the condition, sees the dummies of the items before it
+  -- each item, and the condition, is in the scope of the dummies of the items before it
   pub braces_fault : Need → Scope → Braces → Option Fault
   braces_fault n s (empty o p c) = part_fault n s p
   braces_fault n s (filled o x l p c) =
@@ -53,13 +53,13 @@ abbrev mutual
   items_fault n s none = None
   items_fault n s (link o x l) = first (if is_some (sides x) then placed_fault n s x else tree_fault n s x) (items_fault n (with_item s x) l)
 
-  -- of an item with `in` at its top: its set does not see its own dummies
+  -- an item whose top operator is `in`: its set is not in the scope of its own dummies
   pub placed_fault : Need → Scope → Tree → Option Fault
   placed_fault n s (chain k x (link r y none)) =
       first (if is_tuple x then components_fault n s x else if is_new s x then None else tree_fault n s x) (tree_fault n s y)
   placed_fault n s _ = None
 
-  -- each component sees the dummies that are components before it
+  -- each component is in the scope of the dummies that are components before it
   pub components_fault : Need → Scope → Tree → Option Fault
   components_fault n s (tuple o x l c) = first (if is_new s x then None else tree_fault n s x) (further_fault n (with_component s x) l)
   components_fault n s _ = None
@@ -72,7 +72,7 @@ abbrev pub indexing_fault : Scope → Option Braces → Option Fault
 indexing_fault s None = None
 indexing_fault s (Some b) = braces_fault needs.Value s b
 
--- what a name behind the word of a phrase must mean
+-- the meanings that a name after this keyword can have
 abbrev pub need_behind : Role → Need
 need_behind (roles.Phrase begins.From) = needs.Node
 need_behind (roles.Phrase begins.To) = needs.Node
@@ -92,7 +92,7 @@ condition_fault s unsaid = None
 condition_fault s (one m x o y) = first (tree_fault needs.Value s x) (tree_fault needs.Value s y)
 condition_fault s (between m x o y p z) = first (tree_fault needs.Value s x) (first (tree_fault needs.Value s y) (tree_fault needs.Value s z))
 
--- the declared name first, then what is used, from the left
+-- the declared name is checked first, then the used names, from left to right
 abbrev pub declaration_fault : Scope → Declaration → Option Fault
 declaration_fault s (set w t ps e) = first (declared_before (meaning_in t.text s) t) (phrases_fault s ps)
 declaration_fault s (param w t b ps e) =
@@ -108,7 +108,7 @@ abbrev pub objective_meaning : Part → Meaning
 objective_meaning absent = meanings.Objective
 objective_meaning (part m x) = meanings.StatedObjective
 
--- what a declaration declares
+-- the name that a declaration declares, with its meaning
 abbrev pub declared : Declaration → Option (Token × Meaning)
 declared (set w t ps e) = Some (t, meanings.Set)
 declared (param w t b ps e) = Some (t, meanings.Param)
@@ -121,20 +121,20 @@ abbrev pub with_declared : Scope → Option (Token × Meaning) → Scope
 with_declared s None = s
 with_declared s (Some p) = with_name s p.0 p.1
 
--- behind a declaration its name means what was declared, and its dummies mean nothing
+-- after a declaration, its name is in scope, and its dummies are not
 abbrev pub with_declaration : Scope → Declaration → Scope
 with_declaration s d = with_declared s (declared d)
 
--- the names that mean something behind some declarations more
+-- the scope after more declarations
 abbrev pub declared_by : Scope → List Declaration → Scope
 declared_by s [] = s
 declared_by s (d ∷ ds) = declared_by (with_declaration s d) ds
 
--- the first fault of declarations behind those that make this scope
+-- the first error in declarations, in this scope
 abbrev pub names_fault : Scope → List Declaration → Option Fault
 names_fault s [] = None
 names_fault s (d ∷ ds) = first (declaration_fault s d) (names_fault (with_declaration s d) ds)
 
--- the names of a model are as they should be
+-- the names of a model have no error
 abbrev pub IsWellNamed : List Declaration → Type 0
 IsWellNamed ds = names_fault [] ds ≡ None

@@ -1,4 +1,4 @@
--- Faults of names.
+-- Name errors.
 use Rattle.std.specs.Prelude.{◌≡◌, Option, None, Some, Result, Ok, Err}
 use Rattle.net_lex.specs.declared.token.Token.{Token}
 use Rattle.net_resolve.specs.declared.meaning.Meaning.{Meaning}
@@ -16,11 +16,11 @@ use Rattle.net_fault.specs.Outcomes.{found}
 use Rattle.net_resolve.specs.Meanings.{defect_of}
 use Rattle.net_resolve.specs.Scopes.{Scope, meaning_in}
 
--- what is wrong, and the name
+-- the kind of error and the name
 abbrev pub Fault : Type 0
 Fault = Defect × Token
 
--- the fault of what stands first, else that of what stands behind it
+-- the first error, or else the second
 abbrev pub first : Option Fault → Option Fault → Option Fault
 first None behind = behind
 first (Some f) behind = Some f
@@ -29,28 +29,28 @@ abbrev pub at_name : Option Defect → Token → Option Fault
 at_name None t = None
 at_name (Some d) t = Some (d, t)
 
--- a name that is used
+-- the error of a name that is used
 abbrev pub name_fault : Need → Scope → Token → Option Fault
 name_fault n s t = at_name (defect_of n (meaning_in t.text s)) t
 
--- a name that is declared
+-- the error of a name that is declared
 abbrev pub declared_before : Option Meaning → Token → Option Fault
 declared_before None t = None
 declared_before (Some m) t = Some (defects.Redeclared, t)
 
--- the answer is this fault, or that there is none, unless memory ran out
+-- the result is this error, or success if there is none, unless memory ran out
 abbrev pub Tells : Option Fault → Result (Unit {0}) NameFault → Type 0
 Tells f (Ok u) = f ≡ None
 Tells f (Err faults.OutOfMemory) = Unit {0}
 Tells f (Err (faults.At d t)) = f ≡ Some (d, t)
 
--- the same of what takes no memory
+-- the same for a function that allocates no memory
 abbrev pub Decides : Option Fault → Result (Unit {0}) NameFault → Type 0
 Decides f (Ok u) = f ≡ None
 Decides f (Err faults.OutOfMemory) = ⊥
 Decides f (Err (faults.At d t)) = f ≡ Some (d, t)
 
--- the fault is told at the name, with it
+-- the error is reported at the span of the name, with the name as its detail
 abbrev pub finding_of : Fault → Finding
 finding_of f = found Model f.0 f.1.span (Told f.1.text)
 
@@ -59,7 +59,7 @@ IsToldOf faults.OutOfMemory told = told ≡ told_faults.OutOfMemory
 IsToldOf (faults.At d t) told_faults.OutOfMemory = Unit {0}
 IsToldOf (faults.At d t) (told_faults.At g) = g ≡ finding_of (d, t)
 
--- the answer is this fault as it is told, or that there is none, unless memory ran out
+-- the result is this error as it is reported, or success if there is none, unless memory ran out
 abbrev pub TellsOf : Option Fault → Result (Unit {0}) outcomes.Fault → Type 0
 TellsOf f (Ok u) = f ≡ None
 TellsOf f (Err told_faults.OutOfMemory) = Unit {0}

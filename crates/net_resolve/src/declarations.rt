@@ -1,3 +1,5 @@
+//! Checking the names of declarations.
+
 ghost use Rattle.std.specs.Prelude.{◌≡◌, [], OnOk, map};
 ghost use Rattle.std.specs.Option.{option_map};
 ghost use Rattle.net_resolve.specs.declared.meaning.Need.TheVariants as needs;
@@ -19,7 +21,7 @@ use net_lex::Token;
 use net_tree::{Begins, Body, Braces, Decl, Expr, Model, NetCond, Part, Phrase, Role, role_of};
 use std::alloc::Global;
 
-/// A name that is declared.
+/// Checks a name that is declared.
 fn check_declared<'s>(scope: &Scope<'s>, name: &Token<'s>) -> Result<(), NameFault<'s>>
     ensures { Decides (declared_before (scopes.meaning_in name.now.text scope.now) name.now) result }
 {
@@ -29,7 +31,7 @@ fn check_declared<'s>(scope: &Scope<'s>, name: &Token<'s>) -> Result<(), NameFau
     }
 }
 
-/// The braces of a declaration, whose dummies come into scope.
+/// Checks the indexing of a declaration, and adds its dummies to the scope.
 fn read_indexing<'s>(
     scope: &mut Scope<'s>,
     indexing: &Option<Braces<'s>>,
@@ -43,7 +45,7 @@ fn read_indexing<'s>(
     }
 }
 
-/// What a name behind the word of a phrase must mean.
+/// Returns the need for a name after the keyword of a phrase.
 fn need_behind(role: Role) -> Need
     ensures { result ≡ names.need_behind role }
 {
@@ -77,7 +79,7 @@ fn check_phrases<'s>(scope: &mut Scope<'s>, phrases: &[Phrase<'s>]) -> Result<()
     Ok(())
 }
 
-/// The two sides of a comparison.
+/// Checks the two sides of a comparison.
 fn check_sides<'s>(
     scope: &mut Scope<'s>,
     left: &Expr<'s>,
@@ -91,7 +93,7 @@ fn check_sides<'s>(
     check(Need::Value, scope, right)
 }
 
-/// The three sides of a comparison with two marks.
+/// Checks the three sides of a comparison with two relations.
 fn check_between<'s>(
     scope: &mut Scope<'s>,
     low: &Expr<'s>,
@@ -106,7 +108,7 @@ fn check_between<'s>(
     check_sides(scope, middle, high)
 }
 
-/// What is said of a node's net flow.
+/// Checks the condition of a node's net flow.
 fn check_condition<'s>(scope: &mut Scope<'s>, condition: &NetCond<'s>) -> Result<(), NameFault<'s>>
     ensures value { Tells (names.condition_fault scope.old (condition_of condition.now)) result }
     ensures kept { OnOk result (scope.new ≡ scope.old) }
@@ -118,7 +120,7 @@ fn check_condition<'s>(scope: &mut Scope<'s>, condition: &NetCond<'s>) -> Result
     }
 }
 
-/// A declaration with braces and phrases, whose dummies come into scope.
+/// Checks a declaration with indexing and phrases, and adds its dummies to the scope.
 fn read_phrased<'s>(
     scope: &mut Scope<'s>,
     name: &Token<'s>,
@@ -135,7 +137,7 @@ fn read_phrased<'s>(
     check_phrases(scope, phrases)
 }
 
-/// A node, whose dummies come into scope.
+/// Checks a node, and adds its dummies to the scope.
 fn read_node<'s>(
     scope: &mut Scope<'s>,
     node: &Token<'s>,
@@ -152,7 +154,7 @@ fn read_node<'s>(
     check_condition(scope, condition)
 }
 
-/// What a `check` says, whose dummies come into scope.
+/// Checks a `check` statement, and adds its dummies to the scope.
 fn read_check<'s>(
     scope: &mut Scope<'s>,
     indexing: &Option<Braces<'s>>,
@@ -179,7 +181,7 @@ fn check_set<'s>(
     check_phrases(scope, phrases)
 }
 
-/// The expression of an objective.
+/// Checks the expression of an objective.
 #[tactic(auto, using(net_tree::proofs::Views::views, crate::proofs::Walking::walking))]
 fn check_stated<'s>(scope: &mut Scope<'s>, value: &Option<Part<'s>>) -> Result<(), NameFault<'s>>
     ensures value { Tells (names.part_fault needs.Total scope.old (option_part value.now)) result }
@@ -204,7 +206,7 @@ fn check_objective<'s>(
     check_stated(scope, value)
 }
 
-/// A declaration, whose dummies come into scope.
+/// Checks a declaration, and adds its dummies to the scope.
 fn read_declaration<'s>(scope: &mut Scope<'s>, declaration: &Decl<'s>) -> Result<(), NameFault<'s>>
     ensures value { Tells (names.declaration_fault scope.old (declaration_of declaration.now)) result }
     ensures grown { OnOk result (scope.new ≡ items.with_dummies scope.old (declaration_of declaration.now)) }
@@ -225,7 +227,7 @@ fn read_declaration<'s>(scope: &mut Scope<'s>, declaration: &Decl<'s>) -> Result
     }
 }
 
-/// What a declaration declares.
+/// Returns the name that a declaration declares, with its meaning.
 fn declared<'a, 's>(declaration: &'a Decl<'s>) -> Option<(&'a Token<'s>, Meaning)>
     ensures { option_map (λ p. (p.0.now, p.1)) result ≡ names.declared (declaration_of declaration.entry.now) }
 {
@@ -242,7 +244,7 @@ fn declared<'a, 's>(declaration: &'a Decl<'s>) -> Option<(&'a Token<'s>, Meaning
     }
 }
 
-/// A declaration, and what it declares for those behind it.
+/// Checks a declaration, and adds the name that it declares to the scope.
 fn check_declaration<'s>(scope: &mut Scope<'s>, declaration: &Decl<'s>) -> Result<(), NameFault<'s>>
     ensures value { Tells (names.declaration_fault scope.old (declaration_of declaration.now)) result }
     ensures grown { OnOk result (scope.new ≡ names.with_declaration scope.old (declaration_of declaration.now)) }
@@ -271,11 +273,12 @@ fn check_declarations<'s>(
     Ok(())
 }
 
-/// Whether the names of a model are as they should be, or the first that is not: E12, E13, or E14 of an `obj` phrase for an
-/// objective that has an expression, at the name and with it.
+/// Checks the names of a model. Returns the first error, reported at the name and with it: E12,
+/// E13, or E14 for an `obj` phrase that names an objective with an expression.
 ///
-/// A declaration sees the names of those before it. The time grows with the number of names, and with the logarithm of the
-/// number of those that mean something at a place; the stack that is used grows with the depth of the trees alone.
+/// A declaration is in the scope of those before it. Takes time proportional to the number of
+/// names, times the logarithm of the number of names in scope. Stack use grows only with the depth
+/// of the trees.
 pub fn check_names(alloc: Global, model: &Model<'_>) -> Result<(), Fault>
     ensures { TellsOf (names.names_fault [] (view.model model.now)) result }
 {

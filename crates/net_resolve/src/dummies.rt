@@ -1,3 +1,5 @@
+//! Adding dummies to the scope.
+
 ghost use Rattle.std.specs.Prelude.{◌≡◌, OnOk};
 ghost use Rattle.net_tree.specs.View.{tree, links_of};
 ghost use Rattle.net_resolve.specs.Dummies as dummies;
@@ -7,7 +9,7 @@ use crate::scope::Scope;
 use net_tree::{Expr, Link, lone_name};
 use std::alloc::AllocError;
 
-/// Whether this is a bare name that means nothing yet.
+/// Returns whether a component is a simple name that is not declared.
 pub(crate) fn is_new<'s>(scope: &Scope<'s>, component: &Expr<'s>) -> bool
     ensures { result ≡ dummies.is_new scope.now (tree component.now) }
 {
@@ -17,7 +19,7 @@ pub(crate) fn is_new<'s>(scope: &Scope<'s>, component: &Expr<'s>) -> bool
     }
 }
 
-/// Adds a component that is a new dummy.
+/// Adds a component to the scope if it is a new dummy. Fails only if memory runs out.
 pub(crate) fn add_component<'s>(
     scope: &mut Scope<'s>,
     component: &Expr<'s>,
@@ -56,7 +58,7 @@ fn add_tuple<'s>(
     add_components(scope, more)
 }
 
-/// Adds the new dummies at the left of an item's `in`.
+/// Adds the new dummies on the left side of an item's `in`. Fails only if memory runs out.
 #[tactic(auto, using(net_tree::proofs::Views::views))]
 pub(crate) fn add_left<'s>(scope: &mut Scope<'s>, left: &Expr<'s>) -> Result<(), AllocError>
     ensures { OnOk result (scope.new ≡ dummies.with_left scope.old (tree left.now)) }

@@ -1,4 +1,5 @@
-//! The names of expressions, from the left. What a function adds to the scope it says; else the scope is as it was.
+//! The names in expressions, from left to right. A function leaves the scope unchanged unless its
+//! comment says what it adds.
 
 ghost use Rattle.std.specs.Prelude.{◌≡◌, OnOk};
 ghost use Rattle.net_tree.specs.View.{tree, links_of, braces_of, option_part};
@@ -19,7 +20,7 @@ use net_lex::Token;
 use net_tree::{Braces, Expr, Link, Part, Role, role_of, sides_of};
 use net_views::Boxed;
 
-/// A name that is used.
+/// Checks a name that is used.
 pub(crate) fn check_name<'s>(
     need: Need,
     scope: &Scope<'s>,
@@ -85,7 +86,7 @@ pub(crate) fn check<'s>(
     }
 }
 
-/// A name with subscripts.
+/// Checks a name with subscripts.
 #[cycle(names)]
 fn check_subscripts<'s>(
     need: Need,
@@ -165,7 +166,7 @@ fn check_part<'s>(
     }
 }
 
-/// Braces whose dummies nothing behind them sees.
+/// Checks an indexing expression whose dummies go out of scope at its end.
 #[cycle(names)]
 #[tactic(auto, using(crate::proofs::Walking::walking))]
 fn check_braced<'s>(
@@ -182,7 +183,7 @@ fn check_braced<'s>(
     Ok(())
 }
 
-/// What braces index by a reduction.
+/// Checks a reduction: its indexing, and the expression in its scope.
 #[cycle(names)]
 #[tactic(auto, using(crate::proofs::Walking::walking))]
 fn check_reduced<'s>(
@@ -202,7 +203,7 @@ fn check_reduced<'s>(
     Ok(())
 }
 
-/// Braces, whose dummies come into scope.
+/// Checks an indexing expression, and adds its dummies to the scope.
 #[cycle(names)]
 #[tactic(auto, using(net_tree::proofs::Views::views, crate::proofs::Walking::walking))]
 pub(crate) fn read_braces<'s>(
@@ -221,7 +222,7 @@ pub(crate) fn read_braces<'s>(
     }
 }
 
-/// The items of braces, whose dummies come into scope, and their condition.
+/// Checks the items of an indexing expression and its condition, and adds its dummies to the scope.
 #[cycle(names)]
 fn read_items<'s>(
     need: Need,
@@ -249,7 +250,7 @@ fn read_more<'s>(need: Need, scope: &mut Scope<'s>, links: &[Link<'s>]) -> Resul
     Ok(())
 }
 
-/// An item of braces, whose dummies come into scope.
+/// Checks an item of an indexing expression, and adds its dummies to the scope.
 #[cycle(names)]
 #[tactic(auto, using(crate::proofs::Walking::walking))]
 fn read_item<'s>(need: Need, scope: &mut Scope<'s>, item: &Expr<'s>) -> Result<(), NameFault<'s>>
@@ -262,7 +263,7 @@ fn read_item<'s>(need: Need, scope: &mut Scope<'s>, item: &Expr<'s>) -> Result<(
     }
 }
 
-/// An item with `in` at its top: its set does not see its own dummies.
+/// Checks an item whose top operator is `in`: its set is not in the scope of its own dummies.
 #[cycle(names)]
 fn read_sides<'s>(
     need: Need,
@@ -279,7 +280,7 @@ fn read_sides<'s>(
     Ok(())
 }
 
-/// What stands at the left of `in`.
+/// Checks the left side of `in`.
 #[cycle(names)]
 #[tactic(auto, using(net_tree::proofs::Views::views, crate::proofs::Walking::walking))]
 fn check_left<'s>(need: Need, scope: &mut Scope<'s>, left: &Expr<'s>) -> Result<(), NameFault<'s>>
@@ -304,7 +305,8 @@ fn check_left<'s>(need: Need, scope: &mut Scope<'s>, left: &Expr<'s>) -> Result<
     }
 }
 
-/// The components of a tuple: each sees the dummies that are components before it.
+/// Checks the components of a tuple: each is in the scope of the dummies that are components before
+/// it.
 #[cycle(names)]
 #[tactic(auto, using(crate::proofs::Walking::walking))]
 fn check_components<'s>(
@@ -339,7 +341,7 @@ fn read_components<'s>(
     Ok(())
 }
 
-/// A component, which comes into scope if it is a new dummy.
+/// Checks a component, and adds it to the scope if it is a new dummy.
 #[cycle(names)]
 fn read_component<'s>(
     need: Need,
@@ -354,7 +356,7 @@ fn read_component<'s>(
     Ok(())
 }
 
-/// A component that is no new dummy is an expression.
+/// Checks a component; one that is not a new dummy is an expression.
 #[cycle(names)]
 fn check_component<'s>(
     need: Need,

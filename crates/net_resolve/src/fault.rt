@@ -1,20 +1,22 @@
+//! Errors of names.
+
 ghost use Rattle.net_resolve.specs.Told.{IsToldOf};
 
 use net_fault::{Defect, Detail, Fault, Language};
 use net_lex::Token;
 use std::alloc::{AllocError, AllocFailed, Global};
 
-/// Why the names of a model are not as they should be.
+/// Why the names of a model are rejected.
 #[derive(Drop)]
 pub(crate) enum NameFault<'s> {
     OutOfMemory,
-    /// `Undeclared`, `Redeclared` or, of an `obj` phrase for an objective that has an expression, `LeftOut`; and the name with its
-    /// place.
+    /// The error and the name: `Undeclared`, `Redeclared`, or `LeftOut` for an `obj` phrase that
+    /// names an objective with an expression.
     At(Defect, Token<'s>),
 }
 
 impl<'s> NameFault<'s> {
-    /// The fault at the name, with it.
+    /// Returns the error as it is reported: at the name and with it.
     pub(crate) fn told(&self, alloc: Global) -> Fault
         ensures { IsToldOf self.now result }
     {

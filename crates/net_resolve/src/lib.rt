@@ -1,4 +1,4 @@
-//! The names of a model: what each means, and the first that is not as it should be.
+//! Name resolution: what each name of a model means, and the first name error.
 #![tactic(auto)]
 
 mod declarations;
@@ -10,5 +10,5 @@ mod meaning;
 mod scope;
 
 pub use declarations::check_names;
-pub use laws::{front_of_names, new_dummy, well_named_each};
+pub use laws::{front_of_names, name_errors_lie_in_model, new_dummy, well_named_each};
 pub use meaning::{Meaning, Need};

@@ -1,37 +1,39 @@
+//! The meanings of names, and which of them each position needs.
+
 ghost use Rattle.std.specs.Prelude.{◌≡◌};
 ghost use Rattle.net_resolve.specs.Meanings as meanings;
 
 use net_fault::Defect;
 
-/// What a name means.
+/// The meaning of a name.
 #[derive(Clone, Copy)]
 pub enum Meaning {
     Set,
     Param,
     Node,
     Arc,
-    /// An objective without an expression: the `obj` phrases of arcs add up to it.
+    /// An objective without an expression, which is the sum of the `obj` phrases of arcs.
     Objective,
     /// An objective with an expression.
     StatedObjective,
-    /// What braces let run through a set.
+    /// An index that an indexing expression declares.
     Dummy,
 }
 
-/// What a name must mean at its place.
+/// Which meanings a name can have at its position.
 #[derive(Clone, Copy)]
 pub enum Need {
     /// In an expression: a set, a parameter or a dummy.
     Value,
-    /// In the expression of an objective: the same, or an arc.
+    /// In the expression of an objective: a set, a parameter, a dummy or an arc.
     Total,
-    /// Behind `from` and `to`: a node.
+    /// After `from` and `to`: a node.
     Node,
-    /// Behind `obj`: an objective without an expression.
+    /// After `obj`: an objective without an expression.
     Objective,
 }
 
-/// What is wrong with a name of this meaning.
+/// Returns the error of a name with this meaning, if any.
 pub(crate) fn misfit(need: Need, meaning: Meaning) -> Option<Defect>
     ensures { result ≡ meanings.misfit need meaning }
 {
@@ -56,7 +58,7 @@ pub(crate) fn misfit(need: Need, meaning: Meaning) -> Option<Defect>
     }
 }
 
-/// What the names in the subscripts of a name must mean.
+/// Returns the need for the names in the subscripts of a name.
 pub(crate) fn in_subscripts(need: Need) -> Need
     ensures { result ≡ meanings.in_subscripts need }
 {

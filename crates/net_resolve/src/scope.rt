@@ -1,3 +1,5 @@
+//! The names in scope and their meanings.
+
 ghost use Rattle.std.specs.Prelude.{◌≡◌, ◌++◌, ◌∷◌, [], None, Some, length, take, is_some, if◌then◌else◌, ℕ, List, OnOk, OnErr};
 ghost use Rattle.std.specs.Str.{bytes_eq};
 ghost use Rattle.net_resolve.specs.Scopes.{meaning_in};
@@ -9,8 +11,8 @@ use std::alloc::{AllocError, Global};
 use std::collections::BTreeMap;
 use std::marker::Model;
 
-/// The names that mean something, in the order in which they came. Those that came last can be forgotten. They are found
-/// in an ordered map, which no text can make slow.
+/// The names in scope, in the order in which they were declared. The last ones can be removed.
+/// Lookup uses an ordered map, so no input makes it slow.
 #[derive(Drop)]
 pub(crate) struct Scope<'s> {
     names: Vec<(Excerpt<'s>, Meaning)>,
@@ -50,7 +52,7 @@ fn remove<'s>(meanings: &mut BTreeMap<&'s str, Meaning>, name: &Excerpt<'s>)
     meanings.remove(&name.as_str());
 }
 
-/// Takes these names out.
+/// Removes these names from the map.
 fn remove_all<'s>(meanings: &mut BTreeMap<&'s str, Meaning>, names: &[(Excerpt<'s>, Meaning)])
     ensures { (q : List ℕ) → told meanings.new q ≡ if is_some (meaning_in q names.now) then None else told meanings.old q }
 {
@@ -69,21 +71,21 @@ impl<'s> Scope<'s> {
         }
     }
 
-    /// How many names there are.
+    /// Returns the number of names in scope.
     pub(crate) fn len(&self) -> usize
         ensures { result ≡ length self.now }
     {
         self.names.len()
     }
 
-    /// What a name means.
+    /// Returns the meaning of a name, or `None` if it is not in scope.
     pub(crate) fn meaning(&self, name: &Excerpt<'s>) -> Option<Meaning>
         ensures { result ≡ meaning_in name.now self.now }
     {
         self.meanings.get(&name.as_str()).copied()
     }
 
-    /// Adds a name that means nothing so far.
+    /// Adds a name that is not in scope. Fails only if memory runs out.
     pub(crate) fn add(&mut self, name: &Excerpt<'s>, meaning: Meaning) -> Result<(), AllocError>
         requires { meaning_in name.now self.old ≡ None }
         ensures { OnOk result (self.new ≡ self.old ++ (name.now, meaning) ∷ []) }
@@ -99,7 +101,7 @@ impl<'s> Scope<'s> {
         }
     }
 
-    /// Keeps the names that came first, so many.
+    /// Truncates the scope to the first `known` names.
     pub(crate) fn forget_behind(&mut self, known: usize)
         ensures { self.new ≡ take known self.old }
     {

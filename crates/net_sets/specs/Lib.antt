@@ -1,11 +1,12 @@
 pub mod Limits
 pub mod Texts
 pub mod Sets
-pub mod Orders
-pub mod Marks
-pub mod Kept
+pub mod Names
+pub mod Hashes
+pub mod EqualHashes
+pub mod TupleSets
 pub mod Cow
-pub mod Laid
+pub mod Tables
 pub mod Operations
 pub mod Components
 pub mod Filters

@@ -1,24 +1,26 @@
+//! An index of tuples by the member at one component.
+
 ghost use Rattle.std.specs.Prelude.{◌≡◌, ◌<◌, ◌+◌, List, Some, if◌then◌else◌, length, IfOk, OnOk};
-ghost use Rattle.std.specs.Ordering.{is_eq};
 ghost use Rattle.net_sets.specs.declared.member.Member.{Member};
 ghost use Rattle.net_sets.specs.Components.{IsIndexFrom, first_of};
-ghost use Rattle.net_sets.specs.Orders.{member_order};
+ghost use Rattle.net_sets.specs.Sets.{same_member};
 
+use crate::key::HashKey;
 use crate::member::Member;
 use crate::tuple::Tuple;
+use indexmap::IndexMap;
 use std::alloc::{AllocError, Global};
-use std::collections::BTreeMap;
 
-/// Where the tuples with a member at one component are: the place of the first, and from each place that of the next, or
-/// how many tuples there are.
+/// The tuples with a given member at one component: the index of the first, and for each index that
+/// of the next, or the number of tuples if there is none.
 #[derive(Drop)]
 pub(crate) struct Chains<'s> {
-    first: BTreeMap<Member<'s>, usize>,
+    first: IndexMap<Member<'s>, usize, HashKey>,
     pub(crate) next: Vec<usize>,
 }
 
 impl<'s> Chains<'s> {
-    /// The place of the first tuple with a member.
+    /// Returns the index of the first tuple with a member.
     pub(crate) fn first(&self, member: &Member<'s>) -> Option<usize>
         ensures { result ≡ first_of self.now.first member.now }
     {
@@ -26,22 +28,20 @@ impl<'s> Chains<'s> {
     }
 }
 
-/// Tells the place of the first tuple with a member, and gives back what was told before.
+/// Stores the index of the first tuple with a member; returns the old one. Fails only if memory
+/// runs out.
 fn insert<'s>(
-    first: &mut BTreeMap<Member<'s>, usize>,
+    first: &mut IndexMap<Member<'s>, usize, HashKey>,
     member: Member<'s>,
     place: usize,
 ) -> Result<Option<usize>, AllocError>
     ensures old { IfOk result (λ old. old ≡ first_of first.old member.entry) }
-    ensures new { OnOk result ((m : Member) → first_of first.new m ≡ if is_eq (member_order member.entry m) then Some place else first_of first.old m) }
+    ensures new { OnOk result ((m : Member) → first_of first.new m ≡ if same_member member.entry m then Some place else first_of first.old m) }
 {
-    match first.insert(member, place) {
-        Ok(old) => Ok(old),
-        Err(_) => Err(AllocError),
-    }
+    Ok(first.insert(member, place)?)
 }
 
-/// Takes in the tuple at the place before those that are indexed.
+/// Adds the tuple at this index, which precedes the indexed ones. Fails only if memory runs out.
 fn take_in<'s>(
     chains: &mut Chains<'s>,
     component: usize,
@@ -64,6 +64,7 @@ fn take_in<'s>(
 
 pub(crate) fn chains_of<'s>(
     alloc: Global,
+    key: HashKey,
     component: usize,
     tuples: &[Tuple<'s>],
 ) -> Result<Chains<'s>, AllocError>
@@ -71,7 +72,7 @@ pub(crate) fn chains_of<'s>(
 {
     let size = tuples.len();
     let mut chains = Chains {
-        first: BTreeMap::new(alloc),
+        first: IndexMap::with_hasher(alloc, key),
         next: vec![in alloc; size; size]?,
     };
     for indexed in 0..size {

@@ -1,3 +1,5 @@
+//! Sets with an optional index by component.
+
 ghost use Rattle.std.specs.Prelude.{◌≡◌, ◌<◌, ◌+◌, [], true, List, get_or, length, IfOk};
 ghost use Rattle.net_sets.specs.Components.{agrees, indexed_components, next_place};
 ghost use Rattle.net_sets.specs.Operations.{narrowest};
@@ -11,9 +13,9 @@ use crate::tuple_set::TupleSet;
 use std::alloc::{AllocError, Global};
 use std::marker::Model;
 
-/// A set in which the tuples with a given member at one component are found without a look at the others, where an index was
-/// wanted, and else by a look at each. Contracts see it as the set. Where no tuple has two members there is nothing to find
-/// so, and no index is made.
+/// A set with an optional index for finding the tuples with a given member at one component;
+/// without it they are found by linear search. Contracts see only the set. A set of single members
+/// never has an index.
 #[derive(Drop)]
 pub struct IndexedSet<'s> {
     set: SharedSet<'s>,
@@ -34,7 +36,7 @@ impl<'s> Model for IndexedSet<'s> {
     ghost invariant = { λ s. AreIndexed s.is_wanted s.set s.narrowest s.components.items };
 }
 
-/// Of how many components an index is made, where the longest tuple has so many members.
+/// Returns the number of indexed components, given the maximum number of members of a tuple.
 fn indexed_components(is_wanted: bool, width: usize) -> usize
     ensures { result ≡ indexed_components is_wanted width }
 {
@@ -42,8 +44,9 @@ fn indexed_components(is_wanted: bool, width: usize) -> usize
 }
 
 impl<'s> IndexedSet<'s> {
-    /// The set, where it is wanted with an index of its tuples by each component; one of single members needs none. An index
-    /// takes time and memory for each tuple, and is worth it only to a set whose tuples with a member at a component are asked for.
+    /// Builds a set, with an index by each component if requested. The index takes time and memory
+    /// for each tuple, so it only pays off for sets that are searched by component. Fails only if
+    /// memory runs out.
     pub fn new(
         alloc: Global,
         is_wanted: bool,
@@ -57,7 +60,7 @@ impl<'s> IndexedSet<'s> {
         set.shrink_to_fit();
         let mut components = Vec::new(alloc);
         for component in 0..indexed {
-            components.push(chains_of(alloc, component, set.as_slice())?)?;
+            components.push(chains_of(alloc, set.key(), component, set.as_slice())?)?;
         }
         Ok(IndexedSet {
             set: SharedSet::new(alloc, set)?,
@@ -67,33 +70,35 @@ impl<'s> IndexedSet<'s> {
         })
     }
 
-    /// The set without its index.
+    /// Returns the set without its index.
     pub fn set(&self) -> &TupleSet<'s>
         ensures { result.now ≡ self.now }
     {
         self.set.get()
     }
 
-    /// The set alone, for one more who has it; no tuple is copied.
+    /// Returns the set without its index as a shared reference; copies no tuples. Fails only if
+    /// memory runs out.
     pub fn shared(&self) -> Result<SharedSet<'s>, AllocError>
         ensures { IfOk result (λ shared. shared ≡ self.now) }
     {
         self.set.again()
     }
 
-    /// Whether it has an index, where its tuples have two members or more.
+    /// Returns whether an index was requested.
     pub(crate) fn is_indexed(&self) -> bool {
         self.is_wanted
     }
 
-    /// How many members each tuple has at least, 4 where there is none.
+    /// Returns the minimum number of members of a tuple, 4 if there is none.
     pub(crate) fn narrowest(&self) -> usize
         ensures { result ≡ narrowest self.now }
     {
         self.narrowest
     }
 
-    /// The place of the first tuple that has the member at the component, which is counted from 0.
+    /// Returns the index of the first tuple that has the member at the component, which is counted
+    /// from 0.
     pub fn first_with(&self, component: usize, member: &Member<'s>) -> Option<usize>
         ensures { result ≡ next_place component member.now 0 self.now }
     {
@@ -103,7 +108,8 @@ impl<'s> IndexedSet<'s> {
         }
     }
 
-    /// The place of the next tuple that has the member at the component, behind the place of one that has it.
+    /// Returns the index of the next tuple that has the member at the component, after the index of
+    /// one that has it.
     pub fn next_with(&self, component: usize, member: &Member<'s>, place: usize) -> Option<usize>
         requires there { place < length self.now }
         requires alike { agrees component member.now (get_or self.now place []) ≡ true }

@@ -6,9 +6,10 @@ mod cow;
 mod cursor;
 mod fault;
 mod indexed_set;
+mod key;
 mod laws;
-mod mark;
 mod member;
+mod name_map;
 mod operations;
 mod range;
 mod shared_set;
@@ -21,8 +22,10 @@ pub use cow::Cow;
 pub use cursor::Cursor;
 pub use fault::SetFault;
 pub use indexed_set::IndexedSet;
+pub use key::{HashKey, KeyDigest};
 pub use laws::{products_are_lists, range_has_what_it_lists, walks_those_that_agree};
 pub use member::Member;
+pub use name_map::NameMap;
 pub use operations::{
     cross, difference, intersection, is_within, narrowest, symmetric_difference, union, widest,
 };
@@ -31,4 +34,4 @@ pub use shared_set::SharedSet;
 pub use table::Table;
 pub use text::Text;
 pub use tuple::Tuple;
-pub use tuple_set::TupleSet;
+pub use tuple_set::{TUPLES_LIMIT, TupleSet};

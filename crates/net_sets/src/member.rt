@@ -1,28 +1,19 @@
+//! Members of sets: integers and texts.
+
 ghost use Rattle.std.specs.Prelude.{◌≡◌};
-ghost use Rattle.net_sets.specs.Marks.{with_member};
 
-use crate::mark::stirred;
 use crate::text::Text;
+use std::hash::{Hash, Hasher};
 
-/// A whole number or a text. `5` and `'5'` differ.
-#[derive(PartialEq, Eq, PartialOrd, Ord, Drop)]
+/// An integer or a text. `5` and `'5'` are different.
+#[derive(PartialEq, Eq, Drop)]
 pub enum Member<'s> {
     Number(i64),
     Name(Text<'s>),
 }
 
 impl<'s> Member<'s> {
-    /// A mark with this member more.
-    pub(crate) fn stirred_into(&self, mark: u64) -> u64
-        ensures { result ≡ with_member mark self.now }
-    {
-        match self {
-            Member::Number(number) => stirred(mark, number.cast_unsigned()),
-            Member::Name(text) => text.stirred_into(mark),
-        }
-    }
-
-    /// The same member once more; no byte is copied.
+    /// Returns a copy of the member; copies no text.
     pub fn again(&self) -> Member<'s>
         ensures { result ≡ self.now }
     {
@@ -36,5 +27,26 @@ impl<'s> Member<'s> {
 impl<'s> Default for Member<'s> {
     fn default() -> Member<'s> {
         Member::Number(0)
+    }
+}
+
+impl<'s> Hash for Member<'s> {
+    ghost use Rattle.std.proofs.Common.{refl};
+    ghost use Rattle.net_sets.specs.Hashes.{member_writes};
+    ghost use Rattle.net_sets.specs.EqualHashes.{equal_member_writes, equal_numbers, equal_texts};
+
+    ghost hash_input = { member_writes };
+
+    ghost respects_eq = { equal_member_writes _ equal_numbers equal_texts (λ a b. refl) (λ a b. refl) };
+
+    /// Writes a number after a zero, which no text writes.
+    fn hash<H: Hasher>(&self, state: &mut H) {
+        match self {
+            Member::Number(number) => {
+                state.write_u64(0);
+                state.write_i64(*number);
+            }
+            Member::Name(text) => text.hash(state),
+        }
     }
 }

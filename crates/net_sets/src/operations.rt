@@ -1,4 +1,4 @@
-//! What is made of two sets of tuples.
+//! The operations on two sets of tuples.
 ghost use Rattle.std.specs.Prelude.{◌≡◌, ◌<◌, ◌+◌, ◌≤◌, ◌++◌, ◌∷◌, [], false, if◌then◌else◌, length, IfOk, OnOk, IsErrOf};
 ghost use Rattle.net_sets.specs.Limits.{arity_limit, tuples_limit};
 ghost use Rattle.net_sets.specs.Made.{IsMade, IsCrossed, with_set};
@@ -7,16 +7,22 @@ ghost use Rattle.net_sets.specs.Operations.{narrowest};
 ghost use Rattle.net_sets.specs.Sets.{has};
 
 use crate::fault::SetFault;
+use crate::key::HashKey;
 use crate::tuple::Tuple;
 use crate::tuple_set::{TUPLES_LIMIT, TupleSet};
 use std::alloc::{AllocError, Global};
 
-/// The first set's tuples, then those that the second has more.
-pub fn union<'s>(first: TupleSet<'s>, second: &TupleSet<'s>) -> Result<TupleSet<'s>, SetFault>
-    ensures { IsMade (union first.entry second.now) result }
+/// Returns the first set's tuples, followed by those that only the second has.
+pub fn union<'s>(
+    alloc: Global,
+    first: &TupleSet<'s>,
+    second: &TupleSet<'s>,
+) -> Result<TupleSet<'s>, SetFault>
+    ensures { IsMade (union first.now second.now) result }
 {
     let _few = first.len();
-    let mut all = first;
+    let key = HashKey::of_both(first.as_slice(), second.as_slice());
+    let mut all = first.with_key(alloc, key)?;
     for tuple in second.as_slice() {
         all.add(tuple.again())?;
     }
@@ -33,7 +39,7 @@ fn is_chosen<'s>(shared: bool, second: &TupleSet<'s>, tuple: &Tuple<'s>) -> bool
     }
 }
 
-/// Puts the tuple at the end, where it is wanted there.
+/// Appends the tuple if `wanted` is true. Fails only if memory runs out.
 fn push_where<'s>(wanted: bool, all: &mut TupleSet<'s>, tuple: &Tuple<'s>) -> Result<(), AllocError>
     requires fresh { has all.old tuple.now ≡ false }
     requires room { length all.old < tuples_limit }
@@ -46,7 +52,8 @@ fn push_where<'s>(wanted: bool, all: &mut TupleSet<'s>, tuple: &Tuple<'s>) -> Re
     }
 }
 
-/// The first set's tuples that the second has, or that it lacks.
+/// Returns the tuples of the first set that the second contains, or that it does not contain. Fails
+/// only if memory runs out.
 fn chosen<'s>(
     alloc: Global,
     shared: bool,
@@ -55,14 +62,15 @@ fn chosen<'s>(
 ) -> Result<TupleSet<'s>, AllocError>
     ensures { IfOk result (λ all. all ≡ chosen shared first.now second.now) }
 {
-    let mut all = TupleSet::new(alloc);
+    let mut all = TupleSet::new(alloc, first.key());
     for tuple in first.as_slice() {
         push_where(is_chosen(shared, second, tuple), &mut all, tuple)?;
     }
     Ok(all)
 }
 
-/// The first set's tuples that the second lacks.
+/// Returns the tuples of the first set that the second does not contain. Fails only if memory runs
+/// out.
 pub fn difference<'s>(
     alloc: Global,
     first: &TupleSet<'s>,
@@ -73,7 +81,7 @@ pub fn difference<'s>(
     chosen(alloc, false, first, second)
 }
 
-/// The first set's tuples that the second has.
+/// Returns the tuples of the first set that the second contains. Fails only if memory runs out.
 pub fn intersection<'s>(
     alloc: Global,
     first: &TupleSet<'s>,
@@ -84,7 +92,7 @@ pub fn intersection<'s>(
     chosen(alloc, true, first, second)
 }
 
-/// The tuples that only the first set has, then those that only the second has.
+/// Returns the tuples that only the first set contains, then those that only the second contains.
 pub fn symmetric_difference<'s>(
     alloc: Global,
     first: &TupleSet<'s>,
@@ -94,10 +102,10 @@ pub fn symmetric_difference<'s>(
 {
     let only_first = difference(alloc, first, second)?;
     let only_second = difference(alloc, second, first)?;
-    union(only_first, &only_second)
+    union(alloc, &only_first, &only_second)
 }
 
-/// Whether the second set has every tuple of the first.
+/// Returns whether the second set contains every tuple of the first.
 pub fn is_within<'s>(first: &TupleSet<'s>, second: &TupleSet<'s>) -> bool
     ensures { result ≡ is_within first.now second.now }
 {
@@ -109,7 +117,7 @@ pub fn is_within<'s>(first: &TupleSet<'s>, second: &TupleSet<'s>) -> bool
     true
 }
 
-/// How many members the longest tuple of a set has, 0 where there is none.
+/// Returns the maximum number of members of a tuple, 0 if there is none.
 pub fn widest<'s>(set: &TupleSet<'s>) -> usize
     ensures value { result ≡ widest set.now }
     ensures fits { result ≤ arity_limit }
@@ -121,7 +129,7 @@ pub fn widest<'s>(set: &TupleSet<'s>) -> usize
     width
 }
 
-/// How many members each tuple of a set has at least, 4 where there is none.
+/// Returns the minimum number of members of a tuple, 4 if there is none.
 pub fn narrowest(set: &TupleSet<'_>) -> usize
     ensures { result ≡ narrowest set.now }
 {
@@ -132,7 +140,7 @@ pub fn narrowest(set: &TupleSet<'_>) -> usize
     width
 }
 
-/// Adds the tuples that begin with one and go on with one of a set, in its order.
+/// Adds the tuples that consist of `front` and a tuple of a set, in the order of the set.
 fn add_beside<'s>(
     all: &mut TupleSet<'s>,
     front: &Tuple<'s>,
@@ -148,8 +156,8 @@ fn add_beside<'s>(
     Ok(())
 }
 
-/// Each tuple of the first set with each of the second behind it, in the order of the first and then of the second. `TooMany`
-/// comes before a tuple is made.
+/// Returns each tuple of the first set followed by each of the second, in the order of the first
+/// and then of the second. Returns `TooMany` before it builds a tuple.
 pub fn cross<'s>(
     alloc: Global,
     first: &TupleSet<'s>,
@@ -157,13 +165,14 @@ pub fn cross<'s>(
 ) -> Result<TupleSet<'s>, SetFault>
     requires { widest first.now + widest second.now ≤ arity_limit }
     ensures value { IsCrossed first.now second.now result }
-    // Too many are told so.
+    // Out of memory is only possible if the product is within the limit.
     ensures memory { IsErrOf result SetFault.OutOfMemory → length (product first.now second.now) ≤ tuples_limit }
 {
     if first.len() * second.len() > TUPLES_LIMIT {
         return Err(SetFault::TooMany);
     }
-    let mut all = TupleSet::new(alloc);
+    let key = HashKey::of_both(first.as_slice(), second.as_slice());
+    let mut all = TupleSet::new(alloc, key);
     for tuple in first.as_slice() {
         add_beside(&mut all, tuple, second)?;
     }

@@ -1,16 +1,19 @@
+//! Ranges of integers.
+
 ghost use Rattle.std.specs.Prelude.{◌≡◌, ◌<◌, ◌≤◌, length, IsErrOf};
 ghost use Rattle.net_sets.specs.Limits.{tuples_limit};
 ghost use Rattle.net_sets.specs.Made.{IsMade};
 ghost use Rattle.net_sets.specs.Ranges.{IsRange, in_range, number_at, range, range_size, singles, way_on};
 
 use crate::fault::SetFault;
+use crate::key::HashKey;
 use crate::member::Member;
 use crate::tuple::Tuple;
 use crate::tuple_set::{TUPLES_LIMIT, TupleSet};
 use std::alloc::Global;
 
-/// The whole numbers `first`, `first + by`, and so on up to `last`, or down to it where `by` is negative. Where the steps lead
-/// away from `last` there is none. Nothing is listed.
+/// The integers `first`, `first + by`, and so on up to `last`, or down to it if `by` is negative.
+/// Empty if the steps lead away from `last`. The numbers are not stored.
 #[derive(Drop)]
 pub struct Range {
     pub first: i64,
@@ -19,7 +22,8 @@ pub struct Range {
     pub ghost fits: { IsRange first last by },
 }
 
-/// How far it is from one number to another in the direction of the steps, where they lead there.
+/// Returns the distance from one number to another in the direction of the step, if that leads
+/// there.
 fn way_on(by: i64, from: i64, to: i64) -> Option<u64>
     ensures { result ≡ way_on by from to }
 {
@@ -32,7 +36,7 @@ fn way_on(by: i64, from: i64, to: i64) -> Option<u64>
 }
 
 impl Range {
-    /// How many numbers there are.
+    /// Returns the number of numbers.
     pub fn len(&self) -> u64
         ensures { result ≡ range_size self.now.first self.now.last self.now.by }
     {
@@ -42,7 +46,7 @@ impl Range {
         }
     }
 
-    /// Whether a number is one of them.
+    /// Returns whether the range contains a number.
     pub fn contains(&self, number: i64) -> bool
         ensures { result ≡ in_range self.now.first self.now.last self.now.by number }
     {
@@ -55,7 +59,7 @@ impl Range {
         }
     }
 
-    /// The number at a place, counted from 0.
+    /// Returns the number at an index, counted from 0.
     pub fn at(&self, place: u64) -> i64
         requires { place < range_size self.now.first self.now.last self.now.by }
         ensures { result ≡ number_at self.now.first self.now.by place }
@@ -63,17 +67,26 @@ impl Range {
         self.first + place as i64 * self.by
     }
 
-    /// The numbers as a set, each alone in a tuple. `TooMany` comes before one is made.
+    /// Derives the key for the set of the numbers.
+    fn key(&self) -> HashKey {
+        let mut ends = Tuple::single(Member::Number(self.first));
+        ends.add(Member::Number(self.last));
+        ends.add(Member::Number(self.by));
+        HashKey::of_numbers(self.len(), &ends)
+    }
+
+    /// Returns the numbers as a set of tuples with one member. Returns `TooMany` before it builds a
+    /// tuple.
     pub fn listed<'s>(&self, alloc: Global) -> Result<TupleSet<'s>, SetFault>
         ensures value { IsMade (singles (range self.now.first self.now.last self.now.by)) result }
-        // Too many are told so.
+        // Out of memory is only possible if the range is within the limit.
         ensures memory { IsErrOf result SetFault.OutOfMemory → length (singles (range self.now.first self.now.last self.now.by)) ≤ tuples_limit }
     {
         let size = self.len();
         if size > TUPLES_LIMIT as u64 {
             return Err(SetFault::TooMany);
         }
-        let mut all = TupleSet::new(alloc);
+        let mut all = TupleSet::new(alloc, self.key());
         for place in 0..size {
             all.push(Tuple::single(Member::Number(self.at(place))))?;
         }

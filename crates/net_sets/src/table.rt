@@ -1,174 +1,184 @@
-ghost use Rattle.std.specs.Prelude.{◌≡◌, ◌<◌, ◌+◌, ◌^◌, ◌++◌, ◌∷◌, [], None, false, length, map, set, IfOk, OnOk, OnErr};
-ghost use Rattle.std.specs.List.{AllByRecursion, IsDistinct, range_with_len};
+//! Maps from keys to values.
+
+ghost use Rattle.std.specs.Prelude.{◌≡◌, ◌<◌, ◌++◌, ◌∷◌, [], None, get_or, length, map, nat_eq, IfOk, OnOk, OnErr};
+ghost use Rattle.std.specs.List.{IsDistinct};
+ghost use Rattle.std.specs.Map.{lookup};
 ghost use Rattle.std.specs.Option.{option_copied};
-ghost use Rattle.net_sets.specs.Laid.{keys_at, row_at};
 ghost use Rattle.net_sets.specs.Limits.{tuples_limit};
 ghost use Rattle.net_sets.specs.Made.{HasRoom};
-ghost use Rattle.net_sets.specs.Sets.{at_key, has, place_of, same_tuple};
+ghost use Rattle.net_sets.specs.Sets.{at_key, place_of, same_tuple};
+ghost use Rattle.net_sets.specs.Tables.{IsTable, keys_at, numbered, rows_of};
 
 use crate::fault::SetFault;
 use crate::member::Member;
 use crate::shared_set::SharedSet;
 use crate::tuple::Tuple;
 use crate::tuple_set::{TUPLES_LIMIT, TupleSet};
+use indexmap::IndexMap;
 use std::alloc::{AllocError, Global};
 use std::marker::Model;
 
-/// The members that keys have, which contracts see as the list of the rows, each a key with its member. A key is kept as its
-/// place in a set, which others may have too.
+/// Members by key. Contracts see the list of the rows, each a key with its member. A key is stored as its position in a set,
+/// which may be shared.
 #[derive(Drop)]
 pub struct Table<'s> {
     known: SharedSet<'s>,
-    /// Of each place of the set its row, counted from 1; 0 where it has none.
-    rows: Vec<usize>,
-    /// The place of each row.
-    places: Vec<usize>,
-    members: Vec<Member<'s>>,
+    /// The member of each row, by the position of its key.
+    rows: IndexMap<usize, Member<'s>>,
 }
 
 impl<'s> Model for Table<'s> {
     ghost use Rattle.std.specs.Prelude.{List};
-    ghost use Rattle.std.specs.List.{zip};
     ghost use Rattle.net_sets.specs.declared.member.Member.{Member};
-    ghost use Rattle.net_sets.specs.Laid.{IsLaid, keys_at};
+    ghost use Rattle.net_sets.specs.Tables.{IsTable, rows_of};
 
     ghost Value = { List (List Member × Member) };
 
-    ghost view = { λ t. zip (keys_at t.known t.places.items) t.members.items };
+    ghost view = { λ t. rows_of t.known t.rows.entries };
 
-    ghost invariant = { λ t. IsLaid t.known t.rows.items t.places.items t.members.items };
+    ghost invariant = { λ t. IsTable t.known t.rows.entries };
 }
 
-/// The row of a place, if it has one.
-fn row_at(rows: &[usize], place: Option<usize>) -> Option<usize>
-    ensures { result ≡ row_at rows.now place }
+fn tuple_at<'s>(tuples: &[Tuple<'s>], position: usize) -> Tuple<'s>
+    requires { position < length tuples.now }
+    ensures { result ≡ get_or tuples.now position [] }
 {
-    match place {
-        None => None,
-        Some(place) => match rows.get(place) {
-            None => None,
-            Some(row) => row.checked_sub(1),
-        },
-    }
+    tuples[position].again()
 }
 
-/// A set of the keys at places, and one more.
+/// Builds the set of the keys of rows, followed by one more key.
 fn keys_and<'s>(
     alloc: Global,
     known: &TupleSet<'s>,
-    places: &[usize],
+    rows: &IndexMap<usize, Member<'s>>,
     key: &Tuple<'s>,
 ) -> Result<TupleSet<'s>, AllocError>
-    requires within { AllByRecursion (λ place. place < length known.now) places.now }
-    requires once { IsDistinct same_tuple (keys_at known.now places.now) }
-    requires fresh { has (keys_at known.now places.now) key.now ≡ false }
-    requires room { length places.now < tuples_limit }
-    ensures { IfOk result (λ all. all ≡ keys_at known.now places.now ++ key.now ∷ []) }
+    requires table { IsTable known.now rows.now.entries }
+    requires fresh { at_key (rows_of known.now rows.now.entries) key.now ≡ None }
+    requires room { length rows.now.entries < tuples_limit }
+    ensures keys { IfOk result (λ all. all ≡ keys_at known.now rows.now.entries ++ key.now ∷ []) }
+    ensures distinct { IfOk result (IsDistinct same_tuple) }
 {
     let tuples = known.as_slice();
-    let mut all = TupleSet::new(alloc);
-    for place in places {
-        all.push(tuples[*place].again())?;
+    let mut all = TupleSet::new(alloc, known.key());
+    for row in 0..rows.len() {
+        if let Some((position, _)) = rows.get_index(row) {
+            all.push(tuple_at(tuples, *position))?;
+        }
     }
     all.push(key.again())?;
+    let _distinct = all.as_slice();
     Ok(all)
 }
 
-/// So many numbers, one after the other.
-fn counted_on(alloc: Global, first: usize, count: usize) -> Result<Vec<usize>, AllocError>
-    requires { first + count < 2 ^ 64 }
-    ensures { IfOk result (λ all. all.items ≡ range_with_len first count) }
+/// Copies rows, with the positions of their keys from 0 on.
+fn renumbered<'s>(
+    alloc: Global,
+    rows: &IndexMap<usize, Member<'s>>,
+) -> Result<IndexMap<usize, Member<'s>>, AllocError>
+    ensures { IfOk result (λ all. all.entries ≡ numbered 0 rows.now.entries) }
 {
-    let mut all = Vec::with_capacity(alloc, count)?;
-    for passed in 0..count {
-        all.push(first + passed)?;
+    let mut all = IndexMap::new(alloc);
+    for row in 0..rows.len() {
+        if let Some((_, member)) = rows.get_index(row) {
+            all.insert(row, member.again())?;
+        }
     }
     Ok(all)
 }
 
-/// Puts a row at the end, of a place that has none.
+/// Appends a row at a position that has none.
 fn put<'s>(
-    rows: &mut Vec<usize>,
-    places: &mut Vec<usize>,
-    members: &mut Vec<Member<'s>>,
-    place: usize,
+    rows: &mut IndexMap<usize, Member<'s>>,
+    position: usize,
     member: Member<'s>,
 ) -> Result<(), AllocError>
-    requires { place < length rows.old.items }
-    ensures rows { OnOk result (rows.new.items ≡ set rows.old.items place (length places.old.items + 1)) }
-    ensures places { OnOk result (places.new.items ≡ places.old.items ++ place ∷ []) }
-    ensures members { OnOk result (members.new.items ≡ members.old.items ++ member.entry ∷ []) }
-    ensures unplaced { OnErr result (rows.new.items ≡ rows.old.items) }
-    ensures untold { OnErr result (places.new.items ≡ places.old.items) }
-    ensures left { OnErr result (members.new.items ≡ members.old.items) }
+    requires { lookup (nat_eq position) rows.old.entries ≡ None }
+    ensures ok { OnOk result (rows.new.entries ≡ rows.old.entries ++ (position, member.entry) ∷ []) }
+    ensures err { OnErr result (rows.new.entries ≡ rows.old.entries) }
 {
-    members.reserve(1)?;
-    places.reserve(1)?;
-    members.push_reserved(member);
-    places.push_reserved(place);
-    rows[place] = places.len();
+    rows.insert(position, member)?;
     Ok(())
 }
 
+/// Builds a table of the same rows and one more, over a set of its own keys.
+fn with_own_set<'s>(
+    alloc: Global,
+    known: &TupleSet<'s>,
+    rows: &IndexMap<usize, Member<'s>>,
+    key: &Tuple<'s>,
+    member: Member<'s>,
+) -> Result<Table<'s>, AllocError>
+    requires table { IsTable known.now rows.now.entries }
+    requires fresh { at_key (rows_of known.now rows.now.entries) key.now ≡ None }
+    requires room { length rows.now.entries < tuples_limit }
+    ensures { IfOk result (λ table. table ≡ rows_of known.now rows.now.entries ++ (key.now, member.entry) ∷ []) }
+{
+    let keys = keys_and(alloc, known, rows, key)?;
+    let mut own_rows = renumbered(alloc, rows)?;
+    put(&mut own_rows, rows.len(), member)?;
+    Ok(Table {
+        known: SharedSet::new(alloc, keys)?,
+        rows: own_rows,
+    })
+}
+
 impl<'s> Table<'s> {
-    /// The table without rows, whose keys are to be tuples of the set for the most part.
+    /// Creates a table without rows, most of whose keys will be tuples of the set.
     pub fn over(alloc: Global, known: SharedSet<'s>) -> Result<Table<'s>, AllocError>
         ensures { IfOk result (λ table. table ≡ []) }
     {
-        let rows = vec![in alloc; 0; known.get().len()]?;
+        let _distinct = known.get().as_slice();
         Ok(Table {
             known,
-            rows,
-            places: Vec::new(alloc),
-            members: Vec::new(alloc),
+            rows: IndexMap::new(alloc),
         })
     }
 
-    /// How many rows it has.
+    /// Returns the number of rows.
     pub fn len(&self) -> usize
         ensures { result ≡ length self.now }
     {
-        self.members.len()
+        self.rows.len()
     }
 
-    /// The place in its set of the key that would come next, if keys come in the order of the set.
+    /// Returns the position that the next key has in the set if keys come in the order of the set.
     pub fn next(&self) -> usize {
-        match self.places.last() {
+        match self.rows.last() {
             None => 0,
-            Some(place) => place.wrapping_add(1),
+            Some((position, _)) => position.wrapping_add(1),
         }
     }
 
-    /// The row of a key, counted from 0, where its place in the set is probably this one.
+    /// Returns the row of a key, counted from 0. The key is probably at position `near` of the set.
     pub fn row_near(&self, near: usize, key: &Tuple<'s>) -> Option<usize>
         ensures { result ≡ place_of (map (λ row. row.0) self.now) key.now }
     {
-        row_at(
-            self.rows.as_slice(),
-            self.known.get().position_near(near, key),
-        )
-    }
-
-    /// What a key has.
-    pub fn get(&self, key: &Tuple<'s>) -> Option<&Member<'s>>
-        ensures { option_copied result ≡ at_key self.now key.now }
-    {
-        self.get_near(self.rows.len(), key)
-    }
-
-    /// What a key has, where its place in the set is probably this one.
-    pub fn get_near(&self, near: usize, key: &Tuple<'s>) -> Option<&Member<'s>>
-        ensures { option_copied result ≡ at_key self.now key.now }
-    {
-        match self.row_near(near, key) {
+        match self.known.get().position_near(near, key) {
             None => None,
-            Some(row) => self.members.get(row),
+            Some(position) => self.rows.get_index_of(&position),
         }
     }
 
-    /// Puts a row at the end, of a key that has none, and whose place in the set is probably this one. Where the set does not have
-    /// the key, the table gets a set of its own, of its keys, which is as dear as to copy them. `TooMany` is answered where it has as
-    /// many rows as a set may have tuples.
+    /// Returns the member of a key.
+    pub fn get(&self, key: &Tuple<'s>) -> Option<&Member<'s>>
+        ensures { option_copied result ≡ at_key self.now key.now }
+    {
+        self.get_near(self.known.get().len(), key)
+    }
+
+    /// Returns the member of a key that is probably at position `near` of the set.
+    pub fn get_near(&self, near: usize, key: &Tuple<'s>) -> Option<&Member<'s>>
+        ensures { option_copied result ≡ at_key self.now key.now }
+    {
+        match self.known.get().position_near(near, key) {
+            None => None,
+            Some(position) => self.rows.get(&position),
+        }
+    }
+
+    /// Appends a row for a key that has none, and that is probably at position `near` of the set. If the set does not have the
+    /// key, the table copies its keys into a set of its own. Returns `TooMany` if it has as many rows as a set may have tuples.
     pub fn insert_near(
         &mut self,
         near: usize,
@@ -190,7 +200,7 @@ impl<'s> Table<'s> {
         }
     }
 
-    /// The same where there is room for a row.
+    /// Appends a row if there are fewer rows than tuples that a set may have.
     fn put_near(
         &mut self,
         near: usize,
@@ -204,31 +214,11 @@ impl<'s> Table<'s> {
     {
         let known = self.known.get();
         match known.position_near(near, key) {
-            Some(place) => put(
-                &mut self.rows,
-                &mut self.places,
-                &mut self.members,
-                place,
-                member,
-            ),
+            Some(position) => put(&mut self.rows, position, member),
             None => {
                 let alloc = *self.rows.allocator();
-                let count = self.places.len();
-                let keys = keys_and(alloc, known, self.places.as_slice(), key)?;
-                let known = SharedSet::new(alloc, keys)?;
-                let mut rows = counted_on(alloc, 1, count)?;
-                rows.push(0)?;
-                let places = counted_on(alloc, 0, count)?;
-                self.known = known;
-                self.rows = rows;
-                self.places = places;
-                put(
-                    &mut self.rows,
-                    &mut self.places,
-                    &mut self.members,
-                    count,
-                    member,
-                )
+                *self = with_own_set(alloc, known, &self.rows, key, member)?;
+                Ok(())
             }
         }
     }

@@ -1,21 +1,21 @@
-ghost use Rattle.std.specs.Prelude.{◌≡◌, ◌<◌, ◌+◌, ◌∷◌, [], ◌++◌, fold, length, string_bytes, IsTrue, MatchOption, OnOk};
-ghost use Rattle.std.specs.Ordering.{nat_cmp};
-ghost use Rattle.std.specs.Cmp.Lexicographic.{slice_cmp};
+//! The text of names and strings.
+
+ghost use Rattle.std.specs.Prelude.{◌≡◌, ◌<◌, ◌+◌, ◌∷◌, [], ◌++◌, ℕ, List, fold, length, string_bytes, IsTrue, MatchOption, OnOk};
 ghost use Rattle.net_lex.specs.Characters.{is_quote};
-ghost use Rattle.net_sets.specs.Marks.{stirred};
+ghost use Rattle.net_sets.specs.Hashes.{full_word, packed};
 ghost use Rattle.net_sets.specs.Texts.{text_of, spelled, single, same_text, without_close};
 
-use crate::mark::{stirred, stirred_bytes};
 use net_views::Excerpt;
 use std::alloc::AllocError;
-use std::cmp::Ordering;
+use std::hash::{Hash, Hasher};
 use std::marker::Model;
 
-/// The text of a name or a string, which contracts see as its bytes, a doubled delimiter as one. A name is the same as a
-/// string with its bytes.
+/// The text of a name or a string, which contracts see as its bytes, with a doubled delimiter as
+/// one. A name equals a string with the same bytes.
 #[derive(Drop)]
 pub struct Text<'s> {
-    /// A string as it is written, where a delimiter may stand doubled in it or the text begins with a quote; else the text.
+    /// A string as written, if it contains a doubled delimiter or its text begins with a quote;
+    /// else the text itself.
     text: &'s str,
 }
 
@@ -31,7 +31,7 @@ impl<'s> Model for Text<'s> {
     ghost view = { λ t. text_of t.text.now };
 }
 
-/// What is left behind the first byte, and behind the second of a doubled delimiter.
+/// Returns the bytes after the first one, and after the second one of a doubled delimiter.
 fn behind_first(first: u8, behind: &[u8], doubled: Option<u8>) -> &[u8]
     ensures value { spelled doubled (first ∷ behind.now) ≡ first ∷ spelled doubled result.now }
     ensures shorter { length result.now < length behind.now + 1 }
@@ -43,7 +43,7 @@ fn behind_first(first: u8, behind: &[u8], doubled: Option<u8>) -> &[u8]
     }
 }
 
-/// The first byte of the text, and what is left.
+/// Returns the first byte of the text, and the rest.
 fn first(bytes: &[u8], doubled: Option<u8>) -> Option<(u8, &[u8])>
     ensures { MatchOption result (bytes.now ≡ []) (λ r. (spelled doubled bytes.now ≡ r.0 ∷ spelled doubled r.1.now) × (length r.1.now < length bytes.now)) }
 {
@@ -59,7 +59,7 @@ fn is_quote(byte: u8) -> bool
     byte == b'\'' || byte == b'"'
 }
 
-/// A string behind the quote that opens it, without the one that closes it.
+/// Returns a string without its closing quote, given the text after the opening one.
 fn without_close(behind: &str, quote: u8) -> &str
     requires { IsTrue (is_quote quote) }
     ensures { result.now ≡ without_close quote behind.now }
@@ -70,7 +70,7 @@ fn without_close(behind: &str, quote: u8) -> &str
     }
 }
 
-/// What stands between the delimiters of a string, and the delimiter.
+/// Returns the text between the delimiters of a string, and the delimiter.
 fn between(text: &str) -> Option<(&str, u8)>
     ensures { MatchOption result (text_of text.now ≡ text.now) (λ r. IsTrue (is_quote r.1) × (text_of text.now ≡ single r.1 r.0.now)) }
 {
@@ -80,7 +80,7 @@ fn between(text: &str) -> Option<(&str, u8)>
     }
 }
 
-/// Whether bytes do not begin with a quote, and so are a text as it is.
+/// Returns whether bytes do not begin with a quote, and so are a text themselves.
 fn is_plain(bytes: &[u8]) -> bool
     ensures { IsTrue result → text_of bytes.now ≡ bytes.now }
 {
@@ -90,7 +90,7 @@ fn is_plain(bytes: &[u8]) -> bool
     }
 }
 
-/// What spells a text: bytes, and the delimiter that may stand doubled between them.
+/// Returns the written form of a text: bytes, and the delimiter that can be doubled in them.
 fn spelling(text: &str) -> (&[u8], Option<u8>)
     ensures { spelled result.1 result.0.now ≡ text_of text.now }
 {
@@ -100,7 +100,8 @@ fn spelling(text: &str) -> (&[u8], Option<u8>)
     }
 }
 
-/// What stands between the delimiters of a string, where this is the text as it is; else the string.
+/// Returns the text between the delimiters of a string if that is its text without changes, else
+/// the string.
 fn unquoted<'a>(string: &'a str, delimiter: u8, inside: &'a str) -> &'a str
     requires { text_of string.now ≡ single delimiter inside.now }
     ensures { text_of result.now ≡ text_of string.now }
@@ -113,7 +114,7 @@ fn unquoted<'a>(string: &'a str, delimiter: u8, inside: &'a str) -> &'a str
     }
 }
 
-/// The text of a token as it is, where it stands so in the token; else the token.
+/// Returns the text of a token if it occurs unchanged in the token, else the token.
 fn shortest(token: &str) -> &str
     ensures { text_of result.now ≡ text_of token.now }
 {
@@ -123,7 +124,7 @@ fn shortest(token: &str) -> &str
     }
 }
 
-/// Appends a piece with each doubled delimiter once.
+/// Appends a piece with each doubled delimiter once. Fails only if memory runs out.
 fn append_single(out: &mut String, piece: &str, delimiter: char) -> Result<(), AllocError>
     requires { delimiter < 128 }
     ensures { OnOk result (string_bytes out.new ≡ string_bytes out.old ++ single delimiter piece.now) }
@@ -140,21 +141,51 @@ fn append_single(out: &mut String, piece: &str, delimiter: char) -> Result<(), A
     out.push_str(left)
 }
 
-/// A mark with the bytes of a spelling more.
-fn stirred_spelling(mark: u64, spelling: (&[u8], Option<u8>)) -> u64
-    ensures { result ≡ fold stirred mark (spelled spelling.entry.1 spelling.entry.0.now) }
+/// The least word with a leading 1 and seven bytes.
+const FULL_WORD: u64 = 1 << 56;
+
+/// Appends a byte to a word, and writes the word once it is full. Returns the word that is left.
+#[inline(always)]
+fn hash_byte<H: Hasher>(state: &mut H, word: u64, byte: u8) -> u64
+    requires { word < full_word }
+    ensures fits { result < full_word }
+    ensures value { (bytes : List ℕ) → fold H.write state.new (packed result bytes) ≡ fold H.write state.old (packed word (byte ∷ bytes)) }
+{
+    let next = word * 256 + u64::from(byte);
+    if next < FULL_WORD {
+        next
+    } else {
+        state.write_u64(next);
+        1
+    }
+}
+
+/// Writes bytes to a hasher.
+pub(crate) fn hash_bytes<H: Hasher>(state: &mut H, bytes: &[u8])
+    ensures { state.new ≡ fold H.write state.old (packed 1 bytes.now) }
+{
+    let mut word = 1;
+    for byte in bytes {
+        word = hash_byte(state, word, *byte);
+    }
+    state.write_u64(word);
+}
+
+/// Writes the bytes of a spelling to a hasher, a doubled delimiter once.
+fn hash_spelling<H: Hasher>(state: &mut H, spelling: (&[u8], Option<u8>))
+    ensures { state.new ≡ fold H.write state.old (packed 1 (spelled spelling.entry.1 spelling.entry.0.now)) }
 {
     let (mut left, doubled) = spelling;
-    let mut mark = mark;
-    while let Some((byte, behind)) = first(left, doubled) {
-        mark = stirred(mark, u64::from(byte));
-        left = behind;
+    let mut word = 1;
+    while let Some((byte, rest)) = first(left, doubled) {
+        word = hash_byte(state, word, byte);
+        left = rest;
     }
-    mark
+    state.write_u64(word);
 }
 
 impl<'s> Text<'s> {
-    /// The text of a token that is a name or a string.
+    /// Creates the text of a token that is a name or a string.
     pub fn new(token: &Excerpt<'s>) -> Text<'s>
         ensures { result ≡ text_of token.now }
     {
@@ -163,7 +194,7 @@ impl<'s> Text<'s> {
         }
     }
 
-    /// Appends the text. Where memory is short the first bytes of it may have been appended.
+    /// Appends the text. If memory runs out, some bytes may have been appended.
     pub fn append_to(&self, out: &mut String) -> Result<(), AllocError>
         ensures { OnOk result (string_bytes out.new ≡ string_bytes out.old ++ self.now) }
     {
@@ -173,20 +204,14 @@ impl<'s> Text<'s> {
         }
     }
 
-    /// A mark with this text more, behind a byte that no text has.
-    pub(crate) fn stirred_into(&self, mark: u64) -> u64
-        ensures { result ≡ fold stirred (stirred mark 255) self.now }
+    /// Returns the text as the source spells it, or without its quotes if nothing is doubled inside.
+    pub(crate) fn as_written(&self) -> &'s str
+        ensures { text_of result.now ≡ self.now }
     {
-        let begun = stirred(mark, 255);
-        let bytes = self.text.as_bytes();
-        if is_plain(bytes) {
-            stirred_bytes(begun, bytes)
-        } else {
-            stirred_spelling(begun, spelling(self.text))
-        }
+        self.text
     }
 
-    /// The same text once more; no byte is copied.
+    /// Returns a copy of the text; copies no bytes.
     pub fn again(&self) -> Text<'s>
         ensures { result ≡ self.now }
     {
@@ -194,7 +219,7 @@ impl<'s> Text<'s> {
     }
 }
 
-/// Whether two spellings are of the same text.
+/// Returns whether two written forms are of the same text.
 fn is_same(a: (&[u8], Option<u8>), b: (&[u8], Option<u8>)) -> bool
     ensures { result ≡ same_text (spelled a.entry.1 a.entry.0.now) (spelled b.entry.1 b.entry.0.now) }
 {
@@ -210,30 +235,6 @@ fn is_same(a: (&[u8], Option<u8>), b: (&[u8], Option<u8>)) -> bool
         }
     }
     right.is_empty()
-}
-
-/// How two spellings compare, byte by byte of their texts.
-fn compare(a: (&[u8], Option<u8>), b: (&[u8], Option<u8>)) -> Ordering
-    ensures { result ≡ slice_cmp nat_cmp (spelled a.entry.1 a.entry.0.now) (spelled b.entry.1 b.entry.0.now) }
-{
-    let (mut left, a_doubled) = a;
-    let (mut right, b_doubled) = b;
-    while let Some((x, left_behind)) = first(left, a_doubled) {
-        match first(right, b_doubled) {
-            None => return Ordering::Greater,
-            Some((y, right_behind)) => match x.cmp(&y) {
-                Ordering::Equal => {
-                    left = left_behind;
-                    right = right_behind;
-                }
-                unequal => return unequal,
-            },
-        }
-    }
-    match first(right, b_doubled) {
-        None => Ordering::Equal,
-        Some(_) => Ordering::Less,
-    }
 }
 
 impl<'s> PartialEq for Text<'s> {
@@ -263,42 +264,21 @@ impl<'s> Eq for Text<'s> {
     ghost laws = { Prim.search (comparing, rules) };
 }
 
-impl<'s> PartialOrd for Text<'s> {
-    ghost use Rattle.std.specs.Prelude.{Some};
-    ghost use Rattle.std.specs.Ordering.{nat_cmp};
-    ghost use Rattle.std.specs.Cmp.Lexicographic.{slice_cmp};
-    ghost use Rattle.std.specs.Cmp.Rules.{comparing};
+impl<'s> Hash for Text<'s> {
+    ghost use Rattle.std.specs.Cmp.Rules.{hashing};
     ghost use Rattle.std.proofs.Common.{rules};
+    ghost use Rattle.net_sets.specs.Hashes.{packed};
 
-    ghost partial_cmp = { λ x y. Some (slice_cmp nat_cmp x y) };
+    ghost hash_input = { packed 1 };
 
-    ghost laws = { Prim.search (comparing, rules) };
+    ghost respects_eq = { Prim.search (hashing, rules) };
 
-    fn partial_cmp(&self, other: &Text<'s>) -> Option<Ordering> {
-        Some(self.cmp(other))
-    }
-}
-
-impl<'s> Ord for Text<'s> {
-    ghost use Rattle.std.specs.Ordering.{nat_cmp};
-    ghost use Rattle.std.specs.Cmp.Lexicographic.{slice_cmp};
-    ghost use Rattle.std.specs.Cmp.Rules.{comparing};
-    ghost use Rattle.std.proofs.Common.{rules};
-
-    ghost cmp = { slice_cmp nat_cmp };
-
-    ghost total = { Prim.search (comparing, rules) };
-
-    ghost matches_partial_cmp = { Prim.search (comparing, rules) };
-
-    ghost matches_eq = { Prim.search (comparing, rules) };
-
-    fn cmp(&self, other: &Text<'s>) -> Ordering {
-        let (bytes, others) = (self.text.as_bytes(), other.text.as_bytes());
-        if is_plain(bytes) && is_plain(others) {
-            bytes.cmp(others)
+    fn hash<H: Hasher>(&self, state: &mut H) {
+        let bytes = self.text.as_bytes();
+        if is_plain(bytes) {
+            hash_bytes(state, bytes);
         } else {
-            compare(spelling(self.text), spelling(other.text))
+            hash_spelling(state, spelling(self.text));
         }
     }
 }

@@ -1,16 +1,15 @@
+//! Tuples of up to four members.
+
 ghost use Rattle.std.specs.Prelude.{◌≡◌, ◌<◌, ◌+◌, ◌≤◌, ◌↔◌, IsTrue, [], ◌∷◌, ◌++◌, length};
 ghost use Rattle.net_sets.specs.Limits.{arity_limit};
-ghost use Rattle.net_sets.specs.Marks.{mark_of};
 
 use crate::member::Member;
 use arrayvec::ArrayVec;
+use std::hash::{Hash, Hasher};
 use std::marker::Model;
 
-/// The mark of the tuple without members, from which FNV-1a begins.
-const NO_MEMBERS: u64 = 14695981039346656037;
-
-/// Up to four members, which contracts see as their list.
-#[derive(PartialEq, Eq, PartialOrd, Ord, Drop)]
+/// Up to four members, which contracts see as a list.
+#[derive(PartialEq, Eq, Drop)]
 pub struct Tuple<'s> {
     members: ArrayVec<Member<'s>, 4>,
 }
@@ -27,7 +26,7 @@ impl<'s> Model for Tuple<'s> {
 }
 
 impl<'s> Tuple<'s> {
-    /// The tuple without members.
+    /// Creates the empty tuple.
     pub fn new() -> Tuple<'s>
         ensures { result ≡ [] }
     {
@@ -36,7 +35,7 @@ impl<'s> Tuple<'s> {
         }
     }
 
-    /// The tuple of one member.
+    /// Creates a tuple of one member.
     pub fn single(member: Member<'s>) -> Tuple<'s>
         ensures { result ≡ member.entry ∷ [] }
     {
@@ -45,7 +44,7 @@ impl<'s> Tuple<'s> {
         tuple
     }
 
-    /// How many members it has, from 0 to 4.
+    /// Returns the number of members, from 0 to 4.
     pub fn len(&self) -> usize
         ensures value { result ≡ length self.now }
         ensures fits { result ≤ arity_limit }
@@ -53,14 +52,14 @@ impl<'s> Tuple<'s> {
         self.members.len()
     }
 
-    /// Whether one more member has a place.
+    /// Returns whether another member fits.
     pub fn has_room(&self) -> bool
         ensures { IsTrue result ↔ (length self.now < arity_limit) }
     {
         !self.members.is_full()
     }
 
-    /// Puts a member behind the others.
+    /// Appends a member.
     pub fn add(&mut self, member: Member<'s>)
         requires { length self.old < arity_limit }
         ensures { self.new ≡ self.old ++ member.entry ∷ [] }
@@ -68,7 +67,7 @@ impl<'s> Tuple<'s> {
         self.members.push(member);
     }
 
-    /// The members in order.
+    /// Returns the members in order.
     pub fn as_slice(&self) -> &[Member<'s>]
         ensures members { result.now ≡ self.now }
         ensures fits { length result.now ≤ arity_limit }
@@ -76,7 +75,7 @@ impl<'s> Tuple<'s> {
         self.members.as_slice()
     }
 
-    /// The members of this tuple, and those of another behind them.
+    /// Returns the members of this tuple followed by those of another.
     pub fn beside(&self, other: &Tuple<'s>) -> Tuple<'s>
         requires { length self.now + length other.now ≤ arity_limit }
         ensures { result ≡ self.now ++ other.now }
@@ -88,19 +87,7 @@ impl<'s> Tuple<'s> {
         both
     }
 
-    /// A number by which the tuple is found, which others may have too.
-    #[tactic(auto, unfolding(crate::specs::Marks::mark_of))]
-    pub(crate) fn mark(&self) -> u64
-        ensures { result ≡ mark_of self.now }
-    {
-        let mut mark = NO_MEMBERS;
-        for member in self.as_slice() {
-            mark = member.stirred_into(mark);
-        }
-        mark
-    }
-
-    /// The same tuple once more.
+    /// Returns a copy of the tuple.
     pub fn again(&self) -> Tuple<'s>
         ensures { result ≡ self.now }
     {
@@ -110,5 +97,19 @@ impl<'s> Tuple<'s> {
             copy.add(member.again());
         }
         copy
+    }
+}
+
+impl<'s> Hash for Tuple<'s> {
+    ghost use Rattle.std.proofs.Common.{refl};
+    ghost use Rattle.net_sets.specs.Hashes.{tuple_writes};
+    ghost use Rattle.net_sets.specs.EqualHashes.{equal_member_writes, equal_tuple_writes, equal_numbers, equal_texts};
+
+    ghost hash_input = { tuple_writes };
+
+    ghost respects_eq = { equal_tuple_writes _ (equal_member_writes _ equal_numbers equal_texts (λ a b. refl) (λ a b. refl)) };
+
+    fn hash<H: Hasher>(&self, state: &mut H) {
+        Hash::hash_slice(self.as_slice(), state);
     }
 }

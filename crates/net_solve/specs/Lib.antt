@@ -1,1 +1,9 @@
+pub mod Bounds
+pub mod Forests
+pub mod Machines
+pub mod Pseudoflows
+pub mod Rounding
+pub mod Rows
+pub mod Runs
+pub mod ScalingRuns
 pub mod Settling

@@ -1,12 +1,47 @@
-//! Solvers of minimum-cost flow problems whose answers are certificates: one that always has an answer, and one whose run is counted.
+//! Solvers of minimum-cost flow problems whose answers are certificates.
+//!
+//! `Plain` always has an answer: a heuristic proposes one, and the verified primal-dual algorithm starts from it. `Scaling` is cost
+//! scaling by itself, whose phases and steps are counted.
 #![tactic(auto)]
 
-mod settling;
+mod amounts;
+mod balancing;
+mod carried;
+mod choice;
+mod discharging;
+mod ending;
+mod forest;
+mod forest_lowering;
+mod gaps;
+mod growing;
+mod lowering;
+mod machine;
+mod machine_start;
+mod phase_loop;
+mod primal_dual;
+mod pseudoflow;
+mod pseudoflow_start;
+mod pulling;
+mod pushing;
+mod reduced;
+mod rounding;
+mod row_building;
+mod row_tests;
+mod rows;
+mod run_laws;
+mod saturating;
+mod scaling;
+mod scanning;
+mod sending;
+mod slack;
 mod solver;
+mod solving;
 
-/// What `solve` answers: a certificate of the problem, which has been shown to be one.
+pub use choice::{FirstSolver, first_solver};
+/// What `solve` returns: a verified certificate of the problem.
 pub use net_check::Certificate as Settled;
 pub use net_guess::{Guess, find_guess};
-pub use net_scaling::{Scaling, ScalingRun};
-pub use settling::{first_asked, solve};
+pub use primal_dual::settle;
+pub use scaling::{Scaling, ScalingRun};
 pub use solver::{Plain, Solver};
+pub use solving::{solve, solve_problem};

@@ -1,4 +1,4 @@
-//! The calls on texts in memory: what each answers where there is memory, and its first fault.
+//! Calls on inputs in memory: their results with enough memory, and their first errors.
 
 use crate::comparison::expect;
 use crate::texts::{CERTIFICATE, COMPILED, DATA, MODEL, PLAN, PROBLEM};
@@ -6,7 +6,7 @@ use net_driver::{Fault, check_bytes, compile, solve_min, solve_model};
 use std::alloc::{AllocError, Global};
 use std::test::Fail;
 
-/// A text in memory as a text to compare, or the line of a fault.
+/// Returns an output, or the line of an error, for comparison.
 pub fn shown(alloc: Global, answered: Result<&[u8], Fault>) -> Result<String, AllocError> {
     match answered {
         Ok(text) => String::from_utf8_lossy(alloc, text),
@@ -44,7 +44,7 @@ fn checked(alloc: Global, certificate: &[u8]) -> Result<String, AllocError> {
 
 const LACKS_A_MARK: &[u8] = b"node A: net_out = 2";
 
-/// Models, with the compiled text or the fault.
+/// Models, with the compiled text or the error.
 const COMPILE: &[(&[u8], &str)] = &[(MODEL, COMPILED), (LACKS_A_MARK, "E10 Syntax model 1:20")];
 
 #[test]
@@ -55,7 +55,7 @@ fn models_are_compiled(rt: HostRuntime) -> Result<(), Fail> {
     Ok(())
 }
 
-/// Models, with the plan or the fault.
+/// Models, with the plan or the error.
 const SOLVE: &[(&[u8], &str)] = &[(MODEL, PLAN), (LACKS_A_MARK, "E10 Syntax model 1:20")];
 
 #[test]
@@ -66,7 +66,7 @@ fn models_are_solved(rt: HostRuntime) -> Result<(), Fail> {
     Ok(())
 }
 
-/// Problems, with the certificate or the fault.
+/// Problems, with the certificate or the error.
 const MIN: &[(&str, &str)] = &[
     (PROBLEM, CERTIFICATE),
     ("p min 0 0\n", "E75 Count problem 1"),
@@ -80,7 +80,7 @@ fn problems_are_settled(rt: HostRuntime) -> Result<(), Fail> {
     Ok(())
 }
 
-/// Certificates of the problem, with the verdict or the fault.
+/// Certificates of the problem, with the verdict or the error.
 const CHECK: &[(&str, &str)] = &[
     (CERTIFICATE, "Yes"),
     (

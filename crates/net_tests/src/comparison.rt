@@ -1,13 +1,14 @@
-//! The comparison that tests make.
+//! The comparison in tests.
 
 ghost use Rattle.std.specs.Prelude.{◌≡◌, IsOk, IfOk};
 
 use std::alloc::AllocError;
 use std::test::Fail;
 
-/// Compares what a text was answered with what is wanted.
+/// Compares the result for an input with the expected one.
 ///
-/// Fails where the two differ, and tells the text and both; fails too where memory ran out before there was an answer.
+/// Fails if they differ, with the input and both results as the message, and if memory ran out
+/// before there was a result.
 pub fn expect(text: &str, answered: Result<String, AllocError>, wanted: &str) -> Result<(), Fail>
     ensures answered { IsOk result → IsOk answered }
     ensures refuses { IsOk result → IfOk answered (λ told. told.bytes.items ≡ wanted.now) }

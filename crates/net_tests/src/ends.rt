@@ -1,13 +1,14 @@
-//! Ends in memory, which fail at each call.
+//! Streams in memory that fail at each call.
 
 use crate::comparison::expect;
-use net_io::{MemorySink, MemorySource, ReadFault, read_to_limit, write_whole};
+use crate::filling::Filling;
+use net_io::{MemorySink, MemorySource, OfWrite, ReadFault, read_to_limit, write_whole};
 use std::alloc::{AllocError, Global};
 use std::test::Fail;
 
 const FIVE: &[u8] = &[1, 2, 3, 4, 5];
 
-/// What is read of five bytes, one a call, where this many calls succeed.
+/// Returns the result of reading five bytes, one in each call, if this many calls succeed.
 fn read_of(alloc: Global, calls: u64) -> Result<String, AllocError> {
     let mut source = MemorySource::new(FIVE, 1, Some(calls));
     match read_to_limit(alloc, &mut source, 9) {
@@ -17,7 +18,7 @@ fn read_of(alloc: Global, calls: u64) -> Result<String, AllocError> {
     }
 }
 
-/// How many calls succeed, and what is read. The sixth is for the end.
+/// The number of calls that succeed, and the result of reading. The sixth call reads the end.
 const READS: &[(u64, &str)] = &[
     (0, "failed"),
     (1, "failed"),
@@ -36,14 +37,15 @@ fn a_source_fails_at_each_call(rt: HostRuntime) -> Result<(), Fail> {
     Ok(())
 }
 
-/// What a sink with this room took of five bytes, two a call, where this many calls succeed; and whether all was written.
+/// Returns which of five bytes a sink with this capacity accepts, two in each call, if this many
+/// calls succeed; and whether all were written.
 fn written_to(alloc: Global, room: usize, calls: Option<u64>) -> Result<String, AllocError> {
     let mut sink = MemorySink::new(Vec::with_capacity(alloc, room)?, 2, calls);
     let wrote = write_whole(&mut sink, FIVE).is_ok();
     format!(in alloc; "{:?} {wrote}", sink.taken)
 }
 
-/// The room of a sink, how many of its calls succeed, and what is written.
+/// The capacity of a sink, the number of calls that succeed, and the result.
 const WRITES: &[(usize, Option<u64>, &str)] = &[
     (9, Some(0), "[] false"),
     (9, Some(1), "[1, 2] false"),
@@ -58,6 +60,30 @@ const WRITES: &[(usize, Option<u64>, &str)] = &[
 fn a_sink_fails_at_each_call(rt: HostRuntime) -> Result<(), Fail> {
     for (room, calls, wanted) in WRITES {
         expect(wanted, written_to(rt.alloc(), *room, *calls), wanted)?;
+    }
+    Ok(())
+}
+
+/// What a writer with this room took of five bytes; and whether all was written.
+fn filled(alloc: Global, room: usize) -> Result<String, AllocError> {
+    let mut sink = OfWrite::new(Filling::new(alloc, room));
+    let wrote = write_whole(&mut sink, FIVE).is_ok();
+    let failed = sink.failed;
+    format!(in alloc; "{:?} {wrote}, failed {failed}", sink.writer.taken)
+}
+
+/// The room of a writer, and what is written: a write of no byte is a failed one.
+const FILLED: &[(usize, &str)] = &[
+    (0, "[] false, failed true"),
+    (1, "[1] false, failed true"),
+    (4, "[1, 2, 3, 4] false, failed true"),
+    (5, "[1, 2, 3, 4, 5] true, failed false"),
+];
+
+#[test]
+fn a_writer_that_takes_nothing_has_failed(rt: HostRuntime) -> Result<(), Fail> {
+    for (room, wanted) in FILLED {
+        expect(wanted, filled(rt.alloc(), *room), wanted)?;
     }
     Ok(())
 }

@@ -1,51 +1,51 @@
-//! What problems, given as texts, are settled by, whatever is guessed of them.
+//! Solutions of problems from any initial guess.
 use crate::comparison::expect;
 use net_check::Certificate;
 use net_dimacs::read_problem;
-use net_growth::settle;
+use net_solve::settle;
 use std::alloc::{AllocError, Global};
 use std::test::Fail;
 
-/// Problems, and what settles them: the value and the flows, or the side and the flags of a cut.
+/// Problems with their solutions: the value and the flows, or the side and the flags of a cut.
 const PROBLEMS: &[(&str, &str)] = &[
-    // The triangle: the way round costs 2 a unit, the straight one 3.
+    // The triangle: the path through node 2 costs 2 a unit, the direct arc 3.
     (
         "p min 3 3\nn 1 4\nn 3 -4\na 1 2 2 5 1\na 1 3 0 5 3\na 2 3 0 5 1\n",
         "8 [4, 0, 4]",
     ),
-    // With 7 to send, the way round is full at 5.
+    // With 7 units to send, the path through node 2 is saturated at 5.
     (
         "p min 3 3\nn 1 7\nn 3 -7\na 1 2 2 5 1\na 1 3 0 5 3\na 2 3 0 5 1\n",
         "16 [5, 2, 5]",
     ),
-    // Greatest numbers: a loop that saves.
+    // The largest numbers: a loop with negative cost.
     (
         "p min 1 1\na 1 1 0 1000000000000000000 -1000000000000\n",
         "-1000000000000000000000000000000 [1000000000000000000]",
     ),
     // One node.
     ("p min 1 0\n", "0 []"),
-    // A circle that saves 1 a unit, with nothing to send.
+    // A cycle that saves 1 a unit, without supply.
     (
         "p min 3 3\na 1 2 0 4 1\na 2 3 0 3 -3\na 3 1 0 9 1\n",
         "-3 [3, 3, 3]",
     ),
-    // Two sources and two sinks: 1 sends to 4 and 2 to 3, though 1 to 3 is cheapest.
+    // Two sources and two sinks: 1 sends to 4 and 2 to 3, although 1 to 3 is cheapest.
     (
         "p min 4 4\nn 1 5\nn 2 5\nn 3 -5\nn 4 -5\na 1 3 0 5 1\na 1 4 0 5 2\na 2 3 0 5 2\na 2 4 0 5 9\n",
         "20 [0, 5, 5, 0]",
     ),
-    // Node 1 has 11, and 10 can leave it.
+    // Node 1 supplies 11 units, but only 10 can leave it.
     (
         "p min 3 3\nn 1 11\nn 3 -11\na 1 2 2 5 1\na 1 3 0 5 3\na 2 3 0 5 1\n",
         "Over [true, false, false]",
     ),
-    // One unit more is wanted than there is.
+    // The demand exceeds the supply by one unit.
     (
         "p min 3 3\nn 1 4\nn 3 -5\na 1 2 2 5 1\na 1 3 0 5 3\na 2 3 0 5 1\n",
         "Under [true, true, true]",
     ),
-    // One unit more is there than is wanted.
+    // The supply exceeds the demand by one unit.
     (
         "p min 3 3\nn 1 5\nn 3 -4\na 1 2 2 5 1\na 1 3 0 5 3\na 2 3 0 5 1\n",
         "Over [true, true, true]",
@@ -65,7 +65,7 @@ const GUESSES: &[(&[i64], &[i64])] = &[
     (&[0, 5], &[7, 7, -7]),
 ];
 
-/// A certificate: the value and the flows, or the side and the flags of a cut.
+/// Formats a certificate: the value and the flows, or the side and the flags of a cut.
 pub fn told(alloc: Global, certificate: &Certificate) -> Result<String, AllocError> {
     match certificate {
         Certificate::Optimal { value, flows, .. } => format!(in alloc; "{value} {flows:?}"),
@@ -73,7 +73,7 @@ pub fn told(alloc: Global, certificate: &Certificate) -> Result<String, AllocErr
     }
 }
 
-/// What settles the problem of a text, from a guess.
+/// Returns the solution of the problem in a text, from an initial guess.
 fn settled(
     alloc: Global,
     text: &str,
@@ -86,7 +86,7 @@ fn settled(
     }
 }
 
-/// Settles all problems from one guess.
+/// Solves all problems from one initial guess.
 fn all_are_settled(alloc: Global, flows: &[i64], potentials: &[i64]) -> Result<(), Fail> {
     for (problem, answer) in PROBLEMS {
         expect(problem, settled(alloc, problem, flows, potentials), answer)?;

@@ -1,15 +1,28 @@
-//! Tests of what the program cannot show: texts in memory, ends that fail at each call or give and take one byte at a time, guesses and
-//! solvers that are given, counted runs, and certificates that no text can be; and the comparison that they make. All else stands in
-//! `examples/rows`, which the program is tried on.
+//! Tests of behavior that the program does not expose: library calls one by one, inputs in memory,
+//! streams that fail at each call or transfer one byte at a time, initial guesses, custom solvers,
+//! step counts, and certificates that no file can contain; with the comparison that they use. All
+//! other cases are in `examples/rows`, which run the program.
 #![tactic(auto)]
 
 #[cfg(test)]
+mod asking;
+#[cfg(test)]
 mod calls;
+#[cfg(test)]
+mod choices;
 mod comparison;
 #[cfg(test)]
 mod ends;
 #[cfg(test)]
+mod filling;
+#[cfg(test)]
 mod guesses;
+#[cfg(test)]
+mod instances;
+#[cfg(test)]
+mod numerals;
+#[cfg(test)]
+mod pieces;
 #[cfg(test)]
 mod runs;
 #[cfg(test)]
@@ -19,8 +32,14 @@ mod shapes;
 #[cfg(test)]
 mod solvers;
 #[cfg(test)]
+mod steps;
+#[cfg(test)]
 mod texts;
 #[cfg(test)]
 mod trials;
+#[cfg(test)]
+mod values;
+#[cfg(test)]
+mod worlds;
 
 pub use comparison::expect;

@@ -1,11 +1,12 @@
-//! Ends that fail at each call in turn, and ends that give and take one byte at a time.
+//! Streams that fail at each call in turn, and streams that transfer one byte at a time.
 
 use crate::comparison::expect;
-use crate::trials::{Pace, Run, Trial, answer_of, ran, texts_of};
+use crate::trials::{Pace, Run, Trial, answer_of, filled, ran, texts_of};
 use std::alloc::{AllocError, Global};
 use std::test::Fail;
 
-/// The runs, with what their first and their second source are called where they cannot be read.
+/// The runs, with the beginning of the message if their first or their second source cannot be
+/// read.
 const RUNS: &[(Run, &str, &str)] = &[
     (
         Run::Compile,
@@ -22,7 +23,8 @@ const RUNS: &[(Run, &str, &str)] = &[
 
 const ALL: &[Run] = &[Run::Compile, Run::Solve, Run::Check, Run::Min];
 
-/// What a run comes to that reads its texts byte by byte: one read a byte and one that sees the end.
+/// Returns the expected result of a run that reads its inputs byte by byte: one read for each byte,
+/// and one for the end.
 fn whole(alloc: Global, run: Run) -> Result<String, AllocError> {
     let (first, second) = texts_of(run);
     let first = first.len() + 1;
@@ -47,7 +49,7 @@ fn a_byte_at_a_time_changes_nothing(rt: HostRuntime) -> Result<(), Fail> {
     Ok(())
 }
 
-/// What comes of a run whose first source fails behind so many reads.
+/// Returns the result of a run whose first source fails after `reads` reads.
 fn first_fails(alloc: Global, run: Run, reads: usize) -> Result<String, AllocError> {
     let mut trial = Trial::of(run, Pace::Bytes);
     trial.first_reads = Some(reads as u64);
@@ -82,7 +84,7 @@ fn the_problem_of_min_fails_at_each_read(rt: HostRuntime) -> Result<(), Fail> {
     Ok(())
 }
 
-/// What comes of a run whose second source fails behind so many reads.
+/// Returns the result of a run whose second source fails after `reads` reads.
 fn second_fails(alloc: Global, run: Run, reads: usize) -> Result<String, AllocError> {
     let mut trial = Trial::of(run, Pace::Bytes);
     trial.second_reads = Some(reads as u64);
@@ -104,14 +106,14 @@ fn the_second_text_fails_at_each_read(rt: HostRuntime) -> Result<(), Fail> {
     Ok(())
 }
 
-/// What comes of a run whose output fails behind so many writes of one byte each.
+/// Returns the result of a run whose output fails after `writes` writes of one byte each.
 fn output_fails(alloc: Global, run: Run, writes: usize) -> Result<String, AllocError> {
     let mut trial = Trial::of(run, Pace::Bytes);
     trial.writes = Some(writes as u64);
     ran(alloc, trial)
 }
 
-/// The line of a failed write, with the front of the answer that went out.
+/// Returns the line of a failed write, with the prefix of the output that was written.
 fn front(alloc: Global, run: Run, bytes: usize) -> Result<String, AllocError> {
     let answer = answer_of(run).as_bytes();
     let text = String::from_utf8_lossy(alloc, &answer[..bytes.min(answer.len())])?;
@@ -126,6 +128,21 @@ fn the_output_fails_at_each_write(rt: HostRuntime) -> Result<(), Fail> {
             expect(
                 "a write",
                 output_fails(rt.alloc(), *run, writes),
+                wanted.as_str(),
+            )?;
+        }
+    }
+    Ok(())
+}
+
+#[test]
+fn the_output_takes_nothing_at_each_write(rt: HostRuntime) -> Result<(), Fail> {
+    for run in ALL {
+        for room in 0..answer_of(*run).len() {
+            let wanted = front(rt.alloc(), *run, room)?;
+            expect(
+                "a full writer",
+                filled(rt.alloc(), *run, room),
                 wanted.as_str(),
             )?;
         }

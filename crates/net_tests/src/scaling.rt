@@ -1,4 +1,4 @@
-//! Counted runs of cost scaling, which the program does not show.
+//! Step counts of cost scaling, which the program does not print.
 
 use crate::comparison::expect;
 use crate::guesses::told;
@@ -9,10 +9,10 @@ use net_solve::{Scaling, solve};
 use std::alloc::{AllocError, Global};
 use std::test::Fail;
 
-/// The problem of three nodes with one unit more at node 1 than can leave it.
+/// A problem with three nodes whose node 1 supplies one unit more than can leave it.
 const FULL: &str = "p min 3 3\nn 1 11\nn 3 -11\na 1 2 2 5 1\na 1 3 0 5 3\na 2 3 0 5 1\n";
 
-/// What a run with a budget comes to.
+/// Returns the result of a run with a budget.
 fn ran(alloc: Global, text: &str, budget: u64) -> Result<String, AllocError> {
     let Ok(problem) = read_problem(alloc, text.as_bytes()) else {
         return Err(AllocError);
@@ -34,7 +34,7 @@ fn ran(alloc: Global, text: &str, budget: u64) -> Result<String, AllocError> {
     }
 }
 
-/// What settles a problem, where such a run is asked first.
+/// Returns the solution of a problem if such a run is tried first.
 fn settled(alloc: Global, text: &str, budget: u64) -> Result<String, AllocError> {
     match read_problem(alloc, text.as_bytes()) {
         Ok(problem) => told(alloc, &solve(alloc, &Scaling { budget }, &problem)?),
@@ -42,7 +42,7 @@ fn settled(alloc: Global, text: &str, budget: u64) -> Result<String, AllocError>
     }
 }
 
-/// Budgets with problems, what a run comes to, and what settles the problem.
+/// Budgets and problems, the results of the runs, and the solutions.
 const RUNS: &[(u64, &str, &str, &str)] = &[
     (0, PROBLEM, "none, no step", "8 [4, 0, 4]"),
     (
@@ -75,7 +75,8 @@ fn plain_answers_where_a_run_has_none(rt: HostRuntime) -> Result<(), Fail> {
     Ok(())
 }
 
-/// A problem of which a run takes more than five steps, and comes to its budget where an arc still saves.
+/// A problem for which a run takes more than five steps, and reaches its budget while an arc still
+/// has negative reduced cost.
 const SAVES: &str =
     "p min 3 8\nn 1 305303620614998992\nn 2 489773721715027685\nn 3 -795077342330026677\n\
 a 3 2 0 560316048550173035 7\na 2 3 0 791495754330639556 1\na 2 3 0 646105778759037955 -2\n\

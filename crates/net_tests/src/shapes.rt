@@ -1,4 +1,5 @@
-//! Certificates with a number too few, which no text can be: its missing line is told first.
+//! Certificates with a list that is too short, which no file can contain: reading reports the
+//! missing line first.
 
 use crate::comparison::expect;
 use net_check::{Certificate, Side, check};
@@ -35,7 +36,7 @@ fn verdict(alloc: Global, problem: &Problem, claim: &Claim) -> Result<String, Al
     format!(in alloc; "{verdict:?}")
 }
 
-/// What the check says of a claim beside the triangle.
+/// Returns the verdict on a claim about the triangle.
 fn answer(alloc: Global, claim: &Claim) -> Result<String, AllocError> {
     match read_problem(alloc, TRIANGLE.as_bytes()) {
         Ok(problem) => verdict(alloc, &problem, claim),

@@ -1,13 +1,14 @@
-//! The four runs between ends in memory.
+//! The four runs between streams in memory.
 
 ghost use Rattle.std.specs.Prelude.{◌≡◌, ◌≤◌, false};
 
+use crate::filling::Filling;
 use crate::texts::{CERTIFICATE, COMPILED, DATA, MODEL, PLAN, PROBLEM};
 use net_driver::{Fault, run_check, run_compile, run_min, run_solve};
-use net_io::{MemorySink, MemorySource};
+use net_io::{MemorySink, MemorySource, OfWrite, Sink};
 use std::alloc::{AllocError, Global};
 
-/// Which of the four runs is tried.
+/// One of the four runs.
 #[derive(Clone, Copy)]
 pub enum Run {
     Compile,
@@ -16,7 +17,7 @@ pub enum Run {
     Min,
 }
 
-/// How much goes over an end at once.
+/// How many bytes a stream transfers in one call.
 #[derive(Clone, Copy)]
 pub enum Pace {
     Bytes,
@@ -34,7 +35,8 @@ impl Pace {
     }
 }
 
-/// What is tried: a run, how much goes over an end at once, and how many calls of each end succeed where not all do.
+/// A run, the number of bytes in each call, and the number of calls of each stream that succeed, if
+/// not all do.
 #[derive(Clone, Copy)]
 pub struct Trial {
     pub run: Run,
@@ -45,7 +47,7 @@ pub struct Trial {
 }
 
 impl Trial {
-    /// A run of which no end fails.
+    /// Builds a trial in which no stream fails.
     pub fn of(run: Run, pace: Pace) -> Trial {
         Trial {
             run,
@@ -57,7 +59,7 @@ impl Trial {
     }
 }
 
-/// The texts that a run reads, the first and the second.
+/// Returns the two inputs of a run.
 pub fn texts_of(run: Run) -> (&'static [u8], &'static [u8]) {
     match run {
         Run::Compile | Run::Solve => (MODEL, DATA),
@@ -66,7 +68,7 @@ pub fn texts_of(run: Run) -> (&'static [u8], &'static [u8]) {
     }
 }
 
-/// What it writes for them.
+/// Returns the expected output for these inputs.
 pub fn answer_of(run: Run) -> &'static str {
     match run {
         Run::Compile => COMPILED,
@@ -76,17 +78,17 @@ pub fn answer_of(run: Run) -> &'static str {
     }
 }
 
-/// Runs between these ends, and answers its fault, if there is one.
-fn fault_of(
+/// Runs with these streams, and returns the error if there is one.
+fn fault_of<W: Sink>(
     alloc: Global,
     run: Run,
     first: &mut MemorySource<'_>,
     second: &mut MemorySource<'_>,
-    sink: &mut MemorySink,
+    sink: &mut W,
 ) -> Option<Fault>
     requires first_unread { first.old.failed ≡ false }
     requires second_unread { second.old.failed ≡ false }
-    requires unwritten { sink.old.failed ≡ false }
+    requires unwritten { W.failed sink.old ≡ false }
 {
     match run {
         Run::Compile => run_compile(alloc, first, second, sink).err(),
@@ -96,7 +98,8 @@ fn fault_of(
     }
 }
 
-/// What came of a trial: the fault, how many reads of each source there were, and what was written.
+/// Formats the result of a trial: the error, the number of reads of each source, and what was
+/// written.
 fn told(
     alloc: Global,
     fault: Option<Fault>,
@@ -111,7 +114,7 @@ fn told(
     }
 }
 
-/// What comes of a trial.
+/// Returns the result of a trial.
 pub fn ran(alloc: Global, trial: Trial) -> Result<String, AllocError> {
     let (one, other) = texts_of(trial.run);
     let bytes = trial.pace.bytes_per_call();
@@ -120,4 +123,19 @@ pub fn ran(alloc: Global, trial: Trial) -> Result<String, AllocError> {
     let mut sink = MemorySink::new(Vec::with_capacity(alloc, 4096)?, bytes, trial.writes);
     let fault = fault_of(alloc, trial.run, &mut first, &mut second, &mut sink);
     told(alloc, fault, (first.reads, second.reads), &sink.taken)
+}
+
+/// What comes of a run that writes to a writer with this room, a byte a call.
+pub fn filled(alloc: Global, run: Run, room: usize) -> Result<String, AllocError> {
+    let (one, other) = texts_of(run);
+    let mut first = MemorySource::new(one, 4096, None);
+    let mut second = MemorySource::new(other, 4096, None);
+    let mut sink = OfWrite::new(Filling::new(alloc, room));
+    let fault = fault_of(alloc, run, &mut first, &mut second, &mut sink);
+    told(
+        alloc,
+        fault,
+        (first.reads, second.reads),
+        &sink.writer.taken,
+    )
 }

@@ -1,4 +1,5 @@
--- Which conditions of nodes are written as the grammar wants: sums and bounds, where one sum has one net term.
+-- Which conditions of nodes are well-formed: sums and comparisons in which exactly one sum has one
+-- net term.
 use Rattle.std.specs.Prelude.{◌≡◌, ◌≤◌, ◌⊎◌, ℕ, ◌+◌, Bool, true, false, None}
 use Rattle.net_tree.specs.declared.operator.Words.TheVariants.{One, Two}
 use Rattle.net_tree.specs.declared.role.Relation.TheVariants as relations
@@ -13,7 +14,7 @@ use Rattle.net_tree.specs.WellFormed.{precedence, IsWellFormed, IsLinked}
 abbrev pub IsSum : Tree → Type 0
 IsSum x = IsWellFormed x × (precedence x ≤ of_sum)
 
--- a term is a product or a net term, and the first term may be a net term with a sign
+-- a term is a product or a net term; the first term can also be a signed net term
 abbrev pub IsFirstTerm : Tree → Type 0
 IsFirstTerm (net s w) = IsWellFormed (net s w)
 IsFirstTerm x = IsWellFormed x × (precedence x ≤ of_product)
@@ -22,13 +23,13 @@ abbrev pub IsFurtherTerm : Tree → Type 0
 IsFurtherTerm (net s w) = (s ≡ None) × (is_net (role_of w) ≡ true)
 IsFurtherTerm x = IsWellFormed x × (precedence x ≤ of_product)
 
--- terms with `+` and `-` before them
+-- the further terms, each after `+` or `-`
 abbrev pub AreTerms : Links → Type 0
 AreTerms none = Unit {0}
 AreTerms (link (One t) x l) = (is_sign (role_of t) ≡ true) × IsFurtherTerm x × AreTerms l
 AreTerms (link (Two t u) x l) = ⊥
 
--- how many of the terms are net terms
+-- the number of net terms among the terms
 abbrev pub nets : Tree → ℕ
 nets (net s w) = 1
 nets _ = 0

@@ -1,4 +1,4 @@
--- Which declarations are written as the grammar wants.
+-- Which declarations are well-formed.
 use Rattle.std.specs.Prelude.{◌≡◌, ◌≤◌, true, List, [], ◌∷◌, Option, None, Some}
 use Rattle.net_tree.specs.declared.role.Declares.TheVariants as declares
 use Rattle.net_tree.specs.declared.role.Role.TheVariants as roles
@@ -13,7 +13,7 @@ abbrev pub IsIndexing : Option Braces → Type 0
 IsIndexing None = Unit {0}
 IsIndexing (Some b) = AreBraces b
 
--- what an objective is, if that is said: a value
+-- the expression of an objective, if there is one: a value
 abbrev pub IsObjective : Part → Type 0
 IsObjective absent = Unit {0}
 IsObjective (part m x) = (is_colon (role_of m) ≡ true) × IsWellFormed x × (is_value (precedence x) ≡ true)

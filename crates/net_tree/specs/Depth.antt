@@ -1,5 +1,5 @@
--- How deep a tree is nested: how many parentheses, braces, brackets, `if`, signs and reductions stand around one of its tokens at most,
--- its own among them.
+-- The nesting depth of a tree: the maximum number of parentheses, braces, brackets, `if`s, signs
+-- and reductions that enclose one of its tokens, including the token's own.
 use Rattle.std.specs.Prelude.{ℕ, ◌+◌, max, List, [], ◌∷◌, Option, None, Some}
 use Rattle.net_tree.specs.Tree.{Tree, Links, Part, Braces, leaf, indexed, parens, tuple, negated, braced, signed, reduced, chain, choice, net, none, link, absent, part, empty, filled, Body, plain, valued, priced, Phrase, Condition, unsaid, one, between, Declaration, set, param, check, node, arc, objective}
 

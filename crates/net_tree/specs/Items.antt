@@ -1,4 +1,4 @@
--- Items of braces and names that stand alone, by their form.
+-- The form of items in braces, and simple names.
 use Rattle.std.specs.Prelude.{Bool, true, false, Option, None, Some, if◌then◌else◌}
 use Rattle.net_lex.specs.declared.token.Token.{Token}
 use Rattle.net_tree.specs.declared.operator.BinOp.{BinOp}
@@ -7,12 +7,12 @@ use Rattle.net_tree.specs.Operations.{operation}
 use Rattle.net_tree.specs.Role.{role_of, is_name}
 use Rattle.net_tree.specs.Tree.{Tree, Links, leaf, chain, none, link}
 
--- `in`, and not `not in`
+-- `in`, but not `not in`
 abbrev pub is_in : BinOp → Bool
 is_in op.In = true
 is_in _ = false
 
--- what stands behind a lone `in`
+-- the right operand of a single `in`
 abbrev pub behind_in : Links → Option Tree
 behind_in (link o y none) = if is_in (operation o) then Some y else None
 behind_in _ = None
@@ -21,12 +21,12 @@ abbrev pub both : Tree → Option Tree → Option (Tree × Tree)
 both x None = None
 both x (Some y) = Some (x, y)
 
--- the two sides of an item with `in` at its top
+-- the two sides of an item whose top operator is `in`
 abbrev pub sides : Tree → Option (Tree × Tree)
 sides (chain n x l) = both x (behind_in l)
 sides _ = None
 
--- the name that stands alone
+-- the token of a simple name
 abbrev pub lone_name : Tree → Option Token
 lone_name (leaf t) = if is_name (role_of t) then Some t else None
 lone_name _ = None

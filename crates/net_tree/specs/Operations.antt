@@ -1,4 +1,4 @@
--- What operators do, by their texts.
+-- The meaning of operators, from their text.
 use Rattle.std.specs.Prelude.{ℕ, Bool, true, false, List, [], ◌∷◌, codes, if◌then◌else◌}
 use Rattle.std.specs.Str.{bytes_eq}
 use Rattle.net_lex.specs.declared.token.Token.{Token}
@@ -21,7 +21,7 @@ abbrev pub operation_in : List (List ℕ × BinOp) → List ℕ → BinOp
 operation_in [] text = op.Other
 operation_in (o ∷ os) text = if bytes_eq o.0 text then o.1 else operation_in os text
 
--- the same behind `not`
+-- the operator negated by `not`
 abbrev pub denied : BinOp → BinOp
 denied op.In = op.NotIn
 denied op.Within = op.NotWithin

@@ -1,4 +1,5 @@
--- Which phrases sets, parameters and arcs may have: in any order, with a comma before each that may be left out, some at most once.
+-- Which phrases sets, parameters and arcs can have: in any order, each with an optional comma
+-- before it, and some at most once.
 use Rattle.std.specs.Prelude.{◌≡◌, ◌≤◌, ℕ, suc, Bool, true, false, if◌then◌else◌, List, [], ◌∷◌, Option, None, Some}
 use Rattle.net_lex.specs.declared.token.Token.{Token}
 use Rattle.net_tree.specs.declared.role.Begins.TheVariants as begins
@@ -10,7 +11,7 @@ use Rattle.net_tree.specs.Role.{role_of, is_name, is_number, is_comma}
 use Rattle.net_tree.specs.Precedence.{of_sum, of_union}
 use Rattle.net_tree.specs.WellFormed.{precedence, is_value, IsWellFormed}
 
--- what follows the word of a phrase: nothing
+-- nothing follows the keyword of the phrase
 abbrev pub IsNothing : Body → Type 0
 IsNothing plain = Unit {0}
 IsNothing _ = ⊥
@@ -30,7 +31,7 @@ abbrev pub IsOperand : Body → Type 0
 IsOperand (valued x) = IsWellFormed x × (precedence x ≤ of_union)
 IsOperand _ = ⊥
 
--- the same or an `if`
+-- a set, a member or an `if`
 abbrev pub IsValue : Body → Type 0
 IsValue (valued x) = IsWellFormed x × (is_value (precedence x) ≡ true)
 IsValue _ = ⊥
@@ -46,7 +47,7 @@ abbrev pub IsPrice : Body → Type 0
 IsPrice (priced n x) = (is_name (role_of n) ≡ true) × IsWellFormed x × (precedence x ≤ of_sum)
 IsPrice _ = ⊥
 
--- what follows each word in a set, in a parameter and in an arc
+-- what follows each keyword in a set (`OfSet`), in a parameter (`OfParam`) and in an arc (`OfArc`)
 abbrev pub OfSet : Role → Body → Type 0
 OfSet (roles.Phrase begins.Dimen) b = IsNumeral b
 OfSet (roles.Relation relations.Within) b = IsOperand b
@@ -83,7 +84,7 @@ abbrev pub ArePhrases : (Role → Body → Type 0) → List Phrase → Type 0
 ArePhrases Of [] = Unit {0}
 ArePhrases Of (p ∷ ps) = IsOptionalComma p.comma × Of (role_of p.word) p.body × ArePhrases Of ps
 
--- how many phrases begin with such a word
+-- the number of phrases whose keyword satisfies the test
 abbrev pub count : (Role → Bool) → List Phrase → ℕ
 count test [] = 0
 count test (p ∷ ps) = if test (role_of p.word) then suc (count test ps) else count test ps

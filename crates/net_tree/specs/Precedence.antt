@@ -1,11 +1,11 @@
--- How loose a tree is, by name: the greater the number, the looser.
+-- Precedence levels of trees: a greater number binds less tightly.
 use Rattle.std.specs.Prelude.{ℕ}
 
--- what stands by itself, or behind a sign
+-- atoms, and signed operands
 abbrev pub of_one : ℕ
 of_one = 0
 
--- what commas join, by the number of its operands: a list has no precedence of its own
+-- operands joined by commas: a list has no precedence of its own
 abbrev pub of_comma : ℕ
 of_comma = 0
 
@@ -34,7 +34,7 @@ of_inter = 6
 abbrev pub of_union : ℕ
 of_union = 7
 
--- `=`, `in` and the others that compare
+-- comparisons: `=`, `in` and the others
 abbrev pub of_relation : ℕ
 of_relation = 8
 

@@ -1,4 +1,4 @@
--- The tokens of a tree, in order. `put x r` are the tokens of x, and then those of r.
+-- The tokens of a tree, in order. `put x r` is the tokens of x followed by r.
 use Rattle.std.specs.Prelude.{List, [], ◌∷◌, Option, None, Some}
 use Rattle.net_lex.specs.declared.token.Token.{Token}
 use Rattle.net_tree.specs.declared.operator.Words.{Words as Operator}

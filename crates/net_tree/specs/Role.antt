@@ -1,4 +1,4 @@
--- What each token may be in a model text.
+-- The grammatical role of each token in a model.
 use Rattle.std.specs.Prelude.{ℕ, Bool, true, false, List, [], ◌∷◌, codes, if◌then◌else◌}
 use Rattle.std.specs.Str.{bytes_eq}
 use Rattle.net_lex.specs.declared.token.Token.{Token}
@@ -12,7 +12,7 @@ use Rattle.net_tree.specs.declared.role.Role.{Role}
 use Rattle.net_tree.specs.declared.role.Role.TheVariants as roles
 use Rattle.net_tree.specs.Precedence.{of_reduction, of_range, of_cross, of_inter, of_relation, of_and}
 
--- the marks, each with its role
+-- the punctuation tokens with their roles
 unfoldable pub marks : List (List ℕ × Role)
 marks =
     (codes ",", roles.Comma) ∷ (codes ";", roles.Semicolon) ∷ (codes "[", roles.OpenSquare) ∷ (codes "]", roles.CloseSquare) ∷ (codes "(", roles.Open)
@@ -23,7 +23,7 @@ marks =
     ∷ (codes "!=", roles.Relation relations.Unequal) ∷ (codes ".", roles.LeftOut) ∷ (codes "/", roles.LeftOut) ∷ (codes "**", roles.LeftOut)
     ∷ (codes "^", roles.LeftOut) ∷ (codes "&", roles.LeftOut) ∷ (codes "&&", roles.LeftOut) ∷ (codes "||", roles.LeftOut) ∷ (codes "!", roles.LeftOut) ∷ []
 
--- the reserved words, each with its role
+-- the reserved words with their roles
 unfoldable pub keys : List (List ℕ × Role)
 keys =
     (codes "in", roles.Relation relations.In) ∷ (codes "sum", roles.Reduction) ∷ (codes "param", roles.Declaration declares.Param)
@@ -44,7 +44,7 @@ abbrev pub found_in : List (List ℕ × Role) → List ℕ → Role
 found_in [] text = roles.Unknown
 found_in (word ∷ others) text = if bytes_eq word.0 text then word.1 else found_in others text
 
--- what a token of this kind and text may be
+-- the role of a token of this kind and text
 abbrev pub role_as : Kind → List ℕ → Role
 role_as kinds.Name text = roles.Name
 role_as kinds.Key text = found_in keys text
@@ -61,7 +61,7 @@ abbrev pub is_name : Role → Bool
 is_name roles.Name = true
 is_name _ = false
 
--- what is a whole expression by itself
+-- a complete expression by itself
 abbrev pub is_leaf : Role → Bool
 is_leaf roles.Name = true
 is_leaf roles.Number = true
@@ -136,13 +136,13 @@ abbrev pub is_net : Role → Bool
 is_net roles.Net = true
 is_net _ = false
 
--- what may stand behind `not` between two operands
+-- operators that `not` can precede
 abbrev pub is_membership : Role → Bool
 is_membership (roles.Relation relations.In) = true
 is_membership (roles.Relation relations.Within) = true
 is_membership _ = false
 
--- what may stand between the sides of a node's condition
+-- relations that can occur between the sides of a node's condition
 abbrev pub bounds : Relation → Bool
 bounds relations.Equal = true
 bounds relations.AtMost = true

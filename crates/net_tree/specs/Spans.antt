@@ -1,4 +1,4 @@
--- Where a tree stands: from its first token to its last.
+-- The span of a tree: from its first token to its last.
 use Rattle.std.specs.Prelude.{ℕ, Option, None, Some}
 use Rattle.net_lex.specs.declared.token.Token.{Token}
 use Rattle.net_fault.specs.declared.span.Span.{Span}
@@ -30,7 +30,7 @@ first (chain n x l) = first x
 first (choice i x t y e) = i
 first (net s w) = first_or s w
 
--- the last token; of links and of a part that of what stands last in them, else the one given
+-- the last token of a tree; for links and clauses the last token in them, or else the given one
 abbrev mutual
   pub final : Tree → Token
   final (leaf t) = t
@@ -53,7 +53,7 @@ abbrev mutual
   final_part t absent = t
   final_part t (part m x) = final x
 
--- from one token to another
+-- the span from one token to another
 unfoldable pub span_between : Token → Token → Span
 span_between a b = record { start = a.span.start; end = b.span.end }
 
@@ -63,15 +63,15 @@ span_of x = record { start = (first x).span.start; end = (final x).span.end }
 unfoldable pub braces_span : Braces → Span
 braces_span b = record { start = (opening b).span.start; end = (closing b).span.end }
 
--- from the start of one tree to the end of another
+-- the span from the start of one tree to the end of another
 abbrev pub from_to : Tree → Tree → Span
 from_to x z = record { start = (span_of x).start; end = (span_of z).end }
 
--- nothing, at a place
+-- an empty span at this position
 abbrev pub point : ℕ → Span
 point at = record { start = at; end = at }
 
--- a node's condition, from the first token behind the colon
+-- the span of a node's condition, from the first token after the colon
 abbrev pub condition_span : Condition → Option Span
 condition_span unsaid = None
 condition_span (one m x o y) = Some (record { start = (first x).span.start; end = (final y).span.end })

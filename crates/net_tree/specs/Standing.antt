@@ -1,11 +1,11 @@
--- Trees whose parts, down to their tokens, stand at some places.
+-- Trees all of whose spans satisfy a predicate P.
 use Rattle.std.specs.Prelude.{⊤, List, [], ◌∷◌, Option, None, Some}
 use Rattle.net_fault.specs.declared.span.Span.{Span}
 use Rattle.net_lex.specs.declared.token.Token.{Token}
 use Rattle.net_tree.specs.Spans.{span_of, span_between, braces_span, from_to, point}
 use Rattle.net_tree.specs.Tree.{Tree, Links, Part, Braces, leaf, indexed, parens, tuple, negated, braced, signed, reduced, chain, choice, net, none, link, absent, part, empty, filled, Body, plain, valued, priced, Phrase, Condition, unsaid, one, between, Declaration, set, param, check, node, arc, objective}
 
--- the whole stands there, and so do its parts
+-- P holds for the span of the tree and of all its parts, down to the tokens
 abbrev mutual
   pub Stands : (Span → Type 0) → Tree → Type 0
   Stands P (leaf t) = P (span_of (leaf t)) × P t.span
@@ -36,7 +36,7 @@ abbrev pub IndexingStands : (Span → Type 0) → Option Braces → Type 0
 IndexingStands P None = ⊤
 IndexingStands P (Some b) = BracesStand P b
 
--- what follows the word of a phrase
+-- what follows the keyword of a phrase
 abbrev pub BodyStands : (Span → Type 0) → Body → Type 0
 BodyStands P plain = ⊤
 BodyStands P (valued x) = Stands P x
@@ -46,13 +46,13 @@ abbrev pub PhrasesStand : (Span → Type 0) → List Phrase → Type 0
 PhrasesStand P [] = ⊤
 PhrasesStand P (p ∷ ps) = P p.word.span × BodyStands P p.body × PhrasesStand P ps
 
--- a node's condition, its expressions and the whole of them
+-- a node's condition: its expressions and the whole condition
 abbrev pub ConditionStands : (Span → Type 0) → Condition → Type 0
 ConditionStands P unsaid = ⊤
 ConditionStands P (one m x o y) = P (from_to x y) × Stands P x × Stands P y
 ConditionStands P (between m x o y p z) = P (from_to x z) × Stands P x × Stands P y × Stands P z
 
--- a declaration: its name, its parts, and the point behind its semicolon
+-- a declaration: its name, its parts, and the position after its semicolon
 abbrev pub DeclarationStands : (Span → Type 0) → Declaration → Type 0
 DeclarationStands P (set w n ps e) = P n.span × PhrasesStand P ps × P (point e.span.end)
 DeclarationStands P (param w n b ps e) = P n.span × IndexingStands P b × PhrasesStand P ps × P (point e.span.end)
@@ -65,6 +65,6 @@ abbrev pub DeclarationsStand : (Span → Type 0) → List Declaration → Type 0
 DeclarationsStand P [] = ⊤
 DeclarationsStand P (d ∷ ds) = DeclarationStands P d × DeclarationsStand P ds
 
--- a whole model; where it has no declarations, its end is the start of the text
+-- a whole model; the position 0 is used for a model without declarations
 abbrev pub ModelStands : (Span → Type 0) → List Declaration → Type 0
 ModelStands P ds = P (point 0) × DeclarationsStand P ds

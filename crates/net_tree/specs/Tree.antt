@@ -1,10 +1,10 @@
--- Model texts as the definitions read them: trees with every token of the text.
+-- Models in the specification: syntax trees that contain every token of the text.
 use Rattle.std.specs.Prelude.{ℕ, List, Option}
 use Rattle.net_lex.specs.declared.token.Token.{Token}
 use Rattle.net_tree.specs.declared.operator.Words.{Words as Operator}
 
 mutual
-  -- an expression; the comments have a text for each
+  -- an expression; the comments give an example of each form
   pub data Tree : Type 0 where
     -- 3    'NE'    i
     leaf : Token → Tree
@@ -22,19 +22,19 @@ mutual
     signed : Token → Tree → Tree
     -- sum {i in A} a[i]
     reduced : Token → Braces → Tree → Tree
-    -- a + b - c    the number says how loose an operand may be
+    -- a + b - c    the number is the maximum precedence of an operand
     chain : ℕ → Tree → Links → Tree
     -- if a then b else c
     choice : Token → Tree → Token → Tree → Part → Tree
     -- net_in    - net_in
     net : Option Token → Token → Tree
 
-  -- operators, or commas, each with the expression behind it
+  -- operators or commas, each with the expression after it
   pub data Links : Type 0 where
     none : Links
     link : Operator → Tree → Links → Links
 
-  -- a mark or word and what it introduces, if it is there:  : a > b    else c
+  -- a clause introduced by punctuation or a keyword, if present:  : a > b    else c
   pub data Part : Type 0 where
     absent : Part
     part : Token → Tree → Part
@@ -45,7 +45,7 @@ mutual
     -- { i in A , j in B : i > j }
     filled : Token → Tree → Links → Part → Token → Braces
 
--- what follows the word of a phrase
+-- what follows the keyword of a phrase
 pub data Body : Type 0 where
   -- integer
   plain : Body
@@ -59,7 +59,7 @@ pub record Phrase : Type 0 where
   pub word : Token
   pub body : Body
 
--- what is said of a node's net flow, with the colon before it
+-- the condition on a node's net flow, with the colon before it
 pub data Condition : Type 0 where
   unsaid : Condition
   -- : net_in = 3

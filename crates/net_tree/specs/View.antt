@@ -1,4 +1,4 @@
--- The tree of an expression, and the declarations of a model, of the code.
+-- The syntax trees of the code, as trees of the specification.
 use Rattle.std.specs.Prelude.{List, [], ◌∷◌, Option, None, Some, map}
 use Rattle.net_lex.specs.declared.token.Token.{Token}
 use Rattle.net_tree.specs.declared.operator.Words.{Words as Operator}
@@ -28,7 +28,7 @@ abbrev pub part_or_absent : Option (Token × Tree) → Part
 part_or_absent None = absent
 part_or_absent (Some p) = part p.0 p.1
 
--- one step of the fold for each type
+-- one step of the fold, for each type
 abbrev pub expr_step : Expr-F Braces Tree (Operator × Tree) (Token × Tree) (Tree × Links) → Tree
 expr_step (Expr-F.Leaf t) = leaf t
 expr_step (Expr-F.Indexed p) = indexed p.0 p.1 p.2.0 p.2.1 p.3

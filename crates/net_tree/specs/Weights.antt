@@ -1,4 +1,4 @@
--- How many nodes a tree has: what a walk over it counts down.
+-- The number of nodes of a tree, which decreases in recursive functions.
 use Rattle.std.specs.Prelude.{ℕ, ◌+◌}
 use Rattle.net_tree.specs.Tree.{Tree, Links, Part, Braces, leaf, indexed, parens, tuple, negated, braced, signed, reduced, chain, choice, net, none, link, absent, part, empty, filled}
 

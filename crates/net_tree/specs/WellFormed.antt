@@ -1,6 +1,6 @@
--- Which trees are written as the grammar wants. A tree has a precedence: what stands by itself or behind a sign, then what ends in a
--- reduction, a product, a sum, a range, a `cross`, an `inter`, a `union`, a relation, an `and`, an `or`, an `if`, a net term. Each place
--- takes trees up to a precedence.
+-- Which trees are well-formed. A tree has a precedence level, from the tightest: atoms and signed
+-- operands, reductions, products, sums, ranges, `cross`, `inter`, `union`, comparisons, `and`,
+-- `or`, `if`, net terms. Each position allows trees up to some precedence.
 use Rattle.std.specs.Prelude.{◌≡◌, ◌≤◌, ◌<◌, ℕ, suc, Bool, true, false, ◌&&◌, ◌||◌, nat_eq, nat_le, if◌then◌else◌, Option, None, Some}
 use Rattle.net_lex.specs.declared.token.Token.{Token}
 use Rattle.net_tree.specs.declared.operator.Words.{Words as Operator}
@@ -11,7 +11,7 @@ use Rattle.net_tree.specs.Precedence.{of_one, of_comma, of_reduction, of_product
 use Rattle.net_tree.specs.Tree.{Tree, Links, Part, Braces, leaf, indexed, parens, tuple, negated, braced, signed, reduced, chain, choice, net, none, link, absent, part, empty, filled}
 use Rattle.net_tree.specs.Role.{role_of, is_name, is_leaf, is_open, is_close, is_open_brace, is_close_brace, is_open_square, is_close_square, is_colon, is_sign, is_not, is_if, is_then, is_else, is_reduction, is_net, is_membership}
 
--- a chain's number n is how loose its operands may be; the chain itself is one looser
+-- the number n of a chain is the maximum precedence of its operands; the chain itself is one higher
 abbrev pub precedence : Tree → ℕ
 precedence (leaf t) = of_one
 precedence (indexed n o x l c) = of_one
@@ -25,8 +25,8 @@ precedence (chain n x l) = suc n
 precedence (choice i x t y e) = of_if
 precedence (net s w) = of_net_term
 
--- whether a token of this role may join operands of precedence n, where k links came before: a range has `..` and then `by`, a relation has one
--- operator; 0 stands for the commas of a list
+-- whether a token of this role can join operands of precedence n after k links: a range has `..`
+-- and then `by`, a comparison has one operator; 0 means the commas of a list
 abbrev pub joins : ℕ → ℕ → Role → Bool
 joins n k roles.Comma = nat_eq n of_comma
 joins n k (roles.Joining m) = nat_eq n m
@@ -41,12 +41,13 @@ abbrev pub head_of : Operator → Token
 head_of (One t) = t
 head_of (Two t u) = t
 
--- `not` comes with `in` or `within`
+-- `not` is followed by `in` or `within`
 abbrev pub IsOperator : Operator → Type 0
 IsOperator (One t) = is_not (role_of t) ≡ false
 IsOperator (Two t u) = (is_not (role_of t) ≡ true) × (is_membership (role_of u) ≡ true)
 
--- the precedence that an operand may have before these links: behind a reduction no product goes on
+-- the maximum precedence of an operand before these links: a reduction cannot be followed by a
+-- product operator
 abbrev pub room : ℕ → Links → ℕ
 room n none = n
 room n (link o x l) = if nat_eq n of_reduction then of_one else n
@@ -55,7 +56,7 @@ abbrev pub IsLinked : Links → Type 0
 IsLinked none = ⊥
 IsLinked (link o x l) = Unit {0}
 
--- where a set, a number or an `if` may stand
+-- positions that allow a set, a number or an `if`
 abbrev pub is_value : ℕ → Bool
 is_value r = nat_le r of_union || nat_eq r of_if
 
@@ -64,7 +65,7 @@ IsOptionalSign None = Unit {0}
 IsOptionalSign (Some s) = is_sign (role_of s) ≡ true
 
 abbrev mutual
-  -- the tree is written as the grammar wants
+  -- the tree is well-formed
   pub IsWellFormed : Tree → Type 0
   IsWellFormed (leaf t) = is_leaf (role_of t) ≡ true
   IsWellFormed (indexed n o x l c) =
@@ -81,7 +82,8 @@ abbrev mutual
       (is_if (role_of i) ≡ true) × IsWellFormed x × (precedence x ≤ of_or) × (is_then (role_of t) ≡ true) × IsWellFormed y × (precedence y ≤ of_union) × IsElse e
   IsWellFormed (net s w) = IsOptionalSign s × (is_net (role_of w) ≡ true)
 
-  -- links joined by the tokens that join operands of precedence j, with operands of precedence n at most, where k links came before
+  -- links whose tokens join operands of precedence j, with operands of precedence at most n, after
+  -- k links
   pub AreWellFormed : ℕ → ℕ → ℕ → Links → Type 0
   AreWellFormed j n k none = Unit {0}
   AreWellFormed j n k (link o x l) = (joins j k (role_of (head_of o)) ≡ true) × IsOperator o × IsWellFormed x × (precedence x ≤ room n l) × AreWellFormed j n (suc k) l

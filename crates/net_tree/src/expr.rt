@@ -1,8 +1,11 @@
+//! The trees of expressions.
+
 use crate::operator::{Operator, Reducer, Sign};
 use net_lex::Token;
 use net_views::{Boxed, Items};
 
-/// An expression of any kind: number, member, set or condition. It keeps all its tokens, brackets and commas too.
+/// An expression of any kind: number, member, set or condition. It contains all its tokens,
+/// including brackets and commas.
 #[derive(Drop)]
 #[cycle(tree)]
 pub enum Expr<'s> {
@@ -10,7 +13,7 @@ pub enum Expr<'s> {
     Leaf(Token<'s>),
     /// `cost[i, j]`: the name, `[`, the subscripts, `]`
     Indexed(Boxed<(Token<'s>, Token<'s>, Series<'s>, Token<'s>)>),
-    /// `(a + b)`: `(`, what stands inside, `)`
+    /// `(a + b)`: `(`, the expression, `)`
     Parens(Boxed<(Token<'s>, Expr<'s>, Token<'s>)>),
     /// `(i, j)`: `(`, the components, `)`
     Tuple(Boxed<(Token<'s>, Series<'s>, Token<'s>)>),
@@ -18,11 +21,12 @@ pub enum Expr<'s> {
     Negated(Boxed<(Token<'s>, Token<'s>, Expr<'s>, Token<'s>)>),
     /// `{i in A: a[i] > 0}` as a set
     Braced(Boxed<Braces<'s>>),
-    /// `- a`: the sign, its operand
+    /// `- a`: the sign and its operand
     Signed(Boxed<(Sign<'s>, Expr<'s>)>),
-    /// `sum {i in A} a[i]`: the word with the braces, and what is added up
+    /// `sum {i in A} a[i]`: the keyword with the indexing, and the summand
     Reduced(Boxed<(Reducer<'s>, Braces<'s>)>, Boxed<Expr<'s>>),
-    /// `a + b - c`: how loose an operand may be (see [`precedence`](crate::precedence)), the operands with their operators
+    /// `a + b - c`: the maximum precedence of an operand (see [`precedence`](crate::precedence)),
+    /// and the operands with their operators
     Chain(u8, Boxed<Series<'s>>),
     /// `if a then b else c`: `if` and the condition, `then` and its branch, `else` and its branch
     Choice(Boxed<Part<'s>>, Boxed<Part<'s>>, Option<Boxed<Part<'s>>>),
@@ -30,7 +34,8 @@ pub enum Expr<'s> {
     Net(Boxed<(Option<Sign<'s>>, Token<'s>)>),
 }
 
-/// Expressions in a row: of `a, b` and of `a + b` the first one, and the others with the commas or operators before them.
+/// A sequence of expressions, such as `a, b` and `a + b`: the first one, and the others with the
+/// commas or operators before them.
 #[derive(Drop)]
 #[cycle(tree)]
 pub struct Series<'s> {
@@ -38,7 +43,7 @@ pub struct Series<'s> {
     pub more: Items<Link<'s>>,
 }
 
-/// An operator, or a comma, and the expression behind it.
+/// An operator or a comma, and the expression after it.
 #[derive(Drop)]
 #[cycle(tree)]
 pub struct Link<'s> {
@@ -46,7 +51,7 @@ pub struct Link<'s> {
     pub operand: Expr<'s>,
 }
 
-/// A mark or word and what it introduces: `: a > b`, `else 0`.
+/// A clause introduced by punctuation or a keyword: `: a > b`, `else 0`.
 #[derive(Drop)]
 #[cycle(tree)]
 pub struct Part<'s> {
@@ -54,11 +59,11 @@ pub struct Part<'s> {
     pub value: Expr<'s>,
 }
 
-/// Braces and what stands in them.
+/// An indexing expression: braces with their contents.
 #[derive(Drop)]
 #[cycle(tree)]
 pub enum Braces<'s> {
-    /// `{}`, and `{: a > b}` with a condition alone
+    /// `{}`, and `{: a > b}` with only a condition
     Empty(Token<'s>, Option<Boxed<Part<'s>>>, Token<'s>),
     /// `{i in A, j in B: i > j}`: `{`, the items, the condition, `}`
     Filled(Token<'s>, Series<'s>, Option<Boxed<Part<'s>>>, Token<'s>),

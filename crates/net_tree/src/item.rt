@@ -1,4 +1,4 @@
-//! Items of braces and names that stand alone, by their form.
+//! The form of items in braces, and simple names.
 
 ghost use Rattle.std.specs.Prelude.{◌≡◌};
 ghost use Rattle.std.specs.Option.{option_map};
@@ -18,7 +18,7 @@ fn is_in(operator: &Operator<'_>) -> bool
     matches!(operator.op(), BinOp::In)
 }
 
-/// What stands behind a lone `in`.
+/// Returns the right operand of a single `in`.
 fn behind_in<'a, 's>(links: &'a [Link<'s>]) -> Option<&'a Expr<'s>>
     ensures { option_map (λ x. tree x.now) result ≡ items.behind_in (links_of links.entry.now) }
 {
@@ -35,7 +35,7 @@ fn behind_in<'a, 's>(links: &'a [Link<'s>]) -> Option<&'a Expr<'s>>
     }
 }
 
-/// The two sides of an item with `in` at its top.
+/// Returns the two sides of an item whose top operator is `in`.
 #[tactic(auto, using(crate::proofs::Views::views))]
 pub fn sides_of<'a, 's>(item: &'a Expr<'s>) -> Option<(&'a Expr<'s>, &'a Expr<'s>)>
     ensures { option_map (λ p. (tree p.0.now, tree p.1.now)) result ≡ items.sides (tree item.entry.now) }
@@ -63,7 +63,7 @@ fn if_name<'a, 's>(token: &'a Token<'s>) -> Option<&'a Token<'s>>
     }
 }
 
-/// The name that stands alone.
+/// Returns the token of a simple name.
 #[tactic(auto, using(crate::proofs::Views::views))]
 pub fn lone_name<'a, 's>(component: &'a Expr<'s>) -> Option<&'a Token<'s>>
     ensures { option_map (λ t. t.now) result ≡ items.lone_name (tree component.entry.now) }

@@ -1,4 +1,4 @@
-//! Trees of model texts: declarations and expressions with all their tokens.
+//! Syntax trees of models: declarations and expressions with all their tokens.
 #![tactic(auto)]
 
 mod declaration;

@@ -1,4 +1,4 @@
-//! Operators, signs and reductions: what their words do is found once, as the parser takes them.
+//! Operators, signs and reductions. The parser decodes their tokens once.
 
 ghost use Rattle.std.specs.Prelude.{◌≡◌, map};
 ghost use Rattle.net_tree.specs.declared.operator.Words.TheVariants as words;
@@ -8,7 +8,7 @@ use net_lex::Token;
 use net_views::Boxed;
 use std::marker::Model;
 
-/// What an operator does with its two operands.
+/// The operation of a binary operator.
 #[derive(Clone, Copy)]
 pub enum BinOp {
     /// `+`
@@ -57,11 +57,11 @@ pub enum BinOp {
     And,
     /// `or`
     Or,
-    /// What joins no two values by itself: `by`, `,`.
+    /// Not an operation on two values: `by`, `,`.
     Other,
 }
 
-/// What is made of the values of an expression over braces.
+/// The operation of a reduction over an indexing.
 #[derive(Clone, Copy)]
 pub enum Reduction {
     /// `sum`
@@ -72,16 +72,16 @@ pub enum Reduction {
     Max,
 }
 
-/// The words of an operator.
+/// The tokens of an operator.
 #[derive(Drop)]
 pub enum Words<'s> {
-    /// `+`, `and`, `in`; between the parts of a list `,`
+    /// `+`, `and`, `in`; in a list `,`
     One(Token<'s>),
     /// `not in`, `not within`
     Two(Token<'s>, Boxed<Token<'s>>),
 }
 
-/// An operator between two operands, which contracts see as its words.
+/// A binary operator, which contracts see as its tokens.
 #[derive(Drop)]
 pub struct Operator<'s> {
     words: Words<'s>,
@@ -138,7 +138,7 @@ impl<'s> Model for Reducer<'s> {
     ghost invariant = { λ r. r.reduction ≡ operations.reduction r.token };
 }
 
-/// The operators with what they do, the most frequent first.
+/// Returns the operators with their operations, the most frequent first.
 #[tactic(auto, unfolding(crate::specs::Operations::operations))]
 fn operations() -> &'static [(&'static [u8], BinOp)]
     ensures { map (λ word. (word.0.now, word.1)) result.now ≡ operations.operations }
@@ -170,7 +170,7 @@ fn operations() -> &'static [(&'static [u8], BinOp)]
     ]
 }
 
-/// What the table says that the text does.
+/// Looks up the operation of an operator in a table. Returns `Other` if it is not there.
 fn operation_in(table: &[(&'static [u8], BinOp)], text: &[u8]) -> BinOp
     ensures { result ≡ operations.operation_in (map (λ word. (word.0.now, word.1)) table.now) text.now }
 {
@@ -199,7 +199,7 @@ fn spelled(token: &Token<'_>) -> BinOp
 }
 
 impl<'s> Operator<'s> {
-    /// The operator of one word, or a comma.
+    /// Builds an operator of one token, which can be a comma.
     #[tactic(auto, unfolding(crate::specs::Operations::operation))]
     pub fn one(token: Token<'s>) -> Operator<'s>
         ensures { result ≡ words.One token.entry }
@@ -211,7 +211,7 @@ impl<'s> Operator<'s> {
         }
     }
 
-    /// The operator of `not` and the word behind it.
+    /// Builds an operator of `not` and the keyword after it.
     #[tactic(auto, unfolding(crate::specs::Operations::operation))]
     pub fn two(not: Token<'s>, word: Boxed<Token<'s>>) -> Operator<'s>
         ensures { result ≡ words.Two not.entry word.entry }
@@ -223,7 +223,7 @@ impl<'s> Operator<'s> {
         }
     }
 
-    /// What it does.
+    /// Returns the operation.
     pub fn op(&self) -> BinOp
         ensures { result ≡ operations.operation self.now }
     {
@@ -232,7 +232,7 @@ impl<'s> Operator<'s> {
 }
 
 impl<'s> Sign<'s> {
-    /// The sign that a token, `+` or `-`, is.
+    /// Builds a sign from its token, `+` or `-`.
     #[tactic(auto, unfolding(crate::specs::Operations::is_minus))]
     pub fn new(token: Token<'s>) -> Sign<'s>
         ensures { result ≡ token.entry }
@@ -241,14 +241,14 @@ impl<'s> Sign<'s> {
         Sign { token, is_minus }
     }
 
-    /// Whether it is `-`.
+    /// Returns whether the sign is `-`.
     pub fn is_minus(&self) -> bool
         ensures { result ≡ operations.is_minus self.now }
     {
         self.is_minus
     }
 
-    /// Its token.
+    /// Returns the token.
     pub fn token(&self) -> &Token<'s>
         ensures { result.now ≡ self.now }
     {
@@ -268,7 +268,7 @@ fn reduction_of(word: &Token<'_>) -> Reduction
 }
 
 impl<'s> Reducer<'s> {
-    /// The reduction that a token, `sum`, `min` or `max`, is.
+    /// Builds a reduction from its token: `sum`, `min` or `max`.
     pub fn new(token: Token<'s>) -> Reducer<'s>
         ensures { result ≡ token.entry }
     {
@@ -276,14 +276,14 @@ impl<'s> Reducer<'s> {
         Reducer { token, reduction }
     }
 
-    /// What it makes of the values behind its braces.
+    /// Returns the operation.
     pub fn reduction(&self) -> Reduction
         ensures { result ≡ operations.reduction self.now }
     {
         self.reduction
     }
 
-    /// Its token.
+    /// Returns the token.
     pub fn token(&self) -> &Token<'s>
         ensures { result.now ≡ self.now }
     {

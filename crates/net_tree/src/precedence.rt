@@ -1,9 +1,9 @@
-//! How loose a tree is: the greater the number, the looser. What stands by itself or behind a sign has 0, and an operand may be as loose as
-//! the place where it stands allows.
+//! Precedence levels of trees: a greater number binds less tightly. Atoms and signed operands have
+//! 0. Each position allows operands up to some precedence.
 
-/// What a list joins by commas: nothing looser than the list itself says.
+/// The operands of a list, joined by commas. A list has no precedence of its own.
 pub const COMMA: u8 = 0;
-/// `sum {i in A} a[i]`, and what binds as it does
+/// `sum {i in A} a[i]`, and operators that bind as tightly
 pub const REDUCTION: u8 = 1;
 /// `*`, `div`, `mod`
 pub const PRODUCT: u8 = 2;
@@ -17,7 +17,7 @@ pub const CROSS: u8 = 5;
 pub const INTER: u8 = 6;
 /// `union`, `diff`, `symdiff`
 pub const UNION: u8 = 7;
-/// `=`, `<=`, `in`, `within` and the others that compare
+/// comparisons: `=`, `<=`, `in`, `within` and the others
 pub const RELATION: u8 = 8;
 /// `and`
 pub const AND: u8 = 9;

@@ -1,10 +1,12 @@
+//! The grammatical roles of tokens.
+
 ghost use Rattle.std.specs.Prelude.{◌≡◌, map};
 ghost use Rattle.net_tree.specs.Role.{marks, keys, found_in, role_of};
 
 use crate::precedence;
 use net_lex::{Kind, Token};
 
-/// The word that begins a declaration.
+/// The keyword of a declaration.
 #[derive(Clone, Copy)]
 pub enum Declares {
     Set,
@@ -16,7 +18,7 @@ pub enum Declares {
     Objective,
 }
 
-/// A word that begins a phrase and stands nowhere else.
+/// A keyword that only begins a phrase.
 #[derive(Clone, Copy)]
 pub enum Begins {
     Dimen,
@@ -28,7 +30,7 @@ pub enum Begins {
     Obj,
 }
 
-/// What an operator that compares says.
+/// The relation of a comparison operator.
 #[derive(Clone, Copy)]
 pub enum Relation {
     /// `=`, `==`
@@ -47,7 +49,7 @@ pub enum Relation {
     Within,
 }
 
-/// What a token may be in a model text.
+/// The grammatical role of a token in a model.
 #[derive(Clone, Copy)]
 pub enum Role {
     Name,
@@ -75,8 +77,8 @@ pub enum Role {
     /// `..`
     Range,
     By,
-    /// An operator that joins any number of operands, with how loose these may be: `*`, `div`, `mod`, `cross`, `inter`, `union`, `diff`,
-    /// `symdiff`, `and`, `or`.
+    /// An operator that joins any number of operands, with the maximum precedence of an operand:
+    /// `*`, `div`, `mod`, `cross`, `inter`, `union`, `diff`, `symdiff`, `and`, `or`.
     Joining(u8),
     Relation(Relation),
     Not,
@@ -89,14 +91,14 @@ pub enum Role {
     Net,
     Declaration(Declares),
     Phrase(Begins),
-    /// A mark or word of AMPL that this profile leaves out: `/`, `^`, `**`, `&`, `&&`, `||`, `!`, `.`, `prod`, `exists`,
-    /// `forall`, `setof`, `Infinity`, `less`.
+    /// Punctuation or a word of AMPL that this profile does not support: `/`, `^`, `**`, `&`, `&&`,
+    /// `||`, `!`, `.`, `prod`, `exists`, `forall`, `setof`, `Infinity`, `less`.
     LeftOut,
-    /// What no model text has.
+    /// A token that no model contains.
     Unknown,
 }
 
-/// The marks with their roles, the most frequent first.
+/// Returns the punctuation tokens with their roles, the most frequent first.
 #[tactic(auto, unfolding(crate::specs::Role::marks))]
 fn marks() -> &'static [(&'static [u8], Role)]
     ensures { map (λ word. (word.0.now, word.1)) result.now ≡ marks }
@@ -135,7 +137,7 @@ fn marks() -> &'static [(&'static [u8], Role)]
     ]
 }
 
-/// The reserved words with their roles, the most frequent first.
+/// Returns the reserved words with their roles, the most frequent first.
 #[tactic(auto, unfolding(crate::specs::Role::keys))]
 fn keys() -> &'static [(&'static [u8], Role)]
     ensures { map (λ word. (word.0.now, word.1)) result.now ≡ keys }
@@ -185,7 +187,7 @@ fn keys() -> &'static [(&'static [u8], Role)]
     ]
 }
 
-/// The role that the table gives the text.
+/// Looks up the role of a text in a table. Returns `Unknown` if it is not there.
 fn found_in(table: &[(&'static [u8], Role)], text: &[u8]) -> Role
     ensures { result ≡ found_in (map (λ word. (word.0.now, word.1)) table.now) text.now }
 {
@@ -197,7 +199,7 @@ fn found_in(table: &[(&'static [u8], Role)], text: &[u8]) -> Role
     Role::Unknown
 }
 
-/// What the token may be in a model text.
+/// Returns the grammatical role of a token in a model.
 #[tactic(auto, unfolding(crate::specs::Role::role_of))]
 pub fn role_of(token: &Token<'_>) -> Role
     ensures { result ≡ role_of token.now }

@@ -1,3 +1,5 @@
+//! The spans of trees.
+
 ghost use Rattle.std.specs.Prelude.{◌≡◌, ◌+◌, ◌<◌, ◌≤◌};
 ghost use Rattle.net_tree.specs.Spans as spans;
 ghost use Rattle.net_tree.specs.View.{tree, braces_of, condition_of, links_of, option_part};
@@ -10,7 +12,7 @@ use net_fault::Span;
 use net_lex::Token;
 use net_views::Boxed;
 
-/// Where the first token of a tree starts.
+/// Returns the start of the first token of a tree.
 #[tactic(auto, using(crate::proofs::Views::views))]
 fn start_of(expr: &Expr<'_>) -> usize
     ensures { result ≡ (spans.first (tree expr.now)).span.start }
@@ -59,7 +61,8 @@ fn closing_of(braces: &Braces<'_>) -> usize
     }
 }
 
-/// Where the last token of a tree ends. The time is at most that of a walk down, and not along chains.
+/// Returns the end of the last token of a tree. Takes time proportional to the depth, independent
+/// of the length of chains.
 #[tactic(auto, using(crate::proofs::Views::views))]
 fn end_of(expr: &Expr<'_>) -> usize
     ensures { result ≡ (spans.final (tree expr.now)).span.end }
@@ -82,7 +85,7 @@ fn end_of(expr: &Expr<'_>) -> usize
     }
 }
 
-/// The last of the operands of a chain.
+/// Returns the last operand of a chain.
 fn last_of<'a, 's>(operand: &'a Expr<'s>, links: &'a [Link<'s>]) -> &'a Expr<'s>
     ensures last { spans.final (tree result.now) ≡ spans.final_of (spans.final (tree operand.entry.now)) (links_of links.entry.now) }
     ensures lighter { weight (tree result.now) ≤ weight (tree operand.entry.now) + weights (links_of links.entry.now) }
@@ -93,7 +96,7 @@ fn last_of<'a, 's>(operand: &'a Expr<'s>, links: &'a [Link<'s>]) -> &'a Expr<'s>
     }
 }
 
-/// The branch of an `if` that stands last.
+/// Returns the last branch of an `if`.
 #[tactic(auto, using(crate::proofs::Views::views))]
 fn later_of<'a, 's>(branch: &'a Expr<'s>, otherwise: &'a Option<Boxed<Part<'s>>>) -> &'a Expr<'s>
     ensures last { spans.final (tree result.now) ≡ spans.final_part (spans.final (tree branch.entry.now)) (option_part otherwise.entry.now) }
@@ -105,7 +108,7 @@ fn later_of<'a, 's>(branch: &'a Expr<'s>, otherwise: &'a Option<Boxed<Part<'s>>>
     }
 }
 
-/// Where an expression stands.
+/// Returns the span of an expression.
 #[tactic(auto, unfolding(crate::specs::Spans::span_of))]
 pub fn span_of(expr: &Expr<'_>) -> Span
     ensures { result ≡ spans.span_of (tree expr.now) }
@@ -116,7 +119,7 @@ pub fn span_of(expr: &Expr<'_>) -> Span
     }
 }
 
-/// Where braces stand.
+/// Returns the span of an indexing expression.
 #[tactic(auto, unfolding(crate::specs::Spans::braces_span))]
 pub fn braces_span(braces: &Braces<'_>) -> Span
     ensures { result ≡ spans.braces_span (braces_of braces.now) }
@@ -127,7 +130,7 @@ pub fn braces_span(braces: &Braces<'_>) -> Span
     }
 }
 
-/// From the start of one token to the end of another.
+/// Returns the span from the start of one token to the end of another.
 #[tactic(auto, unfolding(crate::specs::Spans::span_between))]
 pub fn span_between(first: &Token<'_>, last: &Token<'_>) -> Span
     ensures { result ≡ spans.span_between first.now last.now }
@@ -138,7 +141,7 @@ pub fn span_between(first: &Token<'_>, last: &Token<'_>) -> Span
     }
 }
 
-/// Where a node's condition stands, without its colon; nothing where none is said.
+/// Returns the span of a node's condition without its colon, or `None` if there is no condition.
 pub fn condition_span(condition: &NetCond<'_>) -> Option<Span>
     ensures { result ≡ spans.condition_span (condition_of condition.now) }
 {

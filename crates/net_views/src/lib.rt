@@ -1,4 +1,4 @@
-//! Values that contracts see as what they hold: a list, a box, a text, a piece of a text.
+//! Wrappers that contracts see as their contents: a list, a box, a string, a string slice.
 #![tactic(auto)]
 
 mod boxed;

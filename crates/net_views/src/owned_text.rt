@@ -1,9 +1,11 @@
+//! Strings that contracts see as bytes.
+
 ghost use Rattle.std.specs.Prelude.{◌≡◌, string_bytes};
 
 use std::marker::Model;
 
-/// A text of its own, which contracts see as its bytes.
-#[derive(Drop)]
+/// An owned string, which contracts see as its bytes.
+#[derive(Debug, Drop)]
 pub struct OwnedText {
     text: String,
 }
@@ -20,14 +22,14 @@ impl Model for OwnedText {
 }
 
 impl OwnedText {
-    /// The text, seen as its bytes.
+    /// Wraps a string; contracts see its bytes.
     pub fn new(text: String) -> OwnedText
         ensures { result ≡ string_bytes text }
     {
         OwnedText { text }
     }
 
-    /// The text again.
+    /// Returns the wrapped string.
     pub fn into_string(self) -> String
         ensures { string_bytes result ≡ self }
     {
@@ -35,7 +37,7 @@ impl OwnedText {
         text
     }
 
-    /// The text.
+    /// Returns the string as a slice.
     pub fn as_str(&self) -> &str
         ensures { result.now ≡ self.now }
     {

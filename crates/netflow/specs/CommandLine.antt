@@ -1,4 +1,4 @@
--- The command line: which words ask for what, in clap's own terms of a simple command.
+-- The command line: which call the arguments request, in terms of clap's specification.
 use Rattle.std.specs.Prelude.{◌≡◌, ◌∷◌, [], List, ℕ, Bool, Option, None, Some, map, codes, true, false, string_bytes, option_map, slice_get, unwrap_or}
 use Rattle.std.specs.Option.{option_copied, option_map_or}
 use Rattle.std.specs.Str.{bytes_eq}
@@ -12,15 +12,15 @@ use Rattle.netflow.specs.declared.words.Words.{Words}
 use Rattle.netflow.specs.declared.call.Call.{Call}
 use Rattle.netflow.specs.declared.call.Call.TheVariants as calls
 
--- a path that has to be given
+-- a required path
 abbrev pub path_rule : Text → Rule
 path_rule name = record (new_rule name) { required = true; action = Some Set }
 
--- `--objective NAME`, which may be left out
+-- `--objective NAME`, optional
 abbrev pub objective_rule : Rule
 objective_rule = record (new_rule (codes "NAME")) { long = Some (codes "objective"); action = Some Set }
 
--- `--lean`, which has no value
+-- `--lean`, a flag without a value
 abbrev pub lean_rule : Rule
 lean_rule = record (new_rule (codes "lean")) { long = Some (codes "lean"); action = Some SetTrue }
 
@@ -39,7 +39,7 @@ min_app = with_rule (new_app (codes "min")) (path_rule (codes "PROBLEM"))
 abbrev pub check_app : App
 check_app = with_rule (with_rule (new_app (codes "check")) (path_rule (codes "PROBLEM"))) (path_rule (codes "CERTIFICATE"))
 
--- one subcommand has to be given; the program has a version, so `--version` and `-V` ask for it
+-- a subcommand is required; the program has a version, so `--version` and `-V` are available
 abbrev pub bare_app : App
 bare_app = record (new_app (codes "netflow")) { top = record (new_app (codes "netflow")).top { subcommand_required = true; has_version = true } }
 
@@ -52,40 +52,42 @@ action_word Solve = codes "solve"
 action_word Min = codes "min"
 action_word Check = codes "check"
 
--- the names of the paths of a subcommand, in order
+-- the names of a subcommand's path arguments, in order
 abbrev pub path_names : Action → List Text
 path_names Compile = codes "MODEL" ∷ codes "DATA" ∷ []
 path_names Solve = codes "MODEL" ∷ codes "DATA" ∷ []
 path_names Min = codes "PROBLEM" ∷ []
 path_names Check = codes "PROBLEM" ∷ codes "CERTIFICATE" ∷ []
 
--- a command is this one, and has no argument that goes for all subcommands
+-- the command is this one, and has no global arguments
 abbrev pub IsApp : App → Command → Type 0
 IsApp app command = (app_of command ≡ app) × ((out-Command command).has_globals ≡ false)
 
--- what was given under this name
+-- the value given for this name
 abbrev pub given : List Row → Text → Text
 given rows name = unwrap_or (first_of name rows) []
 
--- the name that was given with `--objective`, if one was, to a command that takes one; an empty name is a name
+-- the value of `--objective`, if given, for a subcommand that has this option; an empty name is a
+-- name
 abbrev pub asked_objective : Action → List Row → Option Text
 asked_objective Compile rows = first_of (codes "NAME") rows
 asked_objective Solve rows = first_of (codes "NAME") rows
 asked_objective Min rows = None
 asked_objective Check rows = None
 
--- the flag was given: clap's value of it is `true`
+-- the flag is given: clap's value for it is `true`
 abbrev pub is_set : List Row → Text → Bool
 is_set rows name = option_map_or (λ value. bytes_eq value (codes "true")) (first_of name rows) false
 
--- the lean form was asked for, of a command that takes the flag
+-- the lean form is requested, for a subcommand that has this flag
 abbrev pub asked_lean : Action → List Row → Bool
 asked_lean Compile rows = is_set rows (codes "lean")
 asked_lean Solve rows = is_set rows (codes "lean")
 asked_lean Min rows = false
 asked_lean Check rows = false
 
--- the subcommand that clap reads in these words, and the values that it has for its paths, in order
+-- the subcommand that clap parses from these arguments, and the values of its path arguments in
+-- order
 pub record IsAskedBy (words : List Text) (asked : Words) : Type 0 where
   pub rows : List Row
   pub subcommand : subcommand_of netflow_app words ≡ Some (action_word asked.command, rows)
@@ -93,11 +95,11 @@ pub record IsAskedBy (words : List Text) (asked : Words) : Type 0 where
   pub objective : option_map string_bytes asked.objective ≡ asked_objective asked.command rows
   pub lean : asked.lean ≡ asked_lean asked.command rows
 
--- the path at this place
+-- the path with this index
 abbrev pub path_at : Words → ℕ → Text
 path_at asked at = unwrap_or (option_map string_bytes (slice_get asked.paths.items at)) []
 
--- the call of the words' command, on their paths in order
+-- the call of the requested subcommand, with its paths in order
 abbrev pub IsCallOf : Words → Call → Type 0
 IsCallOf asked (calls.Compile model other options) =
     (asked.command ≡ Compile) × (model.now ≡ path_at asked 0) × (other.now ≡ path_at asked 1) × (options.lean ≡ asked.lean) × (option_copied options.objective ≡ option_map string_bytes asked.objective)

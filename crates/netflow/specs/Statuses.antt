@@ -1,4 +1,4 @@
--- How the program ends.
+-- Exit statuses.
 use Rattle.std.specs.Prelude.{ℕ}
 use Rattle.net_driver.specs.declared.ending.Ending.{Ending}
 use Rattle.net_driver.specs.declared.ending.Ending.TheVariants as endings

@@ -1,4 +1,4 @@
-//! What is to be run, on which files.
+//! What to run, and on which files.
 
 ghost use Rattle.netflow.specs.CommandLine.{IsCallOf, path_at};
 ghost use Rattle.std.specs.Option.{option_copied};
@@ -9,17 +9,17 @@ use net_driver::Options;
 
 /// A call with the paths of its files.
 pub enum Call<'w> {
-    /// A model and its data, and what is chosen.
+    /// The model, the data, and the options.
     Compile(&'w str, &'w str, Options<'w>),
-    /// The same.
+    /// The model, the data, and the options.
     Solve(&'w str, &'w str, Options<'w>),
-    /// A problem.
+    /// The problem.
     Min(&'w str),
-    /// A problem and a certificate.
+    /// The problem and the certificate.
     Check(&'w str, &'w str),
 }
 
-/// The path at this place, counted from 0; the empty one where there is none.
+/// Returns the path with this index, counted from 0, or an empty path if there is none.
 fn path_at(words: &Words, at: usize) -> &str
     ensures { result.now ≡ path_at words.now at }
 {
@@ -29,7 +29,7 @@ fn path_at(words: &Words, at: usize) -> &str
     }
 }
 
-/// The objective that is chosen; none where no name was given.
+/// Returns the name of the chosen objective, or `None` if none was given.
 fn objective_in(words: &Words) -> Option<&str>
     ensures { option_copied result ≡ option_map string_bytes words.now.objective }
 {
@@ -39,7 +39,7 @@ fn objective_in(words: &Words) -> Option<&str>
     }
 }
 
-/// What is chosen.
+/// Returns the options.
 fn options_in(words: &Words) -> Options<'_>
     ensures lean { result.lean ≡ words.now.lean }
     ensures objective { option_copied result.objective ≡ option_map string_bytes words.now.objective }
@@ -50,7 +50,7 @@ fn options_in(words: &Words) -> Options<'_>
     }
 }
 
-/// The call that these words ask for.
+/// Returns the call that the arguments request.
 pub fn call_of(words: &Words) -> Call<'_>
     ensures value { IsCallOf words.now result }
 {

@@ -1,4 +1,4 @@
-//! Minimum-cost flow from texts to texts: models compiled, problems solved, certificates checked.
+//! Minimum-cost flow: compiles models, solves problems, and checks certificates.
 #![tactic(auto)]
 
 mod call;

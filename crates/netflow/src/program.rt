@@ -1,4 +1,4 @@
-//! The program: words in, a status out.
+//! The program: from its arguments to its exit status.
 
 use crate::call::{Call, call_of};
 use crate::status::Status;
@@ -15,7 +15,7 @@ fn compile_files<R: Runtime + AllocGlobal>(
     rt: &R,
     model: &str,
     data: &str,
-    options: Options<'_>,
+    options: &Options<'_>,
 ) -> Result<Ending, Fault> {
     let Ok(model) = fs::open(rt, model) else {
         return Err(Fault::Unread(TextName::Model));
@@ -34,7 +34,7 @@ fn solve_files<R: Runtime + AllocGlobal>(
     rt: &R,
     model: &str,
     data: &str,
-    options: Options<'_>,
+    options: &Options<'_>,
 ) -> Result<Ending, Fault> {
     let Ok(model) = fs::open(rt, model) else {
         return Err(Fault::Unread(TextName::Model));
@@ -77,22 +77,18 @@ fn check_files<R: Runtime + AllocGlobal>(
 /// Runs a call on its files.
 fn run_call<R: Runtime + AllocGlobal>(rt: &R, call: Call<'_>) -> Result<Ending, Fault> {
     match call {
-        Call::Compile(model, data, options) => compile_files(rt, model, data, options),
-        Call::Solve(model, data, options) => solve_files(rt, model, data, options),
+        Call::Compile(model, data, options) => compile_files(rt, model, data, &options),
+        Call::Solve(model, data, options) => solve_files(rt, model, data, &options),
         Call::Min(problem) => min_file(rt, problem),
         Call::Check(problem, certificate) => check_files(rt, problem, certificate),
     }
 }
 
-/// Runs the program on its words.
+/// Runs the program on its arguments.
 fn run_program<R: Runtime + AllocGlobal>(rt: &R, words: &[String]) -> Status {
     let words = match words_of(rt.alloc(), words) {
         Ok(words) => words,
         Err(WordsFault::OutOfMemory) => return tell(rt, &Fault::OutOfMemory),
-        Err(WordsFault::NoCommand) => {
-            let _ = eprintln!(rt; "netflow: no such command");
-            return Status::Usage;
-        }
         Err(WordsFault::Usage(error)) => {
             let shown = error.print(rt).is_ok();
             return if error.use_stderr() {
@@ -110,14 +106,14 @@ fn run_program<R: Runtime + AllocGlobal>(rt: &R, words: &[String]) -> Status {
     }
 }
 
-/// Prints a fault's line on standard error.
+/// Prints the line of an error on standard error; returns the status.
 fn tell<R: Eprint>(rt: &R, fault: &Fault) -> Status {
-    // Where standard error is closed, the status alone tells.
+    // If standard error is closed, only the status reports the error.
     let _ = eprintln!(rt; "{fault}");
     Status::of_fault(fault)
 }
 
-/// The words that the program was called with, or how it ends without them.
+/// Returns the arguments of the program, or its exit status if they are not available.
 fn called_words<R: Runtime + AllocGlobal>(rt: &R) -> Result<Vec<String>, Status> {
     let args = match env::args(rt) {
         Ok(args) => args,
@@ -135,7 +131,7 @@ fn called_words<R: Runtime + AllocGlobal>(rt: &R) -> Result<Vec<String>, Status>
     }
 }
 
-/// Runs the program on the words that it was called with.
+/// Runs the program on the arguments with which it was called.
 pub fn run_called<R: Runtime + AllocGlobal>(rt: &R) -> ExitCode {
     let status = match called_words(rt) {
         Ok(words) => run_program(rt, &words),

@@ -1,4 +1,4 @@
-//! How the program ends.
+//! Exit statuses.
 
 ghost use Rattle.std.specs.Prelude.{◌≡◌};
 ghost use Rattle.netflow.specs.Statuses.{code_of, status_of_fault, status_of_ending};
@@ -9,19 +9,19 @@ use net_driver::{Ending, Fault};
 #[derive(Clone, Copy)]
 pub enum Status {
     Done,
-    /// No feasible flow, or a certificate that does not hold.
+    /// There is no feasible flow, or a certificate was rejected.
     Refuted,
-    /// A text was refused.
+    /// An input was rejected.
     Refused,
-    /// A file could not be read, or the output not written.
+    /// A file could not be read, or the output could not be written.
     EndFailed,
     OutOfMemory,
-    /// The command line was refused.
+    /// The command line was rejected.
     Usage,
 }
 
 impl Status {
-    /// The number that the program ends with.
+    /// Returns the exit status as a number.
     pub fn code(self) -> u8
         ensures value { result ≡ code_of self }
     {
@@ -35,7 +35,7 @@ impl Status {
         }
     }
 
-    /// How a run ends that met this fault.
+    /// Returns the status of a run that ended with this error.
     pub fn of_fault(fault: &Fault) -> Status
         ensures value { result ≡ status_of_fault fault.now }
     {
@@ -48,7 +48,7 @@ impl Status {
         }
     }
 
-    /// How a run ends that answered so.
+    /// Returns the status of a run that completed with this result.
     pub fn of_ending(ending: Ending) -> Status
         ensures value { result ≡ status_of_ending ending }
     {

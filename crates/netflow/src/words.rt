@@ -1,4 +1,4 @@
-//! The command line. This file alone knows clap.
+//! The command line. Only this file depends on clap.
 
 ghost use Rattle.std.specs.Prelude.{◌≡◌, false, [], ◌∷◌, map, option_map, string_bytes, codes, IfOk, IfSome};
 ghost use Rattle.clap.specs.Words.{App, first_of, rule_of, with_subcommand};
@@ -8,10 +8,11 @@ ghost use Rattle.netflow.specs.CommandLine.{path_rule, objective_rule, lean_rule
 ghost use Rattle.netflow.specs.CommandLine.{action_word, path_names, asked_objective, asked_lean, is_set, given, IsApp, IsAskedBy};
 
 use clap::error::ErrorKind;
-use clap::{Arg, ArgAction, ArgMatches, Command, Error};
+use clap::{Arg, ArgAction, ArgMatches, Command};
 use std::alloc::{AllocError, Global};
+use thiserror::Error;
 
-/// What the program is to do.
+/// The subcommands.
 #[derive(Clone, Copy)]
 pub enum Action {
     /// `netflow compile MODEL DATA`
@@ -24,26 +25,26 @@ pub enum Action {
     Check,
 }
 
-/// What the words of a command line ask for.
+/// The request of a command line.
 #[derive(Drop)]
 pub struct Words {
     pub command: Action,
-    /// The paths, in order.
+    /// The values of the path arguments, in order.
     pub paths: Vec<String>,
-    /// The name that stands behind `--objective`, also an empty one; none where it was left out.
+    /// The value of `--objective`, possibly empty, or `None` if it is not given.
     pub objective: Option<String>,
-    /// Whether the lean form of the problem is asked for.
+    /// Whether the lean form of the problem is requested.
     pub lean: bool,
 }
 
-/// Why words ask for nothing that is there.
-#[derive(Drop)]
+/// Why arguments are not a valid request.
+#[derive(Debug, Drop, Error)]
 pub enum WordsFault {
+    #[error("out of memory")]
     OutOfMemory,
-    /// Wrong words, or help or the version that was asked for.
-    Usage(Error),
-    /// No subcommand that this program has.
-    NoCommand,
+    /// Invalid arguments, or a request for help or the version.
+    #[error(transparent)]
+    Usage(clap::Error),
 }
 
 impl From<AllocError> for WordsFault {
@@ -52,11 +53,11 @@ impl From<AllocError> for WordsFault {
     }
 }
 
-/// The version that `--version` tells: that of CHANGELOG.md.
+/// The version that `--version` prints, the same as in CHANGELOG.md.
 const VERSION: &str = "0.9.0";
 
-const ABOUT: &str = "Minimum-cost flow: models in AMPL's words solved and compiled, DIMACS problems
-solved, certificates checked";
+const ABOUT: &str = "Minimum-cost flow: solves and compiles AMPL network models, solves DIMACS
+problems, and checks certificates";
 
 const STATUSES: &str = "Exit status:
   0   done; of check: yes
@@ -72,30 +73,33 @@ Example:
   netflow min transport.min > transport.sol
   netflow check transport.min transport.sol";
 
-const COMPILE_ABOUT: &str = "Writes a model's DIMACS text to standard output";
+const COMPILE_ABOUT: &str = "Compiles a model to a DIMACS problem on standard output";
 
-const COMPILE_HELP: &str = "The text begins with comment lines that say what each number is called.
+const COMPILE_HELP: &str =
+    "The problem begins with comment lines that map its numbers to the names of the
+model.
 
 Example:
   netflow compile transport.mod transport.dat > transport.min
   netflow compile transport.mod /dev/null
   netflow compile transport.mod transport.dat --lean > transport.min";
 
-const SOLVE_ABOUT: &str = "Solves a model and writes its plan, or why there is none";
+const SOLVE_ABOUT: &str = "Solves a model and prints its plan, or why there is none";
 
 const SOLVE_HELP: &str =
-    "The plan is the objective's value and the number of each arc. Where there is
-none, a set of nodes that supplies more than its arcs can carry, or less than
-they must (status 2).
+    "The plan is the objective's value and the value of each arc. If there is no
+plan, netflow prints a set of nodes that supplies more than its arcs can carry,
+or less than they must (status 2).
 
 Example:
   netflow solve transport.mod transport.dat
   netflow solve transport.mod transport.dat --objective Profit";
 
-const MIN_ABOUT: &str = "Solves a DIMACS problem and writes a certificate";
+const MIN_ABOUT: &str = "Solves a DIMACS problem and prints a certificate";
 
-const MIN_HELP: &str = "The certificate is a flow of least cost with potentials, or a set of nodes
-that shows that no flow is feasible (status 2).
+const MIN_HELP: &str =
+    "The certificate is a minimum-cost flow with potentials, or a set of nodes that
+proves that no flow is feasible (status 2).
 
 Example:
   netflow min transport.min > transport.sol
@@ -118,7 +122,7 @@ fn path<'a>(alloc: Global, name: &'a str, help: &'a str) -> Arg<'a>
         .help(help)
 }
 
-/// The option that chooses an objective.
+/// Builds the option that chooses an objective.
 fn objective<'a>(alloc: Global) -> Arg<'a>
     ensures rule { rule_of result ≡ objective_rule }
     ensures local { result.global ≡ false }
@@ -126,10 +130,10 @@ fn objective<'a>(alloc: Global) -> Arg<'a>
     Arg::new(alloc, "NAME")
         .long("objective")
         .action(ArgAction::Set)
-        .help("The objective, where the model has several")
+        .help("The objective to use if the model has several")
 }
 
-/// The flag that asks for the lean form.
+/// Builds the flag that requests the lean form.
 fn lean<'a>(alloc: Global) -> Arg<'a>
     ensures rule { rule_of result ≡ lean_rule }
     ensures local { result.global ≡ false }
@@ -137,7 +141,7 @@ fn lean<'a>(alloc: Global) -> Arg<'a>
     Arg::new(alloc, "lean")
         .long("lean")
         .action(ArgAction::SetTrue)
-        .help("No lower bounds, and no arcs of equal bounds, in the problem")
+        .help("Build a problem without lower bounds or fixed arcs")
 }
 
 fn compile_command<'a>(alloc: Global) -> Result<Command<'a>, AllocError>
@@ -147,11 +151,7 @@ fn compile_command<'a>(alloc: Global) -> Result<Command<'a>, AllocError>
         .about(COMPILE_ABOUT)
         .after_help(COMPILE_HELP)
         .arg(path(alloc, "MODEL", "The model: its objective, nodes and arcs"))?
-        .arg(path(
-            alloc,
-            "DATA",
-            "The model's data; /dev/null where it has none",
-        ))?
+        .arg(path(alloc, "DATA", "The model's data; /dev/null if it has none"))?
         .arg(objective(alloc))?
         .arg(lean(alloc))
 }
@@ -163,11 +163,7 @@ fn solve_command<'a>(alloc: Global) -> Result<Command<'a>, AllocError>
         .about(SOLVE_ABOUT)
         .after_help(SOLVE_HELP)
         .arg(path(alloc, "MODEL", "The model: its objective, nodes and arcs"))?
-        .arg(path(
-            alloc,
-            "DATA",
-            "The model's data; /dev/null where it has none",
-        ))?
+        .arg(path(alloc, "DATA", "The model's data; /dev/null if it has none"))?
         .arg(objective(alloc))?
         .arg(lean(alloc))
 }
@@ -196,10 +192,10 @@ fn check_command<'a>(alloc: Global) -> Result<Command<'a>, AllocError>
             "PROBLEM",
             "A minimum-cost flow problem in the DIMACS format",
         ))?
-        .arg(path(alloc, "CERTIFICATE", "What is said to settle it"))
+        .arg(path(alloc, "CERTIFICATE", "The certificate to check"))
 }
 
-/// The program's own words, without what it can be asked for.
+/// Builds the command without its subcommands.
 fn bare_command<'a>(alloc: Global) -> Command<'a>
     ensures { IsApp bare_app result }
 {
@@ -211,7 +207,7 @@ fn bare_command<'a>(alloc: Global) -> Command<'a>
         .arg_required_else_help(false)
 }
 
-/// The program with one subcommand more, where there was memory for both.
+/// Adds a subcommand, unless memory ran out for either command.
 fn with_subcommand<'a>(
     program: Result<Command<'a>, AllocError>,
     subcommand: Result<Command<'a>, AllocError>,
@@ -242,7 +238,7 @@ fn action_of(name: &str) -> Option<Action>
     }
 }
 
-/// The value of a path.
+/// Returns the value of a path argument.
 #[tactic(auto, using(crate::proofs::Rows::first_given))]
 fn path_of(alloc: Global, matches: &ArgMatches<'_>, name: &str) -> Result<String, AllocError>
     ensures { IfOk result (λ path. string_bytes path ≡ given (rows_of (found_of matches.now)) name.now) }
@@ -273,7 +269,7 @@ fn two_paths(
     Ok(paths)
 }
 
-/// The values of the paths of an action, in order.
+/// Returns the values of a subcommand's path arguments, in order.
 fn paths_of(
     alloc: Global,
     action: Action,
@@ -290,7 +286,7 @@ fn paths_of(
     }
 }
 
-/// The name that was given with `--objective`.
+/// Returns the value of `--objective`.
 #[tactic(auto, using(crate::proofs::Rows::first_given))]
 fn name_of(alloc: Global, matches: &ArgMatches<'_>) -> Result<Option<String>, AllocError>
     ensures { IfOk result (λ name. option_map string_bytes name ≡ first_of (codes "NAME") (rows_of (found_of matches.now))) }
@@ -301,7 +297,7 @@ fn name_of(alloc: Global, matches: &ArgMatches<'_>) -> Result<Option<String>, Al
     }
 }
 
-/// The name of the objective of an action that takes one.
+/// Returns the value of `--objective`, for a subcommand that has this option.
 fn objective_of(
     alloc: Global,
     action: Action,
@@ -315,7 +311,7 @@ fn objective_of(
     }
 }
 
-/// Whether a flag is set; one that is left out has no value, or `false`.
+/// Returns whether a flag is set; a flag that is not given has no value, or `false`.
 #[tactic(auto, using(crate::proofs::Rows::first_given))]
 fn flag_of(matches: &ArgMatches<'_>, name: &str) -> bool
     ensures { result ≡ is_set (rows_of (found_of matches.now)) name.now }
@@ -326,7 +322,7 @@ fn flag_of(matches: &ArgMatches<'_>, name: &str) -> bool
     }
 }
 
-/// Whether the lean form is asked for, of an action that has two.
+/// Returns whether the lean form is requested, for a subcommand that has this flag.
 fn lean_of(action: Action, matches: &ArgMatches<'_>) -> bool
     ensures { result ≡ asked_lean action (rows_of (found_of matches.now)) }
 {
@@ -336,13 +332,22 @@ fn lean_of(action: Action, matches: &ArgMatches<'_>) -> bool
     }
 }
 
-/// What these words ask for; the first is the program's name. `Usage` is what clap says of words that ask for nothing
-/// that is there, or for help or the version; `NoCommand` is a subcommand of clap's own.
+/// Returns the usage error for a subcommand that is not the program's own. clap reports all of them
+/// itself, but its contract does not say so.
+fn no_command(command: &mut Command<'_>) -> WordsFault {
+    match command.error(ErrorKind::MissingSubcommand, "no such command") {
+        Ok(error) => WordsFault::Usage(error),
+        Err(_) => WordsFault::OutOfMemory,
+    }
+}
+
+/// Parses the arguments; the first is the program's name. Returns `Usage` with clap's message for
+/// invalid arguments and for a request for help or the version.
 pub fn words_of(alloc: Global, words: &[String]) -> Result<Words, WordsFault>
     ensures value { IfOk result (IsAskedBy (map string_bytes words.now)) }
 {
-    let command = command(alloc)?;
-    let matches = match command.try_get_matches_from(words) {
+    let mut command = command(alloc)?;
+    let matches = match command.try_get_matches_from_mut(words) {
         Ok(matches) => matches,
         Err(error) if error.kind() == ErrorKind::OutOfMemory => {
             return Err(WordsFault::OutOfMemory);
@@ -350,16 +355,16 @@ pub fn words_of(alloc: Global, words: &[String]) -> Result<Words, WordsFault>
         Err(error) => return Err(WordsFault::Usage(error)),
     };
     let Some((name, found)) = matches.subcommand() else {
-        return Err(WordsFault::NoCommand);
+        return Err(no_command(&mut command));
     };
-    let Some(command) = action_of(name) else {
-        return Err(WordsFault::NoCommand);
+    let Some(action) = action_of(name) else {
+        return Err(no_command(&mut command));
     };
-    let paths = paths_of(alloc, command, found)?;
-    let objective = objective_of(alloc, command, found)?;
-    let lean = lean_of(command, found);
+    let paths = paths_of(alloc, action, found)?;
+    let objective = objective_of(alloc, action, found)?;
+    let lean = lean_of(action, found);
     Ok(Words {
-        command,
+        command: action,
         paths,
         objective,
         lean,

@@ -2,32 +2,84 @@ use Rattle.std.proofs.Common.{◌≡◌, ◌+◌, ◌-◌, sym, ap, ◌∙◌, a
 use Rattle.std.proofs.lemmas.Result.{err_from_is_err_and}
 use Rattle.net_tree.specs.WellFormed.{joins}
 use Rattle.net_tree.specs.View.{tree, links_of}
-use Rattle.net_model.specs.Expressions.{inside, climb, unary, links, part_at, present_at, inner_of, choice_at, items_at, hollow_at, braces_at, braces, reduced_at, chain_at, if_at, wide, named_at, negated_at, parens_from, parens_at, subscripts_at, unary_at}
+use Rattle.net_model.specs.Expressions.{inside, climb, unary, links, part_at, present_at, inner_of, choice_at, items_at, hollow_at, braces_at, reduced_at, chain_at, if_at, wide, named_at, parens_from, parens_at, subscripts_at, unary_at}
 use Rattle.net_model.specs.Reading.{next_is, read_as}
-use Rattle.net_model.proofs.Steps.{inside-none, inside-some, climb-low, climb-high}
+use Rattle.net_model.proofs.Steps.{inside-none, inside-some, climb-low, climb-high, braces-opened, negated-opened}
 use Rattle.net_model.proofs.Turning.{all_read, one_read, no_operator, no_operand}
-use Rattle.std.proofs.lemmas.Grind.{common_steps}
 use Rattle.net_tree.proofs.Views.{views}
 use Rattle.net_model.proofs.Making.{makings}
 use Rattle.net_model.proofs.+parser.Goals as goal
 
+pub braces::braces_of-returns-in_err-open-clause-value : goal.braces::braces_of-returns-in_err-open-clause-value
+braces::braces_of-returns-in_err-open-clause-value t c = let opened = braces-opened (inside c.args.depth) c.args.tokens.now in grind (arith, opened)
+
 pub braces::braces_of-returns-then-depth-eq0-clause-value : goal.braces::braces_of-returns-then-depth-eq0-clause-value
-braces::braces_of-returns-then-depth-eq0-clause-value t c = rw (inside-none c.args.depth c.if-depth-eq0.true) c.shut_braces.ensures.value
+braces::braces_of-returns-then-depth-eq0-clause-value t c = let opened = braces-opened (inside c.args.depth) c.args.tokens.now in let none = inside-none c.args.depth c.if-depth-eq0.true in grind (arith, opened, none)
 
 pub braces::braces_of-returns-else-depth-eq0-clause-value : goal.braces::braces_of-returns-else-depth-eq0-clause-value
-braces::braces_of-returns-else-depth-eq0-clause-value t c = rw (inside-some c.args.depth c.if-depth-eq0.false) c.braces_opened.ensures.value
+braces::braces_of-returns-else-depth-eq0-clause-value t c = let opened = braces-opened (inside c.args.depth) c.args.tokens.now in let some = inside-some c.args.depth c.if-depth-eq0.false in grind (arith, opened, some)
 
 pub choices::if_of-returns-then-depth-eq0-clause-value : goal.choices::if_of-returns-then-depth-eq0-clause-value
-choices::if_of-returns-then-depth-eq0-clause-value t c = rw (inside-none c.args.depth c.if-depth-eq0.true) c.shut_if.ensures.value
+unfolding if_at
+choices::if_of-returns-then-depth-eq0-clause-value t c = let none = inside-none c.args.depth c.if-depth-eq0.true in grind (arith, none)
 
-pub choices::if_of-returns-else-depth-eq0-clause-value : goal.choices::if_of-returns-else-depth-eq0-clause-value
-choices::if_of-returns-else-depth-eq0-clause-value t c = rw (inside-some c.args.depth c.if-depth-eq0.false) c.if_inside.ensures.value
+pub choices::if_of-returns-in-None-clause-value : goal.choices::if_of-returns-in-None-clause-value
+unfolding if_at
+choices::if_of-returns-in-None-clause-value t c = let some = inside-some c.args.depth c.if-depth-eq0.false in grind (arith, some)
 
-pub expressions::unary_of-returns-then-depth-eq0-clause-value : goal.expressions::unary_of-returns-then-depth-eq0-clause-value
-expressions::unary_of-returns-then-depth-eq0-clause-value t c = rw (inside-none c.args.depth c.if-depth-eq0.true) c.shut.ensures.value
+pub choices::if_of-returns-in-Some-clause-value : goal.choices::if_of-returns-in-Some-clause-value
+unfolding if_at
+choices::if_of-returns-in-Some-clause-value t c = let some = inside-some c.args.depth c.if-depth-eq0.false in grind (arith, some)
 
-pub expressions::unary_of-returns-else-depth-eq0-clause-value : goal.expressions::unary_of-returns-else-depth-eq0-clause-value
-expressions::unary_of-returns-else-depth-eq0-clause-value t c = rw (inside-some c.args.depth c.if-depth-eq0.false) c.unary_inside.ensures.value
+pub expressions::named_of-returns-then-depth-eq0-clause-value : goal.expressions::named_of-returns-then-depth-eq0-clause-value
+unfolding named_at
+expressions::named_of-returns-then-depth-eq0-clause-value t c = let none = inside-none c.args.depth c.if-depth-eq0.true in grind (arith, none)
+
+pub expressions::named_of-returns-else-depth-eq0-clause-value : goal.expressions::named_of-returns-else-depth-eq0-clause-value
+unfolding named_at
+expressions::named_of-returns-else-depth-eq0-clause-value t c = let some = inside-some c.args.depth c.if-depth-eq0.false in grind (arith, some)
+
+pub expressions::negated_of-returns-in_err-open-clause-value : goal.expressions::negated_of-returns-in_err-open-clause-value
+expressions::negated_of-returns-in_err-open-clause-value t c = let opened = negated-opened (inside c.args.depth) c.args.word c.args.tokens.now in grind (arith, opened)
+
+pub expressions::negated_of-returns-then-depth-eq0-clause-value : goal.expressions::negated_of-returns-then-depth-eq0-clause-value
+expressions::negated_of-returns-then-depth-eq0-clause-value t c = let opened = negated-opened (inside c.args.depth) c.args.word c.args.tokens.now in let none = inside-none c.args.depth c.if-depth-eq0.true in grind (arith, opened, none)
+
+pub expressions::negated_of-returns-in_err-inner-clause-value : goal.expressions::negated_of-returns-in_err-inner-clause-value
+unfolding inner_of
+expressions::negated_of-returns-in_err-inner-clause-value t c = let opened = negated-opened (inside c.args.depth) c.args.word c.args.tokens.now in let some = inside-some c.args.depth c.if-depth-eq0.false in grind (arith, opened, some)
+
+pub expressions::negated_of-returns-clause-value : goal.expressions::negated_of-returns-clause-value
+unfolding inner_of
+expressions::negated_of-returns-clause-value t c = let opened = negated-opened (inside c.args.depth) c.args.word c.args.tokens.now in let some = inside-some c.args.depth c.if-depth-eq0.false in grind (arith, opened, some)
+
+pub expressions::unary_of-returns-in-Open-clause-value : goal.expressions::unary_of-returns-in-Open-clause-value
+unfolding unary unary_at
+expressions::unary_of-returns-in-Open-clause-value t c = let none = inside-none c.args.depth c.if-depth-eq0.true in grind (arith, none)
+
+pub expressions::unary_of-returns-in-Open-2-clause-value : goal.expressions::unary_of-returns-in-Open-2-clause-value
+unfolding unary unary_at
+expressions::unary_of-returns-in-Open-2-clause-value t c = let some = inside-some c.args.depth c.if-depth-eq0.false in grind (arith, some)
+
+pub expressions::unary_of-returns-in_err-braces-in-OpenBrace-clause-value : goal.expressions::unary_of-returns-in_err-braces-in-OpenBrace-clause-value
+unfolding unary unary_at
+expressions::unary_of-returns-in_err-braces-in-OpenBrace-clause-value t c = let some = inside-some c.args.depth c.if-depth-eq0.false in grind (arith, some)
+
+pub expressions::unary_of-returns-in_ok-braces-in-OpenBrace-clause-value : goal.expressions::unary_of-returns-in_ok-braces-in-OpenBrace-clause-value
+unfolding unary unary_at
+expressions::unary_of-returns-in_ok-braces-in-OpenBrace-clause-value t c = let some = inside-some c.args.depth c.if-depth-eq0.false in grind (arith, some)
+
+pub expressions::unary_of-returns-in_err-operand-in-Sign-clause-value : goal.expressions::unary_of-returns-in_err-operand-in-Sign-clause-value
+unfolding unary unary_at inner_of
+expressions::unary_of-returns-in_err-operand-in-Sign-clause-value t c = let some = inside-some c.args.depth c.if-depth-eq0.false in grind (arith, some)
+
+pub expressions::unary_of-returns-in_ok-operand-in-Sign-clause-value : goal.expressions::unary_of-returns-in_ok-operand-in-Sign-clause-value
+unfolding unary unary_at inner_of
+expressions::unary_of-returns-in_ok-operand-in-Sign-clause-value t c = let some = inside-some c.args.depth c.if-depth-eq0.false in grind (arith, some)
+
+pub expressions::unary_of-returns-in-Reduction-clause-value : goal.expressions::unary_of-returns-in-Reduction-clause-value
+unfolding unary unary_at
+expressions::unary_of-returns-in-Reduction-clause-value t c = let some = inside-some c.args.depth c.if-depth-eq0.false in grind (arith, some)
 
 pub chains::climb_to-returns-then-loosest-lt-PRODUCT-clause-value : goal.chains::climb_to-returns-then-loosest-lt-PRODUCT-clause-value
 chains::climb_to-returns-then-loosest-lt-PRODUCT-clause-value t c = rw (climb-low c.args.loosest (unary (inside c.args.depth)) c.if-loosest-lt-PRODUCT.true) c.unary_of.ensures.value
@@ -118,13 +170,6 @@ pub braces::braces_inside-returns-then-next_is_hollow-clause-value : goal.braces
 unfolding braces_at
 braces::braces_inside-returns-then-next_is_hollow-clause-value t c = grind (arith)
 
-pub braces::braces_opened-returns-clause-shorter : goal.braces::braces_opened-returns-clause-shorter
-braces::braces_opened-returns-clause-shorter t c = grind (arith)
-
-pub braces::braces_opened-returns-clause-value : goal.braces::braces_opened-returns-clause-value
-unfolding braces
-braces::braces_opened-returns-clause-value t c = grind (arith)
-
 pub braces::filter_of-returns-clause-shorter : goal.braces::filter_of-returns-clause-shorter
 braces::filter_of-returns-clause-shorter t c = grind (arith)
 
@@ -160,10 +205,6 @@ chains::links_from-loop-alloc-init t c = grind (arith)
 pub chains::links_from-loop-alloc-smaller : goal.chains::links_from-loop-alloc-smaller
 chains::links_from-loop-alloc-smaller t c = grind (arith)
 
-pub choices::if_inside-returns-in-None-clause-value : goal.choices::if_inside-returns-in-None-clause-value
-unfolding if_at
-choices::if_inside-returns-in-None-clause-value t c = grind (arith)
-
 pub choices::introduced-returns-clause-shorter : goal.choices::introduced-returns-clause-shorter
 choices::introduced-returns-clause-shorter t c = grind (arith)
 
@@ -181,24 +222,6 @@ choices::otherwise_of-returns-then-not-next_is-clause-value t c = grind (arith, 
 pub choices::wide_of-returns-then-next_is-clause-value : goal.choices::wide_of-returns-then-next_is-clause-value
 unfolding wide
 choices::wide_of-returns-then-next_is-clause-value t c = grind (arith)
-
-pub expressions::named_inside-returns-else-next_is-clause-shorter : goal.expressions::named_inside-returns-else-next_is-clause-shorter
-expressions::named_inside-returns-else-next_is-clause-shorter t c = grind (arith)
-
-pub expressions::named_inside-returns-else-next_is-clause-value : goal.expressions::named_inside-returns-else-next_is-clause-value
-unfolding named_at
-expressions::named_inside-returns-else-next_is-clause-value t c = grind (arith, views)
-
-pub expressions::named_inside-returns-then-next_is-clause-value : goal.expressions::named_inside-returns-then-next_is-clause-value
-unfolding named_at
-expressions::named_inside-returns-then-next_is-clause-value t c = grind (arith, views)
-
-pub expressions::negated_inside-returns-clause-shorter : goal.expressions::negated_inside-returns-clause-shorter
-expressions::negated_inside-returns-clause-shorter t c = grind (arith)
-
-pub expressions::negated_inside-returns-clause-value : goal.expressions::negated_inside-returns-clause-value
-unfolding negated_at inner_of
-expressions::negated_inside-returns-clause-value t c = grind (arith)
 
 pub expressions::parens_from-returns-else-is_sum-clause-value : goal.expressions::parens_from-returns-else-is_sum-clause-value
 unfolding parens_from inner_of
@@ -226,79 +249,12 @@ pub expressions::subscripts_inside-returns-in_default-clause-value : goal.expres
 unfolding subscripts_at inner_of
 expressions::subscripts_inside-returns-in_default-clause-value t c = grind (arith)
 
-pub expressions::unary_inside-returns-in-Name-clause-shorter : goal.expressions::unary_inside-returns-in-Name-clause-shorter
-expressions::unary_inside-returns-in-Name-clause-shorter t c = grind (arith)
-
-pub expressions::unary_inside-returns-in-Not-clause-shorter : goal.expressions::unary_inside-returns-in-Not-clause-shorter
-expressions::unary_inside-returns-in-Not-clause-shorter t c = grind (arith)
-
-pub expressions::unary_inside-returns-in-Number-clause-shorter : goal.expressions::unary_inside-returns-in-Number-clause-shorter
-expressions::unary_inside-returns-in-Number-clause-shorter t c = grind (arith)
-
-pub expressions::unary_inside-returns-in-Number-clause-value : goal.expressions::unary_inside-returns-in-Number-clause-value
-unfolding unary unary_at inner_of
-expressions::unary_inside-returns-in-Number-clause-value t c = grind (arith, views)
-
-pub expressions::unary_inside-returns-in-Open-clause-shorter : goal.expressions::unary_inside-returns-in-Open-clause-shorter
-expressions::unary_inside-returns-in-Open-clause-shorter t c = grind (arith)
-
-pub expressions::unary_inside-returns-in-Reduction-clause-shorter : goal.expressions::unary_inside-returns-in-Reduction-clause-shorter
-expressions::unary_inside-returns-in-Reduction-clause-shorter t c = grind (arith)
-
-pub expressions::unary_inside-returns-in_default-clause-value : goal.expressions::unary_inside-returns-in_default-clause-value
-unfolding unary unary_at inner_of
-expressions::unary_inside-returns-in_default-clause-value t c = grind (arith, views)
-
-pub expressions::unary_inside-returns-in_default-role_of : goal.expressions::unary_inside-returns-in_default-role_of
-unfolding unary unary_at inner_of
-expressions::unary_inside-returns-in_default-role_of t c = grind (arith, views)
-
-pub expressions::unary_inside-returns-in_ok-braces-in-OpenBrace-clause-shorter : goal.expressions::unary_inside-returns-in_ok-braces-in-OpenBrace-clause-shorter
-expressions::unary_inside-returns-in_ok-braces-in-OpenBrace-clause-shorter t c = grind (arith)
-
-pub expressions::unary_inside-returns-in_ok-braces-in-OpenBrace-clause-value : goal.expressions::unary_inside-returns-in_ok-braces-in-OpenBrace-clause-value
-unfolding unary unary_at inner_of
-expressions::unary_inside-returns-in_ok-braces-in-OpenBrace-clause-value t c = grind (arith, views)
-
-pub expressions::unary_inside-returns-in_ok-operand-in-Sign-clause-shorter : goal.expressions::unary_inside-returns-in_ok-operand-in-Sign-clause-shorter
-expressions::unary_inside-returns-in_ok-operand-in-Sign-clause-shorter t c = grind (arith)
-
-pub expressions::unary_inside-returns-in_ok-operand-in-Sign-clause-value : goal.expressions::unary_inside-returns-in_ok-operand-in-Sign-clause-value
-unfolding unary unary_at inner_of
-expressions::unary_inside-returns-in_ok-operand-in-Sign-clause-value t c = grind (arith, views)
-
 pub chains::links_from-returns-clause-shorter : goal.chains::links_from-returns-clause-shorter
 chains::links_from-returns-clause-shorter t c = grind (arith)
-
-pub choices::if_inside-returns-in-Some-clause-shorter : goal.choices::if_inside-returns-in-Some-clause-shorter
-choices::if_inside-returns-in-Some-clause-shorter t c = grind (arith)
-
-pub choices::if_inside-returns-in-Some-clause-value : goal.choices::if_inside-returns-in-Some-clause-value
-unfolding if_at
-choices::if_inside-returns-in-Some-clause-value t c = grind (arith)
 
 pub choices::wide_of-returns-else-next_is-clause-value : goal.choices::wide_of-returns-else-next_is-clause-value
 unfolding wide
 choices::wide_of-returns-else-next_is-clause-value t c = grind (arith)
 
-pub expressions::named_inside-returns-then-next_is-clause-shorter : goal.expressions::named_inside-returns-then-next_is-clause-shorter
-expressions::named_inside-returns-then-next_is-clause-shorter t c = grind (arith)
-
 pub expressions::parens_from-returns-else-is_sum-clause-shorter : goal.expressions::parens_from-returns-else-is_sum-clause-shorter
 expressions::parens_from-returns-else-is_sum-clause-shorter t c = grind (arith)
-
-pub expressions::unary_inside-returns-in-Name-clause-value : goal.expressions::unary_inside-returns-in-Name-clause-value
-unfolding unary unary_at inner_of
-expressions::unary_inside-returns-in-Name-clause-value t c = grind (arith, views)
-
-pub expressions::unary_inside-returns-in-Not-clause-value : goal.expressions::unary_inside-returns-in-Not-clause-value
-unfolding unary unary_at inner_of
-expressions::unary_inside-returns-in-Not-clause-value t c = grind (arith, views)
-
-pub expressions::unary_inside-returns-in-Open-clause-value : goal.expressions::unary_inside-returns-in-Open-clause-value
-unfolding unary unary_at inner_of
-expressions::unary_inside-returns-in-Open-clause-value t c = grind (arith, views)
-
-pub expressions::unary_inside-returns-in-Reduction-clause-value : goal.expressions::unary_inside-returns-in-Reduction-clause-value
-unfolding unary unary_at inner_of
-expressions::unary_inside-returns-in-Reduction-clause-value t c = grind (arith, views)

@@ -7,11 +7,8 @@ use Rattle.net_model.proofs.+parser.Given as goal
 abbrev pub decreases-expressions::unary_of : goal.decreases-expressions::unary_of
 decreases-expressions::unary_of l = 100 * l.depth + 1
 
-abbrev pub decreases-expressions::unary_inside : goal.decreases-expressions::unary_inside
-decreases-expressions::unary_inside l = 100 * l.depth + 90
-
-abbrev pub decreases-expressions::named_inside : goal.decreases-expressions::named_inside
-decreases-expressions::named_inside l = 100 * l.depth + 80
+abbrev pub decreases-expressions::named_of : goal.decreases-expressions::named_of
+decreases-expressions::named_of l = 100 * l.depth
 
 abbrev pub decreases-expressions::subscripts_inside : goal.decreases-expressions::subscripts_inside
 decreases-expressions::subscripts_inside l = 100 * l.depth + 70
@@ -22,14 +19,11 @@ decreases-expressions::parens_inside l = 100 * l.depth + 80
 abbrev pub decreases-expressions::parens_from : goal.decreases-expressions::parens_from
 decreases-expressions::parens_from l = 100 * l.depth + 70
 
-abbrev pub decreases-expressions::negated_inside : goal.decreases-expressions::negated_inside
-decreases-expressions::negated_inside l = 100 * l.depth + 80
+abbrev pub decreases-expressions::negated_of : goal.decreases-expressions::negated_of
+decreases-expressions::negated_of l = 100 * l.depth
 
 abbrev pub decreases-braces::braces_of : goal.decreases-braces::braces_of
 decreases-braces::braces_of l = 100 * l.depth + 1
-
-abbrev pub decreases-braces::braces_opened : goal.decreases-braces::braces_opened
-decreases-braces::braces_opened l = 100 * l.depth + 85
 
 abbrev pub decreases-braces::braces_inside : goal.decreases-braces::braces_inside
 decreases-braces::braces_inside l = 100 * l.depth + 80
@@ -54,9 +48,6 @@ decreases-choices::wide_of l = 100 * l.depth + 4 * l.loosest + 10
 
 abbrev pub decreases-choices::if_of : goal.decreases-choices::if_of
 decreases-choices::if_of l = 100 * l.depth + 1
-
-abbrev pub decreases-choices::if_inside : goal.decreases-choices::if_inside
-decreases-choices::if_inside l = 100 * l.depth + 85
 
 abbrev pub decreases-choices::choice_inside : goal.decreases-choices::choice_inside
 decreases-choices::choice_inside l = 100 * l.depth + 80

@@ -12,7 +12,7 @@ with_text-requires c = c.in_ok-unwritten.ensures.value.sizes
 
 pub returns-clause-value : goal.returns-clause-value
 returns-clause-value c =
-    subst (λ compiled. Answers c.args.options.lean (option_copied c.args.options.objective) c.args.model.now c.args.data.now (record { compiled = compiled; outcome = c.in_ok-outcome.outcome }))
+    subst (λ compiled. Answers c.args.options.now.lean (option_copied c.args.options.now.objective) c.args.model.now c.args.data.now (record { compiled = compiled; outcome = c.in_ok-outcome.outcome }))
     (sym c.in_ok-compiled.ensures) (c.in_ok-outcome.ensures _ _ _ _ c.in_ok-unwritten.ensures.value)
 
 pub returns-in_err-outcome-clause-refused : goal.returns-in_err-outcome-clause-refused

@@ -9,7 +9,7 @@ with_text-requires c = c.in_ok-unwritten.ensures.value.sizes
 
 pub returns-clause-value : goal.returns-clause-value
 returns-clause-value c =
-    subst (Headline c.args.options.lean (option_copied c.args.options.objective) c.args.model.now c.args.data.now) (sym c.in_ok-compiled.ensures) c.in_ok-unwritten.ensures.value
+    subst (Headline c.args.options.now.lean (option_copied c.args.options.now.objective) c.args.model.now c.args.data.now) (sym c.in_ok-compiled.ensures) c.in_ok-unwritten.ensures.value
 
 pub returns-in_err-compiled-clause-refused : goal.returns-in_err-compiled-clause-refused
 returns-in_err-compiled-clause-refused c =

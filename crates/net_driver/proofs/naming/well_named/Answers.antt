@@ -1,4 +1,4 @@
-use Rattle.net_driver.proofs.NamedModels.{meant_well_named, named_meant}
+use Rattle.net_model.proofs.NamedModels.{meant_well_named, named_meant}
 use Rattle.net_driver.proofs.naming.well_named.Goals as goal
 
 pub returns-clause-value : goal.returns-clause-value

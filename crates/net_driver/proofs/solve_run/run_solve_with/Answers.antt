@@ -14,7 +14,7 @@ returns-in-Ok-clause-run g c =
     let d = c.in_ok-data_text.data_text.items in
     let compiled = written c.in_ok-unwritten.unwritten in
     let outcome = c.in_ok-outcome.outcome in
-    let promise : Headline c.args.options.lean (option_copied c.args.options.objective) m d compiled = search rules in
+    let promise : Headline c.args.options.now.lean (option_copied c.args.options.now.objective) m d compiled = search rules in
     let solved = c.in_ok-outcome.ensures _ _ m d promise in
     record {
       ok = record {
@@ -36,7 +36,7 @@ returns-clause-run g c =
     let d = c.in_ok-data_text.data_text.items in
     let compiled = written c.in_ok-unwritten.unwritten in
     let outcome = c.in_ok-outcome.outcome in
-    let promise : Headline c.args.options.lean (option_copied c.args.options.objective) m d compiled = search rules in
+    let promise : Headline c.args.options.now.lean (option_copied c.args.options.now.objective) m d compiled = search rules in
     let solved = c.in_ok-outcome.ensures _ _ m d promise in
     record {
       ok = tt;
@@ -59,7 +59,7 @@ pub returns-in_err-unwritten-clause-run : goal.returns-in_err-unwritten-clause-r
 returns-in_err-unwritten-clause-run g c =
     let m = c.in_ok-model_text.model_text.items in
     let d = c.in_ok-data_text.data_text.items in
-    let wrong : IsRefusal (option_copied c.args.options.objective) m d c.in_err-unwritten.field-0.0 = search rules in
+    let wrong : IsRefusal (option_copied c.args.options.now.objective) m d c.in_err-unwritten.field-0.0 = search rules in
     refused_run _ _ _ _ (texts_of m d [] []) (λ name h. h) (λ h. h) (c.in_ok-model_text.ensures.value, (c.in_ok-data_text.ensures.value, tt)) refl
     (grind (arith), (grind (arith), tt)) (grind (arith)) (c.in_ok-model_text.ensures.reads, (c.in_ok-data_text.ensures.reads, tt))
     c.in_err-unwritten.field-0.0 wrong _ _ (λ e h. h) c.from_residual-in_err-unwritten.ensures.1

@@ -1,14 +1,15 @@
-use Rattle.std.proofs.Common.{ap, arith}
+use Rattle.std.proofs.Common.{arith}
 use Rattle.std.proofs.lemmas.Grind.{common_steps}
-use Rattle.net_tree.specs.Spans.{span_of}
-use Rattle.net_tree.specs.View.{tree}
-use Rattle.net_eval.specs.Sets.{set_of, mixed}
-use Rattle.net_eval.proofs.Walking.{answers_by}
 use Rattle.net_eval.proofs.set.set_of.Goals as goal
 
-pub returns-in-Some : goal.returns-in-Some
-returns-in-Some c =
-    answers_by _ _ _ (ap (λ d. set_of (span_of (tree c.args.whole.now)) d (mixed c.args.operation c.args.first.now c.args.second.now)) c.in-Some.is) (c.made.ensures _ c.mixed.ensures)
+pub returns-in_err-set : goal.returns-in_err-set
+returns-in_err-set c = grind (arith, common_steps)
 
-pub returns-in-None : goal.returns-in-None
-returns-in-None c = grind (arith, common_steps)
+pub same-set : goal.same-set
+same-set c = grind (arith, common_steps)
+
+pub returns-in_err-allowed : goal.returns-in_err-allowed
+returns-in_err-allowed c = grind (arith, common_steps)
+
+pub returns : goal.returns
+returns c = grind (arith)

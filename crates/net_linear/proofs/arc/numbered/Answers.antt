@@ -1,6 +1,6 @@
 use Rattle.std.proofs.Common.{arith}
 use Rattle.std.proofs.lemmas.Grind.{common_steps}
-use Rattle.net_linear.proofs.Keeping.{place_below}
+use Rattle.net_linear.proofs.Positions.{place_below}
 use Rattle.net_linear.proofs.arc.numbered.Goals as goal
 
 pub number_behind-requires : goal.number_behind-requires

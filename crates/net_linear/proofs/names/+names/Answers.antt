@@ -2,8 +2,8 @@ use Rattle.net_tree.proofs.Views.{views}
 use Rattle.std.proofs.Common.{ap, ◌∙◌, arith}
 use Rattle.std.proofs.lemmas.Grind.{common_steps}
 use Rattle.net_tree.specs.Weights.{weight}
-use Rattle.net_eval.proofs.Cases.{in_choice}
-use Rattle.net_eval.proofs.Walking.{link_lighter}
+use Rattle.net_expr.proofs.Cases.{in_choice}
+use Rattle.net_expr.proofs.Walking.{link_lighter}
 use Rattle.net_linear.proofs.Naming.{any_stops, any_goes}
 use Rattle.net_linear.proofs.names.+names.Goals as goal
 

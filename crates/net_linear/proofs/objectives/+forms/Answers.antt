@@ -4,9 +4,9 @@ use Rattle.std.proofs.lemmas.Result.{err_from_is_err_and}
 use Rattle.net_tree.proofs.Views.{tree-tuple, tree-negated, views}
 use Rattle.net_tree.specs.Spans.{span_of}
 use Rattle.net_tree.specs.View.{tree}
-use Rattle.net_eval.specs.declared.row.Row.{Row}
-use Rattle.net_eval.proofs.Cases.{in_indexed, in_parens, in_signed, in_reduced, in_choice}
-use Rattle.net_eval.proofs.Walking.{link_lighter}
+use Rattle.net_expr.specs.declared.row.Row.{Row}
+use Rattle.net_expr.proofs.Cases.{in_indexed, in_parens, in_signed, in_reduced, in_choice}
+use Rattle.net_expr.proofs.Walking.{link_lighter}
 use Rattle.net_linear.specs.Forms.{AreWithin}
 use Rattle.net_linear.specs.Objectives.{objective, with_arcs}
 use Rattle.net_linear.proofs.Converting.{answers_by, stops, goes, with-indexed, with-signed, with-reduced, with-choice, with-tuple, with-negated, refuses, chained-left, rows-left}

@@ -8,5 +8,5 @@ plus-requires c = grind (arith, common_steps)
 pub returns-in_ok-sum : goal.returns-in_ok-sum
 returns-in_ok-sum c = grind (arith, common_steps)
 
-pub returns-else-is_small : goal.returns-else-is_small
-returns-else-is_small c = grind (arith, common_steps)
+pub returns-else-is_small_wide : goal.returns-else-is_small_wide
+returns-else-is_small_wide c = grind (arith, common_steps)

@@ -1,6 +1,6 @@
 use Rattle.std.proofs.Common.{arith}
 use Rattle.std.proofs.lemmas.Grind.{common_steps}
-use Rattle.net_eval.specs.Limits.{is_small}
+use Rattle.net_expr.specs.Limits.{is_small}
 use Rattle.net_linear.proofs.term.joined.Goals as goal
 
 pub returns-in-Minus : goal.returns-in-Minus

@@ -7,9 +7,9 @@ pub returns-in-Declaration-clause-value : goal.returns-in-Declaration-clause-val
 unfolding declaration_at
 returns-in-Declaration-clause-value c = grind (arith, common_steps)
 
-pub returns-in_default-role_of : goal.returns-in_default-role_of
+pub returns-in_default-role : goal.returns-in_default-role
 unfolding declaration_at
-returns-in_default-role_of c = grind (arith, common_steps)
+returns-in_default-role c = grind (arith, common_steps)
 
 pub returns-in_default-clause-value : goal.returns-in_default-clause-value
 unfolding declaration_at

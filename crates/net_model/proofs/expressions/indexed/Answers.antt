@@ -1,5 +1,4 @@
 use Rattle.std.proofs.Common.{arith}
-use Rattle.std.proofs.lemmas.Grind.{common_steps}
 use Rattle.net_tree.proofs.Views.{views}
 use Rattle.net_model.proofs.Making.{makings}
 use Rattle.net_model.proofs.expressions.indexed.Goals as goal

@@ -1,4 +1,4 @@
-use Rattle.std.proofs.Common.{◌≡◌, ◌<◌, ◌≤◌, List, [], ◌∷◌, length, true, false, refl, sym, ap, ◌∙◌, arith}
+use Rattle.std.proofs.Common.{◌≡◌, ◌<◌, ◌≤◌, List, [], ◌∷◌, length, true, false, refl, sym, ap, arith}
 use Rattle.net_tree.specs.declared.expr.Link.{Link}
 use Rattle.net_tree.specs.View.{links_of}
 use Rattle.net_tree.proofs.Views.{links_of-cons}

@@ -1,54 +1,42 @@
-use Rattle.std.specs.Prelude.{◌<◌, ◌++◌, ◌∷◌, [], List, get_or, length}
-use Rattle.std.proofs.Common.{◌≡◌, ap, refl, ◌∙◌, arith}
-use Rattle.net_sets.specs.Laid.{keys_at}
-use Rattle.net_sets.specs.Sets.{Tuple, has}
-use Rattle.net_sets.proofs.Distinct.{room_in_turn}
-use Rattle.net_sets.proofs.Laying.{long_keys}
-use Rattle.net_sets.proofs.Owned.{within_at, key_new_in_turn, one_key_taken, all_taken}
+use Rattle.std.specs.Prelude.{length}
+use Rattle.std.proofs.Common.{ap, sym, subst, ◌∙◌, ◌<◌, arith}
+use Rattle.net_sets.specs.Sets.{has}
+use Rattle.net_sets.specs.Tables.{keys_at}
+use Rattle.net_sets.proofs.TableOwn.{missing, position_within, key_new, key_more, all_keys, key_there, length_front}
+use Rattle.net_sets.proofs.TableRows.{keys_distinct, not_among}
+use Rattle.net_sets.proofs.table.keys_and.Goals.{in-Some+in_ok-push, in_default}
 use Rattle.net_sets.proofs.table.keys_and.Goals as goal
 
-pub loop-place-init : goal.loop-place-init
-loop-place-init c = c.new-all.ensures
+pub tuple_at-requires : goal.tuple_at-requires
+tuple_at-requires c =
+    subst (λ ts. c.in-Some.position.now < length ts) (sym c.as_slice-tuples.ensures.value) (position_within (length c.args.known.now) c.loop-row.row c.in-Some.position.now _ c.args.rows.now.entries c.requires.table.within c.in-Some.ensures.entry)
 
 pub push-requires-clause-fresh : goal.push-requires-clause-fresh
 push-requires-clause-fresh c =
-    let there = within_at (length c.args.known.now) c.args.places.now c.loop-place.place-index c.requires.within c.loop-place-test.true in
-    let at = c.index-tuples-place.is ∙ ap (λ ts. get_or ts (get_or c.args.places.now c.loop-place.place-index 0) c.index-tuples-place.result) c.as_slice-tuples.ensures.value in
-    key_new_in_turn c.loop-place.all c.args.known.now c.args.places.now c.loop-place.place-index (get_or c.args.places.now c.loop-place.place-index 0) c.index-tuples-place.result c.again.result
-    c.loop-place.invariant c.loop-place-test.true refl at there c.again.ensures c.requires.once
+    key_new c.loop-row.all c.args.known.now c.args.rows.now.entries c.loop-row.row c.in-Some.position.now _ c.tuple_at.result c.loop-row.invariant c.in-Some.ensures.entry
+    (key_there c.args.known.now c.as_slice-tuples.result.now c.in-Some.position.now c.tuple_at.result c.as_slice-tuples.ensures.value c.tuple_at.ensures)
+    (keys_distinct c.args.known.now c.args.rows.now.entries c.requires.table c.len-row-end.ensures.unique)
 
 pub push-requires-clause-room : goal.push-requires-clause-room
 push-requires-clause-room c =
-    let long = long_keys c.args.known.now c.args.places.now in
-    let few = c.requires.room in
-    let there = c.loop-place-test.true in
-    room_in_turn c.loop-place.all (keys_at c.args.known.now c.args.places.now) c.loop-place.place-index c.loop-place.invariant (omega arith) (omega arith)
+    let so_far = ap length c.loop-row.invariant in
+    let front = length_front c.loop-row.row (keys_at c.args.known.now c.args.rows.now.entries) in
+    let turn = c.loop-row-test.true in
+    let long = c.len-row-end.ensures.len in
+    let room = c.requires.room in
+    omega arith
 
-pub loop-place-preserved : goal.loop-place-preserved
-loop-place-preserved c =
-    let there = within_at (length c.args.known.now) c.args.places.now c.loop-place.place-index c.requires.within c.loop-place-test.true in
-    let at = c.index-tuples-place.is ∙ ap (λ ts. get_or ts (get_or c.args.places.now c.loop-place.place-index 0) c.index-tuples-place.result) c.as_slice-tuples.ensures.value in
-    one_key_taken c.loop-place.all c.push.new.self c.args.known.now c.args.places.now c.loop-place.place-index (get_or c.args.places.now c.loop-place.place-index 0) c.index-tuples-place.result c.again.result
-    c.loop-place.invariant c.loop-place-test.true refl at there c.again.ensures c.in_ok-push.ensures.ok
+pub loop-row-preserved : goal.loop-row-preserved
+loop-row-preserved c = elim c.match-get_index.branch [
+  | in-Some+in_ok-push w ↦
+      key_more c.loop-row.all c.match-get_index.all c.args.known.now c.args.rows.now.entries c.loop-row.row w.in-Some.position.now _ w.tuple_at.result c.loop-row.invariant w.in-Some.ensures.entry
+      (key_there c.args.known.now c.as_slice-tuples.result.now w.in-Some.position.now w.tuple_at.result c.as_slice-tuples.ensures.value w.tuple_at.ensures) (w.all-is ∙ w.in_ok-push.ensures.ok)
+  | in_default w ↦ missing c.args.rows.now.entries c.loop-row.row c.len-row-end.result c.len-row-end.ensures.len c.loop-row-test.true w.in_default.ensures.entry
+]
 
 pub push-requires-2-clause-fresh : goal.push-requires-2-clause-fresh
 push-requires-2-clause-fresh c =
-    let long = long_keys c.args.known.now c.args.places.now in
-    let past = c.loop-place-test.false in
-    let all = all_taken c.loop-place.all (keys_at c.args.known.now c.args.places.now) c.loop-place.place-index c.loop-place.invariant (omega arith) in
-    ap (λ ts. has ts c.again-2.result) all ∙ (ap (has (keys_at c.args.known.now c.args.places.now)) c.again-2.ensures ∙ c.requires.fresh)
-
-pub push-requires-2-clause-room : goal.push-requires-2-clause-room
-push-requires-2-clause-room c =
-    let long = long_keys c.args.known.now c.args.places.now in
-    let past = c.loop-place-test.false in
-    let few = c.requires.room in
-    let all = ap length (all_taken c.loop-place.all (keys_at c.args.known.now c.args.places.now) c.loop-place.place-index c.loop-place.invariant (omega arith)) in
-    omega arith
-
-pub returns : goal.returns
-returns c =
-    let long = long_keys c.args.known.now c.args.places.now in
-    let past = c.loop-place-test.false in
-    let all = all_taken c.loop-place.all (keys_at c.args.known.now c.args.places.now) c.loop-place.place-index c.loop-place.invariant (omega arith) in
-    c.in_ok-push-2.ensures.ok ∙ (ap (λ (ts : List Tuple). ts ++ c.again-2.result ∷ []) all ∙ ap (λ (t : Tuple). keys_at c.args.known.now c.args.places.now ++ t ∷ []) c.again-2.ensures)
+    let past = c.loop-row-test.false in
+    let long = c.len-row-end.ensures.len in
+    let all = all_keys c.loop-row.all c.args.known.now c.args.rows.now.entries c.loop-row.row c.loop-row.invariant (omega arith) in
+    ap (λ ts. has ts c.again.result) all ∙ (ap (has (keys_at c.args.known.now c.args.rows.now.entries)) c.again.ensures ∙ not_among c.args.known.now c.args.rows.now.entries c.args.key.now c.requires.fresh)

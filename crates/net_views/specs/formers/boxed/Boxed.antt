@@ -1,4 +1,5 @@
--- How a box is stored, so that a type may contain a box of itself: contracts see the value, and the block's place is nothing to them.
+-- How a box is stored, so that a type can contain a box of itself: contracts see only the value,
+-- not the address of the block.
 use mathlib.Core.Path.{refl}
 use mathlib.Core.Former.{Former, this, const, pair, via}
 use base.Stored.{gnil}
@@ -22,7 +23,7 @@ use Rattle.net_views.specs.declared.boxed.Boxed.TheView as seen
 use Rattle.net_views.specs.contracts.boxed.Boxed as whole
 use Rattle.net_views.specs.contracts.boxed.Boxed.TheInside as inside
 
--- the one value inside is the value
+-- the former maps a type to itself: the box holds one value
 abbrev pub the_former : Former {0} → Former {0}
 the_former value = value
 

@@ -1,4 +1,5 @@
--- How a list is stored, so that a type may contain a list of itself: contracts see a list, and a vector keeps its elements in order.
+-- How a list is stored, so that a type can contain a list of itself: contracts see the list of the
+-- vector's elements, in order.
 use mathlib.Core.Path.{◌≡◌, refl, sym}
 use mathlib.Core.List.{List, []}
 use mathlib.Core.Former.{Former, this, list, via, children}
@@ -19,7 +20,7 @@ use Rattle.net_views.specs.declared.items.Items.TheView as seen
 use Rattle.net_views.specs.contracts.items.Items as whole
 use Rattle.net_views.specs.contracts.items.Items.TheInside as inside
 
--- the values inside are the elements of the list, and nothing else is
+-- the values inside are exactly the elements of the list
 abbrev pub the_former : Former {0} → Former {0}
 the_former element = list element
 
@@ -35,7 +36,7 @@ the_items Element elements = elements
 pub the_items_listed : (Element : Type 0) (elements : List Element) → listed _ (children (the_former this) Element elements) ≡ the_items Element elements
 the_items_listed Element elements = list-listed Element elements
 
--- the one field, a vector
+-- the only field, a vector
 abbrev kept : Former {0}
 kept = via (vector.the_former this Global) Inside (λ Element stored. stored.items) (λ Element items. record { items = items }) (λ Element stored. refl) (λ Element items. refl)
 

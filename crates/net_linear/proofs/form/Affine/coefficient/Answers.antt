@@ -2,7 +2,7 @@ use Rattle.std.proofs.Common.{ap, ◌∙◌, arith}
 use Rattle.std.proofs.lemmas.Grind.{common_steps}
 use Rattle.std.proofs.lemmas.Int.{to_z-of_z}
 use mir.Syntax.{w128}
-use Rattle.net_eval.specs.Limits.{is_small}
+use Rattle.net_expr.specs.Limits.{is_small}
 use Rattle.net_linear.proofs.Coefficients.{each_small}
 use Rattle.net_linear.proofs.FormSizes.{products_small}
 use Rattle.net_linear.proofs.form.Affine.coefficient.Goals as goal

@@ -1,0 +1,113 @@
+-- Worlds in which the names of declarations to come mean nothing so far.
+use Rattle.std.specs.Prelude.{◌≡◌, ℕ, Bool, true, false, ◌||◌, List, [], ◌∷◌, ◌++◌, length, take, map, None, Some, if◌then◌else◌, Ok, Err, Result}
+use Rattle.std.specs.Str.{bytes_eq}
+use Rattle.std.proofs.Common.{refl, sym, ap, ◌∙◌, subst, add-one, ◌+◌, ◌<◌, get_or, drop}
+use Rattle.std.proofs.Math.Seq.{drop-cons}
+use Rattle.net_tree.specs.declared.declaration.Decl.{Decl}
+use Rattle.net_tree.specs.View.{declaration_of}
+use Rattle.net_lex.specs.declared.token.Token.{Token}
+use Rattle.net_tree.specs.Tree.{Declaration, set, param, check, node, arc, objective}
+use Rattle.net_expr.specs.declared.world.Entry.{Entry}
+use Rattle.net_expr.specs.Worlds.{Name, World, entry_of}
+use Rattle.net_eval.specs.Binding.{world, with_given, widths, is_among, AreNew, IsFresh, declare}
+use Rattle.net_fault.specs.declared.fault.Fault.{Fault}
+use Rattle.net_data.specs.declared.statement.Statement.{Statement}
+use Rattle.net_eval.specs.Names.{Declared, declared}
+use Rattle.net_eval.specs.DataByName.{Sorted, data_by_name}
+use Rattle.net_fault.specs.Outcomes.{Outcome, Answers, and_then, each}
+
+abbrev world_of : Outcome World → World
+world_of (Ok w) = w
+world_of (Err r) = []
+
+same : (w v : World) → ◌≡◌ {A = Outcome World} (Ok w) (Ok v) → w ≡ v
+same w v i = ap world_of i
+
+-- a world has no names but those that are known
+abbrev Knows : List Name → World → Type 0
+Knows known w = (n : Name) → is_among known n ≡ false → entry_of w n ≡ None
+
+pub record IsFreshFrom (w : World) (ds : List Declaration) : Type 0 where
+  pub known : List Name
+  pub news : AreNew known ds
+  pub knows : Knows known w
+
+pub whole_world : (w : World) (ns : List ℕ) → ns ≡ widths w → take (length ns) w ≡ w
+whole_world w ns e = ap (λ ks. take (length ks) w) e ∙ go w
+  where
+    go : (w : World) → take (length (widths w)) w ≡ w
+    go [] = refl
+    go (x ∷ w) = ap (◌∷◌ x) (go w)
+
+pub at_first : (ds : List Declaration) → AreNew [] ds → IsFreshFrom [] ds
+at_first ds h = record { known = []; news = h; knows = λ n e. refl }
+
+pub fresh_now : (w : World) (d : Declaration) (ds : List Declaration) → IsFreshFrom w (d ∷ ds) → IsFresh w d
+fresh_now w (set k n ps e) ds h = h.knows n.text h.news.0
+fresh_now w (param k n b ps e) ds h = h.knows n.text h.news.0
+fresh_now w (check k b m x e) ds h = tt
+fresh_now w (node k n b c e) ds h = tt
+fresh_now w (arc k n b ps e) ds h = tt
+fresh_now w (objective k n p e) ds h = tt
+
+at_end : (w : World) (m n : Name) (e : Entry) → bytes_eq m n ≡ false → entry_of w n ≡ None → entry_of (w ++ (m, e) ∷ []) n ≡ None
+at_end [] m n e f g = ap (λ b. if b then Some e else None) f
+at_end (x ∷ w) m n e f g = step (bytes_eq x.0 n) g (at_end w m n e f)
+  where
+    step : (b : Bool) → (if b then Some x.1 else entry_of w n) ≡ None → (entry_of w n ≡ None → entry_of (w ++ (m, e) ∷ []) n ≡ None)
+        → (if b then Some x.1 else entry_of (w ++ (m, e) ∷ []) n) ≡ None
+    step true g more = cc
+    step false g more = more g
+
+one_more : (known : List Name) (w : World) (m : Name) (e : Entry) → Knows known w → Knows (m ∷ known) (w ++ (m, e) ∷ [])
+one_more known w m e h n a = go (bytes_eq m n) refl a (at_end w m n e) (h n)
+  where
+    go : (b : Bool) → bytes_eq m n ≡ b → (b || is_among known n) ≡ false → (bytes_eq m n ≡ false → entry_of w n ≡ None → entry_of (w ++ (m, e) ∷ []) n ≡ None)
+        → (is_among known n ≡ false → entry_of w n ≡ None) → entry_of (w ++ (m, e) ∷ []) n ≡ None
+    go true f a end h = cc
+    go false f a end h = end f (h a)
+
+abbrev declared_by : Token → World → Outcome Entry → Outcome World
+declared_by n w o = and_then o (λ e. Ok (w ++ (n.text, e) ∷ []))
+
+further : (known : List Name) (w v : World) (n : Token) (o : Outcome Entry) → Knows known w → declared_by n w o ≡ Ok v → Knows (n.text ∷ known) v
+further known w v n (Ok e) h i = subst (Knows (n.text ∷ known)) (same (w ++ (n.text, e) ∷ []) v i) (one_more known w n.text e h)
+further known w v n (Err r) h i = cc
+
+pub fresh_next : (given : Sorted) (w v : World) (d : Declaration) (ds : List Declaration) → IsFreshFrom w (d ∷ ds) → declare given d w ≡ Ok v → IsFreshFrom v ds
+fresh_next given w v (set k n ps e) ds h i = record { known = n.text ∷ h.known; news = h.news.1; knows = further h.known w v n _ h.knows i }
+fresh_next given w v (param k n b ps e) ds h i = record { known = n.text ∷ h.known; news = h.news.1; knows = further h.known w v n _ h.knows i }
+fresh_next given w v (check k b m x e) ds h i = subst (λ u. IsFreshFrom u ds) (same w v i) (record { known = h.known; news = h.news; knows = h.knows })
+fresh_next given w v (node k n b c e) ds h i = subst (λ u. IsFreshFrom u ds) (same w v i) (record { known = h.known; news = h.news; knows = h.knows })
+fresh_next given w v (arc k n b ps e) ds h i = subst (λ u. IsFreshFrom u ds) (same w v i) (record { known = h.known; news = h.news; knows = h.knows })
+fresh_next given w v (objective k n p e) ds h i = subst (λ u. IsFreshFrom u ds) (same w v i) (record { known = h.known; news = h.news; knows = h.knows })
+
+pub ruleset fresh = (at_first, fresh_now, fresh_next)
+
+drop_at : (ds : List Decl) (i : ℕ) (d : Decl) → i < length ds → d ≡ get_or ds i d → drop i ds ≡ d ∷ drop (i + 1) ds
+drop_at ds i d h e = let a = drop-cons ds i d h in let b = add-one i in cc
+
+abbrev front : List Decl → ℕ → List Declaration
+front ds i = map declaration_of (drop i ds)
+
+left_at : (ds : List Decl) (i : ℕ) (d : Decl) → i < length ds → d ≡ get_or ds i d → front ds i ≡ declaration_of d ∷ front ds (i + 1)
+left_at ds i d h e = ap (map declaration_of) (drop_at ds i d h e)
+
+-- the next declaration's name means nothing so far
+pub fresh_item : (w : World) (ds : List Decl) (i : ℕ) (d : Decl) → IsFreshFrom w (front ds i) → i < length ds → d ≡ get_or ds i d → IsFresh w (declaration_of d)
+fresh_item w ds i d h l e = fresh_now w (declaration_of d) (front ds (i + 1)) (subst (IsFreshFrom w) (left_at ds i d l e) h)
+
+pub fresh_left : (given : Sorted) (w v : World) (ds : List Decl) (i : ℕ) (d : Decl) → IsFreshFrom w (front ds i) → i < length ds → d ≡ get_or ds i d
+    → declare given (declaration_of d) w ≡ Ok v → IsFreshFrom v (front ds (i + 1))
+fresh_left given w v ds i d h l e o = fresh_next given w v (declaration_of d) (front ds (i + 1)) (subst (IsFreshFrom w) (left_at ds i d l e) h) o
+
+pub goes_on : (given : Sorted) (w v : World) (ds : List Decl) (i : ℕ) (d : Decl) (all : Outcome World) → each (declare given) (front ds i) w ≡ all → i < length ds → d ≡ get_or ds i d
+    → declare given (declaration_of d) w ≡ Ok v → each (declare given) (front ds (i + 1)) v ≡ all
+goes_on given w v ds i d all h l e o =
+    sym (ap (λ ds. each (declare given) ds w) (left_at ds i d l e) ∙ ap (λ x. and_then x (each (declare given) (front ds (i + 1)))) o) ∙ h
+
+-- what is said of each name leads on to the world
+pub said_first : (ds : List Declaration) (ss : List Statement) (ns : Declared) (given : Sorted) (r : Result World Fault) → ns ≡ declared ds → data_by_name ns ss ≡ Ok given
+    → Answers (with_given ds given) r → Answers (world ds ss) r
+unfolding world
+said_first ds ss ns given r e f h = subst (λ o. Answers (and_then o (with_given ds)) r) (sym (ap (λ k. data_by_name k ss) (sym e) ∙ f)) h

@@ -1,0 +1,280 @@
+-- A parameter that is bound has at each key what its data's row gives, or its source.
+use Rattle.std.specs.Prelude.{◌≡◌, ◌+◌, ◌||◌, ◌&&◌, ℕ, Bool, true, false, cond, List, [], ◌∷◌, ◌++◌, length, map, take, slice_get, nat_lt, nat_le, is_some, Option, None, Some, if◌then◌else◌, Ok, Err}
+use Rattle.std.specs.List.{AllByRecursion, IsDistinct, flat_map, zip}
+use Rattle.std.proofs.Common.{refl, ap, sym, ◌∙◌, subst, append_assoc, append-nil}
+use Rattle.std.proofs.lemmas.List.{map-append}
+use Rattle.std.proofs.lemmas.Map.Keys.{IsDistinct-head, IsDistinct-tail, IsDistinct-cons}
+use Rattle.net_fault.specs.declared.language.Language.{Language}
+use Rattle.net_fault.specs.declared.language.Language.TheVariants.{Data}
+use Rattle.net_fault.specs.declared.span.Span.{Span}
+use Rattle.net_lex.specs.declared.token.Token.{Token}
+use Rattle.net_sets.specs.declared.member.Member.{Member}
+use Rattle.net_sets.specs.Limits.{tuples_limit}
+use Rattle.net_sets.specs.Operations.{union}
+use Rattle.net_sets.specs.Sets.{Tuple, same_tuple, has, at_key}
+use Rattle.net_sets.proofs.Sames.{same_itself, same_turned}
+use Rattle.net_data.specs.Rows.{Row as DataRow, points, row_of}
+use Rattle.net_tree.specs.Tree.{Braces, Phrase}
+use Rattle.net_expr.specs.declared.row.Keys.{Keys}
+use Rattle.net_expr.specs.declared.row.Row.{Row}
+use Rattle.net_expr.specs.declared.world.Entry.{Entry}
+use Rattle.net_expr.specs.declared.world.Entry.TheVariants.{Parameter}
+use Rattle.net_expr.specs.Rows.{keys_of}
+use Rattle.net_expr.specs.SetValues.{HasSets}
+use Rattle.net_expr.specs.Values.{index}
+use Rattle.net_expr.specs.Worlds.{World, key_count}
+use Rattle.net_expr.proofs.KeysOnce.{have_distinct_keys}
+use Rattle.net_expr.proofs.SetsGiven.{keeps_sets}
+use Rattle.net_expr.proofs.Walked.{none_there}
+use Rattle.net_fault.specs.declared.finding.Finding.{Finding}
+use Rattle.net_eval.specs.declared.given.Given.{Given}
+use Rattle.net_eval.specs.declared.given.Given.TheVariants as given
+use Rattle.net_eval.specs.declared.given.NamedData.{NamedData}
+use Rattle.net_eval.specs.declared.param.Gives.TheVariants as gives
+use Rattle.net_eval.specs.BoundParameters.{lone_key, keys_in, key_size, span_or, index_list, phrase_value, Source, source, source_text, source_at, from_source, with_found, with_key, fit_values, untaken, said_of, valued_by, values, filled, with_data, bound_parameter}
+use Rattle.net_eval.specs.Cells.{member_in, tuple_in}
+use Rattle.net_fault.specs.Outcomes.{Outcome, and_then, each}
+use Rattle.net_eval.specs.ParameterValues.{rows_across, rows_given, row_value, values_given, default_given, source_of, IsValue, IsValueAt, IsValued}
+use Rattle.net_eval.specs.Rows.{Table, Taken, All, with_value, with_row, with_cell, with_group, across, pair_of, with_line, shaped, with_rows, taken, either, with_statement}
+use Rattle.net_eval.specs.SetData.{cut, begins_at, doubled}
+use Rattle.net_eval.proofs.RowsTaken.{then_ok, is_ok}
+
+-- ---- what data give
+
+-- the values so far, and those of these rows behind them
+abbrev Adds : Taken → Taken → List DataRow → Type 0
+Adds t u rows = u.0 ≡ t.0 ++ map row_value rows
+
+adds_none : (t u : Taken) → t ≡ u → Adds t u []
+adds_none t u e = ap (λ (z : Taken). z.0) (sym e) ∙ sym (append-nil t.0)
+
+adds_join : (t v u : Taken) (first later : List DataRow) → Adds t v first → Adds v u later → Adds t u (first ++ later)
+adds_join t v u first later h k =
+    k ∙ ap (λ l. l ++ map row_value later) h ∙ append_assoc t.0 (map row_value first) (map row_value later) ∙ ap (λ l. t.0 ++ l) (sym (map-append row_value first later))
+
+each_adds : {A : Type 0} (f : A → Taken → Outcome Taken) (rows : A → List DataRow) → ((x : A) (t u : Taken) → f x t ≡ Ok u → Adds t u (rows x))
+    → (xs : List A) (t u : Taken) → each f xs t ≡ Ok u → Adds t u (flat_map rows xs)
+each_adds f rows adds [] t u e = adds_none t u (is_ok t u e)
+each_adds f rows adds (x ∷ xs) t u e =
+    then_ok (f x t) (each f xs) u e (λ v i k. adds_join t v u (rows x) (flat_map rows xs) (adds x t v i) (each_adds f rows adds xs v u k))
+
+value_adds : (text : Language) (at : Span) (key : Tuple) (m : Member) (t u : Table) → with_value text at key m t ≡ Ok u → u ≡ t ++ (key, m) ∷ []
+value_adds text at key m t u e = go _ (nat_lt (length t) tuples_limit) e
+  where
+    go : (x : Finding) (b : Bool) → (if b then (let o : Outcome Table = Ok (t ++ (key, m) ∷ []) in o) else Err x) ≡ Ok u → u ≡ t ++ (key, m) ∷ []
+    go x true i = sym (is_ok (t ++ (key, m) ∷ []) u i)
+    go x false i = cc
+
+row_adds : (word : Token) (n : Option ℕ) (index : List Tuple) (key : List Token) (value : Token) (t u : Taken) → with_row word n index key value t ≡ Ok u → u.0 ≡ t.0 ++ (tuple_in key, member_in value) ∷ []
+row_adds word n index key value t u e = go _ _ (at_key t.0 (tuple_in key)) (has index (tuple_in key)) e
+  where
+    next : Table → Outcome Taken
+    next v = Ok (v, t.1 ++ value.span ∷ [])
+
+    go : (x y : Finding) (o : Option Member) (b : Bool)
+        → (if is_some o then Err x else if b then and_then (with_value Data (begins_at value.span key) (tuple_in key) (member_in value) t.0) next else Err y) ≡ Ok u
+        → u.0 ≡ t.0 ++ (tuple_in key, member_in value) ∷ []
+    go x y (Some m) b l = cc
+    go x y None false l = cc
+    go x y None true l =
+        then_ok (with_value Data (begins_at value.span key) (tuple_in key) (member_in value) t.0) next u l (λ v j r.
+        ap (λ (z : Taken). z.0) (sym (is_ok (v, t.1 ++ value.span ∷ []) u r)) ∙ value_adds Data (begins_at value.span key) (tuple_in key) (member_in value) t.0 v j)
+
+cell_adds : (word : Token) (n : Option ℕ) (index : List Tuple) (key : List Token) (v : Option Token) (t u : Taken) → with_cell word n index key v t ≡ Ok u → Adds t u (row_of key v)
+cell_adds word n index key None t u e = adds_none t u (is_ok t u e)
+cell_adds word n index key (Some value) t u e = go (points value.kind) e
+  where
+    row : DataRow
+    row = record { keys = key; value = value }
+
+    go : (b : Bool) → (if b then (let o : Outcome Taken = Ok t in o) else with_row word n index key value t) ≡ Ok u → Adds t u (if b then [] else row ∷ [])
+    go true i = adds_none t u (is_ok t u i)
+    go false i = row_adds word n index key value t u i
+
+across_adds : (word : Token) (n : Option ℕ) (index : List Tuple) (turned : Bool) (row : Token) (cs cells : List Token) (t u : Taken) → across word n index turned row cs cells t ≡ Ok u
+    → Adds t u (flat_map (λ pair. row_of (pair_of turned row pair.0) (Some pair.1)) (zip cs cells))
+across_adds word n index turned row [] cells t u e = adds_none t u (is_ok t u e)
+across_adds word n index turned row (c ∷ cs) [] t u e = adds_none t u (is_ok t u e)
+across_adds word n index turned row (c ∷ cs) (cell ∷ cells) t u e =
+    then_ok (with_cell word n index (pair_of turned row c) (Some cell) t) (across word n index turned row cs cells) u e (λ v i k.
+    adds_join t v u (row_of (pair_of turned row c) (Some cell)) (flat_map (λ pair. row_of (pair_of turned row pair.0) (Some pair.1)) (zip cs cells))
+    (cell_adds word n index (pair_of turned row c) (Some cell) t v i) (across_adds word n index turned row cs cells v u k))
+
+line_adds : (word : Token) (n : Option ℕ) (index : List Tuple) (turned : Bool) (columns line : List Token) (t u : Taken) → with_line word n index turned columns line t ≡ Ok u → Adds t u (rows_across turned columns line)
+line_adds word n index turned columns [] t u e = adds_none t u (is_ok t u e)
+line_adds word n index turned columns (row ∷ cells) t u e = across_adds word n index turned row columns cells t u e
+
+rows_add : (n : Option ℕ) (index : List Tuple) (size : ℕ) (word : Token) (g : Given) (t u : Taken) → with_rows n index size word g t ≡ Ok u → Adds t u (rows_given size g)
+rows_add n index size word (given.Members ts) t u e = adds_none t u (is_ok t u e)
+rows_add n index size word (given.Groups g) t u e =
+    each_adds (with_group word n index size g.place) (λ group. row_of (take size group) (slice_get group (size + g.place)))
+    (λ x b c i. cell_adds word n index (take size x) (slice_get x (size + g.place)) b c i) (cut (size + g.values) g.cells) t u e
+rows_add n index size word (given.Grid g) t u e =
+    each_adds (with_line word n index g.transposed g.columns) (rows_across g.transposed g.columns) (λ x b c i. line_adds word n index g.transposed g.columns x b c i) (cut (1 + length g.columns) g.cells) t u e
+
+taken_adds : (widths : List ℕ) (n : Option ℕ) (index : List Tuple) (size : ℕ) (word : Token) (g : Given) (b : Bool) (t u : Taken) → taken widths n index size word g b t ≡ Ok u → Adds t u (rows_given size g)
+taken_adds widths n index size word g b t u e = then_ok (shaped widths size word g) (λ v. if b then doubled word else with_rows n index size word g t) u e (λ v i k. go b k)
+  where
+    go : (c : Bool) → (if c then doubled word else with_rows n index size word g t) ≡ Ok u → Adds t u (rows_given size g)
+    go true k = cc
+    go false k = rows_add n index size word g t u k
+
+either_none : (c : Option Token) → either c None ≡ c
+either_none None = refl
+either_none (Some c) = refl
+
+either_join : (a b c : Option Token) → either (either a b) c ≡ either a (either b c)
+either_join None b c = refl
+either_join (Some a) b c = refl
+
+-- the rows of all statements, and the first default
+record AddsAll (size : ℕ) (all more : All) (ms : List NamedData) : Type 0 where
+  pub values : Adds all.0 more.0 (flat_map (λ (m : NamedData). rows_given size m.given) ms)
+  pub default : more.1 ≡ either all.1 (default_given ms)
+
+statements_add : (widths : List ℕ) (n : Option ℕ) (index : List Tuple) (size : ℕ) (a : Bool) (ms : List NamedData) (all more : All) → each (with_statement widths n index size a) ms all ≡ Ok more → AddsAll size all more ms
+statements_add widths n index size a [] all more e =
+    let same = is_ok all more e in
+    record { values = adds_none all.0 more.0 (ap (λ (z : All). z.0) same); default = ap (λ (z : All). z.1) (sym same) ∙ sym (either_none all.1) }
+statements_add widths n index size a (m ∷ ms) all more e =
+    then_ok (with_statement widths n index size a m all) (each (with_statement widths n index size a) ms) more e (λ one i k.
+    let twice : Bool = a || (is_some m.default && is_some all.1) in
+    let rest = statements_add widths n index size a ms one more k in
+    then_ok (taken widths n index size m.word m.given twice all.0) (λ t. Ok (t, either all.1 m.default)) one i (λ t j l.
+    let same = is_ok (t, either all.1 m.default) one l in
+    let first : Adds all.0 one.0 (rows_given size m.given) = subst (λ (z : All). Adds all.0 z.0 (rows_given size m.given)) same (taken_adds widths n index size m.word m.given twice all.0 t j) in
+    record {
+      values = adds_join all.0 one.0 more.0 (rows_given size m.given) (flat_map (λ (x : NamedData). rows_given size x.given) ms) first rest.values;
+      default = rest.default ∙ ap (λ (z : All). either z.1 (default_given ms)) (sym same) ∙ either_join all.1 m.default (default_given ms);
+    }))
+
+-- ---- the value at a key
+
+-- what a value more gives
+abbrev then_at : Option Member → Option Member → Option Member
+then_at None later = later
+then_at (Some m) later = Some m
+
+at_more : (t : Table) (k : Tuple) (m : Member) (key : Tuple) → at_key (t ++ (k, m) ∷ []) key ≡ then_at (at_key t key) (if same_tuple key k then Some m else None)
+at_more [] k m key = refl
+at_more (e ∷ t) k m key = go (same_tuple key e.0) (at_more t k m key)
+  where
+    go : (b : Bool) → at_key (t ++ (k, m) ∷ []) key ≡ then_at (at_key t key) (if same_tuple key k then Some m else None)
+        → cond b (Some e.1) (at_key (t ++ (k, m) ∷ []) key) ≡ then_at (cond b (Some e.1) (at_key t key)) (if same_tuple key k then Some m else None)
+    go true i = refl
+    go false i = i
+
+at_other : (t : Table) (k : Tuple) (m : Member) (key : Tuple) → same_tuple key k ≡ false → at_key (t ++ (k, m) ∷ []) key ≡ at_key t key
+at_other t k m key apart = at_more t k m key ∙ ap (λ b. then_at (at_key t key) (if b then Some m else None)) apart ∙ none_behind (at_key t key)
+  where
+    none_behind : (o : Option Member) → then_at o None ≡ o
+    none_behind None = refl
+    none_behind (Some x) = refl
+
+at_new : (t : Table) (k : Tuple) (m : Member) → at_key t k ≡ None → at_key (t ++ (k, m) ∷ []) k ≡ Some m
+at_new t k m free = at_more t k m k ∙ ap (λ o. then_at o (if same_tuple k k then Some m else None)) free ∙ ap (λ b. if b then Some m else None) (same_itself k)
+
+-- a key more: its value is there, and those of others are as they were
+record IsOneMore (w : World) (x : Source) (r : Row) (t u : Table) : Type 0 where
+  pub here : IsValue (at_key t r.key) (from_source w r.scope x) (at_key u r.key)
+  pub others : (key : Tuple) → same_tuple key r.key ≡ false → at_key u key ≡ at_key t key
+
+value_kept : (o found : Option Member) (later : Outcome (Option Member)) → found ≡ o → (o ≡ None → later ≡ Ok found) → IsValue o later found
+value_kept None found later e k = k refl
+value_kept (Some m) found later e k = e
+
+found_one : (w : World) (text : Language) (at : Span) (x : Source) (r : Row) (m : Option Member) (t u : Table) → at_key t r.key ≡ None → from_source w r.scope x ≡ Ok m → with_found text at r.key m t ≡ Ok u → IsOneMore w x r t u
+found_one w text at x r None t u free gives e =
+    let same = is_ok t u e in
+    record {
+      here = subst (λ o. IsValue o (from_source w r.scope x) (at_key u r.key)) (sym free) (gives ∙ ap Ok (sym (ap (λ z. at_key z r.key) (sym same) ∙ free)));
+      others = λ key apart. ap (λ z. at_key z key) (sym same);
+    }
+found_one w text at x r (Some m) t u free gives e =
+    let is = value_adds text at r.key m t u e in
+    record {
+      here = subst (λ o. IsValue o (from_source w r.scope x) (at_key u r.key)) (sym free) (gives ∙ ap Ok (sym (ap (λ z. at_key z r.key) is ∙ at_new t r.key m free)));
+      others = λ key apart. ap (λ z. at_key z key) is ∙ at_other t r.key m key apart;
+    }
+
+key_one : (w : World) (at : Span) (x : Source) (r : Row) (t u : Table) → with_key w at x r t ≡ Ok u → IsOneMore w x r t u
+key_one w at x r t u e = go (at_key t r.key) refl e
+  where
+    go : (o : Option Member) → at_key t r.key ≡ o
+        → (if is_some o then (let a : Outcome Table = Ok t in a) else and_then (from_source w r.scope x) (λ m. with_found (source_text x.1) (source_at at x) r.key m t)) ≡ Ok u → IsOneMore w x r t u
+    go (Some m) i k =
+        let same = is_ok t u k in
+        record {
+          here = subst (λ q. IsValue q (from_source w r.scope x) (at_key u r.key)) (sym i) (ap (λ z. at_key z r.key) (sym same) ∙ i);
+          others = λ key apart. ap (λ z. at_key z key) (sym same);
+        }
+    go None i k =
+        then_ok (from_source w r.scope x) (λ m. with_found (source_text x.1) (source_at at x) r.key m t) u k (λ m j l.
+        found_one w (source_text x.1) (source_at at x) x r m t u i j l)
+
+-- each key has its value, and those of others are as they were
+record AreFilled (w : World) (x : Source) (rows : List Row) (t u : Table) : Type 0 where
+  pub each : AllByRecursion (λ (r : Row). IsValue (at_key t r.key) (from_source w r.scope x) (at_key u r.key)) rows
+  pub others : (key : Tuple) → AllByRecursion (λ k. same_tuple key k ≡ false) (keys_of rows) → at_key u key ≡ at_key t key
+
+-- a value that was there before a key more is there behind it
+moved : (w : World) (x : Source) (k : Tuple) (t v u : Table) → ((key : Tuple) → same_tuple key k ≡ false → at_key v key ≡ at_key t key) → (rows : List Row) → AllByRecursion (λ y. same_tuple k y ≡ false) (keys_of rows)
+    → AllByRecursion (λ (r : Row). IsValue (at_key v r.key) (from_source w r.scope x) (at_key u r.key)) rows → AllByRecursion (λ (r : Row). IsValue (at_key t r.key) (from_source w r.scope x) (at_key u r.key)) rows
+moved w x k t v u same [] apart h = tt
+moved w x k t v u same (r ∷ rows) apart h = (
+  subst (λ o. IsValue o (from_source w r.scope x) (at_key u r.key)) (same r.key (same_turned r.key k ∙ apart.0)) h.0,
+  moved w x k t v u same rows apart.1 h.1,
+)
+
+keys_filled : (w : World) (at : Span) (x : Source) (rows : List Row) (t u : Table) → IsDistinct same_tuple (keys_of rows) → each (with_key w at x) rows t ≡ Ok u → AreFilled w x rows t u
+keys_filled w at x [] t u once e =
+    let same = is_ok t u e in
+    record { each = tt; others = λ key apart. ap (λ z. at_key z key) (sym same) }
+keys_filled w at x (r ∷ rows) t u once e =
+    then_ok (with_key w at x r t) (each (with_key w at x) rows) u e (λ v i k.
+    let one = key_one w at x r t v i in
+    let rest = keys_filled w at x rows v u (IsDistinct-tail same_tuple r.key (keys_of rows) once) k in
+    record {
+      each = (
+        subst (λ found. IsValue (at_key t r.key) (from_source w r.scope x) found) (sym (rest.others r.key (IsDistinct-head same_tuple r.key (keys_of rows) once))) one.here,
+        moved w x r.key t v u one.others rows (IsDistinct-head same_tuple r.key (keys_of rows) once) rest.each,
+      );
+      others = λ key apart. rest.others key apart.1 ∙ one.others key apart.0;
+    })
+
+values_filled : (w : World) (name : Token) (n : Option ℕ) (ps : List Phrase) (x : Source) (rows : List Row) (said : Taken) (t : Table) → IsDistinct same_tuple (keys_of rows) → values w name n ps x rows said ≡ Ok t
+    → AreFilled w x rows said.0 t
+values_filled w name n ps x rows said t once e =
+    then_ok (each (with_key w name.span x) rows said.0) (valued_by w name n ps x rows said) t e (λ u i k.
+    then_ok (fit_values w name n ps (source_text x.1) (source_at name.span x) said.1 u rows) (λ v. Ok u) t k (λ v j l.
+    subst (AreFilled w x rows said.0) (is_ok u t l) (keys_filled w name.span x rows said.0 u once i)))
+
+-- ---- the parameter
+
+keys_once : (w : World) (b : Option Braces) (k : Keys) → HasSets w → keys_in w b ≡ Ok k → IsDistinct same_tuple (keys_of k.rows)
+keys_once w None k sets e = subst (λ (z : Keys). IsDistinct same_tuple (keys_of z.rows)) (is_ok lone_key k e) (IsDistinct-cons same_tuple [] [] tt none_there)
+keys_once w (Some b) k sets e = have_distinct_keys w [] b k (keeps_sets w sets) e
+
+table_valued : (w : World) (ws : List ℕ) (name : Token) (ps : List Phrase) (ms : List NamedData) (n : Option ℕ) (rows : List Row) (index : List Tuple) (t : Table) → IsDistinct same_tuple (keys_of rows)
+    → filled w ws name ps ms n rows index ≡ Ok t → AllByRecursion (IsValueAt w ps (values_given (key_count n) ms) ms t) rows
+table_valued w ws name ps ms n rows index t once e =
+    then_ok (said_of ws n index (is_some (phrase_value gives.Becomes ps)) ms) (λ all. values w name n ps (source (phrase_value gives.Becomes ps) all.1 (phrase_value gives.Default ps)) rows all.0) t e (λ all i j.
+    let adds = statements_add ws n index (key_count n) (is_some (phrase_value gives.Becomes ps)) ms untaken all i in
+    let filled = values_filled w name n ps (source (phrase_value gives.Becomes ps) all.1 (phrase_value gives.Default ps)) rows all.0 t once j in
+    let by : (given : Table) (x : Source) → Type 0 = λ given x. AllByRecursion (λ (r : Row). IsValue (at_key given r.key) (from_source w r.scope x) (at_key t r.key)) rows in
+    subst (λ x. by (values_given (key_count n) ms) x) (ap (λ c. source (phrase_value gives.Becomes ps) c (phrase_value gives.Default ps)) adds.default)
+    (subst (λ given. by given (source (phrase_value gives.Becomes ps) all.1 (phrase_value gives.Default ps))) adds.values filled.each))
+
+pub are_valued : (w : World) (ws : List ℕ) (name : Token) (b : Option Braces) (ps : List Phrase) (ms : List NamedData) (e : Entry) → HasSets w → bound_parameter w ws name b ps ms ≡ Ok e → IsValued w b ps ms e
+are_valued w ws name b ps ms e sets h =
+    then_ok (keys_in w b) _ e h (λ k i o.
+    then_ok (index_list (span_or name.span b) k.rows) (with_data w ws name ps ms (key_size b k) k.rows) e o (λ index j l.
+    then_ok (filled w ws name ps ms (key_size b k) k.rows index) (λ t. Ok (Parameter (key_size b k) index t)) e l (λ t g d.
+    record {
+      keys = k;
+      indexed = i;
+      index = index;
+      table = t;
+      is = sym (is_ok (Parameter (key_size b k) index t) e d);
+      at = table_valued w ws name ps ms (key_size b k) k.rows index t (keys_once w b k sets i) g;
+    })))

@@ -1,9 +1,0 @@
-use Rattle.std.proofs.Common.{arith}
-use Rattle.std.proofs.lemmas.Grind.{common_steps}
-use Rattle.net_eval.proofs.list.as_value.Goals as goal
-
-pub returns-in-Err-TooMany : goal.returns-in-Err-TooMany
-returns-in-Err-TooMany c = grind (arith, common_steps)
-
-pub returns-in-Ok : goal.returns-in-Ok
-returns-in-Ok c = grind (arith)

@@ -1,9 +1,0 @@
-use Rattle.std.proofs.Common.{arith}
-use Rattle.std.proofs.lemmas.Grind.{common_steps}
-use Rattle.net_eval.proofs.list.listed.Goals as goal
-
-pub returns-then-conditioned : goal.returns-then-conditioned
-returns-then-conditioned c = grind (arith, common_steps)
-
-pub returns : goal.returns
-returns c = grind (arith)

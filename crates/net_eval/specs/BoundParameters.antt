@@ -1,0 +1,193 @@
+-- A declared parameter: its index set, its data, its value at each key, and the restrictions of its
+-- phrases.
+use Rattle.std.specs.Prelude.{ℕ, Bool, true, false, ◌||◌, List, [], ◌∷◌, length, map, nat_le, slice_get, is_some, Option, None, Some, if◌then◌else◌, Ok}
+use Rattle.net_fault.specs.declared.language.Language.{Language}
+use Rattle.net_fault.specs.declared.language.Language.TheVariants.{Model, Data}
+use Rattle.net_fault.specs.declared.span.Span.{Span}
+use Rattle.net_lex.specs.declared.token.Token.{Token}
+use Rattle.net_sets.specs.declared.member.Member.{Member}
+use Rattle.net_sets.specs.declared.member.Member.TheVariants.{Number, Name}
+use Rattle.net_sets.specs.Limits.{tuples_limit}
+use Rattle.net_sets.specs.Operations.{union}
+use Rattle.net_sets.specs.Sets.{Tuple, at_key, place_of}
+use Rattle.net_tree.specs.declared.role.Begins.TheVariants as begins
+use Rattle.net_tree.specs.declared.role.Role.{Role}
+use Rattle.net_tree.specs.declared.role.Role.TheVariants as roles
+use Rattle.net_tree.specs.declared.expr.Expr.{Expr}
+use Rattle.net_tree.specs.View.{tree}
+use Rattle.net_tree.specs.Role.{role_of}
+use Rattle.net_tree.specs.Spans.{span_of, braces_span}
+use Rattle.net_tree.specs.Tree.{Tree, Braces, Body, plain, valued, priced, Phrase}
+use Rattle.net_fault.specs.declared.detail.Detail.TheVariants.{Nothing}
+use Rattle.net_fault.specs.declared.defect.Defect.TheVariants.{KindMismatch, TooMany}
+use Rattle.net_expr.specs.declared.row.Row.{Row}
+use Rattle.net_expr.specs.declared.row.Keys.{Keys}
+use Rattle.net_expr.specs.declared.world.Entry.{Entry}
+use Rattle.net_expr.specs.declared.world.Entry.TheVariants.{Parameter}
+use Rattle.net_expr.specs.Operators.{member}
+use Rattle.net_expr.specs.Rows.{keys_of}
+use Rattle.net_expr.specs.Sets.{counted}
+use Rattle.net_expr.specs.Values.{value, index}
+use Rattle.net_expr.specs.Worlds.{World, Scope, key_count, reference}
+use Rattle.net_eval.specs.declared.given.NamedData.{NamedData}
+use Rattle.net_eval.specs.declared.param.Gives.{Gives}
+use Rattle.net_eval.specs.declared.param.Gives.TheVariants as gives
+use Rattle.net_eval.specs.Cells.{member_in}
+use Rattle.net_fault.specs.Outcomes.{Outcome, and_then, each, refused, refused_as}
+use Rattle.net_eval.specs.Restrictions.{restricted}
+use Rattle.net_eval.specs.Rows.{Table, Taken, All, with_value, with_statement}
+
+abbrev pub is_wanted : Gives → Role → Bool
+is_wanted gives.Becomes roles.Becomes = true
+is_wanted gives.Default (roles.Phrase begins.Default) = true
+is_wanted _ _ = false
+
+abbrev pub body_value : Body → Option Tree
+body_value plain = None
+body_value (valued x) = Some x
+body_value (priced n x) = None
+
+-- the expression of the first phrase with this keyword
+abbrev pub phrase_value : Gives → List Phrase → Option Tree
+phrase_value wanted [] = None
+phrase_value wanted (p ∷ ps) = if is_wanted wanted (role_of p.word) then body_value p.body else phrase_value wanted ps
+
+-- the tree of an expression, if there is one
+abbrev pub as_tree : Option Expr → Option Tree
+as_tree None = None
+as_tree (Some x) = Some (tree x)
+
+abbrev pub is_symbolic : Role → Bool
+is_symbolic (roles.Phrase begins.Symbolic) = true
+is_symbolic _ = false
+
+-- whether strings are allowed as values
+abbrev pub takes_texts : List Phrase → Bool
+takes_texts [] = false
+takes_texts (p ∷ ps) = is_symbolic (role_of p.word) || takes_texts ps
+
+-- a single empty key, for a parameter without indexing
+abbrev pub lone_key : Keys
+lone_key = record { width = None; rows = (record { key = []; scope = [] }) ∷ [] }
+
+-- the keys of an indexing expression
+abbrev pub keys_in : World → Option Braces → Outcome Keys
+keys_in w None = Ok lone_key
+keys_in w (Some b) = (index w [] b)
+
+-- the number of members of a key, or None without indexing
+abbrev pub key_size : Option Braces → Keys → Option ℕ
+key_size None k = None
+key_size (Some b) k = Some (counted k.width)
+
+abbrev pub span_or : Span → Option Braces → Span
+span_or at None = at
+span_or at (Some b) = braces_span b
+
+-- the index set: the distinct keys
+abbrev pub index_list : Span → List Row → Outcome (List Tuple)
+index_list at rows = if nat_le (length (union [] (keys_of rows))) tuples_limit then Ok (union [] (keys_of rows)) else refused TooMany at
+
+-- the source of values that are missing in the data: `:=`, else the data's default, else `default`
+abbrev pub Source : Type 0
+Source = Option Tree × Option Token
+
+abbrev pub source : Option Tree → Option Token → Option Tree → Source
+source (Some x) c y = (Some x, None)
+source None (Some c) y = (None, Some c)
+source None None y = (y, None)
+
+-- the file and the span of the source
+abbrev pub source_text : Option Token → Language
+source_text None = Model
+source_text (Some c) = Data
+
+abbrev pub place_in : Span → Option Tree → Option Token → Span
+place_in at (Some x) c = span_of x
+place_in at None (Some c) = c.span
+place_in at None None = at
+
+abbrev pub source_at : Span → Source → Span
+source_at at x = place_in at x.0 x.1
+
+abbrev pub some : Member → Outcome (Option Member)
+some m = Ok (Some m)
+
+abbrev pub member_by : World → Scope → Option Tree → Option Token → Outcome (Option Member)
+member_by w s (Some x) c = and_then (and_then (value w s x) (member (span_of x))) some
+member_by w s None (Some c) = Ok (Some (member_in c))
+member_by w s None None = Ok None
+
+abbrev pub from_source : World → Scope → Source → Outcome (Option Member)
+from_source w s x = member_by w s x.0 x.1
+
+abbrev pub with_found : Language → Span → Tuple → Option Member → Table → Outcome Table
+with_found text at key None t = Ok t
+with_found text at key (Some m) t = with_value text at key m t
+
+-- a key without a value gets one from the source
+abbrev pub with_key : World → Span → Source → Row → Table → Outcome Table
+with_key w at x r t =
+    if is_some (at_key t r.key) then Ok t else and_then (from_source w r.scope x) (λ m. with_found (source_text x.1) (source_at at x) r.key m t)
+
+abbrev pub is_number : Member → Bool
+is_number (Number n) = true
+is_number (Name t) = false
+
+-- the span of the cell that gave a key its value, if any
+abbrev pub cell_of : List Span → Option ℕ → Option Span
+cell_of cells None = None
+cell_of cells (Some i) = slice_get cells i
+
+abbrev pub no_text : Language → Span → Option Span → Outcome (Unit {0})
+no_text text at None = refused_as text KindMismatch at Nothing
+no_text text at (Some cell) = refused_as Data KindMismatch cell Nothing
+
+-- a string is only allowed for a symbolic parameter; the error is at the cell that gave it, or else
+-- at the source
+abbrev pub fit_kind : Bool → Language → Span → Option Span → Member → Outcome (Unit {0})
+fit_kind texts text at cell m = if texts || is_number m then Ok tt else no_text text at cell
+
+abbrev pub keys_with : Table → List Tuple
+keys_with t = map (λ (e : Tuple × Member). e.0) t
+
+abbrev pub fit_value : World → Token → Option ℕ → List Phrase → Language → Span → List Span → Table → Row → Option Member → Outcome (Unit {0})
+fit_value w name n ps text at cells t r None = Ok tt
+fit_value w name n ps text at cells t r (Some m) =
+    and_then (fit_kind (takes_texts ps) text at (cell_of cells (place_of (keys_with t) r.key)) m) (λ u.
+    restricted w r.scope (reference name.text n r.key) m ps)
+
+abbrev pub fit_row : World → Token → Option ℕ → List Phrase → Language → Span → List Span → Table → Row → Outcome (Unit {0})
+fit_row w name n ps text at cells t r = fit_value w name n ps text at cells t r (at_key t r.key)
+
+-- checks each value, in the order of the index set
+abbrev pub fit_values : World → Token → Option ℕ → List Phrase → Language → Span → List Span → Table → List Row → Outcome (Unit {0})
+fit_values w name n ps text at cells t [] = Ok tt
+fit_values w name n ps text at cells t (r ∷ rows) = and_then (fit_row w name n ps text at cells t r) (λ u. fit_values w name n ps text at cells t rows)
+
+abbrev pub untaken : All
+untaken = (([], []), None)
+
+-- the content of all statements, in order
+abbrev pub said_of : List ℕ → Option ℕ → List Tuple → Bool → List NamedData → Outcome All
+said_of widths n index is_assigned ms = each (with_statement widths n index (key_count n) is_assigned) ms untaken
+
+-- fills in missing values, then checks all values
+abbrev pub valued_by : World → Token → Option ℕ → List Phrase → Source → List Row → Taken → Table → Outcome Table
+valued_by w name n ps x rows taken t = and_then (fit_values w name n ps (source_text x.1) (source_at name.span x) taken.1 t rows) (λ u. Ok t)
+
+abbrev pub values : World → Token → Option ℕ → List Phrase → Source → List Row → Taken → Outcome Table
+values w name n ps x rows taken = and_then (each (with_key w name.span x) rows taken.0) (valued_by w name n ps x rows taken)
+
+-- the table: the values from the data, then the missing values
+abbrev pub filled : World → List ℕ → Token → List Phrase → List NamedData → Option ℕ → List Row → List Tuple → Outcome Table
+filled w widths name ps ms n rows index =
+    and_then (said_of widths n index (is_some (phrase_value gives.Becomes ps)) ms) (λ all.
+    values w name n ps (source (phrase_value gives.Becomes ps) all.1 (phrase_value gives.Default ps)) rows all.0)
+
+abbrev pub with_data : World → List ℕ → Token → List Phrase → List NamedData → Option ℕ → List Row → List Tuple → Outcome Entry
+with_data w widths name ps ms n rows index = and_then (filled w widths name ps ms n rows index) (λ t. Ok (Parameter n index t))
+
+abbrev pub bound_parameter : World → List ℕ → Token → Option Braces → List Phrase → List NamedData → Outcome Entry
+bound_parameter w widths name b ps ms =
+    and_then (keys_in w b) (λ k. and_then (index_list (span_or name.span b) k.rows) (λ index. with_data w widths name ps ms (key_size b k) k.rows index))

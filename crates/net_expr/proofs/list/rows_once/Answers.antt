@@ -1,0 +1,9 @@
+use Rattle.std.proofs.Common.{arith}
+use Rattle.std.proofs.lemmas.Grind.{common_steps}
+use Rattle.net_expr.proofs.list.rows_once.Goals as goal
+
+pub returns-in-Err-TooMany : goal.returns-in-Err-TooMany
+returns-in-Err-TooMany c = grind (arith, common_steps)
+
+pub returns-in_ok-rows_of-in-Ok : goal.returns-in_ok-rows_of-in-Ok
+returns-in_ok-rows_of-in-Ok c = grind (arith)

@@ -1,0 +1,12 @@
+use Rattle.std.proofs.Common.{arith}
+use Rattle.std.proofs.lemmas.Grind.{common_steps}
+use Rattle.net_expr.proofs.row.matches_tuple.Goals as goal
+
+pub returns-else-len : goal.returns-else-len
+returns-else-len c = grind (arith, common_steps)
+
+pub returns-then-eq : goal.returns-then-eq
+returns-then-eq c = grind (arith, common_steps)
+
+pub returns-else-eq : goal.returns-else-eq
+returns-else-eq c = grind (arith, common_steps)

@@ -1,0 +1,12 @@
+use Rattle.std.proofs.Common.{arith}
+use Rattle.std.proofs.lemmas.Grind.{common_steps}
+use Rattle.net_expr.proofs.row.matches_tuple_value.Goals as goal
+
+pub returns-in-Several : goal.returns-in-Several
+returns-in-Several c = grind (arith, common_steps)
+
+pub returns-in-One : goal.returns-in-One
+returns-in-One c = grind (arith, common_steps)
+
+pub returns-in_default : goal.returns-in_default
+returns-in_default c = grind (arith, common_steps)

@@ -1,0 +1,15 @@
+pub mod Limits
+pub mod References
+pub mod Worlds
+pub mod Numbers
+pub mod Sets
+pub mod Operators
+pub mod Items
+pub mod Selecting
+pub mod Subscripts
+pub mod Widths
+pub mod Rows
+pub mod Values
+pub mod Walks
+pub mod Frames
+pub mod SetValues

@@ -1,0 +1,176 @@
+//! Matching an item of an indexing expression with a tuple of its set.
+
+ghost use Rattle.std.specs.Prelude.{◌∷◌};
+ghost use Rattle.net_tree.specs.Spans as trees;
+ghost use Rattle.net_tree.specs.declared.expr.Series.{out-Series};
+ghost use Rattle.net_tree.specs.View.{tree, links_of};
+ghost use Rattle.net_expr.specs.Items as items;
+ghost use Rattle.net_fault.specs.Outcomes.{Answers};
+ghost use Rattle.net_expr.specs.Rows as rows;
+ghost use Rattle.net_expr.specs.Values as values;
+ghost use Rattle.net_expr.specs.Walks as walks;
+
+use crate::eval::evaluate;
+use crate::item::new_dummy;
+use crate::row::{Place, bind_first, matches_as_tuple, matches_member, stay, with_key};
+use crate::world::Env;
+use net_fault::Fault;
+use net_sets::{Member, Tuple};
+use net_tree::{Expr, Link, Series, sides_of};
+use std::alloc::Global;
+
+/// Returns the state after an item for one tuple of its set, or `None` if the tuple does not match.
+#[cycle(eval)]
+pub(crate) fn place_at<'s>(
+    alloc: Global,
+    env: &Env<'_, 's>,
+    item: &Expr<'s>,
+    tuple: &Tuple<'s>,
+    place: &Place<'s>,
+) -> Result<Option<Place<'s>>, Fault>
+    ensures { Answers (values.place env.now (tree item.now) tuple.now place.now) result }
+{
+    match sides_of(item) {
+        None => with_key(alloc, tuple, place),
+        Some((left, _)) => left_place(alloc, env, item, left, tuple, place),
+    }
+}
+
+/// Matches the left side of `in` with a tuple: a tuple component by component, anything else as a
+/// whole.
+#[cycle(eval)]
+#[tactic(auto, using(net_tree::proofs::Views::views))]
+fn left_place<'s>(
+    alloc: Global,
+    env: &Env<'_, 's>,
+    item: &Expr<'s>,
+    left: &Expr<'s>,
+    tuple: &Tuple<'s>,
+    place: &Place<'s>,
+) -> Result<Option<Place<'s>>, Fault>
+    ensures { Answers (values.left_place (trees.span_of (tree item.now)) env.now (tree left.now)
+        (values.value env.now place.now.scope (tree left.now)) tuple.now place.now) result }
+{
+    match left {
+        Expr::Tuple(parts) => components(alloc, env, left, &parts.get().1, tuple, place),
+        Expr::Leaf(_) | Expr::Indexed(_) | Expr::Parens(_) | Expr::Negated(_) => {
+            alone(alloc, env, item, left, tuple, place)
+        }
+        Expr::Braced(_) | Expr::Signed(_) | Expr::Reduced(_, _) | Expr::Chain(_, _) => {
+            alone(alloc, env, item, left, tuple, place)
+        }
+        Expr::Choice(_, _, _) | Expr::Net(_) => alone(alloc, env, item, left, tuple, place),
+    }
+}
+
+/// Matches a single expression on the left side of `in`.
+#[cycle(eval)]
+fn alone<'s>(
+    alloc: Global,
+    env: &Env<'_, 's>,
+    item: &Expr<'s>,
+    left: &Expr<'s>,
+    tuple: &Tuple<'s>,
+    place: &Place<'s>,
+) -> Result<Option<Place<'s>>, Fault>
+    ensures { Answers (rows.fitted_alone (trees.span_of (tree item.now)) (items.new_dummy env.now place.now.scope (tree left.now))
+        (values.value env.now place.now.scope (tree left.now)) tuple.now place.now) result }
+{
+    match new_dummy(env, &place.scope, left) {
+        Some(name) => bind_first(alloc, name, tuple.as_slice(), place),
+        None => {
+            let value = evaluate(alloc, env, &place.scope, left);
+            matches_as_tuple(alloc, item, tuple, place, value)
+        }
+    }
+}
+
+/// Matches the components of a tuple from left to right, up to the first that does not match.
+#[cycle(eval)]
+fn components<'s>(
+    alloc: Global,
+    env: &Env<'_, 's>,
+    whole: &Expr<'s>,
+    series: &Series<'s>,
+    tuple: &Tuple<'s>,
+    place: &Place<'s>,
+) -> Result<Option<Place<'s>>, Fault>
+    ensures { Answers (walks.component_places (trees.span_of (tree whole.now)) env.now (tree (out-Series series.now).first)
+        (links_of (out-Series series.now).more) tuple.now place.now) result }
+{
+    match tuple.as_slice() {
+        [] => stay(alloc, place),
+        [member, others @ ..] => {
+            let here = place.again(alloc)?;
+            let components = (&series.first, series.more.as_slice());
+            fit_all(alloc, env, whole, components, (member, others), here)
+        }
+    }
+}
+
+#[cycle(eval)]
+fn places<'s>(
+    alloc: Global,
+    env: &Env<'_, 's>,
+    whole: &Expr<'s>,
+    links: &[Link<'s>],
+    members: &[Member<'s>],
+    place: Place<'s>,
+) -> Result<Option<Place<'s>>, Fault>
+    ensures { Answers (values.places (trees.span_of (tree whole.now)) env.now (links_of links.now) members.now place.entry) result }
+{
+    match links {
+        [] => Ok(Some(place)),
+        [link, rest @ ..] => match members {
+            [] => Ok(Some(place)),
+            [member, others @ ..] => {
+                let components = (&link.operand, rest);
+                fit_all(alloc, env, whole, components, (member, others), place)
+            }
+        },
+    }
+}
+
+/// Matches a component, and those after it.
+#[cycle(eval)]
+fn fit_all<'s>(
+    alloc: Global,
+    env: &Env<'_, 's>,
+    whole: &Expr<'s>,
+    components: (&Expr<'s>, &[Link<'s>]),
+    members: (&Member<'s>, &[Member<'s>]),
+    place: Place<'s>,
+) -> Result<Option<Place<'s>>, Fault>
+    ensures { Answers (walks.component_places (trees.span_of (tree whole.now)) env.now (tree components.entry.0.now) (links_of components.entry.1.now)
+        (members.entry.0.now ∷ members.entry.1.now) place.entry) result }
+{
+    let (component, more) = components;
+    let (member, others) = members;
+    match fit(alloc, env, whole, component, member, place) {
+        Ok(None) => Ok(None),
+        Ok(Some(next)) => places(alloc, env, whole, more, others, next),
+        Err(fault) => Err(fault),
+    }
+}
+
+/// Binds a new dummy to the member; any other component must evaluate to it.
+#[cycle(eval)]
+fn fit<'s>(
+    alloc: Global,
+    env: &Env<'_, 's>,
+    whole: &Expr<'s>,
+    component: &Expr<'s>,
+    member: &Member<'s>,
+    place: Place<'s>,
+) -> Result<Option<Place<'s>>, Fault>
+    ensures { Answers (rows.fitted (trees.span_of (tree whole.now)) (items.new_dummy env.now place.entry.scope (tree component.now))
+        (values.value env.now place.entry.scope (tree component.now)) member.now place.entry) result }
+{
+    match new_dummy(env, &place.scope, component) {
+        Some(name) => place.bind(name, member),
+        None => {
+            let value = evaluate(alloc, env, &place.scope, component);
+            matches_member(whole, member, place, value)
+        }
+    }
+}

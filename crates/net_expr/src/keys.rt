@@ -1,0 +1,315 @@
+//! The keys of an indexing expression, found by iterating over its items.
+
+ghost use Rattle.std.specs.Prelude.{◌≡◌, ◌≤◌, [], Ok, IfOk, IfSome};
+ghost use Rattle.net_sets.specs.Components.{sought};
+ghost use Rattle.net_tree.specs.Spans as trees;
+ghost use Rattle.net_tree.specs.View.{tree, braces_of, links_of, option_part};
+ghost use Rattle.net_tree.specs.Weights.{weights};
+ghost use Rattle.net_expr.specs.Frames as frames;
+ghost use Rattle.net_expr.specs.Items as items;
+ghost use Rattle.net_fault.specs.Outcomes.{Answers, Leaves, and_then, each};
+ghost use Rattle.net_expr.specs.Rows as rows;
+ghost use Rattle.net_expr.specs.Selecting as select;
+ghost use Rattle.net_expr.specs.Values as values;
+ghost use Rattle.net_expr.specs.Walks as walks;
+
+use crate::eval::{evaluate, evaluate_more};
+use crate::fitting::place_at;
+use crate::frame::Frame;
+use crate::inside::Inside;
+use crate::item::{any_in, chosen, has_part, is_set, tuples_of};
+use crate::list::{listed, no_items};
+use crate::operator::truth_at;
+use crate::row::{Keys, Place, Row, as_keys, keep_if, start};
+use crate::scope::Scope;
+use crate::selecting::selected;
+use crate::value::Value;
+use crate::width::width;
+use crate::world::Env;
+use net_fault::{Fault, Span};
+use net_sets::Cow;
+use net_tree::{Braces, Expr, Link, Part, sides_of, span_between};
+use net_views::{Boxed, Items};
+use std::alloc::Global;
+
+/// Returns the keys of an indexing expression, each with the dummies in scope.
+#[cycle(eval)]
+#[tactic(auto, using(net_tree::proofs::Views::views))]
+pub(crate) fn index<'s>(
+    alloc: Global,
+    env: &Env<'_, 's>,
+    scope: &Scope<'s>,
+    braces: &Braces<'s>,
+) -> Result<Keys<'s>, Fault>
+    ensures { Answers (values.index env.now scope.now (braces_of braces.now)) result }
+{
+    match braces {
+        Braces::Empty(open, condition, close) => {
+            no_items(alloc, span_between(open, close), has_part(condition))
+        }
+        Braces::Filled(open, series, condition, close) => {
+            let items = Inside {
+                at: span_between(open, close),
+                first: &series.first,
+                more: series.more.as_slice(),
+                condition,
+            };
+            index_items(alloc, env, scope, &items)
+        }
+    }
+}
+
+#[cycle(eval)]
+fn index_items<'s>(
+    alloc: Global,
+    env: &Env<'_, 's>,
+    scope: &Scope<'s>,
+    items: &Inside<'_, 's>,
+) -> Result<Keys<'s>, Fault>
+    ensures { Answers (walks.index_items items.now.at env.now scope.now (tree items.now.first.now) (links_of items.now.more.now)
+        (option_part items.now.condition.now)) result }
+{
+    let item = items.first;
+    match sides_of(item) {
+        Some((left, set)) => {
+            let tuples = choose(alloc, env, scope, item, left, set)?;
+            select(alloc, env, scope, items, tuples)
+        }
+        None => {
+            let value = evaluate(alloc, env, scope, item)?;
+            open(alloc, env, scope, items, value)
+        }
+    }
+}
+
+/// Evaluates braces without `in`, which are an indexing expression if their first item is a set.
+#[cycle(eval)]
+fn open<'w, 's>(
+    alloc: Global,
+    env: &Env<'w, 's>,
+    scope: &Scope<'s>,
+    items: &Inside<'_, 's>,
+    value: Value<'w, 's>,
+) -> Result<Keys<'s>, Fault>
+    ensures { Answers (walks.opened_keys items.now.at env.now scope.now (tree items.now.first.now) (links_of items.now.more.now)
+        (option_part items.now.condition.now) value.entry) result }
+{
+    if any_in(items.more) || is_set(&value) {
+        let tuples = tuples_of(items.at, Ok(value))?;
+        select(alloc, env, scope, items, tuples)
+    } else {
+        let found = evaluate_more(alloc, env, scope, value, items.more);
+        listed(alloc, items.at, scope, has_part(items.condition), found)
+    }
+}
+
+/// Returns the keys that the items produce, filtered by the condition.
+#[cycle(eval)]
+fn select<'w, 's>(
+    alloc: Global,
+    env: &Env<'w, 's>,
+    scope: &Scope<'s>,
+    items: &Inside<'_, 's>,
+    tuples: Cow<'w, 's>,
+) -> Result<Keys<'s>, Fault>
+    ensures { Answers (walks.walked items.now.at env.now scope.now (tree items.now.first.now) (links_of items.now.more.now)
+        (option_part items.now.condition.now) tuples.entry) result }
+{
+    let found = collect(alloc, env, scope, items, tuples)?;
+    let width = width(alloc, env, scope, items, found.as_slice())?;
+    keep(alloc, env, items.at, items.condition, width, found)
+}
+
+/// Returns the keys that the items produce.
+#[cycle(eval)]
+fn collect<'w, 's>(
+    alloc: Global,
+    env: &Env<'w, 's>,
+    scope: &Scope<'s>,
+    items: &Inside<'_, 's>,
+    tuples: Cow<'w, 's>,
+) -> Result<Items<Row<'s>>, Fault>
+    ensures { Answers (each (rows.onward (values.place env.now (tree items.now.first.now)) (values.walk items.now.at env.now (links_of items.now.more.now))
+        (rows.start scope.now)) tuples.entry []) result }
+{
+    let place = start(alloc, scope)?;
+    let left = selected(env, &place.scope, items.first, tuples);
+    let first = Frame {
+        item: items.first,
+        more: items.more,
+        place,
+        left,
+    };
+    let mut found = Vec::new(alloc);
+    walk(alloc, env, items.at, first, &mut found)?;
+    Ok(Items::new(found))
+}
+
+/// Produces the remaining keys of an item. Each further item is entered for every state that the
+/// items before it produce. Uses an explicit stack, since an indexing expression can have more
+/// items than the call stack allows.
+#[cycle(eval)]
+fn walk<'a, 'w, 's>(
+    alloc: Global,
+    env: &Env<'w, 's>,
+    at: Span,
+    first: Frame<'a, 'w, 's>,
+    found: &mut Vec<Row<'s>>,
+) -> Result<(), Fault>
+    ensures { Leaves (frames.still at env.now first.entry found.old.items) result found.new.items }
+{
+    let mut top = first;
+    let mut below = Vec::new(alloc);
+    'tuples: loop {
+        match top.left.first() {
+            None => match below.pop() {
+                None => return Ok(()),
+                Some(frame) => top = frame,
+            },
+            Some(tuple) => {
+                let next = place_at(alloc, env, top.item, tuple, &top.place)?;
+                top.left.pass();
+                match onward(alloc, env, at, top.more, next, found)? {
+                    None => {}
+                    Some(deeper) => {
+                        below.push(top)?;
+                        top = deeper;
+                    }
+                }
+            }
+        }
+    }
+}
+
+/// Continues an iteration after a tuple, if it matches: with the next item, or with a complete key
+/// if there is none.
+#[cycle(eval)]
+fn onward<'a, 'w, 's>(
+    alloc: Global,
+    env: &Env<'w, 's>,
+    at: Span,
+    items: &'a [Link<'s>],
+    place: Option<Place<'s>>,
+    found: &mut Vec<Row<'s>>,
+) -> Result<Option<Frame<'a, 'w, 's>>, Fault>
+    ensures leads { frames.Leads at env.now (rows.go_on (values.walk at env.now (links_of items.entry.now)) found.old.items place.entry) result
+        found.new.items }
+    ensures lighter { IfOk result (λ next. IfSome next (λ f. frames.weight_of f ≤ weights (links_of items.entry.now))) }
+    ensures steps { IfOk result (λ next. IfSome next (λ f. frames.steps_still at env.now f
+        ≡ frames.steps_next (frames.steps at env.now (links_of items.entry.now)) (Ok place.entry))) }
+{
+    match place {
+        None => Ok(None),
+        Some(place) => match items {
+            [] => {
+                place.finish(at, found)?;
+                Ok(None)
+            }
+            [link, rest @ ..] => {
+                let frame = entered(alloc, env, at, &link.operand, rest, place)?;
+                Ok(Some(frame))
+            }
+        },
+    }
+}
+
+/// Enters an item in a state.
+#[cycle(eval)]
+fn entered<'a, 'w, 's>(
+    alloc: Global,
+    env: &Env<'w, 's>,
+    at: Span,
+    item: &'a Expr<'s>,
+    more: &'a [Link<'s>],
+    place: Place<'s>,
+) -> Result<Frame<'a, 'w, 's>, Fault>
+    ensures { Answers (and_then (walks.item_tuples at env.now place.entry.scope (tree item.entry.now))
+        (λ ts. Ok (record {
+          item = item.entry;
+          more = more.entry;
+          place = place.entry;
+          left = sought
+              (select.selecting env.now place.entry.scope (tree item.entry.now)) ts;
+        }))) result }
+{
+    let tuples = item_tuples(alloc, env, at, &place.scope, item)?;
+    let left = selected(env, &place.scope, item, tuples);
+    Ok(Frame {
+        item,
+        more,
+        place,
+        left,
+    })
+}
+
+#[cycle(eval)]
+fn item_tuples<'w, 's>(
+    alloc: Global,
+    env: &Env<'w, 's>,
+    at: Span,
+    scope: &Scope<'s>,
+    item: &Expr<'s>,
+) -> Result<Cow<'w, 's>, Fault>
+    ensures { Answers (walks.item_tuples at env.now scope.now (tree item.now)) result }
+{
+    match sides_of(item) {
+        Some((left, set)) => choose(alloc, env, scope, item, left, set),
+        None => tuples_of(at, evaluate(alloc, env, scope, item)),
+    }
+}
+
+#[cycle(eval)]
+fn choose<'w, 's>(
+    alloc: Global,
+    env: &Env<'w, 's>,
+    scope: &Scope<'s>,
+    item: &Expr<'s>,
+    left: &Expr<'s>,
+    set: &Expr<'s>,
+) -> Result<Cow<'w, 's>, Fault>
+    ensures { Answers (and_then (values.value env.now scope.now (tree set.now))
+        (items.chosen (trees.span_of (tree item.now)) (items.needed (tree left.now)))) result }
+{
+    chosen(item, left, evaluate(alloc, env, scope, set))
+}
+
+/// Filters keys by the condition.
+#[cycle(eval)]
+fn keep<'s>(
+    alloc: Global,
+    env: &Env<'_, 's>,
+    at: Span,
+    condition: &Option<Boxed<Part<'s>>>,
+    width: u8,
+    found: Items<Row<'s>>,
+) -> Result<Keys<'s>, Fault>
+    ensures { Answers (and_then (rows.kept (λ q. values.holds at env.now q (option_part condition.now)) found.entry [])
+        (λ left. Ok (rows.keys width left))) result }
+{
+    if !has_part(condition) {
+        return Ok(as_keys(width, found));
+    }
+    let mut kept = Vec::new(alloc);
+    for row in found.into_vec() {
+        let holds = holds(alloc, env, at, &row.scope, condition);
+        keep_if(holds, row, &mut kept)?;
+    }
+    Ok(as_keys(width, Items::new(kept)))
+}
+
+#[cycle(eval)]
+#[tactic(auto, using(net_tree::proofs::Views::views))]
+fn holds<'s>(
+    alloc: Global,
+    env: &Env<'_, 's>,
+    at: Span,
+    scope: &Scope<'s>,
+    condition: &Option<Boxed<Part<'s>>>,
+) -> Result<bool, Fault>
+    ensures { Answers (values.holds at env.now scope.now (option_part condition.now)) result }
+{
+    match condition {
+        None => Ok(true),
+        Some(part) => truth_at(at, evaluate(alloc, env, scope, &part.get().value)),
+    }
+}

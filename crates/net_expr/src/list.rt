@@ -1,0 +1,175 @@
+//! Braces that list members and tuples, and the keys of an indexing expression as a set.
+
+ghost use Rattle.std.specs.Prelude.{◌≡◌, ◌++◌, ◌∷◌, [], List, Ok, IfOk, length};
+ghost use Rattle.net_sets.specs.Made.{IsMade};
+ghost use Rattle.net_sets.specs.Operations.{union};
+ghost use Rattle.net_fault.specs.Outcomes.{Answers, Outcome, and_then, Decides};
+ghost use Rattle.net_expr.specs.declared.value.Value.{Value as Found};
+ghost use Rattle.net_expr.specs.Rows as rows;
+ghost use Rattle.net_expr.specs.Walks as walks;
+
+use crate::row::{Keys, Row};
+use crate::scope::Scope;
+use crate::value::Value;
+use net_fault::{Defect, Fault, Span};
+use net_sets::{Cow, SetFault, Tuple, TupleSet};
+use net_views::Items;
+use std::alloc::{AllocError, Global};
+
+/// Returns a value as a tuple: a single member, or a tuple.
+fn tuple_in<'s>(at: Span, value: &Value<'_, 's>) -> Result<Tuple<'s>, Fault>
+    ensures { Decides (rows.tuple_in at value.now) result }
+{
+    match value {
+        Value::One(member) => Ok(Tuple::single(member.again())),
+        Value::Several(tuple) => Ok(tuple.again()),
+        _ => Err(Fault::of_model(Defect::KindMismatch, at)),
+    }
+}
+
+fn tuples_in<'s>(
+    alloc: Global,
+    at: Span,
+    values: &[Value<'_, 's>],
+) -> Result<Items<Tuple<'s>>, Fault>
+    ensures { Answers (rows.tuples_in at values.now []) result }
+{
+    let mut found = Vec::new(alloc);
+    for value in values {
+        let tuple = tuple_in(at, value)?;
+        found.push(tuple)?;
+    }
+    Ok(Items::new(found))
+}
+
+fn all_of(size: usize, tuples: &[Tuple<'_>]) -> bool
+    ensures { result ≡ rows.all_of size tuples.now }
+{
+    for tuple in tuples {
+        if tuple.len() != size {
+            return false;
+        }
+    }
+    true
+}
+
+fn rows_of<'s>(
+    alloc: Global,
+    scope: &Scope<'s>,
+    tuples: &[Tuple<'s>],
+) -> Result<Items<Row<'s>>, AllocError>
+    ensures { IfOk result (λ all. all ≡ rows.rows_of scope.now tuples.now) }
+{
+    let mut all = Vec::new(alloc);
+    for tuple in tuples {
+        let scope = scope.again(alloc)?;
+        let key = tuple.again();
+        all.push(Row { key, scope })?;
+    }
+    Ok(Items::new(all))
+}
+
+fn no_keys<'s>(alloc: Global) -> Keys<'s>
+    ensures { result ≡ rows.no_keys }
+{
+    Keys {
+        width: None,
+        rows: Items::new(Vec::new(alloc)),
+    }
+}
+
+/// Returns the keys of braces without items.
+pub(crate) fn no_items<'s>(alloc: Global, at: Span, conditioned: bool) -> Result<Keys<'s>, Fault>
+    ensures { Answers (walks.no_items at conditioned) result }
+{
+    if conditioned {
+        Err(Fault::of_model(Defect::KindMismatch, at))
+    } else {
+        Ok(no_keys(alloc))
+    }
+}
+
+/// Returns the rows of tuples of equal length, each once.
+fn rows_once<'s>(
+    alloc: Global,
+    at: Span,
+    scope: &Scope<'s>,
+    first: &Tuple<'s>,
+    tuples: &[Tuple<'s>],
+) -> Result<Keys<'s>, Fault>
+    ensures { Answers (rows.keys_within at scope.now (length first.now) (union [] tuples.now)) result }
+{
+    match TupleSet::from_tuples(alloc, tuples) {
+        Ok(set) => Ok(Keys {
+            width: Some(first.len() as u8),
+            rows: rows_of(alloc, scope, set.as_slice())?,
+        }),
+        Err(SetFault::TooMany) => Err(Fault::of_model(Defect::TooMany, at)),
+        Err(SetFault::OutOfMemory) => Err(Fault::OutOfMemory),
+    }
+}
+
+fn listed_as<'s>(
+    alloc: Global,
+    at: Span,
+    scope: &Scope<'s>,
+    tuples: &[Tuple<'s>],
+) -> Result<Keys<'s>, Fault>
+    ensures { Answers (rows.listed_as at scope.now tuples.now (union [] tuples.now)) result }
+{
+    match tuples {
+        [] => Ok(no_keys(alloc)),
+        [first, rest @ ..] => {
+            if all_of(first.len(), rest) {
+                rows_once(alloc, at, scope, first, tuples)
+            } else {
+                Err(Fault::of_model(Defect::Arity, at))
+            }
+        }
+    }
+}
+
+/// Returns the keys of braces that list members and tuples.
+pub(crate) fn listed<'s>(
+    alloc: Global,
+    at: Span,
+    scope: &Scope<'s>,
+    conditioned: bool,
+    values: Result<Items<Value<'_, 's>>, Fault>,
+) -> Result<Keys<'s>, Fault>
+    ensures { (wanted : Outcome (List Found)) → Answers wanted values.entry → Answers (and_then wanted (rows.listed at scope.now conditioned)) result }
+{
+    let values = values?;
+    if conditioned {
+        Err(Fault::of_model(Defect::KindMismatch, at))
+    } else {
+        let tuples = tuples_in(alloc, at, values.as_slice())?;
+        listed_as(alloc, at, scope, tuples.as_slice())
+    }
+}
+
+fn keys_of<'s>(alloc: Global, found: &[Row<'s>]) -> Result<Items<Tuple<'s>>, AllocError>
+    ensures { IfOk result (λ all. all ≡ rows.keys_of found.now) }
+{
+    let mut all = Vec::new(alloc);
+    for row in found {
+        all.push(row.key.again())?;
+    }
+    Ok(Items::new(all))
+}
+
+/// Returns the keys of an indexing expression as a set.
+pub(crate) fn as_value<'w, 's>(
+    alloc: Global,
+    at: Span,
+    keys: &Keys<'s>,
+) -> Result<Value<'w, 's>, Fault>
+    ensures { Answers (rows.as_set at keys.now) result }
+{
+    let tuples = keys_of(alloc, keys.rows.as_slice())?;
+    match TupleSet::from_tuples(alloc, tuples.as_slice()) {
+        Ok(set) => Ok(Value::Many(keys.width, Cow::owned(set))),
+        Err(SetFault::TooMany) => Err(Fault::of_model(Defect::TooMany, at)),
+        Err(SetFault::OutOfMemory) => Err(Fault::OutOfMemory),
+    }
+}

@@ -1,0 +1,318 @@
+//! Iteration over an indexing expression: its state, and the keys that it produces.
+
+ghost use Rattle.std.specs.Prelude.{◌≡◌, ◌∷◌, [], Bool, Ok, Some, IfOk};
+ghost use Rattle.net_tree.specs.Spans as trees;
+ghost use Rattle.net_tree.specs.View.{tree};
+ghost use Rattle.net_expr.specs.Operators as operators;
+ghost use Rattle.net_expr.specs.Rows as rows;
+ghost use Rattle.net_fault.specs.Outcomes.{Answers, Leaves, Outcome, and_then, Decides};
+ghost use Rattle.net_expr.specs.declared.value.Value.{Value as Found};
+
+use crate::fault::refuse_tree;
+use crate::scope::Scope;
+use crate::value::Value;
+use net_fault::{Defect, Fault, Span};
+use net_sets::{Member, TUPLES_LIMIT, Tuple};
+use net_tree::Expr;
+use net_views::{Excerpt, Items};
+use std::alloc::{AllocError, Global};
+
+/// The state of an iteration over an indexing expression. Its drop is one call, to keep the proofs
+/// of functions with many exits small.
+pub(crate) struct Place<'s> {
+    pub(crate) scope: Scope<'s>,
+    /// The key so far; `None` if it has more than four members.
+    pub(crate) key: Option<Tuple<'s>>,
+}
+
+impl<'s> Drop for Place<'s> {
+    fn drop(self) {
+        let Place {
+            scope: _scope,
+            key: _key,
+        } = self;
+    }
+}
+
+/// A key of an indexing expression, and the dummies in scope.
+#[derive(Drop)]
+pub struct Row<'s> {
+    pub key: Tuple<'s>,
+    pub scope: Scope<'s>,
+}
+
+/// The keys of an indexing expression in order, and the number of members of each; `{}` has no such
+/// number.
+#[derive(Drop)]
+pub struct Keys<'s> {
+    pub width: Option<u8>,
+    pub rows: Items<Row<'s>>,
+}
+
+/// Appends a row if the condition holds.
+pub(crate) fn keep_if<'s>(
+    holds: Result<bool, Fault>,
+    row: Row<'s>,
+    found: &mut Vec<Row<'s>>,
+) -> Result<(), Fault>
+    ensures { (wanted : Outcome Bool) → Answers wanted holds → Leaves
+        (and_then wanted (λ b. Ok (rows.keep row.entry found.old.items b))) result found.new.items }
+{
+    let holds = holds?;
+    if holds {
+        found.push(row)?;
+    }
+    Ok(())
+}
+
+/// Builds keys of `width` members.
+pub(crate) fn as_keys<'s>(width: u8, found: Items<Row<'s>>) -> Keys<'s>
+    ensures { result ≡ rows.keys width found.entry }
+{
+    Keys {
+        width: Some(width),
+        rows: found,
+    }
+}
+
+/// Returns the state before the first item.
+pub(crate) fn start<'s>(alloc: Global, scope: &Scope<'s>) -> Result<Place<'s>, Fault>
+    ensures { Answers (Ok (rows.start scope.now)) result }
+{
+    Ok(Place {
+        scope: scope.again(alloc)?,
+        key: Some(Tuple::new()),
+    })
+}
+
+fn key_again<'s>(key: &Option<Tuple<'s>>) -> Option<Tuple<'s>>
+    ensures { result ≡ key.now }
+{
+    match key {
+        None => None,
+        Some(key) => Some(key.again()),
+    }
+}
+
+/// Appends a member to a key, if it then has at most four.
+pub(crate) fn longer_by_one<'s>(key: Option<Tuple<'s>>, member: &Member<'s>) -> Option<Tuple<'s>>
+    ensures { result ≡ operators.longer (member.now ∷ []) key.entry }
+{
+    match key {
+        None => None,
+        Some(key) => {
+            if key.len() < 4 {
+                let mut longer = key;
+                longer.add(member.again());
+                Some(longer)
+            } else {
+                None
+            }
+        }
+    }
+}
+
+/// Appends members to a key, if it then has at most four.
+fn longer<'s>(key: &Option<Tuple<'s>>, more: &Tuple<'s>) -> Option<Tuple<'s>>
+    ensures { result ≡ operators.longer more.now key.now }
+{
+    match key {
+        None => None,
+        Some(key) => {
+            if key.len() + more.len() <= 4 {
+                Some(key.beside(more))
+            } else {
+                None
+            }
+        }
+    }
+}
+
+impl<'s> Place<'s> {
+    /// Returns a copy of the state. Fails only if memory runs out.
+    pub(crate) fn again(&self, alloc: Global) -> Result<Place<'s>, AllocError>
+        ensures { IfOk result (λ p. p ≡ self.now) }
+    {
+        Ok(Place {
+            scope: self.scope.again(alloc)?,
+            key: key_again(&self.key),
+        })
+    }
+
+    /// Binds a new dummy to a member, which is appended to the key.
+    pub(crate) fn bind(
+        self,
+        name: &Excerpt<'s>,
+        member: &Member<'s>,
+    ) -> Result<Option<Place<'s>>, Fault>
+        ensures { Answers (Ok (Some (rows.bind name.now member.now self.entry))) result }
+    {
+        let Place { scope, key } = self;
+        let scope = scope.extended(name.again(), member.again())?;
+        let key = longer_by_one(key, member);
+        Ok(Some(Place { scope, key }))
+    }
+
+    /// Adds a complete key.
+    pub(crate) fn finish(self, at: Span, found: &mut Vec<Row<'s>>) -> Result<(), Fault>
+        ensures { Leaves (rows.finished at self.entry found.old.items) result found.new.items }
+    {
+        let Place { scope, key } = self;
+        match key {
+            None => Err(Fault::of_model(Defect::Arity, at)),
+            Some(key) => add_row(at, scope, key, found),
+        }
+    }
+}
+
+/// Returns a copy of the state, which is unchanged.
+pub(crate) fn stay<'s>(alloc: Global, place: &Place<'s>) -> Result<Option<Place<'s>>, Fault>
+    ensures { Answers (Ok (Some place.now)) result }
+{
+    Ok(Some(place.again(alloc)?))
+}
+
+/// Returns the state with a tuple appended to its key.
+pub(crate) fn with_key<'s>(
+    alloc: Global,
+    tuple: &Tuple<'s>,
+    place: &Place<'s>,
+) -> Result<Option<Place<'s>>, Fault>
+    ensures { Answers (Ok (Some (rows.with_key tuple.now place.now))) result }
+{
+    let scope = place.scope.again(alloc)?;
+    let key = longer(&place.key, tuple);
+    Ok(Some(Place { scope, key }))
+}
+
+/// Returns the state if a value equals the member.
+fn matches_value<'s>(
+    whole: &Expr<'_>,
+    member: &Member<'s>,
+    place: Place<'s>,
+    value: &Value<'_, 's>,
+) -> Result<Option<Place<'s>>, Fault>
+    ensures { Decides (rows.matches_member (trees.span_of (tree whole.now)) member.now place.entry value.now) result }
+{
+    match value {
+        Value::One(found) if *found == *member => Ok(Some(place)),
+        Value::One(_) => Ok(None),
+        _ => Err(refuse_tree(Defect::KindMismatch, whole)),
+    }
+}
+
+/// Returns the state if the value of a component equals the member.
+pub(crate) fn matches_member<'s>(
+    whole: &Expr<'_>,
+    member: &Member<'s>,
+    place: Place<'s>,
+    value: Result<Value<'_, 's>, Fault>,
+) -> Result<Option<Place<'s>>, Fault>
+    ensures { (wanted : Outcome Found) → Answers wanted value.entry
+        → Answers (and_then wanted (rows.matches_member (trees.span_of (tree whole.now)) member.now place.entry)) result }
+{
+    match value {
+        Ok(value) => matches_value(whole, member, place, &value),
+        Err(fault) => Err(fault),
+    }
+}
+
+fn matches_tuple<'s>(
+    alloc: Global,
+    whole: &Expr<'_>,
+    tuple: &Tuple<'s>,
+    place: &Place<'s>,
+    found: &Tuple<'s>,
+) -> Result<Option<Place<'s>>, Fault>
+    ensures { Answers (rows.matches_tuple (trees.span_of (tree whole.now)) tuple.now place.now found.now) result }
+{
+    if found.len() == tuple.len() {
+        if *found == *tuple {
+            stay(alloc, place)
+        } else {
+            Ok(None)
+        }
+    } else {
+        Err(refuse_tree(Defect::Arity, whole))
+    }
+}
+
+/// Returns the state if a value equals the tuple, or its single member.
+fn matches_tuple_value<'s>(
+    alloc: Global,
+    whole: &Expr<'_>,
+    tuple: &Tuple<'s>,
+    place: &Place<'s>,
+    value: &Value<'_, 's>,
+) -> Result<Option<Place<'s>>, Fault>
+    ensures { Answers (rows.matches_as_tuple (trees.span_of (tree whole.now)) tuple.now place.now value.now) result }
+{
+    match value {
+        Value::One(found) => {
+            matches_tuple(alloc, whole, tuple, place, &Tuple::single(found.again()))
+        }
+        Value::Several(found) => matches_tuple(alloc, whole, tuple, place, found),
+        _ => Err(refuse_tree(Defect::KindMismatch, whole)),
+    }
+}
+
+/// Returns the same for an expression that is not a tuple by its form.
+pub(crate) fn matches_as_tuple<'s>(
+    alloc: Global,
+    whole: &Expr<'_>,
+    tuple: &Tuple<'s>,
+    place: &Place<'s>,
+    value: Result<Value<'_, 's>, Fault>,
+) -> Result<Option<Place<'s>>, Fault>
+    ensures { (wanted : Outcome Found) → Answers wanted value.entry
+        → Answers (and_then wanted (rows.matches_as_tuple (trees.span_of (tree whole.now)) tuple.now place.now)) result }
+{
+    match value {
+        Ok(value) => matches_tuple_value(alloc, whole, tuple, place, &value),
+        Err(fault) => Err(fault),
+    }
+}
+
+/// Binds a new dummy on the left side of `in` to the single member of a tuple.
+pub(crate) fn bind_first<'s>(
+    alloc: Global,
+    name: &Excerpt<'s>,
+    members: &[Member<'s>],
+    place: &Place<'s>,
+) -> Result<Option<Place<'s>>, Fault>
+    ensures { Answers (rows.bound_first name.now members.now place.now) result }
+{
+    match members {
+        [] => stay(alloc, place),
+        [member, ..] => place.again(alloc)?.bind(name, member),
+    }
+}
+
+fn same_arity<'s>(key: &Tuple<'s>, found: &[Row<'s>]) -> bool
+    ensures { result ≡ rows.same_arity key.now found.now }
+{
+    match found {
+        [] => true,
+        [row, ..] => row.key.len() == key.len(),
+    }
+}
+
+fn add_row<'s>(
+    at: Span,
+    scope: Scope<'s>,
+    key: Tuple<'s>,
+    found: &mut Vec<Row<'s>>,
+) -> Result<(), Fault>
+    ensures { Leaves (rows.add_row at scope.entry key.entry found.old.items) result found.new.items }
+{
+    if same_arity(&key, found.as_slice()) {
+        if found.len() < TUPLES_LIMIT {
+            found.push(Row { key, scope })?;
+            Ok(())
+        } else {
+            Err(Fault::of_model(Defect::TooMany, at))
+        }
+    } else {
+        Err(Fault::of_model(Defect::Arity, at))
+    }
+}

@@ -1,0 +1,118 @@
+//! The sets and parameters of a model with their values.
+
+ghost use Rattle.std.specs.Prelude.{◌≡◌, [], ◌∷◌, ◌++◌, None, take, OnOk, OnErr};
+ghost use Rattle.std.specs.Option.{option_copied};
+ghost use Rattle.net_expr.specs.Worlds.{entry_of};
+
+use net_sets::{HashKey, IndexedSet, KeyDigest, NameMap, SharedSet, Table};
+use net_tree::Decl;
+use net_views::Excerpt;
+use std::alloc::{AllocError, Global};
+use std::marker::Model;
+
+/// A declared set or parameter.
+#[derive(Drop)]
+pub enum Entry<'s> {
+    /// A set: its dimension and its tuples.
+    Set(u8, IndexedSet<'s>),
+    /// A parameter: the number of its subscripts (`None` if it is not indexed), its index set, and
+    /// its values.
+    Parameter(Option<u8>, SharedSet<'s>, Table<'s>),
+}
+
+/// Derives the key for maps of the names that declarations declare.
+pub fn name_key(declarations: &[Decl<'_>]) -> HashKey {
+    let mut digest = KeyDigest::new();
+    for declaration in declarations {
+        match declaration {
+            Decl::Set(_, name, _, _) => digest.update_name(&name.text),
+            Decl::Param(_, name, _, _, _) => digest.update_name(&name.text),
+            Decl::Check(_, _, _, _, _) => {}
+            Decl::Node(_, name, _, _, _) => digest.update_name(&name.text),
+            Decl::Arc(_, name, _, _, _) => digest.update_name(&name.text),
+            Decl::Objective(_, name, _, _) => digest.update_name(&name.text),
+        }
+    }
+    digest.finish()
+}
+
+/// The declared sets and parameters, in order.
+#[derive(Drop)]
+pub struct World<'s> {
+    entries: NameMap<'s, Entry<'s>>,
+}
+
+impl<'s> Model for World<'s> {
+    ghost use Rattle.std.specs.Prelude.{List, ℕ};
+    ghost use Rattle.net_expr.specs.declared.world.Entry.{Entry};
+
+    ghost Value = { List (List ℕ × Entry) };
+
+    ghost view = { λ w. w.entries };
+}
+
+impl<'s> World<'s> {
+    /// Creates a world without declarations. The key has to come from all names that will be declared.
+    pub fn new(alloc: Global, key: HashKey) -> World<'s>
+        ensures { result ≡ [] }
+    {
+        World {
+            entries: NameMap::new(alloc, key),
+        }
+    }
+
+    /// Declares a name that has no entry.
+    pub fn add(&mut self, name: &Excerpt<'s>, entry: Entry<'s>) -> Result<(), AllocError>
+        requires { entry_of self.old name.now ≡ None }
+        ensures ok { OnOk result (self.new ≡ self.old ++ (name.now, entry.entry) ∷ []) }
+        ensures err { OnErr result (self.new ≡ self.old) }
+    {
+        self.entries.add(name, entry)
+    }
+
+    /// Returns the entry of a name if it is one of the first `known`.
+    fn find_among(&self, known: usize, name: &Excerpt<'s>) -> Option<&Entry<'s>>
+        ensures { option_copied result ≡ entry_of (take known self.now) name.now }
+    {
+        self.entries.get_among(known, name)
+    }
+}
+
+/// The first declarations of a world, which an expression can refer to; contracts see only these.
+#[derive(Drop)]
+pub struct Env<'w, 's> {
+    world: &'w World<'s>,
+    known: usize,
+}
+
+impl<'w, 's> Model for Env<'w, 's> {
+    ghost use Rattle.std.specs.Prelude.{List, ℕ, take};
+    ghost use Rattle.net_expr.specs.declared.world.Entry.{Entry};
+
+    ghost Value = { List (List ℕ × Entry) };
+
+    ghost view = { λ s. take s.known s.world.now };
+}
+
+impl<'w, 's> Env<'w, 's> {
+    /// Returns an environment in which all declarations of the world can be named.
+    pub fn of_world(world: &'w World<'s>) -> Env<'w, 's>
+        ensures { result ≡ world.entry.now }
+    {
+        Env::new(world, world.entries.len())
+    }
+
+    /// Creates a view of the first `known` declarations of a world.
+    pub fn new(world: &'w World<'s>, known: usize) -> Env<'w, 's>
+        ensures { result ≡ take known world.entry.now }
+    {
+        Env { world, known }
+    }
+
+    /// Looks up a name.
+    pub(crate) fn find(&self, name: &Excerpt<'s>) -> Option<&'w Entry<'s>>
+        ensures { option_copied result ≡ entry_of self.now name.now }
+    {
+        self.world.find_among(self.known, name)
+    }
+}

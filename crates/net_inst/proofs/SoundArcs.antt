@@ -1,0 +1,279 @@
+-- The network that the code computes is the one that the model means.
+use Rattle.std.specs.Prelude.{◌≡◌, ◌⊎◌, ◌+◌, ℕ, Bool, true, false, List, [], ◌∷◌, ◌++◌, length, map, take, Option, None, Some, is_some, if◌then◌else◌, Ok, Err, IfOk, ⊤, ℤ, pos, ◌+ℤ◌, ◌≤ℤ◌, int_lt}
+use Rattle.std.specs.List.{AllByRecursion, AllZip}
+use Rattle.std.specs.Str.{bytes_eq}
+use Rattle.std.proofs.Common.{refl, ap, sym, ◌∙◌, subst, arith, inl, inr, append_assoc, append-nil}
+use Rattle.std.proofs.lemmas.Int.{ints}
+use Rattle.std.proofs.lemmas.Slice.Eq.{bytes_eq-Decides}
+use Rattle.net_fault.specs.declared.defect.Defect.TheVariants.{ArcCrossed, ValueTooLarge}
+use Rattle.net_fault.specs.Outcomes.{Outcome, and_then, refused, refused_of}
+use Rattle.net_lex.specs.declared.token.Token.{Token}
+use Rattle.net_sets.specs.declared.member.Member.TheVariants as member
+use Rattle.net_sets.specs.Sets.{Tuple}
+use Rattle.net_tree.specs.declared.role.Begins.TheVariants as begins
+use Rattle.net_tree.specs.declared.role.Relation.TheVariants as relations
+use Rattle.net_tree.specs.declared.role.Role.{Role}
+use Rattle.net_tree.specs.declared.role.Role.TheVariants as roles
+use Rattle.net_tree.specs.Phrases.{is_at_least, is_at_most, is_from, is_to}
+use Rattle.net_tree.specs.Role.{role_of}
+use Rattle.net_tree.specs.Spans.{span_of}
+use Rattle.net_tree.specs.Tree.{Tree, Braces, Condition, Part, Phrase, Body, plain, valued, priced, leaf, indexed, parens, tuple, negated, braced, signed, reduced, chain, choice, net, Declaration, set, param, check, node, arc, objective}
+use Rattle.net_normal.specs.declared.instance.InstArc.{InstArc}
+use Rattle.net_expr.specs.declared.row.Row.{Row}
+use Rattle.net_expr.specs.declared.value.Value.{Value as Found}
+use Rattle.net_expr.specs.declared.value.Value.TheVariants as found
+use Rattle.net_expr.specs.Limits.{is_small}
+use Rattle.net_expr.specs.Operators as eval
+use Rattle.net_expr.specs.Values.{value, index}
+use Rattle.net_expr.specs.Worlds.{Name, World, Scope, reference}
+use Rattle.net_linear.specs.Arcs.{declared}
+use Rattle.net_linear.specs.Forms as forms
+use Rattle.net_linear.specs.Forms.{Linear, Products}
+use Rattle.net_linear.specs.Objectives.{key_of}
+use Rattle.net_meaning.specs.Network as meaning
+use Rattle.net_meaning.specs.Network.{IsEnd, absent_end, name, name_and_key, HasNumber, IsArc, IsNode, IsCoefficient, IsCoefficientIn, IsCoefficientFor, AreNodesOf, AreArcsOf, InOrder, entries_after}
+use Rattle.net_meaning.specs.Operators as values
+use Rattle.net_meaning.specs.Values.{Key, env_of, IsValue, AreKeys, AreValues, AreMembers}
+use Rattle.net_meaning.specs.World as world
+use Rattle.net_meaning.specs.World.{AreIndexed}
+use Rattle.net_meaning.proofs.Meaning.{evaluation_is_sound, keys_are_sound, key_is_sound, netless, all_netless}
+use Rattle.net_inst.specs.declared.arc.Drawn.{Drawn}
+use Rattle.net_inst.specs.declared.goal.ChosenObjective.{ChosenObjective}
+use Rattle.net_inst.specs.declared.indexing.Indexing.{Indexing}
+use Rattle.net_inst.specs.declared.phrases.ArcWord.{ArcWord}
+use Rattle.net_inst.specs.declared.phrases.ArcWord.TheVariants as words
+use Rattle.net_inst.specs.Arcs.{DrawnArcs, drawn, end_at, with_ends, is_goal, priced_by, price_in, prices_in, next_arc, arcs_at, named_arcs, with_arcs}
+use Rattle.net_inst.specs.AsWritten as written
+use Rattle.net_inst.specs.AsWritten.{known_behind, in_order, nodes_of, arcs_of, rows_of, node_at_row, arc_at_row, arcs_with}
+use Rattle.net_inst.specs.Drafts.{Drawing, nothing, env, said_form, aimed, passed, is_chosen, with_goal, with_objective, known_more, nodes_more, arcs_more, declare, draw}
+use Rattle.net_inst.specs.Indexings.{alone, by_keys, indexing_in}
+use Rattle.net_inst.specs.Instances.{Network, with_coefficients}
+use Rattle.net_inst.specs.Nodes as nodes
+use Rattle.net_inst.specs.Nodes.{DrawnNodes, node_named, nodes_by, with_nodes}
+use Rattle.net_inst.specs.Numbers as inst
+use Rattle.net_inst.specs.Numbers.{number}
+use Rattle.net_inst.specs.Phrases as phrases
+use Rattle.net_inst.specs.Phrases.{Parts, parts_of, parts_from}
+use Rattle.net_inst.specs.Soundness.{IsListed, NamesObjective, NameObjectives, IsSameNode, IsSameArc, HasBounds, HasNetwork}
+use Rattle.net_inst.proofs.Agreement.{IsNextArc, next_arc_is, AreArcsBy, with_arcs_is, IsFinished, network_is}
+use Rattle.net_inst.proofs.Placing as placing
+use Rattle.net_inst.proofs.Zips.{ok_then, ok_is, zip_join}
+
+-- ---- phrases
+
+said_same : (test : Role → Bool) (a : ArcWord) → ((r : Role) → phrases.is_word a r ≡ test r) → (ps : List Phrase) → phrases.said a ps ≡ world.phrase_value test ps
+said_same test a h [] = refl
+said_same test a h (p ∷ ps) = go (phrases.is_word a (role_of p.word)) (test (role_of p.word)) (h (role_of p.word)) (said_same test a h ps)
+  where
+    body : (b : Body) → phrases.value_in b ≡ world.expression_of b
+    body plain = refl
+    body (valued x) = refl
+    body (priced n x) = refl
+
+    go : (b c : Bool) → b ≡ c → phrases.said a ps ≡ world.phrase_value test ps → (if b then phrases.value_in p.body else phrases.said a ps) ≡ (if c then world.expression_of p.body else world.phrase_value test ps)
+    go true true e more = body p.body
+    go false false e more = more
+    go true false e more = cc
+    go false true e more = cc
+
+from_said : (ps : List Phrase) → phrases.said words.From ps ≡ world.phrase_value is_from ps
+from_said ps = said_same is_from words.From same ps
+  where
+    same : (r : Role) → phrases.is_word words.From r ≡ is_from r
+    same (roles.Phrase begins.From) = refl
+    same _ = refl
+
+to_said : (ps : List Phrase) → phrases.said words.To ps ≡ world.phrase_value is_to ps
+to_said ps = said_same is_to words.To same ps
+  where
+    same : (r : Role) → phrases.is_word words.To r ≡ is_to r
+    same (roles.Phrase begins.To) = refl
+    same _ = refl
+
+least_said : (ps : List Phrase) → phrases.said words.AtLeast ps ≡ world.phrase_value is_at_least ps
+least_said ps = said_same is_at_least words.AtLeast same ps
+  where
+    same : (r : Role) → phrases.is_word words.AtLeast r ≡ is_at_least r
+    same (roles.Relation relations.AtLeast) = refl
+    same _ = refl
+
+most_said : (ps : List Phrase) → phrases.said words.AtMost ps ≡ world.phrase_value is_at_most ps
+most_said ps = said_same is_at_most words.AtMost same ps
+  where
+    same : (r : Role) → phrases.is_word words.AtMost r ≡ is_at_most r
+    same (roles.Relation relations.AtMost) = refl
+    same _ = refl
+
+-- ---- numbers, ends and coefficients
+
+number_is : (w : World) (s : Scope) (t : Tree) (n : ℤ) → number w s t ≡ Ok n → IsValue (env_of w s) t (values.number n)
+number_is w s t n e = evaluation_is_sound w s t (found.One (member.Number n)) (placing.number_is w s t n e)
+
+end_is : (ns : DrawnNodes) (w : World) (s : Scope) (o : Option Tree) (v : Option ℕ) → end_at ns w s o ≡ Ok v → IsEnd (env_of w s) o (written.end_of w s o)
+end_is ns w s None v e = absent_end
+end_is ns w s (Some (leaf t)) v e = name t
+end_is ns w s (Some (indexed n o x l c)) v e = go (key_of w s (span_of (indexed n o x l c)) x l) (key_is_sound (λ n. None) (pos 0) (span_of (indexed n o x l c)) w s x l (netless x) (all_netless l)) e
+  where
+    go : (k : Outcome Tuple) → IfOk k (AreMembers (IsValue (env_of w s) x) (AreValues (env_of w s) l))
+        → and_then (and_then k (nodes.node_at (length ns.ranges) (span_of (indexed n o x l c)) n.text (declared ns.group.numbers n.text))) (λ u. Ok (Some u)) ≡ Ok v
+        → IsEnd (env_of w s) (Some (indexed n o x l c)) (written.with_key n.text k)
+    go (Ok key) h i = name_and_key n o x l c key h
+    go (Err r) h i = cc
+end_is ns w s (Some (parens o y c)) v e = cc
+end_is ns w s (Some (tuple o y l c)) v e = cc
+end_is ns w s (Some (negated n o y c)) v e = cc
+end_is ns w s (Some (braced b)) v e = cc
+end_is ns w s (Some (signed t y)) v e = cc
+end_is ns w s (Some (reduced m b y)) v e = cc
+end_is ns w s (Some (chain n y l)) v e = cc
+end_is ns w s (Some (choice i y t z p)) v e = cc
+end_is ns w s (Some (net t u)) v e = cc
+
+-- the objective so far and the final one agree about the names of these phrases
+abbrev pub AgreesOn : Option ChosenObjective → Name → Body → Type 0
+AgreesOn g goal (priced n x) = bytes_eq goal n.text ≡ is_goal g n.text
+AgreesOn g goal plain = ⊤
+AgreesOn g goal (valued x) = ⊤
+
+abbrev pub AgreesOnAll : Option ChosenObjective → Name → List Phrase → Type 0
+AgreesOnAll g goal ps = AllByRecursion (λ (p : Phrase). AgreesOn g goal p.body) ps
+
+term_is : (goal : Name) (g : Option ChosenObjective) (w : World) (s : Scope) (a : ℕ) (b : Body) (f new : Linear) → AgreesOn g goal b → price_in g w s a b f ≡ Ok new → (c : ℤ) × IsCoefficientIn goal (env_of w s) b c
+term_is goal g w s a plain f new h e = (pos 0, refl)
+term_is goal g w s a (valued x) f new h e = (pos 0, refl)
+term_is goal g w s a (priced n x) f new h e = go (is_goal g n.text) h e
+  where
+    go : (b : Bool) → bytes_eq goal n.text ≡ b → (if b then priced_by w s a x f else Ok f) ≡ Ok new → (c : ℤ) × IsCoefficientFor (env_of w s) x c (bytes_eq goal n.text)
+    go true h i = ok_then (number w s x) (λ c. forms.priced (span_of x) f a c) new i (λ c k l. (c, subst (IsCoefficientFor (env_of w s) x c) (sym h) (number_is w s x c k)))
+    go false h i = (pos 0, subst (IsCoefficientFor (env_of w s) x (pos 0)) (sym h) refl)
+
+coefficient_is : (goal : Name) (g : Option ChosenObjective) (w : World) (s : Scope) (a : ℕ) (ps : List Phrase) (f new : Linear) → AgreesOnAll g goal ps → prices_in g w s a ps f ≡ Ok new → (c : ℤ) × IsCoefficient goal (env_of w s) ps c
+coefficient_is goal g w s a [] f new h e = (pos 0, refl)
+coefficient_is goal g w s a (p ∷ ps) f new h e =
+    ok_then (price_in g w s a p.body f) (prices_in g w s a ps) new e (λ z i j.
+    let first = term_is goal g w s a p.body f z h.0 i in
+    let rest = coefficient_is goal g w s a ps z new h.1 j in
+    (first.0 +ℤ rest.0, (first.0, rest.0, first.1, rest.1, refl)))
+
+-- ---- an arc at a key
+
+record AreParts (l u t h : Option Tree) (p : Parts) : Type 0 where
+  lower : l ≡ Some p.lower
+  upper : u ≡ Some p.upper
+  tail : p.tail ≡ t
+  head : p.head ≡ h
+
+parts_are : (n : Token) (l u t h : Option Tree) (p : Parts) → parts_from n l u t h ≡ Ok p → AreParts l u t h p
+parts_are n None u t h p e = cc
+parts_are n (Some l) None t h p e = cc
+parts_are n (Some l) (Some u) None None p e = cc
+parts_are n (Some l) (Some u) None (Some h) p e = subst (AreParts (Some l) (Some u) None (Some h)) (ok_is _ p e) (record { lower = refl; upper = refl; tail = refl; head = refl })
+parts_are n (Some l) (Some u) (Some t) h p e = subst (AreParts (Some l) (Some u) (Some t) h) (ok_is _ p e) (record { lower = refl; upper = refl; tail = refl; head = refl })
+
+-- what the code computes of an arc is what its phrases mean
+record IsRow (w : World) (s : Scope) (ps : List Phrase) (p : Parts) (x : Drawn) : Type 0 where
+  lower : HasNumber (env_of w s) (world.phrase_value is_at_least ps) x.lower
+  upper : HasNumber (env_of w s) (world.phrase_value is_at_most ps) x.upper
+  ordered : x.lower ≤ℤ x.upper
+  from : IsEnd (env_of w s) (world.phrase_value is_from ps) (written.end_of w s p.tail)
+  to : IsEnd (env_of w s) (world.phrase_value is_to ps) (written.end_of w s p.head)
+
+ends_are : (ns : DrawnNodes) (w : World) (s : Scope) (ps : List Phrase) (p : Parts) (l u : ℤ) (x : Drawn) → AreParts (phrases.said words.AtLeast ps) (phrases.said words.AtMost ps) (phrases.said words.From ps) (phrases.said words.To ps) p
+    → number w s p.lower ≡ Ok l → number w s p.upper ≡ Ok u → l ≤ℤ u → with_ends ns w s p l u ≡ Ok x → IsRow w s ps p x
+ends_are ns w s ps p l u x are low high ordered e =
+    ok_then (end_at ns w s p.tail) _ x e (λ t h i. ok_then (end_at ns w s p.head) _ x i (λ z j k.
+    subst (IsRow w s ps p) (ok_is (record { lower = l; upper = u; tail = t; head = z }) x k) (record {
+      lower = subst (λ o. HasNumber (env_of w s) o l) (sym are.lower ∙ least_said ps) (number_is w s p.lower l low);
+      upper = subst (λ o. HasNumber (env_of w s) o u) (sym are.upper ∙ most_said ps) (number_is w s p.upper u high);
+      ordered = ordered;
+      from = subst (λ o. IsEnd (env_of w s) o (written.end_of w s p.tail)) (are.tail ∙ from_said ps) (end_is ns w s p.tail t h);
+      to = subst (λ o. IsEnd (env_of w s) o (written.end_of w s p.head)) (are.head ∙ to_said ps) (end_is ns w s p.head z j);
+    })))
+
+row_is : (ns : DrawnNodes) (w : World) (n : Token) (k : Option ℕ) (ps : List Phrase) (p : Parts) (row : Row) (x : Drawn) → parts_of n ps ≡ Ok p → drawn ns w n k p row ≡ Ok x → IsRow w row.scope ps p x
+row_is ns w n k ps p row x parts e =
+    ok_then (number w row.scope p.lower) _ x e (λ l h i. ok_then (number w row.scope p.upper) (λ u. uncrossed l u) x i (λ u j m. go l u h j (int_lt u l) refl m))
+  where
+    uncrossed : ℤ → ℤ → Outcome Drawn
+    uncrossed l u = if int_lt u l then refused_of ArcCrossed n.span (reference n.text k row.key) else with_ends ns w row.scope p l u
+
+    go : (l u : ℤ) → number w row.scope p.lower ≡ Ok l → number w row.scope p.upper ≡ Ok u → (b : Bool) → int_lt u l ≡ b
+        → (if b then refused_of ArcCrossed n.span (reference n.text k row.key) else with_ends ns w row.scope p l u) ≡ Ok x → IsRow w row.scope ps p x
+    go l u h j true f m = cc
+    go l u h j false f m = ends_are ns w row.scope ps p l u x (parts_are n (phrases.said words.AtLeast ps) (phrases.said words.AtMost ps) (phrases.said words.From ps) (phrases.said words.To ps) p parts) h j (search (arith, ints, f)) m
+
+abbrev pub as_key : World → Row → Key
+as_key w row = record { key = row.key; env = env_of w row.scope }
+
+abbrev made : World → Token → Option Braces → Parts → Row → Drawn → ℤ → meaning.Arc
+made w n b p row x c = record {
+  label = meaning.label_at n b (as_key w row);
+  lower = x.lower;
+  upper = x.upper;
+  from = written.end_of w row.scope p.tail;
+  to = written.end_of w row.scope p.head;
+  coefficient = c;
+}
+
+pub record HasDrawnBounds (a : meaning.Arc) (x : Drawn) : Type 0 where
+  pub lower : x.lower ≡ a.lower
+  pub upper : x.upper ≡ a.upper
+
+pub record AreRows (goal : Name) (w : World) (n : Token) (b : Option Braces) (ps : List Phrase) (p : Parts) (rows : List Row) (d new : DrawnArcs) : Type 0 where
+  pub arcs : List meaning.Arc
+  pub are : AllZip (IsArc goal n b ps) (map (as_key w) rows) arcs
+  pub same : AllZip IsSameArc (map (arc_at_row w n b ps p) rows) arcs
+  pub more : List Drawn
+  pub whole : new.arcs ≡ d.arcs ++ more
+  pub bounds : AllZip HasDrawnBounds arcs more
+
+pub rows_are : (goal : Name) (g : Option ChosenObjective) (ns : DrawnNodes) (w : World) (n : Token) (b : Option Braces) (k : Option ℕ) (p : Parts) (ps : List Phrase) (rows : List Row) (d new : DrawnArcs) → AgreesOnAll g goal ps → parts_of n ps ≡ Ok p
+    → arcs_at g ns w n k p ps rows d ≡ Ok new → AreRows goal w n b ps p rows d new
+rows_are goal g ns w n b k p ps [] d new h parts e =
+    record { arcs = []; are = tt; same = tt; more = []; whole = ap (λ (z : DrawnArcs). z.arcs) (sym (ok_is d new e)) ∙ sym (append-nil d.arcs); bounds = tt }
+rows_are goal g ns w n b k p ps (row ∷ rows) d new h parts e =
+    ok_then (next_arc g ns w n k p ps row d) (arcs_at g ns w n k p ps rows) new e (λ next i j.
+    let one = next_arc_is g ns w n k p ps row d next i in
+    let rest = rows_are goal g ns w n b k p ps rows next new h parts j in
+    let by = row_is ns w n k ps p row one.arc parts one.is_drawn in
+    let c = coefficient_is goal g w row.scope (length d.arcs) ps d.form next.form h one.priced in
+    record {
+      arcs = made w n b p row one.arc c.0 ∷ rest.arcs;
+      are = (record { label = refl; lower = by.lower; upper = by.upper; ordered = by.ordered; from = by.from; to = by.to; coefficient = c.1 }, rest.are);
+      same = (record { name = refl; indexed = refl; key = refl; from = refl; to = refl }, rest.same);
+      more = one.arc ∷ rest.more;
+      whole = rest.whole ∙ ap (λ (l : List Drawn). l ++ rest.more) one.arcs ∙ append_assoc d.arcs (one.arc ∷ []) rest.more;
+      bounds = (record { lower = refl; upper = refl }, rest.bounds);
+    })
+
+-- ---- a declaration
+
+pub keys_are : (w : World) (b : Option Braces) (i : Indexing) → indexing_in w b ≡ Ok i → AreIndexed w b (map (as_key w) i.rows)
+keys_are w None i e = ap (λ (z : Indexing). map (as_key w) z.rows) (sym (ok_is alone i e))
+keys_are w (Some bs) i e =
+    ok_then (index w [] bs) (λ k. Ok (by_keys k)) i e (λ k h j. subst (λ (z : Indexing). AreKeys (env_of w []) bs (map (as_key w) z.rows)) (ok_is (by_keys k) i j) (keys_are_sound w [] bs k h))
+
+-- the goal after an objective
+abbrev pub IsGoalAfter : Option Name → Token → Option ChosenObjective → Option ChosenObjective → Type 0
+IsGoalAfter (Some m) n g h = ((bytes_eq m n.text ≡ true) × (z : ChosenObjective) × (h ≡ Some z) × (z.name ≡ n.text)) ⊎ ((bytes_eq m n.text ≡ false) × (h ≡ g))
+IsGoalAfter None n g h = (g ≡ None) × (z : ChosenObjective) × (h ≡ Some z) × (z.name ≡ n.text)
+
+abbrev pub IsNextGoal : Option Name → Declaration → Option ChosenObjective → Option ChosenObjective → Type 0
+IsNextGoal wanted (objective t n p e) g h = IsGoalAfter wanted n g h
+IsNextGoal wanted (set t n ps e) g h = h ≡ g
+IsNextGoal wanted (param t n b ps e) g h = h ≡ g
+IsNextGoal wanted (check t b m x e) g h = h ≡ g
+IsNextGoal wanted (node t n b c e) g h = h ≡ g
+IsNextGoal wanted (arc t n b ps e) g h = h ≡ g
+
+pub goal_after : (wanted : Option Name) (w : World) (t n : Token) (p : Part) (d new : Drawing) → with_objective wanted w t n p d ≡ Ok new → IsGoalAfter wanted n d.goal new.goal
+goal_after (Some m) w t n p d new e = go (bytes_eq m n.text) refl e
+  where
+    go : (b : Bool) → bytes_eq m n.text ≡ b → (if b then with_goal w t n p d else Ok (passed d)) ≡ Ok new → IsGoalAfter (Some m) n d.goal new.goal
+    go true h i = ok_then (said_form d.arcs.group.numbers w p) (λ f. Ok (aimed d t n f)) new i (λ f j k. inl (h, _, ap (λ (z : Drawing). z.goal) (sym (ok_is (aimed d t n f) new k)), refl))
+    go false h i = inr (h, ap (λ (z : Drawing). z.goal) (sym (ok_is (passed d) new i)))
+goal_after None w t n p d new e = go d.goal refl e
+  where
+    go : (g : Option ChosenObjective) → d.goal ≡ g → and_then (is_chosen None g n) (λ b. if b then with_goal w t n p d else Ok (passed d)) ≡ Ok new → IsGoalAfter None n d.goal new.goal
+    go None h i = ok_then (said_form d.arcs.group.numbers w p) (λ f. Ok (aimed d t n f)) new i (λ f j k. (h, _, ap (λ (z : Drawing). z.goal) (sym (ok_is (aimed d t n f) new k)), refl))
+    go (Some g) h i = cc

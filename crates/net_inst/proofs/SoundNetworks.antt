@@ -1,0 +1,333 @@
+-- The network that the code computes is the one that the model means: from declaration to declaration.
+use Rattle.std.specs.Prelude.{◌≡◌, ◌⊎◌, ℕ, suc, Bool, true, false, List, [], ◌∷◌, ◌++◌, map, take, Option, None, Some, Ok, ⊤}
+use Rattle.std.specs.List.{AllByRecursion, AllZip}
+use Rattle.std.specs.Str.{bytes_eq}
+use Rattle.std.proofs.Common.{refl, ap, sym, ◌∙◌, subst, inl, inr, append_assoc, append-nil}
+use Rattle.std.proofs.lemmas.Slice.Eq.{bytes_eq-Decides}
+use Rattle.net_fault.specs.Outcomes.{Outcome}
+use Rattle.net_lex.specs.declared.token.Token.{Token}
+use Rattle.net_tree.specs.Tree.{Braces, Condition, Phrase, Body, plain, valued, priced, Declaration, set, param, check, node, arc, objective}
+use Rattle.net_normal.specs.declared.instance.InstArc.{InstArc}
+use Rattle.net_expr.specs.declared.row.Row.{Row}
+use Rattle.net_expr.specs.Worlds.{Name, World}
+use Rattle.net_linear.specs.Forms.{Products}
+use Rattle.net_meaning.specs.Network as meaning
+use Rattle.net_meaning.specs.Network.{IsNode, AreNodesOf, AreArcsOf, InOrder, entries_after}
+use Rattle.net_meaning.specs.Values.{env_of}
+use Rattle.net_inst.specs.declared.arc.Drawn.{Drawn}
+use Rattle.net_inst.specs.declared.goal.ChosenObjective.{ChosenObjective}
+use Rattle.net_inst.specs.declared.indexing.Indexing.{Indexing}
+use Rattle.net_inst.specs.Arcs.{DrawnArcs, with_arcs, is_goal}
+use Rattle.net_inst.specs.AsWritten as written
+use Rattle.net_inst.specs.AsWritten.{known_behind, in_order, nodes_of, arcs_of, rows_of, node_at_row, arc_at_row, arcs_with}
+use Rattle.net_inst.specs.Drafts.{Drawing, nothing, env, known_more, nodes_more, arcs_more, declare, draw}
+use Rattle.net_inst.specs.Indexings.{indexing_in}
+use Rattle.net_inst.specs.Instances.{Network, with_coefficients}
+use Rattle.net_inst.specs.Nodes.{nodes_by, with_nodes}
+use Rattle.net_inst.specs.Phrases.{parts_of}
+use Rattle.net_inst.specs.Soundness.{IsListed, NamesObjective, NameObjectives, IsSameNode, IsSameArc, HasBounds, HasNetwork, NetworksAreSound}
+use Rattle.net_inst.proofs.Agreement.{with_arcs_is, network_is}
+use Rattle.net_inst.proofs.SoundArcs.{AgreesOn, AgreesOnAll, as_key, HasDrawnBounds, rows_are, keys_are, IsGoalAfter, IsNextGoal, goal_after}
+use Rattle.net_inst.proofs.Written.{aimed_is}
+use Rattle.net_inst.proofs.Zips.{ok_then, ok_is, zip_join}
+
+-- ---- the goal
+
+next_goal : (wanted : Option Name) (w : World) (x : Declaration) (d new : Drawing) → declare wanted w x d ≡ Ok new → IsNextGoal wanted x d.goal new.goal
+next_goal wanted w (set t n ps z) d new e = ap (λ (y : Drawing). y.goal) (sym (ok_is (known_more d) new e))
+next_goal wanted w (param t n b ps z) d new e = ap (λ (y : Drawing). y.goal) (sym (ok_is (known_more d) new e))
+next_goal wanted w (check t b m x z) d new e = ap (λ (y : Drawing). y.goal) (sym (ok_is d new e))
+next_goal wanted w (node t n b c z) d new e =
+    ok_then (with_nodes (env w d) n b c d.nodes) (λ ns. Ok (nodes_more d ns)) new e (λ ns i j. ap (λ (y : Drawing). y.goal) (sym (ok_is (nodes_more d ns) new j)))
+next_goal wanted w (arc t n b ps z) d new e =
+    ok_then (with_arcs d.goal d.nodes (env w d) n b ps d.arcs) (λ xs. Ok (arcs_more d xs)) new e (λ xs i j. ap (λ (y : Drawing). y.goal) (sym (ok_is (arcs_more d xs) new j)))
+next_goal wanted w (objective t n p z) d new e = goal_after wanted (env w d) t n p d new e
+
+some_is : {A : Type 0} (a b : A) → Some a ≡ Some b → a ≡ b
+some_is a b e = cc
+
+abbrev no_goal : Option ChosenObjective
+no_goal = None
+
+-- the only objective stays the goal
+goal_stays : (x : Declaration) (g h : Option ChosenObjective) (z : ChosenObjective) → g ≡ Some z → IsNextGoal None x g h → h ≡ Some z
+goal_stays (objective t n p e) g h z i (none, y, j, f) = absurd (differ (sym none ∙ i))
+  where
+    differ : no_goal ≡ Some z → ⊥
+    differ q = cc
+goal_stays (set t n ps e) g h z i j = j ∙ i
+goal_stays (param t n b ps e) g h z i j = j ∙ i
+goal_stays (check t b m x e) g h z i j = j ∙ i
+goal_stays (node t n b c e) g h z i j = j ∙ i
+goal_stays (arc t n b ps e) g h z i j = j ∙ i
+
+only_goal : (w : World) (ds : List Declaration) (d new : Drawing) (z : ChosenObjective) → d.goal ≡ Some z → draw None w ds d ≡ Ok new → new.goal ≡ Some z
+only_goal w [] d new z h e = ap (λ (y : Drawing). y.goal) (sym (ok_is d new e)) ∙ h
+only_goal w (x ∷ xs) d new z h e = ok_then (declare None w x d) (draw None w xs) new e (λ next i j. only_goal w xs next new z (goal_stays x d.goal next.goal z h (next_goal None w x d next i)) j)
+
+bytes_same : (a b : Name) → bytes_eq a b ≡ true → a ≡ b
+bytes_same a b e = (bytes_eq-Decides a b).0 e
+
+-- a goal has the requested name
+abbrev HasName : Name → Option ChosenObjective → Type 0
+HasName m g = (z : ChosenObjective) → g ≡ Some z → m ≡ z.name
+
+name_stays : (m : Name) (x : Declaration) (g h : Option ChosenObjective) → HasName m g → IsNextGoal (Some m) x g h → HasName m h
+name_stays m (objective t n p e) g h i (inl (same, z, j, f)) y k = bytes_same m n.text same ∙ sym f ∙ ap (λ (q : ChosenObjective). q.name) (some_is z y (sym j ∙ k))
+name_stays m (objective t n p e) g h i (inr (other, j)) y k = i y (sym j ∙ k)
+name_stays m (set t n ps e) g h i j y k = i y (sym j ∙ k)
+name_stays m (param t n b ps e) g h i j y k = i y (sym j ∙ k)
+name_stays m (check t b c x e) g h i j y k = i y (sym j ∙ k)
+name_stays m (node t n b c e) g h i j y k = i y (sym j ∙ k)
+name_stays m (arc t n b ps e) g h i j y k = i y (sym j ∙ k)
+
+named_goal : (m : Name) (w : World) (ds : List Declaration) (d new : Drawing) → HasName m d.goal → draw (Some m) w ds d ≡ Ok new → HasName m new.goal
+named_goal m w [] d new h e = subst (λ (y : Drawing). HasName m y.goal) (ok_is d new e) h
+named_goal m w (x ∷ xs) d new h e = ok_then (declare (Some m) w x d) (draw (Some m) w xs) new e (λ next i j. named_goal m w xs next new (name_stays m x d.goal next.goal h (next_goal (Some m) w x d next i)) j)
+
+-- the goal so far is the final one, or no objective so far has its name
+abbrev IsReady : List Name → Name → Option ChosenObjective → Type 0
+IsReady before goal None = (m : Name) → IsListed before m → bytes_eq goal m ≡ false
+IsReady before goal (Some g) = g.name ≡ goal
+
+agrees_on : (before : List Name) (goal : Name) (g : Option ChosenObjective) (b : Body) → IsReady before goal g → NamesObjective before b → AgreesOn g goal b
+agrees_on before goal None (priced n x) r l = r n.text l
+agrees_on before goal (Some g) (priced n x) r l = ap (λ (k : Name). bytes_eq k n.text) (sym r)
+agrees_on before goal g plain r l = tt
+agrees_on before goal g (valued x) r l = tt
+
+agrees_on_all : (before : List Name) (goal : Name) (g : Option ChosenObjective) (ps : List Phrase) → IsReady before goal g → AllByRecursion (λ (p : Phrase). NamesObjective before p.body) ps → AgreesOnAll g goal ps
+agrees_on_all before goal g [] r l = tt
+agrees_on_all before goal g (p ∷ ps) r l = (agrees_on before goal g p.body r l.0, agrees_on_all before goal g ps r l.1)
+
+ready_after : (wanted : Option Name) (n : Token) (before : List Name) (goal : Name) (g h : Option ChosenObjective) → ((m : Name) → wanted ≡ Some m → m ≡ goal) → ((z : ChosenObjective) → wanted ≡ None → h ≡ Some z → z.name ≡ goal)
+    → IsReady before goal g → IsGoalAfter wanted n g h → IsReady (n.text ∷ before) goal h
+ready_after (Some m) n before goal g h same last r (inl (t, z, e, f)) = subst (IsReady (n.text ∷ before) goal) (sym e) (f ∙ sym (bytes_same m n.text t) ∙ same m refl)
+ready_after (Some m) n before goal g h same last r (inr (t, e)) = subst (IsReady (n.text ∷ before) goal) (sym e) (go g r)
+  where
+    none : ((m : Name) → IsListed before m → bytes_eq goal m ≡ false) → (k : Name) → IsListed (n.text ∷ before) k → bytes_eq goal k ≡ false
+    none r k (inl q) = subst (λ (k : Name). bytes_eq goal k ≡ false) q (subst (λ (j : Name). bytes_eq j n.text ≡ false) (same m refl) t)
+    none r k (inr q) = r k q
+
+    go : (g : Option ChosenObjective) → IsReady before goal g → IsReady (n.text ∷ before) goal g
+    go None r = none r
+    go (Some z) r = r
+ready_after None n before goal g h same last r (q, z, e, f) = subst (IsReady (n.text ∷ before) goal) (sym e) (last z refl e)
+
+-- ---- a declaration
+
+abbrev node_made : World → Token → Option Braces → Condition → Row → meaning.Node
+node_made w n b c row = record { label = meaning.label_at n b (as_key w row); env = env_of w row.scope; condition = c }
+
+nodes_are : (w : World) (n : Token) (b : Option Braces) (c : Condition) (rows : List Row) → AllZip (IsNode n b c) (map (as_key w) rows) (map (node_made w n b c) rows)
+nodes_are w n b c [] = tt
+nodes_are w n b c (row ∷ rows) = (refl, nodes_are w n b c rows)
+
+nodes_same : (w : World) (n : Token) (b : Option Braces) (c : Condition) (rows : List Row) → AllZip IsSameNode (map (node_at_row w n b c) rows) (map (node_made w n b c) rows)
+nodes_same w n b c [] = tt
+nodes_same w n b c (row ∷ rows) = (record { name = refl; indexed = refl; key = refl }, nodes_same w n b c rows)
+
+record IsStep (goal : Name) (w : World) (x : Declaration) (d new : Drawing) : Type 0 where
+  nodes : List meaning.Node
+  arcs : List meaning.Arc
+  are_nodes : AreNodesOf (env w d) x nodes
+  are_arcs : AreArcsOf goal (env w d) x arcs
+  same_nodes : AllZip IsSameNode (nodes_of (env w d) x) nodes
+  same_arcs : AllZip IsSameArc (arcs_of (env w d) x) arcs
+  more : List Drawn
+  whole : new.arcs.arcs ≡ d.arcs.arcs ++ more
+  bounds : AllZip HasDrawnBounds arcs more
+  known : new.known ≡ entries_after d.known x
+
+idle : (goal : Name) (w : World) (x : Declaration) (d new : Drawing) → AreNodesOf (env w d) x [] → AreArcsOf goal (env w d) x [] → nodes_of (env w d) x ≡ [] → arcs_of (env w d) x ≡ []
+    → new.arcs.arcs ≡ d.arcs.arcs → new.known ≡ entries_after d.known x → IsStep goal w x d new
+idle goal w x d new a b c f g h = record {
+  nodes = [];
+  arcs = [];
+  are_nodes = a;
+  are_arcs = b;
+  same_nodes = subst (λ (l : List written.Node). AllZip IsSameNode l []) (sym c) tt;
+  same_arcs = subst (λ (l : List written.Arc). AllZip IsSameArc l []) (sym f) tt;
+  more = [];
+  whole = g ∙ sym (append-nil d.arcs.arcs);
+  bounds = tt;
+  known = h;
+}
+
+-- the phrases of the declaration agree with the goal so far
+abbrev PhrasesAgree : Option ChosenObjective → Name → Declaration → Type 0
+PhrasesAgree g goal (arc t n b ps e) = AgreesOnAll g goal ps
+PhrasesAgree g goal _ = ⊤
+
+step : (wanted : Option Name) (goal : Name) (w : World) (x : Declaration) (d new : Drawing) → PhrasesAgree d.goal goal x → declare wanted w x d ≡ Ok new → IsStep goal w x d new
+step wanted goal w (set t n ps z) d new h e =
+    let same = sym (ok_is (known_more d) new e) in idle goal w (set t n ps z) d new refl refl refl refl (ap (λ (y : Drawing). y.arcs.arcs) same) (ap (λ (y : Drawing). y.known) same)
+step wanted goal w (param t n b ps z) d new h e =
+    let same = sym (ok_is (known_more d) new e) in idle goal w (param t n b ps z) d new refl refl refl refl (ap (λ (y : Drawing). y.arcs.arcs) same) (ap (λ (y : Drawing). y.known) same)
+step wanted goal w (check t b m x z) d new h e =
+    let same = sym (ok_is d new e) in idle goal w (check t b m x z) d new refl refl refl refl (ap (λ (y : Drawing). y.arcs.arcs) same) (ap (λ (y : Drawing). y.known) same)
+step wanted goal w (objective t n p z) d new h e = let by = aimed_is wanted (env w d) t n p d new e in idle goal w (objective t n p z) d new refl refl refl refl (sym by.drawn) by.known
+step wanted goal w (node t n b c z) d new h e =
+    ok_then (with_nodes (env w d) n b c d.nodes) (λ ns. Ok (nodes_more d ns)) new e (λ ns i j.
+    ok_then (indexing_in (env w d) b) (nodes_by (env w d) n c d.nodes) ns i (λ x k l.
+    let same = sym (ok_is (nodes_more d ns) new j) in
+    record {
+      nodes = map (node_made (env w d) n b c) x.rows;
+      arcs = [];
+      are_nodes = (map (as_key (env w d)) x.rows, keys_are (env w d) b x k, nodes_are (env w d) n b c x.rows);
+      are_arcs = refl;
+      same_nodes = subst (λ (o : Outcome Indexing). AllZip IsSameNode (map (node_at_row (env w d) n b c) (rows_of o)) (map (node_made (env w d) n b c) x.rows)) (sym k) (nodes_same (env w d) n b c x.rows);
+      same_arcs = tt;
+      more = [];
+      whole = ap (λ (y : Drawing). y.arcs.arcs) same ∙ sym (append-nil d.arcs.arcs);
+      bounds = tt;
+      known = ap (λ (y : Drawing). y.known) same;
+    }))
+step wanted goal w (arc t n b ps z) d new h e =
+    ok_then (with_arcs d.goal d.nodes (env w d) n b ps d.arcs) (λ xs. Ok (arcs_more d xs)) new e (λ xs i j.
+    let by = with_arcs_is d.goal d.nodes (env w d) n b ps d.arcs xs i in
+    let rows = rows_are goal d.goal d.nodes (env w d) n b by.indexing.count by.parts ps by.indexing.rows d.arcs by.found h by.says by.are_found in
+    let same = sym (ok_is (arcs_more d xs) new j) in
+    let here : arcs_with (env w d) n b ps (parts_of n ps) ≡ map (arc_at_row (env w d) n b ps by.parts) by.indexing.rows =
+    ap (arcs_with (env w d) n b ps) by.says ∙ ap (λ (rows : List Row). map (arc_at_row (env w d) n b ps by.parts) rows) (ap rows_of by.keys) in
+    record {
+      nodes = [];
+      arcs = rows.arcs;
+      are_nodes = refl;
+      are_arcs = (map (as_key (env w d)) by.indexing.rows, keys_are (env w d) b by.indexing by.keys, rows.are);
+      same_nodes = tt;
+      same_arcs = subst (λ (l : List written.Arc). AllZip IsSameArc l rows.arcs) (sym here) rows.same;
+      more = rows.more;
+      whole = ap (λ (y : Drawing). y.arcs.arcs) same ∙ ap (λ (y : DrawnArcs). y.arcs) (sym by.is_named) ∙ rows.whole;
+      bounds = rows.bounds;
+      known = ap (λ (y : Drawing). y.known) same;
+    })
+
+-- ---- all declarations
+
+record IsWalk (goal : Name) (w : World) (k : ℕ) (ds : List Declaration) (d new : Drawing) : Type 0 where
+  nodes : List meaning.Node
+  arcs : List meaning.Arc
+  are_nodes : InOrder AreNodesOf w k ds nodes
+  are_arcs : InOrder (AreArcsOf goal) w k ds arcs
+  same_nodes : AllZip IsSameNode (in_order nodes_of w k ds) nodes
+  same_arcs : AllZip IsSameArc (in_order arcs_of w k ds) arcs
+  more : List Drawn
+  whole : new.arcs.arcs ≡ d.arcs.arcs ++ more
+  bounds : AllZip HasDrawnBounds arcs more
+
+same_after : (k : ℕ) (x : Declaration) → known_behind k x ≡ entries_after k x
+same_after k (set t n ps e) = refl
+same_after k (param t n b ps e) = refl
+same_after k (check t b m x e) = refl
+same_after k (node t n b c e) = refl
+same_after k (arc t n b ps e) = refl
+same_after k (objective t n p e) = refl
+
+joined : (goal : Name) (w : World) (x : Declaration) (xs : List Declaration) (d next new : Drawing) → IsStep goal w x d next → IsWalk goal w (entries_after d.known x) xs next new → IsWalk goal w d.known (x ∷ xs) d new
+joined goal w x xs d next new one rest = record {
+  nodes = one.nodes ++ rest.nodes;
+  arcs = one.arcs ++ rest.arcs;
+  are_nodes = (one.nodes, rest.nodes, one.are_nodes, rest.are_nodes, refl);
+  are_arcs = (one.arcs, rest.arcs, one.are_arcs, rest.are_arcs, refl);
+  same_nodes =
+      subst (λ (k : ℕ). AllZip IsSameNode (nodes_of (env w d) x ++ in_order nodes_of w k xs) (one.nodes ++ rest.nodes)) (sym (same_after d.known x))
+      (zip_join IsSameNode (nodes_of (env w d) x) (in_order nodes_of w (entries_after d.known x) xs) one.nodes rest.nodes one.same_nodes rest.same_nodes);
+  same_arcs =
+      subst (λ (k : ℕ). AllZip IsSameArc (arcs_of (env w d) x ++ in_order arcs_of w k xs) (one.arcs ++ rest.arcs)) (sym (same_after d.known x))
+      (zip_join IsSameArc (arcs_of (env w d) x) (in_order arcs_of w (entries_after d.known x) xs) one.arcs rest.arcs one.same_arcs rest.same_arcs);
+  more = one.more ++ rest.more;
+  whole = rest.whole ∙ ap (λ (l : List Drawn). l ++ rest.more) one.whole ∙ append_assoc d.arcs.arcs one.more rest.more;
+  bounds = zip_join HasDrawnBounds one.arcs rest.arcs one.more rest.more one.bounds rest.bounds;
+}
+
+-- what the walk knows of the final goal
+record IsAim (wanted : Option Name) (goal : Name) (new : Drawing) : Type 0 where
+  requested : (m : Name) → wanted ≡ Some m → m ≡ goal
+  final : ChosenObjective
+  has : new.goal ≡ Some final
+  named : final.name ≡ goal
+
+-- the objectives that are declared so far
+abbrev before_after : List Name → Declaration → List Name
+before_after before (objective t n p e) = n.text ∷ before
+before_after before (set t n ps e) = before
+before_after before (param t n b ps e) = before
+before_after before (check t b m x e) = before
+before_after before (node t n b c e) = before
+before_after before (arc t n b ps e) = before
+
+names_after : (before : List Name) (x : Declaration) (xs : List Declaration) → NameObjectives before (x ∷ xs) → NameObjectives (before_after before x) xs
+names_after before (objective t n p e) xs h = h
+names_after before (set t n ps e) xs h = h
+names_after before (param t n b ps e) xs h = h
+names_after before (check t b m x e) xs h = h
+names_after before (node t n b c e) xs h = h
+names_after before (arc t n b ps e) xs h = h.1
+
+agrees_after : (before : List Name) (goal : Name) (g : Option ChosenObjective) (x : Declaration) (xs : List Declaration) → NameObjectives before (x ∷ xs) → IsReady before goal g → PhrasesAgree g goal x
+agrees_after before goal g (objective t n p e) xs h r = tt
+agrees_after before goal g (set t n ps e) xs h r = tt
+agrees_after before goal g (param t n b ps e) xs h r = tt
+agrees_after before goal g (check t b m x e) xs h r = tt
+agrees_after before goal g (node t n b c e) xs h r = tt
+agrees_after before goal g (arc t n b ps e) xs h r = agrees_on_all before goal g ps r h.0
+
+ready_next : (wanted : Option Name) (before : List Name) (goal : Name) (x : Declaration) (g h : Option ChosenObjective) → ((m : Name) → wanted ≡ Some m → m ≡ goal) → ((z : ChosenObjective) → wanted ≡ None → h ≡ Some z → z.name ≡ goal)
+    → IsReady before goal g → IsNextGoal wanted x g h → IsReady (before_after before x) goal h
+ready_next wanted before goal (objective t n p e) g h same last r j = ready_after wanted n before goal g h same last r j
+ready_next wanted before goal (set t n ps e) g h same last r j = subst (IsReady before goal) (sym j) r
+ready_next wanted before goal (param t n b ps e) g h same last r j = subst (IsReady before goal) (sym j) r
+ready_next wanted before goal (check t b m x e) g h same last r j = subst (IsReady before goal) (sym j) r
+ready_next wanted before goal (node t n b c e) g h same last r j = subst (IsReady before goal) (sym j) r
+ready_next wanted before goal (arc t n b ps e) g h same last r j = subst (IsReady before goal) (sym j) r
+
+walk : (wanted : Option Name) (goal : Name) (w : World) (ds : List Declaration) (before : List Name) (d new : Drawing) → NameObjectives before ds → IsReady before goal d.goal → IsAim wanted goal new
+    → draw wanted w ds d ≡ Ok new → IsWalk goal w d.known ds d new
+walk wanted goal w [] before d new h r aim e = record {
+  nodes = [];
+  arcs = [];
+  are_nodes = refl;
+  are_arcs = refl;
+  same_nodes = tt;
+  same_arcs = tt;
+  more = [];
+  whole = ap (λ (y : Drawing). y.arcs.arcs) (sym (ok_is d new e)) ∙ sym (append-nil d.arcs.arcs);
+  bounds = tt;
+}
+walk wanted goal w (x ∷ xs) before d new h r aim e =
+    ok_then (declare wanted w x d) (draw wanted w xs) new e (λ next i j.
+    let one = step wanted goal w x d next (agrees_after before goal d.goal x xs h r) i in
+    let last : (z : ChosenObjective) → wanted ≡ None → next.goal ≡ Some z → z.name ≡ goal = (λ z q k.
+    ap (λ (y : ChosenObjective). y.name) (some_is z aim.final (sym (only_goal w xs next new z k (subst (λ (o : Option Name). draw o w xs next ≡ Ok new) q j)) ∙ aim.has)) ∙ aim.named) in
+    let ready = ready_next wanted before goal x d.goal next.goal aim.requested last r (next_goal wanted w x d next i) in
+    let rest = walk wanted goal w xs (before_after before x) next new (names_after before x xs h) ready aim j in
+    joined goal w x xs d next new one (subst (λ (k : ℕ). IsWalk goal w k xs next new) one.known rest))
+
+-- ---- the law
+
+bounds_are : (ps : Products) (a : ℕ) (all : List meaning.Arc) (xs : List Drawn) → AllZip HasDrawnBounds all xs → AllZip HasBounds all (with_coefficients ps a xs)
+bounds_are ps a [] [] h = tt
+bounds_are ps a [] (x ∷ xs) h = absurd h
+bounds_are ps a (y ∷ all) [] h = absurd h
+bounds_are ps a (y ∷ all) (x ∷ xs) h = (record { lower = h.0.lower; upper = h.0.upper }, bounds_are ps (suc a) all xs h.1)
+
+pub networks_are_sound : NetworksAreSound
+networks_are_sound requested w ds n h e =
+    let f = network_is requested w ds n e in
+    let named : (m : Name) → requested ≡ Some m → m ≡ f.goal.name = (λ m q.
+    named_goal m w ds nothing f.drawing (λ z k. absurd (none_is z k)) (subst (λ (o : Option Name). draw o w ds nothing ≡ Ok f.drawing) q f.is_drawn) f.goal f.has_objective) in
+    let aim : IsAim requested f.goal.name f.drawing = record { requested = named; final = f.goal; has = f.has_objective; named = refl } in
+    let found = walk requested f.goal.name w ds [] nothing f.drawing h (λ m l. absurd l) aim f.is_drawn in
+    subst (HasNetwork w ds) f.whole (record {
+      nodes = found.nodes;
+      arcs = found.arcs;
+      are_nodes = found.are_nodes;
+      are_arcs = found.are_arcs;
+      same_nodes = found.same_nodes;
+      same_arcs = found.same_arcs;
+      bounds = bounds_are f.drawing.arcs.form.products 0 found.arcs f.drawing.arcs.arcs (subst (AllZip HasDrawnBounds found.arcs) (sym found.whole) found.bounds);
+    })
+  where
+    none_is : (z : ChosenObjective) → no_goal ≡ Some z → ⊥
+    none_is z q = cc

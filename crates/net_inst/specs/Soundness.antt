@@ -1,0 +1,63 @@
+-- Laws that relate the network that the code computes to the meaning of the model.
+use Rattle.std.specs.Prelude.{◌≡◌, ◌⊎◌, List, [], ◌∷◌, Option, Ok, ⊤}
+use Rattle.std.specs.List.{AllByRecursion, AllZip}
+use Rattle.net_tree.specs.Tree.{Body, plain, valued, priced, Phrase, Declaration, set, param, check, node, arc, objective}
+use Rattle.net_normal.specs.declared.instance.InstArc.{InstArc}
+use Rattle.net_expr.specs.Worlds.{Name, World}
+use Rattle.net_meaning.specs.Network as meaning
+use Rattle.net_meaning.specs.Network.{InOrder, AreNodesOf, AreArcsOf}
+use Rattle.net_inst.specs.AsWritten as written
+use Rattle.net_inst.specs.Instances.{Network, network}
+
+-- the name is in the list
+abbrev pub IsListed : List Name → Name → Type 0
+IsListed [] n = ⊥
+IsListed (m ∷ ms) n = (m ≡ n) ⊎ IsListed ms n
+
+abbrev pub NamesObjective : List Name → Body → Type 0
+NamesObjective before (priced n x) = IsListed before n.text
+NamesObjective before plain = ⊤
+NamesObjective before (valued x) = ⊤
+
+-- each `obj` phrase names an objective that is declared before it; before are the objectives so far
+abbrev pub NameObjectives : List Name → List Declaration → Type 0
+NameObjectives before [] = ⊤
+NameObjectives before (arc t n b ps e ∷ ds) = AllByRecursion (λ (p : Phrase). NamesObjective before p.body) ps × NameObjectives before ds
+NameObjectives before (objective t n p e ∷ ds) = NameObjectives (n.text ∷ before) ds
+NameObjectives before (set t n ps e ∷ ds) = NameObjectives before ds
+NameObjectives before (param t n b ps e ∷ ds) = NameObjectives before ds
+NameObjectives before (check t b m x e ∷ ds) = NameObjectives before ds
+NameObjectives before (node t n b c e ∷ ds) = NameObjectives before ds
+
+-- a node as written and its meaning have the same label
+pub record IsSameNode (v : written.Node) (a : meaning.Node) : Type 0 where
+  pub name : a.label.name ≡ v.label.name
+  pub indexed : a.label.indexed ≡ v.label.indexed
+  pub key : a.label.key ≡ v.label.key
+
+-- an arc as written and its meaning have the same label and the same ends
+pub record IsSameArc (v : written.Arc) (a : meaning.Arc) : Type 0 where
+  pub name : a.label.name ≡ v.label.name
+  pub indexed : a.label.indexed ≡ v.label.indexed
+  pub key : a.label.key ≡ v.label.key
+  pub from : a.from ≡ written.from_end v
+  pub to : a.to ≡ written.to_end v
+
+-- the network's arc has the bounds that are meant
+pub record HasBounds (a : meaning.Arc) (x : InstArc) : Type 0 where
+  pub lower : x.lower ≡ a.lower
+  pub upper : x.upper ≡ a.upper
+
+-- the nodes and arcs of the model, in order of declaration and key, and what the network has of them
+pub record HasNetwork (w : World) (ds : List Declaration) (n : Network) : Type 0 where
+  pub nodes : List meaning.Node
+  pub arcs : List meaning.Arc
+  pub are_nodes : InOrder AreNodesOf w 0 ds nodes
+  pub are_arcs : InOrder (AreArcsOf n.names.objective) w 0 ds arcs
+  pub same_nodes : AllZip IsSameNode (written.nodes w ds) nodes
+  pub same_arcs : AllZip IsSameArc (written.arcs w ds) arcs
+  pub bounds : AllZip HasBounds arcs n.arcs
+
+-- if the code computes a network, the model has nodes and arcs, and the network has their bounds
+abbrev pub NetworksAreSound : Type 0
+NetworksAreSound = (requested : Option Name) (w : World) (ds : List Declaration) (n : Network) → NameObjectives [] ds → network requested w ds ≡ Ok n → HasNetwork w ds n

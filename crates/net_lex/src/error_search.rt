@@ -1,0 +1,54 @@
+//! The first error of a text, without its tokens.
+ghost use Rattle.std.specs.Prelude.{◌≤◌, ◌^◌, List, length, MatchOption};
+ghost use Rattle.net_lex.specs.Limits.{limits};
+ghost use Rattle.net_lex.specs.Reading.{EndsInGap};
+ghost use Rattle.net_lex.specs.Faults.{IsFault, StandSound};
+ghost use Rattle.net_lex.specs.Lexing.{AreTokensOf, IsFirstFault};
+ghost use Rattle.net_lex.specs.declared.token.Token.{Token as Word};
+
+use crate::scan::step;
+use crate::tokens::text_limit;
+use net_fault::{Defect, Language, Span};
+
+fn first_error_in(language: Language, text: &str) -> Option<(Defect, Span)>
+    requires { length text.now ≤ 2 ^ 24 }
+    ensures { MatchOption result
+        ((tokens : List Word) × StandSound limits language EndsInGap 0 text.now tokens)
+        (λ e. (tokens : List Word) × StandSound limits language (λ at rest. IsFault limits language at rest e.0 e.1) 0 text.now tokens) }
+{
+    let mut rest = text;
+    let mut at = 0;
+    'tokens: loop {
+        match step(language, rest, at) {
+            Err(error) => return Some(error),
+            Ok(None) => return None,
+            Ok(Some((token, after))) => {
+                at = token.span.end;
+                rest = after;
+            }
+        }
+    }
+}
+
+/// Returns the first error of a text and its span, or `None` if the text consists of tokens. Takes
+/// no memory, so each text gets one of the two answers.
+pub fn first_error(language: Language, text: &[u8]) -> Option<(Defect, Span)>
+    ensures { MatchOption result
+        ((tokens : List Word) × AreTokensOf language text.now tokens)
+        (λ e. IsFirstFault language text.now e.0 e.1) }
+{
+    if text.len() > text_limit(language) {
+        return Some((Defect::TextTooLong, Span { start: 0, end: 0 }));
+    }
+    match str::from_utf8(text) {
+        Err(bad) => {
+            let good = bad.valid_up_to();
+            let at = Span {
+                start: good,
+                end: good + 1,
+            };
+            Some((Defect::NotUtf8, at))
+        }
+        Ok(text) => first_error_in(language, text),
+    }
+}

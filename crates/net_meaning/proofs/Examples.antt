@@ -1,0 +1,191 @@
+-- Worked examples of the definitions. The expected values are worked out by hand from the AMPL book.
+use Rattle.std.specs.Prelude.{◌≡◌, ◌⊎◌, ℕ, Bool, true, false, List, [], ◌∷◌, ◌++◌, Option, None, Some, codes, ⊤, ℤ, pos, negsuc}
+use Rattle.std.proofs.Common.{refl, sym, ◌∙◌, subst, inl, inr, arith}
+use Rattle.std.proofs.lemmas.Int.{ints}
+use lib.IntN.{zero-*ℤ}
+use Rattle.net_lex.specs.Limits.{limits}
+use Rattle.net_lex.specs.NumeralFront.{mantissa_at, power_at, numeral_at}
+use Rattle.net_lex.specs.Numerals.{IsValue as IsNumeral}
+use Rattle.net_lex.specs.Significands.{whole_value}
+use Rattle.net_lex.specs.declared.token.Kind.{Kind}
+use Rattle.net_lex.specs.declared.token.Kind.TheVariants as kinds
+use Rattle.net_lex.specs.declared.token.Token.{Token}
+use Rattle.net_sets.specs.declared.member.Member.TheVariants.{Number}
+use Rattle.net_normal.specs.declared.instance.Sense.TheVariants.{Minimise}
+use Rattle.net_tree.specs.declared.operator.Words.TheVariants as operator
+use Rattle.net_tree.specs.Operations.{operations, operation, reduction, is_minus}
+use Rattle.net_tree.specs.Role.{role_of, marks, keys}
+use Rattle.net_tree.specs.Tree.{Tree, leaf, tuple, signed, reduced, chain, net, none, link, absent, part, filled, Phrase, valued, Condition, between}
+use Rattle.net_expr.specs.Numbers.{number_in}
+use Rattle.net_expr.specs.Worlds.{World}
+use Rattle.net_expr.specs.declared.world.Entry.TheVariants.{Set}
+use Rattle.net_meaning.specs.Operators.{Value, One, Many, Truth, number, IsResult, at_most}
+use Rattle.net_meaning.specs.Values.{Env, Key, env_of, start, bind, a_set, dummy, is_outflow, IsValue, AreKeys, Extends}
+use Rattle.net_meaning.specs.Network.{Arc, IsArc, name, IsSatisfied, with_inflow, Objective, Assignment, HasValue}
+use Rattle.net_meaning.proofs.Naming.{numeral_is}
+use Rattle.net_meaning.proofs.Unique.{values_are_unique, number_same}
+
+-- positions in the file do not matter here
+abbrev token : Kind → List ℕ → Token
+token k t = record { kind = k; text = t; span = record { start = 0; end = 0 } }
+
+abbrev mark : List ℕ → Token
+mark t = token kinds.Mark t
+
+abbrev named : List ℕ → Tree
+named t = leaf (token kinds.Name t)
+
+abbrev numeral : List ℕ → Tree
+numeral t = leaf (token kinds.Num t)
+
+two_is : IsNumeral limits.value (codes "2") (pos 2)
+unfolding number_in numeral_at mantissa_at power_at whole_value
+two_is = numeral_is (codes "2") (pos 2) refl
+
+zero_is : IsNumeral limits.value (codes "0") (pos 0)
+unfolding number_in numeral_at mantissa_at power_at whole_value
+zero_is = numeral_is (codes "0") (pos 0) refl
+
+three_is : IsNumeral limits.value (codes "3") (pos 3)
+unfolding number_in numeral_at mantissa_at power_at whole_value
+three_is = numeral_is (codes "3") (pos 3) refl
+
+five_is : IsNumeral limits.value (codes "5") (pos 5)
+unfolding number_in numeral_at mantissa_at power_at whole_value
+five_is = numeral_is (codes "5") (pos 5) refl
+
+-- ---- an indexing expression that selects: {(i, 2) in LINKS}, where LINKS is {(1, 2), (3, 2), (1, 3)}, has the keys 1 and 3
+
+abbrev links : World
+links = (codes "LINKS", Set 2 ((Number (pos 1) ∷ Number (pos 2) ∷ []) ∷ (Number (pos 3) ∷ Number (pos 2) ∷ []) ∷ (Number (pos 1) ∷ Number (pos 3) ∷ []) ∷ [])) ∷ []
+
+abbrev to_two : Tree
+to_two = chain 7 (tuple (mark (codes "(")) (named (codes "i")) (link (operator.One (mark (codes ","))) (numeral (codes "2")) none) (mark (codes ")"))) (link (operator.One (token kinds.Key (codes "in"))) (named (codes "LINKS")) none)
+
+abbrev key_of : ℤ → Key
+key_of m = bind (codes "i") (Number m) (start (env_of links []))
+
+no_key : Option Key
+no_key = None
+
+takes : (m : ℤ) → Extends (start (env_of links [])) to_two (Number m ∷ Number (pos 2) ∷ []) (Some (key_of m))
+unfolding role_of marks keys operations operation
+takes m = (Number (pos 2), (pos 2, two_is, refl), refl)
+
+passes_over : Extends (start (env_of links [])) to_two (Number (pos 1) ∷ Number (pos 3) ∷ []) None
+unfolding role_of marks keys operations operation
+passes_over = (Number (pos 2), (pos 2, two_is, refl), refl)
+
+selects : AreKeys (env_of links []) (filled (mark (codes "{")) to_two none absent (mark (codes "}"))) (key_of (pos 1) ∷ key_of (pos 3) ∷ [])
+unfolding role_of marks keys operations operation
+selects = inl (
+  key_of (pos 1) ∷ key_of (pos 3) ∷ [],
+  (
+    _,
+    a_set 2 _ refl refl,
+    (
+      Some (key_of (pos 1)),
+      key_of (pos 1) ∷ [],
+      key_of (pos 3) ∷ [],
+      takes (pos 1),
+      refl,
+      (Some (key_of (pos 3)), key_of (pos 3) ∷ [], [], takes (pos 3), refl, (None, [], [], passes_over, refl, refl, refl), refl),
+      refl,
+    ),
+  ),
+  (key_of (pos 3) ∷ [], ([], refl, inl (refl, refl)), inl (refl, refl)),
+)
+
+-- ---- an arc with a negative lower bound: arc A >= -5, <= 3, from X, to Y
+
+abbrev minus_five : Tree
+minus_five = signed (mark (codes "-")) (numeral (codes "5"))
+
+abbrev phrase : Token → Tree → Phrase
+phrase w x = record { comma = None; word = w; body = valued x }
+
+abbrev phrases : List Phrase
+phrases = phrase (mark (codes ">=")) minus_five ∷ phrase (mark (codes "<=")) (numeral (codes "3")) ∷ phrase (token kinds.Key (codes "from")) (named (codes "X")) ∷ phrase (token kinds.Key (codes "to")) (named (codes "Y")) ∷ []
+
+abbrev an_arc : Arc
+an_arc = record {
+  label = record { name = codes "A"; indexed = false; key = [] };
+  lower = negsuc 4;
+  upper = pos 3;
+  from = Some (codes "X", []);
+  to = Some (codes "Y", []);
+  coefficient = pos 0;
+}
+
+lower_is : IsValue (env_of [] []) minus_five (number (negsuc 4))
+unfolding role_of marks keys is_minus
+lower_is = (pos 5, (pos 5, five_is, refl), refl)
+
+upper_is : IsValue (env_of [] []) (numeral (codes "3")) (number (pos 3))
+unfolding role_of marks keys
+upper_is = (pos 3, three_is, refl)
+
+arc_with_negative_bound : IsArc (codes "Cost") (token kinds.Name (codes "A")) None phrases (start (env_of [] [])) an_arc
+unfolding role_of marks keys operations operation is_minus
+arc_with_negative_bound = record {
+  label = refl;
+  lower = lower_is;
+  upper = upper_is;
+  ordered = omega (arith, ints);
+  from = name (token kinds.Name (codes "X"));
+  to = name (token kinds.Name (codes "Y"));
+  coefficient = (pos 0, pos 0, refl, (pos 0, pos 0, refl, (pos 0, pos 0, refl, (pos 0, pos 0, refl, refl, refl), refl), refl), refl);
+}
+
+-- ---- a condition with a range at the key i = 2: 0 <= net_in <= i is true of 1, and not of 3
+
+abbrev in_range : Condition
+in_range = between (mark (codes ":")) (numeral (codes "0")) (mark (codes "<=")) (net None (token kinds.Key (codes "net_in"))) (mark (codes "<=")) (named (codes "i"))
+
+abbrev at_two : Env
+at_two = env_of [] ((record { name = codes "i"; member = Number (pos 2) }) ∷ [])
+
+true_of_one : IsSatisfied at_two in_range (pos 1)
+unfolding role_of marks keys operations operation is_minus is_outflow
+true_of_one = ((number (pos 0), number (pos 1), (pos 0, zero_is, refl), refl, at_most (pos 0) (pos 1)), (number (pos 1), number (pos 2), refl, dummy (Number (pos 2)) refl, at_most (pos 1) (pos 2)))
+
+not_true_of_three : IsSatisfied at_two in_range (pos 3) → ⊥
+unfolding role_of marks keys operations operation is_minus is_outflow
+not_true_of_three (low, (u, v, a, b, c)) = three_at_most_two (subst (λ (z : Value). IsResult (operation (operator.One (mark (codes "<=")))) z (number (pos 2)) (Truth true)) a (subst (λ (z : Value). IsResult (operation (operator.One (mark (codes "<=")))) u z (Truth true)) (values_are_unique (with_inflow at_two (pos 3)) (named (codes "i")) v (number (pos 2)) b (dummy (Number (pos 2)) refl)) c))
+  where
+    three_at_most_two : IsResult (operation (operator.One (mark (codes "<=")))) (number (pos 3)) (number (pos 2)) (Truth true) → ⊥
+    three_at_most_two h = elim h [ ]
+
+-- ---- a dummy index may have the name of a later arc: minimize Total: sum {i in S} i; arc i ..; where S is {2}. The value is 2 at every flow
+
+abbrev just_two : World
+just_two = (codes "S", Set 1 ((Number (pos 2) ∷ []) ∷ [])) ∷ []
+
+abbrev total : Tree
+total = reduced (token kinds.Key (codes "sum")) (filled (mark (codes "{")) (chain 7 (named (codes "i")) (link (operator.One (token kinds.Key (codes "in"))) (named (codes "S")) none)) none absent (mark (codes "}"))) (named (codes "i"))
+
+abbrev minimize_total : Objective
+minimize_total = record { sense = Minimise; name = codes "Total"; env = just_two; arcs = []; expression = part (mark (codes ":")) total }
+
+abbrev arc_i : Arc
+arc_i = record { label = record { name = codes "i"; indexed = false; key = [] }; lower = pos 0; upper = pos 9; from = None; to = Some (codes "Y", []); coefficient = pos 0 }
+
+later_arc_is_no_flow : (x : Assignment) → HasValue minimize_total (arc_i ∷ []) x (pos 2)
+unfolding role_of marks keys operations operation reduction is_minus
+later_arc_is_no_flow x = (
+  pos 2,
+  (
+    bind (codes "i") (Number (pos 2)) (start (env_of just_two [])) ∷ [],
+    pos 2 ∷ [],
+    pos 2,
+    inl (
+      _,
+      (_, a_set 1 _ refl refl, (Some (bind (codes "i") (Number (pos 2)) (start (env_of just_two []))), _, [], refl, refl, refl, refl)),
+      ([], refl, inl (refl, refl)),
+    ),
+    (dummy (Number (pos 2)) refl, tt),
+    refl,
+    refl,
+  ),
+  omega (arith, ints, zero-*ℤ (x (codes "i") [])),
+)

@@ -1,0 +1,66 @@
+-- Laws that relate the meaning of expressions to the evaluator, whose definition the code is proved to compute.
+use Rattle.std.specs.Prelude.{◌≡◌, List, map, None, Ok, Option, ⊤, ℤ, pos}
+use Rattle.net_sets.specs.Sets.{Tuple}
+use Rattle.net_tree.specs.Tree.{Tree, Links, Part, Braces, leaf, indexed, parens, tuple, negated, braced, signed, reduced, chain, choice, net, none, link, absent, part, empty, filled}
+use Rattle.net_expr.specs.declared.row.Keys.{Keys}
+use Rattle.net_expr.specs.declared.row.Row.{Row}
+use Rattle.net_expr.specs.declared.value.Value.{Value as Found}
+use Rattle.net_expr.specs.declared.value.Value.TheVariants as found
+use Rattle.net_expr.specs.Values.{value, index}
+use Rattle.net_expr.specs.Worlds.{Name, World, Scope}
+use Rattle.net_meaning.specs.Operators.{Value, One, Several, Many, Truth}
+use Rattle.net_meaning.specs.Values.{Env, Key, env_with, env_of, IsValue, AreKeys}
+
+-- the value of the evaluator as a value of these definitions, which have no dimensions
+abbrev pub meaning_of : Found → Value
+meaning_of (found.One m) = One m
+meaning_of (found.Several t) = Several t
+meaning_of (found.Many d ts) = Many ts
+meaning_of (found.Truth b) = Truth b
+
+-- the expression names no arc, and it has no `net_in` or `net_out` unless the net inflow is 0
+abbrev mutual
+  pub IsArcFree : (Name → Option (Tuple → ℤ)) → ℤ → Tree → Type 0
+  IsArcFree g y (leaf t) = g t.text ≡ None
+  IsArcFree g y (indexed n o x l c) = (g n.text ≡ None) × IsArcFree g y x × AreArcFree g y l
+  IsArcFree g y (parens o x c) = IsArcFree g y x
+  IsArcFree g y (tuple o x l c) = IsArcFree g y x × AreArcFree g y l
+  IsArcFree g y (negated n o x c) = IsArcFree g y x
+  IsArcFree g y (braced b) = AreBracesArcFree g y b
+  IsArcFree g y (signed t x) = IsArcFree g y x
+  IsArcFree g y (reduced r b x) = AreBracesArcFree g y b × IsArcFree g y x
+  IsArcFree g y (chain n x l) = IsArcFree g y x × AreArcFree g y l
+  IsArcFree g y (choice i x t z p) = IsArcFree g y x × IsArcFree g y z × IsPartArcFree g y p
+  IsArcFree g y (net s t) = y ≡ pos 0
+
+  pub AreArcFree : (Name → Option (Tuple → ℤ)) → ℤ → Links → Type 0
+  AreArcFree g y none = ⊤
+  AreArcFree g y (link o x l) = IsArcFree g y x × AreArcFree g y l
+
+  pub IsPartArcFree : (Name → Option (Tuple → ℤ)) → ℤ → Part → Type 0
+  IsPartArcFree g y absent = ⊤
+  IsPartArcFree g y (part m x) = IsArcFree g y x
+
+  pub AreBracesArcFree : (Name → Option (Tuple → ℤ)) → ℤ → Braces → Type 0
+  AreBracesArcFree g y (empty o p c) = IsPartArcFree g y p
+  AreBracesArcFree g y (filled o i is p c) = IsArcFree g y i × AreArcFree g y is × IsPartArcFree g y p
+
+-- the same in an environment with arcs and a net inflow, for an expression that names neither
+abbrev pub EvaluationIsSoundWith : Type 0
+EvaluationIsSoundWith = (arcs : Name → Option (Tuple → ℤ)) (y : ℤ) (w : World) (s : Scope) (t : Tree) (v : Found) → IsArcFree arcs y t → value w s t ≡ Ok v → IsValue (env_with arcs y w s) t (meaning_of v)
+
+-- if the evaluator computes a value of an expression, the expression has this value
+abbrev pub EvaluationIsSound : Type 0
+EvaluationIsSound = (w : World) (s : Scope) (t : Tree) (v : Found) → value w s t ≡ Ok v → IsValue (env_of w s) t (meaning_of v)
+
+-- if the evaluator computes the keys of an indexing expression, these are its keys
+abbrev pub KeysAreSound : Type 0
+KeysAreSound = (w : World) (s : Scope) (b : Braces) (k : Keys) → index w s b ≡ Ok k → AreKeys (env_of w s) b (map (λ (r : Row). record { key = r.key; env = env_of w r.scope }) k.rows)
+
+-- an expression has at most one value
+abbrev pub ValuesAreUnique : Type 0
+ValuesAreUnique = (e : Env) (t : Tree) (u v : Value) → IsValue e t u → IsValue e t v → u ≡ v
+
+-- an indexing expression has at most one list of keys
+abbrev pub KeysAreUnique : Type 0
+KeysAreUnique = (e : Env) (b : Braces) (ks js : List Key) → AreKeys e b ks → AreKeys e b js → ks ≡ js

@@ -1,0 +1,56 @@
+-- A min-cost flow problem represents a network: which arc of the problem is which arc of the model, and how flows correspond to
+-- assignments.
+use Rattle.std.specs.Prelude.{◌≡◌, ◌+◌, ℕ, suc, List, [], ◌∷◌, map, length, slice_get, Option, None, Some, IsTrue, if◌then◌else◌, ◌&&◌, ℤ, pos, ◌+ℤ◌}
+use Rattle.std.specs.Str.{bytes_eq}
+use Rattle.net_sets.specs.Sets.{Tuple, same_tuple}
+use Rattle.net_expr.specs.Worlds.{Name}
+use Rattle.net_normal.specs.declared.link.Link.{Link}
+use Rattle.net_normal.specs.declared.problem.FlowArc.{FlowArc}
+use Rattle.net_normal.specs.declared.problem.Problem.{Problem}
+use Rattle.net_normal.specs.Flows.{IsFeasibleFlow, cost_of}
+use Rattle.net_normal.specs.Links.{lifted, value_at}
+use Rattle.net_meaning.specs.Network.{Node, Arc, Objective, Assignment, flow_on, is_at, IsFeasible, HasValue}
+
+-- the number of a node in the problem. The problem has one more node after the model's nodes, which is the missing end of arcs with one end.
+pub data IsNodeNumber (vs : List Node) : Option (Name × Tuple) → ℕ → Type 0 where
+  outside : IsNodeNumber vs None (length vs)
+  named : (r : Name × Tuple) (i : ℕ) (v : Node) → slice_get vs i ≡ Some v → IsTrue (is_at (Some r) v.label) → IsNodeNumber vs (Some r) i
+
+-- the arc of the problem that encodes an arc of the model: it joins the same nodes, and its bounds are those of the model's arc minus the
+-- offset. Numbers start at 1; number 0 marks an arc whose bounds are equal, which the problem leaves out, and the offset is its flow.
+pub data IsEncoded (vs : List Node) (arcs : List FlowArc) (a : Arc) (offset : ℤ) : ℕ → Type 0 where
+  fixed : a.lower ≡ offset → a.upper ≡ offset → IsEncoded vs arcs a offset 0
+  at : (i : ℕ) (f : FlowArc) → slice_get arcs i ≡ Some f → IsNodeNumber vs a.from f.src → IsNodeNumber vs a.to f.dst → f.low +ℤ offset ≡ a.lower → f.cap +ℤ offset ≡ a.upper
+      → IsEncoded vs arcs a offset (suc i)
+
+-- each arc with its offset and its number in the problem
+abbrev pub AreEncoded : List Node → List FlowArc → List Arc → List ℤ → List ℕ → Type 0
+AreEncoded vs arcs [] [] [] = Unit {0}
+AreEncoded vs arcs (a ∷ all) (y ∷ ys) (i ∷ is) = IsEncoded vs arcs a y i × AreEncoded vs arcs all ys is
+AreEncoded vs arcs _ _ _ = ⊥
+
+-- the assignment that gives the arcs these flows, in order
+abbrev pub by_label : List Arc → List ℤ → Assignment
+by_label [] ys n key = pos 0
+by_label (a ∷ all) [] n key = pos 0
+by_label (a ∷ all) (y ∷ ys) n key = if bytes_eq a.label.name n && same_tuple a.label.key key then y else by_label all ys n key
+
+-- the assignment that corresponds to a flow of the problem
+abbrev pub assignment_of : List Arc → Link → List ℤ → Assignment
+assignment_of all link flows = by_label all (lifted link flows)
+
+-- both assignments give each arc the same flow
+abbrev pub Agree : List Arc → Assignment → Assignment → Type 0
+Agree all x y = map (flow_on x) all ≡ map (flow_on y) all
+
+-- the problem represents the network: each node and each arc is in it, and its feasible flows correspond one to one to the feasible
+-- assignments, with costs and values
+pub record Represents (vs : List Node) (all : List Arc) (o : Objective) (problem : Problem) (link : Link) : Type 0 where
+  pub sense : link.sense ≡ o.sense
+  pub nodes : length problem.supplies.items ≡ length vs + 1
+  pub arcs : AreEncoded vs problem.arcs.items all link.offsets.items link.numbers.items
+  -- feasible flows correspond one to one to feasible assignments, and the cost of a flow gives the value of its assignment
+  pub forward : (flows : List ℤ) → IsFeasibleFlow problem flows → IsFeasible vs all (assignment_of all link flows)
+  pub onto : (x : Assignment) → IsFeasible vs all x → (flows : List ℤ) × IsFeasibleFlow problem flows × Agree all (assignment_of all link flows) x
+  pub injective : (flows others : List ℤ) → IsFeasibleFlow problem flows → IsFeasibleFlow problem others → Agree all (assignment_of all link flows) (assignment_of all link others) → flows ≡ others
+  pub value : (flows : List ℤ) → IsFeasibleFlow problem flows → HasValue o all (assignment_of all link flows) (value_at link (cost_of problem flows))

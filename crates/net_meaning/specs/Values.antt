@@ -1,0 +1,216 @@
+-- The value of an expression, and the keys of an indexing expression, as AMPL defines them (Fourer, Gay, Kernighan: AMPL, second edition,
+-- chapters 5 to 8 and appendix A). The definitions are relations: an expression with an error has no value, so no value is a default.
+-- Limits on sizes are not part of the meaning.
+use Rattle.std.specs.Prelude.{◌≡◌, ◌⊎◌, ℕ, Bool, true, false, not, List, [], ◌∷◌, ◌++◌, map, Option, None, Some, codes, ⊤, ℤ, pos}
+use Rattle.std.specs.List.{AllZip}
+use Rattle.std.specs.Str.{bytes_eq}
+use Rattle.net_lex.specs.Limits.{limits}
+use Rattle.net_lex.specs.Numerals.{IsValue as IsNumeral}
+use Rattle.net_lex.specs.declared.token.Token.{Token}
+use Rattle.net_sets.specs.declared.member.Member.{Member}
+use Rattle.net_sets.specs.declared.member.Member.TheVariants as member
+use Rattle.net_sets.specs.Operations.{union}
+use Rattle.net_sets.specs.Sets.{Tuple, same_member, same_tuple, at_key}
+use Rattle.net_sets.specs.Texts.{text_of}
+use Rattle.net_tree.specs.declared.role.Role.{Role}
+use Rattle.net_tree.specs.declared.role.Role.TheVariants as roles
+use Rattle.net_tree.specs.Items.{is_in}
+use Rattle.net_tree.specs.Operations.{operation, reduction, is_minus}
+use Rattle.net_tree.specs.Role.{role_of}
+use Rattle.net_tree.specs.Tree.{Tree, Links, Part, Braces, leaf, indexed, parens, tuple, negated, braced, signed, reduced, chain, choice, net, none, link, absent, part, empty, filled}
+use Rattle.net_expr.specs.declared.world.Entry.TheVariants.{Set, Parameter}
+use Rattle.net_expr.specs.Items.{begins_range, has_in, new_dummy}
+use Rattle.net_expr.specs.Numbers.{turned}
+use Rattle.net_expr.specs.Worlds.{Name, World, Scope, entry_of, bound, with_dummy}
+use Rattle.net_meaning.specs.Operators.{Value, One, Several, Many, Truth, number, IsTuple, Reduces, IsRangeOf, Combines}
+
+-- what names denote at a place: declared sets and parameters, dummy indices with their members, the flows of arcs in an objective, and the
+-- net inflow in a node's condition
+pub record Env : Type 0 where
+  pub world : World
+  pub dummies : Scope
+  pub arcs : Name → Option (Tuple → ℤ)
+  pub inflow : ℤ
+
+-- an environment with these flows of arcs and this net inflow
+abbrev pub env_with : (Name → Option (Tuple → ℤ)) → ℤ → World → Scope → Env
+env_with arcs y w s = record { world = w; dummies = s; arcs = arcs; inflow = y }
+
+-- an environment without arcs and net inflow, as in every declaration of sets and parameters
+abbrev pub env_of : World → Scope → Env
+env_of w s = env_with (λ n. None) (pos 0) w s
+
+-- one key of an indexing expression, with the environment in which its dummy indices have their members
+pub record Key : Type 0 where
+  pub key : Tuple
+  pub env : Env
+
+-- P if the test is true, otherwise Q
+abbrev pub Whether : Bool → Type 0 → Type 0 → Type 0
+Whether true P Q = P
+Whether false P Q = Q
+
+-- `Denotes e n key v`: the name n with the subscripts key has the value v. A dummy index hides a set or a parameter of the same name.
+pub data Denotes (e : Env) (n : Name) : Tuple → Value → Type 0 where
+  dummy : (m : Member) → bound e.dummies n ≡ Some m → Denotes e n [] (One m)
+  a_set : (d : ℕ) (ts : List Tuple) → bound e.dummies n ≡ None → entry_of e.world n ≡ Some (Set d ts) → Denotes e n [] (Many ts)
+  parameter : (k : Option ℕ) (keys : List Tuple) (rows : List (Tuple × Member)) (key : Tuple) (m : Member) → bound e.dummies n ≡ None
+      → entry_of e.world n ≡ Some (Parameter k keys rows) → at_key rows key ≡ Some m → Denotes e n key (One m)
+
+-- extends a key by a member, to which a new dummy index refers from there on
+abbrev pub bind : Name → Member → Key → Key
+bind n m k = record { key = k.key ++ m ∷ []; env = record k.env { dummies = with_dummy n m k.env.dummies } }
+
+-- `Filters P ks left`: left are those of ks for which the condition P is true, in order
+abbrev pub Filters : (Key → Bool → Type 0) → List Key → List Key → Type 0
+Filters P [] left = left ≡ []
+Filters P (k ∷ ks) left = (rest : List Key) × Filters P ks rest × ((P k true × (left ≡ k ∷ rest)) ⊎ (P k false × (left ≡ rest)))
+
+-- the keys that continue a partial key; None for a tuple that the item passes over
+abbrev pub Continues : (Key → List Key → Type 0) → Option Key → List Key → Type 0
+Continues Next None keys = keys ≡ []
+Continues Next (Some k) keys = Next k keys
+
+-- the keys from each tuple of a set, in order of the set
+abbrev pub FromEach : (Tuple → Option Key → Type 0) → (Key → List Key → Type 0) → List Tuple → List Key → Type 0
+FromEach Place Next [] keys = keys ≡ []
+FromEach Place Next (t ∷ ts) keys =
+    (r : Option Key) × (here : List Key) × (rest : List Key) × Place t r × Continues Next r here × FromEach Place Next ts rest × (keys ≡ here ++ rest)
+
+-- the keys from an item of an indexing expression: those from each tuple of its set
+abbrev pub FromItem : (List Tuple → Type 0) → (Tuple → Option Key → Type 0) → (Key → List Key → Type 0) → List Key → Type 0
+FromItem IsSet Place Next keys = (ts : List Tuple) × IsSet ts × FromEach Place Next ts keys
+
+-- the flow of an arc at a key if the name is an arc's; otherwise what Else says
+abbrev pub IsArcOr : Option (Tuple → ℤ) → Tuple → Value → Type 0 → Type 0
+IsArcOr None key v Else = Else
+IsArcOr (Some x) key v Else = v ≡ number (x key)
+
+-- the values of the operands are the components of the tuple: each is a number or a string
+abbrev pub AreMembers : (Value → Type 0) → (List Value → Type 0) → Tuple → Type 0
+AreMembers First More t = (u : Value) × (us : List Value) × First u × More us × (u ∷ us ≡ map (λ m. One m) t)
+
+-- v is the set of the range from u, with the other bounds given by More
+abbrev pub HasRange : (List Value → Type 0) → Value → Value → Type 0
+HasRange More u v = (us : List Value) × (ts : List Tuple) × More us × IsRangeOf (u ∷ us) ts × (v ≡ Many ts)
+
+-- the empty key, from which an indexing expression starts
+abbrev pub start : Env → Key
+start e = record { key = []; env = e }
+
+-- extends a key by a tuple, without a dummy index
+abbrev pub extended : Key → Tuple → Key
+extended k t = record { key = k.key ++ t; env = k.env }
+
+-- braces that list their members or tuples: each is a key once, at its first occurrence
+abbrev pub AreListed : Env → (Value → Type 0) → (List Value → Type 0) → List Key → Type 0
+AreListed e First More keys =
+    (u : Value) × (us : List Value) × (ts : List Tuple) × First u × More us × AllZip IsTuple (u ∷ us) ts × (keys ≡ map (λ t. record { key = t; env = e }) (union [] ts))
+
+-- there is no condition
+abbrev pub IsAbsent : Part → Type 0
+IsAbsent absent = ⊤
+IsAbsent (part m x) = ⊥
+
+-- the set of an item: the one after `in`, or the item itself
+abbrev pub IsItemSet : Tree → (List Tuple → Type 0) → (Value → Type 0) → List Tuple → Type 0
+IsItemSet i Behind Own ts = Whether (has_in i) (Behind ts) (Own (Many ts))
+
+-- the term is `net_out`, which is the negation of `net_in`
+unfoldable pub is_outflow : Token → Bool
+is_outflow t = bytes_eq (codes "net_out") t.text
+
+-- a `-` precedes the term
+abbrev pub has_minus : Option Token → Bool
+has_minus None = false
+has_minus (Some t) = is_minus t
+
+-- the value of a token: a numeral, a quoted string, or a name
+abbrev pub IsLeaf : Env → Token → Role → Value → Type 0
+IsLeaf e t roles.Number v = (n : ℤ) × IsNumeral limits.value t.text n × (v ≡ number n)
+IsLeaf e t roles.Text v = v ≡ One (member.Name (text_of t.text))
+IsLeaf e t roles.Name v = Denotes e t.text [] v
+IsLeaf e t _ v = ⊥
+
+-- one component of a tuple to the left of `in`: a new dummy index takes the member of the set's tuple; any other expression selects, since
+-- its value has to equal the member
+abbrev pub Matches : Key → Option Name → (Value → Type 0) → Member → (Key → Option Key → Type 0) → Option Key → Type 0
+Matches k (Some n) Own m Rest r = Rest (bind n m k) r
+Matches k None Own m Rest r = (u : Member) × Own (One u) × Whether (same_member u m) (Rest k r) (r ≡ None)
+
+-- a single expression to the left of `in`: a new dummy index takes the member; any other expression has to equal the whole tuple
+abbrev pub MatchesWhole : Key → Option Name → (Value → Type 0) → Tuple → Option Key → Type 0
+MatchesWhole k (Some n) Own [] r = r ≡ Some k
+MatchesWhole k (Some n) Own (m ∷ ms) r = r ≡ Some (bind n m k)
+MatchesWhole k None Own t r = (v : Value) × (u : Tuple) × Own v × IsTuple v u × Whether (same_tuple u t) (r ≡ Some k) (r ≡ None)
+
+abbrev mutual
+  -- `IsValue e t v`: in the environment e the expression t has the value v
+  pub IsValue : Env → Tree → Value → Type 0
+  IsValue e (leaf t) v = IsArcOr (e.arcs t.text) [] v (IsLeaf e t (role_of t) v)
+  IsValue e (indexed n o x l c) v = (key : Tuple) × AreMembers (IsValue e x) (AreValues e l) key × IsArcOr (e.arcs n.text) key v (Denotes e n.text key v)
+  IsValue e (parens o x c) v = IsValue e x v
+  IsValue e (tuple o x l c) v = (t : Tuple) × AreMembers (IsValue e x) (AreValues e l) t × (v ≡ Several t)
+  IsValue e (negated n o x c) v = (b : Bool) × IsValue e x (Truth b) × (v ≡ Truth (not b))
+  IsValue e (braced b) v = (keys : List Key) × AreKeys e b keys × (v ≡ Many (union [] (map (λ k. k.key) keys)))
+  IsValue e (signed t x) v = (n : ℤ) × IsValue e x (number n) × (v ≡ number (turned (is_minus t) n))
+  IsValue e (reduced r b x) v =
+      (keys : List Key) × (ns : List ℤ) × (n : ℤ) × AreKeys e b keys × AllZip (λ k m. IsValue k.env x (number m)) keys ns × Reduces (reduction r) ns n × (v ≡ number n)
+  IsValue e (chain n x l) v = (u : Value) × IsValue e x u × Whether (begins_range l) (HasRange (AreValues e l) u v) (IsChain e u l v)
+  IsValue e (choice i x t y p) v = (b : Bool) × IsValue e x (Truth b) × Whether b (IsValue e y v) (IsElse e p v)
+  IsValue e (net s t) v = v ≡ number (turned (has_minus s) (turned (is_outflow t) e.inflow))
+
+  -- a missing `else` is 0
+  pub IsElse : Env → Part → Value → Type 0
+  IsElse e absent v = v ≡ number (pos 0)
+  IsElse e (part m x) v = IsValue e x v
+
+  -- the values of operands, in order
+  pub AreValues : Env → Links → List Value → Type 0
+  AreValues e none vs = vs ≡ []
+  AreValues e (link o x l) vs = (u : Value) × (us : List Value) × IsValue e x u × AreValues e l us × (vs ≡ u ∷ us)
+
+  -- `IsChain e u l v`: the operators and operands l, applied to u from the left, give v
+  pub IsChain : Env → Value → Links → Value → Type 0
+  IsChain e u none v = v ≡ u
+  IsChain e u (link o x l) v = (w : Value) × Combines (operation o) u (IsValue e x) w × IsChain e w l v
+
+  -- the keys of an indexing expression: those of its items at which the condition is true, or its listed members and tuples
+  pub AreKeys : Env → Braces → List Key → Type 0
+  AreKeys e (empty o p c) keys = keys ≡ []
+  AreKeys e (filled o i is p c) keys =
+      ((all : List Key) × FromItem (IsItemSet i (IsSetAfterIn e i) (IsValue e i)) (Extends (start e) i) (λ k. Iterates k is) all × Filters (HasTruth p) all keys)
+      ⊎ (AreListed e (IsValue e i) (AreValues e is) keys × IsAbsent p)
+
+  -- the condition of an indexing expression is true or false at a key; an absent condition is true
+  pub HasTruth : Part → Key → Bool → Type 0
+  HasTruth absent k b = b ≡ true
+  HasTruth (part m x) k b = IsValue k.env x (Truth b)
+
+  -- the keys that extend a key by the items, from left to right
+  pub Iterates : Key → Links → List Key → Type 0
+  Iterates k none keys = keys ≡ k ∷ []
+  Iterates k (link o i is) keys = FromItem (IsItemSet i (IsSetAfterIn k.env i) (IsValue k.env i)) (Extends k i) (λ q. Iterates q is) keys
+
+  -- the set after `in`
+  pub IsSetAfterIn : Env → Tree → List Tuple → Type 0
+  IsSetAfterIn e (chain n x (link o y none)) ts = IsValue e y (Many ts)
+  IsSetAfterIn e _ ts = ⊥
+
+  -- `Extends k i t r`: the tuple t of the set of item i extends the key k to r, or is passed over if r is None. To the left of `in` the tuple
+  -- has to agree with what is written there; an item without `in` takes the whole tuple.
+  pub Extends : Key → Tree → Tuple → Option Key → Type 0
+  Extends k (chain n x (link o y none)) t r = Whether (is_in (operation o)) (Agrees k x (IsValue k.env x) t r) (r ≡ Some (extended k t))
+  Extends k _ t r = r ≡ Some (extended k t)
+
+  -- the tuple agrees with the expression to the left of `in`, component by component
+  pub Agrees : Key → Tree → (Value → Type 0) → Tuple → Option Key → Type 0
+  Agrees k (tuple o x l c) Own [] r = r ≡ Some k
+  Agrees k (tuple o x l c) Own (m ∷ ms) r = Matches k (new_dummy k.env.world k.env.dummies x) (IsValue k.env x) m (λ q. AllAgree q l ms) r
+  Agrees k x Own t r = MatchesWhole k (new_dummy k.env.world k.env.dummies x) Own t r
+
+  -- the other components agree
+  pub AllAgree : Key → Links → Tuple → Option Key → Type 0
+  AllAgree k none ms r = r ≡ Some k
+  AllAgree k (link o x l) [] r = r ≡ Some k
+  AllAgree k (link o x l) (m ∷ ms) r = Matches k (new_dummy k.env.world k.env.dummies x) (IsValue k.env x) m (λ q. AllAgree q l ms) r

@@ -1,0 +1,16 @@
+//! Laws about the definitions of this crate. The functions are empty: their contracts are theorems.
+
+ghost use Rattle.net_meaning.specs.Laws.{EvaluationIsSound, EvaluationIsSoundWith, KeysAreSound, KeysAreUnique, ValuesAreUnique};
+
+/// States that a value that the evaluator computes is the value of the expression.
+pub fn evaluation_is_sound()
+    ensures value { EvaluationIsSound }
+    ensures keys { KeysAreSound }
+    ensures among { EvaluationIsSoundWith }
+{}
+
+/// States that an expression has at most one value.
+pub fn values_are_unique()
+    ensures value { ValuesAreUnique }
+    ensures keys { KeysAreUnique }
+{}

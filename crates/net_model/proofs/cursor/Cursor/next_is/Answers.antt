@@ -1,9 +1,0 @@
-use Rattle.std.proofs.Common.{arith}
-use Rattle.std.proofs.lemmas.Grind.{common_steps}
-use Rattle.net_model.proofs.cursor.Cursor.next_is.Goals as goal
-
-pub returns-then-self : goal.returns-then-self
-returns-then-self c = grind (arith, common_steps)
-
-pub returns-else-self : goal.returns-else-self
-returns-else-self c = grind (arith, common_steps)

@@ -1,0 +1,59 @@
+//! Problems settled by a solver.
+
+ghost use Rattle.std.specs.Prelude.{◌≡◌, IfOk};
+ghost use Rattle.net_check.specs.Certificates.{IsCertificate};
+ghost use Rattle.net_solve.specs.Settling.{BoundsEachFlow, LeavesNoFlow, IsOwnAnswer};
+
+use crate::choice::{FirstSolver, first_solver};
+use crate::scaling::Scaling;
+use crate::solver::{Plain, Solver};
+use net_check::{Certificate, least_cost, no_flow};
+use net_guess::find_guess;
+use net_normal::Problem;
+use std::alloc::{AllocError, Global};
+
+/// The most steps that cost scaling may take if it is asked first.
+const BUDGET: u64 = 10_000_000;
+
+/// Returns a certificate, with what it means that it is one.
+fn settled(problem: &Problem, certificate: Certificate) -> Certificate
+    requires { IsCertificate problem.now certificate }
+    ensures same { result ≡ certificate }
+    ensures optimal { BoundsEachFlow problem.now result }
+    ensures cut { LeavesNoFlow problem.now result }
+{
+    least_cost();
+    no_flow();
+    certificate
+}
+
+/// Settles a problem by a solver, and by `Plain` if that has no answer. Both get the same guess. The only error is running out of memory.
+pub fn solve<S: Solver>(
+    alloc: Global,
+    solver: &S,
+    problem: &Problem,
+) -> Result<Certificate, AllocError>
+    ensures certificate { IfOk result (IsCertificate problem.now) }
+    ensures optimal { IfOk result (BoundsEachFlow problem.now) }
+    ensures cut { IfOk result (LeavesNoFlow problem.now) }
+    ensures asked { IfOk result (IsOwnAnswer problem.now (S.may_answer solver.now problem.now)) }
+{
+    let guess = find_guess(alloc, problem)?;
+    if let Some(certificate) = solver.answer_from(alloc, problem, &guess)? {
+        return Ok(settled(problem, certificate));
+    }
+    let certificate = Plain.certificate(alloc, problem, &guess)?;
+    Ok(settled(problem, certificate))
+}
+
+/// Settles a problem by the solvers that suit it. The only error is running out of memory.
+pub fn solve_problem(alloc: Global, problem: &Problem) -> Result<Certificate, AllocError>
+    ensures certificate { IfOk result (IsCertificate problem.now) }
+    ensures optimal { IfOk result (BoundsEachFlow problem.now) }
+    ensures cut { IfOk result (LeavesNoFlow problem.now) }
+{
+    match first_solver(problem) {
+        FirstSolver::Scaling => solve(alloc, &Scaling { budget: BUDGET }, problem),
+        FirstSolver::Plain => solve(alloc, &Plain, problem),
+    }
+}

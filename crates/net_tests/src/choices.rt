@@ -1,0 +1,110 @@
+//! The calls on inputs in memory with options: an objective that is chosen, and the lean form.
+
+use crate::calls::shown;
+use crate::comparison::expect;
+use net_driver::{Options, compile_with, solve_model_with};
+use std::alloc::{AllocError, Global};
+use std::test::Fail;
+
+fn compiled(alloc: Global, options: &Options<'_>, model: &[u8]) -> Result<String, AllocError> {
+    match compile_with(alloc, options, model, b"") {
+        Ok(answer) => shown(alloc, Ok(answer.text.as_bytes())),
+        Err(fault) => shown(alloc, Err(fault)),
+    }
+}
+
+fn solved(alloc: Global, options: &Options<'_>, model: &[u8]) -> Result<String, AllocError> {
+    match solve_model_with(alloc, options, model, b"") {
+        Ok(answer) => shown(alloc, Ok(answer.outcome.text())),
+        Err(fault) => shown(alloc, Err(fault)),
+    }
+}
+
+const COST: Options<'static> = Options {
+    objective: Some("Cost"),
+    lean: false,
+};
+
+const GAIN: Options<'static> = Options {
+    objective: Some("Gain"),
+    lean: false,
+};
+
+const LOSS: Options<'static> = Options {
+    objective: Some("Loss"),
+    lean: false,
+};
+
+const NONE: Options<'static> = Options {
+    objective: None,
+    lean: false,
+};
+
+const LEAN: Options<'static> = Options {
+    objective: None,
+    lean: true,
+};
+
+/// What is worth 3 to buy and 1 to sell.
+const TWO: &[u8] =
+    b"minimize Cost;\nmaximize Gain;\nnode A: net_in >= 2;\narc X >= 0, <= 6, to A, obj Cost 3, obj Gain 1;";
+
+/// The same, but the objective `Gain` has an error, which only counts if it is chosen.
+const BROKEN: &[u8] =
+    b"minimize Cost;\nmaximize Gain;\nnode A: net_in >= 2;\narc X >= 0, <= 6, to A, obj Cost 3, obj Gain 7 div 0;";
+
+/// A fixed arc next to a free one.
+const FIXED: &[u8] =
+    b"minimize Cost;\nnode A: net_out = 7;\nnode B: net_in = 7;\narc P >= 2, <= 2, from A, to B, obj Cost 5;\n\
+arc Q >= 1, <= 9, from A, to B, obj Cost 3;";
+
+const OF_COST: &str =
+    "c constant 0\nc sign 1\nc node 1 A\nc arc 1 0 X\np min 2 2\nn 1 -2\nn 2 2\na 2 1 0 6 3\na 1 2 0 4 0\n";
+
+const OF_GAIN: &str =
+    "c constant 0\nc sign -1\nc node 1 A\nc arc 1 0 X\np min 2 2\nn 1 -2\nn 2 2\na 2 1 0 6 -1\na 1 2 0 4 0\n";
+
+const OF_FIXED: &str =
+    "c constant 13\nc sign 1\nc node 1 A\nc node 2 B\nc arc 0 2 P\nc arc 1 1 Q\np min 3 1\nn 1 4\nn 2 -4\na 1 2 0 8 3\n";
+
+/// Options and models, with the compiled text or the error, and with the plan or the error.
+const CHOICES: &[(Options<'static>, &[u8], &str, &str)] = &[
+    (COST, TWO, OF_COST, "Cost = 6\nX = 2\n"),
+    (GAIN, TWO, OF_GAIN, "Gain = 6\nX = 6\n"),
+    (
+        NONE,
+        TWO,
+        "E57 TwoObjectives model 2:10 Gain",
+        "E57 TwoObjectives model 2:10 Gain",
+    ),
+    (
+        LOSS,
+        TWO,
+        "E61 NoSuchObjective model 4:48 Loss",
+        "E61 NoSuchObjective model 4:48 Loss",
+    ),
+    (COST, BROKEN, OF_COST, "Cost = 6\nX = 2\n"),
+    (
+        GAIN,
+        BROKEN,
+        "E38 DivMod model 4:46",
+        "E38 DivMod model 4:46",
+    ),
+    (LEAN, FIXED, OF_FIXED, "Cost = 25\nP = 2\nQ = 5\n"),
+];
+
+#[test]
+fn models_are_compiled_as_chosen(rt: HostRuntime) -> Result<(), Fail> {
+    for (options, model, wanted, _) in CHOICES {
+        expect(wanted, compiled(rt.alloc(), options, model), wanted)?;
+    }
+    Ok(())
+}
+
+#[test]
+fn models_are_solved_as_chosen(rt: HostRuntime) -> Result<(), Fail> {
+    for (options, model, _, wanted) in CHOICES {
+        expect(wanted, solved(rt.alloc(), options, model), wanted)?;
+    }
+    Ok(())
+}

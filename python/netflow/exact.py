@@ -1,0 +1,110 @@
+"""Exact numbers: decimals as fractions, their factors, and how they are printed."""
+from __future__ import annotations
+
+import decimal
+import math
+import re
+from fractions import Fraction
+from typing import Any, Iterable, Union
+
+Number = Union[int, Fraction]
+NUMERAL = re.compile(r"[+-]?(?:[0-9]+(?:\.[0-9]+)?|\.[0-9]+)(?:[eEdD][+-]?[0-9]+)?")
+# The largest absolute value that a model or its data can have, and the most digits of a power that are worked out.
+LARGEST = 10**12
+MOST_DIGITS = 60
+
+
+class Exact(Fraction):
+    """A fraction that prints as a decimal: `12.75`, or `1/3` if it has no finite decimal."""
+
+    def __str__(self) -> str:
+        return decimal_text(self)
+
+    def __repr__(self) -> str:
+        return f"Exact('{self}')"
+
+    def __format__(self, spec: str) -> str:
+        return format(decimal_text(self), spec)
+
+    def __neg__(self) -> "Exact":
+        return Exact(-Fraction(self))
+
+    def __abs__(self) -> "Exact":
+        return Exact(abs(Fraction(self)))
+
+
+def _exact_method(name: str) -> Any:
+    plain = getattr(Fraction, name)
+
+    def method(self: Exact, other: Any) -> Any:
+        result = plain(self, other)
+        return Exact(result) if type(result) is Fraction else result
+
+    method.__name__ = name
+    return method
+
+
+for _name in ("__add__", "__radd__", "__sub__", "__rsub__", "__mul__", "__rmul__", "__truediv__", "__rtruediv__"):
+    setattr(Exact, _name, _exact_method(_name))
+
+
+def decimal_text(number: Fraction) -> str:
+    """Returns the number as a plain decimal, or as `a/b` if no decimal is exact."""
+    top, bottom = number.numerator, number.denominator
+    rest, twos, fives = bottom, 0, 0
+    while rest % 2 == 0:
+        rest, twos = rest // 2, twos + 1
+    while rest % 5 == 0:
+        rest, fives = rest // 5, fives + 1
+    if rest != 1:
+        return f"{top}/{bottom}"
+    digits = max(twos, fives)
+    if digits == 0:
+        return str(top)
+    text = str(abs(top) * 10**digits // bottom).rjust(digits + 1, "0")
+    return f"{'-' if top < 0 else ''}{text[:-digits]}.{text[-digits:]}"
+
+
+def divided(number: int, factor: int) -> Number:
+    """Returns the number divided by the factor: an int if the factor is 1, else an Exact."""
+    return number if factor == 1 else Exact(number, factor)
+
+
+def parse_numeral(text: str) -> Fraction | None:
+    """Returns the value of a numeral of a model or data text; None for any other word, or an unreasonable power."""
+    if not NUMERAL.fullmatch(text):
+        return None
+    mantissa, _, power = re.sub("[dD]", "e", text).replace("E", "e").partition("e")
+    if len(power.lstrip("+-")) > 3 or abs(int(power or 0)) > MOST_DIGITS:
+        return None
+    return Fraction(mantissa) * Fraction(10) ** int(power or 0)
+
+
+def as_fraction(value: Any) -> Fraction | None:
+    """Returns a Python number exactly, a float as its shortest decimal; None for what is no finite number."""
+    if isinstance(value, bool):
+        return Fraction(int(value))
+    if isinstance(value, (int, Fraction)):
+        return Fraction(value)
+    if isinstance(value, decimal.Decimal):
+        return Fraction(value) if value.is_finite() else None
+    if hasattr(value, "item") and not isinstance(value, (str, bytes)):
+        return as_fraction(value.item())  # a number of NumPy
+    if isinstance(value, float):
+        return Fraction(repr(value)) if math.isfinite(value) else None
+    return None
+
+
+def common_factor(values: Iterable[Fraction]) -> int:
+    """Returns the least factor that makes all values whole: a power of ten if decimals are exact, else the common denominator."""
+    bottom = 1
+    for value in values:
+        bottom = math.lcm(bottom, value.denominator)
+    if bottom == 1:
+        return 1
+    power = 1
+    for _ in range(MOST_DIGITS):
+        power *= 10
+        if power % bottom == 0:
+            return power
+    return bottom

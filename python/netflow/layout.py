@@ -1,0 +1,103 @@
+"""Layers, orders and positions for the drawing of a network."""
+from __future__ import annotations
+
+import math
+
+
+class Bend:
+    """A point in a layer that a long arc passes."""
+
+
+def layers(nodes, arcs):
+    """Returns the layer of each node, from 0: by the longest path that leads to it, or by the shortest if the longest would stretch
+    the picture."""
+    into, out = neighbours(nodes, arcs)
+    order, back = walked(nodes, into, out)
+    longest = {}
+    for it in order:
+        longest[it] = 1 + max((longest[before] for before in into[it] if (before, it) not in back), default=-1)
+    if back and max(longest.values(), default=0) > 3 + 2 * math.sqrt(len(nodes)):
+        return nearest(nodes, into, out)
+    return pulled(longest, out, back)
+
+
+def walked(nodes, into, out):
+    """Returns the nodes in topological order, and the steps that close cycles and are left out of it."""
+    order, back, state = [], set(), {}
+    for start in sorted(nodes, key=lambda it: (len(into[it]) > 0, it)):
+        way = [] if start in state else [(start, iter(out[start]))]
+        state.setdefault(start, 1)
+        while way:
+            here, rest = way[-1]
+            there = next(rest, None)
+            if there is None:
+                way.pop()
+                state[here] = 2
+                order.append(here)
+            elif there not in state:
+                state[there] = 1
+                way.append((there, iter(out[there])))
+            elif state[there] == 1:
+                back.add((here, there))
+    return order[::-1], back
+
+
+def nearest(nodes, into, out):
+    """Returns layers by the number of arcs from the sources."""
+    line = [it for it in nodes if not into[it]] or list(nodes)[:1]
+    found = dict.fromkeys(line, 0)
+    for rest in ([], nodes):
+        for it in [it for it in rest if it not in found]:
+            if it not in found:
+                found[it] = 0
+                line.append(it)
+        for it in line:
+            for there in out[it]:
+                if there not in found:
+                    found[there] = found[it] + 1
+                    line.append(there)
+    return found
+
+
+def pulled(found, out, back):
+    """Moves a node that nothing leads to just before the first node that it leads to."""
+    for it in found:
+        if found[it] == 0:
+            after = [found[there] for there in out[it] if (it, there) not in back]
+            found[it] = max(0, min(after) - 1) if after else 0
+    return found
+
+
+def apart(wanted, sizes):
+    """Returns positions as near to the wanted ones as possible, in this order, with the distances that the sizes require."""
+    shifts, total = [], 0.0
+    for here, size in enumerate(sizes):
+        total += (sizes[here - 1] + size) / 2 if here else 0
+        shifts.append(total)
+    blocks = []
+    for want, shift in zip(wanted, shifts):
+        blocks.append([want - shift, 1])
+        while len(blocks) > 1 and blocks[-2][0] > blocks[-1][0]:
+            (first, many), (second, more) = blocks[-2:]
+            blocks[-2:] = [[(first * many + second * more) / (many + more), many + more]]
+    flat = [mean for mean, many in blocks for _ in range(many)]
+    return [it + shift for it, shift in zip(flat, shifts)]
+
+
+def has_cycle(nodes, arcs):
+    """Whether the arcs between these nodes contain a cycle."""
+    into, out = neighbours(nodes, arcs)
+    return bool(walked(nodes, into, out)[1])
+
+
+def neighbours(nodes, arcs):
+    into, out = {it: [] for it in nodes}, {it: [] for it in nodes}
+    for arc in arcs:
+        if arc.src in into and arc.dst in into and arc.src != arc.dst:
+            out[arc.src].append(arc.dst)
+            into[arc.dst].append(arc.src)
+    return into, out
+
+
+def mean(numbers, other):
+    return sum(numbers) / len(numbers) if numbers else other

@@ -1,0 +1,108 @@
+"""The machine-readable outputs: JSON objects with one schema, and rows of arcs. docs has the schema; `SCHEMA` is its version."""
+from __future__ import annotations
+
+import json
+import re
+from fractions import Fraction
+from typing import Any, Mapping, Sequence
+
+from .texts import Network
+
+SCHEMA = 1
+
+
+# Marks an exact decimal inside a JSON text until its quotes are taken away.
+MARK = "\0"
+MARKED = re.compile(r'"\\u0000([-0-9.]+)"')
+
+
+def plain(value: Any) -> Any:
+    """Returns a value with exact decimals marked; a fraction such as 1/3 becomes a text."""
+    if isinstance(value, Fraction):
+        text = str(value)
+        return int(value) if value.denominator == 1 else text if "/" in text else MARK + text
+    if isinstance(value, Mapping):
+        return {key: plain(it) for key, it in value.items()}
+    if isinstance(value, (list, tuple)):
+        return [plain(it) for it in value]
+    return value
+
+
+def dumps(value: Any, indent: int | None = None) -> str:
+    """Returns the JSON text of an object; exact decimals are numbers with all their digits."""
+    return MARKED.sub(r"\1", json.dumps(plain(value), indent=indent, ensure_ascii=False))
+
+
+def dump_lines(value: Mapping) -> str:
+    """Returns the JSON text of an object with a line for each field and for each item of its lists: readable, and fast for many arcs."""
+    fields = []
+    for name, it in value.items():
+        if isinstance(it, list) and it and isinstance(it[0], Mapping):
+            text = "[\n    " + ",\n    ".join([json.dumps(item, default=marked, ensure_ascii=False) for item in it]) + "\n  ]"
+        else:
+            text = json.dumps(plain(it), ensure_ascii=False)
+        fields.append(f"  {json.dumps(name)}: {text}")
+    return MARKED.sub(r"\1", "{\n" + ",\n".join(fields) + "\n}")
+
+
+def marked(value: Any) -> Any:
+    """Returns what the JSON encoder does not know, an exact number, as `plain` does."""
+    if isinstance(value, Fraction):
+        return plain(value)
+    raise TypeError(f"{value!r} has no JSON form")
+
+
+def arc_json(net: Network, arc: Any, has_flow: bool) -> dict:
+    found = {"name": arc.name, "key": list(arc.key), "from": None if arc.src is None else net.nodes[arc.src].text,
+             "to": None if arc.dst is None else net.nodes[arc.dst].text}
+    if has_flow:
+        found["flow"] = arc.flow
+    return {**found, "lower": arc.lower, "upper": None if arc.is_open else arc.upper, "price": arc.price}
+
+
+def node_json(node: Any, has_flow: bool) -> dict:
+    found = {"name": node.text, "lower": node.low, "upper": node.high}
+    return {**found, "net_in": node.inflow} if has_flow else found
+
+
+def plan_json(net: Network) -> dict:
+    """Returns the object of a plan."""
+    return {"schema": SCHEMA, "status": "optimal",
+            "objective": {"name": net.objective, "sense": "minimize" if net.sign > 0 else "maximize", "value": net.value},
+            "arcs": [arc_json(net, it, True) for it in net.arcs], "nodes": [node_json(it, True) for it in net.nodes]}
+
+
+def reason_json(net: Network, reason: Any) -> dict:
+    return {"side": reason.side, "nodes": [net.nodes[it].text for it in reason.nodes], "required": reason.needed(),
+            "possible": reason.given(), "short": reason.short(), "sentence": reason.headline(net),
+            "asks": [{"amount": it.amount, "what": it.text} for it in reason.asks],
+            "helps": [{"amount": it.amount, "what": it.text} for it in reason.helps]}
+
+
+def change_json(change: Any) -> dict:
+    return {"amount": change.amount, "what": change.text, "bound": change.what, "was": change.was, "becomes": change.becomes}
+
+
+def cut_json(side: str, cut: Sequence[str], reasons: Sequence, net: Network | None, changes: dict | None = None) -> dict:
+    """Returns the object of a model without a plan."""
+    found: dict = {"schema": SCHEMA, "status": "infeasible", "cut": {"side": side, "nodes": list(cut)}}
+    found["reasons"] = [reason_json(net, it) for it in reasons] if net is not None else []
+    if changes is not None:
+        found["least_changes"] = {kind: None if it is None else [change_json(change) for change in it] for kind, it in changes.items()}
+    return found
+
+
+def error_json(error: Any) -> dict:
+    """Returns the object of a ModelError."""
+    return {"schema": SCHEMA, **error.to_dict()}
+
+
+def arc_rows(net: Network, headings: Mapping[str, list], name: str | None = None, used_only: bool = False) -> list:
+    """Returns a dict for each arc, with its key's parts by their headings."""
+    found = []
+    for arc in net.arcs:
+        if (name is None or arc.name == name) and (arc.flow or not used_only):
+            keys = dict(zip(headings.get(arc.name, ()), arc.key))
+            found.append({"arc": arc.name, **keys, "from": net.end(arc.src), "to": net.end(arc.dst), "flow": arc.flow,
+                          "lower": arc.lower, "upper": None if arc.is_open else arc.upper, "price": arc.price})
+    return found

@@ -1,0 +1,175 @@
+"""Turns Python values into the sets and parameters of a model: dicts, lists of tuples, rows, and objects of pandas."""
+from __future__ import annotations
+
+from fractions import Fraction
+from typing import Any, Iterable
+
+from .data_text import member_text, set_statement
+from .errors import DataError
+from .exact import as_fraction, parse_numeral
+from .scaling import BOUND, scaled_value
+
+FORMS = "give a dict by key, a list of tuples (key, .., value), a list of dicts, or a Series or DataFrame of pandas"
+
+
+class PythonData:
+    """Sets and parameters by name; `sets` are lists of tuples, `params` dicts from keys to a Fraction or a text. `origins` has for each
+    line of the text what it says: a name, with the key of its value or the member, or None if the line is a statement's first or last."""
+
+    def __init__(self, values: dict, sets: dict, keys: dict) -> None:
+        self.sets, self.params, self.origins = {}, {}, []
+        for name, value in values.items():
+            if name in sets:
+                self.sets[name] = members_of(name, value, sets[name])
+            elif name in keys:
+                self.params[name] = rows_of(name, value, keys[name])
+            else:
+                raise DataError(f"{name}: the model declares no such set or parameter")
+
+    def numbers(self, name: str) -> list:
+        return [it for it in self.params[name].values() if isinstance(it, Fraction)]
+
+    def text(self, factors: dict, add_bounds: bool) -> str:
+        """Returns the statements, the numbers times the factors of their parameters."""
+        parts = [set_statement(name, members) for name, members in self.sets.items()]
+        self.origins = [(name, it) for name, rows in (*self.sets.items(), *self.params.items()) for it in (None, *rows, None)]
+        for name, rows in self.params.items():
+            factor = factors.get(name, 1)
+            lines = [" ".join([*map(member_text, key), self.value_text(name, value, factor, add_bounds)]) for key, value in rows.items()]
+            parts.append("\n".join([f"param {name} :=", *lines, ";"]) + "\n")
+        return "".join(parts)
+
+    def place(self, row: int) -> tuple:
+        """Returns the name, the key or member, and the value of a line of the text, counted from 1."""
+        name, key = self.origins[min(row, len(self.origins)) - 1]
+        return name, key, self.params.get(name, {}).get(key)
+
+    def described(self, row: int) -> str:
+        """Returns what a line of the text says: `the value of van`, `key ('north', 'hill') of cost`, `member 'hill' of SHOPS`."""
+        name, key, _ = self.place(row)
+        if not key:
+            return f"{'the members' if name in self.sets else 'the value' if key == () else 'the values'} of {name}"
+        return f"{'member' if name in self.sets else 'key'} {key_text(key)} of {name}"
+
+    def value_text(self, name: str, value: Any, factor: int, add_bounds: bool) -> str:
+        if isinstance(value, Fraction):
+            return str(scaled_value(name, value, factor))
+        if isinstance(value, float):
+            if not add_bounds:
+                raise DataError(f"{name}: {value} is no number of a model; bounds=True adds a bound that no plan reaches")
+            return str(BOUND if value > 0 else -BOUND)
+        return member_text(value)
+
+
+def members_of(name: str, value: Any, size: int) -> list:
+    """Returns the members of a set as tuples."""
+    if isinstance(value, str) or not hasattr(value, "__iter__"):
+        raise DataError(f"set {name}: {value!r} is no list of members")
+    found = [tuple(plain(part, f"set {name}") for part in (it if isinstance(it, (tuple, list)) else (it,))) for it in value]
+    seen = set()
+    for it in found:
+        if len(it) != size:
+            raise DataError(f"set {name}: {it} has {len(it)} parts, and the model wants {size}")
+        if it in seen:
+            raise DataError(f"set {name}: the member {key_text(it)} is given twice")
+        seen.add(it)
+    return found
+
+
+def key_text(key: tuple) -> str:
+    """Returns a key as Python writes it; one of one part without parentheses."""
+    return repr(key[0]) if len(key) == 1 else repr(key)
+
+
+def plain(member: Any, where: str) -> Any:
+    """Returns a member as an int or a str; `where` is the set or parameter that an error names."""
+    if isinstance(member, str) or (isinstance(member, int) and not isinstance(member, bool)):
+        return member
+    number = as_fraction(member)
+    if number is not None and number.denominator == 1 and not isinstance(member, bool):
+        return int(number)
+    raise DataError(f"{where}: {member!r} is no member: a member is a whole number or a text, so use str(..)")
+
+
+def rows_of(name: str, value: Any, size: int) -> dict:
+    """Returns the values of a parameter by key; a missing value (None, NaN) has no entry."""
+    found: dict = {}
+    seen = set()
+    for key, it in pairs_of(name, value, size):
+        key = tuple(plain(part, f"param {name}") for part in key)
+        if len(key) != size:
+            raise DataError(f"param {name}: the key {key} has {len(key)} parts, and the model wants {size}")
+        if key in seen:
+            raise DataError(f"param {name}: the key {key_text(key)} is given twice")
+        seen.add(key)
+        made = value_of(name, it)
+        if made is not None:
+            found[key] = made
+    return found
+
+
+def value_of(name: str, value: Any) -> Any:
+    """Returns a number as a Fraction, a text, an infinite float, or None for a missing value."""
+    if value is None or value != value:
+        return None
+    if isinstance(value, str):
+        number = parse_numeral(value)
+        return value if number is None else number
+    number = as_fraction(value)
+    if number is not None:
+        return number
+    if isinstance(value, float) or hasattr(value, "__float__"):
+        return float(value)
+    raise DataError(f"param {name}: {value!r} is no number and no text")
+
+
+def pairs_of(name: str, value: Any, size: int) -> Iterable[tuple]:
+    """Yields keys (tuples) and values."""
+    if hasattr(value, "columns") and hasattr(value, "to_dict"):
+        return frame_pairs(name, value, size)
+    if hasattr(value, "items"):
+        return flat(value, size)
+    if size == 0:
+        return [((), value)]
+    if isinstance(value, str) or not hasattr(value, "__iter__"):
+        raise DataError(f"param {name}: {value!r} has no keys, and the model wants {size}: {FORMS}")
+    return row_pairs(name, value, size)
+
+
+def flat(value: Any, size: int) -> Iterable[tuple]:
+    """The entries of a dict, or of dicts in a dict."""
+    for key, it in value.items():
+        key = tuple(key) if isinstance(key, (tuple, list)) else (key,)
+        if hasattr(it, "items"):
+            yield from ((key + inner, leaf) for inner, leaf in flat(it, size - len(key)))
+        else:
+            yield key, it
+
+
+def frame_pairs(name: str, frame: Any, size: int) -> Iterable[tuple]:
+    """A pandas DataFrame: a column of values with the keys in the columns before it or in the index, or a grid of two keys."""
+    columns = list(frame.columns)
+    if name in columns and len(columns) > size:
+        keys = [it for it in columns if it != name][:size]
+        return [(row[:-1], row[-1]) for row in frame[[*keys, name]].itertuples(index=False, name=None)]
+    if name in columns or len(columns) == 1:
+        return flat(frame[name if name in columns else columns[0]], size)
+    if size == 2:
+        return [((row, column), it) for column in columns for row, it in frame[column].items()]
+    raise DataError(f"param {name}: the table has no column {name!r}")
+
+
+def row_pairs(name: str, rows: Iterable, size: int) -> Iterable[tuple]:
+    for row in rows:
+        if hasattr(row, "items"):
+            keys = [it for title, it in row.items() if title != name]
+            if name not in row or len(keys) < size:
+                raise DataError(f"param {name}: a row has no column {name!r} with {size} keys before it: {row!r}")
+            yield tuple(keys[:size]), row[name]
+        else:
+            if isinstance(row, str) or not hasattr(row, "__iter__"):
+                raise DataError(f"param {name}: {row!r} in the list has no key, and the model wants {size}: {FORMS}")
+            row = tuple(row)
+            if len(row) != size + 1:
+                raise DataError(f"param {name}: {row!r} has {len(row)} parts; wanted {size} keys and a value")
+            yield row[:-1], row[-1]

@@ -1,0 +1,91 @@
+"""What if: the answers to several cases as a table, and the difference of two plans."""
+from __future__ import annotations
+
+import argparse
+import copy
+import itertools
+import re
+from typing import Any
+
+from .command import question_of
+from .errors import ProgramError
+from .program import USAGE
+from .texts import Network
+
+CHANGE = re.compile(r"\w+(?:\[[^\]]*\])?\s*=\s*(?:'[^']*'|\"[^\"]*\"|\S+)")
+
+
+def cases_of(words: argparse.Namespace) -> list:
+    """Returns the changes of each case: those of --case, then all combinations of the values of --vary."""
+    found = [case_words(it) for it in words.case]
+    varied = []
+    for word in getattr(words, "vary", []):
+        name, _, values = word.partition("=")
+        if not values:
+            raise ProgramError(USAGE, f"--vary {word}: wanted NAME=VALUE,VALUE,..\n")
+        varied.append([f"{name}={it.strip()}" for it in values.split(",")])
+    return found + ([list(it) for it in itertools.product(*varied)] if varied else [])
+
+
+def case_words(text: str) -> list:
+    """Returns the changes of one case; blanks inside brackets and quotes do not separate them."""
+    found = CHANGE.findall(text)
+    if "".join(found).replace(" ", "") != text.replace(" ", ""):
+        raise ProgramError(USAGE, f"--case {text}: wanted NAME=VALUE NAME[KEY]=VALUE ..\n")
+    return found
+
+
+def answer_of(words: argparse.Namespace, changes: list, extra_data: list | None = None) -> Network:
+    """Returns the network with the plan, or the cut, of a case."""
+    asked = copy.copy(words)
+    asked.data = [*words.data, *(extra_data or [])]
+    with question_of(asked, changes) as question:
+        return question.network()[1]
+
+
+def difference(value: Any, base: Any) -> str:
+    change = value - base
+    return f"+{change}" if change > 0 else str(change)
+
+
+def scenarios(words: argparse.Namespace, out: Any) -> int:
+    """Writes a row for the model as it is, and one for each case."""
+    cases = cases_of(words)
+    if not cases:
+        raise ProgramError(USAGE, "netflow-sheet scenarios: give at least one --case or --vary\n")
+    base = answer_of(words, [])
+    out.writerow(["case", "status", "value", "difference", "arcs that differ"])
+    flows = {it.text: it.flow for it in base.arcs}
+    out.writerow(["as it is", *(["optimal", base.value, 0, 0] if base.cut is None else ["infeasible", "", "", ""])])
+    for case in cases:
+        net = answer_of(words, case)
+        if net.cut is not None:
+            out.writerow([" ".join(case), "infeasible", "", "", ""])
+            continue
+        differing = sum(flows.get(it.text, 0) != it.flow for it in net.arcs) + sum(flows[name] != 0 for name in flows.keys() - {it.text for it in net.arcs})
+        known = base.cut is None
+        out.writerow([" ".join(case), "optimal", net.value, difference(net.value, base.value) if known else "", differing if known else ""])
+    return 0
+
+
+def diff(words: argparse.Namespace, out: Any) -> int:
+    """Writes the objective, and each arc whose flow differs between the model as it is and the case."""
+    if not words.case and not words.extra_data:
+        raise ProgramError(USAGE, "netflow-sheet diff: give --case or --with\n")
+    first = answer_of(words, [])
+    second = answer_of(words, [it for case in words.case for it in case_words(case)], words.extra_data)
+    for net, name in ((first, "as it is"), (second, "as changed")):
+        if net.cut is not None:
+            raise ProgramError(2, f"netflow-sheet: the model {name} has no plan: netflow-why says why\n")
+    arcs = {it.text: it for it in [*second.arcs, *first.arcs]}
+    flows = [{it.text: it.flow for it in net.arcs} for net in (first, second)]
+    width = max((len(it.key) for it in arcs.values()), default=0)
+    out.writerow(["name", *(f"key {it + 1}" for it in range(width)), "before", "after", "difference"])
+    out.writerow([first.objective, *[""] * width, first.value, second.value, difference(second.value, first.value)])
+    order = dict.fromkeys([*(it.text for it in first.arcs), *(it.text for it in second.arcs)])
+    for text in order:
+        before, after = (it.get(text, 0) for it in flows)
+        if before != after:
+            arc = arcs[text]
+            out.writerow([arc.name, *arc.key, *[""] * (width - len(arc.key)), before, after, difference(after, before)])
+    return 0

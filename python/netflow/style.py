@@ -1,0 +1,94 @@
+"""The style sheets and the script of the pages."""
+
+DRAWING_STYLE = """
+:root{color-scheme:light dark;--ink:#1d2530;--dim:#667180;--back:#fff;--soft:#f2f4f7;--line:#d9dee5;--used:#2f74b5;--full:#c9660a;
+--across:#c0282d;--full-back:#fdf0e1;--low-back:#e8f1fb;--idle:#8d97a5;--node:#fff;--gives:#e5f3ea;--needs:#e8f0fb;--marked:#fbe6e6}
+@media (prefers-color-scheme:dark){:root{--ink:#e4e8ee;--dim:#98a3b2;--back:#151a21;--soft:#1f2630;--line:#37414e;--used:#69abe8;
+--full:#f0a04b;--across:#ff7276;--full-back:#3a2a17;--low-back:#1c2d42;--idle:#7c8897;--node:#1f2630;--gives:#1c3326;--needs:#1d2c42;
+--marked:#44201f}}
+svg text{font:13px system-ui,sans-serif;fill:var(--ink);text-anchor:middle}.node rect{fill:var(--node);stroke:var(--dim)}
+.node.gives rect{fill:var(--gives)}.node.needs rect{fill:var(--needs)}
+.node.marked rect{fill:var(--marked);stroke:var(--across);stroke-width:2}.node .line1{fill:var(--dim);font-size:12px}
+.arc path{fill:none}.arc text{font-size:12px;font-weight:600;paint-order:stroke;stroke:var(--back);stroke-width:4px}
+.idle path{stroke:var(--idle);stroke-dasharray:4 3}.used path{stroke:var(--used)}.full path{stroke:var(--full)}.across path{stroke:var(--across)}
+.head path{stroke:none;stroke-dasharray:none}.head.idle path{fill:var(--idle)}.head.used path{fill:var(--used)}
+.head.full path{fill:var(--full)}.head.across path{fill:var(--across)}
+.large .arc text{display:none}.large .arc.near text{display:inline}.arc.faint{opacity:.07}.node:focus{outline:none}.node:focus rect,.node:hover rect{stroke:var(--ink);stroke-width:2}
+@media print{svg{max-width:100%;height:auto}.large .arc text{display:none}}
+"""
+
+PAGE_STYLE = DRAWING_STYLE + """
+*{box-sizing:border-box}
+body{font:15px/1.5 system-ui,sans-serif;color:var(--ink);background:var(--back);margin:0 auto;max-width:1240px;padding:20px 16px 40px}
+h1{font-size:1.4rem;margin:0 0 4px}h2{font-size:1.15rem;margin:32px 0 6px}h3{font-size:1rem;margin:14px 0 4px}p{margin:4px 0 8px}
+.value{font-size:1.75rem;font-weight:650;overflow-wrap:anywhere}.none{color:var(--across)}.reason{font-size:1.1rem;font-weight:600}
+footer,.dim{color:var(--dim)}footer{margin-top:36px;font-size:.85rem}
+.scroll{max-height:30rem;overflow:auto;border:1px solid var(--line);border-radius:6px;width:fit-content;max-width:100%}
+table{border-collapse:collapse;font-variant-numeric:tabular-nums}
+th{position:sticky;top:0;background:var(--soft);padding:0;text-align:left;white-space:nowrap}
+th button{all:unset;cursor:pointer;padding:4px 12px;display:block;font-weight:600}th.number button{text-align:right}
+th button:focus-visible{outline:2px solid var(--used);outline-offset:-2px}
+th[aria-sort=ascending] button::after{content:" \\2191"}th[aria-sort=descending] button::after{content:" \\2193"}
+td{padding:3px 12px;border-top:1px solid var(--line)}td.number{text-align:right;white-space:nowrap}td.flow{font-weight:600}td.end{color:var(--dim)}
+tr.full td{background:var(--full-back)}tr.lowest td{background:var(--low-back)}
+span.full{background:var(--full-back);padding:0 5px;border-radius:3px}
+span.lowest{background:var(--low-back);padding:0 5px;border-radius:3px}
+tr.more,.later{display:none}section.all tr.more,section.found tr.more{display:table-row}section.all .later,section.found .later{display:block}
+section.found tr.out{display:none}.find{display:flex;flex-wrap:wrap;gap:4px 18px;align-items:center}
+input[type=search]{font:inherit;color:inherit;background:var(--back);border:1px solid var(--line);border-radius:5px;padding:2px 8px;width:13rem}
+summary{cursor:pointer;margin:8px 0}
+th.wrap button{white-space:normal;min-width:8rem;max-width:11rem;margin-left:auto}.numbers td{white-space:nowrap}
+.toggle,.tools button{font:inherit;font-size:.9rem;color:inherit;background:var(--soft);border:1px solid var(--line);
+border-radius:5px;padding:2px 10px;cursor:pointer}
+.pair{display:flex;flex-wrap:wrap;gap:8px 32px}.pair>div{max-width:100%}
+.picture{border:1px solid var(--line);border-radius:6px;overflow:auto;max-height:85vh;background:var(--back)}svg{display:block;margin:0 auto}
+.more-right{display:none;color:var(--across)}.is-cut .more-right{display:inline}
+.grid td{text-align:right}.grid td:first-child,.grid td.key{text-align:left}.grid td.zero{color:var(--dim)}.grid td.full{background:var(--full-back)}
+.grid td.chosen{text-align:center}.grid td.none{background:var(--soft)}.grid tr.sum td{font-weight:600;border-top:2px solid var(--line)}.grid td.sum{font-weight:600}
+.unit{font-size:1.1rem;font-weight:400;color:var(--dim)}
+.key{display:flex;flex-wrap:wrap;gap:4px 18px;align-items:center}
+.key i{display:inline-block;width:26px;height:0;border-top:4px solid;margin-right:6px;vertical-align:middle}
+.key .idle{border-top:2px dashed var(--idle)}.key .used{border-color:var(--used)}.key .full{border-color:var(--full)}
+.key .across{border-color:var(--across)}
+@media (max-width:700px){td,th button{padding-left:7px;padding-right:7px}th.end,td.end{display:none}}
+@media print{body{max-width:none;padding:0;font-size:11px}.scroll,.picture{max-height:none;overflow:visible;border-color:#bbb}
+.picture svg{width:100%!important;height:auto!important;max-height:24cm}.toggle,.tools,.find,.point,summary,.more-right{display:none!important}
+th{position:static}td,th button{padding:1px 6px}.scroll{max-width:100%;width:100%}table{width:100%}tr,.picture{break-inside:avoid}
+section{break-inside:auto}h2,h3{break-after:avoid}}
+@page{margin:1.4cm}
+"""
+
+SCRIPT = """
+function value(cell){return cell.dataset.n===undefined?cell.textContent:cell.dataset.n}
+document.querySelectorAll('th button').forEach(function(button){button.onclick=function(){
+ var th=button.parentNode,body=th.closest('table').tBodies[0],place=th.cellIndex,up=th.getAttribute('aria-sort')!=='ascending';
+ th.parentNode.querySelectorAll('th').forEach(function(it){it.removeAttribute('aria-sort')});th.setAttribute('aria-sort',up?'ascending':'descending');
+ var rows=Array.from(body.rows).map(function(row){return [value(row.cells[place]),row]});
+ rows.sort(function(one,two){var a=one[0],b=two[0],both=a!==''&&b!==''&&!isNaN(a)&&!isNaN(b);
+  if(a===''||b==='')return (a==='')-(b==='');return (up?1:-1)*(both?a-b:a.localeCompare(b,undefined,{numeric:true}))});
+ rows.forEach(function(it){body.append(it[1])})}});
+document.querySelectorAll('.toggle').forEach(function(button){button.onclick=function(){
+ var all=button.closest('section').classList.toggle('all');button.setAttribute('aria-expanded',all);
+ button.textContent=button.textContent.replace(/^(show|hide)/,all?'hide':'show')}});
+document.querySelectorAll('.find').forEach(function(line){
+ var section=line.closest('section'),rows=Array.from(section.querySelector('tbody').rows),words=line.querySelector('[type=search]');
+ var full=line.querySelector('[type=checkbox]'),label=line.querySelector('span');
+ function find(){var all=words.value.toLowerCase().split(' ').filter(Boolean),count=0,on=all.length>0||full&&full.checked;
+  rows.forEach(function(row){var text=Array.from(row.cells).map(function(it){return (it.textContent+' '+(it.dataset.n||'')).toLowerCase()}).join('\\n');
+   var hit=all.every(function(it){return text.includes(it)})&&!(full&&full.checked&&!row.classList.contains('full'));
+   row.classList.toggle('out',!hit);count+=hit});
+  section.classList.toggle('found',on);label.textContent=on?count+' of '+rows.length:''}
+ words.oninput=find;if(full)full.onchange=find});
+(function(){var svg=document.querySelector('.picture svg');if(!svg)return;
+ var wide=+svg.getAttribute('width'),high=+svg.getAttribute('height'),scale=1,arcs=Array.from(svg.querySelectorAll('.arc'));
+ function size(to){scale=Math.min(4,Math.max(.1,to));svg.setAttribute('width',wide*scale);svg.setAttribute('height',high*scale);
+  svg.closest('section').classList.toggle('is-cut',wide*scale>svg.parentNode.clientWidth+1)}
+ function fit(){return svg.parentNode.clientWidth/wide}
+ size(Math.max(.75,Math.min(1,fit())));onresize=function(){size(scale)};
+ document.querySelectorAll('.tools button').forEach(function(button){button.onclick=function(){
+  var to=button.dataset.scale;size(to==='fit'?fit():scale*to)}});
+ svg.querySelectorAll('.node').forEach(function(node){
+  function show(on){return function(){arcs.forEach(function(arc){var its=arc.classList.contains(node.id);
+   arc.classList.toggle('faint',on&&!its);arc.classList.toggle('near',on&&its)})}}
+  node.onmouseenter=node.onfocus=show(true);node.onmouseleave=node.onblur=show(false)})})();
+"""

@@ -1,0 +1,307 @@
+"""usage: netflow-why MODEL [DATA ..] [--objective NAME] [--all] [--json] [--set NAME=VALUE] [--scale NAME=FACTOR] [--bounds]
+
+If a model has no plan, says why in its own names: which places, what they need together, which arcs lead there with their bounds, how
+much is short, and the least change that gives a plan. If it has one, says which arcs are at a bound and what one more unit at each
+place costs or saves. Shows 20 lines of each list, with --all every line. If a check of the model fails, it asks again without the
+check. The exit status is that of netflow.
+"""
+from __future__ import annotations
+
+import re
+from typing import Any, Sequence
+
+from .command import Words, print_error_json, question_of, run as run_tool
+from .errors import ProgramError
+from .model_text import Unparsed, parse
+from .outputs import cut_json, dump_lines, plan_json
+from .question import Input, Question
+from .reasons import least_changes, leaves_nothing, reasons, total, unserved
+from .sensitivity import Marginal, arc_change
+from .texts import Network
+
+SHOWN, SETS = 20, 3
+# Up to how many steps exact changes are computed: arcs of the network times listed arcs, or pairs of places.
+EXACT_WORK = 300_000
+
+
+def rows(pairs: list, most: int) -> list:
+    """Returns amounts and texts, one below the other."""
+    wide = max((len(str(amount)) for amount, _ in pairs[:most]), default=0)
+    lines = [f"    {str(amount):>{wide}}  {text}" for amount, text in pairs[:most]]
+    return lines + ([f"    {'':>{wide}}  and {len(pairs) - most} more (--all shows them)"] if len(pairs) > most else [])
+
+
+def part_rows(parts: list, most: int) -> list:
+    """Returns the lines of a list of amounts; a long one by declaration, with the closed arcs first."""
+    if len(parts) <= most:
+        return rows([(it.amount, it.text) for it in parts], most)
+    groups: dict = {}
+    for it in parts:
+        groups.setdefault(it.name, []).append(it)
+    found = [(sum(it.amount for it in group), group_text(name, group)) for name, group in groups.items()]
+    closed = [it for it in parts if it.is_arc and not it.amount]
+    lines = rows(sorted(found, key=lambda pair: -pair[0]), most)
+    if closed:
+        lines.append(f"    closed: {few([it.text[3:] for it in closed], 5)}")
+    largest = [it for it in parts if it.amount][:5]
+    return [*lines, f"    the largest: {few([f'{it.text} ({it.amount})' for it in largest], 5)} (--all shows every line)"]
+
+
+def group_text(name: str, group: list) -> str:
+    what = "arcs" if group[0].is_arc else "places"
+    closed = sum(not it.amount for it in group)
+    return f"{name}: {len(group)} {what[:-1] if len(group) == 1 else what}" + (f", {closed} of them 0" if closed and group[0].is_arc else "")
+
+
+def few(names: Sequence, most: int) -> str:
+    return ", ".join(names[:most]) + (f" and {len(names) - most} more" if len(names) > most else "")
+
+
+# No plan
+
+def reason_lines(net: Network, reason: Any, most: int) -> list:
+    asked, helping, none, other = reason.words()
+    lines = [reason.headline(net), f"  {asked}, {reason.needed()} in all:", *part_rows(reason.asks, most)]
+    lines += [f"  {helping}, {reason.given()} in all:", *part_rows(reason.helps, most)] if reason.helps else [f"  {none}"]
+    if reason.idle and (len(reason.idle) <= most or not reason.helps):
+        lines += [f"  {other}:", *rows([("", it.text) for it in reason.idle], most)]
+    quiet = reason.quiet(net)
+    return lines + ([f"  pass on what they get: {few(quiet, most)}"] if quiet else [])
+
+
+def change_lines(net: Network, most: int) -> list:
+    """Returns the least change of needs alone and of arcs alone, and of both if that is less."""
+    found, is_large = least_changes(net)
+    if is_large:
+        return ["", "The least change with which there is a plan is not computed: the model is too large."]
+    lines = ["", "Least change with which there is a plan, all shortages together:"]
+    for what, changes in found.items():
+        lines.append(f"  {what}: none is enough" if changes is None else f"  {what}: {total(changes)} in all")
+        if leaves_nothing(changes):
+            names = unserved(net, changes)
+            lines[-1] += f", which is all that {len(changes)} places ask for" + (f": {few(names, most)}" if names else "")
+            continue
+        listed = sorted(changes or [], key=lambda it: -it.amount)
+        lines += rows([(it.amount, it.sentence()) for it in listed], most)
+    return lines + ["  (Each unit counts the same, and other changes may be as small.)"]
+
+
+def infeasible_lines(net: Network, found: list, most: int) -> list:
+    """Returns the text of a model without a plan."""
+    lines = ["No plan."]
+    for reason in found[:most if most > SHOWN else SETS]:
+        lines += ["", *reason_lines(net, reason, most)]
+    if len(found) > SETS and most <= SHOWN:
+        lines += ["", f"{len(found) - SETS} more sets of places are short (--all shows them)"]
+    return lines + change_lines(net, most)
+
+
+# A plan
+
+class Gains:
+    """What one more unit of a bound saves, of each arc at a bound: exactly if the network is small, else at most."""
+
+    def __init__(self, net: Network, marginal: Marginal) -> None:
+        arcs = [it for it in net.arcs if it.is_full() or it.is_lowest()]
+        felt = [it for it in arcs if it.worth]
+        self.is_exact = len(net.arcs) * len(felt) <= EXACT_WORK
+        gain = (lambda it: arc_change(net, marginal.residual, it)) if self.is_exact else (lambda it: abs(it.worth))
+        self.felt = sorted(((gain(it), it) for it in felt), key=lambda pair: -pair[0])
+        self.free = [it for it in arcs if not it.worth] + [it for amount, it in self.felt if not amount]
+        self.felt = [(amount, it) for amount, it in self.felt if amount]
+
+
+def bound_text(arc: Any) -> str:
+    return f"at its most, {arc.upper}" if arc.is_full() else f"at its least, {arc.lower}"
+
+
+def better(net: Network) -> str:
+    return "saves" if net.sign > 0 else "brings"
+
+
+def bottleneck(net: Network, gains: Gains) -> list:
+    """Returns the arcs of a minimum cut if the plan is a maximum flow: each is worth 1, and together they carry the value."""
+    cut = [it for it in net.arcs if it.is_full() and it.worth == -1]
+    if net.sign > 0 or not cut or any(it.worth not in (-1, 0) for _, it in gains.felt) or sum(it.upper for it in cut) != net.value:
+        return []
+    return cut
+
+
+def bottleneck_lines(net: Network, gains: Gains, most: int) -> list:
+    cut = bottleneck(net, gains)
+    if not cut:
+        return []
+    listed = sorted(cut, key=lambda it: -it.upper)
+    return ["", f"Bottleneck: {len(cut)} {'arc' if len(cut) == 1 else 'arcs'}, {net.value} in all. No flow can be larger:",
+            *rows([(it.upper, f"{it.text} from {net.end(it.src)} to {net.end(it.dst)}") for it in listed], most)]
+
+
+def arc_lines(net: Network, gains: Gains, most: int) -> list:
+    count = len(gains.felt) + len(gains.free)
+    if not count:
+        return ["", "No arc is at a bound. Arcs at their lower bound 0 are not counted."]
+    lines = ["", f"Arcs at a bound: {count} of {len(net.arcs)}. Arcs at their lower bound 0 are not counted."]
+    title = f"  The first unit past it {better(net)}{'' if gains.is_exact else ', at most'}:"
+    lines += [title, *rows([(amount, f"{it.text} {bound_text(it)}") for amount, it in gains.felt], most)] if gains.felt else []
+    return lines + ([f"  More room {better(net)} nothing at: {free_text(gains.free, most)}"] if gains.free else [])
+
+
+def free_text(arcs: list, most: int) -> str:
+    if len(arcs) <= most:
+        return ", ".join(it.text for it in arcs)
+    groups: dict = {}
+    for it in arcs:
+        groups[it.name] = groups.get(it.name, 0) + 1
+    return ", ".join(f"{name} ({count} arcs)" for name, count in groups.items())
+
+
+class Place:
+    """A node with a condition, and what one more unit there costs (`cost`, below 0 if it saves), None if it cannot change alone."""
+
+    def __init__(self, net: Network, marginal: Marginal, number: int) -> None:
+        self.node = net.nodes[number]
+        self.number, self.wish = number, self.node.wish()
+        self.is_giver = self.wish.startswith("gives")
+        self.cost = (marginal.less if self.is_giver else marginal.more)[number]
+        low, high = (self.node.inflow == self.node.low, self.node.inflow == self.node.high)
+        self.side = "fixed" if self.node.low == self.node.high else "most" if (low if self.is_giver else high) else \
+            "least" if (high if self.is_giver else low) else ""
+
+    def is_felt(self) -> bool:
+        if self.side == "fixed":
+            return bool(self.cost) and bool(self.wish)
+        node = self.node
+        is_own = node.has_low() if (self.side == "least") != self.is_giver else node.has_high()
+        return bool(self.cost) and is_own and (self.cost < 0 if self.side == "most" else self.side == "least" and self.cost > 0)
+
+    def line(self, net: Network) -> str:
+        verb = f"costs {self.cost}" if self.cost > 0 else f"{better(net)} {-self.cost}"
+        amount = abs(self.node.inflow)
+        at = "" if self.side == "fixed" else f", and {'gives' if self.is_giver else 'gets'} the {self.side}, {amount}"
+        return f"    {self.node.text} {self.wish}{at}: one more {verb}"
+
+
+def matched_lines(net: Network, marginal: Marginal, places: list, most: int) -> list:
+    """Returns what pairs of changes cost, if what places need and give matches exactly, so that none can change alone."""
+    stuck = [it for it in places if it.side == "fixed" and it.wish and it.cost is None]
+    if not stuck:
+        return []
+    whole = len(stuck) == sum(it.side == "fixed" and bool(it.wish) for it in places)
+    lines = ["", f"What {'the places' if whole else few([it.node.text for it in stuck], 3)} need and give matches exactly: none can change alone."]
+    needing = sorted((it for it in stuck if not it.is_giver), key=lambda it: -abs(it.node.low))
+    for place in needing[:max(1, min(most, EXACT_WORK // max(1, len(net.arcs))))]:
+        found = marginal.pair(place.number)
+        if found is None:
+            continue
+        giver, cost = net.nodes[found[0]].text, found[1]
+        verb = f"costs {cost}" if cost > 0 else f"{better(net)} {-cost}" if cost < 0 else "costs nothing"
+        lines.append(f"    {place.node.text} {place.wish}: one more, with one more from {giver}, {verb}")
+    shown = len(lines) - 2
+    return lines + ([f"    and {len(needing) - shown} more (--all shows them)"] if shown and len(needing) > shown else [])
+
+
+def place_lines(net: Network, marginal: Marginal, most: int) -> list:
+    places = [Place(net, marginal, number) for number in range(len(net.nodes))]
+    matched = matched_lines(net, marginal, places, most)
+    felt = sorted((it for it in places if it.is_felt()), key=lambda it: -abs(it.cost))
+    if not felt:
+        return matched or ["", "One more unit at a place costs nothing, anywhere."]
+    lines = ["", "One unit more at a place:", *(it.line(net) for it in felt[:most])]
+    left = len(net.nodes) - len(felt[:most])
+    others = f"    at the other {f'{left} places' if left > 1 else 'place'}: " + ("nothing" if len(felt) <= most else "--all shows them")
+    return lines + ([others] if left and not matched else []) + matched
+
+
+def warning_lines(net: Network) -> list:
+    """Returns what is allowed and often a mistake: a value of 0, declarations of arcs without a price."""
+    unpriced = [name for name, arcs in net.declared().items() if not any(it.price for it in arcs)]
+    if net.arcs and not any(it.price for it in net.arcs):
+        return ["", f"No arc has a price, so every plan is worth {net.value}: is `obj {net.objective} ..` missing?"]
+    if net.value == 0:
+        return ["", f"The value is 0. Without a price: {few(unpriced, 5)}." if unpriced else "The value is 0: the plan uses no arc with a price."]
+    return ["", f"Without a price: {few(unpriced, 5)}."] if unpriced else []
+
+
+def feasible_lines(net: Network, most: int) -> list:
+    """Returns the text of a model with a plan; the network has its prices."""
+    marginal = Marginal(net)
+    gains = Gains(net, marginal)
+    best = "No plan costs less." if net.sign > 0 else "No plan is worth more."
+    lines = [f"There is a plan: {net.objective} = {net.value}. {best}", *bottleneck_lines(net, gains, most), *arc_lines(net, gains, most)]
+    lines += place_lines(net, marginal, most) + warning_lines(net)
+    return [*lines, "", "These changes are exact for the next unit; beyond it other arcs may become full." if gains.is_exact else
+            "These changes are for the next unit; those of arcs are at most so much, since beyond it other arcs may become full."]
+
+
+def without_check(question: Question, problem: ProgramError) -> Question | None:
+    """Returns the question without the check that fails; None if that is not the error."""
+    found = re.match(r"E35 \w+ model (\d+):(\d+)", problem.message)
+    if not found:
+        return None
+    text = question.model.text()
+    lines = text.split("\n")
+    place = sum(len(line) + 1 for line in lines[:int(found[1]) - 1])
+    place += len(lines[int(found[1]) - 1].encode("utf-8", "surrogateescape")[:int(found[2]) - 1].decode("utf-8", "surrogateescape"))
+    try:
+        decl = next(it for it in parse(text) if it.kind == "check" and it.start <= place <= it.end)
+    except (StopIteration, Unparsed):
+        return None
+    blank = re.sub(r"[^\n]", " ", text[decl.start:decl.end + 1])
+    made = Question(Input(text=text[:decl.start] + blank + text[decl.end + 1:]), question.data, objective=question.objective,
+                    changes=question.changes, scale=question.scale, add_bounds=question.add_bounds)
+    print(f"The check in line {found[1]} fails: {' '.join(text[decl.start:decl.end + 1].split())}\nWithout it:\n")
+    return made
+
+
+def answer_lines(net: Network, most: int) -> list:
+    if net.cut is None:
+        return feasible_lines(net, most)
+    return infeasible_lines(net, reasons(net, *net.cut), most)
+
+
+def print_json(net: Network) -> None:
+    if net.cut is None:
+        marginal = Marginal(net)
+        found = plan_json(net)
+        for it, node, more in zip(found["nodes"], net.nodes, marginal.more):
+            it["one_more_costs"] = more
+        for it, arc in zip(found["arcs"], net.arcs):
+            it["reduced_cost"] = arc.worth
+    else:
+        side, inside = net.cut
+        changes, is_large = least_changes(net)
+        found = cut_json(side, [net.nodes[it].text for it in sorted(inside)], reasons(net, side, inside), net, None if is_large else changes)
+    print(dump_lines(found))
+
+
+def main(words: Sequence[str]) -> int:
+    parser = Words(__doc__, prog="netflow-why").question()
+    parser.add_argument("--all", action="store_true", help="every line of each list")
+    parser.add_argument("--json", action="store_true", help="the answer as a JSON object")
+    parsed = parser.parse_args(words)
+    question, refused = question_of(parsed), 0
+    while True:
+        with question:
+            try:
+                answer, net = question.network(with_prices=True)
+            except ProgramError as problem:
+                if parsed.json:
+                    return print_error_json(problem, question)
+                again = without_check(question, problem)
+                if again is None:
+                    raise
+                question, refused = again, problem.status
+                continue
+            if parsed.json:
+                print_json(net)
+            else:
+                print("\n".join(answer_lines(net, 10**9 if parsed.all else SHOWN)))
+            return refused or answer.status
+
+
+def command() -> None:
+    run_tool(main)
+
+
+if __name__ == "__main__":
+    command()

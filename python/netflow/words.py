@@ -1,0 +1,115 @@
+"""The words of models and data, for hints and titles: where a name is declared, what its keys are called, the first comment.
+
+These are readings without the grammar: they can be wrong, and only texts for people depend on them.
+"""
+from __future__ import annotations
+
+import os
+import re
+
+TOKEN = re.compile(r"#[^\n]*|/\*.*?\*/|'(?:[^'\n]|'')*'|\"(?:[^\"\n]|\"\")*\"|:=|[\w.+-]+|\S", re.S)
+CLOSING = {"{": "}", "(": ")", "[": "]"}
+
+
+class Token:
+    def __init__(self, text, row):
+        self.text, self.row = text, row
+
+    def bare(self):
+        quote = self.text[:1]
+        return self.text[1:-1].replace(quote * 2, quote) if quote in ("'", '"') and len(self.text) > 1 else self.text
+
+
+def tokens(text):
+    """Yields the words of a text, without comments, each with its row."""
+    row, last = 1, 0
+    for found in TOKEN.finditer(text):
+        row, last = row + text.count("\n", last, found.start()), found.start()
+        if not found[0].startswith(("#", "/*")):
+            yield Token(found[0], row)
+
+
+def decoded(raw):
+    """Returns bytes as a text; bytes that are no characters are kept."""
+    return raw.decode("utf-8", "surrogateescape")
+
+
+def read(path):
+    """Returns a file's text; an empty one if the file cannot be read."""
+    try:
+        with open(path, "rb") as file:
+            return decoded(file.read()) if os.path.isfile(path) else ""
+    except OSError:
+        return ""
+
+
+def braces_of(text, name):
+    """Returns the words between the braces of a declaration of arcs, without a condition; none if it has no braces."""
+    words = [it.text for it in tokens(text)]
+    for here in range(len(words) - 3):
+        if words[here] == "arc" and words[here + 1] == name and words[here + 2] == "{":
+            return list(before_condition(words[here + 3:]))
+    return []
+
+
+def before_condition(words):
+    """Yields the words up to the `:` or `}` of the braces around them."""
+    depth = 0
+    for word in words:
+        if depth == 0 and word in (":", "}"):
+            return
+        depth += (word in CLOSING) - (word in CLOSING.values())
+        yield word
+
+
+def items(words):
+    """Returns the items of braces: the words between their commas."""
+    found, depth = [[]], 0
+    for word in words:
+        depth += (word in CLOSING) - (word in CLOSING.values())
+        if word == "," and depth == 0:
+            found.append([])
+        else:
+            found[-1].append(word)
+    return found
+
+
+NAME = re.compile(r"[A-Za-z_]\w*")
+
+
+def headings(text, name, count):
+    """Returns what the parts of a key are called: the sets that the braces name, or the dummies if a set is used twice, is written out,
+    or another part has a dummy's name; `key 1` and so on if the text does not say so many."""
+    found, lone = [], []
+    for item in items(braces_of(text, name)):
+        cut = item.index("in") if "in" in item else 0
+        dummies, a_set = [it for it in item[:cut] if NAME.fullmatch(it)], " ".join(item[cut and cut + 1:])
+        lone += [a_set] if not dummies and NAME.fullmatch(a_set) else []
+        is_named = len(dummies) <= 1 and NAME.fullmatch(a_set)
+        found += [(a_set if is_named else it, it) for it in dummies or [a_set]]
+    more = count - len(found)
+    if more > 0 and len(lone) == 1:
+        # A set of tuples without dummies has as many parts as are left.
+        place = found.index((lone[0], lone[0]))
+        found[place:place + 1] = [(f"{lone[0]} {it + 1}",) * 2 for it in range(more + 1)]
+    sets = [it for it, _ in found]
+    # Either all titles are sets, or all are dummies: a mixture of `GRADES` and `t` reads badly.
+    are_sets = len(set(sets)) == len(sets) and all(NAME.fullmatch(it) for it, _ in found)
+    titles = sets if are_sets else [dummy for _, dummy in found]
+    return titles if len(titles) == count and all(titles) and len(set(titles)) == count else [f"key {it + 1}" for it in range(count)]
+
+
+COMMENT = re.compile(r"\s*(?:#+[ \t]*(?P<line>[^\n]*)|/\*+\s*(?P<block>.*?)\s*\**\*/)", re.S)
+
+
+def first_comment(text):
+    """Returns the first sentence of a comment that the model begins with; an empty text if it begins with none."""
+    at = 0
+    while True:
+        found = COMMENT.match(text, at)
+        if not found:
+            return ""
+        words = " ".join((found["line"] or found["block"] or "").strip(" #*-=").split())
+        if words:
+            return re.split(r"(?<=[.!?])\s", words)[0].rstrip(".:")[:90]
+        at = found.end()

@@ -1,0 +1,293 @@
+"""Mutants of crates: how they are tried together in one check, and judged.
+
+A mutant is a file must-fail/NAME.edit with a line `file: src/FILE.rt` and pairs of lines `old: TEXT` and `new: TEXT`. It is
+rejected if the prover fails at a goal of the function that it changes: not because a callee is unproved, and not because a proof
+names something that the mutant removed.
+"""
+import os
+import pathlib
+import re
+import sys
+import tempfile
+from concurrent.futures import FIRST_COMPLETED, ThreadPoolExecutor, wait
+
+from lib import prover
+from lib.functions import Function, stub_all_but, without_main
+from lib.prover import RT, TOP
+from lib.proving import Proving
+
+# An error of a proof file that names something the mutant removed says nothing about the contract.
+REMOVED = re.compile(r"has no field|is not in scope|has no `|was not admitted")
+# An error of the compiler, before anything reaches the prover.
+COMPILER = re.compile(r"(\./)?src/\S+:\d+:\d+: error\[")
+# An error of the prover about an answer to a goal that does not exist.
+LOST = r"(?m)^(?:\./)?proofs/(?:\S*/)?(?:{})/Answers\.antt:\d+:\d+: error: .*Goals` has no `([^`]+)`"
+# The complaint about a mutant whose function the prover accepts.
+STILL_PROVED = "NOT REJECTED: the function is still proved"
+
+
+class Mutant:
+    """A file NAME.edit: the text that it changes, and the functions that it changes."""
+
+    def __init__(self, crate, path):
+        self.crate, self.path, self.name = crate, path, f"{crate.name}/{os.path.basename(path)}"
+        self.changes, self.functions, self.bad = [], set(), None
+        # For each change inside a function, that function as it is in the crate.
+        self.places = []
+        # The goals that the mutant removed, as found by a check.
+        self.lost = set()
+        texts, self.bad = RT.read_edit(path, crate.folder)
+        if self.bad is None:
+            self.read(open(path, encoding="utf-8").read())
+            if not self.functions:
+                self.bad = "it changes no function"
+
+    def read(self, text):
+        file = old = ""
+        for line in text.split("\n"):
+            if line.startswith("file: "):
+                file = line[len("file: "):].strip()
+            elif line.startswith("old: "):
+                old = line[len("old: "):]
+            elif line.startswith("new:"):
+                self.changes.append((file, old, re.sub(r"\A ", "", line[len("new:"):])))
+                whole = pathlib.Path(self.crate.folder, file).read_text(encoding="utf-8")
+                if file.startswith("src/") and not re.match(r"\s*(ghost )?use ", old) and old in whole:
+                    function = Function.at(file, whole, whole.index(old) + len(old))
+                    self.functions.add(function.qualified(function.name))
+                    self.places.append(function)
+
+    def apply(self, copy, taken):
+        """Applies the mutant to the copy of the crate; returns the functions that it changes there, or None if it does not fit next
+        to the mutants of the taken functions. A second mutant of a function changes a copy of it under another name."""
+        if not self.functions & taken:
+            return self.functions if self.changes_texts(copy) else None
+        return self.apply_to_copy(copy)
+
+    def apply_to_copy(self, copy):
+        function = self.places[0]
+        lone = len(self.functions) == 1 and len(self.places) == len(self.changes)
+        if not lone or not function.can_be_copied(copy):
+            return None
+        text = function.text
+        for _, old, new in self.changes:
+            if text.count(old) != 1:
+                return None
+            text = text.replace(old, new)
+        whole = pathlib.Path(copy, function.file).read_text(encoding="utf-8")
+        name = next(it for it in (f"{function.name}_{number}" for number in range(2, 99)) if f"fn {it}(" not in whole and f"fn {it}<" not in whole)
+        function.copy(copy, text, name)
+        return {function.qualified(name)}
+
+    def changes_texts(self, copy):
+        """Changes each text in the copy, if it still occurs exactly once there; returns whether it did."""
+        texts = {}
+        for file, old, new in self.changes:
+            text = texts.get(file) or pathlib.Path(copy, file).read_text(encoding="utf-8")
+            if text.count(old) != 1:
+                return False
+            texts[file] = text.replace(old, new)
+        for file, text in texts.items():
+            pathlib.Path(copy, file).write_text(text, encoding="utf-8")
+        return True
+
+
+def leave_out(copy, functions, goals):
+    """Removes the answers of these functions to these goals from the copy."""
+    for function in functions:
+        for file in pathlib.Path(copy, "proofs").rglob(f"{function.replace('::', '/')}/Answers.antt"):
+            text = file.read_text(encoding="utf-8")
+            for goal in goals:
+                text = re.sub(rf"(?ms)^pub {re.escape(goal)} :.*?(?:\n\n|\Z)", "", text)
+            file.write_text(text, encoding="utf-8")
+
+
+def lost_goals(output, functions):
+    """Returns the goals that answers of these functions name and the prover does not find."""
+    return set(re.findall(LOST.format("|".join(re.escape(it.replace("::", "/")) for it in functions)), output))
+
+
+def lines_about(output, functions):
+    """Returns what a check printed about these functions: the verdict line of each, and the errors in their own proofs."""
+    lines = dict(re.findall(r"(?m)^fn \w+::(\S+): (.*)$", output))
+    words = [line for name, line in lines.items() if name in functions or any(name.endswith(f"::{it}") for it in functions)]
+    files = "|".join(re.escape(it.replace("::", "/")) for it in functions)
+    errors = re.findall(rf"(?m)^(?:\./)?proofs/(?:\S*/)?(?:{files})/\S+: error:.*$", output)
+    # The functions of a cycle have one proof; each goal begins with the name of its function.
+    cycles = re.findall(r"(?m)^(?:\./)?proofs/(?:\S*/)?\+\w+/\S+: error:.*$", output)
+    return words, errors + [it for it in cycles if owns(functions, re.findall(r"error: `([^`]+)`", it))]
+
+
+def owns(functions, goals):
+    """Returns whether one of these goals of a cycle belongs to one of these functions."""
+    names = tuple(it.split("::")[-1] + "-" for it in functions)
+    return any(goal.split("::")[-1].startswith(names) for goal in goals)
+
+
+def is_refusal(line, functions):
+    """Returns whether the verdict line of a function names an unproved goal of its own."""
+    _, _, goals = line.partition("did not prove")
+    if not goals or not line.startswith("no proof"):
+        return False
+    in_a_cycle = re.search(r"proofs/(?:\S*/)?\+\w+/", line)
+    return not in_a_cycle or owns(functions, re.findall(r"`([^`]+)`", goals))
+
+
+def refusal(output, functions):
+    """Returns why the prover rejects one of these functions for a goal of its own, or None."""
+    words, errors = lines_about(output, functions)
+    for line in words:
+        if is_refusal(line, functions):
+            return line
+    own = [it for it in errors if not REMOVED.search(it)]
+    return own[0] if own and any(line.startswith("not proved") for line in words) else None
+
+
+def unread(output, files):
+    """Returns the first error of the compiler or prover about a file that it cannot read, or None."""
+    return next((line for line in output.split("\n") if COMPILER.match(line) or RT.unread(line, files)), None)
+
+
+def tried(crate, mutants, stubs):
+    """Applies the mutants that fit together to one copy and checks the functions that they change, over stubs for what these call or
+    over all of it. Returns each fitting mutant with its functions, the output of the check, and its processor seconds."""
+    with tempfile.TemporaryDirectory(prefix="mutants-") as copy:
+        prover.copy_of(crate.folder, copy)
+        fitting, taken = {}, set()
+        for mutant in mutants:
+            functions = mutant.apply(copy, taken)
+            if functions:
+                fitting[mutant] = functions
+                taken |= functions
+                leave_out(copy, functions, mutant.lost)
+        if stubs:
+            stub_all_but(copy, taken, crate.name)
+            without_main(copy, taken)
+        only = [word for function in sorted(taken) for word in ("--only", function)]
+        _, seconds, output = prover.check(crate, copy, *only)
+        return fitting, output, seconds
+
+
+def judge(mutant, functions, output):
+    """Returns None if the mutant, which changes these functions, is rejected for a goal of theirs, else a complaint."""
+    if refusal(output, functions):
+        return None
+    said = unread(output, {file for file, _, _ in mutant.changes})
+    if said:
+        return f"the prover cannot read the changed text: {said[:200]}"
+    words, errors = lines_about(output, functions)
+    if not words:
+        return "the check prints nothing about its functions " + ", ".join(sorted(functions))
+    if all(line.startswith("proved") for line in words):
+        return STILL_PROVED
+    return f"not rejected for a goal of its own: {(errors or words)[0][:200]}"
+
+
+def has_lost(mutant, functions, output):
+    """Records the goals that the mutant removed; returns whether there are any that no check found before."""
+    found = lost_goals(output, functions) - mutant.lost
+    mutant.lost |= found
+    return bool(found)
+
+
+def try_crate(crate, mutants):
+    """Tries the mutants of a crate; returns a complaint for each (or None), the number of checks, and processor seconds. Mutants that
+    do not fit together, or that remove goals with answers, are tried in further checks; those that are neither rejected nor proved
+    over stubs are tried again over everything they call, then without the rejected ones, and finally alone."""
+    verdicts, checks, total = {}, 0, 0
+    waiting = [(mutants, True)]
+    while waiting:
+        together, stubs = waiting.pop()
+        fitting, output, seconds = tried(crate, together, stubs)
+        verdicts.update({mutant: judge(mutant, fitting[mutant], output) if mutant in fitting else "again" for mutant in together})
+        left = [mutant for mutant in together if verdicts[mutant] not in (None, STILL_PROVED)]
+        checks, total = checks + 1, total + seconds
+        if stubs:
+            again = [mutant for mutant in left if mutant not in fitting or has_lost(mutant, fitting[mutant], output)]
+            waiting += [(part, over) for part, over in ((again, bool(fitting)), ([mutant for mutant in left if mutant not in again], False)) if part]
+        elif len(left) < len(together):
+            waiting += [(left, False)] if left else []
+        elif len(together) > 1:
+            waiting += [([mutant], False) for mutant in left]
+    return verdicts, checks, total
+
+
+def mutants_of(crate, source):
+    """Returns the crate's mutants in the source checkout, and complaints about files that are not mutants."""
+    good, bad = RT.edits_of(source)
+    return [Mutant(crate, path) for path in good], [f"{crate.name}/{os.path.basename(it)}: BAD MUTANT: not a NAME.edit directly in must-fail/" for it in bad]
+
+
+def in_turn(work, proving, lanes):
+    """Tries crates with their mutants and yields the results as they arrive. While `rt ci` runs (`proving`), a crate is tried after the
+    libraries below it are proved and when a processor is idle; after a failure of `rt ci` none is started."""
+    trying = {}
+    with ThreadPoolExecutor(lanes) as pool:
+        while work or trying:
+            if proving and proving.has_failed():
+                work.clear()
+            ready = [it for it in work if not proving or proving.has_built_below(it[0])]
+            used = len(trying) + (proving.checks() if proving else 0)
+            for crate, mutants in ready[: max(0, lanes - used)]:
+                work.remove((crate, mutants))
+                trying[pool.submit(try_crate, crate, mutants)] = crate, mutants
+            ended, _ = wait(trying, 2 if work else None, FIRST_COMPLETED) if trying else ([], None)
+            for it in ended:
+                yield *trying.pop(it), *it.result()
+
+
+def try_all(crates, sources, proving=None, lanes=None):
+    """Tries the mutants of these crates; returns complaints, the numbers of mutants and checks, and processor seconds."""
+    complaints, work, checks, total = [], [], 0, 0
+    for name, crate in crates.items():
+        mutants, bad = mutants_of(crate, sources[name])
+        complaints += bad + [f"{mutant.name}: BAD MUTANT: {mutant.bad}" for mutant in mutants if mutant.bad]
+        work.append((crate, [mutant for mutant in mutants if not mutant.bad]))
+    # Largest crates first, so that none is left alone at the end.
+    work.sort(key=lambda it: -it[0].count(rb"\n"))
+    count = sum(len(mutants) for _, mutants in work)
+    for crate, mutants, verdicts, rounds, seconds in in_turn(work, proving, lanes or prover.lanes()):
+        checks, total = checks + rounds, total + seconds
+        wrong = [f"{mutant.name}: {complaint}" for mutant, complaint in verdicts.items() if complaint]
+        complaints += wrong
+        print(f"{crate.name}: {len(mutants)} mutants in {rounds} checks, {len(mutants) - len(wrong)} rejected, {seconds:.0f} s", flush=True)
+    return complaints, count, checks, total
+
+
+def crates_with_edits(names, libraries):
+    """Returns the crates of these names (or all) that have mutants, over the libraries in this folder; and the crates of this checkout."""
+    crates, sources = prover.crates_of(libraries), prover.crates_of(TOP)
+    unknown = [name for name in names if name not in sources]
+    if unknown:
+        sys.exit(f"check_mutants: no crate is named {unknown[0]}")
+    return {name: crates[name] for name in sources if name in (names or sources) and RT.edits_of(sources[name]) != ([], [])}, sources
+
+
+def report(complaints, count, checks, seconds):
+    print("\n".join(complaints + [f"{count} mutants in {checks} checks, {seconds:.0f} processor seconds, {len(complaints)} complaints"]))
+    return 1 if complaints else 0
+
+
+def run(names, libraries):
+    wanted, sources = crates_with_edits(names, libraries)
+    for crate in wanted.values():
+        missing = prover.unbuilt(crate)
+        if missing:
+            print(f"check_mutants: the library {missing[0]} below {crate.name} is not built; run `rt lib` in its folder", file=sys.stderr)
+            return 2
+    return report(*try_all(wanted, sources))
+
+
+def run_during_proofs(folder, words):
+    wanted, sources = crates_with_edits([], folder)
+    lanes = prover.lanes()
+    proving = Proving(["rt", "ci", *words], folder, lanes)
+    try:
+        # The proofs have priority: they are the longest path.
+        os.nice(10)
+        found = try_all(wanted, sources, proving, lanes)
+        status = proving.wait()
+    finally:
+        proving.stop()
+    print(f"rt ci: {proving.seconds:.0f} processor seconds")
+    return report(*found) if status == 0 else status

@@ -1,0 +1,236 @@
+"""The self-test of scripts/check_mutants: two small crates, their mutants, and the verdict that each must get."""
+import io
+import os
+import pathlib
+import signal
+import subprocess
+import sys
+import tempfile
+import time
+
+from lib import prover
+from lib.mutants import in_turn, mutants_of, refusal, tried, try_all
+from lib.prover import TOP
+from lib.proving import Proving, at_work
+
+CRATES = {
+    "crates.txt": "sample:\ngarbled:\n",
+    "crates/garbled/src/lib.rt": """//! A crate whose edit cannot be read.
+#![tactic(auto)]
+
+/// A number.
+pub fn one() -> u8 {
+    1
+}
+""",
+    "crates/garbled/must-fail/unreadable.edit": "file: src/lib.rt\nold:     1\nnew:     nowhere\n",
+    "HANDLES": "Handles allowed: none.\n",
+    "crates/sample/src/lib.rt": """//! A crate to try the script on.
+#![tactic(auto)]
+
+ghost use Rattle.std.specs.Prelude.{◌≡◌, ◌+◌, ◌<◌};
+
+/// One more.
+pub fn one_more(n: u8) -> u8
+    requires { n < 200 }
+    ensures value { result ≡ n + 1 }
+{
+    n + 1
+}
+
+/// Two more.
+pub fn two_more(n: u8) -> u8
+    requires { n < 100 }
+    ensures value { result ≡ n + 2 }
+{
+    let next = one_more(n);
+    one_more(next)
+}
+
+/// The same.
+pub fn same(n: u8) -> u8
+    ensures value { result ≡ n }
+{
+    n
+}
+
+/// The same, with an answer.
+pub fn kept(n: u8) -> u8
+    ensures { result ≡ n }
+{
+    let kept = n;
+    kept
+}
+
+/// The same, of what is the same.
+pub fn same_again(n: u8) -> u8
+    ensures value { result ≡ n }
+{
+    let first = same(n);
+    even_and_odd(same(first))
+}
+
+/// The same, by a cycle without an edit.
+#[cycle(odd)]
+pub fn even_and_odd(n: u8) -> u8
+    ensures value { result ≡ n }
+{
+    if n == 0 { n } else { odd_and_even(n - 1) + 1 }
+}
+
+/// The same.
+#[cycle(odd)]
+pub fn odd_and_even(n: u8) -> u8
+    ensures value { result ≡ n }
+{
+    if n == 0 { n } else { even_and_odd(n - 1) + 1 }
+}
+
+/// The same, counted.
+pub fn counted(n: u8) -> u8
+    ensures value { result ≡ n }
+{
+    let mut count = 0;
+    while count < n {
+        count += 1;
+    }
+    count
+}
+
+/// A number.
+pub struct Count {
+    pub number: u8,
+}
+
+impl Count {
+    /// The next one.
+    pub fn next(&self) -> u8
+        requires { self.now.number < 200 }
+        ensures value { result ≡ self.now.number + 1 }
+    {
+        self.number + 1
+    }
+}
+
+/// Nothing, by the other one.
+#[cycle(down)]
+pub fn down(n: u8) -> u8
+    ensures value { result ≡ 0 }
+{
+    if n == 0 { 0 } else { further_down(n - 1) }
+}
+
+/// The same.
+#[cycle(down)]
+pub fn further_down(n: u8) -> u8
+    ensures value { result ≡ 0 }
+{
+    if n == 0 { n } else { down(n - 1) }
+}
+""",
+    "crates/sample/proofs/+down/Invariants.antt": """use Rattle.sample.proofs.+down.Given as goal
+
+abbrev pub decreases-down : goal.decreases-down
+decreases-down l = l.n
+
+abbrev pub decreases-further_down : goal.decreases-further_down
+decreases-further_down l = l.n
+""",
+    "crates/sample/proofs/+odd/Invariants.antt": """use Rattle.sample.proofs.+odd.Given as goal
+
+abbrev pub decreases-even_and_odd : goal.decreases-even_and_odd
+decreases-even_and_odd l = l.n
+
+abbrev pub decreases-odd_and_even : goal.decreases-odd_and_even
+decreases-odd_and_even l = l.n
+""",
+    "crates/sample/proofs/counted/Invariants.antt": """use Rattle.std.proofs.Common.{◌-◌, ◌≤◌}
+use Rattle.sample.proofs.counted.Given as goal
+
+abbrev pub invariant-loop-count : goal.invariant-loop-count
+invariant-loop-count l = l.count ≤ l.n
+
+abbrev pub decreases-loop-count : goal.decreases-loop-count
+decreases-loop-count l = l.n - l.count
+""",
+    "crates/sample/proofs/kept/Answers.antt": """use Rattle.std.proofs.Common.{rules}
+use Rattle.sample.proofs.kept.Goals as goal
+
+pub returns : goal.returns
+returns c = search rules
+""",
+    "crates/sample/must-fail/kept_from_nine.edit": "file: src/lib.rt\nold:     kept\nnew:     if n < 9 { 0 } else { kept }\n",
+    "crates/sample/must-fail/counted_by_two.edit": "file: src/lib.rt\nold:         count += 1;\nnew:         count += 2;\n",
+    "crates/sample/must-fail/counted_from_the_end.edit": "file: src/lib.rt\nold:     let mut count = 0;\nnew:     let mut count = n;\n",
+    "crates/sample/must-fail/none_more.edit": "file: src/lib.rt\nold:     n + 1\nnew:     n\n",
+    "crates/sample/must-fail/nothing_changed.edit": "file: src/lib.rt\nold: let next = one_more(n);\nnew: let next = one_more(n + 0);\n",
+    "crates/sample/must-fail/three_more.edit": "file: src/lib.rt\nold:     n + 1\nnew:     n + 3\n",
+    "crates/sample/must-fail/one_more_all_the_same.edit": "file: src/lib.rt\nold:     n + 1\nnew:     1 + n\n",
+    "crates/sample/must-fail/count_stays.edit": "file: src/lib.rt\nold:         self.number + 1\nnew:         self.number\n",
+    "crates/sample/must-fail/count_by_two.edit": "file: src/lib.rt\nold:         self.number + 1\nnew:         self.number + 2\n",
+    "crates/sample/must-fail/same_but_once.edit": "file: src/lib.rt\nold:     even_and_odd(same(first))\nnew:     even_and_odd(same(0))\n",
+    "crates/sample/must-fail/same_all_the_same.edit": "file: src/lib.rt\nold:     even_and_odd(same(first))\nnew:     even_and_odd(same(n))\n",
+    "crates/sample/must-fail/stands_twice.edit": "file: src/lib.rt\nold: one_more(n\nnew: one_more(1\n",
+    "crates/sample/must-fail/not_down.edit": "file: src/lib.rt\nold:     if n == 0 { 0 } else { further_down(n - 1) }\nnew:     if n == 0 { 1 } else { further_down(n - 1) }\n",
+    "crates/sample/must-fail/down_all_the_same.edit": "file: src/lib.rt\nold:     if n == 0 { n } else { down(n - 1) }\nnew:     if n == 0 { 0 } else { down(n - 1) }\n",
+}
+EXPECTED = {
+    "none_more.edit": None,
+    # Next to none_more it is rejected for its callee alone, which does not count; tried alone it is proved.
+    "nothing_changed.edit": "NOT REJECTED",
+    "not_down.edit": None,
+    # Next to not_down its cycle is not proved, for a goal of the other function.
+    "down_all_the_same.edit": "NOT REJECTED",
+    # Second mutants of a function and of a method change copies of these.
+    "three_more.edit": None,
+    "one_more_all_the_same.edit": "NOT REJECTED",
+    "count_stays.edit": None,
+    "count_by_two.edit": None,
+    # The copy of this one includes the invariant of its loop.
+    "counted_by_two.edit": None,
+    "counted_from_the_end.edit": "NOT REJECTED",
+    # These call stubs, also of a cycle. Over everything they call, one is proved.
+    "same_but_once.edit": None,
+    "same_all_the_same.edit": "NOT REJECTED",
+    # This one removes the goal that has an answer.
+    "kept_from_nine.edit": None,
+    "stands_twice.edit": "BAD MUTANT",
+    "unreadable.edit": "cannot read",
+}
+
+
+def is_work_counted():
+    """Returns whether, of a shell's two processes, the busy one counts and the waiting one does not."""
+    words = ["sh", "-c", "(ulimit -t 9; while :; do :; done) & sleep 9 & wait"]
+    with subprocess.Popen(words, cwd=TOP, start_new_session=True) as shell:
+        while not (count := at_work(shell.pid)) and shell.poll() is None:
+            time.sleep(0.5)
+        os.killpg(shell.pid, signal.SIGKILL)
+    return count == 1
+
+
+def self_test():
+    with tempfile.TemporaryDirectory(prefix="mutants-") as folder:
+        for path, text in CRATES.items():
+            file = pathlib.Path(folder, path)
+            file.parent.mkdir(parents=True, exist_ok=True)
+            file.write_text(text, encoding="utf-8")
+        crates = prover.crates_of(folder)
+        mutants, _ = mutants_of(crates["sample"], crates["sample"])
+        beside = [mutant for mutant in mutants if os.path.basename(mutant.path) in ("none_more.edit", "nothing_changed.edit")]
+        _, output, _ = tried(crates["sample"], beside, False)
+        callee = [mutant.name for mutant in beside if refusal(output, mutant.functions)] == ["sample/none_more.edit"] and "which is not proved" in output
+        complaints, count, _, _ = try_all(crates, crates)
+        failing = Proving([sys.executable, "-c", "print('rt: garbled proved'); raise SystemExit(3)"], folder, 1, io.StringIO())
+        is_reported = failing.wait() == 3 and failing.has_failed() and failing.proved == {"garbled"}
+        behind = list(in_turn([(crates["garbled"], [])], failing, 1))
+    found = {name: next((it.split(": ", 1)[1] for it in complaints if f"/{name}: " in it), None) for name in EXPECTED}
+    wrong = [f"{name}: wanted {want}, got {found[name]}" for name, want in EXPECTED.items() if (want is None) != (found[name] is None) or want and want not in found[name]]
+    if not callee:
+        wrong.append("a mutant next to a broken callee was counted as rejected")
+    if not is_reported or behind:
+        wrong.append("a failure of the proofs was not reported, or more was tried after it")
+    if not is_work_counted():
+        wrong.append("of a busy and a waiting process, not exactly one was counted")
+    print("\n".join(wrong) or f"self-test: the {len(EXPECTED)} mutants are judged as expected, and a broken callee is no reason")
+    return 1 if wrong else 0

@@ -1,0 +1,81 @@
+"""`rt ci` while it runs: the crates proved so far, and the number of its running checks."""
+import os
+import re
+import subprocess
+import sys
+import threading
+import time
+
+# The line that `rt ci` prints for a crate whose library can be used from then on.
+PROVED = re.compile(r"rt: (\w+) (?:proved$|is kept: )")
+# Seconds of processor time that a check has used soon after it began. The shell that `rt` keeps next to its checks waits and
+# uses none.
+SPENT = 0.1
+
+
+class Proving:
+    """`rt ci` running in a folder. With this many lanes it uses one process per crate: more would finish a crate sooner and take
+    a fifth more processor time."""
+
+    def __init__(self, command, folder, lanes, out=sys.stdout):
+        self.out = out
+        # Its status and processor seconds, after it has ended.
+        self.status, self.seconds = None, 0.0
+        self.proved = set()
+        self.running = subprocess.Popen(
+            command, cwd=folder, env={"RT_JOBS": str(lanes), **os.environ},
+            stdin=subprocess.DEVNULL, stdout=subprocess.PIPE, stderr=subprocess.STDOUT, text=True, errors="replace",
+        )
+        self.following = threading.Thread(target=self.follow)
+        self.following.start()
+
+    def wait(self):
+        """Waits for its end and returns its status."""
+        self.following.join()
+        return self.status
+
+    def follow(self):
+        for line in self.running.stdout:
+            print(line, end="", file=self.out, flush=True)
+            found = PROVED.match(line)
+            if found:
+                self.proved.add(found[1])
+        _, status, usage = os.wait4(self.running.pid, 0)
+        self.seconds = usage.ru_utime + usage.ru_stime
+        self.running.returncode = os.waitstatus_to_exitcode(status)
+        self.status = self.running.returncode
+
+    def stop(self):
+        if self.status is None:
+            self.running.terminate()
+
+    def has_failed(self):
+        return self.status not in (None, 0)
+
+    def has_built_below(self, crate):
+        # Before the first proof it has no checks to count, but keeps the processors busy.
+        return self.status == 0 or bool(self.proved) and all(below.name in self.proved for below in crate.below())
+
+    def checks(self):
+        """Returns the number of its running checks: the greater of two samples, since there is a pause between checks."""
+        looks = [at_work(self.running.pid)]
+        if self.status is None:
+            time.sleep(2)
+            looks.append(at_work(self.running.pid))
+        return max(looks) if self.status is None else 0
+
+
+def at_work(parent):
+    """Returns how many children of a process have used processor time."""
+    found = 0
+    for name in filter(str.isdigit, os.listdir("/proc")):
+        try:
+            with open(f"/proc/{name}/stat", encoding="utf-8", errors="replace") as stat:
+                # After the command's name in parentheses: state, parent, and as 12th and 13th field the times.
+                fields = stat.read().rpartition(")")[2].split()
+        except OSError:
+            # It has ended.
+            continue
+        spent = (int(fields[11]) + int(fields[12])) / os.sysconf("SC_CLK_TCK")
+        found += int(fields[1]) == parent and spent >= SPENT
+    return found

@@ -1,0 +1,66 @@
+"""Collects the licence notices of the libraries that are linked into the program, from the toolchain's own files."""
+import pathlib
+import re
+import shutil
+
+TOP = pathlib.Path(__file__).resolve().parent.parent
+USE = re.compile(r"(?m)^\s*(?:pub )?use (\w+)::")
+TITLE = "Notices of the libraries that are linked into the program netflow\n"
+
+
+def libraries_folder():
+    """Returns the toolchain's folder of libraries; None without a toolchain."""
+    found = shutil.which("rt")
+    if not found:
+        return None
+    for folder in pathlib.Path(found).resolve().parents:
+        if (folder / "rattle" / "std").is_dir():
+            return folder / "rattle"
+    return None
+
+
+def crates_of_program():
+    """Returns the crates that the program is built of, by crates.txt: its own, and those of the toolchain."""
+    uses = {}
+    for line in (TOP / "crates.txt").read_text(encoding="utf-8").splitlines():
+        name, colon, others = line.split("#")[0].partition(":")
+        if colon:
+            uses[name.strip()] = others.split()
+    found, line = set(), ["netflow"]
+    while line:
+        name = line.pop()
+        if name not in found:
+            found.add(name)
+            line += uses.get(name, [])
+    return {it for it in found if it not in uses} | {"std"}
+
+
+def linked(folder):
+    """Returns the toolchain's libraries that the program uses, directly or through others."""
+    found, line = set(), sorted(crates_of_program())
+    while line:
+        name = line.pop()
+        if name in found or not (folder / name).is_dir():
+            continue
+        found.add(name)
+        for path in (folder / name / "src").rglob("*.rt"):
+            line += [it for it in USE.findall(path.read_text(encoding="utf-8", errors="replace")) if it not in found and (folder / it).is_dir()]
+    return sorted(found)
+
+
+def notices():
+    """Returns the notices as one text; a text that is used by several libraries appears once."""
+    folder = libraries_folder()
+    if folder is None:
+        return TITLE + "\nThe toolchain was not found when this archive was made, so its notices are missing.\n"
+    texts = {}
+    for name in linked(folder):
+        for path in sorted((folder / name).glob("LICENSE*")):
+            texts.setdefault(path.read_text(encoding="utf-8", errors="replace").strip(), []).append(f"{name} ({path.name})")
+    names = sorted({it.split(" ")[0] for users in texts.values() for it in users})
+    without = [it for it in linked(folder) if it not in names]
+    parts = [TITLE, f"\nLibraries: {', '.join(names)}.\n"]
+    parts += [f"Without a notice of their own in the toolchain: {', '.join(without)}.\n"] if without else []
+    for text, users in sorted(texts.items(), key=lambda it: it[1]):
+        parts.append(f"\n{'=' * 100}\n{', '.join(users)}\n{'=' * 100}\n\n{text}\n")
+    return "".join(parts)

@@ -1,0 +1,1 @@
+"""Tests of the Python package, which scripts/check_python runs."""

@@ -1,0 +1,155 @@
+"""Models of AMPL's chapter on networks, in its notation: what node and arc models say runs with decimals and without bounds, and of the
+others the message names the word and its replacement."""
+import netflow
+
+CITIES = """set CITIES;
+set LINKS within (CITIES cross CITIES);
+param supply {CITIES} >= 0;   # amounts available at cities
+param demand {CITIES} >= 0;   # amounts required at cities
+   check: sum {i in CITIES} supply[i] = sum {j in CITIES} demand[j];
+param cost {LINKS} >= 0;      # shipment costs/1000 packages
+param capacity {LINKS} >= 0;  # max packages that can be shipped
+"""
+NODE = """minimize Total_Cost;
+node Balance {k in CITIES}: net_in = demand[k] - supply[k];
+arc Ship {(i,j) in LINKS} >= 0, <= capacity[i,j],
+   from Balance[i], to Balance[j], obj Total_Cost cost[i,j];
+"""
+VAR = """var Ship {(i,j) in LINKS} >= 0, <= capacity[i,j];
+minimize Total_Cost: sum {(i,j) in LINKS} cost[i,j] * Ship[i,j];
+subject to Balance {k in CITIES}:
+   supply[k] + sum {(i,k) in LINKS} Ship[i,k] = demand[k] + sum {(k,j) in LINKS} Ship[k,j];
+"""
+DATA = """set CITIES := PITT NE SE BOS EWR BWI ATL MCO ;
+set LINKS := (PITT,NE) (PITT,SE)
+             (NE,BOS) (NE,EWR) (NE,BWI)
+             (SE,EWR) (SE,BWI) (SE,ATL) (SE,MCO);
+param supply default 0 := PITT 450 ;
+param demand default 0 :=
+  BOS 90, EWR 120, BWI 120, ATL 70, MCO 50;
+param:      cost  capacity  :=
+  PITT NE    2.5    250
+  PITT SE    3.5    250
+  NE BOS     1.7    100
+  NE EWR     0.7    100
+  NE BWI     1.3    100
+  SE EWR     1.3    100
+  SE BWI     0.8    100
+  SE ATL     0.2    100
+  SE MCO     2.1    100 ;
+"""
+DIST = """set D_CITY;
+set W_CITY;
+set DW_LINKS within (D_CITY cross W_CITY);
+param p_supply >= 0;
+param w_demand {W_CITY} >= 0;
+   check: p_supply = sum {j in W_CITY} w_demand[j];
+param pd_cost {D_CITY} >= 0;
+param dw_cost {DW_LINKS} >= 0;
+param pd_cap {D_CITY} >= 0;
+param dw_cap {DW_LINKS} >= 0;
+minimize Total_Cost;
+node Plant: net_out = p_supply;
+node Dist {i in D_CITY};
+node Whse {j in W_CITY}: net_in = w_demand[j];
+arc PD_Ship {i in D_CITY} >= 0, <= pd_cap[i],
+   from Plant, to Dist[i], obj Total_Cost pd_cost[i];
+arc DW_Ship {(i,j) in DW_LINKS} >= 0, <= dw_cap[i,j],
+   from Dist[i], to Whse[j], obj Total_Cost dw_cost[i,j];
+"""
+DIST_DATA = """set D_CITY := NE SE ;
+set W_CITY := BOS EWR BWI ATL MCO ;
+set DW_LINKS := (NE,BOS) (NE,EWR) (NE,BWI) (SE,EWR) (SE,BWI) (SE,ATL) (SE,MCO);
+param p_supply := 450 ;
+param w_demand := BOS 90, EWR 120, BWI 120, ATL 70, MCO 50;
+param: pd_cost pd_cap := NE 2.5 250 SE 3.5 250;
+param: dw_cost dw_cap :=
+  NE BOS 1.7 100 NE EWR 0.7 100 NE BWI 1.3 100 SE EWR 1.3 100 SE BWI 0.8 100 SE ATL 0.2 100 SE MCO 2.1 100;
+"""
+TRANS = """set ORIG;
+set DEST;
+param supply {ORIG} >= 0;
+param demand {DEST} >= 0;
+   check: sum {i in ORIG} supply[i] = sum {j in DEST} demand[j];
+param cost {ORIG,DEST} >= 0;
+minimize Total_Cost;
+node Supply {i in ORIG}: net_out = supply[i];
+node Demand {j in DEST}: net_in = demand[j];
+arc Trans {i in ORIG, j in DEST} >= 0,
+   from Supply[i], to Demand[j], obj Total_Cost cost[i,j];
+"""
+TRANS_DATA = """param: ORIG: supply := GARY 1400 CLEV 2600 PITT 2900 ;
+param: DEST: demand := FRA 900 DET 1200 LAN 600 WIN 400 STL 1700 FRE 1100 LAF 1000 ;
+param cost: FRA DET LAN WIN STL FRE LAF :=
+   GARY 39 14 11 14 16 82 8
+   CLEV 27 9 12 9 26 95 17
+   PITT 24 14 17 13 28 99 20 ;
+"""
+MAXFLOW = """set INTER;
+param entr symbolic in INTER;
+param exit symbolic in INTER, <> entr;
+set ROADS within (INTER diff {exit}) cross (INTER diff {entr});
+param cap {ROADS} >= 0;
+node Intersection {k in INTER};
+arc Traff_In >= 0, to Intersection[entr];
+arc Traff_Out >= 0, from Intersection[exit];
+arc Traff {(i,j) in ROADS} >= 0, <= cap[i,j],
+   from Intersection[i], to Intersection[j];
+maximize Entering_Traff: Traff_In;
+"""
+MAXFLOW_DATA = """data;
+set INTER := a b c d e f g ;
+param entr := a ;
+param exit := g ;
+param: ROADS: cap := a b 50, a c 100, b d 40, b e 20, c d 60, c f 20, d e 50, d f 60, e g 70, f g 70 ;
+"""
+RUNS = (
+    ("net1node", CITIES + NODE, DATA, 1819, False),
+    ("net3node", DIST, DIST_DATA, 1819, False),
+    ("nettrans", TRANS, TRANS_DATA, 196200, True),
+    ("netmax3", MAXFLOW, MAXFLOW_DATA, 130, True),
+)
+# A model of the chapter that cannot run, and the word that its message has to name, with a part of the replacement.
+NAMED = (
+    ("net1", CITIES + VAR, DATA, "var", "arc X"),
+    ("net1 without var", CITIES + VAR.split("\n", 1)[1].replace("minimize Total_Cost: sum {(i,j) in LINKS} cost[i,j] * Ship[i,j];", "minimize Total_Cost;"),
+     DATA, "subject", "node B"),
+    ("netmax with if", "set S; param entr symbolic; maximize T; node A {k in S}: net_out = if k = entr then 1 else 0;", "", "if", "parentheses"),
+    ("netthru with to_come", "set S; minimize C; node A {k in S}: to_come = 0;", "", "to_come", "from and to"),
+    ("coeff", "minimize C; node A; arc X >= 0, <= 1, from A, coeff A 1;", "", "coeff", "coefficient"),
+    ("piecewise", "minimize C; node A; arc X >= 0, <= 9, from A, obj C <<5; 1, 2>>;", "", "<<", "one arc for each piece"),
+    ("gain", "minimize C; node A; node B; arc X >= 0, <= 9, from A, to B 0.9;", "", "gain", "arrives at the other"),
+    ("division", "param p := 3; param q := p / 2; minimize C; node A;", "", "/", "div"),
+    ("Infinity", "minimize C; node A; arc X >= 0, <= Infinity, from A;", "", "Infinity", "--bounds"),
+    ("equal sign", "param p = 40; minimize C;", "", "=", ":="),
+    ("ordered", "set S ordered; minimize C;", "", "ordered", "1..T"),
+    ("exists", "set S; check: exists {i in S} i > 0; minimize C;", "", "exists", "sum"),
+    ("solve", "minimize C; node A; solve;", "", "solve", "netflow solve"),
+    ("data in the model", "set S; minimize C; node A;\ndata;\nset S := a;", "", "data", "a file of their own"),
+    ("s.t.", "minimize C; node A; s.t. x: 1 = 1;", "", "s.t.", "node B"),
+)
+
+
+def check_book(complaints):
+    for name, model, data, value, has_no_bounds in RUNS:
+        try:
+            found = netflow.solve(model, data, bounds=has_no_bounds).value
+        except netflow.NetflowError as problem:
+            found = str(problem)
+        complaints.same(f"{name}: the value", value, found)
+    for name, model, data, word, replacement in NAMED:
+        try:
+            complaints.append(f"{name}: is accepted: {netflow.solve(model, data or None)!r}")
+        except netflow.ModelError as problem:
+            said = " ".join(problem.hints) + problem.code
+            complaints.want(word in said and replacement in said, f"{name}: {problem.code} {problem.detail}: no {word!r} and {replacement!r} in {problem.hints}")
+
+
+def check_unbounded(complaints):
+    model = "maximize T; node A; arc In >= 0, to A, obj T 1; arc Out >= 0, from A;"
+    try:
+        complaints.append(f"an objective without a limit is {netflow.solve(model, bounds=True)!r}")
+    except netflow.Unbounded as problem:
+        complaints.want("T has no limit" in str(problem), f"unbounded: {problem}")
+    free = "minimize C; node A: net_in = -3; arc X <= 5, to A, obj C 2;"
+    complaints.same("an arc without a lower bound", -6, netflow.solve(free, bounds=True).value)

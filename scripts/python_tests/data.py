@@ -1,0 +1,142 @@
+"""Forms of data from Python, several data files, changes, and the JSON of all outcomes."""
+import json
+import pathlib
+import tempfile
+
+import netflow
+
+TOP = pathlib.Path(__file__).resolve().parent.parent.parent
+MODEL, DATA, BUSY = (str(TOP / "examples" / "bread" / it) for it in ("bread.mod", "bread.dat", "busy.dat"))
+COST = {("north", "hill"): 4, ("north", "lake"): 6, ("north", "mill"): 9, ("south", "hill"): 7, ("south", "lake"): 5, ("south", "mill"): 3}
+WHOLE = {"BAKERIES": ["north", "south"], "SHOPS": ("hill", "lake", "mill"), "bakes": {"north": 60, "south": 50}, "van": 40,
+         "wants": {"hill": 30, "lake": 45, "mill": 25}}
+FORMS = (
+    ("a dict", COST),
+    ("dicts in a dict", {i: {j: COST[i, j] for j in ("hill", "lake", "mill")} for i in ("north", "south")}),
+    ("tuples", [(*key, it) for key, it in COST.items()]),
+    ("rows", [{"from": i, "to": j, "cost": it} for (i, j), it in COST.items()]),
+    ("rows of texts", [{"from": i, "to": j, "cost": str(it)} for (i, j), it in COST.items()]),
+    ("a generator", ((*key, it) for key, it in COST.items())),
+)
+
+
+def check_forms(complaints):
+    for name, cost in FORMS:
+        complaints.same(f"cost as {name}", 440, netflow.solve(MODEL, cost=cost, **WHOLE).value)
+    with open(MODEL, encoding="utf-8") as model, open(DATA, encoding="utf-8") as data:
+        complaints.same("texts", 440, netflow.solve(model.read(), data.read()).value)
+    complaints.same("a path object", 440, netflow.solve(pathlib.Path(MODEL), pathlib.Path(DATA)).value)
+    complaints.same("a dict as data", 440, netflow.solve(MODEL, {**WHOLE, "cost": COST}).value)
+    for name, value in (("nothing", 3), ("wants", {("hill", "x"): 3}), ("wants", [("hill",)]), ("SHOPS", "hill"), ("SHOPS", [1.5])):
+        try:
+            complaints.append(f"{name}={value!r} is {netflow.solve(MODEL, DATA, **{name: value})!r}")
+        except netflow.DataError as problem:
+            complaints.want(name in str(problem) or repr(value[0]) in str(problem), f"{name}={value!r}: {problem}")
+
+
+# Data from Python that are wrong, with the exception and what it has to say; nothing else is said of a line or of a second file.
+MISTAKES = (
+    ({"van": "fifteen"}, netflow.ModelError, "E36 KindMismatch in the value of van", "van = 'fifteen'", "'fifteen' is a text, and van is a number"),
+    ({"cost": {("north", "hill"): "x"}}, netflow.ModelError, "in key ('north', 'hill') of cost", "cost['north', 'hill'] = 'x'"),
+    ({"wants": {"hil": 30}}, netflow.ModelError, "E33 OutsideSet wants['hil'] in key 'hil' of wants", "hil: is hill meant?"),
+    ({"wants": {"hill": -3}}, netflow.ModelError, "E34 Restriction", "the data name wants in key 'hill' of wants"),
+    ({"cost": [4, 3, 2]}, netflow.DataError, "param cost: 4 in the list has no key, and the model wants 2", "a dict by key, a list of tuples", "a list of dicts"),
+    ({"wants": 5}, netflow.DataError, "param wants: 5 has no keys", "a list of dicts"),
+    ({"wants": ["hill"]}, netflow.DataError, "param wants: 'hill' in the list has no key"),
+    ({"wants": [("hill", 3), ("hill", 4)]}, netflow.DataError, "param wants: the key 'hill' is given twice"),
+    ({"wants": [{"shop": "hill", "wants": 3}, {"shop": "hill", "wants": None}]}, netflow.DataError, "param wants: the key 'hill' is given twice"),
+    ({"cost": [("north", "hill", 1), ("north", "hill", 1)]}, netflow.DataError, "param cost: the key ('north', 'hill') is given twice"),
+    ({"SHOPS": ["hill", "lake", "hill"]}, netflow.DataError, "set SHOPS: the member 'hill' is given twice"),
+    ({"SHOPS": ["hill", None]}, netflow.DataError, "set SHOPS: None is no member"),
+    ({"wants": {None: 3}}, netflow.DataError, "param wants: None is no member"),
+)
+
+
+def check_mistakes(complaints):
+    """Errors in data from Python name the parameter, with its key, and no line of a file that does not exist."""
+    for values, kind, *said in MISTAKES:
+        for data in (DATA, {**WHOLE, "cost": COST}):
+            try:
+                complaints.append(f"{values} gives {netflow.solve(MODEL, data, **values)!r}")
+            except kind as problem:
+                text = str(problem)
+                for it in said:
+                    complaints.want(it in text, f"{values}: no {it!r} in {text!r}")
+                complaints.want("second file" not in text and "dev/null" not in text, f"{values}: {text!r} names a file")
+                if kind is netflow.ModelError and problem.text == "data":
+                    complaints.same(f"{values}: file, line, column", (None, 0, 0), (problem.file, problem.line, problem.column))
+    try:
+        complaints.append(f"no data give {netflow.solve(MODEL)!r}")
+    except netflow.ModelError as problem:
+        complaints.same("no data", "there are no data: give a data file, or the values from Python", problem.hint)
+
+
+def check_pandas(complaints):
+    """Series and frames are accepted, and returned; skipped without pandas."""
+    try:
+        import pandas
+    except ImportError:
+        return "pandas is missing, so its objects are not tried"
+    grid = pandas.DataFrame([[4, 6, 9], [7, 5, 3]], index=["north", "south"], columns=["hill", "lake", "mill"])
+    long = pandas.DataFrame([(*key, it) for key, it in COST.items()], columns=["from", "to", "cost"])
+    for name, cost in (("a grid", grid), ("columns", long), ("a series", long.set_index(["from", "to"])["cost"])):
+        complaints.same(f"pandas: {name}", 440, netflow.solve(MODEL, cost=cost, **WHOLE).value)
+    series = pandas.Series({"hill": 30, "lake": 45, "mill": float("nan")})
+    plan = netflow.solve(MODEL, DATA, wants=series, bakes=pandas.Series({"north": 60, "south": 50}))
+    complaints.same("pandas: a missing value", 440, plan.value)
+    complaints.same("pandas: flows", 30, plan["Drive"].to_pandas()["north", "hill"])
+    complaints.same("pandas: rows", [30, 20, 0, 0, 25, 25], list(plan.to_pandas("Drive")["flow"]))
+    return None
+
+
+def check_overrides(complaints):
+    """Later data override earlier ones value by value, sets as a whole; positions of errors name the file."""
+    try:
+        complaints.append(f"a busy day has {netflow.solve(MODEL, [DATA, BUSY])!r}")
+    except netflow.Infeasible as problem:
+        complaints.same("a busy day", ["Shop['lake']"], problem.cut)
+    complaints.same("overridden twice", 440, netflow.solve(MODEL, [DATA, BUSY, "param bakes := south 50; param wants := lake 45;"]).value)
+    fewer = netflow.solve(MODEL, [DATA, "set SHOPS := hill mill; param wants := lake .;"][:1], wants={"lake": 0})
+    complaints.same("a need of 0", [0, 0], [fewer["Drive"][it, "lake"] for it in ("north", "south")])
+    with tempfile.TemporaryDirectory() as folder:
+        path = pathlib.Path(folder) / "more.dat"
+        path.write_text("# two lines\nparam wants := hil 3;\n", encoding="utf-8")
+        try:
+            complaints.append(f"a wrong member is {netflow.solve(MODEL, [DATA, path])!r}")
+        except netflow.ModelError as problem:
+            complaints.same("the place in the second file", ("E33", str(path), 2, 16), (problem.code, problem.file, problem.line, problem.column))
+    try:
+        complaints.append(f"a file that is not there: {netflow.solve(MODEL, [DATA, '/nowhere/x.dat'])!r}")
+    except netflow.ModelError as problem:
+        complaints.same("a file that is not there", "E90", problem.code)
+    fixed = "param van := 30; minimize C; node A; arc X >= 0, <= van, to A; arc Y >= 1, <= 99, from A, obj C 1;"
+    complaints.same("a value that the model fixes, changed", 0, len([it for it in netflow.solve(fixed, van=1) if it.name == "X" and it.upper != 1]))
+
+
+def check_json(complaints):
+    """The objects of a plan, of none and of an error have the documented fields, and numbers keep their digits."""
+    plan = json.loads(netflow.solve(MODEL, DATA).to_json())
+    complaints.same("JSON of a plan", (1, "optimal", {"name": "Total", "sense": "minimize", "value": 440}, 6, 5),
+                    (plan["schema"], plan["status"], plan["objective"], len(plan["arcs"]), len(plan["nodes"])))
+    complaints.same("JSON of an arc", {"name": "Drive", "key": ["north", "hill"], "from": "Bakery['north']", "to": "Shop['hill']", "flow": 30,
+                                       "lower": 0, "upper": 40, "price": 4}, plan["arcs"][0])
+    complaints.want('"value": 443.05' in netflow.solve(MODEL, DATA, cost={("north", "hill"): 4.1016666}, scale={"cost": 10**7}).to_json()[:200] or
+                    '"value": 443.049998' in netflow.solve(MODEL, DATA, cost={("north", "hill"): 4.1016666}).to_json()[:200], "JSON loses digits")
+    try:
+        netflow.solve(MODEL, [DATA, BUSY])
+    except netflow.Infeasible as problem:
+        found = problem.to_dict()
+        complaints.same("JSON of no plan", ("infeasible", "under", ["Shop['lake']"], 85, 80, 5),
+                        (found["status"], found["cut"]["side"], found["cut"]["nodes"], *(found["reasons"][0][it] for it in ("required", "possible", "short"))))
+    try:
+        netflow.solve(MODEL, DATA, van="x")
+    except netflow.ModelError as problem:
+        found = problem.to_dict()["error"]
+        complaints.same("JSON of an error", {"code", "name", "input", "file", "line", "column", "detail", "source", "meaning", "hints", "remedy"}, set(found))
+        complaints.same("JSON of an error: code", "E36", found["code"])
+
+
+def check_page(complaints):
+    """The page in a notebook is the report's."""
+    page = netflow.solve(MODEL, DATA)._repr_html_()
+    complaints.want(page.startswith("<iframe ") and "Total = 440" in page, "no page in a notebook")
