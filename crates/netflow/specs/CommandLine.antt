@@ -44,7 +44,7 @@ abbrev pub bare_app : App
 bare_app = record (new_app (codes "netflow")) { top = record (new_app (codes "netflow")).top { subcommand_required = true; has_version = true } }
 
 abbrev pub netflow_app : App
-netflow_app = with_subcommand (with_subcommand (with_subcommand (with_subcommand bare_app compile_app.top) solve_app.top) min_app.top) check_app.top
+netflow_app = with_subcommand (with_subcommand (with_subcommand (with_subcommand bare_app solve_app.top) compile_app.top) min_app.top) check_app.top
 
 abbrev pub action_word : Action → Text
 action_word Compile = codes "compile"

@@ -71,7 +71,15 @@ Example:
   netflow solve transport.mod transport.dat
   netflow compile transport.mod transport.dat > transport.min
   netflow min transport.min > transport.sol
-  netflow check transport.min transport.sol";
+  netflow check transport.min transport.sol
+
+Tools:
+  netflow-explain   what an error means, and how to fix it
+  netflow-why       why there is no plan, and what one more unit costs
+  netflow-report    a plan as a page for the browser
+  netflow-sheet     data from spreadsheets, and plans for them
+
+Documents: the folder docs (installed: share/doc/netflow), and man netflow";
 
 const COMPILE_ABOUT: &str = "Compiles a model to a DIMACS problem on standard output";
 
@@ -220,9 +228,9 @@ fn with_subcommand<'a>(
 fn command<'a>(alloc: Global) -> Result<Command<'a>, AllocError>
     ensures { IfOk result (IsApp netflow_app) }
 {
-    let with_compile = with_subcommand(Ok(bare_command(alloc)), compile_command(alloc));
-    let with_solve = with_subcommand(with_compile, solve_command(alloc));
-    let with_min = with_subcommand(with_solve, min_command(alloc));
+    let with_solve = with_subcommand(Ok(bare_command(alloc)), solve_command(alloc));
+    let with_compile = with_subcommand(with_solve, compile_command(alloc));
+    let with_min = with_subcommand(with_compile, min_command(alloc));
     with_subcommand(with_min, check_command(alloc))
 }
 
