@@ -2,7 +2,8 @@
 
 A mutant is a file must-fail/NAME.edit with a line `file: src/FILE.rt` and pairs of lines `old: TEXT` and `new: TEXT`. It is
 rejected if the prover fails at a goal of the function that it changes: not because a callee is unproved, and not because a proof
-names something that the mutant removed.
+names something that the mutant removed. A mutant that changes only definitions (files in specs/) is tried by itself, in a check of
+the whole crate, and is rejected if a goal or a lemma fails.
 """
 import os
 import pathlib
@@ -22,8 +23,9 @@ REMOVED = re.compile(r"has no field|is not in scope|has no `|was not admitted")
 COMPILER = re.compile(r"(\./)?src/\S+:\d+:\d+: error\[")
 # An error of the prover about an answer to a goal that does not exist.
 LOST = r"(?m)^(?:\./)?proofs/(?:\S*/)?(?:{})/Answers\.antt:\d+:\d+: error: .*Goals` has no `([^`]+)`"
-# The complaint about a mutant whose function the prover accepts.
+# The complaints about mutants that the prover accepts.
 STILL_PROVED = "NOT REJECTED: the function is still proved"
+ALL_PROVED = "NOT REJECTED: the whole crate is still proved"
 
 
 class Mutant:
@@ -39,8 +41,8 @@ class Mutant:
         texts, self.bad = RT.read_edit(path, crate.folder)
         if self.bad is None:
             self.read(open(path, encoding="utf-8").read())
-            if not self.functions:
-                self.bad = "it changes no function"
+            if not self.functions and not self.is_of_definitions():
+                self.bad = "it changes no function and no definition"
 
     def read(self, text):
         file = old = ""
@@ -56,6 +58,9 @@ class Mutant:
                     function = Function.at(file, whole, whole.index(old) + len(old))
                     self.functions.add(function.qualified(function.name))
                     self.places.append(function)
+
+    def is_of_definitions(self):
+        return all(file.startswith("specs/") for file, _, _ in self.changes)
 
     def apply(self, copy, taken):
         """Applies the mutant to the copy of the crate; returns the functions that it changes there, or None if it does not fit next
@@ -183,6 +188,29 @@ def judge(mutant, functions, output):
     return f"not rejected for a goal of its own: {(errors or words)[0][:200]}"
 
 
+def judge_definitions(mutant, output):
+    """Returns None if the crate has a goal or a lemma that fails with the mutant's definitions, else a complaint."""
+    said = unread(output, {file for file, _, _ in mutant.changes})
+    if said:
+        return f"the prover cannot read the changed text: {said[:200]}"
+    if re.search(r"(?m)^logic=proved", output):
+        return ALL_PROVED
+    goals = [line for line in re.findall(r"(?m)^fn \w+::\S+: (no proof.*)$", output) if "did not prove" in line]
+    errors = re.findall(r"(?m)^(?:\./)?proofs/\S+: error:.*$", output)
+    if goals or any(not REMOVED.search(it) for it in errors):
+        return None
+    return f"no goal and no lemma fails for its meaning: {(errors or [output.strip()])[0][-200:]}"
+
+
+def try_definitions(crate, mutant):
+    """Checks the whole crate with a mutant of its definitions; returns the complaint or None, and processor seconds."""
+    with tempfile.TemporaryDirectory(prefix="mutants-") as copy:
+        prover.copy_of(crate.folder, copy)
+        mutant.changes_texts(copy)
+        _, seconds, output = prover.check(crate, copy)
+        return judge_definitions(mutant, output), seconds
+
+
 def has_lost(mutant, functions, output):
     """Records the goals that the mutant removed; returns whether there are any that no check found before."""
     found = lost_goals(output, functions) - mutant.lost
@@ -195,7 +223,11 @@ def try_crate(crate, mutants):
     do not fit together, or that remove goals with answers, are tried in further checks; those that are neither rejected nor proved
     over stubs are tried again over everything they call, then without the rejected ones, and finally alone."""
     verdicts, checks, total = {}, 0, 0
-    waiting = [(mutants, True)]
+    for mutant in filter(Mutant.is_of_definitions, mutants):
+        verdicts[mutant], seconds = try_definitions(crate, mutant)
+        checks, total = checks + 1, total + seconds
+    of_bodies = [mutant for mutant in mutants if mutant not in verdicts]
+    waiting = [(of_bodies, True)] if of_bodies else []
     while waiting:
         together, stubs = waiting.pop()
         fitting, output, seconds = tried(crate, together, stubs)

@@ -14,7 +14,7 @@ from lib.prover import TOP
 from lib.proving import Proving, at_work
 
 CRATES = {
-    "crates.txt": "sample:\ngarbled:\n",
+    "crates.txt": "sample:\ngarbled:\ndefined:\n",
     "crates/garbled/src/lib.rt": """//! A crate whose edit cannot be read.
 #![tactic(auto)]
 
@@ -24,6 +24,29 @@ pub fn one() -> u8 {
 }
 """,
     "crates/garbled/must-fail/unreadable.edit": "file: src/lib.rt\nold:     1\nnew:     nowhere\n",
+    "crates/defined/src/lib.rt": """//! A crate with a definition.
+#![tactic(auto)]
+
+ghost use Rattle.defined.specs.Doubles.{double};
+ghost use Rattle.std.specs.Prelude.{◌≡◌, ◌<◌};
+
+/// Twice the number.
+pub fn twice(n: u8) -> u8
+    requires { n < 100 }
+    ensures value { result ≡ double n }
+{
+    n + n
+}
+""",
+    "crates/defined/specs/Doubles.antt": """use Rattle.std.specs.Prelude.{ℕ, ◌+◌}
+
+abbrev pub double : ℕ → ℕ
+double n = n + n
+""",
+    "crates/defined/specs/Lib.antt": "pub mod Doubles\n",
+    "crates/defined/must-fail/one_added.edit": "file: specs/Doubles.antt\nold: n + n\nnew: n + 1\n",
+    "crates/defined/must-fail/another_letter.edit": "file: specs/Doubles.antt\nold: double n = n + n\nnew: double m = m + m\n",
+    "crates/defined/must-fail/unknown_word.edit": "file: specs/Doubles.antt\nold: n + n\nnew: n + nowhere\n",
     "HANDLES": "Handles allowed: none.\n",
     "crates/sample/src/lib.rt": """//! A crate to try the script on.
 #![tactic(auto)]
@@ -196,6 +219,10 @@ EXPECTED = {
     "kept_from_nine.edit": None,
     "stands_twice.edit": "BAD MUTANT",
     "unreadable.edit": "cannot read",
+    # These change a definition.
+    "one_added.edit": None,
+    "another_letter.edit": "NOT REJECTED",
+    "unknown_word.edit": "cannot read",
 }
 
 

@@ -27,7 +27,8 @@ fn settled(problem: &Problem, certificate: Certificate) -> Certificate
     certificate
 }
 
-/// Settles a problem by a solver, and by `Plain` if that has no answer. Both get the same guess. The only error is running out of memory.
+/// Settles a problem by a solver, and by `Plain` if that has no answer. Both get the same guess.
+/// The only error is running out of memory.
 pub fn solve<S: Solver>(
     alloc: Global,
     solver: &S,
@@ -46,14 +47,28 @@ pub fn solve<S: Solver>(
     Ok(settled(problem, certificate))
 }
 
-/// Settles a problem by the solvers that suit it. The only error is running out of memory.
+/// Settles a problem by cost scaling, which needs no guess, and by `Plain` if that has no answer.
+/// The only error is running out of memory.
+fn solve_small(alloc: Global, problem: &Problem) -> Result<Certificate, AllocError>
+    ensures certificate { IfOk result (IsCertificate problem.now) }
+    ensures optimal { IfOk result (BoundsEachFlow problem.now) }
+    ensures cut { IfOk result (LeavesNoFlow problem.now) }
+{
+    match (Scaling { budget: BUDGET }).answer(alloc, problem)? {
+        Some(certificate) => Ok(settled(problem, certificate)),
+        None => solve(alloc, &Plain, problem),
+    }
+}
+
+/// Settles a problem: a small one by `Scaling` if that has an answer, any other by `Plain`. The only
+/// error is running out of memory.
 pub fn solve_problem(alloc: Global, problem: &Problem) -> Result<Certificate, AllocError>
     ensures certificate { IfOk result (IsCertificate problem.now) }
     ensures optimal { IfOk result (BoundsEachFlow problem.now) }
     ensures cut { IfOk result (LeavesNoFlow problem.now) }
 {
     match first_solver(problem) {
-        FirstSolver::Scaling => solve(alloc, &Scaling { budget: BUDGET }, problem),
+        FirstSolver::Scaling => solve_small(alloc, problem),
         FirstSolver::Plain => solve(alloc, &Plain, problem),
     }
 }
