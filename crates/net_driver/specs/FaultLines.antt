@@ -20,7 +20,7 @@ abbrev pub detail_gap : List ℕ → List ℕ
 detail_gap [] = []
 detail_gap (byte ∷ rest) = codes " "
 
--- for example `E12 Undeclared model 3:34 B`
+-- for example `E12 Undeclared model 3:30 B`
 abbrev pub refusal_line : Refusal → List ℕ
 refusal_line r =
     defect_shown r.kind ++ (codes " " ++ (text_word r.text ++ (codes " " ++ (decimal r.line ++ (codes ":" ++ (decimal r.column ++ (detail_gap (string_bytes r.detail) ++ string_bytes r.detail)))))))

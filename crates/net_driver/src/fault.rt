@@ -57,7 +57,7 @@ impl fmt::Display for Refusal {
 
     ghost output = { λ refusal. Some (refusal_line refusal) };
 
-    /// Prints the error in the form `E12 Undeclared model 3:34 B`.
+    /// Prints the error in the form `E12 Undeclared model 3:30 B`.
     fn fmt<W: fmt::Write>(&self, f: &mut fmt::Formatter<W>) -> fmt::Result {
         let kind = self.kind;
         let text = self.text.word();

@@ -50,9 +50,11 @@ pub enum Defect {
     NoSuchName,
     /// E31: A second value for a member, a key, a default or a whole set.
     DoubleValue,
-    /// E32: A parameter without a value at a key of its index set, or `min` or `max` over nothing.
+    /// E32: A set without data, a parameter without a value at a key of its index set, or `min` or
+    /// `max` over nothing.
     NoValue,
-    /// E33: A key that is not in a parameter's index set.
+    /// E33: A key that is not in a parameter's index set, or an arc in an objective's expression at a
+    /// key that its declaration does not have.
     OutsideSet,
     /// E34: A member or a value that its declaration does not allow.
     Restriction,

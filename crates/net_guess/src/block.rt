@@ -5,12 +5,13 @@ use crate::simplex_arc::root_of;
 /// The minimum length, in hundredths of the square root of the number of arcs.
 const LEAST: usize = 40;
 
-/// The initial and the maximum length, if some nodes have arcs both in and out.
+/// The initial length, if some nodes have arcs both in and out.
 const FIRST: usize = 150;
 
+/// The maximum length, if some nodes have arcs both in and out.
 const GREATEST: usize = 200;
 
-/// Both, if no node has.
+/// The initial and the maximum length, if no node has arcs both in and out.
 const BIPARTITE: usize = 200;
 
 /// The increment of the length if the first block has an eligible arc, and the decrement if a block

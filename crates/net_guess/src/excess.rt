@@ -60,7 +60,8 @@ pub struct Start {
 }
 
 impl Start {
-    /// Most arcs of negative cost start full, as most of them stay full, and arcs that relieve a node of large excess or deficit.
+    /// Computes the bounds at which arcs start. Most arcs of negative cost start full, as most of
+    /// them stay full, and so do arcs that relieve a node of large excess or deficit.
     pub fn new(alloc: Global, problem: &Problem, excess: &[i128]) -> Result<Start, AllocError> {
         let Ok(is_full) = vec![in alloc; false; problem.arcs.len()] else {
             return Err(AllocError);
@@ -72,7 +73,7 @@ impl Start {
         Ok(start)
     }
 
-    /// Whether an arc starts at its capacity.
+    /// Returns whether an arc starts at its capacity.
     pub fn is_full(&self, number: u32) -> bool {
         at(&self.is_full, number, false)
     }
@@ -114,7 +115,7 @@ impl Start {
     }
 }
 
-/// Whether a node's excess or deficit is large.
+/// Returns whether a node's excess or deficit is large.
 fn is_large(amount: i128) -> bool {
     amount > LARGE || amount < LARGE.wrapping_neg()
 }

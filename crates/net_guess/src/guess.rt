@@ -12,7 +12,7 @@ pub struct Cut {
 }
 
 impl Cut {
-    /// The set, or if it has more than half of the nodes but not all, the set of all others.
+    /// Returns the set, or its complement if it has more than half of the nodes but not all.
     pub fn with_few_nodes(self) -> Cut {
         let mut cut = self;
         let count = cut.flags.iter().filter(|flag| **flag).count();

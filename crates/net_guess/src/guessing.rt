@@ -44,7 +44,7 @@ pub fn find_cut(alloc: Global, problem: &Problem) -> Result<Option<Cut>, AllocEr
     }
 }
 
-/// A cut, if one is found in any way.
+/// Returns a cut, if one is found in any way.
 fn decided(alloc: Global, problem: &Problem) -> Result<Option<Cut>, Halt> {
     let excess = excess_at_lows(alloc, problem)?;
     match simple_cut(alloc, problem, &excess)? {
@@ -53,7 +53,7 @@ fn decided(alloc: Global, problem: &Problem) -> Result<Option<Cut>, Halt> {
     }
 }
 
-/// The first answer that a heuristic proposes.
+/// Returns the first answer that a heuristic proposes.
 fn guessed(alloc: Global, problem: &Problem) -> Result<Guess, Halt> {
     let excess = excess_at_lows(alloc, problem)?;
     if let Some(cut) = simple_cut(alloc, problem, &excess)? {
@@ -66,7 +66,7 @@ fn guessed(alloc: Global, problem: &Problem) -> Result<Guess, Halt> {
     }
 }
 
-/// A cut that needs no search: all nodes, if the supplies do not sum to 0, or one node.
+/// Returns a cut that needs no search: all nodes, if the supplies do not sum to 0, or one node.
 fn simple_cut(alloc: Global, problem: &Problem, excess: &[i128]) -> Result<Option<Cut>, Halt> {
     let total = supplies_sum(problem)?;
     if total != 0 {
@@ -96,7 +96,7 @@ fn size_of(problem: &Problem) -> u64 {
     (problem.supplies.len() as u64).saturating_add(problem.arcs.len() as u64)
 }
 
-/// A preflow that has come to its end or its bound, with what it shows.
+/// Returns a preflow that has come to its end or its bound, with what it shows.
 fn run_preflow(
     alloc: Global,
     problem: &Problem,
@@ -108,7 +108,7 @@ fn run_preflow(
     Ok((preflow, shown))
 }
 
-/// The cut that a preflow shows, if it shows one.
+/// Returns the cut that a preflow shows, if it shows one.
 fn cut_by_preflow(alloc: Global, problem: &Problem, excess: &[i128]) -> Result<Option<Cut>, Halt> {
     let (mut preflow, shown) = run_preflow(alloc, problem, excess)?;
     match shown {
@@ -117,14 +117,15 @@ fn cut_by_preflow(alloc: Global, problem: &Problem, excess: &[i128]) -> Result<O
     }
 }
 
-/// The cut that a preflow shows whose excess reaches no deficit, with few nodes.
+/// Returns the cut that a preflow shows if its excess reaches no deficit: it or its complement,
+/// whichever has fewer nodes.
 fn cut_of(preflow: &mut Preflow, alloc: Global) -> Result<Cut, Halt> {
     let flags = preflow.reached(alloc)?;
     let side = Side::Over;
     Ok(Cut { flags, side }.with_few_nodes())
 }
 
-/// What a preflow finds for a problem without costs: a flow or a cut.
+/// Returns what a preflow finds for a problem without costs: a flow or a cut.
 fn by_preflow(alloc: Global, problem: &Problem, excess: &[i128]) -> Result<Guess, Halt> {
     let (mut preflow, shown) = run_preflow(alloc, problem, excess)?;
     if let Feasibility::Infeasible = shown {
@@ -137,7 +138,8 @@ fn by_preflow(alloc: Global, problem: &Problem, excess: &[i128]) -> Result<Guess
     Ok(Guess::Flow { flows, potentials })
 }
 
-/// What a network simplex finds: a flow; or if it has excess after a while, the cut that a preflow shows.
+/// Returns what a network simplex finds: a flow, or, if excess is left after a while, the cut that
+/// a preflow shows.
 fn by_simplex(alloc: Global, problem: &Problem, excess: &[i128]) -> Result<Guess, Halt> {
     let size = size_of(problem);
     let mut simplex = Simplex::new(alloc, problem, excess)?;

@@ -6,7 +6,8 @@ use net_normal::Problem;
 use std::alloc::{AllocError, Global};
 use std::ops::Range;
 
-/// The number of arcs at each node, and 0 after the last: each arc of the problem is at both of its ends.
+/// Returns the number of arcs at each node, and 0 after the last: each arc of the problem is at both
+/// of its ends.
 fn degrees(alloc: Global, problem: &Problem) -> Result<Vec<u32>, AllocError> {
     let mut counts = vec![in alloc; 0u32; problem.supplies.len().saturating_add(1)]?;
     for arc in &problem.arcs {
@@ -18,7 +19,8 @@ fn degrees(alloc: Global, problem: &Problem) -> Result<Vec<u32>, AllocError> {
     Ok(counts)
 }
 
-/// The index at which the arcs of each node end, if they are listed in the order of their nodes, and that at which all end.
+/// Returns the index at which the arcs of each node end, if they are listed in the order of their
+/// nodes, and that at which all end.
 fn row_ends(alloc: Global, problem: &Problem) -> Result<Vec<u32>, AllocError> {
     let mut ends = degrees(alloc, problem)?;
     let mut end = 0u32;

@@ -238,9 +238,9 @@ impl Prices {
     /// Returns the index of the arc with the most negative reduced cost in this range. A single
     /// test, of the upper limit, covers both limits.
     #[inline(never)]
-    pub fn dearest_between(&self, from: usize, to: usize) -> Result<Option<u32>, Halt> {
+    pub fn cheapest_between(&self, from: usize, to: usize) -> Result<Option<u32>, Halt> {
         if self.is_narrow {
-            return self.dearest_narrow(from, to);
+            return self.cheapest_narrow(from, to);
         }
         let Some(block) = self.wide_arcs.get(from..to) else {
             return Err(Halt::OutOfRange);
@@ -263,7 +263,7 @@ impl Prices {
     }
 
     #[inline(never)]
-    fn dearest_narrow(&self, from: usize, to: usize) -> Result<Option<u32>, Halt> {
+    fn cheapest_narrow(&self, from: usize, to: usize) -> Result<Option<u32>, Halt> {
         let Some(block) = self.narrow_arcs.get(from..to) else {
             return Err(Halt::OutOfRange);
         };

@@ -7,7 +7,7 @@ use crate::simplex::Simplex;
 impl Simplex {
     /// Returns the arc with the most negative reduced cost in the first block with an eligible arc,
     /// starting at the end of the last search.
-    pub fn dearest(&mut self) -> Result<Option<u32>, Halt> {
+    pub fn cheapest(&mut self) -> Result<Option<u32>, Halt> {
         let count = self.numbers.len();
         let mut left = count;
         self.looked = 0;
@@ -17,7 +17,7 @@ impl Simplex {
                 .saturating_add(self.block.length().min(left))
                 .min(count);
             let looked = to.saturating_sub(from);
-            let found = self.prices.dearest_between(from, to)?;
+            let found = self.prices.cheapest_between(from, to)?;
             self.work = self.work.wrapping_add(looked as u64);
             self.looked = self.looked.wrapping_add(looked as u64);
             left = left.saturating_sub(looked);

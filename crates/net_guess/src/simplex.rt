@@ -43,8 +43,9 @@ pub struct Simplex {
 }
 
 impl Simplex {
-    /// A simplex before its first pivot, with the arcs at the bounds that `Start` chooses. Each node with excess hangs below the root, and
-    /// the others by the cheapest arcs or paths to those that want flow.
+    /// Creates a simplex before its first pivot, with the arcs at the bounds that `Start` chooses. Each
+    /// node with excess hangs below the root; the others are attached by the cheapest arcs or paths to
+    /// nodes with a deficit.
     pub fn new(alloc: Global, problem: &Problem, excess: &[i128]) -> Result<Simplex, Halt> {
         let Ok(is_bipartite) = is_bipartite(alloc, problem) else {
             return Err(Halt::OutOfMemory);
@@ -140,7 +141,7 @@ impl Simplex {
     /// Changes the tree until no arc's price is negative, or until there was so much work. Returns whether it came to the end.
     pub fn run(&mut self, limit: u64) -> Result<bool, Halt> {
         for _ in 0..limit {
-            match self.dearest()? {
+            match self.cheapest()? {
                 Some(place) => self.enter(place)?,
                 None => return Ok(true),
             }
@@ -151,7 +152,7 @@ impl Simplex {
         Ok(false)
     }
 
-    /// Returns the result: whether there is flow left on arcs of the root.
+    /// Returns whether there is flow left on arcs of the root.
     pub fn has_excess(&self) -> bool {
         for node in 0..index(self.tree.nodes.len()) {
             let number = self.tree.node(node).arc;

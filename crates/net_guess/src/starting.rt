@@ -25,11 +25,12 @@ pub fn greatest_cost(problem: &Problem) -> i64 {
     greatest
 }
 
-/// The cost of a unit from the root: more than any path through the problem costs, unless such a path is very long and its arcs dear.
+/// Returns the cost of a unit from the root: more than any path through the problem costs, unless
+/// such a path is very long and its arcs are expensive.
 pub fn root_cost(problem: &Problem) -> i64 {
-    let dearest = greatest_cost(problem).wrapping_add(1);
-    let cost = dearest.saturating_mul(problem.supplies.len() as i64);
-    if dearest.saturating_mul(LONG_WAY) <= NARROW_LIMIT {
+    let past_all_costs = greatest_cost(problem).wrapping_add(1);
+    let cost = past_all_costs.saturating_mul(problem.supplies.len() as i64);
+    if past_all_costs.saturating_mul(LONG_WAY) <= NARROW_LIMIT {
         cost.min(NARROW_LIMIT)
     } else {
         cost.min(ROOT_COST_LIMIT)

@@ -44,7 +44,8 @@ pub trait Solver {
 #[derive(Clone, Copy, Debug, PartialEq, Eq)]
 pub struct Plain;
 
-/// The certificate as it is, or instead of a cut of more than half of the nodes the cut of all others, if that is violated too.
+/// Returns the certificate, except that a cut of more than half of the nodes is replaced by its
+/// complement if that is violated too.
 fn with_few_nodes(
     alloc: Global,
     problem: &Problem,
@@ -73,7 +74,8 @@ fn with_few_nodes(
 }
 
 impl Plain {
-    /// A certificate of the problem, from a guess that may be wrong in any way. The better the guess, the sooner it comes.
+    /// Returns a certificate of the problem, from a guess that may be wrong in any way. The better the
+    /// guess, the sooner it comes.
     pub fn certificate(
         &self,
         alloc: Global,
