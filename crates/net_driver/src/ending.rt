@@ -3,8 +3,8 @@
 /// The result of a run without an error.
 #[derive(Clone, Copy, Debug, PartialEq, Eq)]
 pub enum Ending {
-    /// Done: `yes`, or an optimal flow.
+    /// Done: a compiled problem, a plan, an optimal flow, or `yes`.
     Done,
-    /// A negative result: a rejected certificate, or a problem without a feasible flow.
+    /// A negative result: no plan, no feasible flow, or a wrong certificate.
     Refuted,
 }
