@@ -154,11 +154,11 @@ class Diagnostic:
 
 
 def catalogue(number: str) -> list:
-    """Returns the first paragraph of the page of codes for the number, and how to fix it; empty texts without the page."""
+    """Returns the first paragraph of a code's section, and its list item "Fix:"; empty texts without the page."""
     for place in PAGES:
         found = re.search(rf"(?ms)^## {number} \w+\n\n(.*?)(?=^## |\Z)", read(os.path.normpath(os.path.join(HERE, place))))
         if found:
-            said = [it.replace("\n", " ") for it in found[1].split("\n\n")]
+            said = [it.strip().replace("\n", " ") for it in re.split(r"\n\n(?:- )?|\n- ", found[1])]
             remedy = next((REMEDY.sub("", it, count=1) for it in said if REMEDY.match(it)), "")
             return [plain(it) for it in (said[0], remedy)]
     return ["", ""]

@@ -123,7 +123,7 @@ class Arcs:
 
 
 def places_html(net, marginal=None):
-    """Returns the table of the places: what comes in and goes out, and what one more required unit there costs."""
+    """Returns the table of the places: inflow, outflow, and the cost of one more required unit."""
     came, went = [0] * len(net.nodes), [0] * len(net.nodes)
     for arc in net.arcs:
         for counts, number, is_forward in ((came, arc.dst, arc.flow > 0), (went, arc.src, arc.flow > 0)):

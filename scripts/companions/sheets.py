@@ -175,14 +175,12 @@ SHORT = {"lake 45": "lake 85", "south 50": "south 90"}
 # A page, the call that it shows, and what was changed in the tutorial's data before.
 SHOWN = (
     ("docs/tutorial.md", "netflow-why bread.mod bread.dat", SHORT),
-    ("docs/guide/tools.md", "netflow-why bread.mod bread.dat", SHORT),
     ("docs/guide/tools.md", "netflow-explain bread.mod bread.dat", {"mill 25;": "mill 25"}),
     ("docs/guide/tools.md", "netflow-sheet plan bread.mod bread.dat --grid", {}),
     ("docs/guide/tools.md", 'netflow-sheet scenarios bread.mod bread.dat --vary van=20,25,40 --case "van=45 wants[lake]=50"', {}),
     ("docs/guide/tools.md", "netflow-sheet diff bread.mod bread.dat --case van=25", {}),
     ("docs/guide/tools.md", "netflow-sheet grid cost costs.csv", {}),
     ("docs/guide/tools.md", "netflow-sheet list shops.csv --set SHOPS", {}),
-    ("docs/guide/tools.md", "netflow-sheet set SHOPS shops.csv --heading --columns shop", {}),
     ("docs/reference/json.md", "netflow-sheet plan bread.mod bread.dat --only Drive", {}),
     # Of this one the prices are unique: the arcs between their bounds lead to all places.
     ("docs/guide/shadow-prices.md", "netflow-why bread.mod bread.dat", {"south 50": "south 90", "hill 30": "hill 45"}),

@@ -53,7 +53,7 @@ pub data IsFirstFault (wanted : Option Name) (model_text data_text : List ℕ) :
   both : (ds : List Declaration) (tables : Tables) (finding : Finding) → IsModel model_text ds → IsData data_text tables → IsNetworkFault wanted ds tables finding
       → IsFirstFault wanted model_text data_text finding
 
--- a condition for memory to be allocated: the text is within the limit and UTF-8
+-- a condition for the error `out of memory`: the text is within the limit and UTF-8
 pub record MayBeModel (text : List ℕ) : Type 0 where
   pub short : length text ≤ text_limit languages.Model
   pub utf8 : IsUtf8 text

@@ -5,6 +5,6 @@
 pub enum Ending {
     /// Done: a compiled problem, a plan, an optimal flow, or `yes`.
     Done,
-    /// A negative result: a rejected certificate, or a problem without a feasible flow.
+    /// A negative result: no plan, no feasible flow, or a wrong certificate.
     Refuted,
 }

@@ -142,7 +142,7 @@ impl<'s> Table<'s> {
         self.rows.len()
     }
 
-    /// Returns the position that the next key has in the set if keys come in the order of the set.
+    /// Returns the position that the next key has in the set if keys are added in the set's order.
     pub fn next(&self) -> usize {
         match self.rows.last() {
             None => 0,

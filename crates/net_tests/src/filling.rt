@@ -3,7 +3,7 @@
 use std::alloc::Global;
 use std::io::{self, Write};
 
-/// A writer of std that takes one byte a call, and none once it has no room.
+/// A writer that accepts one byte per call until it is full, then none.
 #[derive(Drop)]
 pub struct Filling {
     pub taken: Vec<u8>,
@@ -11,7 +11,7 @@ pub struct Filling {
 }
 
 impl Filling {
-    /// A writer that takes so many bytes.
+    /// Creates a writer that accepts at most `room` bytes.
     pub fn new(alloc: Global, room: usize) -> Filling {
         Filling {
             taken: Vec::new(alloc),

@@ -10,22 +10,22 @@ from lib.examples.program import compare, rejected, run
 ERRORS, MODELLING = "docs/reference/errors.md", "docs/guide/modelling.md"
 TEXT = r"```\n((?:(?!```).*\n)*)```\n+"
 
-BLOCK = re.compile(rf"(?:{TEXT}with the data\n+)?{TEXT}(?:[^`\n]*)`(E\d\d \w+ (model|data|problem|certificate)[^`]*)`")
-INLINE = re.compile(r"Example: `([^`]+)`(?: with the data `([^`]+)`)? gives `(E\d\d \w+ (model|data|problem|certificate)[^`]*)`")
+# In an example this sign is a line feed.
+LINE_FEED = " ⏎ "
+EXAMPLE = re.compile(r"Example: `([^`]+)`(?: with the data `([^`]+)`)? gives `(E\d\d \w+ (model|data|problem|certificate)[^`]*)`")
 
 WITHOUT_EXAMPLE = ["E06", "E07", "E56", "E59", "E61", "E90", "E91"]
 
 
 def examples_of(page):
     """Returns the examples of the error reference: the model of a data file or "", the input, the error, and the input's kind."""
-    inline = [(above, text, line, kind) if text else ("", above, line, kind) for above, text, line, kind in INLINE.findall(page)]
-    blocks = [(above[:-1], text[:-1], line, kind) for above, text, line, kind in BLOCK.findall(page)]
-    return inline + blocks
+    found = [[it.replace(LINE_FEED, "\n") for it in parts] for parts in EXAMPLE.findall(page)]
+    return [(above, text, line, kind) if text else ("", above, line, kind) for above, text, line, kind in found]
 
 
 def check_errors_page(complaints):
-    """Checks that each example of the error reference gives its error: a line after `Example:`, or a block, without its last line
-    end, with the error below it. An example is a model, data (with its model, or with another one), a problem, or a certificate."""
+    """Checks that each example of the error reference gives its error. An example is a model, data (with its model, or with another
+    one), a problem, or a certificate."""
     model = TOP / "examples" / "one_arc" / "one_arc.mod"
     problem = TOP / "examples" / "foreign_problem" / "problem.min"
     page = (TOP / ERRORS).read_text(encoding="utf-8")
@@ -41,7 +41,7 @@ def check_errors_page(complaints):
     shown = {line.split()[0] for *_, line, _ in found}
     wanted = set(re.findall(r"(?m)^## (E\d\d) ", page)) - set(WITHOUT_EXAMPLE)
     complaints.extend(f"{ERRORS}: no example gives {number}" for number in sorted(wanted - shown))
-    if page.count("\n```\n") != 2 * sum(1 + bool(above) for above, *_ in BLOCK.findall(page)) or page.count("Example:") != len(INLINE.findall(page)):
+    if page.count("Example:") != len(found):
         complaints.append(f"{ERRORS}: an example has no error")
 
 
