@@ -123,7 +123,7 @@ class Arcs:
 
 
 def places_html(net, marginal=None):
-    """Returns the table of the places: what comes in and goes out, and what one more required unit there costs."""
+    """Returns the table of the places: inflow, outflow, and what one more required unit costs."""
     came, went = [0] * len(net.nodes), [0] * len(net.nodes)
     for arc in net.arcs:
         for counts, number, is_forward in ((came, arc.dst, arc.flow > 0), (went, arc.src, arc.flow > 0)):
@@ -131,7 +131,7 @@ def places_html(net, marginal=None):
                 (counts if is_forward else went if counts is came else came)[number] += abs(arc.flow)
     more = marginal.more if marginal else [None] * len(net.nodes)
     has_worth = any(more)
-    head = [("place", ""), ("needs or gives", ""), ("comes in", "number flow"), ("goes out", "number flow")]
+    head = [("place", ""), ("needs or gives", ""), ("inflow", "number flow"), ("outflow", "number flow")]
     head += [(f"one more needed unit {'costs' if net.sign > 0 else 'takes away'}", "number wrap")] * has_worth
     rows = [("", [it.text, it.wish(), came[number], went[number], *["" if more[number] is None else more[number]] * has_worth])
             for number, it in enumerate(net.nodes)]

@@ -81,14 +81,14 @@ def key_text(key: tuple) -> str:
     return repr(key[0]) if len(key) == 1 else repr(key)
 
 
-def plain(member: Any, where: str) -> Any:
-    """Returns a member as an int or a str; `where` is the set or parameter that an error names."""
+def plain(member: Any, owner: str) -> Any:
+    """Returns a member as an int or a str; `owner` is the set or parameter that an error names."""
     if isinstance(member, str) or (isinstance(member, int) and not isinstance(member, bool)):
         return member
     number = as_fraction(member)
     if number is not None and number.denominator == 1 and not isinstance(member, bool):
         return int(number)
-    raise DataError(f"{where}: {member!r} is no member: a member is a whole number or a text, so use str(..)")
+    raise DataError(f"{owner}: {member!r} is no member: a member is a whole number or a text, so use str(..)")
 
 
 def rows_of(name: str, value: Any, size: int) -> dict:

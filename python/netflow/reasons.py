@@ -28,7 +28,7 @@ class Part:
 
 @dataclasses.dataclass
 class Reason:
-    """A set of nodes that needs more than can come in (`under`), or has more than can leave (`over`). `asks` are the parts that
+    """A set of nodes that needs more than can arrive (`under`), or has more than can leave (`over`). `asks` are the parts that
     have to be met, `helps` those that can meet them, at most; `idle` are arcs that lead out of it, or into it, and do not help."""
 
     side: str

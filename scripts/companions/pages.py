@@ -97,7 +97,7 @@ def check_pages(complaints, folder):
             cells = cells_of(re.search(r"<h2>Places</h2>(.*?)</section>", text, re.S)[1])
             each = len(cells) // len(net.nodes)
             inflows = [int(cells[it + 2]) - int(cells[it + 3]) for it in range(0, len(cells), each)]
-            complaints.same(f"report {name}: what comes in less what goes out", [it.inflow for it in net.nodes], inflows)
+            complaints.same(f"report {name}: inflow minus outflow", [it.inflow for it in net.nodes], inflows)
         complaints.want(status or f"{net.objective} = {draw.grouped(net.value)}<" in text, f"report {name}: no value")
         complaints.same(f"report {name}: numbers on one another or on nodes", [], crowded(text))
         check_grids(complaints, name, net, text)
