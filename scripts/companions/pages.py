@@ -128,7 +128,7 @@ def crowded(text):
     nodes = [tuple(map(float, it)) for it in re.findall(r'<rect x="([-\d.]+)" y="([-\d.]+)" width="([\d.]+)" height="([\d.]+)"', svg[0])]
     boxes = [(x, y, x + wide, y + high) for x, y, wide, high in nodes]
     numbers = []
-    for x, y, shown in re.findall(r'marker-end="[^"]*"/><text x="([-\d]+)" y="([-\d]+)">([^<]*)</text>', svg[0]):
+    for x, y, shown in re.findall(r'<g class="arc number [^"]*"><text x="([-\d]+)" y="([-\d]+)">([^<]*)</text>', svg[0]):
         half = draw.LETTER * len(shown) / 2 - 1
         numbers.append((float(x) - half, float(y) - 10, float(x) + half, float(y) + 1, shown))
     found = [it[4] for it in numbers if any(draw.overlaps(it, box) for box in boxes)]
