@@ -4,8 +4,8 @@ from __future__ import annotations
 # The word at which E14 (or E10, E12) is reported, and what to write; docs/guide/from-ampl.md has the same rows.
 REPLACEMENTS = {
     "var": "a network has arcs in place of variables: arc X {..} >= 0, <= 40, from A[i], to B[j], obj Cost c[i,j];",
-    "subject": "a constraint `subject to` on flows becomes a node: node B {j in S}: net_in = need[j];",
-    "s.t.": "a constraint `s.t.` on flows becomes a node: node B {j in S}: net_in = need[j];",
+    "subject": "a constraint `subject to` that balances flows becomes a node: node B {j in S}: net_in = need[j]; others have no place in a network",
+    "s.t.": "a constraint `s.t.` that balances flows becomes a node: node B {j in S}: net_in = need[j]; others have no place in a network",
     "solve": "take `solve;` out of the model: `netflow solve MODEL DATA` solves it",
     "display": "take `display` out of the model: `netflow solve` prints all arcs",
     "data": "the data are a file of their own: move what follows `data;` there",

@@ -77,7 +77,7 @@ def change_of(word: str) -> tuple:
     name, bracket, key = head.strip().partition("[")
     parts = tuple(member_of(it) for it in key_parts(key[:-1])) if key.endswith("]") else ()
     if not equals or not name or bracket and not parts:
-        raise ProgramError(USAGE, f"--set {word}: wanted NAME=VALUE or NAME[KEY,..]=VALUE\n")
+        raise ProgramError(USAGE, f"--set {word}: expected NAME=VALUE or NAME[KEY,..]=VALUE\n")
     return name, parts, value_of(value)
 
 
@@ -108,7 +108,7 @@ def scale_of(words: Sequence[str]) -> dict:
     for word in words:
         name, _, factor = word.partition("=")
         if not factor.isdigit() or int(factor) < 1:
-            raise ProgramError(USAGE, f"--scale {word}: wanted NAME=FACTOR, a factor from 1 on\n")
+            raise ProgramError(USAGE, f"--scale {word}: expected NAME=FACTOR, a factor of 1 or more\n")
         found[name] = int(factor)
     return found
 

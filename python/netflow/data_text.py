@@ -68,14 +68,16 @@ class Statement:
 
 def tokens_of(text: str) -> list:
     found, at = [], 0
-    while at < len(text):
-        match = TOKEN.match(text, at)
-        if not match:
-            raise Unparsed(at)
+    for match in TOKEN.finditer(text):
+        start, end = match.span()
+        if start != at:
+            break
         kind = match.lastgroup or ""
         if kind != "skip":
             found.append(Token(kind, match[0], at))
-        at = match.end()
+        at = end
+    if at != len(text):
+        raise Unparsed(at)
     return found
 
 
@@ -135,10 +137,11 @@ class DataText:
         if not columns:
             raise Unparsed(heading[0].start)
         if made.name:
+            titles = [it.member() for it in columns]
             for row in groups(body, 1 + len(columns)):
-                for column, cell in zip(columns, row[1:]):
-                    pair = (row[0].member(), column.member())
-                    made.cells.append(Cell(made.name, pair[::-1] if is_turned else pair, cell))
+                head = row[0].member()
+                keys = [(title, head) if is_turned else (head, title) for title in titles]
+                made.cells += [Cell(made.name, key, cell) for key, cell in zip(keys, row[1:])]
             return
         if len(marks) == 2:
             made.set_name, made.set_tokens = heading[1].text, heading[1:3]

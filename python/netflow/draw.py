@@ -14,6 +14,8 @@ LETTER, LABELLED = 7.4, 60
 SWEEPS, SETTLINGS = 24, 16
 # Pixels: between the ports of arcs with a number, of other arcs, and the length of an arc from or to the outside.
 PORT, BARE_PORT, STUB = 17, 8, 34
+# The most pixels that a node of a large picture gets for the ends of its arcs.
+MOST_ROOM = 170
 # From this width on a drawing is tried from top to bottom.
 WIDE = 1400
 
@@ -79,9 +81,9 @@ class Picture:
                 self.sides.setdefault((arc.src, is_forward), []).append((arc, True))
                 self.sides.setdefault((arc.dst, not is_forward), []).append((arc, False))
         sizes = self.wide if self.is_down else self.tall
-        if self.is_small:
-            for (number, _), ends in self.sides.items():
-                sizes[number] = max(sizes[number], 10 + sum(self.pitch(arc, is_tail) for arc, is_tail in ends))
+        for (number, _), ends in self.sides.items():
+            room = 10 + sum(self.pitch(arc, is_tail) for arc, is_tail in ends)
+            sizes[number] = max(sizes[number], room if self.is_small else min(room, MOST_ROOM))
         for (src, dst), alike in self.stubs.items():
             room = (len(alike) - 1) * self.stub_step(alike) + 16
             other = self.tall if self.is_down else self.wide
@@ -90,7 +92,7 @@ class Picture:
 
     def pitch(self, arc, is_tail):
         """Returns the room that the end of an arc takes at its node; numbers are at heads."""
-        text = "" if is_tail else self.number(arc)
+        text = self.number(arc) if self.is_small and not is_tail else ""
         return BARE_PORT if not text else self.text_width(text) + 8 if self.is_down else PORT
 
     def stub_step(self, alike):
@@ -272,21 +274,22 @@ class Picture:
         return "across" if id(arc) in self.across else "full" if arc.flow and arc.is_tight() else "used" if arc.flow else "idle"
 
     def arc_svg(self, arc, most):
+        """Returns the arc, and its number, which is drawn after all arcs."""
         curves, flow, kind = self.curves(arc), abs(arc.flow or 0), self.kind(arc)
         if not curves:
-            return ""
+            return "", ""
         path = f"M{spot(curves[0][0])}" + "".join(f"C{spot(b)} {spot(c)} {spot(d)}" for _, b, c, d in curves)
         thick = 4.8 if most > 1 else 0.8
         width = 1.2 + thick * math.sqrt(float(flow / most)) if flow else 2.5 if kind == "across" else 1.2
         ends = " ".join(f"n{it}" for it in sorted({arc.src, arc.dst} - {None}))
         said = f"{arc.text}: {self.net.end(arc.src)} to {self.net.end(arc.dst)}, {arc.flow} of {arc.lower} to {arc.most()}, price {arc.price}"
-        lines = [f'<g class="arc {kind} {ends}"><title>{escape(said)}</title><path d="{path}" stroke-width="{width:.1f}" marker-end="url(#{kind})"/>']
+        made = f'<g class="arc {kind} {ends}"><title>{escape(said)}</title><path d="{path}" stroke-width="{width:.1f}" marker-end="url(#{kind})"/></g>'
         text = self.number(arc)
-        if text:
-            # In a large picture the numbers of the arcs of a place are shown when the pointer is on it.
-            x, y = self.text_place(arc, text, curves) if self.is_small else along(curves[len(curves) // 2], 0.5)
-            lines.append(f'<text x="{x:.0f}" y="{y + 4:.0f}">{text}</text>')
-        return "".join([*lines, "</g>"])
+        if not text:
+            return made, ""
+        # In a large picture the numbers of the arcs of a place are shown when the pointer is on it.
+        x, y = self.text_place(arc, text, curves) if self.is_small else along(curves[len(curves) // 2], 0.5)
+        return made, f'<g class="arc number {ends}"><text x="{x:.0f}" y="{y + 4:.0f}">{text}</text></g>'
 
     def node_svg(self, number):
         (x, y), wide, high, lines = self.xy(self.u[number], self.v[number]), self.wide[number], self.tall[number], self.label(number)
@@ -318,7 +321,7 @@ class Picture:
         sheet = f'{large}width="{wide}" height="{high}" viewBox="0 0 {wide} {high}"'
         return (f'<svg xmlns="http://www.w3.org/2000/svg" role="img" aria-label="the network" {sheet}>'
                 f"{f'<style>{DRAWING_STYLE}</style>' * is_alone}<defs>{heads}</defs>"
-                + "\n".join([*(arcs[id(it)] for it in drawn), *map(self.node_svg, self.nodes)]) + "</svg>")
+                + "\n".join([*(arcs[id(it)][0] for it in drawn), *(arcs[id(it)][1] for it in drawn), *map(self.node_svg, self.nodes)]) + "</svg>")
 
 
 def grouped(number):

@@ -22,7 +22,7 @@ class Unreadable(NetflowError):
 
 
 class ScaleError(NetflowError):
-    """Decimals that cannot be scaled to whole numbers: `parameter` and `factor` say where, if known."""
+    """Decimals that cannot be scaled to whole numbers: `parameter` and `factor` are the parameter and its factor, None if unknown."""
 
     def __init__(self, message: str, parameter: str | None = None, factor: int | None = None) -> None:
         super().__init__(message)

@@ -89,7 +89,7 @@ def as_fraction(value: Any) -> Fraction | None:
     if isinstance(value, decimal.Decimal):
         return Fraction(value) if value.is_finite() else None
     if hasattr(value, "item") and not isinstance(value, (str, bytes)):
-        return as_fraction(value.item())  # a number of NumPy
+        return as_fraction(value.item()) if getattr(value, "size", 1) == 1 else None  # a number of NumPy
     if isinstance(value, float):
         return Fraction(repr(value)) if math.isfinite(value) else None
     return None

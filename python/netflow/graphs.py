@@ -152,7 +152,7 @@ def network_simplex(G: Any, demand: str = "demand", capacity: str = "capacity", 
     `certify` the answer is checked by `netflow check` before it is returned.
     """
     if not G.is_directed():
-        raise _raised("NetworkXNotImplemented", DataError, "min_cost_flow wants a directed graph")
+        raise _raised("NetworkXNotImplemented", DataError, "min_cost_flow takes a directed graph")
     number = _Numbers()
     index = {node: here for here, node in enumerate(G)}
     supplies = {index[node]: -_finite(number(it, f"demand of {node!r}"), node) for node, it in G.nodes(data=demand, default=0)}

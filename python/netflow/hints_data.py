@@ -28,7 +28,7 @@ def sheet(it: Any) -> Hint:
 
 def joined(it: Any) -> Hint:
     if it.text == "data" and it.word() in ("data", "end") and len(it.statement()) <= 2:
-        yield f"{it.word()}; may stand only {'first' if it.word() == 'data' else 'last'}: are two data files joined? Give both to the tools", True
+        yield f"{it.word()}; is allowed only {'as the first' if it.word() == 'data' else 'as the last'} statement: are two data files joined? Give both to the tools", True
 
 
 def unended_statement(it: Any) -> Hint:
@@ -54,7 +54,7 @@ def doubled(it: Any) -> Hint:
 
 
 def uneven(it: Any) -> Hint:
-    """Rows of a table or list with another number of cells than is wanted, or than most have."""
+    """Rows of a table or list with another number of cells than is expected, or than most have."""
     whole = it.statement() if it.text == "data" and not it.is_change() else []
     cut = next((here for here, token in enumerate(whole) if token.text == ":="), None)
     if cut is None:
@@ -73,7 +73,7 @@ def uneven(it: Any) -> Hint:
         return
     for row in [row for row, count in cells.items() if count != usual][:3]:
         comma = cells[row] > usual and any(token.text == "," for token in rows[row])
-        yield f"{it.line_text(row)} has {cells[row]} cells, and {usual} are wanted" + (": is a comma part of a number?" if comma else ""), True
+        yield f"{it.line_text(row)} has {cells[row]} cells, and {usual} are expected" + (": is a comma part of a number?" if comma else ""), True
 
 
 def wanted_cells(head: list) -> int:

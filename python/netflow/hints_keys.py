@@ -103,7 +103,7 @@ class Key:
 
 
 def near(member: Any, others: list) -> list:
-    """Returns the members that a text may stand for: in other letters of case, misspelt, or with letters exchanged."""
+    """Returns the members that a text may mean: in other letters of case, misspelt, or with letters exchanged."""
     texts = sorted({it for it in others if isinstance(it, str) and it != member})
     if not isinstance(member, str):
         return []

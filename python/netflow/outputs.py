@@ -16,40 +16,27 @@ MARK = "\0"
 MARKED = re.compile(r'"\\u0000([-0-9.]+)"')
 
 
-def plain(value: Any) -> Any:
-    """Returns a value with exact decimals marked; a fraction such as 1/3 becomes a text."""
+def marked(value: Any) -> Any:
+    """Returns what the JSON encoder does not know, a fraction: a decimal with a mark, and one such as 1/3 as a text."""
     if isinstance(value, Fraction):
         text = str(value)
         return int(value) if value.denominator == 1 else text if "/" in text else MARK + text
-    if isinstance(value, Mapping):
-        return {key: plain(it) for key, it in value.items()}
-    if isinstance(value, (list, tuple)):
-        return [plain(it) for it in value]
-    return value
+    raise TypeError(f"{value!r} has no JSON form")
 
 
 def dumps(value: Any, indent: int | None = None) -> str:
     """Returns the JSON text of an object; exact decimals are numbers with all their digits."""
-    return MARKED.sub(r"\1", json.dumps(plain(value), indent=indent, ensure_ascii=False))
+    return MARKED.sub(r"\1", json.dumps(value, default=marked, indent=indent, ensure_ascii=False))
 
 
 def dump_lines(value: Mapping) -> str:
     """Returns the JSON text of an object with a line for each field and for each item of its lists: readable, and fast for many arcs."""
-    fields = []
+    fields, encode = [], json.JSONEncoder(default=marked, ensure_ascii=False).encode
     for name, it in value.items():
-        if isinstance(it, list) and it and isinstance(it[0], Mapping):
-            text = "[\n    " + ",\n    ".join([json.dumps(item, default=marked, ensure_ascii=False) for item in it]) + "\n  ]"
-        else:
-            text = json.dumps(plain(it), ensure_ascii=False)
-        fields.append(f"  {json.dumps(name)}: {text}")
+        is_list = isinstance(it, list) and it and isinstance(it[0], Mapping)
+        text = "[\n    " + ",\n    ".join(map(encode, it)) + "\n  ]" if is_list else encode(it)
+        fields.append(f"  {encode(name)}: {text}")
     return MARKED.sub(r"\1", "{\n" + ",\n".join(fields) + "\n}")
-
-
-def marked(value: Any) -> Any:
-    """Returns what the JSON encoder does not know, an exact number, as `plain` does."""
-    if isinstance(value, Fraction):
-        return plain(value)
-    raise TypeError(f"{value!r} has no JSON form")
 
 
 def arc_json(net: Network, arc: Any, has_flow: bool) -> dict:

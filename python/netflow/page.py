@@ -77,7 +77,8 @@ class Arcs:
     def summary(self):
         used, count = sum(it.flow != 0 for it in self.arcs), len(self.arcs)
         if not self.has_plan:
-            return f"{count} {arcs_word(count)}, {sum(id(it) in self.lead for it in self.arcs)} of them to or from the places in red."
+            across = sum(id(it) in self.lead for it in self.arcs)
+            return f"{count} {arcs_word(count)}, {across} of them to or from the places in red." if self.lead else f"{count} {arcs_word(count)}."
         full, lowest = sum(it.is_tight() for it in self.arcs), sum(it.is_lowest() for it in self.arcs)
         spent = f" Flow × price: {grouped(sum(it.flow * it.price for it in self.arcs))}." if self.has_price else ""
         bounds = (full, "full", "full, and more would help"), (lowest, "lowest", "at the least")
@@ -123,7 +124,7 @@ class Arcs:
 
 
 def places_html(net, marginal=None):
-    """Returns the table of the places: inflow, outflow, and the cost of one more required unit."""
+    """Returns the table of the places: inflow, outflow, and what one more required unit costs."""
     came, went = [0] * len(net.nodes), [0] * len(net.nodes)
     for arc in net.arcs:
         for counts, number, is_forward in ((came, arc.dst, arc.flow > 0), (went, arc.src, arc.flow > 0)):
@@ -131,7 +132,7 @@ def places_html(net, marginal=None):
                 (counts if is_forward else went if counts is came else came)[number] += abs(arc.flow)
     more = marginal.more if marginal else [None] * len(net.nodes)
     has_worth = any(more)
-    head = [("place", ""), ("needs or gives", ""), ("comes in", "number flow"), ("goes out", "number flow")]
+    head = [("place", ""), ("needs or gives", ""), ("inflow", "number flow"), ("outflow", "number flow")]
     head += [(f"one more needed unit {'costs' if net.sign > 0 else 'takes away'}", "number wrap")] * has_worth
     rows = [("", [it.text, it.wish(), came[number], went[number], *["" if more[number] is None else more[number]] * has_worth])
             for number, it in enumerate(net.nodes)]

@@ -9,6 +9,8 @@ from .errors import DataError
 from .exact import as_fraction, parse_numeral
 from .scaling import BOUND, scaled_value
 
+# The title that pandas gives to a column without one, as the first column of a grid in a file.
+UNNAMED = "Unnamed: 0"
 FORMS = "give a dict by key, a list of tuples (key, .., value), a list of dicts, or a Series or DataFrame of pandas"
 
 
@@ -65,11 +67,15 @@ def members_of(name: str, value: Any, size: int) -> list:
     """Returns the members of a set as tuples."""
     if isinstance(value, str) or not hasattr(value, "__iter__"):
         raise DataError(f"set {name}: {value!r} is no list of members")
-    found = [tuple(plain(part, f"set {name}") for part in (it if isinstance(it, (tuple, list)) else (it,))) for it in value]
+    if is_frame(value):
+        if len(value.columns) != size:
+            raise DataError(f"set {name}: the table has {len(value.columns)} columns, and the model expects {size}")
+        value = value.itertuples(index=False, name=None)
+    found = [tuple(plain(part, f"set {name}") for part in (it if is_row(it) else (it,))) for it in value]
     seen = set()
     for it in found:
         if len(it) != size:
-            raise DataError(f"set {name}: {it} has {len(it)} parts, and the model wants {size}")
+            raise DataError(f"set {name}: {it} has {len(it)} parts, and the model expects {size}")
         if it in seen:
             raise DataError(f"set {name}: the member {key_text(it)} is given twice")
         seen.add(it)
@@ -81,14 +87,14 @@ def key_text(key: tuple) -> str:
     return repr(key[0]) if len(key) == 1 else repr(key)
 
 
-def plain(member: Any, where: str) -> Any:
-    """Returns a member as an int or a str; `where` is the set or parameter that an error names."""
+def plain(member: Any, owner: str) -> Any:
+    """Returns a member as an int or a str; `owner` is the set or parameter that an error names."""
     if isinstance(member, str) or (isinstance(member, int) and not isinstance(member, bool)):
         return member
     number = as_fraction(member)
     if number is not None and number.denominator == 1 and not isinstance(member, bool):
         return int(number)
-    raise DataError(f"{where}: {member!r} is no member: a member is a whole number or a text, so use str(..)")
+    raise DataError(f"{owner}: {member!r} is no member: a member is a whole number or a text, so use str(..)")
 
 
 def rows_of(name: str, value: Any, size: int) -> dict:
@@ -98,7 +104,7 @@ def rows_of(name: str, value: Any, size: int) -> dict:
     for key, it in pairs_of(name, value, size):
         key = tuple(plain(part, f"param {name}") for part in key)
         if len(key) != size:
-            raise DataError(f"param {name}: the key {key} has {len(key)} parts, and the model wants {size}")
+            raise DataError(f"param {name}: the key {key} has {len(key)} parts, and the model expects {size}")
         if key in seen:
             raise DataError(f"param {name}: the key {key_text(key)} is given twice")
         seen.add(key)
@@ -110,7 +116,7 @@ def rows_of(name: str, value: Any, size: int) -> dict:
 
 def value_of(name: str, value: Any) -> Any:
     """Returns a number as a Fraction, a text, an infinite float, or None for a missing value."""
-    if value is None or value != value:
+    if is_missing(value):
         return None
     if isinstance(value, str):
         number = parse_numeral(value)
@@ -123,16 +129,38 @@ def value_of(name: str, value: Any) -> Any:
     raise DataError(f"param {name}: {value!r} is no number and no text")
 
 
+def is_missing(value: Any) -> bool:
+    """Whether a value is None, NaN, or pandas' NA, whose comparisons have no truth value."""
+    try:
+        return value is None or bool(value != value)
+    except TypeError:
+        return True
+    except ValueError:
+        return False  # an array
+
+
+def is_frame(value: Any) -> bool:
+    """Whether a value is a DataFrame of pandas."""
+    return hasattr(value, "columns") and hasattr(value, "itertuples")
+
+
+def is_row(value: Any) -> bool:
+    """Whether a member is a tuple, a list, or a row of an array."""
+    return isinstance(value, (tuple, list)) or bool(getattr(value, "ndim", 0))
+
+
 def pairs_of(name: str, value: Any, size: int) -> Iterable[tuple]:
     """Yields keys (tuples) and values."""
-    if hasattr(value, "columns") and hasattr(value, "to_dict"):
+    if is_frame(value):
         return frame_pairs(name, value, size)
+    if size == 0 and hasattr(value, "items") and hasattr(value, "index") and len(value) == 1:
+        return [((), it) for it in value]  # a Series with one value
     if hasattr(value, "items"):
         return flat(value, size)
     if size == 0:
         return [((), value)]
     if isinstance(value, str) or not hasattr(value, "__iter__"):
-        raise DataError(f"param {name}: {value!r} has no keys, and the model wants {size}: {FORMS}")
+        raise DataError(f"param {name}: {value!r} has no keys, and the model expects {size}: {FORMS}")
     return row_pairs(name, value, size)
 
 
@@ -147,16 +175,24 @@ def flat(value: Any, size: int) -> Iterable[tuple]:
 
 
 def frame_pairs(name: str, frame: Any, size: int) -> Iterable[tuple]:
-    """A pandas DataFrame: a column of values with the keys in the columns before it or in the index, or a grid of two keys."""
-    columns = list(frame.columns)
-    if name in columns and len(columns) > size:
-        keys = [it for it in columns if it != name][:size]
+    """A pandas DataFrame: a column of values with the keys in the index or in other columns, or a grid of two keys."""
+    if list(frame.columns[:1]) == [UNNAMED]:
+        frame = frame.set_index(UNNAMED)
+    columns, index = list(frame.columns), frame.index
+    # The index has keys unless it only numbers the rows, as it does after a file is read or rows are chosen.
+    has_keys = index.nlevels > 1 or index.name is not None or index.dtype.kind not in "iu"
+    if name in columns:
+        if size and (index.nlevels >= size if has_keys else len(columns) <= size):
+            return flat(frame[name], size)
+        frame = frame.reset_index() if has_keys and size else frame
+        keys = [it for it in frame.columns if it != name][:size]
         return [(row[:-1], row[-1]) for row in frame[[*keys, name]].itertuples(index=False, name=None)]
-    if name in columns or len(columns) == 1:
-        return flat(frame[name if name in columns else columns[0]], size)
-    if size == 2:
+    if len(columns) == 1:
+        return flat(frame[columns[0]], size)
+    if size == 2 and index.nlevels == 1 and (has_keys or all(isinstance(it, int) for it in columns)):
         return [((row, column), it) for column in columns for row, it in frame[column].items()]
-    raise DataError(f"param {name}: the table has no column {name!r}")
+    grid = ", or make the first key the index of a grid" if size == 2 else ""
+    raise DataError(f"param {name}: the table has no column {name!r}: give the column of its values this name{grid}")
 
 
 def row_pairs(name: str, rows: Iterable, size: int) -> Iterable[tuple]:
@@ -168,8 +204,8 @@ def row_pairs(name: str, rows: Iterable, size: int) -> Iterable[tuple]:
             yield tuple(keys[:size]), row[name]
         else:
             if isinstance(row, str) or not hasattr(row, "__iter__"):
-                raise DataError(f"param {name}: {row!r} in the list has no key, and the model wants {size}: {FORMS}")
+                raise DataError(f"param {name}: {row!r} in the list has no key, and the model expects {size}: {FORMS}")
             row = tuple(row)
             if len(row) != size + 1:
-                raise DataError(f"param {name}: {row!r} has {len(row)} parts; wanted {size} keys and a value")
+                raise DataError(f"param {name}: {row!r} has {len(row)} parts; expected {size} keys and a value")
             yield row[:-1], row[-1]

@@ -183,21 +183,26 @@ class Question:
         """Returns the answer of `solve` and the network with the plan; with prices too if asked for."""
         self.prepare()
         was_rewritten = self.is_rewritten
-        with ThreadPoolExecutor(1) as calls:
-            # The program compiles the model while it solves it, and finds prices while this process reads the network.
-            compiling = calls.submit(self.session.ask, "compile")
-            answer = self.ask("solve")
-            compiled = (compiling.result() if self.is_rewritten == was_rewritten else self.ask("compile")).text
-            pricing = calls.submit(call, ["min", "/dev/stdin"], compiled) if with_prices and answer.status == 0 else None
+        with ThreadPoolExecutor(2) as calls:
+            # The program solves the model and finds prices while this process reads the network.
+            solving = calls.submit(self.session.ask, "solve")
+            compiled = self.ask("compile").text
+            if self.is_rewritten != was_rewritten:
+                solving = calls.submit(self.session.ask, "solve")
+            pricing = calls.submit(call, ["min", "/dev/stdin"], compiled) if with_prices else None
             net = read_compiled(compiled)
+            try:
+                answer = solving.result()
+            except ProgramError as problem:
+                raise self.placed(problem) from None
             if answer.status == 0:
                 read_plan(answer.text, net)
                 self.check_bounds(net)
             else:
                 net.cut = read_cut(answer.text, net)
-            if pricing is not None:
+            net.divide(self.factors)
+            if pricing is not None and answer.status == 0:
                 read_prices(pricing.result().text, net)
-        net.divide(self.factors)
         return answer, net
 
     def check_bounds(self, net: Network) -> None:

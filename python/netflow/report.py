@@ -92,7 +92,8 @@ class Report:
         note = f"<span>{count} of {len(self.net.arcs)} arcs are drawn: {self.choice(count)}.</span>" if left else ""
         tools = '<span class="tools"><button type="button" data-scale="1.25">larger</button> <button type="button" data-scale="0.8">smaller</button> ' \
                 '<button type="button" data-scale="fit">fit</button></span>'
-        point = '<span class="dim point">Point at a place to see only its arcs.</span><span class="more-right">The drawing goes on to the right.</span>'
+        point = '<span class="dim point">Point at a place to see only its arcs.</span><span class="more-right">The drawing goes on to the right.</span>' \
+                '<span class="more-down">The drawing goes on below.</span>'
         return f'<p class="key">{keys}{marked}{note}{point}{tools}</p><div class="picture">{picture}</div>'
 
     def choice(self, count):

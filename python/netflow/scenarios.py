@@ -22,7 +22,7 @@ def cases_of(words: argparse.Namespace) -> list:
     for word in getattr(words, "vary", []):
         name, _, values = word.partition("=")
         if not values:
-            raise ProgramError(USAGE, f"--vary {word}: wanted NAME=VALUE,VALUE,..\n")
+            raise ProgramError(USAGE, f"--vary {word}: expected NAME=VALUE,VALUE,..\n")
         varied.append([f"{name}={it.strip()}" for it in values.split(",")])
     return found + ([list(it) for it in itertools.product(*varied)] if varied else [])
 
@@ -31,7 +31,7 @@ def case_words(text: str) -> list:
     """Returns the changes of one case; blanks inside brackets and quotes do not separate them."""
     found = CHANGE.findall(text)
     if "".join(found).replace(" ", "") != text.replace(" ", ""):
-        raise ProgramError(USAGE, f"--case {text}: wanted NAME=VALUE NAME[KEY]=VALUE ..\n")
+        raise ProgramError(USAGE, f"--case {text}: expected NAME=VALUE NAME[KEY]=VALUE ..\n")
     return found
 
 

@@ -25,11 +25,13 @@ import argparse
 import csv
 import difflib
 import sys
+from fractions import Fraction
 from typing import Sequence
 
 from .command import Words, question_of, run as run_tool, scale_of
 from .data_text import PLAIN_NAME
 from .errors import ProgramError
+from .exact import common_factor, parse_numeral
 from .program import REJECTED
 from .scenarios import diff, scenarios
 from .spreadsheet import filled, column_number, read_sheet, stem
@@ -76,7 +78,7 @@ def looks_like_heading(name: str, rows: list) -> bool:
 def as_list(rows: list, keys: int, members: str, scale: dict, has_comma: bool) -> list:
     titles = rows[0][keys:]
     if not titles:
-        rows[0][0].reject(f"and the cells to its right are {keys} keys, and no parameter follows")
+        rows[0][0].reject(f"is in the first row, which has {len(rows[0])} of at least {keys + 1} titles: the keys, then the parameters. Is it a title of the sheet?")
     names = [it.name() for it in titles]
     body = [filled(it, len(rows[0])) for it in rows[1:]]
     cells = [[it.value(scale.get(name, 1), has_comma) for name, it in zip(names, row[keys:])] for row in body]
@@ -86,10 +88,16 @@ def as_list(rows: list, keys: int, members: str, scale: dict, has_comma: bool) -
 
 
 def note_decimals(names: Sequence[str], cells: list) -> None:
-    """Says which parameters have decimals, which netflow itself does not take."""
-    found = [name for here, name in enumerate(names) if any("." in row[here] and row[here] != "." and row[here][0] != "'" for row in cells)]
-    if found:
-        sys.stderr.write(f"netflow-sheet: {', '.join(found)}: decimals are kept; the tools scale them, netflow itself wants --scale {found[0]}=100\n")
+    """Reports the parameters with decimals, which netflow itself rejects, and their factors."""
+    factors: dict = {}
+    for row in cells:
+        for name, cell in zip(names, row):
+            number = parse_numeral(cell)
+            if number is not None and number.denominator > 1:
+                factors[name] = common_factor([Fraction(1, factors.get(name, 1)), number])
+    if factors:
+        scale = " ".join(f"--scale {name}={factor}" for name, factor in factors.items())
+        sys.stderr.write(f"netflow-sheet: {', '.join(factors)}: decimals are kept, and the tools scale them; for netflow itself add {scale}\n")
 
 
 def as_grid(name: str, rows: list, is_turned: bool, scale: dict, has_comma: bool) -> list:
@@ -130,7 +138,7 @@ def data(words: argparse.Namespace, parser: Words) -> list:
         kind, _, name = title.partition(" ")
         entry = dict(config[title])
         if kind not in ("set", "list", "grid") or "sheet" not in entry or kind != "list" and not name:
-            raise ProgramError(REJECTED, f"netflow-sheet: {words.config}: [{title}]: wanted [set NAME], [list NAME] or [grid NAME] with sheet = ..\n")
+            raise ProgramError(REJECTED, f"netflow-sheet: {words.config}: [{title}]: expected [set NAME], [list NAME] or [grid NAME] with sheet = ..\n")
         asked = [kind, *([name] if kind != "list" else []), os.path.join(folder, entry.pop("sheet"))]
         for option, value in entry.items():
             asked += [f"--{option}"] if value in ("yes", "true") else [f"--{option}", value] if value not in ("no", "false") else []
@@ -183,7 +191,7 @@ def main(words: Sequence[str]) -> int:
         if name and not PLAIN_NAME.fullmatch(name):
             parser.error(f"{name!r} is no name of a set or parameter")
     if getattr(parsed, "keys", 1) < 0:
-        parser.error("--keys wants a number from 0 on")
+        parser.error("--keys takes a number from 0 up")
     if parsed.kind == "plan":
         return plan(parsed, question_of(parsed))
     if parsed.kind in ("scenarios", "diff"):

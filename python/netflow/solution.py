@@ -9,11 +9,11 @@ from .exact import Number
 from .hints import Diagnostic
 from .model_text import Unparsed
 from .outputs import arc_rows, dumps, plan_json
-from .program import REJECTED, UNREADABLE_FILE
+from .program import REJECTED, UNREADABLE_FILE, call
 from .question import Input, Question
 from .reasons import reasons
 from .sensitivity import Marginal
-from .texts import Network
+from .texts import Network, read_prices
 
 Text = Union[str, "os.PathLike[str]"]
 
@@ -47,7 +47,9 @@ class Flows(Mapping):
     def to_pandas(self) -> Any:
         """Returns a pandas Series of the flows."""
         import pandas
-        series = pandas.Series({key: it.flow for key, it in self.arcs.items()}, name=self.name, dtype=object)
+        keys = list(self)
+        index = pandas.MultiIndex.from_tuples(keys) if keys and isinstance(keys[0], tuple) else pandas.Index(keys)
+        series = pandas.Series([it.flow for it in self.arcs.values()], index, name=self.name, dtype=object)
         return series.infer_objects() if all(isinstance(it, int) for it in series) else series.astype(float)
 
 
@@ -111,8 +113,8 @@ class Solution:
     def _priced(self) -> Marginal:
         """Adds prices to the network, if it has none, and returns what one unit more costs at each node."""
         if self._marginal is None:
-            _, self.network = self.question.network(with_prices=True)
-            self._declared, self._flows = self.network.declared(), {}
+            problem = "".join(f"{it}\n" for it in self.network.lines)
+            read_prices(call(["min", "/dev/stdin"], problem).text, self.network)
             self._marginal = Marginal(self.network)
         return self._marginal
 

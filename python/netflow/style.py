@@ -2,9 +2,9 @@
 
 DRAWING_STYLE = """
 :root{color-scheme:light dark;--ink:#1d2530;--dim:#667180;--back:#fff;--soft:#f2f4f7;--line:#d9dee5;--used:#2f74b5;--full:#c9660a;
---across:#c0282d;--full-back:#fdf0e1;--low-back:#e8f1fb;--idle:#8d97a5;--node:#fff;--gives:#e5f3ea;--needs:#e8f0fb;--marked:#fbe6e6}
+--across:#c0282d;--full-back:#fdf0e1;--low-back:#e8f1fb;--idle:#8d97a5;--edge:#0004;--node:#fff;--gives:#e5f3ea;--needs:#e8f0fb;--marked:#fbe6e6}
 @media (prefers-color-scheme:dark){:root{--ink:#e4e8ee;--dim:#98a3b2;--back:#151a21;--soft:#1f2630;--line:#37414e;--used:#69abe8;
---full:#f0a04b;--across:#ff7276;--full-back:#3a2a17;--low-back:#1c2d42;--idle:#7c8897;--node:#1f2630;--gives:#1c3326;--needs:#1d2c42;
+--full:#f0a04b;--across:#ff7276;--full-back:#3a2a17;--low-back:#1c2d42;--idle:#7c8897;--edge:#fff4;--node:#1f2630;--gives:#1c3326;--needs:#1d2c42;
 --marked:#44201f}}
 svg text{font:13px system-ui,sans-serif;fill:var(--ink);text-anchor:middle}.node rect{fill:var(--node);stroke:var(--dim)}
 .node.gives rect{fill:var(--gives)}.node.needs rect{fill:var(--needs)}
@@ -23,7 +23,9 @@ body{font:15px/1.5 system-ui,sans-serif;color:var(--ink);background:var(--back);
 h1{font-size:1.4rem;margin:0 0 4px}h2{font-size:1.15rem;margin:32px 0 6px}h3{font-size:1rem;margin:14px 0 4px}p{margin:4px 0 8px}
 .value{font-size:1.75rem;font-weight:650;overflow-wrap:anywhere}.none{color:var(--across)}.reason{font-size:1.1rem;font-weight:600}
 footer,.dim{color:var(--dim)}footer{margin-top:36px;font-size:.85rem}
-.scroll{max-height:30rem;overflow:auto;border:1px solid var(--line);border-radius:6px;width:fit-content;max-width:100%}
+.scroll{max-height:30rem;overflow:auto;border:1px solid var(--line);border-radius:6px;width:fit-content;max-width:100%;
+background:linear-gradient(to left,var(--back) 40%,transparent) 100% 0/60px 100% no-repeat local,
+linear-gradient(to left,var(--edge),transparent) 100% 0/18px 100% no-repeat}
 table{border-collapse:collapse;font-variant-numeric:tabular-nums}
 th{position:sticky;top:0;background:var(--soft);padding:0;text-align:left;white-space:nowrap}
 th button{all:unset;cursor:pointer;padding:4px 12px;display:block;font-weight:600}th.number button{text-align:right}
@@ -42,18 +44,20 @@ th.wrap button{white-space:normal;min-width:8rem;max-width:11rem;margin-left:aut
 border-radius:5px;padding:2px 10px;cursor:pointer}
 .pair{display:flex;flex-wrap:wrap;gap:8px 32px}.pair>div{max-width:100%}
 .picture{border:1px solid var(--line);border-radius:6px;overflow:auto;max-height:85vh;background:var(--back)}svg{display:block;margin:0 auto}
-.more-right{display:none;color:var(--across)}.is-cut .more-right{display:inline}
-.grid td{text-align:right}.grid td:first-child,.grid td.key{text-align:left}.grid td.zero{color:var(--dim)}.grid td.full{background:var(--full-back)}
+.more-right,.more-down{display:none;color:var(--across)}.is-cut .more-right,.is-long .more-down{display:inline}
+.grid td{text-align:right}.grid td,.grid th button{padding-left:8px;padding-right:8px}.grid td:first-child,.grid td.key{text-align:left;position:sticky;left:0;background:var(--back)}
+.grid th:first-child{left:0;z-index:1}.grid td.key~td.key{position:static}.grid td.zero{color:var(--dim)}.grid td.full{background:var(--full-back)}
 .grid td.chosen{text-align:center}.grid td.none{background:var(--soft)}.grid tr.sum td{font-weight:600;border-top:2px solid var(--line)}.grid td.sum{font-weight:600}
 .unit{font-size:1.1rem;font-weight:400;color:var(--dim)}
-.key{display:flex;flex-wrap:wrap;gap:4px 18px;align-items:center}
+p.key{display:flex;flex-wrap:wrap;gap:4px 18px;align-items:center}
 .key i{display:inline-block;width:26px;height:0;border-top:4px solid;margin-right:6px;vertical-align:middle}
 .key .idle{border-top:2px dashed var(--idle)}.key .used{border-color:var(--used)}.key .full{border-color:var(--full)}
 .key .across{border-color:var(--across)}
-@media (max-width:700px){td,th button{padding-left:7px;padding-right:7px}th.end,td.end{display:none}}
-@media print{body{max-width:none;padding:0;font-size:11px}.scroll,.picture{max-height:none;overflow:visible;border-color:#bbb}
-.picture svg{width:100%!important;height:auto!important;max-height:24cm}.toggle,.tools,.find,.point,summary,.more-right{display:none!important}
-th{position:static}td,th button{padding:1px 6px}.scroll{max-width:100%;width:100%}table{width:100%}tr,.picture{break-inside:avoid}
+@media (max-width:700px){td,th button{padding-left:7px;padding-right:7px}.grid td,.grid th button{padding-left:4px;padding-right:4px}
+th.end,td.end{display:none}}
+@media print{body{max-width:none;padding:0;font-size:11px}.scroll,.picture{max-height:none;overflow:visible;border-color:#bbb;background:none}
+.picture svg{width:100%!important;height:auto!important;max-height:18cm}.toggle,.tools,.find,.point,summary,.more-right,.more-down{display:none!important}
+th{position:static}tfoot{display:table-row-group}th button{display:contents}th.number{text-align:right}td,th{padding:1px 6px!important}.scroll{max-width:100%;width:100%}table{width:100%}tr,.picture{break-inside:avoid}
 section{break-inside:auto}h2,h3{break-after:avoid}}
 @page{margin:1.4cm}
 """
@@ -82,9 +86,10 @@ document.querySelectorAll('.find').forEach(function(line){
 (function(){var svg=document.querySelector('.picture svg');if(!svg)return;
  var wide=+svg.getAttribute('width'),high=+svg.getAttribute('height'),scale=1,arcs=Array.from(svg.querySelectorAll('.arc'));
  function size(to){scale=Math.min(4,Math.max(.1,to));svg.setAttribute('width',wide*scale);svg.setAttribute('height',high*scale);
-  svg.closest('section').classList.toggle('is-cut',wide*scale>svg.parentNode.clientWidth+1)}
+  var box=svg.parentNode,all=svg.closest('section').classList;all.toggle('is-cut',wide*scale>box.clientWidth+1);
+  all.toggle('is-long',high*scale>box.clientHeight+1)}
  function fit(){return svg.parentNode.clientWidth/wide}
- size(Math.max(.75,Math.min(1,fit())));onresize=function(){size(scale)};
+ size(Math.max(.7,Math.min(1,fit())));onresize=function(){size(scale)};
  document.querySelectorAll('.tools button').forEach(function(button){button.onclick=function(){
   var to=button.dataset.scale;size(to==='fit'?fit():scale*to)}});
  svg.querySelectorAll('.node').forEach(function(node){

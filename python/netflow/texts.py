@@ -15,26 +15,26 @@ NUMBER = r"(?:0|-?[1-9][0-9]*)"
 MEMBER = rf"(?:'(?:[^']|'')*'|{NUMBER})"
 MEMBERS = re.compile(MEMBER)
 NAME = re.compile(r"[^\[\] ']+")
-KEY = re.compile(rf"(?:{MEMBER}(?:,{MEMBER})*)?\]")
+KEY = re.compile(rf"{MEMBER}(?:,{MEMBER})*")
 OUTSIDE = "the outside"
 
 
-@dataclasses.dataclass
 class Arc:
     """An arc of the model. `src` and `dst` are node indices from 0, None for the outside. `worth` is the reduced cost: by how much
     one more unit on the arc makes the value worse, at the current node prices. `is_open` if the model gives it no upper bound."""
 
-    text: str
-    name: str
-    key: list
-    src: int | None = None
-    dst: int | None = None
-    lower: Number = 0
-    upper: Number = 0
-    price: Number = 0
-    flow: Number = 0
-    worth: Number = 0
-    is_open: bool = False
+    __slots__ = ("text", "name", "key", "src", "dst", "lower", "upper", "price", "flow", "worth", "is_open")
+
+    def __init__(self, text, src, dst, lower, upper, price):
+        self.text, self.src, self.dst, self.lower, self.upper, self.price = text, src, dst, lower, upper, price
+        self.name, self.key = reference(text)
+        self.flow, self.worth, self.is_open = 0, 0, upper == BOUND
+
+    def key_text(self):
+        """Returns the key as a plan prints it."""
+        key = self.text[len(self.name) + 1:-1]
+        # A comma inside a member stays a comma.
+        return key.replace(",", " ") if key.count(",") < len(self.key) else " ".join(map(shown, self.key))
 
     def is_full(self):
         return self.flow == self.upper and self.lower < self.upper
@@ -114,11 +114,10 @@ class Network:
         self.value = divided(self.value, factors.value)
         for arc in self.arcs:
             arc.lower, arc.upper, arc.flow = (divided(it, factors.flow) for it in (arc.lower, arc.upper, arc.flow))
-            arc.price, arc.worth = divided(arc.price, factors.cost), divided(arc.worth, factors.cost)
+            arc.price = divided(arc.price, factors.cost)
         for node in self.nodes:
             node.low, node.high, node.inflow = (divided(it, factors.flow) for it in (node.low, node.high, node.inflow))
             node.fewest, node.greatest = divided(node.fewest, factors.flow), divided(node.greatest, factors.flow)
-            node.worth = divided(node.worth, factors.cost)
 
     def end(self, number):
         return OUTSIDE if number is None else self.nodes[number].text
@@ -132,13 +131,16 @@ class Network:
 
 
 def members(text):
-    """Returns the members of a key as it is printed, texts without their quotes."""
+    """Returns the members of a key as it is printed, texts without their quotes; None if it is no key."""
     if "'" not in text:
-        return [int(it) for it in text.split(",")] if text else []
+        try:
+            return [int(it) for it in text.split(",")] if text else []
+        except ValueError:
+            return None
     parts = text[1:-1].split("','")
     if text[0] == text[-1] == "'" and "'" not in "".join(parts):
         return parts
-    return [member(it) for it in MEMBERS.findall(text)]
+    return [member(it) for it in MEMBERS.findall(text)] if KEY.fullmatch(text) else None
 
 
 def member(text):
@@ -153,9 +155,10 @@ def shown(it):
 def reference(text):
     """Returns the name and the key of `Ship['PITT','NE']`."""
     name, bracket, key = text.partition("[")
-    if not NAME.fullmatch(name) or (bracket and not KEY.fullmatch(key)):
+    found = members(key[:-1]) if key[-1:] == "]" or not bracket else None
+    if found is None or not NAME.fullmatch(name):
         raise Unreadable(f"{text!r} is no node and no arc")
-    return name, members(key[:-1])
+    return name, found
 
 
 def lines_of(text):
@@ -170,32 +173,38 @@ def numbers(words):
         raise Unreadable(f"{' '.join(words)!r} has a word that is no number") from None
 
 
+def columns(lines, mark, width):
+    """Returns the numbers of lines of one kind, which begin with its mark, column by column."""
+    words = " ".join(lines).split(" ") if lines else []
+    if words[::width + 1] != [mark] * len(lines) or len(words) != len(lines) * (width + 1):
+        raise Unreadable(f"a line that begins with {mark!r} and has {width} numbers was expected")
+    return [numbers(words[place::width + 1]) for place in range(1, width + 1)]
+
+
 def read_compiled(text):
     """Returns the network of a compiled model (without --lean)."""
-    net, offsets, supplies, drawn = Network(), [], {}, []
-    for line in lines_of(text):
-        if line.startswith("c "):
-            read_link(line, net, offsets)
-            continue
-        net.lines.append(line)
-        if line.startswith("a "):
-            drawn.append(numbers(line[2:].split(" ")))
-        elif line.startswith("n "):
-            number, supply = numbers(line[2:].split(" "))
-            supplies[number - 1] = supply
-    place_arcs(net, offsets, drawn)
-    place_nodes(net, supplies, drawn[len(net.arcs):])
+    net, lines = Network(), lines_of(text)
+    # Comments come first, then the line with the counts, supplies, and arcs.
+    comments = text.count("\nc ") + text.startswith("c ")
+    net.lines = lines[comments:]
+    supplies = text.count("\nn ")
+    names = []
+    for line in lines[:comments]:
+        if line.startswith("c arc "):
+            names.append(line.split(" ", 4)[3:])
+        else:
+            read_link(line, net)
+    drawn = columns(net.lines[1 + supplies:], "a", 5)
+    place_arcs(net, names, drawn)
+    nodes, amounts = columns(net.lines[1:1 + supplies], "n", 2)
+    place_nodes(net, dict(zip(nodes, amounts)), zip(drawn[0][len(names):], drawn[3][len(names):]))
     return net
 
 
-def read_link(line, net, offsets):
-    """Reads a comment line of a compiled model."""
+def read_link(line, net):
+    """Reads a comment line of a compiled model that is not of an arc."""
     kind, rest = line[2:].split(" ", 1)
-    if kind == "arc":
-        _, offset, name = rest.split(" ", 2)
-        offsets.append(int(offset))
-        net.arcs.append(Arc(name, *reference(name)))
-    elif kind == "node":
+    if kind == "node":
         net.nodes.append(Node(rest.split(" ", 1)[1]))
     elif kind == "constant":
         net.constant = int(rest)
@@ -203,53 +212,71 @@ def read_link(line, net, offsets):
         net.sign = int(rest)
 
 
-def place_arcs(net, offsets, drawn):
-    """Sets ends, bounds and prices, without the offsets, and what the arcs allow at each node."""
-    outside = len(net.nodes)
-    for arc, offset, (src, dst, low, cap, cost) in zip(net.arcs, offsets, drawn):
-        arc.src, arc.dst = (None if it > outside else it - 1 for it in (src, dst))
-        arc.lower, arc.upper, arc.price = low + offset, cap + offset, net.sign * cost
-        arc.is_open = arc.upper == BOUND
-        for number, sign in ((arc.src, -1), (arc.dst, 1)):
-            if number is not None:
-                node = net.nodes[number]
-                node.low += sign * offset
-                node.fewest += arc.lower if sign > 0 else -arc.upper
-                node.greatest += arc.upper if sign > 0 else -arc.lower
+def place_arcs(net, names, drawn):
+    """Makes the arcs of pairs of an offset and a name: ends, bounds without the offsets, prices, and what they allow at each node."""
+    outside, sign = len(net.nodes), net.sign
+    low, fewest, greatest = ([0] * (outside + 1) for _ in range(3))
+    for (offset, name), src, dst, least, most, cost in zip(names, *drawn):
+        src, dst = min(src - 1, outside), min(dst - 1, outside)
+        offset = int(offset)
+        least, most = least + offset, most + offset
+        net.arcs.append(Arc(name, src if src < outside else None, dst if dst < outside else None, least, most, sign * cost))
+        low[src] -= offset
+        low[dst] += offset
+        fewest[src] -= most
+        fewest[dst] += least
+        greatest[src] -= least
+        greatest[dst] += most
+    if len(net.arcs) < len(names):
+        raise Unreadable("the problem has fewer arcs than the model")
+    for node, *sums in zip(net.nodes, low, fewest, greatest):
+        node.low, node.fewest, node.greatest = sums
 
 
 def place_nodes(net, supplies, rooms):
     """Sets the bounds of each node's net inflow: what the offsets bring minus the supply, and the range above it."""
-    for number, node in enumerate(net.nodes):
+    for number, node in enumerate(net.nodes, 1):
         node.low -= supplies.get(number, 0)
         node.high = node.low
-    for src, _, _, cap, _ in rooms:
+    for src, cap in rooms:
         net.nodes[src - 1].high += cap
 
 
 def read_plan(text, net):
     """Sets the network's objective, value and flows; every line has to be that of the expected arc."""
-    lines = iter(lines_of(text))
-    net.objective, net.value = valued(next(lines, ""))
-    arcs, table = iter(net.arcs), None
-    for line in lines:
-        if table is not None and line != ";":
-            take_flow(next(arcs, None), table, line)
-        elif table is not None:
-            table = None
-        elif line.endswith(" :="):
-            table = line[:-3]
-            net.declarations.append((table, True))
+    lines, line = lines_of(text), 1
+    net.objective, net.value = valued(lines[0])
+    arcs, at = net.arcs, 0
+    while line < len(lines):
+        name, is_table = lines[line][:-3], lines[line].endswith(" :=")
+        if is_table:
+            count = next((here for here in range(at, len(arcs)) if arcs[here].name != name), len(arcs)) - at
+            found = [it.rpartition(" ") for it in lines[line + 1:line + 1 + count]]
+            keys, flows = [it[0] for it in found], [it[2] for it in found]
+            if lines[line + 1 + count:line + 2 + count] != [";"]:
+                raise Unreadable(f"the table of {name} does not end after {count} arcs")
         else:
-            name, flow = valued(line)
-            net.declarations.append((name, False))
-            take_flow(next(arcs, None), name, str(flow))
-    if table is not None or next(arcs, None) is not None:
+            name, flow = valued(lines[line])
+            count, keys, flows = 1, [""], [flow]
+        if keys != [it.key_text() for it in arcs[at:at + count]] or not is_table and [it.name for it in arcs[at:at + 1]] != [name]:
+            raise Unreadable(f"the plan has other arcs of {name} than the model")
+        net.declarations.append((name, is_table))
+        take_flows(net, arcs[at:at + count], numbers(flows))
+        at, line = at + count, line + (count + 2 if is_table else 1)
+    if at != len(arcs):
         raise Unreadable("the plan ends before its last arc")
-    for arc in net.arcs:
-        for number, sign in ((arc.src, -1), (arc.dst, 1)):
-            if number is not None:
-                net.nodes[number].inflow += sign * arc.flow
+
+
+def take_flows(net, arcs, flows):
+    """Sets the flows of arcs, and adds them to the net inflows of their ends."""
+    nodes = net.nodes
+    for arc, flow in zip(arcs, flows):
+        if flow:
+            arc.flow = flow
+            if arc.src is not None:
+                nodes[arc.src].inflow -= flow
+            if arc.dst is not None:
+                nodes[arc.dst].inflow += flow
 
 
 def valued(line):
@@ -257,14 +284,6 @@ def valued(line):
     if not found:
         raise Unreadable(f"{line!r} gives no name a number")
     return found[1], int(found[2])
-
-
-def take_flow(arc, name, line):
-    """Sets the flow of an arc from its line, which begins with the arc's key."""
-    key = "".join([f"{shown(it)} " for it in arc.key]) if arc else ""
-    if arc is None or arc.name != name or not line.startswith(key):
-        raise Unreadable(f"the plan has {line!r} of {name} where {arc.text if arc else 'its end'} was expected")
-    arc.flow = numbers([line[len(key):]])[0]
 
 
 def read_cut(text, net):
@@ -281,15 +300,19 @@ def read_cut(text, net):
 
 
 def read_prices(certificate, net):
-    """Sets the worth of nodes and arcs from the potentials of a certificate; that of the outside is 0."""
-    found = [int(it.split(" ")[2]) for it in lines_of(certificate) if it.startswith("v ")]
+    """Sets the worth of nodes and arcs from the potentials of a certificate; that of the outside is 0. The network is divided."""
+    lines = lines_of(certificate)
+    first = next((here for here, it in enumerate(lines) if it.startswith("v ")), len(lines))
+    found = columns(lines[first:], "v", 2)[1]
     if len(found) != len(net.nodes) + 1:
         raise Unreadable("the certificate has another number of potentials than there are nodes")
-    for node, it in zip(net.nodes, found):
-        node.worth = it - found[-1]
+    worths = [divided(it - found[-1], net.factors.cost) for it in found]
+    for node, it in zip(net.nodes, worths):
+        node.worth = it
+    sign = net.sign
     for arc in net.arcs:
-        tail, head = (0 if it is None else net.nodes[it].worth for it in (arc.src, arc.dst))
-        arc.worth = net.sign * arc.price + tail - head
+        tail, head = worths[-1 if arc.src is None else arc.src], worths[-1 if arc.dst is None else arc.dst]
+        arc.worth = sign * arc.price + tail - head
 
 
 def written(net):

@@ -1,4 +1,4 @@
-"""The words of models and data, for hints and titles: where a name is declared, what its keys are called, the first comment.
+"""The words of models and data, for hints and titles: the declaration of a name, what its keys are called, the first comment.
 
 These are readings without the grammar: they can be wrong, and only texts for people depend on them.
 """

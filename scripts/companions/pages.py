@@ -97,7 +97,7 @@ def check_pages(complaints, folder):
             cells = cells_of(re.search(r"<h2>Places</h2>(.*?)</section>", text, re.S)[1])
             each = len(cells) // len(net.nodes)
             inflows = [int(cells[it + 2]) - int(cells[it + 3]) for it in range(0, len(cells), each)]
-            complaints.same(f"report {name}: what comes in less what goes out", [it.inflow for it in net.nodes], inflows)
+            complaints.same(f"report {name}: inflow minus outflow", [it.inflow for it in net.nodes], inflows)
         complaints.want(status or f"{net.objective} = {draw.grouped(net.value)}<" in text, f"report {name}: no value")
         complaints.same(f"report {name}: numbers on one another or on nodes", [], crowded(text))
         check_grids(complaints, name, net, text)
@@ -128,7 +128,7 @@ def crowded(text):
     nodes = [tuple(map(float, it)) for it in re.findall(r'<rect x="([-\d.]+)" y="([-\d.]+)" width="([\d.]+)" height="([\d.]+)"', svg[0])]
     boxes = [(x, y, x + wide, y + high) for x, y, wide, high in nodes]
     numbers = []
-    for x, y, shown in re.findall(r'marker-end="[^"]*"/><text x="([-\d]+)" y="([-\d]+)">([^<]*)</text>', svg[0]):
+    for x, y, shown in re.findall(r'<g class="arc number [^"]*"><text x="([-\d]+)" y="([-\d]+)">([^<]*)</text>', svg[0]):
         half = draw.LETTER * len(shown) / 2 - 1
         numbers.append((float(x) - half, float(y) - 10, float(x) + half, float(y) + 1, shown))
     found = [it[4] for it in numbers if any(draw.overlaps(it, box) for box in boxes)]

@@ -1,4 +1,5 @@
 """The tools' words, compared with their manual page and completions, and how scripts/first_look passes files on."""
+import json
 import pathlib
 import re
 
@@ -20,6 +21,19 @@ def check_words(complaints):
         for option in set(re.findall(r"--[a-z]+", usage)):
             told = [option in manual, option in completions[0], f"-l {option[2:]}" in completions[1], option in completions[2]]
             complaints.want(all(told), f"{name} {option}: not in the manual page or a completion: {told}")
+
+
+def check_editors(complaints):
+    """Each word of the language is in the syntax files of Vim and VS Code, whose patterns are well-formed."""
+    vim = (TOP / "share" / "editors" / "netflow.vim").read_text(encoding="utf-8")
+    grammar = json.loads((TOP / "share" / "editors" / "vscode" / "syntaxes" / "netflow.tmLanguage.json").read_text(encoding="utf-8"))
+    patterns = [re.compile(it["match"]) for it in grammar["patterns"] if "match" in it]
+    page = (TOP / "docs" / "reference" / "language.md").read_text(encoding="utf-8")
+    words = re.search(r"(?m)^```\n(and arc .*?)^```", page, re.S)
+    complaints.want(words, "docs/reference/language.md has no list of reserved words")
+    for word in words[1].split() if words else ():
+        complaints.want(re.search(rf"\b{word}\b", vim), f"share/editors/netflow.vim: no {word}")
+        complaints.want(any(found.fullmatch(word) for found in patterns), f"netflow.tmLanguage.json: no {word}")
 
 
 def check_look(complaints, folder):

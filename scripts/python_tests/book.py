@@ -1,6 +1,7 @@
 """Models of AMPL's chapter on networks, in its notation: what node and arc models say runs with decimals and without bounds, and of the
 others the message names the word and its replacement."""
 import netflow
+from companions.common import run, write
 
 CITIES = """set CITIES;
 set LINKS within (CITIES cross CITIES);
@@ -103,17 +104,105 @@ param entr := a ;
 param exit := g ;
 param: ROADS: cap := a b 50, a c 100, b d 40, b e 20, c d 60, c f 20, d e 50, d f 60, e g 70, f g 70 ;
 """
+THROUGH = CITIES + """param city_cap {CITIES} >= 0;
+minimize Total_Cost;
+node Supply {k in CITIES}: net_out = supply[k];
+node Demand {k in CITIES}: net_in = demand[k];
+arc Ship {(i,j) in LINKS} >= 0, <= capacity[i,j],
+   from Demand[i], to Supply[j], obj Total_Cost cost[i,j];
+arc Through {k in CITIES} >= 0, <= city_cap[k],
+   from Supply[k], to Demand[k];
+"""
+ASSIGN = TRANS.replace("ORIG", "PEOPLE").replace("DEST", "PROJECTS").replace(">= 0,\n", ">= 0, <= limit[i,j],\n").replace(
+    "minimize", "param limit {PEOPLE,PROJECTS} >= 0;\nminimize").replace("Trans {", "Assign {")
+# Eleven people and offices, of whom each gets one; the numbers are their preferences.
+ASSIGN_DATA = """set PEOPLE := Coullard Daskin Hazen Hopp Iravani Linetsky Mehrotra Nelson Smilowitz Tamhane White ;
+set PROJECTS := C118 C138 C140 C246 C250 C251 D237 D239 D241 M233 M239;
+param supply default 1 ;
+param demand default 1 ;
+param limit default 1 ;
+param cost:
+           C118 C138 C140 C246 C250 C251 D237 D239 D241 M233 M239 :=
+Coullard     6    9    8    7   11   10    4    5    3    2    1
+Daskin      11    8    7    6    9   10    1    5    4    2    3
+Hazen        9   10   11    1    5    6    2    7    8    3    4
+Hopp        11    9    8   10    6    5    1    7    4    2    3
+Iravani      3    2    8    9   10   11    1    5    4    6    7
+Linetsky    11    9   10    5    3    4    6    7    8    1    2
+Mehrotra     6   11   10    9    8    7    1    2    5    4    3
+Nelson      11    5    4    6    7    8    1    9   10    2    3
+Smilowitz   11    9   10    8    6    5    7    3    4    1    2
+Tamhane      5    6    9    8    4    3    7   10   11    2    1
+White       11    9    8    4    6    5    3   10    7    2    1 ;
+"""
+# A model, its data, the value, and whether it needs bounds. The values are the book's, and NetworkX's; 1829 is 1819 and 20 times 0.5,
+# since 20 of the 250 through NE have to reach BWI through SE.
 RUNS = (
     ("net1node", CITIES + NODE, DATA, 1819, False),
     ("net3node", DIST, DIST_DATA, 1819, False),
+    ("netthru", THROUGH, DATA + "param city_cap default 1000 := NE 230;\n", 1829, False),
     ("nettrans", TRANS, TRANS_DATA, 196200, True),
+    ("netasgn", ASSIGN, ASSIGN_DATA, 28, False),
     ("netmax3", MAXFLOW, MAXFLOW_DATA, 130, True),
 )
+PATH = """set INTER;
+param entr symbolic in INTER;
+param exit symbolic in INTER, <> entr;
+set ROADS within (INTER diff {exit}) cross (INTER diff {entr});
+"""
+MAX_VAR = PATH + """param cap {ROADS} >= 0;
+var Traff {(i,j) in ROADS} >= 0, <= cap[i,j];
+maximize Entering_Traff: sum {(entr,j) in ROADS} Traff[entr,j];
+subject to Balance {k in INTER diff {entr,exit}}:
+  sum {(i,k) in ROADS} Traff[i,k] = sum {(k,j) in ROADS} Traff[k,j];
+"""
+SHORT_VAR = PATH + """param time {ROADS} >= 0;
+var Use {(i,j) in ROADS} >= 0;
+minimize Total_Time: sum {(i,j) in ROADS} time[i,j] * Use[i,j];
+subject to Start: sum {(entr,j) in ROADS} Use[entr,j] = 1;
+subject to Balance {k in INTER diff {entr,exit}}:
+  sum {(i,k) in ROADS} Use[i,k] = sum {(k,j) in ROADS} Use[k,j];
+"""
+DIST_VAR = DIST.split("minimize")[0] + """var PD_Ship {i in D_CITY} >= 0, <= pd_cap[i];
+var DW_Ship {(i,j) in DW_LINKS} >= 0, <= dw_cap[i,j];
+minimize Total_Cost:
+   sum {i in D_CITY} pd_cost[i] * PD_Ship[i] + sum {(i,j) in DW_LINKS} dw_cost[i,j] * DW_Ship[i,j];
+subject to P_Bal: sum {i in D_CITY} PD_Ship[i] = p_supply;
+subject to D_Bal {i in D_CITY}: PD_Ship[i] = sum {(i,j) in DW_LINKS} DW_Ship[i,j];
+subject to W_Bal {j in W_CITY}: sum {(i,j) in DW_LINKS} DW_Ship[i,j] = w_demand[j];
+"""
+MULTI = """set CITIES;
+set LINKS within (CITIES cross CITIES);
+set PRODS;
+param supply {CITIES,PRODS} >= 0;
+param demand {CITIES,PRODS} >= 0;
+   check {p in PRODS}: sum {i in CITIES} supply[i,p] = sum {j in CITIES} demand[j,p];
+param cost {LINKS,PRODS} >= 0;
+param capacity {LINKS,PRODS} >= 0;
+param cap_joint {LINKS} >= 0;
+minimize Total_Cost;
+node Balance {k in CITIES, p in PRODS}: net_in = demand[k,p] - supply[k,p];
+arc Ship {(i,j) in LINKS, p in PRODS} >= 0, <= capacity[i,j,p],
+   from Balance[i,p], to Balance[j,p], obj Total_Cost cost[i,j,p];
+subject to Multi {(i,j) in LINKS}: sum {p in PRODS} Ship[i,j,p] <= cap_joint[i,j];
+"""
+FEEDS = """set FEEDS;
+param supply {FEEDS} >= 0;
+param cost {FEEDS} >= 0;
+var Buy {j in FEEDS} >= 0, <= supply[j];
+minimize Total_Cost: sum {j in FEEDS} cost[j] * Buy[j];
+node Mix: net_out = sum {j in FEEDS} Buy[j];
+"""
 # A model of the chapter that cannot run, and the word that its message has to name, with a part of the replacement.
 NAMED = (
     ("net1", CITIES + VAR, DATA, "var", "arc X"),
     ("net1 without var", CITIES + VAR.split("\n", 1)[1].replace("minimize Total_Cost: sum {(i,j) in LINKS} cost[i,j] * Ship[i,j];", "minimize Total_Cost;"),
      DATA, "subject", "node B"),
+    ("net2", DIST_VAR, DIST_DATA, "var", "arc X"),
+    ("netmax", MAX_VAR, MAXFLOW_DATA, "var", "arc X"),
+    ("netshort", SHORT_VAR, MAXFLOW_DATA, "var", "arc X"),
+    ("netmulti", MULTI, "", "subject to", "node B"),
+    ("netfeeds", FEEDS, "", "var", "arc X"),
     ("netmax with if", "set S; param entr symbolic; maximize T; node A {k in S}: net_out = if k = entr then 1 else 0;", "", "if", "parentheses"),
     ("netthru with to_come", "set S; minimize C; node A {k in S}: to_come = 0;", "", "to_come", "from and to"),
     ("coeff", "minimize C; node A; arc X >= 0, <= 1, from A, coeff A 1;", "", "coeff", "coefficient"),
@@ -143,6 +232,20 @@ def check_book(complaints):
         except netflow.ModelError as problem:
             said = " ".join(problem.hints) + problem.code
             complaints.want(word in said and replacement in said, f"{name}: {problem.code} {problem.detail}: no {word!r} and {replacement!r} in {problem.hints}")
+
+
+def check_options(complaints, folder):
+    """The same by the commands: decimals as they are or with a factor, and bounds by one option."""
+    for name, model, data, value, has_no_bounds in RUNS:
+        words = [write(folder, f"{name}.mod", model), write(folder, f"{name}.dat", data)]
+        status, text, said = run("netflow-sheet", "plan", *words, "--grid", *["--bounds"] * has_no_bounds)
+        complaints.same(f"{name}: netflow-sheet plan", (0, str(value), ""), (status, text.split("\n")[0].partition(",")[2], said))
+        if has_no_bounds:
+            complaints.same(f"{name} without --bounds", (3, "E52"), (run("netflow-why", *words)[0], run("netflow-why", *words)[2][:3]))
+    words = [write(folder, "f.mod", CITIES + NODE), write(folder, "f.dat", DATA)]
+    complaints.same("net1node with a factor", "Total_Cost,1819", run("netflow-sheet", "plan", *words, "--grid", "--scale", "cost=1000")[1].split("\n")[0])
+    status, _, said = run("netflow-sheet", "plan", *words, "--scale", "cost=1")
+    complaints.want(status == 3 and "cost" in said and "times 1 is not whole" in said, f"net1node with too small a factor: {status} {said!r}")
 
 
 def check_unbounded(complaints):

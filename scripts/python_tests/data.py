@@ -40,7 +40,7 @@ MISTAKES = (
     ({"cost": {("north", "hill"): "x"}}, netflow.ModelError, "in key ('north', 'hill') of cost", "cost['north', 'hill'] = 'x'"),
     ({"wants": {"hil": 30}}, netflow.ModelError, "E33 OutsideSet wants['hil'] in key 'hil' of wants", "hil: is hill meant?"),
     ({"wants": {"hill": -3}}, netflow.ModelError, "E34 Restriction", "the data name wants in key 'hill' of wants"),
-    ({"cost": [4, 3, 2]}, netflow.DataError, "param cost: 4 in the list has no key, and the model wants 2", "a dict by key, a list of tuples", "a list of dicts"),
+    ({"cost": [4, 3, 2]}, netflow.DataError, "param cost: 4 in the list has no key, and the model expects 2", "a dict by key, a list of tuples", "a list of dicts"),
     ({"wants": 5}, netflow.DataError, "param wants: 5 has no keys", "a list of dicts"),
     ({"wants": ["hill"]}, netflow.DataError, "param wants: 'hill' in the list has no key"),
     ({"wants": [("hill", 3), ("hill", 4)]}, netflow.DataError, "param wants: the key 'hill' is given twice"),
@@ -69,24 +69,6 @@ def check_mistakes(complaints):
         complaints.append(f"no data give {netflow.solve(MODEL)!r}")
     except netflow.ModelError as problem:
         complaints.same("no data", "there are no data: give a data file, or the values from Python", problem.hint)
-
-
-def check_pandas(complaints):
-    """Series and frames are accepted, and returned; skipped without pandas."""
-    try:
-        import pandas
-    except ImportError:
-        return "pandas is missing, so its objects are not tried"
-    grid = pandas.DataFrame([[4, 6, 9], [7, 5, 3]], index=["north", "south"], columns=["hill", "lake", "mill"])
-    long = pandas.DataFrame([(*key, it) for key, it in COST.items()], columns=["from", "to", "cost"])
-    for name, cost in (("a grid", grid), ("columns", long), ("a series", long.set_index(["from", "to"])["cost"])):
-        complaints.same(f"pandas: {name}", 440, netflow.solve(MODEL, cost=cost, **WHOLE).value)
-    series = pandas.Series({"hill": 30, "lake": 45, "mill": float("nan")})
-    plan = netflow.solve(MODEL, DATA, wants=series, bakes=pandas.Series({"north": 60, "south": 50}))
-    complaints.same("pandas: a missing value", 440, plan.value)
-    complaints.same("pandas: flows", 30, plan["Drive"].to_pandas()["north", "hill"])
-    complaints.same("pandas: rows", [30, 20, 0, 0, 25, 25], list(plan.to_pandas("Drive")["flow"]))
-    return None
 
 
 def check_overrides(complaints):

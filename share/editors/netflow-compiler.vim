@@ -4,4 +4,4 @@ if exists("current_compiler")
 endif
 let current_compiler = "netflow"
 CompilerSet makeprg=netflow-explain\ $*
-CompilerSet errorformat=%E%f:%l:%c:\ %m,%C\ \ Hint:\ %m,%-G%.%#
+CompilerSet errorformat=%E%f:%l:%c:\ %m,%Z\ \ Hint:\ %m,%Z\ \ To\ fix:\ %m,%-C%.%#,%-G%.%#

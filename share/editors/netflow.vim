@@ -4,14 +4,15 @@ if exists("b:current_syntax")
     finish
 endif
 
-syntax keyword netflowDeclaration set param check node arc minimize maximize
+syntax keyword netflowDeclaration set param node arc minimize maximize nextgroup=netflowName skipwhite
+syntax keyword netflowDeclaration check
+syntax match netflowName "\h\w*" contained
 syntax keyword netflowPhrase within dimen default symbolic integer from to obj net_in net_out
 syntax keyword netflowOperator and or not in by cross diff div else if inter mod symdiff then union sum min max
 syntax keyword netflowData data end tr
 syntax keyword netflowMissing var subject solve display Infinity exists forall prod setof less card abs ordered printf let
 syntax match netflowMark ":=\|\.\.\|<=\|>=\|<>\|[-+*=<>]"
 syntax match netflowNumber "\<\d\+\(\.\d\+\)\=\([eE][+-]\=\d\+\)\=\>"
-syntax match netflowName "\<\(set\|param\|node\|arc\|minimize\|maximize\)\s\+\zs\h\w*"
 syntax region netflowText start="'" skip="''" end="'" oneline
 syntax region netflowText start='"' skip='""' end='"' oneline
 syntax match netflowComment "#.*$" contains=netflowTodo
