@@ -30,7 +30,7 @@ all_as : {A : Type 0} (P Q : A → Type 0) (xs : List A) → ((x : A) → P x �
 all_as P Q [] f h = tt
 all_as P Q (x ∷ xs) f h = (f x h.0, all_as P Q xs f h.1)
 
-all_join : {A : Type 0} (P : A → Type 0) (xs ys : List A) → AllByRecursion P xs → AllByRecursion P ys → AllByRecursion P (xs ++ ys)
+pub all_join : {A : Type 0} (P : A → Type 0) (xs ys : List A) → AllByRecursion P xs → AllByRecursion P ys → AllByRecursion P (xs ++ ys)
 all_join P [] ys h k = k
 all_join P (x ∷ xs) ys h k = (h.0, all_join P xs ys h.1 k)
 

@@ -1,12 +1,11 @@
 -- The network that the code computes is the one that the model means.
-use Rattle.std.specs.Prelude.{◌≡◌, ◌⊎◌, ◌+◌, ℕ, Bool, true, false, List, [], ◌∷◌, ◌++◌, length, map, take, Option, None, Some, is_some, if◌then◌else◌, Ok, Err, IfOk, ⊤, ℤ, pos, ◌+ℤ◌, ◌≤ℤ◌, int_lt}
+use Rattle.std.specs.Prelude.{◌≡◌, ◌⊎◌, ◌+◌, ◌||◌, ℕ, Bool, true, false, List, [], ◌∷◌, ◌++◌, length, map, Option, None, Some, is_some, IsTrue, if◌then◌else◌, Ok, Err, IfOk, ⊤, ℤ, pos, ◌+ℤ◌, ◌≤ℤ◌, int_lt}
 use Rattle.std.specs.List.{AllByRecursion, AllZip}
 use Rattle.std.specs.Str.{bytes_eq}
 use Rattle.std.proofs.Common.{refl, ap, sym, ◌∙◌, subst, arith, inl, inr, append_assoc, append-nil}
 use Rattle.std.proofs.lemmas.Int.{ints}
-use Rattle.std.proofs.lemmas.Slice.Eq.{bytes_eq-Decides}
-use Rattle.net_fault.specs.declared.defect.Defect.TheVariants.{ArcCrossed, ValueTooLarge}
-use Rattle.net_fault.specs.Outcomes.{Outcome, and_then, refused, refused_of}
+use Rattle.net_fault.specs.declared.defect.Defect.TheVariants.{ArcCrossed}
+use Rattle.net_fault.specs.Outcomes.{Outcome, and_then, refused_of}
 use Rattle.net_lex.specs.declared.token.Token.{Token}
 use Rattle.net_sets.specs.declared.member.Member.TheVariants as member
 use Rattle.net_sets.specs.Sets.{Tuple}
@@ -17,23 +16,19 @@ use Rattle.net_tree.specs.declared.role.Role.TheVariants as roles
 use Rattle.net_tree.specs.Phrases.{is_at_least, is_at_most, is_from, is_to}
 use Rattle.net_tree.specs.Role.{role_of}
 use Rattle.net_tree.specs.Spans.{span_of}
-use Rattle.net_tree.specs.Tree.{Tree, Braces, Condition, Part, Phrase, Body, plain, valued, priced, leaf, indexed, parens, tuple, negated, braced, signed, reduced, chain, choice, net, Declaration, set, param, check, node, arc, objective}
-use Rattle.net_normal.specs.declared.instance.InstArc.{InstArc}
+use Rattle.net_tree.specs.Tree.{Tree, Braces, Part, Phrase, Body, plain, valued, priced, leaf, indexed, parens, tuple, negated, braced, signed, reduced, chain, choice, net, Declaration, set, param, check, node, arc, objective}
 use Rattle.net_expr.specs.declared.row.Row.{Row}
-use Rattle.net_expr.specs.declared.value.Value.{Value as Found}
 use Rattle.net_expr.specs.declared.value.Value.TheVariants as found
-use Rattle.net_expr.specs.Limits.{is_small}
-use Rattle.net_expr.specs.Operators as eval
-use Rattle.net_expr.specs.Values.{value, index}
+use Rattle.net_expr.specs.Values.{index}
 use Rattle.net_expr.specs.Worlds.{Name, World, Scope, reference}
 use Rattle.net_linear.specs.Arcs.{declared}
 use Rattle.net_linear.specs.Forms as forms
-use Rattle.net_linear.specs.Forms.{Linear, Products}
+use Rattle.net_linear.specs.Forms.{Linear}
 use Rattle.net_linear.specs.Objectives.{key_of}
 use Rattle.net_meaning.specs.Network as meaning
-use Rattle.net_meaning.specs.Network.{IsEnd, absent_end, name, name_and_key, HasNumber, IsArc, IsNode, IsCoefficient, IsCoefficientIn, IsCoefficientFor, AreNodesOf, AreArcsOf, InOrder, entries_after}
+use Rattle.net_meaning.specs.Network.{IsEnd, absent_end, name, name_and_key, HasNumber, IsArc, IsCoefficient, IsCoefficientIn, IsCoefficientFor}
 use Rattle.net_meaning.specs.Operators as values
-use Rattle.net_meaning.specs.Values.{Key, env_of, IsValue, AreKeys, AreValues, AreMembers}
+use Rattle.net_meaning.specs.Values.{Env, Key, env_of, IsValue, AreKeys, AreValues, AreMembers}
 use Rattle.net_meaning.specs.World as world
 use Rattle.net_meaning.specs.World.{AreIndexed}
 use Rattle.net_meaning.proofs.Meaning.{evaluation_is_sound, keys_are_sound, key_is_sound, netless, all_netless}
@@ -42,22 +37,21 @@ use Rattle.net_inst.specs.declared.goal.ChosenObjective.{ChosenObjective}
 use Rattle.net_inst.specs.declared.indexing.Indexing.{Indexing}
 use Rattle.net_inst.specs.declared.phrases.ArcWord.{ArcWord}
 use Rattle.net_inst.specs.declared.phrases.ArcWord.TheVariants as words
-use Rattle.net_inst.specs.Arcs.{DrawnArcs, drawn, end_at, with_ends, is_goal, priced_by, price_in, prices_in, next_arc, arcs_at, named_arcs, with_arcs}
+use Rattle.net_inst.specs.Arcs.{DrawnArcs, drawn, end_at, with_ends, is_goal, priced_by, price_in, prices_in, next_arc, arcs_at}
 use Rattle.net_inst.specs.AsWritten as written
-use Rattle.net_inst.specs.AsWritten.{known_behind, in_order, nodes_of, arcs_of, rows_of, node_at_row, arc_at_row, arcs_with}
-use Rattle.net_inst.specs.Drafts.{Drawing, nothing, env, said_form, aimed, passed, is_chosen, with_goal, with_objective, known_more, nodes_more, arcs_more, declare, draw}
+use Rattle.net_inst.specs.AsWritten.{arc_at_row}
+use Rattle.net_inst.specs.Drafts.{Drawing, env, said_form, aimed, passed, is_chosen, with_goal, with_objective}
 use Rattle.net_inst.specs.Indexings.{alone, by_keys, indexing_in}
-use Rattle.net_inst.specs.Instances.{Network, with_coefficients}
 use Rattle.net_inst.specs.Nodes as nodes
-use Rattle.net_inst.specs.Nodes.{DrawnNodes, node_named, nodes_by, with_nodes}
-use Rattle.net_inst.specs.Numbers as inst
+use Rattle.net_inst.specs.Nodes.{DrawnNodes}
 use Rattle.net_inst.specs.Numbers.{number}
 use Rattle.net_inst.specs.Phrases as phrases
 use Rattle.net_inst.specs.Phrases.{Parts, parts_of, parts_from}
-use Rattle.net_inst.specs.Soundness.{IsListed, NamesObjective, NameObjectives, IsSameNode, IsSameArc, HasBounds, HasNetwork}
-use Rattle.net_inst.proofs.Agreement.{IsNextArc, next_arc_is, AreArcsBy, with_arcs_is, IsFinished, network_is}
+use Rattle.net_inst.specs.Soundness.{IsSameArc}
+use Rattle.net_inst.proofs.Agreement.{next_arc_is}
 use Rattle.net_inst.proofs.Placing as placing
-use Rattle.net_inst.proofs.Zips.{ok_then, ok_is, zip_join}
+use Rattle.net_inst.proofs.SoundEnds.{HasEnd}
+use Rattle.net_inst.proofs.Zips.{ok_then, ok_is}
 
 -- ---- phrases
 
@@ -129,6 +123,12 @@ end_is ns w s (Some (chain n y l)) v e = cc
 end_is ns w s (Some (choice i y t z p)) v e = cc
 end_is ns w s (Some (net t u)) v e = cc
 
+-- an end is present if and only if its phrase is
+end_present : (e : Env) (o : Option Tree) (r : Option (Name × Tuple)) → IsEnd e o r → is_some r ≡ is_some o
+end_present e o r absent_end = refl
+end_present e o r (name t) = refl
+end_present e o r (name_and_key n q x l c key h) = refl
+
 -- the objective so far and the final one agree about the names of these phrases
 abbrev pub AgreesOn : Option ChosenObjective → Name → Body → Type 0
 AgreesOn g goal (priced n x) = bytes_eq goal n.text ≡ is_goal g n.text
@@ -162,13 +162,14 @@ record AreParts (l u t h : Option Tree) (p : Parts) : Type 0 where
   upper : u ≡ Some p.upper
   tail : p.tail ≡ t
   head : p.head ≡ h
+  ended : IsTrue (is_some p.tail || is_some p.head)
 
 parts_are : (n : Token) (l u t h : Option Tree) (p : Parts) → parts_from n l u t h ≡ Ok p → AreParts l u t h p
 parts_are n None u t h p e = cc
 parts_are n (Some l) None t h p e = cc
 parts_are n (Some l) (Some u) None None p e = cc
-parts_are n (Some l) (Some u) None (Some h) p e = subst (AreParts (Some l) (Some u) None (Some h)) (ok_is _ p e) (record { lower = refl; upper = refl; tail = refl; head = refl })
-parts_are n (Some l) (Some u) (Some t) h p e = subst (AreParts (Some l) (Some u) (Some t) h) (ok_is _ p e) (record { lower = refl; upper = refl; tail = refl; head = refl })
+parts_are n (Some l) (Some u) None (Some h) p e = subst (AreParts (Some l) (Some u) None (Some h)) (ok_is _ p e) (record { lower = refl; upper = refl; tail = refl; head = refl; ended = refl })
+parts_are n (Some l) (Some u) (Some t) h p e = subst (AreParts (Some l) (Some u) (Some t) h) (ok_is _ p e) (record { lower = refl; upper = refl; tail = refl; head = refl; ended = refl })
 
 -- what the code computes of an arc is what its phrases mean
 record IsRow (w : World) (s : Scope) (ps : List Phrase) (p : Parts) (x : Drawn) : Type 0 where
@@ -177,6 +178,7 @@ record IsRow (w : World) (s : Scope) (ps : List Phrase) (p : Parts) (x : Drawn) 
   ordered : x.lower ≤ℤ x.upper
   from : IsEnd (env_of w s) (world.phrase_value is_from ps) (written.end_of w s p.tail)
   to : IsEnd (env_of w s) (world.phrase_value is_to ps) (written.end_of w s p.head)
+  ended : IsTrue (is_some (written.end_of w s p.tail) || is_some (written.end_of w s p.head))
 
 ends_are : (ns : DrawnNodes) (w : World) (s : Scope) (ps : List Phrase) (p : Parts) (l u : ℤ) (x : Drawn) → AreParts (phrases.said words.AtLeast ps) (phrases.said words.AtMost ps) (phrases.said words.From ps) (phrases.said words.To ps) p
     → number w s p.lower ≡ Ok l → number w s p.upper ≡ Ok u → l ≤ℤ u → with_ends ns w s p l u ≡ Ok x → IsRow w s ps p x
@@ -188,6 +190,10 @@ ends_are ns w s ps p l u x are low high ordered e =
       ordered = ordered;
       from = subst (λ o. IsEnd (env_of w s) o (written.end_of w s p.tail)) (are.tail ∙ from_said ps) (end_is ns w s p.tail t h);
       to = subst (λ o. IsEnd (env_of w s) o (written.end_of w s p.head)) (are.head ∙ to_said ps) (end_is ns w s p.head z j);
+      ended =
+          ap (λ (b : Bool). b || is_some (written.end_of w s p.head)) (end_present (env_of w s) p.tail (written.end_of w s p.tail) (end_is ns w s p.tail t h))
+          ∙ ap (λ (b : Bool). is_some p.tail || b) (end_present (env_of w s) p.head (written.end_of w s p.head) (end_is ns w s p.head z j))
+          ∙ are.ended;
     })))
 
 row_is : (ns : DrawnNodes) (w : World) (n : Token) (k : Option ℕ) (ps : List Phrase) (p : Parts) (row : Row) (x : Drawn) → parts_of n ps ≡ Ok p → drawn ns w n k p row ≡ Ok x → IsRow w row.scope ps p x
@@ -223,6 +229,7 @@ pub record AreRows (goal : Name) (w : World) (n : Token) (b : Option Braces) (ps
   pub arcs : List meaning.Arc
   pub are : AllZip (IsArc goal n b ps) (map (as_key w) rows) arcs
   pub same : AllZip IsSameArc (map (arc_at_row w n b ps p) rows) arcs
+  pub ended : AllByRecursion HasEnd arcs
   pub more : List Drawn
   pub whole : new.arcs ≡ d.arcs ++ more
   pub bounds : AllZip HasDrawnBounds arcs more
@@ -230,7 +237,7 @@ pub record AreRows (goal : Name) (w : World) (n : Token) (b : Option Braces) (ps
 pub rows_are : (goal : Name) (g : Option ChosenObjective) (ns : DrawnNodes) (w : World) (n : Token) (b : Option Braces) (k : Option ℕ) (p : Parts) (ps : List Phrase) (rows : List Row) (d new : DrawnArcs) → AgreesOnAll g goal ps → parts_of n ps ≡ Ok p
     → arcs_at g ns w n k p ps rows d ≡ Ok new → AreRows goal w n b ps p rows d new
 rows_are goal g ns w n b k p ps [] d new h parts e =
-    record { arcs = []; are = tt; same = tt; more = []; whole = ap (λ (z : DrawnArcs). z.arcs) (sym (ok_is d new e)) ∙ sym (append-nil d.arcs); bounds = tt }
+    record { arcs = []; are = tt; same = tt; ended = tt; more = []; whole = ap (λ (z : DrawnArcs). z.arcs) (sym (ok_is d new e)) ∙ sym (append-nil d.arcs); bounds = tt }
 rows_are goal g ns w n b k p ps (row ∷ rows) d new h parts e =
     ok_then (next_arc g ns w n k p ps row d) (arcs_at g ns w n k p ps rows) new e (λ next i j.
     let one = next_arc_is g ns w n k p ps row d next i in
@@ -241,6 +248,7 @@ rows_are goal g ns w n b k p ps (row ∷ rows) d new h parts e =
       arcs = made w n b p row one.arc c.0 ∷ rest.arcs;
       are = (record { label = refl; lower = by.lower; upper = by.upper; ordered = by.ordered; from = by.from; to = by.to; coefficient = c.1 }, rest.are);
       same = (record { name = refl; indexed = refl; key = refl; from = refl; to = refl }, rest.same);
+      ended = (by.ended, rest.ended);
       more = one.arc ∷ rest.more;
       whole = rest.whole ∙ ap (λ (l : List Drawn). l ++ rest.more) one.arcs ∙ append_assoc d.arcs (one.arc ∷ []) rest.more;
       bounds = (record { lower = refl; upper = refl }, rest.bounds);

@@ -1,13 +1,10 @@
 -- The network that the code computes is the one that the model means: from declaration to declaration.
-use Rattle.std.specs.Prelude.{◌≡◌, ◌⊎◌, ℕ, suc, Bool, true, false, List, [], ◌∷◌, ◌++◌, map, take, Option, None, Some, Ok, ⊤}
+use Rattle.std.specs.Prelude.{◌≡◌, ℕ, suc, List, [], ◌∷◌, ◌++◌, map, Option, None, Some, Ok, ⊤}
 use Rattle.std.specs.List.{AllByRecursion, AllZip}
-use Rattle.std.specs.Str.{bytes_eq}
-use Rattle.std.proofs.Common.{refl, ap, sym, ◌∙◌, subst, inl, inr, append_assoc, append-nil}
-use Rattle.std.proofs.lemmas.Slice.Eq.{bytes_eq-Decides}
+use Rattle.std.proofs.Common.{refl, ap, sym, ◌∙◌, subst, append_assoc, append-nil}
 use Rattle.net_fault.specs.Outcomes.{Outcome}
 use Rattle.net_lex.specs.declared.token.Token.{Token}
-use Rattle.net_tree.specs.Tree.{Braces, Condition, Phrase, Body, plain, valued, priced, Declaration, set, param, check, node, arc, objective}
-use Rattle.net_normal.specs.declared.instance.InstArc.{InstArc}
+use Rattle.net_tree.specs.Tree.{Braces, Condition, Declaration, set, param, check, node, arc, objective}
 use Rattle.net_expr.specs.declared.row.Row.{Row}
 use Rattle.net_expr.specs.Worlds.{Name, World}
 use Rattle.net_linear.specs.Forms.{Products}
@@ -17,7 +14,7 @@ use Rattle.net_meaning.specs.Values.{env_of}
 use Rattle.net_inst.specs.declared.arc.Drawn.{Drawn}
 use Rattle.net_inst.specs.declared.goal.ChosenObjective.{ChosenObjective}
 use Rattle.net_inst.specs.declared.indexing.Indexing.{Indexing}
-use Rattle.net_inst.specs.Arcs.{DrawnArcs, with_arcs, is_goal}
+use Rattle.net_inst.specs.Arcs.{DrawnArcs, with_arcs}
 use Rattle.net_inst.specs.AsWritten as written
 use Rattle.net_inst.specs.AsWritten.{known_behind, in_order, nodes_of, arcs_of, rows_of, node_at_row, arc_at_row, arcs_with}
 use Rattle.net_inst.specs.Drafts.{Drawing, nothing, env, known_more, nodes_more, arcs_more, declare, draw}
@@ -25,94 +22,18 @@ use Rattle.net_inst.specs.Indexings.{indexing_in}
 use Rattle.net_inst.specs.Instances.{Network, with_coefficients}
 use Rattle.net_inst.specs.Nodes.{nodes_by, with_nodes}
 use Rattle.net_inst.specs.Phrases.{parts_of}
-use Rattle.net_inst.specs.Soundness.{IsListed, NamesObjective, NameObjectives, IsSameNode, IsSameArc, HasBounds, HasNetwork, NetworksAreSound}
+use Rattle.net_inst.specs.Soundness.{NameObjectives, IsSameNode, IsSameArc, HasBounds, NetworksAreSound}
 use Rattle.net_inst.proofs.Agreement.{with_arcs_is, network_is}
-use Rattle.net_inst.proofs.SoundArcs.{AgreesOn, AgreesOnAll, as_key, HasDrawnBounds, rows_are, keys_are, IsGoalAfter, IsNextGoal, goal_after}
-use Rattle.net_inst.proofs.Written.{aimed_is}
+use Rattle.net_inst.proofs.Aiming.{have_objective}
+use Rattle.net_inst.proofs.KeysOnce.{are_distinct_in_sets}
+use Rattle.net_inst.proofs.Once.{all_join}
+use Rattle.net_inst.proofs.SoundArcs.{AgreesOnAll, as_key, HasDrawnBounds, rows_are, keys_are, IsNextGoal}
+use Rattle.net_inst.proofs.SoundEnds.{HasEnd, nodes_apart, arcs_apart, ends_are_nodes}
+use Rattle.net_inst.proofs.SoundGoals.{next_goal, some_is, no_goal, only_goal, named_goal, IsReady, agrees_on_all, ready_after}
+use Rattle.net_inst.proofs.SoundNames.{nodes_once, arcs_once}
+use Rattle.net_inst.proofs.SoundObjectives.{as_objective, objective_is}
+use Rattle.net_inst.proofs.Written.{aimed_is, have_ends}
 use Rattle.net_inst.proofs.Zips.{ok_then, ok_is, zip_join}
-
--- ---- the goal
-
-next_goal : (wanted : Option Name) (w : World) (x : Declaration) (d new : Drawing) → declare wanted w x d ≡ Ok new → IsNextGoal wanted x d.goal new.goal
-next_goal wanted w (set t n ps z) d new e = ap (λ (y : Drawing). y.goal) (sym (ok_is (known_more d) new e))
-next_goal wanted w (param t n b ps z) d new e = ap (λ (y : Drawing). y.goal) (sym (ok_is (known_more d) new e))
-next_goal wanted w (check t b m x z) d new e = ap (λ (y : Drawing). y.goal) (sym (ok_is d new e))
-next_goal wanted w (node t n b c z) d new e =
-    ok_then (with_nodes (env w d) n b c d.nodes) (λ ns. Ok (nodes_more d ns)) new e (λ ns i j. ap (λ (y : Drawing). y.goal) (sym (ok_is (nodes_more d ns) new j)))
-next_goal wanted w (arc t n b ps z) d new e =
-    ok_then (with_arcs d.goal d.nodes (env w d) n b ps d.arcs) (λ xs. Ok (arcs_more d xs)) new e (λ xs i j. ap (λ (y : Drawing). y.goal) (sym (ok_is (arcs_more d xs) new j)))
-next_goal wanted w (objective t n p z) d new e = goal_after wanted (env w d) t n p d new e
-
-some_is : {A : Type 0} (a b : A) → Some a ≡ Some b → a ≡ b
-some_is a b e = cc
-
-abbrev no_goal : Option ChosenObjective
-no_goal = None
-
--- the only objective stays the goal
-goal_stays : (x : Declaration) (g h : Option ChosenObjective) (z : ChosenObjective) → g ≡ Some z → IsNextGoal None x g h → h ≡ Some z
-goal_stays (objective t n p e) g h z i (none, y, j, f) = absurd (differ (sym none ∙ i))
-  where
-    differ : no_goal ≡ Some z → ⊥
-    differ q = cc
-goal_stays (set t n ps e) g h z i j = j ∙ i
-goal_stays (param t n b ps e) g h z i j = j ∙ i
-goal_stays (check t b m x e) g h z i j = j ∙ i
-goal_stays (node t n b c e) g h z i j = j ∙ i
-goal_stays (arc t n b ps e) g h z i j = j ∙ i
-
-only_goal : (w : World) (ds : List Declaration) (d new : Drawing) (z : ChosenObjective) → d.goal ≡ Some z → draw None w ds d ≡ Ok new → new.goal ≡ Some z
-only_goal w [] d new z h e = ap (λ (y : Drawing). y.goal) (sym (ok_is d new e)) ∙ h
-only_goal w (x ∷ xs) d new z h e = ok_then (declare None w x d) (draw None w xs) new e (λ next i j. only_goal w xs next new z (goal_stays x d.goal next.goal z h (next_goal None w x d next i)) j)
-
-bytes_same : (a b : Name) → bytes_eq a b ≡ true → a ≡ b
-bytes_same a b e = (bytes_eq-Decides a b).0 e
-
--- a goal has the requested name
-abbrev HasName : Name → Option ChosenObjective → Type 0
-HasName m g = (z : ChosenObjective) → g ≡ Some z → m ≡ z.name
-
-name_stays : (m : Name) (x : Declaration) (g h : Option ChosenObjective) → HasName m g → IsNextGoal (Some m) x g h → HasName m h
-name_stays m (objective t n p e) g h i (inl (same, z, j, f)) y k = bytes_same m n.text same ∙ sym f ∙ ap (λ (q : ChosenObjective). q.name) (some_is z y (sym j ∙ k))
-name_stays m (objective t n p e) g h i (inr (other, j)) y k = i y (sym j ∙ k)
-name_stays m (set t n ps e) g h i j y k = i y (sym j ∙ k)
-name_stays m (param t n b ps e) g h i j y k = i y (sym j ∙ k)
-name_stays m (check t b c x e) g h i j y k = i y (sym j ∙ k)
-name_stays m (node t n b c e) g h i j y k = i y (sym j ∙ k)
-name_stays m (arc t n b ps e) g h i j y k = i y (sym j ∙ k)
-
-named_goal : (m : Name) (w : World) (ds : List Declaration) (d new : Drawing) → HasName m d.goal → draw (Some m) w ds d ≡ Ok new → HasName m new.goal
-named_goal m w [] d new h e = subst (λ (y : Drawing). HasName m y.goal) (ok_is d new e) h
-named_goal m w (x ∷ xs) d new h e = ok_then (declare (Some m) w x d) (draw (Some m) w xs) new e (λ next i j. named_goal m w xs next new (name_stays m x d.goal next.goal h (next_goal (Some m) w x d next i)) j)
-
--- the goal so far is the final one, or no objective so far has its name
-abbrev IsReady : List Name → Name → Option ChosenObjective → Type 0
-IsReady before goal None = (m : Name) → IsListed before m → bytes_eq goal m ≡ false
-IsReady before goal (Some g) = g.name ≡ goal
-
-agrees_on : (before : List Name) (goal : Name) (g : Option ChosenObjective) (b : Body) → IsReady before goal g → NamesObjective before b → AgreesOn g goal b
-agrees_on before goal None (priced n x) r l = r n.text l
-agrees_on before goal (Some g) (priced n x) r l = ap (λ (k : Name). bytes_eq k n.text) (sym r)
-agrees_on before goal g plain r l = tt
-agrees_on before goal g (valued x) r l = tt
-
-agrees_on_all : (before : List Name) (goal : Name) (g : Option ChosenObjective) (ps : List Phrase) → IsReady before goal g → AllByRecursion (λ (p : Phrase). NamesObjective before p.body) ps → AgreesOnAll g goal ps
-agrees_on_all before goal g [] r l = tt
-agrees_on_all before goal g (p ∷ ps) r l = (agrees_on before goal g p.body r l.0, agrees_on_all before goal g ps r l.1)
-
-ready_after : (wanted : Option Name) (n : Token) (before : List Name) (goal : Name) (g h : Option ChosenObjective) → ((m : Name) → wanted ≡ Some m → m ≡ goal) → ((z : ChosenObjective) → wanted ≡ None → h ≡ Some z → z.name ≡ goal)
-    → IsReady before goal g → IsGoalAfter wanted n g h → IsReady (n.text ∷ before) goal h
-ready_after (Some m) n before goal g h same last r (inl (t, z, e, f)) = subst (IsReady (n.text ∷ before) goal) (sym e) (f ∙ sym (bytes_same m n.text t) ∙ same m refl)
-ready_after (Some m) n before goal g h same last r (inr (t, e)) = subst (IsReady (n.text ∷ before) goal) (sym e) (go g r)
-  where
-    none : ((m : Name) → IsListed before m → bytes_eq goal m ≡ false) → (k : Name) → IsListed (n.text ∷ before) k → bytes_eq goal k ≡ false
-    none r k (inl q) = subst (λ (k : Name). bytes_eq goal k ≡ false) q (subst (λ (j : Name). bytes_eq j n.text ≡ false) (same m refl) t)
-    none r k (inr q) = r k q
-
-    go : (g : Option ChosenObjective) → IsReady before goal g → IsReady (n.text ∷ before) goal g
-    go None r = none r
-    go (Some z) r = r
-ready_after None n before goal g h same last r (q, z, e, f) = subst (IsReady (n.text ∷ before) goal) (sym e) (last z refl e)
 
 -- ---- a declaration
 
@@ -125,7 +46,7 @@ nodes_are w n b c (row ∷ rows) = (refl, nodes_are w n b c rows)
 
 nodes_same : (w : World) (n : Token) (b : Option Braces) (c : Condition) (rows : List Row) → AllZip IsSameNode (map (node_at_row w n b c) rows) (map (node_made w n b c) rows)
 nodes_same w n b c [] = tt
-nodes_same w n b c (row ∷ rows) = (record { name = refl; indexed = refl; key = refl }, nodes_same w n b c rows)
+nodes_same w n b c (row ∷ rows) = (record { name = refl; indexed = refl; key = refl; condition = refl; env = refl }, nodes_same w n b c rows)
 
 record IsStep (goal : Name) (w : World) (x : Declaration) (d new : Drawing) : Type 0 where
   nodes : List meaning.Node
@@ -134,6 +55,7 @@ record IsStep (goal : Name) (w : World) (x : Declaration) (d new : Drawing) : Ty
   are_arcs : AreArcsOf goal (env w d) x arcs
   same_nodes : AllZip IsSameNode (nodes_of (env w d) x) nodes
   same_arcs : AllZip IsSameArc (arcs_of (env w d) x) arcs
+  ended : AllByRecursion HasEnd arcs
   more : List Drawn
   whole : new.arcs.arcs ≡ d.arcs.arcs ++ more
   bounds : AllZip HasDrawnBounds arcs more
@@ -148,6 +70,7 @@ idle goal w x d new a b c f g h = record {
   are_arcs = b;
   same_nodes = subst (λ (l : List written.Node). AllZip IsSameNode l []) (sym c) tt;
   same_arcs = subst (λ (l : List written.Arc). AllZip IsSameArc l []) (sym f) tt;
+  ended = tt;
   more = [];
   whole = g ∙ sym (append-nil d.arcs.arcs);
   bounds = tt;
@@ -178,6 +101,7 @@ step wanted goal w (node t n b c z) d new h e =
       are_arcs = refl;
       same_nodes = subst (λ (o : Outcome Indexing). AllZip IsSameNode (map (node_at_row (env w d) n b c) (rows_of o)) (map (node_made (env w d) n b c) x.rows)) (sym k) (nodes_same (env w d) n b c x.rows);
       same_arcs = tt;
+      ended = tt;
       more = [];
       whole = ap (λ (y : Drawing). y.arcs.arcs) same ∙ sym (append-nil d.arcs.arcs);
       bounds = tt;
@@ -197,6 +121,7 @@ step wanted goal w (arc t n b ps z) d new h e =
       are_arcs = (map (as_key (env w d)) by.indexing.rows, keys_are (env w d) b by.indexing by.keys, rows.are);
       same_nodes = tt;
       same_arcs = subst (λ (l : List written.Arc). AllZip IsSameArc l rows.arcs) (sym here) rows.same;
+      ended = rows.ended;
       more = rows.more;
       whole = ap (λ (y : Drawing). y.arcs.arcs) same ∙ ap (λ (y : DrawnArcs). y.arcs) (sym by.is_named) ∙ rows.whole;
       bounds = rows.bounds;
@@ -212,6 +137,7 @@ record IsWalk (goal : Name) (w : World) (k : ℕ) (ds : List Declaration) (d new
   are_arcs : InOrder (AreArcsOf goal) w k ds arcs
   same_nodes : AllZip IsSameNode (in_order nodes_of w k ds) nodes
   same_arcs : AllZip IsSameArc (in_order arcs_of w k ds) arcs
+  ended : AllByRecursion HasEnd arcs
   more : List Drawn
   whole : new.arcs.arcs ≡ d.arcs.arcs ++ more
   bounds : AllZip HasDrawnBounds arcs more
@@ -236,6 +162,7 @@ joined goal w x xs d next new one rest = record {
   same_arcs =
       subst (λ (k : ℕ). AllZip IsSameArc (arcs_of (env w d) x ++ in_order arcs_of w k xs) (one.arcs ++ rest.arcs)) (sym (same_after d.known x))
       (zip_join IsSameArc (arcs_of (env w d) x) (in_order arcs_of w (entries_after d.known x) xs) one.arcs rest.arcs one.same_arcs rest.same_arcs);
+  ended = all_join HasEnd one.arcs rest.arcs one.ended rest.ended;
   more = one.more ++ rest.more;
   whole = rest.whole ∙ ap (λ (l : List Drawn). l ++ rest.more) one.whole ∙ append_assoc d.arcs.arcs one.more rest.more;
   bounds = zip_join HasDrawnBounds one.arcs rest.arcs one.more rest.more one.bounds rest.bounds;
@@ -291,6 +218,7 @@ walk wanted goal w [] before d new h r aim e = record {
   are_arcs = refl;
   same_nodes = tt;
   same_arcs = tt;
+  ended = tt;
   more = [];
   whole = ap (λ (y : Drawing). y.arcs.arcs) (sym (ok_is d new e)) ∙ sym (append-nil d.arcs.arcs);
   bounds = tt;
@@ -313,21 +241,34 @@ bounds_are ps a (y ∷ all) [] h = absurd h
 bounds_are ps a (y ∷ all) (x ∷ xs) h = (record { lower = h.0.lower; upper = h.0.upper }, bounds_are ps (suc a) all xs h.1)
 
 pub networks_are_sound : NetworksAreSound
-networks_are_sound requested w ds n h e =
+networks_are_sound requested w ds n sets names e =
     let f = network_is requested w ds n e in
     let named : (m : Name) → requested ≡ Some m → m ≡ f.goal.name = (λ m q.
     named_goal m w ds nothing f.drawing (λ z k. absurd (none_is z k)) (subst (λ (o : Option Name). draw o w ds nothing ≡ Ok f.drawing) q f.is_drawn) f.goal f.has_objective) in
     let aim : IsAim requested f.goal.name f.drawing = record { requested = named; final = f.goal; has = f.has_objective; named = refl } in
-    let found = walk requested f.goal.name w ds [] nothing f.drawing h (λ m l. absurd l) aim f.is_drawn in
-    subst (HasNetwork w ds) f.whole (record {
+    let found = walk requested f.goal.name w ds [] nothing f.drawing names.priced (λ m l. absurd l) aim f.is_drawn in
+    let aims = have_objective requested w ds n e in
+    let apart = are_distinct_in_sets w ds sets (nodes_once ds names.once) (arcs_once ds names.once) in
+    let goal : n.names.objective ≡ f.goal.name = ap (λ (z : Network). z.names.objective) (sym f.whole) in
+    record {
       nodes = found.nodes;
       arcs = found.arcs;
-      are_nodes = found.are_nodes;
-      are_arcs = found.are_arcs;
+      objective = as_objective aims.0;
+      is_network = record {
+        objective = objective_is requested w ds f.drawing aims.0 names.once f.is_drawn aims.1;
+        nodes = found.are_nodes;
+        arcs = subst (λ (g : Name). InOrder (AreArcsOf g) w 0 ds found.arcs) (sym goal ∙ aims.2.name) found.are_arcs;
+        ends = ends_are_nodes (written.nodes w ds) found.nodes (written.arcs w ds) found.arcs n.arcs found.same_nodes found.same_arcs (have_ends requested w ds n e apart) found.ended;
+        nodes_apart = nodes_apart (written.nodes w ds) found.nodes found.same_nodes apart.nodes;
+        arcs_apart = arcs_apart (written.arcs w ds) found.arcs found.same_arcs apart.arcs;
+      };
+      same_name = sym aims.2.name;
+      same_sense = sym aims.2.sense;
       same_nodes = found.same_nodes;
       same_arcs = found.same_arcs;
-      bounds = bounds_are f.drawing.arcs.form.products 0 found.arcs f.drawing.arcs.arcs (subst (AllZip HasDrawnBounds found.arcs) (sym found.whole) found.bounds);
-    })
+      bounds = subst (AllZip HasBounds found.arcs) (ap (λ (z : Network). z.arcs) f.whole)
+          (bounds_are f.drawing.arcs.form.products 0 found.arcs f.drawing.arcs.arcs (subst (AllZip HasDrawnBounds found.arcs) (sym found.whole) found.bounds));
+    }
   where
     none_is : (z : ChosenObjective) → no_goal ≡ Some z → ⊥
     none_is z q = cc

@@ -1,11 +1,14 @@
 -- Laws that relate the network that the code computes to the meaning of the model.
 use Rattle.std.specs.Prelude.{◌≡◌, ◌⊎◌, List, [], ◌∷◌, Option, Ok, ⊤}
-use Rattle.std.specs.List.{AllByRecursion, AllZip}
+use Rattle.std.specs.List.{AllByRecursion, AllZip, IsDistinct}
+use Rattle.std.specs.Str.{bytes_eq}
 use Rattle.net_tree.specs.Tree.{Body, plain, valued, priced, Phrase, Declaration, set, param, check, node, arc, objective}
 use Rattle.net_normal.specs.declared.instance.InstArc.{InstArc}
+use Rattle.net_expr.specs.SetValues.{HasSets}
 use Rattle.net_expr.specs.Worlds.{Name, World}
 use Rattle.net_meaning.specs.Network as meaning
-use Rattle.net_meaning.specs.Network.{InOrder, AreNodesOf, AreArcsOf}
+use Rattle.net_meaning.specs.Network.{IsNetwork}
+use Rattle.net_meaning.specs.Values.{env_of}
 use Rattle.net_inst.specs.AsWritten as written
 use Rattle.net_inst.specs.Instances.{Network, network}
 
@@ -29,11 +32,30 @@ NameObjectives before (param t n b ps e ∷ ds) = NameObjectives before ds
 NameObjectives before (check t b m x e ∷ ds) = NameObjectives before ds
 NameObjectives before (node t n b c e ∷ ds) = NameObjectives before ds
 
--- a node as written and its meaning have the same label
+-- the declared names, in order; a `check` declares none
+abbrev pub names_in : List Declaration → List Name
+names_in [] = []
+names_in (set t n ps e ∷ ds) = n.text ∷ names_in ds
+names_in (param t n b ps e ∷ ds) = n.text ∷ names_in ds
+names_in (check t b m x e ∷ ds) = names_in ds
+names_in (node t n b c e ∷ ds) = n.text ∷ names_in ds
+names_in (arc t n b ps e ∷ ds) = n.text ∷ names_in ds
+names_in (objective t n p e ∷ ds) = n.text ∷ names_in ds
+
+-- the rules of AMPL for names that give a network its meaning
+pub record IsNamedOnce (ds : List Declaration) : Type 0 where
+  -- no name is declared twice
+  pub once : IsDistinct bytes_eq (names_in ds)
+  -- each `obj` phrase names an objective that is declared before it
+  pub priced : NameObjectives [] ds
+
+-- a node as written and its meaning have the same label and the same condition, in the same environment
 pub record IsSameNode (v : written.Node) (a : meaning.Node) : Type 0 where
   pub name : a.label.name ≡ v.label.name
   pub indexed : a.label.indexed ≡ v.label.indexed
   pub key : a.label.key ≡ v.label.key
+  pub condition : a.condition ≡ v.condition
+  pub env : a.env ≡ env_of v.env v.scope
 
 -- an arc as written and its meaning have the same label and the same ends
 pub record IsSameArc (v : written.Arc) (a : meaning.Arc) : Type 0 where
@@ -48,16 +70,19 @@ pub record HasBounds (a : meaning.Arc) (x : InstArc) : Type 0 where
   pub lower : x.lower ≡ a.lower
   pub upper : x.upper ≡ a.upper
 
--- the nodes and arcs of the model, in order of declaration and key, and what the network has of them
-pub record HasNetwork (w : World) (ds : List Declaration) (n : Network) : Type 0 where
+-- the network of the model, with its nodes and arcs in order of declaration and key; the network n that the code computes has the same labels,
+-- ends, bounds and objective
+pub record HasNetwork (requested : Option Name) (w : World) (ds : List Declaration) (n : Network) : Type 0 where
   pub nodes : List meaning.Node
   pub arcs : List meaning.Arc
-  pub are_nodes : InOrder AreNodesOf w 0 ds nodes
-  pub are_arcs : InOrder (AreArcsOf n.names.objective) w 0 ds arcs
+  pub objective : meaning.Objective
+  pub is_network : IsNetwork requested w ds nodes arcs objective
+  pub same_name : objective.name ≡ n.names.objective
+  pub same_sense : objective.sense ≡ n.sense
   pub same_nodes : AllZip IsSameNode (written.nodes w ds) nodes
   pub same_arcs : AllZip IsSameArc (written.arcs w ds) arcs
   pub bounds : AllZip HasBounds arcs n.arcs
 
--- if the code computes a network, the model has nodes and arcs, and the network has their bounds
+-- if the code computes a network, the model has this network; the declared sets of the world have to be sets
 abbrev pub NetworksAreSound : Type 0
-NetworksAreSound = (requested : Option Name) (w : World) (ds : List Declaration) (n : Network) → NameObjectives [] ds → network requested w ds ≡ Ok n → HasNetwork w ds n
+NetworksAreSound = (requested : Option Name) (w : World) (ds : List Declaration) (n : Network) → HasSets w → IsNamedOnce ds → network requested w ds ≡ Ok n → HasNetwork requested w ds n

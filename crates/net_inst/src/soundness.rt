@@ -2,8 +2,11 @@
 
 ghost use Rattle.net_inst.specs.Soundness.{NetworksAreSound};
 
-/// Theorem: if the code computes a network, the model has the nodes and arcs that its declarations
-/// mean, in order, with every bound, end and coefficient evaluated, and the network has their bounds.
+/// Theorem: if the code computes a network, it is the network that the model means. The model has
+/// one eligible objective, and its nodes and arcs in order, with every bound, end and coefficient
+/// evaluated; each end is at a node, and labels are unique. The network has their labels, ends,
+/// bounds and objective. The declared sets have to be sets, no name is declared twice, and each
+/// `obj` phrase names an objective declared before it.
 pub fn networks_are_sound()
     ensures value { NetworksAreSound }
 {}
