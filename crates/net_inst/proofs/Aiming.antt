@@ -13,12 +13,14 @@ use Rattle.net_inst.specs.declared.goal.ChosenObjective.{ChosenObjective}
 use Rattle.net_inst.specs.Arcs.{with_arcs}
 use Rattle.net_inst.specs.AsWritten.{Arc, arcs_of, nodes, arcs, known_behind, in_order, arc_declared, same_label, Assignment, number_on, numbers_on}
 use Rattle.net_inst.specs.Drafts.{Drawing, nothing, env, sense_of, said_form, aimed, passed, is_chosen, with_goal, known_more, nodes_more, arcs_more, declare, draw}
-use Rattle.net_inst.specs.Instances.{Network}
+use Rattle.net_inst.specs.Instances.{Network, network}
 use Rattle.net_inst.specs.Laws.{total_of, IsObjectiveOf, HaveObjective}
 use Rattle.net_inst.specs.Nodes.{with_nodes}
 use Rattle.net_inst.specs.Readings.{Objective, prices, said_value, value_of, objective_of, objectives_from, objectives, is_wanted, or_else, chosen}
 use Rattle.net_inst.proofs.Agreement.{IsFinished, network_is}
 use Rattle.net_inst.proofs.Drawn.{arc_labels, node_labels, IsDrawnAs}
+use Rattle.net_inst.proofs.ReadingLaws.{ReadAlike}
+use Rattle.net_inst.proofs.SoundValues.{said_means, IsValued}
 use Rattle.net_inst.proofs.Totals.{total_is}
 use Rattle.net_inst.proofs.Valued.{by_place, goal_prices, Adds, arcs_add, read_alike, said_apart, said_is}
 use Rattle.net_inst.proofs.Written.{Lines, lines_of, behind, no_lines, IsWritten, nothing_written, next_is, all_written}
@@ -37,6 +39,7 @@ pub record Aims (all : List Arc) (o : Option Objective) (rest : List Arc) (d new
   pub goal : new.goal ≡ goal_after o d.goal
   pub apart : all_apart d.arcs.form.products ≡ true → all_apart new.arcs.form.products ≡ true
   pub value : IsDistinct same_label (arc_labels all) → (x : Assignment) → form_at (by_place all x) new.arcs.form ≡ value_after all o d.goal d.arcs.form rest x
+  pub valued : IsValued all o
 
 -- the objective stays as it is
 same_aim : (all : List Arc) (o : Option Objective) (rest : List Arc) (d next new : Drawing) → next.goal ≡ d.goal → next.arcs.form ≡ d.arcs.form → Aims all o rest next new → Aims all o rest d new
@@ -44,6 +47,7 @@ same_aim all o rest d next new g f h = record {
   goal = h.goal ∙ ap (goal_after o) g;
   apart = λ k. h.apart (ap (λ (z : Linear). all_apart z.products) f ∙ k);
   value = λ distinct x. h.value distinct x ∙ ap (λ (z : Option ChosenObjective). value_after all o z next.arcs.form rest x) g ∙ ap (λ (z : Linear). value_after all o d.goal z rest x) f;
+  valued = h.valued;
 }
 
 prices_join : (g : Option ChosenObjective) (xs ys : List Arc) (x : Assignment) → goal_prices g (xs ++ ys) x ≡ goal_prices g xs x +ℤ goal_prices g ys x
@@ -59,8 +63,9 @@ arcs_aim all None here rest d next new g adds h = record {
   value = λ distinct x.
       let later : goal_prices next.goal rest x ≡ goal_prices d.goal rest x = ap (λ (z : Option ChosenObjective). goal_prices z rest x) g in
       omega (arith, ints, h.value distinct x, adds.sum x, later, prices_join d.goal here rest x);
+  valued = h.valued;
 }
-arcs_aim all (Some o) here rest d next new g adds h = record { goal = h.goal; apart = λ k. h.apart (adds.apart k); value = h.value }
+arcs_aim all (Some o) here rest d next new g adds h = record { goal = h.goal; apart = λ k. h.apart (adds.apart k); value = h.value; valued = h.valued }
 
 wanted_is : (wanted : Option Name) (g : Option ChosenObjective) (n : Token) (o : Objective) (b : Bool) → o.name ≡ n.text → is_chosen wanted g n ≡ Ok b → is_wanted wanted o ≡ b
 wanted_is None None n o b e h = ok_is true b h
@@ -78,8 +83,8 @@ passed_aim all wanted o os rest d new e h =
 
 aimed_aim : (all : List Arc) (wanted : Option Name) (o : Objective) (os : List Objective) (rest : List Arc) (t n : Token) (f : Linear) (d new : Drawing) → is_wanted wanted o ≡ true → o.name ≡ n.text → o.sense ≡ sense_of t → o.behind ≡ rest
     → all_apart f.products ≡ true → (IsDistinct same_label (arc_labels all) → (x : Assignment) → form_at (by_place all x) f ≡ said_value o.before o.env o.expression x)
-    → Aims all (chosen wanted os) rest (aimed d t n f) new → Aims all (chosen wanted (o ∷ os)) rest d new
-aimed_aim all wanted o os rest t n f d new e name sense later apart said h =
+    → IsValued all (Some o) → Aims all (chosen wanted os) rest (aimed d t n f) new → Aims all (chosen wanted (o ∷ os)) rest d new
+aimed_aim all wanted o os rest t n f d new e name sense later apart said means h =
     subst (λ (b : Bool). Aims all (or_else (chosen wanted os) (if b then Some o else None)) rest d new) (sym e) (go (chosen wanted os) h)
   where
     go : (p : Option Objective) → Aims all p rest (aimed d t n f) new → Aims all (or_else p (Some o)) rest d new
@@ -89,8 +94,9 @@ aimed_aim all wanted o os rest t n f d new e name sense later apart said h =
       value = λ distinct x.
           let behind_it : prices n.text rest x ≡ prices o.name o.behind x = ap (λ (z : Name). prices z rest x) (sym name) ∙ ap (λ (z : List Arc). prices o.name z x) (sym later) in
           omega (arith, ints, k.value distinct x, said distinct x, behind_it);
+      valued = means;
     }
-    go (Some p) k = record { goal = k.goal; apart = λ a. k.apart apart; value = k.value }
+    go (Some p) k = record { goal = k.goal; apart = λ a. k.apart apart; value = k.value; valued = k.valued }
 
 -- one declaration before others
 step : (wanted : Option Name) (w : World) (all : List Arc) (m : Lines) (x : Declaration) (d next new : Drawing) (os : List Objective) (rest : List Arc) → IsWritten m d → all ≡ m.arcs ++ (arcs_of (env w d) x ++ rest)
@@ -120,13 +126,17 @@ step wanted w all m (objective t n p z) d next new os rest h whole e k =
     here : Objective
     here = record { sense = sense_of t; name = n.text; env = env w d; expression = p; before = m.arc_names; behind = rest }
 
+    reads : IsDistinct same_label (arc_labels all) → (x : Assignment) → ReadAlike d.arcs.group.numbers (by_place all x) x
+    reads distinct x =
+        read_alike all m.arcs rest x d.arcs.group.numbers h.arcs.group.finds (distinct_front same_label (arc_labels m.arcs) (arc_labels rest) (subst (IsDistinct same_label) (ap arc_labels whole ∙ map_join (λ (v : Arc). v.label) m.arcs rest) distinct)) whole
+
     go : (b : Bool) → is_wanted wanted here ≡ b → (if b then with_goal (env w d) t n p d else Ok (passed d)) ≡ Ok next → Aims all (chosen wanted (here ∷ os)) rest d new
     go false i j = passed_aim all wanted here os rest d new i (subst (λ (y : Drawing). Aims all (chosen wanted os) rest y new) (sym (ok_is (passed d) next j)) k)
     go true i j =
         ok_then (said_form d.arcs.group.numbers (env w d) p) (λ f. Ok (aimed d t n f)) next j (λ f q r.
         aimed_aim all wanted here os rest t n f d new i refl refl refl (said_apart d.arcs.group.numbers (env w d) p f q)
-        (λ distinct x. said_is d.arcs.group.numbers m.arc_names (by_place all x) x (env w d) p f h.arcs.group.known
-        (read_alike all m.arcs rest x d.arcs.group.numbers h.arcs.group.finds (distinct_front same_label (arc_labels m.arcs) (arc_labels rest) (subst (IsDistinct same_label) (ap arc_labels whole ∙ map_join (λ (v : Arc). v.label) m.arcs rest) distinct)) whole) q)
+        (λ distinct x. said_is d.arcs.group.numbers m.arc_names (by_place all x) x (env w d) p f h.arcs.group.known (reads distinct x) q)
+        (λ distinct x. said_means d.arcs.group.numbers m.arc_names all x (env w d) p f h.arcs.group.known (reads distinct x) q)
         (subst (λ (y : Drawing). Aims all (chosen wanted os) rest y new) (sym (ok_is (aimed d t n f) next r)) k))
 
 has_objective : (wanted : Option Name) (w : World) (ds : List Declaration) (all : List Arc) (m : Lines) (d new : Drawing) → IsWritten m d → all ≡ m.arcs ++ in_order arcs_of w d.known ds → draw wanted w ds d ≡ Ok new
@@ -137,6 +147,7 @@ has_objective wanted w [] all m d new h whole e =
       goal = ap (λ (y : Drawing). y.goal) (sym same) ∙ goal_same;
       apart = λ k. ap (λ (y : Drawing). all_apart y.arcs.form.products) (sym same) ∙ k;
       value = λ distinct x. ap (λ (y : Drawing). form_at (by_place all x) y.arcs.form) (sym same) ∙ nothing_more d.goal x;
+      valued = tt;
     }
   where
     goal_same : d.goal ≡ goal_after None d.goal
@@ -183,3 +194,8 @@ have_objective wanted w ds n e = go (chosen wanted (objectives w ds)) refl (has_
       where
         o_goal : ChosenObjective
         o_goal = record { name = o.name; sense = o.sense }
+
+pub objective_valued : (wanted : Option Name) (w : World) (ds : List Declaration) (n : Network) → network wanted w ds ≡ Ok n → (o : Objective) → chosen wanted (objectives w ds) ≡ Some o → IsValued (arcs w ds) (Some o)
+objective_valued wanted w ds n e o h =
+    let f = network_is wanted w ds n e in
+    subst (IsValued (arcs w ds)) h (has_objective wanted w ds (arcs w ds) no_lines nothing f.drawing nothing_written refl f.is_drawn).valued

@@ -102,7 +102,7 @@ inflow_is labels v l d e all xs x h = ap (λ (m : ℤ). m -ℤ carried from_end 
 
 -- ---- bounds
 
-amount_of : (w : World) (s : Scope) (t : Tree) (n : ℤ) → value w s t ≡ Ok (One (Number n)) → amount w s t ≡ n
+pub amount_of : (w : World) (s : Scope) (t : Tree) (n : ℤ) → value w s t ≡ Ok (One (Number n)) → amount w s t ≡ n
 amount_of w s t n e = ap (λ (o : Outcome Value). number_of (and_then o (λ v. Ok (as_number v)))) e
 
 within_to : (x : Assignment) (all : List Arc) (xs : List InstArc) → AllZip IsBoundedAs all xs → AllByRecursion (IsWithin x) all → AllZip IsWithinBounds xs (numbers_on x all)

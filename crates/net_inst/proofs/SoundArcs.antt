@@ -1,5 +1,5 @@
 -- The network that the code computes is the one that the model means.
-use Rattle.std.specs.Prelude.{◌≡◌, ◌⊎◌, ◌+◌, ◌||◌, ℕ, Bool, true, false, List, [], ◌∷◌, ◌++◌, length, map, Option, None, Some, is_some, IsTrue, if◌then◌else◌, Ok, Err, IfOk, ⊤, ℤ, pos, ◌+ℤ◌, ◌≤ℤ◌, int_lt}
+use Rattle.std.specs.Prelude.{◌≡◌, ◌⊎◌, ◌||◌, ℕ, Bool, true, false, List, [], ◌∷◌, ◌++◌, length, map, Option, None, Some, is_some, IsTrue, if◌then◌else◌, Ok, Err, IfOk, ⊤, ℤ, pos, ◌+ℤ◌, ◌≤ℤ◌, int_lt}
 use Rattle.std.specs.List.{AllByRecursion, AllZip}
 use Rattle.std.specs.Str.{bytes_eq}
 use Rattle.std.proofs.Common.{refl, ap, sym, ◌∙◌, subst, arith, inl, inr, append_assoc, append-nil}
@@ -39,18 +39,21 @@ use Rattle.net_inst.specs.declared.phrases.ArcWord.{ArcWord}
 use Rattle.net_inst.specs.declared.phrases.ArcWord.TheVariants as words
 use Rattle.net_inst.specs.Arcs.{DrawnArcs, drawn, end_at, with_ends, is_goal, priced_by, price_in, prices_in, next_arc, arcs_at}
 use Rattle.net_inst.specs.AsWritten as written
-use Rattle.net_inst.specs.AsWritten.{arc_at_row}
-use Rattle.net_inst.specs.Drafts.{Drawing, env, said_form, aimed, passed, is_chosen, with_goal, with_objective}
+use Rattle.net_inst.specs.AsWritten.{amount, arc_at_row}
+use Rattle.net_inst.specs.Drafts.{Drawing, said_form, aimed, passed, is_chosen, with_goal, with_objective}
 use Rattle.net_inst.specs.Indexings.{alone, by_keys, indexing_in}
 use Rattle.net_inst.specs.Nodes as nodes
 use Rattle.net_inst.specs.Nodes.{DrawnNodes}
 use Rattle.net_inst.specs.Numbers.{number}
 use Rattle.net_inst.specs.Phrases as phrases
 use Rattle.net_inst.specs.Phrases.{Parts, parts_of, parts_from}
+use Rattle.net_inst.specs.Readings.{price_of}
+use Rattle.net_inst.specs.Readings.{price_in as price_in_goal}
 use Rattle.net_inst.specs.Soundness.{IsSameArc}
 use Rattle.net_inst.proofs.Agreement.{next_arc_is}
 use Rattle.net_inst.proofs.Placing as placing
 use Rattle.net_inst.proofs.SoundEnds.{HasEnd}
+use Rattle.net_inst.proofs.Valued.{amount_is}
 use Rattle.net_inst.proofs.Zips.{ok_then, ok_is}
 
 -- ---- phrases
@@ -138,22 +141,27 @@ AgreesOn g goal (valued x) = ⊤
 abbrev pub AgreesOnAll : Option ChosenObjective → Name → List Phrase → Type 0
 AgreesOnAll g goal ps = AllByRecursion (λ (p : Phrase). AgreesOn g goal p.body) ps
 
-term_is : (goal : Name) (g : Option ChosenObjective) (w : World) (s : Scope) (a : ℕ) (b : Body) (f new : Linear) → AgreesOn g goal b → price_in g w s a b f ≡ Ok new → (c : ℤ) × IsCoefficientIn goal (env_of w s) b c
-term_is goal g w s a plain f new h e = (pos 0, refl)
-term_is goal g w s a (valued x) f new h e = (pos 0, refl)
+term_is : (goal : Name) (g : Option ChosenObjective) (w : World) (s : Scope) (a : ℕ) (b : Body) (f new : Linear) → AgreesOn g goal b → price_in g w s a b f ≡ Ok new → (c : ℤ) × IsCoefficientIn goal (env_of w s) b c × (c ≡ price_in_goal goal w s b)
+term_is goal g w s a plain f new h e = (pos 0, refl, refl)
+term_is goal g w s a (valued x) f new h e = (pos 0, refl, refl)
 term_is goal g w s a (priced n x) f new h e = go (is_goal g n.text) h e
   where
-    go : (b : Bool) → bytes_eq goal n.text ≡ b → (if b then priced_by w s a x f else Ok f) ≡ Ok new → (c : ℤ) × IsCoefficientFor (env_of w s) x c (bytes_eq goal n.text)
-    go true h i = ok_then (number w s x) (λ c. forms.priced (span_of x) f a c) new i (λ c k l. (c, subst (IsCoefficientFor (env_of w s) x c) (sym h) (number_is w s x c k)))
-    go false h i = (pos 0, subst (IsCoefficientFor (env_of w s) x (pos 0)) (sym h) refl)
+    go : (b : Bool) → bytes_eq goal n.text ≡ b → (if b then priced_by w s a x f else Ok f) ≡ Ok new → (c : ℤ) × IsCoefficientFor (env_of w s) x c (bytes_eq goal n.text) × (c ≡ (if bytes_eq goal n.text then amount w s x else pos 0))
+    go true h i =
+        ok_then (number w s x) (λ c. forms.priced (span_of x) f a c) new i (λ c k l. (
+          c,
+          subst (IsCoefficientFor (env_of w s) x c) (sym h) (number_is w s x c k),
+          sym (ap (λ (b : Bool). if b then amount w s x else pos 0) h ∙ amount_is w s x c k),
+        ))
+    go false h i = (pos 0, subst (IsCoefficientFor (env_of w s) x (pos 0)) (sym h) refl, sym (ap (λ (b : Bool). if b then amount w s x else pos 0) h))
 
-coefficient_is : (goal : Name) (g : Option ChosenObjective) (w : World) (s : Scope) (a : ℕ) (ps : List Phrase) (f new : Linear) → AgreesOnAll g goal ps → prices_in g w s a ps f ≡ Ok new → (c : ℤ) × IsCoefficient goal (env_of w s) ps c
-coefficient_is goal g w s a [] f new h e = (pos 0, refl)
+coefficient_is : (goal : Name) (g : Option ChosenObjective) (w : World) (s : Scope) (a : ℕ) (ps : List Phrase) (f new : Linear) → AgreesOnAll g goal ps → prices_in g w s a ps f ≡ Ok new → (c : ℤ) × IsCoefficient goal (env_of w s) ps c × (c ≡ price_of goal w s ps)
+coefficient_is goal g w s a [] f new h e = (pos 0, refl, refl)
 coefficient_is goal g w s a (p ∷ ps) f new h e =
     ok_then (price_in g w s a p.body f) (prices_in g w s a ps) new e (λ z i j.
     let first = term_is goal g w s a p.body f z h.0 i in
     let rest = coefficient_is goal g w s a ps z new h.1 j in
-    (first.0 +ℤ rest.0, (first.0, rest.0, first.1, rest.1, refl)))
+    (first.0 +ℤ rest.0, (first.0, rest.0, first.1, rest.1, refl), ap (λ (m : ℤ). m +ℤ rest.0) first.2 ∙ ap (λ (m : ℤ). price_in_goal goal w s p.body +ℤ m) rest.2))
 
 -- ---- an arc at a key
 
@@ -225,11 +233,16 @@ pub record HasDrawnBounds (a : meaning.Arc) (x : Drawn) : Type 0 where
   pub lower : x.lower ≡ a.lower
   pub upper : x.upper ≡ a.upper
 
+-- the coefficient of an arc is the sum of its `obj` phrases for this objective
+abbrev pub HasPrice : Name → written.Arc → meaning.Arc → Type 0
+HasPrice goal v a = a.coefficient ≡ price_of goal v.env v.scope v.phrases
+
 pub record AreRows (goal : Name) (w : World) (n : Token) (b : Option Braces) (ps : List Phrase) (p : Parts) (rows : List Row) (d new : DrawnArcs) : Type 0 where
   pub arcs : List meaning.Arc
   pub are : AllZip (IsArc goal n b ps) (map (as_key w) rows) arcs
   pub same : AllZip IsSameArc (map (arc_at_row w n b ps p) rows) arcs
   pub ended : AllByRecursion HasEnd arcs
+  pub prices : AllZip (HasPrice goal) (map (arc_at_row w n b ps p) rows) arcs
   pub more : List Drawn
   pub whole : new.arcs ≡ d.arcs ++ more
   pub bounds : AllZip HasDrawnBounds arcs more
@@ -237,7 +250,7 @@ pub record AreRows (goal : Name) (w : World) (n : Token) (b : Option Braces) (ps
 pub rows_are : (goal : Name) (g : Option ChosenObjective) (ns : DrawnNodes) (w : World) (n : Token) (b : Option Braces) (k : Option ℕ) (p : Parts) (ps : List Phrase) (rows : List Row) (d new : DrawnArcs) → AgreesOnAll g goal ps → parts_of n ps ≡ Ok p
     → arcs_at g ns w n k p ps rows d ≡ Ok new → AreRows goal w n b ps p rows d new
 rows_are goal g ns w n b k p ps [] d new h parts e =
-    record { arcs = []; are = tt; same = tt; ended = tt; more = []; whole = ap (λ (z : DrawnArcs). z.arcs) (sym (ok_is d new e)) ∙ sym (append-nil d.arcs); bounds = tt }
+    record { arcs = []; are = tt; same = tt; ended = tt; prices = tt; more = []; whole = ap (λ (z : DrawnArcs). z.arcs) (sym (ok_is d new e)) ∙ sym (append-nil d.arcs); bounds = tt }
 rows_are goal g ns w n b k p ps (row ∷ rows) d new h parts e =
     ok_then (next_arc g ns w n k p ps row d) (arcs_at g ns w n k p ps rows) new e (λ next i j.
     let one = next_arc_is g ns w n k p ps row d next i in
@@ -249,6 +262,7 @@ rows_are goal g ns w n b k p ps (row ∷ rows) d new h parts e =
       are = (record { label = refl; lower = by.lower; upper = by.upper; ordered = by.ordered; from = by.from; to = by.to; coefficient = c.1 }, rest.are);
       same = (record { name = refl; indexed = refl; key = refl; from = refl; to = refl }, rest.same);
       ended = (by.ended, rest.ended);
+      prices = (c.2, rest.prices);
       more = one.arc ∷ rest.more;
       whole = rest.whole ∙ ap (λ (l : List Drawn). l ++ rest.more) one.arcs ∙ append_assoc d.arcs (one.arc ∷ []) rest.more;
       bounds = (record { lower = refl; upper = refl }, rest.bounds);

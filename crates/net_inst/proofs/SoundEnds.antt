@@ -17,7 +17,7 @@ use Rattle.net_inst.proofs.Drawn.{node_labels, arc_labels}
 
 -- ---- labels
 
-abbrev as_label : written.Label → meaning.Label
+abbrev pub as_label : written.Label → meaning.Label
 as_label l = record { name = l.name; indexed = l.indexed; key = l.key }
 
 node_labels_are : (ns : List written.Node) (vs : List meaning.Node) → AllZip IsSameNode ns vs → map as_label (node_labels ns) ≡ map (λ (v : meaning.Node). v.label) vs
@@ -61,7 +61,7 @@ arcs_apart xs all same h = subst (IsDistinct meaning.same_label) (arc_labels_are
 
 -- ---- ends
 
-both_same : (n m : Name) (s t : Tuple) → n ≡ m → s ≡ t → (bytes_eq n m && same_tuple s t) ≡ true
+pub both_same : (n m : Name) (s t : Tuple) → n ≡ m → s ≡ t → (bytes_eq n m && same_tuple s t) ≡ true
 both_same n m s t e f = rw ((bytes_eq-Decides n m).1 e) ((tuple_decides s t).1 f)
 
 or_true : (b : Bool) → (b || true) ≡ true

@@ -6,6 +6,7 @@ use Rattle.net_fault.specs.Outcomes.{Outcome}
 use Rattle.net_lex.specs.declared.token.Token.{Token}
 use Rattle.net_tree.specs.Tree.{Braces, Condition, Declaration, set, param, check, node, arc, objective}
 use Rattle.net_expr.specs.declared.row.Row.{Row}
+use Rattle.net_expr.specs.SetValues.{HasSets}
 use Rattle.net_expr.specs.Worlds.{Name, World}
 use Rattle.net_linear.specs.Forms.{Products}
 use Rattle.net_meaning.specs.Network as meaning
@@ -19,15 +20,16 @@ use Rattle.net_inst.specs.AsWritten as written
 use Rattle.net_inst.specs.AsWritten.{known_behind, in_order, nodes_of, arcs_of, rows_of, node_at_row, arc_at_row, arcs_with}
 use Rattle.net_inst.specs.Drafts.{Drawing, nothing, env, known_more, nodes_more, arcs_more, declare, draw}
 use Rattle.net_inst.specs.Indexings.{indexing_in}
-use Rattle.net_inst.specs.Instances.{Network, with_coefficients}
+use Rattle.net_inst.specs.Instances.{Network, with_coefficients, network}
 use Rattle.net_inst.specs.Nodes.{nodes_by, with_nodes}
 use Rattle.net_inst.specs.Phrases.{parts_of}
-use Rattle.net_inst.specs.Soundness.{NameObjectives, IsSameNode, IsSameArc, HasBounds, NetworksAreSound}
+use Rattle.net_inst.specs.Readings.{Objective, objectives, chosen}
+use Rattle.net_inst.specs.Soundness.{NameObjectives, IsSameNode, IsSameArc, HasBounds, IsNamedOnce, HasNetwork, NetworksAreSound}
 use Rattle.net_inst.proofs.Agreement.{with_arcs_is, network_is}
 use Rattle.net_inst.proofs.Aiming.{have_objective}
 use Rattle.net_inst.proofs.KeysOnce.{are_distinct_in_sets}
 use Rattle.net_inst.proofs.Once.{all_join}
-use Rattle.net_inst.proofs.SoundArcs.{AgreesOnAll, as_key, HasDrawnBounds, rows_are, keys_are, IsNextGoal}
+use Rattle.net_inst.proofs.SoundArcs.{AgreesOnAll, as_key, HasPrice, HasDrawnBounds, rows_are, keys_are, IsNextGoal}
 use Rattle.net_inst.proofs.SoundEnds.{HasEnd, nodes_apart, arcs_apart, ends_are_nodes}
 use Rattle.net_inst.proofs.SoundGoals.{next_goal, some_is, no_goal, only_goal, named_goal, IsReady, agrees_on_all, ready_after}
 use Rattle.net_inst.proofs.SoundNames.{nodes_once, arcs_once}
@@ -55,6 +57,7 @@ record IsStep (goal : Name) (w : World) (x : Declaration) (d new : Drawing) : Ty
   are_arcs : AreArcsOf goal (env w d) x arcs
   same_nodes : AllZip IsSameNode (nodes_of (env w d) x) nodes
   same_arcs : AllZip IsSameArc (arcs_of (env w d) x) arcs
+  prices : AllZip (HasPrice goal) (arcs_of (env w d) x) arcs
   ended : AllByRecursion HasEnd arcs
   more : List Drawn
   whole : new.arcs.arcs ≡ d.arcs.arcs ++ more
@@ -70,6 +73,7 @@ idle goal w x d new a b c f g h = record {
   are_arcs = b;
   same_nodes = subst (λ (l : List written.Node). AllZip IsSameNode l []) (sym c) tt;
   same_arcs = subst (λ (l : List written.Arc). AllZip IsSameArc l []) (sym f) tt;
+  prices = subst (λ (l : List written.Arc). AllZip (HasPrice goal) l []) (sym f) tt;
   ended = tt;
   more = [];
   whole = g ∙ sym (append-nil d.arcs.arcs);
@@ -102,6 +106,7 @@ step wanted goal w (node t n b c z) d new h e =
       same_nodes = subst (λ (o : Outcome Indexing). AllZip IsSameNode (map (node_at_row (env w d) n b c) (rows_of o)) (map (node_made (env w d) n b c) x.rows)) (sym k) (nodes_same (env w d) n b c x.rows);
       same_arcs = tt;
       ended = tt;
+      prices = tt;
       more = [];
       whole = ap (λ (y : Drawing). y.arcs.arcs) same ∙ sym (append-nil d.arcs.arcs);
       bounds = tt;
@@ -122,6 +127,7 @@ step wanted goal w (arc t n b ps z) d new h e =
       same_nodes = tt;
       same_arcs = subst (λ (l : List written.Arc). AllZip IsSameArc l rows.arcs) (sym here) rows.same;
       ended = rows.ended;
+      prices = subst (λ (l : List written.Arc). AllZip (HasPrice goal) l rows.arcs) (sym here) rows.prices;
       more = rows.more;
       whole = ap (λ (y : Drawing). y.arcs.arcs) same ∙ ap (λ (y : DrawnArcs). y.arcs) (sym by.is_named) ∙ rows.whole;
       bounds = rows.bounds;
@@ -137,6 +143,7 @@ record IsWalk (goal : Name) (w : World) (k : ℕ) (ds : List Declaration) (d new
   are_arcs : InOrder (AreArcsOf goal) w k ds arcs
   same_nodes : AllZip IsSameNode (in_order nodes_of w k ds) nodes
   same_arcs : AllZip IsSameArc (in_order arcs_of w k ds) arcs
+  prices : AllZip (HasPrice goal) (in_order arcs_of w k ds) arcs
   ended : AllByRecursion HasEnd arcs
   more : List Drawn
   whole : new.arcs.arcs ≡ d.arcs.arcs ++ more
@@ -163,6 +170,9 @@ joined goal w x xs d next new one rest = record {
       subst (λ (k : ℕ). AllZip IsSameArc (arcs_of (env w d) x ++ in_order arcs_of w k xs) (one.arcs ++ rest.arcs)) (sym (same_after d.known x))
       (zip_join IsSameArc (arcs_of (env w d) x) (in_order arcs_of w (entries_after d.known x) xs) one.arcs rest.arcs one.same_arcs rest.same_arcs);
   ended = all_join HasEnd one.arcs rest.arcs one.ended rest.ended;
+  prices =
+      subst (λ (k : ℕ). AllZip (HasPrice goal) (arcs_of (env w d) x ++ in_order arcs_of w k xs) (one.arcs ++ rest.arcs)) (sym (same_after d.known x))
+      (zip_join (HasPrice goal) (arcs_of (env w d) x) (in_order arcs_of w (entries_after d.known x) xs) one.arcs rest.arcs one.prices rest.prices);
   more = one.more ++ rest.more;
   whole = rest.whole ∙ ap (λ (l : List Drawn). l ++ rest.more) one.whole ∙ append_assoc d.arcs.arcs one.more rest.more;
   bounds = zip_join HasDrawnBounds one.arcs rest.arcs one.more rest.more one.bounds rest.bounds;
@@ -219,6 +229,7 @@ walk wanted goal w [] before d new h r aim e = record {
   same_nodes = tt;
   same_arcs = tt;
   ended = tt;
+  prices = tt;
   more = [];
   whole = ap (λ (y : Drawing). y.arcs.arcs) (sym (ok_is d new e)) ∙ sym (append-nil d.arcs.arcs);
   bounds = tt;
@@ -240,8 +251,16 @@ bounds_are ps a [] (x ∷ xs) h = absurd h
 bounds_are ps a (y ∷ all) [] h = absurd h
 bounds_are ps a (y ∷ all) (x ∷ xs) h = (record { lower = h.0.lower; upper = h.0.upper }, bounds_are ps (suc a) all xs h.1)
 
-pub networks_are_sound : NetworksAreSound
-networks_are_sound requested w ds n sets names e =
+-- the network of the model, and what the proofs about assignments need besides
+pub record IsFound (requested : Option Name) (w : World) (ds : List Declaration) (n : Network) : Type 0 where
+  pub has : HasNetwork requested w ds n
+  pub objective : Objective
+  pub is_chosen : chosen requested (objectives w ds) ≡ Some objective
+  pub same : has.objective ≡ as_objective objective
+  pub prices : AllZip (HasPrice objective.name) (written.arcs w ds) has.arcs
+
+pub network_found : (requested : Option Name) (w : World) (ds : List Declaration) (n : Network) → HasSets w → IsNamedOnce ds → network requested w ds ≡ Ok n → IsFound requested w ds n
+network_found requested w ds n sets names e =
     let f = network_is requested w ds n e in
     let named : (m : Name) → requested ≡ Some m → m ≡ f.goal.name = (λ m q.
     named_goal m w ds nothing f.drawing (λ z k. absurd (none_is z k)) (subst (λ (o : Option Name). draw o w ds nothing ≡ Ok f.drawing) q f.is_drawn) f.goal f.has_objective) in
@@ -249,15 +268,15 @@ networks_are_sound requested w ds n sets names e =
     let found = walk requested f.goal.name w ds [] nothing f.drawing names.priced (λ m l. absurd l) aim f.is_drawn in
     let aims = have_objective requested w ds n e in
     let apart = are_distinct_in_sets w ds sets (nodes_once ds names.once) (arcs_once ds names.once) in
-    let goal : n.names.objective ≡ f.goal.name = ap (λ (z : Network). z.names.objective) (sym f.whole) in
-    record {
+    let goal : f.goal.name ≡ aims.0.name = ap (λ (z : Network). z.names.objective) f.whole ∙ aims.2.name in
+    let has : HasNetwork requested w ds n = record {
       nodes = found.nodes;
       arcs = found.arcs;
       objective = as_objective aims.0;
       is_network = record {
         objective = objective_is requested w ds f.drawing aims.0 names.once f.is_drawn aims.1;
         nodes = found.are_nodes;
-        arcs = subst (λ (g : Name). InOrder (AreArcsOf g) w 0 ds found.arcs) (sym goal ∙ aims.2.name) found.are_arcs;
+        arcs = subst (λ (g : Name). InOrder (AreArcsOf g) w 0 ds found.arcs) goal found.are_arcs;
         ends = ends_are_nodes (written.nodes w ds) found.nodes (written.arcs w ds) found.arcs n.arcs found.same_nodes found.same_arcs (have_ends requested w ds n e apart) found.ended;
         nodes_apart = nodes_apart (written.nodes w ds) found.nodes found.same_nodes apart.nodes;
         arcs_apart = arcs_apart (written.arcs w ds) found.arcs found.same_arcs apart.arcs;
@@ -268,7 +287,17 @@ networks_are_sound requested w ds n sets names e =
       same_arcs = found.same_arcs;
       bounds = subst (AllZip HasBounds found.arcs) (ap (λ (z : Network). z.arcs) f.whole)
           (bounds_are f.drawing.arcs.form.products 0 found.arcs f.drawing.arcs.arcs (subst (AllZip HasDrawnBounds found.arcs) (sym found.whole) found.bounds));
+    } in
+    record {
+      has = has;
+      objective = aims.0;
+      is_chosen = aims.1;
+      same = refl;
+      prices = subst (λ (g : Name). AllZip (HasPrice g) (written.arcs w ds) found.arcs) goal found.prices;
     }
   where
     none_is : (z : ChosenObjective) → no_goal ≡ Some z → ⊥
     none_is z q = cc
+
+pub networks_are_sound : NetworksAreSound
+networks_are_sound requested w ds n sets names e = (network_found requested w ds n sets names e).has

@@ -60,7 +60,7 @@ abbrev pub goal_prices : Option ChosenObjective → List Arc → Assignment → 
 goal_prices None all x = pos 0
 goal_prices (Some g) all x = prices g.name all x
 
-amount_is : (w : World) (s : Scope) (t : Tree) (n : ℤ) → number w s t ≡ Ok n → amount w s t ≡ n
+pub amount_is : (w : World) (s : Scope) (t : Tree) (n : ℤ) → number w s t ≡ Ok n → amount w s t ≡ n
 amount_is w s t n e = ap (λ (o : Outcome Value). number_of (and_then o (λ v. Ok (as_number v)))) (number_is w s t n e)
 
 one_price : (g : ChosenObjective) (w : World) (s : Scope) (a : ℕ) (b : Body) (f new : Linear) → price_in (Some g) w s a b f ≡ Ok new → (x : ℕ → ℤ) → form_at x new ≡ form_at x f +ℤ written.price_in g.name w s b *ℤ x a

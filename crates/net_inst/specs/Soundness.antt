@@ -1,16 +1,19 @@
 -- Laws that relate the network that the code computes to the meaning of the model.
-use Rattle.std.specs.Prelude.{◌≡◌, ◌⊎◌, List, [], ◌∷◌, Option, Ok, ⊤}
+use Rattle.std.specs.Prelude.{◌≡◌, ◌⊎◌, ◌↔◌, List, [], ◌∷◌, map, Option, Ok, ⊤, ℤ}
 use Rattle.std.specs.List.{AllByRecursion, AllZip, IsDistinct}
 use Rattle.std.specs.Str.{bytes_eq}
 use Rattle.net_tree.specs.Tree.{Body, plain, valued, priced, Phrase, Declaration, set, param, check, node, arc, objective}
+use Rattle.net_tree.specs.Declarations.{AreDeclarations}
+use Rattle.net_normal.specs.Assignments.{IsFeasibleAssignment, value_of}
 use Rattle.net_normal.specs.declared.instance.InstArc.{InstArc}
 use Rattle.net_expr.specs.SetValues.{HasSets}
 use Rattle.net_expr.specs.Worlds.{Name, World}
 use Rattle.net_meaning.specs.Network as meaning
-use Rattle.net_meaning.specs.Network.{IsNetwork}
+use Rattle.net_meaning.specs.Network.{IsNetwork, flow_on, HasValue}
 use Rattle.net_meaning.specs.Values.{env_of}
+use Rattle.net_inst.specs.declared.network.Named.{Named}
 use Rattle.net_inst.specs.AsWritten as written
-use Rattle.net_inst.specs.Instances.{Network, network}
+use Rattle.net_inst.specs.Instances.{Network, network, seen_as}
 
 -- the name is in the list
 abbrev pub IsListed : List Name → Name → Type 0
@@ -83,6 +86,17 @@ pub record HasNetwork (requested : Option Name) (w : World) (ds : List Declarati
   pub same_arcs : AllZip IsSameArc (written.arcs w ds) arcs
   pub bounds : AllZip HasBounds arcs n.arcs
 
+-- the network of the model; an assignment is feasible if and only if its flows are within the bounds and ranges of the network n, and it has
+-- exactly one value, which the constant and the coefficients of n give
+pub record HasAssignments (requested : Option Name) (w : World) (ds : List Declaration) (n : Named) : Type 0 where
+  pub has : HasNetwork requested w ds (seen_as n)
+  pub feasible : (x : meaning.Assignment) → meaning.IsFeasible has.nodes has.arcs x ↔ IsFeasibleAssignment n.instance (map (flow_on x) has.arcs)
+  pub value : (x : meaning.Assignment) (m : ℤ) → HasValue has.objective has.arcs x m ↔ (m ≡ value_of n.instance (map (flow_on x) has.arcs))
+
 -- if the code computes a network, the model has this network; the declared sets of the world have to be sets
 abbrev pub NetworksAreSound : Type 0
 NetworksAreSound = (requested : Option Name) (w : World) (ds : List Declaration) (n : Network) → HasSets w → IsNamedOnce ds → network requested w ds ≡ Ok n → HasNetwork requested w ds n
+
+-- if the declarations are also well-formed, the feasible assignments of the model and their values are those of the computed network
+abbrev pub AssignmentsAreSound : Type 0
+AssignmentsAreSound = (requested : Option Name) (w : World) (ds : List Declaration) (n : Named) → HasSets w → IsNamedOnce ds → AreDeclarations ds → network requested w ds ≡ Ok (seen_as n) → HasAssignments requested w ds n

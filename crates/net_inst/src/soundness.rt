@@ -1,6 +1,6 @@
 //! Laws that relate networks to their meaning. The functions are empty: their contracts are theorems.
 
-ghost use Rattle.net_inst.specs.Soundness.{NetworksAreSound};
+ghost use Rattle.net_inst.specs.Soundness.{AssignmentsAreSound, NetworksAreSound};
 
 /// Theorem: if the code computes a network, it is the network that the model means. The model has
 /// one eligible objective, and its nodes and arcs in order, with every bound, end and coefficient
@@ -9,4 +9,11 @@ ghost use Rattle.net_inst.specs.Soundness.{NetworksAreSound};
 /// `obj` phrase names an objective declared before it.
 pub fn networks_are_sound()
     ensures value { NetworksAreSound }
+{}
+
+/// Theorem: if the declarations are also well-formed, an assignment of flows to the arcs of the model
+/// is feasible if and only if the bounds and ranges of the network say so, and it has one value,
+/// which the constant and the coefficients of the network give.
+pub fn assignments_are_sound()
+    ensures value { AssignmentsAreSound }
 {}
