@@ -1,5 +1,6 @@
 -- The values that clap found, as rows.
-use Rattle.std.proofs.Common.{◌≡◌, ℕ, List, [], ◌∷◌, Some, None, Bool, true, false, map, refl, sym}
+use Rattle.std.proofs.Common.{◌≡◌, ℕ, List, [], ◌∷◌, Option, Some, None, Bool, true, false, map, refl, ap, sym}
+use Rattle.std.specs.Option.{option_map_or}
 use Rattle.std.specs.Prelude.{option_map, option_and_then, find, slice_get}
 use Rattle.std.specs.Str.{bytes_eq}
 use Rattle.clap.specs.declared.parser.matches.ArgMatches.{ArgMatches}
@@ -40,3 +41,6 @@ both_rows m name rows named found = elim (out-ArgMatches m).subcommand as (λ s.
       | None ↦ λ p q. absurd (let k = p in cc)
       | Some b ↦ λ p q. cc
     ] named found
+
+pub same_name : (name other : Text) (rows others : List Row) → ◌≡◌ {A = Option (Text × List Row)} (Some (name, rows)) (Some (other, others)) → name ≡ other
+same_name name other rows others same = ap (λ (o : Option (Text × List Row)). option_map_or (λ p. p.0) o name) same

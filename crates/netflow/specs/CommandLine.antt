@@ -1,14 +1,17 @@
 -- The command line: which call the arguments request, in terms of clap's specification.
-use Rattle.std.specs.Prelude.{◌≡◌, ◌∷◌, [], List, ℕ, Bool, Option, None, Some, map, codes, true, false, string_bytes, option_map, slice_get, unwrap_or}
+use Rattle.std.specs.Prelude.{◌≡◌, ◌≢◌, ◌∷◌, [], List, ℕ, Bool, Option, None, Some, map, codes, true, false, string_bytes, option_map, slice_get, unwrap_or, ⊤, ◌⊎◌}
 use Rattle.std.specs.Option.{option_copied, option_map_or}
 use Rattle.std.specs.Str.{bytes_eq}
-use Rattle.clap.specs.Words.{App, Row, Rule, Text, app_of, first_of, new_app, new_rule, subcommand_of, with_rule, with_subcommand}
+use Rattle.clap.specs.Words.{App, Row, Rule, Text, app_of, first_of, new_app, new_rule, subcommand_of, with_rule, with_subcommand, IsAmong, fault_of, kind_of}
 use Rattle.clap.specs.declared.builder.command.Command.{Command}
 use Rattle.clap.specs.declared.builder.command.Command.TheViews.{out-Command}
 use Rattle.clap.specs.declared.builder.ArgAction.TheVariants.{Set, SetTrue}
+use Rattle.clap.specs.declared.error.kind.ErrorKind.TheVariants as kinds
 use Rattle.netflow.specs.declared.words.Action.{Action}
 use Rattle.netflow.specs.declared.words.Action.TheVariants.{Compile, Solve, Min, Check}
 use Rattle.netflow.specs.declared.words.Words.{Words}
+use Rattle.netflow.specs.declared.words.WordsFault.{WordsFault}
+use Rattle.netflow.specs.declared.words.WordsFault.TheVariants as faults
 use Rattle.netflow.specs.declared.call.Call.{Call}
 use Rattle.netflow.specs.declared.call.Call.TheVariants as calls
 
@@ -52,6 +55,10 @@ action_word Solve = codes "solve"
 action_word Min = codes "min"
 action_word Check = codes "check"
 
+-- no subcommand has this name
+abbrev pub IsNoAction : Text → Type 0
+IsNoAction name = (action : Action) → action_word action ≢ name
+
 -- the names of a subcommand's path arguments, in order
 abbrev pub path_names : Action → List Text
 path_names Compile = codes "MODEL" ∷ codes "DATA" ∷ []
@@ -86,14 +93,37 @@ asked_lean Solve rows = is_set rows (codes "lean")
 asked_lean Min rows = false
 asked_lean Check rows = false
 
--- the subcommand that clap parses from these arguments, and the values of its path arguments in
--- order
+-- clap accepts these arguments, and this is the subcommand that it parses from them, with the values
+-- of its path arguments in order
 pub record IsAskedBy (words : List Text) (asked : Words) : Type 0 where
+  pub accepted : fault_of netflow_app words ≡ []
   pub rows : List Row
   pub subcommand : subcommand_of netflow_app words ≡ Some (action_word asked.command, rows)
   pub paths : map string_bytes asked.paths.items ≡ map (given rows) (path_names asked.command)
   pub objective : option_map string_bytes asked.objective ≡ asked_objective asked.command rows
   pub lean : asked.lean ≡ asked_lean asked.command rows
+
+-- clap accepts these arguments, and their subcommand is one of the four
+pub record IsValid (words : List Text) : Type 0 where
+  pub accepted : fault_of netflow_app words ≡ []
+  pub action : Action
+  pub rows : List Row
+  pub subcommand : subcommand_of netflow_app words ≡ Some (action_word action, rows)
+
+-- help or the version is requested
+abbrev pub AsksForHelp : List Text → Type 0
+AsksForHelp words = IsAmong kinds.DisplayHelp (fault_of netflow_app words) ⊎ IsAmong kinds.DisplayVersion (fault_of netflow_app words)
+
+-- the error for arguments without a subcommand
+abbrev pub IsMissing : WordsFault → Type 0
+IsMissing faults.OutOfMemory = ⊤
+IsMissing (faults.Usage error) = kind_of error ≡ kinds.MissingSubcommand
+
+-- why arguments are not a request: clap reports an error of this kind for them; or the error is that
+-- of a missing subcommand, and they are invalid
+abbrev pub IsRejection : List Text → WordsFault → Type 0
+IsRejection words faults.OutOfMemory = ⊤
+IsRejection words (faults.Usage error) = IsAmong (kind_of error) (fault_of netflow_app words) ⊎ ((kind_of error ≡ kinds.MissingSubcommand) × (¬ IsValid words))
 
 -- the path with this index
 abbrev pub path_at : Words → ℕ → Text

@@ -2,6 +2,7 @@
 #![tactic(auto)]
 
 mod call;
+mod files;
 mod program;
 mod status;
 mod words;

@@ -1,11 +1,12 @@
 //! The command line. Only this file depends on clap.
 
-ghost use Rattle.std.specs.Prelude.{◌≡◌, false, [], ◌∷◌, map, option_map, string_bytes, codes, IfOk, IfSome};
+ghost use Rattle.std.specs.Prelude.{◌≡◌, false, [], ◌∷◌, map, option_map, string_bytes, codes, IfOk, IfErr, IfSome, IfNone};
 ghost use Rattle.clap.specs.Words.{App, first_of, rule_of, with_subcommand};
 ghost use Rattle.clap.specs.Matches.{found_of};
 ghost use Rattle.clap.specs.Walk.{rows_of};
 ghost use Rattle.netflow.specs.CommandLine.{path_rule, objective_rule, lean_rule, solve_app, compile_app, min_app, check_app, netflow_app, bare_app};
-ghost use Rattle.netflow.specs.CommandLine.{action_word, path_names, asked_objective, asked_lean, is_set, given, IsApp, IsAskedBy};
+ghost use Rattle.netflow.specs.CommandLine.{action_word, path_names, asked_objective, asked_lean, is_set, given, IsApp, IsAskedBy, IsMissing, IsNoAction, IsRejection};
+ghost use Rattle.netflow.specs.declared.words.WordsFault.TheVariants as words_faults;
 
 use clap::error::ErrorKind;
 use clap::{Arg, ArgAction, ArgMatches, Command};
@@ -48,6 +49,8 @@ pub enum WordsFault {
 }
 
 impl From<AllocError> for WordsFault {
+    ghost from_gives = { λ _ e. e ≡ words_faults.OutOfMemory };
+
     fn from(_fault: AllocError) -> WordsFault {
         WordsFault::OutOfMemory
     }
@@ -235,7 +238,8 @@ fn command<'a>(alloc: Global) -> Result<Command<'a>, AllocError>
 }
 
 fn action_of(name: &str) -> Option<Action>
-    ensures { IfSome result (λ action. action_word action ≡ name.now) }
+    ensures some { IfSome result (λ action. action_word action ≡ name.now) }
+    ensures none { IfNone result (IsNoAction name.now) }
 {
     match name {
         "compile" => Some(Action::Compile),
@@ -342,7 +346,9 @@ fn lean_of(action: Action, matches: &ArgMatches<'_>) -> bool
 
 /// Returns the usage error for a subcommand that is not the program's own. clap reports all of them
 /// itself, but its contract does not say so.
-fn no_command(command: &mut Command<'_>) -> WordsFault {
+fn no_command(command: &mut Command<'_>) -> WordsFault
+    ensures { IsMissing result }
+{
     match command.error(ErrorKind::MissingSubcommand, "no such command") {
         Ok(error) => WordsFault::Usage(error),
         Err(_) => WordsFault::OutOfMemory,
@@ -353,6 +359,7 @@ fn no_command(command: &mut Command<'_>) -> WordsFault {
 /// invalid arguments and for a request for help or the version.
 pub fn words_of(alloc: Global, words: &[String]) -> Result<Words, WordsFault>
     ensures value { IfOk result (IsAskedBy (map string_bytes words.now)) }
+    ensures refused { IfErr result (IsRejection (map string_bytes words.now)) }
 {
     let mut command = command(alloc)?;
     let matches = match command.try_get_matches_from_mut(words) {
