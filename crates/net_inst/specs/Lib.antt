@@ -15,3 +15,4 @@ pub mod Readings
 pub mod Laws
 pub mod ByName
 pub mod Soundness
+pub mod Represented

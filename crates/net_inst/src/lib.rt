@@ -28,4 +28,4 @@ pub use laws::{
 pub use names::{Declared, Key, NameList, Names};
 pub use net_fault::Fault as InstFault;
 pub use network::{Named, instantiate, instantiate_for};
-pub use soundness::{assignments_are_sound, networks_are_sound};
+pub use soundness::{assignments_are_sound, networks_are_sound, problems_represent_networks};

@@ -1,5 +1,6 @@
 //! Laws that relate networks to their meaning. The functions are empty: their contracts are theorems.
 
+ghost use Rattle.net_inst.specs.Represented.{ProblemsRepresent};
 ghost use Rattle.net_inst.specs.Soundness.{AssignmentsAreSound, NetworksAreSound};
 
 /// Theorem: if the code computes a network, it is the network that the model means. The model has
@@ -16,4 +17,11 @@ pub fn networks_are_sound()
 /// which the constant and the coefficients of the network give.
 pub fn assignments_are_sound()
     ensures value { AssignmentsAreSound }
+{}
+
+/// Theorem: the normal form and the lean form of a network represent the network of the model. They
+/// have its nodes and arcs, their feasible flows correspond one to one to its feasible assignments,
+/// and the cost of a flow gives the value of its assignment.
+pub fn problems_represent_networks()
+    ensures value { ProblemsRepresent }
 {}
