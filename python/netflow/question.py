@@ -272,7 +272,7 @@ class Question:
             if token.text in ("Infinity", "-Infinity") and self.add_bounds:
                 found.append((token.start, token.end, token.text.replace("Infinity", str(BOUND))))
                 continue
-            if factor != 1:
+            if factor != 1 or name in self.scale:
                 number = parse_numeral(token.text)
                 if number is not None:
                     found.append((token.start, token.end, str(scaled_value(name, number, factor))))
