@@ -30,7 +30,8 @@ def sheet(it: Any) -> Hint:
 
 def joined(it: Any) -> Hint:
     if it.text == "data" and it.word() in ("data", "end") and len(it.statement()) <= 2:
-        yield f"{it.word()}; is allowed only {'as the first' if it.word() == 'data' else 'as the last'} statement: are two data files joined? Give both to the tools", True
+        place = "first" if it.word() == "data" else "last"
+        yield f"{it.word()}; is allowed only as the {place} statement: are two data files joined? Give both to the tools", True
 
 
 def unended_statement(it: Any) -> Hint:

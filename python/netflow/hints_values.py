@@ -53,7 +53,8 @@ def misspelt_statement(it: Any) -> Hint:
     if it.text != "data" or not re.fullmatch(r"[a-z]+", word):
         return
     is_first = len(it.statement_before()) == 0
-    meant = "set" if word in ("sets", "let") else next(iter(difflib.get_close_matches(word, ("set", "param", "data", "end") if is_first else ("default",), 1, 0.7)), "")
+    known = ("set", "param", "data", "end") if is_first else ("default",)
+    meant = "set" if word in ("sets", "let") else next(iter(difflib.get_close_matches(word, known, 1, 0.7)), "")
     if meant and meant != it.word():
         yield f"{it.word()}: is {meant} meant?", True
 
@@ -75,11 +76,11 @@ def cells_of(it: Any) -> list:
         found = DataText(text, params, shapes.sets)
     except (Unparsed, ValueError, IndexError):
         return []
-    starts, rows, row, last = [], [], 1, 0
+    rows, row, last = [], 1, 0
     for cell in sorted(found.cells(), key=lambda cell: cell.token.start):
         row, last = row + text.count("\n", last, cell.token.start), cell.token.start
         rows.append((cell, row))
-    return rows or starts
+    return rows
 
 
 def named_cells(it: Any) -> list:
