@@ -20,7 +20,9 @@ class PythonData:
     line of the text what it says: a name, with the key of its value or the member, or None if the line is a statement's first or last."""
 
     def __init__(self, values: dict, sets: dict, keys: dict) -> None:
-        self.sets, self.params, self.origins = {}, {}, []
+        self.sets: dict = {}
+        self.params: dict = {}
+        self.origins: list = []
         for name, value in values.items():
             if name in sets:
                 self.sets[name] = members_of(name, value, sets[name])

@@ -43,7 +43,8 @@ class Question:
         self.options = [] if objective is None else ["--objective", objective]
         self.factors = Factors()
         self.edited: dict = {}
-        self.origins, self.changed, self.changed_text = dict(origins or {}), None, ""
+        self.origins, self.changed_text = dict(origins or {}), ""
+        self.changed: PythonData | None = None
         self.session = Session([])
         self.is_ready = self.is_rewritten = False
         self.parsed = 0  # how many data texts were parsed when a text could not be
