@@ -43,7 +43,8 @@ class Question:
         self.options = [] if objective is None else ["--objective", objective]
         self.factors = Factors()
         self.edited: dict = {}
-        self.origins, self.changed, self.changed_text = dict(origins or {}), None, ""
+        self.origins, self.changed_text = dict(origins or {}), ""
+        self.changed: PythonData | None = None
         self.session = Session([])
         self.is_ready = self.is_rewritten = False
         self.parsed = 0  # how many data texts were parsed when a text could not be
@@ -272,7 +273,7 @@ class Question:
             if token.text in ("Infinity", "-Infinity") and self.add_bounds:
                 found.append((token.start, token.end, token.text.replace("Infinity", str(BOUND))))
                 continue
-            if factor != 1:
+            if factor != 1 or name in self.scale:
                 number = parse_numeral(token.text)
                 if number is not None:
                     found.append((token.start, token.end, str(scaled_value(name, number, factor))))

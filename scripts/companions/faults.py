@@ -1,9 +1,12 @@
 """What netflow-explain says of rejected inputs, and what all tools pass on."""
 import pathlib
 import re
+import shlex
+import subprocess
+import sys
 
 from companions import bread_mistakes, mistakes, port_mistakes
-from companions.common import EXAMPLES, TOP, run, write
+from companions.common import COMPANIONS, EXAMPLES, TOP, run, write
 from netflow import diagnostics, explain
 
 
@@ -119,3 +122,30 @@ def check_refusals(complaints, folder):
                     run("netflow-why", bread / "bread.mod", bread / "bread.dat", more))
     complaints.same("explain: a pipe", 3, run("netflow-explain", "solve", "/dev/stdin", "/dev/null", text="node ;\n")[0])
     complaints.same("explain: no words", 64, run("netflow-explain")[0])
+    check_streams(complaints, bread)
+    check_compared(complaints, folder)
+
+
+def check_compared(complaints, folder):
+    """A numeral in quotes that is compared is named if no data text has it, and is no error."""
+    model = "set S; minimize C; node A {i in S}: net_in = 1; arc X {i in S: i <> '1'} >= 0, <= 9, to A[i], obj C 1; arc Y {i in S} >= 0, <= 9, to A[i], obj C 2;\n"
+    path = write(folder, "q.mod", model)
+    for data, is_odd in (("set S := 1 2;\n", True), ("set S := '1' 2;\n", False)):
+        words = [path, write(folder, "q.dat", data)]
+        for name in ("netflow-why", "netflow-report"):
+            status, out, _ = run(name, *words)
+            complaints.same(f"{name}: '1' with {data!r}", (0, is_odd), (status, "is a text, which equals no number: is 1 meant?" in out))
+
+
+def check_streams(complaints, bread):
+    """Standard input that is a file, and standard output that is full, closed, or a pipe without a reader."""
+    words = [sys.executable, str(COMPANIONS / "netflow-why")]
+    with open(bread / "bread.mod", encoding="utf-8") as model:
+        done = subprocess.run([*words, "-", bread / "bread.dat"], stdin=model, capture_output=True, encoding="utf-8")
+    complaints.want(done.returncode == 0 and "Total = 440" in done.stdout, f"a file as standard input: {done.returncode} {done.stderr!r}")
+    for name in ("netflow-why", "netflow-report", "netflow-sheet", "netflow-explain"):
+        kind = ["plan"] if name == "netflow-sheet" else []
+        call = " ".join(map(shlex.quote, [sys.executable, str(COMPANIONS / name), *kind, str(bread / "bread.mod"), str(bread / "bread.dat")]))
+        for end, status, said in ((">/dev/full", 4, True), (">&-", 4, True), ("| head -n 1", 0, False)):
+            done = subprocess.run(["sh", "-c", f"{call} {end}"], stdin=subprocess.DEVNULL, stdout=subprocess.DEVNULL, stderr=subprocess.PIPE, encoding="utf-8")
+            complaints.same(f"{name} {end}", (status, said, False), (done.returncode, bool(done.stderr), "Traceback" in done.stderr))
