@@ -5,7 +5,8 @@ ghost use Rattle.clap.specs.Words.{App, first_of, rule_of, with_subcommand};
 ghost use Rattle.clap.specs.Matches.{found_of};
 ghost use Rattle.clap.specs.Walk.{rows_of};
 ghost use Rattle.netflow.specs.CommandLine.{path_rule, objective_rule, lean_rule, solve_app, compile_app, min_app, check_app, netflow_app, bare_app};
-ghost use Rattle.netflow.specs.CommandLine.{action_word, path_names, asked_objective, asked_lean, is_set, given, IsApp, IsAskedBy, IsMissing, IsNoAction, IsRejection};
+ghost use Rattle.netflow.specs.CommandLine.{action_word, path_names, asked_objective, asked_lean, is_set, given, IsApp, IsAskedBy};
+ghost use Rattle.netflow.specs.CommandLine.{IsMissing, IsNoAction, IsRejection};
 ghost use Rattle.netflow.specs.declared.words.WordsFault.TheVariants as words_faults;
 
 use clap::error::ErrorKind;
