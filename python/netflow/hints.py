@@ -10,7 +10,7 @@ import re
 import unicodedata
 from typing import Iterator
 
-from . import hints_data, hints_keys, hints_syntax
+from . import hints_data, hints_forms, hints_keys, hints_syntax, hints_values
 from .ampl_words import KEYWORDS, MEANT, REPLACEMENTS
 from .diagnostics import DECLARING, Diagnostic
 from .words import TOKEN, tokens
@@ -21,7 +21,7 @@ PAIRS = {")": "(", "]": "[", "}": "{"}
 
 
 def hints_of(it: Diagnostic) -> Hint:
-    for numbers, hint in (*hints_syntax.HINTS, *HINTS, *hints_keys.HINTS, *hints_data.HINTS):
+    for numbers, hint in (*hints_syntax.HINTS, *hints_forms.HINTS, *HINTS, *hints_keys.HINTS, *hints_values.HINTS, *hints_data.HINTS):
         if it.number in numbers:
             yield from hint(it)
 
@@ -95,7 +95,7 @@ def misspelt_keyword(it: Diagnostic) -> Hint:
         return
     declared = {name.bare() for name in tokens(it.texts["model"])}
     lower = word.lower()
-    at_start = not it.before.strip() or it.before.rstrip().endswith(";")
+    at_start = not it.statement_before()
     meant = MEANT.get(lower) or (lower if lower in KEYWORDS else None)
     if meant is None:
         near = difflib.get_close_matches(lower, KEYWORDS, 1, 0.75)
@@ -278,7 +278,7 @@ HINTS: tuple = (
     (("E10", "E14", "E12"), replaced_word),
     (("E10", "E14"), exchanged_words),
     (("E10", "E14"), unended_declaration),
-    (("E10", "E14"), unclosed),
+    (("E10", "E14", "E16"), unclosed),
     (("E10", "E14"), unopened),
     (("E10", "E20"), unended_text),
     (("E10", "E16"), no_colon),

@@ -2,11 +2,13 @@
 from __future__ import annotations
 
 import difflib
+import math
 import os
 import re
 from typing import Any, Iterator
 
 from .hints_keys import heading_place, near, outside_set
+from .hints_values import misspelt_statement, missing_in_set
 from .words import TOKEN, tokens
 
 Hint = Iterator[tuple]
@@ -39,7 +41,8 @@ def unended_statement(it: Any) -> Hint:
         if token.text in ("set", "param") and token.row > first and whole[here - 1].row < token.row:
             yield f"is a ; missing at the end of {it.line_text(whole[here - 1].row)}?", True
             return
-    if whole and whole[0].row == it.row and whole[0].text == it.word() and whole[0].text not in ("set", "param", ";", "data", "end"):
+    is_known = list(sheet(it)) or list(misspelt_statement(it))
+    if whole and whole[0].row == it.row and whole[0].text == it.word() and whole[0].text not in ("set", "param", ";", "data", "end") and not is_known:
         yield f"is set or param missing before {whole[0].text}?", True
 
 
@@ -143,7 +146,7 @@ def listed(it: Any) -> dict:
 
 def unknown_member(it: Any) -> Hint:
     """A key of sets that are not plain with a member that no set lists: it is misspelt; else perhaps the members are exchanged."""
-    if list(outside_set(it)):
+    if list(outside_set(it)) or list(missing_in_set(it)):
         return
     members = [bare(part) for part in MEMBER.findall(it.detail.partition("[")[2])]
     sets = {token.bare() for row in listed(it).values() for token in row}
@@ -198,6 +201,11 @@ def declared_below(it: Any, name: str) -> int:
     return next((token.row for before, token in zip(words, words[1:]) if before.text in DECLARING and token.text == name and token.row > it.row), 0)
 
 
+def declared_as(it: Any, kind: str) -> set:
+    words = it.words("model")
+    return {name for word, name in zip(words, words[1:]) if word == kind}
+
+
 def members_in_data(it: Any) -> set:
     return {token.bare() for row in listed(it).values() for token in row}
 
@@ -206,6 +214,8 @@ def late(it: Any) -> Hint:
     """A name that is declared after its use."""
     row, statement = declared_below(it, it.detail), it.statement()
     if not row or it.text != "model" or not statement:
+        return
+    if statement[0].text == "node" and it.detail in declared_as(it, "arc"):
         return
     if statement[0].text in ("minimize", "maximize"):
         yield f"{it.detail} is declared below, in line {row}: move the objective after its arcs, or use obj in the arcs", True
@@ -314,27 +324,23 @@ def failed_check(it: Any) -> Hint:
 
 
 def too_many(it: Any) -> Hint:
-    """How many keys the braces of the declaration have, if their sets are plain."""
-    found = re.search(rf"\b{re.escape(it.detail)}\s*\{{([^}}]*)\}}", it.texts.get("model", "")) if it.detail else None
+    """How many keys the braces at the place, or those of the declaration, have, if their sets are plain."""
+    words = it.statement()
+    name = it.detail or (words[1].text if len(words) > 1 else "")
+    found = re.match(r"\{([^}]*)\}", it.at()) or (re.search(rf"\b{re.escape(name)}\s*\{{([^}}]*)\}}", it.texts.get("model", "")) if name else None)
     if not found:
         return
-    count, sets = 1, listed(it)
-    parts: list = []
+    sets, sizes = listed(it), []
     values = {words[0]: words[1] for words in re.findall(r"\bparam\s+(\w+)\s*:=\s*(\d+)\s*;", it.texts["model"] + it.texts.get("data", ""))}
     for item in found[1].split(":")[0].split(","):
-        name = item.split(" in ")[-1].strip()
-        span = re.fullmatch(r"(\w+)\s*\.\.\s*(\w+)", name)
-        if name in sets:
-            size = len(sets[name])
-        elif span:
-            ends = [values.get(end, end) for end in span.groups()]
-            size = max(0, int(ends[1]) - int(ends[0]) + 1) if all(end.isdigit() for end in ends) else 0
-        else:
-            size = 0
-        if not size:
+        part = item.split(" in ")[-1].strip()
+        span = re.fullmatch(r"(\w+)\s*\.\.\s*(\w+)", part)
+        ends = [values.get(end, end) for end in span.groups()] if span else []
+        size = len(sets.get(part, ())) if not span else int(ends[1]) - int(ends[0]) + 1 if all(end.isdigit() for end in ends) else 0
+        if size < 1:
             return
-        count, parts = count * size, [*parts, str(size)]
-    yield f"{it.detail} has {' x '.join(parts)} = {count} keys: index it by a set of the pairs that exist", True
+        sizes.append(size)
+    yield f"{name} has {' x '.join(map(str, sizes))} = {math.prod(sizes):,} keys: index it by a set of the pairs that exist", True
 
 
 HINTS: tuple = (

@@ -117,7 +117,10 @@ def outside_set(it: Any) -> Hint:
         key = Key(it)
     except (Unreadable, Unparsed, ValueError):
         return
+    from .hints_values import missing_in_set
     other, wrong = key.exchanged(), key.outside(key.key)
+    if list(missing_in_set(it)):
+        return
     if wrong and other:
         if it.text == "data":
             yield "are the two members exchanged? In a table (tr) before the : turns rows and columns", True
@@ -162,7 +165,7 @@ def heading_place(it: Any, member: str) -> Hint:
 
 def unquoted_member(it: Any) -> Hint:
     """A name in the model that is not declared, and is a member in the data."""
-    if it.text == "model" and it.detail:
+    if it.text == "model" and it.detail and [token.text for token in it.statement()][:1] != ["set"]:
         members = {token.bare() for row in set_rows(it) for token in row}
         if it.detail in members:
             yield f"{it.detail} is a member in the data: write it with quotes, '{it.detail}'", True

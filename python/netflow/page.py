@@ -78,7 +78,8 @@ class Arcs:
         used, count = sum(it.flow != 0 for it in self.arcs), len(self.arcs)
         if not self.has_plan:
             across = sum(id(it) in self.lead for it in self.arcs)
-            return f"{count} {arcs_word(count)}, {across} of them to or from the places in red." if self.lead else f"{count} {arcs_word(count)}."
+            return f"{count} {arcs_word(count)}, {across or 'none'} of them to or from the places in red." if self.lead else \
+                f"{count} {arcs_word(count)}, all of them between these places."
         full, lowest = sum(it.is_tight() for it in self.arcs), sum(it.is_lowest() for it in self.arcs)
         spent = f" Flow × price: {grouped(sum(it.flow * it.price for it in self.arcs))}." if self.has_price else ""
         bounds = (full, "full", "full, and more would help"), (lowest, "lowest", "at the least")

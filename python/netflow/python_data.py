@@ -1,6 +1,7 @@
 """Turns Python values into the sets and parameters of a model: dicts, lists of tuples, rows, and objects of pandas."""
 from __future__ import annotations
 
+import difflib
 from fractions import Fraction
 from typing import Any, Iterable
 
@@ -26,7 +27,8 @@ class PythonData:
             elif name in keys:
                 self.params[name] = rows_of(name, value, keys[name])
             else:
-                raise DataError(f"{name}: the model declares no such set or parameter")
+                meant = difflib.get_close_matches(name, [*sets, *keys], 1, 0.6)
+                raise DataError(f"{name}: the model declares no such set or parameter{f'; is {meant[0]} meant?' if meant else ''}")
 
     def numbers(self, name: str) -> list:
         return [it for it in self.params[name].values() if isinstance(it, Fraction)]

@@ -83,9 +83,9 @@ MISTAKES = [Mistake(*it) for it in (
     ("a table that is not turned", "data", "param cost: Wien Enns 'Sankt Veit' :=\nLinz 3 1 9\nGraz 5 6 4;",
      "param cost: Linz Graz :=\nWien 3 5\nEnns 1 6\n'Sankt Veit' 9 4;", "E33 OutsideSet data 12:1 cost['Wien','Linz']", "are the two members exchanged?"),
     ("a row forgotten", "data", "Enns 15 30\n", "", "E32 NoValue model 10:48 wants['Enns',1]", "the data name wants in line 7"),
-    ("no data for a set", "data", "set SHOPS := Wien Enns 'Sankt Veit';\n", "", "E32 NoValue model 2:5", "add the row to the data"),
+    ("no data for a set", "data", "set SHOPS := Wien Enns 'Sankt Veit';\n", "", "E32 NoValue model 2:5", "the data have no statement for SHOPS"),
     ("a row twice", "data", "Graz 100;", "Graz 100 Linz 5;", "E31 DoubleValue data 6:10 has['Linz']", "remove one of the two"),
-    ("below 0", "data", "Linz 90", "Linz -90", "E34 Restriction model 4:23 has['Linz']", "the data name has in line 5"),
+    ("below 0", "data", "Linz 90", "Linz -90", "E34 Restriction model 4:23 has['Linz']", "has['Linz'] is -90 in line 5, and the model has >= 0"),
     ("a pair of no set", "data", "(Graz, Enns)", "(Graz, Ens)", "E34 Restriction model 6:45 NEAR", "line 15 of the data has Ens, which SHOPS has not"),
     ("an arc too far", "model", "t in 1..last - 1} >=", "t in 1..last} >=", "E50 NoSuchNode model 14:24 Shop['Wien',3]", "its braces end one period earlier"),
     ("no upper bound", "model", ">= 0, <= room,", ">= 0,", "E52 NoUpper model 13:5 Keep",
@@ -104,5 +104,5 @@ MISTAKES = [Mistake(*it) for it in (
     ("a bracket that is not closed", "model", "wants[s,t];", "wants[s,t;", "E10 Syntax model 10:57", "is the [ before it not closed?"),
     ("a bracket too many", "model", "<= has[d];", "<= has[d]];", "E10 Syntax model 9:44", "is this ] one too many, or its [ missing?"),
     ("two words exchanged", "model", "param last;", "last param;", "E14 LeftOut model 3:1 last", "are last and param the wrong way round?"),
-    ("no objective", "model", "minimize Total;\n", "", "E12 Undeclared model 11:38 Total", "declare the name in an earlier declaration"),
+    ("no objective", "model", "minimize Total;\n", "", "E12 Undeclared model 11:38 Total", "declare the objective: minimize Total;"),
 )]

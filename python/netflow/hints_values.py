@@ -1,0 +1,174 @@
+"""Hints for values in data texts: units, repeated and restricted values, missing marks, misspelt words of statements."""
+from __future__ import annotations
+
+import difflib
+import re
+import unicodedata
+from typing import Any, Iterator
+
+from .data_text import DataText
+from .errors import Unreadable
+from .model_text import Shapes, Unparsed, parse
+from .texts import members
+from .words import tokens
+
+Hint = Iterator[tuple]
+QUOTES = "\u2018\u2019\u201a\u201b\u201c\u201d\u201e\u201f\u00ab\u00bb\u2039\u203a`\u00b4"
+DASHES = "\u2010\u2011\u2012\u2013\u2014\u2212"
+
+
+def character(it: Any) -> Hint:
+    """Typographic quotes and dashes, units, and marks that begin comments elsewhere."""
+    mark = it.at()[:1]
+    name = unicodedata.name(mark, "a character without a name") if mark else ""
+    if mark in ("%", "!", "\\", "\"") and not it.before.strip():
+        yield "comments begin with #", True
+    elif mark == "%" and re.search(r"\d\s*$", it.before):
+        yield "write the number without %", True
+    elif mark and mark in QUOTES:
+        yield f"the character is {name} (U+{ord(mark):04X}): write ' for it", True
+    elif mark and mark in DASHES:
+        yield f"the character is {name} (U+{ord(mark):04X}): write - for it", True
+    elif mark and unicodedata.category(mark) == "Sc":
+        yield f"write the number without its unit, {mark}", True
+    elif mark and unicodedata.category(mark) == "Zs" and mark != " ":
+        yield f"the character is {name} (U+{ord(mark):04X}), a blank that looks like a plain one: write a plain one", True
+
+
+def unit(it: Any) -> Hint:
+    """`40km`, or `40 loaves` for a parameter with one value."""
+    word = it.word().rstrip(",;")
+    found = re.fullmatch(r"([+-]?\d+(?:\.\d+)?)[^\W\d_]+", word)
+    if it.text != "data" or it.is_change():
+        return
+    if it.number == "E36" and found and not word.translate(str.maketrans("OoIl", "0011")).isdigit():
+        yield f"{word}: write the number without its unit, {found[1]}", True
+    elif it.number == "E31" and "[" not in it.detail and re.search(r"\d\s*$", it.before) and re.match(r"[^\W\d]", word):
+        yield f"{it.detail} has one value: is {word} a unit? Leave it out", True
+
+
+def misspelt_statement(it: Any) -> Hint:
+    """`parm` for `param`, `defualt` for `default`."""
+    word = it.word().lower()
+    if it.text != "data" or not re.fullmatch(r"[a-z]+", word):
+        return
+    is_first = len(it.statement_before()) == 0
+    meant = "set" if word in ("sets", "let") else next(iter(difflib.get_close_matches(word, ("set", "param", "data", "end") if is_first else ("default",), 1, 0.7)), "")
+    if meant and meant != it.word():
+        yield f"{it.word()}: is {meant} meant?", True
+
+
+def missing_mark(it: Any) -> Hint:
+    """`param van 40;`"""
+    before = [token.text for token in it.statement_before()]
+    if it.text == "data" and before[:1] in (["set"], ["param"]) and len(before) == 2 and re.match(r"[\w'\"(.+-]", it.at()) \
+            and not list(misspelt_statement(it)) and it.word() != "default":
+        yield f"is := missing before {it.word().rstrip(';')}?", True
+
+
+def cells_of(it: Any) -> list:
+    """Returns the data's cells, each with its row; none if the texts cannot be parsed."""
+    try:
+        shapes = Shapes(parse(it.texts.get("model", "")))
+        params = {decl.name: shapes.keys[decl.name] for decl in shapes.decls.values() if decl.kind == "param"}
+        text = it.texts.get("data", "")
+        found = DataText(text, params, shapes.sets)
+    except (Unparsed, ValueError, IndexError):
+        return []
+    starts, rows, row, last = [], [], 1, 0
+    for cell in sorted(found.cells(), key=lambda cell: cell.token.start):
+        row, last = row + text.count("\n", last, cell.token.start), cell.token.start
+        rows.append((cell, row))
+    return rows or starts
+
+
+def named_cells(it: Any) -> list:
+    """Returns the cells that the error's detail names."""
+    name, bracket, rest = it.detail.partition("[")
+    key = members(rest[:-1]) if bracket else []
+    return [(cell, row) for cell, row in cells_of(it) if key is not None and cell.name == name and list(cell.key) == list(key)]
+
+
+def restricted(it: Any) -> Hint:
+    """The value that a restriction rejects."""
+    found = named_cells(it)
+    if it.text == "model" and found and not any(it.question is not None and it.question.change_at(row) for _, row in found):
+        cell, row = found[-1]
+        phrase = re.match(r"[^,;]*", it.at())
+        sign = re.search(r"(<=|>=|<>|!=|<|>|\bin|\bwithin)\s*$", it.before)
+        said = f", and the model has {sign[1]} {phrase[0].strip()}" if sign and phrase else ""
+        yield f"{it.detail} is {cell.token.text} in {it.rows_text([row])}{said}", True
+
+
+def given_twice(it: Any) -> Hint:
+    """Both places of a value or a member that is given twice."""
+    found = named_cells(it)
+    if it.text == "data" and len(found) > 1 and "[" in it.detail:
+        (first, row), (second, other) = found[:2]
+        yield f"{it.detail} is {first.token.text} in {it.rows_text([row])} and {second.token.text} in {it.rows_text([other])}: remove one of the two", True
+    elif it.text == "data" and not found and it.detail and "[" not in it.detail:
+        yield from listed_twice(it)
+
+
+def listed_twice(it: Any) -> Hint:
+    """A member, or a tuple, that a set's statement lists twice."""
+    words = list(tokens(it.texts.get("data", "")))
+    for here in range(len(words) - 2):
+        if words[here].text == "set" and words[here + 1].text == it.detail:
+            rest = words[here + 3:]
+            rest = rest[:next((at for at, token in enumerate(rest) if token.text == ";"), len(rest))]
+            text = " ".join(token.text for token in rest)
+            seen: dict = {}
+            for part in re.findall(r"\([^)]*\)", text) or text.split():
+                seen[part] = seen.get(part, 0) + 1
+            twice = [part.replace(" ", "") for part, count in seen.items() if count > 1]
+            if twice:
+                yield f"{it.detail} has {twice[0]} twice: remove one of the two", True
+            return
+
+
+def no_value(it: Any) -> Hint:
+    """A name that the data do not have at all."""
+    name = it.detail.partition("[")[0]
+    words = [token.text for token in tokens(it.texts.get("data", ""))]
+    if it.text == "model" and name and words and name not in words:
+        yield f"the data have no statement for {name}", True
+
+
+def missing_in_set(it: Any) -> Hint:
+    """A member that the data use in several statements, and its set does not list."""
+    name, bracket, rest = it.detail.partition("[")
+    if it.text != "data" or not bracket:
+        return
+    from .hints_keys import Key, near
+    try:
+        key = Key(it)
+    except (Unreadable, Unparsed, ValueError):
+        return
+    for first, last, title, known in key.outside(key.key):
+        if last - first == 1 and isinstance(key.key[first], str) and re.fullmatch(r"[A-Za-z_]\w*", title):
+            words = list(tokens(it.texts["data"]))
+            used = [token for token in words if token.bare() == key.key[first]]
+            statements = {statement_of(it, token.row) for token in used}
+            others = near(key.key[first], [part for part, in known if isinstance(part, str)])
+            is_misspelt = any(sum(token.bare() == other for token in words) == 1 for other in others)
+            if len(statements) > 1 and not is_misspelt and not key.exchanged():
+                rows = list(dict.fromkeys(token.row for token in used))
+                yield f"{key.key[first]} is not in {title}, and the data name it in {it.rows_text(rows[:3])}: is it missing in the set {title}?", True
+
+
+def statement_of(it: Any, row: int) -> int:
+    """Returns how many statements end before a row."""
+    return sum(token.text == ";" for token in tokens("\n".join(it.texts["data"].split("\n")[:row - 1])))
+
+
+HINTS: tuple = (
+    (("E01",), character),
+    (("E31", "E36"), unit),
+    (("E20",), misspelt_statement),
+    (("E20",), missing_mark),
+    (("E34",), restricted),
+    (("E31",), given_twice),
+    (("E32",), no_value),
+    (("E33",), missing_in_set),
+)
