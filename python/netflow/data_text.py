@@ -99,6 +99,8 @@ class DataText:
                 raise Unparsed(len(self.text))
             words = tokens[at:stop]
             if [it.text for it in words] in (["data"], ["end"]):
+                if at if words[0].text == "data" else stop + 1 < len(tokens):
+                    raise Unparsed(words[0].start)
                 self.frame += [*words, tokens[stop]]
             else:
                 self.statements.append(self.statement(words, tokens[stop]))

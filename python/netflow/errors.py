@@ -9,12 +9,14 @@ class NetflowError(Exception):
 
 
 class ProgramError(NetflowError):
-    """The program could not be run, or ended without an answer. `line` is the error line with its place in the joined data."""
+    """The program could not be run, or ended without an answer. `line` is the error line with its place in the joined data; `words`
+    are the words of the command that asked, if they can be given again."""
 
     def __init__(self, status: int, message: str, line: str | None = None) -> None:
         super().__init__(message.rstrip("\n"))
         self.status, self.message = status, message
         self.line = line if line is not None else message
+        self.words: list = []
 
 
 class Unreadable(NetflowError):

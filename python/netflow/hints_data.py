@@ -252,7 +252,10 @@ def fraction(it: Any) -> Hint:
         yield "a number after an end of an arc is a gain, and no network has gains: what leaves one end arrives at the other", True
     if it.text == "data" and re.fullmatch(r"[0-9]{1,3}(\.[0-9]{3})+", word):
         yield f"{word}: is {word.replace('.', '')} meant? A point begins decimals", False
-    yield "the tools and Python scale decimals by themselves: netflow-sheet plan, netflow-why, netflow-report", False
+    if it.question is None:
+        yield "the tools and Python take decimals: netflow-sheet plan MODEL DATA --grid", False
+    elif it.text == "data" and not it.is_change():
+        yield f"decimals are scaled in values; a member or a key with a point needs quotes: '{word}'", False
 
 
 def comma_in_number(it: Any) -> Hint:

@@ -9,13 +9,14 @@ from typing import Any, Sequence
 
 from .data_text import DataText
 from .edits import EditedText
-from .errors import DataError, ProgramError
+from .errors import DataError, ProgramError, ScaleError
 from .exact import common_factor, parse_numeral
 from .model_text import Shapes, Unparsed, parse
-from .program import REJECTED, UNREADABLE_FILE, Answer, Session, call
+from .program import UNREADABLE_FILE, Answer, Session, call
 from .python_data import PythonData
 from .scaling import BOUND, Factors, Scaler, scaled_value
 from .texts import Network, read_compiled, read_cut, read_plan, read_prices
+from .without_decimals import is_decimal, next_error
 from .words import read
 
 MAYBE_DECIMAL = re.compile(r"[.eEdD]")
@@ -47,12 +48,15 @@ class Question:
         self.session = Session([])
         self.is_ready = self.is_rewritten = False
         self.parsed = 0  # how many data texts were parsed when a text could not be
+        self.words: list = []  # the words of a command that asks the same
 
     def __enter__(self) -> "Question":
         return self
 
-    def __exit__(self, *_: Any) -> None:
+    def __exit__(self, _: Any, problem: Any, __: Any) -> None:
         self.session.__exit__()
+        if isinstance(problem, ProgramError):
+            problem.words = self.words
 
     def prepare(self) -> None:
         """Chooses the files that the program reads: those that were given, or rewritten ones."""
@@ -68,26 +72,27 @@ class Question:
             try:
                 self.rewrite()
                 return
-            except Unparsed as problem:
-                unparsed = problem
-            self.report_unparsed()
-            raise DataError(f"the model or its data have a form that options cannot change (offset {unparsed.offset})")
+            except (Unparsed, ScaleError) as problem:
+                failed = problem
+            for self.parsed in [self.parsed] if isinstance(failed, Unparsed) else range(len(self.data)):
+                self.report_text()
+            raise DataError(f"the model or its data have a form that options cannot change (offset {failed.offset})") \
+                if isinstance(failed, Unparsed) else failed
         self.use_files()
 
-    def report_unparsed(self) -> None:
-        """Raises the error of the program for the text that could not be parsed: the model, or the first such data text."""
+    def report_text(self) -> None:
+        """Raises the program's error for the model, or for the data text `parsed`, besides its decimals."""
         above = sum(it.text().count("\n") + 1 for it in self.data[:self.parsed])
         it = self.data[self.parsed] if self.parsed < len(self.data) else None
         self.use_files(it)
-        try:
-            self.session.ask("compile")
-        except ProgramError as problem:
-            found = PLACE.fullmatch(problem.message)
-            if not above or it is None or found is None or found[2] == "model":
-                raise
-            row, rest = int(found[3]), f"{found[4]}{found[5].rstrip()}"
-            raise ProgramError(problem.status, f"{found[1]} {row}:{rest}\nin {it.path or 'the text'}:{row}:{found[4]}\n",
-                               f"{found[1]} {row + above}:{rest}\n") from None
+        problem = next_error(self.session)
+        if problem is None:
+            return
+        found = PLACE.fullmatch(problem.message)
+        if not above or it is None or found is None or found[2] == "model":
+            raise problem
+        row, rest = int(found[3]), f"{found[4]}{found[5].rstrip()}"
+        raise ProgramError(problem.status, f"{found[1]} {row}:{rest}\nin {it.path or 'the text'}:{row}:{found[4]}\n", f"{found[1]} {row + above}:{rest}\n")
 
     def require_files(self) -> None:
         """Raises the error of the program for the first file that cannot be read."""
@@ -102,21 +107,28 @@ class Question:
         self.session.files = [it.path if it.path is not None else self.session.write(it.text()) for it in (self.model, data)]
 
     def ask(self, command: str) -> Answer:
-        """Calls `solve` or `compile`; decimals are scaled when the program meets the first one."""
+        """Calls `solve` or `compile`. When the program meets a decimal, the texts are scaled, or have another error, which is reported."""
         self.prepare()
         try:
             return self.session.ask(command)
         except ProgramError as problem:
-            if problem.status == REJECTED and problem.message.startswith("E04 ") and not self.is_rewritten:
-                if self.rewritten_decimals():
-                    return self.ask(command)
-            raise self.placed(problem) from None
+            if not is_decimal(problem):
+                raise self.placed(problem) from None
+            if not self.is_rewritten and self.rewritten_decimals():
+                return self.ask(command)
+            raise self.placed(next_error(self.session) or problem) from None
 
     def rewritten_decimals(self) -> bool:
         try:
             self.rewrite()
         except Unparsed:
             return False
+        except ScaleError:
+            # A forgotten ; can make other values of a parameter than those that were meant.
+            problem = next_error(self.session)
+            if problem is not None:
+                raise self.placed(problem) from None
+            raise
         return True
 
     def placed(self, problem: ProgramError) -> ProgramError:
