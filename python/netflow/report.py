@@ -8,13 +8,14 @@ from __future__ import annotations
 
 import re
 
+from .changes import choices, least_changes
 from .command import Words, print_error_json, question_of, run as run_tool, title_of
 from .draw import draw, grouped
 from .errors import ProgramError
 from .grids import grid_html, roster_html
 from .outputs import dump_lines, plan_json
 from .page import Arcs, bullets, changes_html, page, places_html, reason_html, section, text
-from .reasons import choices, least_changes, reasons
+from .reasons import reasons
 from .sensitivity import Marginal
 from .tables import no_plan
 from .words import first_comment, headings

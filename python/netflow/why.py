@@ -10,12 +10,13 @@ from __future__ import annotations
 import re
 from typing import Any, Sequence
 
+from .changes import least_changes, leaves_nothing, total, unserved
 from .command import Words, print_error_json, question_of, run as run_tool
 from .errors import ProgramError
 from .model_text import Unparsed, parse
 from .outputs import cut_json, dump_lines, plan_json
 from .question import Input, Question
-from .reasons import least_changes, leaves_nothing, reasons, total, unserved
+from .reasons import reasons
 from .sensitivity import Marginal, arc_change
 from .texts import Network
 
