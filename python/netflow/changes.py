@@ -6,8 +6,9 @@ import dataclasses
 from .exact import Number, divided
 from .program import call
 
-# The most lines of problems that are solved; how many moves are preferred one by one, and how many by their size.
+# The most lines of a problem; how many moves are preferred one by one, how many by their size, and up to how many lines in all.
 LARGEST, TRIES, RANKS = 200_000, 6, 20
+TRIED = 30_000
 FAR, MOST_COST = 10**15, 10**12
 
 
@@ -105,7 +106,7 @@ def least_flows(net, moves, costs):
 def concentrated(net, moves, flows):
     """Returns moves of the same total in fewer places, if some are found: first each of the largest ones is preferred to all others,
     then those of the best answer by their size."""
-    whole, limit = sum(flows), min(TRIES, LARGEST // (len(net.lines) + len(moves)))
+    whole, limit = sum(flows), min(TRIES, TRIED // (len(net.lines) + len(moves)))
     largest = sorted((it for it, flow in enumerate(flows) if flow), key=lambda it: -flows[it])
     for first in [[it] for it in largest[:limit]] + [None]:
         if sum(map(bool, flows)) == 1:

@@ -17,6 +17,8 @@ TOKEN = re.compile(
     r"|(?P<mark>:=|[;:,()\[\]*])|(?P<word>[\w.+\-\u00b7]+)", re.S)
 # A name that needs no quotes in a data text: no number, and none of the words that begin or end statements.
 PLAIN_NAME = re.compile(r"(?!(?:set|param|data|end|default)\Z)[A-Za-z_]\w*", re.A)
+# A text that is a number as a member: one that is written back as it is, so that `01067` and `+5` stay texts; not past 10^12.
+KEY_NUMBER = re.compile(r"-?[1-9][0-9]{0,11}|0")
 
 
 @dataclasses.dataclass

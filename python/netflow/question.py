@@ -11,7 +11,7 @@ from .data_text import DataText
 from .edits import EditedText
 from .errors import DataError, ProgramError, ScaleError
 from .exact import common_factor, parse_numeral
-from .model_text import Shapes, Unparsed, parse
+from .model_text import Shapes, Unparsed, parse, tokens_of
 from .program import UNREADABLE_FILE, Answer, Session, call
 from .python_data import PythonData
 from .scaling import BOUND, Factors, Scaler, scaled_value
@@ -236,7 +236,8 @@ class Question:
         for it in self.data:
             pieces.append(DataText(it.text(), params, shapes.sets))
             self.parsed += 1
-        changes = PythonData(self.changes, shapes.sets, params)
+        # On the command line quotes say what is a text.
+        changes = PythonData(self.changes, shapes.sets, params, None if self.origins else texts_of(model, pieces))
         edits = [Overrides(pieces, changes).edits(it) for it in pieces]
         needed = self.needed(pieces, changes, edits)
         unknown = {name: factor for name, factor in needed.items() if name not in params}
@@ -308,6 +309,12 @@ def tokens_with_numbers(piece: DataText) -> list:
         if statement.default is not None:
             found.append((statement.name, statement.default))
     return found
+
+
+def texts_of(model: str, pieces: list) -> set:
+    """Returns the texts that a model and its data have as members."""
+    return {it.text[1:-1].replace(it.text[0] * 2, it.text[0]) for it in tokens_of(model) if it.text[0] in "'\""} | \
+        {part for piece in pieces for statement in piece.statements for part in statement.members}
 
 
 class Overrides:
