@@ -103,3 +103,4 @@ def write(net: Network, model: str, words: argparse.Namespace) -> None:
             out.writerows(rows)
     else:
         out.writerows(one_table(net, [it for it in net.arcs if it.flow or not words.used]))
+        out.writerows([[], [net.objective, net.value]])

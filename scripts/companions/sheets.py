@@ -21,7 +21,8 @@ def check_sheet(complaints, folder):
     net = question(*words)[0]
     flows = [[*map(str, it.key), str(it.flow)] for it in net.arcs]
     table = rows_of(run("netflow-sheet", "plan", *words)[1])
-    complaints.same("sheet: one table", [["Drive", *it] for it in flows], [it[:4] for it in table[1:]])
+    complaints.same("sheet: one table", [["Drive", *it] for it in flows], [it[:4] for it in table[1:-2]])
+    complaints.same("sheet: the value below it", [[], [net.objective, str(net.value)]], table[-2:])
     complaints.same("sheet: its head", ["arc", "key 1", "key 2", "flow", "lower", "upper", "price", "from", "to"], table[0])
     only = rows_of(run("netflow-sheet", "plan", *words, "--only", "Drive")[1])
     complaints.same("sheet: one declaration", (["D", "S", "flow"], flows), (only[0][:3], [it[:3] for it in only[1:]]))
