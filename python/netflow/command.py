@@ -145,10 +145,19 @@ def run(main: Callable[[Sequence[str]], int], words: Sequence[str] | None = None
     if hasattr(signal, "SIGPIPE"):
         signal.signal(signal.SIGPIPE, signal.SIG_DFL)
     name = os.path.basename(sys.argv[0])
+    if sys.stdout is None:
+        sys.exit(close_error(name))
     gc.disable()  # a tool ends soon, and a large network is many objects without cycles
-    for stream in (sys.stdout, sys.stderr):
+    for stream in filter(None, (sys.stdout, sys.stderr)):
         stream.reconfigure(encoding="utf-8", errors="surrogateescape")  # type: ignore[attr-defined]
     sys.exit(ended(main, sys.argv[1:] if words is None else words, name))
+
+
+def close_error(name: str) -> int:
+    """Reports that standard output is closed, and returns the status."""
+    if sys.stderr is not None:
+        sys.stderr.write(f"{name}: standard output is closed\n")
+    return UNREADABLE_FILE
 
 
 def ended(main: Callable[[Sequence[str]], int], words: Sequence[str], name: str) -> int:

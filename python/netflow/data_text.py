@@ -84,10 +84,11 @@ def tokens_of(text: str) -> list:
 
 
 class DataText:
-    """The statements of a data text. `keys` and `sets` give the number of key parts of parameters and of set members."""
+    """The statements of a data text. `keys` and `sets` give the number of key parts of parameters and of set members; in joined texts
+    `data;` and `end;` can be anywhere."""
 
-    def __init__(self, text: str, keys: dict, sets: dict) -> None:
-        self.text, self.keys, self.sets = text, keys, sets
+    def __init__(self, text: str, keys: dict, sets: dict, is_joined: bool = False) -> None:
+        self.text, self.keys, self.sets, self.is_joined = text, keys, sets, is_joined
         self.statements: list = []
         self.frame: list = []
         self.read([it for it in tokens_of(text) if it.text != "," or it.kind != "mark"])
@@ -101,7 +102,7 @@ class DataText:
                 raise Unparsed(len(self.text))
             words = tokens[at:stop]
             if [it.text for it in words] in (["data"], ["end"]):
-                if at if words[0].text == "data" else stop + 1 < len(tokens):
+                if not self.is_joined and (at if words[0].text == "data" else stop + 1 < len(tokens)):
                     raise Unparsed(words[0].start)
                 self.frame += [*words, tokens[stop]]
             else:

@@ -30,7 +30,8 @@ def sheet(it: Any) -> Hint:
 
 def joined(it: Any) -> Hint:
     if it.text == "data" and it.word() in ("data", "end") and len(it.statement()) <= 2:
-        yield f"{it.word()}; is allowed only {'as the first' if it.word() == 'data' else 'as the last'} statement: are two data files joined? Give both to the tools", True
+        place = "first" if it.word() == "data" else "last"
+        yield f"{it.word()}; is allowed only as the {place} statement: are two data files joined? Give both to the tools", True
 
 
 def unended_statement(it: Any) -> Hint:
@@ -281,10 +282,9 @@ def speaking(it: Any) -> Hint:
             rows.setdefault(token.row, set()).add(token.bare())
     whole = [row for row, words in rows.items() if members and members <= words]
     whole = [row for row in whole if it.question is not None and it.question.change_at(row)] or whole
-    some = [row for row, words in rows.items() if members & words]
+    some = sorted((row for row, words in rows.items() if members & words), key=lambda row: -len(members & rows[row]))
     if rows:
-        said = dict.fromkeys(whole[:3] or [first, *some[:3]])
-        yield f"the data name {name} in {it.rows_text(list(said))}", False
+        yield f"see {name} in {it.rows_text((whole or some or [first])[:3])}{'' if it.question is not None and it.question.change_at(first) else ' of the data'}", False
 
 
 def no_data(it: Any) -> Hint:

@@ -82,7 +82,9 @@ def strict_bound(it: Any) -> Hint:
     """`< van` for a bound."""
     words, sign = statement_words(it), it.at()[:1]
     inside = [token.text for token in it.statement_before()]
-    if it.text != "model" or words[:1] not in (["arc"], ["node"]) or sign not in ("<", ">") or it.at()[1:2] in ("=", "<", ">") or it.before.endswith(("=", "<")):
+    if it.text != "model" or words[:1] not in (["arc"], ["node"]) or sign not in ("<", ">"):
+        return
+    if it.at()[1:2] in ("=", "<", ">") or it.before.endswith(("=", "<")):
         return
     if inside.count("{") == inside.count("}"):
         yield f"{sign}: is {sign}= meant? Bounds include their ends", True

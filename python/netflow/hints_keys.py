@@ -25,7 +25,7 @@ class Sets:
         self.members: dict = {}
         self.values: dict = {}
         params = {decl.name: self.shapes.keys[decl.name] for decl in decls if decl.kind == "param"}
-        for statement in DataText(it.texts.get("data", ""), params, self.shapes.sets).statements:
+        for statement in DataText(it.texts.get("data", ""), params, self.shapes.sets, True).statements:
             name = statement.name if statement.kind == "set" else statement.set_name
             if name:
                 self.members[name] = statement.members

@@ -8,7 +8,7 @@ from html import escape
 
 from . import __version__
 from .draw import grouped
-from .reasons import leaves_nothing, total, unserved
+from .changes import leaves_nothing, total, unserved
 from .style import PAGE_STYLE, SCRIPT
 
 HIDDEN_FROM = 5_000

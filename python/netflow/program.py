@@ -82,7 +82,9 @@ class Session:
         """Returns a path that can be read more than once."""
         if path == "-":
             path = "/dev/stdin"
-        if not os.path.exists(path) or os.path.isfile(path) or os.path.isdir(path) or os.path.realpath(path) == os.devnull:
+        # The program has no standard input of its own, so even a file that is standard input is copied.
+        is_file = os.path.isfile(path) and not path.startswith(("/dev/", "/proc/"))
+        if not os.path.exists(path) or is_file or os.path.isdir(path) or os.path.realpath(path) == os.devnull:
             return path
         try:
             with open(path, "rb") as source, tempfile.NamedTemporaryFile(prefix="netflow-", delete=False) as copy:

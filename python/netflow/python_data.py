@@ -23,8 +23,9 @@ class PythonData:
     of the model and of data texts. With None every text stays one."""
 
     def __init__(self, values: dict, sets: dict, keys: dict, texts: set | None = None) -> None:
-        self.sets = {name: members_of(name, value, sets[name]) for name, value in values.items() if name in sets}
-        self.params, self.origins = {}, []
+        self.sets: dict = {name: members_of(name, value, sets[name]) for name, value in values.items() if name in sets}
+        self.params: dict = {}
+        self.origins: list = []
         kept = None if texts is None else texts | {part for rows in self.sets.values() for row in rows for part in row}
         for name, value in values.items():
             if name in keys:

@@ -16,7 +16,7 @@ from .program import UNREADABLE_FILE, Answer, Session, call
 from .python_data import PythonData
 from .scaling import BOUND, Factors, Scaler, scaled_value
 from .texts import Network, read_compiled, read_cut, read_plan, read_prices
-from .without_decimals import is_decimal, next_error
+from .without_decimals import CERTAIN, GRAMMAR, is_decimal, next_error
 from .words import read
 
 MAYBE_DECIMAL = re.compile(r"[.eEdD]")
@@ -44,7 +44,8 @@ class Question:
         self.options = [] if objective is None else ["--objective", objective]
         self.factors = Factors()
         self.edited: dict = {}
-        self.origins, self.changed, self.changed_text = dict(origins or {}), None, ""
+        self.origins, self.changed_text = dict(origins or {}), ""
+        self.changed: PythonData | None = None
         self.session = Session([])
         self.is_ready = self.is_rewritten = False
         self.parsed = 0  # how many data texts were parsed when a text could not be
@@ -69,23 +70,22 @@ class Question:
                 it.path = self.session.lasting(it.path)
         if self.changes or self.scale or self.add_bounds or len(self.data) > 1:
             self.require_files()
-            try:
-                self.rewrite()
+            failed = self.failed_rewrite()
+            if failed is None:
                 return
-            except (Unparsed, ScaleError) as problem:
-                failed = problem
-            for self.parsed in [self.parsed] if isinstance(failed, Unparsed) else range(len(self.data)):
-                self.report_text()
-            raise DataError(f"the model or its data have a form that options cannot change (offset {failed.offset})") \
-                if isinstance(failed, Unparsed) else failed
+            is_parsed = isinstance(failed, ScaleError)
+            for self.parsed in range(len(self.data)) if is_parsed else [self.parsed]:
+                self.report_text(GRAMMAR if is_parsed else CERTAIN)
+            raise failed if not isinstance(failed, Unparsed) else \
+                DataError(f"the model or its data have a form that options cannot change (offset {failed.offset})")
         self.use_files()
 
-    def report_text(self) -> None:
+    def report_text(self, kinds: re.Pattern) -> None:
         """Raises the program's error for the model, or for the data text `parsed`, besides its decimals."""
         above = sum(it.text().count("\n") + 1 for it in self.data[:self.parsed])
         it = self.data[self.parsed] if self.parsed < len(self.data) else None
         self.use_files(it)
-        problem = next_error(self.session)
+        problem = next_error(self.session, kinds)
         if problem is None:
             return
         found = PLACE.fullmatch(problem.message)
@@ -114,22 +114,23 @@ class Question:
         except ProgramError as problem:
             if not is_decimal(problem):
                 raise self.placed(problem) from None
-            if not self.is_rewritten and self.rewritten_decimals():
+            is_first = not self.is_rewritten
+            failed = self.failed_rewrite() if is_first else None
+            if is_first and failed is None:
                 return self.ask(command)
-            raise self.placed(next_error(self.session) or problem) from None
+            # A forgotten ; can give a parameter values that were not meant for it.
+            found = next_error(self.session, GRAMMAR if isinstance(failed, ScaleError) else CERTAIN)
+            if isinstance(failed, ScaleError) and found is None and not failed.is_numeral:
+                raise failed from None
+            raise self.placed(found or problem) from None
 
-    def rewritten_decimals(self) -> bool:
+    def failed_rewrite(self) -> Exception | None:
+        """Rewrites the texts; returns why they cannot be, None if they were."""
         try:
             self.rewrite()
-        except Unparsed:
-            return False
-        except ScaleError:
-            # A forgotten ; can make other values of a parameter than those that were meant.
-            problem = next_error(self.session)
-            if problem is not None:
-                raise self.placed(problem) from None
-            raise
-        return True
+        except (Unparsed, ScaleError) as problem:
+            return problem
+        return None
 
     def placed(self, problem: ProgramError) -> ProgramError:
         """Returns the error with its place in the text that the user gave."""
@@ -285,7 +286,7 @@ class Question:
             if token.text in ("Infinity", "-Infinity") and self.add_bounds:
                 found.append((token.start, token.end, token.text.replace("Infinity", str(BOUND))))
                 continue
-            if factor != 1:
+            if factor != 1 or name in self.scale:
                 number = parse_numeral(token.text)
                 if number is not None:
                     found.append((token.start, token.end, str(scaled_value(name, number, factor))))

@@ -217,7 +217,7 @@ class Scaler:
         if expr.op == "name" and self.params.get(expr.value, 1) != 1:
             raise ScaleError(f"param {expr.value} has decimals and is used as a member or in a set", expr.value, self.params[expr.value])
         if expr.op == "num" and self.factor(expr) != 1:
-            raise ScaleError(f"the number {expr.value} has decimals and is used as a member or in a set")
+            raise ScaleError(f"the number {expr.value} has decimals and is used as a member or in a set", is_numeral=True)
         if expr.op in ("+", "-", "*", "sign", "reduce", "div", "mod"):
             if self.factor(expr) != 1:
                 raise ScaleError("an expression with decimals is used as a member or in a set")

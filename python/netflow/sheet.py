@@ -78,7 +78,8 @@ def looks_like_heading(name: str, rows: list) -> bool:
 def as_list(rows: list, keys: int, members: str, scale: dict, has_comma: bool) -> list:
     titles = rows[0][keys:]
     if not titles:
-        rows[0][0].reject(f"is in the first row, which has {len(rows[0])} of at least {keys + 1} titles: the keys, then the parameters. Is it a title of the sheet?")
+        rows[0][0].reject(f"is in the first row, which has {len(rows[0])} of at least {keys + 1} titles: the keys, then the parameters. "
+                          "Is it a title of the sheet?")
     names = [it.name() for it in titles]
     body = [filled(it, len(rows[0])) for it in rows[1:]]
     cells = [[it.value(scale.get(name, 1), has_comma) for name, it in zip(names, row[keys:])] for row in body]

@@ -18,8 +18,9 @@ SKIPPED = r"#[^\n]*|/\*.*?\*/|'(?:[^'\n]|'')*'|\"(?:[^\"\n]|\"\")*\"|"
 NUMERALS = {
     "model": re.compile(SKIPPED + r"[^\W\d]\w*|\.\.|(?P<numeral>(?:[0-9]+(?:\.[0-9]+)?|\.[0-9]+)(?:[eEdD][+-]?[0-9]+)?)", re.S),
     "data": re.compile(SKIPPED + r"(?P<numeral>[\w.+\-\u00b7]+)", re.S)}
-# Errors that do not depend on the values of numbers: tokens, grammar and names; in the data also doubled values, keys and kinds.
-CERTAIN = re.compile(r"E(?!04)(?:0\d|1\d|2\d|30|31|33|36|37) ")
+# Errors of tokens and grammar, and others that do not depend on the values of numbers: names, doubled values, keys and kinds.
+GRAMMAR = re.compile(r"E(?!04)[012]\d ")
+CERTAIN = re.compile(r"E(?!04)(?:[012]\d|30|31|33|36|37) ")
 
 
 def whole_copy(text: str, kind: str) -> str:
@@ -38,12 +39,11 @@ def is_decimal(problem: ProgramError) -> bool:
     return problem.status == REJECTED and problem.message.startswith("E04 ")
 
 
-def next_error(session: Session) -> ProgramError | None:
-    """Returns the program's error for the files of a session besides their decimals; None if it reports none, or one that the values
-    of the decimals can cause."""
+def next_error(session: Session, kinds: re.Pattern = CERTAIN) -> ProgramError | None:
+    """Returns the program's error for the files of a session besides their decimals; None if it reports none of these kinds."""
     copies = [session.write(whole_copy(read(path), kind)) for path, kind in zip(session.files, ("model", "data"))]
     try:
         call(["compile", *copies, *session.options])
     except ProgramError as problem:
-        return problem if CERTAIN.match(problem.message) else None
+        return problem if kinds.match(problem.message) else None
     return None

@@ -1,9 +1,12 @@
 """What netflow-explain says of rejected inputs, and what all tools pass on."""
 import pathlib
 import re
+import shlex
+import subprocess
+import sys
 
 from companions import bread_mistakes, mistakes, port_mistakes
-from companions.common import EXAMPLES, TOP, run, write
+from companions.common import COMPANIONS, EXAMPLES, TOP, run, write
 from netflow import diagnostics, explain
 
 
@@ -65,7 +68,8 @@ def check_bread(complaints, folder):
         else:
             texts[text] = wrong
         paths = {kind: write_raw(folder, f"bread.{kind[:3]}", it) for kind, it in texts.items()}
-        status, _, told = run("netflow-explain", paths["model"], paths["data"])
+        # Without a command decimals are scaled.
+        status, _, told = run("netflow-explain", *["solve"] * (code == "E04"), paths["model"], paths["data"])
         complaints.want(status == 3 and told.startswith(code) and named in " ".join(told.split()), f"{name}: no {code} and {named!r} in {told!r}")
         advice = " ".join(told.split("\n  ", 1)[-1].split())
         complaints.want(absent is None or absent not in advice.replace(named, ""), f"{name}: {absent!r} in {told!r}")
@@ -94,6 +98,13 @@ def check_rewritten(complaints, folder, bread):
                         (["--set", "wants[hil]=3"], "Hint: hil: is hill meant?"), (["--set", "fan=3"], "fan: the model declares no such set or parameter")):
         status, out, told = run("netflow-explain", *files, *words)
         complaints.want((status, out) == (3, "") and said in told and "^" not in told, f"explain {words}: no {said!r} in {told!r}")
+    decimals = write(folder, "decimals.dat", (bread / "bread.dat").read_text(encoding="utf-8").replace("hill 30", "hill 30.5"))
+    complaints.same("explain: decimals of a file", (0, "Total = 442\n"), (lambda it: (it[0], it[1].split("Drive")[0]))(run("netflow-explain", bread / "bread.mod", decimals)))
+    complaints.same("explain solve: decimals of a file", (3, "E04 NotWhole data 4:21"), (lambda it: (it[0], it[2].split("\n")[0]))(run("netflow-explain", "solve", bread / "bread.mod", decimals)))
+    missing = write(folder, "missing.dat", decimals.read_text(encoding="utf-8").replace("van := 40;", "van := 40"))
+    for words in (["netflow-why"], ["netflow-sheet", "plan"], ["netflow-explain"]):
+        told = run(*words, bread / "bread.mod", missing)[2]
+        complaints.want(told.startswith("E20 Syntax data 6:11\n"), f"{words}: a ; missing next to decimals: {told!r}")
     wrong = write(folder, "wrong.dat", "# two lines\nparam wants := lake 5\n")
     status, out, told = run("netflow-explain", *files, wrong)
     complaints.want((status, out) == (3, "") and told.startswith("E20 Syntax data 2:22\n") and f"\n{wrong}:2:22: " in told and
@@ -104,18 +115,36 @@ def check_refusals(complaints, folder):
     """Each tool passes on the program's errors; and input from a pipe is read once."""
     wrong = write(folder, "w.mod", "node ;\n")
     for words in (["netflow-why"], ["netflow-report"], ["netflow-sheet", "plan"]):
-        complaints.same(f"{words}: refused", (3, "", "E10 Syntax model 1:6\n"), run(*words, wrong, "/dev/null"))
-        complaints.same(f"{words}: no file", (4, "", "E90 ReadFault model: /nowhere/x: No such file or directory\n"), run(*words, "/nowhere/x", "/dev/null"))
+        complaints.same(f"{words}: refused", (3, "", f"E10 Syntax model 1:6\nFor a hint: netflow-explain {wrong} /dev/null\n"), run(*words, wrong, "/dev/null"))
+        complaints.same(f"{words}: no file", (4, "", "E90 ReadFault model: /nowhere/x: No such file or directory\n"
+                        "For a hint: netflow-explain /nowhere/x /dev/null\n"), run(*words, "/nowhere/x", "/dev/null"))
         complaints.same(f"{words}: no words", 64, run(*words)[0])
         complaints.same(f"{words}: help", 0, run(*words, "--help")[0])
         complaints.same(f"{words}: a pipe", (3, "", "E10 Syntax model 1:6\n"), run(*words, "/dev/stdin", "/dev/null", text="node ;\n"))
     bread = TOP / "examples" / "bread"
     for words in (["netflow-why"], ["netflow-report"], ["netflow-sheet", "plan"]):
         found = run(*words, bread / "bread.mod", bread / "bread.dat", "--set", "van=x")
-        complaints.same(f"{words}: a wrong --set", (3, "", "E36 KindMismatch data\nin --set van=x\n"), found)
+        complaints.same(f"{words}: a wrong --set", (3, "", "E36 KindMismatch data\nin --set van=x\n"
+                        f"For a hint: netflow-explain {bread / 'bread.mod'} {bread / 'bread.dat'} --set van=x\n"), found)
     more = write(folder, "more.dat", "# two lines\nparam wants := hil 3;\n")
     check_rewritten(complaints, folder, bread)
-    complaints.same("an error in the second file", (3, "", f"E33 OutsideSet data 2:16 wants['hil']\nin {more}:2:16\n"),
+    complaints.same("an error in the second file", (3, "", f"E33 OutsideSet data 2:16 wants['hil']\nin {more}:2:16\n"
+                     f"For a hint: netflow-explain {bread / 'bread.mod'} {bread / 'bread.dat'} {more}\n"),
                     run("netflow-why", bread / "bread.mod", bread / "bread.dat", more))
     complaints.same("explain: a pipe", 3, run("netflow-explain", "solve", "/dev/stdin", "/dev/null", text="node ;\n")[0])
     complaints.same("explain: no words", 64, run("netflow-explain")[0])
+    check_streams(complaints, bread)
+
+
+def check_streams(complaints, bread):
+    """Standard input that is a file, and standard output that is full, closed, or a pipe without a reader."""
+    words = [sys.executable, str(COMPANIONS / "netflow-why")]
+    with open(bread / "bread.mod", encoding="utf-8") as model:
+        done = subprocess.run([*words, "-", bread / "bread.dat"], stdin=model, capture_output=True, encoding="utf-8")
+    complaints.want(done.returncode == 0 and "Total = 440" in done.stdout, f"a file as standard input: {done.returncode} {done.stderr!r}")
+    for name in ("netflow-why", "netflow-report", "netflow-sheet", "netflow-explain"):
+        kind = ["plan"] if name == "netflow-sheet" else []
+        call = " ".join(map(shlex.quote, [sys.executable, str(COMPANIONS / name), *kind, str(bread / "bread.mod"), str(bread / "bread.dat")]))
+        for end, status, said in ((">/dev/full", 4, True), (">&-", 4, True), ("| head -n 1", 0, False)):
+            done = subprocess.run(["sh", "-c", f"{call} {end}"], stdin=subprocess.DEVNULL, stdout=subprocess.DEVNULL, stderr=subprocess.PIPE, encoding="utf-8")
+            complaints.same(f"{name} {end}", (status, said, False), (done.returncode, bool(done.stderr), "Traceback" in done.stderr))

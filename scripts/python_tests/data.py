@@ -63,7 +63,7 @@ MISTAKES = (
     ({"van": "fifteen"}, netflow.ModelError, "E36 KindMismatch in the value of van", "van = 'fifteen'", "'fifteen' is a text, and van is a number"),
     ({"cost": {("north", "hill"): "x"}}, netflow.ModelError, "in key ('north', 'hill') of cost", "cost['north', 'hill'] = 'x'"),
     ({"wants": {"hil": 30}}, netflow.ModelError, "E33 OutsideSet wants['hil'] in key 'hil' of wants", "hil: is hill meant?"),
-    ({"wants": {"hill": -3}}, netflow.ModelError, "E34 Restriction", "the data name wants in key 'hill' of wants"),
+    ({"wants": {"hill": -3}}, netflow.ModelError, "E34 Restriction", "wants['hill'] is -3 in key 'hill' of wants; the model has >= 0"),
     ({"cost": [4, 3, 2]}, netflow.DataError, "param cost: 4 in the list has no key, and the model expects 2", "a dict by key, a list of tuples", "a list of dicts"),
     ({"wants": 5}, netflow.DataError, "param wants: 5 has no keys", "a list of dicts"),
     ({"wants": ["hill"]}, netflow.DataError, "param wants: 'hill' in the list has no key"),

@@ -37,7 +37,7 @@ def check_costs(complaints, pandas):
     rows = pandas.DataFrame([(*key, it) for key, it in COST.items()], columns=["from", "to", "cost"])
     series = rows.set_index(["from", "to"])["cost"]
     forms = (("a grid", grid), ("a grid of a file", pandas.read_csv(io.StringIO(GRID_FILE))), ("a grid of floats", grid.astype(float)), ("columns", rows),
-             ("columns in another order", rows[["cost", "from", "to"]]), ("chosen rows", pandas.concat([rows, rows])[:6]), ("an index", rows.set_index(["from", "to"])),
+             ("columns in another order", rows[["cost", "from", "to"]]), ("rows in another order", rows.sort_values("cost")), ("an index", rows.set_index(["from", "to"])),
              ("an index and a column", rows.set_index("from")), ("more columns", rows.assign(km=7)), ("a stacked grid", grid.stack()), ("a Series", series),
              ("a Series of objects", series.astype(object)), ("a Series with NA", series.astype("Int64")))
     for name, cost in forms:
@@ -52,7 +52,7 @@ def check_columns(complaints, pandas):
     named = rows.assign(van=[4, 5]).set_index("shop")
     for name, wants in (("columns", rows), ("an index", rows.set_index("shop")), ("an index with other columns", named), ("a Series", named["wants"]),
                         ("another title", rows.set_index("shop").rename(columns={"wants": "x"})), ("categories", rows.astype({"shop": "category"})),
-                        ("texts", rows.astype(str)), ("one row left", pandas.concat([rows, rows.assign(shop="mill", wants=None)]))):
+                        ("texts", rows.astype(str)), ("one row left", pandas.concat([rows, rows[:1].assign(shop="mill", wants=None)]))):
         complaints.same(f"pandas: wants by {name}", WANTS, read("wants", wants))
     for missing in (float("nan"), None, pandas.NA, pandas.NaT):
         complaints.same(f"pandas: {missing}", {("lake",): 3}, read("wants", pandas.Series({"hill": missing, "lake": 3}, dtype=object)))
