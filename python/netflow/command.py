@@ -13,11 +13,12 @@ from . import __version__
 from .data_text import TOKEN
 from .diagnostics import LINE, Diagnostic
 from .errors import DataError, ModelError, NetflowError, ProgramError, ScaleError, Unbounded, Unreadable
-from .exact import parse_numeral
+from .exact import Exact, parse_numeral
 from .model_text import Unparsed
 from .outputs import dump_lines, error_json
 from .program import INTERNAL, REJECTED, UNREADABLE_FILE, USAGE, Patience
 from .question import Input, Question
+from .texts import Network
 
 OTHER_VERSION = "the output of netflow does not have the documented form; is the program of another version?"
 
@@ -124,6 +125,15 @@ def scale_of(words: Sequence[str]) -> dict:
             raise ProgramError(USAGE, f"--scale {word}: expected NAME=FACTOR, a factor of 1 or more\n")
         found[name] = int(factor)
     return found
+
+
+def note_fractions(net: Network) -> None:
+    """Says on standard error why the flows of a plan are not whole, and how they become so."""
+    if net.cut is None and any(it.flow.denominator > 1 for it in net.arcs):
+        named = net.factors.in_flows
+        what = ", ".join(named) if named else "a bound or condition of the model"
+        sys.stderr.write(f"{os.path.basename(sys.argv[0])}: {what} {'have' if len(named) > 1 else 'has'} decimals, so flows are multiples of "
+                         f"{Exact(1, net.factors.flow)}; for whole flows use whole numbers there\n")
 
 
 def title_of(words: argparse.Namespace) -> str:

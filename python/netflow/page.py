@@ -7,8 +7,8 @@ from fractions import Fraction
 from html import escape
 
 from . import __version__
-from .draw import grouped
 from .changes import leaves_nothing, total, unserved
+from .draw import grouped
 from .style import PAGE_STYLE, SCRIPT
 
 HIDDEN_FROM = 5_000

@@ -9,7 +9,7 @@ from __future__ import annotations
 import re
 
 from .changes import choices, least_changes
-from .command import Words, print_error_json, question_of, run as run_tool, title_of
+from .command import Words, note_fractions, print_error_json, question_of, run as run_tool, title_of
 from .draw import draw, grouped
 from .errors import ProgramError
 from .grids import grid_html, roster_html
@@ -167,6 +167,7 @@ def main(words):
         if words.json:
             return print_json(question)
         report = Report(question, title_of(words), words.unit)
+        note_fractions(report.net)
         print(report.picture(True)[0] if words.svg else report.html(), end="\n" if words.svg else "")
         return report.answer.status
 

@@ -11,7 +11,7 @@ import re
 from typing import Any, Sequence
 
 from .changes import least_changes, leaves_nothing, total, unserved
-from .command import Words, print_error_json, question_of, run as run_tool
+from .command import Words, note_fractions, print_error_json, question_of, run as run_tool
 from .errors import ProgramError
 from .model_text import Unparsed, parse
 from .outputs import cut_json, dump_lines, plan_json
@@ -293,6 +293,7 @@ def main(words: Sequence[str]) -> int:
                     raise
                 question, refused = again, problem.status
                 continue
+            note_fractions(net)
             if parsed.json:
                 print_json(net)
             else:
