@@ -127,13 +127,21 @@ def scale_of(words: Sequence[str]) -> dict:
     return found
 
 
+def fractions_text(net: Network) -> str:
+    """Returns why the flows of a plan are not whole, and how they become so; an empty text if they are whole."""
+    if net.cut is not None or all(it.flow.denominator == 1 for it in net.arcs):
+        return ""
+    named = net.factors.in_flows
+    what = ", ".join(named) if named else "a bound or condition of the model"
+    unit = Exact(1, net.factors.flow)
+    return f"flows are multiples of {unit}, since {what} {'have' if len(named) > 1 else 'has'} decimals; for whole flows use whole numbers there"
+
+
 def note_fractions(net: Network) -> None:
-    """Says on standard error why the flows of a plan are not whole, and how they become so."""
-    if net.cut is None and any(it.flow.denominator > 1 for it in net.arcs):
-        named = net.factors.in_flows
-        what = ", ".join(named) if named else "a bound or condition of the model"
-        sys.stderr.write(f"{os.path.basename(sys.argv[0])}: {what} {'have' if len(named) > 1 else 'has'} decimals, so flows are multiples of "
-                         f"{Exact(1, net.factors.flow)}; for whole flows use whole numbers there\n")
+    """Prints on standard error why the flows of a plan are not whole."""
+    text = fractions_text(net)
+    if text:
+        sys.stderr.write(f"{os.path.basename(sys.argv[0])}: {text}\n")
 
 
 def title_of(words: argparse.Namespace) -> str:

@@ -9,7 +9,7 @@ from __future__ import annotations
 import re
 
 from .changes import choices, least_changes
-from .command import Words, note_fractions, print_error_json, question_of, run as run_tool, title_of
+from .command import Words, fractions_text, note_fractions, print_error_json, question_of, run as run_tool, title_of
 from .draw import draw, grouped
 from .errors import ProgramError
 from .grids import grid_html, roster_html
@@ -133,6 +133,8 @@ class Report:
                  ([name for name, arcs in declared if not any(it.price for it in arcs)], "has no price", "have no price"),
                  ([name for name, arcs in declared if self.has_plan and not any(it.flow for it in arcs)], "carries nothing", "carry nothing"))
         lines = [f"{', '.join(names[:6])}{' and others' * (len(names) > 6)} {one if len(names) == 1 else many}." for names, one, many in found if names]
+        fractions = fractions_text(net)
+        lines += [f"{fractions[:1].upper()}{fractions[1:]}."] if fractions else []
         return section("Worth a look", bullets(lines)) if lines else ""
 
     def tables(self):

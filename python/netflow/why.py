@@ -140,7 +140,7 @@ def bottleneck_lines(net: Network, gains: Gains, most: int) -> list:
 def arc_lines(net: Network, gains: Gains, most: int) -> list:
     count = len(gains.felt) + len(gains.free)
     if not count:
-        return ["", "No arc is at a bound. Arcs at their lower bound 0 are not counted."]
+        return ["", "No arc is full, and none is at a lower bound other than 0."]
     lines = ["", f"Arcs at a bound: {count} of {len(net.arcs)}. Arcs at their lower bound 0 are not counted."]
     title = f"  The first unit past it {better(net)}{'' if gains.is_exact else ', at most'}:"
     lines += [title, *rows([(amount, f"{it.text} {bound_text(it)}") for amount, it in gains.felt], most)] if gains.felt else []

@@ -175,7 +175,7 @@ arc X >= 0, <= 1, from Plant, to Hall; arc Y >= 2, <= 9, from Hall, to Shop;
 # Models with a plan, and what has to be said of the arcs at their bounds.
 PLANS = (
     ("no arc at a bound", """minimize C; node Shop: net_in = 5; arc X >= 0, <= 9, to Shop, obj C 1; arc Y >= 0, <= 9, to Shop, obj C 2;
-""", ("No arc is at a bound. Arcs at their lower bound 0 are not counted.",)),
+""", ("No arc is full, and none is at a lower bound other than 0.",)),
     ("two full arcs in a row", """minimize C; node Hall; node Shop: net_in = 7;
 arc X >= 0, <= 5, to Hall; arc Z >= 0, <= 5, from Hall, to Shop, obj C 1; arc Y >= 0, <= 9, to Shop, obj C 3;
 """, ("Arcs at a bound: 2 of 3. Arcs at their lower bound 0 are not counted.", "More room saves nothing at: ")),

@@ -144,7 +144,7 @@ def check_scenarios(complaints, folder):
     complaints.same("scenarios: cases with an error", (3, [("error", "E36 Ki"), ("error", "hass: "), ("error", "E33 Ou"), ("optimal", ""), ("error", "E36 Ki")], ""),
                     (status, found, said))
     half = run("netflow-sheet", "plan", *words, "--set", f"has={has}.5", "--used")
-    complaints.want(half[0] == 0 and (".5" in half[1]) == half[2].startswith("netflow-sheet: has has decimals, so flows are multiples of 0.1;"),
+    complaints.want(half[0] == 0 and (".5" in half[1]) == half[2].startswith("netflow-sheet: flows are multiples of 0.1, since has has decimals;"),
                     f"sheet: a stock with decimals: {half[2]!r}")
     first = base.arcs[0]
     case = f"cost[{','.join(netflow_texts.shown(it) for it in first.key)}]={first.price + 50}"
