@@ -18,7 +18,7 @@ from .page import Arcs, bullets, changes_html, page, places_html, reason_html, s
 from .reasons import reasons
 from .sensitivity import Marginal
 from .tables import no_plan
-from .words import first_comment, headings
+from .words import compared_texts, first_comment, headings
 from .why import Gains, better, bottleneck
 
 DRAWN, ALL_DRAWN, SHOWN, SETS = 400, 60, 20, 5
@@ -34,6 +34,7 @@ class Report:
         self.answer, self.net = question.network(with_prices=True)
         model = question.model.text()
         self.files, self.model, self.reasons = files, model, []
+        self.odd = compared_texts(model, [it.text() for it in question.data])
         self.title, self.unit = first_comment(model) or files, unit or objective_unit(model, self.net.objective)
         self.has_plan = self.net.cut is None
         self.marginal = Marginal(self.net) if self.has_plan else None
@@ -135,6 +136,7 @@ class Report:
         lines = [f"{', '.join(names[:6])}{' and others' * (len(names) > 6)} {one if len(names) == 1 else many}." for names, one, many in found if names]
         fractions = fractions_text(net)
         lines += [f"{fractions[:1].upper()}{fractions[1:]}."] if fractions else []
+        lines += self.odd
         return section("Worth a look", bullets(lines)) if lines else ""
 
     def tables(self):

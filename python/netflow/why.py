@@ -19,6 +19,7 @@ from .question import Input, Question
 from .reasons import reasons
 from .sensitivity import Marginal, arc_change
 from .texts import Network
+from .words import compared_texts
 
 SHOWN, SETS = 20, 3
 # Up to how many steps exact changes are computed: arcs of the network times listed arcs, or pairs of places.
@@ -297,7 +298,8 @@ def main(words: Sequence[str]) -> int:
             if parsed.json:
                 print_json(net)
             else:
-                print("\n".join(answer_lines(net, 10**9 if parsed.all else SHOWN)))
+                odd = compared_texts(question.model.text(), [it.text() for it in question.data])
+                print("\n".join([*answer_lines(net, 10**9 if parsed.all else SHOWN), *(["", *odd] if odd else [])]))
             return refused or answer.status
 
 

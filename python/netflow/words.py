@@ -99,6 +99,18 @@ def headings(text, name, count):
     return titles if len(titles) == count and all(titles) and len(set(titles)) == count else [f"key {it + 1}" for it in range(count)]
 
 
+def compared_texts(model, data):
+    """Returns what a reader may miss: a numeral in quotes that the model compares with something, and that no data text has in quotes.
+    It equals no number, and netflow takes it as it is."""
+    known = {it.text for text in data for it in tokens(text)}
+    found, before = [], ""
+    for it in tokens(model):
+        if before in ("=", ">") and re.fullmatch(r"(['\"])-?\d+\1", it.text) and it.text not in known:
+            found.append(f"{it.text} in line {it.row} of the model is a text, which equals no number: is {it.bare()} meant?")
+        before = it.text
+    return found
+
+
 COMMENT = re.compile(r"\s*(?:#+[ \t]*(?P<line>[^\n]*)|/\*+\s*(?P<block>.*?)\s*\**\*/)", re.S)
 
 

@@ -134,6 +134,18 @@ def check_refusals(complaints, folder):
     complaints.same("explain: a pipe", 3, run("netflow-explain", "solve", "/dev/stdin", "/dev/null", text="node ;\n")[0])
     complaints.same("explain: no words", 64, run("netflow-explain")[0])
     check_streams(complaints, bread)
+    check_compared(complaints, folder)
+
+
+def check_compared(complaints, folder):
+    """A numeral in quotes that is compared is named if no data text has it, and is no error."""
+    model = "set S; minimize C; node A {i in S}: net_in = 1; arc X {i in S: i <> '1'} >= 0, <= 9, to A[i], obj C 1; arc Y {i in S} >= 0, <= 9, to A[i], obj C 2;\n"
+    path = write(folder, "q.mod", model)
+    for data, is_odd in (("set S := 1 2;\n", True), ("set S := '1' 2;\n", False)):
+        words = [path, write(folder, "q.dat", data)]
+        for name in ("netflow-why", "netflow-report"):
+            status, out, _ = run(name, *words)
+            complaints.same(f"{name}: '1' with {data!r}", (0, is_odd), (status, "is a text, which equals no number: is 1 meant?" in out))
 
 
 def check_streams(complaints, bread):
