@@ -24,10 +24,10 @@ PLACE = re.compile(r"(E\d\d \w+ (model|data)) (\d+):(\d+)(.*)", re.S)
 
 
 class Input:
-    """A model or data text: a file, or a text in memory."""
+    """A model or data text: a file, or a text in memory. `name` is what the user calls it; `path` can be a copy of a pipe."""
 
     def __init__(self, path: str | None = None, text: str | None = None) -> None:
-        self.path, self.given = path, text
+        self.path, self.name, self.given = path, path, text
 
     def text(self) -> str:
         return self.given if self.given is not None else read(self.path)
@@ -92,7 +92,7 @@ class Question:
         if not above or it is None or found is None or found[2] == "model":
             raise problem
         row, rest = int(found[3]), f"{found[4]}{found[5].rstrip()}"
-        raise ProgramError(problem.status, f"{found[1]} {row}:{rest}\nin {it.path or 'the text'}:{row}:{found[4]}\n", f"{found[1]} {row + above}:{rest}\n")
+        raise ProgramError(problem.status, f"{found[1]} {row}:{rest}\nin {it.name or 'the text'}:{row}:{found[4]}\n", f"{found[1]} {row + above}:{rest}\n")
 
     def require_files(self) -> None:
         """Raises the error of the program for the first file that cannot be read."""
@@ -158,15 +158,15 @@ class Question:
         return ProgramError(problem.status, f"{found[1]} {place}:{column}{found[5].rstrip()}\nin {path or 'the text'}:{place}:{column}\n", line)
 
     def source_of(self, row: int) -> tuple:
-        """Returns the path of a line of the joined data with the line in that file; (None, 0) for a change."""
+        """Returns the name of the file of a line of the joined data with the line in that file; (None, 0) for a change."""
         if self.change_at(row):
             return None, 0
         for part in self.data[:-1]:
             lines = part.text().count("\n") + 1
             if row <= lines:
-                return part.path, row
+                return part.name, row
             row -= lines
-        return (self.data[-1].path if self.data else None), row
+        return (self.data[-1].name if self.data else None), row
 
     def rows_of_data(self) -> int:
         return sum(it.text().count("\n") + 1 for it in self.data)

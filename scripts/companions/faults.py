@@ -132,6 +132,10 @@ def check_refusals(complaints, folder):
                      f"For a hint: netflow-explain {bread / 'bread.mod'} {bread / 'bread.dat'} {more}\n"),
                     run("netflow-why", bread / "bread.mod", bread / "bread.dat", more))
     complaints.same("explain: a pipe", 3, run("netflow-explain", "solve", "/dev/stdin", "/dev/null", text="node ;\n")[0])
+    for words in (["-"], ["/dev/stdin", "/dev/null"], ["solve", "-", "/dev/null"]):
+        place = "-" if "-" in words else "/dev/stdin"
+        told = run("netflow-explain", *words, text="node ;\n")[2]
+        complaints.want(f"\n{place}:1:6: " in told, f"explain {words}: a pipe has another name in {told!r}")
     complaints.same("explain: no words", 64, run("netflow-explain")[0])
     check_streams(complaints, bread)
     check_compared(complaints, folder)
