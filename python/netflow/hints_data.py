@@ -228,7 +228,9 @@ def changed_kind(it: Any) -> Hint:
     """A change whose value is a text for a number, or the other way round."""
     if it.is_change():
         name, _, value = it.question.value_at(it.row)
-        if isinstance(value, str):
+        if isinstance(value, str) and re.fullmatch(r"[+-]?\d+,\d+", value):
+            yield f"{value}: is {value.replace(',', '.')} meant? Decimals have a point", True
+        elif isinstance(value, str):
             yield f"{value!r} is a text, and {name} is a number: give a number, or declare {name} symbolic", True
         elif value is not None:
             yield f"{name} is symbolic: give a text, not a number", True

@@ -8,8 +8,10 @@ import re
 from typing import Any
 
 from .command import question_of
+from .diagnostics import Diagnostic
 from .errors import DataError, ProgramError, ScaleError, Unbounded
 from .program import REJECTED, USAGE
+from .question import Question
 from .reasons import reasons
 from .texts import Network
 
@@ -60,15 +62,22 @@ def scenarios(words: argparse.Namespace, out: Any) -> int:
     status = 0
     for case in cases:
         try:
-            row = case_cells(base, answer_of(words, case))
+            with question_of(words, case) as question:
+                row = case_cells(base, question.network()[1])
         except ProgramError as problem:
             if problem.status != REJECTED:
                 raise
-            row, status = ["error", "", "", "", problem.message.split("\n")[0]], REJECTED
+            row, status = ["error", "", "", "", error_text(problem, question)], REJECTED
         except (ScaleError, DataError, Unbounded) as problem:
             row, status = ["error", "", "", "", str(problem)], REJECTED
         out.writerow([" ".join(case), *row])
     return status
+
+
+def error_text(problem: ProgramError, question: Question) -> str:
+    """Returns the error line of a case, with a hint if there is one that is sure."""
+    found, line = Diagnostic.of_question(problem, question), problem.message.split("\n")[0]
+    return f"{line}: {found.hints()[0]}" if found is not None and found.has_sure_hint() else line
 
 
 def without_plan(net: Network) -> list:

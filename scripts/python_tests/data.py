@@ -61,6 +61,7 @@ def check_keys(complaints):
 # Data from Python that are wrong, with the exception and what it has to say; nothing else is said of a line or of a second file.
 MISTAKES = (
     ({"van": "fifteen"}, netflow.ModelError, "E36 KindMismatch in the value of van", "van = 'fifteen'", "'fifteen' is a text, and van is a number"),
+    ({"van": "40,5"}, netflow.ModelError, "E36 KindMismatch in the value of van", "40,5: is 40.5 meant? Decimals have a point"),
     ({"cost": {("north", "hill"): "x"}}, netflow.ModelError, "in key ('north', 'hill') of cost", "cost['north', 'hill'] = 'x'"),
     ({"wants": {"hil": 30}}, netflow.ModelError, "E33 OutsideSet wants['hil'] in key 'hil' of wants", "hil: is hill meant?"),
     ({"wants": {"hill": -3}}, netflow.ModelError, "E34 Restriction", "wants['hill'] is -3 in key 'hill' of wants; the model has >= 0"),
