@@ -249,10 +249,14 @@ def large_number(it: Any) -> Hint:
     yield "if it means no limit, write a number that no plan reaches, such as the sum of all supplies", False
 
 
-def fraction(it: Any) -> Hint:
-    word = it.word().rstrip(",;")
+def gain(it: Any) -> Hint:
+    """A number after an end of an arc."""
     if it.text == "model" and re.search(r"\b(?:from|to)\s+\w+(?:\[[^\]]*\])?\s*$", it.before):
         yield "a number after an end of an arc is a gain, and no network has gains: what leaves one end arrives at the other", True
+
+
+def fraction(it: Any) -> Hint:
+    word = it.word().rstrip(",;")
     if it.text == "data" and re.fullmatch(r"[0-9]{1,3}(\.[0-9]{3})+", word):
         yield f"{word}: is {word.replace('.', '')} meant? A point begins decimals", False
     if it.question is None:
@@ -358,6 +362,7 @@ HINTS: tuple = (
     (("E36",), changed_kind),
     (("E36",), almost_number),
     (("E05",), large_number),
+    (("E04", "E15"), gain),
     (("E04",), fraction),
     (("E33", "E50"), unknown_member),
     (("E12",), late),
