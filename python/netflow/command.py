@@ -4,19 +4,21 @@ from __future__ import annotations
 import argparse
 import gc
 import os
+import shlex
 import signal
 import sys
 from typing import Any, Callable, Sequence
 
 from . import __version__
 from .data_text import TOKEN
-from .diagnostics import Diagnostic
+from .diagnostics import LINE, Diagnostic
 from .errors import DataError, ModelError, NetflowError, ProgramError, ScaleError, Unbounded, Unreadable
-from .exact import parse_numeral
+from .exact import Exact, parse_numeral
 from .model_text import Unparsed
 from .outputs import dump_lines, error_json
 from .program import INTERNAL, REJECTED, UNREADABLE_FILE, USAGE, Patience
 from .question import Input, Question
+from .texts import Network
 
 OTHER_VERSION = "the output of netflow does not have the documented form; is the program of another version?"
 
@@ -39,7 +41,7 @@ class Words(argparse.ArgumentParser):
     def question(self) -> "Words":
         """Adds the files and options of a model with its data."""
         self.add_argument("model", metavar="MODEL")
-        self.add_argument("data", metavar="DATA", nargs="*", help="data files; later ones override earlier ones (none: no data)")
+        self.add_argument("data", metavar="DATA", nargs="*", default=[], help="data files; later ones override earlier ones (none: no data)")
         self.add_argument("--objective", metavar="NAME", help="the objective, if the model has several")
         self.add_argument("--set", metavar="NAME=VALUE", action="append", default=[], dest="changes",
                           help="change a value: van=45, or cost[north,hill]=5")
@@ -52,8 +54,20 @@ def question_of(words: argparse.Namespace, extra: Sequence[str] = ()) -> Questio
     """Returns the question of parsed words."""
     data = [Input(it) for it in words.data]
     origins = {**origins_of(words.changes, "--set"), **origins_of(extra, "the case")}
-    return Question(Input(words.model), data, objective=words.objective, changes=changes_of([*words.changes, *extra]), scale=scale_of(words.scale),
-                    add_bounds=words.bounds, origins=origins)
+    question = Question(Input(words.model), data, objective=words.objective, changes=changes_of([*words.changes, *extra]),
+                        scale=scale_of(words.scale), add_bounds=words.bounds, origins=origins)
+    question.words = given_words(words, extra)
+    return question
+
+
+def given_words(words: argparse.Namespace, extra: Sequence[str]) -> list:
+    """Returns the files and options of a question as words; none if a file is a pipe, which can be read only once."""
+    files = [words.model, *words.data]
+    if any(it == "-" or os.path.exists(it) and not os.path.isfile(it) and os.path.realpath(it) != os.devnull for it in files):
+        return []
+    options = [["--set", it] for it in (*words.changes, *extra)] + [["--scale", it] for it in words.scale]
+    options += [["--objective", words.objective]] if words.objective else []
+    return [*files, *(it for pair in options for it in pair), *(["--bounds"] if words.bounds else [])]
 
 
 def changes_of(words: Sequence[str]) -> dict:
@@ -113,6 +127,23 @@ def scale_of(words: Sequence[str]) -> dict:
     return found
 
 
+def fractions_text(net: Network) -> str:
+    """Returns why the flows of a plan are not whole, and how they become so; an empty text if they are whole."""
+    if net.cut is not None or all(it.flow.denominator == 1 for it in net.arcs):
+        return ""
+    named = net.factors.in_flows
+    what = ", ".join(named) if named else "a bound or condition of the model"
+    unit = Exact(1, net.factors.flow)
+    return f"flows are multiples of {unit}, since {what} {'have' if len(named) > 1 else 'has'} decimals; for whole flows use whole numbers there"
+
+
+def note_fractions(net: Network) -> None:
+    """Prints on standard error why the flows of a plan are not whole."""
+    text = fractions_text(net)
+    if text:
+        sys.stderr.write(f"{os.path.basename(sys.argv[0])}: {text}\n")
+
+
 def title_of(words: argparse.Namespace) -> str:
     names = [os.path.basename(it) for it in words.data if it != os.devnull]
     return f"{os.path.basename(words.model)}{' with ' if names else ''}{', '.join(names)}"
@@ -157,6 +188,8 @@ def ended(main: Callable[[Sequence[str]], int], words: Sequence[str], name: str)
         return end.code if isinstance(end.code, int) else 0
     except ProgramError as problem:
         sys.stderr.write(problem.message if problem.message.endswith("\n") else f"{problem.message}\n")
+        if problem.words and LINE.match(problem.message):
+            sys.stderr.write(f"For a hint: netflow-explain {shlex.join(problem.words)}\n")
         return problem.status
     except Unreadable as problem:
         sys.stderr.write(f"{name}: {OTHER_VERSION} {problem}\n")

@@ -17,6 +17,8 @@ TOKEN = re.compile(
     r"|(?P<mark>:=|[;:,()\[\]*])|(?P<word>[\w.+\-\u00b7]+)", re.S)
 # A name that needs no quotes in a data text: no number, and none of the words that begin or end statements.
 PLAIN_NAME = re.compile(r"(?!(?:set|param|data|end|default)\Z)[A-Za-z_]\w*", re.A)
+# A text that is a number as a member: one that is written back as it is, so that `01067` and `+5` stay texts; not past 10^12.
+KEY_NUMBER = re.compile(r"-?[1-9][0-9]{0,11}|0")
 
 
 @dataclasses.dataclass
@@ -82,10 +84,11 @@ def tokens_of(text: str) -> list:
 
 
 class DataText:
-    """The statements of a data text. `keys` and `sets` give the number of key parts of parameters and of set members."""
+    """The statements of a data text. `keys` and `sets` give the number of key parts of parameters and of set members; in joined texts
+    `data;` and `end;` can be anywhere."""
 
-    def __init__(self, text: str, keys: dict, sets: dict) -> None:
-        self.text, self.keys, self.sets = text, keys, sets
+    def __init__(self, text: str, keys: dict, sets: dict, is_joined: bool = False) -> None:
+        self.text, self.keys, self.sets, self.is_joined = text, keys, sets, is_joined
         self.statements: list = []
         self.frame: list = []
         self.read([it for it in tokens_of(text) if it.text != "," or it.kind != "mark"])
@@ -99,6 +102,8 @@ class DataText:
                 raise Unparsed(len(self.text))
             words = tokens[at:stop]
             if [it.text for it in words] in (["data"], ["end"]):
+                if not self.is_joined and (at if words[0].text == "data" else stop + 1 < len(tokens)):
+                    raise Unparsed(words[0].start)
                 self.frame += [*words, tokens[stop]]
             else:
                 self.statements.append(self.statement(words, tokens[stop]))

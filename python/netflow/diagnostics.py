@@ -47,8 +47,8 @@ class Diagnostic:
             return None
         data = question.data or []
         texts = {"model": question.model.text(), "data": "\n".join([*(it.text() for it in data), question.changed_text])}
-        names = [question.model.path, data[0].path if data else None]
-        made = cls(line, "solve", names, names, texts)
+        paths, names = ([getattr(question.model, kind), getattr(data[0], kind) if data else None] for kind in ("path", "name"))
+        made = cls(line, "solve", paths, names, texts)
         made.question = question
         if unread:
             made.path = made.called = unread[2]

@@ -9,12 +9,14 @@ class NetflowError(Exception):
 
 
 class ProgramError(NetflowError):
-    """The program could not be run, or ended without an answer. `line` is the error line with its place in the joined data."""
+    """The program could not be run, or ended without an answer. `line` is the error line with its place in the joined data; `words`
+    are the words of the command that asked, if they can be given again."""
 
     def __init__(self, status: int, message: str, line: str | None = None) -> None:
         super().__init__(message.rstrip("\n"))
         self.status, self.message = status, message
         self.line = line if line is not None else message
+        self.words: list = []
 
 
 class Unreadable(NetflowError):
@@ -22,11 +24,12 @@ class Unreadable(NetflowError):
 
 
 class ScaleError(NetflowError):
-    """Decimals that cannot be scaled to whole numbers: `parameter` and `factor` are the parameter and its factor, None if unknown."""
+    """Decimals that cannot be scaled to whole numbers: `parameter` and `factor` are the parameter and its factor, None if unknown;
+    `is_numeral` if it is a numeral of the model, which the program reports by its position."""
 
-    def __init__(self, message: str, parameter: str | None = None, factor: int | None = None) -> None:
+    def __init__(self, message: str, parameter: str | None = None, factor: int | None = None, is_numeral: bool = False) -> None:
         super().__init__(message)
-        self.parameter, self.factor = parameter, factor
+        self.parameter, self.factor, self.is_numeral = parameter, factor, is_numeral
 
 
 class DataError(NetflowError, ValueError):

@@ -1,11 +1,12 @@
-"""usage: netflow-explain [COMMAND] FILE.. [OPTION..] [--json] [--set NAME=VALUE] [--scale NAME=FACTOR] [--bounds]
+"""usage: netflow-explain MODEL [DATA ..] [--objective NAME] [--json] [--set NAME=VALUE] [--scale NAME=FACTOR] [--bounds]
+       netflow-explain COMMAND FILE.. [OPTION..] [--json]
 
-Runs netflow with these words (without COMMAND: solve). Passes on its output and exit status. If it rejects an input, its line is
-followed by the place as editors take it, PATH:LINE:COLUMN, the line of the input with a mark under the place, what the error means,
-and a hint what was probably meant, or how to fix it. With --json the error is a JSON object on standard output.
+Solves a model, with its decimals scaled, as the other tools do. If an input is rejected, the error line is followed by the place as
+editors take it, PATH:LINE:COLUMN, the line of the input with a mark under the place, what the error means, and a hint what was
+probably meant, or how to fix it. With --json the error is a JSON object on standard output.
 
-With several data files, --set, --scale or --bounds the model and its data are rewritten as by the other tools, and decimals are
-scaled. Without them netflow gets the files as they are, and rejects decimals (E04).
+With a COMMAND (solve, compile, min, check, ..) netflow runs with these words. Its output and exit status are passed on, and its
+error is explained. It rejects decimals (E04) unless there are several data files, --set, --scale or --bounds.
 """
 from __future__ import annotations
 
@@ -148,10 +149,11 @@ def main(words: Sequence[str]) -> int:
     if words[0] == "--version":
         print(f"netflow-explain {__version__}")
         return 0
-    asked = [it for it in words if it != "--json"]
-    if asked[0] not in TEXTS and asked[0] not in ("help", "-V") and not asked[0].startswith("--"):
+    asked, is_rewritten = [it for it in words if it != "--json"], False
+    if not asked or asked[0] not in TEXTS and asked[0] not in ("help", "-V"):
         asked.insert(0, "solve")
-    return (explain_rewritten if is_rewriting(asked) else explain)(asked, "--json" in words)
+        is_rewritten = True
+    return (explain_rewritten if is_rewritten or is_rewriting(asked) else explain)(asked, "--json" in words)
 
 
 def command() -> None:

@@ -269,7 +269,7 @@ HINTS: tuple = (
     (("E01",), odd_character),
     (("E06",), not_utf8),
     (("E30", "E56"), empty_model),
-    (("E10", "E14"), exchanged),
+    (("E01", "E10", "E14"), exchanged),
     (("E10", "E14", "E04"), dots),
     (("E10", "E14", "E12"), bare_text),
     (("E10", "E14", "E16", "E12"), condition_word),

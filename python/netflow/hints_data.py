@@ -228,7 +228,9 @@ def changed_kind(it: Any) -> Hint:
     """A change whose value is a text for a number, or the other way round."""
     if it.is_change():
         name, _, value = it.question.value_at(it.row)
-        if isinstance(value, str):
+        if isinstance(value, str) and re.fullmatch(r"[+-]?\d+,\d+", value):
+            yield f"{value}: is {value.replace(',', '.')} meant? Decimals have a point", True
+        elif isinstance(value, str):
             yield f"{value!r} is a text, and {name} is a number: give a number, or declare {name} symbolic", True
         elif value is not None:
             yield f"{name} is symbolic: give a text, not a number", True
@@ -247,13 +249,20 @@ def large_number(it: Any) -> Hint:
     yield "if it means no limit, write a number that no plan reaches, such as the sum of all supplies", False
 
 
-def fraction(it: Any) -> Hint:
-    word = it.word().rstrip(",;")
+def gain(it: Any) -> Hint:
+    """A number after an end of an arc."""
     if it.text == "model" and re.search(r"\b(?:from|to)\s+\w+(?:\[[^\]]*\])?\s*$", it.before):
         yield "a number after an end of an arc is a gain, and no network has gains: what leaves one end arrives at the other", True
+
+
+def fraction(it: Any) -> Hint:
+    word = it.word().rstrip(",;")
     if it.text == "data" and re.fullmatch(r"[0-9]{1,3}(\.[0-9]{3})+", word):
         yield f"{word}: is {word.replace('.', '')} meant? A point begins decimals", False
-    yield "the tools and Python scale decimals by themselves: netflow-sheet plan, netflow-why, netflow-report", False
+    if it.question is None:
+        yield "the tools and Python take decimals: netflow-sheet plan MODEL DATA --grid", False
+    elif it.text == "data" and not it.is_change():
+        yield f"decimals are scaled in values; a member or a key with a point needs quotes: '{word}'", False
 
 
 def comma_in_number(it: Any) -> Hint:
@@ -279,10 +288,9 @@ def speaking(it: Any) -> Hint:
             rows.setdefault(token.row, set()).add(token.bare())
     whole = [row for row, words in rows.items() if members and members <= words]
     whole = [row for row in whole if it.question is not None and it.question.change_at(row)] or whole
-    some = [row for row, words in rows.items() if members & words]
+    some = sorted((row for row, words in rows.items() if members & words), key=lambda row: -len(members & rows[row]))
     if rows:
-        said = dict.fromkeys(whole[:3] or [first, *some[:3]])
-        yield f"the data name {name} in {it.rows_text(list(said))}", False
+        yield f"see {name} in {it.rows_text((whole or some or [first])[:3])}{'' if it.question is not None and it.question.change_at(first) else ' of the data'}", False
 
 
 def no_data(it: Any) -> Hint:
@@ -354,6 +362,7 @@ HINTS: tuple = (
     (("E36",), changed_kind),
     (("E36",), almost_number),
     (("E05",), large_number),
+    (("E04", "E15"), gain),
     (("E04",), fraction),
     (("E33", "E50"), unknown_member),
     (("E12",), late),

@@ -93,8 +93,23 @@ def strict_bound(it: Any) -> Hint:
 def colon_in_arc(it: Any) -> Hint:
     words = statement_words(it)
     before = [token.text for token in it.statement_before()]
-    if it.text == "model" and words[:1] == ["arc"] and it.at().startswith(":") and before.count("{") == before.count("}"):
+    if it.text == "model" and before[-2:-1] == ["obj"] and it.at().startswith(":"):
+        yield "an obj phrase has no : after the objective", True
+    elif it.text == "model" and words[:1] == ["arc"] and it.at().startswith(":") and before.count("{") == before.count("}"):
         yield "an arc has no : after its index; its phrases have commas between them: >= 0, <= room, from A[i], to B[j]", True
+
+
+def slices(it: Any) -> Hint:
+    """`[*,paint,*]` in data."""
+    if it.text == "data" and it.at().startswith("["):
+        yield "data have no slices: write each row with all its keys, as in param demand := Bern paint 1 15  Bern paint 2 18;", True
+
+
+def many_keys(it: Any) -> Hint:
+    """Braces with more than four members."""
+    count = it.at().partition("}")[0].count(",") + 1
+    if it.text == "model" and it.at().startswith("{") and count > 4 and not {"(", ":"} & set(it.at().partition("}")[0]):
+        yield "a key has at most four members: join two sets into one set of names, or use one model for each member", True
 
 
 def net_outside_node(it: Any) -> Hint:
@@ -198,4 +213,6 @@ HINTS: tuple = (
     (("E12",), wrong_kind),
     (("E12",), unknown_index),
     (("E37",), subscripts),
+    (("E37",), many_keys),
+    (("E20",), slices),
 )

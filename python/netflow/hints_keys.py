@@ -25,7 +25,7 @@ class Sets:
         self.members: dict = {}
         self.values: dict = {}
         params = {decl.name: self.shapes.keys[decl.name] for decl in decls if decl.kind == "param"}
-        for statement in DataText(it.texts.get("data", ""), params, self.shapes.sets).statements:
+        for statement in DataText(it.texts.get("data", ""), params, self.shapes.sets, True).statements:
             name = statement.name if statement.kind == "set" else statement.set_name
             if name:
                 self.members[name] = statement.members
@@ -138,7 +138,8 @@ def outside_one(it: Any, member: Any, title: str, texts: list, members: set) -> 
     """A member that is not in its set."""
     is_sure = it.number != "E50"
     if isinstance(member, str) and re.fullmatch(r"-?\d+", member) and (int(member),) in members:
-        yield f"'{member}' is a text; write a number without quotes: {member}", True
+        is_python = it.is_change() and not it.question.origins
+        yield f"'{member}' is a text; the number is in {title}: {f'use int({member!r})' if is_python else f'write it without quotes, {member}'}", True
         return
     found = near(member, texts)
     words = [token.bare() for token in tokens(it.texts.get("data", ""))]

@@ -9,7 +9,7 @@ from typing import Any, Iterator
 from .data_text import DataText
 from .errors import Unreadable
 from .model_text import Shapes, Unparsed, parse
-from .texts import members
+from .texts import members, shown
 from .words import tokens
 
 Hint = Iterator[tuple]
@@ -68,37 +68,73 @@ def missing_mark(it: Any) -> Hint:
 
 
 def cells_of(it: Any) -> list:
-    """Returns the data's cells, each with its row; none if the texts cannot be parsed."""
+    """Returns the data's cells, also those with a missing-value dot, each with its row; none if the texts cannot be parsed."""
     try:
         shapes = Shapes(parse(it.texts.get("model", "")))
         params = {decl.name: shapes.keys[decl.name] for decl in shapes.decls.values() if decl.kind == "param"}
         text = it.texts.get("data", "")
-        found = DataText(text, params, shapes.sets)
+        found = DataText(text, params, shapes.sets, is_joined=True)
     except (Unparsed, ValueError, IndexError):
         return []
     rows, row, last = [], 1, 0
-    for cell in sorted(found.cells(), key=lambda cell: cell.token.start):
+    for cell in sorted((cell for statement in found.statements for cell in statement.cells), key=lambda cell: cell.token.start):
         row, last = row + text.count("\n", last, cell.token.start), cell.token.start
         rows.append((cell, row))
     return rows
 
 
-def named_cells(it: Any) -> list:
-    """Returns the cells that the error's detail names."""
+def is_dot(cell: Any) -> bool:
+    return cell.token.text == "." and cell.token.kind == "word"
+
+
+def named_cells(it: Any, dots: bool = False) -> list:
+    """Returns the cells that the error's detail names: those with a value, or those with a missing-value dot."""
     name, bracket, rest = it.detail.partition("[")
     key = members(rest[:-1]) if bracket else []
-    return [(cell, row) for cell, row in cells_of(it) if key is not None and cell.name == name and list(cell.key) == list(key)]
+    return [(cell, row) for cell, row in cells_of(it) if key is not None and cell.name == name and list(cell.key) == list(key) and is_dot(cell) == dots]
+
+
+def cell_place(it: Any, cell: Any, row: int) -> str:
+    """Returns the line and the column of a cell in words."""
+    text = it.texts["data"]
+    before = text[text.rfind("\n", 0, cell.token.start) + 1:cell.token.start]
+    return f"{it.rows_text([row])}, column {len(before.encode('utf-8', 'surrogateescape')) + 1}"
 
 
 def restricted(it: Any) -> Hint:
     """The value that a restriction rejects."""
     found = named_cells(it)
-    if it.text == "model" and found and not any(it.question is not None and it.question.change_at(row) for _, row in found):
+    if it.text == "model" and found:
         cell, row = found[-1]
+        change = it.question.change_at(row) if it.question is not None else ""
+        value, place = (it.question.value_at(row)[2], change) if change else (cell.token.text, cell_place(it, cell, row))
         phrase = re.match(r"[^,;]*", it.at())
         sign = re.search(r"(<=|>=|<>|!=|<|>|\bin|\bwithin)\s*$", it.before)
-        said = f", and the model has {sign[1]} {phrase[0].strip()}" if sign and phrase else ""
-        yield f"{it.detail} is {cell.token.text} in {it.rows_text([row])}{said}", True
+        said = f"; the model has {sign[1]} {phrase[0].strip()}" if sign and phrase else ""
+        yield f"{it.detail} is {value} in {place}{said}", True
+
+
+def missing_value(it: Any) -> Hint:
+    """The dot of a value that is missing, or the values with the nearest keys."""
+    name, bracket, rest = it.detail.partition("[")
+    key = members(rest[:-1]) if bracket else None
+    if it.text != "model" or not key:
+        return
+    dots = named_cells(it, dots=True)
+    if dots:
+        yield f"{it.detail} is a missing-value dot in {cell_place(it, *dots[-1])}", True
+        return
+    near = [(nearness(cell.key, key), cell, row) for cell, row in cells_of(it) if cell.name == name and len(cell.key) == len(key) and not is_dot(cell)]
+    best = max((found for found, _, _ in near), default=(0, 0))
+    listed = [f"{name}[{','.join(map(shown, cell.key))}] in {it.rows_text([row])}" for found, cell, row in near if found == best][:3]
+    if near:
+        yield f"the data have no row of {it.detail}; {'the nearest: ' + ', '.join(listed) if best[0] else f'{name} is in {it.rows_text([near[0][2]])}'}", True
+
+
+def nearness(key: tuple, wanted: list) -> tuple:
+    """Returns how many parts two keys have in common, and how many of the first ones."""
+    same = [one == other for one, other in zip(key, wanted)]
+    return sum(same), same.index(False) if False in same else len(same)
 
 
 def given_twice(it: Any) -> Hint:
@@ -171,5 +207,6 @@ HINTS: tuple = (
     (("E34",), restricted),
     (("E31",), given_twice),
     (("E32",), no_value),
+    (("E32",), missing_value),
     (("E33",), missing_in_set),
 )

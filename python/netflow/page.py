@@ -7,9 +7,10 @@ from fractions import Fraction
 from html import escape
 
 from . import __version__
+from .changes import leaves_nothing, total, unserved
 from .draw import grouped
-from .reasons import leaves_nothing, total, unserved
 from .style import PAGE_STYLE, SCRIPT
+from .why import Place, better
 
 HIDDEN_FROM = 5_000
 # From this many rows on a table has a line to find some of them; it has at most so many totals.
@@ -125,20 +126,22 @@ class Arcs:
 
 
 def places_html(net, marginal=None):
-    """Returns the table of the places: inflow, outflow, and what one more required unit costs."""
+    """Returns the table of the places: inflow, outflow, and what one more unit that they need or give costs, as netflow-why says."""
     came, went = [0] * len(net.nodes), [0] * len(net.nodes)
     for arc in net.arcs:
         for counts, number, is_forward in ((came, arc.dst, arc.flow > 0), (went, arc.src, arc.flow > 0)):
             if number is not None:
                 (counts if is_forward else went if counts is came else came)[number] += abs(arc.flow)
-    more = marginal.more if marginal else [None] * len(net.nodes)
-    has_worth = any(more)
+    places = [Place(net, marginal, number) for number in range(len(net.nodes))] if marginal else []
+    worths = [it.cost if it.is_felt() else "" if it.cost is None else 0 for it in places]
+    has_worth = any(worths)
     head = [("place", ""), ("needs or gives", ""), ("inflow", "number flow"), ("outflow", "number flow")]
-    head += [(f"one more needed unit {'costs' if net.sign > 0 else 'takes away'}", "number wrap")] * has_worth
-    rows = [("", [it.text, it.wish(), came[number], went[number], *["" if more[number] is None else more[number]] * has_worth])
+    head += [(f"one more, needed or given, {'costs' if net.sign > 0 else 'takes away'}", "number wrap")] * has_worth
+    rows = [("", [it.text, it.wish(), came[number], went[number], *worths[number:number + has_worth]])
             for number, it in enumerate(net.nodes)]
     rows, count = rows[:HIDDEN_FROM], len(rows)
     note = f" The first {HIDDEN_FROM} are shown." if count > HIDDEN_FROM else ""
+    note += f" One more unit that a place needs, or can give, changes the value; below 0 it {better(net)}." if has_worth else ""
     return section("Places", f"<p>{count} {'place' if count == 1 else 'places'}.{note}</p>{table(head, rows, 'numbers')}") if rows else ""
 
 

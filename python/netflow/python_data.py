@@ -5,7 +5,7 @@ import difflib
 from fractions import Fraction
 from typing import Any, Iterable
 
-from .data_text import member_text, set_statement
+from .data_text import KEY_NUMBER, member_text, set_statement
 from .errors import DataError
 from .exact import as_fraction, parse_numeral
 from .scaling import BOUND, scaled_value
@@ -17,18 +17,20 @@ FORMS = "give a dict by key, a list of tuples (key, .., value), a list of dicts,
 
 class PythonData:
     """Sets and parameters by name; `sets` are lists of tuples, `params` dicts from keys to a Fraction or a text. `origins` has for each
-    line of the text what it says: a name, with the key of its value or the member, or None if the line is a statement's first or last."""
+    line of the text what it says: a name, with the key of its value or the member, or None if the line is a statement's first or last.
 
-    def __init__(self, values: dict, sets: dict, keys: dict) -> None:
-        self.sets: dict = {}
+    A part of a key that is a text in the form of a number becomes that number, unless a set has the text as a member: `texts` are those
+    of the model and of data texts. With None every text stays one."""
+
+    def __init__(self, values: dict, sets: dict, keys: dict, texts: set | None = None) -> None:
+        self.sets: dict = {name: members_of(name, value, sets[name]) for name, value in values.items() if name in sets}
         self.params: dict = {}
         self.origins: list = []
+        kept = None if texts is None else texts | {part for rows in self.sets.values() for row in rows for part in row}
         for name, value in values.items():
-            if name in sets:
-                self.sets[name] = members_of(name, value, sets[name])
-            elif name in keys:
-                self.params[name] = rows_of(name, value, keys[name])
-            else:
+            if name in keys:
+                self.params[name] = rows_of(name, value, keys[name], kept)
+            elif name not in sets:
                 meant = difflib.get_close_matches(name, [*sets, *keys], 1, 0.6)
                 raise DataError(f"{name}: the model declares no such set or parameter{f'; is {meant[0]} meant?' if meant else ''}")
 
@@ -101,12 +103,12 @@ def plain(member: Any, owner: str) -> Any:
     raise DataError(f"{owner}: {member!r} is no member: a member is a whole number or a text, so use str(..)")
 
 
-def rows_of(name: str, value: Any, size: int) -> dict:
-    """Returns the values of a parameter by key; a missing value (None, NaN) has no entry."""
+def rows_of(name: str, value: Any, size: int, texts: set | None) -> dict:
+    """Returns the values of a parameter by key; a missing value (None, NaN) has no entry. `texts` are members that stay texts."""
     found: dict = {}
     seen = set()
     for key, it in pairs_of(name, value, size):
-        key = tuple(plain(part, f"param {name}") for part in key)
+        key = tuple(key_part(plain(part, f"param {name}"), texts) for part in key)
         if len(key) != size:
             raise DataError(f"param {name}: the key {key} has {len(key)} parts, and the model expects {size}")
         if key in seen:
@@ -116,6 +118,12 @@ def rows_of(name: str, value: Any, size: int) -> dict:
         if made is not None:
             found[key] = made
     return found
+
+
+def key_part(part: Any, texts: set | None) -> Any:
+    """Returns a part of a key as a member: a text as its number, as a sheet has it, unless it is in `texts`, or these are None."""
+    is_number = texts is not None and isinstance(part, str) and part not in texts and KEY_NUMBER.fullmatch(part)
+    return int(part) if is_number else part
 
 
 def value_of(name: str, value: Any) -> Any:

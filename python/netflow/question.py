@@ -9,13 +9,14 @@ from typing import Any, Sequence
 
 from .data_text import DataText
 from .edits import EditedText
-from .errors import DataError, ProgramError
+from .errors import DataError, ProgramError, ScaleError
 from .exact import common_factor, parse_numeral
-from .model_text import Shapes, Unparsed, parse
-from .program import REJECTED, UNREADABLE_FILE, Answer, Session, call
+from .model_text import Shapes, Unparsed, parse, tokens_of
+from .program import UNREADABLE_FILE, Answer, Session, call
 from .python_data import PythonData
 from .scaling import BOUND, Factors, Scaler, scaled_value
 from .texts import Network, read_compiled, read_cut, read_plan, read_prices
+from .without_decimals import CERTAIN, GRAMMAR, is_decimal, next_error
 from .words import read
 
 MAYBE_DECIMAL = re.compile(r"[.eEdD]")
@@ -23,10 +24,10 @@ PLACE = re.compile(r"(E\d\d \w+ (model|data)) (\d+):(\d+)(.*)", re.S)
 
 
 class Input:
-    """A model or data text: a file, or a text in memory."""
+    """A model or data text: a file, or a text in memory. `name` is what the user calls it; `path` can be a copy of a pipe."""
 
     def __init__(self, path: str | None = None, text: str | None = None) -> None:
-        self.path, self.given = path, text
+        self.path, self.name, self.given = path, path, text
 
     def text(self) -> str:
         return self.given if self.given is not None else read(self.path)
@@ -48,12 +49,15 @@ class Question:
         self.session = Session([])
         self.is_ready = self.is_rewritten = False
         self.parsed = 0  # how many data texts were parsed when a text could not be
+        self.words: list = []  # the words of a command that asks the same
 
     def __enter__(self) -> "Question":
         return self
 
-    def __exit__(self, *_: Any) -> None:
+    def __exit__(self, _: Any, problem: Any, __: Any) -> None:
         self.session.__exit__()
+        if isinstance(problem, ProgramError):
+            problem.words = self.words
 
     def prepare(self) -> None:
         """Chooses the files that the program reads: those that were given, or rewritten ones."""
@@ -66,29 +70,29 @@ class Question:
                 it.path = self.session.lasting(it.path)
         if self.changes or self.scale or self.add_bounds or len(self.data) > 1:
             self.require_files()
-            try:
-                self.rewrite()
+            failed = self.failed_rewrite()
+            if failed is None:
                 return
-            except Unparsed as problem:
-                unparsed = problem
-            self.report_unparsed()
-            raise DataError(f"the model or its data have a form that options cannot change (offset {unparsed.offset})")
+            is_parsed = isinstance(failed, ScaleError)
+            for self.parsed in range(len(self.data)) if is_parsed else [self.parsed]:
+                self.report_text(GRAMMAR if is_parsed else CERTAIN)
+            raise failed if not isinstance(failed, Unparsed) else \
+                DataError(f"the model or its data have a form that options cannot change (offset {failed.offset})")
         self.use_files()
 
-    def report_unparsed(self) -> None:
-        """Raises the error of the program for the text that could not be parsed: the model, or the first such data text."""
+    def report_text(self, kinds: re.Pattern) -> None:
+        """Raises the program's error for the model, or for the data text `parsed`, besides its decimals."""
         above = sum(it.text().count("\n") + 1 for it in self.data[:self.parsed])
         it = self.data[self.parsed] if self.parsed < len(self.data) else None
         self.use_files(it)
-        try:
-            self.session.ask("compile")
-        except ProgramError as problem:
-            found = PLACE.fullmatch(problem.message)
-            if not above or it is None or found is None or found[2] == "model":
-                raise
-            row, rest = int(found[3]), f"{found[4]}{found[5].rstrip()}"
-            raise ProgramError(problem.status, f"{found[1]} {row}:{rest}\nin {it.path or 'the text'}:{row}:{found[4]}\n",
-                               f"{found[1]} {row + above}:{rest}\n") from None
+        problem = next_error(self.session, kinds)
+        if problem is None:
+            return
+        found = PLACE.fullmatch(problem.message)
+        if not above or it is None or found is None or found[2] == "model":
+            raise problem
+        row, rest = int(found[3]), f"{found[4]}{found[5].rstrip()}"
+        raise ProgramError(problem.status, f"{found[1]} {row}:{rest}\nin {it.name or 'the text'}:{row}:{found[4]}\n", f"{found[1]} {row + above}:{rest}\n")
 
     def require_files(self) -> None:
         """Raises the error of the program for the first file that cannot be read."""
@@ -103,22 +107,30 @@ class Question:
         self.session.files = [it.path if it.path is not None else self.session.write(it.text()) for it in (self.model, data)]
 
     def ask(self, command: str) -> Answer:
-        """Calls `solve` or `compile`; decimals are scaled when the program meets the first one."""
+        """Calls `solve` or `compile`. When the program meets a decimal, the texts are scaled, or have another error, which is reported."""
         self.prepare()
         try:
             return self.session.ask(command)
         except ProgramError as problem:
-            if problem.status == REJECTED and problem.message.startswith("E04 ") and not self.is_rewritten:
-                if self.rewritten_decimals():
-                    return self.ask(command)
-            raise self.placed(problem) from None
+            if not is_decimal(problem):
+                raise self.placed(problem) from None
+            is_first = not self.is_rewritten
+            failed = self.failed_rewrite() if is_first else None
+            if is_first and failed is None:
+                return self.ask(command)
+            # A forgotten ; can give a parameter values that were not meant for it.
+            found = next_error(self.session, GRAMMAR if isinstance(failed, ScaleError) else CERTAIN)
+            if isinstance(failed, ScaleError) and found is None and not failed.is_numeral:
+                raise failed from None
+            raise self.placed(found or problem) from None
 
-    def rewritten_decimals(self) -> bool:
+    def failed_rewrite(self) -> Exception | None:
+        """Rewrites the texts; returns why they cannot be, None if they were."""
         try:
             self.rewrite()
-        except Unparsed:
-            return False
-        return True
+        except (Unparsed, ScaleError) as problem:
+            return problem
+        return None
 
     def placed(self, problem: ProgramError) -> ProgramError:
         """Returns the error with its place in the text that the user gave."""
@@ -146,15 +158,15 @@ class Question:
         return ProgramError(problem.status, f"{found[1]} {place}:{column}{found[5].rstrip()}\nin {path or 'the text'}:{place}:{column}\n", line)
 
     def source_of(self, row: int) -> tuple:
-        """Returns the path of a line of the joined data with the line in that file; (None, 0) for a change."""
+        """Returns the name of the file of a line of the joined data with the line in that file; (None, 0) for a change."""
         if self.change_at(row):
             return None, 0
         for part in self.data[:-1]:
             lines = part.text().count("\n") + 1
             if row <= lines:
-                return part.path, row
+                return part.name, row
             row -= lines
-        return (self.data[-1].path if self.data else None), row
+        return (self.data[-1].name if self.data else None), row
 
     def rows_of_data(self) -> int:
         return sum(it.text().count("\n") + 1 for it in self.data)
@@ -225,7 +237,8 @@ class Question:
         for it in self.data:
             pieces.append(DataText(it.text(), params, shapes.sets))
             self.parsed += 1
-        changes = PythonData(self.changes, shapes.sets, params)
+        # On the command line quotes say what is a text.
+        changes = PythonData(self.changes, shapes.sets, params, None if self.origins else texts_of(model, pieces))
         edits = [Overrides(pieces, changes).edits(it) for it in pieces]
         needed = self.needed(pieces, changes, edits)
         unknown = {name: factor for name, factor in needed.items() if name not in params}
@@ -297,6 +310,12 @@ def tokens_with_numbers(piece: DataText) -> list:
         if statement.default is not None:
             found.append((statement.name, statement.default))
     return found
+
+
+def texts_of(model: str, pieces: list) -> set:
+    """Returns the texts that a model and its data have as members."""
+    return {it.text[1:-1].replace(it.text[0] * 2, it.text[0]) for it in tokens_of(model) if it.text[0] in "'\""} | \
+        {part for piece in pieces for statement in piece.statements for part in statement.members}
 
 
 class Overrides:

@@ -1,7 +1,7 @@
-"""Why there is no plan: the sets of nodes that are short, in the model's own numbers, and the least change that gives a plan.
+"""Why there is no plan: the sets of nodes that are short, in the model's own numbers.
 
-The amounts of a set are sums of bounds in the compiled model. `netflow check` confirms that the set shows that there is no plan, and
-`netflow min` computes the least change: nothing is reported that the program has not confirmed.
+The amounts of a set are sums of bounds in the compiled model. `netflow check` confirms that the set shows that there is no plan:
+nothing is reported that the program has not confirmed.
 """
 from __future__ import annotations
 
@@ -9,11 +9,11 @@ import dataclasses
 import os
 import tempfile
 
-from .exact import Number, divided
-from .program import call
+from .exact import Number
+from .program import run
 
-LARGEST = 200_000
-FAR = 10**15
+# How often a further set is looked for, and up to how many lines of problems in all.
+ROUNDS, LARGEST = 12, 200_000
 
 
 @dataclasses.dataclass
@@ -162,12 +162,46 @@ class Cuts:
 
 
 def reasons(net, side, nodes):
-    """Returns the sets that are short, the largest shortage first. Each is part of the cut, and short by as much or more."""
+    """Returns the sets that are short, the largest shortage first: those of the cut, and further ones that remain short if the sets
+    before them get what they lack."""
+    found = reasons_of_cut(net, side, nodes)
+    for _ in range(min(ROUNDS, LARGEST // len(net.lines))):
+        cut = cut_besides(net, found)
+        known = {(it.side, *it.nodes) for it in found}
+        more = [it for it in reasons_of_cut(net, *cut) if (it.side, *it.nodes) not in known] if cut else []
+        if not more:
+            break
+        found += more
+    return sorted(found, key=lambda it: -it.short())
+
+
+def reasons_of_cut(net, side, nodes):
+    """Returns the smallest sets of a cut: each is part of it, and together they are short by as much or more."""
     cuts, found = Cuts(net, side), []
     for part in cuts.parts(nodes):
         found += [it for it in cuts.parts(cuts.thinned(part)) if cuts.short(it) > 0]
     found = [it for it in found if shows(net, side, it)] or [nodes]
-    return sorted((cuts.reason(it) for it in found), key=lambda it: -it.short())
+    return [cuts.reason(it) for it in found]
+
+
+def cut_besides(net, found):
+    """Returns the side and the nodes of a set that is short although each set of `found` gets what it lacks, or can leave what it has
+    too much; None if there is no such set."""
+    outside = len(net.nodes) + 1
+    arcs = []
+    for grant, it in enumerate(found, outside + 1):
+        amount = int(it.short() * net.factors.flow)
+        for src, dst in ((outside, grant), *((grant, number + 1) for number in it.nodes)):
+            arcs.append(f"a {src} {dst} 0 {amount} 0" if it.side == "under" else f"a {dst} {src} 0 {amount} 0")
+    head, *rest = net.lines
+    counts = f"p min {outside + len(found)} {int(head.split(' ')[3]) + len(arcs)}"
+    answer = run(["min", "/dev/stdin"], "".join(f"{it}\n" for it in (counts, *rest, *arcs)))
+    lines = answer.stdout.split("\n")
+    if answer.returncode != 2 or not lines[0].startswith("x "):
+        return None
+    side, inside = lines[0][2:], {int(it[2:]) for it in lines[1:] if it.startswith("m ")}
+    nodes = {it for it in range(len(net.nodes)) if (it + 1 in inside) != (outside in inside)}
+    return ({"over": "under", "under": "over"}[side] if outside in inside else side), nodes
 
 
 def shows(net, side, nodes):
@@ -177,115 +211,4 @@ def shows(net, side, nodes):
         for path, lines in ((problem, net.lines), (cut, [f"x {side}", *(f"m {it + 1}" for it in sorted(nodes))])):
             with open(path, "w", encoding="ascii") as file:
                 file.writelines(f"{it}\n" for it in lines)
-        return call(["check", problem, cut]).status == 0
-
-
-@dataclasses.dataclass
-class Change:
-    """By how much a bound of the model is moved, from what it was; `is_exact` if it is both sides of an equation."""
-
-    amount: Number
-    text: str
-    was: Number
-    becomes: Number
-    what: str
-    is_exact: bool = False
-
-    @property
-    def name(self):
-        return self.text.partition("[")[0]
-
-    def sentence(self):
-        if self.becomes < 0 and self.what in ("needs", "gives"):
-            other, doing = ("gives", "needing") if self.what == "needs" else ("takes", "giving")
-            return f"{self.text}: {other}{'' if self.is_exact else ' at most'} {-self.becomes} in place of {doing} {self.was}"
-        return f"{self.text}: {self.what} {self.becomes} in place of {self.was}"
-
-
-@dataclasses.dataclass
-class Move:
-    """A bound that can be moved: the ends of the arc that represents it in the problem, and the change that a flow on it means."""
-
-    ends: str
-    text: str
-    was: Number
-    sign: int
-    what: str
-    is_exact: bool = False
-
-    def change(self, amount):
-        return Change(amount, self.text, self.was, self.was + self.sign * amount, self.what, self.is_exact)
-
-
-def choices(net):
-    """Returns the declarations whose arcs all carry 0 or 1: such an arc is a choice, and a larger bound is no advice."""
-    return {name for name, arcs in net.declared().items() if len(arcs) > 1 and all(it.lower >= 0 and it.upper <= 1 for it in arcs)
-            and any(it.upper == 1 for it in arcs)}
-
-
-def moves_of_arcs(net):
-    outside, left_alone = len(net.nodes) + 1, choices(net)
-    for arc in net.arcs:
-        if arc.name in left_alone or arc.is_open:
-            continue
-        src, dst = (outside if it is None else it + 1 for it in (arc.src, arc.dst))
-        yield Move(f"{src} {dst}", arc.text, arc.upper, 1, "at most")
-        if arc.lower:
-            yield Move(f"{dst} {src}", arc.text, arc.lower, -1, "at least")
-
-
-def moves_of_nodes(net):
-    """Yields for each node with a condition: a low side can be lower, a high side higher."""
-    outside = len(net.nodes) + 1
-    for number, node in enumerate(net.nodes, 1):
-        if node.low == node.high == 0:
-            continue
-        is_exact = node.low == node.high
-        gives, takes = ("gives", "needs") if is_exact else ("gives at most", "takes at most")
-        if node.has_low():
-            yield Move(f"{outside} {number}", node.text, *((node.low, -1, "needs") if node.low > 0 else (-node.low, 1, gives)), is_exact)
-        if node.has_high():
-            yield Move(f"{number} {outside}", node.text, *((-node.high, -1, "gives") if node.high < 0 else (node.high, 1, takes)), is_exact)
-
-
-def least_change(net, moves):
-    """Returns the moves of least total with which there is a plan; None if no such moves are enough."""
-    if not moves:
-        return None
-    arcs = [it for it in net.lines if it.startswith("a ")]
-    lines = [f"p min {len(net.nodes) + 1} {len(arcs) + len(moves)}", *(it for it in net.lines if it.startswith("n "))]
-    lines += [it.rsplit(" ", 1)[0] + " 0" for it in arcs]
-    lines += [f"a {it.ends} 0 {FAR} 1" for it in moves]
-    answer = call(["min", "/dev/stdin"], "".join(f"{it}\n" for it in lines))
-    if answer.status:
-        return None
-    flows = [int(it.split(" ")[3]) for it in answer.text.splitlines() if it.startswith("f ")][len(arcs):]
-    return [move.change(divided(flow, net.factors.flow)) for move, flow in zip(moves, flows) if flow]
-
-
-def least_changes(net):
-    """Returns the least change by kind of bounds, None if none of the kind is enough, and of both kinds if that is less than each
-    alone. The second result says whether the model was too large to compute it."""
-    nodes, arcs = list(moves_of_nodes(net)), list(moves_of_arcs(net))
-    if len(net.lines) + len(nodes) + len(arcs) > LARGEST:
-        return {}, True
-    found = {"of what places need and give": least_change(net, nodes), "of what arcs may carry": least_change(net, arcs)}
-    totals, both = [total(it) for it in found.values() if it], least_change(net, nodes + arcs)
-    if both and (not totals or total(both) < min(totals)):
-        found["of both"] = both
-    return found, False
-
-
-def leaves_nothing(changes):
-    """Whether the changes take from several places all that they ask for."""
-    return bool(changes) and len(changes) > 1 and all(it.becomes == 0 and it.what in ("needs", "gives") for it in changes)
-
-
-def unserved(net, changes):
-    """Returns the places that get nothing by the changes, if they are few among those that ask; else an empty list."""
-    asking = sum(it.low > 0 or it.high < 0 for it in net.nodes)
-    return [it.text for it in changes] if leaves_nothing(changes) and 2 * len(changes) <= asking else []
-
-
-def total(changes):
-    return sum(it.amount for it in changes)
+        return run(["check", problem, cut]).returncode == 0

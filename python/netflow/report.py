@@ -8,13 +8,14 @@ from __future__ import annotations
 
 import re
 
-from .command import Words, print_error_json, question_of, run as run_tool, title_of
+from .changes import choices, least_changes
+from .command import Words, fractions_text, note_fractions, print_error_json, question_of, run as run_tool, title_of
 from .draw import draw, grouped
 from .errors import ProgramError
 from .grids import grid_html, roster_html
 from .outputs import dump_lines, plan_json
 from .page import Arcs, bullets, changes_html, page, places_html, reason_html, section, text
-from .reasons import choices, least_changes, reasons
+from .reasons import reasons
 from .sensitivity import Marginal
 from .tables import no_plan
 from .words import compared_texts, first_comment, headings
@@ -133,6 +134,8 @@ class Report:
                  ([name for name, arcs in declared if not any(it.price for it in arcs)], "has no price", "have no price"),
                  ([name for name, arcs in declared if self.has_plan and not any(it.flow for it in arcs)], "carries nothing", "carry nothing"))
         lines = [f"{', '.join(names[:6])}{' and others' * (len(names) > 6)} {one if len(names) == 1 else many}." for names, one, many in found if names]
+        fractions = fractions_text(net)
+        lines += [f"{fractions[:1].upper()}{fractions[1:]}."] if fractions else []
         lines += self.odd
         return section("Worth a look", bullets(lines)) if lines else ""
 
@@ -168,6 +171,7 @@ def main(words):
         if words.json:
             return print_json(question)
         report = Report(question, title_of(words), words.unit)
+        note_fractions(report.net)
         print(report.picture(True)[0] if words.svg else report.html(), end="\n" if words.svg else "")
         return report.answer.status
 

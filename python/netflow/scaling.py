@@ -19,11 +19,13 @@ BOUND = 10**11
 
 @dataclasses.dataclass
 class Factors:
-    """By what the numbers of the scaled model are larger: flows, prices of an arc, and the objective's value."""
+    """By what the numbers of the scaled model are larger: flows, prices of an arc, and the objective's value. `in_flows` are the
+    parameters with decimals in bounds and conditions, because of which flows are."""
 
     flow: int = 1
     cost: int = 1
     parameters: dict = dataclasses.field(default_factory=dict)
+    in_flows: list = dataclasses.field(default_factory=list)
 
     @property
     def value(self) -> int:
@@ -59,7 +61,17 @@ class Scaler:
         whole = [it.name for it in self.decls if it.kind == "arc" and it.phrase("integer")]
         if self.flow > 1 and whole:
             raise ScaleError(f"arc {whole[0]} is integer, but a bound or a condition has decimals", whole[0], self.flow)
-        return Factors(self.flow, cost, dict(self.params)), self.edits
+        return Factors(self.flow, cost, dict(self.params), self.in_flows()), self.edits
+
+    def in_flows(self) -> list:
+        """Returns the parameters with decimals in bounds and conditions."""
+        exprs = [expr for decl in self.decls for phrase in decl.phrases for expr in phrase.exprs
+                 if decl.kind == "node" or decl.kind == "arc" and phrase.word in (">=", "<=")]
+        names = []
+        for expr in exprs:
+            exprs += expr.args
+            names += [expr.value] if expr.op == "name" and self.params.get(expr.value, 1) > 1 else []
+        return list(dict.fromkeys(names))
 
     def factor_of_param(self, decl: Decl) -> int:
         factor = self.needed.get(decl.name, 1)
@@ -217,7 +229,7 @@ class Scaler:
         if expr.op == "name" and self.params.get(expr.value, 1) != 1:
             raise ScaleError(f"param {expr.value} has decimals and is used as a member or in a set", expr.value, self.params[expr.value])
         if expr.op == "num" and self.factor(expr) != 1:
-            raise ScaleError(f"the number {expr.value} has decimals and is used as a member or in a set")
+            raise ScaleError(f"the number {expr.value} has decimals and is used as a member or in a set", is_numeral=True)
         if expr.op in ("+", "-", "*", "sign", "reduce", "div", "mod"):
             if self.factor(expr) != 1:
                 raise ScaleError("an expression with decimals is used as a member or in a set")

@@ -8,8 +8,11 @@ import re
 from typing import Any
 
 from .command import question_of
-from .errors import ProgramError
-from .program import USAGE
+from .diagnostics import Diagnostic
+from .errors import DataError, ProgramError, ScaleError, Unbounded
+from .program import REJECTED, USAGE
+from .question import Question
+from .reasons import reasons
 from .texts import Network
 
 CHANGE = re.compile(r"\w+(?:\[[^\]]*\])?\s*=\s*(?:'[^']*'|\"[^\"]*\"|\S+)")
@@ -49,23 +52,48 @@ def difference(value: Any, base: Any) -> str:
 
 
 def scenarios(words: argparse.Namespace, out: Any) -> int:
-    """Writes a row for the model as it is, and one for each case."""
+    """Writes a row for the model as it is, and one for each case. A case with an error does not end the table; the status is then 3."""
     cases = cases_of(words)
     if not cases:
         raise ProgramError(USAGE, "netflow-sheet scenarios: give at least one --case or --vary\n")
     base = answer_of(words, [])
-    out.writerow(["case", "status", "value", "difference", "arcs that differ"])
-    flows = {it.text: it.flow for it in base.arcs}
-    out.writerow(["as it is", *(["optimal", base.value, 0, 0] if base.cut is None else ["infeasible", "", "", ""])])
+    out.writerow(["case", "status", "value", "difference", "arcs that differ", "reason"])
+    out.writerow(["as it is", *(["optimal", base.value, 0, 0, ""] if base.cut is None else without_plan(base))])
+    status = 0
     for case in cases:
-        net = answer_of(words, case)
-        if net.cut is not None:
-            out.writerow([" ".join(case), "infeasible", "", "", ""])
-            continue
-        differing = sum(flows.get(it.text, 0) != it.flow for it in net.arcs) + sum(flows[name] != 0 for name in flows.keys() - {it.text for it in net.arcs})
-        known = base.cut is None
-        out.writerow([" ".join(case), "optimal", net.value, difference(net.value, base.value) if known else "", differing if known else ""])
-    return 0
+        try:
+            with question_of(words, case) as question:
+                row = case_cells(base, question.network()[1])
+        except ProgramError as problem:
+            if problem.status != REJECTED:
+                raise
+            row, status = ["error", "", "", "", error_text(problem, question)], REJECTED
+        except (ScaleError, DataError, Unbounded) as problem:
+            row, status = ["error", "", "", "", str(problem)], REJECTED
+        out.writerow([" ".join(case), *row])
+    return status
+
+
+def error_text(problem: ProgramError, question: Question) -> str:
+    """Returns the error line of a case, with a hint if there is one that is sure."""
+    found, line = Diagnostic.of_question(problem, question), problem.message.split("\n")[0]
+    return f"{line}: {found.hints()[0]}" if found is not None and found.has_sure_hint() else line
+
+
+def without_plan(net: Network) -> list:
+    """Returns the cells of a case without a plan, with the largest shortage as the reason."""
+    return ["infeasible", "", "", "", reasons(net, *net.cut)[0].headline(net)]
+
+
+def case_cells(base: Network, net: Network) -> list:
+    """Returns the cells of a case: status, value, difference, how many arcs differ, and the reason if it has no plan."""
+    if net.cut is not None:
+        return without_plan(net)
+    if base.cut is not None:
+        return ["optimal", net.value, "", "", ""]
+    flows = {it.text: it.flow for it in base.arcs}
+    differing = sum(flows.get(it.text, 0) != it.flow for it in net.arcs) + sum(flows[name] != 0 for name in flows.keys() - {it.text for it in net.arcs})
+    return ["optimal", net.value, difference(net.value, base.value), differing, ""]
 
 
 def diff(words: argparse.Namespace, out: Any) -> int:

@@ -63,10 +63,12 @@ def as_set(name: str, rows: list, has_heading: bool) -> list:
     elif looks_like_heading(name, rows):
         sys.stderr.write(f"netflow-sheet: {rows[0][0].place()}: {rows[0][0].text!r} becomes a member; if it is a heading, add --heading\n")
     width = len(rows[0]) if rows else 1
-    lines = []
+    lines: dict = {}
     for row in rows:
         members = [it.member() for it in filled(row, width)]
-        lines.append(members[0] if width == 1 else f"({','.join(members)})")
+        lines.setdefault(members[0] if width == 1 else f"({','.join(members)})", row[0])
+    if len(lines) < len(rows):
+        sys.stderr.write(f"netflow-sheet: {rows[0][0].path}: members occur more than once and are written once: {len(lines)} of {len(rows)} rows\n")
     return [f"set {name} :=", *lines, ";"]
 
 

@@ -11,14 +11,12 @@ import zipfile
 from typing import Any, Iterable, Sequence
 from xml.sax.saxutils import escape
 
-from .data_text import PLAIN_NAME
+from .data_text import KEY_NUMBER, PLAIN_NAME
 from .errors import ProgramError
 from .exact import LARGEST, NUMERAL, parse_numeral
 from .program import REJECTED, UNREADABLE_FILE
 
 WHOLE = re.compile(r"[+-]?[0-9]+")
-# A number as a member: one that is written back as it is, so that `01067` and `+5` stay texts.
-KEY_NUMBER = re.compile(r"-?[1-9][0-9]*|0")
 LIKE_NUMBER = re.compile("[+\\-\u2212]?[0-9][0-9.,'\u2019\u00a0\u202f ]*(?:[eE][+-]?[0-9]+)?%?")
 PART = "{http://schemas.openxmlformats.org/spreadsheetml/2006/main}"
 LINK = "{http://schemas.openxmlformats.org/officeDocument/2006/relationships}id"

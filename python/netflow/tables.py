@@ -6,7 +6,7 @@ import csv
 import sys
 from typing import Any, Iterator
 
-from .command import print_error_json
+from .command import note_fractions, print_error_json
 from .errors import ProgramError
 from .outputs import cut_json, dump_lines, plan_json
 from .program import REJECTED
@@ -69,6 +69,7 @@ def plan(words: argparse.Namespace, question: Question) -> int:
             if words.json:
                 return print_error_json(problem, question)
             raise
+        note_fractions(net)
         if words.json:
             print(dump_lines(plan_json(net) if net.cut is None else no_plan(net)))
             return answer.status
@@ -103,3 +104,4 @@ def write(net: Network, model: str, words: argparse.Namespace) -> None:
             out.writerows(rows)
     else:
         out.writerows(one_table(net, [it for it in net.arcs if it.flow or not words.used]))
+        out.writerows([[], [net.objective, net.value]])

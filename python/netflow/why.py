@@ -10,12 +10,13 @@ from __future__ import annotations
 import re
 from typing import Any, Sequence
 
-from .command import Words, print_error_json, question_of, run as run_tool
+from .changes import least_changes, leaves_nothing, total, unserved
+from .command import Words, note_fractions, print_error_json, question_of, run as run_tool
 from .errors import ProgramError
 from .model_text import Unparsed, parse
 from .outputs import cut_json, dump_lines, plan_json
 from .question import Input, Question
-from .reasons import least_changes, leaves_nothing, reasons, total, unserved
+from .reasons import reasons
 from .sensitivity import Marginal, arc_change
 from .texts import Network
 from .words import compared_texts
@@ -140,7 +141,7 @@ def bottleneck_lines(net: Network, gains: Gains, most: int) -> list:
 def arc_lines(net: Network, gains: Gains, most: int) -> list:
     count = len(gains.felt) + len(gains.free)
     if not count:
-        return ["", "No arc is at a bound. Arcs at their lower bound 0 are not counted."]
+        return ["", "No arc is full, and none is at a lower bound other than 0."]
     lines = ["", f"Arcs at a bound: {count} of {len(net.arcs)}. Arcs at their lower bound 0 are not counted."]
     title = f"  The first unit past it {better(net)}{'' if gains.is_exact else ', at most'}:"
     lines += [title, *rows([(amount, f"{it.text} {bound_text(it)}") for amount, it in gains.felt], most)] if gains.felt else []
@@ -293,6 +294,7 @@ def main(words: Sequence[str]) -> int:
                     raise
                 question, refused = again, problem.status
                 continue
+            note_fractions(net)
             if parsed.json:
                 print_json(net)
             else:

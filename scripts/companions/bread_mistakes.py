@@ -84,5 +84,8 @@ MISTAKES = (
     ("no := in data", "data", "van := 40", "van 40", "E20", "is := missing before 40?"),
     ("a shop that its set lacks", "data", "hill lake mill;", "hill lake;", "E33", "is it missing in the set SHOPS?"),
     ("a value twice", "data", "mill 25;", "mill 25,\n hill 35;", "E31", "wants['hill'] is 30 in line 4 and 35 in line 5"),
+    ("a colon after the objective", "model", "obj Total cost", "obj Total: cost", "E10", "an obj phrase has no : after the objective"),
+    ("five members of a key", "model", "{b in BAKERIES, s in SHOPS}", "{b in BAKERIES, s in SHOPS, t in 1..2, u in 1..2, v in 1..2}", "E37", "a key has at most four members"),
+    ("a slice in data", "data", "param bakes := north 60,", "param bakes := [*] north 60,", "E20", "write each row with all its keys"),
     ("a member twice", "data", "hill lake mill;", "hill lake mill hill;", "E31", "SHOPS has hill twice"),
 )

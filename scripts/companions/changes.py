@@ -2,6 +2,7 @@
 import random
 
 from companions.common import run, write
+from netflow import changes as netflow_changes
 from netflow import reasons as netflow_reasons
 from netflow import sensitivity
 from netflow import texts as netflow_texts
@@ -65,9 +66,12 @@ def check_changes(complaints, folder, seeds):
         if status != 2:
             continue
         net = netflow_texts.read_compiled(run("netflow", "compile", *words)[1])
-        short = max(it.short() for it in netflow_reasons.reasons(net, *netflow_texts.read_cut(text, net)))
+        found = netflow_reasons.reasons(net, *netflow_texts.read_cut(text, net))
+        complaints.same(f"plain {seed}: sets that are short besides those that are listed", None, netflow_reasons.cut_besides(net, found))
+        complaints.same(f"plain {seed}: sets that are listed twice", len(found), len({(it.side, *it.nodes) for it in found}))
+        short = max(it.short() for it in found)
         complaints.want(f"{short} short" in said[1] or f"{short} too much" in said[1], f"plain {seed}: {short} is not reported as short")
-        for what, changes in netflow_reasons.least_changes(net)[0].items():
+        for what, changes in netflow_changes.least_changes(net)[0].items():
             complaints.want(changes is None or sum(it.amount for it in changes) >= short, f"plain {seed}: {what}: less than is short")
             other = Plain(seed)
             if changes and all([other.take(it) for it in changes]):
@@ -150,6 +154,14 @@ arc Works {n in 1..2, d in 1..3} >= 0, <= 1, from Nurse[n], to Day[d];
     ("two shortages", """minimize C; node Depot: net_out <= 100; node Shop {s in 1..2}: net_in = 40;
 arc X {s in 1..2} >= 0, <= 10 * s, from Depot, to Shop[s];
 """, ("arcs may carry: 50 in all", "30 X[1]: at most 40 in place of 10", "20 X[2]: at most 40 in place of 20")),
+    ("a shortage that hides a larger one", """minimize C; node Depot: net_out <= 100; node Shop {s in 1..3}: net_in = (if s = 1 then 90 else 20);
+arc X {s in 1..3} >= 0, <= 80, from Depot, to Shop[s];
+""", ("All 4 places together: 130 needed, 100 can come at most: 30 short", "Shop[1]: 90 needed, 80 can come at most: 10 short",
+      "need and give: 30 in all 30 Shop[1]: needs 60 in place of 90")),
+    ("one number that is too large", """minimize C; node Depot {d in 1..3}: net_out <= 20; node Shop {s in 1..6}: net_in = (if s = 5 then 65 else 8);
+arc X {d in 1..3, s in 1..6} >= 0, <= 20, from Depot[d], to Shop[s];
+""", ("All 9 places together: 105 needed, 60 can come at most: 45 short", "Shop[5]: 65 needed, 60 can come at most: 5 short",
+      "need and give: 45 in all 45 Shop[5]: needs 20 in place of 65")),
     ("a contract that cannot be met", """minimize C; node Plant: net_out <= 100; node Hall; node Shop: net_in <= 100;
 arc X >= 0, <= 1, from Plant, to Hall; arc Y >= 2, <= 9, from Hall, to Shop;
 """, ("Hall: 2 needed, 1 can come at most: 1 short", "2 by Y to Shop, which carries 2 to 9", "1 by X from Plant, which carries 0 to 1",
@@ -163,7 +175,7 @@ arc X >= 0, <= 1, from Plant, to Hall; arc Y >= 2, <= 9, from Hall, to Shop;
 # Models with a plan, and what has to be said of the arcs at their bounds.
 PLANS = (
     ("no arc at a bound", """minimize C; node Shop: net_in = 5; arc X >= 0, <= 9, to Shop, obj C 1; arc Y >= 0, <= 9, to Shop, obj C 2;
-""", ("No arc is at a bound. Arcs at their lower bound 0 are not counted.",)),
+""", ("No arc is full, and none is at a lower bound other than 0.",)),
     ("two full arcs in a row", """minimize C; node Hall; node Shop: net_in = 7;
 arc X >= 0, <= 5, to Hall; arc Z >= 0, <= 5, from Hall, to Shop, obj C 1; arc Y >= 0, <= 9, to Shop, obj C 3;
 """, ("Arcs at a bound: 2 of 3. Arcs at their lower bound 0 are not counted.", "More room saves nothing at: ")),

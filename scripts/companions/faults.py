@@ -68,7 +68,8 @@ def check_bread(complaints, folder):
         else:
             texts[text] = wrong
         paths = {kind: write_raw(folder, f"bread.{kind[:3]}", it) for kind, it in texts.items()}
-        status, _, told = run("netflow-explain", paths["model"], paths["data"])
+        # Without a command decimals are scaled.
+        status, _, told = run("netflow-explain", *["solve"] * (code == "E04"), paths["model"], paths["data"])
         complaints.want(status == 3 and told.startswith(code) and named in " ".join(told.split()), f"{name}: no {code} and {named!r} in {told!r}")
         advice = " ".join(told.split("\n  ", 1)[-1].split())
         complaints.want(absent is None or absent not in advice.replace(named, ""), f"{name}: {absent!r} in {told!r}")
@@ -97,6 +98,13 @@ def check_rewritten(complaints, folder, bread):
                         (["--set", "wants[hil]=3"], "Hint: hil: is hill meant?"), (["--set", "fan=3"], "fan: the model declares no such set or parameter")):
         status, out, told = run("netflow-explain", *files, *words)
         complaints.want((status, out) == (3, "") and said in told and "^" not in told, f"explain {words}: no {said!r} in {told!r}")
+    decimals = write(folder, "decimals.dat", (bread / "bread.dat").read_text(encoding="utf-8").replace("hill 30", "hill 30.5"))
+    complaints.same("explain: decimals of a file", (0, "Total = 442\n"), (lambda it: (it[0], it[1].split("Drive")[0]))(run("netflow-explain", bread / "bread.mod", decimals)))
+    complaints.same("explain solve: decimals of a file", (3, "E04 NotWhole data 4:21"), (lambda it: (it[0], it[2].split("\n")[0]))(run("netflow-explain", "solve", bread / "bread.mod", decimals)))
+    missing = write(folder, "missing.dat", decimals.read_text(encoding="utf-8").replace("van := 40;", "van := 40"))
+    for words in (["netflow-why"], ["netflow-sheet", "plan"], ["netflow-explain"]):
+        told = run(*words, bread / "bread.mod", missing)[2]
+        complaints.want(told.startswith("E20 Syntax data 6:11\n"), f"{words}: a ; missing next to decimals: {told!r}")
     wrong = write(folder, "wrong.dat", "# two lines\nparam wants := lake 5\n")
     status, out, told = run("netflow-explain", *files, wrong)
     complaints.want((status, out) == (3, "") and told.startswith("E20 Syntax data 2:22\n") and f"\n{wrong}:2:22: " in told and
@@ -107,20 +115,27 @@ def check_refusals(complaints, folder):
     """Each tool passes on the program's errors; and input from a pipe is read once."""
     wrong = write(folder, "w.mod", "node ;\n")
     for words in (["netflow-why"], ["netflow-report"], ["netflow-sheet", "plan"]):
-        complaints.same(f"{words}: refused", (3, "", "E10 Syntax model 1:6\n"), run(*words, wrong, "/dev/null"))
-        complaints.same(f"{words}: no file", (4, "", "E90 ReadFault model: /nowhere/x: No such file or directory\n"), run(*words, "/nowhere/x", "/dev/null"))
+        complaints.same(f"{words}: refused", (3, "", f"E10 Syntax model 1:6\nFor a hint: netflow-explain {wrong} /dev/null\n"), run(*words, wrong, "/dev/null"))
+        complaints.same(f"{words}: no file", (4, "", "E90 ReadFault model: /nowhere/x: No such file or directory\n"
+                        "For a hint: netflow-explain /nowhere/x /dev/null\n"), run(*words, "/nowhere/x", "/dev/null"))
         complaints.same(f"{words}: no words", 64, run(*words)[0])
         complaints.same(f"{words}: help", 0, run(*words, "--help")[0])
         complaints.same(f"{words}: a pipe", (3, "", "E10 Syntax model 1:6\n"), run(*words, "/dev/stdin", "/dev/null", text="node ;\n"))
     bread = TOP / "examples" / "bread"
     for words in (["netflow-why"], ["netflow-report"], ["netflow-sheet", "plan"]):
         found = run(*words, bread / "bread.mod", bread / "bread.dat", "--set", "van=x")
-        complaints.same(f"{words}: a wrong --set", (3, "", "E36 KindMismatch data\nin --set van=x\n"), found)
+        complaints.same(f"{words}: a wrong --set", (3, "", "E36 KindMismatch data\nin --set van=x\n"
+                        f"For a hint: netflow-explain {bread / 'bread.mod'} {bread / 'bread.dat'} --set van=x\n"), found)
     more = write(folder, "more.dat", "# two lines\nparam wants := hil 3;\n")
     check_rewritten(complaints, folder, bread)
-    complaints.same("an error in the second file", (3, "", f"E33 OutsideSet data 2:16 wants['hil']\nin {more}:2:16\n"),
+    complaints.same("an error in the second file", (3, "", f"E33 OutsideSet data 2:16 wants['hil']\nin {more}:2:16\n"
+                     f"For a hint: netflow-explain {bread / 'bread.mod'} {bread / 'bread.dat'} {more}\n"),
                     run("netflow-why", bread / "bread.mod", bread / "bread.dat", more))
     complaints.same("explain: a pipe", 3, run("netflow-explain", "solve", "/dev/stdin", "/dev/null", text="node ;\n")[0])
+    for words in (["-"], ["/dev/stdin", "/dev/null"], ["solve", "-", "/dev/null"]):
+        place = "-" if "-" in words else "/dev/stdin"
+        told = run("netflow-explain", *words, text="node ;\n")[2]
+        complaints.want(f"\n{place}:1:6: " in told, f"explain {words}: a pipe has another name in {told!r}")
     complaints.same("explain: no words", 64, run("netflow-explain")[0])
     check_streams(complaints, bread)
     check_compared(complaints, folder)

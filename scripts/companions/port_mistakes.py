@@ -41,7 +41,7 @@ MISTAKES = (
     ("a week too many", "data", "needed: 1 2 3 4 :=", "needed: 1 2 3 5 :=", "E33", "5 is not in W, which is 1..4 Hint: it is in line 5", "exchanged"),
     ("a week too many in a list", "data", "param yard", "param needed := HAM 5 1;\nparam yard", "E33", "5 is not in W, which is 1..4", "exchanged"),
     ("a week too many of a node", "model", "to Berth[p,1]", "to Berth[p,5]", "E50", "5 is not in W, which is 1..4", "is 5 meant"),
-    ("a text for a number", "model", "to Berth[p,1]", "to Berth[p,'1']", "E50", "'1' is a text; write a number without quotes: 1", "is 1 meant"),
+    ("a text for a number", "model", "to Berth[p,1]", "to Berth[p,'1']", "E50", "'1' is a text; the number is in W, which is 1..4: write it without quotes, 1", "is 1 meant"),
     ("a short code with letters exchanged", "data", "yard := HAM 20 GOA", "yard := HAM 20 GAO", "E33", "GAO: is GOA meant?", "is not in"),
     ("a short code with letters exchanged in a table", "data", "GOA 5 6", "GAO 5 6", "E33", "GAO: is GOA meant?", "is 1 meant"),
     ("a chain in braces", "model", "q in Q, t in W}", "q in Q, 1 <= t <= weeks}", "E10", "an index is named with its set: t in 1..weeks", "not closed"),

@@ -21,7 +21,8 @@ def check_sheet(complaints, folder):
     net = question(*words)[0]
     flows = [[*map(str, it.key), str(it.flow)] for it in net.arcs]
     table = rows_of(run("netflow-sheet", "plan", *words)[1])
-    complaints.same("sheet: one table", [["Drive", *it] for it in flows], [it[:4] for it in table[1:]])
+    complaints.same("sheet: one table", [["Drive", *it] for it in flows], [it[:4] for it in table[1:-2]])
+    complaints.same("sheet: the value below it", [[], [net.objective, str(net.value)]], table[-2:])
     complaints.same("sheet: its head", ["arc", "key 1", "key 2", "flow", "lower", "upper", "price", "from", "to"], table[0])
     only = rows_of(run("netflow-sheet", "plan", *words, "--only", "Drive")[1])
     complaints.same("sheet: one declaration", (["D", "S", "flow"], flows), (only[0][:3], [it[:3] for it in only[1:]]))
@@ -130,12 +131,21 @@ def check_scenarios(complaints, folder):
         changed = write(folder, "c.dat", data.replace(f"param has := {has};", f"param has := {it};"))
         values[it] = run("netflow", "solve", words[0], changed)
     table = rows_of(run("netflow-sheet", "scenarios", *words, "--vary", f"has={has + 3},{has},1", "--case", f"has={has}")[1])
-    complaints.same("scenarios: as it is", ["as it is", "optimal", str(needs), "0", "0"], table[1])
+    complaints.same("scenarios: as it is", ["as it is", "optimal", str(needs), "0", "0", ""], table[1])
     for row in table[2:]:
         answer = values[int(row[0].partition("=")[2])]
         wanted = re.match(r"\S+ = (\d+)", answer[1])[1] if answer[0] == 0 else ""
         complaints.same(f"scenarios: {row[0]}", ("optimal" if wanted else "infeasible", wanted), (row[1], row[2]))
+        complaints.same(f"scenarios: {row[0]}: reason", not wanted, "short" in row[5] or "too much" in row[5])
     complaints.same("scenarios: rows", 6, len(table))
+    wrong = ["--case", "has=x", "--case", "hass=3", "--case", "wants[nobody]=3", "--vary", f"has={has},0.x"]
+    status, text, said = run("netflow-sheet", "scenarios", *words, *wrong)
+    found = [(row[1], row[5][:6]) for row in rows_of(text)[2:]]
+    complaints.same("scenarios: cases with an error", (3, [("error", "E36 Ki"), ("error", "hass: "), ("error", "E33 Ou"), ("optimal", ""), ("error", "E36 Ki")], ""),
+                    (status, found, said))
+    half = run("netflow-sheet", "plan", *words, "--set", f"has={has}.5", "--used")
+    complaints.want(half[0] == 0 and (".5" in half[1]) == half[2].startswith("netflow-sheet: flows are multiples of 0.1, since has has decimals;"),
+                    f"sheet: a stock with decimals: {half[2]!r}")
     first = base.arcs[0]
     case = f"cost[{','.join(netflow_texts.shown(it) for it in first.key)}]={first.price + 50}"
     rows = rows_of(run("netflow-sheet", "diff", *words, "--case", case)[1])

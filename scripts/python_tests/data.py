@@ -34,12 +34,37 @@ def check_forms(complaints):
             complaints.want(name in str(problem) or repr(value[0]) in str(problem), f"{name}={value!r}: {problem}")
 
 
+WEEKS = """set C; param last; set W := 1..last; param needs {C, W}; minimize Total;
+node At {c in C, w in W}: net_in = needs[c,w]; arc In {c in C, w in W} >= 0, <= 99, to At[c,w], obj Total w;"""
+# Data, the keys of rows of texts, and what they become: a number, unless the set has the text.
+KEYS = (
+    ({"C": ["a"], "last": 2}, [("a", "1"), ("a", "2")], [("a", 1), ("a", 2)]),
+    ({"C": [7, -7], "last": "1"}, [("7", "1"), ("-7", "1")], [(7, 1), (-7, 1)]),
+    ({"C": ["7", "8"], "last": 1}, [("7", "1"), ("8", "1")], [("7", 1), ("8", 1)]),
+    ("set C := '01067' 1067; param last := 1;", [("01067", "1"), ("1067", "1")], [("01067", 1), (1067, 1)]),
+    ("set C := '01067' '1067'; param last := 1;", [("01067", "1"), ("1067", 1)], [("01067", 1), ("1067", 1)]),
+    ({"C": ["4006381333931"], "last": 1}, [("4006381333931", "1")], [("4006381333931", 1)]),
+)
+
+
+def check_keys(complaints):
+    """Rows of texts, as csv.DictReader reads them, have the keys that netflow-sheet list writes."""
+    for data, rows, keys in KEYS:
+        for values in ([{"c": c, "w": w, "needs": "2.5"} for c, w in rows], {key: 2.5 for key in rows}):
+            complaints.same(f"{rows} in {data}", keys, list(netflow.solve(WEEKS, data, needs=values)["In"]))
+    try:
+        complaints.append(f"a key given twice is {netflow.solve(WEEKS, C=['a'], last=1, needs={('a', 1): 2, ('a', '1'): 3})!r}")
+    except netflow.DataError as problem:
+        complaints.want("the key ('a', 1) is given twice" in str(problem), f"a key given twice: {problem}")
+
+
 # Data from Python that are wrong, with the exception and what it has to say; nothing else is said of a line or of a second file.
 MISTAKES = (
     ({"van": "fifteen"}, netflow.ModelError, "E36 KindMismatch in the value of van", "van = 'fifteen'", "'fifteen' is a text, and van is a number"),
+    ({"van": "40,5"}, netflow.ModelError, "E36 KindMismatch in the value of van", "40,5: is 40.5 meant? Decimals have a point"),
     ({"cost": {("north", "hill"): "x"}}, netflow.ModelError, "in key ('north', 'hill') of cost", "cost['north', 'hill'] = 'x'"),
     ({"wants": {"hil": 30}}, netflow.ModelError, "E33 OutsideSet wants['hil'] in key 'hil' of wants", "hil: is hill meant?"),
-    ({"wants": {"hill": -3}}, netflow.ModelError, "E34 Restriction", "the data name wants in key 'hill' of wants"),
+    ({"wants": {"hill": -3}}, netflow.ModelError, "E34 Restriction", "wants['hill'] is -3 in key 'hill' of wants; the model has >= 0"),
     ({"cost": [4, 3, 2]}, netflow.DataError, "param cost: 4 in the list has no key, and the model expects 2", "a dict by key, a list of tuples", "a list of dicts"),
     ({"wants": 5}, netflow.DataError, "param wants: 5 has no keys", "a list of dicts"),
     ({"wants": ["hill"]}, netflow.DataError, "param wants: 'hill' in the list has no key"),

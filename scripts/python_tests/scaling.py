@@ -1,8 +1,10 @@
 """Decimals: a model with decimals is worth exactly what the same model in whole numbers is, divided by the factors."""
+import pathlib
 import random
 from fractions import Fraction
 
 import netflow
+from netflow.without_decimals import whole_copy
 
 MODEL = """set P; set L within P cross P; param need {P} default 0; param room {L}; param price {L} default 1.5; param fee; param share;
 minimize Cost;
@@ -106,3 +108,49 @@ def check_factors(complaints):
             row = next(here for here, line in enumerate(data.split("\n"), 1) if "fees" in line or line.endswith("a x;"))
             complaints.same(f"the line of {problem.code}", row, problem.line)
             complaints.want(data.split("\n")[row - 1][problem.column - 1:].startswith(("fees", "x;", "a x;")), f"{problem.code} is at {problem.line}:{problem.column}")
+
+
+BREAD = pathlib.Path(__file__).resolve().parent.parent.parent / "examples" / "bread"
+# An error next to decimals elsewhere: the text that has it, a part of that text and what takes its place, the line and the hint.
+NEXT = (
+    ("data", "mill 25;", "mill 25", "E20 Syntax 5:11", "is a ; missing at the end of line 4?"),
+    ("data", "van := 40;", "van := 40", "E20 Syntax 6:11", "is a ; missing at the end of line 5?"),
+    ("data", "7    5    3;", "7  5;", "E21 RowWidth 8:", "line 8 has 3 cells, and 4 are expected"),
+    ("data", "7    5    3;", "7  5,5  3;", "E21 RowWidth 8:", "line 8 has 5 cells, and 4 are expected: is a comma part of a number?"),
+    ("data", "north    4", "new north  4", "E21 RowWidth 8:", "line 7 has 5 cells, and 4 are expected"),
+    ("data", "bakes := north 60", "bakes := Bad Ischl 60", "E37 Arity 3:", "in line 3 the cells from south on do not fit"),
+    ("data", "param van", "parm van", "E20 Syntax 5:1", "parm: is param meant?"),
+    ("data", "lake mill :=", "lake mill", "E20 Syntax 8:", ""),
+    ("data", "set SHOPS", "data; set SHOPS", "E20 Syntax 2:1", "allowed only as the first statement"),
+    ("model", ">= 0, <= van,", ">= (0, <= van,", "E10 Syntax 12:", ""),
+    ("model", "param van", "parm van", "E14 LeftOut 7:1", "parm: is param meant?"),
+    ("model", "wants[s];", "wants[s]", "E10 Syntax 12:1", "is a ; missing at the end of line 11?"),
+    ("model", "net_out <= bakes", "net_out <= baks", "E12 Undeclared 10:", "baks: is bakes meant?"),
+)
+
+
+def check_next(complaints):
+    """Decimals hide no other error: neither in the data nor in the model, alone, with options, and with a second data text."""
+    texts = {"model": BREAD.joinpath("bread.mod").read_text(encoding="utf-8").replace("cost[b,s];", "cost[b,s] + 1.5;"),
+             "data": BREAD.joinpath("bread.dat").read_text(encoding="utf-8").replace("hill 30", "hill 30.5")}
+    complaints.same("decimals without an error", netflow.Exact("592.75"), netflow.solve(*texts.values()).value)
+    for text, right, wrong, said, hint in NEXT:
+        changed = {**texts, text: texts[text].replace(right, wrong, 1)}
+        complaints.want(changed != texts, f"{right!r} is not in the {text}")
+        more = "param wants := hill 30.25;"
+        for data, values in ((changed["data"], {}), (changed["data"], {"van": 40.5}), ([changed["data"], more], {}), ([more, changed["data"]], {})):
+            try:
+                complaints.append(f"{wrong!r} gives {netflow.solve(changed['model'], data, **values)!r}")
+            except netflow.NetflowError as problem:
+                found = f"{problem.code} {problem.name} {problem.line}:{problem.column}" if isinstance(problem, netflow.ModelError) else repr(problem)
+                complaints.want(found.startswith(said), f"{wrong!r}, {values}: {found}, not {said}")
+                complaints.want(hint in str(problem) and "take decimals" not in str(problem), f"{wrong!r}, {values}: no {hint!r} in {problem}")
+
+
+def check_copies(complaints):
+    """The copy of a text in whole numbers has its length, and differs from it in decimals alone."""
+    for kind, text, wanted in (("model", "x1.5 1..5 1...5 'a 2.5' # 7.5\n.5 7.25e0 2.50e1 12.5e-1", "x1 1 1..5 1.. 1 'a 2.5' # 7.5\n 1 000008 2.50e1 0000002"),
+                               ("data", "a1.5 -7.25 'x 1.5' 2e3 -.5 1.2.3 'open .5 ", "a1.5 -0008 'x 1.5' 2e3 -01 1.2.3 'open  1 ")):
+        found = whole_copy(text, kind)
+        complaints.same(f"{text!r} without decimals", wanted, found)
+        complaints.same(f"{text!r}: the length", len(text), len(found))
