@@ -39,7 +39,8 @@ class Reason:
 
     def words(self):
         """Returns the titles of its two lists, what to say if nothing helps, and the direction of the idle arcs."""
-        doubt = "" if self.helps else " (is one the wrong way round? or net_in for net_out?)"
+        said, meant = ("net_in", "net_out") if self.side == "under" else ("net_out", "net_in")
+        doubt = "" if self.helps else f" (is one reversed? or is {meant} meant instead of {said}?)"
         if self.side == "under":
             return "needed", "can come, at most", "no arc leads in, and nothing else helps", f"these lead out{doubt}"
         return "there, at least", "room, at most", "no arc leads out, and nothing else helps", f"these lead in{doubt}"

@@ -144,7 +144,7 @@ arc X >= 35, <= 40, from A, to Store; arc Y >= 30, <= 50, from A, to Store;
       "5 Store: takes at most 65 in place of 60")),
     ("an arc the wrong way round", """minimize C; node Depot: net_out <= 50; node Shop: net_in = 50;
 arc X >= 0, <= 70, from Shop, to Depot;
-""", ("Shop: 50 needed, 0 can come at most: 50 short", "no arc leads in, and nothing else helps", "is one the wrong way round?", "X to Depot")),
+""", ("Shop: 50 needed, 0 can come at most: 50 short", "no arc leads in, and nothing else helps", "is one reversed? or is net_out meant instead of net_in?", "X to Depot")),
     ("two units", """minimize C; node Depot: net_out <= 10; node Shop: net_in = 5000;
 arc X >= 0, <= 6, from Depot, to Shop; arc Y >= 0, <= 4, from Depot, to Shop;
 """, ("Shop: 5000 needed, 10 can come at most: 4990 short", "6 by X from Depot")),
