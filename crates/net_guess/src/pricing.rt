@@ -7,7 +7,7 @@ use crate::simplex::Simplex;
 impl Simplex {
     /// Returns the arc with the most negative reduced cost in the first block with an eligible arc,
     /// starting at the end of the last search.
-    pub fn cheapest(&mut self) -> Result<Option<u32>, Halt> {
+    pub fn entering_arc(&mut self) -> Result<Option<u32>, Halt> {
         let count = self.numbers.len();
         let mut left = count;
         self.looked = 0;

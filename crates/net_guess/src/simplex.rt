@@ -141,7 +141,7 @@ impl Simplex {
     /// Changes the tree until no arc's price is negative, or until there was so much work. Returns whether it came to the end.
     pub fn run(&mut self, limit: u64) -> Result<bool, Halt> {
         for _ in 0..limit {
-            match self.cheapest()? {
+            match self.entering_arc()? {
                 Some(place) => self.enter(place)?,
                 None => return Ok(true),
             }
