@@ -66,7 +66,7 @@ numbered lean wanted m d c promise flows numbers is =
     omega (arith, ap length is, each, named, length-map (arcs promise.world promise.declarations) (λ (a : Arc). a.label), promise.sizes.arcs, c.link.numbers.ok.0)
 
 -- the network's sum is the value of the promised objective
-aim_of : (lean : Bool) (wanted : Option Name) (m d : List ℕ) (c : Compiled) → HaveObjective → (promise : Headline lean wanted m d c) → IsObjectiveOf promise.objective (seen_as promise.made) (arcs promise.world promise.declarations)
+pub aim_of : (lean : Bool) (wanted : Option Name) (m d : List ℕ) (c : Compiled) → HaveObjective → (promise : Headline lean wanted m d c) → IsObjectiveOf promise.objective (seen_as promise.made) (arcs promise.world promise.declarations)
 aim_of lean wanted m d c objective promise =
     let w = promise.world in
     let ds = promise.declarations in

@@ -19,3 +19,6 @@ pub mod OneAnswer
 mod ModelPlaces
 pub mod FaultPlaces
 pub mod NoMemory
+mod NamedOnce
+mod OneNetwork
+mod ModelMeaning

@@ -24,7 +24,7 @@ none_once = tt
 new_by : (s : Scope) (t : Token) (later : Option Fault) → first (declared_before (meaning_in t.text s) t) later ≡ None → meaning_in t.text s ≡ None
 new_by s t later h = none_before (meaning_in t.text s) t (firsts (declared_before (meaning_in t.text s) t) later h).0
 
-new_here : (s : Scope) (d : Declaration) (p : Token × Meaning) → declaration_fault s d ≡ None → declared d ≡ Some p → meaning_in p.0.text s ≡ None
+pub new_here : (s : Scope) (d : Declaration) (p : Token × Meaning) → declaration_fault s d ≡ None → declared d ≡ Some p → meaning_in p.0.text s ≡ None
 new_here s (set w t ps e) p h i = let same : t ≡ p.0 = cc in ap (λ (u : Token). meaning_in u.text s) (sym same) ∙ new_by s t _ h
 new_here s (param w t b ps e) p h i = let same : t ≡ p.0 = cc in ap (λ (u : Token). meaning_in u.text s) (sym same) ∙ new_by s t _ h
 new_here s (check w b m x e) p h i = cc

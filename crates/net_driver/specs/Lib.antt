@@ -15,3 +15,4 @@ pub mod Runs
 pub mod ProblemSources
 pub mod Accepted
 pub mod OneAnswer
+pub mod Meaning

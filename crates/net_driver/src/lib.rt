@@ -10,6 +10,7 @@ mod first_fault;
 mod laws;
 mod line_runs;
 mod linked;
+mod meaning;
 mod naming;
 mod network;
 mod problem_source;
@@ -31,6 +32,9 @@ pub use first_fault::{
 };
 pub use laws::{answers_are_accepted, texts_have_one_answer};
 pub use line_runs::{run_check, run_min};
+pub use meaning::{
+    answers_solve_models, compiled_problems_represent_models, models_have_one_network,
+};
 pub use naming::{names_are_declared_once, nodes_and_arcs_are_apart, well_named};
 pub use net_check::{Reason, Side, Verdict};
 pub use net_dimacs::LineFault;

@@ -1,0 +1,34 @@
+//! Theorems that relate results to the meaning of the model. The bodies only call the theorems of
+//! net_inst that they need.
+
+ghost use Rattle.net_driver.specs.Meaning.{AnswersSolveModels, CompiledProblemsRepresent, NetworksAreUnique};
+
+use net_inst::{
+    assignments_are_alike, assignments_are_sound, objective_is_written, problems_represent_networks,
+};
+
+/// Theorem: the declarations of a model have at most one network in a world.
+pub fn models_have_one_network()
+    ensures value { NetworksAreUnique }
+{}
+
+/// Theorem: the problem of a compiled model represents the network that the model means in the
+/// world of its data. It has the network's nodes and arcs, its feasible flows correspond one to one
+/// to the feasible assignments, and the cost of a flow gives the value of its assignment.
+pub fn compiled_problems_represent_models()
+    ensures value { CompiledProblemsRepresent }
+{
+    problems_represent_networks();
+}
+
+/// Theorem: the plan of a solved model is feasible in the network that the model means in the world
+/// of its data, and no feasible assignment has a better value; if the outcome is a cut, no
+/// assignment is feasible.
+pub fn answers_solve_models()
+    ensures value { AnswersSolveModels }
+{
+    problems_represent_networks();
+    assignments_are_sound();
+    assignments_are_alike();
+    objective_is_written();
+}
