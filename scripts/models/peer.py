@@ -11,7 +11,10 @@ class TwinFault(Exception):
 def solved(folder):
     """Returns the optimal value of twin.mod in the folder, or None if there is no plan."""
     words = ["glpsol", "--math", "twin.mod", "--nopresol", "-w", "twin.sol"]
-    done = subprocess.run(words, cwd=folder, capture_output=True, text=True, check=False, timeout=SECONDS)
+    try:
+        done = subprocess.run(words, cwd=folder, capture_output=True, text=True, check=False, timeout=SECONDS)
+    except subprocess.TimeoutExpired as error:
+        raise TwinFault(f"no answer within {SECONDS} seconds") from error
     (folder / "twin.txt").write_text(done.stdout)
     if done.returncode or not (folder / "twin.sol").exists():
         raise TwinFault(done.stdout.strip().splitlines()[-1] if done.stdout else "no output")
