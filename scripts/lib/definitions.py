@@ -4,7 +4,7 @@ import re
 from lib.command import TOP
 
 CRATES = TOP / "crates"
-MAIN_THEOREM = ["net_driver/specs/Headline.antt:Headline", "net_driver/specs/Answers.antt:Answers"]
+MAIN_THEOREM = ["net_driver/specs/IsBuilt.antt:IsBuilt", "net_driver/specs/IsSolved.antt:IsSolved"]
 WORD = re.compile(r"[A-Za-z_][\w'-]*(?:\.[A-Za-z_][\w'-]*)?")
 USE = re.compile(r"^(?:pub )?use Rattle\.(\w+)\.specs\.([\w.]+?)(?:\.\{([^}]*)\})?(?: as (\w+))?$", re.M)
 NAMED = re.compile(r"^ {0,2}(?:(?:abbrev|unfoldable|pub|record|data) )*([A-Za-z_◌][\w◌>=&|+-]*)(?: .*)?:", re.M)

@@ -24,13 +24,13 @@ fn now<R: CpuClock>(rt: &R) -> u128 {
 
 /// Counts of what was read, and the times of the stages, in microseconds.
 #[derive(Drop)]
-struct Told {
+struct Reported {
     counts: (usize, usize, usize),
     times: (u128, u128),
 }
 
 /// Reads a problem and writes it again; returns its numbers of nodes, arcs and bytes.
-fn problem<R: AllocGlobal + CpuClock>(rt: &R, text: &[u8]) -> Option<Told> {
+fn problem<R: AllocGlobal + CpuClock>(rt: &R, text: &[u8]) -> Option<Reported> {
     let start = now(rt);
     let Ok(problem) = read_problem(rt.alloc(), text) else {
         return None;
@@ -41,28 +41,28 @@ fn problem<R: AllocGlobal + CpuClock>(rt: &R, text: &[u8]) -> Option<Told> {
     };
     let wrote = now(rt);
     let counts = (problem.supplies.len(), problem.arcs.len(), written.len());
-    Some(Told {
+    Some(Reported {
         counts,
         times: (read.saturating_sub(start), wrote.saturating_sub(read)),
     })
 }
 
 /// Splits a data file into tokens; returns their number and the capacity of the vector.
-fn data<R: AllocGlobal + CpuClock>(rt: &R, text: &[u8]) -> Option<Told> {
+fn data<R: AllocGlobal + CpuClock>(rt: &R, text: &[u8]) -> Option<Reported> {
     let start = now(rt);
     let Ok(tokens) = lex_data(rt.alloc(), text) else {
         return None;
     };
     let lexed = now(rt);
     let counts = (tokens.len(), 0, tokens.capacity());
-    Some(Told {
+    Some(Reported {
         counts,
         times: (lexed.saturating_sub(start), 0),
     })
 }
 
 /// Splits a data file into tokens and parses them; returns the numbers of tokens and statements.
-fn tables<R: AllocGlobal + CpuClock>(rt: &R, text: &[u8]) -> Option<Told> {
+fn tables<R: AllocGlobal + CpuClock>(rt: &R, text: &[u8]) -> Option<Reported> {
     let start = now(rt);
     let Ok(tokens) = lex_data(rt.alloc(), text) else {
         return None;
@@ -74,7 +74,7 @@ fn tables<R: AllocGlobal + CpuClock>(rt: &R, text: &[u8]) -> Option<Told> {
     let parsed = now(rt);
     let count = tables.statements.as_slice().len();
     let counts = (tokens.len(), count, tokens.capacity());
-    Some(Told {
+    Some(Reported {
         counts,
         times: (lexed.saturating_sub(start), parsed.saturating_sub(lexed)),
     })
@@ -82,7 +82,7 @@ fn tables<R: AllocGlobal + CpuClock>(rt: &R, text: &[u8]) -> Option<Told> {
 
 /// Splits a model into tokens, parses them and resolves the names; returns the numbers of tokens
 /// and declarations, and the capacity of the vector of tokens.
-fn model<R: AllocGlobal + CpuClock>(rt: &R, text: &[u8]) -> Option<Told> {
+fn model<R: AllocGlobal + CpuClock>(rt: &R, text: &[u8]) -> Option<Reported> {
     let start = now(rt);
     let Ok(tokens) = lex_model(rt.alloc(), text) else {
         return None;
@@ -99,7 +99,7 @@ fn model<R: AllocGlobal + CpuClock>(rt: &R, text: &[u8]) -> Option<Told> {
     if !is_named {
         return None;
     }
-    Some(Told {
+    Some(Reported {
         counts,
         times: (lexed.saturating_sub(start), parsed.saturating_sub(lexed)),
     })
@@ -115,12 +115,12 @@ fn words_of(what: &str) -> [&'static str; 5] {
 }
 
 /// Prints the counts on standard output and the times on standard error, if there are any.
-fn tell<R: Print + Eprint>(rt: &R, what: &str, told: Option<Told>) -> io::Result<bool> {
-    let Some(told) = told else {
+fn tell<R: Print + Eprint>(rt: &R, what: &str, reported: Option<Reported>) -> io::Result<bool> {
+    let Some(reported) = reported else {
         return Ok(false);
     };
-    let (first, second, third) = told.counts;
-    let (one, two) = told.times;
+    let (first, second, third) = reported.counts;
+    let (one, two) = reported.times;
     let [a, b, c, d, e] = words_of(what);
     rt.println(format_args!("{first} {a}, {second} {b}, {third} {c}"))?;
     rt.eprintln(format_args!("{d} {one} us, {e} {two} us"))?;

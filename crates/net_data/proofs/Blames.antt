@@ -4,7 +4,7 @@ use Rattle.std.proofs.Math.Nat.{zero-mod}
 use Rattle.std.specs.List.{AllByRecursion}
 use Rattle.net_fault.specs.declared.span.Span.{Span}
 use Rattle.net_lex.specs.declared.token.Token.{Token}
-use Rattle.net_fault.specs.declared.defect.Defect.TheVariants.{DataSyntax, RowWidth, TableWidth}
+use Rattle.net_fault.specs.declared.error_code.ErrorCode.TheVariants.{DataSyntax, RowWidth, TableWidth}
 use Rattle.net_data.specs.declared.spot.Spot.{Spot}
 use Rattle.net_data.specs.declared.parse_error.ParseError.{ParseError}
 use Rattle.net_data.specs.declared.statement.DefaultValue.{DefaultValue}
@@ -16,19 +16,19 @@ use Rattle.net_data.specs.declared.statement.Statement.TheVariants as kinds
 use Rattle.net_data.specs.Tests.{is_name, is_member, is_cell, is_word, is_mark}
 use Rattle.net_data.specs.Commas.{before, elsewhere, bare}
 use Rattle.net_data.specs.Spots.{spot_after, rests, outside}
-use Rattle.net_data.specs.Printing.{put, put_default, put_transposed, put_all, put_lone}
+use Rattle.net_data.specs.Printing.{put, put_default, put_transposed, put_all, put_single}
 use Rattle.net_data.specs.Meaning.{IsDefault, IsTransposed, IsStatement, all_judged}
-use Rattle.net_data.specs.Refusals.{IsFaulty, HasFault}
-use Rattle.net_data.specs.Reading.{Read, stop, wanted, wanted_by, refused, run, heading, headed, cells, filled, fills, last_span, last_span_or, items, items_from, with_token, items_behind, spot_or, set, table, turned, given, list, body, body_by, default, default_by, named, named_set, columns, param, param_by, statement, statement_by, found, statements, statements_by, with_statement, lone, lone_by, finished, finished_by, tables, met, front, semicolon, colon, assign, ◌>>=◌}
+use Rattle.net_data.specs.Rejections.{IsFaulty, HasFault}
+use Rattle.net_data.specs.Reading.{Read, stop, wanted, wanted_by, rejected, run, heading, headed, cells, filled, fills, last_span, last_span_or, items, items_from, with_token, items_after, spot_or, set, table, turned, given, list, body, body_by, default, default_by, named, named_set, columns, param, param_by, statement, statement_by, found, statements, statements_by, with_statement, single, single_by, finished, finished_by, tables, met, front, semicolon, colon, assign, ◌>>=◌}
 use Rattle.net_data.proofs.RunLemmas.{Keeps, keeps_member, keeps_name, ran}
 use Rattle.net_data.proofs.Steps.{in_name, in_word, in_mark, to_else, got, got_met}
 use Rattle.net_data.proofs.TableSound.{heading-sound, cells-sound}
 use Rattle.net_data.proofs.ParamSound.{default-sound, named_set-sound, statement-sound}
-use Rattle.net_data.proofs.TablesMean.{lone-sound}
+use Rattle.net_data.proofs.TablesMean.{single-sound}
 
 -- a stop at a token that is not allowed, or for a fault of the table with which the tokens begin
 abbrev pub Blamed : List Token → ParseError → Type 0
-Blamed tokens e = (e.defect ≡ DataSyntax) ⊎ ((span : Span) × (e.at ≡ Some span) × IsFaulty tokens span e.defect)
+Blamed tokens e = (e.error_code ≡ DataSyntax) ⊎ ((span : Span) × (e.at ≡ Some span) × IsFaulty tokens span e.error_code)
 
 bind_err : {A B : Type 0} (read : Result A ParseError) (f : A → Result B ParseError) (e : ParseError) → (read >>= f) ≡ Err e → (read ≡ Err e) ⊎ ((x : A) × (read ≡ Ok x) × (f x ≡ Err e))
 bind_err (Ok x) f e h = inr (x, refl, h)
@@ -37,38 +37,38 @@ bind_err (Err d) f e h = let same : d ≡ e = cc in inl (rw same refl)
 err_is : {A : Type 0} (d e : ParseError) → (let r : Result A ParseError = Err d in r ≡ Err e) → d ≡ e
 err_is d e h = cc
 
-wanted_of : (tokens : List Token) (next : Option (Token × List Token)) (e : ParseError) → wanted_by tokens next ≡ Err e → e.defect ≡ DataSyntax
-unfolding refused
-wanted_of tokens None e h = let same = err_is _ e h in sym (ap (λ (s : ParseError). s.defect) same)
+wanted_of : (tokens : List Token) (next : Option (Token × List Token)) (e : ParseError) → wanted_by tokens next ≡ Err e → e.error_code ≡ DataSyntax
+unfolding rejected
+wanted_of tokens None e h = let same = err_is _ e h in sym (ap (λ (s : ParseError). s.error_code) same)
 wanted_of tokens (Some x) e h = absurd (cc)
 
-wanted_err : (test : Token → Bool) (tokens : List Token) (e : ParseError) → wanted test tokens ≡ Err e → e.defect ≡ DataSyntax
+wanted_err : (test : Token → Bool) (tokens : List Token) (e : ParseError) → wanted test tokens ≡ Err e → e.error_code ≡ DataSyntax
 unfolding wanted
 wanted_err test tokens e h = wanted_of tokens (met test tokens) e h
 
-rested_err : (x : List Token × List Token) (at : Option Span) (e : ParseError) (b : Bool) → (let r : Read (List Token) = cond b (Ok x) (Err (stop DataSyntax at)) in r ≡ Err e) → e.defect ≡ DataSyntax
+rested_err : (x : List Token × List Token) (at : Option Span) (e : ParseError) (b : Bool) → (let r : Read (List Token) = cond b (Ok x) (Err (stop DataSyntax at)) in r ≡ Err e) → e.error_code ≡ DataSyntax
 rested_err x at e true h = absurd (cc)
-rested_err x at e false h = let same = err_is _ e h in sym (ap (λ (s : ParseError). s.defect) same)
+rested_err x at e false h = let same = err_is _ e h in sym (ap (λ (s : ParseError). s.error_code) same)
 
 with_err : (token : Token) (read : Read (List Token)) (e : ParseError) → with_token token read ≡ Err e → read ≡ Err e
 with_err token (Ok x) e h = absurd (cc)
 with_err token (Err d) e h = let same = err_is d e h in rw same refl
 
-items_on : (token : Token) (tokens : List Token) (o : Option Spot) (spot : Spot) (e : ParseError) → items_behind token tokens o spot (items_from (spot_or spot o) tokens) ≡ Err e
-    → ((s : Spot) → items_from s tokens ≡ Err e → e.defect ≡ DataSyntax) → e.defect ≡ DataSyntax
+items_on : (token : Token) (tokens : List Token) (o : Option Spot) (spot : Spot) (e : ParseError) → items_after token tokens o spot (items_from (spot_or spot o) tokens) ≡ Err e
+    → ((s : Spot) → items_from s tokens ≡ Err e → e.error_code ≡ DataSyntax) → e.error_code ≡ DataSyntax
 items_on token tokens (Some next) spot e h behind = behind next (with_err token (items_from next tokens) e h)
 items_on token tokens None spot e h behind = rested_err ([], token ∷ tokens) (Some token.span) e (rests spot) h
 
-items_from_err : (tokens : List Token) (spot : Spot) (e : ParseError) → items_from spot tokens ≡ Err e → e.defect ≡ DataSyntax
+items_from_err : (tokens : List Token) (spot : Spot) (e : ParseError) → items_from spot tokens ≡ Err e → e.error_code ≡ DataSyntax
 unfolding items_from
 items_from_err [] spot e h = rested_err ([], []) None e (rests spot) h
 items_from_err (token ∷ tokens) spot e h = items_on token tokens (spot_after spot token) spot e h (λ s k. items_from_err tokens s e k)
 
-items_err : (tokens : List Token) (e : ParseError) → items tokens ≡ Err e → e.defect ≡ DataSyntax
+items_err : (tokens : List Token) (e : ParseError) → items tokens ≡ Err e → e.error_code ≡ DataSyntax
 unfolding items
 items_err tokens e h = elim (bind_err (items_from outside tokens) _ e h) [ inl k ↦ items_from_err tokens outside e k | inr x ↦ absurd (let k = x.2 in cc) ]
 
-set_err : (keyword : Token) (tokens : List Token) (e : ParseError) → set keyword tokens ≡ Err e → e.defect ≡ DataSyntax
+set_err : (keyword : Token) (tokens : List Token) (e : ParseError) → set keyword tokens ≡ Err e → e.error_code ≡ DataSyntax
 unfolding set
 set_err keyword tokens e h = elim (bind_err _ _ e h) [
   | inl k ↦ wanted_err is_name tokens e k
@@ -96,7 +96,7 @@ headed_err : (columns : List Token) (mark : Token) (tokens : List Token) (e : Pa
 headed_err [] mark tokens e h = (refl, sym (err_is _ e h))
 headed_err (c ∷ columns) mark tokens e h = absurd (cc)
 
-heading_err : (test : Token → Bool) (tokens : List Token) (e : ParseError) → Keeps test → heading test tokens ≡ Err e → (e.defect ≡ DataSyntax) ⊎ NoColumn tokens e
+heading_err : (test : Token → Bool) (tokens : List Token) (e : ParseError) → Keeps test → heading test tokens ≡ Err e → (e.error_code ≡ DataSyntax) ⊎ NoColumn tokens e
 unfolding heading
 heading_err test tokens e keeps h = elim (bind_err _ _ e h) [
   | inl k ↦ inl (wanted_err assign (run test tokens).1 e k)
@@ -108,7 +108,7 @@ heading_err test tokens e keeps h = elim (bind_err _ _ e h) [
       inr (record { mark = a.0.0; rest = a.0.1; printed = printed; marked = mark.passes; blamed = none.1 })
 ]
 
-cells_err : (tokens : List Token) (e : ParseError) → cells tokens ≡ Err e → e.defect ≡ DataSyntax
+cells_err : (tokens : List Token) (e : ParseError) → cells tokens ≡ Err e → e.error_code ≡ DataSyntax
 unfolding cells
 cells_err tokens e h = elim (bind_err _ _ e h) [ inl k ↦ wanted_err semicolon (run is_cell tokens).1 e k | inr a ↦ absurd (let k = a.2 in cc) ]
 
@@ -194,7 +194,7 @@ turned_err keyword name default opening tokens e key named defaults opens h =
           ]
     ]
 
-list_err : (keyword name : Token) (default : Option DefaultValue) (tokens : List Token) (e : ParseError) → list keyword name default tokens ≡ Err e → e.defect ≡ DataSyntax
+list_err : (keyword name : Token) (default : Option DefaultValue) (tokens : List Token) (e : ParseError) → list keyword name default tokens ≡ Err e → e.error_code ≡ DataSyntax
 unfolding list
 list_err keyword name default tokens e h = elim (bind_err _ _ e h) [ inl k ↦ wanted_err semicolon (given tokens).1 e k | inr a ↦ absurd (let k = a.2 in cc) ]
 
@@ -214,11 +214,11 @@ body_err : (keyword name : Token) (default : Option DefaultValue) (tokens : List
 unfolding body
 body_err keyword name default tokens e key named defaults h = body_of keyword name default tokens (met (is_mark (codes "(")) tokens) (met colon tokens) e key named defaults refl refl h
 
-default_of : (tokens : List Token) (next : Option (Token × List Token)) (e : ParseError) → default_by tokens next ≡ Err e → e.defect ≡ DataSyntax
+default_of : (tokens : List Token) (next : Option (Token × List Token)) (e : ParseError) → default_by tokens next ≡ Err e → e.error_code ≡ DataSyntax
 default_of tokens None e h = absurd (cc)
 default_of tokens (Some word) e h = elim (bind_err _ _ e h) [ inl k ↦ wanted_err is_member word.1 e k | inr a ↦ absurd (let k = a.2 in cc) ]
 
-default_err : (tokens : List Token) (e : ParseError) → default tokens ≡ Err e → e.defect ≡ DataSyntax
+default_err : (tokens : List Token) (e : ParseError) → default tokens ≡ Err e → e.error_code ≡ DataSyntax
 unfolding default
 default_err tokens e h = default_of tokens (met (is_word (codes "default")) tokens) e h
 
@@ -283,20 +283,20 @@ unfolding statement
 statement_err tokens e h = statement_of tokens (met (is_word (codes "set")) tokens) (met (is_word (codes "param")) tokens) e refl refl h
 
 -- a table that has the fault, behind statements that have none
-record Behind (tokens : List Token) (e : ParseError) (span : Span) : Type 0 where
+record After (tokens : List Token) (e : ParseError) (span : Span) : Type 0 where
   statements : List Statement
   rest : List Token
   printed : bare before tokens ≡ put_all statements rest
   are : AllByRecursion IsStatement statements
   judged : all_judged statements ≡ Ok tt
-  faulty : IsFaulty rest span e.defect
+  faulty : IsFaulty rest span e.error_code
 
 with_err_all : (x : Statement) (read : Read (List Statement)) (e : ParseError) → with_statement x read ≡ Err e → read ≡ Err e
 with_err_all x (Ok y) e h = absurd (cc)
 with_err_all x (Err d) e h = let same = err_is d e h in rw same refl
 
 statements_of : (n : ℕ) (tokens : List Token) (read : Result (Option (Statement × List Token)) ParseError) (e : ParseError) → statement tokens ≡ read → statements_by (statements n) tokens read ≡ Err e
-    → ((rest : List Token) → statements n rest ≡ Err e → (e.defect ≡ DataSyntax) ⊎ ((span : Span) × (e.at ≡ Some span) × Behind rest e span)) → (e.defect ≡ DataSyntax) ⊎ ((span : Span) × (e.at ≡ Some span) × Behind tokens e span)
+    → ((rest : List Token) → statements n rest ≡ Err e → (e.error_code ≡ DataSyntax) ⊎ ((span : Span) × (e.at ≡ Some span) × After rest e span)) → (e.error_code ≡ DataSyntax) ⊎ ((span : Span) × (e.at ≡ Some span) × After tokens e span)
 statements_of n tokens (Ok (Some x)) e is h more =
     let s = statement-sound tokens x is in
     elim (more x.1 (with_err_all x.0 (statements n x.1) e h)) [
@@ -319,36 +319,36 @@ statements_of n tokens (Err d) e is h more =
     let same = err_is d e h in
     elim (statement_err tokens e (rw is (rw same refl))) [ inl k ↦ inl k | inr b ↦ inr (b.0, b.1, record { statements = []; rest = bare before tokens; printed = refl; are = tt; judged = refl; faulty = b.2 }) ]
 
-statements_err : (n : ℕ) (tokens : List Token) (e : ParseError) → statements n tokens ≡ Err e → (e.defect ≡ DataSyntax) ⊎ ((span : Span) × (e.at ≡ Some span) × Behind tokens e span)
+statements_err : (n : ℕ) (tokens : List Token) (e : ParseError) → statements n tokens ≡ Err e → (e.error_code ≡ DataSyntax) ⊎ ((span : Span) × (e.at ≡ Some span) × After tokens e span)
 unfolding statements
 statements_err zero tokens e h = absurd (cc)
 statements_err (suc n) tokens e h = statements_of n tokens (statement tokens) e refl h (λ rest k. statements_err n rest e k)
 
-lone_of : (tokens : List Token) (next : Option (Token × List Token)) (e : ParseError) → lone_by tokens next ≡ Err e → e.defect ≡ DataSyntax
-lone_of tokens None e h = absurd (cc)
-lone_of tokens (Some word) e h = elim (bind_err _ _ e h) [ inl k ↦ wanted_err semicolon word.1 e k | inr a ↦ absurd (let k = a.2 in cc) ]
+single_of : (tokens : List Token) (next : Option (Token × List Token)) (e : ParseError) → single_by tokens next ≡ Err e → e.error_code ≡ DataSyntax
+single_of tokens None e h = absurd (cc)
+single_of tokens (Some word) e h = elim (bind_err _ _ e h) [ inl k ↦ wanted_err semicolon word.1 e k | inr a ↦ absurd (let k = a.2 in cc) ]
 
-lone_err : (word : List ℕ) (tokens : List Token) (e : ParseError) → lone word tokens ≡ Err e → e.defect ≡ DataSyntax
-unfolding lone
-lone_err word tokens e h = lone_of tokens (met (is_word word) tokens) e h
+single_err : (word : List ℕ) (tokens : List Token) (e : ParseError) → single word tokens ≡ Err e → e.error_code ≡ DataSyntax
+unfolding single
+single_err word tokens e h = single_of tokens (met (is_word word) tokens) e h
 
-finished_of : (next : Option (Token × List Token)) (e : ParseError) → finished_by next ≡ Err e → e.defect ≡ DataSyntax
+finished_of : (next : Option (Token × List Token)) (e : ParseError) → finished_by next ≡ Err e → e.error_code ≡ DataSyntax
 finished_of None e h = absurd (cc)
-finished_of (Some x) e h = let same = err_is _ e h in sym (ap (λ (s : ParseError). s.defect) same)
+finished_of (Some x) e h = let same = err_is _ e h in sym (ap (λ (s : ParseError). s.error_code) same)
 
-finished_err : (tokens : List Token) (e : ParseError) → finished tokens ≡ Err e → e.defect ≡ DataSyntax
+finished_err : (tokens : List Token) (e : ParseError) → finished tokens ≡ Err e → e.error_code ≡ DataSyntax
 unfolding finished
 finished_err tokens e h = finished_of (front tokens) e h
 
-pub tables_err : (tokens : List Token) (e : ParseError) → tables tokens ≡ Err e → (e.defect ≡ DataSyntax) ⊎ ((span : Span) × (e.at ≡ Some span) × HasFault tokens e.defect span)
+pub tables_err : (tokens : List Token) (e : ParseError) → tables tokens ≡ Err e → (e.error_code ≡ DataSyntax) ⊎ ((span : Span) × (e.at ≡ Some span) × HasFault tokens e.error_code span)
 unfolding tables
 tables_err tokens e h =
     elim (bind_err _ _ e h) [
-      | inl k ↦ inl (lone_err (codes "data") tokens e k)
+      | inl k ↦ inl (single_err (codes "data") tokens e k)
       | inr a ↦
           elim (bind_err _ _ e a.2) [
             | inl k ↦
-                let opening = lone-sound (codes "data") tokens a.0 refl a.1 in
+                let opening = single-sound (codes "data") tokens a.0 refl a.1 in
                 elim (statements_err (suc (length a.0.1)) a.0.1 e k) [
                   | inl s ↦ inl s
                   | inr b ↦ inr (
@@ -358,7 +358,7 @@ tables_err tokens e h =
                       opening = a.0.0;
                       statements = b.2.statements;
                       rest = b.2.rest;
-                      printed = opening.printed ∙ ap (λ ts. put_lone a.0.0 ts) b.2.printed;
+                      printed = opening.printed ∙ ap (λ ts. put_single a.0.0 ts) b.2.printed;
                       opens = opening.are;
                       are = b.2.are;
                       judged = b.2.judged;
@@ -368,7 +368,7 @@ tables_err tokens e h =
                 ]
             | inr b ↦
                 elim (bind_err _ _ e b.2) [
-                  | inl k ↦ inl (lone_err (codes "end") b.0.1 e k)
+                  | inl k ↦ inl (single_err (codes "end") b.0.1 e k)
                   | inr c ↦
                       elim (bind_err _ _ e c.2) [ inl k ↦ inl (finished_err c.0.1 e k) | inr d ↦ absurd (let k = d.2 in cc) ]
                 ]

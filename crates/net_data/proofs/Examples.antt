@@ -4,14 +4,14 @@ use Rattle.net_lex.specs.declared.token.Kind.{Kind}
 use Rattle.net_lex.specs.declared.token.Kind.TheVariants.{Name, Num, Mark, Dot}
 use Rattle.net_lex.specs.declared.token.Token.{Token}
 use Rattle.net_fault.specs.declared.span.Span.{Span}
-use Rattle.net_fault.specs.declared.defect.Defect.TheVariants.{DataSyntax, RowWidth, TableWidth}
+use Rattle.net_fault.specs.declared.error_code.ErrorCode.TheVariants.{DataSyntax, RowWidth, TableWidth}
 use Rattle.net_data.specs.declared.statement.Statement.TheVariants as kinds
 use Rattle.net_data.specs.declared.parse_error.ParseError.{ParseError}
 use Rattle.net_data.specs.declared.tables.Tables.{Tables}
 use Rattle.net_data.specs.declared.statement.Transposed.{Transposed}
 use Rattle.net_data.specs.Rows.{list_rows, row_across, first_item, more_items, set_rows}
 use Rattle.net_data.specs.Commas.{before, bare}
-use Rattle.net_data.specs.Reading.{tables, stop, met, wanted, refused, run, items, items_from, set, heading, cells, filled, table, given, list, body, default, named, named_set, columns, param, statement, statements, lone, finished}
+use Rattle.net_data.specs.Reading.{tables, stop, met, wanted, rejected, run, items, items_from, set, heading, cells, filled, table, given, list, body, default, named, named_set, columns, param, statement, statements, single, finished}
 
 abbrev at : ℕ → Kind → List ℕ → Token
 at n kind text = record { kind = kind; text = text; span = record { start = n; end = n } }
@@ -52,44 +52,44 @@ set_read : tables set_text ≡ Ok (record {
   }) ∷ [];
   ending = None;
 })
-unfolding set_text tables lone met statements statement set wanted items items_from finished
+unfolding set_text tables single met statements statement set wanted items items_from finished
 set_read = refl
 
 -- param p : := ;
 no_column : outcome (tables (name 1 (codes "param") ∷ name 2 (codes "p") ∷ mark 3 (codes ":") ∷ mark 4 (codes ":=") ∷ mark 5 (codes ";") ∷ [])) ≡ Err (stop TableWidth (place 4))
-unfolding tables lone met statements statement param named wanted default body table heading run cells
+unfolding tables single met statements statement param named wanted default body table heading run cells
 no_column = refl
 
 -- param p : x y := a 1 2 b 3 ;
 short_row : outcome (tables (name 1 (codes "param") ∷ name 2 (codes "p") ∷ mark 3 (codes ":") ∷ name 4 (codes "x") ∷ name 5 (codes "y") ∷ mark 6 (codes ":=") ∷ name 7 (codes "a") ∷ at 8 Num (codes "1")
     ∷ at 9 Num (codes "2") ∷ name 10 (codes "b") ∷ at 11 Num (codes "3") ∷ mark 12 (codes ";") ∷ [])) ≡ Err (stop RowWidth (place 11))
-unfolding tables lone met statements statement param named wanted default body table heading run cells filled
+unfolding tables single met statements statement param named wanted default body table heading run cells filled
 short_row = refl
 
 -- param : S : := ;
 no_name : outcome (tables (name 1 (codes "param") ∷ mark 2 (codes ":") ∷ name 3 (codes "S") ∷ mark 4 (codes ":") ∷ mark 5 (codes ":=") ∷ mark 6 (codes ";") ∷ [])) ≡ Err (stop TableWidth (place 5))
-unfolding tables lone met statements statement param columns named_set wanted heading run cells
+unfolding tables single met statements statement param columns named_set wanted heading run cells
 no_name = refl
 
 -- set S := ( a ) ;
 one_member : outcome (tables (name 1 (codes "set") ∷ name 2 (codes "S") ∷ mark 3 (codes ":=") ∷ mark 4 (codes "(") ∷ name 5 (codes "a") ∷ mark 6 (codes ")") ∷ mark 7 (codes ";") ∷ []))
     ≡ Err (stop DataSyntax (place 6))
-unfolding tables lone met statements statement set wanted items items_from refused
+unfolding tables single met statements statement set wanted items items_from rejected
 one_member = refl
 
 -- end ; x
-behind_end : outcome (tables (name 1 (codes "end") ∷ mark 2 (codes ";") ∷ name 3 (codes "x") ∷ [])) ≡ Err (stop DataSyntax (place 3))
-unfolding tables lone met statements statement wanted finished
-behind_end = refl
+after_end : outcome (tables (name 1 (codes "end") ∷ mark 2 (codes ";") ∷ name 3 (codes "x") ∷ [])) ≡ Err (stop DataSyntax (place 3))
+unfolding tables single met statements statement wanted finished
+after_end = refl
 
 -- param p
 open_end : outcome (tables (name 1 (codes "param") ∷ name 2 (codes "p") ∷ [])) ≡ Err (stop DataSyntax None)
-unfolding tables lone met statements statement param named wanted default body list given refused
+unfolding tables single met statements statement param named wanted default body list given rejected
 open_end = refl
 
 -- nothing but a comma
 nothing : outcome (tables (mark 1 (codes ",") ∷ [])) ≡ Ok 1
-unfolding tables lone met statements statement finished
+unfolding tables single met statements statement finished
 nothing = refl
 
 -- two keys and two values, of which the second is wanted; a point gives no row

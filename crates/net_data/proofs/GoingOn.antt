@@ -2,12 +2,12 @@
 use Rattle.std.proofs.Common.{◌≡◌, ℕ, zero, suc, ◌≤◌, ◌<◌, Bool, List, [], ◌∷◌, ◌++◌, length, Option, Some, None, Result, Ok, Err, refl, ap, sym, ◌∙◌, arith, length-append, codes}
 use Rattle.net_fault.specs.declared.span.Span.{Span}
 use Rattle.net_lex.specs.declared.token.Token.{Token}
-use Rattle.net_fault.specs.declared.defect.Defect.TheVariants.{DataSyntax}
+use Rattle.net_fault.specs.declared.error_code.ErrorCode.TheVariants.{DataSyntax}
 use Rattle.net_data.specs.declared.parse_error.ParseError.{ParseError}
 use Rattle.net_data.specs.declared.statement.Statement.{Statement}
-use Rattle.net_data.specs.declared.tables.Lone.{Lone}
+use Rattle.net_data.specs.declared.tables.Single.{Single}
 use Rattle.net_data.specs.declared.tables.Tables.{Tables}
-use Rattle.net_data.specs.Reading.{Read, stop, front, met, wanted, semicolon, set, param, found, statement, statement_by, with_statement, statements, statements_by, lone, lone_by, finished, finished_by, tables, ◌>>=◌}
+use Rattle.net_data.specs.Reading.{Read, stop, front, met, wanted, semicolon, set, param, found, statement, statement_by, with_statement, statements, statements_by, single, single_by, finished, finished_by, tables, ◌>>=◌}
 use Rattle.net_data.specs.Tests.{is_word}
 use Rattle.net_data.proofs.Lookahead.{never, err_is, place_is, StopsAt, Stops, Local, bind_stops, bind_local, same_local, pure_local}
 use Rattle.net_data.proofs.NextToken.{first_token, wanted_local, choose, met_parts, choose_local}
@@ -109,21 +109,21 @@ all_local (suc n) tokens l =
 
 -- ---- a whole text
 
-abbrev lone_behind : Token → List Token → Read (Option Lone)
-lone_behind word ts = wanted semicolon ts >>= (λ end. Ok (Some (record { word = word; end = end.0 }), end.1))
+abbrev single_after : Token → List Token → Read (Option Single)
+single_after word ts = wanted semicolon ts >>= (λ end. Ok (Some (record { word = word; end = end.0 }), end.1))
 
-lone_is : (word : List ℕ) (ts : List Token) → lone word ts ≡ choose (met (is_word word) ts) (Ok (None, ts)) lone_behind
-unfolding lone
-lone_is word ts = go (met (is_word word) ts)
+single_is : (word : List ℕ) (ts : List Token) → single word ts ≡ choose (met (is_word word) ts) (Ok (None, ts)) single_after
+unfolding single
+single_is word ts = go (met (is_word word) ts)
   where
-    go : (o : Option (Token × List Token)) → lone_by ts o ≡ choose o (Ok (None, ts)) lone_behind
+    go : (o : Option (Token × List Token)) → single_by ts o ≡ choose o (Ok (None, ts)) single_after
     go None = refl
     go (Some x) = refl
 
-lone_local : (word : List ℕ) (tokens : List Token) → Local (lone word) tokens
-lone_local word tokens =
-    same_local (lone word) (λ ts. choose (met (is_word word) ts) (Ok (None, ts)) lone_behind) tokens (lone_is word)
-    (choose_local (is_word word) (λ ts. Ok (None, ts)) lone_behind tokens (pure_local None tokens) (λ first behind i.
+single_local : (word : List ℕ) (tokens : List Token) → Local (single word) tokens
+single_local word tokens =
+    same_local (single word) (λ ts. choose (met (is_word word) ts) (Ok (None, ts)) single_after) tokens (single_is word)
+    (choose_local (is_word word) (λ ts. Ok (None, ts)) single_after tokens (pure_local None tokens) (λ first behind i.
     bind_local (wanted semicolon) (λ end. Ok (Some (record { word = first; end = end.0 }), end.1)) behind (wanted_local semicolon behind) (λ end rest j. pure_local (Some (record { word = first; end = end })) rest)))
 
 abbrev ended : Tables → List Token → Result Tables ParseError
@@ -149,28 +149,28 @@ ended_stops x tokens e h d span at = go (front tokens) refl
               ∙ ap (λ z. let r : Result Tables ParseError = Err z in r) same;
         }
 
-abbrev behind_ending : Option Lone → List Statement → Option Lone × List Token → Result Tables ParseError
-behind_ending opening xs n = ended (record { opening = opening; statements = xs; ending = n.0 }) n.1
+abbrev after_ending : Option Single → List Statement → Option Single × List Token → Result Tables ParseError
+after_ending opening xs n = ended (record { opening = opening; statements = xs; ending = n.0 }) n.1
 
-abbrev behind_all : Option Lone → List Statement × List Token → Result Tables ParseError
-behind_all opening s = lone (codes "end") s.1 >>= behind_ending opening s.0
+abbrev after_all : Option Single → List Statement × List Token → Result Tables ParseError
+after_all opening s = single (codes "end") s.1 >>= after_ending opening s.0
 
-abbrev behind_opening : Option Lone × List Token → Result Tables ParseError
-behind_opening o = all_of o.1 >>= behind_all o.0
+abbrev after_opening : Option Single × List Token → Result Tables ParseError
+after_opening o = all_of o.1 >>= after_all o.0
 
-tables_is : (ts : List Token) → tables ts ≡ (lone (codes "data") ts >>= behind_opening)
+tables_is : (ts : List Token) → tables ts ≡ (single (codes "data") ts >>= after_opening)
 unfolding tables finished
 tables_is ts = refl
 
-tables_stop : (tokens : List Token) → Stops (λ ts. lone (codes "data") ts >>= behind_opening) tokens
+tables_stop : (tokens : List Token) → Stops (λ ts. single (codes "data") ts >>= after_opening) tokens
 tables_stop tokens =
-    bind_stops (lone (codes "data")) behind_opening tokens (lone_local (codes "data") tokens) (λ opening after i.
-    bind_stops all_of (behind_all opening) after (all_local (suc (length after)) after (omega arith)) (λ xs behind j.
-    bind_stops (lone (codes "end")) (behind_ending opening xs) behind (lone_local (codes "end") behind) (λ ending rest k.
+    bind_stops (single (codes "data")) after_opening tokens (single_local (codes "data") tokens) (λ opening after i.
+    bind_stops all_of (after_all opening) after (all_local (suc (length after)) after (omega arith)) (λ xs behind j.
+    bind_stops (single (codes "end")) (after_ending opening xs) behind (single_local (codes "end") behind) (λ ending rest k.
     ended_stops (record { opening = opening; statements = xs; ending = ending }) rest)))
 
 -- where a text stops at a token, it stops there whatever comes behind
-pub stops_at_token : (tokens : List Token) (e : ParseError) (span : Span) → tables tokens ≡ Err e → e.defect ≡ DataSyntax → e.at ≡ Some span → StopsAt tables tokens e span
+pub stops_at_token : (tokens : List Token) (e : ParseError) (span : Span) → tables tokens ≡ Err e → e.error_code ≡ DataSyntax → e.at ≡ Some span → StopsAt tables tokens e span
 stops_at_token tokens e span h d at =
     let s = tables_stop tokens e (sym (tables_is tokens) ∙ h) d span at in
     record { front = s.front; token = s.token; more = s.more; parts = s.parts; at = s.at; looks = s.looks; always = λ other. tables_is (s.front ++ s.token ∷ other) ∙ s.always other }

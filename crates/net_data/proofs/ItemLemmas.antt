@@ -81,13 +81,13 @@ pub more_over : (tokens rest : List Token) (token : Token) → front tokens ≡ 
 more_over tokens rest token h alone over =
     let here = front-bare in_set tokens rest token refl h in rw (here, over, alone) refl
 
-rest_behind : {tokens rest : List Token} → IsTupleRest tokens rest → drop (suc (inside_len tokens)) tokens ≡ rest
-rest_behind (IsTupleRest.last {comma} {member} {closing} {rest} c m k) =
+rest_after : {tokens rest : List Token} → IsTupleRest tokens rest → drop (suc (inside_len tokens)) tokens ≡ rest
+rest_after (IsTupleRest.last {comma} {member} {closing} {rest} c m k) =
     let a = mark-mark (codes ",") (codes ")") comma refl c in let b = member-mark (codes ")") member m in rw (a, b, k) refl
-rest_behind (IsTupleRest.more {comma} {member} {tokens} {rest} c m r) =
+rest_after (IsTupleRest.more {comma} {member} {tokens} {rest} c m r) =
     let a = mark-mark (codes ",") (codes ")") comma refl c in let b = member-mark (codes ")") member m in
     let n = inside_len tokens in
-    let two : 1 + (1 + n) ≡ suc (suc n) = omega arith in rw (a, b, two) (rest_behind r)
+    let two : 1 + (1 + n) ≡ suc (suc n) = omega arith in rw (a, b, two) (rest_after r)
 
 pub more_are : (tokens : List Token) → AreItems tokens → AreItems (more_items tokens)
 more_are [] AreItems.nothing = AreItems.nothing
@@ -96,4 +96,4 @@ more_are (token ∷ first ∷ tokens) (AreItems.tuple o m r a) =
     let b = member-mark (codes ")") first m in
     let n = inside_len tokens in
     let one : 1 + n ≡ suc n = omega arith in
-    rw (o, b, one, rest_behind r) a
+    rw (o, b, one, rest_after r) a

@@ -7,7 +7,7 @@ use Rattle.net_data.specs.Commas.{in_set, bare}
 use Rattle.net_data.specs.Spots.{outside}
 use Rattle.net_lex.specs.declared.token.Token.{Token}
 use Rattle.net_data.specs.declared.spot.Spot.{Spot}
-use Rattle.net_fault.specs.declared.defect.Defect.TheVariants.{DataSyntax}
+use Rattle.net_fault.specs.declared.error_code.ErrorCode.TheVariants.{DataSyntax}
 use Rattle.net_data.specs.Spots.{spot_after, rests}
 use Rattle.net_data.specs.Reading.{Read, stop, with_token, items_from, items}
 use Rattle.net_data.specs.declared.parse_error.ParseError.{ParseError}
@@ -32,7 +32,7 @@ goes_on spot next token tokens h = rw h
 -- one token more
 pub items_on : (before : List Token) (all : Read (List Token)) (spot next : Spot) (token : Token) (tokens : List Token)
     → all ≡ with_tokens before (items_from spot (token ∷ tokens)) → spot_after spot token ≡ Some next → all ≡ with_tokens (before ++ token ∷ []) (items_from next tokens)
-items_on before all spot next token tokens told h = told ∙ ap (with_tokens before) (goes_on spot next token tokens h) ∙ with_one before token (items_from next tokens)
+items_on before all spot next token tokens reported h = reported ∙ ap (with_tokens before) (goes_on spot next token tokens h) ∙ with_one before token (items_from next tokens)
 
 -- a token that does not stand there
 pub items_stop : (spot : Spot) (token : Token) (tokens : List Token) → spot_after spot token ≡ None → rests spot ≡ false → items_from spot (token ∷ tokens) ≡ Err (stop DataSyntax (Some token.span))
@@ -59,8 +59,8 @@ take_at tokens i token lt is = rw (add-one, take-suc tokens i token) (ap (λ t. 
 
 pub items_turn : (tokens : List Token) (i : ℕ) (all : Read (List Token)) (spot next : Spot) (token : Token) → i < length tokens → token ≡ get_or tokens i token
     → all ≡ with_tokens (take i tokens) (items_from spot (drop i tokens)) → spot_after spot token ≡ Some next → all ≡ with_tokens (take (i + 1) tokens) (items_from next (drop (i + 1) tokens))
-items_turn tokens i all spot next token lt is told h =
-    let here : all ≡ with_tokens (take i tokens) (items_from spot (token ∷ drop (i + 1) tokens)) = told ∙ ap (λ r. with_tokens (take i tokens) (items_from spot r)) (drop_at tokens i token lt is) in
+items_turn tokens i all spot next token lt is reported h =
+    let here : all ≡ with_tokens (take i tokens) (items_from spot (token ∷ drop (i + 1) tokens)) = reported ∙ ap (λ r. with_tokens (take i tokens) (items_from spot r)) (drop_at tokens i token lt is) in
     items_on (take i tokens) all spot next token (drop (i + 1) tokens) here h ∙ ap (λ x. with_tokens x (items_from next (drop (i + 1) tokens))) (sym (take_at tokens i token lt is))
 
 -- how many there are is what is read
@@ -68,33 +68,33 @@ pub items_counted : (tokens : List Token) (n : ℕ) → items_from outside token
 unfolding items
 items_counted tokens n h = rw h
 
-pub items_refused : (tokens : List Token) (e : ParseError) → items_from outside tokens ≡ Err e → items tokens ≡ Err e
+pub items_rejected : (tokens : List Token) (e : ParseError) → items_from outside tokens ≡ Err e → items tokens ≡ Err e
 unfolding items
-items_refused tokens e h = rw h
+items_rejected tokens e h = rw h
 
 -- no more tokens than so many are read, where the next one is none of them
 pub counted_over : (tokens : List Token) (len i : ℕ) (all : Read (List Token)) (spot : Spot) (token : Token) → i < length tokens → token ≡ get_or tokens i token → len ≡ i
     → all ≡ with_tokens (take i tokens) (items_from spot (drop i tokens)) → spot_after spot token ≡ None → rests spot ≡ true → all ≡ Ok (take len tokens, drop len tokens)
-counted_over tokens len i all spot token lt is same told h k =
+counted_over tokens len i all spot token lt is same reported h k =
     let here : items_from spot (drop i tokens) ≡ Ok ([], drop i tokens) = rw (drop_at tokens i token lt is) (items_over spot token (drop (i + 1) tokens) h k) in
-    rw same (told ∙ ap (with_tokens (take i tokens)) here ∙ ap (λ x. let r : Read (List Token) = Ok (x, drop i tokens) in r) (append-nil (take i tokens)))
+    rw same (reported ∙ ap (with_tokens (take i tokens)) here ∙ ap (λ x. let r : Read (List Token) = Ok (x, drop i tokens) in r) (append-nil (take i tokens)))
 
 pub counted_stop : (tokens : List Token) (i : ℕ) (all : Read (List Token)) (spot : Spot) (token : Token) → i < length tokens → token ≡ get_or tokens i token
     → all ≡ with_tokens (take i tokens) (items_from spot (drop i tokens)) → spot_after spot token ≡ None → rests spot ≡ false → all ≡ Err (stop DataSyntax (Some token.span))
-counted_stop tokens i all spot token lt is told h k =
+counted_stop tokens i all spot token lt is reported h k =
     let here : items_from spot (drop i tokens) ≡ Err (stop DataSyntax (Some token.span)) = rw (drop_at tokens i token lt is) (items_stop spot token (drop (i + 1) tokens) h k) in
-    told ∙ ap (with_tokens (take i tokens)) here
+    reported ∙ ap (with_tokens (take i tokens)) here
 
 pub counted_end : (tokens : List Token) (len i : ℕ) (all : Read (List Token)) (spot : Spot) → length tokens ≤ i → len ≡ i
     → all ≡ with_tokens (take i tokens) (items_from spot (drop i tokens)) → rests spot ≡ true → all ≡ Ok (take len tokens, drop len tokens)
-counted_end tokens len i all spot le same told k =
+counted_end tokens len i all spot le same reported k =
     let none : drop i tokens ≡ [] = drop_all i tokens le in
     let here : items_from spot (drop i tokens) ≡ Ok ([], drop i tokens) = rw none (items_end spot k) in
-    rw same (told ∙ ap (with_tokens (take i tokens)) here ∙ ap (λ x. let r : Read (List Token) = Ok (x, drop i tokens) in r) (append-nil (take i tokens)))
+    rw same (reported ∙ ap (with_tokens (take i tokens)) here ∙ ap (λ x. let r : Read (List Token) = Ok (x, drop i tokens) in r) (append-nil (take i tokens)))
 
 pub counted_open : (tokens : List Token) (i : ℕ) (all : Read (List Token)) (spot : Spot) → length tokens ≤ i
     → all ≡ with_tokens (take i tokens) (items_from spot (drop i tokens)) → rests spot ≡ false → all ≡ Err (stop DataSyntax None)
-counted_open tokens i all spot le told k =
+counted_open tokens i all spot le reported k =
     let none : drop i tokens ≡ [] = drop_all i tokens le in
     let here : items_from spot (drop i tokens) ≡ Err (stop DataSyntax None) = rw none (items_open spot k) in
-    told ∙ ap (with_tokens (take i tokens)) here
+    reported ∙ ap (with_tokens (take i tokens)) here

@@ -3,7 +3,7 @@ use Rattle.std.proofs.Common.{◌≡◌, Bool, true, false, List, [], ◌∷◌,
 use Rattle.std.specs.Prelude.{if◌then◌else◌}
 use Rattle.net_fault.specs.declared.span.Span.{Span}
 use Rattle.net_lex.specs.declared.token.Token.{Token}
-use Rattle.net_fault.specs.declared.defect.Defect.TheVariants.{DataSyntax}
+use Rattle.net_fault.specs.declared.error_code.ErrorCode.TheVariants.{DataSyntax}
 use Rattle.net_data.specs.declared.parse_error.ParseError.{ParseError}
 use Rattle.net_data.specs.Tests.{is_comma}
 use Rattle.net_data.specs.Reading.{Read, ◌>>=◌}
@@ -83,7 +83,7 @@ pub record StopsAt {B : Type 0} (f : List Token → Result B ParseError) (tokens
 
 -- at the token at which it stops
 abbrev pub Stops : {B : Type 0} → (List Token → Result B ParseError) → List Token → Type 0
-Stops f tokens = (e : ParseError) → f tokens ≡ Err e → e.defect ≡ DataSyntax → (span : Span) → e.at ≡ Some span → StopsAt f tokens e span
+Stops f tokens = (e : ParseError) → f tokens ≡ Err e → e.error_code ≡ DataSyntax → (span : Span) → e.at ≡ Some span → StopsAt f tokens e span
 
 pub record PassesOn {A : Type 0} (f : List Token → Read A) (tokens : List Token) (x : A) (rest : List Token) : Type 0 where
   pub front : List Token
@@ -181,7 +181,7 @@ pure_local {A} x tokens = record {
 }
 
 -- what does not come from the tokens, and is no fault of syntax
-pub const_local : {U B : Type 0} (r : Result U ParseError) (k : U → List Token → Read B) (tokens : List Token) → ((e : ParseError) → r ≡ Err e → e.defect ≡ DataSyntax → ⊥) → ((u : U) → Local (k u) tokens) → Local (λ ts. r >>= (λ u. k u ts)) tokens
+pub const_local : {U B : Type 0} (r : Result U ParseError) (k : U → List Token → Read B) (tokens : List Token) → ((e : ParseError) → r ≡ Err e → e.error_code ≡ DataSyntax → ⊥) → ((u : U) → Local (k u) tokens) → Local (λ ts. r >>= (λ u. k u ts)) tokens
 const_local (Ok u) k tokens never l = l u
 const_local {U} (Err d) k tokens never l = record {
   stops = λ e h s span at. absurd (never e (ap (λ z. let r : Result U ParseError = Err z in r) (err_is d e h)) s);

@@ -2,7 +2,7 @@
 use Rattle.std.proofs.Common.{◌≡◌, Bool, true, false, cond, ◌&&◌, List, [], ◌∷◌, ◌++◌, Option, Some, None, Result, Ok, Err, refl, ap, sym, ◌∙◌, subst, append_assoc, append-nil}
 use Rattle.net_fault.specs.declared.span.Span.{Span}
 use Rattle.net_lex.specs.declared.token.Token.{Token}
-use Rattle.net_fault.specs.declared.defect.Defect.TheVariants.{DataSyntax}
+use Rattle.net_fault.specs.declared.error_code.ErrorCode.TheVariants.{DataSyntax}
 use Rattle.net_data.specs.declared.parse_error.ParseError.{ParseError}
 use Rattle.net_data.specs.Tests.{is_comma}
 use Rattle.net_data.specs.Commas.{Place, place_after, skips, bare}
@@ -44,7 +44,7 @@ pub record Crossed {A : Type 0} (K : Written A) (p q : Place) (w : List Token �
   pub text : (r : List Token) → K.put x (bare q r) ≡ w (bare p (front ++ r))
 
 abbrev pub Mending : {A B : Type 0} → Written A → Place → Place → (List Token → List Token) → List Token → Result B ParseError → Type 0
-Mending K p q w tokens read = (e : ParseError) → read ≡ Err e → e.defect ≡ DataSyntax → Mended K p q w tokens e.at
+Mending K p q w tokens read = (e : ParseError) → read ≡ Err e → e.error_code ≡ DataSyntax → Mended K p q w tokens e.at
 
 pub record Reads {A : Type 0} (K : Written A) (p q : Place) (w : List Token → List Token) (tokens : List Token) (read : Read A) : Type 0 where
   pub crosses : (x : A) (rest : List Token) → read ≡ Ok (x, rest) → Crossed K p q w tokens x rest
@@ -129,8 +129,8 @@ then_reads K L p m q w tokens f k first ends after = record {
 }
 
 -- what is only told
-pub told_reads : {A : Type 0} (K : Written A) (q : Place) (w : List Token → List Token) (x : A) (rest : List Token) → K.fits x → ((r : List Token) → K.put x r ≡ w r) → Reads K q q w rest (Ok (x, rest))
-told_reads K q w x rest fits text = record {
+pub reported_reads : {A : Type 0} (K : Written A) (q : Place) (w : List Token → List Token) (x : A) (rest : List Token) → K.fits x → ((r : List Token) → K.put x r ≡ w r) → Reads K q q w rest (Ok (x, rest))
+reported_reads K q w x rest fits text = record {
   crosses = λ y last h.
       let both = ok_parts x y rest last h in
       record { front = []; parts = both.1; fits = subst K.fits both.0 fits; text = λ r. ap (λ z. K.put z (bare q r)) (sym both.0) ∙ text (bare q r) };
@@ -142,7 +142,7 @@ abbrev pub token : (Token → Bool) → Written Token
 token test = record { put = λ t r. t ∷ r; fits = λ t. test t ≡ true }
 
 -- the commas before the next token
-pub record Behind (tokens : List Token) (t : Token) (rest : List Token) : Type 0 where
+pub record After (tokens : List Token) (t : Token) (rest : List Token) : Type 0 where
   pub commas : List Token
   pub parts : tokens ≡ commas ++ t ∷ rest
   pub skipped : (p : Place) → skips p ≡ true → (r : List Token) → bare p (commas ++ r) ≡ bare p r
@@ -158,11 +158,11 @@ keep p t ts is = by (skips p)
     by true = rw is refl
     by false = refl
 
-pub behind_commas : (tokens : List Token) (t : Token) (rest : List Token) → front tokens ≡ Some (t, rest) → Behind tokens t rest
-behind_commas [] t rest h = absurd (let i = h in cc)
-behind_commas (x ∷ xs) t rest h = go (is_comma x) refl h (behind_commas xs t rest)
+pub after_commas : (tokens : List Token) (t : Token) (rest : List Token) → front tokens ≡ Some (t, rest) → After tokens t rest
+after_commas [] t rest h = absurd (let i = h in cc)
+after_commas (x ∷ xs) t rest h = go (is_comma x) refl h (after_commas xs t rest)
   where
-    go : (b : Bool) → is_comma x ≡ b → cond b (front xs) (Some (x, xs)) ≡ Some (t, rest) → (front xs ≡ Some (t, rest) → Behind xs t rest) → Behind (x ∷ xs) t rest
+    go : (b : Bool) → is_comma x ≡ b → cond b (front xs) (Some (x, xs)) ≡ Some (t, rest) → (front xs ≡ Some (t, rest) → After xs t rest) → After (x ∷ xs) t rest
     go true i k more =
         let f = more k in
         record {
@@ -203,7 +203,7 @@ commas_mend K p q w tokens e outside b None i at = record {
   begun = record { thing = b.thing; fits = b.fits; rest = b.rest; text = λ r. b.text r ∙ ap w (sym (all_commas tokens i p outside (b.rest ++ r))) };
 }
 commas_mend K p q w tokens e outside b (Some x) i at =
-    let f = behind_commas tokens x.0 x.1 i in
+    let f = after_commas tokens x.0 x.1 i in
     record {
       before = f.commas;
       left = x.0 ∷ x.1;
@@ -212,7 +212,7 @@ commas_mend K p q w tokens e outside b (Some x) i at =
       begun = record { thing = b.thing; fits = b.fits; rest = b.rest; text = λ r. b.text r ∙ ap w (sym (f.skipped p outside (b.rest ++ r))) };
     }
 
-crossed_token : (p q : Place) (test : Token → Bool) (tokens : List Token) (t : Token) (rest : List Token) → Moves p q test → test t ≡ true → Behind tokens t rest → Crossed (token test) p q same tokens t rest
+crossed_token : (p q : Place) (test : Token → Bool) (tokens : List Token) (t : Token) (rest : List Token) → Moves p q test → test t ≡ true → After tokens t rest → Crossed (token test) p q same tokens t rest
 crossed_token p q test tokens t rest m passes f = record {
   front = f.commas ++ t ∷ [];
   parts = f.parts ∙ sym (append_assoc f.commas (t ∷ []) rest);
@@ -235,7 +235,7 @@ wanted_reads p q test filler tokens m passes plain = subst (Reads (token test) p
     by x i true j = record {
       crosses = λ y last h.
           let both = ok_parts x.0 y x.1 last h in
-          subst (λ r. Crossed (token test) p q same tokens y r) both.1 (subst (λ z. Crossed (token test) p q same tokens z x.1) both.0 (crossed_token p q test tokens x.0 x.1 m j (behind_commas tokens x.0 x.1 i)));
+          subst (λ r. Crossed (token test) p q same tokens y r) both.1 (subst (λ z. Crossed (token test) p q same tokens z x.1) both.0 (crossed_token p q test tokens x.0 x.1 m j (after_commas tokens x.0 x.1 i)));
       mends = λ e h d. absurd (let k = h in cc);
     }
     by x i false j = record {
@@ -259,7 +259,7 @@ pub next_reads : {A : Type 0} (K : Written A) (p m q : Place) (w : List Token �
     → met test tokens ≡ Some x → (test x.0 ≡ true → Reads K m q (λ r. w (x.0 ∷ r)) x.1 read) → Reads K p q w tokens read
 next_reads K p m q w test tokens x read moves i after =
     let f = met_parts test tokens x i in
-    let c = crossed_token p m test tokens x.0 x.1 moves f.passes (behind_commas tokens x.0 x.1 f.front) in
+    let c = crossed_token p m test tokens x.0 x.1 moves f.passes (after_commas tokens x.0 x.1 f.front) in
     let r = after f.passes in
     record {
       crosses = λ y last h. rest-crosses (token test) K p m q w tokens x.0 x.1 y last c (r.crosses y last h);

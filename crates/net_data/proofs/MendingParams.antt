@@ -9,12 +9,12 @@ use Rattle.net_data.specs.declared.statement.Statement.TheVariants as kinds
 use Rattle.net_data.specs.Commas.{before, elsewhere}
 use Rattle.net_data.specs.Meaning.{IsDefault, IsGiven, IsNamedSet}
 use Rattle.net_data.specs.Printing.{put_default, put_given, put_set}
-use Rattle.net_data.specs.Reading.{Read, met, met_behind, wanted, semicolon, colon, assign, heading, cells, given, given_by, list, body, body_by, default, default_by, named, named_set, named_set_by, columns, param, param_by, ◌>>=◌}
+use Rattle.net_data.specs.Reading.{Read, met, met_after, wanted, semicolon, colon, assign, heading, cells, given, given_by, list, body, body_by, default, default_by, named, named_set, named_set_by, columns, param, param_by, ◌>>=◌}
 use Rattle.net_data.specs.Tests.{is_name, is_member, is_cell, is_word, is_mark}
 use Rattle.net_data.proofs.RunLemmas.{keeps_name, keeps_cell}
 use Rattle.net_data.proofs.RunsAhead.{ran}
 use Rattle.net_data.proofs.Steps.{in_name, in_member, in_word, in_mark, in_end}
-use Rattle.net_data.proofs.Mending.{Written, Begun, Reads, same, token, then_reads, told_reads, wanted_reads, next_reads}
+use Rattle.net_data.proofs.Mending.{Written, Begun, Reads, same, token, then_reads, reported_reads, wanted_reads, next_reads}
 use Rattle.net_data.proofs.MendingRuns.{a_name, passing, run_reads}
 use Rattle.net_data.proofs.MendingStatements.{statement_kind, stop_mark, gives_mark, heading_kind, heading_reads, cells_kind, cells_reads, table_reads, turned_reads}
 
@@ -26,12 +26,12 @@ unfolding default
 default_reads tokens = go (met (is_word (codes "default")) tokens) refl
   where
     go : (o : Option (Token × List Token)) → met (is_word (codes "default")) tokens ≡ o → Reads default_kind elsewhere elsewhere same tokens (default_by tokens o)
-    go None i = told_reads default_kind elsewhere same None tokens tt (λ r. refl)
+    go None i = reported_reads default_kind elsewhere same None tokens tt (λ r. refl)
     go (Some x) i =
         next_reads default_kind elsewhere elsewhere elsewhere same (is_word (codes "default")) tokens x _ (in_word (codes "default")) i
         (λ key. then_reads (token is_member) default_kind elsewhere elsewhere elsewhere (λ r. x.0 ∷ r) x.1 (wanted is_member x.1) _ (wanted_reads elsewhere elsewhere is_member a_name x.1 in_member refl refl)
         (λ y member. record { thing = Some (record { keyword = x.0; value = y }); fits = record { keyword = key; value = member }; rest = []; text = λ r. refl })
-        (λ y r1 e1 member. told_reads default_kind elsewhere (λ r. x.0 ∷ y ∷ r) (Some (record { keyword = x.0; value = y })) r1 (record { keyword = key; value = member }) (λ r. refl)))
+        (λ y r1 e1 member. reported_reads default_kind elsewhere (λ r. x.0 ∷ y ∷ r) (Some (record { keyword = x.0; value = y })) r1 (record { keyword = key; value = member }) (λ r. refl)))
 
 abbrev given_kind : Written (Option Given)
 given_kind = record { put = put_given; fits = λ x. IfSome x IsGiven }
@@ -47,24 +47,24 @@ given_reads tokens = go (met assign tokens) refl
     give mark x = Ok (Some (record { assign = mark; cells = x.0 }), x.1)
 
     go : (o : Option (Token × List Token)) → met assign tokens ≡ o → Reads given_kind elsewhere elsewhere same tokens (Ok ((given_by tokens o).0, (given_by tokens o).1))
-    go None i = told_reads given_kind elsewhere same None tokens tt (λ r. refl)
+    go None i = reported_reads given_kind elsewhere same None tokens tt (λ r. refl)
     go (Some x) i =
         next_reads given_kind elsewhere elsewhere elsewhere same assign tokens x _ (in_mark (codes ":=") refl) i
         (λ gives. then_reads (passing is_cell) given_kind elsewhere elsewhere elsewhere (λ r. x.0 ∷ r) x.1 (ran is_cell x.1) (give x.0) (run_reads is_cell x.1 keeps_cell)
         (λ xs pass. record { thing = Some (record { assign = x.0; cells = xs }); fits = record { assign = gives; cells = pass }; rest = []; text = λ r. refl })
-        (λ xs r1 e1 pass. told_reads given_kind elsewhere (λ r. x.0 ∷ (xs ++ r)) (Some (record { assign = x.0; cells = xs })) r1 (record { assign = gives; cells = pass }) (λ r. refl)))
+        (λ xs r1 e1 pass. reported_reads given_kind elsewhere (λ r. x.0 ∷ (xs ++ r)) (Some (record { assign = x.0; cells = xs })) r1 (record { assign = gives; cells = pass }) (λ r. refl)))
 
 abbrev list_of : Token → Token → Option DefaultValue → Option Given → Token → Statement
 list_of keyword name value g end = kinds.List (record { keyword = keyword; name = name; default = value; given = g; end = end })
 
-abbrev list_behind : Token → Token → Option DefaultValue → Option Given × List Token → Read Statement
-list_behind keyword name value g = wanted semicolon g.1 >>= (λ end. Ok (list_of keyword name value g.0 end.0, end.1))
+abbrev list_after : Token → Token → Option DefaultValue → Option Given × List Token → Read Statement
+list_after keyword name value g = wanted semicolon g.1 >>= (λ end. Ok (list_of keyword name value g.0 end.0, end.1))
 
 list_reads : (keyword name : Token) (value : Option DefaultValue) (tokens : List Token) → is_word (codes "param") keyword ≡ true → is_name name ≡ true → IfSome value IsDefault
     → Reads statement_kind elsewhere before (λ r. keyword ∷ name ∷ put_default value r) tokens (list keyword name value tokens)
 unfolding list
 list_reads keyword name value tokens key names defaults =
-    then_reads given_kind statement_kind elsewhere elsewhere before (λ r. keyword ∷ name ∷ put_default value r) tokens (read_given tokens) (list_behind keyword name value) (given_reads tokens)
+    then_reads given_kind statement_kind elsewhere elsewhere before (λ r. keyword ∷ name ∷ put_default value r) tokens (read_given tokens) (list_after keyword name value) (given_reads tokens)
     (λ g are. record {
       thing = list_of keyword name value g stop_mark;
       fits = record { keyword = key; name = names; default = defaults; given = are; end = refl };
@@ -75,7 +75,7 @@ list_reads keyword name value tokens key names defaults =
     then_reads (token semicolon) statement_kind elsewhere before before (λ r. keyword ∷ name ∷ put_default value (put_given g r)) r1 (wanted semicolon r1) _ (wanted_reads elsewhere before semicolon stop_mark r1 in_end refl refl)
     (λ x ends. record { thing = list_of keyword name value g x; fits = record { keyword = key; name = names; default = defaults; given = are; end = ends }; rest = []; text = λ r. refl })
     (λ end r2 e2 ends.
-    told_reads statement_kind before (λ r. keyword ∷ name ∷ put_default value (put_given g (end ∷ r))) (list_of keyword name value g end) r2
+    reported_reads statement_kind before (λ r. keyword ∷ name ∷ put_default value (put_given g (end ∷ r))) (list_of keyword name value g end) r2
     (record { keyword = key; name = names; default = defaults; given = are; end = ends }) (λ r. refl)))
 
 body_reads : (keyword name : Token) (value : Option DefaultValue) (tokens : List Token) → is_word (codes "param") keyword ≡ true → is_name name ≡ true → IfSome value IsDefault
@@ -127,28 +127,28 @@ named_set_reads tokens = go (met is_name tokens) refl
     read o p = Ok ((named_set_by tokens o p).0, (named_set_by tokens o p).1)
 
     by : (x : Token × List Token) → met is_name tokens ≡ Some x → (p : Option (Token × List Token)) → met colon x.1 ≡ p → Reads named_kind elsewhere elsewhere same tokens (read (Some x) p)
-    by x i None j = told_reads named_kind elsewhere same None tokens tt (λ r. refl)
+    by x i None j = reported_reads named_kind elsewhere same None tokens tt (λ r. refl)
     by x i (Some y) j =
         next_reads named_kind elsewhere elsewhere elsewhere same is_name tokens x _ in_name i (λ names.
         next_reads named_kind elsewhere elsewhere elsewhere (λ r. x.0 ∷ r) colon x.1 y _ (in_mark (codes ":") refl) j (λ colons.
-        told_reads named_kind elsewhere (λ r. x.0 ∷ y.0 ∷ r) (Some (record { name = x.0; colon = y.0 })) y.1 (record { name = names; colon = colons }) (λ r. refl)))
+        reported_reads named_kind elsewhere (λ r. x.0 ∷ y.0 ∷ r) (Some (record { name = x.0; colon = y.0 })) y.1 (record { name = names; colon = colons }) (λ r. refl)))
 
-    go : (o : Option (Token × List Token)) → met is_name tokens ≡ o → Reads named_kind elsewhere elsewhere same tokens (read o (met_behind colon o))
-    go None i = told_reads named_kind elsewhere same None tokens tt (λ r. refl)
+    go : (o : Option (Token × List Token)) → met is_name tokens ≡ o → Reads named_kind elsewhere elsewhere same tokens (read o (met_after colon o))
+    go None i = reported_reads named_kind elsewhere same None tokens tt (λ r. refl)
     go (Some x) i = by x i (met colon x.1) refl
 
 abbrev columns_of : Token → Token → Option NamedSet → List Token → Token → List Token → Token → Statement
 columns_of keyword mark of names gives all end =
     kinds.Columns (record { keyword = keyword; colon = mark; set = of; names = names; assign = gives; cells = all; end = end })
 
-abbrev columns_behind : Token → Token → Option NamedSet × List Token → Read Statement
-columns_behind keyword mark of =
+abbrev columns_after : Token → Token → Option NamedSet × List Token → Read Statement
+columns_after keyword mark of =
     heading is_name of.1 >>= (λ head. cells head.1 >>= (λ all. Ok (columns_of keyword mark of.0 head.0.0 head.0.1 all.0.0 all.0.1, all.1)))
 
 columns_reads : (keyword mark : Token) (tokens : List Token) → is_word (codes "param") keyword ≡ true → colon mark ≡ true → Reads statement_kind elsewhere before (λ r. keyword ∷ mark ∷ r) tokens (columns keyword mark tokens)
 unfolding columns
 columns_reads keyword mark tokens key colons =
-    then_reads named_kind statement_kind elsewhere elsewhere before (λ r. keyword ∷ mark ∷ r) tokens (read_named tokens) (columns_behind keyword mark) (named_set_reads tokens)
+    then_reads named_kind statement_kind elsewhere elsewhere before (λ r. keyword ∷ mark ∷ r) tokens (read_named tokens) (columns_after keyword mark) (named_set_reads tokens)
     (λ of are. record {
       thing = columns_of keyword mark of [] gives_mark [] stop_mark;
       fits = record { heading = record { keyword = key; colon = colons; set = are; names = refl; assign = refl }; cells = refl; end = refl };
@@ -172,7 +172,7 @@ columns_reads keyword mark tokens key colons =
       text = λ r. refl;
     })
     (λ all r3 e3 g.
-    told_reads statement_kind before _ (columns_of keyword mark of head.0 head.1 all.0 all.1) r3
+    reported_reads statement_kind before _ (columns_of keyword mark of head.0 head.1 all.0 all.1) r3
     (record { heading = record { keyword = key; colon = colons; set = are; names = f.0; assign = f.1 }; cells = g.0; end = g.1 }) (λ r. refl))))
 
 pub param_reads : (keyword : Token) (tokens : List Token) → is_word (codes "param") keyword ≡ true → Reads statement_kind elsewhere before (λ r. keyword ∷ r) tokens (param keyword tokens)

@@ -7,7 +7,7 @@ use Rattle.net_fault.specs.declared.span.Span.{Span}
 use Rattle.net_lex.specs.declared.token.Token.{Token}
 use Rattle.net_lex.specs.declared.token.Kind.{Kind}
 use Rattle.net_lex.specs.declared.token.Kind.TheVariants as tokens_of
-use Rattle.net_fault.specs.declared.defect.Defect.TheVariants.{DataSyntax}
+use Rattle.net_fault.specs.declared.error_code.ErrorCode.TheVariants.{DataSyntax}
 use Rattle.net_data.specs.declared.spot.Spot.{Spot}
 use Rattle.net_data.specs.declared.spot.Spot.TheVariants.{Outside, Opened, First, Parted, Later}
 use Rattle.net_data.specs.declared.parse_error.ParseError.{ParseError}
@@ -17,7 +17,7 @@ use Rattle.net_data.specs.Reading.{Read, stop, run, items, items_from, items_of,
 use Rattle.net_data.specs.Spots.{spot_after, rests}
 use Rattle.net_data.specs.Tests.{is_comma}
 use Rattle.net_data.proofs.Lookahead.{ok_parts}
-use Rattle.net_data.proofs.RunLemmas.{Keeps, run_behind, run-cons, run-nil}
+use Rattle.net_data.proofs.RunLemmas.{Keeps, run_after, run-cons, run-nil}
 use Rattle.net_data.proofs.RunsAhead.{ran}
 use Rattle.net_data.proofs.SetRuns.{place_of as spot_place, Walk, walked, place_next, skip_stays, bare-keep, bare-skip, walk_cons, with_inv, items-some, items-none, items-nil}
 use Rattle.net_data.proofs.Mending.{Written, place_of, Reads, same}
@@ -49,7 +49,7 @@ ran_on : (test : Token → Bool) → Keeps test → (tokens : List Token) → Ra
 ran_on test keeps [] = subst (Ran test []) (sym (run-nil test)) (record { front = []; parts = refl; pass = refl; text = λ r. refl })
 ran_on test keeps (t ∷ ts) = subst (Ran test (t ∷ ts)) (sym (run-cons test t ts)) (go (is_comma t) refl (test t) refl (ran_on test keeps ts))
   where
-    go : (c : Bool) → is_comma t ≡ c → (b : Bool) → test t ≡ b → Ran test ts (run test ts) → Ran test (t ∷ ts) (run_behind t ts c b (run test ts))
+    go : (c : Bool) → is_comma t ≡ c → (b : Bool) → test t ≡ b → Ran test ts (run test ts) → Ran test (t ∷ ts) (run_after t ts c b (run test ts))
     go true i b j x = record { front = t ∷ x.front; parts = ap (λ us. t ∷ us) x.parts; pass = x.pass; text = λ r. x.text r ∙ sym (rw i refl) }
     go false i true j x =
         let no = keeps.no_semicolon t j in
@@ -123,7 +123,7 @@ leading_cons spot next token front e l = by (skips (spot_place spot) && is_comma
         let stays : next ≡ spot = let k = sym e ∙ both.1 in cc in
         leading_skip spot token front skip (subst (λ s. Leading s front) stays l)
 
-record Refused (spot : Spot) (tokens : List Token) (at : Option Span) : Type 0 where
+record Rejected (spot : Spot) (tokens : List Token) (at : Option Span) : Type 0 where
   front : List Token
   left : List Token
   parts : tokens ≡ front ++ left
@@ -141,13 +141,13 @@ with_err : (token : Token) (read : Read (List Token)) (e : ParseError) → with_
 with_err token (Ok x) e h = absurd (let k = h in cc)
 with_err token (Err d) e h = let s : d ≡ e = cc in ap (λ z. let r : Read (List Token) = Err z in r) s
 
-items-refused : (spot : Spot) (tokens : List Token) (e : ParseError) → items_from spot tokens ≡ Err e → Refused spot tokens e.at
-items-refused spot [] e h =
+items-rejected : (spot : Spot) (tokens : List Token) (e : ParseError) → items_from spot tokens ≡ Err e → Rejected spot tokens e.at
+items-rejected spot [] e h =
     let s = resting spot [] e (stop DataSyntax None) (sym (items-nil spot) ∙ h) in
     record { front = []; left = []; parts = refl; stands = ap (λ (z : ParseError). z.at) (sym s); leads = leading_none spot }
-items-refused spot (t ∷ ts) e h = go (spot_after spot t) refl (λ next k. items-refused next ts e k)
+items-rejected spot (t ∷ ts) e h = go (spot_after spot t) refl (λ next k. items-rejected next ts e k)
   where
-    go : (o : Option Spot) → spot_after spot t ≡ o → ((next : Spot) → items_from next ts ≡ Err e → Refused next ts e.at) → Refused spot (t ∷ ts) e.at
+    go : (o : Option Spot) → spot_after spot t ≡ o → ((next : Spot) → items_from next ts ≡ Err e → Rejected next ts e.at) → Rejected spot (t ∷ ts) e.at
     go None i more =
         let s = resting spot (t ∷ ts) e (stop DataSyntax (Some t.span)) (sym (items-none spot t ts i) ∙ h) in
         record { front = []; left = t ∷ ts; parts = refl; stands = ap (λ (z : ParseError). z.at) (sym s); leads = leading_none spot }
@@ -226,7 +226,7 @@ items_reads tokens = record {
         text = λ r. ap (λ z. z ++ bare in_set r) (sym first) ∙ t.text r;
       };
   mends = λ e h d.
-      let f = items-refused Outside tokens e (items_err (items_from Outside tokens) e h) in
+      let f = items-rejected Outside tokens e (items_err (items_from Outside tokens) e h) in
       record {
         before = f.front;
         left = f.left;

@@ -2,7 +2,7 @@
 use Rattle.std.proofs.Common.{◌≡◌, Bool, true, List, [], ◌∷◌, ◌++◌, Option, Some, IfSome, Result, Ok, Err, refl, ap, sym, ◌∙◌, codes}
 use Rattle.std.specs.List.{list_all}
 use Rattle.net_lex.specs.declared.token.Token.{Token}
-use Rattle.net_fault.specs.declared.defect.Defect.TheVariants.{DataSyntax, TableWidth}
+use Rattle.net_fault.specs.declared.error_code.ErrorCode.TheVariants.{DataSyntax, TableWidth}
 use Rattle.net_data.specs.declared.statement.DefaultValue.{DefaultValue}
 use Rattle.net_data.specs.declared.statement.Transposed.{Transposed}
 use Rattle.net_data.specs.declared.statement.Statement.{Statement}
@@ -19,7 +19,7 @@ use Rattle.net_data.proofs.RunLemmas.{Keeps, keeps_member, keeps_cell}
 use Rattle.net_data.proofs.RunsAhead.{ran}
 use Rattle.net_data.proofs.StatementsAhead.{heads_of, read_cells}
 use Rattle.net_data.proofs.Steps.{in_set_name, in_set_mark, in_set_end, in_word, in_mark, in_end}
-use Rattle.net_data.proofs.Mending.{Written, Begun, Reads, same, token, then_reads, told_reads, wanted_reads}
+use Rattle.net_data.proofs.Mending.{Written, Begun, Reads, same, token, then_reads, reported_reads, wanted_reads}
 use Rattle.net_data.proofs.MendingRuns.{a_name, a_mark, a_word, passing, run_reads, item_list, items_reads}
 
 abbrev pub statement_kind : Written Statement
@@ -73,7 +73,7 @@ set_reads keyword tokens key =
       text = λ r. refl;
     })
     (λ end r4 e4 ends.
-    told_reads statement_kind before (λ r. keyword ∷ name ∷ mark ∷ (xs ++ end ∷ r)) (set_of keyword name mark xs end) r4
+    reported_reads statement_kind before (λ r. keyword ∷ name ∷ mark ∷ (xs ++ end ∷ r)) (set_of keyword name mark xs end) r4
     (record { keyword = key; name = named; assign = gives; items = are; end = ends }) (λ r. refl)))))
 
 -- ---- headings and cells
@@ -84,9 +84,9 @@ heading_kind test = record { put = λ x r. x.0 ++ x.1 ∷ r; fits = λ x. (list_
 headed_reads : (test : Token → Bool) (xs : List Token) (mark : Token) (rest : List Token) → list_all test xs ≡ true → assign mark ≡ true → Reads (heading_kind test) elsewhere elsewhere (λ r. xs ++ mark ∷ r) rest (headed xs mark rest)
 headed_reads test [] mark rest pass gives = record {
   crosses = λ x last h. absurd (let k = h in cc);
-  mends = λ e h d. absurd (let k = ap (λ (s : ParseError). s.defect) (err_is {A = (List Token × Token) × List Token} (stop TableWidth (Some mark.span)) e h) ∙ d in cc);
+  mends = λ e h d. absurd (let k = ap (λ (s : ParseError). s.error_code) (err_is {A = (List Token × Token) × List Token} (stop TableWidth (Some mark.span)) e h) ∙ d in cc);
 }
-headed_reads test (c ∷ xs) mark rest pass gives = told_reads (heading_kind test) elsewhere (λ r. c ∷ xs ++ mark ∷ r) (c ∷ xs, mark) rest (pass, gives) (λ r. refl)
+headed_reads test (c ∷ xs) mark rest pass gives = reported_reads (heading_kind test) elsewhere (λ r. c ∷ xs ++ mark ∷ r) (c ∷ xs, mark) rest (pass, gives) (λ r. refl)
 
 pub heading_reads : (test : Token → Bool) (tokens : List Token) → Keeps test → Reads (heading_kind test) elsewhere elsewhere same tokens (heading test tokens)
 unfolding heading
@@ -109,18 +109,18 @@ cells_reads tokens =
     (λ xs r1 e1 pass.
     then_reads (token semicolon) cells_kind elsewhere before before (λ r. xs ++ r) r1 (wanted semicolon r1) _ (wanted_reads elsewhere before semicolon stop_mark r1 in_end refl refl)
     (λ x ends. record { thing = (xs, x); fits = (pass, ends); rest = []; text = λ r. refl })
-    (λ end r2 e2 ends. told_reads cells_kind before (λ r. xs ++ end ∷ r) (xs, end) r2 (pass, ends) (λ r. refl)))
+    (λ end r2 e2 ends. reported_reads cells_kind before (λ r. xs ++ end ∷ r) (xs, end) r2 (pass, ends) (λ r. refl)))
 
 -- what is judged and is no fault of the grammar
 judged_reads : {U A : Type 0} (K : Written A) (q : Place) (w : List Token → List Token) (tokens : List Token) (judged : Result U ParseError) (x : A × List Token)
-    → ((e : ParseError) → judged ≡ Err e → e.defect ≡ DataSyntax → ⊥) → Reads K q q w tokens (Ok x) → Reads K q q w tokens (judged >>= (λ u. Ok x))
+    → ((e : ParseError) → judged ≡ Err e → e.error_code ≡ DataSyntax → ⊥) → Reads K q q w tokens (Ok x) → Reads K q q w tokens (judged >>= (λ u. Ok x))
 judged_reads K q w tokens (Ok u) x never r = r
 judged_reads {U} {A} K q w tokens (Err t) x never r = record {
   crosses = λ y last h. absurd (let k = h in cc);
   mends = λ e h d. absurd (never e (ap (λ z. let j : Result U ParseError = Err z in j) (err_is {A = A × List Token} t e h)) d);
 }
 
-filled_never : (heads all : List Token) (e : ParseError) → filled heads all ≡ Err e → e.defect ≡ DataSyntax → ⊥
+filled_never : (heads all : List Token) (e : ParseError) → filled heads all ≡ Err e → e.error_code ≡ DataSyntax → ⊥
 filled_never heads all e h d = let k = (filled_err heads all e h).1 in absurd (cc)
 
 abbrev table_of : Token → Token → Option DefaultValue → Option Transposed → Token → List Token → Token → List Token → Token → Statement
@@ -150,7 +150,7 @@ table_reads keyword name value turned mark tokens key names defaults turns colon
     })
     (λ all r2 e2 g.
     judged_reads statement_kind before _ r2 (filled head.0 all.0) (table_of keyword name value turned mark head.0 head.1 all.0 all.1, r2) (filled_never head.0 all.0)
-    (told_reads statement_kind before _ (table_of keyword name value turned mark head.0 head.1 all.0 all.1) r2
+    (reported_reads statement_kind before _ (table_of keyword name value turned mark head.0 head.1 all.0 all.1) r2
     (record { heading = record { keyword = key; name = names; default = defaults; transposed = turns; colon = colons; columns = f.0; assign = f.1 }; cells = g.0; end = g.1 })
     (λ r. refl))))
 

@@ -3,10 +3,10 @@ use Rattle.std.proofs.Common.{◌≡◌, Bool, true, false, List, [], ◌∷◌,
 use Rattle.std.specs.Prelude.{is_some, if◌then◌else◌}
 use Rattle.std.specs.Option.{option_map}
 use Rattle.net_lex.specs.declared.token.Token.{Token}
-use Rattle.net_fault.specs.declared.defect.Defect.TheVariants.{DataSyntax}
+use Rattle.net_fault.specs.declared.error_code.ErrorCode.TheVariants.{DataSyntax}
 use Rattle.net_data.specs.declared.parse_error.ParseError.{ParseError}
 use Rattle.net_data.specs.Tests.{is_comma}
-use Rattle.net_data.specs.Reading.{Read, stop, span_of, front, met_by, met, refused, wanted_by, wanted}
+use Rattle.net_data.specs.Reading.{Read, stop, span_of, front, met_by, met, rejected, wanted_by, wanted}
 use Rattle.net_data.proofs.Lookahead.{ok_parts, some_parts, err_is, place_is, looked, looked_join, looked_token, Local, same_local}
 
 -- ---- the next token
@@ -46,7 +46,7 @@ wanted_of test None = Err (stop DataSyntax None)
 wanted_of test (Some x) = if test x.0 then Ok x else Err (stop DataSyntax (Some x.0.span))
 
 pub wanted_is : (test : Token → Bool) (tokens : List Token) → wanted test tokens ≡ wanted_of test (front tokens)
-unfolding wanted met refused
+unfolding wanted met rejected
 wanted_is test tokens = go (front tokens) refl
   where
     by : (x : Token × List Token) (b : Bool) → front tokens ≡ Some x → wanted_by tokens (if b then Some x else None) ≡ (if b then Ok x else Err (stop DataSyntax (Some x.0.span)))

@@ -9,7 +9,7 @@ use Rattle.net_data.specs.Tests.{is_name, is_member, is_word, is_mark}
 use Rattle.net_data.specs.Commas.{before, in_set, elsewhere, bare}
 use Rattle.net_data.specs.Printing.{put, put_default, put_set, put_all}
 use Rattle.net_data.specs.Meaning.{IsDefault, IsNamedSet, IsStatement, all_judged}
-use Rattle.net_data.specs.Reading.{Read, body, body_by, default, default_by, named, named_set, named_set_by, met_behind, columns, param, param_by, statement, statement_by, found, statements, statements_by, with_statement, met, colon}
+use Rattle.net_data.specs.Reading.{Read, body, body_by, default, default_by, named, named_set, named_set_by, met_after, columns, param, param_by, statement, statement_by, found, statements, statements_by, with_statement, met, colon}
 use Rattle.std.specs.List.{AllByRecursion}
 use Rattle.net_data.proofs.RunLemmas.{keeps_name}
 use Rattle.net_data.proofs.Steps.{to_set, to_else, in_name, in_member, in_word, in_mark, got, got_met, bind_ok, ok_is, some_is}
@@ -65,7 +65,7 @@ pub record SetRead (tokens : List Token) (x : Option NamedSet × List Token) : T
   pub printed : bare elsewhere tokens ≡ put_set x.0 (bare elsewhere x.1)
   pub are : IfSome x.0 IsNamedSet
 
-named_set_of : (tokens : List Token) (name : Option (Token × List Token)) (mark : Option (Token × List Token)) → met is_name tokens ≡ name → met_behind colon name ≡ mark → SetRead tokens (named_set_by tokens name mark)
+named_set_of : (tokens : List Token) (name : Option (Token × List Token)) (mark : Option (Token × List Token)) → met is_name tokens ≡ name → met_after colon name ≡ mark → SetRead tokens (named_set_by tokens name mark)
 named_set_of tokens None mark is colons = record { printed = refl; are = tt }
 named_set_of tokens (Some name) None is colons = record { printed = refl; are = tt }
 named_set_of tokens (Some name) (Some mark) is colons =
@@ -75,7 +75,7 @@ named_set_of tokens (Some name) (Some mark) is colons =
 
 pub named_set-sound : (tokens : List Token) → SetRead tokens (named_set tokens)
 unfolding named_set
-named_set-sound tokens = named_set_of tokens (met is_name tokens) (met_behind colon (met is_name tokens)) refl refl
+named_set-sound tokens = named_set_of tokens (met is_name tokens) (met_after colon (met is_name tokens)) refl refl
 
 columns-sound : (keyword mark : Token) (tokens : List Token) (x : Statement × List Token) → is_word (codes "param") keyword ≡ true → colon mark ≡ true
     → columns keyword mark tokens ≡ Ok x → Stated (keyword ∷ mark ∷ bare elsewhere tokens) x

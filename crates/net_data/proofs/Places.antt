@@ -7,11 +7,11 @@ use Rattle.net_data.specs.Commas.{before, in_set, elsewhere, place_after}
 use Rattle.net_data.specs.Reading.{semicolon}
 use Rattle.net_data.proofs.Apart.{name-mark, member-mark, word-mark, word-word, mark-mark}
 
-pub behind_set : (token : Token) → is_word (codes "set") token ≡ true → place_after before token ≡ in_set
-behind_set token h = rw h
+pub after_set : (token : Token) → is_word (codes "set") token ≡ true → place_after before token ≡ in_set
+after_set token h = rw h
 
-pub behind_word : (word : List ℕ) (token : Token) → bytes_eq (codes "set") word ≡ false → is_word word token ≡ true → place_after before token ≡ elsewhere
-behind_word word token apart h = let no = word-word word (codes "set") token apart h in rw no
+pub after_word : (word : List ℕ) (token : Token) → bytes_eq (codes "set") word ≡ false → is_word word token ≡ true → place_after before token ≡ elsewhere
+after_word word token apart h = let no = word-word word (codes "set") token apart h in rw no
 
 pub set_name : (token : Token) → is_name token ≡ true → place_after in_set token ≡ in_set
 set_name token h = let no = name-mark (codes ";") token h in let none = name-mark (codes "(") token h in rw (no, none)

@@ -2,11 +2,11 @@
 use Rattle.std.proofs.Common.{◌≡◌, ℕ, List, [], ◌∷◌, Some, IfOk, Result, Ok, Err, refl, ap, sym, ◌∙◌, subst}
 use Rattle.net_fault.specs.declared.span.Span.{Span}
 use Rattle.net_lex.specs.declared.token.Token.{Token}
-use Rattle.net_fault.specs.declared.defect.Defect.{Defect}
-use Rattle.net_fault.specs.declared.defect.Defect.TheVariants.{DataSyntax, TableWidth}
+use Rattle.net_fault.specs.declared.error_code.ErrorCode.{ErrorCode}
+use Rattle.net_fault.specs.declared.error_code.ErrorCode.TheVariants.{DataSyntax, TableWidth}
 use Rattle.net_fault.specs.declared.fault.Fault.{Fault}
 use Rattle.net_fault.specs.declared.fault.Fault.TheVariants.{At}
-use Rattle.net_fault.specs.declared.finding.Finding.{Finding}
+use Rattle.net_fault.specs.declared.diagnostic.Diagnostic.{Diagnostic}
 use Rattle.net_fault.specs.declared.language.Language.TheVariants.{Data}
 use Rattle.net_fault.specs.Outcomes as outcomes
 use Rattle.net_data.specs.declared.parse_error.ParseError.{ParseError}
@@ -33,24 +33,24 @@ unless_is (Err e) x = refl
 pub answer_complete : (end : ℕ) (tokens : List Token) (result : Result Tables Fault) → Answers end (tables tokens) result → (x : Tables) → Mean tokens x → Answers end (checked x) result
 answer_complete end tokens result h x mean = let P : Result Tables ParseError → Type 0 = λ r. Answers end r result in subst P (tables-complete tokens x mean ∙ unless_is (all_judged x.statements) x) h
 
-heading_width : (columns : List Token) (assign : Token) (e : ParseError) → heading_judged columns assign ≡ Err e → e.defect ≡ DataSyntax → ⊥
-heading_width [] assign e h s = let same : stop TableWidth (Some assign.span) ≡ e = cc in let k = ap (λ (x : ParseError). x.defect) same in cc
+heading_width : (columns : List Token) (assign : Token) (e : ParseError) → heading_judged columns assign ≡ Err e → e.error_code ≡ DataSyntax → ⊥
+heading_width [] assign e h s = let same : stop TableWidth (Some assign.span) ≡ e = cc in let k = ap (λ (x : ParseError). x.error_code) same in cc
 heading_width (c ∷ columns) assign e h s = cc
 
-filled_width : (columns cells : List Token) (e : ParseError) → filled columns cells ≡ Err e → e.defect ≡ DataSyntax → ⊥
-filled_width columns cells e h s = let k = ap (λ (x : ParseError). x.defect) (filled_err columns cells e h).1 in cc
+filled_width : (columns cells : List Token) (e : ParseError) → filled columns cells ≡ Err e → e.error_code ≡ DataSyntax → ⊥
+filled_width columns cells e h s = let k = ap (λ (x : ParseError). x.error_code) (filled_err columns cells e h).1 in cc
 
-and_width : (j k : Result (Unit {0}) ParseError) (e : ParseError) → (j ≡ Err e → e.defect ≡ DataSyntax → ⊥) → (k ≡ Err e → e.defect ≡ DataSyntax → ⊥) → and_then j k ≡ Err e → e.defect ≡ DataSyntax → ⊥
+and_width : (j k : Result (Unit {0}) ParseError) (e : ParseError) → (j ≡ Err e → e.error_code ≡ DataSyntax → ⊥) → (k ≡ Err e → e.error_code ≡ DataSyntax → ⊥) → and_then j k ≡ Err e → e.error_code ≡ DataSyntax → ⊥
 and_width (Ok x) k e first second h s = second h s
 and_width (Err d) k e first second h s = first h s
 
-judged_width : (x : Statement) (e : ParseError) → judged x ≡ Err e → e.defect ≡ DataSyntax → ⊥
+judged_width : (x : Statement) (e : ParseError) → judged x ≡ Err e → e.error_code ≡ DataSyntax → ⊥
 judged_width (kinds.Set x) e h s = cc
 judged_width (kinds.List x) e h s = cc
 judged_width (kinds.Table x) e h s = and_width (heading_judged x.columns x.assign) (filled x.columns x.cells) e (heading_width x.columns x.assign e) (filled_width x.columns x.cells e) h s
 judged_width (kinds.Columns x) e h s = heading_width x.names x.assign e h s
 
-all_width : (xs : List Statement) (e : ParseError) → all_judged xs ≡ Err e → e.defect ≡ DataSyntax → ⊥
+all_width : (xs : List Statement) (e : ParseError) → all_judged xs ≡ Err e → e.error_code ≡ DataSyntax → ⊥
 all_width [] e h s = cc
 all_width (x ∷ xs) e h s = and_width (judged x) (all_judged xs) e (judged_width x e) (all_width xs e) h s
 
@@ -58,11 +58,11 @@ judged_err : (j : Result (Unit {0}) ParseError) (x : Tables) (e : ParseError) �
 judged_err (Ok u) x e h = absurd (cc)
 judged_err (Err d) x e h = let same : d ≡ e = cc in rw same refl
 
-pub no_tables : (tokens : List Token) (e : ParseError) → tables tokens ≡ Err e → e.defect ≡ DataSyntax → (x : Tables) → Mean tokens x → ⊥
+pub no_tables : (tokens : List Token) (e : ParseError) → tables tokens ≡ Err e → e.error_code ≡ DataSyntax → (x : Tables) → Mean tokens x → ⊥
 no_tables tokens e h s x mean = all_width x.statements e (judged_err (all_judged x.statements) x e (sym (tables-complete tokens x mean) ∙ h)) s
 
 -- the fault of a stop with this place
-pub fault_is : (end : ℕ) (e : ParseError) (f : Finding) → At f ≡ fault_of end e → outcomes.bare Data e.defect (span_or_end end e.at) ≡ f
+pub fault_is : (end : ℕ) (e : ParseError) (f : Diagnostic) → At f ≡ fault_of end e → outcomes.bare Data e.error_code (span_or_end end e.at) ≡ f
 fault_is end e f h = cc
 
 judged_ok : (j : Result (Unit {0}) ParseError) (x y : Tables) → (j >>= (λ full. Ok x)) ≡ Ok y → x ≡ y

@@ -9,22 +9,22 @@ use Rattle.net_data.specs.Reading.{run, run_len, semicolon}
 use Rattle.net_data.proofs.Apart.{name-mark, member-mark, cell-mark}
 
 -- a run goes on behind a comma and behind a token that passes
-abbrev pub run_behind : Token → List Token → Bool → Bool → List Token × List Token → List Token × List Token
-run_behind token tokens true passes run = run
-run_behind token tokens false true run = (token ∷ run.0, run.1)
-run_behind token tokens false false run = ([], token ∷ tokens)
+abbrev pub run_after : Token → List Token → Bool → Bool → List Token × List Token → List Token × List Token
+run_after token tokens true passes run = run
+run_after token tokens false true run = (token ∷ run.0, run.1)
+run_after token tokens false false run = ([], token ∷ tokens)
 
 abbrev cut : ℕ → List Token → List Token × List Token
 cut n tokens = (uncommaed (take n tokens), drop n tokens)
 
 run_at : (token : Token) (tokens : List Token) (n : ℕ) (comma passes : Bool) → is_comma token ≡ comma
-    → cut (cond (passes || comma) (1 + n) 0) (token ∷ tokens) ≡ run_behind token tokens comma passes (cut n tokens)
+    → cut (cond (passes || comma) (1 + n) 0) (token ∷ tokens) ≡ run_after token tokens comma passes (cut n tokens)
 run_at token tokens n true true is = let one : 1 + n ≡ suc n = omega arith in rw (one, is) refl
 run_at token tokens n true false is = let one : 1 + n ≡ suc n = omega arith in rw (one, is) refl
 run_at token tokens n false true is = let one : 1 + n ≡ suc n = omega arith in rw (one, is) refl
 run_at token tokens n false false is = refl
 
-pub run-cons : (test : Token → Bool) (token : Token) (tokens : List Token) → run test (token ∷ tokens) ≡ run_behind token tokens (is_comma token) (test token) (run test tokens)
+pub run-cons : (test : Token → Bool) (token : Token) (tokens : List Token) → run test (token ∷ tokens) ≡ run_after token tokens (is_comma token) (test token) (run test tokens)
 unfolding run
 run-cons test token tokens = run_at token tokens (run_len test tokens) (is_comma token) (test token) refl
 
@@ -52,7 +52,7 @@ pub record Ran (test : Token → Bool) (tokens : List Token) (x : List Token × 
   pub pass : list_all test x.0 ≡ true
 
 ran_at : (test : Token → Bool) (token : Token) (tokens : List Token) (comma passes : Bool) (x : List Token × List Token) → Keeps test → is_comma token ≡ comma → test token ≡ passes → Ran test tokens x
-    → Ran test (token ∷ tokens) (run_behind token tokens comma passes x)
+    → Ran test (token ∷ tokens) (run_after token tokens comma passes x)
 ran_at test token tokens true passes x keeps is pass r = record { printed = rw is r.printed; pass = r.pass }
 ran_at test token tokens false true x keeps is pass r = record {
   printed = let no = keeps.no_semicolon token pass in rw (is, no) (ap (λ ts. token ∷ ts) r.printed);

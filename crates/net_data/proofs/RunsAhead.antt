@@ -3,16 +3,16 @@ use Rattle.std.proofs.Common.{◌≡◌, Bool, true, false, List, [], ◌∷◌,
 use Rattle.std.specs.Prelude.{◌||◌, if◌then◌else◌}
 use Rattle.net_fault.specs.declared.span.Span.{Span}
 use Rattle.net_lex.specs.declared.token.Token.{Token}
-use Rattle.net_fault.specs.declared.defect.Defect.TheVariants.{DataSyntax}
+use Rattle.net_fault.specs.declared.error_code.ErrorCode.TheVariants.{DataSyntax}
 use Rattle.net_data.specs.declared.spot.Spot.{Spot}
 use Rattle.net_data.specs.declared.spot.Spot.TheVariants.{Outside, Opened, First as FirstMember, Parted, Later}
 use Rattle.net_data.specs.declared.parse_error.ParseError.{ParseError}
 use Rattle.net_data.specs.Commas.{in_set, bare}
-use Rattle.net_data.specs.Reading.{Read, stop, run, items_behind, items_from, items_of, items, spot_or, with_token, ◌>>=◌}
+use Rattle.net_data.specs.Reading.{Read, stop, run, items_after, items_from, items_of, items, spot_or, with_token, ◌>>=◌}
 use Rattle.net_data.specs.Spots.{spot_after, rests, outside}
 use Rattle.net_data.specs.Tests.{is_member, is_mark, is_comma}
 use Rattle.net_data.proofs.Lookahead.{never, ok_parts, err_is, place_is, looked, looked_token, looked_nothing, looked_begins, PassesOn, Local, bind_local, same_local, pure_local}
-use Rattle.net_data.proofs.RunLemmas.{run_behind, run-cons, run-nil}
+use Rattle.net_data.proofs.RunLemmas.{run_after, run-cons, run-nil}
 
 -- ---- runs
 
@@ -30,13 +30,13 @@ runs_on test [] =
     (record { front = []; parts = refl; always = λ other look. let none = looked_nothing other look in ap (run test) none ∙ run-nil test ∙ ap (λ (o : List Token). let p : List Token × List Token = ([], o) in p) (sym none) })
 runs_on test (t ∷ ts) = subst (RunsOn test (t ∷ ts)) (sym (run-cons test t ts)) (go (is_comma t) refl (test t) refl (runs_on test ts))
   where
-    go : (c : Bool) → is_comma t ≡ c → (p : Bool) → test t ≡ p → RunsOn test ts (run test ts) → RunsOn test (t ∷ ts) (run_behind t ts c p (run test ts))
+    go : (c : Bool) → is_comma t ≡ c → (p : Bool) → test t ≡ p → RunsOn test ts (run test ts) → RunsOn test (t ∷ ts) (run_after t ts c p (run test ts))
     go true i p j r = record {
       front = t ∷ r.front;
       parts = ap (λ (us : List Token). t ∷ us) r.parts;
       always = λ other look.
           run-cons test t (r.front ++ other)
-          ∙ ap (λ c. run_behind t (r.front ++ other) c (test t) (run test (r.front ++ other))) i
+          ∙ ap (λ c. run_after t (r.front ++ other) c (test t) (run test (r.front ++ other))) i
           ∙ r.always other look;
     }
     go false i true j r = record {
@@ -44,8 +44,8 @@ runs_on test (t ∷ ts) = subst (RunsOn test (t ∷ ts)) (sym (run-cons test t t
       parts = ap (λ (us : List Token). t ∷ us) r.parts;
       always = λ other look.
           run-cons test t (r.front ++ other)
-          ∙ ap (λ c. run_behind t (r.front ++ other) c (test t) (run test (r.front ++ other))) i
-          ∙ ap (λ p. run_behind t (r.front ++ other) false p (run test (r.front ++ other))) j
+          ∙ ap (λ c. run_after t (r.front ++ other) c (test t) (run test (r.front ++ other))) i
+          ∙ ap (λ p. run_after t (r.front ++ other) false p (run test (r.front ++ other))) j
           ∙ ap (λ (x : List Token × List Token). let p : List Token × List Token = (t ∷ x.0, x.1) in p) (r.always other look);
     }
     go false i false j r = record {
@@ -55,8 +55,8 @@ runs_on test (t ∷ ts) = subst (RunsOn test (t ∷ ts)) (sym (run-cons test t t
           let b = looked_begins other t ts i look in
           ap (run test) b.is
           ∙ run-cons test t b.behind
-          ∙ ap (λ c. run_behind t b.behind c (test t) (run test b.behind)) i
-          ∙ ap (λ p. run_behind t b.behind false p (run test b.behind)) j
+          ∙ ap (λ c. run_after t b.behind c (test t) (run test b.behind)) i
+          ∙ ap (λ p. run_after t b.behind false p (run test b.behind)) j
           ∙ ap (λ (o : List Token). let p : List Token × List Token = ([], o) in p) (sym b.is);
     }
 
@@ -81,18 +81,18 @@ from_nil : (spot : Spot) → items_from spot [] ≡ (let r : Read (List Token) =
 unfolding items_from
 from_nil spot = refl
 
-from_cons : (spot : Spot) (t : Token) (ts : List Token) → items_from spot (t ∷ ts) ≡ items_behind t ts (spot_after spot t) spot (items_from (spot_or spot (spot_after spot t)) ts)
+from_cons : (spot : Spot) (t : Token) (ts : List Token) → items_from spot (t ∷ ts) ≡ items_after t ts (spot_after spot t) spot (items_from (spot_or spot (spot_after spot t)) ts)
 unfolding items_from
 from_cons spot t ts = refl
 
 from_on : (spot next : Spot) (t : Token) (ts : List Token) → spot_after spot t ≡ Some next → items_from spot (t ∷ ts) ≡ with_token t (items_from next ts)
-from_on spot next t ts i = from_cons spot t ts ∙ ap (λ o. items_behind t ts o spot (items_from (spot_or spot o) ts)) i
+from_on spot next t ts i = from_cons spot t ts ∙ ap (λ o. items_after t ts o spot (items_from (spot_or spot o) ts)) i
 
 abbrev rested : Bool → Token → List Token → Read (List Token)
 rested b t ts = if b then Ok ([], t ∷ ts) else Err (stop DataSyntax (Some t.span))
 
 from_end : (spot : Spot) (t : Token) (ts : List Token) → spot_after spot t ≡ None → items_from spot (t ∷ ts) ≡ rested (rests spot) t ts
-from_end spot t ts i = from_cons spot t ts ∙ ap (λ o. items_behind t ts o spot (items_from (spot_or spot o) ts)) i
+from_end spot t ts i = from_cons spot t ts ∙ ap (λ o. items_after t ts o spot (items_from (spot_or spot o) ts)) i
 
 token_err : (t : Token) (read : Read (List Token)) (e : ParseError) → with_token t read ≡ Err e → read ≡ Err e
 token_err t (Ok x) e h = absurd (cc)

@@ -8,9 +8,9 @@ use Rattle.net_data.specs.Tests.{is_member, is_mark, is_comma}
 use Rattle.net_data.specs.Commas.{Place, in_set, in_tuple, place_after, skips, bare}
 use Rattle.net_data.specs.Spots.{spot_after, rests}
 use Rattle.net_data.specs.declared.parse_error.ParseError.{ParseError}
-use Rattle.net_fault.specs.declared.defect.Defect.TheVariants.{DataSyntax}
+use Rattle.net_fault.specs.declared.error_code.ErrorCode.TheVariants.{DataSyntax}
 use Rattle.std.specs.Prelude.{if◌then◌else◌}
-use Rattle.net_data.specs.Reading.{stop, Read, items_from, items, items_of, with_token, items_behind, semicolon, ◌>>=◌}
+use Rattle.net_data.specs.Reading.{stop, Read, items_from, items, items_of, with_token, items_after, semicolon, ◌>>=◌}
 use Rattle.net_data.specs.Meaning.{AreItems, IsTupleRest}
 use Rattle.net_data.proofs.Apart.{member-mark, mark-mark, mark-member}
 
@@ -186,7 +186,7 @@ pub items-some : (spot next : Spot) (token : Token) (tokens : List Token) → sp
 unfolding items_from
 items-some spot next token tokens h = rw h
 
-pub items-none : (spot : Spot) (token : Token) (tokens : List Token) → spot_after spot token ≡ None → items_from spot (token ∷ tokens) ≡ items_behind token tokens None spot (items_from spot tokens)
+pub items-none : (spot : Spot) (token : Token) (tokens : List Token) → spot_after spot token ≡ None → items_from spot (token ∷ tokens) ≡ items_after token tokens None spot (items_from spot tokens)
 unfolding items_from
 items-none spot token tokens h = rw h
 

@@ -2,7 +2,7 @@
 use Rattle.std.proofs.Common.{◌≡◌, Bool, true, false, List, [], ◌∷◌, ◌++◌, Option, Some, None, Ok, Err, refl, ap, sym, ◌∙◌, codes}
 use Rattle.std.specs.Prelude.{if◌then◌else◌}
 use Rattle.net_lex.specs.declared.token.Token.{Token}
-use Rattle.net_fault.specs.declared.defect.Defect.TheVariants.{DataSyntax, TableWidth}
+use Rattle.net_fault.specs.declared.error_code.ErrorCode.TheVariants.{DataSyntax, TableWidth}
 use Rattle.net_data.specs.declared.parse_error.ParseError.{ParseError}
 use Rattle.net_data.specs.declared.statement.DefaultValue.{DefaultValue}
 use Rattle.net_data.specs.declared.statement.Given.{Given}
@@ -10,19 +10,19 @@ use Rattle.net_data.specs.declared.statement.NamedSet.{NamedSet}
 use Rattle.net_data.specs.declared.statement.Transposed.{Transposed}
 use Rattle.net_data.specs.declared.statement.Statement.{Statement}
 use Rattle.net_data.specs.declared.statement.Statement.TheVariants as kinds
-use Rattle.net_data.specs.Reading.{Read, stop, front, met, met_behind, wanted, run, items, semicolon, colon, assign, set, headed, heading, cells, filled, table, turned, given, given_by, list, body, body_by, default, default_by, named, named_set, named_set_by, columns, param, param_by, ◌>>=◌}
+use Rattle.net_data.specs.Reading.{Read, stop, front, met, met_after, wanted, run, items, semicolon, colon, assign, set, headed, heading, cells, filled, table, turned, given, given_by, list, body, body_by, default, default_by, named, named_set, named_set_by, columns, param, param_by, ◌>>=◌}
 use Rattle.net_data.specs.Tests.{is_name, is_member, is_cell, is_word, is_mark, is_comma}
 use Rattle.net_data.proofs.Blames.{filled_err}
 use Rattle.net_data.proofs.Lookahead.{never_ok, err_is, Local, bind_local, same_local, pure_local, const_local}
 use Rattle.net_data.proofs.NextToken.{wanted_local, choose, met_parts, choose_local}
-use Rattle.net_data.proofs.RunLemmas.{run_behind, run-cons}
+use Rattle.net_data.proofs.RunLemmas.{run_after, run-cons}
 use Rattle.net_data.proofs.RunsAhead.{ran, run_local, items_local}
 
 -- ---- statements
 
 headed_local : (heads : List Token) (mark : Token) (tokens : List Token) → Local (headed heads mark) tokens
 headed_local [] mark tokens = record {
-  stops = λ e h d span at. absurd (let k = ap (λ (s : ParseError). s.defect) (err_is (stop TableWidth (Some mark.span)) e h) ∙ d in cc);
+  stops = λ e h d span at. absurd (let k = ap (λ (s : ParseError). s.error_code) (err_is (stop TableWidth (Some mark.span)) e h) ∙ d in cc);
   passes = λ x rest h. never_ok (x, rest) (stop TableWidth (Some mark.span)) h;
 }
 headed_local (c ∷ heads) mark tokens = pure_local (c ∷ heads, mark) tokens
@@ -32,9 +32,9 @@ unfolding set
 set_local keyword tokens =
     same_local (set keyword) _ tokens (λ ts. refl)
     (bind_local (wanted is_name) _ tokens (wanted_local is_name tokens) (λ name behind_name i.
-    bind_local (wanted assign) _ behind_name (wanted_local assign behind_name) (λ mark behind_mark j.
-    bind_local items _ behind_mark (items_local behind_mark) (λ all behind_all k.
-    bind_local (wanted semicolon) _ behind_all (wanted_local semicolon behind_all) (λ end rest l. pure_local _ rest)))))
+    bind_local (wanted assign) _ behind_name (wanted_local assign behind_name) (λ mark after_mark j.
+    bind_local items _ after_mark (items_local after_mark) (λ all after_all k.
+    bind_local (wanted semicolon) _ after_all (wanted_local semicolon after_all) (λ end rest l. pure_local _ rest)))))
 
 abbrev pub heads_of : List Token × List Token → Read (List Token × Token)
 heads_of r = wanted assign r.1 >>= (λ a. headed r.0 a.0 a.1)
@@ -56,7 +56,7 @@ cells_local tokens =
     (bind_local (ran is_cell) read_cells tokens (run_local is_cell tokens) (λ all behind i.
     bind_local (wanted semicolon) _ behind (wanted_local semicolon behind) (λ end rest j. pure_local (all, end) rest)))
 
-filled_never : (heads all : List Token) (e : ParseError) → filled heads all ≡ Err e → e.defect ≡ DataSyntax → ⊥
+filled_never : (heads all : List Token) (e : ParseError) → filled heads all ≡ Err e → e.error_code ≡ DataSyntax → ⊥
 filled_never heads all e h d = let k = (filled_err heads all e h).1 in absurd (cc)
 
 table_local : (keyword name : Token) (given : Option DefaultValue) (transposed : Option Transposed) (mark : Token) (tokens : List Token) → Local (table keyword name given transposed mark) tokens
@@ -71,8 +71,8 @@ turned_local : (keyword name : Token) (given : Option DefaultValue) (opening : T
 unfolding turned
 turned_local keyword name given opening tokens =
     same_local (turned keyword name given opening) _ tokens (λ ts. refl)
-    (bind_local (wanted (is_word (codes "tr"))) _ tokens (wanted_local (is_word (codes "tr")) tokens) (λ word behind_word i.
-    bind_local (wanted (is_mark (codes ")"))) _ behind_word (wanted_local (is_mark (codes ")")) behind_word) (λ closing behind j.
+    (bind_local (wanted (is_word (codes "tr"))) _ tokens (wanted_local (is_word (codes "tr")) tokens) (λ word after_word i.
+    bind_local (wanted (is_mark (codes ")"))) _ after_word (wanted_local (is_mark (codes ")")) after_word) (λ closing behind j.
     bind_local (wanted colon) _ behind (wanted_local colon behind) (λ mark rest k.
     table_local keyword name given (Some (record { opening = opening; word = word; closing = closing })) mark rest))))
 
@@ -83,21 +83,21 @@ read_given ts = Ok ((given ts).0, (given ts).1)
 abbrev given_of : Token → List Token × List Token → Read (Option Given)
 given_of mark r = Ok (Some (record { assign = mark; cells = r.0 }), r.1)
 
-abbrev cells_behind : Token → List Token → Read (Option Given)
-cells_behind mark ts = ran is_cell ts >>= given_of mark
+abbrev cells_after : Token → List Token → Read (Option Given)
+cells_after mark ts = ran is_cell ts >>= given_of mark
 
-given_is : (ts : List Token) → read_given ts ≡ choose (met assign ts) (Ok (None, ts)) cells_behind
+given_is : (ts : List Token) → read_given ts ≡ choose (met assign ts) (Ok (None, ts)) cells_after
 unfolding given
 given_is ts = go (met assign ts)
   where
-    go : (o : Option (Token × List Token)) → (let r : Read (Option Given) = Ok ((given_by ts o).0, (given_by ts o).1) in r) ≡ choose o (Ok (None, ts)) cells_behind
+    go : (o : Option (Token × List Token)) → (let r : Read (Option Given) = Ok ((given_by ts o).0, (given_by ts o).1) in r) ≡ choose o (Ok (None, ts)) cells_after
     go None = refl
     go (Some x) = refl
 
 given_local : (tokens : List Token) → Local read_given tokens
 given_local tokens =
-    same_local read_given (λ ts. choose (met assign ts) (Ok (None, ts)) cells_behind) tokens given_is
-    (choose_local assign (λ ts. Ok (None, ts)) cells_behind tokens (pure_local None tokens) (λ mark behind i.
+    same_local read_given (λ ts. choose (met assign ts) (Ok (None, ts)) cells_after) tokens given_is
+    (choose_local assign (λ ts. Ok (None, ts)) cells_after tokens (pure_local None tokens) (λ mark behind i.
     bind_local (ran is_cell) (given_of mark) behind (run_local is_cell behind) (λ all rest j. pure_local (Some (record { assign = mark; cells = all })) rest)))
 
 abbrev list_to : Token → Token → Option DefaultValue → Option Given → Token → Statement
@@ -114,21 +114,21 @@ list_local keyword name value tokens =
     bind_local (wanted semicolon) (λ end. Ok (list_to keyword name value g end.0, end.1)) behind (wanted_local semicolon behind) (λ end rest j.
     pure_local (list_to keyword name value g end) rest)))
 
-abbrev value_behind : Token → List Token → Read (Option DefaultValue)
-value_behind word ts = wanted is_member ts >>= (λ value. Ok (Some (record { keyword = word; value = value.0 }), value.1))
+abbrev value_after : Token → List Token → Read (Option DefaultValue)
+value_after word ts = wanted is_member ts >>= (λ value. Ok (Some (record { keyword = word; value = value.0 }), value.1))
 
-default_is : (ts : List Token) → default ts ≡ choose (met (is_word (codes "default")) ts) (Ok (None, ts)) value_behind
+default_is : (ts : List Token) → default ts ≡ choose (met (is_word (codes "default")) ts) (Ok (None, ts)) value_after
 unfolding default
 default_is ts = go (met (is_word (codes "default")) ts)
   where
-    go : (o : Option (Token × List Token)) → default_by ts o ≡ choose o (Ok (None, ts)) value_behind
+    go : (o : Option (Token × List Token)) → default_by ts o ≡ choose o (Ok (None, ts)) value_after
     go None = refl
     go (Some x) = refl
 
 default_local : (tokens : List Token) → Local default tokens
 default_local tokens =
-    same_local default (λ ts. choose (met (is_word (codes "default")) ts) (Ok (None, ts)) value_behind) tokens default_is
-    (choose_local (is_word (codes "default")) (λ ts. Ok (None, ts)) value_behind tokens (pure_local None tokens) (λ word behind i.
+    same_local default (λ ts. choose (met (is_word (codes "default")) ts) (Ok (None, ts)) value_after) tokens default_is
+    (choose_local (is_word (codes "default")) (λ ts. Ok (None, ts)) value_after tokens (pure_local None tokens) (λ word behind i.
     bind_local (wanted is_member) _ behind (wanted_local is_member behind) (λ value rest j. pure_local (Some (record { keyword = word; value = value })) rest)))
 
 abbrev tables_or_list : Token → Token → Option DefaultValue → List Token → Read Statement
@@ -165,11 +165,11 @@ columns_from keyword mark names of r =
     (wanted assign r.1 >>= (λ a. headed (names ++ r.0) a.0 a.1)) >>= (λ head.
     cells head.1 >>= (λ all. Ok (kinds.Columns (record { keyword = keyword; colon = mark; set = of; names = head.0.0; assign = head.0.1; cells = all.0.0; end = all.0.1 }), all.1)))
 
-abbrev columns_behind : Token → Token → List Token → Option NamedSet → List Token → Read Statement
-columns_behind keyword mark names of ts = ran is_name ts >>= columns_from keyword mark names of
+abbrev columns_after : Token → Token → List Token → Option NamedSet → List Token → Read Statement
+columns_after keyword mark names of ts = ran is_name ts >>= columns_from keyword mark names of
 
-behind_local : (keyword mark : Token) (names : List Token) (of : Option NamedSet) (tokens : List Token) → Local (columns_behind keyword mark names of) tokens
-behind_local keyword mark names of tokens =
+after_local : (keyword mark : Token) (names : List Token) (of : Option NamedSet) (tokens : List Token) → Local (columns_after keyword mark names of) tokens
+after_local keyword mark names of tokens =
     bind_local (ran is_name) (columns_from keyword mark names of) tokens (run_local is_name tokens) (λ more behind i.
     bind_local (λ ts. wanted assign ts >>= (λ a. headed (names ++ more) a.0 a.1)) _ behind
     (bind_local (wanted assign) _ behind (wanted_local assign behind) (λ sign after j. headed_local (names ++ more) sign after)) (λ head after j.
@@ -184,19 +184,19 @@ run_name ts x h = let m = met_parts is_name ts x h in first_name ts m.front m.pa
     first_name (u ∷ us) i j = run-cons is_name u us ∙ go (is_comma u) i (λ k. first_name us k j)
       where
         go : (c : Bool) → (if c then front us else Some (u, us)) ≡ Some x → (front us ≡ Some x → run is_name us ≡ (x.0 ∷ (run is_name x.1).0, (run is_name x.1).1))
-            → run_behind u us c (is_name u) (run is_name us) ≡ (x.0 ∷ (run is_name x.1).0, (run is_name x.1).1)
+            → run_after u us c (is_name u) (run is_name us) ≡ (x.0 ∷ (run is_name x.1).0, (run is_name x.1).1)
         go true k more = more k
         go false k more =
             let same : (u, us) ≡ x = cc in
-            ap (λ b. run_behind u us false b (run is_name us)) (ap (λ (z : Token × List Token). is_name z.0) same ∙ j)
+            ap (λ b. run_after u us false b (run is_name us)) (ap (λ (z : Token × List Token). is_name z.0) same ∙ j)
             ∙ ap (λ (z : Token × List Token). let p : List Token × List Token = (z.0 ∷ (run is_name z.1).0, (run is_name z.1).1) in p) same
 
 -- a name with a colon, or a name alone
 abbrev after_name : Token → Token → Token → List Token → Read Statement
 after_name keyword mark name ts =
-    choose (met colon ts) (columns_behind keyword mark (name ∷ []) None ts) (λ sign. columns_behind keyword mark [] (Some (record { name = name; colon = sign })))
+    choose (met colon ts) (columns_after keyword mark (name ∷ []) None ts) (λ sign. columns_after keyword mark [] (Some (record { name = name; colon = sign })))
 
-columns_is : (keyword mark : Token) (ts : List Token) → columns keyword mark ts ≡ choose (met is_name ts) (columns_behind keyword mark [] None ts) (after_name keyword mark)
+columns_is : (keyword mark : Token) (ts : List Token) → columns keyword mark ts ≡ choose (met is_name ts) (columns_after keyword mark [] None ts) (after_name keyword mark)
 unfolding columns heading named_set
 columns_is keyword mark ts = go (met is_name ts) refl
   where
@@ -204,26 +204,26 @@ columns_is keyword mark ts = go (met is_name ts) refl
     whole n = heading is_name n.1 >>= (λ head. cells head.1 >>= (λ all. Ok (kinds.Columns (record { keyword = keyword; colon = mark; set = n.0; names = head.0.0; assign = head.0.1; cells = all.0.0; end = all.0.1 }), all.1)))
 
     by : (x : Token × List Token) (p : Option (Token × List Token)) → met is_name ts ≡ Some x
-        → whole (named_set_by ts (Some x) p) ≡ choose p (columns_behind keyword mark (x.0 ∷ []) None x.1) (λ sign. columns_behind keyword mark [] (Some (record { name = x.0; colon = sign })))
+        → whole (named_set_by ts (Some x) p) ≡ choose p (columns_after keyword mark (x.0 ∷ []) None x.1) (λ sign. columns_after keyword mark [] (Some (record { name = x.0; colon = sign })))
     by x None i = ap (columns_from keyword mark [] None) (run_name ts x i)
     by x (Some sign) i = refl
 
-    go : (o : Option (Token × List Token)) → met is_name ts ≡ o → whole (named_set_by ts (met is_name ts) (met_behind colon (met is_name ts))) ≡ choose (met is_name ts) (columns_behind keyword mark [] None ts) (after_name keyword mark)
+    go : (o : Option (Token × List Token)) → met is_name ts ≡ o → whole (named_set_by ts (met is_name ts) (met_after colon (met is_name ts))) ≡ choose (met is_name ts) (columns_after keyword mark [] None ts) (after_name keyword mark)
     go None i =
-        ap (λ o. whole (named_set_by ts o (met_behind colon o))) i
-        ∙ sym (ap (λ o. choose o (columns_behind keyword mark [] None ts) (after_name keyword mark)) i)
+        ap (λ o. whole (named_set_by ts o (met_after colon o))) i
+        ∙ sym (ap (λ o. choose o (columns_after keyword mark [] None ts) (after_name keyword mark)) i)
     go (Some x) i =
-        ap (λ o. whole (named_set_by ts o (met_behind colon o))) i
+        ap (λ o. whole (named_set_by ts o (met_after colon o))) i
         ∙ by x (met colon x.1) i
-        ∙ sym (ap (λ o. choose o (columns_behind keyword mark [] None ts) (after_name keyword mark)) i)
+        ∙ sym (ap (λ o. choose o (columns_after keyword mark [] None ts) (after_name keyword mark)) i)
 
 columns_local : (keyword mark : Token) (tokens : List Token) → Local (columns keyword mark) tokens
 columns_local keyword mark tokens =
-    same_local (columns keyword mark) (λ ts. choose (met is_name ts) (columns_behind keyword mark [] None ts) (after_name keyword mark)) tokens (columns_is keyword mark)
-    (choose_local is_name (columns_behind keyword mark [] None) (after_name keyword mark) tokens (behind_local keyword mark [] None tokens) (λ name behind i.
-    choose_local colon (columns_behind keyword mark (name ∷ []) None) (λ sign. columns_behind keyword mark [] (Some (record { name = name; colon = sign }))) behind
-    (behind_local keyword mark (name ∷ []) None behind)
-    (λ sign rest j. behind_local keyword mark [] (Some (record { name = name; colon = sign })) rest)))
+    same_local (columns keyword mark) (λ ts. choose (met is_name ts) (columns_after keyword mark [] None ts) (after_name keyword mark)) tokens (columns_is keyword mark)
+    (choose_local is_name (columns_after keyword mark [] None) (after_name keyword mark) tokens (after_local keyword mark [] None tokens) (λ name behind i.
+    choose_local colon (columns_after keyword mark (name ∷ []) None) (λ sign. columns_after keyword mark [] (Some (record { name = name; colon = sign }))) behind
+    (after_local keyword mark (name ∷ []) None behind)
+    (λ sign rest j. after_local keyword mark [] (Some (record { name = name; colon = sign })) rest)))
 
 param_is : (keyword : Token) (ts : List Token) → param keyword ts ≡ choose (met colon ts) (named keyword ts) (columns keyword)
 unfolding param

@@ -7,7 +7,7 @@ use Rattle.net_data.specs.Tests.{is_name, is_member, is_word, is_mark}
 use Rattle.net_data.specs.Commas.{Place, before, in_set, elsewhere, place_after, skips, bare}
 use Rattle.net_data.specs.Reading.{wanted, met, semicolon, ◌>>=◌}
 use Rattle.net_data.proofs.Bare.{took, took_met, takes}
-use Rattle.net_data.proofs.Places.{behind_set, behind_word, set_name, set_mark, set_end, else_name, else_member, else_word, else_mark, else_end}
+use Rattle.net_data.proofs.Places.{after_set, after_word, set_name, set_mark, set_end, else_name, else_member, else_word, else_mark, else_end}
 
 -- a token that passes leads from one place to the other
 pub record Moves (here there : Place) (test : Token → Bool) : Type 0 where
@@ -15,10 +15,10 @@ pub record Moves (here there : Place) (test : Token → Bool) : Type 0 where
   pub moves : (token : Token) → test token ≡ true → place_after here token ≡ there
 
 pub to_set : Moves before in_set (is_word (codes "set"))
-to_set = record { skips = refl; moves = behind_set }
+to_set = record { skips = refl; moves = after_set }
 
 pub to_else : (word : List ℕ) → bytes_eq (codes "set") word ≡ false → Moves before elsewhere (is_word word)
-to_else word apart = record { skips = refl; moves = λ token. behind_word word token apart }
+to_else word apart = record { skips = refl; moves = λ token. after_word word token apart }
 
 pub in_set_name : Moves in_set in_set is_name
 in_set_name = record { skips = refl; moves = set_name }

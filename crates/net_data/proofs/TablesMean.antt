@@ -10,36 +10,36 @@ use Rattle.net_data.specs.declared.statement.Transposed.{Transposed}
 use Rattle.net_data.specs.declared.statement.NamedSet.{NamedSet}
 use Rattle.net_data.specs.declared.statement.Statement.{Statement}
 use Rattle.net_data.specs.declared.statement.Statement.TheVariants as kinds
-use Rattle.net_data.specs.declared.tables.Lone.{Lone}
+use Rattle.net_data.specs.declared.tables.Single.{Single}
 use Rattle.net_data.specs.declared.tables.Tables.{Tables}
 use Rattle.net_data.specs.Tests.{is_word, is_comma}
 use Rattle.net_data.specs.Commas.{Place, before, elsewhere, place_after, skips, bare}
-use Rattle.net_data.specs.Printing.{put, put_default, put_given, put_transposed, put_set, put_all, put_lone}
-use Rattle.net_data.specs.Meaning.{IsLone, IsStatement, Mean, judged, all_judged, and_then}
-use Rattle.net_data.specs.Reading.{statement, statements, with_statement, lone, lone_by, finished, finished_by, tables, met, front, semicolon, ◌>>=◌}
+use Rattle.net_data.specs.Printing.{put, put_default, put_given, put_transposed, put_set, put_all, put_single}
+use Rattle.net_data.specs.Meaning.{IsSingle, IsStatement, Mean, judged, all_judged, and_then}
+use Rattle.net_data.specs.Reading.{statement, statements, with_statement, single, single_by, finished, finished_by, tables, met, front, semicolon, ◌>>=◌}
 use Rattle.net_data.proofs.Apart.{word-word}
 use Rattle.net_data.proofs.Bare.{front-none, nothing, met-none, misses}
 use Rattle.net_data.proofs.Steps.{to_else, in_end, got, got_met, gives, bind_ok, ok_is}
 use Rattle.net_data.proofs.ParamSound.{statements-sound}
 use Rattle.net_data.proofs.StatementComplete.{statement-complete}
 
-pub record LoneRead (word : List ℕ) (tokens : List Token) (x : Option Lone × List Token) : Type 0 where
-  pub printed : bare before tokens ≡ put_lone x.0 (bare before x.1)
-  pub are : IfSome x.0 (IsLone word)
+pub record SingleRead (word : List ℕ) (tokens : List Token) (x : Option Single × List Token) : Type 0 where
+  pub printed : bare before tokens ≡ put_single x.0 (bare before x.1)
+  pub are : IfSome x.0 (IsSingle word)
 
-lone_of : (word : List ℕ) (tokens : List Token) (next : Option (Token × List Token)) (x : Option Lone × List Token) → bytes_eq (codes "set") word ≡ false → met (is_word word) tokens ≡ next → lone_by tokens next ≡ Ok x → LoneRead word tokens x
-lone_of word tokens None x apart is h =
-    let P : Option Lone × List Token → Type 0 = λ z. LoneRead word tokens z in subst P (ok_is _ x h) (record { printed = refl; are = tt })
-lone_of word tokens (Some t) x apart is h =
+single_of : (word : List ℕ) (tokens : List Token) (next : Option (Token × List Token)) (x : Option Single × List Token) → bytes_eq (codes "set") word ≡ false → met (is_word word) tokens ≡ next → single_by tokens next ≡ Ok x → SingleRead word tokens x
+single_of word tokens None x apart is h =
+    let P : Option Single × List Token → Type 0 = λ z. SingleRead word tokens z in subst P (ok_is _ x h) (record { printed = refl; are = tt })
+single_of word tokens (Some t) x apart is h =
     let key = got_met before elsewhere (is_word word) tokens t (to_else word apart) is in
     let a = bind_ok _ _ _ h in
     let end = got elsewhere before semicolon t.1 a.value in_end a.first in
-    let P : Option Lone × List Token → Type 0 = λ z. LoneRead word tokens z in
+    let P : Option Single × List Token → Type 0 = λ z. SingleRead word tokens z in
     subst P (ok_is _ x a.then) (record { printed = rw (key.printed, end.printed) refl; are = record { word = key.passes; end = end.passes } })
 
-pub lone-sound : (word : List ℕ) (tokens : List Token) (x : Option Lone × List Token) → bytes_eq (codes "set") word ≡ false → lone word tokens ≡ Ok x → LoneRead word tokens x
-unfolding lone
-lone-sound word tokens x apart h = lone_of word tokens (met (is_word word) tokens) x apart refl h
+pub single-sound : (word : List ℕ) (tokens : List Token) (x : Option Single × List Token) → bytes_eq (codes "set") word ≡ false → single word tokens ≡ Ok x → SingleRead word tokens x
+unfolding single
+single-sound word tokens x apart h = single_of word tokens (met (is_word word) tokens) x apart refl h
 
 finished_of : (tokens : List Token) (next : Option (Token × List Token)) (x : Unit {0}) → front tokens ≡ next → finished_by next ≡ Ok x → bare before tokens ≡ []
 finished_of tokens None x is h = front-none before tokens refl is
@@ -57,11 +57,11 @@ pub tables-sound : (tokens : List Token) (x : Tables) → tables tokens ≡ Ok x
 unfolding tables
 tables-sound tokens x h =
     let a = bind_ok _ _ _ h in
-    let opening = lone-sound (codes "data") tokens a.value refl a.first in
+    let opening = single-sound (codes "data") tokens a.value refl a.first in
     let b = bind_ok _ _ _ a.then in
     let body = statements-sound (suc (length a.value.1)) a.value.1 b.value b.first in
     let c = bind_ok _ _ _ b.then in
-    let ending = lone-sound (codes "end") b.value.1 c.value refl c.first in
+    let ending = single-sound (codes "end") b.value.1 c.value refl c.first in
     let d = bind_ok _ _ _ c.then in
     let over = finished-sound c.value.1 d.value d.first in
     let P : Tables → Type 0 = λ z. Accepted tokens z in
@@ -119,9 +119,9 @@ lacks_nothing word tokens h = met-none (is_word word) tokens (nothing before tok
 pub lacks_word : (word other : List ℕ) (first : Token) (tokens more : List Token) → bytes_eq other word ≡ false → is_word word first ≡ true → bare before tokens ≡ first ∷ more → met (is_word other) tokens ≡ None
 lacks_word word other first tokens more apart key h = misses before (is_word other) tokens more first refl h (word-word word other first apart key)
 
-lacks_ending : (word : List ℕ) (ending : Option Lone) (tokens : List Token) → IfSome ending (IsLone (codes "end")) → bytes_eq word (codes "end") ≡ false → bare before tokens ≡ put_lone ending [] → met (is_word word) tokens ≡ None
+lacks_ending : (word : List ℕ) (ending : Option Single) (tokens : List Token) → IfSome ending (IsSingle (codes "end")) → bytes_eq word (codes "end") ≡ false → bare before tokens ≡ put_single ending [] → met (is_word word) tokens ≡ None
 lacks_ending word None tokens are apart h = lacks_nothing word tokens h
-lacks_ending word (Some lone) tokens are apart h = lacks_word (codes "end") word lone.word tokens _ apart are.word h
+lacks_ending word (Some single) tokens are apart h = lacks_word (codes "end") word single.word tokens _ apart are.word h
 
 pub lacks_statement : (s : Statement) (tokens more : List Token) → IsStatement s → bare before tokens ≡ put s more → met (is_word (codes "data")) tokens ≡ None
 lacks_statement (kinds.Set s) tokens more are h = lacks_word (codes "set") (codes "data") s.keyword tokens _ refl are.keyword h
@@ -129,26 +129,26 @@ lacks_statement (kinds.List l) tokens more are h = lacks_word (codes "param") (c
 lacks_statement (kinds.Table t) tokens more are h = lacks_word (codes "param") (codes "data") t.keyword tokens _ refl are.heading.keyword h
 lacks_statement (kinds.Columns c) tokens more are h = lacks_word (codes "param") (codes "data") c.keyword tokens _ refl are.heading.keyword h
 
-lacks_data : (xs : List Statement) (ending : Option Lone) (tokens : List Token) → AllByRecursion IsStatement xs → IfSome ending (IsLone (codes "end")) → bare before tokens ≡ put_all xs (put_lone ending [])
+lacks_data : (xs : List Statement) (ending : Option Single) (tokens : List Token) → AllByRecursion IsStatement xs → IfSome ending (IsSingle (codes "end")) → bare before tokens ≡ put_all xs (put_single ending [])
     → met (is_word (codes "data")) tokens ≡ None
 lacks_data [] ending tokens are last h = lacks_ending (codes "data") ending tokens last refl h
 lacks_data (x ∷ xs) ending tokens are last h = lacks_statement x tokens _ are.0 h
 
-no_statement : (ending : Option Lone) (tokens : List Token) → IfSome ending (IsLone (codes "end")) → bare before tokens ≡ put_lone ending [] → statement tokens ≡ Ok None
+no_statement : (ending : Option Single) (tokens : List Token) → IfSome ending (IsSingle (codes "end")) → bare before tokens ≡ put_single ending [] → statement tokens ≡ Ok None
 unfolding statement
 no_statement ending tokens are h =
     let a = lacks_ending (codes "set") ending tokens are refl h in let b = lacks_ending (codes "param") ending tokens are refl h in rw (a, b) refl
 
-pub record LoneBack (word : List ℕ) (tokens : List Token) (o : Option Lone) (more : List Token) : Type 0 where
+pub record SingleBack (word : List ℕ) (tokens : List Token) (o : Option Single) (more : List Token) : Type 0 where
   pub rest : List Token
-  pub read : lone word tokens ≡ Ok (o, rest)
+  pub read : single word tokens ≡ Ok (o, rest)
   pub left : bare before rest ≡ more
 
-pub lone-complete : (word : List ℕ) (tokens : List Token) (o : Option Lone) (more : List Token) → bytes_eq (codes "set") word ≡ false → IfSome o (IsLone word) → (bare before tokens ≡ more → met (is_word word) tokens ≡ None)
-    → bare before tokens ≡ put_lone o more → LoneBack word tokens o more
-unfolding lone
-lone-complete word tokens None more apart are lacks h = let none = lacks h in record { rest = tokens; read = rw none refl; left = h }
-lone-complete word tokens (Some o) more apart are lacks h =
+pub single-complete : (word : List ℕ) (tokens : List Token) (o : Option Single) (more : List Token) → bytes_eq (codes "set") word ≡ false → IfSome o (IsSingle word) → (bare before tokens ≡ more → met (is_word word) tokens ≡ None)
+    → bare before tokens ≡ put_single o more → SingleBack word tokens o more
+unfolding single
+single-complete word tokens None more apart are lacks h = let none = lacks h in record { rest = tokens; read = rw none refl; left = h }
+single-complete word tokens (Some o) more apart are lacks h =
     let a = gives before elsewhere (is_word word) tokens _ o.word (to_else word apart) h are.word in
     let b = gives elsewhere before semicolon a.rest more o.end in_end a.left are.end in
     record { rest = b.rest; read = rw (a.met, b.read) refl; left = b.left }
@@ -168,8 +168,8 @@ record StatementsBack (n : ℕ) (tokens : List Token) (xs : List Statement) (mor
   read : statements n tokens ≡ (all_judged xs >>= (λ full. Ok (xs, rest)))
   pub left : bare before rest ≡ more
 
-statements-complete : (n : ℕ) (xs : List Statement) (ending : Option Lone) (tokens : List Token) → length xs < n → AllByRecursion IsStatement xs → IfSome ending (IsLone (codes "end"))
-    → bare before tokens ≡ put_all xs (put_lone ending []) → StatementsBack n tokens xs (put_lone ending [])
+statements-complete : (n : ℕ) (xs : List Statement) (ending : Option Single) (tokens : List Token) → length xs < n → AllByRecursion IsStatement xs → IfSome ending (IsSingle (codes "end"))
+    → bare before tokens ≡ put_all xs (put_single ending []) → StatementsBack n tokens xs (put_single ending [])
 unfolding statements
 statements-complete zero xs ending tokens lt are last h = absurd (omega arith)
 statements-complete (suc n) [] ending tokens lt are last h = let none = no_statement ending tokens last h in record { rest = tokens; read = rw none refl; left = h }
@@ -182,8 +182,8 @@ finished-complete : (tokens : List Token) → bare before tokens ≡ [] → fini
 unfolding finished
 finished-complete tokens h = let none = nothing before tokens refl h in rw none refl
 
-tables_at : (x : Tables) (tokens a b c : List Token) (j : Result (Unit {0}) ParseError) → lone (codes "data") tokens ≡ Ok (x.opening, a) → statements (suc (length a)) a ≡ (j >>= (λ full. Ok (x.statements, b)))
-    → lone (codes "end") b ≡ Ok (x.ending, c) → finished c ≡ Ok tt → tables tokens ≡ (j >>= (λ full. Ok x))
+tables_at : (x : Tables) (tokens a b c : List Token) (j : Result (Unit {0}) ParseError) → single (codes "data") tokens ≡ Ok (x.opening, a) → statements (suc (length a)) a ≡ (j >>= (λ full. Ok (x.statements, b)))
+    → single (codes "end") b ≡ Ok (x.ending, c) → finished c ≡ Ok tt → tables tokens ≡ (j >>= (λ full. Ok x))
 unfolding tables
 tables_at x tokens a b c (Ok u) opening body ending over = rw (opening, body, ending, over) refl
 tables_at x tokens a b c (Err e) opening body ending over = rw (opening, body) refl
@@ -191,8 +191,8 @@ tables_at x tokens a b c (Err e) opening body ending over = rw (opening, body) r
 -- what the tokens mean is what is read, if its tables have their widths
 pub tables-complete : (tokens : List Token) (x : Tables) → Mean tokens x → tables tokens ≡ (all_judged x.statements >>= (λ full. Ok x))
 tables-complete tokens x mean =
-    let a = lone-complete (codes "data") tokens x.opening _ refl mean.are.opening (λ h. lacks_data x.statements x.ending tokens mean.are.statements mean.are.ending h) mean.printed in
-    let long : length x.statements ≤ length a.rest = omega (arith, bare-length before a.rest, put_all-length x.statements (put_lone x.ending []), ap length a.left) in
+    let a = single-complete (codes "data") tokens x.opening _ refl mean.are.opening (λ h. lacks_data x.statements x.ending tokens mean.are.statements mean.are.ending h) mean.printed in
+    let long : length x.statements ≤ length a.rest = omega (arith, bare-length before a.rest, put_all-length x.statements (put_single x.ending []), ap length a.left) in
     let b = statements-complete (suc (length a.rest)) x.statements x.ending a.rest (omega arith) mean.are.statements mean.are.ending a.left in
-    let c = lone-complete (codes "end") b.rest x.ending [] refl mean.are.ending (lacks_nothing (codes "end") b.rest) b.left in
+    let c = single-complete (codes "end") b.rest x.ending [] refl mean.are.ending (lacks_nothing (codes "end") b.rest) b.left in
     tables_at x tokens a.rest b.rest c.rest (all_judged x.statements) a.read b.read c.read (finished-complete c.rest c.left)

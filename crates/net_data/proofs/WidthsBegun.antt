@@ -4,19 +4,19 @@ use Rattle.std.specs.List.{list_all, AllByRecursion}
 use Rattle.std.proofs.lemmas.Bool.{and_parts, and_from}
 use Rattle.net_fault.specs.declared.span.Span.{Span}
 use Rattle.net_lex.specs.declared.token.Token.{Token}
-use Rattle.net_fault.specs.declared.defect.Defect.{Defect}
+use Rattle.net_fault.specs.declared.error_code.ErrorCode.{ErrorCode}
 use Rattle.net_data.specs.declared.statement.Statement.{Statement}
 use Rattle.net_data.specs.declared.statement.Statement.TheVariants as kinds
-use Rattle.net_data.specs.declared.tables.Lone.{Lone}
+use Rattle.net_data.specs.declared.tables.Single.{Single}
 use Rattle.net_data.specs.Commas.{Place, before, place_after, skips, bare}
 use Rattle.net_data.specs.GoingOn.{BeginsBefore}
-use Rattle.net_data.specs.Meaning.{IsStatement, IsLone}
-use Rattle.net_data.specs.Printing.{put, put_default, put_transposed, put_set, put_table_heading, put_all, put_lone}
+use Rattle.net_data.specs.Meaning.{IsStatement, IsSingle}
+use Rattle.net_data.specs.Printing.{put, put_default, put_transposed, put_set, put_table_heading, put_all, put_single}
 use Rattle.net_data.specs.Reading.{last_span, last_span_or}
-use Rattle.net_data.specs.Refusals.{IsFaulty, short_row, no_column, no_name, HasFault}
+use Rattle.net_data.specs.Rejections.{IsFaulty, short_row, no_column, no_name, HasFault}
 use Rattle.net_data.specs.Tests.{is_cell, is_comma}
 use Rattle.net_data.proofs.MendingStatements.{stop_mark, gives_mark}
-use Rattle.net_data.proofs.WidthsStay.{heading-append, all-append, lone-append, default-append, transposed-append, set-append}
+use Rattle.net_data.proofs.WidthsStay.{heading-append, all-append, single-append, default-append, transposed-append, set-append}
 
 -- tokens without a comma
 abbrev Plain : List Token → Type 0
@@ -92,12 +92,12 @@ are-snoc [] x are is = (is, tt)
 are-snoc (y ∷ xs) x are is = (are.0, are-snoc xs x are.1 is)
 
 -- A statement is begun by us before a token that is printed, and closing ends it.
-begun : (tokens : List Token) (span : Span) (o : Option Lone) (xs : List Statement) (us : List Token) (c : Token) (ys closing : List Token) (s : Statement)
-    → bare before tokens ≡ put_lone o (put_all xs (us ++ c ∷ ys)) → c.span ≡ span → Plain closing → us ++ closing ≡ put s [] → IfSome o (IsLone (codes "data")) → AllByRecursion IsStatement xs → IsStatement s
+begun : (tokens : List Token) (span : Span) (o : Option Single) (xs : List Statement) (us : List Token) (c : Token) (ys closing : List Token) (s : Statement)
+    → bare before tokens ≡ put_single o (put_all xs (us ++ c ∷ ys)) → c.span ≡ span → Plain closing → us ++ closing ≡ put s [] → IfSome o (IsSingle (codes "data")) → AllByRecursion IsStatement xs → IsStatement s
     → BeginsBefore tokens span
 begun tokens span o xs us c ys closing s printed here plain ends opens are is =
-    let all : (r : List Token) → put_lone o (put_all xs (us ++ r)) ≡ put_lone o (put_all xs us) ++ r = λ r. ap (put_lone o) (sym (all-append xs us r)) ∙ sym (lone-append o (put_all xs us) r) in
-    let t = split before tokens (put_lone o (put_all xs us)) c ys (printed ∙ all (c ∷ ys)) in
+    let all : (r : List Token) → put_single o (put_all xs (us ++ r)) ≡ put_single o (put_all xs us) ++ r = λ r. ap (put_single o) (sym (all-append xs us r)) ∙ sym (single-append o (put_all xs us) r) in
+    let t = split before tokens (put_single o (put_all xs us)) c ys (printed ∙ all (c ∷ ys)) in
     record {
       front = t.front;
       token = c;
@@ -108,7 +108,7 @@ begun tokens span o xs us c ys closing s printed here plain ends opens are is =
         closing,
         record { opening = o; statements = xs ++ s ∷ []; ending = None },
         record {
-          printed = t.text closing plain ∙ sym (all closing) ∙ ap (λ k. put_lone o (put_all xs k)) ends ∙ ap (put_lone o) (sym (all-snoc xs s []));
+          printed = t.text closing plain ∙ sym (all closing) ∙ ap (λ k. put_single o (put_all xs k)) ends ∙ ap (put_single o) (sym (all-snoc xs s []));
           are = record { opening = opens; statements = are-snoc xs s are is; ending = tt };
         },
       );
@@ -134,14 +134,14 @@ front_passes : (test : Token → Bool) (xs : List Token) (x : Token) → list_al
 front_passes test [] x h = refl
 front_passes test (y ∷ xs) x h = let parts = and_parts (test y) (list_all test (xs ++ x ∷ [])) h in and_from (test y) (list_all test xs) parts.0 (front_passes test xs x parts.1)
 
-begun_at : (tokens rest : List Token) (span : Span) (defect : Defect) (o : Option Lone) (xs : List Statement) → IsFaulty rest span defect → bare before tokens ≡ put_lone o (put_all xs rest)
-    → IfSome o (IsLone (codes "data")) → AllByRecursion IsStatement xs → BeginsBefore tokens span
-begun_at tokens rest span defect o xs (short_row t behind is are head short last) printed opens all =
+begun_at : (tokens rest : List Token) (span : Span) (error_code : ErrorCode) (o : Option Single) (xs : List Statement) → IsFaulty rest span error_code → bare before tokens ≡ put_single o (put_all xs rest)
+    → IfSome o (IsSingle (codes "data")) → AllByRecursion IsStatement xs → BeginsBefore tokens span
+begun_at tokens rest span error_code o xs (short_row t behind is are head short last) printed opens all =
     let l = last_of t.cells span last in
     let text : rest ≡ put_table_heading t l.front ++ l.last ∷ t.end ∷ behind =
     is ∙ ap (λ k. put_table_heading t (k ++ t.end ∷ behind)) l.is ∙ ap (put_table_heading t) (append_assoc l.front (l.last ∷ []) (t.end ∷ behind)) ∙ sym (heading-append t l.front (l.last ∷ t.end ∷ behind)) in
     begun tokens span o xs (put_table_heading t l.front) l.last (t.end ∷ behind) (stop_mark ∷ []) (kinds.Table (record t { cells = l.front; end = stop_mark }))
-    (printed ∙ ap (λ k. put_lone o (put_all xs k)) text) l.at refl (heading-append t l.front (stop_mark ∷ [])) opens all
+    (printed ∙ ap (λ k. put_single o (put_all xs k)) text) l.at refl (heading-append t l.front (stop_mark ∷ [])) opens all
     (record {
       heading = record {
         keyword = are.heading.keyword;
@@ -155,26 +155,26 @@ begun_at tokens rest span defect o xs (short_row t behind is are head short last
       cells = front_passes is_cell l.front l.last (subst (λ k. list_all is_cell k ≡ true) l.is are.cells);
       end = refl;
     })
-begun_at tokens rest span defect o xs (no_column t behind is are none place) printed opens all =
+begun_at tokens rest span error_code o xs (no_column t behind is are none place) printed opens all =
     let us = t.keyword ∷ t.name ∷ put_default t.default (put_transposed t.transposed (t.colon ∷ [])) in
     let joined : (r : List Token) → us ++ r ≡ t.keyword ∷ t.name ∷ put_default t.default (put_transposed t.transposed (t.colon ∷ r)) =
     λ r. ap (λ k. t.keyword ∷ t.name ∷ k) (default-append t.default (put_transposed t.transposed (t.colon ∷ [])) r ∙ ap (put_default t.default) (transposed-append t.transposed (t.colon ∷ []) r)) in
     let text : rest ≡ us ++ t.assign ∷ behind =
     is ∙ ap (λ k. t.keyword ∷ t.name ∷ put_default t.default (put_transposed t.transposed (t.colon ∷ (k ++ t.assign ∷ behind)))) none ∙ sym (joined (t.assign ∷ behind)) in
     begun tokens span o xs us t.assign behind (gives_mark ∷ stop_mark ∷ []) (kinds.Table (record t { columns = []; assign = gives_mark; cells = []; end = stop_mark }))
-    (printed ∙ ap (λ k. put_lone o (put_all xs k)) text) place refl (joined (gives_mark ∷ stop_mark ∷ [])) opens all
+    (printed ∙ ap (λ k. put_single o (put_all xs k)) text) place refl (joined (gives_mark ∷ stop_mark ∷ [])) opens all
     (record {
       heading = record { keyword = are.keyword; name = are.name; default = are.default; transposed = are.transposed; colon = are.colon; columns = refl; assign = refl };
       cells = refl;
       end = refl;
     })
-begun_at tokens rest span defect o xs (no_name c behind is are none place) printed opens all =
+begun_at tokens rest span error_code o xs (no_name c behind is are none place) printed opens all =
     let us = c.keyword ∷ c.colon ∷ put_set c.set [] in
     let joined : (r : List Token) → us ++ r ≡ c.keyword ∷ c.colon ∷ put_set c.set r = λ r. ap (λ k. c.keyword ∷ c.colon ∷ k) (set-append c.set [] r) in
     let text : rest ≡ us ++ c.assign ∷ behind = is ∙ ap (λ k. c.keyword ∷ c.colon ∷ put_set c.set (k ++ c.assign ∷ behind)) none ∙ sym (joined (c.assign ∷ behind)) in
     begun tokens span o xs us c.assign behind (gives_mark ∷ stop_mark ∷ []) (kinds.Columns (record c { names = []; assign = gives_mark; cells = []; end = stop_mark }))
-    (printed ∙ ap (λ k. put_lone o (put_all xs k)) text) place refl (joined (gives_mark ∷ stop_mark ∷ [])) opens all
+    (printed ∙ ap (λ k. put_single o (put_all xs k)) text) place refl (joined (gives_mark ∷ stop_mark ∷ [])) opens all
     (record { heading = record { keyword = are.keyword; colon = are.colon; set = are.set; names = refl; assign = refl }; cells = refl; end = refl })
 
-pub fault_begun : (tokens : List Token) (defect : Defect) (span : Span) → HasFault tokens defect span → BeginsBefore tokens span
-fault_begun tokens defect span f = begun_at tokens f.rest span defect f.opening f.statements f.faulty f.printed f.opens f.are
+pub fault_begun : (tokens : List Token) (error_code : ErrorCode) (span : Span) → HasFault tokens error_code span → BeginsBefore tokens span
+fault_begun tokens error_code span f = begun_at tokens f.rest span error_code f.opening f.statements f.faulty f.printed f.opens f.are

@@ -3,8 +3,8 @@ use Rattle.std.proofs.Common.{◌≡◌, ℕ, zero, suc, ◌≤◌, ◌<◌, Boo
 use Rattle.std.specs.List.{AllByRecursion}
 use Rattle.net_fault.specs.declared.span.Span.{Span}
 use Rattle.net_lex.specs.declared.token.Token.{Token}
-use Rattle.net_fault.specs.declared.defect.Defect.{Defect}
-use Rattle.net_fault.specs.declared.defect.Defect.TheVariants.{DataSyntax, RowWidth, TableWidth}
+use Rattle.net_fault.specs.declared.error_code.ErrorCode.{ErrorCode}
+use Rattle.net_fault.specs.declared.error_code.ErrorCode.TheVariants.{DataSyntax, RowWidth, TableWidth}
 use Rattle.net_data.specs.declared.statement.DefaultValue.{DefaultValue}
 use Rattle.net_data.specs.declared.statement.Given.{Given}
 use Rattle.net_data.specs.declared.statement.NamedSet.{NamedSet}
@@ -14,12 +14,12 @@ use Rattle.net_data.specs.declared.statement.ColumnsStatement.{ColumnsStatement}
 use Rattle.net_data.specs.declared.statement.Statement.{Statement}
 use Rattle.net_data.specs.declared.statement.Statement.TheVariants as kinds
 use Rattle.net_data.specs.declared.parse_error.ParseError.{ParseError}
-use Rattle.net_data.specs.declared.tables.Lone.{Lone}
+use Rattle.net_data.specs.declared.tables.Single.{Single}
 use Rattle.net_data.specs.Commas.{Place, before, elsewhere, place_after, skips, bare}
 use Rattle.net_data.specs.Meaning.{IsTransposed, IsTableHeading, IsColumnsHeading, IsStatement, judged, all_judged, and_then}
-use Rattle.net_data.specs.Printing.{put, put_default, put_given, put_transposed, put_set, put_table_heading, put_columns_heading, put_all, put_lone}
+use Rattle.net_data.specs.Printing.{put, put_default, put_given, put_transposed, put_set, put_table_heading, put_columns_heading, put_all, put_single}
 use Rattle.net_data.specs.Reading.{stop, fills, last_span, filled, heading, table, turned, body, named, columns, param, statement, statements, with_statement, tables, met, colon, assign, ◌>>=◌}
-use Rattle.net_data.specs.Refusals.{IsFaulty, short_row, no_column, no_name, HasFault}
+use Rattle.net_data.specs.Rejections.{IsFaulty, short_row, no_column, no_name, HasFault}
 use Rattle.net_data.specs.Tests.{is_name, is_member, is_comma, is_word, is_mark}
 use Rattle.net_data.proofs.Apart.{mark-mark, mark-member, mark-name, name-mark, word-word}
 use Rattle.net_data.proofs.Bare.{misses}
@@ -28,7 +28,7 @@ use Rattle.net_data.proofs.ParamComplete.{heading-complete}
 use Rattle.net_data.proofs.RunLemmas.{Keeps, keeps_member, keeps_name}
 use Rattle.net_data.proofs.StatementComplete.{default-complete, table_begins, named_set-complete, statement-complete}
 use Rattle.net_data.proofs.Steps.{to_else, in_name, in_word, in_mark, gives}
-use Rattle.net_data.proofs.TablesMean.{lone-complete, lacks_word, lacks_statement, bare-length, put_all-length}
+use Rattle.net_data.proofs.TablesMean.{single-complete, lacks_word, lacks_statement, bare-length, put_all-length}
 
 -- ---- what is printed first stands first
 
@@ -84,15 +84,15 @@ pub all-append : (xs : List Statement) (ts us : List Token) → put_all xs ts ++
 all-append [] ts us = refl
 all-append (x ∷ xs) ts us = put-append x (put_all xs ts) us ∙ ap (put x) (all-append xs ts us)
 
-pub lone-append : (o : Option Lone) (ts us : List Token) → put_lone o ts ++ us ≡ put_lone o (ts ++ us)
-lone-append None ts us = refl
-lone-append (Some o) ts us = refl
+pub single-append : (o : Option Single) (ts us : List Token) → put_single o ts ++ us ≡ put_single o (ts ++ us)
+single-append None ts us = refl
+single-append (Some o) ts us = refl
 
 -- ---- a heading without a column
 
 -- a fault of widths
 abbrev Faulted : {A : Type 0} → Result A ParseError → Type 0
-Faulted read = (e : ParseError) × (read ≡ Err e) × (e.defect ≡ DataSyntax → ⊥)
+Faulted read = (e : ParseError) × (read ≡ Err e) × (e.error_code ≡ DataSyntax → ⊥)
 
 no_heading : (test : Token → Bool) (tokens more : List Token) (mark : Token) → Keeps test → assign mark ≡ true → test mark ≡ false → bare elsewhere tokens ≡ mark ∷ more → heading test tokens ≡ Err (stop TableWidth (Some mark.span))
 no_heading test tokens more mark keeps gave fails h = (heading-complete test tokens [] mark more keeps refl gave fails h).read
@@ -147,23 +147,23 @@ param_first keyword tokens more e key h fails =
     let a = gives before elsewhere (is_word (codes "param")) tokens more keyword (to_else (codes "param") refl) h key in
     rw (none, a.met, fails a.rest a.left) refl
 
-filled_fault : (heads all : List Token) → fills heads all ≡ false → (e : ParseError) × (filled heads all ≡ Err e) × (e.defect ≡ RowWidth)
+filled_fault : (heads all : List Token) → fills heads all ≡ false → (e : ParseError) × (filled heads all ≡ Err e) × (e.error_code ≡ RowWidth)
 unfolding filled
 filled_fault heads all h = (stop RowWidth (last_span all), rw h refl, refl)
 
 -- tokens that begin with the fault
-faulty_first : (tokens rest more : List Token) (span : Span) (defect : Defect) → IsFaulty rest span defect → bare before tokens ≡ rest ++ more → Faulted (statement tokens)
-faulty_first tokens rest more span defect (short_row t behind is are head short last) h =
+faulty_first : (tokens rest more : List Token) (span : Span) (error_code : ErrorCode) → IsFaulty rest span error_code → bare before tokens ≡ rest ++ more → Faulted (statement tokens)
+faulty_first tokens rest more span error_code (short_row t behind is are head short last) h =
     let s = statement-complete (kinds.Table t) tokens (behind ++ more) are (h ∙ ap (λ k. k ++ more) is ∙ put-append (kinds.Table t) behind more) in
     let f = filled_fault t.columns t.cells short in
     let j : judged (kinds.Table t) ≡ Err f.0 = rw head f.1 in
     (f.0, s.read ∙ ap (λ k. k >>= (λ full. Ok (Some (kinds.Table t, s.rest)))) j, λ k. let d = f.2 in cc)
-faulty_first tokens rest more span defect (no_column t behind is are none place) h =
+faulty_first tokens rest more span error_code (no_column t behind is are none place) h =
     let text : bare before tokens ≡ t.keyword ∷ t.name ∷ put_default t.default (put_transposed t.transposed (t.colon ∷ (t.columns ++ t.assign ∷ (behind ++ more)))) =
     h ∙ ap (λ k. k ++ more) is ∙ heading-append t behind more in
     let bald = text ∙ ap (λ k. t.keyword ∷ t.name ∷ put_default t.default (put_transposed t.transposed (t.colon ∷ (k ++ t.assign ∷ (behind ++ more))))) none in
     (stop TableWidth (Some t.assign.span), param_first t.keyword tokens _ (stop TableWidth (Some t.assign.span)) are.keyword bald (λ rest k. param_fault t rest (behind ++ more) are k), λ k. cc)
-faulty_first tokens rest more span defect (no_name c behind is are none place) h =
+faulty_first tokens rest more span error_code (no_name c behind is are none place) h =
     let text : bare before tokens ≡ c.keyword ∷ c.colon ∷ put_set c.set (c.names ++ c.assign ∷ (behind ++ more)) = h ∙ ap (λ k. k ++ more) is ∙ columns-append c behind more in
     let bald = text ∙ ap (λ k. c.keyword ∷ c.colon ∷ put_set c.set (k ++ c.assign ∷ (behind ++ more))) none in
     (stop TableWidth (Some c.assign.span), param_first c.keyword tokens _ (stop TableWidth (Some c.assign.span)) are.keyword bald (λ rest k. columns_fault c rest (behind ++ more) are k), λ k. cc)
@@ -173,49 +173,49 @@ and_ok : (j k : Result (Unit {0}) ParseError) → and_then j k ≡ Ok tt → (j 
 and_ok (Ok x) k h = (refl, h)
 and_ok (Err e) k h = absurd (cc)
 
-statements_fault : (n : ℕ) (xs : List Statement) (tokens rest more : List Token) (span : Span) (defect : Defect) → length xs < n → AllByRecursion IsStatement xs → all_judged xs ≡ Ok tt → IsFaulty rest span defect
+statements_fault : (n : ℕ) (xs : List Statement) (tokens rest more : List Token) (span : Span) (error_code : ErrorCode) → length xs < n → AllByRecursion IsStatement xs → all_judged xs ≡ Ok tt → IsFaulty rest span error_code
     → bare before tokens ≡ put_all xs (rest ++ more) → Faulted (statements n tokens)
 unfolding statements
-statements_fault zero xs tokens rest more span defect lt are full fault h = absurd (omega (arith, lt))
-statements_fault (suc n) [] tokens rest more span defect lt are full fault h =
-    let f = faulty_first tokens rest more span defect fault h in (f.0, rw (f.1) refl, f.2)
-statements_fault (suc n) (x ∷ xs) tokens rest more span defect lt are full fault h =
+statements_fault zero xs tokens rest more span error_code lt are full fault h = absurd (omega (arith, lt))
+statements_fault (suc n) [] tokens rest more span error_code lt are full fault h =
+    let f = faulty_first tokens rest more span error_code fault h in (f.0, rw (f.1) refl, f.2)
+statements_fault (suc n) (x ∷ xs) tokens rest more span error_code lt are full fault h =
     let both = and_ok (judged x) (all_judged xs) full in
     let one = statement-complete x tokens _ are.0 h in
     let read : statement tokens ≡ Ok (Some (x, one.rest)) = one.read ∙ ap (λ k. k >>= (λ full. Ok (Some (x, one.rest)))) both.0 in
-    let f = statements_fault n xs one.rest rest more span defect (omega (arith, lt)) are.1 both.1 fault one.left in
+    let f = statements_fault n xs one.rest rest more span error_code (omega (arith, lt)) are.1 both.1 fault one.left in
     (f.0, rw read (ap (with_statement x) f.1), f.2)
 
-lacks_fault : (tokens rest more : List Token) (span : Span) (defect : Defect) → IsFaulty rest span defect → bare before tokens ≡ rest ++ more → met (is_word (codes "data")) tokens ≡ None
-lacks_fault tokens rest more span defect (short_row t behind is are head short last) h =
+lacks_fault : (tokens rest more : List Token) (span : Span) (error_code : ErrorCode) → IsFaulty rest span error_code → bare before tokens ≡ rest ++ more → met (is_word (codes "data")) tokens ≡ None
+lacks_fault tokens rest more span error_code (short_row t behind is are head short last) h =
     lacks_word (codes "param") (codes "data") t.keyword tokens _ refl are.heading.keyword (h ∙ ap (λ k. k ++ more) is)
-lacks_fault tokens rest more span defect (no_column t behind is are none place) h = lacks_word (codes "param") (codes "data") t.keyword tokens _ refl are.keyword (h ∙ ap (λ k. k ++ more) is)
-lacks_fault tokens rest more span defect (no_name c behind is are none place) h = lacks_word (codes "param") (codes "data") c.keyword tokens _ refl are.keyword (h ∙ ap (λ k. k ++ more) is)
+lacks_fault tokens rest more span error_code (no_column t behind is are none place) h = lacks_word (codes "param") (codes "data") t.keyword tokens _ refl are.keyword (h ∙ ap (λ k. k ++ more) is)
+lacks_fault tokens rest more span error_code (no_name c behind is are none place) h = lacks_word (codes "param") (codes "data") c.keyword tokens _ refl are.keyword (h ∙ ap (λ k. k ++ more) is)
 
-lacks_data : (xs : List Statement) (tokens rest more : List Token) (span : Span) (defect : Defect) → AllByRecursion IsStatement xs → IsFaulty rest span defect → bare before tokens ≡ put_all xs (rest ++ more)
+lacks_data : (xs : List Statement) (tokens rest more : List Token) (span : Span) (error_code : ErrorCode) → AllByRecursion IsStatement xs → IsFaulty rest span error_code → bare before tokens ≡ put_all xs (rest ++ more)
     → met (is_word (codes "data")) tokens ≡ None
-lacks_data [] tokens rest more span defect are fault h = lacks_fault tokens rest more span defect fault h
-lacks_data (x ∷ xs) tokens rest more span defect are fault h = lacks_statement x tokens _ are.0 h
+lacks_data [] tokens rest more span error_code are fault h = lacks_fault tokens rest more span error_code fault h
+lacks_data (x ∷ xs) tokens rest more span error_code are fault h = lacks_statement x tokens _ are.0 h
 
-tables_fault : (tokens others : List Token) (span : Span) (defect : Defect) → HasFault tokens defect span → Faulted (tables (tokens ++ others))
+tables_fault : (tokens others : List Token) (span : Span) (error_code : ErrorCode) → HasFault tokens error_code span → Faulted (tables (tokens ++ others))
 unfolding tables
-tables_fault tokens others span defect f =
+tables_fault tokens others span error_code f =
     let more = bare (across before tokens) others in
-    let text : bare before (tokens ++ others) ≡ put_lone f.opening (put_all f.statements (f.rest ++ more)) =
-    bare-append before tokens others ∙ ap (λ k. k ++ more) f.printed ∙ lone-append f.opening (put_all f.statements f.rest) more ∙ ap (put_lone f.opening) (all-append f.statements f.rest more) in
-    let a = lone-complete (codes "data") (tokens ++ others) f.opening (put_all f.statements (f.rest ++ more)) refl f.opens
-    (λ h. lacks_data f.statements (tokens ++ others) f.rest more span defect f.are f.faulty h) text in
+    let text : bare before (tokens ++ others) ≡ put_single f.opening (put_all f.statements (f.rest ++ more)) =
+    bare-append before tokens others ∙ ap (λ k. k ++ more) f.printed ∙ single-append f.opening (put_all f.statements f.rest) more ∙ ap (put_single f.opening) (all-append f.statements f.rest more) in
+    let a = single-complete (codes "data") (tokens ++ others) f.opening (put_all f.statements (f.rest ++ more)) refl f.opens
+    (λ h. lacks_data f.statements (tokens ++ others) f.rest more span error_code f.are f.faulty h) text in
     let long : length f.statements ≤ length a.rest = omega (arith, bare-length before a.rest, put_all-length f.statements (f.rest ++ more), ap length a.left) in
-    let b = statements_fault (suc (length a.rest)) f.statements a.rest f.rest more span defect (omega arith) f.are f.judged f.faulty a.left in
+    let b = statements_fault (suc (length a.rest)) f.statements a.rest f.rest more span error_code (omega arith) f.are f.judged f.faulty a.left in
     (b.0, rw (a.read, b.1) refl, b.2)
 
 -- where a table is at fault, no tokens behind it make the fault one of the grammar
-pub widths_stay : (tokens others : List Token) (d e : ParseError) → tables tokens ≡ Err d → (d.defect ≡ DataSyntax → ⊥) → tables (tokens ++ others) ≡ Err e → e.defect ≡ DataSyntax → ⊥
-widths_stay tokens others d e h width again s =
+pub widths_stay : (tokens others : List Token) (d e : ParseError) → tables tokens ≡ Err d → (d.error_code ≡ DataSyntax → ⊥) → tables (tokens ++ others) ≡ Err e → e.error_code ≡ DataSyntax → ⊥
+widths_stay tokens others d e h width copied s =
     elim (tables_err tokens d h) [
       | inl k ↦ width k
       | inr b ↦
-          let f = tables_fault tokens others b.0 d.defect b.2 in
-          let same : f.0 ≡ e = let k = sym f.1 ∙ again in cc in
-          f.2 (ap (λ (z : ParseError). z.defect) same ∙ s)
+          let f = tables_fault tokens others b.0 d.error_code b.2 in
+          let same : f.0 ≡ e = let k = sym f.1 ∙ copied in cc in
+          f.2 (ap (λ (z : ParseError). z.error_code) same ∙ s)
     ]

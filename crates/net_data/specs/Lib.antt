@@ -4,7 +4,7 @@ pub mod Spots
 pub mod Reading
 pub mod Printing
 pub mod Meaning
-pub mod Refusals
+pub mod Rejections
 pub mod GoingOn
 pub mod Rows
 pub mod Standing

@@ -3,7 +3,7 @@
 use Rattle.std.specs.Prelude.{◌≡◌, ℕ, true, List, [], ◌∷◌, Some, IfSome, Result, Ok, Err, codes}
 use Rattle.std.specs.List.{list_all, AllByRecursion}
 use Rattle.net_lex.specs.declared.token.Token.{Token}
-use Rattle.net_fault.specs.declared.defect.Defect.TheVariants.{TableWidth}
+use Rattle.net_fault.specs.declared.error_code.ErrorCode.TheVariants.{TableWidth}
 use Rattle.net_data.specs.declared.parse_error.ParseError.{ParseError}
 use Rattle.net_data.specs.declared.statement.SetStatement.{SetStatement}
 use Rattle.net_data.specs.declared.statement.DefaultValue.{DefaultValue}
@@ -15,7 +15,7 @@ use Rattle.net_data.specs.declared.statement.NamedSet.{NamedSet}
 use Rattle.net_data.specs.declared.statement.ColumnsStatement.{ColumnsStatement}
 use Rattle.net_data.specs.declared.statement.Statement.{Statement}
 use Rattle.net_data.specs.declared.statement.Statement.TheVariants.{Set, List as Listed, Table, Columns}
-use Rattle.net_data.specs.declared.tables.Lone.{Lone}
+use Rattle.net_data.specs.declared.tables.Single.{Single}
 use Rattle.net_data.specs.declared.tables.Tables.{Tables}
 use Rattle.net_data.specs.Tests.{is_name, is_member, is_cell, is_word, is_mark, is_comma}
 use Rattle.net_data.specs.Commas.{before, bare}
@@ -101,14 +101,14 @@ IsStatement (Listed list) = IsList list
 IsStatement (Table table) = IsTable table
 IsStatement (Columns columns) = IsColumns columns
 
-pub record IsLone (text : List ℕ) (lone : Lone) : Type 0 where
-  pub word : is_word text lone.word ≡ true
-  pub end : semicolon lone.end ≡ true
+pub record IsSingle (text : List ℕ) (single : Single) : Type 0 where
+  pub word : is_word text single.word ≡ true
+  pub end : semicolon single.end ≡ true
 
 pub record AreTables (tables : Tables) : Type 0 where
-  pub opening : IfSome tables.opening (IsLone (codes "data"))
+  pub opening : IfSome tables.opening (IsSingle (codes "data"))
   pub statements : AllByRecursion IsStatement tables.statements
-  pub ending : IfSome tables.ending (IsLone (codes "end"))
+  pub ending : IfSome tables.ending (IsSingle (codes "end"))
 
 -- apart from commas outside tuples, the tokens are those of these well-formed statements
 pub record Mean (tokens : List Token) (tables : Tables) : Type 0 where

@@ -9,7 +9,7 @@ use Rattle.net_data.specs.declared.statement.TableStatement.{TableStatement}
 use Rattle.net_data.specs.declared.statement.ColumnsStatement.{ColumnsStatement}
 use Rattle.net_data.specs.declared.statement.Statement.{Statement}
 use Rattle.net_data.specs.declared.statement.Statement.TheVariants.{Set, List as Listed, Table, Columns}
-use Rattle.net_data.specs.declared.tables.Lone.{Lone}
+use Rattle.net_data.specs.declared.tables.Single.{Single}
 use Rattle.net_data.specs.declared.tables.Tables.{Tables}
 
 -- the tokens of a part, followed by the rest
@@ -48,10 +48,10 @@ abbrev pub put_all : List Statement → List Token → List Token
 put_all [] rest = rest
 put_all (statement ∷ statements) rest = put statement (put_all statements rest)
 
-abbrev pub put_lone : Option Lone → List Token → List Token
-put_lone None rest = rest
-put_lone (Some lone) rest = lone.word ∷ lone.end ∷ rest
+abbrev pub put_single : Option Single → List Token → List Token
+put_single None rest = rest
+put_single (Some single) rest = single.word ∷ single.end ∷ rest
 
 -- all tokens of a data file
 abbrev pub print : Tables → List Token
-print tables = put_lone tables.opening (put_all tables.statements (put_lone tables.ending []))
+print tables = put_single tables.opening (put_all tables.statements (put_single tables.ending []))

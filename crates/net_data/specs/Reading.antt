@@ -5,8 +5,8 @@ use Rattle.std.specs.Borrow.{Bor}
 use Rattle.std.specs.Option.{option_map}
 use Rattle.net_fault.specs.declared.span.Span.{Span}
 use Rattle.net_lex.specs.declared.token.Token.{Token}
-use Rattle.net_fault.specs.declared.defect.Defect.{Defect}
-use Rattle.net_fault.specs.declared.defect.Defect.TheVariants.{DataSyntax, RowWidth, TableWidth}
+use Rattle.net_fault.specs.declared.error_code.ErrorCode.{ErrorCode}
+use Rattle.net_fault.specs.declared.error_code.ErrorCode.TheVariants.{DataSyntax, RowWidth, TableWidth}
 use Rattle.net_fault.specs.declared.fault.Fault.{Fault}
 use Rattle.net_fault.specs.declared.language.Language.TheVariants.{Data}
 use Rattle.net_fault.specs.Outcomes as outcomes
@@ -20,7 +20,7 @@ use Rattle.net_data.specs.declared.statement.Transposed.{Transposed}
 use Rattle.net_data.specs.declared.statement.NamedSet.{NamedSet}
 use Rattle.net_data.specs.declared.statement.Statement.{Statement}
 use Rattle.net_data.specs.declared.statement.Statement.TheVariants as kinds
-use Rattle.net_data.specs.declared.tables.Lone.{Lone}
+use Rattle.net_data.specs.declared.tables.Single.{Single}
 use Rattle.net_data.specs.declared.tables.Tables.{Tables}
 use Rattle.net_data.specs.Tests.{is_name, is_member, is_cell, is_word, is_mark, is_comma}
 use Rattle.net_data.specs.Commas.{in_set, bare, uncommaed}
@@ -36,8 +36,8 @@ abbrev pub ◌>>=◌ : {A B : Type 0} → Result A ParseError → (A → Result 
 abbrev pub Read : Type 0 → Type 0
 Read A = Result (A × List Token) ParseError
 
-abbrev pub stop : Defect → Option Span → ParseError
-stop defect at = record { defect = defect; at = at }
+abbrev pub stop : ErrorCode → Option Span → ParseError
+stop error_code at = record { error_code = error_code; at = at }
 
 -- the next token that is not a comma, and the tokens after it
 abbrev pub front : List Token → Option (Token × List Token)
@@ -74,9 +74,9 @@ ReadsOn read rest (Ok (Some x)) = read ≡ Ok (Some (x, rest))
 ReadsOn read rest (Err e) = Stops read e
 
 -- the value that was parsed is the result, and the tokens after it are left
-abbrev pub GoesBehind : {A : Type 0} → Result (A × Bor (List Token)) StatementStop → List Token → Result (Option A) StatementStop → Type 0
-GoesBehind (Ok x) rest result = (result ≡ Ok (Some x.0)) × (rest ≡ x.1.now)
-GoesBehind (Err e) rest result = result ≡ Err e
+abbrev pub GoesAfter : {A : Type 0} → Result (A × Bor (List Token)) StatementStop → List Token → Result (Option A) StatementStop → Type 0
+GoesAfter (Ok x) rest result = (result ≡ Ok (Some x.0)) × (rest ≡ x.1.now)
+GoesAfter (Err e) rest result = result ≡ Err e
 
 -- the position after the last token
 abbrev pub end_at : Option Token → ℕ
@@ -92,7 +92,7 @@ span_or_end end None = record { start = end; end = end }
 span_or_end end (Some span) = span
 
 abbrev pub fault_of : ℕ → ParseError → Fault
-fault_of end stop = At (outcomes.bare Data stop.defect (span_or_end end stop.at))
+fault_of end stop = At (outcomes.bare Data stop.error_code (span_or_end end stop.at))
 
 abbrev pub statement_fault : ℕ → StatementStop → Fault
 statement_fault end statement_stops.OutOfMemory = OutOfMemory
@@ -133,12 +133,12 @@ span_of None = None
 span_of (Some token) = Some token.span
 
 -- the error for the next token, which is not allowed
-unfoldable pub refused : List Token → ParseError
-refused tokens = stop DataSyntax (span_of (option_map (λ x. x.0) (front tokens)))
+unfoldable pub rejected : List Token → ParseError
+rejected tokens = stop DataSyntax (span_of (option_map (λ x. x.0) (front tokens)))
 
 -- the next token, which must satisfy a test
 abbrev pub wanted_by : List Token → Option (Token × List Token) → Read Token
-wanted_by tokens None = Err (refused tokens)
+wanted_by tokens None = Err (rejected tokens)
 wanted_by tokens (Some x) = Ok x
 
 unfoldable pub wanted : (Token → Bool) → List Token → Read Token
@@ -156,9 +156,9 @@ abbrev pub with_token : Token → Read (List Token) → Read (List Token)
 with_token token (Ok x) = Ok (token ∷ x.0, x.1)
 with_token token (Err e) = Err e
 
-abbrev pub items_behind : Token → List Token → Option Spot → Spot → Read (List Token) → Read (List Token)
-items_behind token tokens (Some next) spot more = with_token token more
-items_behind token tokens None spot more = if rests spot then Ok ([], token ∷ tokens) else Err (stop DataSyntax (Some token.span))
+abbrev pub items_after : Token → List Token → Option Spot → Spot → Read (List Token) → Read (List Token)
+items_after token tokens (Some next) spot more = with_token token more
+items_after token tokens None spot more = if rests spot then Ok ([], token ∷ tokens) else Err (stop DataSyntax (Some token.span))
 
 abbrev pub spot_or : Spot → Option Spot → Spot
 spot_or spot (Some next) = next
@@ -166,7 +166,7 @@ spot_or spot None = spot
 
 unfoldable pub items_from : Spot → List Token → Read (List Token)
 items_from spot [] = if rests spot then Ok ([], []) else Err (stop DataSyntax None)
-items_from spot (token ∷ tokens) = items_behind token tokens (spot_after spot token) spot (items_from (spot_or spot (spot_after spot token)) tokens)
+items_from spot (token ∷ tokens) = items_after token tokens (spot_after spot token) spot (items_from (spot_or spot (spot_after spot token)) tokens)
 
 abbrev pub items_of : List Token × List Token → List Token × List Token
 items_of x = (bare in_set x.0, x.1)
@@ -284,13 +284,13 @@ named_set_by tokens (Some name) (Some colon) = (Some (record { name = name.0; co
 named_set_by tokens (Some name) None = (None, tokens)
 named_set_by tokens None next = (None, tokens)
 
-abbrev pub met_behind : (Token → Bool) → Option (Token × List Token) → Option (Token × List Token)
-met_behind test None = None
-met_behind test (Some x) = met test x.1
+abbrev pub met_after : (Token → Bool) → Option (Token × List Token) → Option (Token × List Token)
+met_after test None = None
+met_after test (Some x) = met test x.1
 
 -- a name and a colon, if they come next
 unfoldable pub named_set : List Token → Option NamedSet × List Token
-named_set tokens = named_set_by tokens (met is_name tokens) (met_behind colon (met is_name tokens))
+named_set tokens = named_set_by tokens (met is_name tokens) (met_after colon (met is_name tokens))
 
 -- after the keyword `param` and a colon
 unfoldable pub columns : Token → Token → List Token → Read Statement
@@ -334,15 +334,15 @@ unfoldable pub statements : ℕ → List Token → Read (List Statement)
 statements zero tokens = Ok ([], tokens)
 statements (suc turns) tokens = statements_by (statements turns) tokens (statement tokens)
 
-abbrev pub lone_by : List Token → Option (Token × List Token) → Read (Option Lone)
-lone_by tokens None = Ok (None, tokens)
-lone_by tokens (Some word) = do
+abbrev pub single_by : List Token → Option (Token × List Token) → Read (Option Single)
+single_by tokens None = Ok (None, tokens)
+single_by tokens (Some word) = do
   end ← wanted semicolon word.1
   Ok (Some (record { word = word.0; end = end.0 }), end.1)
 
 -- a keyword with its semicolon, if it comes next
-unfoldable pub lone : List ℕ → List Token → Read (Option Lone)
-lone word tokens = lone_by tokens (met (is_word word) tokens)
+unfoldable pub single : List ℕ → List Token → Read (Option Single)
+single word tokens = single_by tokens (met (is_word word) tokens)
 
 abbrev pub finished_by : Option (Token × List Token) → Result (Unit {0}) ParseError
 finished_by None = Ok tt
@@ -355,8 +355,8 @@ finished tokens = finished_by (front tokens)
 -- the statements of a data file
 unfoldable pub tables : List Token → Result Tables ParseError
 tables tokens = do
-  opening ← lone (codes "data") tokens
+  opening ← single (codes "data") tokens
   statements ← statements (suc (length opening.1)) opening.1
-  ending ← lone (codes "end") statements.1
+  ending ← single (codes "end") statements.1
   over ← finished ending.1
   Ok (record { opening = opening.0; statements = statements.0; ending = ending.0 })

@@ -10,27 +10,27 @@ use Rattle.net_data.specs.declared.statement.Statement.{Statement}
 use Rattle.net_data.specs.declared.statement.Statement.TheVariants.{Set, List as Listed, Table, Columns}
 
 -- P holds for the spans of these tokens
-abbrev pub TokensStand : (Span → Type 0) → List Token → Type 0
-TokensStand P ts = AllByRecursion (λ (t : Token). P t.span) ts
+abbrev pub TokensHaveSpans : (Span → Type 0) → List Token → Type 0
+TokensHaveSpans P ts = AllByRecursion (λ (t : Token). P t.span) ts
 
-abbrev pub DefaultStands : (Span → Type 0) → Option DefaultValue → Type 0
-DefaultStands P None = ⊤
-DefaultStands P (Some d) = P d.value.span
+abbrev pub DefaultHasSpan : (Span → Type 0) → Option DefaultValue → Type 0
+DefaultHasSpan P None = ⊤
+DefaultHasSpan P (Some d) = P d.value.span
 
-abbrev pub GivenStands : (Span → Type 0) → Option Given → Type 0
-GivenStands P None = ⊤
-GivenStands P (Some g) = TokensStand P g.cells
+abbrev pub GivenHasSpans : (Span → Type 0) → Option Given → Type 0
+GivenHasSpans P None = ⊤
+GivenHasSpans P (Some g) = TokensHaveSpans P g.cells
 
-abbrev pub NamedSetStands : (Span → Type 0) → Option NamedSet → Type 0
-NamedSetStands P None = ⊤
-NamedSetStands P (Some s) = P s.name.span
+abbrev pub NamedSetHasSpan : (Span → Type 0) → Option NamedSet → Type 0
+NamedSetHasSpan P None = ⊤
+NamedSetHasSpan P (Some s) = P s.name.span
 
 -- P holds for the spans of the names and the cells of a statement
-abbrev pub StatementStands : (Span → Type 0) → Statement → Type 0
-StatementStands P (Set s) = P s.name.span × TokensStand P s.items
-StatementStands P (Listed l) = P l.name.span × DefaultStands P l.default × GivenStands P l.given
-StatementStands P (Table t) = P t.name.span × DefaultStands P t.default × TokensStand P t.columns × TokensStand P t.cells
-StatementStands P (Columns c) = NamedSetStands P c.set × TokensStand P c.names × TokensStand P c.cells
+abbrev pub StatementHasSpans : (Span → Type 0) → Statement → Type 0
+StatementHasSpans P (Set s) = P s.name.span × TokensHaveSpans P s.items
+StatementHasSpans P (Listed l) = P l.name.span × DefaultHasSpan P l.default × GivenHasSpans P l.given
+StatementHasSpans P (Table t) = P t.name.span × DefaultHasSpan P t.default × TokensHaveSpans P t.columns × TokensHaveSpans P t.cells
+StatementHasSpans P (Columns c) = NamedSetHasSpan P c.set × TokensHaveSpans P c.names × TokensHaveSpans P c.cells
 
-abbrev pub StatementsStand : (Span → Type 0) → List Statement → Type 0
-StatementsStand P ss = AllByRecursion (StatementStands P) ss
+abbrev pub StatementsHaveSpans : (Span → Type 0) → List Statement → Type 0
+StatementsHaveSpans P ss = AllByRecursion (StatementHasSpans P) ss

@@ -61,11 +61,11 @@ impl<'t, 's> Cells<'t, 's> {
     pub fn behind(&self, count: usize) -> Cells<'t, 's>
         ensures { result ≡ drop count self.now }
     {
-        cells_behind(self.tokens, count)
+        cells_after(self.tokens, count)
     }
 
     /// Returns a copy of the slice reference; copies no tokens.
-    pub fn again(&self) -> Cells<'t, 's>
+    pub fn copied(&self) -> Cells<'t, 's>
         ensures { result ≡ self.now }
     {
         Cells {
@@ -136,7 +136,7 @@ fn split_cells<'t, 's>(tokens: &'t [Token<'s>], count: usize) -> (Cells<'t, 's>,
     (Cells::new(front), Cells::new(back))
 }
 
-fn cells_behind<'t, 's>(tokens: &'t [Token<'s>], count: usize) -> Cells<'t, 's>
+fn cells_after<'t, 's>(tokens: &'t [Token<'s>], count: usize) -> Cells<'t, 's>
     ensures { result ≡ drop count (uncommaed tokens.entry.now) }
 {
     let (_, back) = tokens.split_at(cells_len(tokens, count));

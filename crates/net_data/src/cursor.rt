@@ -2,13 +2,13 @@
 ghost use Rattle.std.specs.Prelude.{◌≡◌, ◌<◌, ◌≤◌, length, MatchOption, IfSome, IfOk};
 ghost use Rattle.std.specs.List.{prefix_len};
 ghost use Rattle.net_data.specs.Tests.{is_comma, is_of};
-ghost use Rattle.net_data.specs.Reading.{front, met, wanted, refused, Reads, Finds};
+ghost use Rattle.net_data.specs.Reading.{front, met, wanted, rejected, Reads, Finds};
 
 use crate::expected::Expected;
 use crate::parse_error::ParseError;
 use crate::test::{is_comma, is_of};
 use crate::word::Word;
-use net_fault::Defect;
+use net_fault::ErrorCode;
 use net_lex::Token;
 
 /// A token, and the tokens after it.
@@ -53,16 +53,16 @@ pub(crate) fn met<'t, 's>(sort: Expected, tokens: &'t [Token<'s>]) -> Option<Nex
 }
 
 /// Returns the error for the next token, which is not allowed.
-#[tactic(auto, unfolding(crate::specs::Reading::refused))]
-pub(crate) fn refused(tokens: &[Token<'_>]) -> ParseError
-    ensures { result ≡ refused tokens.now }
+#[tactic(auto, unfolding(crate::specs::Reading::rejected))]
+pub(crate) fn rejected(tokens: &[Token<'_>]) -> ParseError
+    ensures { result ≡ rejected tokens.now }
 {
     let at = match front(tokens) {
         None => None,
         Some((token, _)) => Some(token.span),
     };
     ParseError {
-        defect: Defect::DataSyntax,
+        error_code: ErrorCode::DataSyntax,
         at,
     }
 }
@@ -78,7 +78,7 @@ pub(crate) fn wanted<'t, 's>(
 {
     match met(sort, tokens) {
         Some((token, after)) => Ok((Word::new(token), after)),
-        None => Err(refused(tokens)),
+        None => Err(rejected(tokens)),
     }
 }
 

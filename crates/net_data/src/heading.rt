@@ -9,7 +9,7 @@ use crate::expected::Expected;
 use crate::parse_error::ParseError;
 use crate::runs::run;
 use crate::word::Word;
-use net_fault::Defect;
+use net_fault::ErrorCode;
 use net_lex::Token;
 
 /// Cells, the punctuation after them, and the remaining tokens.
@@ -26,7 +26,7 @@ fn headed<'t, 's>(
 {
     if columns.len() == 0 {
         return Err(ParseError {
-            defect: Defect::TableWidth,
+            error_code: ErrorCode::TableWidth,
             at: Some(assign.token().span),
         });
     }
@@ -67,7 +67,7 @@ pub(crate) fn filled(columns: &Cells<'_, '_>, cells: &Cells<'_, '_>) -> Result<(
         return Ok(());
     }
     Err(ParseError {
-        defect: Defect::RowWidth,
+        error_code: ErrorCode::RowWidth,
         at: cells.last_span(),
     })
 }

@@ -29,5 +29,5 @@ pub use statement::{
     ColumnsStatement, DefaultValue, Given, ListStatement, NamedSet, SetStatement, Statement,
     TableStatement, Transposed,
 };
-pub use tables::{Lone, Tables};
+pub use tables::{Single, Tables};
 pub use word::Word;

@@ -37,7 +37,7 @@ impl<'t, 's> Members<'t, 's> {
 
 impl<'t, 's> Members<'t, 's> {
     /// Returns a copy of the slice reference; copies no tokens.
-    pub fn again(&self) -> Members<'t, 's>
+    pub fn copied(&self) -> Members<'t, 's>
         ensures { result ≡ self.now }
     {
         Members {
@@ -111,7 +111,7 @@ fn more_items<'t, 's>(tokens: &'t [Token<'s>]) -> Members<'t, 's>
         Some((token, rest)) => {
             if is_mark(b"(", token) {
                 let (_, closed) = rest.split_at(inside_len(rest));
-                return Members::new(behind_first(closed));
+                return Members::new(after_first(closed));
             }
             if is_mark(b";", token) {
                 let (_, none) = rest.split_at(rest.len());
@@ -122,7 +122,7 @@ fn more_items<'t, 's>(tokens: &'t [Token<'s>]) -> Members<'t, 's>
     }
 }
 
-fn behind_first<'t, 's>(tokens: &'t [Token<'s>]) -> &'t [Token<'s>]
+fn after_first<'t, 's>(tokens: &'t [Token<'s>]) -> &'t [Token<'s>]
     ensures { result.now ≡ drop 1 tokens.entry.now }
 {
     tokens.get(1..).unwrap_or(tokens)

@@ -1,10 +1,10 @@
 //! The statements of a data file.
 ghost use Rattle.std.specs.Prelude.{◌≡◌, ◌<◌, ◌≤◌, length, suc, IfOk, IfErr, IfSome, IfNone};
-ghost use Rattle.net_data.specs.Reading.{statement, statements, lone_by, met, finished, tables, end_of, fault_of, statement_fault, Reads, GoesBehind};
+ghost use Rattle.net_data.specs.Reading.{statement, statements, single_by, met, finished, tables, end_of, fault_of, statement_fault, Reads, GoesAfter};
 ghost use Rattle.net_data.specs.Reading.{ReadsOn, Answers, AnswersRest};
 ghost use Rattle.net_data.specs.Tests.{is_of};
 ghost use Rattle.net_data.specs.Meaning.{Mean, all_judged, checked};
-ghost use Rattle.net_data.specs.Refusals.{IsRefusal};
+ghost use Rattle.net_data.specs.Rejections.{IsRejection};
 ghost use Rattle.net_data.specs.declared.tables.Tables.{Tables};
 
 use crate::cursor::{front, met, same, wanted};
@@ -15,9 +15,9 @@ use crate::set::set;
 use crate::stated::{Stated, push};
 use crate::statement::Statement;
 use crate::statement_stop::StatementStop;
-use crate::tables::{Lone, Tables};
+use crate::tables::{Single, Tables};
 use crate::word::Word;
-use net_fault::{Defect, Fault, Span};
+use net_fault::{ErrorCode, Fault, Span};
 use net_lex::Token;
 use net_views::{Boxed, Items};
 use std::alloc::Global;
@@ -37,8 +37,8 @@ fn fault_of(stop: ParseError, end: usize) -> Fault
     ensures { result ≡ fault_of end stop }
 {
     match stop.at {
-        None => Fault::of_data(stop.defect, Span { start: end, end }),
-        Some(span) => Fault::of_data(stop.defect, span),
+        None => Fault::of_data(stop.error_code, Span { start: end, end }),
+        Some(span) => Fault::of_data(stop.error_code, span),
     }
 }
 
@@ -64,7 +64,7 @@ impl<'t, 's> Unread<'t, 's> {
         &mut self,
         stated: Result<Stated<'t, 's>, StatementStop>,
     ) -> Result<Option<Boxed<Statement<'t, 's>>>, StatementStop>
-        ensures { GoesBehind stated.entry self.new.tokens.now result }
+        ensures { GoesAfter stated.entry self.new.tokens.now result }
     {
         let (found, rest) = stated?;
         self.tokens = same(rest);
@@ -111,18 +111,18 @@ fn statements<'t, 's>(
 }
 
 /// Parses a keyword with its semicolon, if it comes next; also returns the remaining tokens.
-fn lone<'t, 's>(
+fn single<'t, 's>(
     sort: Expected,
     tokens: &'t [Token<'s>],
-) -> Result<(Option<Lone<'t, 's>>, &'t [Token<'s>]), ParseError>
-    ensures { Reads (lone_by tokens.entry.now (met (is_of sort) tokens.entry.now)) result }
+) -> Result<(Option<Single<'t, 's>>, &'t [Token<'s>]), ParseError>
+    ensures { Reads (single_by tokens.entry.now (met (is_of sort) tokens.entry.now)) result }
 {
     match met(sort, tokens) {
         None => Ok((None, tokens)),
         Some((word, rest)) => {
             let (end, rest) = wanted(Expected::Semicolon, rest)?;
             let word = Word::new(word);
-            Ok((Some(Lone { word, end }), rest))
+            Ok((Some(Single { word, end }), rest))
         }
     }
 }
@@ -135,14 +135,14 @@ fn finished(tokens: &[Token<'_>]) -> Result<(), ParseError>
     match front(tokens) {
         None => Ok(()),
         Some((token, _)) => Err(ParseError {
-            defect: Defect::DataSyntax,
+            error_code: ErrorCode::DataSyntax,
             at: Some(token.span),
         }),
     }
 }
 
 /// Parses the statements of a data file, given its end.
-#[tactic(auto, unfolding(crate::specs::Reading::tables, crate::specs::Reading::lone))]
+#[tactic(auto, unfolding(crate::specs::Reading::tables, crate::specs::Reading::single))]
 fn tables<'t, 's>(
     alloc: Global,
     end: usize,
@@ -150,12 +150,12 @@ fn tables<'t, 's>(
 ) -> Result<Tables<'t, 's>, Fault>
     ensures { Answers end (tables tokens.entry.now) result }
 {
-    let (opening, rest) = match lone(Expected::Data, tokens) {
+    let (opening, rest) = match single(Expected::Data, tokens) {
         Ok(found) => found,
         Err(stop) => return Err(fault_of(stop, end)),
     };
     let (statements, rest) = statements(alloc, end, rest)?;
-    let (ending, rest) = match lone(Expected::End, rest) {
+    let (ending, rest) = match single(Expected::End, rest) {
         Ok(found) => found,
         Err(stop) => return Err(fault_of(stop, end)),
     };
@@ -177,7 +177,7 @@ pub fn parse_data<'t, 's>(alloc: Global, tokens: &'t [Token<'s>]) -> Result<Tabl
     ensures ok { IfOk result (λ x. Mean tokens.entry.now x) }
     // The tables of a successful result have no error.
     ensures full { IfOk result (λ x. all_judged x.statements ≡ Ok tt) }
-    ensures refused { IfErr result (IsRefusal tokens.entry.now) }
+    ensures rejected { IfErr result (IsRejection tokens.entry.now) }
     // If the tokens are statements, the result is these statements, or the first error in their
     // tables.
     ensures complete { (x : Tables) → Mean tokens.entry.now x

@@ -12,7 +12,7 @@ use crate::stated::{Stated, stated};
 use crate::statement::{SetStatement, Statement};
 use crate::statement_stop::StatementStop;
 use crate::word::Word;
-use net_fault::Defect;
+use net_fault::ErrorCode;
 use net_lex::Token;
 use std::alloc::Global;
 
@@ -29,7 +29,7 @@ fn items_len(tokens: &[Token<'_>]) -> Result<usize, ParseError>
             None if spot.rests() => return Ok(len),
             None => {
                 return Err(ParseError {
-                    defect: Defect::DataSyntax,
+                    error_code: ErrorCode::DataSyntax,
                     at: Some(token.span),
                 });
             }
@@ -40,7 +40,7 @@ fn items_len(tokens: &[Token<'_>]) -> Result<usize, ParseError>
         return Ok(len);
     }
     Err(ParseError {
-        defect: Defect::DataSyntax,
+        error_code: ErrorCode::DataSyntax,
         at: None,
     })
 }

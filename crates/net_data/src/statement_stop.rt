@@ -23,7 +23,7 @@ impl From<ParseError> for StatementStop {
 impl<T: Drop> From<AllocFailed<T>> for StatementStop {
     ghost from_gives = { λ _ e. e ≡ statement_stops.OutOfMemory };
 
-    fn from(_refused: AllocFailed<T>) -> StatementStop {
+    fn from(_rejected: AllocFailed<T>) -> StatementStop {
         StatementStop::OutOfMemory
     }
 }

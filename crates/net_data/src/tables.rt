@@ -6,7 +6,7 @@ use net_views::Items;
 
 /// `data;` or `end;`
 #[derive(Drop)]
-pub struct Lone<'t, 's> {
+pub struct Single<'t, 's> {
     pub word: Word<'t, 's>,
     pub end: Word<'t, 's>,
 }
@@ -15,8 +15,8 @@ pub struct Lone<'t, 's> {
 #[derive(Drop)]
 pub struct Tables<'t, 's> {
     /// `data;`
-    pub opening: Option<Lone<'t, 's>>,
+    pub opening: Option<Single<'t, 's>>,
     pub statements: Items<Statement<'t, 's>>,
     /// `end;`
-    pub ending: Option<Lone<'t, 's>>,
+    pub ending: Option<Single<'t, 's>>,
 }

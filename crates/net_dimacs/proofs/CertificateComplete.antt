@@ -11,7 +11,7 @@ use Rattle.net_dimacs.specs.declared.claim.Claim.{Claim}
 use Rattle.net_dimacs.specs.declared.claim.Claim.TheVariants as claims
 use Rattle.net_dimacs.specs.declared.problem_fault.LineFault.{LineFault}
 use Rattle.net_dimacs.specs.declared.problem_fault.LineFault.TheVariants as line_faults
-use Rattle.net_dimacs.specs.declared.problem_fault.Refusal.{Refusal}
+use Rattle.net_dimacs.specs.declared.problem_fault.Rejection.{Rejection}
 use Rattle.net_dimacs.specs.Claims.{claimed}
 use Rattle.net_dimacs.specs.Certificates.{Account, Optimal, Cut, flow_claim, flow_claims, potential_claims, member_claims, claims_in, IsOfSize, IsCertificateText}
 use Rattle.net_dimacs.specs.CertificateReading.{with_number, is_node, are_ends, first_claim, in_account, next_claim, Start, Open, kept, with_claimed, missing, completed, read_lines}
@@ -121,7 +121,7 @@ potential_leads nodes arcs value flows potentials v z whole at within =
 
 whole_optimal : (nodes : ℕ) (arcs : List FlowArc) (value : ℤ) (flows potentials : List ℤ) → length flows ≡ length arcs → length potentials ≡ nodes → Whole nodes arcs (Optimal value flows potentials) (Optimal value flows potentials)
 whole_optimal nodes arcs value flows potentials e f line =
-    ap (λ (t : Bool). cond {A = Result Account Refusal} t (Ok (Optimal value flows potentials)) (missing line))
+    ap (λ (t : Bool). cond {A = Result Account Rejection} t (Ok (Optimal value flows potentials)) (missing line))
     (both (length flows == length arcs) (length potentials == nodes) (equal (length flows) (length arcs) e) (equal (length potentials) nodes f))
 
 potentials_lead : (nodes : ℕ) (arcs : List FlowArc) (value : ℤ) (flows potentials rest : List ℤ) (v : ℕ) → length flows ≡ length arcs → v ≡ length potentials → length potentials + length rest ≡ nodes

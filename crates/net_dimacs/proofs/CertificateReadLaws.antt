@@ -11,21 +11,21 @@ use Rattle.net_check.specs.declared.certificate.Certificate.TheVariants as certi
 use Rattle.net_dimacs.specs.declared.claim.Claim.{Claim}
 use Rattle.net_dimacs.specs.declared.problem_fault.LineFault.{LineFault}
 use Rattle.net_dimacs.specs.declared.problem_fault.LineFault.TheVariants as line_faults
-use Rattle.net_dimacs.specs.declared.problem_fault.Refusal.{Refusal}
+use Rattle.net_dimacs.specs.declared.problem_fault.Rejection.{Rejection}
 use Rattle.net_dimacs.specs.declared.problem_fault.ProblemFault.{ProblemFault}
 use Rattle.net_dimacs.specs.declared.problem_fault.ProblemFault.TheVariants as faults
 use Rattle.net_dimacs.specs.Limits.{text_limit}
 use Rattle.net_dimacs.specs.Claims.{claimed}
 use Rattle.net_dimacs.specs.Certificates.{Account, Optimal, Cut, account_of, BeginsCertificate, IsOfSize, IsCertificateText, IsNoCertificateText, IsOnlyCertificate}
-use Rattle.net_dimacs.specs.CertificateReading.{first_claim, next_claim, Progress, Start, Open, Refused, kept, with_claim, with_claimed, missing, finished, read_lines, read_text, Fails, Gives, IfRefused}
+use Rattle.net_dimacs.specs.CertificateReading.{first_claim, next_claim, Progress, Start, Open, Rejected, kept, with_claim, with_claimed, missing, finished, read_lines, read_text, Fails, Gives, IfRejected}
 use Rattle.net_dimacs.specs.CertificateDrafts.{Stops}
-use Rattle.net_dimacs.proofs.CertificateSound.{refused_stays, is_certificate_text}
+use Rattle.net_dimacs.proofs.CertificateSound.{rejected_stays, is_certificate_text}
 use Rattle.net_dimacs.proofs.CertificateComplete.{text_is_read, one_certificate}
 
-abbrev too_long : Refusal
+abbrev too_long : Rejection
 too_long = record { fault = line_faults.TooLarge; line = 1 }
 
-read_by : (t : Bool) (rest : Result Account Refusal) (x : Account) → cond t (Err too_long) rest ≡ Ok x → rest ≡ Ok x
+read_by : (t : Bool) (rest : Result Account Rejection) (x : Account) → cond t (Err too_long) rest ≡ Ok x → rest ≡ Ok x
 read_by true rest x e = absurd cc
 read_by false rest x e = e
 
@@ -52,26 +52,26 @@ pub is_shaped : (text : List ℕ) (p : Problem) (r : Result Certificate ProblemF
 is_shaped text p (Ok c) given = let t : IsCertificateText text (length p.supplies.items) p.arcs.items (account_of c) = is_found text (length p.supplies.items) p.arcs.items (Ok c) given in shape_from_size p c t.size
 is_shaped text p (Err e) given = tt
 
-no_certificate : (text : List ℕ) (nodes : ℕ) (arcs : List FlowArc) (r : Refusal) → read_lines nodes arcs 1 Start (lines text) ≡ Err r → IsNoCertificateText text nodes arcs
+no_certificate : (text : List ℕ) (nodes : ℕ) (arcs : List FlowArc) (r : Rejection) → read_lines nodes arcs 1 Start (lines text) ≡ Err r → IsNoCertificateText text nodes arcs
 no_certificate text nodes arcs r e = λ account t. let read = text_is_read text nodes arcs account t in let h = sym e ∙ read in cc
 
-refused_by : (text : List ℕ) (nodes : ℕ) (arcs : List FlowArc) (r : Refusal) (t : Bool) → nat_lt text_limit (length text) ≡ t → cond t (Err too_long) (read_lines nodes arcs 1 Start (lines text)) ≡ Err r
+rejected_by : (text : List ℕ) (nodes : ℕ) (arcs : List FlowArc) (r : Rejection) (t : Bool) → nat_lt text_limit (length text) ≡ t → cond t (Err too_long) (read_lines nodes arcs 1 Start (lines text)) ≡ Err r
     → (text_limit < length text) ⊎ IsNoCertificateText text nodes arcs
-refused_by text nodes arcs r true long e = inl (grind (arith, nat_tests))
-refused_by text nodes arcs r false long e = inr (no_certificate text nodes arcs r e)
+rejected_by text nodes arcs r true long e = inl (grind (arith, nat_tests))
+rejected_by text nodes arcs r false long e = inr (no_certificate text nodes arcs r e)
 
-pub is_refused : (text : List ℕ) (nodes : ℕ) (arcs : List FlowArc) (r : Result Certificate ProblemFault) → Gives (read_text nodes arcs text) r → IfRefused r (λ _. (text_limit < length text) ⊎ IsNoCertificateText text nodes arcs)
-is_refused text nodes arcs (Ok c) given = tt
-is_refused text nodes arcs (Err faults.OutOfMemory) given = tt
-is_refused text nodes arcs (Err (faults.Refused r)) given = refused_by text nodes arcs r (nat_lt text_limit (length text)) refl given
+pub is_rejected : (text : List ℕ) (nodes : ℕ) (arcs : List FlowArc) (r : Result Certificate ProblemFault) → Gives (read_text nodes arcs text) r → IfRejected r (λ _. (text_limit < length text) ⊎ IsNoCertificateText text nodes arcs)
+is_rejected text nodes arcs (Ok c) given = tt
+is_rejected text nodes arcs (Err faults.OutOfMemory) given = tt
+is_rejected text nodes arcs (Err (faults.Rejected r)) given = rejected_by text nodes arcs r (nat_lt text_limit (length text)) refl given
 
 -- ---- where reading stops
 
 stops_there : (nodes : ℕ) (arcs : List FlowArc) (line : ℕ) (progress : Progress) (ls : List (List ℕ)) (fault : ProblemFault) → Stops progress fault → Fails (read_lines nodes arcs line progress ls) fault
 stops_there nodes arcs line progress ls faults.OutOfMemory stops = tt
-stops_there nodes arcs line progress ls (faults.Refused r) stops = ap (λ (p : Progress). read_lines nodes arcs line p ls) stops ∙ refused_stays nodes arcs line r ls
+stops_there nodes arcs line progress ls (faults.Rejected r) stops = ap (λ (p : Progress). read_lines nodes arcs line p ls) stops ∙ rejected_stays nodes arcs line r ls
 
-short_text : (text : List ℕ) (rest : Result Account Refusal) → length text ≤ text_limit → cond (nat_lt text_limit (length text)) (Err too_long) rest ≡ rest
+short_text : (text : List ℕ) (rest : Result Account Rejection) → length text ≤ text_limit → cond (nat_lt text_limit (length text)) (Err too_long) rest ≡ rest
 short_text text rest h = let short : nat_lt text_limit (length text) ≡ false = grind (arith, nat_tests) in ap (λ (t : Bool). cond t (Err too_long) rest) short
 
 -- the first line that is not taken
@@ -83,7 +83,7 @@ is_stopped nodes arcs text number progress ls more line claim fault short same p
     ∙ ap (λ (xs : List (List ℕ)). read_lines nodes arcs number progress xs) (sym parts)
     ∙ same
     ∙ sym (short_text text (read_lines nodes arcs 1 Start (lines text)) short) in
-    subst (λ (x : Result Account Refusal). Fails x fault) read (stops_there nodes arcs (number + 1) (with_claim nodes arcs number progress claim) more fault stops)
+    subst (λ (x : Result Account Rejection). Fails x fault) read (stops_there nodes arcs (number + 1) (with_claim nodes arcs number progress claim) more fault stops)
 
 -- ---- where memory runs out
 
@@ -94,14 +94,14 @@ IsBegun all left (Some certificate) = BeginsCertificate all
 
 -- ---- the line of a refusal
 
-record IsAt (from to : ℕ) (r : Refusal) : Type 0 where
+record IsAt (from to : ℕ) (r : Rejection) : Type 0 where
   low : from ≤ r.line
   high : r.line ≤ to
 
 abbrev IsPlaced : ℕ → Progress → Type 0
 IsPlaced line Start = Unit {0}
 IsPlaced line (Open a) = Unit {0}
-IsPlaced line (Refused r) = IsAt 1 line r
+IsPlaced line (Rejected r) = IsAt 1 line r
 
 kept_placed : (line : ℕ) (read : Result Account LineFault) → 1 ≤ line → IsPlaced (line + 1) (kept line read)
 kept_placed line (Ok a) some = tt
@@ -110,35 +110,35 @@ kept_placed line (Err fault) some = record { low = some; high = omega arith }
 claimed_placed : (nodes : ℕ) (arcs : List FlowArc) (line : ℕ) (progress : Progress) (x : Option Claim) → 1 ≤ line → IsPlaced line progress → IsPlaced (line + 1) (with_claimed nodes arcs line progress x)
 claimed_placed nodes arcs line Start None some here = tt
 claimed_placed nodes arcs line (Open a) None some here = tt
-claimed_placed nodes arcs line (Refused r) None some here = record { low = here.low; high = omega (arith, here.high) }
+claimed_placed nodes arcs line (Rejected r) None some here = record { low = here.low; high = omega (arith, here.high) }
 claimed_placed nodes arcs line Start (Some claim) some here = kept_placed line (first_claim claim) some
 claimed_placed nodes arcs line (Open a) (Some claim) some here = kept_placed line (next_claim nodes arcs a claim) some
-claimed_placed nodes arcs line (Refused r) (Some claim) some here = record { low = here.low; high = omega (arith, here.high) }
+claimed_placed nodes arcs line (Rejected r) (Some claim) some here = record { low = here.low; high = omega (arith, here.high) }
 
-missing_placed : (line : ℕ) (r : Refusal) → 1 ≤ line → missing line ≡ Err r → IsAt 1 line r
+missing_placed : (line : ℕ) (r : Rejection) → 1 ≤ line → missing line ≡ Err r → IsAt 1 line r
 missing_placed line r some e = let same : (record { fault = line_faults.Certificate; line = line }) ≡ r = cc in subst (IsAt 1 line) same (record { low = some; high = omega arith })
 
-end_by : (t : Bool) (line : ℕ) (x : Account) (r : Refusal) → 1 ≤ line → cond t (Ok x) (missing line) ≡ Err r → IsAt 1 line r
+end_by : (t : Bool) (line : ℕ) (x : Account) (r : Rejection) → 1 ≤ line → cond t (Ok x) (missing line) ≡ Err r → IsAt 1 line r
 end_by true line x r some e = absurd cc
 end_by false line x r some e = missing_placed line r some e
 
-end_placed : (nodes : ℕ) (arcs : List FlowArc) (line : ℕ) (progress : Progress) (r : Refusal) → 1 ≤ line → IsPlaced line progress → finished nodes arcs line progress ≡ Err r → IsAt 1 line r
+end_placed : (nodes : ℕ) (arcs : List FlowArc) (line : ℕ) (progress : Progress) (r : Rejection) → 1 ≤ line → IsPlaced line progress → finished nodes arcs line progress ≡ Err r → IsAt 1 line r
 end_placed nodes arcs line Start r some here e = missing_placed line r some e
 end_placed nodes arcs line (Open (Optimal value flows potentials)) r some here e = end_by _ line (Optimal value flows potentials) r some e
 end_placed nodes arcs line (Open (Cut flags side)) r some here e = absurd cc
-end_placed nodes arcs line (Refused x) r some here e = let same : x ≡ r = cc in subst (IsAt 1 line) same here
+end_placed nodes arcs line (Rejected x) r some here e = let same : x ≡ r = cc in subst (IsAt 1 line) same here
 
-lines_placed : (nodes : ℕ) (arcs : List FlowArc) (line : ℕ) (progress : Progress) (ls : List (List ℕ)) (r : Refusal) → 1 ≤ line → IsPlaced line progress → read_lines nodes arcs line progress ls ≡ Err r → IsAt 1 (line + length ls) r
+lines_placed : (nodes : ℕ) (arcs : List FlowArc) (line : ℕ) (progress : Progress) (ls : List (List ℕ)) (r : Rejection) → 1 ≤ line → IsPlaced line progress → read_lines nodes arcs line progress ls ≡ Err r → IsAt 1 (line + length ls) r
 lines_placed nodes arcs line progress [] r some here e = let at = end_placed nodes arcs line progress r some here e in record { low = at.low; high = omega (arith, at.high) }
 lines_placed nodes arcs line progress (l ∷ ls) r some here e =
     let at = lines_placed nodes arcs (line + 1) (with_claimed nodes arcs line progress (claimed l)) ls r (omega arith) (claimed_placed nodes arcs line progress (claimed l) some here) e in
     record { low = at.low; high = omega (arith, at.high) }
 
-placed_by : (text : List ℕ) (nodes : ℕ) (arcs : List FlowArc) (r : Refusal) (t : Bool) → cond t (Err too_long) (read_lines nodes arcs 1 Start (lines text)) ≡ Err r → (1 ≤ r.line) × (r.line ≤ length (lines text) + 1)
-placed_by text nodes arcs r true e = let same : too_long ≡ r = cc in subst (λ (x : Refusal). (1 ≤ x.line) × (x.line ≤ length (lines text) + 1)) same (omega arith, omega arith)
+placed_by : (text : List ℕ) (nodes : ℕ) (arcs : List FlowArc) (r : Rejection) (t : Bool) → cond t (Err too_long) (read_lines nodes arcs 1 Start (lines text)) ≡ Err r → (1 ≤ r.line) × (r.line ≤ length (lines text) + 1)
+placed_by text nodes arcs r true e = let same : too_long ≡ r = cc in subst (λ (x : Rejection). (1 ≤ x.line) × (x.line ≤ length (lines text) + 1)) same (omega arith, omega arith)
 placed_by text nodes arcs r false e = let at = lines_placed nodes arcs 1 Start (lines text) r (omega arith) tt e in (at.low, omega (arith, at.high))
 
-pub is_placed : (text : List ℕ) (nodes : ℕ) (arcs : List FlowArc) (r : Result Certificate ProblemFault) → Gives (read_text nodes arcs text) r → IfRefused r (λ x. (1 ≤ x.line) × (x.line ≤ length (lines text) + 1))
+pub is_placed : (text : List ℕ) (nodes : ℕ) (arcs : List FlowArc) (r : Result Certificate ProblemFault) → Gives (read_text nodes arcs text) r → IfRejected r (λ x. (1 ≤ x.line) × (x.line ≤ length (lines text) + 1))
 is_placed text nodes arcs (Ok c) given = tt
 is_placed text nodes arcs (Err faults.OutOfMemory) given = tt
-is_placed text nodes arcs (Err (faults.Refused r)) given = placed_by text nodes arcs r (nat_lt text_limit (length text)) given
+is_placed text nodes arcs (Err (faults.Rejected r)) given = placed_by text nodes arcs r (nat_lt text_limit (length text)) given

@@ -13,20 +13,20 @@ use Rattle.net_dimacs.specs.declared.claim.Claim.{Claim}
 use Rattle.net_dimacs.specs.declared.claim.Claim.TheVariants as claims
 use Rattle.net_dimacs.specs.declared.problem_fault.LineFault.{LineFault}
 use Rattle.net_dimacs.specs.declared.problem_fault.LineFault.TheVariants as line_faults
-use Rattle.net_dimacs.specs.declared.problem_fault.Refusal.{Refusal}
+use Rattle.net_dimacs.specs.declared.problem_fault.Rejection.{Rejection}
 use Rattle.net_dimacs.specs.Claims.{claimed}
 use Rattle.net_dimacs.specs.Certificates.{Account, Optimal, Cut, flow_claim, flow_claims, potential_claims, member_claims, claims_in, IsOfSize, IsCertificateText}
-use Rattle.net_dimacs.specs.CertificateReading.{with_number, is_node, are_ends, with_flow, with_potential, with_member, first_claim, in_account, next_claim, Progress, Start, Open, Refused, kept, with_claimed, missing, completed, read_lines}
+use Rattle.net_dimacs.specs.CertificateReading.{with_number, is_node, are_ends, with_flow, with_potential, with_member, first_claim, in_account, next_claim, Progress, Start, Open, Rejected, kept, with_claimed, missing, completed, read_lines}
 
 -- ---- a refusal stays
 
-refused_with : (nodes : ℕ) (arcs : List FlowArc) (line : ℕ) (r : Refusal) (x : Option Claim) → with_claimed nodes arcs line (Refused r) x ≡ Refused r
-refused_with nodes arcs line r None = refl
-refused_with nodes arcs line r (Some claim) = refl
+rejected_with : (nodes : ℕ) (arcs : List FlowArc) (line : ℕ) (r : Rejection) (x : Option Claim) → with_claimed nodes arcs line (Rejected r) x ≡ Rejected r
+rejected_with nodes arcs line r None = refl
+rejected_with nodes arcs line r (Some claim) = refl
 
-pub refused_stays : (nodes : ℕ) (arcs : List FlowArc) (line : ℕ) (r : Refusal) (ls : List (List ℕ)) → read_lines nodes arcs line (Refused r) ls ≡ Err r
-refused_stays nodes arcs line r [] = refl
-refused_stays nodes arcs line r (l ∷ ls) = ap (λ (p : Progress). read_lines nodes arcs (line + 1) p ls) (refused_with nodes arcs line r (claimed l)) ∙ refused_stays nodes arcs (line + 1) r ls
+pub rejected_stays : (nodes : ℕ) (arcs : List FlowArc) (line : ℕ) (r : Rejection) (ls : List (List ℕ)) → read_lines nodes arcs line (Rejected r) ls ≡ Err r
+rejected_stays nodes arcs line r [] = refl
+rejected_stays nodes arcs line r (l ∷ ls) = ap (λ (p : Progress). read_lines nodes arcs (line + 1) p ls) (rejected_with nodes arcs line r (claimed l)) ∙ rejected_stays nodes arcs (line + 1) r ls
 
 -- ---- one claim more
 
@@ -202,12 +202,12 @@ step nodes arcs (Cut flags side) claims.Other more front e = absurd cc
 
 -- ---- the end
 
-record Tells (nodes : ℕ) (arcs : List FlowArc) (says : List Claim) (account : Account) : Type 0 where
+record Reports (nodes : ℕ) (arcs : List FlowArc) (says : List Claim) (account : Account) : Type 0 where
   size : IsOfSize nodes arcs account
   claims : claims_in arcs account ≡ says
 
-end_tells : (nodes : ℕ) (arcs : List FlowArc) (line : ℕ) (a account : Account) → IsFront nodes arcs a → completed nodes arcs line a ≡ Ok account → Tells nodes arcs (claims_in arcs a ++ []) account
-end_tells nodes arcs line (Optimal value flows potentials) account front e =
+end_reports : (nodes : ℕ) (arcs : List FlowArc) (line : ℕ) (a account : Account) → IsFront nodes arcs a → completed nodes arcs line a ≡ Ok account → Reports nodes arcs (claims_in arcs a ++ []) account
+end_reports nodes arcs line (Optimal value flows potentials) account front e =
     elim (chosen (length flows == length arcs && length potentials == nodes) (Ok (Optimal value flows potentials)) (missing line) (Ok account) e) [
       | inl h ↦
           let t = both_true (length flows == length arcs) (length potentials == nodes) h.0 in
@@ -218,7 +218,7 @@ end_tells nodes arcs line (Optimal value flows potentials) account front e =
           }
       | inr h ↦ absurd (let k = h.1 in cc)
     ]
-end_tells nodes arcs line (Cut flags side) account front e =
+end_reports nodes arcs line (Cut flags side) account front e =
     let n = nodes - length flags in
     let same : Cut (flags ++ replicate n false) side ≡ account = cc in
     record {
@@ -232,25 +232,25 @@ end_tells nodes arcs line (Cut flags side) account front e =
 abbrev Reads : ℕ → List FlowArc → ℕ → Account → List (List ℕ) → Account → Type 0
 Reads nodes arcs line a ls account = read_lines nodes arcs line (Open a) ls ≡ Ok account
 
-next_tells : (nodes : ℕ) (arcs : List FlowArc) (line : ℕ) (a : Account) (claim : Claim) (ls : List (List ℕ)) (account : Account) (r : Result Account LineFault) → next_claim nodes arcs a claim ≡ r → IsFront nodes arcs a
-    → ((b : Account) → IsFront nodes arcs b → Reads nodes arcs (line + 1) b ls account → Tells nodes arcs (claims_in arcs b ++ filter_map claimed ls) account)
-    → read_lines nodes arcs (line + 1) (kept line r) ls ≡ Ok account → Tells nodes arcs (claims_in arcs a ++ (claim ∷ filter_map claimed ls)) account
-next_tells nodes arcs line a claim ls account (Err fault) w front more e = absurd (let stays = refused_stays nodes arcs (line + 1) (record { fault = fault; line = line }) ls in cc)
-next_tells nodes arcs line a claim ls account (Ok b) w front more e =
+next_reports : (nodes : ℕ) (arcs : List FlowArc) (line : ℕ) (a : Account) (claim : Claim) (ls : List (List ℕ)) (account : Account) (r : Result Account LineFault) → next_claim nodes arcs a claim ≡ r → IsFront nodes arcs a
+    → ((b : Account) → IsFront nodes arcs b → Reads nodes arcs (line + 1) b ls account → Reports nodes arcs (claims_in arcs b ++ filter_map claimed ls) account)
+    → read_lines nodes arcs (line + 1) (kept line r) ls ≡ Ok account → Reports nodes arcs (claims_in arcs a ++ (claim ∷ filter_map claimed ls)) account
+next_reports nodes arcs line a claim ls account (Err fault) w front more e = absurd (let stays = rejected_stays nodes arcs (line + 1) (record { fault = fault; line = line }) ls in cc)
+next_reports nodes arcs line a claim ls account (Ok b) w front more e =
     let s = step nodes arcs a claim b front w in
     let t = more b s.front e in
     record { size = t.size; claims = t.claims ∙ ap (λ (cs : List Claim). cs ++ filter_map claimed ls) s.says ∙ append_assoc (claims_in arcs a) (claim ∷ []) (filter_map claimed ls) }
 
-line_tells : (nodes : ℕ) (arcs : List FlowArc) (line : ℕ) (a : Account) (x : Option Claim) (ls : List (List ℕ)) (account : Account) → IsFront nodes arcs a
-    → ((b : Account) → IsFront nodes arcs b → Reads nodes arcs (line + 1) b ls account → Tells nodes arcs (claims_in arcs b ++ filter_map claimed ls) account)
-    → read_lines nodes arcs (line + 1) (with_claimed nodes arcs line (Open a) x) ls ≡ Ok account → Tells nodes arcs (claims_in arcs a ++ cons_option x (filter_map claimed ls)) account
-line_tells nodes arcs line a None ls account front more e = more a front e
-line_tells nodes arcs line a (Some claim) ls account front more e = next_tells nodes arcs line a claim ls account (next_claim nodes arcs a claim) refl front more e
+line_reports : (nodes : ℕ) (arcs : List FlowArc) (line : ℕ) (a : Account) (x : Option Claim) (ls : List (List ℕ)) (account : Account) → IsFront nodes arcs a
+    → ((b : Account) → IsFront nodes arcs b → Reads nodes arcs (line + 1) b ls account → Reports nodes arcs (claims_in arcs b ++ filter_map claimed ls) account)
+    → read_lines nodes arcs (line + 1) (with_claimed nodes arcs line (Open a) x) ls ≡ Ok account → Reports nodes arcs (claims_in arcs a ++ cons_option x (filter_map claimed ls)) account
+line_reports nodes arcs line a None ls account front more e = more a front e
+line_reports nodes arcs line a (Some claim) ls account front more e = next_reports nodes arcs line a claim ls account (next_claim nodes arcs a claim) refl front more e
 
-open_tells : (nodes : ℕ) (arcs : List FlowArc) (line : ℕ) (a : Account) (ls : List (List ℕ)) (account : Account) → IsFront nodes arcs a → Reads nodes arcs line a ls account → Tells nodes arcs (claims_in arcs a ++ filter_map claimed ls) account
-open_tells nodes arcs line a [] account front e = end_tells nodes arcs line a account front e
-open_tells nodes arcs line a (l ∷ ls) account front e =
-    line_tells nodes arcs line a (claimed l) ls account front (λ b front' e'. open_tells nodes arcs (line + 1) b ls account front' e') e
+open_reports : (nodes : ℕ) (arcs : List FlowArc) (line : ℕ) (a : Account) (ls : List (List ℕ)) (account : Account) → IsFront nodes arcs a → Reads nodes arcs line a ls account → Reports nodes arcs (claims_in arcs a ++ filter_map claimed ls) account
+open_reports nodes arcs line a [] account front e = end_reports nodes arcs line a account front e
+open_reports nodes arcs line a (l ∷ ls) account front e =
+    line_reports nodes arcs line a (claimed l) ls account front (λ b front' e'. open_reports nodes arcs (line + 1) b ls account front' e') e
 
 -- a first claim
 record IsFirst (nodes : ℕ) (arcs : List FlowArc) (claim : Claim) (a : Account) : Type 0 where
@@ -271,25 +271,25 @@ first_step nodes arcs (claims.Side side) a e =
 first_step nodes arcs (claims.Member v) a e = absurd cc
 first_step nodes arcs claims.Other a e = absurd cc
 
-head_tells : (nodes : ℕ) (arcs : List FlowArc) (line : ℕ) (claim : Claim) (ls : List (List ℕ)) (account : Account) (r : Result Account LineFault) → first_claim claim ≡ r
-    → read_lines nodes arcs (line + 1) (kept line r) ls ≡ Ok account → Tells nodes arcs (claim ∷ filter_map claimed ls) account
-head_tells nodes arcs line claim ls account (Err fault) w e = absurd (let stays = refused_stays nodes arcs (line + 1) (record { fault = fault; line = line }) ls in cc)
-head_tells nodes arcs line claim ls account (Ok a) w e =
+head_reports : (nodes : ℕ) (arcs : List FlowArc) (line : ℕ) (claim : Claim) (ls : List (List ℕ)) (account : Account) (r : Result Account LineFault) → first_claim claim ≡ r
+    → read_lines nodes arcs (line + 1) (kept line r) ls ≡ Ok account → Reports nodes arcs (claim ∷ filter_map claimed ls) account
+head_reports nodes arcs line claim ls account (Err fault) w e = absurd (let stays = rejected_stays nodes arcs (line + 1) (record { fault = fault; line = line }) ls in cc)
+head_reports nodes arcs line claim ls account (Ok a) w e =
     let s = first_step nodes arcs claim a w in
-    let t = open_tells nodes arcs (line + 1) a ls account s.front e in
+    let t = open_reports nodes arcs (line + 1) a ls account s.front e in
     record { size = t.size; claims = t.claims ∙ ap (λ (cs : List Claim). cs ++ filter_map claimed ls) s.says }
 
 start_line : (nodes : ℕ) (arcs : List FlowArc) (line : ℕ) (x : Option Claim) (ls : List (List ℕ)) (account : Account)
-    → (read_lines nodes arcs (line + 1) Start ls ≡ Ok account → Tells nodes arcs (filter_map claimed ls) account)
-    → read_lines nodes arcs (line + 1) (with_claimed nodes arcs line Start x) ls ≡ Ok account → Tells nodes arcs (cons_option x (filter_map claimed ls)) account
+    → (read_lines nodes arcs (line + 1) Start ls ≡ Ok account → Reports nodes arcs (filter_map claimed ls) account)
+    → read_lines nodes arcs (line + 1) (with_claimed nodes arcs line Start x) ls ≡ Ok account → Reports nodes arcs (cons_option x (filter_map claimed ls)) account
 start_line nodes arcs line None ls account more e = more e
-start_line nodes arcs line (Some claim) ls account more e = head_tells nodes arcs line claim ls account (first_claim claim) refl e
+start_line nodes arcs line (Some claim) ls account more e = head_reports nodes arcs line claim ls account (first_claim claim) refl e
 
-start_tells : (nodes : ℕ) (arcs : List FlowArc) (line : ℕ) (ls : List (List ℕ)) (account : Account) → read_lines nodes arcs line Start ls ≡ Ok account → Tells nodes arcs (filter_map claimed ls) account
-start_tells nodes arcs line [] account e = absurd cc
-start_tells nodes arcs line (l ∷ ls) account e = start_line nodes arcs line (claimed l) ls account (start_tells nodes arcs (line + 1) ls account) e
+start_reports : (nodes : ℕ) (arcs : List FlowArc) (line : ℕ) (ls : List (List ℕ)) (account : Account) → read_lines nodes arcs line Start ls ≡ Ok account → Reports nodes arcs (filter_map claimed ls) account
+start_reports nodes arcs line [] account e = absurd cc
+start_reports nodes arcs line (l ∷ ls) account e = start_line nodes arcs line (claimed l) ls account (start_reports nodes arcs (line + 1) ls account) e
 
 pub is_certificate_text : (text : List ℕ) (nodes : ℕ) (arcs : List FlowArc) (account : Account) → read_lines nodes arcs 1 Start (lines text) ≡ Ok account → IsCertificateText text nodes arcs account
 is_certificate_text text nodes arcs account e =
-    let t = start_tells nodes arcs 1 (lines text) account e in
+    let t = start_reports nodes arcs 1 (lines text) account e in
     record { size = t.size; says = sym t.claims }

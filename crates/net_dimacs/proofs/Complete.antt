@@ -11,10 +11,10 @@ use Rattle.net_normal.specs.Limits.{IsSized, IsFlowArcOf, flow_node_limit, flow_
 use Rattle.net_normal.specs.declared.problem.FlowArc.{FlowArc}
 use Rattle.net_dimacs.specs.declared.statement.Statement.{Statement}
 use Rattle.net_dimacs.specs.declared.statement.Statement.TheVariants as statements
-use Rattle.net_dimacs.specs.declared.problem_fault.Refusal.{Refusal}
+use Rattle.net_dimacs.specs.declared.problem_fault.Rejection.{Rejection}
 use Rattle.net_dimacs.specs.declared.problem_fault.LineFault.{LineFault}
 use Rattle.net_dimacs.specs.declared.problem_fault.LineFault.TheVariants.{LineOrder, Count}
-use Rattle.net_dimacs.specs.Reading.{Sketch, place_of, is_past, new_sketch, with_node, with_node_at, with_arc, with_arc_at, with_arc_or, bounds_fault, State, Start, Open, kept, with_statement, with_said, said, Numbers, finished, read_lines}
+use Rattle.net_dimacs.specs.Reading.{Sketch, place_of, is_past, new_sketch, with_node, with_node_at, with_arc, with_arc_at, with_arc_or, bounds_fault, State, Start, Open, kept, with_statement, with_optional_statement, line_statement, Numbers, finished, read_lines}
 use Rattle.net_dimacs.specs.Problems.{Named, node_statement, arc_statement, AreDistinct, supply_after, IsProblemText, BeginsProblem, statements_of}
 use Rattle.net_normal.specs.Limits.{IsWithinLimits}
 use Rattle.net_dimacs.proofs.Lists.{all_map, all_both}
@@ -81,19 +81,19 @@ same_head x y xs ys e = (cc, cc)
 arcs_end : (line : ℕ) (d : Sketch) → length d.arcs ≡ d.arc_count → finished line (Open d) ≡ Ok (d.supplies, d.arcs ++ [])
 arcs_end line d e =
     let whole : nat_lt (length d.arcs) d.arc_count ≡ false = grind (arith, nat_tests) in
-    ap (λ (t : Bool). cond {A = Result Numbers Refusal} t (Err (record { fault = Count; line = line })) (Ok (d.supplies, d.arcs))) whole
+    ap (λ (t : Bool). cond {A = Result Numbers Rejection} t (Err (record { fault = Count; line = line })) (Ok (d.supplies, d.arcs))) whole
     ∙ ap (λ (x : List FlowArc). Ok (d.supplies, x)) (sym (append-nil d.arcs))
 
 abbrev ArcsFollow : List (List ℕ) → Type 0
-ArcsFollow ls = (line : ℕ) (d : Sketch) (more : List FlowArc) → filter_map said ls ≡ map arc_statement more → AllByRecursion (IsFlowArcOf (length d.supplies)) more
+ArcsFollow ls = (line : ℕ) (d : Sketch) (more : List FlowArc) → filter_map line_statement ls ≡ map arc_statement more → AllByRecursion (IsFlowArcOf (length d.supplies)) more
     → length d.arcs + length more ≡ d.arc_count → Gives line (Open d) ls d.supplies (d.arcs ++ more)
 
-arc_said : (line : ℕ) (d : Sketch) (x : Option Statement) (ls : List (List ℕ)) (more : List FlowArc) → ArcsFollow ls → cons_option x (filter_map said ls) ≡ map arc_statement more
-    → AllByRecursion (IsFlowArcOf (length d.supplies)) more → length d.arcs + length more ≡ d.arc_count → Gives (line + 1) (with_said line (Open d) x) ls d.supplies (d.arcs ++ more)
+arc_said : (line : ℕ) (d : Sketch) (x : Option Statement) (ls : List (List ℕ)) (more : List FlowArc) → ArcsFollow ls → cons_option x (filter_map line_statement ls) ≡ map arc_statement more
+    → AllByRecursion (IsFlowArcOf (length d.supplies)) more → length d.arcs + length more ≡ d.arc_count → Gives (line + 1) (with_optional_statement line (Open d) x) ls d.supplies (d.arcs ++ more)
 arc_said line d None ls more follow e fit count = follow (line + 1) d more e fit count
 arc_said line d (Some x) ls [] follow e fit count = absurd cc
 arc_said line d (Some x) ls (arc ∷ more) follow e fit count =
-    let both = same_head x (arc_statement arc) (filter_map said ls) (map arc_statement more) e in
+    let both = same_head x (arc_statement arc) (filter_map line_statement ls) (map arc_statement more) e in
     let room : length d.arcs < d.arc_count = omega arith in
     ap (λ (y : Statement). read_lines (line + 1) (with_statement line (Open d) y) ls) both.0
     ∙ ap (λ (y : Result Sketch LineFault). read_lines (line + 1) (kept line y) ls) (arc_taken d arc fit.0 room)
@@ -103,7 +103,7 @@ arc_said line d (Some x) ls (arc ∷ more) follow e fit count =
 arcs_read : (ls : List (List ℕ)) → ArcsFollow ls
 arcs_read [] line d [] e fit count = arcs_end line d (omega arith)
 arcs_read [] line d (arc ∷ more) e fit count = absurd cc
-arcs_read (l ∷ ls) line d more e fit count = arc_said line d (said l) ls more (arcs_read ls) e fit count
+arcs_read (l ∷ ls) line d more e fit count = arc_said line d (line_statement l) ls more (arcs_read ls) e fit count
 
 -- ---- a node is taken
 
@@ -128,21 +128,21 @@ set_all supplies [] = supplies
 set_all supplies (n ∷ ns) = set_all (set supplies n.0 n.1) ns
 
 abbrev NodesFollow : List (List ℕ) → Type 0
-NodesFollow ls = (line : ℕ) (d : Sketch) (nodes : List Named) (more : List FlowArc) → filter_map said ls ≡ map node_statement nodes ++ map arc_statement more → d.arcs ≡ [] → MayName d.named (length d.supplies) nodes
+NodesFollow ls = (line : ℕ) (d : Sketch) (nodes : List Named) (more : List FlowArc) → filter_map line_statement ls ≡ map node_statement nodes ++ map arc_statement more → d.arcs ≡ [] → MayName d.named (length d.supplies) nodes
     → AllByRecursion (IsFlowArcOf (length d.supplies)) more → length more ≡ d.arc_count → Gives line (Open d) ls (set_all d.supplies nodes) more
 
-only_arcs : (ls : List (List ℕ)) (line : ℕ) (d : Sketch) (more : List FlowArc) → filter_map said ls ≡ map arc_statement more → d.arcs ≡ []
+only_arcs : (ls : List (List ℕ)) (line : ℕ) (d : Sketch) (more : List FlowArc) → filter_map line_statement ls ≡ map arc_statement more → d.arcs ≡ []
     → AllByRecursion (IsFlowArcOf (length d.supplies)) more → length more ≡ d.arc_count → Gives line (Open d) ls d.supplies more
 only_arcs ls line d more e none fit count =
     let bare : length d.arcs ≡ 0 = ap length none in
     arcs_read ls line d more e fit (omega arith) ∙ ap (λ (x : List FlowArc). Ok (d.supplies, x ++ more)) none
 
 node_said : (line : ℕ) (d : Sketch) (x : Option Statement) (ls : List (List ℕ)) (n : Named) (nodes : List Named) (more : List FlowArc) → NodesFollow ls
-    → cons_option x (filter_map said ls) ≡ node_statement n ∷ (map node_statement nodes ++ map arc_statement more) → d.arcs ≡ [] → MayName d.named (length d.supplies) (n ∷ nodes)
-    → AllByRecursion (IsFlowArcOf (length d.supplies)) more → length more ≡ d.arc_count → Gives (line + 1) (with_said line (Open d) x) ls (set_all d.supplies (n ∷ nodes)) more
+    → cons_option x (filter_map line_statement ls) ≡ node_statement n ∷ (map node_statement nodes ++ map arc_statement more) → d.arcs ≡ [] → MayName d.named (length d.supplies) (n ∷ nodes)
+    → AllByRecursion (IsFlowArcOf (length d.supplies)) more → length more ≡ d.arc_count → Gives (line + 1) (with_optional_statement line (Open d) x) ls (set_all d.supplies (n ∷ nodes)) more
 node_said line d None ls n nodes more follow e none may fit count = follow (line + 1) d (n ∷ nodes) more e none may fit count
 node_said line d (Some x) ls n nodes more follow e none may fit count =
-    let both = same_head x (node_statement n) (filter_map said ls) (map node_statement nodes ++ map arc_statement more) e in
+    let both = same_head x (node_statement n) (filter_map line_statement ls) (map node_statement nodes ++ map arc_statement more) e in
     let size = sym (length-set d.supplies n.0 n.1) in
     ap (λ (y : Statement). read_lines (line + 1) (with_statement line (Open d) y) ls) both.0
     ∙ ap (λ (y : Result Sketch LineFault). read_lines (line + 1) (kept line y) ls) (node_taken d n.0 n.1 none may.0 may.2 may.1)
@@ -153,7 +153,7 @@ node_said line d (Some x) ls n nodes more follow e none may fit count =
 nodes_read : (ls : List (List ℕ)) → NodesFollow ls
 nodes_read ls line d [] more e none may fit count = only_arcs ls line d more e none fit count
 nodes_read [] line d (n ∷ nodes) more e none may fit count = absurd cc
-nodes_read (l ∷ ls) line d (n ∷ nodes) more e none may fit count = node_said line d (said l) ls n nodes more (nodes_read ls) e none may fit count
+nodes_read (l ∷ ls) line d (n ∷ nodes) more e none may fit count = node_said line d (line_statement l) ls n nodes more (nodes_read ls) e none may fit count
 
 -- ---- the `p` line
 
@@ -175,23 +175,23 @@ begins text s a some few_nodes few_arcs is =
     subst BeginsProblem (sym is.says) (subst (λ (made : Result Sketch LineFault). IsOk made) (sym (new_taken (length s) (length a) some few_nodes few_arcs)) refl)
 
 abbrev RestGives : List Statement → ℕ → ℕ → List ℤ → List FlowArc → Type 0
-RestGives says n m s a = (line : ℕ) (ls : List (List ℕ)) → filter_map said ls ≡ says → Gives line (Open (first_sketch n m)) ls s a
+RestGives says n m s a = (line : ℕ) (ls : List (List ℕ)) → filter_map line_statement ls ≡ says → Gives line (Open (first_sketch n m)) ls s a
 
 head_said : (line : ℕ) (x : Option Statement) (ls : List (List ℕ)) (says : List Statement) (n m : ℕ) (s : List ℤ) (a : List FlowArc) → 1 ≤ n → n ≤ flow_node_limit → m ≤ flow_arc_limit → RestGives says n m s a
-    → (filter_map said ls ≡ statements.Problem (pos n) (pos m) ∷ says → Gives (line + 1) Start ls s a)
-    → cons_option x (filter_map said ls) ≡ statements.Problem (pos n) (pos m) ∷ says → Gives (line + 1) (with_said line Start x) ls s a
+    → (filter_map line_statement ls ≡ statements.Problem (pos n) (pos m) ∷ says → Gives (line + 1) Start ls s a)
+    → cons_option x (filter_map line_statement ls) ≡ statements.Problem (pos n) (pos m) ∷ says → Gives (line + 1) (with_optional_statement line Start x) ls s a
 head_said line None ls says n m s a some few_nodes few_arcs rest more e = more e
 head_said line (Some x) ls says n m s a some few_nodes few_arcs rest more e =
-    let both = same_head x (statements.Problem (pos n) (pos m)) (filter_map said ls) says e in
+    let both = same_head x (statements.Problem (pos n) (pos m)) (filter_map line_statement ls) says e in
     ap (λ (y : Statement). read_lines (line + 1) (with_statement line Start y) ls) both.0
     ∙ ap (λ (y : Result Sketch LineFault). read_lines (line + 1) (kept line y) ls) (new_taken n m some few_nodes few_arcs)
     ∙ rest (line + 1) ls both.1
 
 head_read : (line : ℕ) (ls : List (List ℕ)) (says : List Statement) (n m : ℕ) (s : List ℤ) (a : List FlowArc) → 1 ≤ n → n ≤ flow_node_limit → m ≤ flow_arc_limit → RestGives says n m s a
-    → filter_map said ls ≡ statements.Problem (pos n) (pos m) ∷ says → Gives line Start ls s a
+    → filter_map line_statement ls ≡ statements.Problem (pos n) (pos m) ∷ says → Gives line Start ls s a
 head_read line [] says n m s a some few_nodes few_arcs rest e = absurd cc
 head_read line (l ∷ ls) says n m s a some few_nodes few_arcs rest e =
-    head_said line (said l) ls says n m s a some few_nodes few_arcs rest (head_read (line + 1) ls says n m s a some few_nodes few_arcs rest) e
+    head_said line (line_statement l) ls says n m s a some few_nodes few_arcs rest (head_read (line + 1) ls says n m s a some few_nodes few_arcs rest) e
 
 -- ---- the supplies
 
@@ -224,7 +224,7 @@ all_said : (nodes : List Named) → AreDistinct nodes → AllByRecursion (IsSaid
 all_said [] distinct = tt
 all_said (n ∷ ns) distinct = (
   λ z. ap (λ (t : Bool). supply_after ns n.0 (cond t n.1 z)) (same_node n.0) ∙ absent ns n.0 n.1 distinct.0,
-  all_map (IsSaid ns) (IsSaid (n ∷ ns)) ns (λ m said z. said (cond (n.0 == m.0) n.1 z)) (all_said ns distinct.1),
+  all_map (IsSaid ns) (IsSaid (n ∷ ns)) ns (λ m line_statement z. line_statement (cond (n.0 == m.0) n.1 z)) (all_said ns distinct.1),
 )
 
 may_name : (marks : List Bool) (size : ℕ) (nodes : List Named) → length marks ≡ size → AreDistinct nodes → AllByRecursion (λ n. n.0 < size) nodes → AllByRecursion (λ n. IsSized flow_limit n.1) nodes
@@ -263,7 +263,7 @@ text_is_read text s a t fit =
     let marks = replicate n false in
     let count : n ≡ length zeros = sym (length-replicate n (pos 0)) in
     let sized = all_both (λ x. x.0 < n) (IsSaid nodes) (λ x. IsSized flow_limit x.1) nodes
-    (λ x h said. subst (IsSized flow_limit) (t.supply x.0 h ∙ said (pos 0)) (fit.supplies_fit x.0 (pos 0) h)) t.nodes (all_said nodes t.distinct) in
+    (λ x h line_statement. subst (IsSized flow_limit) (t.supply x.0 h ∙ line_statement (pos 0)) (fit.supplies_fit x.0 (pos 0) h)) t.nodes (all_said nodes t.distinct) in
     let fresh = all_map (λ x. x.0 < n) (λ x. get_or marks x.0 false ≡ false) nodes (λ x h. get_or-replicate n x.0 false false h) t.nodes in
     let may = may_name marks n nodes (length-replicate n false) t.distinct t.nodes sized fresh in
     let arcs = recursion_from_All (IsFlowArcOf n) a fit.arcs_fit in
@@ -272,7 +272,7 @@ text_is_read text s a t fit =
     ∙ ap (λ (x : List ℤ). Ok (x, a)) (same_supplies s nodes t.nodes t.supply) in
     head_read 1 (lines text) (map node_statement nodes ++ map arc_statement a) n m s a fit.some_node fit.few_nodes fit.few_arcs rest t.says
 
-same_read : (read : Result Numbers Refusal) (x y : Numbers) → read ≡ Ok x → read ≡ Ok y → x ≡ y
+same_read : (read : Result Numbers Rejection) (x y : Numbers) → read ≡ Ok x → read ≡ Ok y → x ≡ y
 same_read read x y e f = cc
 
 -- a text is at most one problem

@@ -7,7 +7,7 @@ use Rattle.net_dimacs.specs.declared.claim.Claim.TheVariants as claims
 use Rattle.net_dimacs.specs.Claims.{claimed}
 use Rattle.net_dimacs.specs.declared.statement.Statement.TheVariants as statements
 use Rattle.net_dimacs.specs.Lines.{fields_of}
-use Rattle.net_dimacs.specs.Numbers.{cut_numbers, kind_of, said_by_kind}
+use Rattle.net_dimacs.specs.Numbers.{cut_numbers, kind_of, statement_of_kind}
 use Rattle.net_dimacs.specs.Problems.{BeginsProblem, statements_of}
 use Rattle.net_dimacs.specs.Certificates.{Account, Optimal, Cut, IsCertificateText}
 use Rattle.net_dimacs.specs.CertificateReading.{Start, read_lines}
@@ -91,22 +91,22 @@ nothing = refl
 
 -- ---- lines of a problem text by their kind
 
-arc_by_kind : said_by_kind (kind_of (codes "a")) (fields_of (codes " 1\t+2 0 5  -3 ")) ≡ Some (statements.Arc (pos 1) (pos 2) (pos 0) (pos 5) (negsuc 2))
+arc_by_kind : statement_of_kind (kind_of (codes "a")) (fields_of (codes " 1\t+2 0 5  -3 ")) ≡ Some (statements.Arc (pos 1) (pos 2) (pos 0) (pos 5) (negsuc 2))
 arc_by_kind = refl
 
-short_arc : said_by_kind (kind_of (codes "a")) (fields_of (codes " 1 2 0 5")) ≡ Some statements.Other
+short_arc : statement_of_kind (kind_of (codes "a")) (fields_of (codes " 1 2 0 5")) ≡ Some statements.Other
 short_arc = refl
 
-node_by_kind : said_by_kind (kind_of (codes "n")) (fields_of (codes " 2 -7")) ≡ Some (statements.Node (pos 2) (negsuc 6))
+node_by_kind : statement_of_kind (kind_of (codes "n")) (fields_of (codes " 2 -7")) ≡ Some (statements.Node (pos 2) (negsuc 6))
 node_by_kind = refl
 
-problem_by_kind : said_by_kind (kind_of (codes "p")) (fields_of (codes " min 3 2")) ≡ Some (statements.Problem (pos 3) (pos 2))
+problem_by_kind : statement_of_kind (kind_of (codes "p")) (fields_of (codes " min 3 2")) ≡ Some (statements.Problem (pos 3) (pos 2))
 problem_by_kind = refl
 
-most : said_by_kind (kind_of (codes "p")) (fields_of (codes " max 3 2")) ≡ Some statements.Other
+most : statement_of_kind (kind_of (codes "p")) (fields_of (codes " max 3 2")) ≡ Some statements.Other
 most = refl
 
-comment_by_kind : said_by_kind (kind_of (codes "cat")) (fields_of (codes " 1 2")) ≡ None
+comment_by_kind : statement_of_kind (kind_of (codes "cat")) (fields_of (codes " 1 2")) ≡ None
 comment_by_kind = refl
 
 -- a number past 64 bits, of either sign

@@ -11,7 +11,7 @@ use Rattle.net_dimacs.specs.declared.statement.Statement.{Statement}
 use Rattle.net_dimacs.specs.declared.statement.Statement.TheVariants as statements
 use Rattle.net_dimacs.specs.declared.problem_fault.LineFault.{LineFault}
 use Rattle.net_dimacs.specs.declared.problem_fault.LineFault.TheVariants.{LineOrder, Count}
-use Rattle.net_dimacs.specs.Reading.{Sketch, place_of, new_sketch, is_past, with_node, with_node_at, bounds_fault, with_arc, with_arc_at, with_arc_or, State, Start, Open, Refused, kept, with_said}
+use Rattle.net_dimacs.specs.Reading.{Sketch, place_of, new_sketch, is_past, with_node, with_node_at, bounds_fault, with_arc, with_arc_at, with_arc_or, State, Start, Open, Rejected, kept, with_optional_statement}
 use Rattle.net_dimacs.proofs.Cutting.{sketch_by, node_by, IsSmall}
 
 -- ---- a draft keeps its nodes
@@ -57,7 +57,7 @@ small_arc_at d None dst low cap cost few = tt
 small_arc_at d (Some src) None low cap cost few = tt
 small_arc_at d (Some src) (Some dst) low cap cost few = small_arc_or d (bounds_fault low cap cost) (record { src = src; dst = dst; low = low; cap = cap; cost = cost }) few
 
-pub small_said : (line : ℕ) (state : State) (said : Option Statement) → IsSmall state → IsSmall (with_said line state said)
+pub small_said : (line : ℕ) (state : State) (line_statement : Option Statement) → IsSmall state → IsSmall (with_optional_statement line state line_statement)
 small_said line state None few = few
 small_said line Start (Some (statements.Problem nodes arcs)) few =
     small_kept line (new_sketch nodes arcs) (small_new (int_lt nodes (pos 1)) (int_lt arcs (pos 0)) (int_lt (pos flow_node_limit) nodes) (int_lt (pos flow_arc_limit) arcs) nodes arcs (few_nodes nodes))
@@ -70,7 +70,7 @@ small_said line (Open d) (Some (statements.Node node supply)) few =
 small_said line (Open d) (Some (statements.Arc src dst low cap cost)) few =
     small_kept line (with_arc d src dst low cap cost) (small_either (nat_le d.arc_count (length d.arcs)) (Err Count) (with_arc_at d (place_of d src) (place_of d dst) low cap cost) tt (small_arc_at d (place_of d src) (place_of d dst) low cap cost few))
 small_said line (Open d) (Some statements.Other) few = tt
-small_said line (Refused r) (Some statement) few = tt
+small_said line (Rejected r) (Some statement) few = tt
 
 -- ---- where a text may be cut
 

@@ -4,7 +4,7 @@ use Rattle.std.specs.Prelude.{filter}
 use Rattle.std.specs.List.{AllByRecursion, slice_split, onto_first}
 use Rattle.std.proofs.lemmas.List.{map-append, length-append, length-map, nil_from_length}
 use Rattle.net_dimacs.specs.Lines.{is_blank, is_feed, has_byte, fields_of, HasNone, IsFirstField}
-use Rattle.net_dimacs.specs.OpenLines.{View, view, StandsFor, IsSaidAlike, short_field}
+use Rattle.net_dimacs.specs.OpenLines.{View, view, StandsFor, IsSameStatement, short_field}
 use Rattle.net_dimacs.proofs.Fronts.{after_blank, some_field}
 use Rattle.net_dimacs.proofs.Lists.{all_append}
 use Rattle.net_dimacs.proofs.ShortFields.{short_stands}
@@ -65,7 +65,7 @@ pub record IsCutFront (line front rest : List ℕ) (count : ℕ) : Type 0 where
 pub nothing_cut : (line : List ℕ) → IsCutFront line [] line 0
 nothing_cut line = record { fields = []; many = refl; ahead = λ more. refl; alike = λ more. refl }
 
-said_alike : (front line : List ℕ) → ((more : List ℕ) → map view (fields_of (front ++ more)) ≡ map view (fields_of (line ++ more))) → IsSaidAlike front line
+said_alike : (front line : List ℕ) → ((more : List ℕ) → map view (fields_of (front ++ more)) ≡ map view (fields_of (line ++ more))) → IsSameStatement front line
 said_alike front line same more = line_seen (front ++ more) ∙ ap seen (same more) ∙ sym (line_seen (line ++ more))
 
 -- the first field of a rest, and what goes on behind it
@@ -106,7 +106,7 @@ field_cut line front rest field after short count h f left s = record {
     view_same short field s = ap view (sym (append-nil short)) ∙ s.alike [] ∙ ap view (append-nil field)
 
 -- nothing but blanks is left
-pub blanks_left : (line front rest : List ℕ) (count : ℕ) → IsCutFront line front rest count → AllByRecursion (λ b. is_blank b ≡ true) rest → IsSaidAlike front line
+pub blanks_left : (line front rest : List ℕ) (count : ℕ) → IsCutFront line front rest count → AllByRecursion (λ b. is_blank b ≡ true) rest → IsSameStatement front line
 blanks_left line front rest count h all =
     said_alike front line (λ more.
     ap (map view) (h.ahead more)
@@ -115,7 +115,7 @@ blanks_left line front rest count h all =
 
 -- the last field goes on
 pub field_left : (line front rest field after short : List ℕ) (count : ℕ) → IsCutFront line front rest count → IsFirstField rest field after → length after ≡ 0 → StandsFor short field
-    → IsSaidAlike (front ++ short) line
+    → IsSameStatement (front ++ short) line
 field_left line front rest field after short count h f none s =
     said_alike (front ++ short) line (λ more.
     ap (λ (l : List ℕ). map view (fields_of l)) (append_assoc front short more)
@@ -128,7 +128,7 @@ field_left line front rest field after short count h f none s =
     ∙ sym (h.alike more))
 
 -- as many fields as decide
-pub seven_cut : (line front rest : List ℕ) (count : ℕ) → IsCutFront line front rest count → 7 ≤ count → IsSaidAlike front line
+pub seven_cut : (line front rest : List ℕ) (count : ℕ) → IsCutFront line front rest count → 7 ≤ count → IsSameStatement front line
 seven_cut line front rest count h enough more =
     let many : 7 ≤ length (map view h.fields) = let e = length-map h.fields view in let m = h.many in omega (arith, e, m, enough) in
     line_seen (front ++ more)

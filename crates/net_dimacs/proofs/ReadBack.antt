@@ -2,7 +2,7 @@
 use Rattle.std.specs.Prelude.{◌≡◌, ℕ, ◌≤◌, false, length, nat_lt, if◌then◌else◌, Err, Result}
 use Rattle.std.proofs.Common.{ap, ◌∙◌, arith}
 use Rattle.std.proofs.lemmas.Bool.Decides.{nat_tests}
-use Rattle.net_dimacs.specs.declared.problem_fault.Refusal.{Refusal}
+use Rattle.net_dimacs.specs.declared.problem_fault.Rejection.{Rejection}
 use Rattle.net_dimacs.specs.CertificateWritten.{certificate_text}
 use Rattle.net_dimacs.specs.Limits.{text_limit}
 use Rattle.net_dimacs.specs.ReadBack.{AreProblemsReadBack, AreCertificatesReadBack}
@@ -16,7 +16,7 @@ use Rattle.net_dimacs.proofs.WrittenLines.{written_is}
 not_past : (limit n : ℕ) → n ≤ limit → nat_lt limit n ≡ false
 not_past limit n l = grind (arith, nat_tests)
 
-short_enough : {A : Type 0} (n : ℕ) (x : Refusal) (read : Result A Refusal) → n ≤ text_limit → (if nat_lt text_limit n then Err x else read) ≡ read
+short_enough : {A : Type 0} (n : ℕ) (x : Rejection) (read : Result A Rejection) → n ≤ text_limit → (if nat_lt text_limit n then Err x else read) ≡ read
 short_enough n x read l = ap (λ b. if b then Err x else read) (not_past text_limit n l)
 
 pub problems_back : AreProblemsReadBack

@@ -10,20 +10,20 @@ use Rattle.net_dimacs.specs.declared.statement.Statement.{Statement}
 use Rattle.net_dimacs.specs.declared.statement.Statement.TheVariants as statements
 use Rattle.net_dimacs.specs.declared.problem_fault.LineFault.{LineFault}
 use Rattle.net_dimacs.specs.declared.problem_fault.LineFault.TheVariants.{TooLarge, Count, NoProblemLine}
-use Rattle.net_dimacs.specs.declared.problem_fault.Refusal.{Refusal}
+use Rattle.net_dimacs.specs.declared.problem_fault.Rejection.{Rejection}
 use Rattle.net_dimacs.specs.declared.problem_fault.ProblemFault.{ProblemFault}
 use Rattle.net_dimacs.specs.declared.problem_fault.ProblemFault.TheVariants as faults
 use Rattle.net_dimacs.specs.Limits.{text_limit}
-use Rattle.net_dimacs.specs.Reading.{Sketch, new_sketch, with_node, with_arc, State, Start, Open, Refused, kept, with_said, said, Numbers, finished, read_lines, read_text, Gives, IfRefused}
+use Rattle.net_dimacs.specs.Reading.{Sketch, new_sketch, with_node, with_arc, State, Start, Open, Rejected, kept, with_optional_statement, line_statement, Numbers, finished, read_lines, read_text, Gives, IfRejected}
 use Rattle.net_dimacs.specs.Problems.{IsProblemText, IsNoProblemText, IsOnlyProblem}
 use Rattle.net_normal.specs.Limits.{IsWithinLimits}
 use Rattle.net_dimacs.proofs.Sound.{is_problem_text}
 use Rattle.net_dimacs.proofs.Complete.{text_is_read, one_problem}
 
-abbrev too_long : Refusal
+abbrev too_long : Rejection
 too_long = record { fault = TooLarge; line = 1 }
 
-read_by : (t : Bool) (rest : Result Numbers Refusal) (x : Numbers) → cond t (Err too_long) rest ≡ Ok x → rest ≡ Ok x
+read_by : (t : Bool) (rest : Result Numbers Rejection) (x : Numbers) → cond t (Err too_long) rest ≡ Ok x → rest ≡ Ok x
 read_by true rest x e = absurd cc
 read_by false rest x e = e
 
@@ -47,37 +47,37 @@ pub is_only : (text : List ℕ) (r : Result Problem ProblemFault) → Gives (rea
 is_only text (Ok p) given = λ s a fit t. one_problem text s p.supplies.items a p.arcs.items t fit (is_found text (Ok p) given) (limits_of p)
 is_only text (Err e) given = tt
 
-no_problem : (text : List ℕ) (r : Refusal) → read_lines 1 Start (lines text) ≡ Err r → IsNoProblemText text
+no_problem : (text : List ℕ) (r : Rejection) → read_lines 1 Start (lines text) ≡ Err r → IsNoProblemText text
 no_problem text r e = λ s a fit t. let read = text_is_read text s a t fit in let h = sym e ∙ read in cc
 
-refused_by : (text : List ℕ) (r : Refusal) (t : Bool) → nat_lt text_limit (length text) ≡ t → cond t (Err too_long) (read_lines 1 Start (lines text)) ≡ Err r → (text_limit < length text) ⊎ IsNoProblemText text
-refused_by text r true long e = inl (grind (arith, nat_tests))
-refused_by text r false long e = inr (no_problem text r e)
+rejected_by : (text : List ℕ) (r : Rejection) (t : Bool) → nat_lt text_limit (length text) ≡ t → cond t (Err too_long) (read_lines 1 Start (lines text)) ≡ Err r → (text_limit < length text) ⊎ IsNoProblemText text
+rejected_by text r true long e = inl (grind (arith, nat_tests))
+rejected_by text r false long e = inr (no_problem text r e)
 
-pub is_refused : (text : List ℕ) (r : Result Problem ProblemFault) → Gives (read_text text) r → IfRefused r (λ _. (text_limit < length text) ⊎ IsNoProblemText text)
-is_refused text (Ok p) given = tt
-is_refused text (Err faults.OutOfMemory) given = tt
-is_refused text (Err (faults.Refused r)) given = refused_by text r (nat_lt text_limit (length text)) refl given
+pub is_rejected : (text : List ℕ) (r : Result Problem ProblemFault) → Gives (read_text text) r → IfRejected r (λ _. (text_limit < length text) ⊎ IsNoProblemText text)
+is_rejected text (Ok p) given = tt
+is_rejected text (Err faults.OutOfMemory) given = tt
+is_rejected text (Err (faults.Rejected r)) given = rejected_by text r (nat_lt text_limit (length text)) refl given
 
 -- ---- the line of a refusal
 
-record IsAt (from to : ℕ) (r : Refusal) : Type 0 where
+record IsAt (from to : ℕ) (r : Rejection) : Type 0 where
   low : from ≤ r.line
   high : r.line ≤ to
 
 abbrev IsPlaced : ℕ → State → Type 0
 IsPlaced line Start = Unit {0}
 IsPlaced line (Open d) = Unit {0}
-IsPlaced line (Refused r) = IsAt 1 line r
+IsPlaced line (Rejected r) = IsAt 1 line r
 
 kept_placed : (line : ℕ) (read : Result Sketch LineFault) → 1 ≤ line → IsPlaced (line + 1) (kept line read)
 kept_placed line (Ok d) some = tt
 kept_placed line (Err fault) some = record { low = some; high = omega arith }
 
-said_placed : (line : ℕ) (state : State) (x : Option Statement) → 1 ≤ line → IsPlaced line state → IsPlaced (line + 1) (with_said line state x)
+said_placed : (line : ℕ) (state : State) (x : Option Statement) → 1 ≤ line → IsPlaced line state → IsPlaced (line + 1) (with_optional_statement line state x)
 said_placed line Start None some here = tt
 said_placed line (Open d) None some here = tt
-said_placed line (Refused r) None some here = record { low = here.low; high = omega (arith, here.high) }
+said_placed line (Rejected r) None some here = record { low = here.low; high = omega (arith, here.high) }
 said_placed line Start (Some (statements.Problem nodes arcs)) some here = kept_placed line (new_sketch nodes arcs) some
 said_placed line Start (Some (statements.Node node supply)) some here = record { low = some; high = omega arith }
 said_placed line Start (Some (statements.Arc src dst low cap cost)) some here = record { low = some; high = omega arith }
@@ -86,28 +86,28 @@ said_placed line (Open d) (Some (statements.Problem nodes arcs)) some here = rec
 said_placed line (Open d) (Some (statements.Node node supply)) some here = kept_placed line (with_node d node supply) some
 said_placed line (Open d) (Some (statements.Arc src dst low cap cost)) some here = kept_placed line (with_arc d src dst low cap cost) some
 said_placed line (Open d) (Some statements.Other) some here = record { low = some; high = omega arith }
-said_placed line (Refused r) (Some x) some here = record { low = here.low; high = omega (arith, here.high) }
+said_placed line (Rejected r) (Some x) some here = record { low = here.low; high = omega (arith, here.high) }
 
-end_by : (t : Bool) (line : ℕ) (x : Numbers) (r : Refusal) → 1 ≤ line → cond t (Err (record { fault = Count; line = line })) (Ok x) ≡ Err r → IsAt 1 line r
+end_by : (t : Bool) (line : ℕ) (x : Numbers) (r : Rejection) → 1 ≤ line → cond t (Err (record { fault = Count; line = line })) (Ok x) ≡ Err r → IsAt 1 line r
 end_by true line x r some e = let same : (record { fault = Count; line = line }) ≡ r = cc in subst (IsAt 1 line) same (record { low = some; high = omega arith })
 end_by false line x r some e = absurd cc
 
-end_placed : (line : ℕ) (state : State) (r : Refusal) → 1 ≤ line → IsPlaced line state → finished line state ≡ Err r → IsAt 1 line r
+end_placed : (line : ℕ) (state : State) (r : Rejection) → 1 ≤ line → IsPlaced line state → finished line state ≡ Err r → IsAt 1 line r
 end_placed line Start r some here e = let same : (record { fault = NoProblemLine; line = line }) ≡ r = cc in subst (IsAt 1 line) same (record { low = some; high = omega arith })
 end_placed line (Open d) r some here e = end_by (nat_lt (length d.arcs) d.arc_count) line (d.supplies, d.arcs) r some e
-end_placed line (Refused x) r some here e = let same : x ≡ r = cc in subst (IsAt 1 line) same here
+end_placed line (Rejected x) r some here e = let same : x ≡ r = cc in subst (IsAt 1 line) same here
 
-lines_placed : (line : ℕ) (state : State) (ls : List (List ℕ)) (r : Refusal) → 1 ≤ line → IsPlaced line state → read_lines line state ls ≡ Err r → IsAt 1 (line + length ls) r
+lines_placed : (line : ℕ) (state : State) (ls : List (List ℕ)) (r : Rejection) → 1 ≤ line → IsPlaced line state → read_lines line state ls ≡ Err r → IsAt 1 (line + length ls) r
 lines_placed line state [] r some here e = let at = end_placed line state r some here e in record { low = at.low; high = omega (arith, at.high) }
 lines_placed line state (l ∷ ls) r some here e =
-    let at = lines_placed (line + 1) (with_said line state (said l)) ls r (omega arith) (said_placed line state (said l) some here) e in
+    let at = lines_placed (line + 1) (with_optional_statement line state (line_statement l)) ls r (omega arith) (said_placed line state (line_statement l) some here) e in
     record { low = at.low; high = omega (arith, at.high) }
 
-placed_by : (text : List ℕ) (r : Refusal) (t : Bool) → cond t (Err too_long) (read_lines 1 Start (lines text)) ≡ Err r → (1 ≤ r.line) × (r.line ≤ length (lines text) + 1)
-placed_by text r true e = let same : too_long ≡ r = cc in subst (λ (x : Refusal). (1 ≤ x.line) × (x.line ≤ length (lines text) + 1)) same (omega arith, omega arith)
+placed_by : (text : List ℕ) (r : Rejection) (t : Bool) → cond t (Err too_long) (read_lines 1 Start (lines text)) ≡ Err r → (1 ≤ r.line) × (r.line ≤ length (lines text) + 1)
+placed_by text r true e = let same : too_long ≡ r = cc in subst (λ (x : Rejection). (1 ≤ x.line) × (x.line ≤ length (lines text) + 1)) same (omega arith, omega arith)
 placed_by text r false e = let at = lines_placed 1 Start (lines text) r (omega arith) tt e in (at.low, omega (arith, at.high))
 
-pub is_placed : (text : List ℕ) (r : Result Problem ProblemFault) → Gives (read_text text) r → IfRefused r (λ x. (1 ≤ x.line) × (x.line ≤ length (lines text) + 1))
+pub is_placed : (text : List ℕ) (r : Result Problem ProblemFault) → Gives (read_text text) r → IfRejected r (λ x. (1 ≤ x.line) × (x.line ≤ length (lines text) + 1))
 is_placed text (Ok p) given = tt
 is_placed text (Err faults.OutOfMemory) given = tt
-is_placed text (Err (faults.Refused r)) given = placed_by text r (nat_lt text_limit (length text)) given
+is_placed text (Err (faults.Rejected r)) given = placed_by text r (nat_lt text_limit (length text)) given

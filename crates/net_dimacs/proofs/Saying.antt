@@ -8,8 +8,8 @@ use Rattle.net_dimacs.specs.Words as words
 use Rattle.net_dimacs.specs.Lines.{fields_of, begins_with, is_text, number_of, number_or_other, word_of}
 use Rattle.net_dimacs.specs.declared.statement.Statement.TheVariants as statements
 use Rattle.net_dimacs.specs.declared.statement.Kind.TheVariants as kinds
-use Rattle.net_dimacs.specs.Numbers.{cut, cut_statement, Numerals, cut_number, two_in, arc_in, node_in, problem_in, kind_of, or_other, said_by_kind}
-use Rattle.net_dimacs.specs.Reading.{said_by, said}
+use Rattle.net_dimacs.specs.Numbers.{cut, cut_statement, Numerals, cut_number, two_in, arc_in, node_in, problem_in, kind_of, or_other, statement_of_kind}
+use Rattle.net_dimacs.specs.Reading.{statement_of, line_statement}
 
 abbrev cut_in : Word → Option ℤ
 cut_in (words.Number z) = Some (cut z)
@@ -20,15 +20,15 @@ cuts ws = map cut_in ws
 
 -- ---- the five numbers of an arc, and the two of a node or a problem
 
-arc_says : (ws : List Word) → option_map cut_statement (said_by (words.Arc ∷ ws)) ≡ Some (or_other (arc_in (cuts ws)))
+arc_says : (ws : List Word) → option_map cut_statement (statement_of (words.Arc ∷ ws)) ≡ Some (or_other (arc_in (cuts ws)))
 arc_says (words.Number a ∷ words.Number b ∷ words.Number c ∷ words.Number d ∷ words.Number e ∷ []) = refl
 arc_says ws = refl
 
-node_says : (ws : List Word) → option_map cut_statement (said_by (words.Node ∷ ws)) ≡ Some (or_other (node_in (cuts ws)))
+node_says : (ws : List Word) → option_map cut_statement (statement_of (words.Node ∷ ws)) ≡ Some (or_other (node_in (cuts ws)))
 node_says (words.Number a ∷ words.Number b ∷ []) = refl
 node_says ws = refl
 
-min_says : (ws : List Word) → option_map cut_statement (said_by (words.Problem ∷ words.Min ∷ ws)) ≡ Some (or_other (option_map (λ p. statements.Problem p.0 p.1) (two_in (cuts ws))))
+min_says : (ws : List Word) → option_map cut_statement (statement_of (words.Problem ∷ words.Min ∷ ws)) ≡ Some (or_other (option_map (λ p. statements.Problem p.0 p.1) (two_in (cuts ws))))
 min_says (words.Number a ∷ words.Number b ∷ []) = refl
 min_says ws = refl
 
@@ -78,7 +78,7 @@ numbers_of_words (f ∷ fs) = ap (λ (o : Option ℤ). o ∷ cuts (map word_of f
 
 -- ---- a line by its first field
 
-no_min : (c p n a : Bool) (o : Option ℤ) (ws : List Word) → said_by (words.Problem ∷ cond c words.Comment (cond p words.Problem (cond n words.Node (cond a words.Arc (number_or_other o)))) ∷ ws) ≡ Some statements.Other
+no_min : (c p n a : Bool) (o : Option ℤ) (ws : List Word) → statement_of (words.Problem ∷ cond c words.Comment (cond p words.Problem (cond n words.Node (cond a words.Arc (number_or_other o)))) ∷ ws) ≡ Some statements.Other
 no_min true p n a o ws = refl
 no_min false true n a o ws = refl
 no_min false false true a o ws = refl
@@ -87,38 +87,38 @@ no_min false false false false None ws = refl
 no_min false false false false (Some z) ws = refl
 
 problem_by : (field : List ℕ) (fields : List (List ℕ)) (t : Bool) → is_text (codes "min") field ≡ t
-    → option_map cut_statement (said_by (words.Problem ∷ word_of field ∷ map word_of fields)) ≡ Some (or_other (cond t (option_map (λ p. statements.Problem p.0 p.1) (two_in (map cut_number fields))) None))
+    → option_map cut_statement (statement_of (words.Problem ∷ word_of field ∷ map word_of fields)) ≡ Some (or_other (cond t (option_map (λ p. statements.Problem p.0 p.1) (two_in (map cut_number fields))) None))
 problem_by field fields true e =
-    ap (λ (f : List ℕ). option_map cut_statement (said_by (words.Problem ∷ word_of f ∷ map word_of fields))) (is_the_text (codes "min") field e)
+    ap (λ (f : List ℕ). option_map cut_statement (statement_of (words.Problem ∷ word_of f ∷ map word_of fields))) (is_the_text (codes "min") field e)
     ∙ min_says (map word_of fields)
     ∙ ap (λ (os : Numerals). Some (or_other (option_map (λ p. statements.Problem p.0 p.1) (two_in os)))) (numbers_of_words fields)
 problem_by field fields false e =
     ap (option_map cut_statement)
-    (ap (λ (t : Bool). said_by (words.Problem ∷ cond (begins_with 99 field) words.Comment (cond (is_text (codes "p") field) words.Problem (cond (is_text (codes "n") field) words.Node (cond (is_text (codes "a") field) words.Arc (cond t words.Min (number_or_other (number_of field)))))) ∷ map word_of fields)) e
+    (ap (λ (t : Bool). statement_of (words.Problem ∷ cond (begins_with 99 field) words.Comment (cond (is_text (codes "p") field) words.Problem (cond (is_text (codes "n") field) words.Node (cond (is_text (codes "a") field) words.Arc (cond t words.Min (number_or_other (number_of field)))))) ∷ map word_of fields)) e
     ∙ no_min (begins_with 99 field) (is_text (codes "p") field) (is_text (codes "n") field) (is_text (codes "a") field) (number_of field) (map word_of fields))
 
-problem_says : (fields : List (List ℕ)) → option_map cut_statement (said_by (words.Problem ∷ map word_of fields)) ≡ Some (or_other (problem_in fields))
+problem_says : (fields : List (List ℕ)) → option_map cut_statement (statement_of (words.Problem ∷ map word_of fields)) ≡ Some (or_other (problem_in fields))
 problem_says [] = refl
 problem_says (f ∷ fs) = problem_by f fs (is_text (codes "min") f) refl
 
-other_says : (m : Bool) (o : Option ℤ) (ws : List Word) → option_map cut_statement (said_by (cond m words.Min (number_or_other o) ∷ ws)) ≡ Some statements.Other
+other_says : (m : Bool) (o : Option ℤ) (ws : List Word) → option_map cut_statement (statement_of (cond m words.Min (number_or_other o) ∷ ws)) ≡ Some statements.Other
 other_says true o ws = refl
 other_says false None ws = refl
 other_says false (Some z) ws = refl
 
 by_kind : (c p n a m : Bool) (o : Option ℤ) (fields : List (List ℕ))
-    → option_map cut_statement (said_by (cond c words.Comment (cond p words.Problem (cond n words.Node (cond a words.Arc (cond m words.Min (number_or_other o))))) ∷ map word_of fields))
-    ≡ said_by_kind (cond c kinds.Comment (cond p kinds.Problem (cond n kinds.Node (cond a kinds.Arc kinds.Other)))) fields
+    → option_map cut_statement (statement_of (cond c words.Comment (cond p words.Problem (cond n words.Node (cond a words.Arc (cond m words.Min (number_or_other o))))) ∷ map word_of fields))
+    ≡ statement_of_kind (cond c kinds.Comment (cond p kinds.Problem (cond n kinds.Node (cond a kinds.Arc kinds.Other)))) fields
 by_kind true p n a m o fields = refl
 by_kind false true n a m o fields = problem_says fields
 by_kind false false true a m o fields = node_says (map word_of fields) ∙ ap (λ (os : Numerals). Some (or_other (node_in os))) (numbers_of_words fields)
 by_kind false false false true m o fields = arc_says (map word_of fields) ∙ ap (λ (os : Numerals). Some (or_other (arc_in os))) (numbers_of_words fields)
 by_kind false false false false m o fields = other_says m o (map word_of fields)
 
-pub line_says : (line : List ℕ) (field : List ℕ) (more : List (List ℕ)) → fields_of line ≡ field ∷ more → said_by_kind (kind_of field) more ≡ option_map cut_statement (said line)
+pub line_says : (line : List ℕ) (field : List ℕ) (more : List (List ℕ)) → fields_of line ≡ field ∷ more → statement_of_kind (kind_of field) more ≡ option_map cut_statement (line_statement line)
 line_says line field more e =
-    sym (ap (λ (fs : List (List ℕ)). option_map cut_statement (said_by (map word_of fs))) e
+    sym (ap (λ (fs : List (List ℕ)). option_map cut_statement (statement_of (map word_of fs))) e
     ∙ by_kind (begins_with 99 field) (is_text (codes "p") field) (is_text (codes "n") field) (is_text (codes "a") field) (is_text (codes "min") field) (number_of field) more)
 
-pub blank_says : (line : List ℕ) → fields_of line ≡ [] → None ≡ option_map cut_statement (said line)
-blank_says line e = sym (ap (λ (fs : List (List ℕ)). option_map cut_statement (said_by (map word_of fs))) e)
+pub blank_says : (line : List ℕ) → fields_of line ≡ [] → None ≡ option_map cut_statement (line_statement line)
+blank_says line e = sym (ap (λ (fs : List (List ℕ)). option_map cut_statement (statement_of (map word_of fs))) e)

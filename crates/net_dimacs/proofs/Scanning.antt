@@ -11,7 +11,7 @@ use Rattle.net_dimacs.specs.declared.scan.Scan.{Scan}
 use Rattle.net_dimacs.specs.declared.progress.Progress.{Progress}
 use Rattle.net_dimacs.specs.declared.progress.Progress.TheVariants as progresses
 use Rattle.net_dimacs.specs.Numbers.{cut_statement}
-use Rattle.net_dimacs.specs.Reading.{Sketch, new_sketch, next_sketch, State, Start, Open, Refused, kept, with_said, read_lines, said}
+use Rattle.net_dimacs.specs.Reading.{Sketch, new_sketch, next_sketch, State, Start, Open, Rejected, kept, with_optional_statement, read_lines, line_statement}
 use Rattle.net_dimacs.specs.Problems.{BeginsProblem, statements_of}
 use Rattle.net_dimacs.specs.Drafts.{state_of}
 use Rattle.net_dimacs.specs.Lines.{EndsLine}
@@ -25,25 +25,25 @@ IsUnbegun first text now rest = state_of now.progress ≡ Start → (state_of fi
 pub small_state : (p : Progress) → IsSmall (state_of p)
 small_state progresses.Start = tt
 small_state (progresses.Open d) = omega (arith, d.few_nodes, d.supplies.ok.0)
-small_state (progresses.Refused r) = tt
+small_state (progresses.Rejected r) = tt
 
 -- what the code makes of a line is what the line says
-pub said_so : (n : ℕ) (p : Progress) (line : List ℕ) (x : Option Statement) → x ≡ option_map cut_statement (said line) → with_said n (state_of p) x ≡ with_said n (state_of p) (said line)
-said_so n p line x e = ap (with_said n (state_of p)) e ∙ said_cut n (state_of p) (said line) (small_state p)
+pub said_so : (n : ℕ) (p : Progress) (line : List ℕ) (x : Option Statement) → x ≡ option_map cut_statement (line_statement line) → with_optional_statement n (state_of p) x ≡ with_optional_statement n (state_of p) (line_statement line)
+said_so n p line x e = ap (with_optional_statement n (state_of p)) e ∙ said_cut n (state_of p) (line_statement line) (small_state p)
 
-pub line_read : (n : ℕ) (state next : State) (line rest after : List ℕ) → lines rest ≡ line ∷ lines after → next ≡ with_said n state (said line)
+pub line_read : (n : ℕ) (state next : State) (line rest after : List ℕ) → lines rest ≡ line ∷ lines after → next ≡ with_optional_statement n state (line_statement line)
     → (more : List (List ℕ)) → read_lines (n + 1) next (lines after ++ more) ≡ read_lines n state (lines rest ++ more)
 line_read n state next line rest after parts e more =
     ap (λ (s : State). read_lines (n + 1) s (lines after ++ more)) e ∙ ap (λ (ls : List (List ℕ)). read_lines n state (ls ++ more)) (sym parts)
 
-statements_split : (line rest after : List ℕ) → lines rest ≡ line ∷ lines after → statements_of rest ≡ cons_option (said line) (statements_of after)
-statements_split line rest after parts = ap (filter_map said) parts
+statements_split : (line rest after : List ℕ) → lines rest ≡ line ∷ lines after → statements_of rest ≡ cons_option (line_statement line) (statements_of after)
+statements_split line rest after parts = ap (filter_map line_statement) parts
 
 kept_begun : (n : ℕ) (read : Result Sketch LineFault) → kept n read ≡ Start → ⊥
 kept_begun n (Ok d) e = cc
 kept_begun n (Err fault) e = cc
 
-unbegun : (n : ℕ) (state : State) (x : Option Statement) → with_said n state x ≡ Start → (state ≡ Start) × (x ≡ None)
+unbegun : (n : ℕ) (state : State) (x : Option Statement) → with_optional_statement n state x ≡ Start → (state ≡ Start) × (x ≡ None)
 unbegun n Start None e = (refl, refl)
 unbegun n Start (Some (statements.Problem nodes arcs)) e = absurd (kept_begun n (new_sketch nodes arcs) e)
 unbegun n Start (Some (statements.Node node supply)) e = absurd cc
@@ -51,13 +51,13 @@ unbegun n Start (Some (statements.Arc src dst low cap cost)) e = absurd cc
 unbegun n Start (Some statements.Other) e = absurd cc
 unbegun n (Open d) None e = absurd cc
 unbegun n (Open d) (Some s) e = absurd (kept_begun n (next_sketch d s) e)
-unbegun n (Refused r) None e = absurd cc
-unbegun n (Refused r) (Some s) e = absurd cc
+unbegun n (Rejected r) None e = absurd cc
+unbegun n (Rejected r) (Some s) e = absurd cc
 
-pub still_unbegun : (n : ℕ) (first now : Scan) (next : State) (text line rest after : List ℕ) → lines rest ≡ line ∷ lines after → next ≡ with_said n (state_of now.progress) (said line)
+pub still_unbegun : (n : ℕ) (first now : Scan) (next : State) (text line rest after : List ℕ) → lines rest ≡ line ∷ lines after → next ≡ with_optional_statement n (state_of now.progress) (line_statement line)
     → IsUnbegun first text now rest → next ≡ Start → (state_of first.progress ≡ Start) × (statements_of after ≡ statements_of text)
 still_unbegun n first now next text line rest after parts e h start =
-    let p = unbegun n (state_of now.progress) (said line) (sym e ∙ start) in
+    let p = unbegun n (state_of now.progress) (line_statement line) (sym e ∙ start) in
     let q = h p.0 in
     (q.0, sym (statements_split line rest after parts ∙ ap (λ (x : Option Statement). cons_option x (statements_of after)) p.1) ∙ q.1)
 
@@ -70,11 +70,11 @@ begins_by (Some (statements.Arc src dst low high cost)) y more e h = subst (λ (
 begins_by (Some statements.Other) y more e h = subst (λ (z : Option Statement). BeginsProblem (option_to_list z)) e h
 
 -- memory is wanted over the first statement
-pub wants_memory : (first now : Scan) (text line rest after : List ℕ) (y : Option Statement) → lines rest ≡ line ∷ lines after → y ≡ option_map cut_statement (said line) → IsUnbegun first text now rest
+pub wants_memory : (first now : Scan) (text line rest after : List ℕ) (y : Option Statement) → lines rest ≡ line ∷ lines after → y ≡ option_map cut_statement (line_statement line) → IsUnbegun first text now rest
     → (state_of now.progress ≡ Start) × BeginsProblem (option_to_list y) → (state_of first.progress ≡ Start) × BeginsProblem (statements_of text)
 wants_memory first now text line rest after y parts e h wants =
     let q = h wants.0 in
-    (q.0, subst BeginsProblem (sym (statements_split line rest after parts) ∙ q.1) (begins_by (said line) y (statements_of after) e wants.1))
+    (q.0, subst BeginsProblem (sym (statements_split line rest after parts) ∙ q.1) (begins_by (line_statement line) y (statements_of after) e wants.1))
 
 -- the same behind an Err
 pub on_err : {A E : Type 0} (P : Type 0) (r : Result A E) → P → OnErr r P

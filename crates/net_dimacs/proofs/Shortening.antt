@@ -5,12 +5,12 @@ use Rattle.std.specs.List.{slice_split}
 use Rattle.std.specs.Str.Lines.{lines, lines_of_parts, strip_carriage_return}
 use Rattle.std.proofs.lemmas.Bool.Decides.{nat_tests}
 use Rattle.std.proofs.lemmas.List.{take-append-drop, length-append}
-use Rattle.net_dimacs.specs.declared.problem_fault.Refusal.{Refusal}
+use Rattle.net_dimacs.specs.declared.problem_fault.Rejection.{Rejection}
 use Rattle.net_dimacs.specs.declared.scan.Scan.{Scan}
 use Rattle.net_dimacs.specs.Limits.{text_limit}
 use Rattle.net_dimacs.specs.Lines.{is_feed, HasNone}
-use Rattle.net_dimacs.specs.OpenLines.{IsSaidAlike}
-use Rattle.net_dimacs.specs.Reading.{Numbers, State, with_said, read_lines, said}
+use Rattle.net_dimacs.specs.OpenLines.{IsSameStatement}
+use Rattle.net_dimacs.specs.Reading.{Numbers, State, with_optional_statement, read_lines, line_statement}
 use Rattle.net_dimacs.specs.Drafts.{state_of}
 use Rattle.net_dimacs.specs.Scans.{reads, IsReadAlike}
 use Rattle.net_dimacs.proofs.Cutting.{said_cut}
@@ -34,10 +34,10 @@ strip_one x y ys =
     ∙ strip_by x y ys (slice_index (y ∷ ys) (length (y ∷ ys) - 1) == 13)
 
 -- it is behind a byte that stays
-strip_behind : (front : List ℕ) (b : ℕ) (more : List ℕ) → strip_carriage_return (front ++ b ∷ more) ≡ front ++ strip_carriage_return (b ∷ more)
-strip_behind [] b more = refl
-strip_behind (x ∷ []) b more = strip_one x b more
-strip_behind (x ∷ y ∷ front) b more = strip_one x y (front ++ b ∷ more) ∙ ap (λ (l : List ℕ). x ∷ l) (strip_behind (y ∷ front) b more)
+strip_after : (front : List ℕ) (b : ℕ) (more : List ℕ) → strip_carriage_return (front ++ b ∷ more) ≡ front ++ strip_carriage_return (b ∷ more)
+strip_after [] b more = refl
+strip_after (x ∷ []) b more = strip_one x b more
+strip_after (x ∷ y ∷ front) b more = strip_one x y (front ++ b ∷ more) ∙ ap (λ (l : List ℕ). x ∷ l) (strip_after (y ∷ front) b more)
 
 -- ---- one line
 
@@ -45,24 +45,24 @@ some_bytes : (front : List ℕ) (b : ℕ) (more : List ℕ) → (length (front +
 some_bytes front b more = let e = length-append front (b ∷ more) in let some : 0 < length (front ++ b ∷ more) = omega (arith, e) in grind (arith, nat_tests)
 
 -- what is read of a line that may be the last, and of what follows it
-line_of_parts : (n : ℕ) (state : State) (front : List ℕ) (b : ℕ) (more : List ℕ) (parts : List (List ℕ)) → Result Numbers Refusal
-line_of_parts n state front b more [] = read_lines (n + 1) (with_said n state (said (front ++ b ∷ more))) []
-line_of_parts n state front b more (part ∷ parts) = read_lines (n + 1) (with_said n state (said (front ++ strip_carriage_return (b ∷ more)))) (lines_of_parts (part ∷ parts))
+line_of_parts : (n : ℕ) (state : State) (front : List ℕ) (b : ℕ) (more : List ℕ) (parts : List (List ℕ)) → Result Numbers Rejection
+line_of_parts n state front b more [] = read_lines (n + 1) (with_optional_statement n state (line_statement (front ++ b ∷ more))) []
+line_of_parts n state front b more (part ∷ parts) = read_lines (n + 1) (with_optional_statement n state (line_statement (front ++ strip_carriage_return (b ∷ more)))) (lines_of_parts (part ∷ parts))
 
 parts_read : (n : ℕ) (state : State) (front : List ℕ) (b : ℕ) (more : List ℕ) (parts : List (List ℕ)) → read_lines n state (lines_of_parts ((front ++ b ∷ more) ∷ parts)) ≡ line_of_parts n state front b more parts
 unfolding line_of_parts
 parts_read n state front b more [] = ap (λ (t : Bool). read_lines n state (if t then [] else (front ++ b ∷ more) ∷ [])) (some_bytes front b more)
-parts_read n state front b more (part ∷ parts) = ap (λ (l : List ℕ). read_lines (n + 1) (with_said n state (said l)) (lines_of_parts (part ∷ parts))) (strip_behind front b more)
+parts_read n state front b more (part ∷ parts) = ap (λ (l : List ℕ). read_lines (n + 1) (with_optional_statement n state (line_statement l)) (lines_of_parts (part ∷ parts))) (strip_after front b more)
 
 -- the same line behind two fronts that say alike
-said_same : (scan : Scan) (front line more : List ℕ) → IsSaidAlike front line → with_said scan.line (state_of scan.progress) (said (front ++ more)) ≡ with_said scan.line (state_of scan.progress) (said (line ++ more))
+said_same : (scan : Scan) (front line more : List ℕ) → IsSameStatement front line → with_optional_statement scan.line (state_of scan.progress) (line_statement (front ++ more)) ≡ with_optional_statement scan.line (state_of scan.progress) (line_statement (line ++ more))
 said_same scan front line more alike =
     let state = state_of scan.progress in
-    sym (said_cut scan.line state (said (front ++ more)) (small_state scan.progress))
-    ∙ ap (with_said scan.line state) (alike more)
-    ∙ said_cut scan.line state (said (line ++ more)) (small_state scan.progress)
+    sym (said_cut scan.line state (line_statement (front ++ more)) (small_state scan.progress))
+    ∙ ap (with_optional_statement scan.line state) (alike more)
+    ∙ said_cut scan.line state (line_statement (line ++ more)) (small_state scan.progress)
 
-line_same : (scan : Scan) (front line : List ℕ) (b : ℕ) (more : List ℕ) (parts : List (List ℕ)) → IsSaidAlike front line
+line_same : (scan : Scan) (front line : List ℕ) (b : ℕ) (more : List ℕ) (parts : List (List ℕ)) → IsSameStatement front line
     → line_of_parts scan.line (state_of scan.progress) front b more parts ≡ line_of_parts scan.line (state_of scan.progress) line b more parts
 unfolding line_of_parts
 line_same scan front line b more [] alike = ap (λ (s : State). read_lines (scan.line + 1) s []) (said_same scan front line (b ∷ more) alike)
@@ -77,7 +77,7 @@ joined_parts front more part b parts none e =
     ap lines_of_parts (front_part is_feed (front ++ b ∷ []) more part parts none e)
     ∙ ap (λ (l : List ℕ). lines_of_parts (l ∷ parts)) (append_assoc front (b ∷ []) part)
 
-pub read_alike : (front line : List ℕ) (b : ℕ) → HasNone is_feed (front ++ b ∷ []) → HasNone is_feed (line ++ b ∷ []) → IsSaidAlike front line → IsReadAlike (front ++ b ∷ []) (line ++ b ∷ [])
+pub read_alike : (front line : List ℕ) (b : ℕ) → HasNone is_feed (front ++ b ∷ []) → HasNone is_feed (line ++ b ∷ []) → IsSameStatement front line → IsReadAlike (front ++ b ∷ []) (line ++ b ∷ [])
 read_alike front line b open_front open_line alike scan more =
     let p = some_part is_feed more in
     ap (reads scan) (joined_parts front more p.0 b p.1 open_front p.2)

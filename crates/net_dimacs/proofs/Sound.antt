@@ -8,24 +8,24 @@ use Rattle.std.proofs.lemmas.List.{get_or-set_same, get_or-set_other, length-set
 use Rattle.net_normal.specs.declared.problem.FlowArc.{FlowArc}
 use Rattle.net_dimacs.specs.declared.statement.Statement.{Statement}
 use Rattle.net_dimacs.specs.declared.statement.Statement.TheVariants as statements
-use Rattle.net_dimacs.specs.declared.problem_fault.Refusal.{Refusal}
+use Rattle.net_dimacs.specs.declared.problem_fault.Rejection.{Rejection}
 use Rattle.net_dimacs.specs.declared.problem_fault.LineFault.{LineFault}
 use Rattle.net_dimacs.specs.declared.problem_fault.LineFault.TheVariants.{Count}
-use Rattle.net_dimacs.specs.Reading.{Sketch, new_sketch, with_node, with_arc, State, Start, Open, Refused, kept, with_said, said, Numbers, finished, read_lines}
+use Rattle.net_dimacs.specs.Reading.{Sketch, new_sketch, with_node, with_arc, State, Start, Open, Rejected, kept, with_optional_statement, line_statement, Numbers, finished, read_lines}
 use Rattle.net_dimacs.specs.Problems.{Named, node_statement, arc_statement, AreDistinct, supply_after, IsProblemText}
 use Rattle.net_dimacs.proofs.Steps.{marked, with_one, first_sketch, set_supply, NodeStep, node_step, ArcStep, arc_step, new_step}
 
 -- a refusal stays
-refused_said : (line : ℕ) (r : Refusal) (x : Option Statement) → with_said line (Refused r) x ≡ Refused r
-refused_said line r None = refl
-refused_said line r (Some x) = refl
+rejected_said : (line : ℕ) (r : Rejection) (x : Option Statement) → with_optional_statement line (Rejected r) x ≡ Rejected r
+rejected_said line r None = refl
+rejected_said line r (Some x) = refl
 
-pub refused_reads : (line : ℕ) (r : Refusal) (ls : List (List ℕ)) → read_lines line (Refused r) ls ≡ Err r
-refused_reads line r [] = refl
-refused_reads line r (l ∷ ls) = ap (λ (x : State). read_lines (line + 1) x ls) (refused_said line r (said l)) ∙ refused_reads (line + 1) r ls
+pub rejected_reads : (line : ℕ) (r : Rejection) (ls : List (List ℕ)) → read_lines line (Rejected r) ls ≡ Err r
+rejected_reads line r [] = refl
+rejected_reads line r (l ∷ ls) = ap (λ (x : State). read_lines (line + 1) x ls) (rejected_said line r (line_statement l)) ∙ rejected_reads (line + 1) r ls
 
-no_more : {A : Type 0} (line : ℕ) (r : Refusal) (ls : List (List ℕ)) (read : Numbers) → read_lines line (Refused r) ls ≡ Ok read → A
-no_more line r ls read e = absurd (let h = sym (refused_reads line r ls) ∙ e in cc)
+no_more : {A : Type 0} (line : ℕ) (r : Rejection) (ls : List (List ℕ)) (read : Numbers) → read_lines line (Rejected r) ls ≡ Ok read → A
+no_more line r ls read e = absurd (let h = sym (rejected_reads line r ls) ∙ e in cc)
 
 -- the marks are one for each node, and the arcs have room
 pub record IsSound (d : Sketch) : Type 0 where
@@ -114,7 +114,7 @@ arc_extends d src dst low cap cost d' says s a step more =
 
 -- ---- all lines behind the `p` line
 
-finished_by : (t : Bool) (r : Refusal) (x y : Numbers) → cond t (Err r) (Ok x) ≡ Ok y → (t ≡ false) × (x ≡ y)
+finished_by : (t : Bool) (r : Rejection) (x y : Numbers) → cond t (Err r) (Ok x) ≡ Ok y → (t ≡ false) × (x ≡ y)
 finished_by true r x y e = absurd cc
 finished_by false r x y e = (refl, cc)
 
@@ -142,48 +142,48 @@ abbrev Reads : ℕ → Sketch → List (List ℕ) → List ℤ → List FlowArc 
 Reads line d ls s a = read_lines line (Open d) ls ≡ Ok (s, a)
 
 node_line : (line : ℕ) (d : Sketch) (z f : ℤ) (ls : List (List ℕ)) (s : List ℤ) (a : List FlowArc) (r : Result Sketch LineFault) → with_node d z f ≡ r → IsSound d
-    → ((d' : Sketch) → IsSound d' → Reads (line + 1) d' ls s a → Extends d' (filter_map said ls) s a)
-    → read_lines (line + 1) (kept line r) ls ≡ Ok (s, a) → Extends d (statements.Node z f ∷ filter_map said ls) s a
+    → ((d' : Sketch) → IsSound d' → Reads (line + 1) d' ls s a → Extends d' (filter_map line_statement ls) s a)
+    → read_lines (line + 1) (kept line r) ls ≡ Ok (s, a) → Extends d (statements.Node z f ∷ filter_map line_statement ls) s a
 node_line line d z f ls s a (Err fault) w good more e = no_more (line + 1) (record { fault = fault; line = line }) ls (s, a) e
 node_line line d z f ls s a (Ok d') w good more e =
     let n = node_step d z f d' w in
-    node_extends d z f d' (filter_map said ls) s a n good
+    node_extends d z f d' (filter_map line_statement ls) s a n good
     (more (marked d n.place f) (sound_marked d n.place f good) (ap (λ (x : Sketch). read_lines (line + 1) (Open x) ls) n.result ∙ e))
 
 arc_line : (line : ℕ) (d : Sketch) (src dst low cap cost : ℤ) (ls : List (List ℕ)) (s : List ℤ) (a : List FlowArc) (r : Result Sketch LineFault) → with_arc d src dst low cap cost ≡ r → IsSound d
-    → ((d' : Sketch) → IsSound d' → Reads (line + 1) d' ls s a → Extends d' (filter_map said ls) s a)
-    → read_lines (line + 1) (kept line r) ls ≡ Ok (s, a) → Extends d (statements.Arc src dst low cap cost ∷ filter_map said ls) s a
+    → ((d' : Sketch) → IsSound d' → Reads (line + 1) d' ls s a → Extends d' (filter_map line_statement ls) s a)
+    → read_lines (line + 1) (kept line r) ls ≡ Ok (s, a) → Extends d (statements.Arc src dst low cap cost ∷ filter_map line_statement ls) s a
 arc_line line d src dst low cap cost ls s a (Err fault) w good more e = no_more (line + 1) (record { fault = fault; line = line }) ls (s, a) e
 arc_line line d src dst low cap cost ls s a (Ok d') w good more e =
     let step = arc_step d src dst low cap cost d' w in
-    arc_extends d src dst low cap cost d' (filter_map said ls) s a step
+    arc_extends d src dst low cap cost d' (filter_map line_statement ls) s a step
     (more (with_one d step.arc) (sound_with_one d step.arc good step.room) (ap (λ (x : Sketch). read_lines (line + 1) (Open x) ls) step.result ∙ e))
 
 said_line : (line : ℕ) (d : Sketch) (x : Option Statement) (ls : List (List ℕ)) (s : List ℤ) (a : List FlowArc) → IsSound d
-    → ((d' : Sketch) → IsSound d' → Reads (line + 1) d' ls s a → Extends d' (filter_map said ls) s a)
-    → read_lines (line + 1) (with_said line (Open d) x) ls ≡ Ok (s, a) → Extends d (cons_option x (filter_map said ls)) s a
+    → ((d' : Sketch) → IsSound d' → Reads (line + 1) d' ls s a → Extends d' (filter_map line_statement ls) s a)
+    → read_lines (line + 1) (with_optional_statement line (Open d) x) ls ≡ Ok (s, a) → Extends d (cons_option x (filter_map line_statement ls)) s a
 said_line line d None ls s a good more e = more d good e
 said_line line d (Some (statements.Problem nodes arcs)) ls s a good more e = no_more (line + 1) _ ls (s, a) e
 said_line line d (Some (statements.Node z f)) ls s a good more e = node_line line d z f ls s a (with_node d z f) refl good more e
 said_line line d (Some (statements.Arc src dst low cap cost)) ls s a good more e = arc_line line d src dst low cap cost ls s a (with_arc d src dst low cap cost) refl good more e
 said_line line d (Some statements.Other) ls s a good more e = no_more (line + 1) _ ls (s, a) e
 
-open_extends : (line : ℕ) (d : Sketch) (ls : List (List ℕ)) (s : List ℤ) (a : List FlowArc) → IsSound d → Reads line d ls s a → Extends d (filter_map said ls) s a
+open_extends : (line : ℕ) (d : Sketch) (ls : List (List ℕ)) (s : List ℤ) (a : List FlowArc) → IsSound d → Reads line d ls s a → Extends d (filter_map line_statement ls) s a
 open_extends line d [] s a good e = end_extends line d s a good e
-open_extends line d (l ∷ ls) s a good e = said_line line d (said l) ls s a good (λ d' good' e'. open_extends (line + 1) d' ls s a good' e') e
+open_extends line d (l ∷ ls) s a good e = said_line line d (line_statement l) ls s a good (λ d' good' e'. open_extends (line + 1) d' ls s a good' e') e
 
 -- ---- the whole text
 
 -- what the lines say of the problem that is read in the end
-record Tells (says : List Statement) (s : List ℤ) (a : List FlowArc) : Type 0 where
+record Reports (says : List Statement) (s : List ℤ) (a : List FlowArc) : Type 0 where
   nodes : List Named
   lines : says ≡ statements.Problem (pos (length s)) (pos (length a)) ∷ (map node_statement nodes ++ map arc_statement a)
   within : AllByRecursion (λ n. n.0 < length s) nodes
   distinct : AreDistinct nodes
   supply : (v : ℕ) → v < length s → get_or s v (pos 0) ≡ supply_after nodes v (pos 0)
 
-tells : (n m : ℕ) (says : List Statement) (s : List ℤ) (a : List FlowArc) → Extends (first_sketch n m) says s a → Tells (statements.Problem (pos n) (pos m) ∷ says) s a
-tells n m says s a more =
+reports : (n m : ℕ) (says : List Statement) (s : List ℤ) (a : List FlowArc) → Extends (first_sketch n m) says s a → Reports (statements.Problem (pos n) (pos m) ∷ says) s a
+reports n m says s a more =
     let size : length s ≡ n = more.size ∙ length-replicate n (pos 0) in
     let count : length a ≡ m = more.counted in
     record {
@@ -199,7 +199,7 @@ tells n m says s a more =
     }
 
 head_line : (line : ℕ) (nodes arcs : ℤ) (ls : List (List ℕ)) (s : List ℤ) (a : List FlowArc) (r : Result Sketch LineFault) → new_sketch nodes arcs ≡ r
-    → read_lines (line + 1) (kept line r) ls ≡ Ok (s, a) → Tells (statements.Problem nodes arcs ∷ filter_map said ls) s a
+    → read_lines (line + 1) (kept line r) ls ≡ Ok (s, a) → Reports (statements.Problem nodes arcs ∷ filter_map line_statement ls) s a
 head_line line nodes arcs ls s a (Err fault) w e = no_more (line + 1) (record { fault = fault; line = line }) ls (s, a) e
 head_line line nodes arcs ls s a (Ok d') w e =
     let step = new_step nodes arcs d' w in
@@ -208,21 +208,21 @@ head_line line nodes arcs ls s a (Ok d') w e =
     let good : IsSound (first_sketch n m) = record { marks = length-replicate n false ∙ sym (length-replicate n (pos 0)); room = omega arith } in
     let more = open_extends (line + 1) (first_sketch n m) ls s a good (ap (λ (x : Sketch). read_lines (line + 1) (Open x) ls) step.result ∙ e) in
     let spelled : statements.Problem nodes arcs ≡ statements.Problem (pos n) (pos m) = let e1 = step.nodes_is in let e2 = step.arcs_is in cc in
-    subst (λ (x : Statement). Tells (x ∷ filter_map said ls) s a) (sym spelled) (tells n m (filter_map said ls) s a more)
+    subst (λ (x : Statement). Reports (x ∷ filter_map line_statement ls) s a) (sym spelled) (reports n m (filter_map line_statement ls) s a more)
 
-start_line : (line : ℕ) (x : Option Statement) (ls : List (List ℕ)) (s : List ℤ) (a : List FlowArc) → (read_lines (line + 1) Start ls ≡ Ok (s, a) → Tells (filter_map said ls) s a)
-    → read_lines (line + 1) (with_said line Start x) ls ≡ Ok (s, a) → Tells (cons_option x (filter_map said ls)) s a
+start_line : (line : ℕ) (x : Option Statement) (ls : List (List ℕ)) (s : List ℤ) (a : List FlowArc) → (read_lines (line + 1) Start ls ≡ Ok (s, a) → Reports (filter_map line_statement ls) s a)
+    → read_lines (line + 1) (with_optional_statement line Start x) ls ≡ Ok (s, a) → Reports (cons_option x (filter_map line_statement ls)) s a
 start_line line None ls s a more e = more e
 start_line line (Some (statements.Problem nodes arcs)) ls s a more e = head_line line nodes arcs ls s a (new_sketch nodes arcs) refl e
 start_line line (Some (statements.Node z f)) ls s a more e = no_more (line + 1) _ ls (s, a) e
 start_line line (Some (statements.Arc src dst low cap cost)) ls s a more e = no_more (line + 1) _ ls (s, a) e
 start_line line (Some statements.Other) ls s a more e = no_more (line + 1) _ ls (s, a) e
 
-start_tells : (line : ℕ) (ls : List (List ℕ)) (s : List ℤ) (a : List FlowArc) → read_lines line Start ls ≡ Ok (s, a) → Tells (filter_map said ls) s a
-start_tells line [] s a e = absurd cc
-start_tells line (l ∷ ls) s a e = start_line line (said l) ls s a (start_tells (line + 1) ls s a) e
+start_reports : (line : ℕ) (ls : List (List ℕ)) (s : List ℤ) (a : List FlowArc) → read_lines line Start ls ≡ Ok (s, a) → Reports (filter_map line_statement ls) s a
+start_reports line [] s a e = absurd cc
+start_reports line (l ∷ ls) s a e = start_line line (line_statement l) ls s a (start_reports (line + 1) ls s a) e
 
 pub is_problem_text : (text : List ℕ) (s : List ℤ) (a : List FlowArc) → read_lines 1 Start (lines text) ≡ Ok (s, a) → IsProblemText text s a
 is_problem_text text s a e =
-    let t = start_tells 1 (lines text) s a e in
+    let t = start_reports 1 (lines text) s a e in
     record { named = t.nodes; says = t.lines; nodes = t.within; distinct = t.distinct; supply = t.supply }

@@ -7,9 +7,9 @@ use Rattle.net_dimacs.specs.declared.statement.Statement.{Statement}
 use Rattle.net_dimacs.specs.declared.statement.Statement.TheVariants as statements
 use Rattle.net_dimacs.specs.declared.statement.Kind.{Kind}
 use Rattle.net_dimacs.specs.declared.statement.Kind.TheVariants as kinds
-use Rattle.net_dimacs.specs.Numbers.{cut_statement, Numerals, cut_number, two_in, arc_in, node_in, kind_of, or_other, said_by_kind}
+use Rattle.net_dimacs.specs.Numbers.{cut_statement, Numerals, cut_number, two_in, arc_in, node_in, kind_of, or_other, statement_of_kind}
 use Rattle.net_dimacs.specs.OpenLines.{View, view}
-use Rattle.net_dimacs.specs.Reading.{said}
+use Rattle.net_dimacs.specs.Reading.{line_statement}
 use Rattle.net_dimacs.proofs.Saying.{line_says, blank_says}
 
 abbrev numbers_seen : List View → Numerals
@@ -22,16 +22,16 @@ abbrev problem_seen : List View → Option Statement
 problem_seen [] = None
 problem_seen (v ∷ vs) = min_seen v.is_min vs
 
-abbrev seen_behind : Kind → List View → Option Statement
-seen_behind kinds.Comment vs = None
-seen_behind kinds.Problem vs = Some (or_other (problem_seen vs))
-seen_behind kinds.Node vs = Some (or_other (node_in (numbers_seen vs)))
-seen_behind kinds.Arc vs = Some (or_other (arc_in (numbers_seen vs)))
-seen_behind kinds.Other vs = Some statements.Other
+abbrev seen_after : Kind → List View → Option Statement
+seen_after kinds.Comment vs = None
+seen_after kinds.Problem vs = Some (or_other (problem_seen vs))
+seen_after kinds.Node vs = Some (or_other (node_in (numbers_seen vs)))
+seen_after kinds.Arc vs = Some (or_other (arc_in (numbers_seen vs)))
+seen_after kinds.Other vs = Some statements.Other
 
 abbrev pub seen : List View → Option Statement
 seen [] = None
-seen (v ∷ vs) = seen_behind v.kind vs
+seen (v ∷ vs) = seen_after v.kind vs
 
 -- ---- a line is what is seen of it
 
@@ -39,20 +39,20 @@ same_numbers : (fs : List (List ℕ)) → map cut_number fs ≡ numbers_seen (ma
 same_numbers [] = refl
 same_numbers (f ∷ fs) = ap (λ (os : Numerals). cut_number f ∷ os) (same_numbers fs)
 
-same_behind : (k : Kind) (fs : List (List ℕ)) → said_by_kind k fs ≡ seen_behind k (map view fs)
-same_behind kinds.Comment fs = refl
-same_behind kinds.Problem [] = refl
-same_behind kinds.Problem (f ∷ fs) =
+same_after : (k : Kind) (fs : List (List ℕ)) → statement_of_kind k fs ≡ seen_after k (map view fs)
+same_after kinds.Comment fs = refl
+same_after kinds.Problem [] = refl
+same_after kinds.Problem (f ∷ fs) =
     ap (λ (os : Numerals). Some (or_other (if is_text (codes "min") f then option_map (λ p. statements.Problem p.0 p.1) (two_in os) else None))) (same_numbers fs)
-same_behind kinds.Node fs = ap (λ (os : Numerals). Some (or_other (node_in os))) (same_numbers fs)
-same_behind kinds.Arc fs = ap (λ (os : Numerals). Some (or_other (arc_in os))) (same_numbers fs)
-same_behind kinds.Other fs = refl
+same_after kinds.Node fs = ap (λ (os : Numerals). Some (or_other (node_in os))) (same_numbers fs)
+same_after kinds.Arc fs = ap (λ (os : Numerals). Some (or_other (arc_in os))) (same_numbers fs)
+same_after kinds.Other fs = refl
 
-same_line : (line : List ℕ) (fs : List (List ℕ)) → fields_of line ≡ fs → option_map cut_statement (said line) ≡ seen (map view fs)
+same_line : (line : List ℕ) (fs : List (List ℕ)) → fields_of line ≡ fs → option_map cut_statement (line_statement line) ≡ seen (map view fs)
 same_line line [] e = sym (blank_says line e)
-same_line line (f ∷ fs) e = sym (line_says line f fs e) ∙ same_behind (kind_of f) fs
+same_line line (f ∷ fs) e = sym (line_says line f fs e) ∙ same_after (kind_of f) fs
 
-pub line_seen : (line : List ℕ) → option_map cut_statement (said line) ≡ seen (map view (fields_of line))
+pub line_seen : (line : List ℕ) → option_map cut_statement (line_statement line) ≡ seen (map view (fields_of line))
 line_seen line = same_line line (fields_of line) refl
 
 -- ---- seven fields are too many for each kind of line
@@ -78,7 +78,7 @@ abbrev nothing_or_other : Kind → Option Statement
 nothing_or_other kinds.Comment = None
 nothing_or_other kind = Some statements.Other
 
-too_many : (k : Kind) (b c d e f g : View) (vs : List View) → seen_behind k (b ∷ c ∷ d ∷ e ∷ f ∷ g ∷ vs) ≡ nothing_or_other k
+too_many : (k : Kind) (b c d e f g : View) (vs : List View) → seen_after k (b ∷ c ∷ d ∷ e ∷ f ∷ g ∷ vs) ≡ nothing_or_other k
 too_many kinds.Comment b c d e f g vs = refl
 too_many kinds.Problem b c d e f g vs = ap (λ (o : Option Statement). Some (or_other o)) (no_min b.is_min c d e (f ∷ g ∷ vs))
 too_many kinds.Node b c d e f g vs =

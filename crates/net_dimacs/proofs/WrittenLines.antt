@@ -16,7 +16,7 @@ use Rattle.net_dimacs.specs.declared.statement.Statement.{Statement}
 use Rattle.net_dimacs.specs.declared.statement.Statement.TheVariants as statements
 use Rattle.net_dimacs.specs.Lines.{is_blank, has_byte, fields_of, word_of}
 use Rattle.net_dimacs.specs.Written.{row, line, node_number, node_line, node_lines, arc_line, problem_text}
-use Rattle.net_dimacs.specs.Reading.{said_by, said}
+use Rattle.net_dimacs.specs.Reading.{statement_of, line_statement}
 use Rattle.net_dimacs.specs.Problems.{Named, node_statement, arc_statement, AreDistinct, supply_after, statements_of, IsProblemText}
 use Rattle.net_normal.specs.Limits.{IsWithinLimits}
 use Rattle.net_dimacs.proofs.Decimals.{IsPrintable, IsSolid, word_decimal, solid_decimal, byte_decimal}
@@ -63,18 +63,18 @@ line_words field zs solid some fit =
 abbrev pub solid_byte : (b : ℕ) → is_blank b ≡ false → (b == 10) ≡ false → (b == 13) ≡ false → IsSolid b
 solid_byte b p q r = record { no_blank = p; no_feed = q; no_return = r }
 
-node_says : (z f : ℤ) → Printable (z ∷ f ∷ []) → said (codes "n" ++ row (z ∷ f ∷ [])) ≡ Some (statements.Node z f)
-node_says z f fit = ap said_by (line_words (codes "n") (z ∷ f ∷ []) (solid_byte 110 refl refl refl, tt) refl fit)
+node_says : (z f : ℤ) → Printable (z ∷ f ∷ []) → line_statement (codes "n" ++ row (z ∷ f ∷ [])) ≡ Some (statements.Node z f)
+node_says z f fit = ap statement_of (line_words (codes "n") (z ∷ f ∷ []) (solid_byte 110 refl refl refl, tt) refl fit)
 
-arc_says : (a b c d e : ℤ) → Printable (a ∷ b ∷ c ∷ d ∷ e ∷ []) → said (codes "a" ++ row (a ∷ b ∷ c ∷ d ∷ e ∷ [])) ≡ Some (statements.Arc a b c d e)
-arc_says a b c d e fit = ap said_by (line_words (codes "a") (a ∷ b ∷ c ∷ d ∷ e ∷ []) (solid_byte 97 refl refl refl, tt) refl fit)
+arc_says : (a b c d e : ℤ) → Printable (a ∷ b ∷ c ∷ d ∷ e ∷ []) → line_statement (codes "a" ++ row (a ∷ b ∷ c ∷ d ∷ e ∷ [])) ≡ Some (statements.Arc a b c d e)
+arc_says a b c d e fit = ap statement_of (line_words (codes "a") (a ∷ b ∷ c ∷ d ∷ e ∷ []) (solid_byte 97 refl refl refl, tt) refl fit)
 
 solid_min : Solid (codes "min")
 solid_min = (solid_byte 109 refl refl refl, (solid_byte 105 refl refl refl, (solid_byte 110 refl refl refl, tt)))
 
-head_says : (n m : ℤ) → Printable (n ∷ m ∷ []) → said (codes "p min" ++ row (n ∷ m ∷ [])) ≡ Some (statements.Problem n m)
+head_says : (n m : ℤ) → Printable (n ∷ m ∷ []) → line_statement (codes "p min" ++ row (n ∷ m ∷ [])) ≡ Some (statements.Problem n m)
 head_says n m fit =
-    ap (λ (ws : List Word). said_by (words.Problem ∷ ws)) (line_words (codes "min") (n ∷ m ∷ []) solid_min refl fit)
+    ap (λ (ws : List Word). statement_of (words.Problem ∷ ws)) (line_words (codes "min") (n ∷ m ∷ []) solid_min refl fit)
 
 -- ---- the lines of a text
 
@@ -117,13 +117,13 @@ lines_then body rest plain =
     ∙ lines_by body (slice_split (λ b. b == 10) rest) p.0 p.1 p.2 plain
 
 -- one line more, and what it says
-line_then : (kind : List ℕ) (zs : List ℤ) (rest : List ℕ) (statement : Statement) → Plain kind → Printable zs → said (kind ++ row zs) ≡ Some statement
+line_then : (kind : List ℕ) (zs : List ℤ) (rest : List ℕ) (statement : Statement) → Plain kind → Printable zs → line_statement (kind ++ row zs) ≡ Some statement
     → statements_of (line kind zs ++ rest) ≡ statement ∷ statements_of rest
 line_then kind zs rest statement plain fit says =
     let body = kind ++ row zs in
     let grouped : line kind zs ++ rest ≡ body ++ 10 ∷ rest = ap (λ (x : List ℕ). x ++ rest) (sym (append_assoc kind (row zs) (10 ∷ []))) ∙ append_assoc body (10 ∷ []) rest in
     ap statements_of grouped
-    ∙ ap (filter_map said) (lines_then body rest (all_append IsPlain kind (row zs) plain (plain_row zs fit)))
+    ∙ ap (filter_map line_statement) (lines_then body rest (all_append IsPlain kind (row zs) plain (plain_row zs fit)))
     ∙ ap (λ (o : Option Statement). cons_option o (statements_of rest)) says
 
 -- ---- the three kinds

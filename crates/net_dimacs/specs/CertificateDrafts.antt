@@ -8,7 +8,7 @@ use Rattle.net_dimacs.specs.declared.problem_fault.ProblemFault.TheVariants as f
 use Rattle.net_dimacs.specs.declared.line_stop.LineStop.{LineStop}
 use Rattle.net_dimacs.specs.Drafts.{FailsLine}
 use Rattle.net_dimacs.specs.Certificates.{Account, account_of}
-use Rattle.net_dimacs.specs.CertificateReading.{Progress, Start, Open, Refused}
+use Rattle.net_dimacs.specs.CertificateReading.{Progress, Start, Open, Rejected}
 
 -- the result is the list or the error that the definition gives, unless memory ran out
 abbrev pub GivesList : {A : Type 0} → Result (List A) LineFault → Result (Vec A) LineStop → Type 0
@@ -27,12 +27,12 @@ progress_of (Some certificate) = Open (account_of certificate)
 abbrev pub is_open : Progress → Bool
 is_open Start = false
 is_open (Open account) = true
-is_open (Refused refusal) = false
+is_open (Rejected rejection) = false
 
 -- memory can run out only at a line that is accepted
 abbrev pub Stops : Progress → ProblemFault → Type 0
 Stops progress faults.OutOfMemory = IsTrue (is_open progress)
-Stops progress (faults.Refused refusal) = progress ≡ Refused refusal
+Stops progress (faults.Rejected rejection) = progress ≡ Rejected rejection
 
 -- the result is the partial certificate or the error that the definition gives, unless memory ran
 -- out

@@ -8,11 +8,11 @@ use Rattle.net_dimacs.specs.declared.claim.Claim.TheVariants as claims
 use Rattle.net_dimacs.specs.declared.problem_fault.LineFault.{LineFault}
 use Rattle.net_dimacs.specs.declared.problem_fault.LineFault.TheVariants.{TooLarge}
 use Rattle.net_dimacs.specs.declared.problem_fault.LineFault.TheVariants as line_faults
-use Rattle.net_dimacs.specs.declared.problem_fault.Refusal.{Refusal}
+use Rattle.net_dimacs.specs.declared.problem_fault.Rejection.{Rejection}
 use Rattle.net_dimacs.specs.declared.problem_fault.ProblemFault.{ProblemFault}
 use Rattle.net_dimacs.specs.declared.problem_fault.ProblemFault.TheVariants as faults
 use Rattle.net_dimacs.specs.Limits.{text_limit}
-use Rattle.net_dimacs.specs.Reading.{OnRefused}
+use Rattle.net_dimacs.specs.Reading.{OnRejected}
 use Rattle.net_dimacs.specs.Claims.{claimed}
 use Rattle.net_dimacs.specs.Certificates.{Account, Optimal, Cut, account_of}
 
@@ -72,56 +72,56 @@ next_claim nodes arcs account claim = Err line_faults.Certificate
 pub data Progress : Type 0 where
   Start : Progress
   Open : Account → Progress
-  Refused : Refusal → Progress
+  Rejected : Rejection → Progress
 
 abbrev pub kept : ℕ → Result Account LineFault → Progress
 kept line (Ok account) = Open account
-kept line (Err fault) = Refused (record { fault = fault; line = line })
+kept line (Err fault) = Rejected (record { fault = fault; line = line })
 
 abbrev pub with_claim : ℕ → List FlowArc → ℕ → Progress → Claim → Progress
 with_claim nodes arcs line Start claim = kept line (first_claim claim)
 with_claim nodes arcs line (Open account) claim = kept line (next_claim nodes arcs account claim)
-with_claim nodes arcs line (Refused r) claim = Refused r
+with_claim nodes arcs line (Rejected r) claim = Rejected r
 
 abbrev pub with_claimed : ℕ → List FlowArc → ℕ → Progress → Option Claim → Progress
 with_claimed nodes arcs line progress None = progress
 with_claimed nodes arcs line progress (Some claim) = with_claim nodes arcs line progress claim
 
 -- a line is missing at the end of the file; `line` is the number of the line after the last
-abbrev pub missing : ℕ → Result Account Refusal
+abbrev pub missing : ℕ → Result Account Rejection
 missing line = Err (record { fault = line_faults.Certificate; line = line })
 
 -- nodes without a line are not in the set
-abbrev pub completed : ℕ → List FlowArc → ℕ → Account → Result Account Refusal
+abbrev pub completed : ℕ → List FlowArc → ℕ → Account → Result Account Rejection
 completed nodes arcs line (Optimal value flows potentials) = if length flows == length arcs && length potentials == nodes then Ok (Optimal value flows potentials) else missing line
 completed nodes arcs line (Cut flags side) = Ok (Cut (flags ++ replicate (nodes - length flags) false) side)
 
-abbrev pub finished : ℕ → List FlowArc → ℕ → Progress → Result Account Refusal
+abbrev pub finished : ℕ → List FlowArc → ℕ → Progress → Result Account Rejection
 finished nodes arcs line Start = missing line
 finished nodes arcs line (Open account) = completed nodes arcs line account
-finished nodes arcs line (Refused r) = Err r
+finished nodes arcs line (Rejected r) = Err r
 
 -- reads the lines, of which the first has this number
-abbrev pub read_lines : ℕ → List FlowArc → ℕ → Progress → List (List ℕ) → Result Account Refusal
+abbrev pub read_lines : ℕ → List FlowArc → ℕ → Progress → List (List ℕ) → Result Account Rejection
 read_lines nodes arcs number progress [] = finished nodes arcs number progress
 read_lines nodes arcs number progress (line ∷ more) = read_lines nodes arcs (number + 1) (with_claimed nodes arcs number progress (claimed line)) more
 
 -- the certificate of a file, or its first error
-abbrev pub read_text : ℕ → List FlowArc → List ℕ → Result Account Refusal
+abbrev pub read_text : ℕ → List FlowArc → List ℕ → Result Account Rejection
 read_text nodes arcs text = if nat_lt text_limit (length text) then Err (record { fault = TooLarge; line = 1 }) else read_lines nodes arcs 1 Start (lines text)
 
 -- ---- the result of a reader
 
-abbrev pub Fails : Result Account Refusal → ProblemFault → Type 0
+abbrev pub Fails : Result Account Rejection → ProblemFault → Type 0
 Fails read faults.OutOfMemory = Unit {0}
-Fails read (faults.Refused refusal) = read ≡ Err refusal
+Fails read (faults.Rejected rejection) = read ≡ Err rejection
 
 -- the result is the certificate or the error that the definition gives, unless memory ran out
-abbrev pub Gives : Result Account Refusal → Result certificates.Certificate ProblemFault → Type 0
+abbrev pub Gives : Result Account Rejection → Result certificates.Certificate ProblemFault → Type 0
 Gives read (Ok certificate) = read ≡ Ok (account_of certificate)
 Gives read (Err e) = Fails read e
 
 -- P holds for the error, if the result is one
-abbrev pub IfRefused : Result certificates.Certificate ProblemFault → (Refusal → Type 0) → Type 0
-IfRefused (Ok certificate) P = Unit {0}
-IfRefused (Err fault) P = OnRefused fault P
+abbrev pub IfRejected : Result certificates.Certificate ProblemFault → (Rejection → Type 0) → Type 0
+IfRejected (Ok certificate) P = Unit {0}
+IfRejected (Err fault) P = OnRejected fault P

@@ -8,7 +8,7 @@ use Rattle.net_dimacs.specs.declared.line_stop.LineStop.{LineStop}
 use Rattle.net_dimacs.specs.declared.line_stop.LineStop.TheVariants as line_stops
 use Rattle.net_dimacs.specs.declared.progress.Progress.{Progress}
 use Rattle.net_dimacs.specs.declared.progress.Progress.TheVariants as progresses
-use Rattle.net_dimacs.specs.Reading.{Sketch, State, Start, Open, Refused}
+use Rattle.net_dimacs.specs.Reading.{Sketch, State, Start, Open, Rejected}
 use Rattle.net_dimacs.specs.Problems.{BeginsProblem}
 
 abbrev pub sketch_of : Draft → Sketch
@@ -32,7 +32,7 @@ GivesSketch read (Err fault) next = read ≡ Err fault
 abbrev pub state_of : Progress → State
 state_of progresses.Start = Start
 state_of (progresses.Open d) = Open (sketch_of d)
-state_of (progresses.Refused refusal) = Refused refusal
+state_of (progresses.Rejected rejection) = Rejected rejection
 
 -- the state after the first statement; memory can run out only at an accepted `p` line
 abbrev pub GivesState : State → Statement → Result Progress AllocError → Type 0

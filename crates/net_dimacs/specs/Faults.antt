@@ -4,8 +4,8 @@ use Rattle.std.specs.Prelude.{ℕ, List, ◌++◌, codes}
 use Rattle.std.specs.Fmt.{decimal}
 use Rattle.net_dimacs.specs.declared.problem_fault.LineFault.{LineFault}
 use Rattle.net_dimacs.specs.declared.problem_fault.ProblemFault.{ProblemFault}
-use Rattle.net_dimacs.specs.declared.problem_fault.ProblemFault.TheVariants.{OutOfMemory, Refused}
-use Rattle.net_dimacs.specs.declared.problem_fault.Refusal.{Refusal}
+use Rattle.net_dimacs.specs.declared.problem_fault.ProblemFault.TheVariants.{OutOfMemory, Rejected}
+use Rattle.net_dimacs.specs.declared.problem_fault.Rejection.{Rejection}
 use Rattle.net_dimacs.specs.declared.problem_fault.LineFault.TheVariants.{BadLine, NoProblemLine, LineOrder, NodeNumber, DoubleNode, Count, Bounds, TooLarge, Certificate}
 
 abbrev pub number_of : LineFault → ℕ
@@ -35,9 +35,9 @@ abbrev pub line_fault_text : LineFault → List ℕ
 line_fault_text fault = codes "E" ++ (decimal (number_of fault) ++ (codes " " ++ name_of fault))
 
 -- as `E76 Bounds problem 2`: number, name, the word `problem`, line number
-abbrev pub refusal_text : Refusal → List ℕ
-refusal_text r = line_fault_text r.fault ++ (codes " problem " ++ decimal r.line)
+abbrev pub rejection_text : Rejection → List ℕ
+rejection_text r = line_fault_text r.fault ++ (codes " problem " ++ decimal r.line)
 
 abbrev pub problem_fault_text : ProblemFault → List ℕ
 problem_fault_text OutOfMemory = codes "out of memory"
-problem_fault_text (Refused r) = refusal_text r
+problem_fault_text (Rejected r) = rejection_text r

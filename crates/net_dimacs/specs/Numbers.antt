@@ -84,12 +84,12 @@ kind_of field =
     else kinds.Other
 
 abbrev pub or_other : Option Statement → Statement
-or_other said = unwrap_or said statements.Other
+or_other line_statement = unwrap_or line_statement statements.Other
 
 -- the statement of a line of this kind, from the fields after the first
-abbrev pub said_by_kind : Kind → List (List ℕ) → Option Statement
-said_by_kind kinds.Comment fields = None
-said_by_kind kinds.Problem fields = Some (or_other (problem_in fields))
-said_by_kind kinds.Node fields = Some (or_other (node_in (map cut_number fields)))
-said_by_kind kinds.Arc fields = Some (or_other (arc_in (map cut_number fields)))
-said_by_kind kinds.Other fields = Some statements.Other
+abbrev pub statement_of_kind : Kind → List (List ℕ) → Option Statement
+statement_of_kind kinds.Comment fields = None
+statement_of_kind kinds.Problem fields = Some (or_other (problem_in fields))
+statement_of_kind kinds.Node fields = Some (or_other (node_in (map cut_number fields)))
+statement_of_kind kinds.Arc fields = Some (or_other (arc_in (map cut_number fields)))
+statement_of_kind kinds.Other fields = Some statements.Other

@@ -7,12 +7,12 @@ use Rattle.net_dimacs.specs.Limits.{open_field_limit}
 use Rattle.net_dimacs.specs.Lines.{is_blank, is_feed, is_text, HasNone}
 use Rattle.net_dimacs.specs.Numbers.{cut_statement, cut_number, kind_of}
 use Rattle.net_dimacs.specs.Numerals.{size_of}
-use Rattle.net_dimacs.specs.Reading.{said}
+use Rattle.net_dimacs.specs.Reading.{line_statement}
 use Rattle.net_dimacs.specs.declared.statement.Kind.{Kind}
 
 -- with any continuation, both prefixes give a line with the same meaning
-abbrev pub IsSaidAlike : List ℕ → List ℕ → Type 0
-IsSaidAlike front line = (more : List ℕ) → option_map cut_statement (said (front ++ more)) ≡ option_map cut_statement (said (line ++ more))
+abbrev pub IsSameStatement : List ℕ → List ℕ → Type 0
+IsSameStatement front line = (more : List ℕ) → option_map cut_statement (line_statement (front ++ more)) ≡ option_map cut_statement (line_statement (line ++ more))
 
 -- all that the reader uses of a field: the kind of line that it indicates, whether it is `min`, and
 -- its saturated number

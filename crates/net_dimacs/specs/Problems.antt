@@ -6,11 +6,11 @@ use Rattle.net_normal.specs.Limits.{IsWithinLimits}
 use Rattle.net_normal.specs.declared.problem.FlowArc.{FlowArc}
 use Rattle.net_dimacs.specs.declared.statement.Statement.{Statement}
 use Rattle.net_dimacs.specs.declared.statement.Statement.TheVariants.{Problem, Node, Arc}
-use Rattle.net_dimacs.specs.Reading.{said, new_sketch}
+use Rattle.net_dimacs.specs.Reading.{line_statement, new_sketch}
 
 -- the meaning of all lines except blank lines and comments
 abbrev pub statements_of : List ℕ → List Statement
-statements_of text = filter_map said (lines text)
+statements_of text = filter_map line_statement (lines text)
 
 -- the first of these statements can begin a problem: a `p` line with counts within the limits
 abbrev pub BeginsProblem : List Statement → Type 0

@@ -13,23 +13,23 @@ use Rattle.net_dimacs.specs.declared.statement.Statement.{Statement}
 use Rattle.net_dimacs.specs.declared.statement.Statement.TheVariants as statements
 use Rattle.net_dimacs.specs.declared.problem_fault.LineFault.{LineFault}
 use Rattle.net_dimacs.specs.declared.problem_fault.LineFault.TheVariants.{BadLine, NoProblemLine, LineOrder, NodeNumber, DoubleNode, Count, Bounds, TooLarge}
-use Rattle.net_dimacs.specs.declared.problem_fault.Refusal.{Refusal}
+use Rattle.net_dimacs.specs.declared.problem_fault.Rejection.{Rejection}
 use Rattle.net_dimacs.specs.declared.problem_fault.ProblemFault.{ProblemFault}
 use Rattle.net_dimacs.specs.declared.problem_fault.ProblemFault.TheVariants as faults
 
 -- ---- the meaning of a line
 
 -- the three kinds of lines; blank lines and comments have no meaning
-abbrev pub said_by : List Word → Option Statement
-said_by [] = None
-said_by (Comment ∷ words) = None
-said_by (Problem ∷ Min ∷ Number nodes ∷ Number arcs ∷ []) = Some (statements.Problem nodes arcs)
-said_by (Node ∷ Number node ∷ Number supply ∷ []) = Some (statements.Node node supply)
-said_by (Arc ∷ Number src ∷ Number dst ∷ Number low ∷ Number cap ∷ Number cost ∷ []) = Some (statements.Arc src dst low cap cost)
-said_by words = Some statements.Other
+abbrev pub statement_of : List Word → Option Statement
+statement_of [] = None
+statement_of (Comment ∷ words) = None
+statement_of (Problem ∷ Min ∷ Number nodes ∷ Number arcs ∷ []) = Some (statements.Problem nodes arcs)
+statement_of (Node ∷ Number node ∷ Number supply ∷ []) = Some (statements.Node node supply)
+statement_of (Arc ∷ Number src ∷ Number dst ∷ Number low ∷ Number cap ∷ Number cost ∷ []) = Some (statements.Arc src dst low cap cost)
+statement_of words = Some statements.Other
 
-abbrev pub said : List ℕ → Option Statement
-said line = said_by (map word_of (fields_of line))
+abbrev pub line_statement : List ℕ → Option Statement
+line_statement line = statement_of (map word_of (fields_of line))
 
 -- ---- the state after some lines
 
@@ -93,21 +93,21 @@ with_arc d src dst low cap cost =
 pub data State : Type 0 where
   Start : State
   Open : Sketch → State
-  Refused : Refusal → State
+  Rejected : Rejection → State
 
-abbrev pub refused : ℕ → LineFault → State
-refused line fault = Refused (record { fault = fault; line = line })
+abbrev pub rejected : ℕ → LineFault → State
+rejected line fault = Rejected (record { fault = fault; line = line })
 
 abbrev pub kept : ℕ → Result Sketch LineFault → State
 kept line (Ok d) = Open d
-kept line (Err fault) = refused line fault
+kept line (Err fault) = rejected line fault
 
 -- the state after the first line with a meaning
 abbrev pub new_state : ℕ → Statement → State
 new_state line (statements.Problem nodes arcs) = kept line (new_sketch nodes arcs)
-new_state line (statements.Node node supply) = refused line NoProblemLine
-new_state line (statements.Arc src dst low cap cost) = refused line NoProblemLine
-new_state line statements.Other = refused line BadLine
+new_state line (statements.Node node supply) = rejected line NoProblemLine
+new_state line (statements.Arc src dst low cap cost) = rejected line NoProblemLine
+new_state line statements.Other = rejected line BadLine
 
 -- a line after the `p` line
 abbrev pub next_sketch : Sketch → Statement → Result Sketch LineFault
@@ -119,11 +119,11 @@ next_sketch d statements.Other = Err BadLine
 abbrev pub with_statement : ℕ → State → Statement → State
 with_statement line Start statement = new_state line statement
 with_statement line (Open d) statement = kept line (next_sketch d statement)
-with_statement line (Refused r) statement = Refused r
+with_statement line (Rejected r) statement = Rejected r
 
-abbrev pub with_said : ℕ → State → Option Statement → State
-with_said line state None = state
-with_said line state (Some statement) = with_statement line state statement
+abbrev pub with_optional_statement : ℕ → State → Option Statement → State
+with_optional_statement line state None = state
+with_optional_statement line state (Some statement) = with_statement line state statement
 
 -- ---- a whole file
 
@@ -131,36 +131,36 @@ abbrev pub Numbers : Type 0
 Numbers = List ℤ × List FlowArc
 
 -- at the end of the file; `line` is the number of the line after the last
-abbrev pub finished : ℕ → State → Result Numbers Refusal
+abbrev pub finished : ℕ → State → Result Numbers Rejection
 finished line Start = Err (record { fault = NoProblemLine; line = line })
 finished line (Open d) = if nat_lt (length d.arcs) d.arc_count then Err (record { fault = Count; line = line }) else Ok (d.supplies, d.arcs)
-finished line (Refused r) = Err r
+finished line (Rejected r) = Err r
 
 -- reads the lines, of which the first has this number
-abbrev pub read_lines : ℕ → State → List (List ℕ) → Result Numbers Refusal
+abbrev pub read_lines : ℕ → State → List (List ℕ) → Result Numbers Rejection
 read_lines number state [] = finished number state
-read_lines number state (line ∷ more) = read_lines (number + 1) (with_said number state (said line)) more
+read_lines number state (line ∷ more) = read_lines (number + 1) (with_optional_statement number state (line_statement line)) more
 
 -- the problem of a file, or its first error
-abbrev pub read_text : List ℕ → Result Numbers Refusal
+abbrev pub read_text : List ℕ → Result Numbers Rejection
 read_text text = if nat_lt text_limit (length text) then Err (record { fault = TooLarge; line = 1 }) else read_lines 1 Start (lines text)
 
 -- ---- the result of a reader
 
-abbrev pub Fails : Result Numbers Refusal → ProblemFault → Type 0
+abbrev pub Fails : Result Numbers Rejection → ProblemFault → Type 0
 Fails read faults.OutOfMemory = Unit {0}
-Fails read (faults.Refused refusal) = read ≡ Err refusal
+Fails read (faults.Rejected rejection) = read ≡ Err rejection
 
 -- the result is the problem or the error that the definition gives, unless memory ran out
-abbrev pub Gives : Result Numbers Refusal → Result problems.Problem ProblemFault → Type 0
+abbrev pub Gives : Result Numbers Rejection → Result problems.Problem ProblemFault → Type 0
 Gives read (Ok problem) = read ≡ Ok (problem.supplies.items, problem.arcs.items)
 Gives read (Err e) = Fails read e
 
 -- P holds for the error, unless memory ran out
-abbrev pub OnRefused : ProblemFault → (Refusal → Type 0) → Type 0
-OnRefused faults.OutOfMemory P = Unit {0}
-OnRefused (faults.Refused refusal) P = P refusal
+abbrev pub OnRejected : ProblemFault → (Rejection → Type 0) → Type 0
+OnRejected faults.OutOfMemory P = Unit {0}
+OnRejected (faults.Rejected rejection) P = P rejection
 
-abbrev pub IfRefused : Result problems.Problem ProblemFault → (Refusal → Type 0) → Type 0
-IfRefused (Ok problem) P = Unit {0}
-IfRefused (Err fault) P = OnRefused fault P
+abbrev pub IfRejected : Result problems.Problem ProblemFault → (Rejection → Type 0) → Type 0
+IfRejected (Ok problem) P = Unit {0}
+IfRejected (Err fault) P = OnRejected fault P

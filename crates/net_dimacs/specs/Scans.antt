@@ -1,7 +1,7 @@
 -- The state of the reader of a DIMACS file that arrives in pieces.
 use Rattle.std.specs.Prelude.{◌≡◌, ℕ, ◌≤◌, ◌-◌, ◌^◌, min, List, ◌++◌, length, Result}
 use Rattle.std.specs.Str.Lines.{lines}
-use Rattle.net_dimacs.specs.declared.problem_fault.Refusal.{Refusal}
+use Rattle.net_dimacs.specs.declared.problem_fault.Rejection.{Rejection}
 use Rattle.net_dimacs.specs.declared.scan.Scan.{Scan}
 use Rattle.net_dimacs.specs.declared.reading.Reading.{Reading}
 use Rattle.net_dimacs.specs.Limits.{text_limit}
@@ -9,7 +9,7 @@ use Rattle.net_dimacs.specs.Reading.{Start, Numbers, read_lines}
 use Rattle.net_dimacs.specs.Drafts.{state_of}
 
 -- the result of reading these lines next
-abbrev pub reads : Scan → List (List ℕ) → Result Numbers Refusal
+abbrev pub reads : Scan → List (List ℕ) → Result Numbers Rejection
 reads scan more = read_lines scan.line (state_of scan.progress) more
 
 -- with any continuation, both prefixes lead to the same result

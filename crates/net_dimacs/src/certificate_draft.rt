@@ -30,7 +30,7 @@ pub fn with_claim(
     };
     match next {
         Ok(certificate) => Ok(certificate),
-        Err(LineStop::Line(fault)) => Err(ProblemFault::refused(fault, line)),
+        Err(LineStop::Line(fault)) => Err(ProblemFault::rejected(fault, line)),
         Err(LineStop::OutOfMemory) => Err(ProblemFault::OutOfMemory),
     }
 }
@@ -53,7 +53,7 @@ pub fn completed(
             potentials,
         } => {
             if flows.len() != problem.arcs.len() || potentials.len() != problem.supplies.len() {
-                return Err(ProblemFault::refused(LineFault::Certificate, line));
+                return Err(ProblemFault::rejected(LineFault::Certificate, line));
             }
             Ok(Certificate::Optimal {
                 value,

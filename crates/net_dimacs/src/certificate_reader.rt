@@ -5,7 +5,7 @@ ghost use Rattle.std.specs.Str.Lines.{lines};
 ghost use Rattle.net_check.specs.Certificates.{HasShape};
 ghost use Rattle.net_dimacs.specs.Limits.{text_limit};
 ghost use Rattle.net_dimacs.specs.Certificates.{account_of, claims_of, BeginsCertificate, IsCertificateText, IsOnlyCertificate, IsNoCertificateText};
-ghost use Rattle.net_dimacs.specs.CertificateReading.{read_text, Gives, IfRefused};
+ghost use Rattle.net_dimacs.specs.CertificateReading.{read_text, Gives, IfRejected};
 
 use crate::certificate_draft::{completed, with_claim};
 use crate::claim::claim_of;
@@ -41,9 +41,9 @@ pub fn read_certificate(
     ensures shape { IfOk result (λ certificate. HasShape problem.now certificate) }
 
     // A file is rejected only if it contains no certificate of the problem or exceeds the limit.
-    ensures refused { IfRefused result (λ _.
+    ensures rejected { IfRejected result (λ _.
         (text_limit < length text.now) ⊎ IsNoCertificateText text.now (length problem.now.supplies.items) problem.now.arcs.items) }
-    ensures place { IfRefused result (λ refusal. (1 ≤ refusal.line) × (refusal.line ≤ length (lines text.now) + 1)) }
+    ensures place { IfRejected result (λ rejection. (1 ≤ rejection.line) × (rejection.line ≤ length (lines text.now) + 1)) }
 
     // Memory is allocated only after a first line that can begin a certificate.
     ensures memory { IsErrOf result ProblemFault.OutOfMemory →
@@ -62,7 +62,7 @@ fn read_whole_certificate(
         (length text.now ≤ text_limit) × BeginsCertificate (claims_of text.now) }
 {
     if text.len() > TEXT_LIMIT {
-        return Err(ProblemFault::refused(LineFault::TooLarge, 1));
+        return Err(ProblemFault::rejected(LineFault::TooLarge, 1));
     }
     let mut certificate = None;
     let mut number = 1usize;
@@ -78,7 +78,7 @@ fn read_whole_certificate(
         rest = after;
     }
     match certificate {
-        None => Err(ProblemFault::refused(LineFault::Certificate, number)),
+        None => Err(ProblemFault::rejected(LineFault::Certificate, number)),
         Some(certificate) => completed(problem, number, certificate),
     }
 }

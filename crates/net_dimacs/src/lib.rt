@@ -28,7 +28,7 @@ pub use certificate_writer::write_certificate;
 pub use laws::written_texts_are_read_back;
 pub use limits::TEXT_LIMIT;
 pub use net_io::{Failed, MemorySink, MemorySource, OfRead, OfWrite, Sink, Source};
-pub use problem_fault::{LineFault, ProblemFault, Refusal};
+pub use problem_fault::{LineFault, ProblemFault, Rejection};
 pub use problem_reader::read_problem;
 pub use problem_writer::{write_problem, write_problem_to};
 pub use reading::Reading;

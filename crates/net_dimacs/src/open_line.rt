@@ -4,7 +4,7 @@ ghost use Rattle.std.specs.Prelude.{◌≡◌, ◌+◌, ◌<◌, ◌≤◌, ◌+
 ghost use Rattle.arrayvec.specs.ArrayVec.{array_vec_len};
 ghost use Rattle.net_dimacs.specs.Limits.{open_line_limit};
 ghost use Rattle.net_dimacs.specs.Lines.{is_feed, HasNone};
-ghost use Rattle.net_dimacs.specs.OpenLines.{IsSaidAlike, short_field, short_long_field, short_number};
+ghost use Rattle.net_dimacs.specs.OpenLines.{IsSameStatement, short_field, short_long_field, short_number};
 ghost use Rattle.net_dimacs.specs.Scans.{IsReadAlike};
 
 use crate::fields::split_field;
@@ -52,7 +52,7 @@ pub fn shorten(pending: &mut Vec<u8>) -> Result<(), AllocError>
 /// Returns a shortened line: the fields that determine its meaning, each shortened.
 fn front_of(line: &[u8]) -> Front
     requires { HasNone is_feed line.now }
-    ensures alike { IsSaidAlike result.items line.now }
+    ensures alike { IsSameStatement result.items line.now }
     ensures few { array_vec_len result < open_line_limit }
     ensures no_feed { HasNone is_feed result.items }
 {

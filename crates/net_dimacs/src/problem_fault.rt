@@ -84,17 +84,17 @@ impl fmt::Display for LineFault {
 
 /// An error and its line.
 #[derive(Clone, Copy, Debug, PartialEq, Eq, Error)]
-pub struct Refusal {
+pub struct Rejection {
     pub fault: LineFault,
     /// The number of the line, from 1. For a missing line, the number of the line after the last.
     pub line: usize,
 }
 
-impl fmt::Display for Refusal {
+impl fmt::Display for Rejection {
     ghost use Rattle.std.specs.Prelude.{Some};
-    ghost use Rattle.net_dimacs.specs.Faults.{refusal_text};
+    ghost use Rattle.net_dimacs.specs.Faults.{rejection_text};
 
-    ghost output = { λ refusal. Some (refusal_text refusal) };
+    ghost output = { λ rejection. Some (rejection_text rejection) };
 
     /// Prints the error in the form `E76 Bounds problem 2`. For other files than problems, the
     /// caller prints the name of the input.
@@ -111,15 +111,15 @@ pub enum ProblemFault {
     /// Allocation failed.
     OutOfMemory,
     /// The file is not a valid problem, or not a valid certificate of its problem: its first error.
-    Refused(Refusal),
+    Rejected(Rejection),
 }
 
 impl ProblemFault {
     /// Builds the error of a line.
-    pub(crate) fn refused(fault: LineFault, line: usize) -> ProblemFault
-        ensures { result ≡ ProblemFault.Refused (record { fault = fault; line = line }) }
+    pub(crate) fn rejected(fault: LineFault, line: usize) -> ProblemFault
+        ensures { result ≡ ProblemFault.Rejected (record { fault = fault; line = line }) }
     {
-        ProblemFault::Refused(Refusal { fault, line })
+        ProblemFault::Rejected(Rejection { fault, line })
     }
 }
 
@@ -133,7 +133,7 @@ impl fmt::Display for ProblemFault {
     fn fmt<W: fmt::Write>(&self, f: &mut fmt::Formatter<W>) -> fmt::Result {
         match self {
             ProblemFault::OutOfMemory => f.write_str("out of memory"),
-            ProblemFault::Refused(refusal) => write!(f, "{refusal}"),
+            ProblemFault::Rejected(rejection) => write!(f, "{rejection}"),
         }
     }
 }

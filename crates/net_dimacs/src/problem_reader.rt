@@ -3,7 +3,7 @@
 ghost use Rattle.std.specs.Prelude.{◌≡◌, ◌+◌, ◌<◌, ◌≤◌, ◌⊎◌, length, IfOk, IsErrOf};
 ghost use Rattle.std.specs.Str.Lines.{lines};
 ghost use Rattle.net_dimacs.specs.Limits.{text_limit};
-ghost use Rattle.net_dimacs.specs.Reading.{read_text, Gives, IfRefused};
+ghost use Rattle.net_dimacs.specs.Reading.{read_text, Gives, IfRejected};
 ghost use Rattle.net_dimacs.specs.Problems.{BeginsProblem, statements_of, IsProblemText, IsOnlyProblem, IsNoProblemText};
 
 use crate::limits::TEXT_LIMIT;
@@ -25,8 +25,8 @@ pub fn read_problem(alloc: Global, text: &[u8]) -> Result<Problem, ProblemFault>
     ensures only { IfOk result (λ problem. IsOnlyProblem text.now problem.supplies.items problem.arcs.items) }
 
     // A file is rejected only if it contains no problem or exceeds the limit.
-    ensures refused { IfRefused result (λ _. (text_limit < length text.now) ⊎ IsNoProblemText text.now) }
-    ensures place { IfRefused result (λ refusal. (1 ≤ refusal.line) × (refusal.line ≤ length (lines text.now) + 1)) }
+    ensures rejected { IfRejected result (λ _. (text_limit < length text.now) ⊎ IsNoProblemText text.now) }
+    ensures place { IfRejected result (λ rejection. (1 ≤ rejection.line) × (rejection.line ≤ length (lines text.now) + 1)) }
 
     // Memory is allocated only after a `p` line with counts within the limits, before which there
     // are only blank lines and comments.
@@ -42,7 +42,7 @@ fn read_whole(alloc: Global, text: &[u8]) -> Result<Problem, ProblemFault>
         (length text.now ≤ text_limit) × BeginsProblem (statements_of text.now) }
 {
     if text.len() > TEXT_LIMIT {
-        return Err(ProblemFault::refused(LineFault::TooLarge, 1));
+        return Err(ProblemFault::rejected(LineFault::TooLarge, 1));
     }
     Scan::new().ended(alloc, text)
 }

@@ -4,7 +4,7 @@ ghost use Rattle.std.specs.Prelude.{◌≡◌, OnOk, OnErr, IsErrOf, option_to_l
 
 use crate::draft::Draft;
 use crate::line_stop::LineStop;
-use crate::problem_fault::{LineFault, ProblemFault, Refusal};
+use crate::problem_fault::{LineFault, ProblemFault, Rejection};
 use crate::statement::Statement;
 use net_normal::Problem;
 use std::alloc::{AllocError, Global};
@@ -17,11 +17,11 @@ pub enum Progress {
     /// A partial problem.
     Open(Draft),
     /// The first error.
-    Refused(Refusal),
+    Rejected(Rejection),
 }
 
 impl Progress {
-    ghost use Rattle.net_dimacs.specs.Reading.{with_said, new_state, finished, Start, Gives};
+    ghost use Rattle.net_dimacs.specs.Reading.{with_optional_statement, new_state, finished, Start, Gives};
     ghost use Rattle.net_dimacs.specs.Problems.{BeginsProblem};
     ghost use Rattle.net_dimacs.specs.Drafts.{state_of, GivesState};
 
@@ -31,20 +31,20 @@ impl Progress {
         &mut self,
         alloc: Global,
         line: usize,
-        said: Option<Statement>,
+        line_statement: Option<Statement>,
     ) -> Result<(), AllocError>
-        ensures ok { OnOk result (state_of self.new ≡ with_said line (state_of self.old) said) }
-        ensures err { OnErr result ((state_of self.old ≡ Start) × BeginsProblem (option_to_list said)) }
+        ensures ok { OnOk result (state_of self.new ≡ with_optional_statement line (state_of self.old) line_statement) }
+        ensures err { OnErr result ((state_of self.old ≡ Start) × BeginsProblem (option_to_list line_statement)) }
     {
-        let Some(statement) = said else {
+        let Some(statement) = line_statement else {
             return Ok(());
         };
         match self {
-            Progress::Refused(_) => {}
+            Progress::Rejected(_) => {}
             Progress::Start => *self = Progress::begun(alloc, line, statement)?,
             Progress::Open(draft) => {
                 if let Err(fault) = draft.take(statement) {
-                    *self = Progress::Refused(Refusal { fault, line });
+                    *self = Progress::Rejected(Rejection { fault, line });
                 }
             }
         }
@@ -62,7 +62,7 @@ impl Progress {
         };
         match draft {
             Ok(draft) => Ok(Progress::Open(draft)),
-            Err(LineStop::Line(fault)) => Ok(Progress::Refused(Refusal { fault, line })),
+            Err(LineStop::Line(fault)) => Ok(Progress::Rejected(Rejection { fault, line })),
             Err(LineStop::OutOfMemory) => Err(AllocError),
         }
     }
@@ -74,11 +74,11 @@ impl Progress {
         ensures memory { IsErrOf result ProblemFault.OutOfMemory → ⊥ }
     {
         match self {
-            Progress::Start => Err(ProblemFault::refused(LineFault::NoProblemLine, line)),
-            Progress::Refused(refusal) => Err(ProblemFault::Refused(refusal)),
+            Progress::Start => Err(ProblemFault::rejected(LineFault::NoProblemLine, line)),
+            Progress::Rejected(rejection) => Err(ProblemFault::Rejected(rejection)),
             Progress::Open(draft) => {
                 if draft.arcs.len() < draft.arc_count {
-                    return Err(ProblemFault::refused(LineFault::Count, line));
+                    return Err(ProblemFault::rejected(LineFault::Count, line));
                 }
                 Ok(draft.problem())
             }

@@ -34,7 +34,7 @@ impl Reading {
     ghost use Rattle.std.specs.Str.Lines.{lines};
     ghost use Rattle.net_dimacs.specs.Limits.{text_limit};
     ghost use Rattle.net_dimacs.specs.Problems.{IsProblemText, IsOnlyProblem, IsNoProblemText};
-    ghost use Rattle.net_dimacs.specs.Reading.{read_text, Gives, IfRefused};
+    ghost use Rattle.net_dimacs.specs.Reading.{read_text, Gives, IfRejected};
     ghost use Rattle.net_dimacs.specs.Scans.{Stands};
 
     /// Creates the state before the first byte. Allocates no memory.
@@ -86,10 +86,10 @@ impl Reading {
             IfOk result (λ problem. IsOnlyProblem text problem.supplies.items problem.arcs.items) }
 
         // A file is rejected only if it contains no problem or exceeds the limit.
-        ensures refused { (text : List ℕ) → Stands self text →
-            IfRefused result (λ _. (text_limit < length text) ⊎ IsNoProblemText text) }
+        ensures rejected { (text : List ℕ) → Stands self text →
+            IfRejected result (λ _. (text_limit < length text) ⊎ IsNoProblemText text) }
         ensures place { (text : List ℕ) → Stands self text →
-            IfRefused result (λ refusal. (1 ≤ refusal.line) × (refusal.line ≤ length (lines text) + 1)) }
+            IfRejected result (λ rejection. (1 ≤ rejection.line) × (rejection.line ≤ length (lines text) + 1)) }
     {
         self.read_out()
     }
@@ -98,7 +98,7 @@ impl Reading {
         ensures { (text : List ℕ) → Stands self text → Gives (read_text text) result }
     {
         if self.length > TEXT_LIMIT {
-            return Err(ProblemFault::refused(LineFault::TooLarge, 1));
+            return Err(ProblemFault::rejected(LineFault::TooLarge, 1));
         }
         self.scan.ended(self.alloc, &self.pending)
     }

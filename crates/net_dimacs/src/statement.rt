@@ -3,8 +3,8 @@
 ghost use Rattle.std.specs.Prelude.{◌≡◌};
 ghost use Rattle.std.specs.Option.{option_map};
 ghost use Rattle.net_dimacs.specs.Lines.{fields_of};
-ghost use Rattle.net_dimacs.specs.Reading.{said};
-ghost use Rattle.net_dimacs.specs.Numbers.{cut_statement, cut_numbers, two_in, arc_in, node_in, problem_in, kind_of, said_by_kind};
+ghost use Rattle.net_dimacs.specs.Reading.{line_statement};
+ghost use Rattle.net_dimacs.specs.Numbers.{cut_statement, cut_numbers, two_in, arc_in, node_in, problem_in, kind_of, statement_of_kind};
 
 use crate::fields::split_field;
 use crate::number::split_number;
@@ -39,23 +39,23 @@ pub enum Kind {
 
 /// Parses a line. Returns `None` for a blank line and for a comment.
 pub fn statement_of(line: &[u8]) -> Option<Statement>
-    ensures { result ≡ option_map cut_statement (said line.now) }
+    ensures { result ≡ option_map cut_statement (line_statement line.now) }
 {
     let (field, rest) = split_field(line)?;
-    said_by_kind(kind_of(field), rest)
+    statement_of_kind(kind_of(field), rest)
 }
 
-fn said_by_kind(kind: Kind, rest: &[u8]) -> Option<Statement>
-    ensures { result ≡ said_by_kind kind (fields_of rest.now) }
+fn statement_of_kind(kind: Kind, rest: &[u8]) -> Option<Statement>
+    ensures { result ≡ statement_of_kind kind (fields_of rest.now) }
 {
-    let said = match kind {
+    let line_statement = match kind {
         Kind::Comment => return None,
         Kind::Problem => problem_in(rest),
         Kind::Node => node_in(rest),
         Kind::Arc => arc_in(rest),
         Kind::Other => None,
     };
-    Some(said.unwrap_or(Statement::Other))
+    Some(line_statement.unwrap_or(Statement::Other))
 }
 
 fn kind_of(field: &[u8]) -> Kind

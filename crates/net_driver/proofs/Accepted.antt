@@ -18,11 +18,11 @@ use Rattle.net_dimacs.specs.Limits.{text_limit}
 use Rattle.net_dimacs.specs.declared.problem_fault.LineFault.{LineFault}
 use Rattle.net_dimacs.proofs.Lengths.{certificates_short}
 use Rattle.net_driver.specs.Accepted.{AreAnswersAccepted}
-use Rattle.net_driver.specs.Checked.{Judges, IsFirstLineFault, IsLineRefusal}
+use Rattle.net_driver.specs.Checked.{Judges, IsFirstLineFault, IsLineRejection}
 use Rattle.net_driver.specs.LineTexts.{IsProblemOf}
 use Rattle.net_driver.specs.Settled.{Settles}
 use Rattle.net_driver.specs.declared.fault.Fault.{Fault}
-use Rattle.net_driver.specs.declared.fault.Fault.TheVariants.{OutOfMemory, Refused, RefusedLine, Unread, Unwritten}
+use Rattle.net_driver.specs.declared.fault.Fault.TheVariants.{OutOfMemory, Rejected, RejectedLine, Unread, Unwritten}
 use Rattle.net_driver.specs.declared.fault.TextName.{TextName}
 use Rattle.net_driver.specs.declared.fault.TextName.TheVariants as texts
 
@@ -117,15 +117,15 @@ no_fault text answer settled s texts.Certificate fault line (q, k, h) = elim h.n
   | inr none ↦ none (account_of settled) (text_for text answer settled s q k)
 ]
 
-not_refused : (text answer : List ℕ) (settled : Certificate) → Settles text settled answer → (fault : Fault) → IsLineRefusal text answer fault → fault ≡ OutOfMemory
-not_refused text answer settled s OutOfMemory h = refl
-not_refused text answer settled s (Refused r) h = absurd h
-not_refused text answer settled s (RefusedLine r) h = absurd (no_fault text answer settled s r.text r.fault r.line h)
-not_refused text answer settled s (Unread name) h = absurd h
-not_refused text answer settled s Unwritten h = absurd h
+not_rejected : (text answer : List ℕ) (settled : Certificate) → Settles text settled answer → (fault : Fault) → IsLineRejection text answer fault → fault ≡ OutOfMemory
+not_rejected text answer settled s OutOfMemory h = refl
+not_rejected text answer settled s (Rejected r) h = absurd h
+not_rejected text answer settled s (RejectedLine r) h = absurd (no_fault text answer settled s r.text r.fault r.line h)
+not_rejected text answer settled s (Unread name) h = absurd h
+not_rejected text answer settled s Unwritten h = absurd h
 
 pub accepted : AreAnswersAccepted
 accepted text answer settled s = record {
   yes = λ verdict j. j.yes.1 (certifies text answer settled s verdict j);
-  taken = not_refused text answer settled s;
+  taken = not_rejected text answer settled s;
 }

@@ -8,7 +8,7 @@ use Rattle.net_driver.specs.LineTexts.{IsProblemOf}
 use Rattle.net_check.specs.declared.certificate.Certificate.{Certificate}
 use Rattle.net_driver.specs.declared.fault.Fault.{Fault}
 use Rattle.net_driver.specs.declared.fault.Fault.TheVariants as faults
-use Rattle.net_driver.specs.Checked.{IsFirstLineFault, IsLineRefusal, IsCertificateStop}
+use Rattle.net_driver.specs.Checked.{IsFirstLineFault, IsLineRejection, IsCertificateStop}
 use Rattle.net_driver.proofs.Counts.{zip_length}
 
 -- a certificate has its problem's size
@@ -20,10 +20,10 @@ certificate_shape problem (certificates.Optimal value flows potentials) h =
     }
 certificate_shape problem (certificates.Cut flags side) h = h.one_a_node
 
-pub certificate_refusal : (problem_text certificate_text : List ℕ) (problem : Problem) (fault : Fault) → IsProblemOf problem_text problem
-    → IsCertificateStop problem certificate_text fault → IsLineRefusal problem_text certificate_text fault
-certificate_refusal p c problem faults.OutOfMemory read stop = tt
-certificate_refusal p c problem (faults.Refused r) read stop = absurd stop
-certificate_refusal p c problem (faults.RefusedLine r) read stop = subst (λ name. IsFirstLineFault p c name r.fault r.line) (sym stop.0) (problem, read, stop.1)
-certificate_refusal p c problem (faults.Unread name) read stop = absurd stop
-certificate_refusal p c problem faults.Unwritten read stop = absurd stop
+pub certificate_rejection : (problem_text certificate_text : List ℕ) (problem : Problem) (fault : Fault) → IsProblemOf problem_text problem
+    → IsCertificateStop problem certificate_text fault → IsLineRejection problem_text certificate_text fault
+certificate_rejection p c problem faults.OutOfMemory read stop = tt
+certificate_rejection p c problem (faults.Rejected r) read stop = absurd stop
+certificate_rejection p c problem (faults.RejectedLine r) read stop = subst (λ name. IsFirstLineFault p c name r.fault r.line) (sym stop.0) (problem, read, stop.1)
+certificate_rejection p c problem (faults.Unread name) read stop = absurd stop
+certificate_rejection p c problem faults.Unwritten read stop = absurd stop

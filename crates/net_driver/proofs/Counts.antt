@@ -4,7 +4,7 @@ use Rattle.std.specs.List.{AllByRecursion, AllZip, flat_map}
 use Rattle.std.proofs.lemmas.List.{length-map}
 use Rattle.net_tree.specs.Tree.{Declaration}
 use Rattle.net_expr.specs.Worlds.{Name, World}
-use Rattle.net_normal.specs.NormalForm.{numbers_from, supplies_from, is_left_out, flow_arc_of, written_arcs, room_arcs_from, flow_arcs_of}
+use Rattle.net_normal.specs.NormalForm.{numbers_from, supplies_from, is_left_out, flow_arc_of, written_arcs, slack_arcs_from, flow_arcs_of}
 use Rattle.net_normal.specs.declared.instance.Instance.{Instance}
 use Rattle.net_normal.specs.declared.instance.InstArc.{InstArc}
 use Rattle.net_normal.specs.declared.instance.NodeRange.{NodeRange}
@@ -59,5 +59,5 @@ pub flow_arc_count : (p : Profile) (instance : Instance) → length (written_arc
 flow_arc_count p instance =
     let outside = vec_len instance.nodes in
     let own = written_arcs p instance.sense outside instance.arcs.items in
-    let room = room_arcs_from instance.arcs.items outside 0 instance.nodes.items in
+    let room = slack_arcs_from instance.arcs.items outside 0 instance.nodes.items in
     omega (arith, length-append own room)

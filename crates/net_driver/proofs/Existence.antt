@@ -1,13 +1,13 @@
 -- Two texts have a network or a first error.
 use Rattle.std.specs.Prelude.{◌≡◌, ℕ, List, Option, Result, Ok, Err, ◌⊎◌}
 use Rattle.std.proofs.Common.{refl, inl, inr}
-use Rattle.net_fault.specs.declared.finding.Finding.{Finding}
+use Rattle.net_fault.specs.declared.diagnostic.Diagnostic.{Diagnostic}
 use Rattle.net_fault.specs.declared.language.Language.TheVariants as languages
 use Rattle.net_fault.specs.Outcomes.{Outcome, bare}
 use Rattle.net_lex.specs.declared.token.Token.{Token}
 use Rattle.net_lex.specs.Lexing.{AreTokensOf}
 use Rattle.net_tree.specs.Tree.{Declaration}
-use Rattle.net_model.specs.Models.{Decided, model, refused}
+use Rattle.net_model.specs.Models.{Decided, model, rejected}
 use Rattle.net_model.proofs.Deciding as parser
 use Rattle.net_model.proofs.NamedModels.{meant_well_named}
 use Rattle.net_data.specs.declared.parse_error.ParseError.{ParseError as DataStop}
@@ -23,13 +23,13 @@ use Rattle.net_driver.specs.FirstFaults.{IsFirstFault, IsLexed, place_of}
 
 module _ (wanted : Option Name) (m d : List ℕ) where
   abbrev One : Type 0
-  One = ((n : Network) × IsNetworkOf wanted m d n) ⊎ ((finding : Finding) × IsFirstFault wanted m d finding)
+  One = ((n : Network) × IsNetworkOf wanted m d n) ⊎ ((diagnostic : Diagnostic) × IsFirstFault wanted m d diagnostic)
 
   by_network : (ds : List Declaration) (is : IsModel m ds) (tables : Tables) (are : IsData d tables) (w : World) → binding.world ds tables.statements ≡ Ok w
       → (o : Outcome Network) → network wanted w ds ≡ o → One
   by_network ds is tables are w bound (Ok n) h =
       inl (n, record { declarations = ds; model = is; tables = tables; statements = are; network = record { world = w; bound = bound; network = h } })
-  by_network ds is tables are w bound (Err r) h = inr (r, faults.both ds tables r is are (faults.undrawn w r bound h))
+  by_network ds is tables are w bound (Err r) h = inr (r, faults.both ds tables r is are (faults.unbuilt w r bound h))
 
   by_world : (ds : List Declaration) (is : IsModel m ds) (tables : Tables) (are : IsData d tables) (o : Outcome World) → binding.world ds tables.statements ≡ o → One
   by_world ds is tables are (Ok w) h = by_network ds is tables are w h (network wanted w ds) refl
@@ -42,17 +42,17 @@ module _ (wanted : Option Name) (m d : List ℕ) where
       let are : IsData d tables = record { tokens = tokens; read = read; written = sound.mean; full = sound.judged } in
       by_world ds is tables are (binding.world ds tables.statements) refl
   by_tables ds is tokens read (Err s) h =
-      inr (bare languages.Data s.defect (place_of tokens s), faults.statements ds _ is (faults.statement tokens s read h))
+      inr (bare languages.Data s.error_code (place_of tokens s), faults.statements ds _ is (faults.statement tokens s read h))
 
   by_data : (ds : List Declaration) → IsModel m ds → IsLexed languages.Data d → One
   by_data ds is (inl (tokens, read)) = by_tables ds is tokens read (data_reading.tables tokens) refl
-  by_data ds is (inr (defect, at, error)) = inr (bare languages.Data defect at, faults.statements ds _ is (faults.IsDataFault.token defect at error))
+  by_data ds is (inr (error_code, at, error)) = inr (bare languages.Data error_code at, faults.statements ds _ is (faults.IsDataFault.token error_code at error))
 
   by_model : (tokens : List Token) → AreTokensOf languages.Model m tokens → Decided tokens → IsLexed languages.Data d → One
   by_model tokens read (model ds means h) other =
       by_data ds (record { tokens = tokens; read = read; means = means; named = meant_well_named tokens ds h }) other
-  by_model tokens read (refused finding h) other = inr (finding, faults.model finding (faults.grammar tokens finding read h))
+  by_model tokens read (rejected diagnostic h) other = inr (diagnostic, faults.model diagnostic (faults.grammar tokens diagnostic read h))
 
   pub one_of_both : IsLexed languages.Model m → IsLexed languages.Data d → One
   one_of_both (inl (tokens, read)) other = by_model tokens read (parser.decided tokens) other
-  one_of_both (inr (defect, at, error)) other = inr (bare languages.Model defect at, faults.model _ (faults.IsModelFault.token defect at error))
+  one_of_both (inr (error_code, at, error)) other = inr (bare languages.Model error_code at, faults.model _ (faults.IsModelFault.token error_code at error))

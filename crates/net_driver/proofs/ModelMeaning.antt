@@ -20,8 +20,8 @@ use Rattle.net_inst.specs.Soundness.{IsSameArc, IsNamedOnce, HasAssignments, Ass
 use Rattle.net_driver.specs.declared.answer.Outcome.{Outcome}
 use Rattle.net_driver.specs.declared.answer.Outcome.TheVariants.{Displayed, Infeasible}
 use Rattle.net_driver.specs.declared.compiled.Compiled.{Compiled}
-use Rattle.net_driver.specs.Answers.{IsAsGood, IsOutcome, by_arc}
-use Rattle.net_driver.specs.Headline.{Headline}
+use Rattle.net_driver.specs.IsSolved.{IsAsGood, IsOutcome, by_arc}
+use Rattle.net_driver.specs.IsBuilt.{IsBuilt}
 use Rattle.net_driver.specs.Made.{profile_of}
 use Rattle.net_driver.specs.Meaning.{RepresentsModel, CompiledProblemsRepresent, HoldsIn, AnswersSolveModels}
 use Rattle.net_driver.proofs.Answered.{aim_of}
@@ -31,7 +31,7 @@ use Rattle.net_driver.proofs.NamedOnce.{named_once}
 use Rattle.net_driver.proofs.OneNetwork.{one_network}
 
 -- what an accepted model has
-module _ (lean : Bool) (wanted : Option Name) (m d : List ℕ) (c : Compiled) (h : Headline lean wanted m d c) where
+module _ (lean : Bool) (wanted : Option Name) (m d : List ℕ) (c : Compiled) (h : IsBuilt lean wanted m d c) where
   sets_of : HasSets h.world
   sets_of = have_sets h.declarations h.accepts.tables.statements h.world h.accepts.world
 
@@ -68,7 +68,7 @@ by_same (v ∷ xs) (a ∷ all) (y ∷ ys) h n key =
 pub answers_solve : ProblemsRepresent → AssignmentsAreSound → HaveFeasible → HaveObjective → AnswersSolveModels
 answers_solve represent sound fits aims lean wanted m d a h = record { network = network; holds = moved }
   where
-    p : Headline lean wanted m d a.compiled
+    p : IsBuilt lean wanted m d a.compiled
     p = h.compiled
 
     ns : List written.Node
@@ -97,8 +97,8 @@ answers_solve represent sound fits aims lean wanted m d a h = record { network =
     aim : IsObjectiveOf p.objective (seen_as p.made) xs
     aim = aim_of lean wanted m d a.compiled aims p
 
-    worth : (x : meaning.Assignment) → value_of p.made.instance (map (flow_on x) s.has.arcs) ≡ readings.value_of p.objective x
-    worth x = ap (value_of p.made.instance) (flows x) ∙ aim.value apart.arcs x
+    is_value : (x : meaning.Assignment) → value_of p.made.instance (map (flow_on x) s.has.arcs) ≡ readings.value_of p.objective x
+    is_value x = ap (value_of p.made.instance) (flows x) ∙ aim.value apart.arcs x
 
     sense : s.has.objective.sense ≡ p.objective.sense
     sense = s.has.same_sense ∙ aim.sense
@@ -110,11 +110,11 @@ answers_solve represent sound fits aims lean wanted m d a h = record { network =
         record {
           each = k.best.each ∙ zip_length IsSameArc xs s.has.arcs s.has.same_arcs;
           feasible = (feasible x).1 (subst (written.IsFeasible ns xs) (sym same) k.best.feasible);
-          has_value = (s.value x value).1 (sym (worth x ∙ ap (readings.value_of p.objective) same ∙ k.best.is_value));
+          has_value = (s.value x value).1 (sym (is_value x ∙ ap (readings.value_of p.objective) same ∙ k.best.is_value));
           valued = λ y f. (value_of p.made.instance (map (flow_on y) s.has.arcs), (s.value y (value_of p.made.instance (map (flow_on y) s.has.arcs))).1 refl);
           none_better = λ y other f v.
               subst (λ o. IsAsGood o value other) (sym sense)
-              (subst (IsAsGood p.objective.sense value) (sym ((s.value y other).0 v ∙ worth y)) (k.best.none_better y ((feasible y).0 f)));
+              (subst (IsAsGood p.objective.sense value) (sym ((s.value y other).0 v ∙ is_value y)) (k.best.none_better y ((feasible y).0 f)));
         }
     go (Infeasible text flags side) k = λ x f. k.none x ((feasible x).0 f)
 

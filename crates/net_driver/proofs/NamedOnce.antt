@@ -6,7 +6,7 @@ use Rattle.std.proofs.Common.{refl, sym, subst, inl, inr}
 use Rattle.std.proofs.lemmas.Map.Keys.{IsDistinct-cons}
 use Rattle.std.proofs.lemmas.Slice.Eq.{bytes_eq-Decides}
 use Rattle.net_lex.specs.declared.token.Token.{Token}
-use Rattle.net_tree.specs.Items.{lone_name, sides}
+use Rattle.net_tree.specs.Items.{single_name, sides}
 use Rattle.net_tree.specs.Role.{role_of}
 use Rattle.net_tree.specs.Tree.{Tree, tuple, Links, none, link, Braces, empty, filled, Body, plain, valued, priced, Phrase, Declaration, set, param, check, node, arc, objective}
 use Rattle.net_resolve.specs.declared.meaning.Meaning.{Meaning}
@@ -14,10 +14,10 @@ use Rattle.net_resolve.specs.declared.meaning.Meaning.TheVariants as meanings
 use Rattle.net_resolve.specs.declared.meaning.Need.{Need}
 use Rattle.net_resolve.specs.declared.meaning.Need.TheVariants as needs
 use Rattle.net_resolve.specs.Dummies.{with_bare, with_component, with_components, with_left, with_sides, with_item, with_items, with_indexing}
-use Rattle.net_resolve.specs.Meanings.{defect_of}
-use Rattle.net_resolve.specs.Names.{body_fault, phrases_fault, need_behind, indexing_fault, declaration_fault, declared, with_declared, with_declaration, objective_meaning, names_fault, IsWellNamed}
+use Rattle.net_resolve.specs.Meanings.{error_code_of}
+use Rattle.net_resolve.specs.Names.{body_fault, phrases_fault, need_after, indexing_fault, declaration_fault, declared, with_declared, with_declaration, objective_meaning, names_fault, IsWellNamed}
 use Rattle.net_resolve.specs.Scopes.{Name, Scope, meaning_in}
-use Rattle.net_resolve.specs.Told.{at_name, name_fault, declared_before}
+use Rattle.net_resolve.specs.Reported.{at_name, name_fault, declared_before}
 use Rattle.net_expr.proofs.Walked.{all_as}
 use Rattle.net_eval.proofs.NewNames.{firsts, parts}
 use Rattle.net_inst.specs.Soundness.{IsListed, NamesObjective, NameObjectives, names_in, IsNamedOnce}
@@ -89,7 +89,7 @@ module _ (before : List Name) where
       go (Some m) = h
 
   listed_component : (s : Scope) (x : Tree) → AreListed before s → AreListed before (with_component s x)
-  listed_component s x h = listed_bare s (lone_name x) h
+  listed_component s x h = listed_bare s (single_name x) h
 
   listed_components : (s : Scope) (l : Links) → AreListed before s → AreListed before (with_components s l)
   listed_components s none h = h
@@ -115,7 +115,7 @@ module _ (before : List Name) where
   listed_indexing s (Some (empty o p c)) h = h
   listed_indexing s (Some (filled o x l p c)) h = listed_items (with_item s x) l (listed_item s x h)
 
-objective_needed : (o : Option Meaning) (t : Token) → at_name (defect_of needs.Objective o) t ≡ None → o ≡ Some meanings.Objective
+objective_needed : (o : Option Meaning) (t : Token) → at_name (error_code_of needs.Objective o) t ≡ None → o ≡ Some meanings.Objective
 objective_needed None t h = cc
 objective_needed (Some meanings.Set) t h = cc
 objective_needed (Some meanings.Param) t h = cc
@@ -133,8 +133,8 @@ body_priced before s n (priced t x) h f = listed_found before s t.text h (object
 phrases_priced : (before : List Name) (s : Scope) (ps : List Phrase) → AreListed before s → phrases_fault s ps ≡ None → AllByRecursion (λ (p : Phrase). NamesObjective before p.body) ps
 phrases_priced before s [] h f = tt
 phrases_priced before s (p ∷ ps) h f =
-    let q = firsts (body_fault (need_behind (role_of p.word)) s p.body) (phrases_fault s ps) f in
-    (body_priced before s (need_behind (role_of p.word)) p.body h q.0, phrases_priced before s ps h q.1)
+    let q = firsts (body_fault (need_after (role_of p.word)) s p.body) (phrases_fault s ps) f in
+    (body_priced before s (need_after (role_of p.word)) p.body h q.0, phrases_priced before s ps h q.1)
 
 all_priced : (before : List Name) (s : Scope) (ds : List Declaration) → AreListed before s → names_fault s ds ≡ None → NameObjectives before ds
 all_priced before s [] h f = tt

@@ -9,7 +9,7 @@ use Rattle.net_tree.specs.Tree.{Declaration, set, param, check, node, arc, objec
 use Rattle.net_resolve.specs.declared.meaning.Meaning.{Meaning}
 use Rattle.net_resolve.specs.Names.{declaration_fault, declared, with_declared, with_declaration, names_fault, IsWellNamed}
 use Rattle.net_resolve.specs.Scopes.{Scope, meaning_in}
-use Rattle.net_resolve.specs.Told.{Fault, first, declared_before}
+use Rattle.net_resolve.specs.Reported.{Fault, first, declared_before}
 use Rattle.net_expr.proofs.Walked.{all_as}
 use Rattle.net_eval.proofs.NewNames.{firsts, none_before, parts}
 use Rattle.net_inst.specs.declared.names.Declared.{Declared}

@@ -8,7 +8,7 @@ use Rattle.net_driver.specs.declared.fault.Fault.{Fault}
 use Rattle.net_driver.specs.declared.fault.Fault.TheVariants.{OutOfMemory}
 use Rattle.net_driver.specs.FirstFaults.{MayBeModel}
 use Rattle.net_driver.specs.Reading.{IsModel}
-use Rattle.net_driver.specs.Telling.{IsRefusal}
+use Rattle.net_driver.specs.Reporting.{IsRejection}
 use Rattle.net_driver.proofs.Stops.{may_be}
 
 pub model_may : (m : List ℕ) (ds : List Declaration) → IsModel m ds → MayBeModel m
@@ -16,6 +16,6 @@ model_may m ds is = may_be m is.tokens is.read
 
 -- want of memory is a refusal of a text that may be a model
 pub no_memory : {A : Type 0} (wanted : Option Name) (m d : List ℕ) (r : Result A Fault) (P : Fault → Type 0) → ((e : Fault) → P e → e ≡ OutOfMemory) → MayBeModel m → IsErrAnd r P
-    → IfErr r (IsRefusal wanted m d)
+    → IfErr r (IsRejection wanted m d)
 no_memory wanted m d (Ok x) P f may h = absurd h
-no_memory wanted m d (Err e) P f may h = subst (IsRefusal wanted m d) (sym (f e h)) may
+no_memory wanted m d (Err e) P f may h = subst (IsRejection wanted m d) (sym (f e h)) may

@@ -1,7 +1,7 @@
 -- Two texts have one network or one first fault, and not both.
 use Rattle.std.specs.Prelude.{◌≡◌, ℕ, List, Option, Result, Ok, Err}
 use Rattle.std.proofs.Common.{refl, sym, ap, subst, ◌∙◌}
-use Rattle.net_fault.specs.declared.defect.Defect.{Defect}
+use Rattle.net_fault.specs.declared.error_code.ErrorCode.{ErrorCode}
 use Rattle.net_fault.specs.declared.language.Language.{Language}
 use Rattle.net_fault.specs.declared.language.Language.TheVariants as languages
 use Rattle.net_fault.specs.declared.span.Span.{Span}
@@ -17,7 +17,7 @@ use Rattle.net_data.specs.Reading as data_reading
 use Rattle.net_eval.specs.Binding as binding
 use Rattle.net_expr.specs.Worlds.{Name, World}
 use Rattle.net_inst.specs.Instances.{Network, network}
-use Rattle.net_fault.specs.declared.finding.Finding.{Finding}
+use Rattle.net_fault.specs.declared.diagnostic.Diagnostic.{Diagnostic}
 use Rattle.net_fault.specs.declared.fault.Fault.{Fault}
 use Rattle.net_fault.specs.declared.fault.Fault.TheVariants.{At}
 use Rattle.net_fault.specs.Outcomes.{bare}
@@ -45,63 +45,63 @@ same_data : (text : List ℕ) (x y : Tables) → IsData text x → IsData text y
 same_data text x y a b = ok_same (data_reading.tables a.tokens) x y (data_meant text x a) (ap data_reading.tables (same_tokens languages.Data text a.tokens b.tokens a.read b.read) ∙ data_meant text y b)
 
 -- a text that is a model has no fault
-no_model_fault : (text : List ℕ) (ds : List Declaration) (f : Finding) → IsModel text ds → IsModelFault text f → ⊥
-no_model_fault text ds _ is (faults.token d at fault) = lexer.read_or_refused languages.Model text is.tokens d at is.read fault
+no_model_fault : (text : List ℕ) (ds : List Declaration) (f : Diagnostic) → IsModel text ds → IsModelFault text f → ⊥
+no_model_fault text ds _ is (faults.token d at fault) = lexer.read_or_rejected languages.Model text is.tokens d at is.read fault
 no_model_fault text ds _ is (faults.grammar ts f read found) =
     ok_err (meant is.tokens) ds (At f) (model_meant text ds is) (ap meant (same_tokens languages.Model text is.tokens ts is.read read) ∙ found)
 
-no_data_fault : (text : List ℕ) (x : Tables) (f : Finding) → IsData text x → IsDataFault text f → ⊥
-no_data_fault text x _ is (faults.IsDataFault.token d at fault) = lexer.read_or_refused languages.Data text is.tokens d at is.read fault
+no_data_fault : (text : List ℕ) (x : Tables) (f : Diagnostic) → IsData text x → IsDataFault text f → ⊥
+no_data_fault text x _ is (faults.IsDataFault.token d at fault) = lexer.read_or_rejected languages.Data text is.tokens d at is.read fault
 no_data_fault text x _ is (faults.statement ts s read found) =
     ok_err (data_reading.tables is.tokens) x s (data_meant text x is) (ap data_reading.tables (same_tokens languages.Data text is.tokens ts is.read read) ∙ found)
 
-no_network_fault : (wanted : Option Name) (ds : List Declaration) (x : Tables) (n : Network) (f : Finding) → ComeTo wanted ds x n → IsNetworkFault wanted ds x f → ⊥
+no_network_fault : (wanted : Option Name) (ds : List Declaration) (x : Tables) (n : Network) (f : Diagnostic) → ComeTo wanted ds x n → IsNetworkFault wanted ds x f → ⊥
 no_network_fault wanted ds x n _ is (faults.unbound r found) = ok_err (binding.world ds x.statements) is.world r is.bound found
-no_network_fault wanted ds x n _ is (faults.undrawn w r bound found) =
+no_network_fault wanted ds x n _ is (faults.unbuilt w r bound found) =
     ok_err (network wanted is.world ds) n r is.network (ap (λ v. network wanted v ds) (ok_same (binding.world ds x.statements) is.world w is.bound bound) ∙ found)
 
-pub read_or_refused : (wanted : Option Name) (m d : List ℕ) (n : Network) (f : Finding) → IsNetworkOf wanted m d n → IsFirstFault wanted m d f → ⊥
-read_or_refused wanted m d n f is (faults.model _ fault) = no_model_fault m is.declarations f is.model fault
-read_or_refused wanted m d n f is (faults.statements ds _ model fault) = no_data_fault d is.tables f is.statements fault
-read_or_refused wanted m d n f is (faults.both ds x _ model statements fault) =
+pub read_or_rejected : (wanted : Option Name) (m d : List ℕ) (n : Network) (f : Diagnostic) → IsNetworkOf wanted m d n → IsFirstFault wanted m d f → ⊥
+read_or_rejected wanted m d n f is (faults.model _ fault) = no_model_fault m is.declarations f is.model fault
+read_or_rejected wanted m d n f is (faults.statements ds _ model fault) = no_data_fault d is.tables f is.statements fault
+read_or_rejected wanted m d n f is (faults.both ds x _ model statements fault) =
     no_network_fault wanted is.declarations is.tables n f is.network
     (subst (λ es. IsNetworkFault wanted es is.tables f) (same_model m ds is.declarations model is.model)
     (subst (λ y. IsNetworkFault wanted ds y f) (same_data d x is.tables statements is.statements) fault))
 
-told_token : (language : Language) (d e : Defect) (s t : Span) → d ≡ e → s ≡ t → bare language d s ≡ bare language e t
-told_token language d e s t p q = ap (λ x. bare language x s) p ∙ ap (bare language e) q
+reported_token : (language : Language) (d e : ErrorCode) (s t : Span) → d ≡ e → s ≡ t → bare language d s ≡ bare language e t
+reported_token language d e s t p q = ap (λ x. bare language x s) p ∙ ap (bare language e) q
 
-told_same : (f g : Finding) → ◌≡◌ {A = Fault} (At f) (At g) → f ≡ g
-told_same f g h = cc
+reported_same : (f g : Diagnostic) → ◌≡◌ {A = Fault} (At f) (At g) → f ≡ g
+reported_same f g h = cc
 
-one_model_fault : (text : List ℕ) (f g : Finding) → IsModelFault text f → IsModelFault text g → f ≡ g
+one_model_fault : (text : List ℕ) (f g : Diagnostic) → IsModelFault text f → IsModelFault text g → f ≡ g
 one_model_fault text _ _ (faults.token d s fault) (faults.token e t other) =
-    let (k, p) = lexer.one_first_fault languages.Model text d e s t fault other in told_token languages.Model d e s t k p
-one_model_fault text _ _ (faults.token d s fault) (faults.grammar ts g read found) = absurd (lexer.read_or_refused languages.Model text ts d s read fault)
-one_model_fault text _ _ (faults.grammar ts g read found) (faults.token d s fault) = absurd (lexer.read_or_refused languages.Model text ts d s read fault)
+    let (k, p) = lexer.one_first_fault languages.Model text d e s t fault other in reported_token languages.Model d e s t k p
+one_model_fault text _ _ (faults.token d s fault) (faults.grammar ts g read found) = absurd (lexer.read_or_rejected languages.Model text ts d s read fault)
+one_model_fault text _ _ (faults.grammar ts g read found) (faults.token d s fault) = absurd (lexer.read_or_rejected languages.Model text ts d s read fault)
 one_model_fault text _ _ (faults.grammar ts f read found) (faults.grammar us g scan other) =
-    told_same f g (err_same (meant ts) (At f) (At g) found (ap meant (same_tokens languages.Model text ts us read scan) ∙ other))
+    reported_same f g (err_same (meant ts) (At f) (At g) found (ap meant (same_tokens languages.Model text ts us read scan) ∙ other))
 
-stated_same : (ts us : List Token) (s r : DataStop) → ts ≡ us → s ≡ r → bare languages.Data s.defect (place_of ts s) ≡ bare languages.Data r.defect (place_of us r)
-stated_same ts us s r p q = ap (λ x. bare languages.Data s.defect (place_of x s)) p ∙ ap (λ (x : DataStop). bare languages.Data x.defect (place_of us x)) q
+stated_same : (ts us : List Token) (s r : DataStop) → ts ≡ us → s ≡ r → bare languages.Data s.error_code (place_of ts s) ≡ bare languages.Data r.error_code (place_of us r)
+stated_same ts us s r p q = ap (λ x. bare languages.Data s.error_code (place_of x s)) p ∙ ap (λ (x : DataStop). bare languages.Data x.error_code (place_of us x)) q
 
-one_data_fault : (text : List ℕ) (f g : Finding) → IsDataFault text f → IsDataFault text g → f ≡ g
+one_data_fault : (text : List ℕ) (f g : Diagnostic) → IsDataFault text f → IsDataFault text g → f ≡ g
 one_data_fault text _ _ (faults.IsDataFault.token d s fault) (faults.IsDataFault.token e t other) =
-    let (k, p) = lexer.one_first_fault languages.Data text d e s t fault other in told_token languages.Data d e s t k p
-one_data_fault text _ _ (faults.IsDataFault.token d s fault) (faults.statement ts r read found) = absurd (lexer.read_or_refused languages.Data text ts d s read fault)
-one_data_fault text _ _ (faults.statement ts r read found) (faults.IsDataFault.token d s fault) = absurd (lexer.read_or_refused languages.Data text ts d s read fault)
+    let (k, p) = lexer.one_first_fault languages.Data text d e s t fault other in reported_token languages.Data d e s t k p
+one_data_fault text _ _ (faults.IsDataFault.token d s fault) (faults.statement ts r read found) = absurd (lexer.read_or_rejected languages.Data text ts d s read fault)
+one_data_fault text _ _ (faults.statement ts r read found) (faults.IsDataFault.token d s fault) = absurd (lexer.read_or_rejected languages.Data text ts d s read fault)
 one_data_fault text _ _ (faults.statement ts s read found) (faults.statement us r scan other) =
     let same = same_tokens languages.Data text ts us read scan in
     stated_same ts us s r same (err_same (data_reading.tables ts) s r found (ap data_reading.tables same ∙ other))
 
-one_network_fault : (wanted : Option Name) (ds : List Declaration) (x : Tables) (f g : Finding) → IsNetworkFault wanted ds x f → IsNetworkFault wanted ds x g → f ≡ g
+one_network_fault : (wanted : Option Name) (ds : List Declaration) (x : Tables) (f g : Diagnostic) → IsNetworkFault wanted ds x f → IsNetworkFault wanted ds x g → f ≡ g
 one_network_fault wanted ds x _ _ (faults.unbound r found) (faults.unbound s other) = err_same (binding.world ds x.statements) r s found other
-one_network_fault wanted ds x _ _ (faults.unbound r found) (faults.undrawn w s is other) = absurd (ok_err (binding.world ds x.statements) w r is found)
-one_network_fault wanted ds x _ _ (faults.undrawn w s is other) (faults.unbound r found) = absurd (ok_err (binding.world ds x.statements) w r is found)
-one_network_fault wanted ds x _ _ (faults.undrawn w r is found) (faults.undrawn v s are other) =
+one_network_fault wanted ds x _ _ (faults.unbound r found) (faults.unbuilt w s is other) = absurd (ok_err (binding.world ds x.statements) w r is found)
+one_network_fault wanted ds x _ _ (faults.unbuilt w s is other) (faults.unbound r found) = absurd (ok_err (binding.world ds x.statements) w r is found)
+one_network_fault wanted ds x _ _ (faults.unbuilt w r is found) (faults.unbuilt v s are other) =
     err_same (network wanted w ds) r s found (ap (λ u. network wanted u ds) (ok_same (binding.world ds x.statements) w v is are) ∙ other)
 
-pub one_first_fault : (wanted : Option Name) (m d : List ℕ) (f g : Finding) → IsFirstFault wanted m d f → IsFirstFault wanted m d g → f ≡ g
+pub one_first_fault : (wanted : Option Name) (m d : List ℕ) (f g : Diagnostic) → IsFirstFault wanted m d f → IsFirstFault wanted m d g → f ≡ g
 one_first_fault wanted m d f g (faults.model _ fault) (faults.model _ found) = one_model_fault m f g fault found
 one_first_fault wanted m d f g (faults.model _ fault) (faults.statements ds _ is found) = absurd (no_model_fault m ds f is fault)
 one_first_fault wanted m d f g (faults.model _ fault) (faults.both ds x _ is are found) = absurd (no_model_fault m ds f is fault)

@@ -17,7 +17,7 @@ use Rattle.net_normal.proofs.Written.{length-numbers}
 use Rattle.net_driver.proofs.Apart.{bound_apart}
 use Rattle.net_report.specs.References.{name_in, names_in}
 use Rattle.net_driver.specs.declared.compiled.Compiled.{Compiled}
-use Rattle.net_driver.specs.Headline.{Headline}
+use Rattle.net_driver.specs.IsBuilt.{IsBuilt}
 use Rattle.net_driver.specs.Made.{IsNormalFormOf, SizesAgree, profile_of}
 use Rattle.net_driver.proofs.Counts.{node_count, arc_count, supply_count, numbers_within, flow_arc_count}
 use Rattle.net_driver.proofs.LinkLines.{links_skipped, numbers_small, same_problem, same_only}
@@ -67,7 +67,7 @@ sizes_of lean wanted m d c names ranges bounds made =
 pub some_same : (o : Option Objective) (x y : Objective) → o ≡ Some x → o ≡ Some y → x ≡ y
 some_same o x y p q = let both : ◌≡◌ {A = Option Objective} (Some x) (Some y) = sym p ∙ q in cc
 
-pub headline_of : (lean : Bool) (wanted : Option Name) (m d : List ℕ) (c : Compiled) → HaveNames → HaveExactRanges → HaveBounds → HaveObjective → CorrespondAsWritten → IsNormalFormOf lean wanted m d c → Headline lean wanted m d c
+pub headline_of : (lean : Bool) (wanted : Option Name) (m d : List ℕ) (c : Compiled) → HaveNames → HaveExactRanges → HaveBounds → HaveObjective → CorrespondAsWritten → IsNormalFormOf lean wanted m d c → IsBuilt lean wanted m d c
 headline_of lean wanted m d c names ranges bounds objective correspond made =
     let is = made.network in
     let ds = is.declarations in

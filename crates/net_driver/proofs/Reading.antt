@@ -12,10 +12,10 @@ use Rattle.net_io.specs.Ends.{ReadsToLimit}
 use Rattle.net_driver.specs.LineTexts.{IsProblemOf, MayBeProblem}
 use Rattle.net_driver.specs.Runs.{Stream, ReadsWhole}
 
-short : {A B : Type 0} (limit n : ℕ) (refused : B) (read : Result A B) (x : A) → (if nat_lt limit n then Err refused else read) ≡ Ok x → n ≤ limit
-short limit n refused read x e = decide (nat_lt limit n) refl e
+short : {A B : Type 0} (limit n : ℕ) (rejected : B) (read : Result A B) (x : A) → (if nat_lt limit n then Err rejected else read) ≡ Ok x → n ≤ limit
+short limit n rejected read x e = decide (nat_lt limit n) refl e
   where
-    decide : (b : Bool) → nat_lt limit n ≡ b → (if b then Err refused else read) ≡ Ok x → n ≤ limit
+    decide : (b : Bool) → nat_lt limit n ≡ b → (if b then Err rejected else read) ≡ Ok x → n ≤ limit
     decide true h e = absurd (let k = e in cc)
     decide false h e = grind (arith, nat_tests)
 

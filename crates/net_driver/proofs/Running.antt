@@ -3,10 +3,10 @@ use Rattle.std.proofs.Common.{◌≡◌, ℕ, true, List, [], ◌∷◌, Result,
 use Rattle.std.specs.Prelude.{◌↔◌, IsErrOf}
 use Rattle.std.specs.Result.{IsErrAnd}
 use Rattle.net_driver.specs.declared.fault.Fault.{Fault}
-use Rattle.net_driver.specs.declared.fault.Fault.TheVariants.{OutOfMemory, Refused, RefusedLine, Unread, Unwritten}
+use Rattle.net_driver.specs.declared.fault.Fault.TheVariants.{OutOfMemory, Rejected, RejectedLine, Unread, Unwritten}
 use Rattle.net_driver.specs.declared.fault.TextName.{TextName}
 use Rattle.net_driver.specs.declared.fault.TextName.TheVariants.{Model, Data, Problem, Certificate}
-use Rattle.net_driver.specs.Runs.{ReadsUpTo, Input, Sink, Each, Texts, Tells, IsAskedFew, IsRun}
+use Rattle.net_driver.specs.Runs.{ReadsUpTo, Input, Sink, Each, Texts, Reports, IsAskedFew, IsRun}
 
 -- these are the texts of the names
 abbrev pub texts_of : (model data' problem certificate : List ℕ) → Texts
@@ -16,15 +16,15 @@ texts_of model data' problem certificate Problem = problem
 texts_of model data' problem certificate Certificate = certificate
 
 -- what is wrong with texts is told of them
-wrong_told : {A S : Type 0} (inputs : List Input) (output : Sink S) (IsAnswer : Texts → A → List ℕ → Type 0) (IsWrong : Texts → Fault → Type 0)
+wrong_reported : {A S : Type 0} (inputs : List Input) (output : Sink S) (IsAnswer : Texts → A → List ℕ → Type 0) (IsWrong : Texts → Fault → Type 0)
     (texts : Texts) → ((name : TextName) → IsWrong texts (Unread name) → ⊥) → (IsWrong texts Unwritten → ⊥)
     → Each (λ i. ReadsUpTo i.limit i.bytes (texts i.name)) inputs → output.new ≡ output.old → (fault : Fault) → IsWrong texts fault
-    → Tells inputs output IsAnswer IsWrong fault
-wrong_told inputs output IsAnswer IsWrong texts unread unwritten read same OutOfMemory wrong = same
-wrong_told inputs output IsAnswer IsWrong texts unread unwritten read same (Refused r) wrong = (same, record { texts = texts; read = read; refused = wrong })
-wrong_told inputs output IsAnswer IsWrong texts unread unwritten read same (RefusedLine r) wrong = (same, record { texts = texts; read = read; refused = wrong })
-wrong_told inputs output IsAnswer IsWrong texts unread unwritten read same (Unread name) wrong = absurd (unread name wrong)
-wrong_told inputs output IsAnswer IsWrong texts unread unwritten read same Unwritten wrong = absurd (unwritten wrong)
+    → Reports inputs output IsAnswer IsWrong fault
+wrong_reported inputs output IsAnswer IsWrong texts unread unwritten read same OutOfMemory wrong = same
+wrong_reported inputs output IsAnswer IsWrong texts unread unwritten read same (Rejected r) wrong = (same, record { texts = texts; read = read; rejected = wrong })
+wrong_reported inputs output IsAnswer IsWrong texts unread unwritten read same (RejectedLine r) wrong = (same, record { texts = texts; read = read; rejected = wrong })
+wrong_reported inputs output IsAnswer IsWrong texts unread unwritten read same (Unread name) wrong = absurd (unread name wrong)
+wrong_reported inputs output IsAnswer IsWrong texts unread unwritten read same Unwritten wrong = absurd (unwritten wrong)
 
 -- of this fault no source is blamed
 not_blamed : (A : Type 0) (fault : Fault) (inputs : List Input) → ((name : TextName) → fault ≡ Unread name → ⊥) → Each (λ i. i.failed ≡ true → ⊥) inputs
@@ -36,19 +36,19 @@ not_blamed A fault (i ∷ inputs) other quiet = (
 )
 
 -- a run that refuses its texts
-pub refused_run : {A S : Type 0} (inputs : List Input) (output : Sink S) (IsAnswer : Texts → A → List ℕ → Type 0)
+pub rejected_run : {A S : Type 0} (inputs : List Input) (output : Sink S) (IsAnswer : Texts → A → List ℕ → Type 0)
     (IsWrong : Texts → Fault → Type 0) (texts : Texts) → ((name : TextName) → IsWrong texts (Unread name) → ⊥) → (IsWrong texts Unwritten → ⊥)
     → Each (λ i. ReadsUpTo i.limit i.bytes (texts i.name)) inputs → output.new ≡ output.old
     → Each (λ i. i.failed ≡ true → ⊥) inputs → (output.failed output.new ≡ true → ⊥)
     → Each (λ i. IsAskedFew i.limit i.reads_before i.reads_after) inputs
     → (fault : Fault) → IsWrong texts fault → (r : Result A Fault) (P : Fault → Type 0) → ((e : Fault) → P e → e ≡ fault) → IsErrAnd r P
     → IsRun inputs output IsAnswer IsWrong r
-refused_run inputs output IsAnswer IsWrong texts unread unwritten read same quiet written few fault wrong (Ok v) P is h = absurd h
-refused_run {A} inputs output IsAnswer IsWrong texts unread unwritten read same quiet written few fault wrong (Err e) P is h =
+rejected_run inputs output IsAnswer IsWrong texts unread unwritten read same quiet written few fault wrong (Ok v) P is h = absurd h
+rejected_run {A} inputs output IsAnswer IsWrong texts unread unwritten read same quiet written few fault wrong (Err e) P is h =
     let here : IsWrong texts e = subst (IsWrong texts) (sym (is e h)) wrong in
     record {
       ok = tt;
-      err = wrong_told inputs output IsAnswer IsWrong texts unread unwritten read same e here;
+      err = wrong_reported inputs output IsAnswer IsWrong texts unread unwritten read same e here;
       unread = not_blamed A e inputs (λ name k. unread name (subst (IsWrong texts) k here)) quiet;
       unwritten = (
         (λ (k : ◌≡◌ {A = Result A Fault} (Err e) (Err Unwritten)). let last : e ≡ Unwritten = cc in absurd (unwritten (subst (IsWrong texts) last here))),
@@ -68,7 +68,7 @@ stopped_run {A} inputs output IsAnswer IsWrong same quiet written few (Err e) P 
     let none : e ≡ OutOfMemory = is e h in
     record {
       ok = tt;
-      err = subst (Tells inputs output IsAnswer IsWrong) (sym none) same;
+      err = subst (Reports inputs output IsAnswer IsWrong) (sym none) same;
       unread = not_blamed A e inputs (λ name k. let both : OutOfMemory ≡ Unread name = sym none ∙ k in cc) quiet;
       unwritten = (
         (λ (k : ◌≡◌ {A = Result A Fault} (Err e) (Err Unwritten)).

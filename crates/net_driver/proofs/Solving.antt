@@ -6,7 +6,7 @@ use Rattle.std.proofs.lemmas.Int.{ints}
 use Rattle.std.proofs.lemmas.List.Elements.{recursion_from_All, All-from_recursion}
 use Rattle.net_normal.specs.Flows.{IsWithinCapacity, IsFeasibleFlow, cost_of}
 use Rattle.net_normal.specs.Limits.{IsSized, IsFlowArcOf, flow_limit, cost_limit, total_cost_limit}
-use Rattle.net_normal.specs.Links.{lifted, lifted_by, value_at, signed}
+use Rattle.net_normal.specs.Links.{mapped_back, mapped_back_by, value_at, signed}
 use Rattle.net_normal.specs.Sums.{price_of}
 use Rattle.net_normal.specs.declared.instance.Sense.{Sense}
 use Rattle.net_normal.specs.declared.instance.Sense.TheVariants.{Minimise, Maximise}
@@ -14,9 +14,9 @@ use Rattle.net_normal.specs.declared.link.Link.{Link}
 use Rattle.net_normal.specs.declared.problem.FlowArc.{FlowArc}
 use Rattle.net_normal.specs.declared.problem.Problem.{Problem}
 use Rattle.net_normal.proofs.WholeNumbers.{sized-mul}
-use Rattle.net_report.specs.Lifts.{IsCarried, AreCarried}
+use Rattle.net_report.specs.MapsBack.{IsCarried, AreCarried}
 use Rattle.net_driver.specs.declared.compiled.Compiled.{Compiled}
-use Rattle.net_driver.specs.Answers.{IsAsGood}
+use Rattle.net_driver.specs.IsSolved.{IsAsGood}
 use Rattle.net_driver.specs.Made.{SizesAgree}
 use Rattle.net_driver.proofs.Counts.{zip_length}
 
@@ -78,16 +78,16 @@ cost_sized problem flows cost feasible e =
     let few = problem.few_arcs in
     record { above = omega (arith, ints, above, e, problem.arcs.ok.0, few); below = omega (arith, ints, below, e, problem.arcs.ok.0, few) }
 
-lifted_count : (numbers : List ℕ) (offsets flows : List ℤ) → length numbers ≡ length offsets → length (lifted_by numbers offsets flows) ≡ length numbers
-lifted_count [] offsets flows e = refl
-lifted_count (n ∷ numbers) [] flows e = absurd (let h = e in cc)
-lifted_count (n ∷ numbers) (o ∷ offsets) flows e = ap suc (lifted_count numbers offsets flows (omega (arith, e)))
+mapped_back_count : (numbers : List ℕ) (offsets flows : List ℤ) → length numbers ≡ length offsets → length (mapped_back_by numbers offsets flows) ≡ length numbers
+mapped_back_count [] offsets flows e = refl
+mapped_back_count (n ∷ numbers) [] flows e = absurd (let h = e in cc)
+mapped_back_count (n ∷ numbers) (o ∷ offsets) flows e = ap suc (mapped_back_count numbers offsets flows (omega (arith, e)))
 
 -- as many numbers as arcs
-pub lifted_length : (link : Link) (flows : List ℤ) → length (lifted link flows) ≡ vec_len link.numbers
-lifted_length link flows =
+pub mapped_back_length : (link : Link) (flows : List ℤ) → length (mapped_back link flows) ≡ vec_len link.numbers
+mapped_back_length link flows =
     let paired = link.paired in
-    lifted_count link.numbers.items link.offsets.items flows (omega (arith, paired, link.numbers.ok.0, link.offsets.ok.0)) ∙ sym link.numbers.ok.0
+    mapped_back_count link.numbers.items link.offsets.items flows (omega (arith, paired, link.numbers.ok.0, link.offsets.ok.0)) ∙ sym link.numbers.ok.0
 
 -- what costs no more is worth as much
 pub as_good : (link : Link) (sense : Sense) (cost other : ℤ) → link.sense ≡ sense → cost ≤ℤ other → IsAsGood sense (value_at link cost) (value_at link other)

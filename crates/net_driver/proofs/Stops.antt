@@ -1,13 +1,13 @@
 -- From what the layers tell to the first fault of two texts.
 use Rattle.std.specs.Prelude.{◌≡◌, ℕ, List, Option, Result, Ok, Err}
 use Rattle.std.proofs.Common.{sym, ap, subst, ◌∙◌}
-use Rattle.net_fault.specs.declared.finding.Finding.{Finding}
+use Rattle.net_fault.specs.declared.diagnostic.Diagnostic.{Diagnostic}
 use Rattle.net_fault.specs.declared.fault.Fault.{Fault}
 use Rattle.net_fault.specs.declared.fault.Fault.TheVariants.{OutOfMemory, At}
 use Rattle.net_fault.specs.declared.language.Language.TheVariants as languages
 use Rattle.net_fault.specs.declared.span.Span.{Span}
-use Rattle.net_fault.specs.declared.defect.Defect.{Defect}
-use Rattle.net_fault.specs.Outcomes.{Answers, bare}
+use Rattle.net_fault.specs.declared.error_code.ErrorCode.{ErrorCode}
+use Rattle.net_fault.specs.Outcomes.{Refines, bare}
 use Rattle.net_lex.specs.declared.token.Token.{Token}
 use Rattle.net_lex.specs.Lexing as lex
 use Rattle.net_lex.specs.Lexing.{AreTokensOf}
@@ -26,9 +26,9 @@ use Rattle.net_driver.specs.Reading.{IsModel, IsData}
 pub may_be : (text : List ℕ) (tokens : List Token) → AreTokensOf languages.Model text tokens → MayBeModel text
 may_be text tokens read = record { short = read.short; utf8 = read.utf8 }
 
-pub model_token : (text : List ℕ) (fault : Fault) → lex.IsRefusal languages.Model text fault → IsModelStop text fault
+pub model_token : (text : List ℕ) (fault : Fault) → lex.IsRejection languages.Model text fault → IsModelStop text fault
 model_token text OutOfMemory (short, utf8, begins) = record { short = short; utf8 = utf8 }
-model_token text (At f) (is, r) = subst (IsModelFault text) (sym is) (faults.IsModelFault.token f.defect f.at r)
+model_token text (At f) (is, r) = subst (IsModelFault text) (sym is) (faults.IsModelFault.token f.error_code f.at r)
 
 pub model_parse : (text : List ℕ) (tokens : List Token) (fault : Fault) → AreTokensOf languages.Model text tokens → Parses (Err fault) (meant tokens) → IsModelStop text fault
 model_parse text tokens OutOfMemory read r = may_be text tokens read
@@ -36,30 +36,30 @@ model_parse text tokens (At f) read r = faults.grammar tokens f read r
 
 pub model_stop : (wanted : Option Name) (m d : List ℕ) (fault : Fault) → IsModelStop m fault → IsStop wanted m d fault
 model_stop wanted m d OutOfMemory h = h
-model_stop wanted m d (At finding) h = faults.model finding h
+model_stop wanted m d (At diagnostic) h = faults.model diagnostic h
 
-pub data_token : (wanted : Option Name) (m d : List ℕ) (ds : List Declaration) (fault : Fault) → IsModel m ds → lex.IsRefusal languages.Data d fault → IsStop wanted m d fault
+pub data_token : (wanted : Option Name) (m d : List ℕ) (ds : List Declaration) (fault : Fault) → IsModel m ds → lex.IsRejection languages.Data d fault → IsStop wanted m d fault
 data_token wanted m d ds OutOfMemory is r = may_be m is.tokens is.read
-data_token wanted m d ds (At f) is (same, r) = faults.statements ds f is (subst (faults.IsDataFault d) (sym same) (faults.IsDataFault.token f.defect f.at r))
+data_token wanted m d ds (At f) is (same, r) = faults.statements ds f is (subst (faults.IsDataFault d) (sym same) (faults.IsDataFault.token f.error_code f.at r))
 
 pub network_stop : (wanted : Option Name) (m d : List ℕ) (ds : List Declaration) (tables : Tables) (fault : Fault) → IsModel m ds → IsData d tables → IsNetworkStop wanted ds tables fault → IsStop wanted m d fault
 network_stop wanted m d ds tables OutOfMemory is are h = may_be m is.tokens is.read
-network_stop wanted m d ds tables (At finding) is are h = faults.both ds tables finding is are h
+network_stop wanted m d ds tables (At diagnostic) is are h = faults.both ds tables diagnostic is are h
 
-pub bind_stop : (wanted : Option Name) (ds : List Declaration) (tables : Tables) (fault : Fault) → Answers {A = World} (binding.world ds tables.statements) (Err fault) → IsNetworkStop wanted ds tables fault
+pub bind_stop : (wanted : Option Name) (ds : List Declaration) (tables : Tables) (fault : Fault) → Refines {A = World} (binding.world ds tables.statements) (Err fault) → IsNetworkStop wanted ds tables fault
 bind_stop wanted ds tables OutOfMemory r = tt
 bind_stop wanted ds tables (At f) r = faults.unbound f r
 
 pub draw_stop : (wanted : Option Name) (ds : List Declaration) (tables : Tables) (w : World) (fault : Fault) → binding.world ds tables.statements ≡ Ok w
     → instances.AnswersNetwork (instances.network wanted w ds) (Err fault) → IsNetworkStop wanted ds tables fault
 draw_stop wanted ds tables w OutOfMemory is r = tt
-draw_stop wanted ds tables w (At f) is r = faults.undrawn w f is r
+draw_stop wanted ds tables w (At f) is r = faults.unbuilt w f is r
 
-is_bare : (f : Finding) (d : Defect) (at : Span) → ◌≡◌ {A = Fault} (At f) (At (bare languages.Data d at)) → f ≡ bare languages.Data d at
+is_bare : (f : Diagnostic) (d : ErrorCode) (at : Span) → ◌≡◌ {A = Fault} (At f) (At (bare languages.Data d at)) → f ≡ bare languages.Data d at
 is_bare f d at h = cc
 
 pub data_parse : (wanted : Option Name) (m d : List ℕ) (ds : List Declaration) (tokens : List Token) (fault : Fault) → IsModel m ds → AreTokensOf languages.Data d tokens
     → data_reading.Fails (data_reading.end_of tokens) (data_reading.tables tokens) fault → IsStop wanted m d fault
 data_parse wanted m d ds tokens OutOfMemory is read r = may_be m is.tokens is.read
-data_parse wanted m d ds tokens (At f) is read (e, stopped, told) =
-    faults.statements ds f is (subst (faults.IsDataFault d) (sym (is_bare f e.defect _ told)) (faults.statement tokens e read stopped))
+data_parse wanted m d ds tokens (At f) is read (e, stopped, reported) =
+    faults.statements ds f is (subst (faults.IsDataFault d) (sym (is_bare f e.error_code _ reported)) (faults.statement tokens e read stopped))

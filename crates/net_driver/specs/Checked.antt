@@ -13,17 +13,17 @@ use Rattle.net_dimacs.specs.declared.problem_fault.LineFault.{LineFault}
 use Rattle.net_dimacs.specs.declared.problem_fault.ProblemFault.{ProblemFault}
 use Rattle.net_dimacs.specs.declared.problem_fault.ProblemFault.TheVariants as reading
 use Rattle.net_driver.specs.LineTexts.{IsProblemOf, IsCertificateOf, IsProblemFault, IsCertificateFault}
-use Rattle.net_driver.specs.declared.ending.Ending.{Ending}
-use Rattle.net_driver.specs.declared.ending.Ending.TheVariants.{Done, Refuted}
+use Rattle.net_driver.specs.declared.exit_kind.ExitKind.{ExitKind}
+use Rattle.net_driver.specs.declared.exit_kind.ExitKind.TheVariants.{Done, Refuted}
 use Rattle.net_driver.specs.declared.fault.Fault.{Fault}
-use Rattle.net_driver.specs.declared.fault.Fault.TheVariants.{OutOfMemory, Refused, RefusedLine, Unread, Unwritten}
+use Rattle.net_driver.specs.declared.fault.Fault.TheVariants.{OutOfMemory, Rejected, RejectedLine, Unread, Unwritten}
 use Rattle.net_driver.specs.declared.fault.TextName.{TextName}
 use Rattle.net_driver.specs.declared.fault.TextName.TheVariants as texts
 
 -- the error of an input with this name
 abbrev pub fault_of : TextName → ProblemFault → Fault
 fault_of name reading.OutOfMemory = OutOfMemory
-fault_of name (reading.Refused refusal) = RefusedLine (record { text = name; fault = refusal.fault; line = refusal.line })
+fault_of name (reading.Rejected rejection) = RejectedLine (record { text = name; fault = rejection.fault; line = rejection.line })
 
 -- the verdict on the certificate for the problem in these files
 pub record Judges (problem_text certificate_text : List ℕ) (verdict : Verdict) : Type 0 where
@@ -43,26 +43,26 @@ IsFirstLineFault problem_text certificate_text texts.Problem fault line = IsProb
 IsFirstLineFault problem_text certificate_text texts.Certificate fault line =
     (problem : Problem) × IsProblemOf problem_text problem × IsCertificateFault problem certificate_text fault line
 
-abbrev pub IsLineRefusal : (problem_text certificate_text : List ℕ) → Fault → Type 0
-IsLineRefusal problem_text certificate_text OutOfMemory = Unit {0}
-IsLineRefusal problem_text certificate_text (Refused r) = ⊥
-IsLineRefusal problem_text certificate_text (RefusedLine r) = IsFirstLineFault problem_text certificate_text r.text r.fault r.line
-IsLineRefusal problem_text certificate_text (Unread text) = ⊥
-IsLineRefusal problem_text certificate_text Unwritten = ⊥
+abbrev pub IsLineRejection : (problem_text certificate_text : List ℕ) → Fault → Type 0
+IsLineRejection problem_text certificate_text OutOfMemory = Unit {0}
+IsLineRejection problem_text certificate_text (Rejected r) = ⊥
+IsLineRejection problem_text certificate_text (RejectedLine r) = IsFirstLineFault problem_text certificate_text r.text r.fault r.line
+IsLineRejection problem_text certificate_text (Unread text) = ⊥
+IsLineRejection problem_text certificate_text Unwritten = ⊥
 
 -- the first error of a problem file
-abbrev pub IsProblemRefusal : List ℕ → Fault → Type 0
-IsProblemRefusal problem_text OutOfMemory = Unit {0}
-IsProblemRefusal problem_text (Refused r) = ⊥
-IsProblemRefusal problem_text (RefusedLine r) = (r.text ≡ texts.Problem) × IsProblemFault problem_text r.fault r.line
-IsProblemRefusal problem_text (Unread text) = ⊥
-IsProblemRefusal problem_text Unwritten = ⊥
+abbrev pub IsProblemRejection : List ℕ → Fault → Type 0
+IsProblemRejection problem_text OutOfMemory = Unit {0}
+IsProblemRejection problem_text (Rejected r) = ⊥
+IsProblemRejection problem_text (RejectedLine r) = (r.text ≡ texts.Problem) × IsProblemFault problem_text r.fault r.line
+IsProblemRejection problem_text (Unread text) = ⊥
+IsProblemRejection problem_text Unwritten = ⊥
 
 -- the first error of a certificate file for this problem
 abbrev pub IsCertificateStop : Problem → List ℕ → Fault → Type 0
 IsCertificateStop problem text OutOfMemory = Unit {0}
-IsCertificateStop problem text (Refused r) = ⊥
-IsCertificateStop problem text (RefusedLine r) = (r.text ≡ texts.Certificate) × IsCertificateFault problem text r.fault r.line
+IsCertificateStop problem text (Rejected r) = ⊥
+IsCertificateStop problem text (RejectedLine r) = (r.text ≡ texts.Certificate) × IsCertificateFault problem text r.fault r.line
 IsCertificateStop problem text (Unread name) = ⊥
 IsCertificateStop problem text Unwritten = ⊥
 
@@ -79,6 +79,6 @@ abbrev pub verdict_line : Verdict → List ℕ
 verdict_line Yes = codes "yes\n"
 verdict_line (No reason number) = codes "no " ++ (reason_word reason ++ (32 ∷ (decimal number ++ 10 ∷ [])))
 
-abbrev pub ending_of : Verdict → Ending
-ending_of Yes = Done
-ending_of (No reason number) = Refuted
+abbrev pub exit_kind_of : Verdict → ExitKind
+exit_kind_of Yes = Done
+exit_kind_of (No reason number) = Refuted

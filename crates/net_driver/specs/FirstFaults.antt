@@ -2,7 +2,7 @@
 -- tokens and statements of the data; evaluation of both; the network.
 use Rattle.std.specs.Prelude.{◌≡◌, ◌≤◌, ℕ, List, Option, Ok, Err, length, ◌⊎◌}
 use Rattle.std.specs.Str.{IsUtf8}
-use Rattle.net_fault.specs.declared.defect.Defect.{Defect}
+use Rattle.net_fault.specs.declared.error_code.ErrorCode.{ErrorCode}
 use Rattle.net_fault.specs.declared.language.Language.{Language}
 use Rattle.net_fault.specs.declared.language.Language.TheVariants as languages
 use Rattle.net_fault.specs.declared.span.Span.{Span}
@@ -15,7 +15,7 @@ use Rattle.net_model.specs.Models.{meant}
 use Rattle.net_data.specs.declared.parse_error.ParseError.{ParseError as DataStop}
 use Rattle.net_data.specs.declared.tables.Tables.{Tables}
 use Rattle.net_data.specs.Reading as data_reading
-use Rattle.net_fault.specs.declared.finding.Finding.{Finding}
+use Rattle.net_fault.specs.declared.diagnostic.Diagnostic.{Diagnostic}
 use Rattle.net_eval.specs.Binding as binding
 use Rattle.net_expr.specs.Worlds.{Name, World}
 use Rattle.net_inst.specs.Instances.{network}
@@ -26,32 +26,32 @@ use Rattle.net_driver.specs.Reading.{IsModel, IsData}
 
 -- the text has tokens, or a first error among them; `first_error` of net_lex shows which
 abbrev pub IsLexed : Language → List ℕ → Type 0
-IsLexed language text = ((tokens : List Token) × AreTokensOf language text tokens) ⊎ ((d : Defect) × (at : Span) × lex.IsFirstFault language text d at)
+IsLexed language text = ((tokens : List Token) × AreTokensOf language text tokens) ⊎ ((d : ErrorCode) × (at : Span) × lex.IsFirstFault language text d at)
 
-pub data IsModelFault (text : List ℕ) : Finding → Type 0 where
-  token : (d : Defect) (at : Span) → lex.IsFirstFault languages.Model text d at → IsModelFault text (bare languages.Model d at)
-  grammar : (tokens : List Token) (finding : Finding) → AreTokensOf languages.Model text tokens
-      → meant tokens ≡ Err (At finding) → IsModelFault text finding
+pub data IsModelFault (text : List ℕ) : Diagnostic → Type 0 where
+  token : (d : ErrorCode) (at : Span) → lex.IsFirstFault languages.Model text d at → IsModelFault text (bare languages.Model d at)
+  grammar : (tokens : List Token) (diagnostic : Diagnostic) → AreTokensOf languages.Model text tokens
+      → meant tokens ≡ Err (At diagnostic) → IsModelFault text diagnostic
 
 -- the span at which parsing a data statement stops
 abbrev pub place_of : List Token → DataStop → Span
 place_of tokens s = data_reading.span_or_end (data_reading.end_of tokens) s.at
 
-pub data IsDataFault (text : List ℕ) : Finding → Type 0 where
-  token : (d : Defect) (at : Span) → lex.IsFirstFault languages.Data text d at → IsDataFault text (bare languages.Data d at)
+pub data IsDataFault (text : List ℕ) : Diagnostic → Type 0 where
+  token : (d : ErrorCode) (at : Span) → lex.IsFirstFault languages.Data text d at → IsDataFault text (bare languages.Data d at)
   statement : (tokens : List Token) (s : DataStop) → AreTokensOf languages.Data text tokens
-      → data_reading.tables tokens ≡ Err s → IsDataFault text (bare languages.Data s.defect (place_of tokens s))
+      → data_reading.tables tokens ≡ Err s → IsDataFault text (bare languages.Data s.error_code (place_of tokens s))
 
 -- errors of evaluating declarations with statements
-pub data IsNetworkFault (wanted : Option Name) (ds : List Declaration) (tables : Tables) : Finding → Type 0 where
-  unbound : (r : Finding) → binding.world ds tables.statements ≡ Err r → IsNetworkFault wanted ds tables r
-  undrawn : (w : World) (r : Finding) → binding.world ds tables.statements ≡ Ok w → network wanted w ds ≡ Err r → IsNetworkFault wanted ds tables r
+pub data IsNetworkFault (wanted : Option Name) (ds : List Declaration) (tables : Tables) : Diagnostic → Type 0 where
+  unbound : (r : Diagnostic) → binding.world ds tables.statements ≡ Err r → IsNetworkFault wanted ds tables r
+  unbuilt : (w : World) (r : Diagnostic) → binding.world ds tables.statements ≡ Ok w → network wanted w ds ≡ Err r → IsNetworkFault wanted ds tables r
 
-pub data IsFirstFault (wanted : Option Name) (model_text data_text : List ℕ) : Finding → Type 0 where
-  model : (finding : Finding) → IsModelFault model_text finding → IsFirstFault wanted model_text data_text finding
-  statements : (ds : List Declaration) (finding : Finding) → IsModel model_text ds → IsDataFault data_text finding → IsFirstFault wanted model_text data_text finding
-  both : (ds : List Declaration) (tables : Tables) (finding : Finding) → IsModel model_text ds → IsData data_text tables → IsNetworkFault wanted ds tables finding
-      → IsFirstFault wanted model_text data_text finding
+pub data IsFirstFault (wanted : Option Name) (model_text data_text : List ℕ) : Diagnostic → Type 0 where
+  model : (diagnostic : Diagnostic) → IsModelFault model_text diagnostic → IsFirstFault wanted model_text data_text diagnostic
+  statements : (ds : List Declaration) (diagnostic : Diagnostic) → IsModel model_text ds → IsDataFault data_text diagnostic → IsFirstFault wanted model_text data_text diagnostic
+  both : (ds : List Declaration) (tables : Tables) (diagnostic : Diagnostic) → IsModel model_text ds → IsData data_text tables → IsNetworkFault wanted ds tables diagnostic
+      → IsFirstFault wanted model_text data_text diagnostic
 
 -- a condition for the error `out of memory`: the text is within the limit and UTF-8
 pub record MayBeModel (text : List ℕ) : Type 0 where
@@ -61,15 +61,15 @@ pub record MayBeModel (text : List ℕ) : Type 0 where
 -- the first error of a model, or memory ran out
 abbrev pub IsModelStop : List ℕ → Fault → Type 0
 IsModelStop text OutOfMemory = MayBeModel text
-IsModelStop text (At finding) = IsModelFault text finding
+IsModelStop text (At diagnostic) = IsModelFault text diagnostic
 
 -- the first error of declarations with statements
 abbrev pub IsNetworkStop : Option Name → List Declaration → Tables → Fault → Type 0
 IsNetworkStop wanted ds tables OutOfMemory = Unit {0}
-IsNetworkStop wanted ds tables (At finding) = IsNetworkFault wanted ds tables finding
+IsNetworkStop wanted ds tables (At diagnostic) = IsNetworkFault wanted ds tables diagnostic
 
 -- the first error of a model with its data, or memory ran out, which requires that the model is
 -- within the limit and UTF-8
 abbrev pub IsStop : Option Name → (model_text data_text : List ℕ) → Fault → Type 0
 IsStop wanted model_text data_text OutOfMemory = MayBeModel model_text
-IsStop wanted model_text data_text (At finding) = IsFirstFault wanted model_text data_text finding
+IsStop wanted model_text data_text (At diagnostic) = IsFirstFault wanted model_text data_text diagnostic

@@ -3,10 +3,10 @@ pub mod FirstFaults
 pub mod FaultLines
 pub mod Texts
 pub mod Linked
-pub mod Telling
-pub mod Headline
+pub mod Reporting
+pub mod IsBuilt
 pub mod Made
-pub mod Answers
+pub mod IsSolved
 pub mod Outcomes
 pub mod LineTexts
 pub mod Checked

@@ -10,8 +10,8 @@ use Rattle.net_driver.specs.declared.answer.Answer.{Answer}
 use Rattle.net_driver.specs.declared.answer.Outcome.{Outcome}
 use Rattle.net_driver.specs.declared.answer.Outcome.TheVariants.{Displayed, Infeasible}
 use Rattle.net_driver.specs.declared.compiled.Compiled.{Compiled}
-use Rattle.net_driver.specs.Answers.{Answers, IsAsGood}
-use Rattle.net_driver.specs.Headline.{Headline}
+use Rattle.net_driver.specs.IsSolved.{IsSolved, IsAsGood}
+use Rattle.net_driver.specs.IsBuilt.{IsBuilt}
 
 -- declarations have at most one network in a world
 abbrev pub NetworksAreUnique : Type 0
@@ -28,7 +28,7 @@ pub record RepresentsModel (wanted : Option Name) (w : World) (ds : List Declara
 
 -- the problem of a compiled model represents the network of the model's declarations, in the world of the model and its data
 abbrev pub CompiledProblemsRepresent : Type 0
-CompiledProblemsRepresent = (lean : Bool) (wanted : Option Name) (model_text data_text : List ℕ) (c : Compiled) (h : Headline lean wanted model_text data_text c)
+CompiledProblemsRepresent = (lean : Bool) (wanted : Option Name) (model_text data_text : List ℕ) (c : Compiled) (h : IsBuilt lean wanted model_text data_text c)
     → RepresentsModel wanted h.world h.declarations c.problem c.link
 
 -- there is a flow for each arc, in order; the assignment of these flows is feasible and has this value; each feasible assignment has a value, and
@@ -52,5 +52,5 @@ pub record SolvesModel (wanted : Option Name) (w : World) (ds : List Declaration
 
 -- the outcome of a solved model holds in the network of the model's declarations, in the world of the model and its data
 abbrev pub AnswersSolveModels : Type 0
-AnswersSolveModels = (lean : Bool) (wanted : Option Name) (model_text data_text : List ℕ) (a : Answer) (h : Answers lean wanted model_text data_text a)
+AnswersSolveModels = (lean : Bool) (wanted : Option Name) (model_text data_text : List ℕ) (a : Answer) (h : IsSolved lean wanted model_text data_text a)
     → SolvesModel wanted h.compiled.world h.compiled.declarations a

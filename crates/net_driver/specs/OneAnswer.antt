@@ -2,12 +2,12 @@
 -- the names and every printed byte.
 use Rattle.std.specs.Prelude.{◌≡◌, ℕ, Bool, List, Option}
 use Rattle.net_expr.specs.Worlds.{Name}
-use Rattle.net_fault.specs.declared.finding.Finding.{Finding}
+use Rattle.net_fault.specs.declared.diagnostic.Diagnostic.{Diagnostic}
 use Rattle.net_driver.specs.FirstFaults.{IsFirstFault}
 use Rattle.net_driver.specs.declared.answer.Answer.{Answer}
 use Rattle.net_driver.specs.declared.compiled.Compiled.{Compiled}
-use Rattle.net_driver.specs.Answers.{Answers}
-use Rattle.net_driver.specs.Headline.{Headline}
+use Rattle.net_driver.specs.IsSolved.{IsSolved}
+use Rattle.net_driver.specs.IsBuilt.{IsBuilt}
 
 -- the same text, problem, link and names
 pub record IsOneWith (c other : Compiled) : Type 0 where
@@ -22,14 +22,14 @@ pub record IsOneWith (c other : Compiled) : Type 0 where
 
 -- compiling the same files twice gives the same result
 abbrev pub IsOneAnswer : Type 0
-IsOneAnswer = (lean : Bool) (wanted : Option Name) (model_text data_text : List ℕ) (c other : Compiled) → Headline lean wanted model_text data_text c → Headline lean wanted model_text data_text other
+IsOneAnswer = (lean : Bool) (wanted : Option Name) (model_text data_text : List ℕ) (c other : Compiled) → IsBuilt lean wanted model_text data_text c → IsBuilt lean wanted model_text data_text other
     → IsOneWith c other
 
 -- solving uses the compiled problem, whether there is a plan or a cut
 abbrev pub IsSolvedAsCompiled : Type 0
-IsSolvedAsCompiled = (lean : Bool) (wanted : Option Name) (model_text data_text : List ℕ) (a : Answer) (c : Compiled) → Answers lean wanted model_text data_text a → Headline lean wanted model_text data_text c
+IsSolvedAsCompiled = (lean : Bool) (wanted : Option Name) (model_text data_text : List ℕ) (a : Answer) (c : Compiled) → IsSolved lean wanted model_text data_text a → IsBuilt lean wanted model_text data_text c
     → IsOneWith a.compiled c
 
 -- files that compile have no error
 abbrev pub IsNoFaultCompiled : Type 0
-IsNoFaultCompiled = (lean : Bool) (wanted : Option Name) (model_text data_text : List ℕ) (c : Compiled) (finding : Finding) → Headline lean wanted model_text data_text c → IsFirstFault wanted model_text data_text finding → ⊥
+IsNoFaultCompiled = (lean : Bool) (wanted : Option Name) (model_text data_text : List ℕ) (c : Compiled) (diagnostic : Diagnostic) → IsBuilt lean wanted model_text data_text c → IsFirstFault wanted model_text data_text diagnostic → ⊥

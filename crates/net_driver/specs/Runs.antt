@@ -11,16 +11,16 @@ use Rattle.net_driver.specs.declared.compiled.Compiled.{Compiled}
 use Rattle.net_driver.specs.declared.fault.Fault.{Fault}
 use Rattle.net_driver.specs.declared.fault.TextName.{TextName}
 use Rattle.net_driver.specs.declared.fault.TextName.TheVariants.{Model, Data, Problem, Certificate}
-use Rattle.net_driver.specs.declared.fault.Fault.TheVariants.{OutOfMemory, Refused, RefusedLine, Unread, Unwritten}
-use Rattle.net_driver.specs.Telling.{IsRefusal}
+use Rattle.net_driver.specs.declared.fault.Fault.TheVariants.{OutOfMemory, Rejected, RejectedLine, Unread, Unwritten}
+use Rattle.net_driver.specs.Reporting.{IsRejection}
 use Rattle.net_check.specs.declared.verdict.Verdict.{Verdict}
 use Rattle.net_check.specs.declared.certificate.Certificate as certificates
-use Rattle.net_driver.specs.declared.ending.Ending.{Ending}
-use Rattle.net_driver.specs.Checked.{Judges, IsLineRefusal, IsProblemRefusal, ending_of, verdict_line}
-use Rattle.net_driver.specs.Settled.{Settles, settled_ending}
-use Rattle.net_driver.specs.Answers.{Answers, text_of}
-use Rattle.net_driver.specs.Answers as answers
-use Rattle.net_driver.specs.Headline.{Headline}
+use Rattle.net_driver.specs.declared.exit_kind.ExitKind.{ExitKind}
+use Rattle.net_driver.specs.Checked.{Judges, IsLineRejection, IsProblemRejection, exit_kind_of, verdict_line}
+use Rattle.net_driver.specs.Settled.{Settles, settled_exit_kind}
+use Rattle.net_driver.specs.IsSolved.{IsSolved, text_of}
+use Rattle.net_driver.specs.IsSolved as answers
+use Rattle.net_driver.specs.IsBuilt.{IsBuilt}
 
 abbrev pub model_limit : ℕ
 model_limit = text_limit languages.Model
@@ -110,19 +110,19 @@ pub record Writes (inputs : List Input) (IsAnswer : Texts → List ℕ → Type 
   pub written : GoesOut text
 
 -- the sources were read up to their limits, and their texts have this error
-pub record Refuses (inputs : List Input) (IsWrong : Texts → Type 0) : Type 0 where
+pub record Rejects (inputs : List Input) (IsWrong : Texts → Type 0) : Type 0 where
   pub texts : Texts
   pub read : Each (λ i. ReadsUpTo i.limit i.bytes (texts i.name)) inputs
-  pub refused : IsWrong texts
+  pub rejected : IsWrong texts
 
 -- what an error means; except for a failed write, after which a prefix of the result is written,
 -- nothing was written
-abbrev pub Tells : {A S : Type 0} → List Input → Sink S → (Texts → A → List ℕ → Type 0) → (Texts → Fault → Type 0) → Fault → Type 0
-Tells inputs output IsAnswer IsWrong OutOfMemory = output.new ≡ output.old
-Tells inputs output IsAnswer IsWrong (Refused r) = (output.new ≡ output.old) × Refuses inputs (λ texts. IsWrong texts (Refused r))
-Tells inputs output IsAnswer IsWrong (RefusedLine r) = (output.new ≡ output.old) × Refuses inputs (λ texts. IsWrong texts (RefusedLine r))
-Tells inputs output IsAnswer IsWrong (Unread name) = (output.new ≡ output.old) × OneOf (λ i. name ≡ i.name) inputs
-Tells {A} inputs output IsAnswer IsWrong Unwritten =
+abbrev pub Reports : {A S : Type 0} → List Input → Sink S → (Texts → A → List ℕ → Type 0) → (Texts → Fault → Type 0) → Fault → Type 0
+Reports inputs output IsAnswer IsWrong OutOfMemory = output.new ≡ output.old
+Reports inputs output IsAnswer IsWrong (Rejected r) = (output.new ≡ output.old) × Rejects inputs (λ texts. IsWrong texts (Rejected r))
+Reports inputs output IsAnswer IsWrong (RejectedLine r) = (output.new ≡ output.old) × Rejects inputs (λ texts. IsWrong texts (RejectedLine r))
+Reports inputs output IsAnswer IsWrong (Unread name) = (output.new ≡ output.old) × OneOf (λ i. name ≡ i.name) inputs
+Reports {A} inputs output IsAnswer IsWrong Unwritten =
     (a : A) × Writes inputs (λ texts. IsAnswer texts a) (WritesFront (output.taken output.old) (output.taken output.new))
 
 -- a run from these sources to this sink: which results with which output are possible for the
@@ -131,7 +131,7 @@ pub record IsRun {A S : Type 0} (inputs : List Input) (output : Sink S) (IsAnswe
     (result : Result A Fault) : Type 0 where
   -- the sources were read completely, and exactly the output of the result was written
   pub ok : IfOk result (λ a. Writes inputs (λ texts. IsAnswer texts a) (Appends (output.taken output.old) (output.taken output.new)))
-  pub err : IfErr result (Tells inputs output IsAnswer IsWrong)
+  pub err : IfErr result (Reports inputs output IsAnswer IsWrong)
   -- a stream is reported if and only if it failed
   pub unread : Each (λ i. IsErrOf result (Unread i.name) ↔ (i.failed ≡ true)) inputs
   pub unwritten : IsErrOf result Unwritten ↔ (output.failed output.new ≡ true)
@@ -141,37 +141,37 @@ pub record IsRun {A S : Type 0} (inputs : List Input) (output : Sink S) (IsAnswe
 
 -- the text of a compiled model with its data
 abbrev pub IsCompiledText : Bool → Option Name → Texts → Unit {0} → List ℕ → Type 0
-IsCompiledText lean wanted texts done text = (c : Compiled) × Headline lean wanted (texts Model) (texts Data) c × (text ≡ c.text.items)
+IsCompiledText lean wanted texts done text = (c : Compiled) × IsBuilt lean wanted (texts Model) (texts Data) c × (text ≡ c.text.items)
 
 -- the plan of a model with its data, or the cut that proves that there is none
-abbrev pub IsSolvedText : Bool → Option Name → Texts → Ending → List ℕ → Type 0
-IsSolvedText lean wanted texts ending text =
-    (a : Answer) × Answers lean wanted (texts Model) (texts Data) a × (ending ≡ answers.ending_of a.outcome) × (text ≡ text_of a.outcome)
+abbrev pub IsSolvedText : Bool → Option Name → Texts → ExitKind → List ℕ → Type 0
+IsSolvedText lean wanted texts exit_kind text =
+    (a : Answer) × IsSolved lean wanted (texts Model) (texts Data) a × (exit_kind ≡ answers.exit_kind_of a.outcome) × (text ≡ text_of a.outcome)
 
 -- the line of the verdict on a certificate
-abbrev pub IsVerdictText : Texts → Ending → List ℕ → Type 0
-IsVerdictText texts ending text = (v : Verdict) × Judges (texts Problem) (texts Certificate) v × (ending ≡ ending_of v) × (text ≡ verdict_line v)
+abbrev pub IsVerdictText : Texts → ExitKind → List ℕ → Type 0
+IsVerdictText texts exit_kind text = (v : Verdict) × Judges (texts Problem) (texts Certificate) v × (exit_kind ≡ exit_kind_of v) × (text ≡ verdict_line v)
 
 -- the text of a problem's certificate
-abbrev pub IsSettledText : Texts → Ending → List ℕ → Type 0
-IsSettledText texts ending text = (c : certificates.Certificate) × Settles (texts Problem) c text × (ending ≡ settled_ending c)
+abbrev pub IsSettledText : Texts → ExitKind → List ℕ → Type 0
+IsSettledText texts exit_kind text = (c : certificates.Certificate) × Settles (texts Problem) c text × (exit_kind ≡ settled_exit_kind c)
 
 -- a run that reads a model and its data
 abbrev pub IsModelRun : {A M D W : Type 0} → Option Name → (Texts → A → List ℕ → Type 0) → Source M → Source D → Sink W → Result A Fault → Type 0
 IsModelRun wanted IsText model data' output result =
-    IsRun (input Model model_limit model ∷ input Data data_limit data' ∷ []) output IsText (λ texts. IsRefusal wanted (texts Model) (texts Data)) result
+    IsRun (input Model model_limit model ∷ input Data data_limit data' ∷ []) output IsText (λ texts. IsRejection wanted (texts Model) (texts Data)) result
 
 -- the four runs
 abbrev pub IsCompileRun : {M D W : Type 0} → Bool → Option Name → Source M → Source D → Sink W → Result (Unit {0}) Fault → Type 0
 IsCompileRun lean wanted model data' output result = IsModelRun wanted (IsCompiledText lean wanted) model data' output result
 
-abbrev pub IsSolveRun : {M D W : Type 0} → Bool → Option Name → Source M → Source D → Sink W → Result Ending Fault → Type 0
+abbrev pub IsSolveRun : {M D W : Type 0} → Bool → Option Name → Source M → Source D → Sink W → Result ExitKind Fault → Type 0
 IsSolveRun lean wanted model data' output result = IsModelRun wanted (IsSolvedText lean wanted) model data' output result
 
-abbrev pub IsCheckRun : {P C W : Type 0} → Source P → Source C → Sink W → Result Ending Fault → Type 0
+abbrev pub IsCheckRun : {P C W : Type 0} → Source P → Source C → Sink W → Result ExitKind Fault → Type 0
 IsCheckRun problem certificate output result =
     IsRun (input Problem lines_limit problem ∷ input Certificate lines_limit certificate ∷ []) output IsVerdictText
-    (λ texts. IsLineRefusal (texts Problem) (texts Certificate)) result
+    (λ texts. IsLineRejection (texts Problem) (texts Certificate)) result
 
-abbrev pub IsMinRun : {P W : Type 0} → Source P → Sink W → Result Ending Fault → Type 0
-IsMinRun problem output result = IsRun (input Problem lines_limit problem ∷ []) output IsSettledText (λ texts. IsProblemRefusal (texts Problem)) result
+abbrev pub IsMinRun : {P W : Type 0} → Source P → Sink W → Result ExitKind Fault → Type 0
+IsMinRun problem output result = IsRun (input Problem lines_limit problem ∷ []) output IsSettledText (λ texts. IsProblemRejection (texts Problem)) result

@@ -8,8 +8,8 @@ use Rattle.net_dimacs.specs.Certificates.{account_of, IsCertificateText}
 use Rattle.net_dimacs.specs.CertificateWritten.{certificate_text}
 use Rattle.net_solve.specs.Settling.{BoundsEachFlow, LeavesNoFlow}
 use Rattle.net_driver.specs.LineTexts.{IsProblemOf}
-use Rattle.net_driver.specs.declared.ending.Ending.{Ending}
-use Rattle.net_driver.specs.declared.ending.Ending.TheVariants.{Done, Refuted}
+use Rattle.net_driver.specs.declared.exit_kind.ExitKind.{ExitKind}
+use Rattle.net_driver.specs.declared.exit_kind.ExitKind.TheVariants.{Done, Refuted}
 
 -- the text of a valid certificate of this problem
 abbrev pub IsAnswerText : Problem → Certificate → List ℕ → Type 0
@@ -28,6 +28,6 @@ pub record Settles (problem_text : List ℕ) (settled : Certificate) (text : Lis
   pub cut : LeavesNoFlow problem settled
   pub answer : IsAnswerText problem settled text
 
-abbrev pub settled_ending : Certificate → Ending
-settled_ending (Optimal value flows potentials) = Done
-settled_ending (Cut flags side) = Refuted
+abbrev pub settled_exit_kind : Certificate → ExitKind
+settled_exit_kind (Optimal value flows potentials) = Done
+settled_exit_kind (Cut flags side) = Refuted

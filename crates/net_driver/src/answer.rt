@@ -5,20 +5,20 @@ ghost use Rattle.std.specs.Option.{option_copied};
 ghost use Rattle.net_check.specs.Certificates.{IsViolatedCut};
 ghost use Rattle.net_normal.specs.Flows.{IsFeasibleFlow, cost_of};
 ghost use Rattle.net_check.specs.Certificates.{IsCertificate};
-ghost use Rattle.net_driver.specs.Answers.{Answers, text_of};
-ghost use Rattle.net_driver.specs.Headline.{Headline};
+ghost use Rattle.net_driver.specs.IsSolved.{IsSolved, text_of};
+ghost use Rattle.net_driver.specs.IsBuilt.{IsBuilt};
 ghost use Rattle.net_driver.specs.Linked.{written};
 ghost use Rattle.net_driver.specs.Made.{SizesAgree};
 ghost use Rattle.net_expr.specs.Worlds.{Name};
 ghost use Rattle.net_driver.specs.Outcomes.{IsOutcomeOf, IsDisplayOf, IsCutOf};
-ghost use Rattle.net_driver.specs.Telling.{IsRefusal};
+ghost use Rattle.net_driver.specs.Reporting.{IsRejection};
 
 use crate::compiled::{Compiled, Options, with_text};
 use crate::fault::Fault;
 use crate::unwritten::{Unwritten, read_model};
 use net_check::Side;
 use net_inst::objective_is_written;
-use net_report::{lift, write_cut, write_display};
+use net_report::{map_back, write_cut, write_display};
 use net_solve::{Settled, solve_problem};
 use std::alloc::{AllocError, Global};
 
@@ -66,8 +66,8 @@ pub struct Answer<'s> {
 
 /// Solves a model with its data, with the model's only objective.
 pub fn solve_model<'s>(alloc: Global, model: &'s [u8], data: &'s [u8]) -> Result<Answer<'s>, Fault>
-    ensures value { IfOk result (Answers false None model.entry.now «data».entry.now) }
-    ensures refused { IfErr result (IsRefusal None model.entry.now «data».entry.now) }
+    ensures value { IfOk result (IsSolved false None model.entry.now «data».entry.now) }
+    ensures rejected { IfErr result (IsRejection None model.entry.now «data».entry.now) }
 {
     solve_model_with(alloc, &Options::new(), model, data)
 }
@@ -79,8 +79,8 @@ pub fn solve_model_with<'s>(
     model: &'s [u8],
     data: &'s [u8],
 ) -> Result<Answer<'s>, Fault>
-    ensures value { IfOk result (Answers options.now.lean (option_copied options.now.objective) model.entry.now «data».entry.now) }
-    ensures refused { IfErr result (IsRefusal (option_copied options.now.objective) model.entry.now «data».entry.now) }
+    ensures value { IfOk result (IsSolved options.now.lean (option_copied options.now.objective) model.entry.now «data».entry.now) }
+    ensures rejected { IfErr result (IsRejection (option_copied options.now.objective) model.entry.now «data».entry.now) }
 {
     let unwritten = read_model(alloc, options, model, data)?;
     let outcome = solve_unwritten(alloc, &unwritten)?;
@@ -94,8 +94,8 @@ pub(crate) fn solve_unwritten(
     unwritten: &Unwritten<'_>,
 ) -> Result<Outcome, AllocError>
     requires { SizesAgree (written unwritten.now) }
-    ensures { (lean : Bool) (wanted : Option Name) (m d : List ℕ) → Headline lean wanted m d (written unwritten.now)
-        → IfOk result (λ outcome. Answers lean wanted m d (record { compiled = written unwritten.now; outcome = outcome })) }
+    ensures { (lean : Bool) (wanted : Option Name) (m d : List ℕ) → IsBuilt lean wanted m d (written unwritten.now)
+        → IfOk result (λ outcome. IsSolved lean wanted m d (record { compiled = written unwritten.now; outcome = outcome })) }
 {
     let settled = solve_problem(alloc, &unwritten.problem)?;
     let outcome = outcome_of(alloc, unwritten, settled)?;
@@ -131,7 +131,7 @@ fn displayed(
     requires cost { cost ≡ cost_of unwritten.now.problem flows.now }
     ensures { IfOk result (IsDisplayOf (written unwritten.now) flows.now cost) }
 {
-    let assignment = lift(alloc, &unwritten.link, flows)?;
+    let assignment = map_back(alloc, &unwritten.link, flows)?;
     let value = unwritten.link.value(cost);
     let text = write_display(alloc, &unwritten.names, &assignment, value)?;
     Ok(Outcome::Displayed {

@@ -2,9 +2,9 @@
 
 ghost use Rattle.std.specs.Prelude.{◌≡◌, ◌++◌, List, ℕ, IfOk, IfErr, OnOk, IsErrOf};
 ghost use Rattle.net_driver.specs.LineTexts.{IsProblemOf, IsCertificateOf, MayBeProblem};
-ghost use Rattle.net_driver.specs.Checked.{Judges, IsLineRefusal, IsProblemRefusal, IsCertificateStop, fault_of, reason_word, verdict_line};
+ghost use Rattle.net_driver.specs.Checked.{Judges, IsLineRejection, IsProblemRejection, IsCertificateStop, fault_of, reason_word, verdict_line};
 
-use crate::fault::{Fault, LineRefusal, TextName};
+use crate::fault::{Fault, LineRejection, TextName};
 use itoa::Buffer;
 use net_check::{Certificate, Reason, Verdict, check};
 use net_dimacs::{ProblemFault, read_certificate, read_problem};
@@ -15,7 +15,7 @@ use std::alloc::{AllocError, Global};
 /// there is one.
 pub fn check_bytes(alloc: Global, problem: &[u8], certificate: &[u8]) -> Result<Verdict, Fault>
     ensures value { IfOk result (Judges problem.now certificate.now) }
-    ensures refused { IfErr result (IsLineRefusal problem.now certificate.now) }
+    ensures rejected { IfErr result (IsLineRejection problem.now certificate.now) }
 
     // Memory is allocated only if the file begins a problem.
     ensures memory { IsErrOf result Fault.OutOfMemory → MayBeProblem problem.now }
@@ -30,7 +30,7 @@ pub fn check_bytes(alloc: Global, problem: &[u8], certificate: &[u8]) -> Result<
 /// Checks a certificate file for a problem.
 pub(crate) fn judge(alloc: Global, network: &Problem, certificate: &[u8]) -> Result<Verdict, Fault>
     ensures value { (problem : List ℕ) → IsProblemOf problem network.now → IfOk result (Judges problem certificate.now) }
-    ensures refused { (problem : List ℕ) → IsProblemOf problem network.now → IfErr result (IsLineRefusal problem certificate.now) }
+    ensures rejected { (problem : List ℕ) → IsProblemOf problem network.now → IfErr result (IsLineRejection problem certificate.now) }
 {
     let claim = match certificate_of(alloc, network, certificate) {
         Ok(claim) => claim,
@@ -43,7 +43,7 @@ pub(crate) fn judge(alloc: Global, network: &Problem, certificate: &[u8]) -> Res
 #[tactic(auto, using(crate::proofs::Reading::short_problem))]
 pub(crate) fn problem_of(alloc: Global, text: &[u8]) -> Result<Problem, Fault>
     ensures ok { IfOk result (IsProblemOf text.now) }
-    ensures refused { IfErr result (IsProblemRefusal text.now) }
+    ensures rejected { IfErr result (IsProblemRejection text.now) }
     ensures memory { IsErrOf result Fault.OutOfMemory → MayBeProblem text.now }
 {
     match read_problem(alloc, text) {
@@ -56,7 +56,7 @@ pub(crate) fn problem_of(alloc: Global, text: &[u8]) -> Result<Problem, Fault>
 #[tactic(auto, using(crate::proofs::Reading::short_certificate))]
 fn certificate_of(alloc: Global, problem: &Problem, text: &[u8]) -> Result<Certificate, Fault>
     ensures ok { IfOk result (IsCertificateOf problem.now text.now) }
-    ensures refused { IfErr result (IsCertificateStop problem.now text.now) }
+    ensures rejected { IfErr result (IsCertificateStop problem.now text.now) }
 {
     match read_certificate(alloc, problem, text) {
         Ok(certificate) => Ok(certificate),
@@ -69,10 +69,10 @@ pub(crate) fn fault_of(text: TextName, fault: ProblemFault) -> Fault
 {
     match fault {
         ProblemFault::OutOfMemory => Fault::OutOfMemory,
-        ProblemFault::Refused(refusal) => Fault::RefusedLine(LineRefusal {
+        ProblemFault::Rejected(rejection) => Fault::RejectedLine(LineRejection {
             text,
-            fault: refusal.fault,
-            line: refusal.line,
+            fault: rejection.fault,
+            line: rejection.line,
         }),
     }
 }

@@ -4,8 +4,8 @@ ghost use Rattle.std.specs.Prelude.{◌≡◌, None, false, IfOk, IfErr};
 ghost use Rattle.std.specs.Option.{option_copied};
 ghost use Rattle.net_driver.specs.Linked.{written};
 ghost use Rattle.net_driver.specs.Made.{SizesAgree};
-ghost use Rattle.net_driver.specs.Telling.{IsRefusal};
-ghost use Rattle.net_driver.specs.Headline.{Headline};
+ghost use Rattle.net_driver.specs.Reporting.{IsRejection};
+ghost use Rattle.net_driver.specs.IsBuilt.{IsBuilt};
 
 use crate::fault::Fault;
 use crate::linked::linked_of;
@@ -52,8 +52,8 @@ pub struct Compiled<'s> {
 
 /// Compiles a model with its data, with the model's only objective, in the normal form.
 pub fn compile<'s>(alloc: Global, model: &'s [u8], data: &'s [u8]) -> Result<Compiled<'s>, Fault>
-    ensures value { IfOk result (Headline false None model.entry.now «data».entry.now) }
-    ensures refused { IfErr result (IsRefusal None model.entry.now «data».entry.now) }
+    ensures value { IfOk result (IsBuilt false None model.entry.now «data».entry.now) }
+    ensures rejected { IfErr result (IsRejection None model.entry.now «data».entry.now) }
 {
     compile_with(alloc, &Options::new(), model, data)
 }
@@ -68,8 +68,8 @@ pub fn compile_with<'s>(
     model: &'s [u8],
     data: &'s [u8],
 ) -> Result<Compiled<'s>, Fault>
-    ensures value { IfOk result (Headline options.now.lean (option_copied options.now.objective) model.entry.now «data».entry.now) }
-    ensures refused { IfErr result (IsRefusal (option_copied options.now.objective) model.entry.now «data».entry.now) }
+    ensures value { IfOk result (IsBuilt options.now.lean (option_copied options.now.objective) model.entry.now «data».entry.now) }
+    ensures rejected { IfErr result (IsRejection (option_copied options.now.objective) model.entry.now «data».entry.now) }
 {
     let unwritten = read_model(alloc, options, model, data)?;
     let compiled = with_text(alloc, unwritten)?;

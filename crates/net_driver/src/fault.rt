@@ -4,7 +4,7 @@ ghost use Rattle.std.specs.Prelude.{◌≡◌};
 ghost use Rattle.net_driver.specs.FaultLines.{detail_gap, text_word};
 
 use net_dimacs::LineFault;
-use net_fault::{Defect, Span};
+use net_fault::{ErrorCode, Span};
 use std::alloc::{AllocError, AllocFailed};
 use std::fmt;
 use thiserror::Error;
@@ -34,8 +34,8 @@ impl TextName {
 
 /// An error in a model or its data, with its position.
 #[derive(Debug, Drop, Error)]
-pub struct Refusal {
-    pub kind: Defect,
+pub struct Rejection {
+    pub kind: ErrorCode,
     pub text: TextName,
     pub span: Span,
     /// The position of the start of the span, both counted from 1.
@@ -51,11 +51,11 @@ fn detail_gap(detail: &str) -> &'static str
     if detail.is_empty() { "" } else { " " }
 }
 
-impl fmt::Display for Refusal {
+impl fmt::Display for Rejection {
     ghost use Rattle.std.specs.Prelude.{Some};
-    ghost use Rattle.net_driver.specs.FaultLines.{refusal_line};
+    ghost use Rattle.net_driver.specs.FaultLines.{rejection_line};
 
-    ghost output = { λ refusal. Some (refusal_line refusal) };
+    ghost output = { λ rejection. Some (rejection_line rejection) };
 
     /// Prints the error in the form `E12 Undeclared model 3:30 B`.
     fn fmt<W: fmt::Write>(&self, f: &mut fmt::Formatter<W>) -> fmt::Result {
@@ -71,7 +71,7 @@ impl fmt::Display for Refusal {
 
 /// An error in a problem or certificate file, with its line.
 #[derive(Clone, Copy, Debug, Error)]
-pub struct LineRefusal {
+pub struct LineRejection {
     pub text: TextName,
     pub fault: LineFault,
     /// The number of the line, from 1; for a missing line at the end, the number of the line after
@@ -79,11 +79,11 @@ pub struct LineRefusal {
     pub line: usize,
 }
 
-impl fmt::Display for LineRefusal {
+impl fmt::Display for LineRejection {
     ghost use Rattle.std.specs.Prelude.{Some};
-    ghost use Rattle.net_driver.specs.FaultLines.{line_refusal_line};
+    ghost use Rattle.net_driver.specs.FaultLines.{line_rejection_line};
 
-    ghost output = { λ refusal. Some (line_refusal_line refusal) };
+    ghost output = { λ rejection. Some (line_rejection_line rejection) };
 
     /// Prints the error in the form `E75 Count problem 3`.
     fn fmt<W: fmt::Write>(&self, f: &mut fmt::Formatter<W>) -> fmt::Result {
@@ -100,9 +100,9 @@ pub enum Fault {
     /// `out of memory`
     OutOfMemory,
     /// `E10 Syntax model 2:16`
-    Refused(Refusal),
+    Rejected(Rejection),
     /// `E75 Count problem 3`
-    RefusedLine(LineRefusal),
+    RejectedLine(LineRejection),
     /// `E90 ReadFault model`
     Unread(TextName),
     /// `E91 WriteFault`
@@ -118,8 +118,8 @@ impl fmt::Display for Fault {
     fn fmt<W: fmt::Write>(&self, f: &mut fmt::Formatter<W>) -> fmt::Result {
         match self {
             Fault::OutOfMemory => f.write_str("out of memory"),
-            Fault::Refused(refusal) => write!(f, "{refusal}"),
-            Fault::RefusedLine(refusal) => write!(f, "{refusal}"),
+            Fault::Rejected(rejection) => write!(f, "{rejection}"),
+            Fault::RejectedLine(rejection) => write!(f, "{rejection}"),
             Fault::Unread(text) => {
                 let text = text.word();
                 write!(f, "E90 ReadFault {text}")

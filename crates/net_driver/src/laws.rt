@@ -14,5 +14,5 @@ pub fn answers_are_accepted()
 pub fn texts_have_one_answer()
     ensures compiled { IsOneAnswer }
     ensures solved { IsSolvedAsCompiled }
-    ensures refused { IsNoFaultCompiled }
+    ensures rejected { IsNoFaultCompiled }
 {}

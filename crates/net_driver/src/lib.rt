@@ -4,7 +4,7 @@
 mod answer;
 mod checking;
 mod compiled;
-mod ending;
+mod exit_kind;
 mod fault;
 mod first_fault;
 mod laws;
@@ -14,10 +14,10 @@ mod meaning;
 mod naming;
 mod network;
 mod problem_source;
+mod reporting;
 mod run;
 mod settling;
 mod solve_run;
-mod telling;
 mod text;
 mod texts;
 mod unwritten;
@@ -25,10 +25,10 @@ mod unwritten;
 pub use answer::{Answer, Outcome, solve_model, solve_model_with};
 pub use checking::check_bytes;
 pub use compiled::{Compiled, Options, compile, compile_with};
-pub use ending::Ending;
-pub use fault::{Fault, LineRefusal, Refusal, TextName};
+pub use exit_kind::ExitKind;
+pub use fault::{Fault, LineRejection, Rejection, TextName};
 pub use first_fault::{
-    first_fault_lies_in_its_text, one_first_fault, one_of_network_and_error, read_or_refused,
+    first_error_is_in_its_file, one_first_fault, one_of_network_and_error, read_or_rejected,
 };
 pub use laws::{answers_are_accepted, texts_have_one_answer};
 pub use line_runs::{run_check, run_min};
@@ -38,7 +38,7 @@ pub use meaning::{
 pub use naming::{names_are_declared_once, nodes_and_arcs_are_apart, well_named};
 pub use net_check::{Reason, Side, Verdict};
 pub use net_dimacs::LineFault;
-pub use net_fault::{Defect, Span};
+pub use net_fault::{ErrorCode, Span};
 pub use net_inst::{Named, Names};
 pub use net_io::{Failed, Sink, Source};
 pub use net_normal::{Link, Problem};

@@ -5,12 +5,12 @@ ghost use Rattle.std.specs.Prelude.{◌≡◌, ◌⊎◌, List, ℕ, true, false
 ghost use Rattle.net_dimacs.specs.Limits.{text_limit};
 ghost use Rattle.net_dimacs.specs.Scans.{Stands};
 ghost use Rattle.net_io.specs.Ends.{ReadsToLimit};
-ghost use Rattle.net_driver.specs.Checked.{Judges, IsLineRefusal, IsProblemRefusal, ending_of};
-ghost use Rattle.net_driver.specs.Settled.{Settles, settled_ending};
+ghost use Rattle.net_driver.specs.Checked.{Judges, IsLineRejection, IsProblemRejection, exit_kind_of};
+ghost use Rattle.net_driver.specs.Settled.{Settles, settled_exit_kind};
 ghost use Rattle.net_driver.specs.Runs.{IsCheckRun, IsMinRun, IsAskedFew, lines_limit};
 
 use crate::checking::{judge, verdict_line};
-use crate::ending::Ending;
+use crate::exit_kind::ExitKind;
 use crate::fault::{Fault, TextName};
 use crate::problem_source::{finished, read_problem_from};
 use crate::run::read_text;
@@ -21,21 +21,21 @@ use net_io::{Sink, Source, write_whole};
 use net_solve::Settled;
 use std::alloc::Global;
 
-fn ending_of(verdict: &Verdict) -> Ending
-    ensures { result ≡ ending_of verdict.now }
+fn exit_kind_of(verdict: &Verdict) -> ExitKind
+    ensures { result ≡ exit_kind_of verdict.now }
 {
     match verdict {
-        Verdict::Yes => Ending::Done,
-        Verdict::No(..) => Ending::Refuted,
+        Verdict::Yes => ExitKind::Done,
+        Verdict::No(..) => ExitKind::Refuted,
     }
 }
 
-fn settled_ending(settled: &Settled) -> Ending
-    ensures { result ≡ settled_ending settled.now }
+fn settled_exit_kind(settled: &Settled) -> ExitKind
+    ensures { result ≡ settled_exit_kind settled.now }
 {
     match settled {
-        Settled::Optimal { .. } => Ending::Done,
-        Settled::Cut { .. } => Ending::Refuted,
+        Settled::Optimal { .. } => ExitKind::Done,
+        Settled::Cut { .. } => ExitKind::Refuted,
     }
 }
 
@@ -53,7 +53,7 @@ fn read_certificate<C: Source>(alloc: Global, certificate: &mut C) -> Result<Vec
 /// Checks a certificate file for the problem that was read.
 fn check_read(alloc: Global, reading: Reading, certificate: &[u8]) -> Result<Verdict, Fault>
     ensures value { (text : List ℕ) → Stands reading text → IfOk result (Judges text certificate.now) }
-    ensures refused { (text : List ℕ) → Stands reading text → IfErr result (IsLineRefusal text certificate.now) }
+    ensures rejected { (text : List ℕ) → Stands reading text → IfErr result (IsLineRejection text certificate.now) }
 {
     let network = match finished(reading) {
         Ok(network) => network,
@@ -65,7 +65,7 @@ fn check_read(alloc: Global, reading: Reading, certificate: &[u8]) -> Result<Ver
 /// Solves the problem that was read; also returns the text of its certificate.
 fn solve_read(alloc: Global, reading: Reading) -> Result<(Settled, Vec<u8>), Fault>
     ensures value { (text : List ℕ) → Stands reading text → IfOk result (λ answer. Settles text answer.0 answer.1.items) }
-    ensures refused { (text : List ℕ) → Stands reading text → IfErr result (IsProblemRefusal text) }
+    ensures rejected { (text : List ℕ) → Stands reading text → IfErr result (IsProblemRejection text) }
 {
     let network = match finished(reading) {
         Ok(network) => network,
@@ -82,7 +82,7 @@ pub fn run_check<P: Source, C: Source, W: Sink>(
     problem: &mut P,
     certificate: &mut C,
     output: &mut W,
-) -> Result<Ending, Fault>
+) -> Result<ExitKind, Fault>
     requires problem_unread { P.failed problem.old ≡ false }
     requires certificate_unread { C.failed certificate.old ≡ false }
     requires unwritten { W.failed output.old ≡ false }
@@ -97,10 +97,10 @@ pub fn run_check<P: Source, C: Source, W: Sink>(
     let reading = read_problem_from(alloc, problem)?;
     let certificate_text = read_certificate(alloc, certificate)?;
     let verdict = check_read(alloc, reading, &certificate_text)?;
-    let ending = ending_of(&verdict);
+    let exit_kind = exit_kind_of(&verdict);
     let line = verdict_line(alloc, verdict)?;
     match write_whole(output, &line) {
-        Ok(()) => Ok(ending),
+        Ok(()) => Ok(exit_kind),
         Err(_) => Err(Fault::Unwritten),
     }
 }
@@ -110,7 +110,7 @@ pub fn run_min<P: Source, W: Sink>(
     alloc: Global,
     problem: &mut P,
     output: &mut W,
-) -> Result<Ending, Fault>
+) -> Result<ExitKind, Fault>
     requires problem_unread { P.failed problem.old ≡ false }
     requires unwritten { W.failed output.old ≡ false }
     ensures run { IsMinRun
@@ -119,9 +119,9 @@ pub fn run_min<P: Source, W: Sink>(
 {
     let reading = read_problem_from(alloc, problem)?;
     let (settled, text) = solve_read(alloc, reading)?;
-    let ending = settled_ending(&settled);
+    let exit_kind = settled_exit_kind(&settled);
     match write_whole(output, &text) {
-        Ok(()) => Ok(ending),
+        Ok(()) => Ok(exit_kind),
         Err(_) => Err(Fault::Unwritten),
     }
 }

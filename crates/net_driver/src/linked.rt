@@ -4,10 +4,10 @@ ghost use Rattle.std.specs.Prelude.{◌≡◌, ◌||◌, IfOk, IfErr, OnOk, OnEr
 ghost use Rattle.std.specs.Option.{option_copied};
 ghost use Rattle.std.specs.Io.KnownBytes.{Appends};
 ghost use Rattle.net_io.specs.Ends.{WritesFront};
-ghost use Rattle.net_driver.specs.Headline.{Headline};
+ghost use Rattle.net_driver.specs.IsBuilt.{IsBuilt};
 ghost use Rattle.net_driver.specs.Linked.{whole, written};
 ghost use Rattle.net_driver.specs.Made.{SizesAgree};
-ghost use Rattle.net_driver.specs.Telling.{IsRefusal};
+ghost use Rattle.net_driver.specs.Reporting.{IsRejection};
 
 use crate::compiled::Options;
 use crate::fault::Fault;
@@ -35,8 +35,8 @@ pub(crate) fn link_model<'s>(
     model: &'s [u8],
     data: &'s [u8],
 ) -> Result<Linked<'s>, Fault>
-    ensures value { IfOk result (λ l. Headline options.now.lean (option_copied options.now.objective) model.entry.now «data».entry.now (whole l)) }
-    ensures refused { IfErr result (IsRefusal (option_copied options.now.objective) model.entry.now «data».entry.now) }
+    ensures value { IfOk result (λ l. IsBuilt options.now.lean (option_copied options.now.objective) model.entry.now «data».entry.now (whole l)) }
+    ensures rejected { IfErr result (IsRejection (option_copied options.now.objective) model.entry.now «data».entry.now) }
 {
     let unwritten = read_model(alloc, options, model, data)?;
     let linked = linked_of(alloc, unwritten)?;

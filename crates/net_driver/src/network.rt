@@ -27,7 +27,7 @@ fn network_of<'s>(
 ) -> Result<Named<'s>, Fault>
     requires { AreNew [] (view.model model.now) }
     ensures ok { IfOk result (λ n. ComeTo (option_copied objective.entry) (view.model model.now) tables.now (seen_as n)) }
-    ensures refused { IfErr result (IsNetworkStop (option_copied objective.entry) (view.model model.now) tables.now) }
+    ensures rejected { IfErr result (IsNetworkStop (option_copied objective.entry) (view.model model.now) tables.now) }
 {
     let world = match bind(alloc, model, tables) {
         Ok(world) => world,
@@ -49,7 +49,7 @@ fn network_with<'s>(
     requires { AreNew [] (view.model declared.now) }
     ensures ok { (text : List ℕ) → IsModel text (view.model declared.now) → IfOk result (λ n. IsNetworkOf (option_copied objective.entry) text
         «data».entry.now (seen_as n)) }
-    ensures refused { (text : List ℕ) → IsModel text (view.model declared.now) → IfErr result (IsStop (option_copied objective.entry) text «data».entry.now) }
+    ensures rejected { (text : List ℕ) → IsModel text (view.model declared.now) → IfErr result (IsStop (option_copied objective.entry) text «data».entry.now) }
 {
     let tokens = match lex_data(alloc, data) {
         Ok(tokens) => tokens,
@@ -77,7 +77,7 @@ pub fn read_network<'s>(
     objective: Option<&str>,
 ) -> Result<Named<'s>, Fault>
     ensures ok { IfOk result (λ n. IsNetworkOf (option_copied objective.entry) model.entry.now «data».entry.now (seen_as n)) }
-    ensures refused { IfErr result (IsStop (option_copied objective.entry) model.entry.now «data».entry.now) }
+    ensures rejected { IfErr result (IsStop (option_copied objective.entry) model.entry.now «data».entry.now) }
 {
     let declared = match read_model(alloc, model) {
         Ok(declared) => declared,

@@ -2,7 +2,7 @@
 
 ghost use Rattle.std.specs.Prelude.{◌≡◌, ◌==◌, ◌⊎◌, List, ℕ, true, IfOk, IfErr, IsErrOf};
 ghost use Rattle.net_dimacs.specs.Scans.{Stands};
-ghost use Rattle.net_driver.specs.Checked.{IsProblemRefusal};
+ghost use Rattle.net_driver.specs.Checked.{IsProblemRejection};
 ghost use Rattle.net_driver.specs.LineTexts.{IsProblemOf};
 ghost use Rattle.net_driver.specs.ProblemSources.{GivesText};
 ghost use Rattle.net_driver.specs.Runs.{IsAskedFew, lines_limit};
@@ -65,7 +65,7 @@ fn read_pieces<S: Source>(alloc: Global, source: &mut S) -> Result<Reading, Read
 /// Returns the problem of the file that was read, or its first error.
 pub(crate) fn finished(reading: Reading) -> Result<Problem, Fault>
     ensures ok { (text : List ℕ) → Stands reading text → IfOk result (IsProblemOf text) }
-    ensures refused { (text : List ℕ) → Stands reading text → IfErr result (IsProblemRefusal text) }
+    ensures rejected { (text : List ℕ) → Stands reading text → IfErr result (IsProblemRejection text) }
 {
     match reading.finish() {
         Ok(problem) => Ok(problem),

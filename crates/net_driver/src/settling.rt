@@ -1,7 +1,7 @@
 //! Solving problems, from a file to a certificate.
 
 ghost use Rattle.std.specs.Prelude.{List, ℕ, IfOk, IfErr, IsErrOf};
-ghost use Rattle.net_driver.specs.Checked.{IsProblemRefusal};
+ghost use Rattle.net_driver.specs.Checked.{IsProblemRejection};
 ghost use Rattle.net_driver.specs.LineTexts.{IsProblemOf, MayBeProblem};
 ghost use Rattle.net_driver.specs.Settled.{Settles};
 
@@ -15,7 +15,7 @@ use std::alloc::{AllocError, Global};
 /// Solves the problem of a file in memory; also returns the text of its certificate.
 pub fn solve_min(alloc: Global, problem: &[u8]) -> Result<(Settled, Vec<u8>), Fault>
     ensures value { IfOk result (λ answer. Settles problem.now answer.0 answer.1.items) }
-    ensures refused { IfErr result (IsProblemRefusal problem.now) }
+    ensures rejected { IfErr result (IsProblemRejection problem.now) }
 
     // Memory is allocated only if the file begins a problem.
     ensures memory { IsErrOf result Fault.OutOfMemory → MayBeProblem problem.now }

@@ -3,12 +3,12 @@
 
 ghost use Rattle.std.specs.Prelude.{◌≡◌, None, true, false};
 ghost use Rattle.std.specs.Option.{option_copied};
-ghost use Rattle.net_driver.specs.Answers.{ending_of};
+ghost use Rattle.net_driver.specs.IsSolved.{exit_kind_of};
 ghost use Rattle.net_driver.specs.Runs.{IsSolveRun};
 
 use crate::answer::{Outcome, solve_unwritten};
 use crate::compiled::Options;
-use crate::ending::Ending;
+use crate::exit_kind::ExitKind;
 use crate::fault::{Fault, TextName};
 use crate::run::read_text;
 use crate::unwritten::read_model;
@@ -16,12 +16,12 @@ use net_io::{Sink, Source, write_whole};
 use net_lex::{DATA_LIMIT, MODEL_LIMIT};
 use std::alloc::Global;
 
-fn ending_of(outcome: &Outcome) -> Ending
-    ensures { result ≡ ending_of outcome.now }
+fn exit_kind_of(outcome: &Outcome) -> ExitKind
+    ensures { result ≡ exit_kind_of outcome.now }
 {
     match outcome {
-        Outcome::Displayed { .. } => Ending::Done,
-        Outcome::Infeasible { .. } => Ending::Refuted,
+        Outcome::Displayed { .. } => ExitKind::Done,
+        Outcome::Infeasible { .. } => ExitKind::Refuted,
     }
 }
 
@@ -32,7 +32,7 @@ pub fn run_solve<M: Source, D: Source, W: Sink>(
     model: &mut M,
     data: &mut D,
     output: &mut W,
-) -> Result<Ending, Fault>
+) -> Result<ExitKind, Fault>
     requires model_unread { M.failed model.old ≡ false }
     requires data_unread { D.failed «data».old ≡ false }
     requires unwritten { W.failed output.old ≡ false }
@@ -55,7 +55,7 @@ pub fn run_solve_with<M: Source, D: Source, W: Sink>(
     model: &mut M,
     data: &mut D,
     output: &mut W,
-) -> Result<Ending, Fault>
+) -> Result<ExitKind, Fault>
     requires model_unread { M.failed model.old ≡ false }
     requires data_unread { D.failed «data».old ≡ false }
     requires unwritten { W.failed output.old ≡ false }
@@ -71,9 +71,9 @@ pub fn run_solve_with<M: Source, D: Source, W: Sink>(
     let data_text = read_text(alloc, data, DATA_LIMIT, TextName::Data)?;
     let unwritten = read_model(alloc, options, &model_text, &data_text)?;
     let outcome = solve_unwritten(alloc, &unwritten)?;
-    let ending = ending_of(&outcome);
+    let exit_kind = exit_kind_of(&outcome);
     match write_whole(output, outcome.text()) {
-        Ok(()) => Ok(ending),
+        Ok(()) => Ok(exit_kind),
         Err(_) => Err(Fault::Unwritten),
     }
 }

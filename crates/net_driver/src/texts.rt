@@ -18,7 +18,7 @@ use std::alloc::Global;
 pub(crate) fn read_model<'s>(alloc: Global, text: &'s [u8]) -> Result<Model<'s>, Fault>
     ensures ok { IfOk result (λ m. IsModel text.entry.now (view.model m)) }
     ensures new { IfOk result (λ m. AreNew [] (view.model m)) }
-    ensures refused { IfErr result (IsModelStop text.entry.now) }
+    ensures rejected { IfErr result (IsModelStop text.entry.now) }
 {
     let tokens = match lex_model(alloc, text) {
         Ok(tokens) => tokens,

@@ -4,15 +4,15 @@ ghost use Rattle.std.specs.Prelude.{IfOk, IfErr};
 ghost use Rattle.std.specs.Option.{option_copied};
 ghost use Rattle.net_normal.specs.NormalForm.{IsFormIn};
 ghost use Rattle.net_normal.specs.Correspondence.{CorrespondsOneToOne};
-ghost use Rattle.net_driver.specs.Headline.{Headline};
+ghost use Rattle.net_driver.specs.IsBuilt.{IsBuilt};
 ghost use Rattle.net_driver.specs.Linked.{written};
 ghost use Rattle.net_driver.specs.Made.{IsNormalFormOf, profile_of};
-ghost use Rattle.net_driver.specs.Telling.{IsRefusal};
+ghost use Rattle.net_driver.specs.Reporting.{IsRejection};
 
 use crate::compiled::Options;
 use crate::fault::Fault;
 use crate::network::read_network;
-use crate::telling::told;
+use crate::reporting::reported;
 use net_inst::{
     Names, arcs_are_written, flows_stand_for_assignments, names_are_declared, objective_is_written,
     ranges_are_conditions,
@@ -35,8 +35,8 @@ pub(crate) fn read_model<'s>(
     model: &'s [u8],
     data: &'s [u8],
 ) -> Result<Unwritten<'s>, Fault>
-    ensures value { IfOk result (λ u. Headline options.now.lean (option_copied options.now.objective) model.entry.now «data».entry.now (written u)) }
-    ensures refused { IfErr result (IsRefusal (option_copied options.now.objective) model.entry.now «data».entry.now) }
+    ensures value { IfOk result (λ u. IsBuilt options.now.lean (option_copied options.now.objective) model.entry.now «data».entry.now (written u)) }
+    ensures rejected { IfErr result (IsRejection (option_copied options.now.objective) model.entry.now «data».entry.now) }
 {
     let unwritten = made_of(alloc, options, model, data)?;
     names_are_declared();
@@ -54,11 +54,11 @@ fn made_of<'s>(
     data: &'s [u8],
 ) -> Result<Unwritten<'s>, Fault>
     ensures made { IfOk result (λ u. IsNormalFormOf options.now.lean (option_copied options.now.objective) model.entry.now «data».entry.now (written u)) }
-    ensures refused { IfErr result (IsRefusal (option_copied options.now.objective) model.entry.now «data».entry.now) }
+    ensures rejected { IfErr result (IsRejection (option_copied options.now.objective) model.entry.now «data».entry.now) }
 {
     let named = match read_network(alloc, model, data, options.objective) {
         Ok(named) => named,
-        Err(stop) => return Err(told(alloc, model, data, &stop)),
+        Err(stop) => return Err(reported(alloc, model, data, &stop)),
     };
     let (problem, link) = form_of(alloc, options.lean, &named.instance)?;
     Ok(Unwritten {

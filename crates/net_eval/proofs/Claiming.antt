@@ -15,22 +15,22 @@ use Rattle.net_sets.proofs.Sames.{tuple_decides}
 use Rattle.net_tree.specs.Role.{role_of}
 use Rattle.net_tree.specs.Spans.{span_of}
 use Rattle.net_tree.specs.Tree.{Tree, plain, valued, priced, Body, Phrase}
-use Rattle.net_fault.specs.declared.detail.Detail.TheVariants.{Told}
-use Rattle.net_fault.specs.declared.defect.Defect.TheVariants.{Arity, Restriction}
+use Rattle.net_fault.specs.declared.detail.Detail.TheVariants.{Reported}
+use Rattle.net_fault.specs.declared.error_code.ErrorCode.TheVariants.{Arity, Restriction}
 use Rattle.net_expr.specs.declared.value.Value.{Value}
 use Rattle.net_expr.specs.declared.value.Value.TheVariants.{One, Several, Many, Truth}
 use Rattle.net_expr.specs.SetValues.{IsSetOf, GivesSets}
 use Rattle.net_expr.specs.Values.{value}
 use Rattle.net_expr.specs.Worlds.{World}
 use Rattle.net_expr.proofs.Alike.{AreLong}
-use Rattle.net_expr.proofs.Walked.{none_there}
+use Rattle.net_expr.proofs.IteratedSets.{none_there}
 use Rattle.net_eval.specs.declared.set_phrase.SetWord.{SetWord}
 use Rattle.net_eval.specs.declared.set_phrase.SetWord.TheVariants as words
 use Rattle.net_eval.specs.declared.set_phrase.Claim.{Claim}
 use Rattle.net_eval.specs.declared.set_phrase.Claim.TheVariants as claims
 use Rattle.net_eval.specs.declared.set_phrase.SetPhrase.{SetPhrase}
 use Rattle.net_eval.specs.declared.set_phrase.Claims.{Claims}
-use Rattle.net_fault.specs.Outcomes.{Outcome, and_then, each, refused, refused_as}
+use Rattle.net_fault.specs.Outcomes.{Outcome, and_then, each, rejected, rejected_as}
 use Rattle.net_eval.specs.SetPhrases.{set_word, is_dimension, claimed, set_phrase, dimension_of, agreed, with_phrase, in_body, unclaimed, set_phrases, becomes, assigned}
 use Rattle.net_eval.specs.BoundSets.{is_allowed, allowed}
 use Rattle.net_eval.proofs.RowsTaken.{then_ok, is_ok}
@@ -54,7 +54,7 @@ few (negsuc n) e = cc
 is_claim : (word : SetWord) (at : Span) (v : Value) (c : Claim) → ((d : Option ℕ) (ts : List Tuple) → v ≡ Many d ts → IsSetOf d ts) → claimed word at v ≡ Ok c → IsClaim c
 is_claim words.Dimension at (One (Number n)) c g e = go (is_dimension n) refl e
   where
-    go : (b : Bool) → is_dimension n ≡ b → (if b then (let o : Outcome Claim = Ok (claims.Dimension (unsigned_abs n)) in o) else refused Arity at) ≡ Ok c → IsClaim c
+    go : (b : Bool) → is_dimension n ≡ b → (if b then (let o : Outcome Claim = Ok (claims.Dimension (unsigned_abs n)) in o) else rejected Arity at) ≡ Ok c → IsClaim c
     go true i k = subst IsClaim (is_ok (claims.Dimension (unsigned_abs n)) c k) (few n i)
     go false i k = cc
 is_claim words.Dimension at (One (Name t)) c g e = cc
@@ -88,7 +88,7 @@ agreed_left at None e d ts h s = no_tuples d ts s
 agreed_left at (Some m) None d ts h s = subst (λ o. IsSetOf o ts) (is_ok (Some m) d h) s
 agreed_left at (Some m) (Some n) d ts h s = go (nat_eq m n) h
   where
-    go : (b : Bool) → (if b then (let o : Outcome (Option ℕ) = Ok (Some m) in o) else refused Arity at) ≡ Ok d → IsSetOf d ts
+    go : (b : Bool) → (if b then (let o : Outcome (Option ℕ) = Ok (Some m) in o) else rejected Arity at) ≡ Ok d → IsSetOf d ts
     go true k = subst (λ o. IsSetOf o ts) (is_ok (Some m) d k) s
     go false k = cc
 
@@ -97,7 +97,7 @@ agreed_right at None e d ts h s = subst (λ o. IsSetOf o ts) (is_ok e d h) s
 agreed_right at (Some m) None d ts h s = no_tuples d ts s
 agreed_right at (Some m) (Some n) d ts h s = go (nat_eq m n) refl h
   where
-    go : (b : Bool) → nat_eq m n ≡ b → (if b then (let o : Outcome (Option ℕ) = Ok (Some m) in o) else refused Arity at) ≡ Ok d → IsSetOf d ts
+    go : (b : Bool) → nat_eq m n ≡ b → (if b then (let o : Outcome (Option ℕ) = Ok (Some m) in o) else rejected Arity at) ≡ Ok d → IsSetOf d ts
     go true i k = subst (λ o. IsSetOf o ts) (ap (λ j. Some j) (sym (eqb-true m n i)) ∙ is_ok (Some m) d k) s
     go false i k = cc
 
@@ -134,7 +134,7 @@ pub inside_all : (name : Token) (ts : List Tuple) (ps : List SetPhrase) (u : Uni
 inside_all name ts [] u h = tt
 inside_all name ts (p ∷ ps) u h = go (is_allowed ts p.claim) refl h (inside_all name ts ps u)
   where
-    go : (b : Bool) → is_allowed ts p.claim ≡ b → (if b then allowed name ts ps else refused_as Model Restriction p.at (Told name.text)) ≡ Ok u
+    go : (b : Bool) → is_allowed ts p.claim ≡ b → (if b then allowed name ts ps else rejected_as Model Restriction p.at (Reported name.text)) ≡ Ok u
         → (allowed name ts ps ≡ Ok u → AllByRecursion (λ (q : SetPhrase). is_allowed ts q.claim ≡ true) ps) → AllByRecursion (λ (q : SetPhrase). is_allowed ts q.claim ≡ true) (p ∷ ps)
     go true e k more = (e, more k)
     go false e k more = cc
@@ -143,24 +143,24 @@ all_front : (P : SetPhrase → Type 0) (ps qs : List SetPhrase) → AllByRecursi
 all_front P [] qs h = tt
 all_front P (p ∷ ps) qs h = (h.0, all_front P ps qs h.1)
 
-all_behind : (P : SetPhrase → Type 0) (ps qs : List SetPhrase) → AllByRecursion P (ps ++ qs) → AllByRecursion P qs
-all_behind P [] qs h = h
-all_behind P (p ∷ ps) qs h = all_behind P ps qs h.1
+all_after : (P : SetPhrase → Type 0) (ps qs : List SetPhrase) → AllByRecursion P (ps ++ qs) → AllByRecursion P qs
+all_after P [] qs h = h
+all_after P (p ∷ ps) qs h = all_after P ps qs h.1
 
 -- the first phrase with a set says the set
 abbrev first_said : Option (List Tuple) → Option (List Tuple) → Option (List Tuple)
 first_said (Some ts) later = Some ts
 first_said None later = later
 
-said_by : (c : Claim) (a b : Option (List Tuple)) → becomes c (first_said a b) ≡ first_said (becomes c a) b
-said_by claims.Nothing a b = refl
-said_by (claims.Dimension d) a b = refl
-said_by (claims.Within d ts) a b = refl
-said_by (claims.Becomes d ts) a b = refl
+statement_of : (c : Claim) (a b : Option (List Tuple)) → becomes c (first_said a b) ≡ first_said (becomes c a) b
+statement_of claims.Nothing a b = refl
+statement_of (claims.Dimension d) a b = refl
+statement_of (claims.Within d ts) a b = refl
+statement_of (claims.Becomes d ts) a b = refl
 
 assigned_join : (ps qs : List SetPhrase) → assigned (ps ++ qs) ≡ first_said (assigned ps) (assigned qs)
 assigned_join [] qs = refl
-assigned_join (p ∷ ps) qs = ap (becomes p.claim) (assigned_join ps qs) ∙ said_by p.claim (assigned ps) (assigned qs)
+assigned_join (p ∷ ps) qs = ap (becomes p.claim) (assigned_join ps qs) ∙ statement_of p.claim (assigned ps) (assigned qs)
 
 free_front : (a b : Option (List Tuple)) → first_said a b ≡ None → (a ≡ None) × (b ≡ None)
 free_front None b h = (refl, h)
@@ -197,22 +197,22 @@ sound_more at c d ps p h s e = record { own = own; asked = asked }
         free = free_front (assigned ps) (becomes p.claim None) (sym (assigned_join ps (p ∷ [])) ∙ j.free)
 
         here : is_allowed ts p.claim ≡ true
-        here = (all_behind (λ (q : SetPhrase). is_allowed ts q.claim ≡ true) ps (p ∷ []) j.inside).0
+        here = (all_after (λ (q : SetPhrase). is_allowed ts q.claim ≡ true) ps (p ∷ []) j.inside).0
 
         before : c ≡ Some n → AreLong n ts
         before l = h.asked n ts l (record { free = free.0; inside = all_front (λ (q : SetPhrase). is_allowed ts q.claim ≡ true) ps (p ∷ []) j.inside }) k
 
-        told : (m : ℕ) (o : Option ℕ) → agreed at (Some m) o ≡ Ok d → Some m ≡ d
-        told m None l = is_ok (Some m) d l
-        told m (Some q) l = by (nat_eq m q) l
+        reported : (m : ℕ) (o : Option ℕ) → agreed at (Some m) o ≡ Ok d → Some m ≡ d
+        reported m None l = is_ok (Some m) d l
+        reported m (Some q) l = by (nat_eq m q) l
           where
-            by : (b : Bool) → (if b then (let o : Outcome (Option ℕ) = Ok (Some m) in o) else refused Arity at) ≡ Ok d → Some m ≡ d
+            by : (b : Bool) → (if b then (let o : Outcome (Option ℕ) = Ok (Some m) in o) else rejected Arity at) ≡ Ok d → Some m ≡ d
             by true z = is_ok (Some m) d z
             by false z = cc
 
         go : (o : Option ℕ) → c ≡ o → agreed at o (dimension_of p.claim) ≡ Ok d → AreLong n ts
         go None l z = asked_one p.claim n ts s (is_ok (dimension_of p.claim) d z ∙ i) free.1 here k
-        go (Some m) l z = before (l ∙ (told m (dimension_of p.claim) z ∙ i))
+        go (Some m) l z = before (l ∙ (reported m (dimension_of p.claim) z ∙ i))
 
 abbrev IsSound : Claims → Type 0
 IsSound c = AreSound c.dimension c.phrases

@@ -13,8 +13,8 @@ use Rattle.net_tree.specs.declared.operator.Words.TheVariants as operator
 use Rattle.net_tree.specs.Role.{role_of, marks, keys}
 use Rattle.net_tree.specs.Spans.{span_of, span_between, braces_span}
 use Rattle.net_tree.specs.Tree.{leaf, none, link, absent, filled, valued, Braces, Phrase, Declaration, set, param}
-use Rattle.net_fault.specs.declared.detail.Detail.TheVariants.{Told}
-use Rattle.net_fault.specs.declared.defect.Defect.TheVariants.{OutsideSet, DoubleValue, NoSuchName}
+use Rattle.net_fault.specs.declared.detail.Detail.TheVariants.{Reported}
+use Rattle.net_fault.specs.declared.error_code.ErrorCode.TheVariants.{OutsideSet, DoubleValue, NoSuchName}
 use Rattle.net_expr.specs.declared.world.Entry.TheVariants.{Set, Parameter}
 use Rattle.net_expr.specs.Limits.{is_small}
 use Rattle.net_expr.specs.References.{reference_text}
@@ -74,13 +74,13 @@ as_given = refl
 
 -- set S;    set S := b b;
 given_twice : world (set_s ∷ []) (given_s (name (codes "b") 9 10 ∷ name (codes "b") 11 12 ∷ []) ∷ [])
-    ≡ Err (record { defect = DoubleValue; text = texts.Data; at = record { start = 11; end = 12 }; detail = Told (codes "S") })
+    ≡ Err (record { error_code = DoubleValue; text = texts.Data; at = record { start = 11; end = 12 }; detail = Reported (codes "S") })
 unfolding role_of marks keys operations operation reduction is_minus is_small number_in numeral_at mantissa_at power_at whole_value span_of span_between braces_span member_in world
 given_twice = refl
 
 -- param p {1, 2} default 4;    set S := b;
 another_name : world (param_p ∷ []) (given_s (name (codes "b") 9 10 ∷ []) ∷ [])
-    ≡ Err (record { defect = NoSuchName; text = texts.Data; at = record { start = 4; end = 5 }; detail = Told (codes "S") })
+    ≡ Err (record { error_code = NoSuchName; text = texts.Data; at = record { start = 4; end = 5 }; detail = Reported (codes "S") })
 unfolding role_of marks keys operations operation reduction is_minus is_small number_in numeral_at mantissa_at power_at whole_value span_of span_between braces_span member_in world
 another_name = refl
 
@@ -96,6 +96,6 @@ row_and_default = refl
 
 -- param p {1, 2} default 4;    param p := 3 7;
 key_outside : world (param_p ∷ []) (given_p (number (codes "3") 11 12 ∷ number (codes "7") 13 14 ∷ []) ∷ [])
-    ≡ Err (record { defect = OutsideSet; text = texts.Data; at = record { start = 11; end = 12 }; detail = Told (reference_text (codes "p") true (members.Number (pos 3) ∷ [])) })
+    ≡ Err (record { error_code = OutsideSet; text = texts.Data; at = record { start = 11; end = 12 }; detail = Reported (reference_text (codes "p") true (members.Number (pos 3) ∷ [])) })
 unfolding role_of marks keys operations operation reduction is_minus is_small number_in numeral_at mantissa_at power_at whole_value span_of span_between braces_span member_in world
 key_outside = refl

@@ -14,7 +14,7 @@ use Rattle.net_fault.specs.declared.fault.Fault.{Fault}
 use Rattle.net_data.specs.declared.statement.Statement.{Statement}
 use Rattle.net_eval.specs.Names.{Declared, declared}
 use Rattle.net_eval.specs.DataByName.{Sorted, data_by_name}
-use Rattle.net_fault.specs.Outcomes.{Outcome, Answers, and_then, each}
+use Rattle.net_fault.specs.Outcomes.{Outcome, Refines, and_then, each}
 
 abbrev world_of : Outcome World → World
 world_of (Ok w) = w
@@ -108,6 +108,6 @@ goes_on given w v ds i d all h l e o =
 
 -- what is said of each name leads on to the world
 pub said_first : (ds : List Declaration) (ss : List Statement) (ns : Declared) (given : Sorted) (r : Result World Fault) → ns ≡ declared ds → data_by_name ns ss ≡ Ok given
-    → Answers (with_given ds given) r → Answers (world ds ss) r
+    → Refines (with_given ds given) r → Refines (world ds ss) r
 unfolding world
-said_first ds ss ns given r e f h = subst (λ o. Answers (and_then o (with_given ds)) r) (sym (ap (λ k. data_by_name k ss) (sym e) ∙ f)) h
+said_first ds ss ns given r e f h = subst (λ o. Refines (and_then o (with_given ds)) r) (sym (ap (λ k. data_by_name k ss) (sym e) ∙ f)) h

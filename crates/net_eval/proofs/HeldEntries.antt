@@ -17,8 +17,8 @@ use Rattle.net_eval.specs.declared.param.Gives.TheVariants as gives
 use Rattle.net_eval.specs.declared.set_phrase.Claims.{Claims}
 use Rattle.net_fault.specs.Outcomes.{Outcome, and_then, each}
 use Rattle.net_eval.specs.Binding as binding
-use Rattle.net_eval.specs.Binding.{widths, said_next, with_entry, declare, check_one, after_checks, with_given}
-use Rattle.net_eval.specs.BoundParameters.{keys_in, key_size, span_or, index_list, source, said_of, phrase_value, filled, with_data, bound_parameter}
+use Rattle.net_eval.specs.Binding.{widths, next_data, with_entry, declare, check_one, after_checks, with_given}
+use Rattle.net_eval.specs.BoundParameters.{keys_in, key_size, span_or, index_list, source, data_of, phrase_value, filled, with_data, bound_parameter}
 use Rattle.net_eval.specs.BoundSets.{one_of, allowed, set_of, bound_set}
 use Rattle.net_eval.specs.DataByName.{Sorted, data_by_name}
 use Rattle.net_eval.specs.Names.{declared}
@@ -71,7 +71,7 @@ bound_set_is w g ws name ps ms e h = then_ok (set_phrases w ps) (set_of ws name 
 with_data_is : (w : World) (ws : List ℕ) (name : Token) (ps : List Phrase) (ms : List NamedData) (n : Option ℕ) (rows : List Row) (index : List Tuple) (e : Entry) → IsIndex rows index → with_data w ws name ps ms n rows index ≡ Ok e → IsEntry e
 with_data_is w ws name ps ms n rows index e f h =
     then_ok (filled w ws name ps ms n rows index) (λ t. Ok (Parameter n index t)) e h (λ t k l.
-    then_ok (said_of ws n index (is_some (phrase_value gives.Becomes ps)) ms) _ t k (λ all i j.
+    then_ok (data_of ws n index (is_some (phrase_value gives.Becomes ps)) ms) _ t k (λ all i j.
     subst IsEntry (is_ok (Parameter n index t) e l)
     (parameter_is w ws name n ps (source (phrase_value gives.Becomes ps) all.1 (phrase_value gives.Default ps)) (is_some (phrase_value gives.Becomes ps)) ms index rows all t f i j)))
 
@@ -103,8 +103,8 @@ entered : (w v : World) (n : Token) (o : Outcome Entry) → AreEntries w → ((e
 entered w v n o g s h = then_ok o (with_entry w n) v h (λ e i k. subst AreEntries (is_ok (w ++ (n.text, e) ∷ []) v k) (world_more w n.text e g (s e i)))
 
 declared_entries : (given : Sorted) (d : Declaration) (w v : World) → AreEntries w → declare given d w ≡ Ok v → AreEntries v
-declared_entries given (set k n ps e) w v g h = entered w v n (bound_set w (widths w) n ps (said_next given w)) g (bound_set_is w (sets_of w g) (widths w) n ps (said_next given w)) h
-declared_entries given (param k n b ps e) w v g h = entered w v n (bound_parameter w (widths w) n b ps (said_next given w)) g (bound_parameter_is w (widths w) n b ps (said_next given w)) h
+declared_entries given (set k n ps e) w v g h = entered w v n (bound_set w (widths w) n ps (next_data given w)) g (bound_set_is w (sets_of w g) (widths w) n ps (next_data given w)) h
+declared_entries given (param k n b ps e) w v g h = entered w v n (bound_parameter w (widths w) n b ps (next_data given w)) g (bound_parameter_is w (widths w) n b ps (next_data given w)) h
 declared_entries given (check k b m x e) w v g h = subst AreEntries (is_ok w v h) g
 declared_entries given (node k n b c e) w v g h = subst AreEntries (is_ok w v h) g
 declared_entries given (arc k n b ps e) w v g h = subst AreEntries (is_ok w v h) g

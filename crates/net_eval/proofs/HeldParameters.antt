@@ -17,12 +17,12 @@ use Rattle.net_expr.specs.declared.row.Row.{Row}
 use Rattle.net_expr.specs.Rows.{keys_of}
 use Rattle.net_expr.specs.Worlds.{World, key_count}
 use Rattle.net_expr.proofs.KeysOnce.{union_distinct}
-use Rattle.net_expr.proofs.Walked.{none_there, all_join}
-use Rattle.net_fault.specs.declared.finding.Finding.{Finding}
+use Rattle.net_expr.proofs.IteratedSets.{none_there, all_join}
+use Rattle.net_fault.specs.declared.diagnostic.Diagnostic.{Diagnostic}
 use Rattle.net_eval.specs.declared.given.Given.{Given}
 use Rattle.net_eval.specs.declared.given.Given.TheVariants as given
 use Rattle.net_eval.specs.declared.given.NamedData.{NamedData}
-use Rattle.net_eval.specs.BoundParameters.{keys_with, index_list, Source, source_text, source_at, from_source, with_found, with_key, fit_values, untaken, said_of, valued_by, values}
+use Rattle.net_eval.specs.BoundParameters.{keys_with, index_list, Source, source_text, source_at, from_source, with_found, with_key, fit_values, untaken, data_of, valued_by, values}
 use Rattle.net_eval.specs.Cells.{member_in, tuple_in}
 use Rattle.net_fault.specs.Outcomes.{Outcome, and_then, each}
 use Rattle.net_eval.specs.ParameterValues.{IsParameterOf}
@@ -58,7 +58,7 @@ value_more index text at key m t u h there free e = go _ (nat_lt (length t) tupl
       once = subst (IsDistinct same_tuple) (sym (keys_more t (key, m))) fresh;
     }
 
-    go : (x : Finding) (b : Bool) → (if b then (let o : Outcome Table = Ok (t ++ (key, m) ∷ []) in o) else Err x) ≡ Ok u → IsParameterOf index u
+    go : (x : Diagnostic) (b : Bool) → (if b then (let o : Outcome Table = Ok (t ++ (key, m) ∷ []) in o) else Err x) ≡ Ok u → IsParameterOf index u
     go x true i = subst (IsParameterOf index) (is_ok (t ++ (key, m) ∷ []) u i) more
     go x false i = cc
 
@@ -79,7 +79,7 @@ row_keeps word n index key value t u h e = go _ _ (at_key t.0 (tuple_in key)) re
     next : Table → Outcome Taken
     next v = Ok (v, t.1 ++ value.span ∷ [])
 
-    go : (x y : Finding) (o : Option Member) → at_key t.0 (tuple_in key) ≡ o → (b : Bool) → has index (tuple_in key) ≡ b
+    go : (x y : Diagnostic) (o : Option Member) → at_key t.0 (tuple_in key) ≡ o → (b : Bool) → has index (tuple_in key) ≡ b
         → (if is_some o then Err x else if b then and_then (with_value Data (begins_at value.span key) (tuple_in key) (member_in value) t.0) next else Err y) ≡ Ok u → IsSaid index u
     go x y (Some m) i b k l = cc
     go x y None i false k l = cc
@@ -125,7 +125,7 @@ statement_keeps widths n index size a m all more h e =
     then_ok (taken widths n index size m.word m.given (a || (is_some m.default && is_some all.1)) all.0) (λ t. Ok (t, either all.1 m.default)) more e (λ t i k.
     subst (λ (z : All). IsSaid index z.0) (is_ok (t, either all.1 m.default) more k) (taken_keeps widths n index size m.word m.given (a || (is_some m.default && is_some all.1)) all.0 t h i))
 
-said_keeps : (widths : List ℕ) (n : Option ℕ) (index : List Tuple) (a : Bool) (ms : List NamedData) (all : All) → IsDistinct same_tuple index → said_of widths n index a ms ≡ Ok all → IsSaid index all.0
+said_keeps : (widths : List ℕ) (n : Option ℕ) (index : List Tuple) (a : Bool) (ms : List NamedData) (all : All) → IsDistinct same_tuple index → data_of widths n index a ms ≡ Ok all → IsSaid index all.0
 said_keeps widths n index a ms all h e =
     each_keeps (λ (z : All). IsSaid index z.0) (with_statement widths n index (key_count n) a) (λ m b c k i. statement_keeps widths n index (key_count n) a m b c k i) ms untaken all
     (record { keys = h; inside = tt; once = none_there }) e
@@ -193,10 +193,10 @@ index_is at rows index e = go _ (nat_le (length (union [] (keys_of rows))) tuple
     whole : IsIndex rows (union [] (keys_of rows))
     whole = record { once = union_distinct [] (keys_of rows) none_there; among = among_index rows }
 
-    go : (x : Finding) (b : Bool) → (if b then (let o : Outcome (List Tuple) = Ok (union [] (keys_of rows)) in o) else Err x) ≡ Ok index → IsIndex rows index
+    go : (x : Diagnostic) (b : Bool) → (if b then (let o : Outcome (List Tuple) = Ok (union [] (keys_of rows)) in o) else Err x) ≡ Ok index → IsIndex rows index
     go x true i = subst (IsIndex rows) (is_ok (union [] (keys_of rows)) index i) whole
     go x false i = cc
 
 pub parameter_is : (w : World) (widths : List ℕ) (name : Token) (n : Option ℕ) (ps : List Phrase) (x : Source) (a : Bool) (ms : List NamedData) (index : List Tuple) (rows : List Row) (all : All) (t : Table) → IsIndex rows index
-    → said_of widths n index a ms ≡ Ok all → values w name n ps x rows all.0 ≡ Ok t → IsParameterOf index t
+    → data_of widths n index a ms ≡ Ok all → values w name n ps x rows all.0 ≡ Ok t → IsParameterOf index t
 parameter_is w widths name n ps x a ms index rows all t h e k = values_keep w name n ps x index rows all.0 t h.among (said_keeps widths n index a ms all h.once e) k

@@ -13,8 +13,8 @@ use Rattle.net_sets.proofs.Unions.{all_last}
 use Rattle.net_expr.specs.declared.row.Row.{Row}
 use Rattle.net_expr.specs.Rows.{keys_of}
 use Rattle.net_eval.specs.BoundParameters.{index_list}
-use Rattle.net_fault.specs.Outcomes.{refused}
-use Rattle.net_fault.specs.declared.defect.Defect.TheVariants.{TooMany}
+use Rattle.net_fault.specs.Outcomes.{rejected}
+use Rattle.net_fault.specs.declared.error_code.ErrorCode.TheVariants.{TooMany}
 
 key_at : (rows : List Row) (i : ℕ) (r : Row) → i < length rows → r ≡ get_or rows i r → get_or (keys_of rows) i [] ≡ r.key
 key_at [] i r h e = absurd (omega arith)

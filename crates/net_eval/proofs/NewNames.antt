@@ -9,7 +9,7 @@ use Rattle.net_resolve.specs.declared.meaning.Meaning.TheVariants as meanings
 use Rattle.net_resolve.specs.Names.{declaration_fault, indexing_fault, phrases_fault, objective_meaning, names_fault, with_declaration, IsWellNamed}
 use Rattle.net_resolve.specs.Dummies.{with_indexing}
 use Rattle.net_resolve.specs.Scopes.{Name, Scope, meaning_in}
-use Rattle.net_resolve.specs.Told.{Fault, first, declared_before}
+use Rattle.net_resolve.specs.Reported.{Fault, first, declared_before}
 use Rattle.net_eval.specs.Binding.{is_among, AreNew}
 
 pub firsts : (a b : Option Fault) → first a b ≡ None → (a ≡ None) × (b ≡ None)
@@ -39,16 +39,16 @@ parts n k m (e ∷ s) h = go (bytes_eq e.0 n) h (parts n k m s)
     go false h more = more h
 
 -- what means nothing in the scope is no known name
-abbrev IsTold : List Name → Scope → Type 0
-IsTold known s = (n : Name) → meaning_in n s ≡ None → is_among known n ≡ false
+abbrev IsReported : List Name → Scope → Type 0
+IsReported known s = (n : Name) → meaning_in n s ≡ None → is_among known n ≡ false
 
-one_known : (known : List Name) (s : Scope) (k : Name) (m : Meaning) → IsTold known s → IsTold (k ∷ known) (s ++ (k, m) ∷ [])
+one_known : (known : List Name) (s : Scope) (k : Name) (m : Meaning) → IsReported known s → IsReported (k ∷ known) (s ++ (k, m) ∷ [])
 one_known known s k m h n e = ap (λ b. b || is_among known n) (parts n k m s e).1 ∙ h n (parts n k m s e).0
 
-one_other : (known : List Name) (s : Scope) (k : Name) (m : Meaning) → IsTold known s → IsTold known (s ++ (k, m) ∷ [])
+one_other : (known : List Name) (s : Scope) (k : Name) (m : Meaning) → IsReported known s → IsReported known (s ++ (k, m) ∷ [])
 one_other known s k m h n e = h n (parts n k m s e).0
 
-all_new : (known : List Name) (s : Scope) (ds : List Declaration) → IsTold known s → names_fault s ds ≡ None → AreNew known ds
+all_new : (known : List Name) (s : Scope) (ds : List Declaration) → IsReported known s → names_fault s ds ≡ None → AreNew known ds
 all_new known s [] h f = tt
 all_new known s (set w t ps e ∷ ds) h f =
     let q = firsts (declaration_fault s (set w t ps e)) (names_fault (with_declaration s (set w t ps e)) ds) f in

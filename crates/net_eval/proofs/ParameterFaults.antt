@@ -32,18 +32,18 @@ use Rattle.net_tree.specs.declared.role.Relation.TheVariants as relations
 use Rattle.net_eval.specs.declared.param.Gives.{Gives as ValueWord}
 use Rattle.net_eval.specs.declared.param.Gives.TheVariants as gives
 use Rattle.net_eval.specs.Cells.{tuple_in, member_in}
-use Rattle.net_eval.specs.SetData.{begins_at, whole_groups, cut, told_by, agrees, doubled}
+use Rattle.net_eval.specs.SetData.{begins_at, whole_groups, cut, leading_size, agrees, doubled}
 use Rattle.net_eval.specs.Restrictions.{relation, ordered, compared, related, holding, restricted_by, restricted_in, restricted}
 use Rattle.net_eval.specs.Rows.{Table, Taken, All, with_value, with_row, with_cell, with_group, pair_of, across, with_line, has_two, shaped, with_rows, taken, either, with_statement}
-use Rattle.net_eval.specs.BoundParameters.{is_wanted, body_value, phrase_value, takes_texts, lone_key, keys_in, key_size, span_or, index_list, Source, source, source_text, place_in, source_at, member_by, from_source, with_found, with_key, is_number, cell_of, no_text, fit_kind, keys_with, fit_value, fit_row, fit_values, untaken, said_of, valued_by, values, filled, with_data, bound_parameter}
+use Rattle.net_eval.specs.BoundParameters.{is_wanted, body_value, phrase_value, takes_texts, single_key, keys_in, key_size, span_or, index_list, Source, source, source_text, place_in, source_at, member_by, from_source, with_found, with_key, is_number, cell_of, no_text, fit_kind, keys_with, fit_value, fit_row, fit_values, untaken, data_of, valued_by, values, filled, with_data, bound_parameter}
 use Rattle.net_sets.specs.Sets.{place_of}
 use Rattle.net_fault.specs.Places.{Places, Finds}
-use Rattle.net_tree.specs.Standing.{Stands, BracesStand, IndexingStands, BodyStands, PhrasesStand}
-use Rattle.net_fault.proofs.Found.{finds_then, finds_if, finds_each, Gives, gives_then, gives_if, gives_each, gives_behind, finds_behind}
+use Rattle.net_tree.specs.Standing.{Stands, BracesStand, IndexingHasSpans, BodyHasSpans, PhrasesHaveSpans}
+use Rattle.net_fault.proofs.Found.{finds_then, finds_if, finds_each, Gives, gives_then, gives_if, gives_each, gives_after, finds_after}
 use Rattle.net_fault.proofs.Elements.{OfSome, all_take, all_append, all_get}
 use Rattle.net_expr.proofs.OperatorFaults.{finds_number, finds_same, finds_belongs, finds_member}
 use Rattle.net_expr.proofs.ValueFaults.{whole_stands, braces_stand, finds_value, finds_index}
-use Rattle.net_data.specs.Standing.{TokensStand}
+use Rattle.net_data.specs.Standing.{TokensHaveSpans}
 use Rattle.net_eval.proofs.NameFaults.{MentionStands, MentionsStand, SaidStands}
 use Rattle.net_eval.proofs.SetFaults.{LinesStand, cut_stands, begins_stands, finds_whole_groups, finds_agrees}
 
@@ -67,36 +67,36 @@ module _ (P : Places) where
   finds_with_value : (text : Language) (at : Span) → P text at → (key : Tuple) (m : Member) (t : Table) → Finds P (with_value text at key m t)
   finds_with_value text at h key m t = finds_if P (nat_lt (length t) tuples_limit) _ _ tt h
 
-  gives_with_row : (word : Token) (n : Option ℕ) (index : List Tuple) (key : List Token) → TokensStand (P Data) key → (v : Token) → P Data v.span → (t : Taken) → TakenStands t → Gives P TakenStands (with_row word n index key v t)
+  gives_with_row : (word : Token) (n : Option ℕ) (index : List Tuple) (key : List Token) → TokensHaveSpans (P Data) key → (v : Token) → P Data v.span → (t : Taken) → TakenStands t → Gives P TakenStands (with_row word n index key v t)
   gives_with_row word n index key h v k t j =
       gives_if P TakenStands (is_some (at_key t.0 (tuple_in key))) _ _ (begins_stands (P Data) v.span k key h)
       (gives_if P TakenStands (has index (tuple_in key)) _ _
-      (gives_behind P TakenStands (with_value Data (begins_at v.span key) (tuple_in key) (member_in v) t.0) _
+      (gives_after P TakenStands (with_value Data (begins_at v.span key) (tuple_in key) (member_in v) t.0) _
       (finds_with_value Data (begins_at v.span key) (begins_stands (P Data) v.span k key h) (tuple_in key) (member_in v) t.0) (λ u. all_append (P Data) t.1 (v.span ∷ []) j (k, tt)))
       (begins_stands (P Data) v.span k key h))
 
-  gives_with_cell : (word : Token) (n : Option ℕ) (index : List Tuple) (key : List Token) → TokensStand (P Data) key → (v : Option Token) → OfSome (λ (c : Token). P Data c.span) v
+  gives_with_cell : (word : Token) (n : Option ℕ) (index : List Tuple) (key : List Token) → TokensHaveSpans (P Data) key → (v : Option Token) → OfSome (λ (c : Token). P Data c.span) v
       → (t : Taken) → TakenStands t → Gives P TakenStands (with_cell word n index key v t)
   gives_with_cell word n index key h None k t j = j
   gives_with_cell word n index key h (Some v) k t j = gives_if P TakenStands (points v.kind) _ _ j (gives_with_row word n index key h v k t j)
 
-  gives_with_group : (word : Token) (n : Option ℕ) (index : List Tuple) (keys place : ℕ) (g : List Token) → TokensStand (P Data) g → (t : Taken) → TakenStands t
+  gives_with_group : (word : Token) (n : Option ℕ) (index : List Tuple) (keys place : ℕ) (g : List Token) → TokensHaveSpans (P Data) g → (t : Taken) → TakenStands t
       → Gives P TakenStands (with_group word n index keys place g t)
   gives_with_group word n index keys place g h t j = gives_with_cell word n index (take keys g) (all_take _ keys g h) (slice_get g (keys + place)) (all_get _ g (keys + place) h) t j
 
-  pair_stands : (transposed : Bool) (row column : Token) → P Data row.span → P Data column.span → TokensStand (P Data) (pair_of transposed row column)
+  pair_stands : (transposed : Bool) (row column : Token) → P Data row.span → P Data column.span → TokensHaveSpans (P Data) (pair_of transposed row column)
   pair_stands false row column h k = (h, (k, tt))
   pair_stands true row column h k = (k, (h, tt))
 
-  gives_across : (word : Token) (n : Option ℕ) (index : List Tuple) (transposed : Bool) (row : Token) → P Data row.span → (columns : List Token) → TokensStand (P Data) columns
-      → (cells : List Token) → TokensStand (P Data) cells → (t : Taken) → TakenStands t → Gives P TakenStands (across word n index transposed row columns cells t)
+  gives_across : (word : Token) (n : Option ℕ) (index : List Tuple) (transposed : Bool) (row : Token) → P Data row.span → (columns : List Token) → TokensHaveSpans (P Data) columns
+      → (cells : List Token) → TokensHaveSpans (P Data) cells → (t : Taken) → TakenStands t → Gives P TakenStands (across word n index transposed row columns cells t)
   gives_across word n index transposed row h [] k cells m t j = j
   gives_across word n index transposed row h (c ∷ cs) k [] m t j = j
   gives_across word n index transposed row h (c ∷ cs) k (cell ∷ cells) m t j =
       gives_then P TakenStands TakenStands (with_cell word n index (pair_of transposed row c) (Some cell) t) (across word n index transposed row cs cells)
       (gives_with_cell word n index (pair_of transposed row c) (pair_stands transposed row c h k.0) (Some cell) m.0 t j) (gives_across word n index transposed row h cs k.1 cells m.1)
 
-  gives_with_line : (word : Token) (n : Option ℕ) (index : List Tuple) (transposed : Bool) (columns : List Token) → TokensStand (P Data) columns → (line : List Token) → TokensStand (P Data) line
+  gives_with_line : (word : Token) (n : Option ℕ) (index : List Tuple) (transposed : Bool) (columns : List Token) → TokensHaveSpans (P Data) columns → (line : List Token) → TokensHaveSpans (P Data) line
       → (t : Taken) → TakenStands t → Gives P TakenStands (with_line word n index transposed columns line t)
   gives_with_line word n index transposed columns k [] m t j = j
   gives_with_line word n index transposed columns k (row ∷ cells) m t j = gives_across word n index transposed row m.0 columns k cells m.1 t j
@@ -104,7 +104,7 @@ module _ (P : Places) where
   finds_shaped : (widths : List ℕ) (n : ℕ) (word : Token) → P Data word.span → (g : Given) → SaidStands (P Data) g → Finds P (shaped widths n word g)
   finds_shaped widths n word h (given.Members ts) k = tt
   finds_shaped widths n word h (given.Groups g) k =
-      finds_then P (agrees word (told_by widths g.leader n) n) _ (finds_agrees P word h (told_by widths g.leader n) n)
+      finds_then P (agrees word (leading_size widths g.leader n) n) _ (finds_agrees P word h (leading_size widths g.leader n) n)
       (λ u. finds_whole_groups P word.span h n (n + g.values) (cut (n + g.values) g.cells) (cut_stands (P Data) (n + g.values) g.cells k))
   finds_shaped widths n word h (given.Grid g) k =
       finds_then P (has_two word n) _ (finds_if P (nat_eq n 2) _ _ tt h)
@@ -113,16 +113,16 @@ module _ (P : Places) where
   gives_with_rows : (n : Option ℕ) (index : List Tuple) (size : ℕ) (word : Token) (g : Given) → SaidStands (P Data) g → (t : Taken) → TakenStands t → Gives P TakenStands (with_rows n index size word g t)
   gives_with_rows n index size word (given.Members ts) k t j = j
   gives_with_rows n index size word (given.Groups g) k t j =
-      gives_each P (TokensStand (P Data)) TakenStands (with_group word n index size g.place) (gives_with_group word n index size g.place) (cut (size + g.values) g.cells)
+      gives_each P (TokensHaveSpans (P Data)) TakenStands (with_group word n index size g.place) (gives_with_group word n index size g.place) (cut (size + g.values) g.cells)
       (cut_stands (P Data) (size + g.values) g.cells k) t j
   gives_with_rows n index size word (given.Grid g) k t j =
-      gives_each P (TokensStand (P Data)) TakenStands (with_line word n index g.transposed g.columns) (gives_with_line word n index g.transposed g.columns k.0) (cut (1 + length g.columns) g.cells)
+      gives_each P (TokensHaveSpans (P Data)) TakenStands (with_line word n index g.transposed g.columns) (gives_with_line word n index g.transposed g.columns k.0) (cut (1 + length g.columns) g.cells)
       (cut_stands (P Data) (1 + length g.columns) g.cells k.1) t j
 
   gives_taken : (widths : List ℕ) (n : Option ℕ) (index : List Tuple) (size : ℕ) (word : Token) → P Data word.span → (g : Given) → SaidStands (P Data) g → (is_doubled : Bool) (t : Taken) → TakenStands t
       → Gives P TakenStands (taken widths n index size word g is_doubled t)
   gives_taken widths n index size word h g k is_doubled t j =
-      gives_behind P TakenStands (shaped widths size word g) _ (finds_shaped widths size word h g k) (λ u. gives_if P TakenStands is_doubled _ _ h (gives_with_rows n index size word g k t j))
+      gives_after P TakenStands (shaped widths size word g) _ (finds_shaped widths size word h g k) (λ u. gives_if P TakenStands is_doubled _ _ h (gives_with_rows n index size word g k t j))
 
   either_stands : (a b : Option Token) → OfSome (λ (t : Token). P Data t.span) a → OfSome (λ (t : Token). P Data t.span) b → OfSome (λ (t : Token). P Data t.span) (either a b)
   either_stands None b h k = k
@@ -134,7 +134,7 @@ module _ (P : Places) where
       gives_then P TakenStands AllStand (taken widths n index size m.word m.given (is_assigned || (is_some m.default && is_some all.1)) all.0) _
       (gives_taken widths n index size m.word h.0 m.given h.2 (is_assigned || (is_some m.default && is_some all.1)) all.0 k.0) (λ t j. (j, either_stands all.1 m.default k.1 h.1))
 
-  gives_said_of : (widths : List ℕ) (n : Option ℕ) (index : List Tuple) (is_assigned : Bool) (ms : List NamedData) → MentionsStand (P Data) ms → Gives P AllStand (said_of widths n index is_assigned ms)
+  gives_said_of : (widths : List ℕ) (n : Option ℕ) (index : List Tuple) (is_assigned : Bool) (ms : List NamedData) → MentionsStand (P Data) ms → Gives P AllStand (data_of widths n index is_assigned ms)
   gives_said_of widths n index is_assigned ms h =
       gives_each P (MentionStands (P Data)) AllStand (with_statement widths n index (key_count n) is_assigned) (gives_with_statement widths n index (key_count n) is_assigned) ms h untaken (tt, tt)
 
@@ -159,22 +159,22 @@ module _ (P : Places) where
       finds_then P (value w s x) _ (finds_value P w s x h) (λ v.
       finds_then P (related (span_of x) r m v) (holding (span_of x) d) (finds_related (span_of x) (whole_stands (P Model) x h) r m v) (λ b. finds_if P b _ _ tt (whole_stands (P Model) x h)))
 
-  finds_restricted_in : (w : World) (s : Scope) (d : Detail) (m : Member) (word : Token) (b : Body) → BodyStands (P Model) b → Finds P (restricted_in w s d m word b)
+  finds_restricted_in : (w : World) (s : Scope) (d : Detail) (m : Member) (word : Token) (b : Body) → BodyHasSpans (P Model) b → Finds P (restricted_in w s d m word b)
   finds_restricted_in w s d m word plain h = tt
   finds_restricted_in w s d m word (valued x) h = finds_restricted_by w s d m (relation word) x h
   finds_restricted_in w s d m word (priced n x) h = tt
 
-  finds_restricted : (w : World) (s : Scope) (d : Detail) (m : Member) (ps : List Phrase) → PhrasesStand (P Model) ps → Finds P (restricted w s d m ps)
+  finds_restricted : (w : World) (s : Scope) (d : Detail) (m : Member) (ps : List Phrase) → PhrasesHaveSpans (P Model) ps → Finds P (restricted w s d m ps)
   finds_restricted w s d m [] h = tt
   finds_restricted w s d m (p ∷ ps) h = finds_then P (restricted_in w s d m p.word p.body) _ (finds_restricted_in w s d m p.word p.body h.1) (λ u. finds_restricted w s d m ps h.2)
 
   -- ---- values
 
-  pub finds_keys_in : (w : World) (b : Option Braces) → IndexingStands (P Model) b → Finds P (keys_in w b)
+  pub finds_keys_in : (w : World) (b : Option Braces) → IndexingHasSpans (P Model) b → Finds P (keys_in w b)
   finds_keys_in w None h = tt
   finds_keys_in w (Some b) h = finds_index P w [] b h
 
-  span_or_stands : (at : Span) → P Model at → (b : Option Braces) → IndexingStands (P Model) b → P Model (span_or at b)
+  span_or_stands : (at : Span) → P Model at → (b : Option Braces) → IndexingHasSpans (P Model) b → P Model (span_or at b)
   span_or_stands at h None k = h
   span_or_stands at h (Some b) k = braces_stand (P Model) b k
 
@@ -215,7 +215,7 @@ module _ (P : Places) where
   cell_stands cells h None = tt
   cell_stands cells h (Some i) = all_get (P Data) cells i h
 
-  finds_fit_value : (w : World) (name : Token) (n : Option ℕ) (ps : List Phrase) → PhrasesStand (P Model) ps → (text : Language) (at : Span) → P text at → (cells : List Span) → AllByRecursion (P Data) cells
+  finds_fit_value : (w : World) (name : Token) (n : Option ℕ) (ps : List Phrase) → PhrasesHaveSpans (P Model) ps → (text : Language) (at : Span) → P text at → (cells : List Span) → AllByRecursion (P Data) cells
       → (t : Table) (r : Row) (m : Option Member) → Finds P (fit_value w name n ps text at cells t r m)
   finds_fit_value w name n ps h text at k cells j t r None = tt
   finds_fit_value w name n ps h text at k cells j t r (Some m) =
@@ -223,25 +223,25 @@ module _ (P : Places) where
       (finds_fit_kind (takes_texts ps) text at k (cell_of cells (place_of (keys_with t) r.key)) (cell_stands cells j (place_of (keys_with t) r.key)) m)
       (λ u. finds_restricted w r.scope (reference name.text n r.key) m ps h)
 
-  finds_fit_values : (w : World) (name : Token) (n : Option ℕ) (ps : List Phrase) → PhrasesStand (P Model) ps → (text : Language) (at : Span) → P text at → (cells : List Span) → AllByRecursion (P Data) cells
+  finds_fit_values : (w : World) (name : Token) (n : Option ℕ) (ps : List Phrase) → PhrasesHaveSpans (P Model) ps → (text : Language) (at : Span) → P text at → (cells : List Span) → AllByRecursion (P Data) cells
       → (t : Table) (rows : List Row) → Finds P (fit_values w name n ps text at cells t rows)
   finds_fit_values w name n ps h text at k cells j t [] = tt
   finds_fit_values w name n ps h text at k cells j t (r ∷ rows) =
       finds_then P (fit_row w name n ps text at cells t r) _ (finds_fit_value w name n ps h text at k cells j t r (at_key t r.key)) (λ u. finds_fit_values w name n ps h text at k cells j t rows)
 
-  finds_values : (w : World) (name : Token) → P Model name.span → (n : Option ℕ) (ps : List Phrase) → PhrasesStand (P Model) ps → (x : Source) → SourceStands P x.0 x.1 → (rows : List Row) (t : Taken)
+  finds_values : (w : World) (name : Token) → P Model name.span → (n : Option ℕ) (ps : List Phrase) → PhrasesHaveSpans (P Model) ps → (x : Source) → SourceStands P x.0 x.1 → (rows : List Row) (t : Taken)
       → TakenStands t → Finds P (values w name n ps x rows t)
   finds_values w name h n ps k x j rows t m =
       finds_then P (each (with_key w name.span x) rows t.0) (valued_by w name n ps x rows t) (finds_each P (with_key w name.span x) (finds_with_key w name.span h x j) rows t.0) (λ table.
       finds_then P (fit_values w name n ps (source_text x.1) (source_at name.span x) t.1 table rows) _
       (finds_fit_values w name n ps k (source_text x.1) (source_at name.span x) (source_stands name.span h x.0 x.1 j) t.1 m table rows) (λ u. tt))
 
-  body_stands : (b : Body) → BodyStands (P Model) b → OfSome (Stands (P Model)) (body_value b)
+  body_stands : (b : Body) → BodyHasSpans (P Model) b → OfSome (Stands (P Model)) (body_value b)
   body_stands plain h = tt
   body_stands (valued x) h = h
   body_stands (priced n x) h = tt
 
-  phrase_stands : (wanted : ValueWord) (ps : List Phrase) → PhrasesStand (P Model) ps → OfSome (Stands (P Model)) (phrase_value wanted ps)
+  phrase_stands : (wanted : ValueWord) (ps : List Phrase) → PhrasesHaveSpans (P Model) ps → OfSome (Stands (P Model)) (phrase_value wanted ps)
   phrase_stands wanted [] h = tt
   phrase_stands wanted (p ∷ ps) h = go (is_wanted wanted (role_of p.word)) (phrase_stands wanted ps h.2)
     where
@@ -256,14 +256,14 @@ module _ (P : Places) where
   chosen_stands None None (Some y) h k j = j
   chosen_stands None None None h k j = tt
 
-  finds_filled : (w : World) (widths : List ℕ) (name : Token) → P Model name.span → (ps : List Phrase) → PhrasesStand (P Model) ps → (ms : List NamedData) → MentionsStand (P Data) ms
+  finds_filled : (w : World) (widths : List ℕ) (name : Token) → P Model name.span → (ps : List Phrase) → PhrasesHaveSpans (P Model) ps → (ms : List NamedData) → MentionsStand (P Data) ms
       → (n : Option ℕ) (rows : List Row) (index : List Tuple) → Finds P (filled w widths name ps ms n rows index)
   finds_filled w widths name h ps k ms j n rows index =
-      finds_behind P AllStand (said_of widths n index (is_some (phrase_value gives.Becomes ps)) ms) _ (gives_said_of widths n index (is_some (phrase_value gives.Becomes ps)) ms j) (λ all i.
+      finds_after P AllStand (data_of widths n index (is_some (phrase_value gives.Becomes ps)) ms) _ (gives_said_of widths n index (is_some (phrase_value gives.Becomes ps)) ms j) (λ all i.
       finds_values w name h n ps k (source (phrase_value gives.Becomes ps) all.1 (phrase_value gives.Default ps))
       (chosen_stands (phrase_value gives.Becomes ps) all.1 (phrase_value gives.Default ps) (phrase_stands gives.Becomes ps k) i.1 (phrase_stands gives.Default ps k)) rows all.0 i.0)
 
-  pub finds_bound_parameter : (w : World) (widths : List ℕ) (name : Token) → P Model name.span → (b : Option Braces) → IndexingStands (P Model) b → (ps : List Phrase) → PhrasesStand (P Model) ps
+  pub finds_bound_parameter : (w : World) (widths : List ℕ) (name : Token) → P Model name.span → (b : Option Braces) → IndexingHasSpans (P Model) b → (ps : List Phrase) → PhrasesHaveSpans (P Model) ps
       → (ms : List NamedData) → MentionsStand (P Data) ms → Finds P (bound_parameter w widths name b ps ms)
   finds_bound_parameter w widths name h b g ps k ms j =
       finds_then P (keys_in w b) _ (finds_keys_in w b g) (λ keys.

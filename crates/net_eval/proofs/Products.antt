@@ -30,7 +30,7 @@ use Rattle.net_tree.specs.Operations.{operations, operation, operation_in}
 use Rattle.net_expr.specs.Sets.{counted, cross}
 use Rattle.net_expr.specs.Values.{value}
 use Rattle.net_expr.specs.Worlds.{World}
-use Rattle.net_eval.specs.Factors.{is_cross, behind_cross, factors, can_part}
+use Rattle.net_eval.specs.Factors.{is_cross, after_cross, factors, can_part}
 use Rattle.net_eval.specs.Supersets.{AreLong}
 
 -- ---- which tuples a product has
@@ -56,19 +56,19 @@ same_parts [] y t = refl
 same_parts (m ∷ x) y [] = refl
 same_parts (m ∷ x) y (k ∷ t) = ap (λ b. same_member k m && b) (same_parts x y t) ∙ sym (and_assoc (same_member k m) (same_tuple (take (length x) t) x) (same_tuple (drop (length x) t) y))
 
-has_behind : (x : Tuple) (ys : List Tuple) (t : Tuple) → has (behind x ys) t ≡ (same_tuple (take (length x) t) x && has ys (drop (length x) t))
-has_behind x [] t = sym (and-false (same_tuple (take (length x) t) x))
-has_behind x (y ∷ ys) t =
+has_after : (x : Tuple) (ys : List Tuple) (t : Tuple) → has (behind x ys) t ≡ (same_tuple (take (length x) t) x && has ys (drop (length x) t))
+has_after x [] t = sym (and-false (same_tuple (take (length x) t) x))
+has_after x (y ∷ ys) t =
     let front = same_tuple (take (length x) t) x in
     ap (λ b. b || has (behind x ys) t) (same_parts x y t)
-    ∙ ap (λ b. (front && same_tuple (drop (length x) t) y) || b) (has_behind x ys t)
+    ∙ ap (λ b. (front && same_tuple (drop (length x) t) y) || b) (has_after x ys t)
     ∙ sym (and-or_distrib_left front (same_tuple (drop (length x) t) y) (has ys (drop (length x) t)))
 
 has_product : (n : ℕ) (xs ys : List Tuple) (t : Tuple) → AreLong n xs → has (product xs ys) t ≡ (has xs (take n t) && has ys (drop n t))
 has_product n [] ys t long = refl
 has_product n (x ∷ xs) ys t long =
     list_any-append (same_tuple t) (behind x ys) (product xs ys)
-    ∙ ap (λ b. b || has (product xs ys) t) (has_behind x ys t ∙ ap (λ k. same_tuple (take k t) x && has ys (drop k t)) long.0)
+    ∙ ap (λ b. b || has (product xs ys) t) (has_after x ys t ∙ ap (λ k. same_tuple (take k t) x && has ys (drop k t)) long.0)
     ∙ ap (λ b. (same_tuple (take n t) x && has ys (drop n t)) || b) (has_product n xs ys t long.1)
     ∙ sym (and-or_distrib_right (same_tuple (take n t) x) (has xs (take n t)) (has ys (drop n t)))
 
@@ -184,16 +184,16 @@ worth w x y z d e xs ys (Some p) f g h k = value_crossed w x y z d e p.0 xs ys p
 
 -- ---- links by their number
 
-pub behind_one : (ls : List Link) (l : Link) (b : Bool) → 1 ≤ length ls → length ls < 2 → l ≡ get_or ls 0 l → is_cross (operation (out-Link l).operator) ≡ b
-    → (if b then Some (tree (out-Link l).operand) else None) ≡ behind_cross (links_of ls)
-behind_one [] l b h i e f = absurd (omega arith)
-behind_one (x ∷ []) l b h i e f =
+pub after_one : (ls : List Link) (l : Link) (b : Bool) → 1 ≤ length ls → length ls < 2 → l ≡ get_or ls 0 l → is_cross (operation (out-Link l).operator) ≡ b
+    → (if b then Some (tree (out-Link l).operand) else None) ≡ after_cross (links_of ls)
+after_one [] l b h i e f = absurd (omega arith)
+after_one (x ∷ []) l b h i e f =
     ap (λ c. if c then Some (tree (out-Link l).operand) else None) (sym f)
     ∙ ap (λ (k : Link). if is_cross (operation (out-Link k).operator) then Some (tree (out-Link k).operand) else None) e
-    ∙ sym (ap behind_cross (links_of-cons x []))
-behind_one (x ∷ y ∷ ls) l b h i e f = absurd (omega arith)
+    ∙ sym (ap after_cross (links_of-cons x []))
+after_one (x ∷ y ∷ ls) l b h i e f = absurd (omega arith)
 
-pub behind_many : (ls : List Link) → 2 ≤ length ls → None ≡ behind_cross (links_of ls)
-behind_many [] b = absurd (omega arith)
-behind_many (x ∷ []) b = absurd (omega arith)
-behind_many (x ∷ y ∷ ls) b = refl
+pub after_many : (ls : List Link) → 2 ≤ length ls → None ≡ after_cross (links_of ls)
+after_many [] b = absurd (omega arith)
+after_many (x ∷ []) b = absurd (omega arith)
+after_many (x ∷ y ∷ ls) b = refl

@@ -9,17 +9,17 @@ use Rattle.net_fault.specs.declared.span.Span.{Span}
 use Rattle.net_lex.specs.declared.token.Token.{Token}
 use Rattle.net_sets.specs.Limits.{arity_limit, tuples_limit}
 use Rattle.net_sets.specs.Sets.{Tuple, same_tuple, has, added}
-use Rattle.net_fault.specs.declared.detail.Detail.TheVariants.{Told}
-use Rattle.net_fault.specs.declared.defect.Defect.TheVariants.{Arity, TooMany, DoubleValue}
+use Rattle.net_fault.specs.declared.detail.Detail.TheVariants.{Reported}
+use Rattle.net_fault.specs.declared.error_code.ErrorCode.TheVariants.{Arity, TooMany, DoubleValue}
 use Rattle.net_expr.proofs.Alike.{AreLong, all_added}
 use Rattle.net_expr.proofs.KeysOnce.{union_distinct}
-use Rattle.net_expr.proofs.Walked.{none_there}
+use Rattle.net_expr.proofs.IteratedSets.{none_there}
 use Rattle.net_eval.specs.declared.given.Given.{Given}
 use Rattle.net_eval.specs.declared.given.Given.TheVariants as given
 use Rattle.net_eval.specs.declared.given.NamedData.{NamedData}
 use Rattle.net_eval.specs.Cells.{member_in, tuple_in}
-use Rattle.net_fault.specs.Outcomes.{Outcome, and_then, each, refused_as, refused_there}
-use Rattle.net_eval.specs.SetData.{set_rows, begins_at, all_of_size, without_points, whole_group, whole_groups, cut, told_by, agrees, given_rows, with_member, doubled, with_statement}
+use Rattle.net_fault.specs.Outcomes.{Outcome, and_then, each, rejected_as, rejected_there}
+use Rattle.net_eval.specs.SetData.{set_rows, begins_at, all_of_size, without_points, whole_group, whole_groups, cut, leading_size, agrees, given_rows, with_member, doubled, with_statement}
 
 pub then_ok : {A B P : Type 0} (o : Outcome A) (f : A → Outcome B) (r : B) → and_then o f ≡ Ok r → ((y : A) → o ≡ Ok y → f y ≡ Ok r → P) → P
 then_ok (Ok y) f r e k = k y refl e
@@ -35,7 +35,7 @@ sized : (at : Span) (n : ℕ) (rows : List (List Token)) (u : Unit {0}) → all_
 sized at n [] u h = tt
 sized at n (r ∷ rows) u h = go (nat_eq (length r) n) refl h (sized at n rows u)
   where
-    go : (b : Bool) → nat_eq (length r) n ≡ b → (if b then all_of_size at n rows else refused_there Arity (begins_at at r)) ≡ Ok u → (all_of_size at n rows ≡ Ok u → AreOfSize n rows) → AreOfSize n (r ∷ rows)
+    go : (b : Bool) → nat_eq (length r) n ≡ b → (if b then all_of_size at n rows else rejected_there Arity (begins_at at r)) ≡ Ok u → (all_of_size at n rows ≡ Ok u → AreOfSize n rows) → AreOfSize n (r ∷ rows)
     go true e k more = (eqb-true (length r) n e, more k)
     go false e k more = cc
 
@@ -43,7 +43,7 @@ sized at n (r ∷ rows) u h = go (nat_eq (length r) n) refl h (sized at n rows u
 key_sized : (at : Span) (keys values : ℕ) (g : List Token) (u : Unit {0}) → whole_group at keys (keys + values) g ≡ Ok u → length (take keys g) ≡ keys
 key_sized at keys values g u h = go (nat_eq (length g) (keys + values)) refl h
   where
-    go : (b : Bool) → nat_eq (length g) (keys + values) ≡ b → (if b then without_points (take keys g) else refused_there Arity (begins_at at g)) ≡ Ok u → length (take keys g) ≡ keys
+    go : (b : Bool) → nat_eq (length g) (keys + values) ≡ b → (if b then without_points (take keys g) else rejected_there Arity (begins_at at g)) ≡ Ok u → length (take keys g) ≡ keys
     go true e k = let long = eqb-true (length g) (keys + values) e in length-take-le keys g (omega (arith, long))
     go false e k = cc
 
@@ -55,7 +55,7 @@ rows_sized : (widths : List ℕ) (n : ℕ) (word : Token) (g : Given) (rows : Li
 rows_sized widths n word (given.Members ts) rows h =
     then_ok (all_of_size word.span n (set_rows n ts)) (λ u. Ok (set_rows n ts)) rows h (λ u e k. subst (AreOfSize n) (is_ok (set_rows n ts) rows k) (sized word.span n (set_rows n ts) u e))
 rows_sized widths n word (given.Groups g) rows h =
-    then_ok (agrees word (told_by widths g.leader n) n) _ rows h (λ u e k.
+    then_ok (agrees word (leading_size widths g.leader n) n) _ rows h (λ u e k.
     then_ok (whole_groups word.span n (n + g.values) (cut (n + g.values) g.cells)) (λ v. Ok (map (take n) (cut (n + g.values) g.cells))) rows k (λ v i l.
     subst (AreOfSize n) (is_ok (map (take n) (cut (n + g.values) g.cells)) rows l) (keys_sized word.span n g.values (cut (n + g.values) g.cells) v i)))
 rows_sized widths n word (given.Grid g) rows h = subst (AreOfSize n) (is_ok [] rows h) tt
@@ -74,7 +74,7 @@ member_more n word row ts us l h e = go (has ts (tuple_in row)) (nat_le (length 
     more : AreTaken n (added ts (tuple_in row))
     more = record { once = union_distinct ts (tuple_in row ∷ []) h.once; long = λ k. all_added (λ t. length t ≡ n) ts (tuple_in row) (h.long k) (tuple_long n row l k) }
 
-    go : (b c : Bool) → (if b then refused_as Data DoubleValue (begins_at word.span row) (Told word.text) else if c then (let o : Outcome (List Tuple) = Ok (added ts (tuple_in row)) in o) else refused_there TooMany (begins_at word.span row)) ≡ Ok us → AreTaken n us
+    go : (b c : Bool) → (if b then rejected_as Data DoubleValue (begins_at word.span row) (Reported word.text) else if c then (let o : Outcome (List Tuple) = Ok (added ts (tuple_in row)) in o) else rejected_there TooMany (begins_at word.span row)) ≡ Ok us → AreTaken n us
     go true c i = cc
     go false true i = subst (AreTaken n) (is_ok (added ts (tuple_in row)) us i) more
     go false false i = cc

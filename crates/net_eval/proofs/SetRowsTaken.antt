@@ -22,11 +22,11 @@ Inside ts = AllByRecursion (λ (t : Token). is_mark (codes ";") t ≡ false) ts
 
 -- ---- lists
 
-all_behind : {A : Type 0} (P : A → Type 0) (k : ℕ) (xs : List A) → AllByRecursion P xs → AllByRecursion P (drop k xs)
-all_behind P zero [] h = tt
-all_behind P zero (x ∷ xs) h = h
-all_behind P (suc k) [] h = tt
-all_behind P (suc k) (x ∷ xs) h = all_behind P k xs h.1
+all_after : {A : Type 0} (P : A → Type 0) (k : ℕ) (xs : List A) → AllByRecursion P xs → AllByRecursion P (drop k xs)
+all_after P zero [] h = tt
+all_after P zero (x ∷ xs) h = h
+all_after P (suc k) [] h = tt
+all_after P (suc k) (x ∷ xs) h = all_after P k xs h.1
 
 alone_join : (xs : List Token) (t : Token) → Alone xs → is_mark (codes "(") t ≡ false → Alone (xs ++ t ∷ [])
 alone_join [] t h e = (e, tt)
@@ -130,7 +130,7 @@ at_tuple : (d n : ℕ) (rows : List (List Token)) (alone : List Token) (t : Toke
     → closed (fold (with_item d) (record { rows = closed_with rows alone ++ uncommaed (take (inside_len ts) ts) ∷ []; alone = [] }) (items_from n (drop (suc (inside_len ts)) ts))) ≡ rows ++ stated.set_rows d (alone ++ t ∷ ts)
 at_tuple d n rows alone t ts some walks fits inside h short e =
     let less = length-drop (suc (inside_len ts)) ts in
-    walks (closed_with rows alone ++ uncommaed (take (inside_len ts) ts) ∷ []) [] (drop (suc (inside_len ts)) ts) (omega (arith, less, fits)) (all_behind (λ (u : Token). is_mark (codes ";") u ≡ false) (suc (inside_len ts)) ts inside) tt some
+    walks (closed_with rows alone ++ uncommaed (take (inside_len ts) ts) ∷ []) [] (drop (suc (inside_len ts)) ts) (omega (arith, less, fits)) (all_after (λ (u : Token). is_mark (codes ";") u ≡ false) (suc (inside_len ts)) ts inside) tt some
     ∙ append_assoc (closed_with rows alone) (uncommaed (take (inside_len ts) ts) ∷ []) (stated.set_rows d (drop (suc (inside_len ts)) ts))
     ∙ ap (λ more. closed_with rows alone ++ more) (sym (tuple_row d t ts some e))
     ∙ closing d rows alone (t ∷ ts) some h (omega (arith, short)) (ap (λ b. cond (not b) (1 + alone_len ts) 0) e)

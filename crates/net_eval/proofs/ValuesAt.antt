@@ -25,13 +25,13 @@ use Rattle.net_expr.specs.Values.{index}
 use Rattle.net_expr.specs.Worlds.{World, key_count}
 use Rattle.net_expr.proofs.KeysOnce.{have_distinct_keys}
 use Rattle.net_expr.proofs.SetsGiven.{keeps_sets}
-use Rattle.net_expr.proofs.Walked.{none_there}
-use Rattle.net_fault.specs.declared.finding.Finding.{Finding}
+use Rattle.net_expr.proofs.IteratedSets.{none_there}
+use Rattle.net_fault.specs.declared.diagnostic.Diagnostic.{Diagnostic}
 use Rattle.net_eval.specs.declared.given.Given.{Given}
 use Rattle.net_eval.specs.declared.given.Given.TheVariants as given
 use Rattle.net_eval.specs.declared.given.NamedData.{NamedData}
 use Rattle.net_eval.specs.declared.param.Gives.TheVariants as gives
-use Rattle.net_eval.specs.BoundParameters.{lone_key, keys_in, key_size, span_or, index_list, phrase_value, Source, source, source_text, source_at, from_source, with_found, with_key, fit_values, untaken, said_of, valued_by, values, filled, with_data, bound_parameter}
+use Rattle.net_eval.specs.BoundParameters.{single_key, keys_in, key_size, span_or, index_list, phrase_value, Source, source, source_text, source_at, from_source, with_found, with_key, fit_values, untaken, data_of, valued_by, values, filled, with_data, bound_parameter}
 use Rattle.net_eval.specs.Cells.{member_in, tuple_in}
 use Rattle.net_fault.specs.Outcomes.{Outcome, and_then, each}
 use Rattle.net_eval.specs.ParameterValues.{rows_across, rows_given, row_value, values_given, default_given, source_of, IsValue, IsValueAt, IsValued}
@@ -61,7 +61,7 @@ each_adds f rows adds (x ∷ xs) t u e =
 value_adds : (text : Language) (at : Span) (key : Tuple) (m : Member) (t u : Table) → with_value text at key m t ≡ Ok u → u ≡ t ++ (key, m) ∷ []
 value_adds text at key m t u e = go _ (nat_lt (length t) tuples_limit) e
   where
-    go : (x : Finding) (b : Bool) → (if b then (let o : Outcome Table = Ok (t ++ (key, m) ∷ []) in o) else Err x) ≡ Ok u → u ≡ t ++ (key, m) ∷ []
+    go : (x : Diagnostic) (b : Bool) → (if b then (let o : Outcome Table = Ok (t ++ (key, m) ∷ []) in o) else Err x) ≡ Ok u → u ≡ t ++ (key, m) ∷ []
     go x true i = sym (is_ok (t ++ (key, m) ∷ []) u i)
     go x false i = cc
 
@@ -71,7 +71,7 @@ row_adds word n index key value t u e = go _ _ (at_key t.0 (tuple_in key)) (has 
     next : Table → Outcome Taken
     next v = Ok (v, t.1 ++ value.span ∷ [])
 
-    go : (x y : Finding) (o : Option Member) (b : Bool)
+    go : (x y : Diagnostic) (o : Option Member) (b : Bool)
         → (if is_some o then Err x else if b then and_then (with_value Data (begins_at value.span key) (tuple_in key) (member_in value) t.0) next else Err y) ≡ Ok u
         → u.0 ≡ t.0 ++ (tuple_in key, member_in value) ∷ []
     go x y (Some m) b l = cc
@@ -165,11 +165,11 @@ at_more (e ∷ t) k m key = go (same_tuple key e.0) (at_more t k m key)
     go false i = i
 
 at_other : (t : Table) (k : Tuple) (m : Member) (key : Tuple) → same_tuple key k ≡ false → at_key (t ++ (k, m) ∷ []) key ≡ at_key t key
-at_other t k m key apart = at_more t k m key ∙ ap (λ b. then_at (at_key t key) (if b then Some m else None)) apart ∙ none_behind (at_key t key)
+at_other t k m key apart = at_more t k m key ∙ ap (λ b. then_at (at_key t key) (if b then Some m else None)) apart ∙ none_after (at_key t key)
   where
-    none_behind : (o : Option Member) → then_at o None ≡ o
-    none_behind None = refl
-    none_behind (Some x) = refl
+    none_after : (o : Option Member) → then_at o None ≡ o
+    none_after None = refl
+    none_after (Some x) = refl
 
 at_new : (t : Table) (k : Tuple) (m : Member) → at_key t k ≡ None → at_key (t ++ (k, m) ∷ []) k ≡ Some m
 at_new t k m free = at_more t k m k ∙ ap (λ o. then_at o (if same_tuple k k then Some m else None)) free ∙ ap (λ b. if b then Some m else None) (same_itself k)
@@ -252,13 +252,13 @@ values_filled w name n ps x rows said t once e =
 -- ---- the parameter
 
 keys_once : (w : World) (b : Option Braces) (k : Keys) → HasSets w → keys_in w b ≡ Ok k → IsDistinct same_tuple (keys_of k.rows)
-keys_once w None k sets e = subst (λ (z : Keys). IsDistinct same_tuple (keys_of z.rows)) (is_ok lone_key k e) (IsDistinct-cons same_tuple [] [] tt none_there)
+keys_once w None k sets e = subst (λ (z : Keys). IsDistinct same_tuple (keys_of z.rows)) (is_ok single_key k e) (IsDistinct-cons same_tuple [] [] tt none_there)
 keys_once w (Some b) k sets e = have_distinct_keys w [] b k (keeps_sets w sets) e
 
 table_valued : (w : World) (ws : List ℕ) (name : Token) (ps : List Phrase) (ms : List NamedData) (n : Option ℕ) (rows : List Row) (index : List Tuple) (t : Table) → IsDistinct same_tuple (keys_of rows)
     → filled w ws name ps ms n rows index ≡ Ok t → AllByRecursion (IsValueAt w ps (values_given (key_count n) ms) ms t) rows
 table_valued w ws name ps ms n rows index t once e =
-    then_ok (said_of ws n index (is_some (phrase_value gives.Becomes ps)) ms) (λ all. values w name n ps (source (phrase_value gives.Becomes ps) all.1 (phrase_value gives.Default ps)) rows all.0) t e (λ all i j.
+    then_ok (data_of ws n index (is_some (phrase_value gives.Becomes ps)) ms) (λ all. values w name n ps (source (phrase_value gives.Becomes ps) all.1 (phrase_value gives.Default ps)) rows all.0) t e (λ all i j.
     let adds = statements_add ws n index (key_count n) (is_some (phrase_value gives.Becomes ps)) ms untaken all i in
     let filled = values_filled w name n ps (source (phrase_value gives.Becomes ps) all.1 (phrase_value gives.Default ps)) rows all.0 t once j in
     let by : (given : Table) (x : Source) → Type 0 = λ given x. AllByRecursion (λ (r : Row). IsValue (at_key given r.key) (from_source w r.scope x) (at_key t r.key)) rows in

@@ -14,25 +14,25 @@ use Rattle.net_eval.specs.Names.{declared}
 use Rattle.net_eval.specs.DataByName.{Sorted, data_by_name}
 use Rattle.net_eval.specs.BoundSets.{bound_set}
 use Rattle.net_eval.specs.BoundParameters.{keys_in, bound_parameter}
-use Rattle.net_eval.specs.Binding.{widths, said_next, declare, judged, hold, checked, check_one, after_checks, with_given, world}
+use Rattle.net_eval.specs.Binding.{widths, next_data, declare, judged, hold, checked, check_one, after_checks, with_given, world}
 use Rattle.net_fault.specs.Places.{Places, Finds}
-use Rattle.net_tree.specs.Standing.{Stands, IndexingStands, DeclarationStands, DeclarationsStand}
-use Rattle.net_fault.proofs.Found.{finds_then, finds_if, Gives, finds_behind}
+use Rattle.net_tree.specs.Standing.{Stands, IndexingHasSpans, DeclarationHasSpans, DeclarationsHaveSpans}
+use Rattle.net_fault.proofs.Found.{finds_then, finds_if, Gives, finds_after}
 use Rattle.net_fault.proofs.Elements.{all_index}
 use Rattle.net_expr.proofs.OperatorFaults.{finds_truth}
 use Rattle.net_expr.proofs.ValueFaults.{whole_stands, finds_value}
-use Rattle.net_data.specs.Standing.{StatementsStand}
+use Rattle.net_data.specs.Standing.{StatementsHaveSpans}
 use Rattle.net_eval.proofs.NameFaults.{MentionsStand, SortedStands, gives_said}
 use Rattle.net_eval.proofs.SetFaults.{finds_bound_set}
 use Rattle.net_eval.proofs.ParameterFaults.{finds_keys_in, finds_bound_parameter}
 
 module _ (P : Places) where
-  finds_declare : (given : Sorted) → SortedStands (P Data) given → (d : Declaration) → DeclarationStands (P Model) d → (w : World) → Finds P (declare given d w)
+  finds_declare : (given : Sorted) → SortedStands (P Data) given → (d : Declaration) → DeclarationHasSpans (P Model) d → (w : World) → Finds P (declare given d w)
   finds_declare given g (set k n ps e) h w =
-      finds_then P (bound_set w (widths w) n ps (said_next given w)) _ (finds_bound_set P w (widths w) n h.0 ps h.1 (said_next given w) (all_index (MentionsStand (P Data)) given (length w) [] g tt)) (λ x. tt)
+      finds_then P (bound_set w (widths w) n ps (next_data given w)) _ (finds_bound_set P w (widths w) n h.0 ps h.1 (next_data given w) (all_index (MentionsStand (P Data)) given (length w) [] g tt)) (λ x. tt)
   finds_declare given g (param k n b ps e) h w =
-      finds_then P (bound_parameter w (widths w) n b ps (said_next given w)) _
-      (finds_bound_parameter P w (widths w) n h.0 b h.1 ps h.2 (said_next given w) (all_index (MentionsStand (P Data)) given (length w) [] g tt)) (λ x. tt)
+      finds_then P (bound_parameter w (widths w) n b ps (next_data given w)) _
+      (finds_bound_parameter P w (widths w) n h.0 b h.1 ps h.2 (next_data given w) (all_index (MentionsStand (P Data)) given (length w) [] g tt)) (λ x. tt)
   finds_declare given g (check k b m x e) h w = tt
   finds_declare given g (node k n b c e) h w = tt
   finds_declare given g (arc k n b ps e) h w = tt
@@ -46,10 +46,10 @@ module _ (P : Places) where
       (finds_then P (value w r.scope x) (truth (span_of x)) (finds_value P w r.scope x h) (finds_truth P (span_of x) (whole_stands (P Model) x h)))
       (λ b. finds_if P b _ _ tt (whole_stands (P Model) x h))) (λ u. finds_hold w x h rows)
 
-  finds_checked : (w : World) (b : Option Braces) → IndexingStands (P Model) b → (x : Tree) → Stands (P Model) x → Finds P (checked w b x)
+  finds_checked : (w : World) (b : Option Braces) → IndexingHasSpans (P Model) b → (x : Tree) → Stands (P Model) x → Finds P (checked w b x)
   finds_checked w b h x k = finds_then P (keys_in w b) _ (finds_keys_in P w b h) (λ keys. finds_hold w x k keys.rows)
 
-  finds_check_one : (w : World) (d : Declaration) → DeclarationStands (P Model) d → (known : ℕ) → Finds P (check_one w d known)
+  finds_check_one : (w : World) (d : Declaration) → DeclarationHasSpans (P Model) d → (known : ℕ) → Finds P (check_one w d known)
   finds_check_one w (set k n ps e) h known = tt
   finds_check_one w (param k n b ps e) h known = tt
   finds_check_one w (check k b m x e) h known = finds_then P (checked (take known w) b x) _ (finds_checked (take known w) b h.0 x h.1) (λ u. tt)
@@ -57,17 +57,17 @@ module _ (P : Places) where
   finds_check_one w (arc k n b ps e) h known = tt
   finds_check_one w (objective k n p e) h known = tt
 
-  finds_declarations : (given : Sorted) → SortedStands (P Data) given → (ds : List Declaration) → DeclarationsStand (P Model) ds → (w : World) → Finds P (each (declare given) ds w)
+  finds_declarations : (given : Sorted) → SortedStands (P Data) given → (ds : List Declaration) → DeclarationsHaveSpans (P Model) ds → (w : World) → Finds P (each (declare given) ds w)
   finds_declarations given g [] h w = tt
   finds_declarations given g (d ∷ ds) h w = finds_then P (declare given d w) (each (declare given) ds) (finds_declare given g d h.0 w) (finds_declarations given g ds h.1)
 
-  finds_checks : (w : World) (ds : List Declaration) → DeclarationsStand (P Model) ds → (known : ℕ) → Finds P (each (check_one w) ds known)
+  finds_checks : (w : World) (ds : List Declaration) → DeclarationsHaveSpans (P Model) ds → (known : ℕ) → Finds P (each (check_one w) ds known)
   finds_checks w [] h known = tt
   finds_checks w (d ∷ ds) h known = finds_then P (check_one w d known) (each (check_one w) ds) (finds_check_one w d h.0 known) (finds_checks w ds h.1)
 
-  pub finds_world : (ds : List Declaration) (ss : List Statement) → DeclarationsStand (P Model) ds → StatementsStand (P Data) ss → Finds P (world ds ss)
+  pub finds_world : (ds : List Declaration) (ss : List Statement) → DeclarationsHaveSpans (P Model) ds → StatementsHaveSpans (P Data) ss → Finds P (world ds ss)
   unfolding world
   finds_world ds ss h k =
-      finds_behind P (SortedStands (P Data)) (data_by_name (declared ds) ss) (with_given ds) (gives_said P (declared ds) ss k) (λ given g.
+      finds_after P (SortedStands (P Data)) (data_by_name (declared ds) ss) (with_given ds) (gives_said P (declared ds) ss k) (λ given g.
       finds_then P (each (declare given) ds []) (after_checks ds) (finds_declarations given g ds h []) (λ w.
       finds_then P (each (check_one w) ds 0) _ (finds_checks w ds h 0) (λ known. tt)))

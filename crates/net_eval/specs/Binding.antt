@@ -14,8 +14,8 @@ use Rattle.net_expr.specs.declared.world.Entry.TheVariants.{Set, Parameter}
 use Rattle.net_expr.specs.Operators.{truth}
 use Rattle.net_expr.specs.Values.{value}
 use Rattle.net_expr.specs.Worlds.{Name, World, key_count, entry_of}
-use Rattle.net_fault.specs.declared.defect.Defect.TheVariants.{CheckFailed}
-use Rattle.net_fault.specs.Outcomes.{Outcome, and_then, each, refused_as}
+use Rattle.net_fault.specs.declared.error_code.ErrorCode.TheVariants.{CheckFailed}
+use Rattle.net_fault.specs.Outcomes.{Outcome, and_then, each, rejected_as}
 use Rattle.net_eval.specs.declared.given.NamedData.{NamedData}
 use Rattle.net_eval.specs.Names.{declared}
 use Rattle.net_eval.specs.DataByName.{Sorted, data_by_name}
@@ -31,23 +31,23 @@ abbrev pub widths : World → List ℕ
 widths w = map (λ (e : Name × Entry). width_of e.1) w
 
 -- the data for the name that is declared next
-abbrev pub said_next : Sorted → World → List NamedData
-said_next given w = slice_index_or given (length w) []
+abbrev pub next_data : Sorted → World → List NamedData
+next_data given w = slice_index_or given (length w) []
 
 abbrev pub with_entry : World → Token → Entry → Outcome World
 with_entry w n e = Ok (w ++ (n.text, e) ∷ [])
 
 -- adds a declaration
 abbrev pub declare : Sorted → Declaration → World → Outcome World
-declare given (set k n ps e) w = and_then (bound_set w (widths w) n ps (said_next given w)) (with_entry w n)
-declare given (param k n b ps e) w = and_then (bound_parameter w (widths w) n b ps (said_next given w)) (with_entry w n)
+declare given (set k n ps e) w = and_then (bound_set w (widths w) n ps (next_data given w)) (with_entry w n)
+declare given (param k n b ps e) w = and_then (bound_parameter w (widths w) n b ps (next_data given w)) (with_entry w n)
 declare given (check k b m x e) w = Ok w
 declare given (node k n b c e) w = Ok w
 declare given (arc k n b ps e) w = Ok w
 declare given (objective k n p e) w = Ok w
 
 abbrev pub judged : Tree → Bool → Outcome (Unit {0})
-judged x b = if b then Ok tt else refused_as Model CheckFailed (span_of x) Nothing
+judged x b = if b then Ok tt else rejected_as Model CheckFailed (span_of x) Nothing
 
 -- a condition holds at each key
 abbrev pub hold : World → Tree → List Row → Outcome (Unit {0})

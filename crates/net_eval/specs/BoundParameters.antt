@@ -19,7 +19,7 @@ use Rattle.net_tree.specs.Role.{role_of}
 use Rattle.net_tree.specs.Spans.{span_of, braces_span}
 use Rattle.net_tree.specs.Tree.{Tree, Braces, Body, plain, valued, priced, Phrase}
 use Rattle.net_fault.specs.declared.detail.Detail.TheVariants.{Nothing}
-use Rattle.net_fault.specs.declared.defect.Defect.TheVariants.{KindMismatch, TooMany}
+use Rattle.net_fault.specs.declared.error_code.ErrorCode.TheVariants.{KindMismatch, TooMany}
 use Rattle.net_expr.specs.declared.row.Row.{Row}
 use Rattle.net_expr.specs.declared.row.Keys.{Keys}
 use Rattle.net_expr.specs.declared.world.Entry.{Entry}
@@ -33,7 +33,7 @@ use Rattle.net_eval.specs.declared.given.NamedData.{NamedData}
 use Rattle.net_eval.specs.declared.param.Gives.{Gives}
 use Rattle.net_eval.specs.declared.param.Gives.TheVariants as gives
 use Rattle.net_eval.specs.Cells.{member_in}
-use Rattle.net_fault.specs.Outcomes.{Outcome, and_then, each, refused, refused_as}
+use Rattle.net_fault.specs.Outcomes.{Outcome, and_then, each, rejected, rejected_as}
 use Rattle.net_eval.specs.Restrictions.{restricted}
 use Rattle.net_eval.specs.Rows.{Table, Taken, All, with_value, with_statement}
 
@@ -67,12 +67,12 @@ takes_texts [] = false
 takes_texts (p ∷ ps) = is_symbolic (role_of p.word) || takes_texts ps
 
 -- a single empty key, for a parameter without indexing
-abbrev pub lone_key : Keys
-lone_key = record { width = None; rows = (record { key = []; scope = [] }) ∷ [] }
+abbrev pub single_key : Keys
+single_key = record { width = None; rows = (record { key = []; scope = [] }) ∷ [] }
 
 -- the keys of an indexing expression
 abbrev pub keys_in : World → Option Braces → Outcome Keys
-keys_in w None = Ok lone_key
+keys_in w None = Ok single_key
 keys_in w (Some b) = (index w [] b)
 
 -- the number of members of a key, or None without indexing
@@ -86,7 +86,7 @@ span_or at (Some b) = braces_span b
 
 -- the index set: the distinct keys
 abbrev pub index_list : Span → List Row → Outcome (List Tuple)
-index_list at rows = if nat_le (length (union [] (keys_of rows))) tuples_limit then Ok (union [] (keys_of rows)) else refused TooMany at
+index_list at rows = if nat_le (length (union [] (keys_of rows))) tuples_limit then Ok (union [] (keys_of rows)) else rejected TooMany at
 
 -- the source of values that are missing in the data: `:=`, else the data's default, else `default`
 abbrev pub Source : Type 0
@@ -140,8 +140,8 @@ cell_of cells None = None
 cell_of cells (Some i) = slice_get cells i
 
 abbrev pub no_text : Language → Span → Option Span → Outcome (Unit {0})
-no_text text at None = refused_as text KindMismatch at Nothing
-no_text text at (Some cell) = refused_as Data KindMismatch cell Nothing
+no_text text at None = rejected_as text KindMismatch at Nothing
+no_text text at (Some cell) = rejected_as Data KindMismatch cell Nothing
 
 -- a string is only allowed for a symbolic parameter; the error is at the cell that gave it, or else
 -- at the source
@@ -169,8 +169,8 @@ abbrev pub untaken : All
 untaken = (([], []), None)
 
 -- the content of all statements, in order
-abbrev pub said_of : List ℕ → Option ℕ → List Tuple → Bool → List NamedData → Outcome All
-said_of widths n index is_assigned ms = each (with_statement widths n index (key_count n) is_assigned) ms untaken
+abbrev pub data_of : List ℕ → Option ℕ → List Tuple → Bool → List NamedData → Outcome All
+data_of widths n index is_assigned ms = each (with_statement widths n index (key_count n) is_assigned) ms untaken
 
 -- fills in missing values, then checks all values
 abbrev pub valued_by : World → Token → Option ℕ → List Phrase → Source → List Row → Taken → Table → Outcome Table
@@ -182,7 +182,7 @@ values w name n ps x rows taken = and_then (each (with_key w name.span x) rows t
 -- the table: the values from the data, then the missing values
 abbrev pub filled : World → List ℕ → Token → List Phrase → List NamedData → Option ℕ → List Row → List Tuple → Outcome Table
 filled w widths name ps ms n rows index =
-    and_then (said_of widths n index (is_some (phrase_value gives.Becomes ps)) ms) (λ all.
+    and_then (data_of widths n index (is_some (phrase_value gives.Becomes ps)) ms) (λ all.
     values w name n ps (source (phrase_value gives.Becomes ps) all.1 (phrase_value gives.Default ps)) rows all.0)
 
 abbrev pub with_data : World → List ℕ → Token → List Phrase → List NamedData → Option ℕ → List Row → List Tuple → Outcome Entry

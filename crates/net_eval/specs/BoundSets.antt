@@ -5,8 +5,8 @@ use Rattle.net_lex.specs.declared.token.Token.{Token}
 use Rattle.net_sets.specs.Operations.{is_within}
 use Rattle.net_sets.specs.Sets.{Tuple}
 use Rattle.net_tree.specs.Tree.{Phrase}
-use Rattle.net_fault.specs.declared.detail.Detail.TheVariants.{Told}
-use Rattle.net_fault.specs.declared.defect.Defect.TheVariants.{NoValue, Restriction}
+use Rattle.net_fault.specs.declared.detail.Detail.TheVariants.{Reported}
+use Rattle.net_fault.specs.declared.error_code.ErrorCode.TheVariants.{NoValue, Restriction}
 use Rattle.net_expr.specs.declared.world.Entry.{Entry}
 use Rattle.net_expr.specs.declared.world.Entry.TheVariants.{Set}
 use Rattle.net_expr.specs.Worlds.{World}
@@ -15,7 +15,7 @@ use Rattle.net_eval.specs.declared.set_phrase.Claim.{Claim}
 use Rattle.net_eval.specs.declared.set_phrase.Claim.TheVariants as claims
 use Rattle.net_eval.specs.declared.set_phrase.SetPhrase.{SetPhrase}
 use Rattle.net_eval.specs.declared.set_phrase.Claims.{Claims}
-use Rattle.net_fault.specs.Outcomes.{Outcome, and_then, refused_as}
+use Rattle.net_fault.specs.Outcomes.{Outcome, and_then, rejected_as}
 use Rattle.net_eval.specs.SetPhrases.{set_phrases, assigned}
 use Rattle.net_eval.specs.SetData.{given_set}
 
@@ -23,7 +23,7 @@ use Rattle.net_eval.specs.SetData.{given_set}
 abbrev pub one_of : Token → Option (List Tuple) → Option (List Tuple) → Outcome (List Tuple)
 one_of name (Some ts) found = Ok ts
 one_of name None (Some ts) = Ok ts
-one_of name None None = refused_as Model NoValue name.span (Told name.text)
+one_of name None None = rejected_as Model NoValue name.span (Reported name.text)
 
 abbrev pub is_allowed : List Tuple → Claim → Bool
 is_allowed ts (claims.Within d within) = is_within ts within
@@ -34,7 +34,7 @@ is_allowed ts (claims.Becomes d us) = true
 -- the set is a subset of each set that its phrases name
 abbrev pub allowed : Token → List Tuple → List SetPhrase → Outcome (Unit {0})
 allowed name ts [] = Ok tt
-allowed name ts (p ∷ ps) = if is_allowed ts p.claim then allowed name ts ps else refused_as Model Restriction p.at (Told name.text)
+allowed name ts (p ∷ ps) = if is_allowed ts p.claim then allowed name ts ps else rejected_as Model Restriction p.at (Reported name.text)
 
 abbrev pub set_of : List ℕ → Token → List NamedData → Claims → Outcome Entry
 set_of widths name ms c =

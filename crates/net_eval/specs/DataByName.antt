@@ -18,8 +18,8 @@ abbrev pub Sorted : Type 0
 Sorted = List (List NamedData)
 
 -- no data for any name
-abbrev pub unsaid : Declared → Sorted
-unsaid ds = map (λ d. []) ds
+abbrev pub no_data : Declared → Sorted
+no_data ds = map (λ d. []) ds
 
 -- adds a statement's data for the name with index i
 abbrev pub with_named_data : ℕ → NamedData → Sorted → Sorted
@@ -103,4 +103,4 @@ in_statement ds (Columns c) all = in_columns ds c.set c.names c.cells all
 
 -- the content of all statements
 abbrev pub data_by_name : Declared → List Statement → Outcome Sorted
-data_by_name ds ss = each (in_statement ds) ss (unsaid ds)
+data_by_name ds ss = each (in_statement ds) ss (no_data ds)

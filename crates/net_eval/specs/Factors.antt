@@ -15,14 +15,14 @@ is_cross op.Cross = true
 is_cross _ = false
 
 -- the right operand of a single `cross`
-abbrev pub behind_cross : Links → Option Tree
-behind_cross (link o y none) = if is_cross (operation o) then Some y else None
-behind_cross _ = None
+abbrev pub after_cross : Links → Option Tree
+after_cross (link o y none) = if is_cross (operation o) then Some y else None
+after_cross _ = None
 
 -- the two sides of `A cross B`, in parentheses or not
 abbrev pub factors : Tree → Option (Tree × Tree)
 factors (parens o x c) = factors x
-factors (chain n x l) = both x (behind_cross l)
+factors (chain n x l) = both x (after_cross l)
 factors _ = None
 
 -- the product of two sets is a set, and the tuples of the first have equal lengths

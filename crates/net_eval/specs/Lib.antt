@@ -1,6 +1,6 @@
 pub mod Cells
 pub mod Names
-pub mod Kept
+pub mod Consistent
 pub mod DataByName
 pub mod Factors
 pub mod Supersets

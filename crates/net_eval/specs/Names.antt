@@ -3,11 +3,11 @@ use Rattle.std.specs.Prelude.{ℕ, ◌+◌, Bool, true, false, List, [], ◌∷�
 use Rattle.std.specs.Str.{bytes_eq}
 use Rattle.net_fault.specs.declared.language.Language.TheVariants.{Data}
 use Rattle.net_lex.specs.declared.token.Token.{Token}
-use Rattle.net_fault.specs.declared.detail.Detail.TheVariants.{Told}
+use Rattle.net_fault.specs.declared.detail.Detail.TheVariants.{Reported}
 use Rattle.net_expr.specs.Worlds.{Name}
 use Rattle.net_tree.specs.Tree.{Declaration, set, param, check, node, arc, objective}
-use Rattle.net_fault.specs.declared.defect.Defect.TheVariants.{NoSuchName}
-use Rattle.net_fault.specs.Outcomes.{Outcome, refused_as}
+use Rattle.net_fault.specs.declared.error_code.ErrorCode.TheVariants.{NoSuchName}
+use Rattle.net_fault.specs.Outcomes.{Outcome, rejected_as}
 
 -- the declared names in order, each with whether it is a set
 abbrev pub Declared : Type 0
@@ -23,9 +23,9 @@ declared (arc w n b ps e ∷ ds) = declared ds
 declared (objective w n p e ∷ ds) = declared ds
 
 -- the index of a name plus i, and whether it is a set
-abbrev pub found_behind : ℕ → Declared → Name → Option (ℕ × Bool)
-found_behind i [] name = None
-found_behind i (d ∷ ds) name = if bytes_eq d.0 name then Some (i, d.1) else found_behind (i + 1) ds name
+abbrev pub found_after : ℕ → Declared → Name → Option (ℕ × Bool)
+found_after i [] name = None
+found_after i (d ∷ ds) name = if bytes_eq d.0 name then Some (i, d.1) else found_after (i + 1) ds name
 
 -- the index of a set, or of a parameter
 abbrev pub as_wanted : Bool → Option (ℕ × Bool) → Option ℕ
@@ -34,9 +34,9 @@ as_wanted true (Some p) = if p.1 then Some p.0 else None
 as_wanted false (Some p) = if p.1 then None else Some p.0
 
 abbrev pub at_place : Token → Option ℕ → Outcome ℕ
-at_place t None = refused_as Data NoSuchName t.span (Told t.text)
+at_place t None = rejected_as Data NoSuchName t.span (Reported t.text)
 at_place t (Some i) = Ok i
 
 -- the index of the set or the parameter that a token in the data names
 abbrev pub target : Declared → Bool → Token → Outcome ℕ
-target ds is_set t = at_place t (as_wanted is_set (found_behind 0 ds t.text))
+target ds is_set t = at_place t (as_wanted is_set (found_after 0 ds t.text))

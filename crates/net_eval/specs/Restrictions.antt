@@ -13,13 +13,13 @@ use Rattle.net_expr.specs.Numbers.{number}
 use Rattle.net_expr.specs.Operators.{same, belongs}
 use Rattle.net_expr.specs.Values.{value}
 use Rattle.net_expr.specs.Worlds.{World, Scope}
-use Rattle.net_fault.specs.declared.defect.Defect.TheVariants.{Restriction}
+use Rattle.net_fault.specs.declared.error_code.ErrorCode.TheVariants.{Restriction}
 use Rattle.net_tree.specs.declared.role.Relation.{Relation}
 use Rattle.net_tree.specs.declared.role.Relation.TheVariants as relations
 use Rattle.net_tree.specs.declared.role.Role.{Role}
 use Rattle.net_tree.specs.declared.role.Role.TheVariants as roles
 use Rattle.net_tree.specs.Role.{role_of}
-use Rattle.net_fault.specs.Outcomes.{Outcome, and_then, refused_as}
+use Rattle.net_fault.specs.Outcomes.{Outcome, and_then, rejected_as}
 
 -- the relations that can restrict a value: all except these two
 abbrev pub restricting : Relation → Option Relation
@@ -57,7 +57,7 @@ related at relations.In m v = belongs at (One m) v
 related at _ m v = Ok true
 
 abbrev pub holding : Span → Detail → Bool → Outcome (Unit {0})
-holding at detail b = if b then Ok tt else refused_as Model Restriction at detail
+holding at detail b = if b then Ok tt else rejected_as Model Restriction at detail
 
 abbrev pub restricted_by : World → Scope → Detail → Member → Option Relation → Tree → Outcome (Unit {0})
 restricted_by w s detail m None x = Ok tt

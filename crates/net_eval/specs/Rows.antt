@@ -9,7 +9,7 @@ use Rattle.net_sets.specs.Limits.{tuples_limit}
 use Rattle.net_sets.specs.Sets.{Tuple, has, at_key}
 use Rattle.net_data.specs.Rows.{points}
 use Rattle.net_fault.specs.declared.detail.Detail.TheVariants.{Nothing}
-use Rattle.net_fault.specs.declared.defect.Defect.TheVariants.{Arity, OutsideSet, TooMany, DoubleValue}
+use Rattle.net_fault.specs.declared.error_code.ErrorCode.TheVariants.{Arity, OutsideSet, TooMany, DoubleValue}
 use Rattle.net_expr.specs.Worlds.{reference}
 use Rattle.net_fault.specs.declared.fault.Fault.{Fault}
 use Rattle.net_fault.specs.declared.fault.Fault.TheVariants.{OutOfMemory, At}
@@ -17,8 +17,8 @@ use Rattle.net_eval.specs.declared.given.Given.{Given}
 use Rattle.net_eval.specs.declared.given.Given.TheVariants as given
 use Rattle.net_eval.specs.declared.given.NamedData.{NamedData}
 use Rattle.net_eval.specs.Cells.{member_in, tuple_in}
-use Rattle.net_fault.specs.Outcomes.{Outcome, and_then, each, refused_as, refused_there}
-use Rattle.net_eval.specs.SetData.{begins_at, whole_groups, cut, told_by, agrees, doubled}
+use Rattle.net_fault.specs.Outcomes.{Outcome, and_then, each, rejected_as, rejected_there}
+use Rattle.net_eval.specs.SetData.{begins_at, whole_groups, cut, leading_size, agrees, doubled}
 
 -- the values of a parameter with their keys
 abbrev pub Table : Type 0
@@ -30,14 +30,14 @@ Taken = Table × List Span
 
 -- adds a value, if there are not too many
 abbrev pub with_value : Language → Span → Tuple → Member → Table → Outcome Table
-with_value text at key m t = if nat_lt (length t) tuples_limit then Ok (t ++ (key, m) ∷ []) else refused_as text TooMany at Nothing
+with_value text at key m t = if nat_lt (length t) tuples_limit then Ok (t ++ (key, m) ∷ []) else rejected_as text TooMany at Nothing
 
 -- adds a row; its key must be in the index set and have no value yet
 abbrev pub with_row : Token → Option ℕ → List Tuple → List Token → Token → Taken → Outcome Taken
 with_row word n index key value t =
-    if is_some (at_key t.0 (tuple_in key)) then refused_as Data DoubleValue (begins_at value.span key) (reference word.text n (tuple_in key))
+    if is_some (at_key t.0 (tuple_in key)) then rejected_as Data DoubleValue (begins_at value.span key) (reference word.text n (tuple_in key))
     else if has index (tuple_in key) then and_then (with_value Data (begins_at value.span key) (tuple_in key) (member_in value) t.0) (λ u. Ok (u, t.1 ++ value.span ∷ []))
-    else refused_as Data OutsideSet (begins_at value.span key) (reference word.text n (tuple_in key))
+    else rejected_as Data OutsideSet (begins_at value.span key) (reference word.text n (tuple_in key))
 
 -- adds a cell with a value; a missing-value dot gives none
 abbrev pub with_cell : Token → Option ℕ → List Tuple → List Token → Option Token → Taken → Outcome Taken
@@ -66,12 +66,12 @@ with_line word n index transposed columns (row ∷ cells) t = across word n inde
 
 -- a table requires a parameter with two keys
 abbrev pub has_two : Token → ℕ → Outcome (Unit {0})
-has_two word n = if nat_eq n 2 then Ok tt else refused_there Arity word.span
+has_two word n = if nat_eq n 2 then Ok tt else rejected_there Arity word.span
 
 -- checks the shape of a statement: the number of its keys, and complete groups
 abbrev pub shaped : List ℕ → ℕ → Token → Given → Outcome (Unit {0})
 shaped widths n word (given.Members ts) = Ok tt
-shaped widths n word (given.Groups g) = and_then (agrees word (told_by widths g.leader n) n) (λ u. whole_groups word.span n (n + g.values) (cut (n + g.values) g.cells))
+shaped widths n word (given.Groups g) = and_then (agrees word (leading_size widths g.leader n) n) (λ u. whole_groups word.span n (n + g.values) (cut (n + g.values) g.cells))
 shaped widths n word (given.Grid g) = and_then (has_two word n) (λ u. whole_groups word.span 1 (1 + length g.columns) (cut (1 + length g.columns) g.cells))
 
 -- adds its rows

@@ -7,15 +7,15 @@ use Rattle.net_lex.specs.declared.token.Token.{Token}
 use Rattle.net_sets.specs.Limits.{tuples_limit}
 use Rattle.net_sets.specs.Sets.{Tuple, has, added}
 use Rattle.net_data.specs.Rows.{points, groups, first_item, begins_tuple, more_items}
-use Rattle.net_fault.specs.declared.detail.Detail.TheVariants.{Told}
-use Rattle.net_fault.specs.declared.defect.Defect.TheVariants.{Arity, TooMany, DoubleValue}
+use Rattle.net_fault.specs.declared.detail.Detail.TheVariants.{Reported}
+use Rattle.net_fault.specs.declared.error_code.ErrorCode.TheVariants.{Arity, TooMany, DoubleValue}
 use Rattle.net_eval.specs.declared.given.Given.{Given}
 use Rattle.net_eval.specs.declared.given.Given.TheVariants as given
 use Rattle.net_eval.specs.declared.given.NamedData.{NamedData}
 use Rattle.net_eval.specs.declared.item.Item.{Item}
 use Rattle.net_eval.specs.declared.item.Rows.{Rows}
 use Rattle.net_eval.specs.Cells.{tuple_in}
-use Rattle.net_fault.specs.Outcomes.{Outcome, and_then, each, refused_as, refused_there}
+use Rattle.net_fault.specs.Outcomes.{Outcome, and_then, each, rejected_as, rejected_there}
 
 -- the items of a set: tuples and single members
 abbrev pub items_from : ℕ → List Token → List Item
@@ -56,16 +56,16 @@ begins_at at (t ∷ ts) = t.span
 -- each row has n members
 abbrev pub all_of_size : Span → ℕ → List (List Token) → Outcome (Unit {0})
 all_of_size at n [] = Ok tt
-all_of_size at n (r ∷ rows) = if nat_eq (length r) n then all_of_size at n rows else refused_there Arity (begins_at at r)
+all_of_size at n (r ∷ rows) = if nat_eq (length r) n then all_of_size at n rows else rejected_there Arity (begins_at at r)
 
 -- no missing-value dot is a member of a key
 abbrev pub without_points : List Token → Outcome (Unit {0})
 without_points [] = Ok tt
-without_points (t ∷ ts) = if points t.kind then refused_there Arity t.span else without_points ts
+without_points (t ∷ ts) = if points t.kind then rejected_there Arity t.span else without_points ts
 
 -- a group has the right length, and no missing-value dot in its key
 abbrev pub whole_group : Span → (keys size : ℕ) → List Token → Outcome (Unit {0})
-whole_group at keys size g = if nat_eq (length g) size then without_points (take keys g) else refused_there Arity (begins_at at g)
+whole_group at keys size g = if nat_eq (length g) size then without_points (take keys g) else rejected_there Arity (begins_at at g)
 
 abbrev pub whole_groups : Span → (keys size : ℕ) → List (List Token) → Outcome (Unit {0})
 whole_groups at keys size [] = Ok tt
@@ -77,30 +77,30 @@ cut n cells = if nat_eq n 0 then [] else groups n cells
 
 -- the number of members of a key: that of the first declared name of the heading, if it is already
 -- evaluated
-abbrev pub told_by : List ℕ → ℕ → ℕ → ℕ
-told_by widths leader own = unwrap_or (slice_get widths leader) own
+abbrev pub leading_size : List ℕ → ℕ → ℕ → ℕ
+leading_size widths leader own = unwrap_or (slice_get widths leader) own
 
 abbrev pub agrees : Token → ℕ → ℕ → Outcome (Unit {0})
-agrees word told own = if nat_eq told own then Ok tt else refused_there Arity word.span
+agrees word reported own = if nat_eq reported own then Ok tt else rejected_there Arity word.span
 
 -- the rows of a set of this dimension in a statement; each must have that length
 abbrev pub given_rows : List ℕ → ℕ → Token → Given → Outcome (List (List Token))
 given_rows widths n word (given.Members ts) = and_then (all_of_size word.span n (set_rows n ts)) (λ u. Ok (set_rows n ts))
 given_rows widths n word (given.Groups g) =
-    and_then (agrees word (told_by widths g.leader n) n) (λ u.
+    and_then (agrees word (leading_size widths g.leader n) n) (λ u.
     and_then (whole_groups word.span n (n + g.values) (cut (n + g.values) g.cells)) (λ v. Ok (map (take n) (cut (n + g.values) g.cells))))
 given_rows widths n word (given.Grid g) = Ok []
 
 -- adds a member, which must not be in the set yet
 abbrev pub with_member : Token → List Token → List Tuple → Outcome (List Tuple)
 with_member word row ts =
-    if has ts (tuple_in row) then refused_as Data DoubleValue (begins_at word.span row) (Told word.text)
+    if has ts (tuple_in row) then rejected_as Data DoubleValue (begins_at word.span row) (Reported word.text)
     else if nat_le (length (added ts (tuple_in row))) tuples_limit then Ok (added ts (tuple_in row))
-    else refused_there TooMany (begins_at word.span row)
+    else rejected_there TooMany (begins_at word.span row)
 
 -- the statement repeats earlier data for a name
 abbrev pub doubled : {A : Type 0} → Token → Outcome A
-doubled word = refused_as Data DoubleValue word.span (Told word.text)
+doubled word = rejected_as Data DoubleValue word.span (Reported word.text)
 
 -- a statement with the members of a set, which must not have a value yet
 abbrev pub with_statement : List ℕ → ℕ → Bool → NamedData → Option (List Tuple) → Outcome (Option (List Tuple))

@@ -10,7 +10,7 @@ use Rattle.net_tree.specs.declared.role.Role.TheVariants as roles
 use Rattle.net_tree.specs.Role.{role_of}
 use Rattle.net_tree.specs.Spans.{span_of}
 use Rattle.net_tree.specs.Tree.{Tree, plain, valued, priced, Body, Phrase}
-use Rattle.net_fault.specs.declared.defect.Defect.TheVariants.{KindMismatch, Arity}
+use Rattle.net_fault.specs.declared.error_code.ErrorCode.TheVariants.{KindMismatch, Arity}
 use Rattle.net_expr.specs.declared.value.Value.{Value}
 use Rattle.net_expr.specs.declared.value.Value.TheVariants.{One, Many}
 use Rattle.net_expr.specs.Values.{value}
@@ -21,7 +21,7 @@ use Rattle.net_eval.specs.declared.set_phrase.Claim.{Claim}
 use Rattle.net_eval.specs.declared.set_phrase.Claim.TheVariants as claims
 use Rattle.net_eval.specs.declared.set_phrase.SetPhrase.{SetPhrase}
 use Rattle.net_eval.specs.declared.set_phrase.Claims.{Claims}
-use Rattle.net_fault.specs.Outcomes.{Outcome, and_then, refused, each}
+use Rattle.net_fault.specs.Outcomes.{Outcome, and_then, rejected, each}
 
 abbrev pub set_word : Role → SetWord
 set_word (roles.Phrase begins.Dimen) = words.Dimension
@@ -34,12 +34,12 @@ abbrev pub is_dimension : ℤ → Bool
 is_dimension n = int_le (pos 1) n && int_le n (pos 4)
 
 abbrev pub dimension : Span → Value → Outcome Claim
-dimension at (One (Number n)) = if is_dimension n then Ok (claims.Dimension (unsigned_abs n)) else refused Arity at
-dimension at _ = refused KindMismatch at
+dimension at (One (Number n)) = if is_dimension n then Ok (claims.Dimension (unsigned_abs n)) else rejected Arity at
+dimension at _ = rejected KindMismatch at
 
 abbrev pub as_set : (Option ℕ → List Tuple → Claim) → Span → Value → Outcome Claim
 as_set claim at (Many d ts) = Ok (claim d ts)
-as_set claim at _ = refused KindMismatch at
+as_set claim at _ = rejected KindMismatch at
 
 -- the content of a phrase, from the value of its expression
 abbrev pub claimed : SetWord → Span → Value → Outcome Claim
@@ -62,7 +62,7 @@ dimension_of (claims.Becomes d ts) = d
 abbrev pub agreed : Span → Option ℕ → Option ℕ → Outcome (Option ℕ)
 agreed at None e = Ok e
 agreed at (Some d) None = Ok (Some d)
-agreed at (Some d) (Some e) = if nat_eq d e then Ok (Some d) else refused Arity at
+agreed at (Some d) (Some e) = if nat_eq d e then Ok (Some d) else rejected Arity at
 
 abbrev pub with_phrase : Claims → SetPhrase → Outcome Claims
 with_phrase c p = and_then (agreed p.at c.dimension (dimension_of p.claim)) (λ d. Ok (record { dimension = d; phrases = c.phrases ++ p ∷ [] }))

@@ -4,7 +4,7 @@ ghost use Rattle.std.specs.Prelude.{◌≡◌, false, IfOk, None, Ok, length};
 ghost use Rattle.net_data.specs.declared.statement.Statement.TheVariants as Statements;
 ghost use Rattle.net_eval.specs.declared.given.Given.TheVariants as given;
 ghost use Rattle.net_eval.specs.DataByName as named_data;
-ghost use Rattle.net_fault.specs.Outcomes.{Answers, Leaves};
+ghost use Rattle.net_fault.specs.Outcomes.{Refines, Updates};
 
 use crate::cell::Cell;
 use crate::flattened::Flattened;
@@ -33,7 +33,7 @@ fn add<'m, 't, 's>(
     named: NamedData<'m, 't, 's>,
     all: &mut Vec<DataFor<'m, 't, 's>>,
 ) -> Result<(), Fault>
-    ensures { Leaves (Ok (named_data.with_named_data place named.entry all.old.items)) result all.new.items }
+    ensures { Updates (Ok (named_data.with_named_data place named.entry all.old.items)) result all.new.items }
 {
     if place < all.len() {
         all[place].push(named)?;
@@ -47,11 +47,11 @@ fn in_set<'t, 's>(
     set: &SetStatement<'t, 's>,
     all: &mut Vec<DataFor<'_, 't, 's>>,
 ) -> Result<(), Fault>
-    ensures { Leaves (named_data.in_statement names.now (Statements.Set set.now) all.old.items) result all.new.items }
+    ensures { Updates (named_data.in_statement names.now (Statements.Set set.now) all.old.items) result all.new.items }
 {
     let word = Cell::new(set.name.token());
     let place = names.target(true, &word)?;
-    let given = Given::Members(set.items.again());
+    let given = Given::Members(set.items.copied());
     add(
         place,
         NamedData {
@@ -71,7 +71,7 @@ fn in_list<'m, 't, 's>(
     all: &mut Vec<DataFor<'m, 't, 's>>,
 ) -> Result<(), Fault>
     requires { cells.now ≡ named_data.given_cells list.now.given }
-    ensures { Leaves (named_data.in_statement names.now (Statements.List list.now) all.old.items) result all.new.items }
+    ensures { Updates (named_data.in_statement names.now (Statements.List list.now) all.old.items) result all.new.items }
 {
     let word = Cell::new(list.name.token());
     let leader = names.target(false, &word)?;
@@ -103,7 +103,7 @@ fn in_table<'m, 't, 's>(
 ) -> Result<(), Fault>
     requires heading { columns.now ≡ table.now.columns }
     requires cells { cells.now ≡ table.now.cells }
-    ensures { Leaves (named_data.in_statement names.now (Statements.Table table.now) all.old.items) result all.new.items }
+    ensures { Updates (named_data.in_statement names.now (Statements.Table table.now) all.old.items) result all.new.items }
 {
     let word = Cell::new(table.name.token());
     let place = names.target(false, &word)?;
@@ -125,7 +125,7 @@ fn in_table<'m, 't, 's>(
 }
 
 fn set_first<'s>(names: &Names<'s>, set: &Option<NamedSet<'_, 's>>) -> Result<Option<usize>, Fault>
-    ensures { Answers (named_data.set_first names.now set.now) result }
+    ensures { Refines (named_data.set_first names.now set.now) result }
 {
     match set {
         None => Ok(None),
@@ -151,7 +151,7 @@ fn first_of<'s>(
     words: &[Cell<'_, 's>],
     before: Option<usize>,
 ) -> Result<Option<usize>, Fault>
-    ensures { Answers (named_data.first_of names.now words.now before) result }
+    ensures { Refines (named_data.first_of names.now words.now before) result }
 {
     let mut first = before;
     for word in words {
@@ -168,7 +168,7 @@ fn in_heading<'m, 't, 's>(
     cells: &'m [Cell<'t, 's>],
     all: &mut Vec<DataFor<'m, 't, 's>>,
 ) -> Result<(), Fault>
-    ensures { Leaves (named_data.headed names.now leader (length words.now) cells.entry.now 0 words.now all.old.items) result all.new.items }
+    ensures { Updates (named_data.headed names.now leader (length words.now) cells.entry.now 0 words.now all.old.items) result all.new.items }
 {
     for (place, word) in words.iter().enumerate() {
         let groups = Groups {
@@ -189,11 +189,11 @@ fn headed<'m, 't, 's>(
     groups: Groups<'m, 't, 's>,
     all: &mut Vec<DataFor<'m, 't, 's>>,
 ) -> Result<(), Fault>
-    ensures { Leaves (named_data.with_named names.now false word.now (λ i. named_data.named word.now None (given.Groups groups.entry)) all.old.items)
+    ensures { Updates (named_data.with_named names.now false word.now (λ i. named_data.named word.now None (given.Groups groups.entry)) all.old.items)
         result all.new.items }
 {
     let target = names.target(false, word)?;
-    add_groups(target, word.again(), groups, all)
+    add_groups(target, word.copied(), groups, all)
 }
 
 fn add_groups<'m, 't, 's>(
@@ -202,7 +202,7 @@ fn add_groups<'m, 't, 's>(
     groups: Groups<'m, 't, 's>,
     all: &mut Vec<DataFor<'m, 't, 's>>,
 ) -> Result<(), Fault>
-    ensures { Leaves (Ok (named_data.with_named_data target (named_data.named word.entry None (given.Groups groups.entry))
+    ensures { Updates (Ok (named_data.with_named_data target (named_data.named word.entry None (given.Groups groups.entry))
         all.old.items)) result all.new.items }
 {
     add(
@@ -225,7 +225,7 @@ fn set_headed<'m, 't, 's>(
     cells: &'m [Cell<'t, 's>],
     all: &mut Vec<DataFor<'m, 't, 's>>,
 ) -> Result<(), Fault>
-    ensures { Leaves (named_data.set_headed names.now leader values cells.entry.now set.now all.old.items) result all.new.items }
+    ensures { Updates (named_data.set_headed names.now leader values cells.entry.now set.now all.old.items) result all.new.items }
 {
     match set {
         None => Ok(()),
@@ -251,7 +251,7 @@ fn in_columns<'m, 't, 's>(
     cells: &'m [Cell<'t, 's>],
     all: &mut Vec<DataFor<'m, 't, 's>>,
 ) -> Result<(), Fault>
-    ensures { Leaves (named_data.in_columns names.now set.now words.now cells.entry.now all.old.items) result all.new.items }
+    ensures { Updates (named_data.in_columns names.now set.now words.now cells.entry.now all.old.items) result all.new.items }
 {
     let before = set_first(names, set)?;
     let leader = first_of(names, words, before)?.unwrap_or(0);
@@ -264,7 +264,7 @@ fn in_statement<'m, 't, 's>(
     sheet: &'m Flattened<'m, 't, 's>,
     all: &mut Vec<DataFor<'m, 't, 's>>,
 ) -> Result<(), Fault>
-    ensures { Leaves (named_data.in_statement names.now sheet.entry.now all.old.items) result all.new.items }
+    ensures { Updates (named_data.in_statement names.now sheet.entry.now all.old.items) result all.new.items }
 {
     match sheet.statement() {
         Statement::Set(set) => in_set(names, set, all),
@@ -277,11 +277,11 @@ fn in_statement<'m, 't, 's>(
 }
 
 /// Creates empty data for each name. Fails only if memory runs out.
-fn unsaid<'m, 't, 's>(
+fn no_data<'m, 't, 's>(
     alloc: Global,
     names: &Names<'s>,
 ) -> Result<Vec<DataFor<'m, 't, 's>>, AllocError>
-    ensures { IfOk result (λ all. all.items ≡ named_data.unsaid names.now) }
+    ensures { IfOk result (λ all. all.items ≡ named_data.no_data names.now) }
 {
     let mut all: Vec<DataFor<'m, 't, 's>> = Vec::new(alloc);
     for _name in names.names() {
@@ -300,9 +300,9 @@ pub(crate) fn data_by_name<'m, 't, 's>(
     names: &Names<'s>,
     statements: &'m [Flattened<'m, 't, 's>],
 ) -> Result<Items<DataFor<'m, 't, 's>>, Fault>
-    ensures { Answers (named_data.data_by_name names.now statements.entry.now) result }
+    ensures { Refines (named_data.data_by_name names.now statements.entry.now) result }
 {
-    let mut all = unsaid(alloc, names)?;
+    let mut all = no_data(alloc, names)?;
     for sheet in statements {
         in_statement(names, sheet, &mut all)?;
     }

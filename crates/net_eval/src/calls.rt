@@ -5,7 +5,7 @@ ghost use Rattle.net_tree.specs.Spans as trees;
 ghost use Rattle.net_tree.specs.View.{tree, braces_of};
 ghost use Rattle.net_expr.specs.Items as items;
 ghost use Rattle.net_expr.specs.Operators as operators;
-ghost use Rattle.net_fault.specs.Outcomes.{Answers, and_then};
+ghost use Rattle.net_fault.specs.Outcomes.{Refines, and_then};
 ghost use Rattle.net_expr.specs.Values as values;
 
 use net_expr::{Env, Keys, Member, Scope, World};
@@ -21,7 +21,7 @@ pub fn value<'s>(
     scope: &Scope<'s>,
     expr: &Expr<'s>,
 ) -> Result<Member<'s>, Fault>
-    ensures { Answers (and_then (values.value world.now scope.now (tree expr.now)) (operators.member (trees.span_of (tree expr.now)))) result }
+    ensures { Refines (and_then (values.value world.now scope.now (tree expr.now)) (operators.member (trees.span_of (tree expr.now)))) result }
 {
     net_expr::member(alloc, &Env::of_world(world), scope, expr)
 }
@@ -33,7 +33,7 @@ pub fn members<'w, 's>(
     scope: &Scope<'s>,
     expr: &Expr<'s>,
 ) -> Result<Cow<'w, 's>, Fault>
-    ensures { Answers (and_then (values.value world.entry.now scope.now (tree expr.now)) (items.tuples_of (trees.span_of (tree expr.now)))) result }
+    ensures { Refines (and_then (values.value world.entry.now scope.now (tree expr.now)) (items.tuples_of (trees.span_of (tree expr.now)))) result }
 {
     net_expr::members(alloc, &Env::of_world(world), scope, expr)
 }
@@ -45,7 +45,7 @@ pub fn holds<'s>(
     scope: &Scope<'s>,
     expr: &Expr<'s>,
 ) -> Result<bool, Fault>
-    ensures { Answers (and_then (values.value world.now scope.now (tree expr.now)) (operators.truth (trees.span_of (tree expr.now)))) result }
+    ensures { Refines (and_then (values.value world.now scope.now (tree expr.now)) (operators.truth (trees.span_of (tree expr.now)))) result }
 {
     net_expr::holds(alloc, &Env::of_world(world), scope, expr)
 }
@@ -57,7 +57,7 @@ pub fn index_of<'s>(
     scope: &Scope<'s>,
     braces: &Braces<'s>,
 ) -> Result<Keys<'s>, Fault>
-    ensures { Answers (values.index world.now scope.now (braces_of braces.now)) result }
+    ensures { Refines (values.index world.now scope.now (braces_of braces.now)) result }
 {
     net_expr::index_of(alloc, &Env::of_world(world), scope, braces)
 }

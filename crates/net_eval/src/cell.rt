@@ -38,7 +38,7 @@ impl<'t, 's> Cell<'t, 's> {
     }
 
     /// Returns a copy of the reference.
-    pub(crate) fn again(&self) -> Cell<'t, 's>
+    pub(crate) fn copied(&self) -> Cell<'t, 's>
         ensures { result ≡ self.now }
     {
         Cell { token: self.token }

@@ -3,11 +3,11 @@
 ghost use Rattle.std.specs.Prelude.{◌≡◌, ◌+◌, ◌<◌, ◌≤◌, ◌^◌, IfOk, map};
 ghost use Rattle.net_tree.specs.View.{tree, declaration_of, indexing_of};
 ghost use Rattle.net_eval.specs.Binding as binding;
-ghost use Rattle.net_fault.specs.Outcomes.{Answers, each};
+ghost use Rattle.net_fault.specs.Outcomes.{Refines, each};
 
 use crate::indexing::keys_in;
 use net_expr::{Env, Row, World, holds};
-use net_fault::{Defect, Detail, Fault, Language};
+use net_fault::{Detail, ErrorCode, Fault, Language};
 use net_tree::{Braces, Decl, Expr, span_of};
 use std::alloc::Global;
 
@@ -18,13 +18,13 @@ fn hold<'s>(
     condition: &Expr<'s>,
     rows: &[Row<'s>],
 ) -> Result<(), Fault>
-    ensures { Answers (binding.hold env.now (tree condition.now) rows.now) result }
+    ensures { Refines (binding.hold env.now (tree condition.now) rows.now) result }
 {
     for row in rows {
         if !holds(alloc, env, &row.scope, condition)? {
             return Err(Fault::of_text(
                 Language::Model,
-                Defect::CheckFailed,
+                ErrorCode::CheckFailed,
                 span_of(condition),
                 Detail::Nothing,
             ));
@@ -39,7 +39,7 @@ fn checked<'s>(
     braces: &Option<Braces<'s>>,
     condition: &Expr<'s>,
 ) -> Result<(), Fault>
-    ensures { Answers (binding.checked env.now (indexing_of braces.now) (tree condition.now)) result }
+    ensures { Refines (binding.checked env.now (indexing_of braces.now) (tree condition.now)) result }
 {
     let keys = keys_in(alloc, env, braces)?;
     hold(alloc, env, condition, keys.rows.as_slice())
@@ -52,7 +52,7 @@ fn check_one<'s>(
     known: usize,
 ) -> Result<usize, Fault>
     requires { known + 1 < 2 ^ 64 }
-    ensures value { Answers (binding.check_one world.now (declaration_of decl.now) known) result }
+    ensures value { Refines (binding.check_one world.now (declaration_of decl.now) known) result }
     ensures few { IfOk result (λ k. k ≤ known + 1) }
 {
     match decl {
@@ -74,7 +74,7 @@ pub(crate) fn all_checked<'s>(
     world: &World<'s>,
     decls: &[Decl<'s>],
 ) -> Result<usize, Fault>
-    ensures { Answers (each (binding.check_one world.now) (map declaration_of decls.now) 0) result }
+    ensures { Refines (each (binding.check_one world.now) (map declaration_of decls.now) 0) result }
 {
     let mut known = 0;
     for decl in decls {

@@ -24,8 +24,8 @@ fn is_cross(operator: &Operator<'_>) -> bool
 }
 
 /// Returns the right operand of a single `cross`.
-fn behind_cross<'a, 's>(links: &'a [Link<'s>]) -> Option<&'a Expr<'s>>
-    ensures { option_map (λ x. tree x.now) result ≡ forms.behind_cross (links_of links.entry.now) }
+fn after_cross<'a, 's>(links: &'a [Link<'s>]) -> Option<&'a Expr<'s>>
+    ensures { option_map (λ x. tree x.now) result ≡ forms.after_cross (links_of links.entry.now) }
 {
     match links {
         [] => None,
@@ -49,7 +49,7 @@ fn factors<'a, 's>(expr: &'a Expr<'s>) -> Option<(&'a Expr<'s>, &'a Expr<'s>)>
         Expr::Parens(parts) => factors(&parts.get().1),
         Expr::Chain(_, operands) => {
             let series = operands.get();
-            match behind_cross(series.more.as_slice()) {
+            match after_cross(series.more.as_slice()) {
                 None => None,
                 Some(second) => Some((&series.first, second)),
             }

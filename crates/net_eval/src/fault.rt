@@ -2,24 +2,24 @@
 
 ghost use Rattle.std.specs.Prelude.{◌≡◌, IfOk};
 ghost use Rattle.net_fault.specs.Outcomes.{found};
-ghost use Rattle.net_fault.specs.declared.detail.Detail.TheVariants.{Told};
+ghost use Rattle.net_fault.specs.declared.detail.Detail.TheVariants.{Reported};
 ghost use Rattle.net_fault.specs.declared.fault.Fault.TheVariants.{At};
 
-use net_fault::{Defect, Detail, Fault, Language, Span};
+use net_fault::{Detail, ErrorCode, Fault, Language, Span};
 use net_views::Excerpt;
 use std::alloc::{AllocError, Global};
 
 /// Builds an error at a name or at a part of its declaration; the name is its detail. Fails only if
 /// memory runs out.
-pub(crate) fn refuse_name(
+pub(crate) fn reject_name(
     alloc: Global,
     text: Language,
-    defect: Defect,
+    error_code: ErrorCode,
     at: Span,
     name: &Excerpt<'_>,
 ) -> Result<Fault, AllocError>
-    ensures { IfOk result (λ f. f ≡ At (found text defect at (Told name.now))) }
+    ensures { IfOk result (λ f. f ≡ At (found text error_code at (Reported name.now))) }
 {
     let detail = Detail::of_name(alloc, name)?;
-    Ok(Fault::of_text(text, defect, at, detail))
+    Ok(Fault::of_text(text, error_code, at, detail))
 }

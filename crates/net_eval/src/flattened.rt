@@ -60,8 +60,8 @@ fn heading_of<'t, 's>(
     match statement {
         Statement::Set(_) => Ok(no_cells(alloc)),
         Statement::List(_) => Ok(no_cells(alloc)),
-        Statement::Table(table) => cells_of(alloc, table.columns.again()),
-        Statement::Columns(columns) => cells_of(alloc, columns.names.again()),
+        Statement::Table(table) => cells_of(alloc, table.columns.copied()),
+        Statement::Columns(columns) => cells_of(alloc, columns.names.copied()),
     }
 }
 
@@ -73,7 +73,7 @@ fn given_cells<'t, 's>(
 {
     match given {
         None => Ok(no_cells(alloc)),
-        Some(given) => cells_of(alloc, given.cells.again()),
+        Some(given) => cells_of(alloc, given.cells.copied()),
     }
 }
 
@@ -86,8 +86,8 @@ fn body_of<'t, 's>(
     match statement {
         Statement::Set(_) => Ok(no_cells(alloc)),
         Statement::List(list) => given_cells(alloc, &list.given),
-        Statement::Table(table) => cells_of(alloc, table.cells.again()),
-        Statement::Columns(columns) => cells_of(alloc, columns.cells.again()),
+        Statement::Table(table) => cells_of(alloc, table.cells.copied()),
+        Statement::Columns(columns) => cells_of(alloc, columns.cells.copied()),
     }
 }
 

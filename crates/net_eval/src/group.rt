@@ -6,11 +6,11 @@ ghost use Rattle.net_fault.specs.declared.detail.Detail.TheVariants.{Nothing};
 ghost use Rattle.net_fault.specs.declared.fault.Fault.TheVariants.{At};
 ghost use Rattle.net_data.specs.Rows.{points, groups};
 ghost use Rattle.net_eval.specs.SetData as set_data;
-ghost use Rattle.net_fault.specs.Outcomes.{Answers};
+ghost use Rattle.net_fault.specs.Outcomes.{Refines};
 
 use crate::cell::Cell;
 use crate::given::Line;
-use net_fault::{Defect, Detail, Fault, Language, Span};
+use net_fault::{Detail, ErrorCode, Fault, Language, Span};
 use net_lex::Kind;
 use net_views::Items;
 use std::alloc::{AllocError, Global};
@@ -35,12 +35,12 @@ pub(crate) fn is_point(kind: Kind) -> bool
 }
 
 fn without_points(key: &[Cell<'_, '_>]) -> Result<(), Fault>
-    ensures { Answers (set_data.without_points key.now) result }
+    ensures { Refines (set_data.without_points key.now) result }
 {
     for cell in key {
         let token = cell.token();
         if is_point(token.kind) {
-            return Err(Fault::of_data(Defect::Arity, token.span));
+            return Err(Fault::of_data(ErrorCode::Arity, token.span));
         }
     }
     Ok(())
@@ -60,12 +60,12 @@ fn is_whole(keys: usize, values: usize, len: usize) -> bool
 }
 
 fn whole_group(at: Span, keys: usize, values: usize, group: &[Cell<'_, '_>]) -> Result<(), Fault>
-    ensures { Answers (set_data.whole_group at keys (keys + values) group.now) result }
+    ensures { Refines (set_data.whole_group at keys (keys + values) group.now) result }
 {
     if is_whole(keys, values, group.len()) {
         without_points(front(keys, group))
     } else {
-        Err(Fault::of_data(Defect::Arity, begins_at(at, group)))
+        Err(Fault::of_data(ErrorCode::Arity, begins_at(at, group)))
     }
 }
 
@@ -134,7 +134,7 @@ pub(crate) fn whole_groups(
     values: usize,
     groups: &[Line<'_, '_, '_>],
 ) -> Result<(), Fault>
-    ensures { Answers (set_data.whole_groups at keys (keys + values) groups.now) result }
+    ensures { Refines (set_data.whole_groups at keys (keys + values) groups.now) result }
 {
     for group in groups {
         whole_group(at, keys, values, group.cells())?;
@@ -144,12 +144,12 @@ pub(crate) fn whole_groups(
 
 /// Checks that each row has `size` members.
 pub(crate) fn all_of_size(at: Span, size: usize, rows: &[Items<Cell<'_, '_>>]) -> Result<(), Fault>
-    ensures { Answers (set_data.all_of_size at size rows.now) result }
+    ensures { Refines (set_data.all_of_size at size rows.now) result }
 {
     for row in rows {
         let cells = row.as_slice();
         if cells.len() != size {
-            return Err(Fault::of_data(Defect::Arity, begins_at(at, cells)));
+            return Err(Fault::of_data(ErrorCode::Arity, begins_at(at, cells)));
         }
     }
     Ok(())
@@ -160,7 +160,7 @@ fn copied<'t, 's>(alloc: Global, cells: &[Cell<'t, 's>]) -> Result<Items<Cell<'t
 {
     let mut all = Vec::new(alloc);
     for cell in cells {
-        all.push(cell.again())?;
+        all.push(cell.copied())?;
     }
     Ok(Items::new(all))
 }

@@ -5,18 +5,18 @@ ghost use Rattle.net_sets.specs.Sets.{same_tuple};
 ghost use Rattle.net_tree.specs.View.{indexing_of};
 ghost use Rattle.net_expr.specs.Rows.{keys_of};
 ghost use Rattle.net_eval.specs.BoundParameters as bound;
-ghost use Rattle.net_fault.specs.Outcomes.{Answers};
+ghost use Rattle.net_fault.specs.Outcomes.{Refines};
 
 use net_expr::{Env, Keys, Row, Scope, index_of, set_of_braces};
-use net_fault::{Defect, Fault, Span};
+use net_fault::{ErrorCode, Fault, Span};
 use net_sets::{IndexedSet, SetFault, SharedSet, Tuple, TupleSet};
 use net_tree::{Braces, braces_span};
 use net_views::Items;
 use std::alloc::{AllocError, Global};
 
 /// Returns a single empty key, for a parameter without indexing.
-fn lone_key<'s>(alloc: Global) -> Result<Keys<'s>, Fault>
-    ensures { Answers (Ok bound.lone_key) result }
+fn single_key<'s>(alloc: Global) -> Result<Keys<'s>, Fault>
+    ensures { Refines (Ok bound.single_key) result }
 {
     let mut rows = Vec::new(alloc);
     rows.push(Row {
@@ -35,10 +35,10 @@ pub(crate) fn keys_in<'s>(
     env: &Env<'_, 's>,
     braces: &Option<Braces<'s>>,
 ) -> Result<Keys<'s>, Fault>
-    ensures { Answers (bound.keys_in env.now (indexing_of braces.now)) result }
+    ensures { Refines (bound.keys_in env.now (indexing_of braces.now)) result }
 {
     match braces {
-        None => lone_key(alloc),
+        None => single_key(alloc),
         Some(braces) => Ok(index_of(alloc, env, &Scope::new(alloc), braces)?),
     }
 }
@@ -67,7 +67,7 @@ fn keys_of<'s>(alloc: Global, rows: &[Row<'s>]) -> Result<Items<Tuple<'s>>, Allo
 {
     let mut all = Vec::new(alloc);
     for row in rows {
-        all.push(row.key.again())?;
+        all.push(row.key.copied())?;
     }
     Ok(Items::new(all))
 }
@@ -95,13 +95,13 @@ fn are_tuples<'s>(rows: &[Row<'s>], tuples: &[Tuple<'s>]) -> bool
 
 /// Returns the index set as a new set.
 fn listed<'s>(alloc: Global, at: Span, rows: &[Row<'s>]) -> Result<SharedSet<'s>, Fault>
-    ensures { Answers (bound.index_list at rows.now) result }
+    ensures { Refines (bound.index_list at rows.now) result }
 {
     let keys = keys_of(alloc, rows)?;
     match TupleSet::from_tuples(alloc, keys.as_slice()) {
         Ok(all) => Ok(SharedSet::new(alloc, all)?),
         Err(SetFault::OutOfMemory) => Err(Fault::OutOfMemory),
-        Err(SetFault::TooMany) => Err(Fault::of_model(Defect::TooMany, at)),
+        Err(SetFault::TooMany) => Err(Fault::of_model(ErrorCode::TooMany, at)),
     }
 }
 
@@ -121,7 +121,7 @@ pub(crate) fn index_list<'s>(
     braces: &Option<Braces<'s>>,
     rows: &[Row<'s>],
 ) -> Result<SharedSet<'s>, Fault>
-    ensures { Answers (bound.index_list at rows.now) result }
+    ensures { Refines (bound.index_list at rows.now) result }
 {
     match source_of(env, braces) {
         None => listed(alloc, at, rows),

@@ -30,7 +30,7 @@ fn items_of<'t, 's>(
     ensures { IfOk result (λ all. all ≡ set_data.items members.now) }
 {
     let mut all = Vec::new(alloc);
-    let mut left = members.again();
+    let mut left = members.copied();
     while let Some(members) = left.first() {
         let is_tuple = left.begins_tuple();
         all.push(Item { is_tuple, members })?;
@@ -91,7 +91,7 @@ fn joined<'t, 's>(
 {
     let mut all = front.into_vec();
     for cell in back {
-        all.push(cell.again())?;
+        all.push(cell.copied())?;
     }
     Ok(Items::new(all))
 }
@@ -133,7 +133,7 @@ fn with_item<'t, 's>(
 ) -> Result<Rows<'t, 's>, AllocError>
     ensures { IfOk result (λ all. all ≡ set_data.with_item dimension rows.entry item.now) }
 {
-    let members = cells_of(alloc, item.members.again())?;
+    let members = cells_of(alloc, item.members.copied())?;
     if item.is_tuple {
         with_tuple(alloc, rows, members)
     } else {

@@ -2,9 +2,9 @@
 
 ghost use Rattle.std.specs.Prelude.{◌≡◌, ℕ, List, [], Ok};
 ghost use Rattle.net_data.specs.declared.statement.Statement.{Statement};
-ghost use Rattle.net_data.specs.Standing.{StatementsStand};
-ghost use Rattle.net_fault.specs.Places.{Finds, LieIn, LiesIn};
-ghost use Rattle.net_tree.specs.Standing.{DeclarationsStand};
+ghost use Rattle.net_data.specs.Standing.{StatementsHaveSpans};
+ghost use Rattle.net_fault.specs.Places.{Finds, IsInFiles, IsSpanIn};
+ghost use Rattle.net_tree.specs.Standing.{DeclarationsHaveSpans};
 ghost use Rattle.net_expr.specs.SetValues.{HasSets};
 ghost use Rattle.net_expr.specs.Worlds.{World};
 ghost use Rattle.net_tree.specs.Tree.{Declaration};
@@ -50,7 +50,7 @@ pub fn rows_come_before_sources()
 
 /// Theorem: if the spans of all declarations and of all data statements are in texts of these
 /// sizes, so is that of an error of binding, in its text.
-pub fn errors_lie_in_model_or_data()
-    ensures value { (model_size data_size : ℕ) (ds : List Declaration) (ss : List Statement) → DeclarationsStand (LiesIn model_size) ds
-        → StatementsStand (LiesIn data_size) ss → Finds (LieIn model_size data_size) (binding.world ds ss) }
+pub fn errors_are_in_model_or_data()
+    ensures value { (model_size data_size : ℕ) (ds : List Declaration) (ss : List Statement) → DeclarationsHaveSpans (IsSpanIn model_size) ds
+        → StatementsHaveSpans (IsSpanIn data_size) ss → Finds (IsInFiles model_size data_size) (binding.world ds ss) }
 {}

@@ -14,6 +14,7 @@ mod given;
 mod group;
 mod indexing;
 mod item;
+mod iterated_sets;
 mod laws;
 mod names;
 mod param;
@@ -26,12 +27,11 @@ mod soundness;
 mod source;
 mod stored;
 mod superset;
-mod walked;
 mod world;
 
 pub use calls::{holds, index_of, members, value};
 pub use laws::{
-    bound_worlds_have_parameters, bound_worlds_have_sets, errors_lie_in_model_or_data,
+    bound_worlds_have_parameters, bound_worlds_have_sets, errors_are_in_model_or_data,
     rows_come_before_sources, statements_are_taken_by_rows, well_named_are_new,
 };
 pub use net_expr::{Entry, Keys, Member, Scope, Text, Tuple, World};

@@ -4,14 +4,14 @@ ghost use Rattle.std.specs.Prelude.{◌≡◌, ◌++◌, ◌∷◌, [], List, �
 ghost use Rattle.std.specs.Str.{bytes_eq};
 ghost use Rattle.net_tree.specs.View.{model, declaration_of};
 ghost use Rattle.net_sets.specs.Names.{named};
-ghost use Rattle.net_eval.specs.Kept.{or_else};
+ghost use Rattle.net_eval.specs.Consistent.{or_else};
 ghost use Rattle.net_eval.specs.Names as names;
-ghost use Rattle.net_fault.specs.Outcomes.{Answers};
+ghost use Rattle.net_fault.specs.Outcomes.{Refines};
 
 use crate::cell::Cell;
-use crate::fault::refuse_name;
+use crate::fault::reject_name;
 use net_expr::name_key;
-use net_fault::{Defect, Fault, Language};
+use net_fault::{ErrorCode, Fault, Language};
 use net_sets::{HashKey, NameMap};
 use net_tree::Decl;
 use net_views::Excerpt;
@@ -28,13 +28,13 @@ pub(crate) struct Names<'s> {
 
 impl<'s> Model for Names<'s> {
     ghost use Rattle.std.specs.Prelude.{List, ℕ, Bool};
-    ghost use Rattle.net_eval.specs.Kept.{IsKept};
+    ghost use Rattle.net_eval.specs.Consistent.{IsConsistent};
 
     ghost Value = { List (List ℕ × Bool) };
 
     ghost view = { λ n. n.names.items };
 
-    ghost invariant = { λ n. IsKept n.names.items n.places };
+    ghost invariant = { λ n. IsConsistent n.names.items n.places };
 }
 
 /// Adds the position of a name that has none so far.
@@ -75,7 +75,7 @@ impl<'s> Names<'s> {
         } = self;
         let place = names.len();
         remember(&mut places, name, place, is_set)?;
-        names.push((name.again(), is_set))?;
+        names.push((name.copied(), is_set))?;
         Ok(Names {
             alloc,
             names,
@@ -92,7 +92,7 @@ impl<'s> Names<'s> {
 
     /// Returns the index of a name, and whether it is a set.
     fn find(&self, name: &Excerpt<'s>) -> Option<(usize, bool)>
-        ensures { result ≡ names.found_behind 0 self.now name.now }
+        ensures { result ≡ names.found_after 0 self.now name.now }
     {
         self.places.get(name).copied()
     }
@@ -100,15 +100,15 @@ impl<'s> Names<'s> {
     /// Returns the index of the set or the parameter that a token in the data names. Returns E30 if
     /// there is none.
     pub(crate) fn target(&self, is_set: bool, word: &Cell<'_, 's>) -> Result<usize, Fault>
-        ensures { Answers (names.target self.now is_set word.now) result }
+        ensures { Refines (names.target self.now is_set word.now) result }
     {
         let token = word.token();
         match self.find(&token.text) {
             Some((place, found)) if found == is_set => Ok(place),
-            _ => Err(refuse_name(
+            _ => Err(reject_name(
                 self.alloc,
                 Language::Data,
-                Defect::NoSuchName,
+                ErrorCode::NoSuchName,
                 token.span,
                 &token.text,
             )?),

@@ -6,19 +6,19 @@ ghost use Rattle.net_tree.specs.View.{body_of, phrase_of, indexing_of};
 ghost use Rattle.net_expr.specs.declared.world.Entry.TheVariants.{Parameter as AParameter};
 ghost use Rattle.net_eval.specs.BoundParameters as bound;
 ghost use Rattle.net_eval.specs.declared.param.Gives.TheVariants as gives;
-ghost use Rattle.net_fault.specs.Outcomes.{Answers, Leaves};
+ghost use Rattle.net_fault.specs.Outcomes.{Refines, Updates};
 
 use crate::cell::Cell;
 use crate::earlier::Earlier;
 use crate::given::NamedData;
 use crate::indexing::{index_list, key_size, keys_in, span_or};
-use crate::param_data::said_of;
+use crate::param_data::data_of;
 use crate::restriction::{KeyedValue, restricted};
 use crate::row::Values;
 use crate::source::{source_at, source_of, source_text, with_keys};
 use crate::stored::boxed;
 use net_expr::{Entry, Env, Row};
-use net_fault::{Defect, Detail, Fault, Language, Span};
+use net_fault::{Detail, ErrorCode, Fault, Language, Span};
 use net_lex::Token;
 use net_sets::{Member, SharedSet, Table};
 use net_tree::{Begins, Body, Braces, Expr, Phrase, Role, role_of};
@@ -114,15 +114,15 @@ fn fit_kind(
     cell: Option<Span>,
     member: &Member<'_>,
 ) -> Result<(), Fault>
-    ensures { Answers (bound.fit_kind texts text at cell member.now) result }
+    ensures { Refines (bound.fit_kind texts text at cell member.now) result }
 {
     if texts || is_number(member) {
         return Ok(());
     }
-    let defect = Defect::KindMismatch;
+    let error_code = ErrorCode::KindMismatch;
     match cell {
-        None => Err(Fault::of_text(text, defect, at, Detail::Nothing)),
-        Some(cell) => Err(Fault::of_text(Language::Data, defect, cell, Detail::Nothing)),
+        None => Err(Fault::of_text(text, error_code, at, Detail::Nothing)),
+        Some(cell) => Err(Fault::of_text(Language::Data, error_code, cell, Detail::Nothing)),
     }
 }
 
@@ -157,15 +157,15 @@ fn fit_value<'s>(
     near: usize,
     row: &Row<'s>,
 ) -> Result<(), Fault>
-    ensures { Answers (bound.fit_row env.now parameter.now.name.now parameter.now.keys (map phrase_of parameter.now.phrases.now) values.now.text
+    ensures { Refines (bound.fit_row env.now parameter.now.name.now parameter.now.keys (map phrase_of parameter.now.phrases.now) values.now.text
         values.now.at values.now.cells.now values.now.table.now row.now) result }
 {
     let table = values.table;
-    match table.get_near(near, &row.key) {
+    match table.get_with_hint(near, &row.key) {
         None => Ok(()),
         Some(member) => {
             let phrases = parameter.phrases;
-            let cell = cell_of(values.cells, table.row_near(near, &row.key));
+            let cell = cell_of(values.cells, table.row_with_hint(near, &row.key));
             fit_kind(takes_texts(phrases), values.text, values.at, cell, member)?;
             let keyed = KeyedValue {
                 name: &parameter.name.text,
@@ -186,7 +186,7 @@ fn fit_values<'s>(
     values: &PlacedValues<'_, 's>,
     rows: &[Row<'s>],
 ) -> Result<(), Fault>
-    ensures { Answers (bound.fit_values env.now parameter.now.name.now parameter.now.keys (map phrase_of parameter.now.phrases.now) values.now.text
+    ensures { Refines (bound.fit_values env.now parameter.now.name.now parameter.now.keys (map phrase_of parameter.now.phrases.now) values.now.text
         values.now.at values.now.cells.now values.now.table.now rows.now) result }
 {
     let mut near: usize = 0;
@@ -207,7 +207,7 @@ fn with_values<'s>(
     rows: &[Row<'s>],
     values: &mut Values<'s>,
 ) -> Result<(), Fault>
-    ensures { Leaves (bound.values env.now parameter.now.name.now parameter.now.keys (map phrase_of parameter.now.phrases.now) (bound.source
+    ensures { Updates (bound.values env.now parameter.now.name.now parameter.now.keys (map phrase_of parameter.now.phrases.now) (bound.source
         (bound.phrase_value gives.Becomes (map phrase_of parameter.now.phrases.now)) (option_copied default.entry) (bound.phrase_value gives.Default
         (map phrase_of parameter.now.phrases.now))) rows.now values.old) result values.new.0 }
 {
@@ -232,7 +232,7 @@ fn parameter_entry<'s>(
 ) -> Result<Boxed<Entry<'s>>, AllocError>
     ensures { IfOk result (λ e. e ≡ AParameter parameter.now.keys parameter.now.index.now table.entry) }
 {
-    let index = parameter.index.again()?;
+    let index = parameter.index.copied()?;
     boxed(alloc, Entry::Parameter(parameter.keys, index, table))
 }
 
@@ -246,12 +246,12 @@ fn filled<'s>(
     values: &mut Values<'s>,
 ) -> Result<(), Fault>
     requires { values.old ≡ ([], []) }
-    ensures { Leaves (bound.filled earlier.now.env earlier.now.widths.now parameter.now.name.now (map phrase_of parameter.now.phrases.now)
+    ensures { Updates (bound.filled earlier.now.env earlier.now.widths.now parameter.now.name.now (map phrase_of parameter.now.phrases.now)
         named_data.now parameter.now.keys rows.now parameter.now.index.now) result values.new.0 }
 {
     let is_assigned = phrase_value(Gives::Becomes, parameter.phrases).is_some();
     let widths = earlier.widths;
-    let default = said_of(alloc, widths, parameter, is_assigned, named_data, values)?;
+    let default = data_of(alloc, widths, parameter, is_assigned, named_data, values)?;
     with_values(
         alloc,
         &earlier.env,
@@ -269,10 +269,10 @@ fn with_data<'s>(
     named_data: &[NamedData<'_, '_, 's>],
     rows: &[Row<'s>],
 ) -> Result<Boxed<Entry<'s>>, Fault>
-    ensures { Answers (bound.with_data earlier.now.env earlier.now.widths.now parameter.now.name.now (map phrase_of parameter.now.phrases.now)
+    ensures { Refines (bound.with_data earlier.now.env earlier.now.widths.now parameter.now.name.now (map phrase_of parameter.now.phrases.now)
         named_data.now parameter.now.keys rows.now parameter.now.index.now) result }
 {
-    let mut values = Values::over(alloc, parameter.index.again()?)?;
+    let mut values = Values::over(alloc, parameter.index.copied()?)?;
     filled(alloc, earlier, parameter, named_data, rows, &mut values)?;
     Ok(parameter_entry(alloc, parameter, values.into_table())?)
 }
@@ -287,7 +287,7 @@ pub(crate) fn bound_parameter<'s>(
     phrases: &[Phrase<'s>],
     named_data: &[NamedData<'_, '_, 's>],
 ) -> Result<Boxed<Entry<'s>>, Fault>
-    ensures { Answers (bound.bound_parameter earlier.now.env earlier.now.widths.now name.now (indexing_of braces.now) (map phrase_of phrases.now)
+    ensures { Refines (bound.bound_parameter earlier.now.env earlier.now.widths.now name.now (indexing_of braces.now) (map phrase_of phrases.now)
         named_data.now) result }
 {
     let env = &earlier.env;

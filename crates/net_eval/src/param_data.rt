@@ -4,24 +4,24 @@ ghost use Rattle.std.specs.Prelude.{◌≡◌, [], None};
 ghost use Rattle.net_expr.specs.Worlds.{key_count};
 ghost use Rattle.net_eval.specs.declared.given.Given.TheVariants as given;
 ghost use Rattle.net_eval.specs.Rows as rows;
-ghost use Rattle.net_fault.specs.Outcomes.{Answers, Leaves, each};
+ghost use Rattle.net_fault.specs.Outcomes.{Refines, Updates, each};
 
 use crate::cell::Cell;
 use crate::given::{Given, Grid, Groups, Line, NamedData};
 use crate::group::{cut, whole_groups};
 use crate::param::Parameter;
 use crate::row::{NamedParameter, Values, pair_of, with_cell, with_groups};
-use crate::set::{agrees, doubled, told_by};
-use net_fault::{Defect, Fault};
+use crate::set::{agrees, doubled, leading_size};
+use net_fault::{ErrorCode, Fault};
 use std::alloc::Global;
 
 fn has_two(word: &Cell<'_, '_>, keys: usize) -> Result<(), Fault>
-    ensures { Answers (rows.has_two word.now keys) result }
+    ensures { Refines (rows.has_two word.now keys) result }
 {
     if keys == 2 {
         Ok(())
     } else {
-        Err(Fault::of_data(Defect::Arity, word.token().span))
+        Err(Fault::of_data(ErrorCode::Arity, word.token().span))
     }
 }
 
@@ -34,7 +34,7 @@ fn across<'t, 's>(
     cells: &[Cell<'t, 's>],
     values: &mut Values<'s>,
 ) -> Result<(), Fault>
-    ensures { Leaves (rows.across parameter.now.word.now parameter.now.keys parameter.now.index.now grid.now.transposed row.now grid.now.columns
+    ensures { Updates (rows.across parameter.now.word.now parameter.now.keys parameter.now.index.now grid.now.transposed row.now grid.now.columns
         cells.now values.old) result values.new }
 {
     for (place, column) in grid.columns.cells().iter().enumerate() {
@@ -54,7 +54,7 @@ fn with_line<'t, 's>(
     line: &[Cell<'t, 's>],
     values: &mut Values<'s>,
 ) -> Result<(), Fault>
-    ensures { Leaves (rows.with_line parameter.now.word.now parameter.now.keys parameter.now.index.now grid.now.transposed grid.now.columns line.now
+    ensures { Updates (rows.with_line parameter.now.word.now parameter.now.keys parameter.now.index.now grid.now.transposed grid.now.columns line.now
         values.old) result values.new }
 {
     match line {
@@ -70,7 +70,7 @@ fn with_lines<'t, 's>(
     lines: &[Line<'_, 't, 's>],
     values: &mut Values<'s>,
 ) -> Result<(), Fault>
-    ensures { Leaves (each (rows.with_line parameter.now.word.now parameter.now.keys parameter.now.index.now grid.now.transposed grid.now.columns)
+    ensures { Updates (each (rows.with_line parameter.now.word.now parameter.now.keys parameter.now.index.now grid.now.transposed grid.now.columns)
         lines.now values.old) result values.new }
 {
     for line in lines {
@@ -88,12 +88,12 @@ fn grouped<'t, 's>(
     is_doubled: bool,
     values: &mut Values<'s>,
 ) -> Result<(), Fault>
-    ensures { Leaves (rows.taken widths.now parameter.now.keys parameter.now.index.now (key_count parameter.now.keys) parameter.now.word.now
+    ensures { Updates (rows.taken widths.now parameter.now.keys parameter.now.index.now (key_count parameter.now.keys) parameter.now.word.now
         (given.Groups groups.now) is_doubled values.old) result values.new }
 {
     let word = parameter.word;
     let size = key_count(parameter.keys);
-    agrees(word, told_by(widths, groups.leader, size), size)?;
+    agrees(word, leading_size(widths, groups.leader, size), size)?;
     let cells = cut(alloc, size, groups.values, groups.cells.cells())?;
     whole_groups(word.token().span, size, groups.values, cells.as_slice())?;
     if is_doubled {
@@ -117,7 +117,7 @@ fn gridded<'t, 's>(
     is_doubled: bool,
     values: &mut Values<'s>,
 ) -> Result<(), Fault>
-    ensures { Leaves (rows.taken [] parameter.now.keys parameter.now.index.now (key_count parameter.now.keys) parameter.now.word.now
+    ensures { Updates (rows.taken [] parameter.now.keys parameter.now.index.now (key_count parameter.now.keys) parameter.now.word.now
         (given.Grid grid.now) is_doubled values.old) result values.new }
 {
     let word = parameter.word;
@@ -140,7 +140,7 @@ fn taken<'t, 's>(
     is_doubled: bool,
     values: &mut Values<'s>,
 ) -> Result<(), Fault>
-    ensures { Leaves (rows.taken widths.now parameter.now.keys parameter.now.index.now (key_count parameter.now.keys) parameter.now.word.now said.now
+    ensures { Updates (rows.taken widths.now parameter.now.keys parameter.now.index.now (key_count parameter.now.keys) parameter.now.word.now said.now
         is_doubled values.old) result values.new }
 {
     match said {
@@ -162,14 +162,14 @@ fn either<'t, 's>(before: Option<Cell<'t, 's>>, now: &Option<Cell<'t, 's>>) -> O
     match before {
         Some(cell) => Some(cell),
         None => match now {
-            Some(cell) => Some(cell.again()),
+            Some(cell) => Some(cell.copied()),
             None => None,
         },
     }
 }
 
 /// Adds the content of all statements of a parameter; returns the data's default.
-pub(crate) fn said_of<'t, 's>(
+pub(crate) fn data_of<'t, 's>(
     alloc: Global,
     widths: &[usize],
     parameter: &Parameter<'_, 's>,

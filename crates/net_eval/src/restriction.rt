@@ -2,8 +2,8 @@
 
 ghost use Rattle.std.specs.Prelude.{◌≡◌, IfOk, map};
 ghost use Rattle.net_tree.specs.View.{tree, body_of, phrase_of};
-ghost use Rattle.net_fault.specs.Outcomes.{Answers, found};
-ghost use Rattle.net_fault.specs.declared.defect.Defect.TheVariants.{Restriction};
+ghost use Rattle.net_fault.specs.Outcomes.{Refines, found};
+ghost use Rattle.net_fault.specs.declared.error_code.ErrorCode.TheVariants.{Restriction};
 ghost use Rattle.net_fault.specs.declared.fault.Fault.TheVariants.{At};
 ghost use Rattle.net_fault.specs.declared.language.Language.TheVariants.{Model};
 ghost use Rattle.net_eval.specs.Restrictions as restrictions;
@@ -13,8 +13,8 @@ ghost use Rattle.net_expr.specs.Worlds as worlds;
 ghost use Rattle.net_expr.specs.declared.value.Value.TheVariants.{One};
 ghost use Rattle.net_tree.specs.declared.role.Relation.TheVariants as relations;
 
-use net_expr::{Env, Row, Value, evaluate, told_reference};
-use net_fault::{Defect, Fault, Language, Span};
+use net_expr::{Env, Row, Value, evaluate, reported_reference};
+use net_fault::{ErrorCode, Fault, Language, Span};
 use net_lex::Token;
 use net_sets::{Member, Tuple};
 use net_tree::{Body, Expr, Phrase, Relation, Role, role_of, span_of};
@@ -41,22 +41,22 @@ fn restricting(relation: Relation) -> Option<Relation>
 }
 
 fn number_of(at: Span, member: &Member<'_>) -> Result<i64, Fault>
-    ensures { Answers (numbers.number at (One member.now)) result }
+    ensures { Refines (numbers.number at (One member.now)) result }
 {
     match member {
         Member::Number(number) => Ok(*number),
-        Member::Name(_) => Err(Fault::of_model(Defect::KindMismatch, at)),
+        Member::Name(_) => Err(Fault::of_model(ErrorCode::KindMismatch, at)),
     }
 }
 
 fn number_in(at: Span, value: &Value<'_, '_>) -> Result<i64, Fault>
-    ensures { Answers (numbers.number at value.now) result }
+    ensures { Refines (numbers.number at value.now) result }
 {
     match value {
         Value::One(member) => number_of(at, member),
-        Value::Several(_) => Err(Fault::of_model(Defect::KindMismatch, at)),
-        Value::Many(_, _) => Err(Fault::of_model(Defect::KindMismatch, at)),
-        Value::Truth(_) => Err(Fault::of_model(Defect::KindMismatch, at)),
+        Value::Several(_) => Err(Fault::of_model(ErrorCode::KindMismatch, at)),
+        Value::Many(_, _) => Err(Fault::of_model(ErrorCode::KindMismatch, at)),
+        Value::Truth(_) => Err(Fault::of_model(ErrorCode::KindMismatch, at)),
     }
 }
 
@@ -78,7 +78,7 @@ fn ordered<'s>(
     member: &Member<'s>,
     value: &Value<'_, 's>,
 ) -> Result<bool, Fault>
-    ensures { Answers (restrictions.ordered at (restrictions.compared relation) member.now value.now) result }
+    ensures { Refines (restrictions.ordered at (restrictions.compared relation) member.now value.now) result }
 {
     let first = number_of(at, member)?;
     let second = number_in(at, value)?;
@@ -86,13 +86,13 @@ fn ordered<'s>(
 }
 
 fn unequal<'s>(at: Span, member: &Member<'s>, value: &Value<'_, 's>) -> Result<bool, Fault>
-    ensures { Answers (restrictions.related at relations.Unequal member.now value.now) result }
+    ensures { Refines (restrictions.related at relations.Unequal member.now value.now) result }
 {
     match value {
         Value::One(other) => Ok(!(*member == *other)),
-        Value::Several(_) => Err(Fault::of_model(Defect::KindMismatch, at)),
-        Value::Many(_, _) => Err(Fault::of_model(Defect::KindMismatch, at)),
-        Value::Truth(_) => Err(Fault::of_model(Defect::KindMismatch, at)),
+        Value::Several(_) => Err(Fault::of_model(ErrorCode::KindMismatch, at)),
+        Value::Many(_, _) => Err(Fault::of_model(ErrorCode::KindMismatch, at)),
+        Value::Truth(_) => Err(Fault::of_model(ErrorCode::KindMismatch, at)),
     }
 }
 
@@ -106,19 +106,19 @@ fn is_single(dimension: Option<u8>) -> bool
 }
 
 fn among<'s>(at: Span, member: &Member<'s>, value: &Value<'_, 's>) -> Result<bool, Fault>
-    ensures { Answers (restrictions.related at relations.In member.now value.now) result }
+    ensures { Refines (restrictions.related at relations.In member.now value.now) result }
 {
     match value {
         Value::Many(dimension, set) => {
             if is_single(*dimension) {
-                Ok(set.get().contains(&Tuple::single(member.again())))
+                Ok(set.get().contains(&Tuple::single(member.copied())))
             } else {
-                Err(Fault::of_model(Defect::Arity, at))
+                Err(Fault::of_model(ErrorCode::Arity, at))
             }
         }
-        Value::One(_) => Err(Fault::of_model(Defect::KindMismatch, at)),
-        Value::Several(_) => Err(Fault::of_model(Defect::KindMismatch, at)),
-        Value::Truth(_) => Err(Fault::of_model(Defect::KindMismatch, at)),
+        Value::One(_) => Err(Fault::of_model(ErrorCode::KindMismatch, at)),
+        Value::Several(_) => Err(Fault::of_model(ErrorCode::KindMismatch, at)),
+        Value::Truth(_) => Err(Fault::of_model(ErrorCode::KindMismatch, at)),
     }
 }
 
@@ -129,7 +129,7 @@ fn related<'s>(
     member: &Member<'s>,
     value: &Value<'_, 's>,
 ) -> Result<bool, Fault>
-    ensures { Answers (restrictions.related at relation member.now value.now) result }
+    ensures { Refines (restrictions.related at relation member.now value.now) result }
 {
     match relation {
         Relation::Less => ordered(at, relation, member, value),
@@ -155,11 +155,11 @@ pub(crate) struct KeyedValue<'a, 's> {
 
 /// Builds the error for a value that a phrase does not allow; the parameter with the key is its
 /// detail. Fails only if memory runs out.
-fn refuse_value(alloc: Global, at: Span, keyed: &KeyedValue<'_, '_>) -> Result<Fault, AllocError>
+fn reject_value(alloc: Global, at: Span, keyed: &KeyedValue<'_, '_>) -> Result<Fault, AllocError>
     ensures { IfOk result (λ f. f ≡ At (found Model Restriction at (worlds.reference keyed.now.name.now keyed.now.keys keyed.now.row.now.key))) }
 {
-    let detail = told_reference(alloc, keyed.name, keyed.keys, &keyed.row.key)?;
-    Ok(Fault::of_text(Language::Model, Defect::Restriction, at, detail))
+    let detail = reported_reference(alloc, keyed.name, keyed.keys, &keyed.row.key)?;
+    Ok(Fault::of_text(Language::Model, ErrorCode::Restriction, at, detail))
 }
 
 fn restricted_by<'s>(
@@ -169,7 +169,7 @@ fn restricted_by<'s>(
     relation: Option<Relation>,
     expr: &Expr<'s>,
 ) -> Result<(), Fault>
-    ensures { Answers (restrictions.restricted_by env.now keyed.now.row.now.scope (worlds.reference keyed.now.name.now keyed.now.keys
+    ensures { Refines (restrictions.restricted_by env.now keyed.now.row.now.scope (worlds.reference keyed.now.name.now keyed.now.keys
         keyed.now.row.now.key) keyed.now.member.now relation (tree expr.now)) result }
 {
     let Some(relation) = relation else {
@@ -180,7 +180,7 @@ fn restricted_by<'s>(
     if related(at, relation, keyed.member, &value)? {
         Ok(())
     } else {
-        Err(refuse_value(alloc, at, keyed)?)
+        Err(reject_value(alloc, at, keyed)?)
     }
 }
 
@@ -191,7 +191,7 @@ fn restricted_in<'s>(
     word: &Token<'s>,
     body: &Body<'s>,
 ) -> Result<(), Fault>
-    ensures { Answers (restrictions.restricted_in env.now keyed.now.row.now.scope (worlds.reference keyed.now.name.now keyed.now.keys
+    ensures { Refines (restrictions.restricted_in env.now keyed.now.row.now.scope (worlds.reference keyed.now.name.now keyed.now.keys
         keyed.now.row.now.key) keyed.now.member.now word.now (body_of body.now)) result }
 {
     match body {
@@ -208,7 +208,7 @@ pub(crate) fn restricted<'s>(
     keyed: &KeyedValue<'_, 's>,
     phrases: &[Phrase<'s>],
 ) -> Result<(), Fault>
-    ensures { Answers (restrictions.restricted env.now keyed.now.row.now.scope (worlds.reference keyed.now.name.now keyed.now.keys
+    ensures { Refines (restrictions.restricted env.now keyed.now.row.now.scope (worlds.reference keyed.now.name.now keyed.now.keys
         keyed.now.row.now.key) keyed.now.member.now (map phrase_of phrases.now)) result }
 {
     for phrase in phrases {

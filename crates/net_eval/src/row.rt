@@ -2,19 +2,19 @@
 
 ghost use Rattle.std.specs.Prelude.{◌≡◌, ◌+◌, [], IfOk, None, Some, slice_get};
 ghost use Rattle.std.specs.Option.{option_copied};
-ghost use Rattle.net_fault.specs.declared.defect.Defect.TheVariants.{TooMany};
+ghost use Rattle.net_fault.specs.declared.error_code.ErrorCode.TheVariants.{TooMany};
 ghost use Rattle.net_fault.specs.declared.fault.Fault.TheVariants.{At};
 ghost use Rattle.net_fault.specs.declared.language.Language.TheVariants.{Data};
 ghost use Rattle.net_sets.specs.Sets.{at_key};
 ghost use Rattle.net_expr.specs.Worlds as worlds;
 ghost use Rattle.net_eval.specs.Rows as rows;
-ghost use Rattle.net_fault.specs.Outcomes.{Leaves, each, bare, found};
+ghost use Rattle.net_fault.specs.Outcomes.{Updates, each, bare, found};
 
 use crate::cell::{Cell, tuple_in};
 use crate::given::Line;
 use crate::group::{begins_at, front, is_point};
-use net_expr::told_reference;
-use net_fault::{Defect, Detail, Fault, Language, Span};
+use net_expr::reported_reference;
+use net_fault::{Detail, ErrorCode, Fault, Language, Span};
 use net_sets::{Member, SetFault, SharedSet, Table, Tuple, TupleSet};
 use net_views::Items;
 use std::alloc::{AllocError, Global};
@@ -70,18 +70,18 @@ pub(crate) struct NamedParameter<'a, 't, 's> {
 
 /// Builds an error at a row; the parameter with the key is its detail. Fails only if memory runs
 /// out.
-fn refuse_row(
+fn reject_row(
     alloc: Global,
     parameter: &NamedParameter<'_, '_, '_>,
-    defect: Defect,
+    error_code: ErrorCode,
     at: Span,
     key: &Tuple<'_>,
 ) -> Result<Fault, AllocError>
-    ensures { IfOk result (λ f. f ≡ At (found Data defect at (worlds.reference parameter.now.word.now.text parameter.now.keys key.now))) }
+    ensures { IfOk result (λ f. f ≡ At (found Data error_code at (worlds.reference parameter.now.word.now.text parameter.now.keys key.now))) }
 {
     let name = &parameter.word.token().text;
-    let detail = told_reference(alloc, name, parameter.keys, key)?;
-    Ok(Fault::of_text(Language::Data, defect, at, detail))
+    let detail = reported_reference(alloc, name, parameter.keys, key)?;
+    Ok(Fault::of_text(Language::Data, error_code, at, detail))
 }
 
 /// Adds a value, unless there are too many. `near` is a hint: the likely index of the key in the
@@ -95,9 +95,9 @@ pub(crate) fn with_value<'s>(
     table: &mut Table<'s>,
 ) -> Result<(), Fault>
     requires { at_key table.old key.now ≡ None }
-    ensures { Leaves (rows.with_value text at key.now member.entry table.old) result table.new }
+    ensures { Updates (rows.with_value text at key.now member.entry table.old) result table.new }
 {
-    match table.insert_near(near, key, member) {
+    match table.insert_with_hint(near, key, member) {
         Ok(()) => Ok(()),
         Err(SetFault::OutOfMemory) => Err(Fault::OutOfMemory),
         Err(SetFault::TooMany) => Err(too_many(text, at)),
@@ -107,7 +107,7 @@ pub(crate) fn with_value<'s>(
 fn too_many(text: Language, at: Span) -> Fault
     ensures { result ≡ At (bare text TooMany at) }
 {
-    Fault::of_text(text, Defect::TooMany, at, Detail::Nothing)
+    Fault::of_text(text, ErrorCode::TooMany, at, Detail::Nothing)
 }
 
 /// Adds a row; its key must be in the index set and have no value yet.
@@ -118,19 +118,21 @@ fn with_row<'s>(
     value: &Cell<'_, 's>,
     values: &mut Values<'s>,
 ) -> Result<(), Fault>
-    ensures { Leaves (rows.with_row parameter.now.word.now parameter.now.keys parameter.now.index.now cells.now value.now values.old) result values.new }
+    ensures { Updates (rows.with_row parameter.now.word.now parameter.now.keys parameter.now.index.now cells.now value.now values.old) result values.new }
 {
     let key = tuple_in(cells);
     let at = begins_at(value.token().span, cells);
-    let place = parameter.index.position_near(values.table.next(), &key);
+    let place = parameter
+        .index
+        .position_with_hint(values.table.next(), &key);
     let near = place.unwrap_or(0);
-    if values.table.get_near(near, &key).is_some() {
-        let defect = Defect::DoubleValue;
-        return Err(refuse_row(alloc, parameter, defect, at, &key)?);
+    if values.table.get_with_hint(near, &key).is_some() {
+        let error_code = ErrorCode::DoubleValue;
+        return Err(reject_row(alloc, parameter, error_code, at, &key)?);
     }
     if place.is_none() {
-        let defect = Defect::OutsideSet;
-        return Err(refuse_row(alloc, parameter, defect, at, &key)?);
+        let error_code = ErrorCode::OutsideSet;
+        return Err(reject_row(alloc, parameter, error_code, at, &key)?);
     }
     with_value(
         Language::Data,
@@ -152,7 +154,7 @@ pub(crate) fn with_cell<'s>(
     value: &Cell<'_, 's>,
     values: &mut Values<'s>,
 ) -> Result<(), Fault>
-    ensures { Leaves (rows.with_cell parameter.now.word.now parameter.now.keys parameter.now.index.now cells.now (Some value.now) values.old) result
+    ensures { Updates (rows.with_cell parameter.now.word.now parameter.now.keys parameter.now.index.now cells.now (Some value.now) values.old) result
         values.new }
 {
     if is_point(value.token().kind) {
@@ -171,7 +173,7 @@ fn with_group<'s>(
     group: &[Cell<'_, 's>],
     values: &mut Values<'s>,
 ) -> Result<(), Fault>
-    ensures { Leaves (rows.with_group parameter.now.word.now parameter.now.keys parameter.now.index.now size place group.now values.old) result
+    ensures { Updates (rows.with_group parameter.now.word.now parameter.now.keys parameter.now.index.now size place group.now values.old) result
         values.new }
 {
     match value_at(size, place, group) {
@@ -204,7 +206,7 @@ pub(crate) fn with_groups<'s>(
     groups: &[Line<'_, '_, 's>],
     values: &mut Values<'s>,
 ) -> Result<(), Fault>
-    ensures { Leaves (each (rows.with_group parameter.now.word.now parameter.now.keys parameter.now.index.now size place) groups.now values.old) result
+    ensures { Updates (each (rows.with_group parameter.now.word.now parameter.now.keys parameter.now.index.now size place) groups.now values.old) result
         values.new }
 {
     for group in groups {
@@ -223,11 +225,11 @@ pub(crate) fn pair_of<'t, 's>(
 {
     let mut all = Vec::new(alloc);
     if transposed {
-        all.push(column.again())?;
-        all.push(row.again())?;
+        all.push(column.copied())?;
+        all.push(row.copied())?;
     } else {
-        all.push(row.again())?;
-        all.push(column.again())?;
+        all.push(row.copied())?;
+        all.push(column.copied())?;
     }
     Ok(Items::new(all))
 }

@@ -4,18 +4,18 @@ ghost use Rattle.std.specs.Prelude.{◌≡◌, ◌||◌, [], IfOk, is_some, map}
 ghost use Rattle.std.specs.Option.{option_copied};
 ghost use Rattle.net_expr.specs.declared.world.Entry.TheVariants.{Set as ASet};
 ghost use Rattle.net_fault.specs.declared.language.Language.TheVariants.{Data as InData};
-ghost use Rattle.net_fault.specs.declared.detail.Detail.TheVariants.{Told};
+ghost use Rattle.net_fault.specs.declared.detail.Detail.TheVariants.{Reported};
 ghost use Rattle.net_fault.specs.declared.fault.Fault.TheVariants.{At};
-ghost use Rattle.net_fault.specs.declared.defect.Defect.TheVariants.{DoubleValue};
+ghost use Rattle.net_fault.specs.declared.error_code.ErrorCode.TheVariants.{DoubleValue};
 ghost use Rattle.net_eval.specs.declared.given.Given.TheVariants as given;
 ghost use Rattle.net_tree.specs.View.{phrase_of};
 ghost use Rattle.net_eval.specs.BoundSets as bound;
 ghost use Rattle.net_eval.specs.SetData as set_data;
-ghost use Rattle.net_fault.specs.Outcomes.{Answers, Leaves, each, found};
+ghost use Rattle.net_fault.specs.Outcomes.{Refines, Updates, each, found};
 
 use crate::cell::{Cell, tuple_in};
 use crate::earlier::Earlier;
-use crate::fault::refuse_name;
+use crate::fault::reject_name;
 use crate::given::{Given, Groups, NamedData};
 use crate::group::{all_of_size, begins_at, cut, keys_of, whole_groups};
 use crate::item::set_rows;
@@ -23,7 +23,7 @@ use crate::set_phrase::{Claim, Claims, SetPhrase, assigned, set_phrases};
 use crate::stored::{boxed, unboxed};
 use net_data::Members;
 use net_expr::Entry;
-use net_fault::{Defect, Fault, Language};
+use net_fault::{ErrorCode, Fault, Language};
 use net_lex::Token;
 use net_sets::{HashKey, IndexedSet, KeyDigest, SetFault, TupleSet};
 use net_tree::Phrase;
@@ -32,8 +32,8 @@ use std::alloc::{AllocError, Global};
 
 /// Returns the number of members of a key: that of the first declared name of the heading, if it is
 /// already evaluated.
-pub(crate) fn told_by(widths: &[usize], leader: usize, own: usize) -> usize
-    ensures { result ≡ set_data.told_by widths.now leader own }
+pub(crate) fn leading_size(widths: &[usize], leader: usize, own: usize) -> usize
+    ensures { result ≡ set_data.leading_size widths.now leader own }
 {
     match widths.get(leader) {
         Some(width) => *width,
@@ -41,26 +41,26 @@ pub(crate) fn told_by(widths: &[usize], leader: usize, own: usize) -> usize
     }
 }
 
-pub(crate) fn agrees(word: &Cell<'_, '_>, told: usize, own: usize) -> Result<(), Fault>
-    ensures { Answers (set_data.agrees word.now told own) result }
+pub(crate) fn agrees(word: &Cell<'_, '_>, reported: usize, own: usize) -> Result<(), Fault>
+    ensures { Refines (set_data.agrees word.now reported own) result }
 {
-    if told == own {
+    if reported == own {
         Ok(())
     } else {
-        Err(Fault::of_data(Defect::Arity, word.token().span))
+        Err(Fault::of_data(ErrorCode::Arity, word.token().span))
     }
 }
 
 /// Builds the error for a statement that repeats earlier data for a name. Fails only if memory runs
 /// out.
 pub(crate) fn doubled(alloc: Global, word: &Cell<'_, '_>) -> Result<Fault, AllocError>
-    ensures { IfOk result (λ f. f ≡ At (found InData DoubleValue word.now.span (Told word.now.text))) }
+    ensures { IfOk result (λ f. f ≡ At (found InData DoubleValue word.now.span (Reported word.now.text))) }
 {
     let token = word.token();
-    refuse_name(
+    reject_name(
         alloc,
         Language::Data,
-        Defect::DoubleValue,
+        ErrorCode::DoubleValue,
         token.span,
         &token.text,
     )
@@ -72,7 +72,7 @@ fn member_rows<'t, 's>(
     word: &Cell<'t, 's>,
     members: &Members<'t, 's>,
 ) -> Result<Items<Items<Cell<'t, 's>>>, Fault>
-    ensures { Answers (set_data.given_rows [] dimension word.now (given.Members members.now)) result }
+    ensures { Refines (set_data.given_rows [] dimension word.now (given.Members members.now)) result }
 {
     let rows = set_rows(alloc, dimension, members)?;
     all_of_size(word.token().span, dimension, rows.as_slice())?;
@@ -86,9 +86,13 @@ fn key_rows<'t, 's>(
     word: &Cell<'t, 's>,
     groups: &Groups<'_, 't, 's>,
 ) -> Result<Items<Items<Cell<'t, 's>>>, Fault>
-    ensures { Answers (set_data.given_rows widths.now dimension word.now (given.Groups groups.now)) result }
+    ensures { Refines (set_data.given_rows widths.now dimension word.now (given.Groups groups.now)) result }
 {
-    agrees(word, told_by(widths, groups.leader, dimension), dimension)?;
+    agrees(
+        word,
+        leading_size(widths, groups.leader, dimension),
+        dimension,
+    )?;
     let cells = cut(alloc, dimension, groups.values, groups.cells.cells())?;
     whole_groups(
         word.token().span,
@@ -105,7 +109,7 @@ fn given_rows<'t, 's>(
     dimension: usize,
     named: &NamedData<'_, 't, 's>,
 ) -> Result<Items<Items<Cell<'t, 's>>>, Fault>
-    ensures { Answers (set_data.given_rows widths.now dimension named.now.word named.now.given) result }
+    ensures { Refines (set_data.given_rows widths.now dimension named.now.word named.now.given) result }
 {
     match &named.given {
         Given::Members(members) => member_rows(alloc, dimension, &named.word, members),
@@ -120,16 +124,22 @@ fn with_member<'s>(
     row: &[Cell<'_, 's>],
     set: &mut TupleSet<'s>,
 ) -> Result<(), Fault>
-    ensures { Leaves (set_data.with_member word.now row.now set.old) result set.new }
+    ensures { Updates (set_data.with_member word.now row.now set.old) result set.new }
 {
     let token = word.token();
     let at = begins_at(token.span, row);
     let _few = set.len();
     match set.add_new(tuple_in(row)) {
         Ok(true) => Ok(()),
-        Ok(false) => Err(refuse_name(alloc, Language::Data, Defect::DoubleValue, at, &token.text)?),
+        Ok(false) => Err(reject_name(
+            alloc,
+            Language::Data,
+            ErrorCode::DoubleValue,
+            at,
+            &token.text,
+        )?),
         Err(SetFault::OutOfMemory) => Err(Fault::OutOfMemory),
-        Err(SetFault::TooMany) => Err(Fault::of_data(Defect::TooMany, at)),
+        Err(SetFault::TooMany) => Err(Fault::of_data(ErrorCode::TooMany, at)),
     }
 }
 
@@ -147,7 +157,7 @@ fn members_of<'s>(
     word: &Cell<'_, 's>,
     rows: &[Items<Cell<'_, 's>>],
 ) -> Result<Boxed<TupleSet<'s>>, Fault>
-    ensures { Answers (each (set_data.with_member word.now) rows.now []) result }
+    ensures { Refines (each (set_data.with_member word.now) rows.now []) result }
 {
     let mut set = TupleSet::new(alloc, key_of(rows));
     for row in rows {
@@ -172,7 +182,7 @@ fn with_statement<'s>(
     named: &NamedData<'_, '_, 's>,
     found: Option<Boxed<TupleSet<'s>>>,
 ) -> Result<Option<Boxed<TupleSet<'s>>>, Fault>
-    ensures { Answers (set_data.with_statement widths.now dimension is_assigned named.now found.entry) result }
+    ensures { Refines (set_data.with_statement widths.now dimension is_assigned named.now found.entry) result }
 {
     let rows = given_rows(alloc, widths, dimension, named)?;
     if is_given(is_assigned, &found) {
@@ -190,7 +200,7 @@ fn given_set<'s>(
     is_assigned: bool,
     named_data: &[NamedData<'_, '_, 's>],
 ) -> Result<Option<Boxed<TupleSet<'s>>>, Fault>
-    ensures { Answers (set_data.given_set widths.now dimension is_assigned named_data.now) result }
+    ensures { Refines (set_data.given_set widths.now dimension is_assigned named_data.now) result }
 {
     let mut found = None;
     for named in named_data {
@@ -206,15 +216,15 @@ fn one_of<'s>(
     assigned: Option<&TupleSet<'s>>,
     found: Option<Boxed<TupleSet<'s>>>,
 ) -> Result<Boxed<TupleSet<'s>>, Fault>
-    ensures { Answers (bound.one_of name.now (option_copied assigned.entry) found.entry) result }
+    ensures { Refines (bound.one_of name.now (option_copied assigned.entry) found.entry) result }
 {
     match (assigned, found) {
-        (Some(set), _found) => Ok(boxed(alloc, set.again(alloc)?)?),
+        (Some(set), _found) => Ok(boxed(alloc, set.copied(alloc)?)?),
         (None, Some(set)) => Ok(set),
-        (None, None) => Err(refuse_name(
+        (None, None) => Err(reject_name(
             alloc,
             Language::Model,
-            Defect::NoValue,
+            ErrorCode::NoValue,
             name.span,
             &name.text,
         )?),
@@ -239,14 +249,14 @@ fn allowed<'s>(
     set: &TupleSet<'s>,
     phrases: &[SetPhrase<'_, 's>],
 ) -> Result<(), Fault>
-    ensures { Answers (bound.allowed name.now set.now phrases.now) result }
+    ensures { Refines (bound.allowed name.now set.now phrases.now) result }
 {
     for phrase in phrases {
         if !is_allowed(set, &phrase.claim) {
-            return Err(refuse_name(
+            return Err(reject_name(
                 alloc,
                 Language::Model,
-                Defect::Restriction,
+                ErrorCode::Restriction,
                 phrase.at,
                 &name.text,
             )?);
@@ -259,25 +269,25 @@ fn allowed<'s>(
 /// representation of a set in a world is chosen only here.
 fn set_entry<'s>(
     alloc: Global,
-    is_walked: bool,
+    is_iterated: bool,
     dimension: u8,
     set: Boxed<TupleSet<'s>>,
 ) -> Result<Boxed<Entry<'s>>, AllocError>
     ensures { IfOk result (λ e. e ≡ ASet dimension set.entry) }
 {
-    let set = IndexedSet::new(alloc, is_walked, unboxed(set))?;
+    let set = IndexedSet::new(alloc, is_iterated, unboxed(set))?;
     boxed(alloc, Entry::Set(dimension, set))
 }
 
 fn set_of<'s>(
     alloc: Global,
-    is_walked: bool,
+    is_iterated: bool,
     widths: &[usize],
     name: &Token<'s>,
     named_data: &[NamedData<'_, '_, 's>],
     claims: &Claims<'_, 's>,
 ) -> Result<Boxed<Entry<'s>>, Fault>
-    ensures { Answers (bound.set_of widths.now name.now named_data.now claims.now) result }
+    ensures { Refines (bound.set_of widths.now name.now named_data.now claims.now) result }
 {
     let phrases = claims.phrases.as_slice();
     let dimension = claims.dimension.unwrap_or(1);
@@ -291,20 +301,27 @@ fn set_of<'s>(
     )?;
     let set = one_of(alloc, name, assigned, found)?;
     allowed(alloc, name, set.get(), phrases)?;
-    Ok(set_entry(alloc, is_walked, dimension, set)?)
+    Ok(set_entry(alloc, is_iterated, dimension, set)?)
 }
 
 /// Evaluates a declared set: its phrases, then its data, then its value.
 pub(crate) fn bound_set<'s>(
     alloc: Global,
-    is_walked: bool,
+    is_iterated: bool,
     earlier: &Earlier<'_, 's>,
     name: &Token<'s>,
     phrases: &[Phrase<'s>],
     named_data: &[NamedData<'_, '_, 's>],
 ) -> Result<Boxed<Entry<'s>>, Fault>
-    ensures { Answers (bound.bound_set earlier.now.env earlier.now.widths.now name.now (map phrase_of phrases.now) named_data.now) result }
+    ensures { Refines (bound.bound_set earlier.now.env earlier.now.widths.now name.now (map phrase_of phrases.now) named_data.now) result }
 {
     let claims = set_phrases(alloc, &earlier.env, phrases)?;
-    set_of(alloc, is_walked, earlier.widths, name, named_data, &claims)
+    set_of(
+        alloc,
+        is_iterated,
+        earlier.widths,
+        name,
+        named_data,
+        &claims,
+    )
 }

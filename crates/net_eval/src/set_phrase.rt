@@ -4,7 +4,7 @@ ghost use Rattle.std.specs.Prelude.{◌≡◌, None, Ok, map};
 ghost use Rattle.std.specs.Option.{option_copied, IfSome};
 ghost use Rattle.net_tree.specs.Spans as trees;
 ghost use Rattle.net_tree.specs.View.{tree, body_of, phrase_of};
-ghost use Rattle.net_fault.specs.Outcomes.{Answers};
+ghost use Rattle.net_fault.specs.Outcomes.{Refines};
 ghost use Rattle.net_eval.specs.SetPhrases as phrases;
 ghost use Rattle.net_eval.specs.declared.set_phrase.SetWord.TheVariants as words;
 
@@ -12,7 +12,7 @@ use crate::crossing::crossed;
 use crate::stored::{StoredSet, unboxed, value_of};
 use crate::superset::Superset;
 use net_expr::{Env, Value};
-use net_fault::{Defect, Fault, Span};
+use net_fault::{ErrorCode, Fault, Span};
 use net_sets::{Member, TupleSet};
 use net_tree::{Begins, Body, Expr, Phrase, Relation, Role, role_of, span_of};
 use net_views::{Boxed, Items};
@@ -65,17 +65,17 @@ fn set_word(role: Role) -> SetWord
 }
 
 fn dimension<'w, 's>(at: Span, value: &Value<'_, 's>) -> Result<Claim<'w, 's>, Fault>
-    ensures { Answers (phrases.dimension at value.now) result }
+    ensures { Refines (phrases.dimension at value.now) result }
 {
     match value {
         Value::One(Member::Number(number)) => {
             if *number >= 1 && *number <= 4 {
                 Ok(Claim::Dimension(number.unsigned_abs() as u8))
             } else {
-                Err(Fault::of_model(Defect::Arity, at))
+                Err(Fault::of_model(ErrorCode::Arity, at))
             }
         }
-        _ => Err(Fault::of_model(Defect::KindMismatch, at)),
+        _ => Err(Fault::of_model(ErrorCode::KindMismatch, at)),
     }
 }
 
@@ -85,7 +85,7 @@ fn claimed<'w, 's>(
     at: Span,
     value: Boxed<Value<'w, 's>>,
 ) -> Result<Claim<'w, 's>, Fault>
-    ensures { Answers (phrases.claimed word at value.entry) result }
+    ensures { Refines (phrases.claimed word at value.entry) result }
 {
     match word {
         SetWord::Dimension => dimension(at, value.get()),
@@ -96,23 +96,23 @@ fn claimed<'w, 's>(
 }
 
 fn within<'w, 's>(alloc: Global, at: Span, value: Value<'w, 's>) -> Result<Claim<'w, 's>, Fault>
-    ensures { Answers (phrases.claimed words.Within at value.entry) result }
+    ensures { Refines (phrases.claimed words.Within at value.entry) result }
 {
     match value.into_set() {
         Some((dimension, set)) => {
             let set = StoredSet::new(alloc, set)?;
             Ok(Claim::Within(dimension, Superset::whole(set)))
         }
-        None => Err(Fault::of_model(Defect::KindMismatch, at)),
+        None => Err(Fault::of_model(ErrorCode::KindMismatch, at)),
     }
 }
 
 fn becomes<'w, 's>(alloc: Global, at: Span, value: Value<'w, 's>) -> Result<Claim<'w, 's>, Fault>
-    ensures { Answers (phrases.claimed words.Becomes at value.entry) result }
+    ensures { Refines (phrases.claimed words.Becomes at value.entry) result }
 {
     match value.into_set() {
         Some((dimension, set)) => Ok(Claim::Becomes(dimension, StoredSet::new(alloc, set)?)),
-        None => Err(Fault::of_model(Defect::KindMismatch, at)),
+        None => Err(Fault::of_model(ErrorCode::KindMismatch, at)),
     }
 }
 
@@ -122,7 +122,7 @@ fn evaluated_phrase<'w, 's>(
     word: SetWord,
     expr: &Expr<'s>,
 ) -> Result<SetPhrase<'w, 's>, Fault>
-    ensures { Answers (phrases.set_phrase env.now word (tree expr.now)) result }
+    ensures { Refines (phrases.set_phrase env.now word (tree expr.now)) result }
 {
     let value = value_of(alloc, env, expr)?;
     let at = span_of(expr);
@@ -152,7 +152,7 @@ fn set_phrase<'w, 's>(
     word: SetWord,
     expr: &Expr<'s>,
 ) -> Result<SetPhrase<'w, 's>, Fault>
-    ensures { Answers (phrases.set_phrase env.now word (tree expr.now)) result }
+    ensures { Refines (phrases.set_phrase env.now word (tree expr.now)) result }
 {
     match word {
         SetWord::Within => match crossed_phrase(alloc, env, expr) {
@@ -176,7 +176,7 @@ fn dimension_of(claim: &Claim<'_, '_>) -> Option<u8>
 
 /// Returns the common dimension of two phrases, which must agree.
 fn agreed(at: Span, before: Option<u8>, now: Option<u8>) -> Result<Option<u8>, Fault>
-    ensures { Answers (phrases.agreed at before now) result }
+    ensures { Refines (phrases.agreed at before now) result }
 {
     match (before, now) {
         (None, now) => Ok(now),
@@ -185,7 +185,7 @@ fn agreed(at: Span, before: Option<u8>, now: Option<u8>) -> Result<Option<u8>, F
             if dimension == other {
                 Ok(Some(dimension))
             } else {
-                Err(Fault::of_model(Defect::Arity, at))
+                Err(Fault::of_model(ErrorCode::Arity, at))
             }
         }
     }
@@ -195,7 +195,7 @@ fn with_phrase<'w, 's>(
     claims: Claims<'w, 's>,
     phrase: SetPhrase<'w, 's>,
 ) -> Result<Claims<'w, 's>, Fault>
-    ensures { Answers (phrases.with_phrase claims.entry phrase.entry) result }
+    ensures { Refines (phrases.with_phrase claims.entry phrase.entry) result }
 {
     let Claims { dimension, phrases } = claims;
     let dimension = agreed(phrase.at, dimension, dimension_of(&phrase.claim))?;
@@ -214,7 +214,7 @@ fn in_body<'w, 's>(
     body: &Body<'s>,
     claims: Claims<'w, 's>,
 ) -> Result<Claims<'w, 's>, Fault>
-    ensures { Answers (phrases.in_body env.now word (body_of body.now) claims.entry) result }
+    ensures { Refines (phrases.in_body env.now word (body_of body.now) claims.entry) result }
 {
     match body {
         Body::Plain => Ok(claims),
@@ -241,7 +241,7 @@ pub(crate) fn set_phrases<'w, 's>(
     env: &Env<'w, 's>,
     all: &[Phrase<'s>],
 ) -> Result<Claims<'w, 's>, Fault>
-    ensures { Answers (phrases.set_phrases env.now (map phrase_of all.now)) result }
+    ensures { Refines (phrases.set_phrases env.now (map phrase_of all.now)) result }
 {
     let mut claims = unclaimed(alloc);
     for phrase in all {

@@ -3,7 +3,7 @@
 ghost use Rattle.std.specs.Prelude.{◌≡◌};
 ghost use Rattle.std.specs.Option.{option_copied};
 ghost use Rattle.net_eval.specs.BoundParameters as bound;
-ghost use Rattle.net_fault.specs.Outcomes.{Answers, Leaves, each};
+ghost use Rattle.net_fault.specs.Outcomes.{Refines, Updates, each};
 
 use crate::cell::Cell;
 use crate::row::with_value;
@@ -60,7 +60,7 @@ fn from_source<'s>(
     scope: &Scope<'s>,
     source: &Source<'_, '_, 's>,
 ) -> Result<Option<Member<'s>>, Fault>
-    ensures { Answers (bound.from_source env.now scope.now (bound.as_tree (option_copied source.now.expr), option_copied source.now.word)) result }
+    ensures { Refines (bound.from_source env.now scope.now (bound.as_tree (option_copied source.now.expr), option_copied source.now.word)) result }
 {
     match (source.expr, source.word) {
         (Some(expr), _) => Ok(Some(member(alloc, env, scope, expr)?)),
@@ -100,10 +100,10 @@ fn with_key<'s>(
     row: &Row<'s>,
     table: &mut Table<'s>,
 ) -> Result<(), Fault>
-    ensures { Leaves (bound.with_key env.now source.now.declared_at (bound.as_tree (option_copied source.now.expr), option_copied source.now.word)
+    ensures { Updates (bound.with_key env.now source.now.declared_at (bound.as_tree (option_copied source.now.expr), option_copied source.now.word)
         row.now table.old) result table.new }
 {
-    if table.get_near(near, &row.key).is_some() {
+    if table.get_with_hint(near, &row.key).is_some() {
         return Ok(());
     }
     match from_source(alloc, env, &row.scope, source)? {
@@ -122,7 +122,7 @@ pub(crate) fn with_keys<'s>(
     rows: &[Row<'s>],
     table: &mut Table<'s>,
 ) -> Result<(), Fault>
-    ensures { Leaves (each (bound.with_key env.now source.now.declared_at (
+    ensures { Updates (each (bound.with_key env.now source.now.declared_at (
       bound.as_tree (option_copied source.now.expr),
       option_copied
           source.now.word,

@@ -2,7 +2,7 @@
 
 ghost use Rattle.std.specs.Prelude.{◌≡◌, [], IfOk};
 ghost use Rattle.net_tree.specs.View.{tree};
-ghost use Rattle.net_fault.specs.Outcomes.{Answers};
+ghost use Rattle.net_fault.specs.Outcomes.{Refines};
 ghost use Rattle.net_expr.specs.Values.{value};
 
 use net_expr::{Env, Scope, Value, evaluate};
@@ -33,7 +33,7 @@ pub(crate) fn value_of<'w, 's>(
     env: &Env<'w, 's>,
     expr: &Expr<'s>,
 ) -> Result<Boxed<Value<'w, 's>>, Fault>
-    ensures { Answers (value env.now [] (tree expr.now)) result }
+    ensures { Refines (value env.now [] (tree expr.now)) result }
 {
     match evaluate(alloc, env, &Scope::new(alloc), expr) {
         Ok(value) => Ok(boxed(alloc, value)?),

@@ -44,7 +44,7 @@ fn tuple_of<'s>(members: &[Member<'s>]) -> Tuple<'s>
 {
     let mut tuple = Tuple::new();
     for member in members {
-        tuple.add(member.again());
+        tuple.add(member.copied());
     }
     tuple
 }

@@ -8,18 +8,18 @@ ghost use Rattle.net_eval.specs.BoundParameters as parameters;
 ghost use Rattle.net_expr.specs.Worlds.{entry_of};
 ghost use Rattle.net_eval.specs.Binding as binding;
 ghost use Rattle.net_expr.specs.declared.world.Entry.{Entry as AnEntry};
-ghost use Rattle.net_fault.specs.Outcomes.{Outcome, Answers, Leaves, and_then, each};
+ghost use Rattle.net_fault.specs.Outcomes.{Outcome, Refines, Updates, and_then, each};
 
 use crate::by_name::data_by_name;
 use crate::check::all_checked;
 use crate::earlier::Earlier;
 use crate::flattened::{Flattened, laid_out};
 use crate::given::{DataFor, NamedData};
+use crate::iterated_sets::{IteratedSets, find_iterated_sets};
 use crate::names::declared;
 use crate::param::bound_parameter;
 use crate::set::bound_set;
 use crate::stored::unboxed;
-use crate::walked::{Walked, walked_sets};
 use net_data::Tables;
 use net_expr::{Entry, Env, World, name_key};
 use net_fault::Fault;
@@ -48,7 +48,7 @@ fn with_entry<'s>(
 ) -> Result<(), Fault>
     requires fresh { entry_of world.old name.now.text ≡ None }
     requires kept { widths.old.items ≡ binding.widths world.old }
-    ensures value { (wanted : Outcome AnEntry) → Answers wanted entry.entry → Leaves (and_then wanted (binding.with_entry world.old name.now))
+    ensures value { (wanted : Outcome AnEntry) → Refines wanted entry.entry → Updates (and_then wanted (binding.with_entry world.old name.now))
         result world.new }
     ensures kept { OnOk result (widths.new.items ≡ binding.widths world.new) }
 {
@@ -72,24 +72,24 @@ fn whole<'w, 's>(world: &'w World<'s>, widths: &'w [usize]) -> Earlier<'w, 's>
 
 fn entry_of_set<'s>(
     alloc: Global,
-    is_walked: bool,
+    is_iterated: bool,
     given: &[DataFor<'_, '_, 's>],
     name: &Token<'s>,
     phrases: &[Phrase<'s>],
     earlier: &Earlier<'_, 's>,
 ) -> Result<Boxed<Entry<'s>>, Fault>
     requires { earlier.now.widths.now ≡ binding.widths earlier.now.env }
-    ensures { Answers (sets.bound_set earlier.now.env (binding.widths earlier.now.env) name.now (map phrase_of phrases.now) (binding.said_next
+    ensures { Refines (sets.bound_set earlier.now.env (binding.widths earlier.now.env) name.now (map phrase_of phrases.now) (binding.next_data
         given.now earlier.now.env)) result }
 {
     match given.get(earlier.widths.len()) {
         Some(named_data) => {
             let named_data = named_data.as_slice();
-            bound_set(alloc, is_walked, earlier, name, phrases, named_data)
+            bound_set(alloc, is_iterated, earlier, name, phrases, named_data)
         }
         None => {
             let none: Vec<NamedData<'_, '_, 's>> = Vec::new(alloc);
-            bound_set(alloc, is_walked, earlier, name, phrases, none.as_slice())
+            bound_set(alloc, is_iterated, earlier, name, phrases, none.as_slice())
         }
     }
 }
@@ -103,8 +103,8 @@ fn entry_of_parameter<'s>(
     earlier: &Earlier<'_, 's>,
 ) -> Result<Boxed<Entry<'s>>, Fault>
     requires { earlier.now.widths.now ≡ binding.widths earlier.now.env }
-    ensures { Answers (parameters.bound_parameter earlier.now.env (binding.widths earlier.now.env) name.now (indexing_of braces.now) (map phrase_of
-        phrases.now) (binding.said_next given.now earlier.now.env)) result }
+    ensures { Refines (parameters.bound_parameter earlier.now.env (binding.widths earlier.now.env) name.now (indexing_of braces.now) (map phrase_of
+        phrases.now) (binding.next_data given.now earlier.now.env)) result }
 {
     match given.get(earlier.widths.len()) {
         Some(named_data) => {
@@ -121,7 +121,7 @@ fn entry_of_parameter<'s>(
 /// Evaluates a declaration and adds it.
 fn declare<'s>(
     alloc: Global,
-    walked: &Walked<'s>,
+    iterated_sets: &IteratedSets<'s>,
     given: &[DataFor<'_, '_, 's>],
     decl: &Decl<'s>,
     world: &mut World<'s>,
@@ -129,15 +129,15 @@ fn declare<'s>(
 ) -> Result<(), Fault>
     requires fresh { binding.IsFresh world.old (declaration_of decl.now) }
     requires kept { widths.old.items ≡ binding.widths world.old }
-    ensures value { Leaves (binding.declare given.now (declaration_of decl.now) world.old) result world.new }
+    ensures value { Updates (binding.declare given.now (declaration_of decl.now) world.old) result world.new }
     ensures kept { OnOk result (widths.new.items ≡ binding.widths world.new) }
 {
     match decl {
         Decl::Set(_, name, phrases, _) => {
             let phrases = phrases.as_slice();
-            let is_walked = walked.has(&name.text);
+            let is_iterated = iterated_sets.has(&name.text);
             let earlier = whole(world, widths);
-            let entry = entry_of_set(alloc, is_walked, given, name, phrases, &earlier);
+            let entry = entry_of_set(alloc, is_iterated, given, name, phrases, &earlier);
             with_entry(name, entry, world, widths)
         }
         Decl::Param(_, name, braces, phrases, _) => {
@@ -160,20 +160,20 @@ fn declare_all<'s>(
     decls: &[Decl<'s>],
 ) -> Result<World<'s>, Fault>
     requires { binding.AreNew [] (map declaration_of decls.now) }
-    ensures { Answers (each (binding.declare given.now) (map declaration_of decls.now) []) result }
+    ensures { Refines (each (binding.declare given.now) (map declaration_of decls.now) []) result }
 {
-    let walked = walked_sets(alloc, decls)?;
+    let iterated_sets = find_iterated_sets(alloc, decls)?;
     let mut world = World::new(alloc, name_key(decls));
     let mut widths = Vec::new(alloc);
     for decl in decls {
-        declare(alloc, &walked, given, decl, &mut world, &mut widths)?;
+        declare(alloc, &iterated_sets, given, decl, &mut world, &mut widths)?;
     }
     Ok(world)
 }
 
 /// Evaluates the checks and returns the world.
 fn after_checks<'s>(alloc: Global, decls: &[Decl<'s>], world: World<'s>) -> Result<World<'s>, Fault>
-    ensures { Answers (binding.after_checks (map declaration_of decls.now) world.entry) result }
+    ensures { Refines (binding.after_checks (map declaration_of decls.now) world.entry) result }
 {
     match all_checked(alloc, &world, decls) {
         Ok(_) => Ok(world),
@@ -188,7 +188,7 @@ fn bind_given<'s>(
     given: &[DataFor<'_, '_, 's>],
 ) -> Result<World<'s>, Fault>
     requires { binding.AreNew [] (map declaration_of decls.now) }
-    ensures { Answers (binding.with_given (map declaration_of decls.now) given.now) result }
+    ensures { Refines (binding.with_given (map declaration_of decls.now) given.now) result }
 {
     let world = declare_all(alloc, given, decls)?;
     after_checks(alloc, decls, world)
@@ -201,7 +201,7 @@ fn bind_statements<'m, 's>(
     sheets: &'m [Flattened<'m, '_, 's>],
 ) -> Result<World<'s>, Fault>
     requires { binding.AreNew [] (map declaration_of decls.now) }
-    ensures { Answers (binding.world (map declaration_of decls.now) sheets.entry.now) result }
+    ensures { Refines (binding.world (map declaration_of decls.now) sheets.entry.now) result }
 {
     let names = declared(alloc, decls)?;
     let given = data_by_name(alloc, &names, sheets)?;
@@ -219,7 +219,7 @@ pub fn bind<'s>(
     tables: &Tables<'_, 's>,
 ) -> Result<World<'s>, Fault>
     requires { binding.AreNew [] (view.model model.now) }
-    ensures { Answers (binding.world (view.model model.now) tables.now.statements) result }
+    ensures { Refines (binding.world (view.model model.now) tables.now.statements) result }
 {
     let sheets = laid_out(alloc, tables.statements.as_slice())?;
     bind_statements(alloc, model.declarations.as_slice(), sheets.as_slice())

@@ -9,15 +9,15 @@ use Rattle.net_sets.specs.Operations.{union}
 use Rattle.net_sets.specs.Sets.{Tuple, has, added}
 use Rattle.net_tree.specs.Spans.{span_between}
 use Rattle.net_tree.specs.Tree.{Links, Braces, empty, filled, none, link}
-use Rattle.net_fault.specs.declared.defect.Defect.TheVariants.{KindMismatch, Arity, TooMany}
+use Rattle.net_fault.specs.declared.error_code.ErrorCode.TheVariants.{KindMismatch, Arity, TooMany}
 use Rattle.net_expr.specs.declared.row.Keys.{Keys}
 use Rattle.net_expr.specs.declared.row.Place.{Place}
 use Rattle.net_expr.specs.declared.row.Row.{Row}
 use Rattle.net_expr.specs.declared.value.Value.{Value}
 use Rattle.net_expr.specs.Items.{has_in, any_in, has_part, tuples_of, Opening, walking, listing, opened, open_with}
-use Rattle.net_fault.specs.Outcomes.{Outcome, and_then, refused, each}
+use Rattle.net_fault.specs.Outcomes.{Outcome, and_then, rejected, each}
 use Rattle.net_expr.specs.Rows.{start, go_on, onward, same_arity, finished_key, keep, kept, width_of, keys, selected, no_keys, keys_of, rows_of, tuples_in, all_of, listed_as, listed}
-use Rattle.net_expr.specs.Values.{value, values, index, walk, set_behind, place, holds}
+use Rattle.net_expr.specs.Values.{value, values, index, walk, set_after, place, holds}
 use Rattle.net_expr.specs.Widths.{width_by_form}
 use Rattle.net_expr.specs.Worlds.{World, Scope}
 use Rattle.net_expr.proofs.Parting.{then_ok, is_ok}
@@ -63,7 +63,7 @@ row_alike : (at : Span) (s : Scope) (o : Option Tuple) (found rows : List Row) �
 row_alike at s None found rows h e = cc
 row_alike at s (Some key) found rows h e = go (same_arity key found) (nat_lt (length found) tuples_limit) refl e
   where
-    go : (b c : Bool) → same_arity key found ≡ b → (if b then (if c then (let o : Outcome (List Row) = Ok (found ++ (record { key = key; scope = s }) ∷ []) in o) else refused TooMany at) else refused Arity at) ≡ Ok rows → AreAlike rows
+    go : (b c : Bool) → same_arity key found ≡ b → (if b then (if c then (let o : Outcome (List Row) = Ok (found ++ (record { key = key; scope = s }) ∷ []) in o) else rejected TooMany at) else rejected Arity at) ≡ Ok rows → AreAlike rows
     go true true f k = subst AreAlike (is_ok (found ++ (record { key = key; scope = s }) ∷ []) rows k) (row_more found key s h f)
     go true false f k = cc
     go false c f k = cc
@@ -84,7 +84,7 @@ each_alike lead next step p (t ∷ ts) found rows h e =
 walk_alike : (at : Span) (w : World) (l : Links) (p : Place) (found rows : List Row) → AreAlike found → walk at w l p found ≡ Ok rows → AreAlike rows
 walk_alike at w none p found rows h e = row_alike at p.scope p.key found rows h e
 walk_alike at w (link o i is) p found rows h e =
-    then_ok (if has_in i then set_behind w p.scope i else and_then (value w p.scope i) (tuples_of at)) (λ ts. each (onward (place w i) (walk at w is) p) ts found) rows e (λ ts j k.
+    then_ok (if has_in i then set_after w p.scope i else and_then (value w p.scope i) (tuples_of at)) (λ ts. each (onward (place w i) (walk at w is) p) ts found) rows e (λ ts j k.
     each_alike (place w i) (walk at w is) (λ q f r a b. walk_alike at w is q f r a b) p ts found rows h k)
 
 kept_long : (n : ℕ) (test : Scope → Outcome Bool) (rows found left : List Row) → AreLong n (keys_of rows) → AreLong n (keys_of found) → kept test rows found ≡ Ok left → AreLong n (keys_of left)
@@ -122,7 +122,7 @@ listed_long at s (t ∷ ts) k e = go (all_of (length t) ts) (nat_le (length (uni
         step true i j more = (eqb-true (length u) n i, more j)
         step false i j more = cc
 
-    go : (b c : Bool) → all_of (length t) ts ≡ b → (if b then (if c then (let o : Outcome Keys = Ok (keys (length t) (rows_of s (union [] (t ∷ ts)))) in o) else refused TooMany at) else refused Arity at) ≡ Ok k → AreKeys k.width k.rows
+    go : (b c : Bool) → all_of (length t) ts ≡ b → (if b then (if c then (let o : Outcome Keys = Ok (keys (length t) (rows_of s (union [] (t ∷ ts)))) in o) else rejected TooMany at) else rejected Arity at) ≡ Ok k → AreKeys k.width k.rows
     go true true f i =
         subst (λ (z : Keys). AreKeys z.width z.rows) (is_ok (keys (length t) (rows_of s (union [] (t ∷ ts)))) k i)
         (subst (AreLong (length t)) (sym (keys_are (union [] (t ∷ ts)))) (all_union (λ u. length u ≡ length t) [] (t ∷ ts) tt (refl, all_long (length t) ts f)))
@@ -133,7 +133,7 @@ listed_long at s (t ∷ ts) k e = go (all_of (length t) ts) (nat_le (length (uni
 pub keys_long : (w : World) (s : Scope) (b : Braces) (k : Keys) → index w s b ≡ Ok k → AreKeys k.width k.rows
 keys_long w s (empty o p c) k e = go (has_part p) e
   where
-    go : (b : Bool) → (if b then refused KindMismatch (span_between o c) else Ok no_keys) ≡ Ok k → AreKeys k.width k.rows
+    go : (b : Bool) → (if b then rejected KindMismatch (span_between o c) else Ok no_keys) ≡ Ok k → AreKeys k.width k.rows
     go true h = cc
     go false h = subst (λ (z : Keys). AreKeys z.width z.rows) (is_ok no_keys k h) refl
 keys_long w s (filled o i is p c) k e = then_ok opening (open_with from_tuples from_value) k e (λ x h j. go x j)
@@ -142,7 +142,7 @@ keys_long w s (filled o i is p c) k e = then_ok opening (open_with from_tuples f
     at = span_between o c
 
     opening : Outcome Opening
-    opening = if has_in i then and_then (set_behind w s i) (λ ts. Ok (walking ts)) else and_then (value w s i) (opened at (any_in is))
+    opening = if has_in i then and_then (set_after w s i) (λ ts. Ok (walking ts)) else and_then (value w s i) (opened at (any_in is))
 
     from_tuples : List Tuple → Outcome Keys
     from_tuples ts = and_then (each (onward (place w i) (walk at w is) (start s)) ts []) (selected (width_by_form at w s i is) (λ q. holds at w q p))
@@ -159,4 +159,4 @@ keys_long w s (filled o i is p c) k e = then_ok opening (open_with from_tuples f
         selected_long (width_by_form at w s i is) (λ q. holds at w q p) rows k (each_alike (place w i) (walk at w is) (λ q f r a b. walk_alike at w is q f r a b) (start s) ts [] rows no_rows l) m)
     go (listing v) j =
         then_ok (values w s is (v ∷ [])) (listed at s (has_part p)) k j (λ vs l m.
-        then_ok (if has_part p then refused KindMismatch at else tuples_in at vs []) (λ ts. listed_as at s ts (union [] ts)) k m (λ ts q r. listed_long at s ts k r))
+        then_ok (if has_part p then rejected KindMismatch at else tuples_in at vs []) (λ ts. listed_as at s ts (union [] ts)) k m (λ ts q r. listed_long at s ts k r))

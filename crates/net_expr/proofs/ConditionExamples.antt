@@ -9,7 +9,7 @@ use Rattle.net_tree.specs.Role.{role_of, marks, keys}
 use Rattle.net_tree.specs.Spans.{span_of, span_between, braces_span}
 use Rattle.net_tree.specs.Tree.{leaf, parens, negated, braced, chain, choice, none, link, absent, part, filled}
 use Rattle.net_fault.specs.declared.language.Language.TheVariants as languages
-use Rattle.net_fault.specs.declared.defect.Defect.TheVariants as defects
+use Rattle.net_fault.specs.declared.error_code.ErrorCode.TheVariants as error_codes
 use Rattle.net_fault.specs.declared.detail.Detail.TheVariants.{Nothing}
 use Rattle.net_expr.specs.declared.value.Value.TheVariants.{One, Many, Truth}
 use Rattle.net_expr.specs.Limits.{is_small}
@@ -29,17 +29,17 @@ unfolding role_of marks keys operations operation reduction is_minus is_small nu
 true_or = refl
 
 -- 1 = 1 and 7 div 0 = 1
-true_and : value [] [] (chain 8 (chain 7 (leaf (number (codes "1") 0 1)) (link (operator.One (mark (codes "=") 2 3)) (leaf (number (codes "1") 4 5)) none)) (link (operator.One (key (codes "and") 6 9)) (chain 7 (chain 1 (leaf (number (codes "7") 10 11)) (link (operator.One (key (codes "div") 12 15)) (leaf (number (codes "0") 16 17)) none)) (link (operator.One (mark (codes "=") 18 19)) (leaf (number (codes "1") 20 21)) none)) none)) ≡ Err (record { defect = defects.DivMod; text = languages.Model; at = record { start = 10; end = 17 }; detail = Nothing })
+true_and : value [] [] (chain 8 (chain 7 (leaf (number (codes "1") 0 1)) (link (operator.One (mark (codes "=") 2 3)) (leaf (number (codes "1") 4 5)) none)) (link (operator.One (key (codes "and") 6 9)) (chain 7 (chain 1 (leaf (number (codes "7") 10 11)) (link (operator.One (key (codes "div") 12 15)) (leaf (number (codes "0") 16 17)) none)) (link (operator.One (mark (codes "=") 18 19)) (leaf (number (codes "1") 20 21)) none)) none)) ≡ Err (record { error_code = error_codes.DivMod; text = languages.Model; at = record { start = 10; end = 17 }; detail = Nothing })
 unfolding role_of marks keys operations operation reduction is_minus is_small number_in numeral_at mantissa_at power_at whole_value span_of span_between braces_span
 true_and = refl
 
 -- 1 and 7 div 0 = 1
-number_and : value [] [] (chain 8 (leaf (number (codes "1") 0 1)) (link (operator.One (key (codes "and") 2 5)) (chain 7 (chain 1 (leaf (number (codes "7") 6 7)) (link (operator.One (key (codes "div") 8 11)) (leaf (number (codes "0") 12 13)) none)) (link (operator.One (mark (codes "=") 14 15)) (leaf (number (codes "1") 16 17)) none)) none)) ≡ Err (record { defect = defects.KindMismatch; text = languages.Model; at = record { start = 0; end = 17 }; detail = Nothing })
+number_and : value [] [] (chain 8 (leaf (number (codes "1") 0 1)) (link (operator.One (key (codes "and") 2 5)) (chain 7 (chain 1 (leaf (number (codes "7") 6 7)) (link (operator.One (key (codes "div") 8 11)) (leaf (number (codes "0") 12 13)) none)) (link (operator.One (mark (codes "=") 14 15)) (leaf (number (codes "1") 16 17)) none)) none)) ≡ Err (record { error_code = error_codes.KindMismatch; text = languages.Model; at = record { start = 0; end = 17 }; detail = Nothing })
 unfolding role_of marks keys operations operation reduction is_minus is_small number_in numeral_at mantissa_at power_at whole_value span_of span_between braces_span
 number_and = refl
 
 -- 1 = 1 and 2
-and_number : value [] [] (chain 8 (chain 7 (leaf (number (codes "1") 0 1)) (link (operator.One (mark (codes "=") 2 3)) (leaf (number (codes "1") 4 5)) none)) (link (operator.One (key (codes "and") 6 9)) (leaf (number (codes "2") 10 11)) none)) ≡ Err (record { defect = defects.KindMismatch; text = languages.Model; at = record { start = 0; end = 11 }; detail = Nothing })
+and_number : value [] [] (chain 8 (chain 7 (leaf (number (codes "1") 0 1)) (link (operator.One (mark (codes "=") 2 3)) (leaf (number (codes "1") 4 5)) none)) (link (operator.One (key (codes "and") 6 9)) (leaf (number (codes "2") 10 11)) none)) ≡ Err (record { error_code = error_codes.KindMismatch; text = languages.Model; at = record { start = 0; end = 11 }; detail = Nothing })
 unfolding role_of marks keys operations operation reduction is_minus is_small number_in numeral_at mantissa_at power_at whole_value span_of span_between braces_span
 and_number = refl
 
@@ -49,7 +49,7 @@ unfolding role_of marks keys operations operation reduction is_minus is_small nu
 not_true = refl
 
 -- not (1)
-not_number : value [] [] (negated (key (codes "not") 0 3) (mark (codes "(") 4 5) (leaf (number (codes "1") 5 6)) (mark (codes ")") 6 7)) ≡ Err (record { defect = defects.KindMismatch; text = languages.Model; at = record { start = 0; end = 7 }; detail = Nothing })
+not_number : value [] [] (negated (key (codes "not") 0 3) (mark (codes "(") 4 5) (leaf (number (codes "1") 5 6)) (mark (codes ")") 6 7)) ≡ Err (record { error_code = error_codes.KindMismatch; text = languages.Model; at = record { start = 0; end = 7 }; detail = Nothing })
 unfolding role_of marks keys operations operation reduction is_minus is_small number_in numeral_at mantissa_at power_at whole_value span_of span_between braces_span
 not_number = refl
 
@@ -64,6 +64,6 @@ unfolding role_of marks keys operations operation reduction is_minus is_small nu
 then_side = refl
 
 -- (if 1 then 2)
-if_number : value [] [] (parens (mark (codes "(") 0 1) (choice (key (codes "if") 1 3) (leaf (number (codes "1") 4 5)) (key (codes "then") 6 10) (leaf (number (codes "2") 11 12)) absent) (mark (codes ")") 12 13)) ≡ Err (record { defect = defects.KindMismatch; text = languages.Model; at = record { start = 1; end = 12 }; detail = Nothing })
+if_number : value [] [] (parens (mark (codes "(") 0 1) (choice (key (codes "if") 1 3) (leaf (number (codes "1") 4 5)) (key (codes "then") 6 10) (leaf (number (codes "2") 11 12)) absent) (mark (codes ")") 12 13)) ≡ Err (record { error_code = error_codes.KindMismatch; text = languages.Model; at = record { start = 1; end = 12 }; detail = Nothing })
 unfolding role_of marks keys operations operation reduction is_minus is_small number_in numeral_at mantissa_at power_at whole_value span_of span_between braces_span
 if_number = refl

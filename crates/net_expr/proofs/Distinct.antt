@@ -6,13 +6,13 @@ use Rattle.net_sets.specs.Sets.{Tuple, same_tuple}
 use Rattle.net_sets.proofs.Sames.{tuple_decides}
 use Rattle.net_tree.specs.Spans.{span_of}
 use Rattle.net_tree.specs.Tree.{Tree, leaf, tuple, chain, none, link}
-use Rattle.net_fault.specs.declared.defect.Defect.TheVariants.{Arity}
+use Rattle.net_fault.specs.declared.error_code.ErrorCode.TheVariants.{Arity}
 use Rattle.net_expr.specs.declared.row.Place.{Place}
 use Rattle.net_expr.specs.declared.value.Value.{Value}
 use Rattle.net_expr.specs.declared.value.Value.TheVariants.{One, Several, Many, Truth}
 use Rattle.net_expr.specs.Items.{new_dummy, is_in, needed}
 use Rattle.net_tree.specs.Operations.{operation}
-use Rattle.net_fault.specs.Outcomes.{Outcome, refused}
+use Rattle.net_fault.specs.Outcomes.{Outcome, rejected}
 use Rattle.net_expr.specs.Rows.{with_key, bind, matches_tuple, matches_as_tuple, fitted, fitted_alone}
 use Rattle.net_expr.specs.Values.{value, place, left_place, places}
 use Rattle.net_expr.specs.Worlds.{Name, World}
@@ -34,7 +34,7 @@ whole_of (Truth b) = []
 whole_agreed : (at : Span) (t : Tuple) (p q : Place) (v : Tuple) → matches_tuple at t p v ≡ Ok (Some q) → (same_tuple v t ≡ true) × (p ≡ q)
 whole_agreed at t p q v e = go (nat_eq (length v) (length t)) (same_tuple v t) refl e
   where
-    go : (b c : Bool) → same_tuple v t ≡ c → (if b then (let o : Outcome (Option Place) = Ok (if c then Some p else None) in o) else refused Arity at) ≡ Ok (Some q) → (same_tuple v t ≡ true) × (p ≡ q)
+    go : (b c : Bool) → same_tuple v t ≡ c → (if b then (let o : Outcome (Option Place) = Ok (if c then Some p else None) in o) else rejected Arity at) ≡ Ok (Some q) → (same_tuple v t ≡ true) × (p ≡ q)
     go true true f h = (f, (let same : Some p ≡ Some q = is_ok (Some p) (Some q) h in cc))
     go true false f h = cc
     go false c f h = cc

@@ -14,5 +14,5 @@ up_to (c ∷ before) more lacks =
 pub none_doubled : (text : List ℕ) → Lacks 39 text → doubled text ≡ text
 none_doubled text lacks = ap doubled (sym (append-nil text)) ∙ up_to text [] lacks ∙ append-nil text
 
-pub doubled_behind : (before after : List ℕ) → Lacks 39 before → doubled (before ++ (39 ∷ after)) ≡ before ++ (39 ∷ 39 ∷ doubled after)
-doubled_behind before after lacks = up_to before (39 ∷ after) lacks
+pub doubled_after : (before after : List ℕ) → Lacks 39 before → doubled (before ++ (39 ∷ after)) ≡ before ++ (39 ∷ 39 ∷ doubled after)
+doubled_after before after lacks = up_to before (39 ∷ after) lacks

@@ -9,12 +9,12 @@ use Rattle.net_tree.specs.View.{tree, links_of}
 use Rattle.net_tree.specs.Weights.{weight, weights}
 use Rattle.net_fault.specs.declared.fault.Fault.{Fault}
 use Rattle.net_fault.specs.declared.fault.Fault.TheVariants as faults
-use Rattle.net_fault.specs.declared.finding.Finding.{Finding}
+use Rattle.net_fault.specs.declared.diagnostic.Diagnostic.{Diagnostic}
 use Rattle.net_expr.specs.declared.frame.Frame.{Frame}
 use Rattle.net_expr.specs.declared.row.Place.{Place}
 use Rattle.net_expr.specs.declared.row.Row.{Row}
 use Rattle.net_expr.specs.Frames.{still, steps, steps_next, steps_of, of_tuples, steps_still, weight_of, Leads}
-use Rattle.net_fault.specs.Outcomes.{Outcome, Answers, Leaves, and_then, each}
+use Rattle.net_fault.specs.Outcomes.{Outcome, Refines, Updates, and_then, each}
 use Rattle.net_expr.specs.Rows.{onward, go_on}
 use Rattle.net_expr.specs.Selecting.{selecting}
 use Rattle.net_expr.specs.Values.{place, walk}
@@ -68,16 +68,16 @@ one_to_come [] o t e is = cc
 one_to_come (u ∷ ts) o t e is = let same : Some t ≡ Some u = sym is ∙ e in let here : u ≡ t = cc in ap (λ (v : Tuple). v ∷ ts) here
 
 -- the item with what is to come behind a tuple
-abbrev pub behind_first : Frame → Frame
-behind_first f = record f { left = drop 1 f.left }
+abbrev pub after_first : Frame → Frame
+after_first f = record f { left = drop 1 f.left }
 
 -- an item gives what its next tuple leads to, and what comes behind it
 pub first_gives : (at : Span) (w : World) (f : Frame) (t : Tuple) (found : List Row) → f.left ≡ t ∷ drop 1 f.left
-    → still at w f found ≡ and_then (and_then (place w (tree f.item.now) t f.place) (go_on (walk at w (links_of f.more.now)) found)) (still at w (behind_first f))
+    → still at w f found ≡ and_then (and_then (place w (tree f.item.now) t f.place) (go_on (walk at w (links_of f.more.now)) found)) (still at w (after_first f))
 first_gives at w f t found e = ap (λ ts. each (onward (place w (tree f.item.now)) (walk at w (links_of f.more.now)) f.place) ts found) e
 
 pub first_steps : (at : Span) (w : World) (f : Frame) (t : Tuple) → f.left ≡ t ∷ drop 1 f.left
-    → steps_still at w f ≡ 1 + steps_next (steps at w (links_of f.more.now)) (place w (tree f.item.now) t f.place) + steps_still at w (behind_first f)
+    → steps_still at w f ≡ 1 + steps_next (steps at w (links_of f.more.now)) (place w (tree f.item.now) t f.place) + steps_still at w (after_first f)
 first_steps at w f t e = ap (steps_of (λ t. place w (tree f.item.now) t f.place) (steps at w (links_of f.more.now))) e
 
 -- at the end
@@ -99,11 +99,11 @@ gives_way at w f g fs left found wanted same e h =
 -- a tuple that leads somewhere, or nowhere
 pub led : (at : Span) (w : World) (f : Frame) (t : Tuple) (next : Option Place) (fs : List Frame) (found : List Row) (wanted : Outcome (List Row))
     → and_then (still at w f found) (still_below at w fs) ≡ wanted → f.left ≡ t ∷ drop 1 f.left → place w (tree f.item.now) t f.place ≡ Ok next
-    → wanted ≡ and_then (and_then (go_on (walk at w (links_of f.more.now)) found next) (still at w (behind_first f))) (still_below at w fs)
+    → wanted ≡ and_then (and_then (go_on (walk at w (links_of f.more.now)) found next) (still at w (after_first f))) (still_below at w fs)
 led at w f t next fs found wanted same e p =
     sym same
     ∙ ap (λ o. and_then o (still_below at w fs)) (first_gives at w f t found e)
-    ∙ ap (λ o. and_then (and_then (and_then o (go_on (walk at w (links_of f.more.now)) found)) (still at w (behind_first f))) (still_below at w fs)) p
+    ∙ ap (λ o. and_then (and_then (and_then o (go_on (walk at w (links_of f.more.now)) found)) (still at w (after_first f))) (still_below at w fs)) p
 
 pub to_item : (at : Span) (w : World) (f g : Frame) (o : Outcome (List Row)) (deeper : Option Frame) (fs more : List Frame) (found : List Row) (wanted : Outcome (List Row))
     → wanted ≡ and_then (and_then o (still at w f)) (still_below at w fs) → Leads at w o (Ok deeper) found → deeper ≡ Some g → more ≡ fs ++ f ∷ [] → and_then (still at w g found) (still_below at w more) ≡ wanted
@@ -122,12 +122,12 @@ to_item at w f g o (Some k) fs more found wanted e h is pushed =
 
 -- faults
 pub fault_of_place : (at : Span) (w : World) (f : Frame) (t : Tuple) (fs : List Frame) (found last : List Row) (wanted : Outcome (List Row)) (e : Fault)
-    → and_then (still at w f found) (still_below at w fs) ≡ wanted → f.left ≡ t ∷ drop 1 f.left → Answers (place w (tree f.item.now) t f.place) (Err e) → Leaves wanted (Err e) last
+    → and_then (still at w f found) (still_below at w fs) ≡ wanted → f.left ≡ t ∷ drop 1 f.left → Refines (place w (tree f.item.now) t f.place) (Err e) → Updates wanted (Err e) last
 fault_of_place at w f t fs found last wanted faults.OutOfMemory same e h = tt
 fault_of_place at w f t fs found last wanted (faults.At r) same e h =
     sym same
     ∙ ap (λ o. and_then o (still_below at w fs)) (first_gives at w f t found e)
-    ∙ ap (λ o. and_then (and_then (and_then o (go_on (walk at w (links_of f.more.now)) found)) (still at w (behind_first f))) (still_below at w fs)) h
+    ∙ ap (λ o. and_then (and_then (and_then o (go_on (walk at w (links_of f.more.now)) found)) (still at w (after_first f))) (still_below at w fs)) h
 
 -- an item is entered at a place
 pub entering : (at : Span) (w : World) (ls : List Link) (l : Link) (o : Option Place) (p : Place) (found : List Row) → o ≡ Some p → 1 ≤ length ls → l ≡ get_or ls 0 l
@@ -144,13 +144,13 @@ made (Ok ts) make f e = (ts, refl, is_ok (make ts) f e)
 made (Err r) make f e = cc
 
 pub entering_stops : (at : Span) (w : World) (ls : List Link) (l : Link) (o : Option Place) (p : Place) (found : List Row) (make : List Tuple → Frame) (e : Fault) → o ≡ Some p → 1 ≤ length ls → l ≡ get_or ls 0 l
-    → Answers (and_then (item_tuples at w p.scope (tree (out-Link l).operand)) (λ ts. Ok (make ts))) (Err e) → Leads at w (go_on (walk at w (links_of ls)) found o) (Err e) found
+    → Refines (and_then (item_tuples at w p.scope (tree (out-Link l).operand)) (λ ts. Ok (make ts))) (Err e) → Leads at w (go_on (walk at w (links_of ls)) found o) (Err e) found
 entering_stops at w ls l o p found make faults.OutOfMemory is h i a = tt
 entering_stops at w ls l o p found make (faults.At r) is h i a = go (item_tuples at w p.scope (tree (out-Link l).operand)) _ (entering at w ls l o p found is h i) a
   where
     go : (ts : Outcome (List Tuple)) (f : List Tuple → Outcome (List Row)) {wanted : Outcome (List Row)} → wanted ≡ and_then ts f → and_then ts (λ us. Ok (make us)) ≡ Err r → wanted ≡ Err r
     go (Ok us) f e a = cc
-    go (Err s) f e a = let same : s ≡ r = cc in e ∙ ap (λ (k : Finding). let stopped : Outcome (List Row) = Err k in stopped) same
+    go (Err s) f e a = let same : s ≡ r = cc in e ∙ ap (λ (k : Diagnostic). let stopped : Outcome (List Row) = Err k in stopped) same
 
 pub entering_leads : (at : Span) (w : World) (ls : List Link) (l : Link) (o : Option Place) (p : Place) (found : List Row) (make : List Tuple → Frame) (f : Frame) → o ≡ Some p → 1 ≤ length ls → l ≡ get_or ls 0 l
     → ((ts : List Tuple) → still at w (make ts) found ≡ each (onward (place w (tree (out-Link l).operand)) (walk at w (links_of (take (length ls - 1) (drop 1 ls)))) p) (sought (selecting w p.scope (tree (out-Link l).operand)) ts) found)
@@ -192,14 +192,14 @@ way_shorter at w f g fs left e h =
     omega (arith, here, below)
 
 pub item_shorter : (at : Span) (w : World) (f g : Frame) (t : Tuple) (next : Option Place) (o : Option Frame) (fs more : List Frame) → f.left ≡ t ∷ drop 1 f.left → place w (tree f.item.now) t f.place ≡ Ok next
-    → IfSome o (λ k. steps_still at w k ≡ steps_next (steps at w (links_of f.more.now)) (Ok next)) → o ≡ Some g → more ≡ fs ++ behind_first f ∷ []
+    → IfSome o (λ k. steps_still at w k ≡ steps_next (steps at w (links_of f.more.now)) (Ok next)) → o ≡ Some g → more ≡ fs ++ after_first f ∷ []
     → steps_still at w g + steps_below at w more < steps_still at w f + steps_below at w fs
 item_shorter at w f g t next None fs more e p s is pushed = cc
 item_shorter at w f g t next (Some k) fs more e p s is pushed =
     let same : k ≡ g = cc in
     let deep : steps_still at w k ≡ steps_still at w g = ap (steps_still at w) same in
-    let here = first_steps at w f t e ∙ ap (λ n. 1 + steps_next (steps at w (links_of f.more.now)) n + steps_still at w (behind_first f)) p in
-    let below = ap (steps_below at w) pushed ∙ steps_last at w fs (behind_first f) in
+    let here = first_steps at w f t e ∙ ap (λ n. 1 + steps_next (steps at w (links_of f.more.now)) n + steps_still at w (after_first f)) p in
+    let below = ap (steps_below at w) pushed ∙ steps_last at w fs (after_first f) in
     omega (arith, s, deep, here, below)
 
 pub no_frames : (fs : List Frame) → length fs ≡ 0 → fs ≡ []

@@ -10,15 +10,15 @@ use Rattle.net_sets.specs.Sets.{Tuple, same_tuple, has, added}
 use Rattle.net_sets.proofs.Sames.{same_turned}
 use Rattle.net_tree.specs.Spans.{span_between}
 use Rattle.net_tree.specs.Tree.{Tree, empty, filled}
-use Rattle.net_fault.specs.declared.defect.Defect.TheVariants.{KindMismatch, Arity, TooMany}
+use Rattle.net_fault.specs.declared.error_code.ErrorCode.TheVariants.{KindMismatch, Arity, TooMany}
 use Rattle.net_expr.specs.declared.row.Keys.{Keys}
 use Rattle.net_expr.specs.declared.row.Row.{Row}
 use Rattle.net_expr.specs.declared.value.Value.{Value}
 use Rattle.net_expr.specs.Items.{has_in, any_in, has_part, is_set, tuples_of, Opening, walking, listing, opened, open_with}
-use Rattle.net_fault.specs.Outcomes.{Outcome, and_then, refused, each}
+use Rattle.net_fault.specs.Outcomes.{Outcome, and_then, rejected, each}
 use Rattle.net_expr.specs.Rows.{start, onward, keep, kept, width_of, keys, selected, no_keys, keys_of, rows_of, tuples_in, all_of, listed_as, listed}
 use Rattle.net_expr.specs.SetValues.{HaveDistinctKeys}
-use Rattle.net_expr.specs.Values.{value, values, walk, set_behind, place, holds}
+use Rattle.net_expr.specs.Values.{value, values, walk, set_after, place, holds}
 use Rattle.net_expr.specs.Widths.{width_by_form}
 use Rattle.net_expr.specs.Worlds.{World, Scope}
 use Rattle.net_expr.proofs.Parting.{then_ok, is_ok}
@@ -53,14 +53,14 @@ listed_once : (at : Span) (s : Scope) (ts once : List Tuple) (k : Keys) → IsDi
 listed_once at s [] once k h e = subst (λ (z : Keys). IsDistinct same_tuple (keys_of z.rows)) (is_ok no_keys k e) none_there
 listed_once at s (t ∷ ts) once k h e = go (all_of (length t) ts) (nat_le (length once) tuples_limit) e
   where
-    go : (b c : Bool) → (if b then (if c then (let o : Outcome Keys = Ok (keys (length t) (rows_of s once)) in o) else refused TooMany at) else refused Arity at) ≡ Ok k → IsDistinct same_tuple (keys_of k.rows)
+    go : (b c : Bool) → (if b then (if c then (let o : Outcome Keys = Ok (keys (length t) (rows_of s once)) in o) else rejected TooMany at) else rejected Arity at) ≡ Ok k → IsDistinct same_tuple (keys_of k.rows)
     go true true i = subst (λ (z : Keys). IsDistinct same_tuple (keys_of z.rows)) (is_ok (keys (length t) (rows_of s once)) k i) (subst (IsDistinct same_tuple) (sym (keys_are s once)) h)
     go true false i = cc
     go false c i = cc
 
 listing_once : (at : Span) (s : Scope) (conditioned : Bool) (vs : List Value) (k : Keys) → listed at s conditioned vs ≡ Ok k → IsDistinct same_tuple (keys_of k.rows)
 listing_once at s conditioned vs k e =
-    then_ok (if conditioned then refused KindMismatch at else tuples_in at vs []) (λ ts. listed_as at s ts (union [] ts)) k e (λ ts h i. listed_once at s ts (union [] ts) k (union_distinct [] ts none_there) i)
+    then_ok (if conditioned then rejected KindMismatch at else tuples_in at vs []) (λ ts. listed_as at s ts (union [] ts)) k e (λ ts h i. listed_once at s ts (union [] ts) k (union_distinct [] ts none_there) i)
 
 -- ---- rows that are kept
 
@@ -97,8 +97,8 @@ selected_once by_form test rows k h e =
 walking_is : (ts us : List Tuple) → (let o : Outcome Opening = Ok (walking ts) in o ≡ Ok (walking us)) → ts ≡ us
 walking_is ts us e = let same : walking ts ≡ walking us = is_ok (walking ts) (walking us) e in cc
 
-opened_set : (w : World) (s : Scope) (i : Tree) (at : Span) (any : Bool) (ts : List Tuple) → (if has_in i then and_then (set_behind w s i) (λ us. Ok (walking us)) else and_then (value w s i) (opened at any)) ≡ Ok (walking ts)
-    → (if has_in i then set_behind w s i else and_then (value w s i) (tuples_of at)) ≡ Ok ts
+opened_set : (w : World) (s : Scope) (i : Tree) (at : Span) (any : Bool) (ts : List Tuple) → (if has_in i then and_then (set_after w s i) (λ us. Ok (walking us)) else and_then (value w s i) (opened at any)) ≡ Ok (walking ts)
+    → (if has_in i then set_after w s i else and_then (value w s i) (tuples_of at)) ≡ Ok ts
 opened_set w s i at any ts e = go (has_in i) e
   where
     by_value : (v : Value) → value w s i ≡ Ok v → opened at any v ≡ Ok (walking ts) → and_then (value w s i) (tuples_of at) ≡ Ok ts
@@ -108,14 +108,14 @@ opened_set w s i at any ts e = go (has_in i) e
         step true j = then_ok (tuples_of at v) (λ us. Ok (walking us)) (walking ts) j (λ us l m. l ∙ ap (λ (z : List Tuple). let o : Outcome (List Tuple) = Ok z in o) (walking_is us ts m))
         step false j = let same : listing v ≡ walking ts = is_ok (listing v) (walking ts) j in cc
 
-    go : (b : Bool) → (if b then and_then (set_behind w s i) (λ us. Ok (walking us)) else and_then (value w s i) (opened at any)) ≡ Ok (walking ts) → (if b then set_behind w s i else and_then (value w s i) (tuples_of at)) ≡ Ok ts
-    go true h = then_ok (set_behind w s i) (λ us. Ok (walking us)) (walking ts) h (λ us l m. l ∙ ap (λ (z : List Tuple). let o : Outcome (List Tuple) = Ok z in o) (walking_is us ts m))
+    go : (b : Bool) → (if b then and_then (set_after w s i) (λ us. Ok (walking us)) else and_then (value w s i) (opened at any)) ≡ Ok (walking ts) → (if b then set_after w s i else and_then (value w s i) (tuples_of at)) ≡ Ok ts
+    go true h = then_ok (set_after w s i) (λ us. Ok (walking us)) (walking ts) h (λ us l m. l ∙ ap (λ (z : List Tuple). let o : Outcome (List Tuple) = Ok z in o) (walking_is us ts m))
     go false h = then_ok (value w s i) (opened at any) (walking ts) h (λ v l m. by_value v l m)
 
 pub have_distinct_keys : HaveDistinctKeys
 have_distinct_keys w s (empty o p c) k g e = go (has_part p) e
   where
-    go : (b : Bool) → (if b then refused KindMismatch (span_between o c) else Ok no_keys) ≡ Ok k → IsDistinct same_tuple (keys_of k.rows)
+    go : (b : Bool) → (if b then rejected KindMismatch (span_between o c) else Ok no_keys) ≡ Ok k → IsDistinct same_tuple (keys_of k.rows)
     go true h = cc
     go false h = subst (λ (z : Keys). IsDistinct same_tuple (keys_of z.rows)) (is_ok no_keys k h) none_there
 have_distinct_keys w s (filled o i is p c) k g e = then_ok opening rest k e (λ x h j. go x h j)
@@ -124,7 +124,7 @@ have_distinct_keys w s (filled o i is p c) k g e = then_ok opening rest k e (λ 
     at = span_between o c
 
     opening : Outcome Opening
-    opening = if has_in i then and_then (set_behind w s i) (λ ts. Ok (walking ts)) else and_then (value w s i) (opened at (any_in is))
+    opening = if has_in i then and_then (set_after w s i) (λ ts. Ok (walking ts)) else and_then (value w s i) (opened at (any_in is))
 
     from_tuples : List Tuple → Outcome Keys
     from_tuples ts = and_then (each (onward (place w i) (walk at w is) (start s)) ts []) (selected (width_by_form at w s i is) (λ q. holds at w q p))

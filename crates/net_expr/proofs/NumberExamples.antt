@@ -9,7 +9,7 @@ use Rattle.net_tree.specs.Role.{role_of, marks, keys}
 use Rattle.net_tree.specs.Spans.{span_of, span_between, braces_span}
 use Rattle.net_tree.specs.Tree.{leaf, parens, braced, signed, reduced, chain, choice, none, link, absent, part, empty, filled}
 use Rattle.net_fault.specs.declared.language.Language.TheVariants as languages
-use Rattle.net_fault.specs.declared.defect.Defect.TheVariants as defects
+use Rattle.net_fault.specs.declared.error_code.ErrorCode.TheVariants as error_codes
 use Rattle.net_fault.specs.declared.detail.Detail.TheVariants.{Nothing}
 use Rattle.net_expr.specs.declared.value.Value.TheVariants.{One, Truth}
 use Rattle.net_expr.specs.Limits.{is_small}
@@ -44,22 +44,22 @@ unfolding role_of marks keys operations operation reduction is_minus is_small nu
 divided = refl
 
 -- 7 div 0 = 1
-by_nothing : value [] [] (chain 7 (chain 1 (leaf (number (codes "7") 0 1)) (link (operator.One (key (codes "div") 2 5)) (leaf (number (codes "0") 6 7)) none)) (link (operator.One (mark (codes "=") 8 9)) (leaf (number (codes "1") 10 11)) none)) ≡ Err (record { defect = defects.DivMod; text = languages.Model; at = record { start = 0; end = 7 }; detail = Nothing })
+by_nothing : value [] [] (chain 7 (chain 1 (leaf (number (codes "7") 0 1)) (link (operator.One (key (codes "div") 2 5)) (leaf (number (codes "0") 6 7)) none)) (link (operator.One (mark (codes "=") 8 9)) (leaf (number (codes "1") 10 11)) none)) ≡ Err (record { error_code = error_codes.DivMod; text = languages.Model; at = record { start = 0; end = 7 }; detail = Nothing })
 unfolding role_of marks keys operations operation reduction is_minus is_small number_in numeral_at mantissa_at power_at whole_value span_of span_between braces_span
 by_nothing = refl
 
 -- (-7) mod 2
-negative_divided : value [] [] (chain 1 (parens (mark (codes "(") 0 1) (signed (mark (codes "-") 1 2) (leaf (number (codes "7") 2 3))) (mark (codes ")") 3 4)) (link (operator.One (key (codes "mod") 5 8)) (leaf (number (codes "2") 9 10)) none)) ≡ Err (record { defect = defects.DivMod; text = languages.Model; at = record { start = 0; end = 10 }; detail = Nothing })
+negative_divided : value [] [] (chain 1 (parens (mark (codes "(") 0 1) (signed (mark (codes "-") 1 2) (leaf (number (codes "7") 2 3))) (mark (codes ")") 3 4)) (link (operator.One (key (codes "mod") 5 8)) (leaf (number (codes "2") 9 10)) none)) ≡ Err (record { error_code = error_codes.DivMod; text = languages.Model; at = record { start = 0; end = 10 }; detail = Nothing })
 unfolding role_of marks keys operations operation reduction is_minus is_small number_in numeral_at mantissa_at power_at whole_value span_of span_between braces_span
 negative_divided = refl
 
 -- 1000000000000 + 1 > 0
-past_the_limit : value [] [] (chain 7 (chain 2 (leaf (number (codes "1000000000000") 0 13)) (link (operator.One (mark (codes "+") 14 15)) (leaf (number (codes "1") 16 17)) none)) (link (operator.One (mark (codes ">") 18 19)) (leaf (number (codes "0") 20 21)) none)) ≡ Err (record { defect = defects.ValueTooLarge; text = languages.Model; at = record { start = 0; end = 17 }; detail = Nothing })
+past_the_limit : value [] [] (chain 7 (chain 2 (leaf (number (codes "1000000000000") 0 13)) (link (operator.One (mark (codes "+") 14 15)) (leaf (number (codes "1") 16 17)) none)) (link (operator.One (mark (codes ">") 18 19)) (leaf (number (codes "0") 20 21)) none)) ≡ Err (record { error_code = error_codes.ValueTooLarge; text = languages.Model; at = record { start = 0; end = 17 }; detail = Nothing })
 unfolding role_of marks keys operations operation reduction is_minus is_small number_in numeral_at mantissa_at power_at whole_value span_of span_between braces_span
 past_the_limit = refl
 
 -- 1000000000000 + 1 - 1 + 0 * 1    each result of a chain is tested, at the whole chain
-at_the_limit : value [] [] (chain 2 (leaf (number (codes "1000000000000") 0 13)) (link (operator.One (mark (codes "+") 14 15)) (leaf (number (codes "1") 16 17)) (link (operator.One (mark (codes "-") 18 19)) (leaf (number (codes "1") 20 21)) (link (operator.One (mark (codes "+") 22 23)) (chain 1 (leaf (number (codes "0") 24 25)) (link (operator.One (mark (codes "*") 26 27)) (leaf (number (codes "1") 28 29)) none)) none)))) ≡ Err (record { defect = defects.ValueTooLarge; text = languages.Model; at = record { start = 0; end = 29 }; detail = Nothing })
+at_the_limit : value [] [] (chain 2 (leaf (number (codes "1000000000000") 0 13)) (link (operator.One (mark (codes "+") 14 15)) (leaf (number (codes "1") 16 17)) (link (operator.One (mark (codes "-") 18 19)) (leaf (number (codes "1") 20 21)) (link (operator.One (mark (codes "+") 22 23)) (chain 1 (leaf (number (codes "0") 24 25)) (link (operator.One (mark (codes "*") 26 27)) (leaf (number (codes "1") 28 29)) none)) none)))) ≡ Err (record { error_code = error_codes.ValueTooLarge; text = languages.Model; at = record { start = 0; end = 29 }; detail = Nothing })
 unfolding role_of marks keys operations operation reduction is_minus is_small number_in numeral_at mantissa_at power_at whole_value span_of span_between braces_span
 at_the_limit = refl
 
@@ -89,6 +89,6 @@ unfolding role_of marks keys operations operation reduction is_minus is_small nu
 greatest = refl
 
 -- 1 + min {i in 1..0} i
-least_of_none : value [] [] (chain 2 (leaf (number (codes "1") 0 1)) (link (operator.One (mark (codes "+") 2 3)) (reduced (key (codes "min") 4 7) (filled (mark (codes "{") 8 9) (chain 7 (leaf (name (codes "i") 9 10)) (link (operator.One (key (codes "in") 11 13)) (chain 3 (leaf (number (codes "1") 14 15)) (link (operator.One (mark (codes "..") 15 17)) (leaf (number (codes "0") 17 18)) none)) none)) none absent (mark (codes "}") 18 19)) (leaf (name (codes "i") 20 21))) none)) ≡ Err (record { defect = defects.NoValue; text = languages.Model; at = record { start = 4; end = 21 }; detail = Nothing })
+least_of_none : value [] [] (chain 2 (leaf (number (codes "1") 0 1)) (link (operator.One (mark (codes "+") 2 3)) (reduced (key (codes "min") 4 7) (filled (mark (codes "{") 8 9) (chain 7 (leaf (name (codes "i") 9 10)) (link (operator.One (key (codes "in") 11 13)) (chain 3 (leaf (number (codes "1") 14 15)) (link (operator.One (mark (codes "..") 15 17)) (leaf (number (codes "0") 17 18)) none)) none)) none absent (mark (codes "}") 18 19)) (leaf (name (codes "i") 20 21))) none)) ≡ Err (record { error_code = error_codes.NoValue; text = languages.Model; at = record { start = 4; end = 21 }; detail = Nothing })
 unfolding role_of marks keys operations operation reduction is_minus is_small number_in numeral_at mantissa_at power_at whole_value span_of span_between braces_span
 least_of_none = refl

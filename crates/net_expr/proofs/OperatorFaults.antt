@@ -18,7 +18,7 @@ use Rattle.net_expr.specs.declared.world.Entry.{Entry}
 use Rattle.net_expr.specs.declared.world.Entry.TheVariants.{Set, Parameter}
 use Rattle.net_expr.specs.Limits.{is_small}
 use Rattle.net_expr.specs.Numbers.{sized, number, plus, less, times, quotient, remainder, divides, are_small, step, size, range, range_of}
-use Rattle.net_expr.specs.Operators.{of_numbers, of_two, compared, same, of_sets, crossed, belongs, contained, truth, as_truth, as_denial, apply, decided, short_enough, members_behind, tuple_of, longer}
+use Rattle.net_expr.specs.Operators.{of_numbers, of_two, compared, same, of_sets, crossed, belongs, contained, truth, as_truth, as_denial, apply, decided, short_enough, members_after, tuple_of, longer}
 use Rattle.net_expr.specs.Operators as operators
 use Rattle.net_expr.specs.Sets.{counted, shared, fits, within_size, set_of, cross, among, inside}
 use Rattle.net_expr.specs.Worlds.{Name, World, key_count, entry_of, missing, value_at, entry_at, name_at}
@@ -183,7 +183,7 @@ module _ (P : Places) (at : Span) (h : P Model at) where
   finds_member (Many d ts) = h
   finds_member (Truth b) = h
 
-  finds_members : (vs : List Value) (key : Option Tuple) → Finds P (members_behind at vs key)
+  finds_members : (vs : List Value) (key : Option Tuple) → Finds P (members_after at vs key)
   finds_members [] key = finds_short key
   finds_members (v ∷ vs) key = finds_then P (operators.member at v) _ (finds_member v) (λ m. finds_members vs (longer (m ∷ []) key))
 

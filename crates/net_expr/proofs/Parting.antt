@@ -87,8 +87,8 @@ parted_on a b c d h k l = record {
   unlike = h.unlike;
 }
 
-parted_behind : (key a b : Tuple) → Parted a b → Parted (key ++ a) (key ++ b)
-parted_behind key a b h = record {
+parted_after : (key a b : Tuple) → Parted a b → Parted (key ++ a) (key ++ b)
+parted_after key a b h = record {
   front = key ++ h.front;
   here = h.here;
   there = h.there;
@@ -129,7 +129,7 @@ longer_parted t u o h = λ a b e f.
     let two = longer_is u o b f in
     let same : Some one.0 ≡ Some two.0 = sym one.1 ∙ two.1 in
     let key : one.0 ≡ two.0 = cc in
-    subst (λ (c : Tuple). Parted c b) (sym one.2) (subst (λ (d : Tuple). Parted (one.0 ++ t) d) (ap (λ (k : Tuple). k ++ u) key ∙ sym two.2) (parted_behind one.0 t u h))
+    subst (λ (c : Tuple). Parted c b) (sym one.2) (subst (λ (d : Tuple). Parted (one.0 ++ t) d) (ap (λ (k : Tuple). k ++ u) key ∙ sym two.2) (parted_after one.0 t u h))
 
 pub single : (m n : Member) → same_member m n ≡ false → Parted (m ∷ []) (n ∷ [])
 single m n e = record { front = []; here = m; there = n; one = []; other = []; first = refl; second = refl; unlike = e }
@@ -205,8 +205,8 @@ pair_parted at d own w l m n ms ns p q r more unlike e f = go (same_member m n) 
 
     go : (b : Bool) → same_member m n ≡ b → b && same_tuple ms ns ≡ false → PartedFrom q.key r.key
     go true h i =
-        let again : fitted at d own m p ≡ Ok (Some t.0) = ap (λ (z : Member). fitted at d own z p) ((member_decides m n).0 h) ∙ t.1 in
-        let somes : Some s.0 ≡ Some t.0 = is_ok (Some s.0) (Some t.0) (sym s.1 ∙ again) in
+        let copied : fitted at d own m p ≡ Ok (Some t.0) = ap (λ (z : Member). fitted at d own z p) ((member_decides m n).0 h) ∙ t.1 in
+        let somes : Some s.0 ≡ Some t.0 = is_ok (Some s.0) (Some t.0) (sym s.1 ∙ copied) in
         let same : s.0 ≡ t.0 = cc in
         more s.0 i s.2 (ap (places at w l ns) same ∙ t.2)
     go false h i = on_then s.0.key t.0.key q.key r.key (fitted_parted at d own m n p s.0 t.0 h s.1 t.1) (places_on at w l ms s.0 q s.2) (places_on at w l ns t.0 r t.2)

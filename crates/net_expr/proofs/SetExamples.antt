@@ -9,7 +9,7 @@ use Rattle.net_tree.specs.Role.{role_of, marks, keys}
 use Rattle.net_tree.specs.Spans.{span_of, span_between, braces_span}
 use Rattle.net_tree.specs.Tree.{leaf, parens, tuple, braced, chain, none, link, absent, empty, filled}
 use Rattle.net_fault.specs.declared.language.Language.TheVariants as languages
-use Rattle.net_fault.specs.declared.defect.Defect.TheVariants as defects
+use Rattle.net_fault.specs.declared.error_code.ErrorCode.TheVariants as error_codes
 use Rattle.net_fault.specs.declared.detail.Detail.TheVariants.{Nothing}
 use Rattle.net_expr.specs.declared.value.Value.TheVariants.{Many, Truth}
 use Rattle.net_expr.specs.Limits.{is_small}
@@ -54,22 +54,22 @@ unfolding role_of marks keys operations operation reduction is_minus is_small nu
 range_away = refl
 
 -- 1 .. 2 by 0
-range_stands : value [] [] (chain 3 (leaf (number (codes "1") 0 1)) (link (operator.One (mark (codes "..") 2 4)) (leaf (number (codes "2") 5 6)) (link (operator.One (key (codes "by") 7 9)) (leaf (number (codes "0") 10 11)) none))) ≡ Err (record { defect = defects.DivMod; text = languages.Model; at = record { start = 0; end = 11 }; detail = Nothing })
+range_stands : value [] [] (chain 3 (leaf (number (codes "1") 0 1)) (link (operator.One (mark (codes "..") 2 4)) (leaf (number (codes "2") 5 6)) (link (operator.One (key (codes "by") 7 9)) (leaf (number (codes "0") 10 11)) none))) ≡ Err (record { error_code = error_codes.DivMod; text = languages.Model; at = record { start = 0; end = 11 }; detail = Nothing })
 unfolding role_of marks keys operations operation reduction is_minus is_small number_in numeral_at mantissa_at power_at whole_value span_of span_between braces_span
 range_stands = refl
 
 -- 1 in 1 .. 1000001
-range_too_long : value [] [] (chain 7 (leaf (number (codes "1") 0 1)) (link (operator.One (key (codes "in") 2 4)) (chain 3 (leaf (number (codes "1") 5 6)) (link (operator.One (mark (codes "..") 7 9)) (leaf (number (codes "1000001") 10 17)) none)) none)) ≡ Err (record { defect = defects.TooMany; text = languages.Model; at = record { start = 5; end = 17 }; detail = Nothing })
+range_too_long : value [] [] (chain 7 (leaf (number (codes "1") 0 1)) (link (operator.One (key (codes "in") 2 4)) (chain 3 (leaf (number (codes "1") 5 6)) (link (operator.One (mark (codes "..") 7 9)) (leaf (number (codes "1000001") 10 17)) none)) none)) ≡ Err (record { error_code = error_codes.TooMany; text = languages.Model; at = record { start = 5; end = 17 }; detail = Nothing })
 unfolding role_of marks keys operations operation reduction is_minus is_small number_in numeral_at mantissa_at power_at whole_value span_of span_between braces_span
 range_too_long = refl
 
 -- {1} union {(1,2)}
-other_dimension : value [] [] (chain 6 (braced (filled (mark (codes "{") 0 1) (leaf (number (codes "1") 1 2)) none absent (mark (codes "}") 2 3))) (link (operator.One (key (codes "union") 4 9)) (braced (filled (mark (codes "{") 10 11) (tuple (mark (codes "(") 11 12) (leaf (number (codes "1") 12 13)) (link (operator.One (mark (codes ",") 13 14)) (leaf (number (codes "2") 14 15)) none) (mark (codes ")") 15 16)) none absent (mark (codes "}") 16 17))) none)) ≡ Err (record { defect = defects.Arity; text = languages.Model; at = record { start = 0; end = 17 }; detail = Nothing })
+other_dimension : value [] [] (chain 6 (braced (filled (mark (codes "{") 0 1) (leaf (number (codes "1") 1 2)) none absent (mark (codes "}") 2 3))) (link (operator.One (key (codes "union") 4 9)) (braced (filled (mark (codes "{") 10 11) (tuple (mark (codes "(") 11 12) (leaf (number (codes "1") 12 13)) (link (operator.One (mark (codes ",") 13 14)) (leaf (number (codes "2") 14 15)) none) (mark (codes ")") 15 16)) none absent (mark (codes "}") 16 17))) none)) ≡ Err (record { error_code = error_codes.Arity; text = languages.Model; at = record { start = 0; end = 17 }; detail = Nothing })
 unfolding role_of marks keys operations operation reduction is_minus is_small number_in numeral_at mantissa_at power_at whole_value span_of span_between braces_span
 other_dimension = refl
 
 -- LINKS cross LINKS cross CITIES
-five_components : value cities [] (chain 4 (leaf (name (codes "LINKS") 0 5)) (link (operator.One (key (codes "cross") 6 11)) (leaf (name (codes "LINKS") 12 17)) (link (operator.One (key (codes "cross") 18 23)) (leaf (name (codes "CITIES") 24 30)) none))) ≡ Err (record { defect = defects.Arity; text = languages.Model; at = record { start = 0; end = 30 }; detail = Nothing })
+five_components : value cities [] (chain 4 (leaf (name (codes "LINKS") 0 5)) (link (operator.One (key (codes "cross") 6 11)) (leaf (name (codes "LINKS") 12 17)) (link (operator.One (key (codes "cross") 18 23)) (leaf (name (codes "CITIES") 24 30)) none))) ≡ Err (record { error_code = error_codes.Arity; text = languages.Model; at = record { start = 0; end = 30 }; detail = Nothing })
 unfolding role_of marks keys operations operation reduction is_minus is_small number_in numeral_at mantissa_at power_at whole_value span_of span_between braces_span
 five_components = refl
 
@@ -109,7 +109,7 @@ unfolding role_of marks keys operations operation reduction is_minus is_small nu
 pair_belongs = refl
 
 -- 'a' in LINKS
-single_in_pairs : value cities [] (chain 7 (leaf (string (codes "'a'") 0 3)) (link (operator.One (key (codes "in") 4 6)) (leaf (name (codes "LINKS") 7 12)) none)) ≡ Err (record { defect = defects.Arity; text = languages.Model; at = record { start = 0; end = 12 }; detail = Nothing })
+single_in_pairs : value cities [] (chain 7 (leaf (string (codes "'a'") 0 3)) (link (operator.One (key (codes "in") 4 6)) (leaf (name (codes "LINKS") 7 12)) none)) ≡ Err (record { error_code = error_codes.Arity; text = languages.Model; at = record { start = 0; end = 12 }; detail = Nothing })
 unfolding role_of marks keys operations operation reduction is_minus is_small number_in numeral_at mantissa_at power_at whole_value span_of span_between braces_span
 single_in_pairs = refl
 

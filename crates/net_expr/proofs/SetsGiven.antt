@@ -22,7 +22,7 @@ use Rattle.net_tree.specs.Role.{role_of}
 use Rattle.net_tree.specs.Spans.{span_of, braces_span}
 use Rattle.net_tree.specs.Tree.{Tree, Links, Part, leaf, indexed, parens, tuple, negated, braced, signed, reduced, chain, choice, net, none, link, absent, part}
 use Rattle.net_fault.specs.declared.detail.Detail.{Detail}
-use Rattle.net_fault.specs.declared.defect.Defect.TheVariants.{DivMod}
+use Rattle.net_fault.specs.declared.error_code.ErrorCode.TheVariants.{DivMod}
 use Rattle.net_tree.specs.declared.operator.BinOp.{BinOp}
 use Rattle.net_tree.specs.declared.operator.BinOp.TheVariants as op
 use Rattle.net_tree.specs.declared.operator.Reduction.{Reduction}
@@ -37,7 +37,7 @@ use Rattle.net_expr.specs.Limits.{is_small}
 use Rattle.net_expr.specs.Numbers.{number_in, number, sized, divides, plus, less, times, quotient, remainder, step, size, range, range_of}
 use Rattle.net_tree.specs.Operations.{operation, reduction, is_minus}
 use Rattle.net_expr.specs.Operators.{of_numbers, same, of_sets, crossed, belongs, contained, truth, as_truth, as_denial, apply, decided, tuple_of}
-use Rattle.net_fault.specs.Outcomes.{Outcome, and_then, refused}
+use Rattle.net_fault.specs.Outcomes.{Outcome, and_then, rejected}
 use Rattle.net_expr.specs.Rows.{as_set, keys_of, reduce, gathered_over, reduced_to}
 use Rattle.net_expr.specs.Sets.{counted, shared, set_of}
 use Rattle.net_expr.specs.SetValues.{IsSetOf, HasSets, KeepsSets}
@@ -96,7 +96,7 @@ gives_range : (at : Span) (a b c : ℤ) → Gives (range at a b c)
 gives_range at a b c =
     gives_then (step at c) _ (λ u h. gives_then (size at a b c) _ (λ v i. gives_if (nat_le (range_size a b c) tuples_limit) _ _ (λ e. (range_distinct a c (range_size a b c) (positive (int_lt c (pos 1)) refl h), ones (numbers_by a c (range_size a b c)))) tt))
   where
-    positive : (t : Bool) → int_lt c (pos 1) ≡ t → {u : Unit {0}} → (if t then refused DivMod at else Ok tt) ≡ Ok u → pos 1 ≤ℤ c
+    positive : (t : Bool) → int_lt c (pos 1) ≡ t → {u : Unit {0}} → (if t then rejected DivMod at else Ok tt) ≡ Ok u → pos 1 ≤ℤ c
     positive true e h = cc
     positive false e h = search (arith, ints, e)
 
@@ -194,13 +194,13 @@ closed_symmetric n xs ys h =
       all_join (λ t. length t ≡ n) (difference xs ys) (difference ys xs) one.1 two.1,
     )
 
-all_behind : (n m : ℕ) (x : Tuple) (ys : List Tuple) → length x ≡ n → AreLong m ys → AreLong (n + m) (behind x ys)
-all_behind n m x [] h k = tt
-all_behind n m x (y ∷ ys) h k = (length-append x y ∙ omega (arith, h, k.0), all_behind n m x ys h k.1)
+all_after : (n m : ℕ) (x : Tuple) (ys : List Tuple) → length x ≡ n → AreLong m ys → AreLong (n + m) (behind x ys)
+all_after n m x [] h k = tt
+all_after n m x (y ∷ ys) h k = (length-append x y ∙ omega (arith, h, k.0), all_after n m x ys h k.1)
 
 all_product : (n m : ℕ) (xs ys : List Tuple) → AreLong n xs → AreLong m ys → AreLong (n + m) (product xs ys)
 all_product n m [] ys h k = tt
-all_product n m (x ∷ xs) ys h k = all_join (λ t. length t ≡ n + m) (behind x ys) (product xs ys) (all_behind n m x ys h.0 k) (all_product n m xs ys h.1 k)
+all_product n m (x ∷ xs) ys h k = all_join (λ t. length t ≡ n + m) (behind x ys) (product xs ys) (all_after n m x ys h.0 k) (all_product n m xs ys h.1 k)
 
 long_of : (d : Option ℕ) (ts : List Tuple) → IsSetOf d ts → AreLong (counted d) ts
 long_of None ts h = subst (AreLong 1) (sym h) tt

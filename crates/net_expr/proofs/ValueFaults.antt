@@ -19,7 +19,7 @@ use Rattle.net_expr.specs.Numbers.{number_in, number, range_of}
 use Rattle.net_tree.specs.Operations.{operation, reduction, is_minus}
 use Rattle.net_expr.specs.Operators.{apply, decided, truth, tuple_of}
 use Rattle.net_expr.specs.Rows.{start, fitted, if_fits, onward, selected, as_set, listed, reduce}
-use Rattle.net_expr.specs.Values.{number_value, token_value, subscripted, tupled, with_sign, either, value, otherwise, values, chained, index, walk, set_behind, place, left_place, places, holds}
+use Rattle.net_expr.specs.Values.{number_value, token_value, subscripted, tupled, with_sign, either, value, otherwise, values, chained, index, walk, set_after, place, left_place, places, holds}
 use Rattle.net_expr.specs.Widths.{width_by_form, begin, with_item, with_items}
 use Rattle.net_expr.specs.Worlds.{Name, World, Scope, bound}
 use Rattle.net_fault.specs.Places.{Places, Finds}
@@ -125,9 +125,9 @@ module _ (P : Places) where
     pub finds_index : (w : World) (s : Scope) (b : Braces) → BracesStand (P Model) b → Finds P (index w s b)
     finds_index w s (empty o p c) (g, h, k) = finds_if P (has_part p) _ _ h tt
     finds_index w s (filled o i is p c) (g, h, j, k, m) =
-        finds_then P (if has_in i then and_then (set_behind w s i) (λ ts. Ok (walking ts)) else and_then (value w s i) (opened (span_between o c) (any_in is))) _
-        (finds_if P (has_in i) (and_then (set_behind w s i) (λ ts. Ok (walking ts))) (and_then (value w s i) (opened (span_between o c) (any_in is)))
-        (finds_then P (set_behind w s i) _ (finds_behind w s i j) (λ ts. tt))
+        finds_then P (if has_in i then and_then (set_after w s i) (λ ts. Ok (walking ts)) else and_then (value w s i) (opened (span_between o c) (any_in is))) _
+        (finds_if P (has_in i) (and_then (set_after w s i) (λ ts. Ok (walking ts))) (and_then (value w s i) (opened (span_between o c) (any_in is)))
+        (finds_then P (set_after w s i) _ (finds_after w s i j) (λ ts. tt))
         (finds_then P (value w s i) (opened (span_between o c) (any_in is)) (finds_value w s i j) (finds_opened P (span_between o c) h (any_in is))))
         (finds_open_with P _ _
         (λ ts. finds_then P (each (onward (place w i) (walk (span_between o c) w is) (start s)) ts []) (selected (width_by_form (span_between o c) w s i is) (λ q. holds (span_between o c) w q p))
@@ -139,26 +139,26 @@ module _ (P : Places) where
     pub finds_walk : (at : Span) → P Model at → (w : World) (l : Links) → LinksStand (P Model) l → (p : Place) (found : List Row) → Finds P (walk at w l p found)
     finds_walk at h w none k p found = finds_finished P at h p found
     finds_walk at h w (link o i is) (j, k) p found =
-        finds_then P (if has_in i then set_behind w p.scope i else and_then (value w p.scope i) (tuples_of at)) _
-        (finds_if P (has_in i) (set_behind w p.scope i) (and_then (value w p.scope i) (tuples_of at)) (finds_behind w p.scope i j)
+        finds_then P (if has_in i then set_after w p.scope i else and_then (value w p.scope i) (tuples_of at)) _
+        (finds_if P (has_in i) (set_after w p.scope i) (and_then (value w p.scope i) (tuples_of at)) (finds_after w p.scope i j)
         (finds_then P (value w p.scope i) (tuples_of at) (finds_value w p.scope i j) (finds_tuples_of P at h)))
         (λ ts. finds_each P (onward (place w i) (walk at w is) p) (λ t rows. finds_onward P (place w i) (walk at w is) (finds_place w i j) (finds_walk at h w is k) p t rows) ts found)
 
-    finds_behind : (w : World) (s : Scope) (t : Tree) → Stands (P Model) t → Finds P (set_behind w s t)
-    finds_behind w s (chain n x (link o y none)) (h, j, k) =
+    finds_after : (w : World) (s : Scope) (t : Tree) → Stands (P Model) t → Finds P (set_after w s t)
+    finds_after w s (chain n x (link o y none)) (h, j, k) =
         finds_then P (value w s y) (chosen (span_of (chain n x (link o y none))) (needed x)) (finds_value w s y k.0) (finds_chosen P (span_of (chain n x (link o y none))) h (needed x))
-    finds_behind w s (chain n x none) h = tt
-    finds_behind w s (chain n x (link o y (link q z l))) h = tt
-    finds_behind w s (leaf t) h = tt
-    finds_behind w s (indexed n o x l c) h = tt
-    finds_behind w s (parens o x c) h = tt
-    finds_behind w s (tuple o x l c) h = tt
-    finds_behind w s (negated n o x c) h = tt
-    finds_behind w s (braced b) h = tt
-    finds_behind w s (signed t x) h = tt
-    finds_behind w s (reduced r b x) h = tt
-    finds_behind w s (choice i x t y e) h = tt
-    finds_behind w s (net t u) h = tt
+    finds_after w s (chain n x none) h = tt
+    finds_after w s (chain n x (link o y (link q z l))) h = tt
+    finds_after w s (leaf t) h = tt
+    finds_after w s (indexed n o x l c) h = tt
+    finds_after w s (parens o x c) h = tt
+    finds_after w s (tuple o x l c) h = tt
+    finds_after w s (negated n o x c) h = tt
+    finds_after w s (braced b) h = tt
+    finds_after w s (signed t x) h = tt
+    finds_after w s (reduced r b x) h = tt
+    finds_after w s (choice i x t y e) h = tt
+    finds_after w s (net t u) h = tt
 
     pub finds_place : (w : World) (i : Tree) → Stands (P Model) i → (t : Tuple) (p : Place) → Finds P (place w i t p)
     finds_place w (chain n x (link o y none)) (h, j, k) t p =

@@ -10,17 +10,17 @@ use Rattle.net_sets.specs.Sets.{Tuple, same_tuple, has}
 use Rattle.net_sets.proofs.Sames.{tuple_decides}
 use Rattle.net_tree.specs.Spans.{span_of}
 use Rattle.net_tree.specs.Tree.{Tree, Links, chain, none, link}
-use Rattle.net_fault.specs.declared.defect.Defect.TheVariants.{Arity, TooMany}
+use Rattle.net_fault.specs.declared.error_code.ErrorCode.TheVariants.{Arity, TooMany}
 use Rattle.net_expr.specs.declared.row.Place.{Place}
 use Rattle.net_expr.specs.declared.row.Row.{Row}
 use Rattle.net_expr.specs.declared.value.Value.{Value}
 use Rattle.net_expr.specs.declared.value.Value.TheVariants.{One, Several, Many, Truth}
 use Rattle.net_expr.specs.Items.{is_in, both, has_in, needed, fits_needed, chosen, tuples_of}
 use Rattle.net_tree.specs.Operations.{operation}
-use Rattle.net_fault.specs.Outcomes.{Outcome, and_then, refused, each}
+use Rattle.net_fault.specs.Outcomes.{Outcome, and_then, rejected, each}
 use Rattle.net_expr.specs.Rows.{go_on, onward, same_arity, finished_key, keys_of}
 use Rattle.net_expr.specs.SetValues.{IsSetOf, GivesSets}
-use Rattle.net_expr.specs.Values.{value, place, set_behind, walk}
+use Rattle.net_expr.specs.Values.{value, place, set_after, walk}
 use Rattle.net_expr.specs.Worlds.{World, Scope}
 use Rattle.net_expr.proofs.Distinct.{IsLong, LongIn, item_on, item_parted}
 use Rattle.net_expr.proofs.Parting.{then_ok, is_ok, OnFrom, on_join, parted_unlike, parted_on}
@@ -92,11 +92,11 @@ chosen_set at i x ts (Many d us) g f e = go d (needed x) (g d us refl) f e
         step true k l = eqb-true n m k
         step false k l = cc
 
-    as_is : (d n : Option ℕ) (b : Bool) → (if b then (let o : Outcome (List Tuple) = Ok us in o) else refused Arity at) ≡ Ok ts → (b ≡ true) × (us ≡ ts)
+    as_is : (d n : Option ℕ) (b : Bool) → (if b then (let o : Outcome (List Tuple) = Ok us in o) else rejected Arity at) ≡ Ok ts → (b ≡ true) × (us ≡ ts)
     as_is d n true h = (refl, is_ok us ts h)
     as_is d n false h = cc
 
-    go : (d n : Option ℕ) → IsSetOf d us → ((t : Tuple) → IsLong n t → LongIn i t) → (if fits_needed d n then (let o : Outcome (List Tuple) = Ok us in o) else refused Arity at) ≡ Ok ts → IsItemSet i ts
+    go : (d n : Option ℕ) → IsSetOf d us → ((t : Tuple) → IsLong n t → LongIn i t) → (if fits_needed d n then (let o : Outcome (List Tuple) = Ok us in o) else rejected Arity at) ≡ Ok ts → IsItemSet i ts
     go None n h k e = no_item i ts (sym (as_is None n (fits_needed None n) e).1 ∙ h)
     go (Some m) None h k e =
         subst (IsItemSet i) (as_is (Some m) None true e).1 (record { distinct = h.0; width = m; long = h.1; fits = all_true (LongIn i) us (λ t. k t tt) })
@@ -106,13 +106,13 @@ chosen_set at i x ts (Many d us) g f e = go d (needed x) (g d us refl) f e
         subst (IsItemSet i) test.1 (record { distinct = h.0; width = m; long = h.1; fits = all_as (λ t. length t ≡ m) (LongIn i) us (λ t l. k t (l ∙ same)) h.1 })
 
 -- what an item goes over
-pub item_set : (w : World) (s : Scope) (i : Tree) (at : Span) (ts : List Tuple) → GivesSets w → (if has_in i then set_behind w s i else and_then (value w s i) (tuples_of at)) ≡ Ok ts → IsItemSet i ts
+pub item_set : (w : World) (s : Scope) (i : Tree) (at : Span) (ts : List Tuple) → GivesSets w → (if has_in i then set_after w s i else and_then (value w s i) (tuples_of at)) ≡ Ok ts → IsItemSet i ts
 item_set w s (chain n x (link o y none)) at ts g e = go (is_in (operation o)) refl e
   where
     i : Tree
     i = chain n x (link o y none)
 
-    go : (b : Bool) → is_in (operation o) ≡ b → (if is_some (both x (if b then Some y else None)) then set_behind w s i else and_then (value w s i) (tuples_of at)) ≡ Ok ts → IsItemSet i ts
+    go : (b : Bool) → is_in (operation o) ≡ b → (if is_some (both x (if b then Some y else None)) then set_after w s i else and_then (value w s i) (tuples_of at)) ≡ Ok ts → IsItemSet i ts
     go true h k = then_ok (value w s y) (chosen (span_of i) (needed x)) ts k (λ v l m. chosen_set (span_of i) i x ts v (λ d us q. g s y d us (l ∙ ap (λ (z : Value). let r : Outcome Value = Ok z in r) q)) (λ t q. λ z. q) m)
     go false h k = item_any w s i at ts g (all_true (LongIn i) ts (λ t z. absurd (let q = h in cc))) k
 item_set w s i at ts g e = item_any w s i at ts g (all_true (LongIn i) ts (λ t. tt)) e
@@ -217,7 +217,7 @@ one_row at s p (Some key) found rows h e = go (same_arity key found) (nat_lt (le
     alone : IsDistinct same_tuple (key ∷ [])
     alone = IsDistinct-cons same_tuple key [] tt none_there
 
-    go : (b c : Bool) → (if b then (if c then (let o : Outcome (List Row) = Ok (found ++ row ∷ []) in o) else refused TooMany at) else refused Arity at) ≡ Ok rows → IsWalk p found rows
+    go : (b c : Bool) → (if b then (if c then (let o : Outcome (List Row) = Ok (found ++ row ∷ []) in o) else rejected TooMany at) else rejected Arity at) ≡ Ok rows → IsWalk p found rows
     go true true k = record { new = row ∷ []; whole = sym (is_ok (found ++ row ∷ []) rows k); from = ((λ b f. (b, h ∙ f, record { rest = []; whole = sym (append-nil b) })), tt); distinct = alone }
     go true false k = cc
     go false c k = cc
@@ -225,7 +225,7 @@ one_row at s p (Some key) found rows h e = go (same_arity key found) (nat_lt (le
 pub walk_is : (at : Span) (w : World) → GivesSets w → (l : Links) (p : Place) (found rows : List Row) → walk at w l p found ≡ Ok rows → IsWalk p found rows
 walk_is at w g none p found rows e = one_row at p.scope p p.key found rows refl e
 walk_is at w g (link o i is) p found rows e =
-    then_ok (if has_in i then set_behind w p.scope i else and_then (value w p.scope i) (tuples_of at)) (λ ts. each (onward (place w i) (walk at w is) p) ts found) rows e (λ ts h k.
+    then_ok (if has_in i then set_after w p.scope i else and_then (value w p.scope i) (tuples_of at)) (λ ts. each (onward (place w i) (walk at w is) p) ts found) rows e (λ ts h k.
     as_walk w i p ts found rows (each_walk w i p (walk at w is) (λ q f r j. walk_is at w g is q f r j) ts (item_set w p.scope i at ts g h) found rows k))
 
 -- the rows of an item from a place on

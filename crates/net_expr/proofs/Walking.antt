@@ -21,7 +21,7 @@ use Rattle.net_expr.specs.declared.row.Row.{Row}
 use Rattle.net_expr.specs.declared.row.Keys.{Keys}
 use Rattle.net_expr.specs.declared.value.Value.{Value}
 use Rattle.net_expr.specs.declared.value.Value.TheVariants.{Truth}
-use Rattle.net_fault.specs.Outcomes.{Outcome, Answers, Leaves, and_then, each}
+use Rattle.net_fault.specs.Outcomes.{Outcome, Refines, Updates, and_then, each}
 use Rattle.net_expr.specs.Worlds.{World, Scope}
 use Rattle.net_tree.specs.Operations.{operation, is_range, reduction, is_minus}
 use Rattle.net_expr.specs.Operators.{apply, decided, truth}
@@ -30,7 +30,7 @@ use Rattle.net_tree.proofs.Items.{behind}
 use Rattle.net_expr.specs.Items.{is_in, both, sides, size, any_in, has_in, has_part, begins_range, new_dummy, tuples_of, is_set, walking as walking_over, listing, opened, open_with}
 use Rattle.net_expr.specs.Widths.{makes_set, begin_set}
 use Rattle.net_expr.specs.Rows.{start, onward, listed, reduce, fitted_alone, keep, kept, keys, gathered_over}
-use Rattle.net_expr.specs.Values.{value, values, chained, index, walk, holds, set_behind, place, left_place, either, subscripted, tupled, with_sign, otherwise}
+use Rattle.net_expr.specs.Values.{value, values, chained, index, walk, holds, set_after, place, left_place, either, subscripted, tupled, with_sign, otherwise}
 use Rattle.net_expr.specs.Walks.{joined, walked, opened_keys, by_sides, item_tuples, keys_by_sides, index_items, placed, component_places}
 
 pub size-links : (ls : List Link) → size (links_of ls) ≡ length ls
@@ -55,11 +55,11 @@ pub any_left : (ls : List Link) (i : ℕ) (l : Link) (b : Bool) → i < length l
 any_left ls i l b h e f = ap any_in (next_link ls i l h e) ∙ ap (λ c. c || any_in (links_of (drop (i + 1) ls))) (sym f)
 
 -- what is answered of one outcome is answered of an equal one
-pub answers_by : {A : Type 0} (o wanted : Outcome A) (r : Result A Fault) → wanted ≡ o → Answers o r → Answers wanted r
-answers_by o wanted r e h = subst (λ k. Answers k r) (sym e) h
+pub answers_by : {A : Type 0} (o wanted : Outcome A) (r : Result A Fault) → wanted ≡ o → Refines o r → Refines wanted r
+answers_by o wanted r e h = subst (λ k. Refines k r) (sym e) h
 
 -- a fault of the first step is a fault of all
-pub stops : {A B : Type 0} (o : Outcome A) (f : A → Outcome B) (wanted : Outcome B) (e : Fault) → wanted ≡ and_then o f → Answers o (Err e) → Answers wanted (Err e)
+pub stops : {A B : Type 0} (o : Outcome A) (f : A → Outcome B) (wanted : Outcome B) (e : Fault) → wanted ≡ and_then o f → Refines o (Err e) → Refines wanted (Err e)
 stops o f wanted faults.OutOfMemory e h = tt
 stops o f wanted (faults.At r) e h = e ∙ ap (λ k. and_then k f) h
 
@@ -115,17 +115,17 @@ index-filled w s o (chain n x (link r y none)) is p c = go (is_in (operation r))
     i = chain n x (link r y none)
 
     go : (b : Bool)
-        → and_then (if is_some (both x (behind b y)) then and_then (set_behind w s (chain n x (link r y none))) (λ ts. Ok (walking_over ts)) else and_then (value w s (chain n x (link r y none))) (opened (span_between o c) (any_in is)))
+        → and_then (if is_some (both x (behind b y)) then and_then (set_after w s (chain n x (link r y none))) (λ ts. Ok (walking_over ts)) else and_then (value w s (chain n x (link r y none))) (opened (span_between o c) (any_in is)))
         (open_with (walked (span_between o c) w s (chain n x (link r y none)) is p) (λ v. and_then (values w s is (v ∷ [])) (listed (span_between o c) s (has_part p))))
         ≡ keys_by_sides (span_between o c) w s (chain n x (link r y none)) is p (both x (behind b y))
-    go true = open_sides (set_behind w s (chain n x (link r y none))) _ _
+    go true = open_sides (set_after w s (chain n x (link r y none))) _ _
     go false = open_plain (span_between o c) w s (chain n x (link r y none)) is p
 index-filled w s o i is p c = open_plain (span_between o c) w s i is p
 
-item_tuples-is : (at : Span) (w : World) (s : Scope) (i : Tree) → (if has_in i then set_behind w s i else and_then (value w s i) (tuples_of at)) ≡ item_tuples at w s i
+item_tuples-is : (at : Span) (w : World) (s : Scope) (i : Tree) → (if has_in i then set_after w s i else and_then (value w s i) (tuples_of at)) ≡ item_tuples at w s i
 item_tuples-is at w s (chain n x (link r y none)) = go (is_in (operation r))
   where
-    go : (b : Bool) → (if is_some (both x (behind b y)) then set_behind w s (chain n x (link r y none)) else and_then (value w s (chain n x (link r y none))) (tuples_of at))
+    go : (b : Bool) → (if is_some (both x (behind b y)) then set_after w s (chain n x (link r y none)) else and_then (value w s (chain n x (link r y none))) (tuples_of at))
         ≡ by_sides at w s (chain n x (link r y none)) (both x (behind b y))
     go true = refl
     go false = refl
@@ -255,7 +255,7 @@ pub from_start : (at : Span) (w : World) (i : Tree) (is : Links) (s : Scope) (p 
 from_start at w i is s p ts found e h =
     ap (λ q. each (onward (place w i) (walk at w is) q) ts []) e ∙ ap (each (onward (place w i) (walk at w is) p) ts) (sym h)
 
-pub leaves_answers : {A : Type 0} (o wanted : Outcome A) (e : Fault) (new : A) → wanted ≡ o → Leaves o (Err e) new → Answers wanted (Err e)
+pub leaves_answers : {A : Type 0} (o wanted : Outcome A) (e : Fault) (new : A) → wanted ≡ o → Updates o (Err e) new → Refines wanted (Err e)
 leaves_answers o wanted faults.OutOfMemory new e h = tt
 leaves_answers o wanted (faults.At r) new e h = e ∙ h
 

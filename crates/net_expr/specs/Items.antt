@@ -4,12 +4,12 @@ use Rattle.net_fault.specs.declared.span.Span.{Span}
 use Rattle.net_sets.specs.Limits.{arity_limit}
 use Rattle.net_sets.specs.Sets.{Tuple}
 use Rattle.net_tree.specs.Tree.{Tree, Links, Part, leaf, tuple, none, link, absent, part}
-use Rattle.net_fault.specs.declared.defect.Defect.TheVariants.{KindMismatch, Arity}
+use Rattle.net_fault.specs.declared.error_code.ErrorCode.TheVariants.{KindMismatch, Arity}
 use Rattle.net_expr.specs.declared.value.Value.{Value}
 use Rattle.net_expr.specs.declared.value.Value.TheVariants.{Many}
-use Rattle.net_fault.specs.Outcomes.{Outcome, and_then, refused}
-pub use Rattle.net_tree.specs.Items.{is_in, behind_in, both, sides}
-use Rattle.net_tree.specs.Items.{lone_name}
+use Rattle.net_fault.specs.Outcomes.{Outcome, and_then, rejected}
+pub use Rattle.net_tree.specs.Items.{is_in, after_in, both, sides}
+use Rattle.net_tree.specs.Items.{single_name}
 use Rattle.net_tree.specs.Operations.{operation, is_range}
 use Rattle.net_lex.specs.declared.token.Token.{Token}
 use Rattle.net_expr.specs.Sets.{fits}
@@ -37,7 +37,7 @@ text_of (Some t) = Some t.text
 
 -- the text of a simple name
 abbrev pub bare : Tree → Option Name
-bare x = text_of (lone_name x)
+bare x = text_of (single_name x)
 
 abbrev pub unless_known : World → Scope → Option Name → Option Name
 unless_known w s None = None
@@ -64,8 +64,8 @@ fits_needed d (Some n) = fits d n && nat_le n arity_limit
 
 -- the tuples of the set after `in`
 abbrev pub chosen : Span → Option ℕ → Value → Outcome (List Tuple)
-chosen at n (Many d ts) = if fits_needed d n then Ok ts else refused Arity at
-chosen at n _ = refused KindMismatch at
+chosen at n (Many d ts) = if fits_needed d n then Ok ts else rejected Arity at
+chosen at n _ = rejected KindMismatch at
 
 -- the value as a set, with the dimension of its tuples
 abbrev pub set_in : Value → Option (Option ℕ × List Tuple)
@@ -75,7 +75,7 @@ set_in _ = None
 -- the tuples of an item that is a set
 abbrev pub tuples_of : Span → Value → Outcome (List Tuple)
 tuples_of at (Many d ts) = Ok ts
-tuples_of at _ = refused KindMismatch at
+tuples_of at _ = rejected KindMismatch at
 
 abbrev pub is_set : Value → Bool
 is_set (Many d ts) = true

@@ -12,12 +12,12 @@ use Rattle.net_sets.specs.declared.member.Member.TheVariants.{Number}
 use Rattle.net_sets.specs.Limits.{tuples_limit}
 use Rattle.net_sets.specs.Ranges.{range_size, singles}
 use Rattle.net_sets.specs.Ranges.{range as range_numbers}
-use Rattle.net_fault.specs.declared.defect.Defect.TheVariants.{KindMismatch, DivMod, ValueTooLarge, TooMany}
+use Rattle.net_fault.specs.declared.error_code.ErrorCode.TheVariants.{KindMismatch, DivMod, ValueTooLarge, TooMany}
 use Rattle.net_tree.specs.declared.operator.Reduction.{Reduction}
 use Rattle.net_tree.specs.declared.operator.Reduction.TheVariants.{Sum, Min, Max}
 use Rattle.net_expr.specs.declared.value.Value.{Value}
 use Rattle.net_expr.specs.declared.value.Value.TheVariants.{One, Many}
-use Rattle.net_fault.specs.Outcomes.{Outcome, and_then, refused}
+use Rattle.net_fault.specs.Outcomes.{Outcome, and_then, rejected}
 use Rattle.net_expr.specs.Limits.{is_small}
 
 -- the significant digits of a numeral, and the number of zeros after them
@@ -41,11 +41,11 @@ number_in text = if_whole text (numeral_at (after_sign text))
 
 -- the result of arithmetic, which must be within the limit
 abbrev pub sized : Span → ℤ → Outcome Value
-sized at n = if is_small n then Ok (One (Number n)) else refused ValueTooLarge at
+sized at n = if is_small n then Ok (One (Number n)) else rejected ValueTooLarge at
 
 abbrev pub number : Span → Value → Outcome ℤ
 number at (One (Number n)) = Ok n
-number at _ = refused KindMismatch at
+number at _ = rejected KindMismatch at
 
 abbrev pub plus : Span → ℤ → ℤ → Outcome Value
 plus at a b = sized at (a +ℤ b)
@@ -61,10 +61,10 @@ abbrev pub divides : ℤ → ℤ → Bool
 divides a b = int_le (pos 0) a && int_le (pos 1) b
 
 abbrev pub quotient : Span → ℤ → ℤ → Outcome Value
-quotient at a b = if divides a b then Ok (One (Number (int_div a b))) else refused DivMod at
+quotient at a b = if divides a b then Ok (One (Number (int_div a b))) else rejected DivMod at
 
 abbrev pub remainder : Span → ℤ → ℤ → Outcome Value
-remainder at a b = if divides a b then Ok (One (Number (int_rem a b))) else refused DivMod at
+remainder at a b = if divides a b then Ok (One (Number (int_rem a b))) else rejected DivMod at
 
 -- the number with this sign
 abbrev pub turned : Bool → ℤ → ℤ
@@ -80,17 +80,17 @@ gathered Max (Some a) n = int_max a n
 
 -- the numbers of a range, if they are not too many
 abbrev pub range_within : Span → ℤ → ℤ → ℤ → Outcome Value
-range_within at a b c = if nat_le (range_size a b c) tuples_limit then Ok (Many (Some 1) (singles (range_numbers a b c))) else refused TooMany at
+range_within at a b c = if nat_le (range_size a b c) tuples_limit then Ok (Many (Some 1) (singles (range_numbers a b c))) else rejected TooMany at
 
 abbrev pub are_small : ℤ → ℤ → ℤ → Bool
 are_small a b c = is_small a && is_small b && is_small c
 
 -- the step is at least 1
 abbrev pub step : Span → ℤ → Outcome (Unit {0})
-step at c = if int_lt c (pos 1) then refused DivMod at else Ok tt
+step at c = if int_lt c (pos 1) then rejected DivMod at else Ok tt
 
 abbrev pub size : Span → ℤ → ℤ → ℤ → Outcome (Unit {0})
-size at a b c = if are_small a b c then Ok tt else refused ValueTooLarge at
+size at a b c = if are_small a b c then Ok tt else rejected ValueTooLarge at
 
 -- a .. b by c
 abbrev pub range : Span → ℤ → ℤ → ℤ → Outcome Value
@@ -100,4 +100,4 @@ range at a b c = and_then (step at c) (λ u. and_then (size at a b c) (λ v. ran
 abbrev pub range_of : Span → List Value → Outcome Value
 range_of at (x ∷ y ∷ []) = and_then (number at x) (λ a. and_then (number at y) (λ b. range at a b (pos 1)))
 range_of at (x ∷ y ∷ z ∷ []) = and_then (number at x) (λ a. and_then (number at y) (λ b. and_then (number at z) (range at a b)))
-range_of at _ = refused KindMismatch at
+range_of at _ = rejected KindMismatch at

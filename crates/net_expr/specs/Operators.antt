@@ -5,12 +5,12 @@ use Rattle.net_sets.specs.declared.member.Member.{Member}
 use Rattle.net_sets.specs.Limits.{arity_limit}
 use Rattle.net_sets.specs.Sets.{Tuple, same_member}
 use Rattle.net_sets.specs.Operations.{union, difference, intersection, symmetric_difference}
-use Rattle.net_fault.specs.declared.defect.Defect.TheVariants.{KindMismatch, Arity}
+use Rattle.net_fault.specs.declared.error_code.ErrorCode.TheVariants.{KindMismatch, Arity}
 use Rattle.net_tree.specs.declared.operator.BinOp.{BinOp}
 use Rattle.net_tree.specs.declared.operator.BinOp.TheVariants as op
 use Rattle.net_expr.specs.declared.value.Value.{Value}
 use Rattle.net_expr.specs.declared.value.Value.TheVariants.{One, Several, Many, Truth}
-use Rattle.net_fault.specs.Outcomes.{Outcome, and_then, refused}
+use Rattle.net_fault.specs.Outcomes.{Outcome, and_then, rejected}
 use Rattle.net_expr.specs.Numbers.{number, plus, less, times, quotient, remainder}
 use Rattle.net_expr.specs.Sets.{shared, set_of, cross, among, inside}
 
@@ -37,7 +37,7 @@ of_two op.Less at a b = Ok (Truth (int_lt a b))
 of_two op.AtMost at a b = Ok (Truth (int_le a b))
 of_two op.Greater at a b = Ok (Truth (int_lt b a))
 of_two op.AtLeast at a b = Ok (Truth (int_le b a))
-of_two _ at a b = refused KindMismatch at
+of_two _ at a b = rejected KindMismatch at
 
 -- a comparison of two numbers
 abbrev pub compared : Span → (ℤ → ℤ → Bool) → Value → Value → Outcome Value
@@ -46,30 +46,30 @@ compared at holds x y = of_numbers at (λ a b. Ok (Truth (holds a b))) x y
 -- both sides must be members
 abbrev pub same : Span → Value → Value → Outcome Bool
 same at (One a) (One b) = Ok (same_member a b)
-same at _ _ = refused KindMismatch at
+same at _ _ = rejected KindMismatch at
 
 -- both sides must be sets
 abbrev pub of_sets : Span → (List Tuple → List Tuple → List Tuple) → Value → Value → Outcome Value
 of_sets at f (Many d xs) (Many e ys) = set_of at (shared d e) (f xs ys)
-of_sets at f _ _ = refused KindMismatch at
+of_sets at f _ _ = rejected KindMismatch at
 
 abbrev pub crossed : Span → Value → Value → Outcome Value
 crossed at (Many d xs) (Many e ys) = cross at d xs e ys
-crossed at _ _ = refused KindMismatch at
+crossed at _ _ = rejected KindMismatch at
 
 -- a member or tuple on the left, a set on the right
 abbrev pub belongs : Span → Value → Value → Outcome Bool
 belongs at (One m) (Many d ts) = among at (m ∷ []) d ts
 belongs at (Several t) (Many d ts) = among at t d ts
-belongs at _ _ = refused KindMismatch at
+belongs at _ _ = rejected KindMismatch at
 
 abbrev pub contained : Span → Value → Value → Outcome Bool
 contained at (Many d xs) (Many e ys) = inside at (shared d e) xs ys
-contained at _ _ = refused KindMismatch at
+contained at _ _ = rejected KindMismatch at
 
 abbrev pub truth : Span → Value → Outcome Bool
 truth at (Truth b) = Ok b
-truth at _ = refused KindMismatch at
+truth at _ = rejected KindMismatch at
 
 abbrev pub as_truth : Outcome Bool → Outcome Value
 as_truth o = and_then o (λ b. Ok (Truth b))
@@ -100,8 +100,8 @@ apply op.Within at x y = as_truth (contained at x y)
 apply op.NotWithin at x y = as_denial (contained at x y)
 apply op.And at x y = as_truth (and_then (truth at x) (λ b. truth at y))
 apply op.Or at x y = as_truth (and_then (truth at x) (λ b. truth at y))
-apply op.Range at x y = refused KindMismatch at
-apply op.Other at x y = refused KindMismatch at
+apply op.Range at x y = rejected KindMismatch at
+apply op.Other at x y = rejected KindMismatch at
 
 -- the left side alone determines `and` if it is false, and `or` if it is true
 abbrev pub decided : BinOp → Span → Value → Outcome (Option Value)
@@ -115,18 +115,18 @@ longer t None = None
 longer t (Some key) = if nat_le (length key + length t) arity_limit then Some (key ++ t) else None
 
 abbrev pub short_enough : Span → Option Tuple → Outcome Tuple
-short_enough at None = refused Arity at
+short_enough at None = rejected Arity at
 short_enough at (Some t) = Ok t
 
 abbrev pub member : Span → Value → Outcome Member
 member at (One m) = Ok m
-member at _ = refused KindMismatch at
+member at _ = rejected KindMismatch at
 
 -- the members of some values, appended to a tuple
-abbrev pub members_behind : Span → List Value → Option Tuple → Outcome Tuple
-members_behind at [] key = short_enough at key
-members_behind at (v ∷ vs) key = and_then (member at v) (λ m. members_behind at vs (longer (m ∷ []) key))
+abbrev pub members_after : Span → List Value → Option Tuple → Outcome Tuple
+members_after at [] key = short_enough at key
+members_after at (v ∷ vs) key = and_then (member at v) (λ m. members_after at vs (longer (m ∷ []) key))
 
 -- a tuple of at most four members
 abbrev pub tuple_of : Span → List Value → Outcome Tuple
-tuple_of at vs = members_behind at vs (Some [])
+tuple_of at vs = members_after at vs (Some [])

@@ -5,7 +5,7 @@ use Rattle.net_sets.specs.declared.member.Member.{Member}
 use Rattle.net_sets.specs.declared.member.Member.TheVariants.{Number, Name}
 use Rattle.net_sets.specs.Sets.{Tuple}
 use Rattle.net_fault.specs.declared.detail.Detail.{Detail}
-use Rattle.net_fault.specs.declared.detail.Detail.TheVariants.{Nothing, Told}
+use Rattle.net_fault.specs.declared.detail.Detail.TheVariants.{Nothing, Reported}
 
 -- each single quote doubled
 abbrev pub doubled : List ℕ → List ℕ
@@ -38,4 +38,4 @@ reference_text name true key = name ++ (91 ∷ (members_text key ++ 93 ∷ []))
 -- the detail that is printed with an error
 abbrev pub detail_text : Detail → List ℕ
 detail_text Nothing = []
-detail_text (Told text) = text
+detail_text (Reported text) = text

@@ -6,7 +6,7 @@ use Rattle.net_sets.specs.declared.member.Member.TheVariants.{Number}
 use Rattle.net_sets.specs.Limits.{tuples_limit}
 use Rattle.net_sets.specs.Sets.{Tuple, same_member, same_tuple}
 use Rattle.net_sets.specs.Operations.{union}
-use Rattle.net_fault.specs.declared.defect.Defect.TheVariants.{NoValue, KindMismatch, Arity, TooMany}
+use Rattle.net_fault.specs.declared.error_code.ErrorCode.TheVariants.{NoValue, KindMismatch, Arity, TooMany}
 use Rattle.net_tree.specs.declared.operator.Reduction.{Reduction}
 use Rattle.net_tree.specs.declared.operator.Reduction.TheVariants.{Sum, Min, Max}
 use Rattle.net_expr.specs.declared.value.Value.{Value}
@@ -14,7 +14,7 @@ use Rattle.net_expr.specs.declared.value.Value.TheVariants.{One, Several, Many}
 use Rattle.net_expr.specs.declared.row.Place.{Place}
 use Rattle.net_expr.specs.declared.row.Row.{Row}
 use Rattle.net_expr.specs.declared.row.Keys.{Keys}
-use Rattle.net_fault.specs.Outcomes.{Outcome, and_then, refused}
+use Rattle.net_fault.specs.Outcomes.{Outcome, and_then, rejected}
 use Rattle.net_expr.specs.Worlds.{Name, Scope, with_dummy}
 use Rattle.net_expr.specs.Operators.{longer}
 use Rattle.net_expr.specs.Numbers.{number, sized, gathered}
@@ -33,16 +33,16 @@ bind name m p = record { scope = with_dummy name m p.scope; key = longer (m ∷ 
 -- the state is unchanged if the value of a component equals the member
 abbrev pub matches_member : Span → Member → Place → Value → Outcome (Option Place)
 matches_member at m p (One v) = Ok (if same_member v m then Some p else None)
-matches_member at m p _ = refused KindMismatch at
+matches_member at m p _ = rejected KindMismatch at
 
 abbrev pub matches_tuple : Span → Tuple → Place → Tuple → Outcome (Option Place)
-matches_tuple at t p v = if nat_eq (length v) (length t) then Ok (if same_tuple v t then Some p else None) else refused Arity at
+matches_tuple at t p v = if nat_eq (length v) (length t) then Ok (if same_tuple v t then Some p else None) else rejected Arity at
 
 -- the same for an expression that is not a tuple by its form
 abbrev pub matches_as_tuple : Span → Tuple → Place → Value → Outcome (Option Place)
 matches_as_tuple at t p (One v) = matches_tuple at t p (v ∷ [])
 matches_as_tuple at t p (Several v) = matches_tuple at t p v
-matches_as_tuple at t p _ = refused KindMismatch at
+matches_as_tuple at t p _ = rejected KindMismatch at
 
 -- a new dummy is bound to the member; any other component must evaluate to it
 abbrev pub fitted : Span → Option Name → Outcome Value → Member → Place → Outcome (Option Place)
@@ -79,12 +79,12 @@ same_arity key (r ∷ rows) = nat_eq (length r.key) (length key)
 abbrev pub add_row : Span → Scope → Tuple → List Row → Outcome (List Row)
 add_row at s key found =
     if same_arity key found
-    then if nat_lt (length found) tuples_limit then Ok (found ++ (record { key = key; scope = s }) ∷ []) else refused TooMany at
-    else refused Arity at
+    then if nat_lt (length found) tuples_limit then Ok (found ++ (record { key = key; scope = s }) ∷ []) else rejected TooMany at
+    else rejected Arity at
 
 -- a complete key: at most four members, as many as the keys before, and at most a million keys
 abbrev pub finished_key : Span → Scope → Option Tuple → List Row → Outcome (List Row)
-finished_key at s None found = refused Arity at
+finished_key at s None found = rejected Arity at
 finished_key at s (Some key) found = add_row at s key found
 
 abbrev pub finished : Span → Place → List Row → Outcome (List Row)
@@ -120,7 +120,7 @@ keys_of rows = map (λ r. r.key) rows
 
 -- the keys as a set
 abbrev pub as_set : Span → Keys → Outcome Value
-as_set at k = if nat_le (length (union [] (keys_of k.rows))) tuples_limit then Ok (Many k.width (union [] (keys_of k.rows))) else refused TooMany at
+as_set at k = if nat_le (length (union [] (keys_of k.rows))) tuples_limit then Ok (Many k.width (union [] (keys_of k.rows))) else rejected TooMany at
 
 abbrev pub rows_of : Scope → List Tuple → List Row
 rows_of s ts = map (λ t. record { key = t; scope = s }) ts
@@ -129,7 +129,7 @@ rows_of s ts = map (λ t. record { key = t; scope = s }) ts
 abbrev pub tuple_in : Span → Value → Outcome (Tuple)
 tuple_in at (One m) = Ok (m ∷ [])
 tuple_in at (Several t) = Ok t
-tuple_in at _ = refused KindMismatch at
+tuple_in at _ = rejected KindMismatch at
 
 abbrev pub tuples_in : Span → List Value → List Tuple → Outcome (List Tuple)
 tuples_in at [] found = Ok found
@@ -141,15 +141,15 @@ all_of n [] = true
 all_of n (t ∷ ts) = if nat_eq (length t) n then all_of n ts else false
 
 abbrev pub keys_within : Span → Scope → ℕ → List Tuple → Outcome Keys
-keys_within at s n ts = if nat_le (length ts) tuples_limit then Ok (keys n (rows_of s ts)) else refused TooMany at
+keys_within at s n ts = if nat_le (length ts) tuples_limit then Ok (keys n (rows_of s ts)) else rejected TooMany at
 
 abbrev pub listed_as : Span → Scope → List Tuple → List Tuple → Outcome Keys
 listed_as at s [] each_once = Ok no_keys
-listed_as at s (t ∷ ts) each_once = if all_of (length t) ts then keys_within at s (length t) each_once else refused Arity at
+listed_as at s (t ∷ ts) each_once = if all_of (length t) ts then keys_within at s (length t) each_once else rejected Arity at
 
 -- braces without a condition list tuples of equal length, each once
 abbrev pub listed : Span → Scope → Bool → List Value → Outcome Keys
-listed at s conditioned vs = and_then (if conditioned then refused KindMismatch at else tuples_in at vs []) (λ ts. listed_as at s ts (union [] ts))
+listed at s conditioned vs = and_then (if conditioned then rejected KindMismatch at else tuples_in at vs []) (λ ts. listed_as at s ts (union [] ts))
 
 -- the reduction of the values of `body` over the rows
 abbrev pub gathered_over : Span → Reduction → (Scope → Outcome Value) → List Row → Option ℤ → Outcome (Option ℤ)
@@ -160,8 +160,8 @@ gathered_over at r body (row ∷ rows) so_far =
 -- the value of an empty reduction
 abbrev pub nothing_reduced : Span → Reduction → Outcome Value
 nothing_reduced at Sum = Ok (One (Number (pos 0)))
-nothing_reduced at Min = refused NoValue at
-nothing_reduced at Max = refused NoValue at
+nothing_reduced at Min = rejected NoValue at
+nothing_reduced at Max = rejected NoValue at
 
 abbrev pub reduced_to : Span → Reduction → Option ℤ → Outcome Value
 reduced_to at r None = nothing_reduced at r

@@ -4,12 +4,12 @@ use Rattle.net_fault.specs.declared.span.Span.{Span}
 use Rattle.net_sets.specs.Limits.{arity_limit, tuples_limit}
 use Rattle.net_sets.specs.Sets.{Tuple, has}
 use Rattle.net_sets.specs.Operations.{union, difference, intersection, symmetric_difference, product, widest, is_within}
-use Rattle.net_fault.specs.declared.defect.Defect.TheVariants.{Arity, TooMany}
+use Rattle.net_fault.specs.declared.error_code.ErrorCode.TheVariants.{Arity, TooMany}
 use Rattle.net_tree.specs.declared.operator.BinOp.{BinOp}
 use Rattle.net_tree.specs.declared.operator.BinOp.TheVariants as op
 use Rattle.net_expr.specs.declared.value.Value.{Value}
 use Rattle.net_expr.specs.declared.value.Value.TheVariants.{Many}
-use Rattle.net_fault.specs.Outcomes.{Outcome, refused}
+use Rattle.net_fault.specs.Outcomes.{Outcome, rejected}
 
 -- `{}` counts as one component
 abbrev pub counted : Option ℕ → ℕ
@@ -28,11 +28,11 @@ shared (Some m) e = if fits e m then Some m else None
 
 -- a set of this dimension, if it is not too large
 abbrev pub within_size : Span → ℕ → List Tuple → Outcome Value
-within_size at d ts = if nat_le (length ts) tuples_limit then Ok (Many (Some d) ts) else refused TooMany at
+within_size at d ts = if nat_le (length ts) tuples_limit then Ok (Many (Some d) ts) else rejected TooMany at
 
 -- the result of two sets of the same dimension
 abbrev pub set_of : Span → Option ℕ → List Tuple → Outcome Value
-set_of at None ts = refused Arity at
+set_of at None ts = rejected Arity at
 set_of at (Some d) ts = within_size at d ts
 
 -- the result of `union`, `diff`, `inter` or `symdiff` on two sets
@@ -46,14 +46,14 @@ mixed _ = symmetric_difference
 abbrev pub cross : Span → Option ℕ → List Tuple → Option ℕ → List Tuple → Outcome Value
 cross at d xs e ys =
     if nat_le (counted d + counted e) arity_limit && nat_le (widest xs + widest ys) arity_limit
-    then (if nat_le (length (product xs ys)) tuples_limit then Ok (Many (Some (counted d + counted e)) (union [] (product xs ys))) else refused TooMany at)
-    else refused Arity at
+    then (if nat_le (length (product xs ys)) tuples_limit then Ok (Many (Some (counted d + counted e)) (union [] (product xs ys))) else rejected TooMany at)
+    else rejected Arity at
 
 -- whether a set contains a tuple
 abbrev pub among : Span → Tuple → Option ℕ → List Tuple → Outcome Bool
-among at t d ts = if fits d (length t) then Ok (has ts t) else refused Arity at
+among at t d ts = if fits d (length t) then Ok (has ts t) else rejected Arity at
 
 -- whether a set is a subset of another
 abbrev pub inside : Span → Option ℕ → List Tuple → List Tuple → Outcome Bool
-inside at None xs ys = refused Arity at
+inside at None xs ys = rejected Arity at
 inside at (Some d) xs ys = Ok (is_within xs ys)

@@ -1,8 +1,8 @@
 -- A key, as far as its subscripts have been evaluated.
 use Rattle.std.specs.Prelude.{◌+◌, Bool, true, false, not, ◌||◌, [], ◌∷◌, ◌++◌, length, nat_le, Option, None, Some, if◌then◌else◌, Ok}
 use Rattle.net_fault.specs.declared.span.Span.{Span}
-use Rattle.net_fault.specs.declared.defect.Defect.TheVariants.{KindMismatch}
-use Rattle.net_fault.specs.Outcomes.{Outcome, refused}
+use Rattle.net_fault.specs.declared.error_code.ErrorCode.TheVariants.{KindMismatch}
+use Rattle.net_fault.specs.Outcomes.{Outcome, rejected}
 use Rattle.net_sets.specs.Limits.{arity_limit}
 use Rattle.net_sets.specs.Sets.{Tuple}
 use Rattle.net_expr.specs.declared.subscripts.Subscripts.{Subscripts}
@@ -24,4 +24,4 @@ with_value _ f = record { key = f.key; too_many = f.too_many; unfit = true }
 -- the tuple of the members, or none if they are too many; a value that is not a member is an error
 -- of the whole
 abbrev pub so_far : Span → Subscripts → Outcome (Option Tuple)
-so_far at f = if f.unfit then refused KindMismatch at else Ok (if f.too_many then None else Some f.key)
+so_far at f = if f.unfit then rejected KindMismatch at else Ok (if f.too_many then None else Some f.key)

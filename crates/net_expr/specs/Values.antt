@@ -10,13 +10,13 @@ use Rattle.net_tree.specs.declared.role.Role.TheVariants as roles
 use Rattle.net_tree.specs.Role.{role_of}
 use Rattle.net_tree.specs.Spans.{span_of, span_between, braces_span}
 use Rattle.net_tree.specs.Tree.{Tree, Links, Part, Braces, leaf, indexed, parens, tuple, negated, braced, signed, reduced, chain, choice, net, none, link, absent, part, empty, filled}
-use Rattle.net_fault.specs.declared.defect.Defect.TheVariants.{KindMismatch, ValueTooLarge}
+use Rattle.net_fault.specs.declared.error_code.ErrorCode.TheVariants.{KindMismatch, ValueTooLarge}
 use Rattle.net_expr.specs.declared.value.Value.{Value}
 use Rattle.net_expr.specs.declared.value.Value.TheVariants.{One, Several, Truth}
 use Rattle.net_expr.specs.declared.row.Place.{Place}
 use Rattle.net_expr.specs.declared.row.Row.{Row}
 use Rattle.net_expr.specs.declared.row.Keys.{Keys}
-use Rattle.net_fault.specs.Outcomes.{Outcome, and_then, refused, each}
+use Rattle.net_fault.specs.Outcomes.{Outcome, and_then, rejected, each}
 use Rattle.net_expr.specs.Worlds.{Name, World, Scope, bound, name_at}
 use Rattle.net_tree.specs.Operations.{operation, reduction, is_minus}
 use Rattle.net_expr.specs.Numbers.{number_in, number, sized, turned, range_of}
@@ -26,14 +26,14 @@ use Rattle.net_expr.specs.Rows.{start, with_key, fitted, fitted_alone, if_fits, 
 use Rattle.net_expr.specs.Widths.{width_by_form}
 
 abbrev pub number_value : Span → Option ℤ → Outcome Value
-number_value at None = refused ValueTooLarge at
+number_value at None = rejected ValueTooLarge at
 number_value at (Some n) = Ok (One (member.Number n))
 
 abbrev pub token_value : World → Scope → Token → Role → Outcome Value
 token_value w s t roles.Number = number_value t.span (number_in t.text)
 token_value w s t roles.Text = Ok (One (member.Name (text_of t.text)))
 token_value w s t roles.Name = name_at t.span w t.text (bound s t.text) []
-token_value w s t _ = refused KindMismatch t.span
+token_value w s t _ = rejected KindMismatch t.span
 
 -- the value of a name at its subscripts
 abbrev pub subscripted : Span → World → Scope → Name → List Value → Outcome Value
@@ -84,9 +84,9 @@ abbrev mutual
 
   -- the keys of an indexing expression, each with the dummies in scope
   pub index : World → Scope → Braces → Outcome Keys
-  index w s (empty o p c) = if has_part p then refused KindMismatch (span_between o c) else Ok no_keys
+  index w s (empty o p c) = if has_part p then rejected KindMismatch (span_between o c) else Ok no_keys
   index w s (filled o i is p c) =
-      and_then (if has_in i then and_then (set_behind w s i) (λ ts. Ok (walking ts)) else and_then (value w s i) (opened (span_between o c) (any_in is)))
+      and_then (if has_in i then and_then (set_after w s i) (λ ts. Ok (walking ts)) else and_then (value w s i) (opened (span_between o c) (any_in is)))
       (open_with
       (λ ts. and_then (each (onward (place w i) (walk (span_between o c) w is) (start s)) ts [])
       (selected (width_by_form (span_between o c) w s i is) (λ q. holds (span_between o c) w q p)))
@@ -96,13 +96,13 @@ abbrev mutual
   pub walk : Span → World → Links → Place → List Row → Outcome (List Row)
   walk at w none p found = finished at p found
   walk at w (link o i is) p found =
-      and_then (if has_in i then set_behind w p.scope i else and_then (value w p.scope i) (tuples_of at))
+      and_then (if has_in i then set_after w p.scope i else and_then (value w p.scope i) (tuples_of at))
       (λ ts. each (onward (place w i) (walk at w is) p) ts found)
 
   -- the tuples of the set after `in`
-  pub set_behind : World → Scope → Tree → Outcome (List Tuple)
-  set_behind w s (chain n x (link o y none)) = and_then (value w s y) (chosen (span_of (chain n x (link o y none))) (needed x))
-  set_behind w s _ = Ok []
+  pub set_after : World → Scope → Tree → Outcome (List Tuple)
+  set_after w s (chain n x (link o y none)) = and_then (value w s y) (chosen (span_of (chain n x (link o y none))) (needed x))
+  set_after w s _ = Ok []
 
   -- the state after an item for one tuple of its set, if the tuple matches
   pub place : World → Tree → Tuple → Place → Outcome (Option Place)

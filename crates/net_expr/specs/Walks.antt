@@ -4,12 +4,12 @@ use Rattle.net_fault.specs.declared.span.Span.{Span}
 use Rattle.net_sets.specs.Sets.{Tuple}
 use Rattle.net_tree.specs.Spans.{span_of}
 use Rattle.net_tree.specs.Tree.{Tree, Links, Part}
-use Rattle.net_fault.specs.declared.defect.Defect.TheVariants.{KindMismatch}
+use Rattle.net_fault.specs.declared.error_code.ErrorCode.TheVariants.{KindMismatch}
 use Rattle.net_tree.specs.declared.operator.BinOp.{BinOp}
 use Rattle.net_expr.specs.declared.value.Value.{Value}
 use Rattle.net_expr.specs.declared.row.Place.{Place}
 use Rattle.net_expr.specs.declared.row.Keys.{Keys}
-use Rattle.net_fault.specs.Outcomes.{Outcome, and_then, refused, each}
+use Rattle.net_fault.specs.Outcomes.{Outcome, and_then, rejected, each}
 use Rattle.net_expr.specs.Worlds.{World, Scope}
 use Rattle.net_expr.specs.Operators.{apply, decided}
 use Rattle.net_expr.specs.Items.{sides, any_in, has_part, new_dummy, needed, chosen, tuples_of, is_set}
@@ -22,7 +22,7 @@ abbrev pub joined : Span → BinOp → Outcome Value → Value → Outcome Value
 joined at o x v = and_then (decided o at v) (either (λ u. Ok u) (and_then x (apply o at v)))
 
 abbrev pub no_items : Span → Bool → Outcome Keys
-no_items at conditioned = if conditioned then refused KindMismatch at else Ok no_keys
+no_items at conditioned = if conditioned then rejected KindMismatch at else Ok no_keys
 
 -- the keys that items produce, from the tuples of the first one
 abbrev pub walked : Span → World → Scope → Tree → Links → Part → List Tuple → Outcome Keys

@@ -5,13 +5,13 @@ use Rattle.net_sets.specs.declared.member.Member.{Member}
 use Rattle.net_sets.specs.declared.member.Member.TheVariants.{Number}
 use Rattle.net_sets.specs.Limits.{arity_limit}
 use Rattle.net_tree.specs.Tree.{Tree, Links, Braces, leaf, indexed, parens, tuple, negated, braced, signed, reduced, chain, choice, net, none, link, empty, filled}
-use Rattle.net_fault.specs.declared.defect.Defect.TheVariants.{KindMismatch, Arity}
+use Rattle.net_fault.specs.declared.error_code.ErrorCode.TheVariants.{KindMismatch, Arity}
 use Rattle.net_tree.specs.declared.operator.BinOp.{BinOp}
 use Rattle.net_tree.specs.declared.operator.BinOp.TheVariants as op
 use Rattle.net_expr.specs.declared.width.Shape.{Shape}
 use Rattle.net_expr.specs.declared.world.Entry.{Entry}
 use Rattle.net_expr.specs.declared.world.Entry.TheVariants.{Set}
-use Rattle.net_fault.specs.Outcomes.{Outcome, refused}
+use Rattle.net_fault.specs.Outcomes.{Outcome, rejected}
 use Rattle.net_expr.specs.Worlds.{Name, World, Scope, bound, entry_of, with_dummy}
 use Rattle.net_tree.specs.Operations.{operation}
 use Rattle.net_expr.specs.Sets.{counted}
@@ -149,7 +149,7 @@ with_item w f i = with_sides w f (sides i) (width w f.scope i) (is_set_form w f.
 -- the number of members of keys by the form of the items, which must all be sets
 abbrev pub width_of_form : Span → Shape → Outcome ℕ
 width_of_form at f =
-    if f.indexes then (if nat_le f.count arity_limit then Ok f.count else refused Arity at) else refused KindMismatch at
+    if f.indexes then (if nat_le f.count arity_limit then Ok f.count else rejected Arity at) else rejected KindMismatch at
 
 abbrev pub width_by_form : Span → World → Scope → Tree → Links → Outcome ℕ
 width_by_form at w s i is = width_of_form at (with_items w (with_item w (begin s) i) is)

@@ -6,15 +6,15 @@ use Rattle.net_fault.specs.declared.span.Span.{Span}
 use Rattle.net_sets.specs.declared.member.Member.{Member}
 use Rattle.net_sets.specs.Names.{named}
 use Rattle.net_sets.specs.Sets.{Tuple, has, at_key}
-use Rattle.net_fault.specs.declared.defect.Defect.TheVariants.{NoValue, OutsideSet, KindMismatch, Arity}
+use Rattle.net_fault.specs.declared.error_code.ErrorCode.TheVariants.{NoValue, OutsideSet, KindMismatch, Arity}
 use Rattle.net_fault.specs.declared.detail.Detail.{Detail}
-use Rattle.net_fault.specs.declared.detail.Detail.TheVariants.{Told}
+use Rattle.net_fault.specs.declared.detail.Detail.TheVariants.{Reported}
 use Rattle.net_expr.specs.declared.value.Value.{Value}
 use Rattle.net_expr.specs.declared.value.Value.TheVariants.{One, Many}
 use Rattle.net_expr.specs.declared.world.Entry.{Entry}
 use Rattle.net_expr.specs.declared.world.Entry.TheVariants.{Set, Parameter}
 use Rattle.net_expr.specs.declared.scope.Binding.{Binding}
-use Rattle.net_fault.specs.Outcomes.{Outcome, refused, refused_of}
+use Rattle.net_fault.specs.Outcomes.{Outcome, rejected, rejected_of}
 use Rattle.net_expr.specs.References.{reference_text}
 
 abbrev pub Name : Type 0
@@ -49,12 +49,12 @@ key_count (Some n) = n
 
 -- a parameter with its key, as errors report it
 abbrev pub reference : Name → Option ℕ → Tuple → Detail
-reference name keys key = Told (reference_text name (is_some keys) key)
+reference name keys key = Reported (reference_text name (is_some keys) key)
 
 -- the error for a key without a value: NoValue if the index set contains the key, else OutsideSet
 abbrev pub missing : Span → Detail → Bool → Outcome Value
-missing at d true = refused_of NoValue at d
-missing at d false = refused_of OutsideSet at d
+missing at d true = rejected_of NoValue at d
+missing at d false = rejected_of OutsideSet at d
 
 -- the value of a parameter at a key, if it has one; `listed` says whether its index set contains
 -- the key
@@ -64,14 +64,14 @@ value_at at d None listed = missing at d listed
 
 -- the value of a declared name at its subscripts
 abbrev pub entry_at : Span → Name → Option Entry → Tuple → Outcome Value
-entry_at at name None key = refused KindMismatch at
+entry_at at name None key = rejected KindMismatch at
 entry_at at name (Some (Set d ts)) [] = Ok (Many (Some d) ts)
-entry_at at name (Some (Set d ts)) (m ∷ ms) = refused Arity at
+entry_at at name (Some (Set d ts)) (m ∷ ms) = rejected Arity at
 entry_at at name (Some (Parameter n index values)) key =
-    if nat_eq (length key) (key_count n) then value_at at (reference name n key) (at_key values key) (has index key) else refused Arity at
+    if nat_eq (length key) (key_count n) then value_at at (reference name n key) (at_key values key) (has index key) else rejected Arity at
 
 -- the value of a name at its subscripts; a dummy has none
 abbrev pub name_at : Span → World → Name → Option Member → Tuple → Outcome Value
 name_at at w name None key = entry_at at name (entry_of w name) key
 name_at at w name (Some m) [] = Ok (One m)
-name_at at w name (Some m) (k ∷ ks) = refused Arity at
+name_at at w name (Some m) (k ∷ ks) = rejected Arity at

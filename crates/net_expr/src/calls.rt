@@ -5,7 +5,7 @@ ghost use Rattle.net_tree.specs.Spans as trees;
 ghost use Rattle.net_tree.specs.View.{tree, braces_of};
 ghost use Rattle.net_expr.specs.Items as items;
 ghost use Rattle.net_expr.specs.Operators as operators;
-ghost use Rattle.net_fault.specs.Outcomes.{Answers, and_then};
+ghost use Rattle.net_fault.specs.Outcomes.{Refines, and_then};
 ghost use Rattle.net_expr.specs.Values as values;
 
 use crate::eval::{evaluate, is_met};
@@ -27,7 +27,7 @@ pub fn member<'s>(
     scope: &Scope<'s>,
     expr: &Expr<'s>,
 ) -> Result<Member<'s>, Fault>
-    ensures { Answers (and_then (values.value env.now scope.now (tree expr.now)) (operators.member (trees.span_of (tree expr.now)))) result }
+    ensures { Refines (and_then (values.value env.now scope.now (tree expr.now)) (operators.member (trees.span_of (tree expr.now)))) result }
 {
     let found = evaluate(alloc, env, scope, expr)?;
     member_of(expr, &found)
@@ -40,7 +40,7 @@ pub fn members<'w, 's>(
     scope: &Scope<'s>,
     expr: &Expr<'s>,
 ) -> Result<Cow<'w, 's>, Fault>
-    ensures { Answers (and_then (values.value env.now scope.now (tree expr.now)) (items.tuples_of (trees.span_of (tree expr.now)))) result }
+    ensures { Refines (and_then (values.value env.now scope.now (tree expr.now)) (items.tuples_of (trees.span_of (tree expr.now)))) result }
 {
     tuples_of(span_of(expr), evaluate(alloc, env, scope, expr))
 }
@@ -52,7 +52,7 @@ pub fn holds<'s>(
     scope: &Scope<'s>,
     expr: &Expr<'s>,
 ) -> Result<bool, Fault>
-    ensures { Answers (and_then (values.value env.now scope.now (tree expr.now)) (operators.truth (trees.span_of (tree expr.now)))) result }
+    ensures { Refines (and_then (values.value env.now scope.now (tree expr.now)) (operators.truth (trees.span_of (tree expr.now)))) result }
 {
     is_met(alloc, env, scope, expr, expr)
 }
@@ -64,7 +64,7 @@ pub fn index_of<'s>(
     scope: &Scope<'s>,
     braces: &Braces<'s>,
 ) -> Result<Keys<'s>, Fault>
-    ensures { Answers (values.index env.now scope.now (braces_of braces.now)) result }
+    ensures { Refines (values.index env.now scope.now (braces_of braces.now)) result }
 {
     index(alloc, env, scope, braces)
 }

@@ -8,7 +8,7 @@ ghost use Rattle.net_expr.specs.Items as items;
 ghost use Rattle.net_expr.specs.Numbers as numbers;
 ghost use Rattle.net_tree.specs.Operations as operations;
 ghost use Rattle.net_expr.specs.Operators as operators;
-ghost use Rattle.net_fault.specs.Outcomes.{Answers, and_then};
+ghost use Rattle.net_fault.specs.Outcomes.{Refines, and_then};
 ghost use Rattle.net_expr.specs.Rows as rows;
 ghost use Rattle.net_expr.specs.Values as values;
 ghost use Rattle.net_expr.specs.Walks as walks;
@@ -43,7 +43,7 @@ pub fn evaluate<'w, 's>(
     scope: &Scope<'s>,
     expr: &Expr<'s>,
 ) -> Result<Value<'w, 's>, Fault>
-    ensures { Answers (values.value env.now scope.now (tree expr.now)) result }
+    ensures { Refines (values.value env.now scope.now (tree expr.now)) result }
 {
     match expr {
         Expr::Leaf(token) => leaf(alloc, env, scope, token),
@@ -82,7 +82,7 @@ fn subscripted<'w, 's>(
     name: &Token<'s>,
     subscripts: &Series<'s>,
 ) -> Result<Value<'w, 's>, Fault>
-    ensures { Answers (and_then (and_then (values.value env.now scope.now (tree (out-Series subscripts.now).first))
+    ensures { Refines (and_then (and_then (values.value env.now scope.now (tree (out-Series subscripts.now).first))
         (λ v. values.values env.now scope.now (links_of (out-Series subscripts.now).more) (v ∷ [])))
         (values.subscripted (trees.span_of (tree whole.now)) env.now scope.now name.now.text)) result }
 {
@@ -99,7 +99,7 @@ fn tupled<'w, 's>(
     whole: &Expr<'s>,
     components: &Series<'s>,
 ) -> Result<Value<'w, 's>, Fault>
-    ensures { Answers (and_then (and_then (values.value env.now scope.now (tree (out-Series components.now).first))
+    ensures { Refines (and_then (and_then (values.value env.now scope.now (tree (out-Series components.now).first))
         (λ v. values.values env.now scope.now (links_of (out-Series components.now).more) (v ∷ []))) (values.tupled (trees.span_of (tree whole.now)))) result }
 {
     let Series { first, more } = components;
@@ -116,7 +116,7 @@ pub(crate) fn is_met<'s>(
     whole: &Expr<'s>,
     condition: &Expr<'s>,
 ) -> Result<bool, Fault>
-    ensures { Answers (and_then (values.value env.now scope.now (tree condition.now)) (operators.truth (trees.span_of (tree whole.now)))) result }
+    ensures { Refines (and_then (values.value env.now scope.now (tree condition.now)) (operators.truth (trees.span_of (tree whole.now)))) result }
 {
     truth_of(whole, evaluate(alloc, env, scope, condition))
 }
@@ -129,7 +129,7 @@ fn negated<'w, 's>(
     whole: &Expr<'s>,
     condition: &Expr<'s>,
 ) -> Result<Value<'w, 's>, Fault>
-    ensures { Answers (and_then (and_then (values.value env.now scope.now (tree condition.now)) (operators.truth (trees.span_of (tree whole.now))))
+    ensures { Refines (and_then (and_then (values.value env.now scope.now (tree condition.now)) (operators.truth (trees.span_of (tree whole.now))))
         (λ b. Ok (Truth (not b)))) result }
 {
     as_denial(is_met(alloc, env, scope, whole, condition))
@@ -143,7 +143,7 @@ fn braced<'w, 's>(
     scope: &Scope<'s>,
     braces: &Braces<'s>,
 ) -> Result<Value<'w, 's>, Fault>
-    ensures { Answers (and_then (values.index env.now scope.now (braces_of braces.now)) (rows.as_set (trees.braces_span (braces_of braces.now)))) result }
+    ensures { Refines (and_then (values.index env.now scope.now (braces_of braces.now)) (rows.as_set (trees.braces_span (braces_of braces.now)))) result }
 {
     let keys = index(alloc, env, scope, braces)?;
     as_value(alloc, braces_span(braces), &keys)
@@ -158,7 +158,7 @@ fn signed<'w, 's>(
     sign: &Sign<'s>,
     operand: &Expr<'s>,
 ) -> Result<Value<'w, 's>, Fault>
-    ensures { Answers (and_then (values.value env.now scope.now (tree operand.now))
+    ensures { Refines (and_then (values.value env.now scope.now (tree operand.now))
         (values.with_sign (trees.span_of (tree whole.now)) (operations.is_minus sign.now))) result }
 {
     let value = evaluate(alloc, env, scope, operand);
@@ -175,7 +175,7 @@ fn reduced<'w, 's>(
     front: &(Reducer<'s>, Braces<'s>),
     body: &Expr<'s>,
 ) -> Result<Value<'w, 's>, Fault>
-    ensures { Answers (and_then (values.index env.now scope.now (braces_of front.now.1))
+    ensures { Refines (and_then (values.index env.now scope.now (braces_of front.now.1))
         (rows.reduce (trees.span_of (tree whole.now)) (operations.reduction front.now.0) (λ q. values.value env.now q (tree body.now)))) result }
 {
     let (reducer, braces) = front;
@@ -192,7 +192,7 @@ fn chain<'w, 's>(
     whole: &Expr<'s>,
     operands: &Series<'s>,
 ) -> Result<Value<'w, 's>, Fault>
-    ensures { Answers (and_then (values.value env.now scope.now (tree (out-Series operands.now).first)) (λ v.
+    ensures { Refines (and_then (values.value env.now scope.now (tree (out-Series operands.now).first)) (λ v.
         if items.begins_range (links_of (out-Series operands.now).more)
         then and_then (values.values env.now scope.now (links_of (out-Series operands.now).more) (v ∷ [])) (numbers.range_of (trees.span_of (tree whole.now)))
         else values.chained (trees.span_of (tree whole.now)) env.now scope.now (links_of (out-Series operands.now).more) v)) result }
@@ -215,7 +215,7 @@ fn choice<'w, 's>(
     condition: &Expr<'s>,
     branches: (&Expr<'s>, &Option<Boxed<Part<'s>>>),
 ) -> Result<Value<'w, 's>, Fault>
-    ensures { Answers (and_then (and_then (values.value env.now scope.now (tree condition.now)) (operators.truth (trees.span_of (tree whole.now))))
+    ensures { Refines (and_then (and_then (values.value env.now scope.now (tree condition.now)) (operators.truth (trees.span_of (tree whole.now))))
         (λ b. if b then values.value env.now scope.now (tree branches.entry.0.now)
         else values.otherwise env.now scope.now (option_part branches.entry.1.now))) result }
 {
@@ -242,7 +242,7 @@ fn other_branch<'w, 's>(
     scope: &Scope<'s>,
     otherwise: &Option<Boxed<Part<'s>>>,
 ) -> Result<Value<'w, 's>, Fault>
-    ensures { Answers (values.otherwise env.now scope.now (option_part otherwise.now)) result }
+    ensures { Refines (values.otherwise env.now scope.now (option_part otherwise.now)) result }
 {
     match otherwise {
         None => Ok(missing_else()),
@@ -258,7 +258,7 @@ pub(crate) fn evaluate_more<'w, 's>(
     first: Value<'w, 's>,
     more: &[Link<'s>],
 ) -> Result<Items<Value<'w, 's>>, Fault>
-    ensures { Answers (values.values env.now scope.now (links_of more.now) (first.entry ∷ [])) result }
+    ensures { Refines (values.values env.now scope.now (links_of more.now) (first.entry ∷ [])) result }
 {
     let mut found = Vec::new(alloc);
     found.push(first)?;
@@ -279,7 +279,7 @@ fn chained<'w, 's>(
     links: &[Link<'s>],
     value: Value<'w, 's>,
 ) -> Result<Value<'w, 's>, Fault>
-    ensures { Answers (values.chained (trees.span_of (tree whole.now)) env.now scope.now (links_of links.now) value.entry) result }
+    ensures { Refines (values.chained (trees.span_of (tree whole.now)) env.now scope.now (links_of links.now) value.entry) result }
 {
     let mut value = value;
     for link in links {
@@ -298,7 +298,7 @@ fn joined<'w, 's>(
     link: &Link<'s>,
     value: &Value<'_, 's>,
 ) -> Result<Value<'w, 's>, Fault>
-    ensures { Answers (walks.joined (trees.span_of (tree whole.now)) (operations.operation link.now.operator)
+    ensures { Refines (walks.joined (trees.span_of (tree whole.now)) (operations.operation link.now.operator)
         (values.value env.now scope.now (tree link.now.operand)) value.now) result }
 {
     let operation = link.operator.op();
@@ -321,7 +321,7 @@ fn gather<'w, 's>(
     body: &Expr<'s>,
     keys: &Keys<'s>,
 ) -> Result<Value<'w, 's>, Fault>
-    ensures { Answers (rows.reduce (trees.span_of (tree whole.now)) reduction (λ q. values.value env.now q (tree body.now)) keys.now) result }
+    ensures { Refines (rows.reduce (trees.span_of (tree whole.now)) reduction (λ q. values.value env.now q (tree body.now)) keys.now) result }
 {
     let mut so_far = None;
     let rows = keys.rows.as_slice();

@@ -7,13 +7,13 @@ ghost use Rattle.net_fault.specs.Outcomes.{bare};
 ghost use Rattle.net_fault.specs.declared.language.Language.TheVariants.{Model as InModel};
 ghost use Rattle.net_fault.specs.declared.fault.Fault.TheVariants.{At};
 
-use net_fault::{Defect, Fault};
+use net_fault::{ErrorCode, Fault};
 use net_tree::{Expr, span_of};
 
 /// Builds an error at the span of a tree. The span is computed only here, not when there is no
 /// error.
-pub fn refuse_tree(defect: Defect, whole: &Expr<'_>) -> Fault
-    ensures { result ≡ At (bare InModel defect (trees.span_of (tree whole.now))) }
+pub fn reject_tree(error_code: ErrorCode, whole: &Expr<'_>) -> Fault
+    ensures { result ≡ At (bare InModel error_code (trees.span_of (tree whole.now))) }
 {
-    Fault::of_model(defect, span_of(whole))
+    Fault::of_model(error_code, span_of(whole))
 }

@@ -5,7 +5,7 @@ ghost use Rattle.net_tree.specs.Spans as trees;
 ghost use Rattle.net_tree.specs.declared.expr.Series.{out-Series};
 ghost use Rattle.net_tree.specs.View.{tree, links_of};
 ghost use Rattle.net_expr.specs.Items as items;
-ghost use Rattle.net_fault.specs.Outcomes.{Answers};
+ghost use Rattle.net_fault.specs.Outcomes.{Refines};
 ghost use Rattle.net_expr.specs.Rows as rows;
 ghost use Rattle.net_expr.specs.Values as values;
 ghost use Rattle.net_expr.specs.Walks as walks;
@@ -28,7 +28,7 @@ pub(crate) fn place_at<'s>(
     tuple: &Tuple<'s>,
     place: &Place<'s>,
 ) -> Result<Option<Place<'s>>, Fault>
-    ensures { Answers (values.place env.now (tree item.now) tuple.now place.now) result }
+    ensures { Refines (values.place env.now (tree item.now) tuple.now place.now) result }
 {
     match sides_of(item) {
         None => with_key(alloc, tuple, place),
@@ -48,7 +48,7 @@ fn left_place<'s>(
     tuple: &Tuple<'s>,
     place: &Place<'s>,
 ) -> Result<Option<Place<'s>>, Fault>
-    ensures { Answers (values.left_place (trees.span_of (tree item.now)) env.now (tree left.now)
+    ensures { Refines (values.left_place (trees.span_of (tree item.now)) env.now (tree left.now)
         (values.value env.now place.now.scope (tree left.now)) tuple.now place.now) result }
 {
     match left {
@@ -73,7 +73,7 @@ fn alone<'s>(
     tuple: &Tuple<'s>,
     place: &Place<'s>,
 ) -> Result<Option<Place<'s>>, Fault>
-    ensures { Answers (rows.fitted_alone (trees.span_of (tree item.now)) (items.new_dummy env.now place.now.scope (tree left.now))
+    ensures { Refines (rows.fitted_alone (trees.span_of (tree item.now)) (items.new_dummy env.now place.now.scope (tree left.now))
         (values.value env.now place.now.scope (tree left.now)) tuple.now place.now) result }
 {
     match new_dummy(env, &place.scope, left) {
@@ -95,13 +95,13 @@ fn components<'s>(
     tuple: &Tuple<'s>,
     place: &Place<'s>,
 ) -> Result<Option<Place<'s>>, Fault>
-    ensures { Answers (walks.component_places (trees.span_of (tree whole.now)) env.now (tree (out-Series series.now).first)
+    ensures { Refines (walks.component_places (trees.span_of (tree whole.now)) env.now (tree (out-Series series.now).first)
         (links_of (out-Series series.now).more) tuple.now place.now) result }
 {
     match tuple.as_slice() {
         [] => stay(alloc, place),
         [member, others @ ..] => {
-            let here = place.again(alloc)?;
+            let here = place.copied(alloc)?;
             let components = (&series.first, series.more.as_slice());
             fit_all(alloc, env, whole, components, (member, others), here)
         }
@@ -117,7 +117,7 @@ fn places<'s>(
     members: &[Member<'s>],
     place: Place<'s>,
 ) -> Result<Option<Place<'s>>, Fault>
-    ensures { Answers (values.places (trees.span_of (tree whole.now)) env.now (links_of links.now) members.now place.entry) result }
+    ensures { Refines (values.places (trees.span_of (tree whole.now)) env.now (links_of links.now) members.now place.entry) result }
 {
     match links {
         [] => Ok(Some(place)),
@@ -141,7 +141,7 @@ fn fit_all<'s>(
     members: (&Member<'s>, &[Member<'s>]),
     place: Place<'s>,
 ) -> Result<Option<Place<'s>>, Fault>
-    ensures { Answers (walks.component_places (trees.span_of (tree whole.now)) env.now (tree components.entry.0.now) (links_of components.entry.1.now)
+    ensures { Refines (walks.component_places (trees.span_of (tree whole.now)) env.now (tree components.entry.0.now) (links_of components.entry.1.now)
         (members.entry.0.now ∷ members.entry.1.now) place.entry) result }
 {
     let (component, more) = components;
@@ -163,7 +163,7 @@ fn fit<'s>(
     member: &Member<'s>,
     place: Place<'s>,
 ) -> Result<Option<Place<'s>>, Fault>
-    ensures { Answers (rows.fitted (trees.span_of (tree whole.now)) (items.new_dummy env.now place.entry.scope (tree component.now))
+    ensures { Refines (rows.fitted (trees.span_of (tree whole.now)) (items.new_dummy env.now place.entry.scope (tree component.now))
         (values.value env.now place.entry.scope (tree component.now)) member.now place.entry) result }
 {
     match new_dummy(env, &place.scope, component) {

@@ -6,18 +6,18 @@ ghost use Rattle.net_tree.specs.Spans as trees;
 ghost use Rattle.net_tree.specs.View.{tree, links_of, option_part};
 ghost use Rattle.net_expr.specs.Items as items;
 ghost use Rattle.net_tree.specs.Operations as operations;
-ghost use Rattle.net_fault.specs.Outcomes.{Answers, Outcome, and_then, Decides};
+ghost use Rattle.net_fault.specs.Outcomes.{Refines, Outcome, and_then, Yields};
 ghost use Rattle.net_expr.specs.declared.value.Value.{Value as Found};
 ghost use Rattle.net_expr.specs.declared.value.Value.TheVariants.{Many};
 ghost use Rattle.net_expr.specs.Worlds as worlds;
 
-use crate::fault::refuse_tree;
+use crate::fault::reject_tree;
 use crate::scope::Scope;
 use crate::value::Value;
 use crate::world::Env;
-use net_fault::{Defect, Fault, Span};
+use net_fault::{ErrorCode, Fault, Span};
 use net_sets::Cow;
-use net_tree::{BinOp, Expr, Link, Operator, Part, lone_name, sides_of};
+use net_tree::{BinOp, Expr, Link, Operator, Part, sides_of, single_name};
 use net_views::{Boxed, Excerpt};
 
 pub(crate) fn has_in(item: &Expr<'_>) -> bool
@@ -66,7 +66,7 @@ pub(crate) fn has_part(part: &Option<Boxed<Part<'_>>>) -> bool
 pub(crate) fn bare<'a, 's>(component: &'a Expr<'s>) -> Option<&'a Excerpt<'s>>
     ensures { option_map (λ t. t.now) result ≡ items.bare (tree component.entry.now) }
 {
-    match lone_name(component) {
+    match single_name(component) {
         None => None,
         Some(name) => Some(&name.text),
     }
@@ -136,12 +136,12 @@ fn fitting<'w, 's>(
     dimension: Option<u8>,
     tuples: Cow<'w, 's>,
 ) -> Result<Cow<'w, 's>, Fault>
-    ensures { Decides (items.chosen (trees.span_of (tree item.now)) (items.needed (tree left.now)) (Many dimension tuples.entry)) result }
+    ensures { Yields (items.chosen (trees.span_of (tree item.now)) (items.needed (tree left.now)) (Many dimension tuples.entry)) result }
 {
     if fits_needed(dimension, left) {
         Ok(tuples)
     } else {
-        Err(refuse_tree(Defect::Arity, item))
+        Err(reject_tree(ErrorCode::Arity, item))
     }
 }
 
@@ -151,13 +151,13 @@ pub(crate) fn chosen<'w, 's>(
     left: &Expr<'_>,
     value: Result<Value<'w, 's>, Fault>,
 ) -> Result<Cow<'w, 's>, Fault>
-    ensures { (wanted : Outcome Found) → Answers wanted value.entry
-        → Answers (and_then wanted (items.chosen (trees.span_of (tree item.now)) (items.needed (tree left.now)))) result }
+    ensures { (wanted : Outcome Found) → Refines wanted value.entry
+        → Refines (and_then wanted (items.chosen (trees.span_of (tree item.now)) (items.needed (tree left.now)))) result }
 {
     match value {
         Ok(value) => match value.into_set() {
             Some((dimension, tuples)) => fitting(item, left, dimension, tuples),
-            None => Err(refuse_tree(Defect::KindMismatch, item)),
+            None => Err(reject_tree(ErrorCode::KindMismatch, item)),
         },
         Err(fault) => Err(fault),
     }
@@ -168,12 +168,12 @@ pub(crate) fn tuples_of<'w, 's>(
     at: Span,
     value: Result<Value<'w, 's>, Fault>,
 ) -> Result<Cow<'w, 's>, Fault>
-    ensures { (wanted : Outcome Found) → Answers wanted value.entry → Answers (and_then wanted (items.tuples_of at)) result }
+    ensures { (wanted : Outcome Found) → Refines wanted value.entry → Refines (and_then wanted (items.tuples_of at)) result }
 {
     match value {
         Ok(value) => match value.into_set() {
             Some((_dimension, tuples)) => Ok(tuples),
-            None => Err(Fault::of_model(Defect::KindMismatch, at)),
+            None => Err(Fault::of_model(ErrorCode::KindMismatch, at)),
         },
         Err(fault) => Err(fault),
     }

@@ -7,7 +7,7 @@ ghost use Rattle.net_tree.specs.View.{tree, braces_of, links_of, option_part};
 ghost use Rattle.net_tree.specs.Weights.{weights};
 ghost use Rattle.net_expr.specs.Frames as frames;
 ghost use Rattle.net_expr.specs.Items as items;
-ghost use Rattle.net_fault.specs.Outcomes.{Answers, Leaves, and_then, each};
+ghost use Rattle.net_fault.specs.Outcomes.{Refines, Updates, and_then, each};
 ghost use Rattle.net_expr.specs.Rows as rows;
 ghost use Rattle.net_expr.specs.Selecting as select;
 ghost use Rattle.net_expr.specs.Values as values;
@@ -41,7 +41,7 @@ pub(crate) fn index<'s>(
     scope: &Scope<'s>,
     braces: &Braces<'s>,
 ) -> Result<Keys<'s>, Fault>
-    ensures { Answers (values.index env.now scope.now (braces_of braces.now)) result }
+    ensures { Refines (values.index env.now scope.now (braces_of braces.now)) result }
 {
     match braces {
         Braces::Empty(open, condition, close) => {
@@ -66,7 +66,7 @@ fn index_items<'s>(
     scope: &Scope<'s>,
     items: &Inside<'_, 's>,
 ) -> Result<Keys<'s>, Fault>
-    ensures { Answers (walks.index_items items.now.at env.now scope.now (tree items.now.first.now) (links_of items.now.more.now)
+    ensures { Refines (walks.index_items items.now.at env.now scope.now (tree items.now.first.now) (links_of items.now.more.now)
         (option_part items.now.condition.now)) result }
 {
     let item = items.first;
@@ -91,7 +91,7 @@ fn open<'w, 's>(
     items: &Inside<'_, 's>,
     value: Value<'w, 's>,
 ) -> Result<Keys<'s>, Fault>
-    ensures { Answers (walks.opened_keys items.now.at env.now scope.now (tree items.now.first.now) (links_of items.now.more.now)
+    ensures { Refines (walks.opened_keys items.now.at env.now scope.now (tree items.now.first.now) (links_of items.now.more.now)
         (option_part items.now.condition.now) value.entry) result }
 {
     if any_in(items.more) || is_set(&value) {
@@ -112,7 +112,7 @@ fn select<'w, 's>(
     items: &Inside<'_, 's>,
     tuples: Cow<'w, 's>,
 ) -> Result<Keys<'s>, Fault>
-    ensures { Answers (walks.walked items.now.at env.now scope.now (tree items.now.first.now) (links_of items.now.more.now)
+    ensures { Refines (walks.walked items.now.at env.now scope.now (tree items.now.first.now) (links_of items.now.more.now)
         (option_part items.now.condition.now) tuples.entry) result }
 {
     let found = collect(alloc, env, scope, items, tuples)?;
@@ -129,7 +129,7 @@ fn collect<'w, 's>(
     items: &Inside<'_, 's>,
     tuples: Cow<'w, 's>,
 ) -> Result<Items<Row<'s>>, Fault>
-    ensures { Answers (each (rows.onward (values.place env.now (tree items.now.first.now)) (values.walk items.now.at env.now (links_of items.now.more.now))
+    ensures { Refines (each (rows.onward (values.place env.now (tree items.now.first.now)) (values.walk items.now.at env.now (links_of items.now.more.now))
         (rows.start scope.now)) tuples.entry []) result }
 {
     let place = start(alloc, scope)?;
@@ -156,7 +156,7 @@ fn walk<'a, 'w, 's>(
     first: Frame<'a, 'w, 's>,
     found: &mut Vec<Row<'s>>,
 ) -> Result<(), Fault>
-    ensures { Leaves (frames.still at env.now first.entry found.old.items) result found.new.items }
+    ensures { Updates (frames.still at env.now first.entry found.old.items) result found.new.items }
 {
     let mut top = first;
     let mut below = Vec::new(alloc);
@@ -223,7 +223,7 @@ fn entered<'a, 'w, 's>(
     more: &'a [Link<'s>],
     place: Place<'s>,
 ) -> Result<Frame<'a, 'w, 's>, Fault>
-    ensures { Answers (and_then (walks.item_tuples at env.now place.entry.scope (tree item.entry.now))
+    ensures { Refines (and_then (walks.item_tuples at env.now place.entry.scope (tree item.entry.now))
         (λ ts. Ok (record {
           item = item.entry;
           more = more.entry;
@@ -250,7 +250,7 @@ fn item_tuples<'w, 's>(
     scope: &Scope<'s>,
     item: &Expr<'s>,
 ) -> Result<Cow<'w, 's>, Fault>
-    ensures { Answers (walks.item_tuples at env.now scope.now (tree item.now)) result }
+    ensures { Refines (walks.item_tuples at env.now scope.now (tree item.now)) result }
 {
     match sides_of(item) {
         Some((left, set)) => choose(alloc, env, scope, item, left, set),
@@ -267,7 +267,7 @@ fn choose<'w, 's>(
     left: &Expr<'s>,
     set: &Expr<'s>,
 ) -> Result<Cow<'w, 's>, Fault>
-    ensures { Answers (and_then (values.value env.now scope.now (tree set.now))
+    ensures { Refines (and_then (values.value env.now scope.now (tree set.now))
         (items.chosen (trees.span_of (tree item.now)) (items.needed (tree left.now)))) result }
 {
     chosen(item, left, evaluate(alloc, env, scope, set))
@@ -283,7 +283,7 @@ fn keep<'s>(
     width: u8,
     found: Items<Row<'s>>,
 ) -> Result<Keys<'s>, Fault>
-    ensures { Answers (and_then (rows.kept (λ q. values.holds at env.now q (option_part condition.now)) found.entry [])
+    ensures { Refines (and_then (rows.kept (λ q. values.holds at env.now q (option_part condition.now)) found.entry [])
         (λ left. Ok (rows.keys width left))) result }
 {
     if !has_part(condition) {
@@ -306,7 +306,7 @@ fn holds<'s>(
     scope: &Scope<'s>,
     condition: &Option<Boxed<Part<'s>>>,
 ) -> Result<bool, Fault>
-    ensures { Answers (values.holds at env.now scope.now (option_part condition.now)) result }
+    ensures { Refines (values.holds at env.now scope.now (option_part condition.now)) result }
 {
     match condition {
         None => Ok(true),

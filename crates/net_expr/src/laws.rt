@@ -1,7 +1,7 @@
 //! Theorems about values. The functions are empty: their contracts state theorems.
 
 ghost use Rattle.std.specs.Prelude.{ℕ};
-ghost use Rattle.net_fault.specs.Places.{Finds, LieIn, LiesIn};
+ghost use Rattle.net_fault.specs.Places.{Finds, IsInFiles, IsSpanIn};
 ghost use Rattle.net_tree.specs.Standing.{Stands, BracesStand};
 ghost use Rattle.net_tree.specs.Tree.{Tree, Braces};
 ghost use Rattle.net_expr.specs.SetValues.{HaveDistinctKeys, KeepsSets};
@@ -22,7 +22,7 @@ pub fn values_keep_sets()
 
 /// Theorem: if the spans of all parts of an expression are in a model of this size, so is that of
 /// an error of its evaluation.
-pub fn errors_lie_in_expressions()
-    ensures values { (size : ℕ) (w : World) (scope : Scope) (x : Tree) → Stands (LiesIn size) x → Finds (LieIn size 0) (value w scope x) }
-    ensures keys { (size : ℕ) (w : World) (scope : Scope) (braces : Braces) → BracesStand (LiesIn size) braces → Finds (LieIn size 0) (index w scope braces) }
+pub fn errors_are_in_expressions()
+    ensures values { (size : ℕ) (w : World) (scope : Scope) (x : Tree) → Stands (IsSpanIn size) x → Finds (IsInFiles size 0) (value w scope x) }
+    ensures keys { (size : ℕ) (w : World) (s : Scope) (braces : Braces) → BracesStand (IsSpanIn size) braces → Finds (IsInFiles size 0) (index w s braces) }
 {}

@@ -30,12 +30,12 @@ mod world;
 
 pub use calls::{holds, index_of, member, members};
 pub use eval::evaluate;
-pub use fault::refuse_tree;
-pub use laws::{errors_lie_in_expressions, keys_are_distinct, values_keep_sets};
+pub use fault::reject_tree;
+pub use laws::{errors_are_in_expressions, keys_are_distinct, values_keep_sets};
 pub use limits::{is_small, is_small_wide, number_in};
 pub use net_sets::{Member, Text, Tuple};
 pub use operator::truth;
-pub use reference::{push_member, push_reference, told_reference};
+pub use reference::{push_member, push_reference, reported_reference};
 pub use row::{Keys, Row};
 pub use scope::{Binding, Scope};
 pub use source_set::set_of_braces;

@@ -3,7 +3,7 @@
 ghost use Rattle.std.specs.Prelude.{◌≡◌, ◌++◌, ◌∷◌, [], List, Ok, IfOk, length};
 ghost use Rattle.net_sets.specs.Made.{IsMade};
 ghost use Rattle.net_sets.specs.Operations.{union};
-ghost use Rattle.net_fault.specs.Outcomes.{Answers, Outcome, and_then, Decides};
+ghost use Rattle.net_fault.specs.Outcomes.{Refines, Outcome, and_then, Yields};
 ghost use Rattle.net_expr.specs.declared.value.Value.{Value as Found};
 ghost use Rattle.net_expr.specs.Rows as rows;
 ghost use Rattle.net_expr.specs.Walks as walks;
@@ -11,19 +11,19 @@ ghost use Rattle.net_expr.specs.Walks as walks;
 use crate::row::{Keys, Row};
 use crate::scope::Scope;
 use crate::value::Value;
-use net_fault::{Defect, Fault, Span};
+use net_fault::{ErrorCode, Fault, Span};
 use net_sets::{Cow, SetFault, Tuple, TupleSet};
 use net_views::Items;
 use std::alloc::{AllocError, Global};
 
 /// Returns a value as a tuple: a single member, or a tuple.
 fn tuple_in<'s>(at: Span, value: &Value<'_, 's>) -> Result<Tuple<'s>, Fault>
-    ensures { Decides (rows.tuple_in at value.now) result }
+    ensures { Yields (rows.tuple_in at value.now) result }
 {
     match value {
-        Value::One(member) => Ok(Tuple::single(member.again())),
-        Value::Several(tuple) => Ok(tuple.again()),
-        _ => Err(Fault::of_model(Defect::KindMismatch, at)),
+        Value::One(member) => Ok(Tuple::single(member.copied())),
+        Value::Several(tuple) => Ok(tuple.copied()),
+        _ => Err(Fault::of_model(ErrorCode::KindMismatch, at)),
     }
 }
 
@@ -32,7 +32,7 @@ fn tuples_in<'s>(
     at: Span,
     values: &[Value<'_, 's>],
 ) -> Result<Items<Tuple<'s>>, Fault>
-    ensures { Answers (rows.tuples_in at values.now []) result }
+    ensures { Refines (rows.tuples_in at values.now []) result }
 {
     let mut found = Vec::new(alloc);
     for value in values {
@@ -62,8 +62,8 @@ fn rows_of<'s>(
 {
     let mut all = Vec::new(alloc);
     for tuple in tuples {
-        let scope = scope.again(alloc)?;
-        let key = tuple.again();
+        let scope = scope.copied(alloc)?;
+        let key = tuple.copied();
         all.push(Row { key, scope })?;
     }
     Ok(Items::new(all))
@@ -80,10 +80,10 @@ fn no_keys<'s>(alloc: Global) -> Keys<'s>
 
 /// Returns the keys of braces without items.
 pub(crate) fn no_items<'s>(alloc: Global, at: Span, conditioned: bool) -> Result<Keys<'s>, Fault>
-    ensures { Answers (walks.no_items at conditioned) result }
+    ensures { Refines (walks.no_items at conditioned) result }
 {
     if conditioned {
-        Err(Fault::of_model(Defect::KindMismatch, at))
+        Err(Fault::of_model(ErrorCode::KindMismatch, at))
     } else {
         Ok(no_keys(alloc))
     }
@@ -97,14 +97,14 @@ fn rows_once<'s>(
     first: &Tuple<'s>,
     tuples: &[Tuple<'s>],
 ) -> Result<Keys<'s>, Fault>
-    ensures { Answers (rows.keys_within at scope.now (length first.now) (union [] tuples.now)) result }
+    ensures { Refines (rows.keys_within at scope.now (length first.now) (union [] tuples.now)) result }
 {
     match TupleSet::from_tuples(alloc, tuples) {
         Ok(set) => Ok(Keys {
             width: Some(first.len() as u8),
             rows: rows_of(alloc, scope, set.as_slice())?,
         }),
-        Err(SetFault::TooMany) => Err(Fault::of_model(Defect::TooMany, at)),
+        Err(SetFault::TooMany) => Err(Fault::of_model(ErrorCode::TooMany, at)),
         Err(SetFault::OutOfMemory) => Err(Fault::OutOfMemory),
     }
 }
@@ -115,7 +115,7 @@ fn listed_as<'s>(
     scope: &Scope<'s>,
     tuples: &[Tuple<'s>],
 ) -> Result<Keys<'s>, Fault>
-    ensures { Answers (rows.listed_as at scope.now tuples.now (union [] tuples.now)) result }
+    ensures { Refines (rows.listed_as at scope.now tuples.now (union [] tuples.now)) result }
 {
     match tuples {
         [] => Ok(no_keys(alloc)),
@@ -123,7 +123,7 @@ fn listed_as<'s>(
             if all_of(first.len(), rest) {
                 rows_once(alloc, at, scope, first, tuples)
             } else {
-                Err(Fault::of_model(Defect::Arity, at))
+                Err(Fault::of_model(ErrorCode::Arity, at))
             }
         }
     }
@@ -137,11 +137,11 @@ pub(crate) fn listed<'s>(
     conditioned: bool,
     values: Result<Items<Value<'_, 's>>, Fault>,
 ) -> Result<Keys<'s>, Fault>
-    ensures { (wanted : Outcome (List Found)) → Answers wanted values.entry → Answers (and_then wanted (rows.listed at scope.now conditioned)) result }
+    ensures { (wanted : Outcome (List Found)) → Refines wanted values.entry → Refines (and_then wanted (rows.listed at scope.now conditioned)) result }
 {
     let values = values?;
     if conditioned {
-        Err(Fault::of_model(Defect::KindMismatch, at))
+        Err(Fault::of_model(ErrorCode::KindMismatch, at))
     } else {
         let tuples = tuples_in(alloc, at, values.as_slice())?;
         listed_as(alloc, at, scope, tuples.as_slice())
@@ -153,7 +153,7 @@ fn keys_of<'s>(alloc: Global, found: &[Row<'s>]) -> Result<Items<Tuple<'s>>, All
 {
     let mut all = Vec::new(alloc);
     for row in found {
-        all.push(row.key.again())?;
+        all.push(row.key.copied())?;
     }
     Ok(Items::new(all))
 }
@@ -164,12 +164,12 @@ pub(crate) fn as_value<'w, 's>(
     at: Span,
     keys: &Keys<'s>,
 ) -> Result<Value<'w, 's>, Fault>
-    ensures { Answers (rows.as_set at keys.now) result }
+    ensures { Refines (rows.as_set at keys.now) result }
 {
     let tuples = keys_of(alloc, keys.rows.as_slice())?;
     match TupleSet::from_tuples(alloc, tuples.as_slice()) {
         Ok(set) => Ok(Value::Many(keys.width, Cow::owned(set))),
-        Err(SetFault::TooMany) => Err(Fault::of_model(Defect::TooMany, at)),
+        Err(SetFault::TooMany) => Err(Fault::of_model(ErrorCode::TooMany, at)),
         Err(SetFault::OutOfMemory) => Err(Fault::OutOfMemory),
     }
 }

@@ -5,16 +5,16 @@ ghost use Rattle.std.specs.Option.{option_copied};
 ghost use Rattle.net_sets.specs.Sets.{has, at_key};
 ghost use Rattle.net_tree.specs.Tree as trees;
 ghost use Rattle.net_expr.specs.Numbers.{number_in};
-ghost use Rattle.net_fault.specs.Outcomes.{Answers, Decides};
+ghost use Rattle.net_fault.specs.Outcomes.{Refines, Yields};
 ghost use Rattle.net_expr.specs.Values as values;
 ghost use Rattle.net_expr.specs.Worlds as worlds;
 
 use crate::limits::number_in;
-use crate::reference::told_reference;
+use crate::reference::reported_reference;
 use crate::scope::Scope;
 use crate::value::Value;
 use crate::world::{Entry, Env};
-use net_fault::{Defect, Detail, Fault, Language, Span};
+use net_fault::{Detail, ErrorCode, Fault, Language, Span};
 use net_lex::Token;
 use net_sets::{Cow, Member, Table, Text, Tuple, TupleSet};
 use net_tree::{Role, role_of};
@@ -22,14 +22,14 @@ use net_views::Excerpt;
 use std::alloc::Global;
 
 fn missing<'w, 's>(at: Span, detail: Detail, listed: bool) -> Result<Value<'w, 's>, Fault>
-    ensures { Decides (worlds.missing at detail listed) result }
+    ensures { Yields (worlds.missing at detail listed) result }
 {
-    let defect = if listed {
-        Defect::NoValue
+    let error_code = if listed {
+        ErrorCode::NoValue
     } else {
-        Defect::OutsideSet
+        ErrorCode::OutsideSet
     };
-    Err(Fault::of_text(Language::Model, defect, at, detail))
+    Err(Fault::of_text(Language::Model, error_code, at, detail))
 }
 
 /// Returns the value of a parameter at a key, from its index set and its table.
@@ -41,15 +41,15 @@ fn value_at<'w, 's>(
     values: (&TupleSet<'s>, &Table<'s>),
     key: Tuple<'s>,
 ) -> Result<Value<'w, 's>, Fault>
-    ensures { Answers (worlds.value_at at (worlds.reference name.now keys key.entry) (at_key values.entry.1.now key.entry)
+    ensures { Refines (worlds.value_at at (worlds.reference name.now keys key.entry) (at_key values.entry.1.now key.entry)
         (has values.entry.0.now key.entry)) result }
 {
     let (index, table) = values;
     match table.get(&key) {
-        Some(member) => Ok(Value::One(member.again())),
+        Some(member) => Ok(Value::One(member.copied())),
         None => {
             let listed = index.contains(&key);
-            let detail = told_reference(alloc, name, keys, &key)?;
+            let detail = reported_reference(alloc, name, keys, &key)?;
             missing(at, detail, listed)
         }
     }
@@ -72,22 +72,22 @@ fn entry_at<'w, 's>(
     entry: Option<&'w Entry<'s>>,
     key: Tuple<'s>,
 ) -> Result<Value<'w, 's>, Fault>
-    ensures { Answers (worlds.entry_at at name.now (option_copied entry.entry) key.entry) result }
+    ensures { Refines (worlds.entry_at at name.now (option_copied entry.entry) key.entry) result }
 {
     match entry {
-        None => Err(Fault::of_model(Defect::KindMismatch, at)),
+        None => Err(Fault::of_model(ErrorCode::KindMismatch, at)),
         Some(Entry::Set(dimension, set)) => {
             if key.len() == 0 {
                 Ok(Value::Many(Some(*dimension), Cow::borrowed(set)))
             } else {
-                Err(Fault::of_model(Defect::Arity, at))
+                Err(Fault::of_model(ErrorCode::Arity, at))
             }
         }
         Some(Entry::Parameter(keys, index, table)) => {
             if key.len() == key_count(*keys) {
                 value_at(alloc, at, name, *keys, (index.get(), table), key)
             } else {
-                Err(Fault::of_model(Defect::Arity, at))
+                Err(Fault::of_model(ErrorCode::Arity, at))
             }
         }
     }
@@ -102,15 +102,15 @@ pub(crate) fn name_at<'w, 's>(
     name: &Excerpt<'s>,
     key: Tuple<'s>,
 ) -> Result<Value<'w, 's>, Fault>
-    ensures { Answers (worlds.name_at at env.now name.now (worlds.bound scope.now name.now) key.entry) result }
+    ensures { Refines (worlds.name_at at env.now name.now (worlds.bound scope.now name.now) key.entry) result }
 {
     match scope.get(name) {
         None => entry_at(alloc, at, name, env.find(name), key),
         Some(member) => {
             if key.len() == 0 {
-                Ok(Value::One(member.again()))
+                Ok(Value::One(member.copied()))
             } else {
-                Err(Fault::of_model(Defect::Arity, at))
+                Err(Fault::of_model(ErrorCode::Arity, at))
             }
         }
     }
@@ -124,19 +124,19 @@ fn plain_name<'w, 's>(
     scope: &Scope<'s>,
     name: &Excerpt<'s>,
 ) -> Result<Value<'w, 's>, Fault>
-    ensures { Answers (worlds.name_at at env.now name.now (worlds.bound scope.now name.now) []) result }
+    ensures { Refines (worlds.name_at at env.now name.now (worlds.bound scope.now name.now) []) result }
 {
     match scope.get(name) {
         None => entry_at(alloc, at, name, env.find(name), Tuple::new()),
-        Some(member) => Ok(Value::One(member.again())),
+        Some(member) => Ok(Value::One(member.copied())),
     }
 }
 
 fn numeral<'w, 's>(token: &Token<'s>) -> Result<Value<'w, 's>, Fault>
-    ensures { Decides (values.number_value token.now.span (number_in token.now.text)) result }
+    ensures { Yields (values.number_value token.now.span (number_in token.now.text)) result }
 {
     match number_in(&token.text) {
-        None => Err(Fault::of_model(Defect::ValueTooLarge, token.span)),
+        None => Err(Fault::of_model(ErrorCode::ValueTooLarge, token.span)),
         Some(number) => Ok(Value::One(Member::Number(number))),
     }
 }
@@ -148,12 +148,12 @@ pub(crate) fn leaf<'w, 's>(
     scope: &Scope<'s>,
     token: &Token<'s>,
 ) -> Result<Value<'w, 's>, Fault>
-    ensures { Answers (values.value env.now scope.now (trees.leaf token.now)) result }
+    ensures { Refines (values.value env.now scope.now (trees.leaf token.now)) result }
 {
     match role_of(token) {
         Role::Number => numeral(token),
         Role::Text => Ok(Value::One(Member::Name(Text::new(&token.text)))),
         Role::Name => plain_name(alloc, token.span, env, scope, &token.text),
-        _ => Err(Fault::of_model(Defect::KindMismatch, token.span)),
+        _ => Err(Fault::of_model(ErrorCode::KindMismatch, token.span)),
     }
 }

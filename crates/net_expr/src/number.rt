@@ -6,17 +6,17 @@ ghost use Rattle.net_tree.specs.View.{tree};
 ghost use Rattle.net_expr.specs.Limits.{is_small};
 ghost use Rattle.net_expr.specs.Numbers as numbers;
 ghost use Rattle.net_expr.specs.Operators as operators;
-ghost use Rattle.net_fault.specs.Outcomes.{Answers, Outcome, and_then, refused, Decides};
-ghost use Rattle.net_fault.specs.declared.defect.Defect.TheVariants.{KindMismatch};
+ghost use Rattle.net_fault.specs.Outcomes.{Refines, Outcome, and_then, rejected, Yields};
+ghost use Rattle.net_fault.specs.declared.error_code.ErrorCode.TheVariants.{KindMismatch};
 ghost use Rattle.net_expr.specs.declared.value.Value.{Value as Found};
 ghost use Rattle.net_expr.specs.declared.value.Value.TheVariants.{Truth};
 ghost use Rattle.net_expr.specs.Rows as rows;
 ghost use Rattle.net_expr.specs.Values as values;
 
-use crate::fault::refuse_tree;
+use crate::fault::reject_tree;
 use crate::limits::is_small_wide;
 use crate::value::Value;
-use net_fault::{Defect, Fault};
+use net_fault::{ErrorCode, Fault};
 use net_sets::Member;
 use net_tree::{BinOp, Expr, Reduction};
 
@@ -29,28 +29,28 @@ fn narrow(number: &i128) -> i64
 
 /// Returns the result of arithmetic, or an error if it exceeds the limit.
 pub(crate) fn sized<'w, 's>(whole: &Expr<'_>, number: i128) -> Result<Value<'w, 's>, Fault>
-    ensures { Decides (numbers.sized (trees.span_of (tree whole.now)) number) result }
+    ensures { Yields (numbers.sized (trees.span_of (tree whole.now)) number) result }
 {
     if is_small_wide(&number) {
         Ok(Value::One(Member::Number(narrow(&number))))
     } else {
-        Err(refuse_tree(Defect::ValueTooLarge, whole))
+        Err(reject_tree(ErrorCode::ValueTooLarge, whole))
     }
 }
 
 /// Returns a value as a number, or an error if it is not one.
 pub(crate) fn number_of(whole: &Expr<'_>, value: &Value<'_, '_>) -> Result<i64, Fault>
-    ensures { Decides (numbers.number (trees.span_of (tree whole.now)) value.now) result }
+    ensures { Yields (numbers.number (trees.span_of (tree whole.now)) value.now) result }
 {
     match value {
         Value::One(Member::Number(number)) => Ok(*number),
-        _ => Err(refuse_tree(Defect::KindMismatch, whole)),
+        _ => Err(reject_tree(ErrorCode::KindMismatch, whole)),
     }
 }
 
 /// Returns the result of an evaluation as a number.
 fn number_found(whole: &Expr<'_>, value: Result<Value<'_, '_>, Fault>) -> Result<i64, Fault>
-    ensures { (wanted : Outcome Found) → Answers wanted value.entry → Answers (and_then wanted (numbers.number (trees.span_of (tree whole.now)))) result }
+    ensures { (wanted : Outcome Found) → Refines wanted value.entry → Refines (and_then wanted (numbers.number (trees.span_of (tree whole.now)))) result }
 {
     match value {
         Ok(value) => number_of(whole, &value),
@@ -77,19 +77,19 @@ fn product_of(a: &i64, b: &i64) -> i128
 }
 
 fn plus<'w, 's>(whole: &Expr<'_>, a: &i64, b: &i64) -> Result<Value<'w, 's>, Fault>
-    ensures { Decides (numbers.plus (trees.span_of (tree whole.now)) a.now b.now) result }
+    ensures { Yields (numbers.plus (trees.span_of (tree whole.now)) a.now b.now) result }
 {
     sized(whole, sum_of(a, b))
 }
 
 fn minus<'w, 's>(whole: &Expr<'_>, a: &i64, b: &i64) -> Result<Value<'w, 's>, Fault>
-    ensures { Decides (numbers.less (trees.span_of (tree whole.now)) a.now b.now) result }
+    ensures { Yields (numbers.less (trees.span_of (tree whole.now)) a.now b.now) result }
 {
     sized(whole, difference_of(a, b))
 }
 
 fn times<'w, 's>(whole: &Expr<'_>, a: &i64, b: &i64) -> Result<Value<'w, 's>, Fault>
-    ensures { Decides (numbers.times (trees.span_of (tree whole.now)) a.now b.now) result }
+    ensures { Yields (numbers.times (trees.span_of (tree whole.now)) a.now b.now) result }
 {
     sized(whole, product_of(a, b))
 }
@@ -101,22 +101,22 @@ fn divides(a: &i64, b: &i64) -> bool
 }
 
 fn quotient<'w, 's>(whole: &Expr<'_>, a: &i64, b: &i64) -> Result<Value<'w, 's>, Fault>
-    ensures { Decides (numbers.quotient (trees.span_of (tree whole.now)) a.now b.now) result }
+    ensures { Yields (numbers.quotient (trees.span_of (tree whole.now)) a.now b.now) result }
 {
     if divides(a, b) {
         Ok(Value::One(Member::Number(*a / *b)))
     } else {
-        Err(refuse_tree(Defect::DivMod, whole))
+        Err(reject_tree(ErrorCode::DivMod, whole))
     }
 }
 
 fn remainder<'w, 's>(whole: &Expr<'_>, a: &i64, b: &i64) -> Result<Value<'w, 's>, Fault>
-    ensures { Decides (numbers.remainder (trees.span_of (tree whole.now)) a.now b.now) result }
+    ensures { Yields (numbers.remainder (trees.span_of (tree whole.now)) a.now b.now) result }
 {
     if divides(a, b) {
         Ok(Value::One(Member::Number(*a % *b)))
     } else {
-        Err(refuse_tree(Defect::DivMod, whole))
+        Err(reject_tree(ErrorCode::DivMod, whole))
     }
 }
 
@@ -134,7 +134,7 @@ fn ordered(operation: BinOp, a: &i64, b: &i64) -> bool
 }
 
 fn compared<'w, 's>(operation: BinOp, a: &i64, b: &i64) -> Result<Value<'w, 's>, Fault>
-    ensures { Decides (Ok (Truth (operators.ordered operation a.now b.now))) result }
+    ensures { Yields (Ok (Truth (operators.ordered operation a.now b.now))) result }
 {
     Ok(Value::Truth(ordered(operation, a, b)))
 }
@@ -142,9 +142,9 @@ fn compared<'w, 's>(operation: BinOp, a: &i64, b: &i64) -> Result<Value<'w, 's>,
 /// Returns the error for an operator that does not take numbers. It is a function of its own
 /// because the borrow checker does not accept a join of a passed-on result and one built in place.
 fn of_no_numbers<'w, 's>(whole: &Expr<'_>) -> Result<Value<'w, 's>, Fault>
-    ensures { Decides (refused KindMismatch (trees.span_of (tree whole.now))) result }
+    ensures { Yields (rejected KindMismatch (trees.span_of (tree whole.now))) result }
 {
-    Err(refuse_tree(Defect::KindMismatch, whole))
+    Err(reject_tree(ErrorCode::KindMismatch, whole))
 }
 
 /// Applies an operator to two numbers.
@@ -154,7 +154,7 @@ fn of_two<'w, 's>(
     a: &i64,
     b: &i64,
 ) -> Result<Value<'w, 's>, Fault>
-    ensures { Decides (operators.of_two operation (trees.span_of (tree whole.now)) a.now b.now) result }
+    ensures { Yields (operators.of_two operation (trees.span_of (tree whole.now)) a.now b.now) result }
 {
     match operation {
         BinOp::Plus => plus(whole, a, b),
@@ -176,7 +176,7 @@ pub(crate) fn of_numbers<'w, 's>(
     x: &Value<'_, 's>,
     y: &Value<'_, 's>,
 ) -> Result<Value<'w, 's>, Fault>
-    ensures { Decides (operators.of_numbers (trees.span_of (tree whole.now)) (operators.of_two operation (trees.span_of (tree whole.now))) x.now y.now) result }
+    ensures { Yields (operators.of_numbers (trees.span_of (tree whole.now)) (operators.of_two operation (trees.span_of (tree whole.now))) x.now y.now) result }
 {
     let a = number_of(whole, x)?;
     let b = number_of(whole, y)?;
@@ -199,8 +199,8 @@ pub(crate) fn with_sign<'w, 's>(
     minus: bool,
     value: Result<Value<'_, 's>, Fault>,
 ) -> Result<Value<'w, 's>, Fault>
-    ensures { (wanted : Outcome Found) → Answers wanted value.entry
-        → Answers (and_then wanted (values.with_sign (trees.span_of (tree whole.now)) minus)) result }
+    ensures { (wanted : Outcome Found) → Refines wanted value.entry
+        → Refines (and_then wanted (values.with_sign (trees.span_of (tree whole.now)) minus)) result }
 {
     let number = number_found(whole, value)?;
     sized(whole, turned(minus, &number))
@@ -214,8 +214,8 @@ pub(crate) fn one_more(
     value: Result<Value<'_, '_>, Fault>,
 ) -> Result<Option<i128>, Fault>
     requires { IfSome so_far.now (λ a. unsigned_abs a ≤ 2 ^ 127 - 2 ^ 64) }
-    ensures value { (wanted : Outcome Found) → Answers wanted value.entry
-        → Answers (and_then wanted (λ v. and_then (numbers.number (trees.span_of (tree whole.now)) v)
+    ensures value { (wanted : Outcome Found) → Refines wanted value.entry
+        → Refines (and_then wanted (λ v. and_then (numbers.number (trees.span_of (tree whole.now)) v)
         (λ n. Ok (Some (numbers.gathered reduction so_far.now n))))) result }
     ensures small { (k : ℕ) → IfSome so_far.now (λ a. unsigned_abs a ≤ k) → IfOk result (λ o. IfSome o (λ a. unsigned_abs a ≤ k + 2 ^ 63)) }
 {
@@ -248,11 +248,11 @@ fn gathered_two(reduction: Reduction, so_far: &i128, number: &i64) -> i128
 }
 
 fn nothing_reduced<'w, 's>(whole: &Expr<'_>, reduction: Reduction) -> Result<Value<'w, 's>, Fault>
-    ensures { Decides (rows.nothing_reduced (trees.span_of (tree whole.now)) reduction) result }
+    ensures { Yields (rows.nothing_reduced (trees.span_of (tree whole.now)) reduction) result }
 {
     match reduction {
         Reduction::Sum => Ok(Value::One(Member::Number(0))),
-        Reduction::Min | Reduction::Max => Err(refuse_tree(Defect::NoValue, whole)),
+        Reduction::Min | Reduction::Max => Err(reject_tree(ErrorCode::NoValue, whole)),
     }
 }
 
@@ -262,7 +262,7 @@ pub(crate) fn reduced_to<'w, 's>(
     reduction: Reduction,
     so_far: &Option<i128>,
 ) -> Result<Value<'w, 's>, Fault>
-    ensures { Decides (rows.reduced_to (trees.span_of (tree whole.now)) reduction so_far.now) result }
+    ensures { Yields (rows.reduced_to (trees.span_of (tree whole.now)) reduction so_far.now) result }
 {
     match so_far {
         None => nothing_reduced(whole, reduction),

@@ -4,41 +4,41 @@ ghost use Rattle.std.specs.Prelude.{◌∷◌, [], Bool};
 ghost use Rattle.net_tree.specs.Spans as trees;
 ghost use Rattle.net_tree.specs.View.{tree};
 ghost use Rattle.net_expr.specs.Operators as operators;
-ghost use Rattle.net_fault.specs.Outcomes.{Answers, Outcome, and_then, Decides};
+ghost use Rattle.net_fault.specs.Outcomes.{Refines, Outcome, and_then, Yields};
 ghost use Rattle.net_expr.specs.declared.value.Value.{Value as Found};
 
-use crate::fault::refuse_tree;
+use crate::fault::reject_tree;
 use crate::number::of_numbers;
 use crate::set::{belongs, contained, cross_values, of_sets};
 use crate::value::Value;
-use net_fault::{Defect, Fault, Span};
+use net_fault::{ErrorCode, Fault, Span};
 use net_sets::Member;
 use net_tree::{BinOp, Expr};
 use std::alloc::Global;
 
 /// Returns whether two members are equal.
 fn same<'s>(whole: &Expr<'_>, x: &Value<'_, 's>, y: &Value<'_, 's>) -> Result<bool, Fault>
-    ensures { Answers (operators.same (trees.span_of (tree whole.now)) x.now y.now) result }
+    ensures { Refines (operators.same (trees.span_of (tree whole.now)) x.now y.now) result }
 {
     match (x, y) {
         (Value::One(a), Value::One(b)) => Ok(*a == *b),
-        _ => Err(refuse_tree(Defect::KindMismatch, whole)),
+        _ => Err(reject_tree(ErrorCode::KindMismatch, whole)),
     }
 }
 
 /// Returns a value as a truth value, or `KindMismatch` at the whole if it is not one.
 pub fn truth(whole: &Expr<'_>, value: &Value<'_, '_>) -> Result<bool, Fault>
-    ensures { Decides (operators.truth (trees.span_of (tree whole.now)) value.now) result }
+    ensures { Yields (operators.truth (trees.span_of (tree whole.now)) value.now) result }
 {
     match value {
         Value::Truth(truth) => Ok(*truth),
-        _ => Err(refuse_tree(Defect::KindMismatch, whole)),
+        _ => Err(reject_tree(ErrorCode::KindMismatch, whole)),
     }
 }
 
 /// Returns the result of an evaluation as a truth value.
 pub(crate) fn truth_of(whole: &Expr<'_>, value: Result<Value<'_, '_>, Fault>) -> Result<bool, Fault>
-    ensures { (wanted : Outcome Found) → Answers wanted value.entry → Answers (and_then wanted (operators.truth (trees.span_of (tree whole.now)))) result }
+    ensures { (wanted : Outcome Found) → Refines wanted value.entry → Refines (and_then wanted (operators.truth (trees.span_of (tree whole.now)))) result }
 {
     match value {
         Ok(value) => truth(whole, &value),
@@ -49,12 +49,12 @@ pub(crate) fn truth_of(whole: &Expr<'_>, value: Result<Value<'_, '_>, Fault>) ->
 /// Returns the result of the condition of an indexing expression as a truth value; errors have the
 /// span of the braces.
 pub(crate) fn truth_at(at: Span, value: Result<Value<'_, '_>, Fault>) -> Result<bool, Fault>
-    ensures { (wanted : Outcome Found) → Answers wanted value.entry → Answers (and_then wanted (operators.truth at)) result }
+    ensures { (wanted : Outcome Found) → Refines wanted value.entry → Refines (and_then wanted (operators.truth at)) result }
 {
     match value {
         Ok(value) => match &value {
             Value::Truth(truth) => Ok(*truth),
-            _ => Err(Fault::of_model(Defect::KindMismatch, at)),
+            _ => Err(Fault::of_model(ErrorCode::KindMismatch, at)),
         },
         Err(fault) => Err(fault),
     }
@@ -66,7 +66,7 @@ pub(crate) fn decided<'w, 's>(
     whole: &Expr<'_>,
     value: &Value<'_, 's>,
 ) -> Result<Option<Value<'w, 's>>, Fault>
-    ensures { Decides (operators.decided operation (trees.span_of (tree whole.now)) value.now) result }
+    ensures { Yields (operators.decided operation (trees.span_of (tree whole.now)) value.now) result }
 {
     match operation {
         BinOp::And => {
@@ -89,7 +89,7 @@ pub(crate) fn decided<'w, 's>(
 
 /// Returns a truth value as a value.
 fn as_truth<'w, 's>(found: Result<bool, Fault>) -> Result<Value<'w, 's>, Fault>
-    ensures { (wanted : Outcome Bool) → Answers wanted found → Answers (operators.as_truth wanted) result }
+    ensures { (wanted : Outcome Bool) → Refines wanted found → Refines (operators.as_truth wanted) result }
 {
     let holds = found?;
     Ok(Value::Truth(holds))
@@ -97,7 +97,7 @@ fn as_truth<'w, 's>(found: Result<bool, Fault>) -> Result<Value<'w, 's>, Fault>
 
 /// Returns the negation of a condition as a value.
 pub(crate) fn as_denial<'w, 's>(found: Result<bool, Fault>) -> Result<Value<'w, 's>, Fault>
-    ensures { (wanted : Outcome Bool) → Answers wanted found → Answers (operators.as_denial wanted) result }
+    ensures { (wanted : Outcome Bool) → Refines wanted found → Refines (operators.as_denial wanted) result }
 {
     let holds = found?;
     Ok(Value::Truth(!holds))
@@ -109,7 +109,7 @@ fn right_truth<'w, 's>(
     x: &Value<'_, 's>,
     y: &Value<'_, 's>,
 ) -> Result<Value<'w, 's>, Fault>
-    ensures { Decides (operators.as_truth (and_then (operators.truth (trees.span_of (tree whole.now)) x.now)
+    ensures { Yields (operators.as_truth (and_then (operators.truth (trees.span_of (tree whole.now)) x.now)
         (λ b. operators.truth (trees.span_of (tree whole.now)) y.now))) result }
 {
     let _left = truth(whole, x)?;
@@ -125,7 +125,7 @@ pub(crate) fn apply<'w, 's>(
     x: &Value<'_, 's>,
     y: &Value<'_, 's>,
 ) -> Result<Value<'w, 's>, Fault>
-    ensures { Answers (operators.apply operation (trees.span_of (tree whole.now)) x.now y.now) result }
+    ensures { Refines (operators.apply operation (trees.span_of (tree whole.now)) x.now y.now) result }
 {
     match operation {
         BinOp::Plus
@@ -148,16 +148,16 @@ pub(crate) fn apply<'w, 's>(
         BinOp::Within => as_truth(contained(whole, x, y)),
         BinOp::NotWithin => as_denial(contained(whole, x, y)),
         BinOp::And | BinOp::Or => right_truth(whole, x, y),
-        BinOp::Range | BinOp::Other => Err(refuse_tree(Defect::KindMismatch, whole)),
+        BinOp::Range | BinOp::Other => Err(reject_tree(ErrorCode::KindMismatch, whole)),
     }
 }
 
 /// Returns a value as a number or string, or an error if it is neither.
 pub(crate) fn member_of<'s>(whole: &Expr<'_>, value: &Value<'_, 's>) -> Result<Member<'s>, Fault>
-    ensures { Decides (operators.member (trees.span_of (tree whole.now)) value.now) result }
+    ensures { Yields (operators.member (trees.span_of (tree whole.now)) value.now) result }
 {
     match value {
-        Value::One(member) => Ok(member.again()),
-        _ => Err(refuse_tree(Defect::KindMismatch, whole)),
+        Value::One(member) => Ok(member.copied()),
+        _ => Err(reject_tree(ErrorCode::KindMismatch, whole)),
     }
 }

@@ -5,15 +5,15 @@ ghost use Rattle.net_tree.specs.Spans as trees;
 ghost use Rattle.net_tree.specs.View.{tree};
 ghost use Rattle.net_expr.specs.Limits.{is_small};
 ghost use Rattle.net_expr.specs.Numbers as numbers;
-ghost use Rattle.net_fault.specs.Outcomes.{Answers, Outcome, and_then, Decides};
+ghost use Rattle.net_fault.specs.Outcomes.{Refines, Outcome, and_then, Yields};
 ghost use Rattle.net_expr.specs.declared.value.Value.{Value as Found};
 
-use crate::fault::refuse_tree;
+use crate::fault::reject_tree;
 use crate::limits::is_small;
 use crate::number::number_of;
 use crate::set::made;
 use crate::value::Value;
-use net_fault::{Defect, Fault};
+use net_fault::{ErrorCode, Fault};
 use net_sets::Range;
 use net_tree::Expr;
 use net_views::Items;
@@ -30,7 +30,7 @@ fn range_within<'w, 's>(
 ) -> Result<Value<'w, 's>, Fault>
     requires small { IsTrue (numbers.are_small first.now last.now by.now) }
     requires moves { int_lt by.now (pos 1) ≡ false }
-    ensures { Answers (numbers.range_within (trees.span_of (tree whole.now)) first.now last.now by.now) result }
+    ensures { Refines (numbers.range_within (trees.span_of (tree whole.now)) first.now last.now by.now) result }
 {
     let range = Range {
         first: *first,
@@ -54,24 +54,24 @@ fn are_small(first: &i64, last: &i64, by: &i64) -> bool
 
 /// Returns an error unless the step is at least 1.
 fn check_step(whole: &Expr<'_>, by: &i64) -> Result<(), Fault>
-    ensures value { Decides (numbers.step (trees.span_of (tree whole.now)) by.now) result }
+    ensures value { Yields (numbers.step (trees.span_of (tree whole.now)) by.now) result }
     ensures moves { OnOk result (int_lt by.now (pos 1) ≡ false) }
 {
     if *by < 1 {
-        Err(refuse_tree(Defect::DivMod, whole))
+        Err(reject_tree(ErrorCode::DivMod, whole))
     } else {
         Ok(())
     }
 }
 
 fn check_size(whole: &Expr<'_>, first: &i64, last: &i64, by: &i64) -> Result<(), Fault>
-    ensures value { Decides (numbers.size (trees.span_of (tree whole.now)) first.now last.now by.now) result }
+    ensures value { Yields (numbers.size (trees.span_of (tree whole.now)) first.now last.now by.now) result }
     ensures small { OnOk result (IsTrue (numbers.are_small first.now last.now by.now)) }
 {
     if are_small(first, last, by) {
         Ok(())
     } else {
-        Err(refuse_tree(Defect::ValueTooLarge, whole))
+        Err(reject_tree(ErrorCode::ValueTooLarge, whole))
     }
 }
 
@@ -82,7 +82,7 @@ fn range<'w, 's>(
     last: &i64,
     by: &i64,
 ) -> Result<Value<'w, 's>, Fault>
-    ensures { Answers (numbers.range (trees.span_of (tree whole.now)) first.now last.now by.now) result }
+    ensures { Refines (numbers.range (trees.span_of (tree whole.now)) first.now last.now by.now) result }
 {
     check_step(whole, by)?;
     check_size(whole, first, last, by)?;
@@ -95,7 +95,7 @@ fn range_of_two<'w, 's>(
     x: &Value<'_, 's>,
     y: &Value<'_, 's>,
 ) -> Result<Value<'w, 's>, Fault>
-    ensures { Answers (numbers.range_of (trees.span_of (tree whole.now)) (x.now ∷ y.now ∷ [])) result }
+    ensures { Refines (numbers.range_of (trees.span_of (tree whole.now)) (x.now ∷ y.now ∷ [])) result }
 {
     let first = number_of(whole, x)?;
     let last = number_of(whole, y)?;
@@ -109,7 +109,7 @@ fn range_of_three<'w, 's>(
     y: &Value<'_, 's>,
     z: &Value<'_, 's>,
 ) -> Result<Value<'w, 's>, Fault>
-    ensures { Answers (numbers.range_of (trees.span_of (tree whole.now)) (x.now ∷ y.now ∷ z.now ∷ [])) result }
+    ensures { Refines (numbers.range_of (trees.span_of (tree whole.now)) (x.now ∷ y.now ∷ z.now ∷ [])) result }
 {
     let first = number_of(whole, x)?;
     let last = number_of(whole, y)?;
@@ -122,13 +122,13 @@ fn range_between<'w, 's>(
     whole: &Expr<'_>,
     values: &[Value<'_, 's>],
 ) -> Result<Value<'w, 's>, Fault>
-    ensures { Answers (numbers.range_of (trees.span_of (tree whole.now)) values.now) result }
+    ensures { Refines (numbers.range_of (trees.span_of (tree whole.now)) values.now) result }
 {
     match values {
         [x, y] => range_of_two(alloc, whole, x, y),
         [x, y, z] => range_of_three(alloc, whole, x, y, z),
-        [] | [_] => Err(refuse_tree(Defect::KindMismatch, whole)),
-        [_, _, _, _, ..] => Err(refuse_tree(Defect::KindMismatch, whole)),
+        [] | [_] => Err(reject_tree(ErrorCode::KindMismatch, whole)),
+        [_, _, _, _, ..] => Err(reject_tree(ErrorCode::KindMismatch, whole)),
     }
 }
 
@@ -138,8 +138,8 @@ pub(crate) fn range_of<'w, 's>(
     whole: &Expr<'_>,
     values: Result<Items<Value<'_, 's>>, Fault>,
 ) -> Result<Value<'w, 's>, Fault>
-    ensures { (wanted : Outcome (List Found)) → Answers wanted values.entry
-        → Answers (and_then wanted (numbers.range_of (trees.span_of (tree whole.now)))) result }
+    ensures { (wanted : Outcome (List Found)) → Refines wanted values.entry
+        → Refines (and_then wanted (numbers.range_of (trees.span_of (tree whole.now)))) result }
 {
     let values = values?;
     range_between(alloc, whole, values.as_slice())

@@ -4,7 +4,7 @@ ghost use Rattle.std.specs.Prelude.{◌≡◌, ◌++◌, OnOk, IfOk, string_byte
 ghost use Rattle.std.specs.Fmt.{signed_decimal};
 ghost use Rattle.net_expr.specs.References as texts;
 ghost use Rattle.net_expr.specs.Worlds as worlds;
-ghost use Rattle.net_fault.specs.declared.detail.Detail.TheVariants.{Told};
+ghost use Rattle.net_fault.specs.declared.detail.Detail.TheVariants.{Reported};
 
 use itoa::Buffer;
 use net_fault::Detail;
@@ -101,7 +101,7 @@ pub fn push_reference(
 
 /// Returns a parameter, a node or an arc as errors report it: with its key if it is indexed. Fails
 /// only if memory runs out.
-pub fn told_reference(
+pub fn reported_reference(
     alloc: Global,
     name: &Excerpt<'_>,
     keys: Option<u8>,
@@ -111,5 +111,5 @@ pub fn told_reference(
 {
     let mut text = String::new(alloc);
     push_reference(alloc, &mut text, name, keys.is_some(), key)?;
-    Ok(Detail::Told(OwnedText::new(text)))
+    Ok(Detail::Reported(OwnedText::new(text)))
 }

@@ -5,13 +5,13 @@ ghost use Rattle.net_tree.specs.Spans as trees;
 ghost use Rattle.net_tree.specs.View.{tree};
 ghost use Rattle.net_expr.specs.Operators as operators;
 ghost use Rattle.net_expr.specs.Rows as rows;
-ghost use Rattle.net_fault.specs.Outcomes.{Answers, Leaves, Outcome, and_then, Decides};
+ghost use Rattle.net_fault.specs.Outcomes.{Refines, Updates, Outcome, and_then, Yields};
 ghost use Rattle.net_expr.specs.declared.value.Value.{Value as Found};
 
-use crate::fault::refuse_tree;
+use crate::fault::reject_tree;
 use crate::scope::Scope;
 use crate::value::Value;
-use net_fault::{Defect, Fault, Span};
+use net_fault::{ErrorCode, Fault, Span};
 use net_sets::{Member, TUPLES_LIMIT, Tuple};
 use net_tree::Expr;
 use net_views::{Excerpt, Items};
@@ -55,7 +55,7 @@ pub(crate) fn keep_if<'s>(
     row: Row<'s>,
     found: &mut Vec<Row<'s>>,
 ) -> Result<(), Fault>
-    ensures { (wanted : Outcome Bool) → Answers wanted holds → Leaves
+    ensures { (wanted : Outcome Bool) → Refines wanted holds → Updates
         (and_then wanted (λ b. Ok (rows.keep row.entry found.old.items b))) result found.new.items }
 {
     let holds = holds?;
@@ -77,10 +77,10 @@ pub(crate) fn as_keys<'s>(width: u8, found: Items<Row<'s>>) -> Keys<'s>
 
 /// Returns the state before the first item.
 pub(crate) fn start<'s>(alloc: Global, scope: &Scope<'s>) -> Result<Place<'s>, Fault>
-    ensures { Answers (Ok (rows.start scope.now)) result }
+    ensures { Refines (Ok (rows.start scope.now)) result }
 {
     Ok(Place {
-        scope: scope.again(alloc)?,
+        scope: scope.copied(alloc)?,
         key: Some(Tuple::new()),
     })
 }
@@ -90,7 +90,7 @@ fn key_again<'s>(key: &Option<Tuple<'s>>) -> Option<Tuple<'s>>
 {
     match key {
         None => None,
-        Some(key) => Some(key.again()),
+        Some(key) => Some(key.copied()),
     }
 }
 
@@ -103,7 +103,7 @@ pub(crate) fn longer_by_one<'s>(key: Option<Tuple<'s>>, member: &Member<'s>) -> 
         Some(key) => {
             if key.len() < 4 {
                 let mut longer = key;
-                longer.add(member.again());
+                longer.add(member.copied());
                 Some(longer)
             } else {
                 None
@@ -130,11 +130,11 @@ fn longer<'s>(key: &Option<Tuple<'s>>, more: &Tuple<'s>) -> Option<Tuple<'s>>
 
 impl<'s> Place<'s> {
     /// Returns a copy of the state. Fails only if memory runs out.
-    pub(crate) fn again(&self, alloc: Global) -> Result<Place<'s>, AllocError>
+    pub(crate) fn copied(&self, alloc: Global) -> Result<Place<'s>, AllocError>
         ensures { IfOk result (λ p. p ≡ self.now) }
     {
         Ok(Place {
-            scope: self.scope.again(alloc)?,
+            scope: self.scope.copied(alloc)?,
             key: key_again(&self.key),
         })
     }
@@ -145,21 +145,21 @@ impl<'s> Place<'s> {
         name: &Excerpt<'s>,
         member: &Member<'s>,
     ) -> Result<Option<Place<'s>>, Fault>
-        ensures { Answers (Ok (Some (rows.bind name.now member.now self.entry))) result }
+        ensures { Refines (Ok (Some (rows.bind name.now member.now self.entry))) result }
     {
         let Place { scope, key } = self;
-        let scope = scope.extended(name.again(), member.again())?;
+        let scope = scope.extended(name.copied(), member.copied())?;
         let key = longer_by_one(key, member);
         Ok(Some(Place { scope, key }))
     }
 
     /// Adds a complete key.
     pub(crate) fn finish(self, at: Span, found: &mut Vec<Row<'s>>) -> Result<(), Fault>
-        ensures { Leaves (rows.finished at self.entry found.old.items) result found.new.items }
+        ensures { Updates (rows.finished at self.entry found.old.items) result found.new.items }
     {
         let Place { scope, key } = self;
         match key {
-            None => Err(Fault::of_model(Defect::Arity, at)),
+            None => Err(Fault::of_model(ErrorCode::Arity, at)),
             Some(key) => add_row(at, scope, key, found),
         }
     }
@@ -167,9 +167,9 @@ impl<'s> Place<'s> {
 
 /// Returns a copy of the state, which is unchanged.
 pub(crate) fn stay<'s>(alloc: Global, place: &Place<'s>) -> Result<Option<Place<'s>>, Fault>
-    ensures { Answers (Ok (Some place.now)) result }
+    ensures { Refines (Ok (Some place.now)) result }
 {
-    Ok(Some(place.again(alloc)?))
+    Ok(Some(place.copied(alloc)?))
 }
 
 /// Returns the state with a tuple appended to its key.
@@ -178,9 +178,9 @@ pub(crate) fn with_key<'s>(
     tuple: &Tuple<'s>,
     place: &Place<'s>,
 ) -> Result<Option<Place<'s>>, Fault>
-    ensures { Answers (Ok (Some (rows.with_key tuple.now place.now))) result }
+    ensures { Refines (Ok (Some (rows.with_key tuple.now place.now))) result }
 {
-    let scope = place.scope.again(alloc)?;
+    let scope = place.scope.copied(alloc)?;
     let key = longer(&place.key, tuple);
     Ok(Some(Place { scope, key }))
 }
@@ -192,12 +192,12 @@ fn matches_value<'s>(
     place: Place<'s>,
     value: &Value<'_, 's>,
 ) -> Result<Option<Place<'s>>, Fault>
-    ensures { Decides (rows.matches_member (trees.span_of (tree whole.now)) member.now place.entry value.now) result }
+    ensures { Yields (rows.matches_member (trees.span_of (tree whole.now)) member.now place.entry value.now) result }
 {
     match value {
         Value::One(found) if *found == *member => Ok(Some(place)),
         Value::One(_) => Ok(None),
-        _ => Err(refuse_tree(Defect::KindMismatch, whole)),
+        _ => Err(reject_tree(ErrorCode::KindMismatch, whole)),
     }
 }
 
@@ -208,8 +208,8 @@ pub(crate) fn matches_member<'s>(
     place: Place<'s>,
     value: Result<Value<'_, 's>, Fault>,
 ) -> Result<Option<Place<'s>>, Fault>
-    ensures { (wanted : Outcome Found) → Answers wanted value.entry
-        → Answers (and_then wanted (rows.matches_member (trees.span_of (tree whole.now)) member.now place.entry)) result }
+    ensures { (wanted : Outcome Found) → Refines wanted value.entry
+        → Refines (and_then wanted (rows.matches_member (trees.span_of (tree whole.now)) member.now place.entry)) result }
 {
     match value {
         Ok(value) => matches_value(whole, member, place, &value),
@@ -224,7 +224,7 @@ fn matches_tuple<'s>(
     place: &Place<'s>,
     found: &Tuple<'s>,
 ) -> Result<Option<Place<'s>>, Fault>
-    ensures { Answers (rows.matches_tuple (trees.span_of (tree whole.now)) tuple.now place.now found.now) result }
+    ensures { Refines (rows.matches_tuple (trees.span_of (tree whole.now)) tuple.now place.now found.now) result }
 {
     if found.len() == tuple.len() {
         if *found == *tuple {
@@ -233,7 +233,7 @@ fn matches_tuple<'s>(
             Ok(None)
         }
     } else {
-        Err(refuse_tree(Defect::Arity, whole))
+        Err(reject_tree(ErrorCode::Arity, whole))
     }
 }
 
@@ -245,14 +245,14 @@ fn matches_tuple_value<'s>(
     place: &Place<'s>,
     value: &Value<'_, 's>,
 ) -> Result<Option<Place<'s>>, Fault>
-    ensures { Answers (rows.matches_as_tuple (trees.span_of (tree whole.now)) tuple.now place.now value.now) result }
+    ensures { Refines (rows.matches_as_tuple (trees.span_of (tree whole.now)) tuple.now place.now value.now) result }
 {
     match value {
         Value::One(found) => {
-            matches_tuple(alloc, whole, tuple, place, &Tuple::single(found.again()))
+            matches_tuple(alloc, whole, tuple, place, &Tuple::single(found.copied()))
         }
         Value::Several(found) => matches_tuple(alloc, whole, tuple, place, found),
-        _ => Err(refuse_tree(Defect::KindMismatch, whole)),
+        _ => Err(reject_tree(ErrorCode::KindMismatch, whole)),
     }
 }
 
@@ -264,8 +264,8 @@ pub(crate) fn matches_as_tuple<'s>(
     place: &Place<'s>,
     value: Result<Value<'_, 's>, Fault>,
 ) -> Result<Option<Place<'s>>, Fault>
-    ensures { (wanted : Outcome Found) → Answers wanted value.entry
-        → Answers (and_then wanted (rows.matches_as_tuple (trees.span_of (tree whole.now)) tuple.now place.now)) result }
+    ensures { (wanted : Outcome Found) → Refines wanted value.entry
+        → Refines (and_then wanted (rows.matches_as_tuple (trees.span_of (tree whole.now)) tuple.now place.now)) result }
 {
     match value {
         Ok(value) => matches_tuple_value(alloc, whole, tuple, place, &value),
@@ -280,11 +280,11 @@ pub(crate) fn bind_first<'s>(
     members: &[Member<'s>],
     place: &Place<'s>,
 ) -> Result<Option<Place<'s>>, Fault>
-    ensures { Answers (rows.bound_first name.now members.now place.now) result }
+    ensures { Refines (rows.bound_first name.now members.now place.now) result }
 {
     match members {
         [] => stay(alloc, place),
-        [member, ..] => place.again(alloc)?.bind(name, member),
+        [member, ..] => place.copied(alloc)?.bind(name, member),
     }
 }
 
@@ -303,16 +303,16 @@ fn add_row<'s>(
     key: Tuple<'s>,
     found: &mut Vec<Row<'s>>,
 ) -> Result<(), Fault>
-    ensures { Leaves (rows.add_row at scope.entry key.entry found.old.items) result found.new.items }
+    ensures { Updates (rows.add_row at scope.entry key.entry found.old.items) result found.new.items }
 {
     if same_arity(&key, found.as_slice()) {
         if found.len() < TUPLES_LIMIT {
             found.push(Row { key, scope })?;
             Ok(())
         } else {
-            Err(Fault::of_model(Defect::TooMany, at))
+            Err(Fault::of_model(ErrorCode::TooMany, at))
         }
     } else {
-        Err(Fault::of_model(Defect::Arity, at))
+        Err(Fault::of_model(ErrorCode::Arity, at))
     }
 }

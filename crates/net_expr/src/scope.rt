@@ -59,7 +59,7 @@ impl<'s> Scope<'s> {
     }
 
     /// Returns a copy of the scope. Fails only if memory runs out.
-    pub fn again(&self, alloc: Global) -> Result<Scope<'s>, AllocError>
+    pub fn copied(&self, alloc: Global) -> Result<Scope<'s>, AllocError>
         ensures { IfOk result (λ s. s ≡ self.now) }
     {
         let mut bindings = Vec::new(alloc);
@@ -78,7 +78,7 @@ impl<'s> Scope<'s> {
     ) -> Result<Scope<'s>, AllocError>
         ensures { IfOk result (λ s. s ≡ with_dummy name.entry member.entry self.now) }
     {
-        self.again(alloc)?.extended(name, member)
+        self.copied(alloc)?.extended(name, member)
     }
 
     /// Adds a new dummy. Fails only if memory runs out.
@@ -119,8 +119,8 @@ fn copy_into<'s>(copies: &mut Vec<Binding<'s>>, bindings: &[Binding<'s>]) -> Res
 {
     for binding in bindings {
         copies.push(Binding {
-            name: binding.name.again(),
-            member: binding.member.again(),
+            name: binding.name.copied(),
+            member: binding.member.copied(),
         })?;
     }
     Ok(())

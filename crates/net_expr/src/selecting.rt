@@ -21,7 +21,7 @@ fn dummy_alone<'s>(scope: &Scope<'s>, component: &Expr<'s>) -> Option<Member<'s>
         None => None,
         Some(name) => match scope.get(name) {
             None => None,
-            Some(member) => Some(member.again()),
+            Some(member) => Some(member.copied()),
         },
     }
 }
@@ -33,7 +33,7 @@ fn is_new<'s>(env: &Env<'_, 's>, scope: &Scope<'s>, component: &Expr<'s>) -> boo
 }
 
 /// Returns the selecting component and its member, among the components after the first.
-fn selecting_behind<'s>(
+fn selecting_after<'s>(
     env: &Env<'_, 's>,
     scope: &Scope<'s>,
     links: &[Link<'s>],
@@ -85,7 +85,7 @@ fn selecting_first<'s>(
         Some(member) => Some((0, member)),
         None => {
             if is_new(env, scope, first) {
-                selecting_behind(env, scope, more)
+                selecting_after(env, scope, more)
             } else {
                 None
             }

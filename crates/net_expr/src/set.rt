@@ -8,12 +8,12 @@ ghost use Rattle.net_fault.specs.declared.span.Span.{Span as Place};
 ghost use Rattle.net_tree.specs.Spans as trees;
 ghost use Rattle.net_tree.specs.View.{tree};
 ghost use Rattle.net_expr.specs.Operators as operators;
-ghost use Rattle.net_fault.specs.Outcomes.{Answers, Decides};
+ghost use Rattle.net_fault.specs.Outcomes.{Refines, Yields};
 ghost use Rattle.net_expr.specs.Sets as sets;
 
-use crate::fault::refuse_tree;
+use crate::fault::reject_tree;
 use crate::value::Value;
-use net_fault::{Defect, Fault};
+use net_fault::{ErrorCode, Fault};
 use net_sets::{
     Cow, SetFault, Tuple, TupleSet, cross, difference, intersection, is_within,
     symmetric_difference, union, widest,
@@ -71,11 +71,11 @@ pub(crate) fn made<'w, 's>(
     dimension: u8,
     set: Result<TupleSet<'s>, SetFault>,
 ) -> Result<Value<'w, 's>, Fault>
-    ensures { (wanted : List Members) → IsMade wanted set.entry → Answers (sets.within_size (trees.span_of (tree whole.now)) dimension wanted) result }
+    ensures { (wanted : List Members) → IsMade wanted set.entry → Refines (sets.within_size (trees.span_of (tree whole.now)) dimension wanted) result }
 {
     match set {
         Ok(set) => Ok(set_value(dimension, set)),
-        Err(SetFault::TooMany) => Err(refuse_tree(Defect::TooMany, whole)),
+        Err(SetFault::TooMany) => Err(reject_tree(ErrorCode::TooMany, whole)),
         Err(SetFault::OutOfMemory) => Err(Fault::OutOfMemory),
     }
 }
@@ -114,10 +114,10 @@ fn set_of<'w, 's>(
     first: &TupleSet<'s>,
     second: &TupleSet<'s>,
 ) -> Result<Value<'w, 's>, Fault>
-    ensures { Answers (sets.set_of (trees.span_of (tree whole.now)) dimension (sets.mixed operation first.now second.now)) result }
+    ensures { Refines (sets.set_of (trees.span_of (tree whole.now)) dimension (sets.mixed operation first.now second.now)) result }
 {
     match dimension {
-        None => Err(refuse_tree(Defect::Arity, whole)),
+        None => Err(reject_tree(ErrorCode::Arity, whole)),
         Some(dimension) => made(whole, dimension, mixed(alloc, operation, first, second)),
     }
 }
@@ -130,7 +130,7 @@ pub(crate) fn of_sets<'w, 's>(
     x: &Value<'_, 's>,
     y: &Value<'_, 's>,
 ) -> Result<Value<'w, 's>, Fault>
-    ensures { Answers (operators.of_sets (trees.span_of (tree whole.now)) (sets.mixed operation) x.now y.now) result }
+    ensures { Refines (operators.of_sets (trees.span_of (tree whole.now)) (sets.mixed operation) x.now y.now) result }
 {
     match (x, y) {
         (Value::Many(d, first), Value::Many(e, second)) => {
@@ -143,7 +143,7 @@ pub(crate) fn of_sets<'w, 's>(
                 second.get(),
             )
         }
-        _ => Err(refuse_tree(Defect::KindMismatch, whole)),
+        _ => Err(reject_tree(ErrorCode::KindMismatch, whole)),
     }
 }
 
@@ -155,17 +155,17 @@ fn crossed<'w, 's>(
     e: Option<u8>,
     second: &TupleSet<'s>,
 ) -> Result<Value<'w, 's>, Fault>
-    ensures { Answers (sets.cross (trees.span_of (tree whole.now)) d first.now e second.now) result }
+    ensures { Refines (sets.cross (trees.span_of (tree whole.now)) d first.now e second.now) result }
 {
     let size = counted(d) + counted(e);
     if size <= 4 && widest(first) + widest(second) <= 4 {
         match cross(alloc, first, second) {
             Ok(set) => Ok(Value::Many(Some(size as u8), Cow::owned(set))),
-            Err(SetFault::TooMany) => Err(refuse_tree(Defect::TooMany, whole)),
+            Err(SetFault::TooMany) => Err(reject_tree(ErrorCode::TooMany, whole)),
             Err(SetFault::OutOfMemory) => Err(Fault::OutOfMemory),
         }
     } else {
-        Err(refuse_tree(Defect::Arity, whole))
+        Err(reject_tree(ErrorCode::Arity, whole))
     }
 }
 
@@ -175,13 +175,13 @@ pub(crate) fn cross_values<'w, 's>(
     x: &Value<'_, 's>,
     y: &Value<'_, 's>,
 ) -> Result<Value<'w, 's>, Fault>
-    ensures { Answers (operators.crossed (trees.span_of (tree whole.now)) x.now y.now) result }
+    ensures { Refines (operators.crossed (trees.span_of (tree whole.now)) x.now y.now) result }
 {
     match (x, y) {
         (Value::Many(d, first), Value::Many(e, second)) => {
             crossed(alloc, whole, *d, first.get(), *e, second.get())
         }
-        _ => Err(refuse_tree(Defect::KindMismatch, whole)),
+        _ => Err(reject_tree(ErrorCode::KindMismatch, whole)),
     }
 }
 
@@ -191,12 +191,12 @@ fn among<'s>(
     dimension: Option<u8>,
     set: &TupleSet<'s>,
 ) -> Result<bool, Fault>
-    ensures { Decides (sets.among (trees.span_of (tree whole.now)) tuple.now dimension set.now) result }
+    ensures { Yields (sets.among (trees.span_of (tree whole.now)) tuple.now dimension set.now) result }
 {
     if fits(dimension, tuple.len()) {
         Ok(set.contains(tuple))
     } else {
-        Err(refuse_tree(Defect::Arity, whole))
+        Err(reject_tree(ErrorCode::Arity, whole))
     }
 }
 
@@ -206,16 +206,21 @@ pub(crate) fn belongs<'s>(
     x: &Value<'_, 's>,
     y: &Value<'_, 's>,
 ) -> Result<bool, Fault>
-    ensures { Answers (operators.belongs (trees.span_of (tree whole.now)) x.now y.now) result }
+    ensures { Refines (operators.belongs (trees.span_of (tree whole.now)) x.now y.now) result }
 {
     match (x, y) {
         (Value::One(member), Value::Many(dimension, set)) => {
-            among(whole, &Tuple::single(member.again()), *dimension, set.get())
+            among(
+                whole,
+                &Tuple::single(member.copied()),
+                *dimension,
+                set.get(),
+            )
         }
         (Value::Several(tuple), Value::Many(dimension, set)) => {
             among(whole, tuple, *dimension, set.get())
         }
-        _ => Err(refuse_tree(Defect::KindMismatch, whole)),
+        _ => Err(reject_tree(ErrorCode::KindMismatch, whole)),
     }
 }
 
@@ -225,10 +230,10 @@ fn inside<'s>(
     first: &TupleSet<'s>,
     second: &TupleSet<'s>,
 ) -> Result<bool, Fault>
-    ensures { Decides (sets.inside (trees.span_of (tree whole.now)) dimension first.now second.now) result }
+    ensures { Yields (sets.inside (trees.span_of (tree whole.now)) dimension first.now second.now) result }
 {
     match dimension {
-        None => Err(refuse_tree(Defect::Arity, whole)),
+        None => Err(reject_tree(ErrorCode::Arity, whole)),
         Some(_) => Ok(is_within(first, second)),
     }
 }
@@ -239,12 +244,12 @@ pub(crate) fn contained<'s>(
     x: &Value<'_, 's>,
     y: &Value<'_, 's>,
 ) -> Result<bool, Fault>
-    ensures { Answers (operators.contained (trees.span_of (tree whole.now)) x.now y.now) result }
+    ensures { Refines (operators.contained (trees.span_of (tree whole.now)) x.now y.now) result }
 {
     match (x, y) {
         (Value::Many(d, first), Value::Many(e, second)) => {
             inside(whole, shared(*d, *e), first.get(), second.get())
         }
-        _ => Err(refuse_tree(Defect::KindMismatch, whole)),
+        _ => Err(reject_tree(ErrorCode::KindMismatch, whole)),
     }
 }

@@ -4,7 +4,7 @@ ghost use Rattle.std.specs.Prelude.{◌≡◌, [], ◌∷◌, Ok};
 ghost use Rattle.std.specs.Option.{option_copied};
 ghost use Rattle.net_tree.specs.Spans as trees;
 ghost use Rattle.net_tree.specs.View.{tree, links_of};
-ghost use Rattle.net_fault.specs.Outcomes.{Answers, Leaves, Decides, and_then};
+ghost use Rattle.net_fault.specs.Outcomes.{Refines, Updates, Yields, and_then};
 ghost use Rattle.net_sets.specs.declared.member.Member.TheVariants.{Number};
 ghost use Rattle.net_expr.specs.Items as items;
 ghost use Rattle.net_expr.specs.Operators as operators;
@@ -14,12 +14,12 @@ ghost use Rattle.net_expr.specs.Values as values;
 ghost use Rattle.net_expr.specs.declared.value.Value.TheVariants.{One};
 
 use crate::eval::evaluate;
-use crate::fault::refuse_tree;
+use crate::fault::reject_tree;
 use crate::item::bare;
 use crate::scope::Scope;
 use crate::value::Value;
 use crate::world::Env;
-use net_fault::{Defect, Fault};
+use net_fault::{ErrorCode, Fault};
 use net_sets::{Member, Tuple};
 use net_tree::{Expr, Link};
 use std::alloc::Global;
@@ -52,7 +52,7 @@ impl<'s> Subscripts<'s> {
         ensures { self.new ≡ subscripts.with_value (One member.now) self.old }
     {
         if self.key.has_room() {
-            self.key.add(member.again());
+            self.key.add(member.copied());
         } else {
             self.too_many = true;
         }
@@ -71,7 +71,7 @@ impl<'s> Subscripts<'s> {
     /// Returns the complete key. Returns `KindMismatch` at the whole if a subscript is not a
     /// member, and `Arity` if there are more than four.
     fn into_key(self, whole: &Expr<'_>) -> Result<Tuple<'s>, Fault>
-        ensures { Decides (and_then (subscripts.so_far (trees.span_of (tree whole.now)) self.entry)
+        ensures { Yields (and_then (subscripts.so_far (trees.span_of (tree whole.now)) self.entry)
             (operators.short_enough (trees.span_of (tree whole.now)))) result }
     {
         let Subscripts {
@@ -80,10 +80,10 @@ impl<'s> Subscripts<'s> {
             unfit,
         } = self;
         if unfit {
-            return Err(refuse_tree(Defect::KindMismatch, whole));
+            return Err(reject_tree(ErrorCode::KindMismatch, whole));
         }
         if too_many {
-            return Err(refuse_tree(Defect::Arity, whole));
+            return Err(reject_tree(ErrorCode::Arity, whole));
         }
         Ok(key)
     }
@@ -108,7 +108,7 @@ fn put<'s>(
     component: &Expr<'s>,
     so_far: &mut Subscripts<'s>,
 ) -> Result<(), Fault>
-    ensures { Leaves (and_then (values.value env.now scope.now (tree component.now)) (λ v. Ok (subscripts.with_value v so_far.old))) result so_far.new }
+    ensures { Updates (and_then (values.value env.now scope.now (tree component.now)) (λ v. Ok (subscripts.with_value v so_far.old))) result so_far.new }
 {
     match dummy_at(scope, component) {
         Some(member) => {
@@ -134,7 +134,7 @@ pub fn key_of<'s>(
     first: &Expr<'s>,
     more: &[Link<'s>],
 ) -> Result<Tuple<'s>, Fault>
-    ensures { Answers (and_then (and_then (values.value env.now scope.now (tree first.now))
+    ensures { Refines (and_then (and_then (values.value env.now scope.now (tree first.now))
         (λ v. values.values env.now scope.now (links_of more.now) (v ∷ []))) (operators.tuple_of (trees.span_of (tree whole.now)))) result }
 {
     let mut so_far = Subscripts::new();

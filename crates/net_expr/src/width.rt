@@ -6,7 +6,7 @@ ghost use Rattle.std.specs.Option.{option_copied, option_map};
 ghost use Rattle.net_tree.specs.View.{tree, braces_of, links_of};
 ghost use Rattle.net_expr.specs.Items as items;
 ghost use Rattle.net_tree.specs.Operations.{operation};
-ghost use Rattle.net_fault.specs.Outcomes.{Answers, Decides};
+ghost use Rattle.net_fault.specs.Outcomes.{Refines, Yields};
 ghost use Rattle.net_expr.specs.Rows as rows;
 ghost use Rattle.net_expr.specs.Sets.{counted};
 ghost use Rattle.net_expr.specs.Widths as widths;
@@ -16,7 +16,7 @@ use crate::item::{any_in, bare, has_in, links_len, new_dummy};
 use crate::row::Row;
 use crate::scope::Scope;
 use crate::world::{Entry, Env};
-use net_fault::{Defect, Fault, Span};
+use net_fault::{ErrorCode, Fault, Span};
 use net_sets::Member;
 use net_tree::{BinOp, Braces, Expr, Link, sides_of};
 use net_views::Excerpt;
@@ -141,7 +141,7 @@ fn begin<'s>(alloc: Global, scope: &Scope<'s>) -> Result<Shape<'s>, AllocError>
     ensures { IfOk result (λ f. f ≡ widths.begin scope.now) }
 {
     Ok(Shape {
-        scope: scope.again(alloc)?,
+        scope: scope.copied(alloc)?,
         count: 0,
         indexes: true,
     })
@@ -158,7 +158,7 @@ fn with_component<'s>(
     match new_dummy(env, &form.scope, component) {
         None => Ok(form),
         Some(name) => {
-            let scope = form.scope.with(alloc, name.again(), Member::Number(0))?;
+            let scope = form.scope.with(alloc, name.copied(), Member::Number(0))?;
             Ok(Shape {
                 scope,
                 count: capped_sum(form.count, 1),
@@ -355,16 +355,16 @@ fn with_item<'s>(
 }
 
 fn width_of_form(at: Span, form: &Shape<'_>) -> Result<u8, Fault>
-    ensures { Decides (widths.width_of_form at form.now) result }
+    ensures { Yields (widths.width_of_form at form.now) result }
 {
     if form.indexes {
         if form.count <= 4 {
             Ok(form.count)
         } else {
-            Err(Fault::of_model(Defect::Arity, at))
+            Err(Fault::of_model(ErrorCode::Arity, at))
         }
     } else {
-        Err(Fault::of_model(Defect::KindMismatch, at))
+        Err(Fault::of_model(ErrorCode::KindMismatch, at))
     }
 }
 
@@ -374,7 +374,7 @@ fn width_by_form<'s>(
     scope: &Scope<'s>,
     items: &Inside<'_, 's>,
 ) -> Result<u8, Fault>
-    ensures { Answers (widths.width_by_form items.now.at env.now scope.now (tree items.now.first.now) (links_of items.now.more.now)) result }
+    ensures { Refines (widths.width_by_form items.now.at env.now scope.now (tree items.now.first.now) (links_of items.now.more.now)) result }
 {
     let form = items_form(alloc, env, scope, items.first, items.more)?;
     width_of_form(items.at, &form)
@@ -388,7 +388,7 @@ pub(crate) fn width<'s>(
     items: &Inside<'_, 's>,
     found: &[Row<'s>],
 ) -> Result<u8, Fault>
-    ensures { Answers (rows.width_of found.now (widths.width_by_form items.now.at env.now scope.now (tree items.now.first.now)
+    ensures { Refines (rows.width_of found.now (widths.width_by_form items.now.at env.now scope.now (tree items.now.first.now)
         (links_of items.now.more.now))) result }
 {
     match found {

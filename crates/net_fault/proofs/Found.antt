@@ -1,4 +1,4 @@
--- How findings go through what definitions are made of.
+-- How diagnostics go through what definitions are made of.
 use Rattle.std.specs.Prelude.{⊤, Bool, true, false, List, [], ◌∷◌, Option, None, Some, if◌then◌else◌, Ok, Err}
 use Rattle.std.specs.List.{AllByRecursion}
 use Rattle.net_fault.specs.Outcomes.{Outcome, and_then, each}
@@ -43,14 +43,14 @@ pub found_gives : (P : Places) {A : Type 0} (o : Outcome A) → Finds P o → Gi
 found_gives P (Ok a) h = tt
 found_gives P (Err r) h = h
 
--- what goes on from where only the finding counts
-pub gives_behind : (P : Places) {A B : Type 0} (R : B → Type 0) (o : Outcome A) (f : A → Outcome B) → Finds P o → ((a : A) → Gives P R (f a)) → Gives P R (and_then o f)
-gives_behind P R (Ok a) f h k = k a
-gives_behind P R (Err r) f h k = h
+-- what goes on from where only the diagnostic counts
+pub gives_after : (P : Places) {A B : Type 0} (R : B → Type 0) (o : Outcome A) (f : A → Outcome B) → Finds P o → ((a : A) → Gives P R (f a)) → Gives P R (and_then o f)
+gives_after P R (Ok a) f h k = k a
+gives_after P R (Err r) f h k = h
 
-pub finds_behind : (P : Places) {A B : Type 0} (Q : A → Type 0) (o : Outcome A) (f : A → Outcome B) → Gives P Q o → ((a : A) → Q a → Finds P (f a)) → Finds P (and_then o f)
-finds_behind P Q (Ok a) f h k = k a h
-finds_behind P Q (Err r) f h k = h
+pub finds_after : (P : Places) {A B : Type 0} (Q : A → Type 0) (o : Outcome A) (f : A → Outcome B) → Gives P Q o → ((a : A) → Q a → Finds P (f a)) → Finds P (and_then o f)
+finds_after P Q (Ok a) f h k = k a h
+finds_after P Q (Err r) f h k = h
 
 pub finds_each_of : (P : Places) {A B : Type 0} (R : A → Type 0) (f : A → B → Outcome B) → ((x : A) → R x → (y : B) → Finds P (f x y)) → (xs : List A) → AllByRecursion R xs → (y : B) → Finds P (each f xs y)
 finds_each_of P R f h [] k y = tt

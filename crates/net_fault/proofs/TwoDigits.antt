@@ -1,11 +1,11 @@
 -- A number of an error is printed with two digits.
 use Rattle.std.specs.Prelude.{◌≡◌, refl, ℕ, ◌/◌, ◌%◌, ◌^◌, ◌-◌, List, ◌++◌, decimal}
 use Rattle.std.specs.Fmt.{format_spec, styled_decimal, digits, padded_integral, char_count}
-use Rattle.net_fault.specs.declared.defect.Defect.{Defect}
-use Rattle.net_fault.specs.declared.defect.Defect.TheVariants.{BadCharacter, OpenString, OpenComment, NotWhole, NumeralTooLarge, NotUtf8, TextTooLong, ModelSyntax, TooDeep, Undeclared, Redeclared, LeftOut, Gain, NetPlace, DataSyntax, RowWidth, TableWidth, NoSuchName, DoubleValue, NoValue, OutsideSet, Restriction, CheckFailed, KindMismatch, Arity, DivMod, ValueTooLarge, TooMany, NoSuchNode, NoLower, NoUpper, ArcCrossed, NodeCrossed, NoEnds, NoObjective, TwoObjectives, NotLinear, TooManyNodes, TooManyArcs, NoSuchObjective}
-use Rattle.net_fault.specs.Defects.{number_of}
+use Rattle.net_fault.specs.declared.error_code.ErrorCode.{ErrorCode}
+use Rattle.net_fault.specs.declared.error_code.ErrorCode.TheVariants.{BadCharacter, OpenString, OpenComment, NotWhole, NumeralTooLarge, NotUtf8, TextTooLong, ModelSyntax, TooDeep, Undeclared, Redeclared, LeftOut, Gain, NetPlace, DataSyntax, RowWidth, TableWidth, NoSuchName, DoubleValue, NoValue, OutsideSet, Restriction, CheckFailed, KindMismatch, Arity, DivMod, ValueTooLarge, TooMany, NoSuchNode, NoLower, NoUpper, ArcCrossed, NodeCrossed, NoEnds, NoObjective, TwoObjectives, NotLinear, TooManyNodes, TooManyArcs, NoSuchObjective}
+use Rattle.net_fault.specs.ErrorCodes.{number_of}
 
-pub two_digits : (d : Defect) → styled_decimal (format_spec 32 0 4 2 (2 ^ 64 - 1)) (number_of d) ≡ decimal (number_of d / 10) ++ decimal (number_of d % 10)
+pub two_digits : (d : ErrorCode) → styled_decimal (format_spec 32 0 4 2 (2 ^ 64 - 1)) (number_of d) ≡ decimal (number_of d / 10) ++ decimal (number_of d % 10)
 unfolding digits padded_integral char_count
 two_digits BadCharacter = refl
 two_digits OpenString = refl

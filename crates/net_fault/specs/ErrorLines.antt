@@ -1,14 +1,14 @@
 -- How an error of a model or its data is shown if the text itself is not at hand, so that its position is in bytes.
 use Rattle.std.specs.Prelude.{ℕ, ◌/◌, ◌%◌, List, [], ◌++◌, codes, decimal}
-use Rattle.net_fault.specs.declared.defect.Defect.{Defect}
+use Rattle.net_fault.specs.declared.error_code.ErrorCode.{ErrorCode}
 use Rattle.net_fault.specs.declared.detail.Detail.{Detail}
-use Rattle.net_fault.specs.declared.detail.Detail.TheVariants.{Nothing, Told}
+use Rattle.net_fault.specs.declared.detail.Detail.TheVariants.{Nothing, Reported}
 use Rattle.net_fault.specs.declared.fault.Fault.{Fault}
 use Rattle.net_fault.specs.declared.fault.Fault.TheVariants.{OutOfMemory, At}
-use Rattle.net_fault.specs.declared.finding.Finding.{Finding}
+use Rattle.net_fault.specs.declared.diagnostic.Diagnostic.{Diagnostic}
 use Rattle.net_fault.specs.declared.language.Language.{Language}
 use Rattle.net_fault.specs.declared.language.Language.TheVariants.{Model, Data}
-use Rattle.net_fault.specs.Defects.{number_of, name_of}
+use Rattle.net_fault.specs.ErrorCodes.{number_of, name_of}
 
 abbrev pub language_word : Language → List ℕ
 language_word Model = codes "model"
@@ -19,19 +19,19 @@ abbrev pub code_of : ℕ → List ℕ
 code_of number = codes "E" ++ (decimal (number / 10) ++ decimal (number % 10))
 
 -- as `E04 NotWhole`
-abbrev pub defect_shown : Defect → List ℕ
-defect_shown d = code_of (number_of d) ++ (codes " " ++ name_of d)
+abbrev pub error_code_shown : ErrorCode → List ℕ
+error_code_shown d = code_of (number_of d) ++ (codes " " ++ name_of d)
 
 -- a colon and the detail, if there is one
 abbrev pub detail_shown : Detail → List ℕ
 detail_shown Nothing = []
-detail_shown (Told text) = codes ": " ++ text
+detail_shown (Reported text) = codes ": " ++ text
 
 -- as `E12 Undeclared in the model, bytes 30..31: B`
-abbrev pub finding_shown : Finding → List ℕ
-finding_shown x = defect_shown x.defect ++ (codes " in the " ++ (language_word x.text ++ (codes ", bytes "
+abbrev pub diagnostic_shown : Diagnostic → List ℕ
+diagnostic_shown x = error_code_shown x.error_code ++ (codes " in the " ++ (language_word x.text ++ (codes ", bytes "
     ++ (decimal x.at.start ++ (codes ".." ++ (decimal x.at.end ++ detail_shown x.detail))))))
 
 abbrev pub fault_shown : Fault → List ℕ
 fault_shown OutOfMemory = codes "out of memory"
-fault_shown (At x) = finding_shown x
+fault_shown (At x) = diagnostic_shown x

@@ -1,4 +1,4 @@
-pub mod Defects
+pub mod ErrorCodes
 pub mod ErrorLines
 pub mod Outcomes
 pub mod Places

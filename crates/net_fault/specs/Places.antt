@@ -6,7 +6,7 @@ use Rattle.net_fault.specs.declared.language.Language.TheVariants.{Model, Data}
 use Rattle.net_fault.specs.Outcomes.{Outcome}
 
 -- a span in a text with this many bytes
-pub record LiesIn (size : ℕ) (at : Span) : Type 0 where
+pub record IsSpanIn (size : ℕ) (at : Span) : Type 0 where
   pub forward : at.start ≤ at.end
   pub inside : at.end ≤ size
 
@@ -20,6 +20,6 @@ Finds P (Ok a) = ⊤
 Finds P (Err r) = P r.text r.at
 
 -- the spans in a model and in a data file with these sizes in bytes
-abbrev pub LieIn : (model_size data_size : ℕ) → Places
-LieIn model_size data_size Model at = LiesIn model_size at
-LieIn model_size data_size Data at = LiesIn data_size at
+abbrev pub IsInFiles : (model_size data_size : ℕ) → Places
+IsInFiles model_size data_size Model at = IsSpanIn model_size at
+IsInFiles model_size data_size Data at = IsSpanIn data_size at

@@ -1,7 +1,7 @@
 //! The detail of an error, such as a name with its key.
 
 ghost use Rattle.std.specs.Prelude.{◌≡◌, IfOk};
-ghost use Rattle.net_fault.specs.declared.detail.Detail.TheVariants.{Told};
+ghost use Rattle.net_fault.specs.declared.detail.Detail.TheVariants.{Reported};
 
 use net_views::{Excerpt, OwnedText};
 use std::alloc::{AllocError, Global};
@@ -12,16 +12,16 @@ use std::fmt;
 pub enum Detail {
     Nothing,
     /// A name, with its key if it is indexed, as it is printed: `Ship['PITT','NE']`.
-    Told(OwnedText),
+    Reported(OwnedText),
 }
 
 impl Detail {
     /// Builds a detail from a name. Fails only if memory runs out.
     pub fn of_name(alloc: Global, name: &Excerpt<'_>) -> Result<Detail, AllocError>
-        ensures { IfOk result (λ d. d ≡ Told name.now) }
+        ensures { IfOk result (λ d. d ≡ Reported name.now) }
     {
         let text = String::from_str(alloc, name.as_str())?;
-        Ok(Detail::Told(OwnedText::new(text)))
+        Ok(Detail::Reported(OwnedText::new(text)))
     }
 }
 
@@ -35,7 +35,7 @@ impl fmt::Display for Detail {
     fn fmt<W: fmt::Write>(&self, f: &mut fmt::Formatter<W>) -> fmt::Result {
         match self {
             Detail::Nothing => Ok(()),
-            Detail::Told(text) => {
+            Detail::Reported(text) => {
                 let text = text.as_str();
                 write!(f, ": {text}")
             }

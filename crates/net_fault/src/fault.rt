@@ -5,9 +5,9 @@ ghost use Rattle.net_fault.specs.Outcomes.{bare, found};
 ghost use Rattle.net_fault.specs.declared.fault.Fault.TheVariants.{At};
 ghost use Rattle.net_fault.specs.declared.language.Language.TheVariants.{Model as InModel, Data as InData};
 
-use crate::defect::Defect;
 use crate::detail::Detail;
-use crate::finding::Finding;
+use crate::diagnostic::Diagnostic;
+use crate::error_code::ErrorCode;
 use crate::language::Language;
 use crate::span::Span;
 use std::alloc::{AllocError, AllocFailed};
@@ -18,16 +18,16 @@ use thiserror::Error;
 #[derive(Debug, Drop, Error)]
 pub enum Fault {
     OutOfMemory,
-    At(Finding),
+    At(Diagnostic),
 }
 
 impl Fault {
     /// Builds an error in a file, with its detail.
-    pub fn of_text(text: Language, defect: Defect, at: Span, detail: Detail) -> Fault
-        ensures { result ≡ At (found text defect at detail) }
+    pub fn of_text(text: Language, error_code: ErrorCode, at: Span, detail: Detail) -> Fault
+        ensures { result ≡ At (found text error_code at detail) }
     {
-        Fault::At(Finding {
-            defect,
+        Fault::At(Diagnostic {
+            error_code,
             text,
             at,
             detail,
@@ -35,17 +35,17 @@ impl Fault {
     }
 
     /// Builds an error in the model, without a detail.
-    pub fn of_model(defect: Defect, at: Span) -> Fault
-        ensures { result ≡ At (bare InModel defect at) }
+    pub fn of_model(error_code: ErrorCode, at: Span) -> Fault
+        ensures { result ≡ At (bare InModel error_code at) }
     {
-        Fault::of_text(Language::Model, defect, at, Detail::Nothing)
+        Fault::of_text(Language::Model, error_code, at, Detail::Nothing)
     }
 
     /// Builds an error in the data, without a detail.
-    pub fn of_data(defect: Defect, at: Span) -> Fault
-        ensures { result ≡ At (bare InData defect at) }
+    pub fn of_data(error_code: ErrorCode, at: Span) -> Fault
+        ensures { result ≡ At (bare InData error_code at) }
     {
-        Fault::of_text(Language::Data, defect, at, Detail::Nothing)
+        Fault::of_text(Language::Data, error_code, at, Detail::Nothing)
     }
 }
 
@@ -59,7 +59,7 @@ impl fmt::Display for Fault {
     fn fmt<W: fmt::Write>(&self, f: &mut fmt::Formatter<W>) -> fmt::Result {
         match self {
             Fault::OutOfMemory => f.write_str("out of memory"),
-            Fault::At(finding) => write!(f, "{finding}"),
+            Fault::At(diagnostic) => write!(f, "{diagnostic}"),
         }
     }
 }
@@ -70,7 +70,7 @@ impl From<AllocError> for Fault {
 
     ghost from_gives = { λ _ e. e ≡ OutOfMemory };
 
-    fn from(_refused: AllocError) -> Fault {
+    fn from(_rejected: AllocError) -> Fault {
         Fault::OutOfMemory
     }
 }
@@ -81,7 +81,7 @@ impl<T: Drop> From<AllocFailed<T>> for Fault {
 
     ghost from_gives = { λ _ e. e ≡ OutOfMemory };
 
-    fn from(_refused: AllocFailed<T>) -> Fault {
+    fn from(_rejected: AllocFailed<T>) -> Fault {
         Fault::OutOfMemory
     }
 }

@@ -1,16 +1,16 @@
 //! Errors in a model and its data: error codes, spans and details.
 #![tactic(auto)]
 
-mod defect;
 mod detail;
+mod diagnostic;
+mod error_code;
 mod fault;
-mod finding;
 mod language;
 mod span;
 
-pub use defect::Defect;
 pub use detail::Detail;
+pub use diagnostic::Diagnostic;
+pub use error_code::ErrorCode;
 pub use fault::Fault;
-pub use finding::Finding;
 pub use language::Language;
 pub use span::Span;

@@ -3,7 +3,7 @@
 //! Orlin: Network Flows, section 11.3.
 
 use crate::halt::Halt;
-use crate::tree::{NO_NODE, Rooms, Tree};
+use crate::tree::{NO_NODE, Residuals, Tree};
 
 /// How to re-attach a subtree.
 #[derive(Clone, Copy)]
@@ -16,7 +16,7 @@ pub struct Attachment {
     pub parent: u32,
     /// The arc between them, and its residual capacities.
     pub arc: u32,
-    pub rooms: Rooms,
+    pub rooms: Residuals,
     /// The lowest common ancestor of both parents.
     pub join: u32,
 }
@@ -73,7 +73,7 @@ impl Tree {
         node.parent = attachment.parent;
         node.arc = attachment.arc;
         self.put_node(root, node);
-        self.put_rooms(root, attachment.rooms);
+        self.put_residuals(root, attachment.rooms);
         if self.thread(attachment.parent).next == root {
             return;
         }
@@ -93,7 +93,7 @@ impl Tree {
         turned: &mut Vec<u32>,
     ) -> Result<(), Halt> {
         let parent = attachment.parent;
-        let behind_all = if before.previous == parent {
+        let after_all = if before.previous == parent {
             self.thread(before.last).next
         } else {
             self.thread(parent).next
@@ -116,7 +116,7 @@ impl Tree {
             turn = self.turn_node(turn);
         }
         self.set_parent(attachment.leaving, turn.above);
-        self.follow(turn.last, behind_all);
+        self.follow(turn.last, after_all);
         self.set_last(attachment.leaving, turn.last);
         if before.previous != parent {
             self.follow(before.previous, turn.behind);
@@ -171,7 +171,7 @@ impl Tree {
             node.arc = below.arc;
             self.put_node(place, node);
             let rooms = self.rooms(node.parent);
-            self.put_rooms(place, rooms.turned());
+            self.put_residuals(place, rooms.turned());
             below.last = last;
             self.put_node(node.parent, below);
             place = node.parent;
@@ -180,7 +180,7 @@ impl Tree {
         stem.arc = attachment.arc;
         stem.size = before.size;
         self.put_node(attachment.stem, stem);
-        self.put_rooms(attachment.stem, attachment.rooms);
+        self.put_residuals(attachment.stem, attachment.rooms);
     }
 
     /// Updates the last nodes of the ancestors of both positions.

@@ -9,7 +9,7 @@ use std::alloc::{AllocError, Global};
 
 /// The total capacity above the lower bounds of the arcs out of each node, and of those into it.
 #[derive(Drop)]
-struct Rooms {
+struct Residuals {
     out: Vec<i128>,
     into: Vec<i128>,
 }
@@ -19,13 +19,13 @@ fn add_room(rooms: &mut Vec<i128>, node: u32, room: i128) {
     put(rooms, node, sum);
 }
 
-fn rooms_of(alloc: Global, problem: &Problem) -> Result<Rooms, AllocError> {
+fn rooms_of(alloc: Global, problem: &Problem) -> Result<Residuals, AllocError> {
     let count = problem.supplies.len();
     let out = vec![in alloc; 0i128; count]?;
     let Ok(into) = vec![in alloc; 0i128; count] else {
         return Err(AllocError);
     };
-    let mut rooms = Rooms { out, into };
+    let mut rooms = Residuals { out, into };
     rooms.add_arcs(problem);
     Ok(rooms)
 }
@@ -37,7 +37,7 @@ struct Neck {
     side: Side,
 }
 
-impl Rooms {
+impl Residuals {
     /// Adds the capacity above the lower bound of each arc that is not a loop.
     fn add_arcs(&mut self, problem: &Problem) {
         for arc in &problem.arcs {
@@ -62,7 +62,7 @@ impl Rooms {
 }
 
 /// Returns the first node that is a cut by itself.
-fn first_neck(rooms: &Rooms, excess: &[i128]) -> Option<Neck> {
+fn first_neck(rooms: &Residuals, excess: &[i128]) -> Option<Neck> {
     let mut node = 0u32;
     for excess in excess {
         if let Some(side) = rooms.side(node, *excess) {

@@ -3,16 +3,16 @@
 //! Starting from the root alone, a simplex would build these paths arc by arc, and price many arcs
 //! for each.
 
-use crate::cheapest_ways::{CheapestWays, NO_PLACE};
+use crate::cheapest_paths::{CheapestPaths, NO_PLACE};
 use crate::halt::Halt;
 use crate::places::{at, index};
 use crate::simplex::Simplex;
-use crate::tree::Rooms;
+use crate::tree::Residuals;
 use std::alloc::{AllocError, Global};
 
 impl Simplex {
     /// Attaches nodes without excess below those with a deficit, each by its shortest path.
-    pub fn hang_by_ways(&mut self, alloc: Global, excess: &[i128]) -> Result<(), Halt> {
+    pub fn hang_by_paths(&mut self, alloc: Global, excess: &[i128]) -> Result<(), Halt> {
         let Ok(ways) = self.ways(alloc, excess) else {
             return Err(Halt::OutOfMemory);
         };
@@ -29,9 +29,9 @@ impl Simplex {
     }
 
     /// Returns the shortest paths over arcs with residual capacity.
-    fn ways(&self, alloc: Global, excess: &[i128]) -> Result<CheapestWays, AllocError> {
+    fn ways(&self, alloc: Global, excess: &[i128]) -> Result<CheapestPaths, AllocError> {
         let count = self.numbers.len();
-        let Ok(mut ways) = CheapestWays::with_room(alloc, excess.len(), count) else {
+        let Ok(mut ways) = CheapestPaths::with_room(alloc, excess.len(), count) else {
             return Err(AllocError);
         };
         for place in 0..index(count) {
@@ -53,7 +53,7 @@ impl Simplex {
             return;
         }
         let arc = self.prices.arc(place);
-        let rooms = Rooms {
+        let rooms = Residuals {
             up: at(&self.rooms, place, 0),
             down: 0,
         };

@@ -6,7 +6,7 @@
 mod attaching;
 mod block;
 mod bottleneck;
-mod cheapest_ways;
+mod cheapest_paths;
 mod excess;
 mod first_forest;
 mod guess;

@@ -5,7 +5,7 @@ use crate::halt::Halt;
 use crate::places::{at, index, try_at};
 use crate::prices::Part;
 use crate::simplex::Simplex;
-use crate::tree::Rooms;
+use crate::tree::Residuals;
 
 /// The leaving arc of a cycle.
 #[derive(Clone, Copy)]
@@ -15,7 +15,7 @@ enum Going {
     /// The arc above this node, on the path from the join down to the start of the flow.
     Before(u32),
     /// The arc above this node, on the path from the end of the flow up to the join.
-    Behind(u32),
+    After(u32),
 }
 
 /// The cycle that an entering arc closes.
@@ -48,7 +48,7 @@ impl Simplex {
                 Ok(())
             }
             Going::Before(node) => {
-                let rooms = Rooms {
+                let rooms = Residuals {
                     up: room.wrapping_sub(cycle.amount),
                     down: cycle.amount,
                 };
@@ -57,8 +57,8 @@ impl Simplex {
                 let saved = self.prices.price(place).wrapping_neg();
                 self.lift(cycle.first, saved)
             }
-            Going::Behind(node) => {
-                let rooms = Rooms {
+            Going::After(node) => {
+                let rooms = Residuals {
                     up: cycle.amount,
                     down: room.wrapping_sub(cycle.amount),
                 };
@@ -80,7 +80,7 @@ impl Simplex {
             amount: room,
             going: Going::Itself,
         };
-        self.narrow_behind(&mut cycle)?;
+        self.narrow_after(&mut cycle)?;
         if cycle.amount > 0 {
             self.narrow_before(&mut cycle)?;
         }
@@ -89,7 +89,7 @@ impl Simplex {
 
     /// Limits a cycle to the minimum residual capacity on the path from the end of the flow up to
     /// the join. Among equals the last one is chosen, and before the entering arc.
-    fn narrow_behind(&self, cycle: &mut Cycle) -> Result<(), Halt> {
+    fn narrow_after(&self, cycle: &mut Cycle) -> Result<(), Halt> {
         let mut node = cycle.second;
         for _ in 0..self.tree.nodes.len() {
             if node == cycle.join {
@@ -98,7 +98,7 @@ impl Simplex {
             let room = try_at(&self.tree.rooms, node)?.up;
             if room <= cycle.amount {
                 cycle.amount = room;
-                cycle.going = Going::Behind(node);
+                cycle.going = Going::After(node);
             }
             node = try_at(&self.tree.nodes, node)?.parent;
         }
@@ -131,7 +131,7 @@ impl Simplex {
         cycle: &Cycle,
         leaving: u32,
         ends: (u32, u32),
-        rooms: Rooms,
+        rooms: Residuals,
     ) -> Result<(), Halt> {
         self.leave(leaving);
         let (stem, parent) = ends;

@@ -7,7 +7,7 @@
 //! chapter 11).
 
 use crate::block::Block;
-use crate::cheapest_ways::NO_PLACE;
+use crate::cheapest_paths::NO_PLACE;
 use crate::excess::{Start, lows_of};
 use crate::halt::Halt;
 use crate::places::{arc_at, at, fill, index, put};
@@ -73,7 +73,7 @@ impl Simplex {
         if is_bipartite {
             simplex.enter_cheapest(alloc, &start.excess)?;
         } else {
-            simplex.hang_by_ways(alloc, &start.excess)?;
+            simplex.hang_by_paths(alloc, &start.excess)?;
         }
         Ok(simplex)
     }

@@ -3,12 +3,12 @@
 use crate::halt::Halt;
 use crate::places::index;
 use crate::prices::{NARROW_LIMIT, Prices};
-use crate::tree::{NO_NODE, Rooms, Thread, Tree, TreeNode};
+use crate::tree::{NO_NODE, Residuals, Thread, Tree, TreeNode};
 use net_normal::Problem;
 use std::alloc::Global;
 
 /// The capacity of an arc of the root. Numbers greater than half of it are not supported.
-pub const ROOT_ROOM: i64 = 1 << 61;
+pub const ROOT_RESIDUAL: i64 = 1 << 61;
 
 /// The maximum cost of an arc from the root.
 const ROOT_COST_LIMIT: i64 = 1 << 58;
@@ -38,16 +38,16 @@ pub fn root_cost(problem: &Problem) -> i64 {
 }
 
 /// Returns the residual capacities of the arc between a node with this excess and the root.
-fn root_rooms(excess: i64) -> Rooms {
+fn root_rooms(excess: i64) -> Residuals {
     if excess >= 0 {
-        Rooms {
-            up: ROOT_ROOM.wrapping_sub(excess),
+        Residuals {
+            up: ROOT_RESIDUAL.wrapping_sub(excess),
             down: excess,
         }
     } else {
-        Rooms {
+        Residuals {
             up: excess.wrapping_neg(),
-            down: ROOT_ROOM.wrapping_add(excess),
+            down: ROOT_RESIDUAL.wrapping_add(excess),
         }
     }
 }
@@ -78,7 +78,7 @@ pub fn first_tree(
     for (place, excess) in excess.iter().enumerate() {
         let node = index(place);
         let amount = match i64::try_from(*excess) {
-            Ok(amount) if amount.wrapping_abs() <= ROOT_ROOM => amount,
+            Ok(amount) if amount.wrapping_abs() <= ROOT_RESIDUAL => amount,
             _ => return Err(Halt::OutOfRange),
         };
         let leaf = TreeNode {
@@ -114,5 +114,5 @@ fn put_root(tree: &mut Tree, root: u32) {
         next: 0,
         previous: last,
     };
-    tree.put_whole(root, top, Rooms::NONE, thread);
+    tree.put_whole(root, top, Residuals::NONE, thread);
 }

@@ -10,20 +10,20 @@ pub const NO_NODE: u32 = u32::MAX;
 
 /// The residual capacities of the arc between a node and its parent.
 #[derive(Clone, Copy)]
-pub struct Rooms {
+pub struct Residuals {
     /// Towards the parent.
     pub up: i64,
     /// Away from the parent.
     pub down: i64,
 }
 
-impl Rooms {
+impl Residuals {
     /// The capacities of no arc.
-    pub const NONE: Rooms = Rooms { up: 0, down: 0 };
+    pub const NONE: Residuals = Residuals { up: 0, down: 0 };
 
     /// Returns the capacities as seen from the other end.
-    pub fn turned(self) -> Rooms {
-        Rooms {
+    pub fn turned(self) -> Residuals {
+        Residuals {
             up: self.down,
             down: self.up,
         }
@@ -73,7 +73,7 @@ impl Thread {
 #[derive(Drop)]
 pub struct Tree {
     pub nodes: Vec<TreeNode>,
-    pub rooms: Vec<Rooms>,
+    pub rooms: Vec<Residuals>,
     /// The last mark on each node, and on any node.
     marks: Vec<u32>,
     mark: u32,
@@ -87,7 +87,7 @@ impl Tree {
         let Ok(nodes) = vec![in alloc; TreeNode::NONE; count] else {
             return Err(AllocError);
         };
-        let Ok(rooms) = vec![in alloc; Rooms::NONE; count] else {
+        let Ok(rooms) = vec![in alloc; Residuals::NONE; count] else {
             return Err(AllocError);
         };
         let Ok(marks) = vec![in alloc; 0u32; count] else {
@@ -106,7 +106,7 @@ impl Tree {
     }
 
     /// Places a node, with its neighbors in the cyclic order.
-    pub fn put_whole(&mut self, place: u32, node: TreeNode, rooms: Rooms, thread: Thread) {
+    pub fn put_whole(&mut self, place: u32, node: TreeNode, rooms: Residuals, thread: Thread) {
         put(&mut self.nodes, place, node);
         put(&mut self.rooms, place, rooms);
         put(&mut self.threads, place, thread);
@@ -123,13 +123,13 @@ impl Tree {
 
     /// Returns the residual capacities of the arc above a node.
     #[inline]
-    pub fn rooms(&self, node: u32) -> Rooms {
-        at(&self.rooms, node, Rooms::NONE)
+    pub fn rooms(&self, node: u32) -> Residuals {
+        at(&self.rooms, node, Residuals::NONE)
     }
 
     /// Sets the residual capacities of the arc above a node.
     #[inline]
-    pub fn put_rooms(&mut self, node: u32, rooms: Rooms) {
+    pub fn put_residuals(&mut self, node: u32, rooms: Residuals) {
         put(&mut self.rooms, node, rooms);
     }
 
@@ -234,7 +234,7 @@ impl Tree {
 
     /// Attaches a leaf of the root below another node, directly after it. Leaves sizes and last
     /// nodes to `count_below_parent`.
-    pub fn hang_leaf(&mut self, node: u32, parent: u32, arc: u32, rooms: Rooms) {
+    pub fn hang_leaf(&mut self, node: u32, parent: u32, arc: u32, rooms: Residuals) {
         let own = self.thread(node);
         self.follow(own.previous, own.next);
         let behind = self.thread(parent).next;

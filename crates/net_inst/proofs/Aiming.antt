@@ -11,14 +11,14 @@ use Rattle.net_expr.specs.Worlds.{Name, World}
 use Rattle.net_linear.specs.Forms.{Linear, form_at, all_apart}
 use Rattle.net_inst.specs.declared.goal.ChosenObjective.{ChosenObjective}
 use Rattle.net_inst.specs.Arcs.{with_arcs}
-use Rattle.net_inst.specs.AsWritten.{Arc, arcs_of, nodes, arcs, known_behind, in_order, arc_declared, same_label, Assignment, number_on, numbers_on}
-use Rattle.net_inst.specs.Drafts.{Drawing, nothing, env, sense_of, said_form, aimed, passed, is_chosen, with_goal, known_more, nodes_more, arcs_more, declare, draw}
+use Rattle.net_inst.specs.AsWritten.{Arc, arcs_of, nodes, arcs, known_after, in_order, arc_declared, same_label, Assignment, number_on, numbers_on}
+use Rattle.net_inst.specs.Drafts.{Drawing, nothing, env, sense_of, part_form, aimed, passed, is_chosen, with_goal, known_more, nodes_more, arcs_more, declare, draw}
 use Rattle.net_inst.specs.Instances.{Network, network}
 use Rattle.net_inst.specs.Laws.{total_of, IsObjectiveOf, HaveObjective}
 use Rattle.net_inst.specs.Nodes.{with_nodes}
-use Rattle.net_inst.specs.Readings.{Objective, prices, said_value, value_of, objective_of, objectives_from, objectives, is_wanted, or_else, chosen}
+use Rattle.net_inst.specs.Readings.{Objective, prices, part_value, value_of, objective_of, objectives_from, objectives, is_wanted, or_else, chosen}
 use Rattle.net_inst.proofs.Agreement.{IsFinished, network_is}
-use Rattle.net_inst.proofs.Drawn.{arc_labels, node_labels, IsDrawnAs}
+use Rattle.net_inst.proofs.Built.{arc_labels, node_labels, IsBuiltAs}
 use Rattle.net_inst.proofs.ReadingLaws.{ReadAlike}
 use Rattle.net_inst.proofs.SoundValues.{said_means, IsValued}
 use Rattle.net_inst.proofs.Totals.{total_is}
@@ -82,9 +82,9 @@ passed_aim all wanted o os rest d new e h =
     none_more (Some p) = refl
 
 aimed_aim : (all : List Arc) (wanted : Option Name) (o : Objective) (os : List Objective) (rest : List Arc) (t n : Token) (f : Linear) (d new : Drawing) → is_wanted wanted o ≡ true → o.name ≡ n.text → o.sense ≡ sense_of t → o.behind ≡ rest
-    → all_apart f.products ≡ true → (IsDistinct same_label (arc_labels all) → (x : Assignment) → form_at (by_place all x) f ≡ said_value o.before o.env o.expression x)
+    → all_apart f.products ≡ true → (IsDistinct same_label (arc_labels all) → (x : Assignment) → form_at (by_place all x) f ≡ part_value o.before o.env o.expression x)
     → IsValued all (Some o) → Aims all (chosen wanted os) rest (aimed d t n f) new → Aims all (chosen wanted (o ∷ os)) rest d new
-aimed_aim all wanted o os rest t n f d new e name sense later apart said means h =
+aimed_aim all wanted o os rest t n f d new e name sense later apart phrase_expression means h =
     subst (λ (b : Bool). Aims all (or_else (chosen wanted os) (if b then Some o else None)) rest d new) (sym e) (go (chosen wanted os) h)
   where
     go : (p : Option Objective) → Aims all p rest (aimed d t n f) new → Aims all (or_else p (Some o)) rest d new
@@ -92,8 +92,8 @@ aimed_aim all wanted o os rest t n f d new e name sense later apart said means h
       goal = k.goal ∙ ap (λ (z : Name). let g : Option ChosenObjective = Some (record { name = z; sense = sense_of t }) in g) (sym name) ∙ ap (λ z. let g : Option ChosenObjective = Some (record { name = o.name; sense = z }) in g) (sym sense);
       apart = λ a. k.apart apart;
       value = λ distinct x.
-          let behind_it : prices n.text rest x ≡ prices o.name o.behind x = ap (λ (z : Name). prices z rest x) (sym name) ∙ ap (λ (z : List Arc). prices o.name z x) (sym later) in
-          omega (arith, ints, k.value distinct x, said distinct x, behind_it);
+          let after_it : prices n.text rest x ≡ prices o.name o.behind x = ap (λ (z : Name). prices z rest x) (sym name) ∙ ap (λ (z : List Arc). prices o.name z x) (sym later) in
+          omega (arith, ints, k.value distinct x, phrase_expression distinct x, after_it);
       valued = means;
     }
     go (Some p) k = record { goal = k.goal; apart = λ a. k.apart apart; value = k.value; valued = k.valued }
@@ -117,7 +117,7 @@ step wanted w all m (node t n b c z) d next new os rest h whole e k =
 step wanted w all m (arc t n b ps z) d next new os rest h whole e k =
     ok_then (with_arcs d.goal d.nodes (env w d) n b ps d.arcs) (λ xs. Ok (arcs_more d xs)) next e (λ xs i j.
     let same = ok_is (arcs_more d xs) next j in
-    let adds = arcs_add all d.goal d.nodes (env w d) n b ps d.arcs xs m.arcs rest (zip_long (IsDrawnAs (node_labels m.nodes)) m.arcs d.arcs.arcs h.arcs.drawn) whole i in
+    let adds = arcs_add all d.goal d.nodes (env w d) n b ps d.arcs xs m.arcs rest (zip_long (IsBuiltAs (node_labels m.nodes)) m.arcs d.arcs.arcs h.arcs.built) whole i in
     arcs_aim all (chosen wanted os) (arcs_of (env w d) (arc t n b ps z)) rest d next new (ap (λ (y : Drawing). y.goal) (sym same))
     (subst (λ (y : Drawing). Adds all d.goal (arcs_of (env w d) (arc t n b ps z)) d.arcs.form y.arcs.form) same adds) k)
 step wanted w all m (objective t n p z) d next new os rest h whole e k =
@@ -133,7 +133,7 @@ step wanted w all m (objective t n p z) d next new os rest h whole e k =
     go : (b : Bool) → is_wanted wanted here ≡ b → (if b then with_goal (env w d) t n p d else Ok (passed d)) ≡ Ok next → Aims all (chosen wanted (here ∷ os)) rest d new
     go false i j = passed_aim all wanted here os rest d new i (subst (λ (y : Drawing). Aims all (chosen wanted os) rest y new) (sym (ok_is (passed d) next j)) k)
     go true i j =
-        ok_then (said_form d.arcs.group.numbers (env w d) p) (λ f. Ok (aimed d t n f)) next j (λ f q r.
+        ok_then (part_form d.arcs.group.numbers (env w d) p) (λ f. Ok (aimed d t n f)) next j (λ f q r.
         aimed_aim all wanted here os rest t n f d new i refl refl refl (said_apart d.arcs.group.numbers (env w d) p f q)
         (λ distinct x. said_is d.arcs.group.numbers m.arc_names (by_place all x) x (env w d) p f h.arcs.group.known (reads distinct x) q)
         (λ distinct x. said_means d.arcs.group.numbers m.arc_names all x (env w d) p f h.arcs.group.known (reads distinct x) q)
@@ -161,18 +161,18 @@ has_objective wanted w (x ∷ xs) all m d new h whole e =
     let one = next_is wanted w m x d next h i in
     let here = arcs_of (env w d) x in
     let rest = has_objective wanted w xs all (behind m (lines_of (env w d) x)) next new one.is_written
-    (whole ∙ sym (append_assoc m.arcs here (in_order arcs_of w (known_behind d.known x) xs)) ∙ ap (λ (k : ℕ). (m.arcs ++ here) ++ in_order arcs_of w k xs) (sym one.known)) j in
+    (whole ∙ sym (append_assoc m.arcs here (in_order arcs_of w (known_after d.known x) xs)) ∙ ap (λ (k : ℕ). (m.arcs ++ here) ++ in_order arcs_of w k xs) (sym one.known)) j in
     let known = subst (λ (k : ℕ). Aims all (chosen wanted (objectives_from (m.arc_names ++ arc_declared x) w k xs)) (in_order arcs_of w k xs) next new) one.known rest in
-    step wanted w all m x d next new (objectives_from (m.arc_names ++ arc_declared x) w (known_behind d.known x) xs) (in_order arcs_of w (known_behind d.known x) xs) h whole i known)
+    step wanted w all m x d next new (objectives_from (m.arc_names ++ arc_declared x) w (known_after d.known x) xs) (in_order arcs_of w (known_after d.known x) xs) h whole i known)
 
 pub have_objective : HaveObjective
-have_objective wanted w ds n e = go (chosen wanted (objectives w ds)) refl (has_objective wanted w ds (arcs w ds) no_lines nothing f.drawing nothing_written refl f.is_drawn)
+have_objective wanted w ds n e = go (chosen wanted (objectives w ds)) refl (has_objective wanted w ds (arcs w ds) no_lines nothing f.drawing nothing_written refl f.is_built)
   where
     f : IsFinished wanted w ds n
     f = network_is wanted w ds n e
 
-    drawn : AllZip (IsDrawnAs (node_labels (nodes w ds))) (arcs w ds) f.drawing.arcs.arcs
-    drawn = (all_written wanted w ds f.drawing f.is_drawn).arcs.drawn
+    built : AllZip (IsBuiltAs (node_labels (nodes w ds))) (arcs w ds) f.drawing.arcs.arcs
+    built = (all_written wanted w ds f.drawing f.is_built).arcs.built
 
     go : (o : Option Objective) → chosen wanted (objectives w ds) ≡ o → Aims (arcs w ds) o (arcs w ds) nothing f.drawing → (p : Objective) × (chosen wanted (objectives w ds) ≡ Some p) × IsObjectiveOf p n (arcs w ds)
     go None i a = let none = a.goal in let some = f.has_objective in absurd (cc)
@@ -187,7 +187,7 @@ have_objective wanted w ds n e = go (chosen wanted (objectives w ds)) refl (has_
             value = λ distinct x.
                 ap (λ (z : Network). total_of z (numbers_on x (arcs w ds))) (sym f.whole)
                 ∙ ap (λ (s : ℤ). f.drawing.arcs.form.constant +ℤ s)
-                (total_is f.drawing.arcs.form.products f.drawing.arcs.arcs (numbers_on x (arcs w ds)) (a.apart refl) (zip_long (IsDrawnAs (node_labels (nodes w ds))) (arcs w ds) f.drawing.arcs.arcs drawn ∙ sym (length-map (arcs w ds) (number_on x))))
+                (total_is f.drawing.arcs.form.products f.drawing.arcs.arcs (numbers_on x (arcs w ds)) (a.apart refl) (zip_long (IsBuiltAs (node_labels (nodes w ds))) (arcs w ds) f.drawing.arcs.arcs built ∙ sym (length-map (arcs w ds) (number_on x))))
                 ∙ a.value distinct x;
           },
         )
@@ -198,4 +198,4 @@ have_objective wanted w ds n e = go (chosen wanted (objectives w ds)) refl (has_
 pub objective_valued : (wanted : Option Name) (w : World) (ds : List Declaration) (n : Network) → network wanted w ds ≡ Ok n → (o : Objective) → chosen wanted (objectives w ds) ≡ Some o → IsValued (arcs w ds) (Some o)
 objective_valued wanted w ds n e o h =
     let f = network_is wanted w ds n e in
-    subst (IsValued (arcs w ds)) h (has_objective wanted w ds (arcs w ds) no_lines nothing f.drawing nothing_written refl f.is_drawn).valued
+    subst (IsValued (arcs w ds)) h (has_objective wanted w ds (arcs w ds) no_lines nothing f.drawing nothing_written refl f.is_built).valued

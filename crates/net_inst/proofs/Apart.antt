@@ -6,7 +6,7 @@ use Rattle.net_sets.specs.Sets.{Tuple}
 use Rattle.net_tree.specs.Spans.{span_of}
 use Rattle.net_tree.specs.Tree.{Tree, Links, Part, leaf, indexed, parens, tuple, negated, braced, signed, reduced, chain, choice, net, none, link, absent, part}
 use Rattle.net_expr.specs.declared.row.Row.{Row}
-use Rattle.net_fault.specs.declared.defect.Defect.TheVariants.{ValueTooLarge, NotLinear}
+use Rattle.net_fault.specs.declared.error_code.ErrorCode.TheVariants.{ValueTooLarge, NotLinear}
 use Rattle.net_expr.specs.Limits.{is_small}
 use Rattle.net_expr.specs.Numbers.{divides}
 use Rattle.net_tree.specs.Operations.{reduction, is_minus, operation}
@@ -17,7 +17,7 @@ use Rattle.net_tree.specs.declared.operator.BinOp.TheVariants.{Plus, Minus, Time
 use Rattle.net_linear.specs.Arcs.{Arcs, declared, is_arc, arc_at}
 use Rattle.net_linear.specs.Forms.{Linear, Term, all_apart, just, one_arc, combined, is_number, is_sized, within, sized, minus_one, divided, joined, join, turn, gathered, gathered_over, total, as_form, or_too_large, priced}
 use Rattle.net_linear.specs.Objectives.{names_arc, any_arc, braces_arc, is_sum, is_linear, key_of, condition, plain_term, mixed, linear, arc_term, objective, otherwise, chained, objective_form}
-use Rattle.net_fault.specs.Outcomes.{Outcome, and_then, refused}
+use Rattle.net_fault.specs.Outcomes.{Outcome, and_then, rejected}
 use Rattle.net_linear.specs.Amounts.{number_or_none}
 use Rattle.net_linear.proofs.Coefficients.{apart_with}
 use Rattle.net_linear.proofs.Ranges.{ok_then}
@@ -124,7 +124,7 @@ mutual
       apart_mixed w s (choice i x t y e) (names_arc a (choice i x t y e)) _
       (apart_linear (span_of (choice i x t y e)) (not (names_arc a x)) _
       (comes_then (condition w s (span_of (choice i x t y e)) x) (λ holds. if holds then objective a w s y else otherwise a w s e) (λ b h. comes_if b _ _ (apart a w s y) (apart_else a w s e))))
-  apart a w s (net t u) = apart_mixed w s (net t u) false (refused NotLinear (span_of (net t u))) tt
+  apart a w s (net t u) = apart_mixed w s (net t u) false (rejected NotLinear (span_of (net t u))) tt
 
   apart_else : (a : Arcs) (w : World) (s : Scope) (p : Part) → Comes (otherwise a w s p)
   apart_else a w s absent = refl
@@ -146,7 +146,7 @@ objective_apart a w s t f e = ok_then (objective a w s t) (as_form (span_of t)) 
 pub price_apart : (at : Span) (f : Linear) (arc : ℕ) (price : ℤ) (r : Linear) → all_apart f.products ≡ true → priced at f arc price ≡ Ok r → all_apart r.products ≡ true
 price_apart at f arc price r h e = go (is_small price) (is_sized (combined f price (one_arc arc))) e
   where
-    go : (b c : Bool) → (if b then or_too_large at (if c then Some (combined f price (one_arc arc)) else None) else refused ValueTooLarge at) ≡ Ok r → all_apart r.products ≡ true
+    go : (b c : Bool) → (if b then or_too_large at (if c then Some (combined f price (one_arc arc)) else None) else rejected ValueTooLarge at) ≡ Ok r → all_apart r.products ≡ true
     go true true e =
         let same : combined f price (one_arc arc) ≡ r = cc in
         ap (λ (z : Linear). all_apart z.products) (sym same) ∙ apart_with f.products price (one_arc arc).products h

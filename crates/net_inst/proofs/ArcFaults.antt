@@ -11,15 +11,15 @@ use Rattle.net_expr.specs.Worlds.{World, Scope}
 use Rattle.net_linear.specs.Forms as forms
 use Rattle.net_inst.specs.declared.phrases.ArcWord.{ArcWord}
 use Rattle.net_inst.specs.declared.phrases.ArcWord.TheVariants.{AtLeast, AtMost, From, To}
-use Rattle.net_inst.specs.Arcs.{DrawnArcs, end_at, with_ends, drawn, is_goal, priced_by, price_in, prices_in, next_arc, arcs_at, arcs_by, with_arcs}
+use Rattle.net_inst.specs.Arcs.{BuiltArcs, end_at, with_ends, built, is_goal, priced_by, price_in, prices_in, next_arc, arcs_at, arcs_by, with_arcs}
 use Rattle.net_inst.specs.Drafts.{Drawing}
 use Rattle.net_inst.specs.Indexings.{indexing_in}
-use Rattle.net_inst.specs.Nodes.{DrawnNodes, node_named}
+use Rattle.net_inst.specs.Nodes.{BuiltNodes, node_named}
 use Rattle.net_inst.specs.Numbers.{number}
-use Rattle.net_inst.specs.Phrases.{is_word, value_in, said, Parts, parts_from, parts_of}
+use Rattle.net_inst.specs.Phrases.{is_word, value_in, phrase_expression, Parts, parts_from, parts_of}
 use Rattle.net_fault.specs.Places.{Places, Finds}
-use Rattle.net_tree.specs.Standing.{Stands, IndexingStands, BodyStands, PhrasesStand}
-use Rattle.net_fault.proofs.Found.{Gives, finds_then, finds_if, finds_behind}
+use Rattle.net_tree.specs.Standing.{Stands, IndexingHasSpans, BodyHasSpans, PhrasesHaveSpans}
+use Rattle.net_fault.proofs.Found.{Gives, finds_then, finds_if, finds_after}
 use Rattle.net_linear.proofs.FormFaults.{finds_priced}
 use Rattle.net_inst.proofs.NodeFaults.{finds_indexing_in, finds_number, finds_node_named}
 use Rattle.net_expr.proofs.ValueFaults.{whole_stands}
@@ -39,14 +39,14 @@ module _ (P : Span → Type 0) where
   said_stands o true u h k = h
   said_stands o false u h k = k
 
-  value_in_stands : (b : Body) → BodyStands P b → SaidStands P (value_in b)
+  value_in_stands : (b : Body) → BodyHasSpans P b → SaidStands P (value_in b)
   value_in_stands plain h = tt
   value_in_stands (valued x) h = h
   value_in_stands (priced n x) h = tt
 
-  phrase_stands : (a : ArcWord) (ps : List Phrase) → PhrasesStand P ps → SaidStands P (said a ps)
+  phrase_stands : (a : ArcWord) (ps : List Phrase) → PhrasesHaveSpans P ps → SaidStands P (phrase_expression a ps)
   phrase_stands a [] h = tt
-  phrase_stands a (p ∷ ps) (h, j, k) = said_stands (value_in p.body) (is_word a (role_of p.word)) (said a ps) (value_in_stands p.body j) (phrase_stands a ps k)
+  phrase_stands a (p ∷ ps) (h, j, k) = said_stands (value_in p.body) (is_word a (role_of p.word)) (phrase_expression a ps) (value_in_stands p.body j) (phrase_stands a ps k)
 
 module _ (P : Places) (n : Token) (h : P Model n.span) where
   gives_parts_from : (l u t e : Option Tree) → SaidStands (P Model) l → SaidStands (P Model) u → SaidStands (P Model) t → SaidStands (P Model) e
@@ -57,54 +57,54 @@ module _ (P : Places) (n : Token) (h : P Model n.span) where
   gives_parts_from (Some l) (Some u) None (Some e) i j k m = (i, j, k, m)
   gives_parts_from (Some l) (Some u) (Some t) e i j k m = (i, j, k, m)
 
-  gives_parts_of : (ps : List Phrase) → PhrasesStand (P Model) ps → Gives P (PartsStand (P Model)) (parts_of n ps)
+  gives_parts_of : (ps : List Phrase) → PhrasesHaveSpans (P Model) ps → Gives P (PartsStand (P Model)) (parts_of n ps)
   gives_parts_of ps k =
-      gives_parts_from (said AtLeast ps) (said AtMost ps) (said From ps) (said To ps) (phrase_stands (P Model) AtLeast ps k) (phrase_stands (P Model) AtMost ps k)
+      gives_parts_from (phrase_expression AtLeast ps) (phrase_expression AtMost ps) (phrase_expression From ps) (phrase_expression To ps) (phrase_stands (P Model) AtLeast ps k) (phrase_stands (P Model) AtMost ps k)
       (phrase_stands (P Model) From ps k) (phrase_stands (P Model) To ps k)
 
 module _ (P : Places) (w : World) where
-  finds_end_at : (ns : DrawnNodes) (s : Scope) (t : Option Tree) → SaidStands (P Model) t → Finds P (end_at ns w s t)
+  finds_end_at : (ns : BuiltNodes) (s : Scope) (t : Option Tree) → SaidStands (P Model) t → Finds P (end_at ns w s t)
   finds_end_at ns s None h = tt
   finds_end_at ns s (Some t) h = finds_then P (node_named ns w s t) _ (finds_node_named P ns w s t h) (λ v. tt)
 
-  finds_with_ends : (ns : DrawnNodes) (s : Scope) (p : Parts) → PartsStand (P Model) p → (l u : ℤ) → Finds P (with_ends ns w s p l u)
+  finds_with_ends : (ns : BuiltNodes) (s : Scope) (p : Parts) → PartsStand (P Model) p → (l u : ℤ) → Finds P (with_ends ns w s p l u)
   finds_with_ends ns s p (g, h, j, k) l u =
       finds_then P (end_at ns w s p.tail) _ (finds_end_at ns s p.tail j) (λ t. finds_then P (end_at ns w s p.head) _ (finds_end_at ns s p.head k) (λ e. tt))
 
-  finds_drawn : (ns : DrawnNodes) (n : Token) → P Model n.span → (k : Option ℕ) (p : Parts) → PartsStand (P Model) p → (row : Row) → Finds P (drawn ns w n k p row)
-  finds_drawn ns n h k p j row =
+  finds_built : (ns : BuiltNodes) (n : Token) → P Model n.span → (k : Option ℕ) (p : Parts) → PartsStand (P Model) p → (row : Row) → Finds P (built ns w n k p row)
+  finds_built ns n h k p j row =
       finds_then P (number w row.scope p.lower) _ (finds_number P w row.scope p.lower j.0) (λ l. finds_then P (number w row.scope p.upper) _ (finds_number P w row.scope p.upper j.1) (λ u.
       finds_if P (int_lt u l) _ (with_ends ns w row.scope p l u) h (finds_with_ends ns row.scope p j l u)))
 
   finds_priced_by : (s : Scope) (a : ℕ) (x : Tree) → Stands (P Model) x → (f : forms.Linear) → Finds P (priced_by w s a x f)
   finds_priced_by s a x h f = finds_then P (number w s x) _ (finds_number P w s x h) (λ c. finds_priced P (span_of x) (whole_stands (P Model) x h) f a c)
 
-  finds_price_in : (g : _) (s : Scope) (a : ℕ) (b : Body) → BodyStands (P Model) b → (f : forms.Linear) → Finds P (price_in g w s a b f)
+  finds_price_in : (g : _) (s : Scope) (a : ℕ) (b : Body) → BodyHasSpans (P Model) b → (f : forms.Linear) → Finds P (price_in g w s a b f)
   finds_price_in g s a plain h f = tt
   finds_price_in g s a (valued x) h f = tt
   finds_price_in g s a (priced n x) (h, k) f = finds_if P (is_goal g n.text) (priced_by w s a x f) _ (finds_priced_by s a x k f) tt
 
-  finds_prices_in : (g : _) (s : Scope) (a : ℕ) (ps : List Phrase) → PhrasesStand (P Model) ps → (f : forms.Linear) → Finds P (prices_in g w s a ps f)
+  finds_prices_in : (g : _) (s : Scope) (a : ℕ) (ps : List Phrase) → PhrasesHaveSpans (P Model) ps → (f : forms.Linear) → Finds P (prices_in g w s a ps f)
   finds_prices_in g s a [] h f = tt
   finds_prices_in g s a (p ∷ ps) (h, j, k) f =
       finds_then P (price_in g w s a p.body f) (prices_in g w s a ps) (finds_price_in g s a p.body j f) (finds_prices_in g s a ps k)
 
-module _ (P : Places) (w : World) (e : Drawing) (n : Token) (h : P Model n.span) (ps : List Phrase) (i : PhrasesStand (P Model) ps) where
-  finds_next_arc : (k : Option ℕ) (p : Parts) → PartsStand (P Model) p → (row : Row) (d : DrawnArcs) → Finds P (next_arc e.goal e.nodes w n k p ps row d)
+module _ (P : Places) (w : World) (e : Drawing) (n : Token) (h : P Model n.span) (ps : List Phrase) (i : PhrasesHaveSpans (P Model) ps) where
+  finds_next_arc : (k : Option ℕ) (p : Parts) → PartsStand (P Model) p → (row : Row) (d : BuiltArcs) → Finds P (next_arc e.goal e.nodes w n k p ps row d)
   finds_next_arc k p j row d =
       finds_if P (nat_lt (length d.arcs) _) _ _
-      (finds_then P (drawn e.nodes w n k p row) _ (finds_drawn P w e.nodes n h k p j row) (λ x.
+      (finds_then P (built e.nodes w n k p row) _ (finds_built P w e.nodes n h k p j row) (λ x.
       finds_then P (prices_in e.goal w row.scope (length d.arcs) ps d.form) _ (finds_prices_in P w e.goal row.scope (length d.arcs) ps i d.form) (λ f. tt))) h
 
-  finds_arcs_at : (k : Option ℕ) (p : Parts) → PartsStand (P Model) p → (rows : List Row) (d : DrawnArcs) → Finds P (arcs_at e.goal e.nodes w n k p ps rows d)
+  finds_arcs_at : (k : Option ℕ) (p : Parts) → PartsStand (P Model) p → (rows : List Row) (d : BuiltArcs) → Finds P (arcs_at e.goal e.nodes w n k p ps rows d)
   finds_arcs_at k p j [] d = tt
   finds_arcs_at k p j (row ∷ rows) d =
       finds_then P (next_arc e.goal e.nodes w n k p ps row d) (arcs_at e.goal e.nodes w n k p ps rows) (finds_next_arc k p j row d) (finds_arcs_at k p j rows)
 
-  finds_arcs_by : (d : DrawnArcs) (p : Parts) → PartsStand (P Model) p → (x : _) → Finds P (arcs_by e.goal e.nodes w n ps d p x)
+  finds_arcs_by : (d : BuiltArcs) (p : Parts) → PartsStand (P Model) p → (x : _) → Finds P (arcs_by e.goal e.nodes w n ps d p x)
   finds_arcs_by d p j x = finds_then P (arcs_at e.goal e.nodes w n x.count p ps x.rows d) _ (finds_arcs_at x.count p j x.rows d) (λ found. tt)
 
-  pub finds_with_arcs : (b : Option Braces) → IndexingStands (P Model) b → (d : DrawnArcs) → Finds P (with_arcs e.goal e.nodes w n b ps d)
+  pub finds_with_arcs : (b : Option Braces) → IndexingHasSpans (P Model) b → (d : BuiltArcs) → Finds P (with_arcs e.goal e.nodes w n b ps d)
   finds_with_arcs b k d =
-      finds_behind P (PartsStand (P Model)) (parts_of n ps) _ (gives_parts_of P n h ps i) (λ p j.
+      finds_after P (PartsStand (P Model)) (parts_of n ps) _ (gives_parts_of P n h ps i) (λ p j.
       finds_then P (indexing_in w b) (arcs_by e.goal e.nodes w n ps d p) (finds_indexing_in P w b k) (finds_arcs_by d p j))

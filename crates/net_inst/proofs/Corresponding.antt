@@ -4,7 +4,7 @@ use Rattle.std.proofs.Common.{ap, sym, ◌∙◌, subst}
 use Rattle.net_normal.specs.Assignments.{IsWithinBounds, IsFeasibleAssignment}
 use Rattle.net_normal.specs.Assignments as by_number
 use Rattle.net_normal.specs.Flows.{IsFeasibleFlow}
-use Rattle.net_normal.specs.Links.{lifted}
+use Rattle.net_normal.specs.Links.{mapped_back}
 use Rattle.net_inst.specs.AsWritten.{nodes, arcs, Assignment, numbers_on, IsFeasible}
 use Rattle.net_inst.specs.ByName.{up, CorrespondAsWritten}
 use Rattle.net_inst.specs.Instances.{seen_as}
@@ -39,7 +39,7 @@ correspond_as_written wanted w ds n problem link e distinct one = (
     alike x = have_feasible wanted w ds n e distinct x
 
     -- the numbers of the assignment are the lifted flow
-    numbers : (flows : List ℤ) → IsFeasibleFlow problem flows → numbers_on (up (arcs w ds) link flows) (arcs w ds) ≡ lifted link flows
+    numbers : (flows : List ℤ) → IsFeasibleFlow problem flows → numbers_on (up (arcs w ds) link flows) (arcs w ds) ≡ mapped_back link flows
     numbers flows h =
-        have_assignments (arcs w ds) (lifted link flows) distinct.arcs
-        (zip_long IsWithinBounds n.instance.arcs.items (lifted link flows) (one.forward flows h).bounds ∙ zip_long IsBoundedAs (arcs w ds) n.instance.arcs.items (have_bounds wanted w ds (seen_as n) e))
+        have_assignments (arcs w ds) (mapped_back link flows) distinct.arcs
+        (zip_long IsWithinBounds n.instance.arcs.items (mapped_back link flows) (one.forward flows h).bounds ∙ zip_long IsBoundedAs (arcs w ds) n.instance.arcs.items (have_bounds wanted w ds (seen_as n) e))

@@ -43,10 +43,10 @@ both l m e f = ap (λ (b : Bool). b && same_tuple l.key m.key) ((bytes_eq-Decide
 turned : (l m : Label) → same_label l m ≡ true → same_label m l ≡ true
 turned l m e = let h = alike l m e in both m l (sym h.0) (sym h.1)
 
-none_behind : (x : Label) (xs : List Label) (v : ℕ) (m : Label) → AllByRecursion (λ y. same_label x y ≡ false) xs → slice_get xs v ≡ Some m → same_label x m ≡ false
-none_behind x [] v m all e = absurd (let h = e in cc)
-none_behind x (y ∷ xs) zero m all e = let same : y ≡ m = cc in ap (same_label x) (sym same) ∙ all.0
-none_behind x (y ∷ xs) (suc v) m all e = none_behind x xs v m all.1 e
+none_after : (x : Label) (xs : List Label) (v : ℕ) (m : Label) → AllByRecursion (λ y. same_label x y ≡ false) xs → slice_get xs v ≡ Some m → same_label x m ≡ false
+none_after x [] v m all e = absurd (let h = e in cc)
+none_after x (y ∷ xs) zero m all e = let same : y ≡ m = cc in ap (same_label x) (sym same) ∙ all.0
+none_after x (y ∷ xs) (suc v) m all e = none_after x xs v m all.1 e
 
 one_place : (xs : List Label) (u v : ℕ) (l m : Label) → IsDistinct same_label xs → slice_get xs u ≡ Some l → slice_get xs v ≡ Some m → same_label l m ≡ true → u ≡ v
 one_place [] u v l m d e f h = absurd (let k = e in cc)
@@ -54,11 +54,11 @@ one_place (x ∷ xs) zero zero l m d e f h = refl
 one_place (x ∷ xs) zero (suc v) l m d e f h =
     let same : x ≡ l = cc in
     let other : same_label x m ≡ true = ap (λ (z : Label). same_label z m) same ∙ h in
-    let apart = none_behind x xs v m (IsDistinct-head same_label x xs d) f in cc
+    let apart = none_after x xs v m (IsDistinct-head same_label x xs d) f in cc
 one_place (x ∷ xs) (suc u) zero l m d e f h =
     let same : x ≡ m = cc in
     let other : same_label x l ≡ true = ap (λ (z : Label). same_label z l) same ∙ turned l m h in
-    let apart = none_behind x xs u l (IsDistinct-head same_label x xs d) e in cc
+    let apart = none_after x xs u l (IsDistinct-head same_label x xs d) e in cc
 one_place (x ∷ xs) (suc u) (suc v) l m d e f h = ap suc (one_place xs u v l m (IsDistinct-tail same_label x xs d) e f h)
 
 -- an end names the node whose number it has

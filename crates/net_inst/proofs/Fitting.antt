@@ -16,7 +16,7 @@ use Rattle.net_tree.specs.Tree.{Tree, Links, Braces, Condition, Phrase, Declarat
 use Rattle.net_normal.specs.declared.instance.InstArc.{InstArc}
 use Rattle.net_normal.specs.Limits.{IsArcOf, arc_limit, node_limit}
 use Rattle.net_fault.specs.declared.detail.Detail.{Detail}
-use Rattle.net_fault.specs.declared.defect.Defect.TheVariants.{Arity, ValueTooLarge, NoSuchNode, ArcCrossed, TooManyArcs, TooManyNodes}
+use Rattle.net_fault.specs.declared.error_code.ErrorCode.TheVariants.{Arity, ValueTooLarge, NoSuchNode, ArcCrossed, TooManyArcs, TooManyNodes}
 use Rattle.net_expr.specs.declared.row.Row.{Row}
 use Rattle.net_expr.specs.Limits.{is_small}
 use Rattle.net_expr.specs.Operators.{member}
@@ -24,27 +24,27 @@ use Rattle.net_expr.specs.Values.{value}
 use Rattle.net_expr.specs.Worlds.{Name, World, Scope, key_count, reference}
 use Rattle.net_linear.specs.declared.arc.ArcKeys.{ArcKeys}
 use Rattle.net_linear.specs.declared.condition.Sides.{Sides}
-use Rattle.net_fault.specs.declared.defect.Defect.TheVariants as defects
+use Rattle.net_fault.specs.declared.error_code.ErrorCode.TheVariants as error_codes
 use Rattle.net_linear.specs.Arcs.{declared}
 use Rattle.net_linear.specs.Conditions.{range_in}
 use Rattle.net_linear.specs.Forms.{Products, Linear}
 use Rattle.net_linear.specs.Objectives.{key_of}
 use Rattle.net_linear.proofs.FormSizes.{is_sized_number}
-use Rattle.net_inst.specs.declared.arc.Drawn.{Drawn}
+use Rattle.net_inst.specs.declared.arc.Built.{Built}
 use Rattle.net_inst.specs.declared.goal.ChosenObjective.{ChosenObjective}
 use Rattle.net_inst.specs.declared.indexing.Indexing.{Indexing}
 use Rattle.net_inst.specs.declared.phrases.ArcWord.TheVariants.{AtLeast, AtMost, From, To}
-use Rattle.net_inst.specs.Arcs.{DrawnArcs, end_at, with_ends, drawn, prices_in, next_arc, arcs_at, arcs_by, named_arcs, with_arcs}
-use Rattle.net_inst.specs.Drafts.{Drawing, nothing, env, is_chosen, said_form, passed, aimed, with_goal, known_more, nodes_more, arcs_more, declare, draw}
-use Rattle.net_inst.specs.Fitting.{IsDrawnOf, IsPriced}
+use Rattle.net_inst.specs.Arcs.{BuiltArcs, end_at, with_ends, built, prices_in, next_arc, arcs_at, arcs_by, named_arcs, with_arcs}
+use Rattle.net_inst.specs.Drafts.{Drawing, nothing, env, is_chosen, part_form, passed, aimed, with_goal, known_more, nodes_more, arcs_more, declare, draw}
+use Rattle.net_inst.specs.Fitting.{IsBuiltOf, IsPriced}
 use Rattle.net_inst.specs.Groups.{group_with}
 use Rattle.net_inst.specs.Indexings.{indexing_in}
 use Rattle.net_inst.specs.Instances.{with_coefficients}
-use Rattle.net_inst.specs.Nodes.{DrawnNodes, next_range, ranges_at, nodes_by, with_nodes, among, numbered, node_at, name_in, node_of, node_by, node_named, node_sides}
+use Rattle.net_inst.specs.Nodes.{BuiltNodes, next_range, ranges_at, nodes_by, with_nodes, among, numbered, node_at, name_in, node_of, node_by, node_named, node_sides}
 use Rattle.net_inst.specs.Numbers.{number_in, number}
-use Rattle.net_fault.specs.Outcomes.{Outcome, and_then, refused_of, refused}
-use Rattle.net_inst.specs.Refusals.{refused_name}
-use Rattle.net_inst.specs.Phrases.{Parts, said, parts_from, parts_of}
+use Rattle.net_fault.specs.Outcomes.{Outcome, and_then, rejected_of, rejected}
+use Rattle.net_inst.specs.Rejections.{rejected_name}
+use Rattle.net_inst.specs.Phrases.{Parts, phrase_expression, parts_from, parts_of}
 
 -- where the second step comes out, the first does
 both : {A B : Type 0} (o : Outcome A) (f : A → Outcome B) (b : B) (C : Type 0) → and_then o f ≡ Ok b → ((a : A) → o ≡ Ok a → f a ≡ Ok b → C) → C
@@ -59,7 +59,7 @@ same_out P a b o e h p = let same : a ≡ b = cc in subst P same p
 in_small : (at : Span) (m : Member) (n : ℤ) → number_in at m ≡ Ok n → is_small n ≡ true
 in_small at (Number k) n h = step (is_small k) refl h
   where
-    step : (b : Bool) → is_small k ≡ b → (if b then Ok k else refused ValueTooLarge at) ≡ Ok n → is_small n ≡ true
+    step : (b : Bool) → is_small k ≡ b → (if b then Ok k else rejected ValueTooLarge at) ≡ Ok n → is_small n ≡ true
     step true e h = same_out (λ i. is_small i ≡ true) k n (Ok k) refl h e
     step false e h = cc
 in_small at (Text t) n h = cc
@@ -71,7 +71,7 @@ number_small w s t n h = both (and_then (value w s t) (member (span_of t))) (num
 among_below : (count : ℕ) (at : Span) (d : Detail) (v n : ℕ) → among count at d v ≡ Ok n → n < count
 among_below count at d v n h = step (nat_lt v count) refl h
   where
-    step : (b : Bool) → nat_lt v count ≡ b → (if b then Ok v else refused_of NoSuchNode at d) ≡ Ok n → n < count
+    step : (b : Bool) → nat_lt v count ≡ b → (if b then Ok v else rejected_of NoSuchNode at d) ≡ Ok n → n < count
     step true e h = same_out (λ i. i < count) v n (Ok v) refl h (grind (arith, nat_tests))
     step false e h = cc
 
@@ -83,11 +83,11 @@ node_at_below : (count : ℕ) (at : Span) (name : Name) (k : Option ArcKeys) (ke
 node_at_below count at name None key n h = cc
 node_at_below count at name (Some k) key n h = step (nat_eq (length key) (key_count k.keys)) h
   where
-    step : (b : Bool) → (if b then numbered count at (reference name k.keys key) k.first (place_of k.index key) else refused Arity at) ≡ Ok n → n < count
+    step : (b : Bool) → (if b then numbered count at (reference name k.keys key) k.first (place_of k.index key) else rejected Arity at) ≡ Ok n → n < count
     step true h = numbered_below count at (reference name k.keys key) k.first (place_of k.index key) n h
     step false h = cc
 
-node_below : (d : DrawnNodes) (w : World) (s : Scope) (t : Tree) (n : ℕ) → node_named d w s t ≡ Ok n → n < length d.ranges
+node_below : (d : BuiltNodes) (w : World) (s : Scope) (t : Tree) (n : ℕ) → node_named d w s t ≡ Ok n → n < length d.ranges
 node_below d w s t n h = named (name_in t) h
   where
     subscripted : (k : Token) (q : Option (Tree × Links)) → node_of d w s (span_of t) k q ≡ Ok n → n < length d.ranges
@@ -101,7 +101,7 @@ node_below d w s t n h = named (name_in t) h
     named (Some p) h = subscripted p.0 p.1 h
 
 -- an end is one of the nodes, and is there where it is said
-end_fits : (ns : DrawnNodes) (w : World) (s : Scope) (o : Option Tree) (v : Option ℕ) → end_at ns w s o ≡ Ok v → ForSome v (λ n. n < length ns.ranges) × (is_some v ≡ is_some o)
+end_fits : (ns : BuiltNodes) (w : World) (s : Scope) (o : Option Tree) (v : Option ℕ) → end_at ns w s o ≡ Ok v → ForSome v (λ n. n < length ns.ranges) × (is_some v ≡ is_some o)
 end_fits ns w s None v h = same_out (λ e. ForSome e (λ n. n < length ns.ranges) × (is_some e ≡ false)) None v (Ok None) refl h (λ n e. cc, refl)
 end_fits ns w s (Some t) v h =
     both (node_named ns w s t) (λ n. Ok (Some n)) v (ForSome v (λ n. n < length ns.ranges) × (is_some v ≡ true)) h
@@ -111,7 +111,7 @@ end_fits ns w s (Some t) v h =
     there m l n e = let same : m ≡ n = cc in omega (arith, l, same)
 
 has_end : (n : Token) (ps : List Phrase) (p : Parts) → parts_of n ps ≡ Ok p → (is_some p.tail || is_some p.head) ≡ true
-has_end n ps p h = from (said AtLeast ps) (said AtMost ps) (said From ps) (said To ps) h
+has_end n ps p h = from (phrase_expression AtLeast ps) (phrase_expression AtMost ps) (phrase_expression From ps) (phrase_expression To ps) h
   where
     from : (l u t e : Option Tree) → parts_from n l u t e ≡ Ok p → (is_some p.tail || is_some p.head) ≡ true
     from None u t e h = cc
@@ -127,62 +127,62 @@ either true b c d e f h = refl
 either false true c d e f h = refl
 either false false c d e f h = cc
 
-with_ends_fit : (ns : DrawnNodes) (w : World) (s : Scope) (p : Parts) (l u : ℤ) (x : Drawn) → is_small l ≡ true → is_small u ≡ true → l ≤ℤ u → (is_some p.tail || is_some p.head) ≡ true
-    → with_ends ns w s p l u ≡ Ok x → IsDrawnOf (length ns.ranges) x
+with_ends_fit : (ns : BuiltNodes) (w : World) (s : Scope) (p : Parts) (l u : ℤ) (x : Built) → is_small l ≡ true → is_small u ≡ true → l ≤ℤ u → (is_some p.tail || is_some p.head) ≡ true
+    → with_ends ns w s p l u ≡ Ok x → IsBuiltOf (length ns.ranges) x
 with_ends_fit ns w s p l u x a b o e h =
-    both (end_at ns w s p.tail) (λ t. and_then (end_at ns w s p.head) (λ h. Ok (record { lower = l; upper = u; tail = t; head = h }))) x (IsDrawnOf (length ns.ranges) x) h (λ t et kt.
-    both (end_at ns w s p.head) (λ h. Ok (record { lower = l; upper = u; tail = t; head = h })) x (IsDrawnOf (length ns.ranges) x) kt (λ h eh kh.
+    both (end_at ns w s p.tail) (λ t. and_then (end_at ns w s p.head) (λ h. Ok (record { lower = l; upper = u; tail = t; head = h }))) x (IsBuiltOf (length ns.ranges) x) h (λ t et kt.
+    both (end_at ns w s p.head) (λ h. Ok (record { lower = l; upper = u; tail = t; head = h })) x (IsBuiltOf (length ns.ranges) x) kt (λ h eh kh.
     let tail = end_fits ns w s p.tail t et in
     let head = end_fits ns w s p.head h eh in
-    same_out (IsDrawnOf (length ns.ranges)) (record { lower = l; upper = u; tail = t; head = h }) x (Ok (record { lower = l; upper = u; tail = t; head = h })) refl kh
+    same_out (IsBuiltOf (length ns.ranges)) (record { lower = l; upper = u; tail = t; head = h }) x (Ok (record { lower = l; upper = u; tail = t; head = h })) refl kh
     (record { lower = is_sized_number l a; upper = is_sized_number u b; ordered = o; tail = tail.0; head = head.0; an_end = either (is_some t) (is_some h) (is_some p.tail) (is_some p.head) tail.1 head.1 e })))
 
-drawn_fits : (ns : DrawnNodes) (w : World) (n : Token) (k : Option ℕ) (p : Parts) (row : Row) (x : Drawn) → (is_some p.tail || is_some p.head) ≡ true → drawn ns w n k p row ≡ Ok x → IsDrawnOf (length ns.ranges) x
-drawn_fits ns w n k p row x e h =
-    both (number w row.scope p.lower) (λ l. and_then (number w row.scope p.upper) (λ u. if int_lt u l then refused_of ArcCrossed n.span (reference n.text k row.key) else with_ends ns w row.scope p l u)) x (IsDrawnOf (length ns.ranges) x) h (λ l el kl.
-    both (number w row.scope p.upper) (λ u. if int_lt u l then refused_of ArcCrossed n.span (reference n.text k row.key) else with_ends ns w row.scope p l u) x (IsDrawnOf (length ns.ranges) x) kl (λ u eu ku.
+built_fits : (ns : BuiltNodes) (w : World) (n : Token) (k : Option ℕ) (p : Parts) (row : Row) (x : Built) → (is_some p.tail || is_some p.head) ≡ true → built ns w n k p row ≡ Ok x → IsBuiltOf (length ns.ranges) x
+built_fits ns w n k p row x e h =
+    both (number w row.scope p.lower) (λ l. and_then (number w row.scope p.upper) (λ u. if int_lt u l then rejected_of ArcCrossed n.span (reference n.text k row.key) else with_ends ns w row.scope p l u)) x (IsBuiltOf (length ns.ranges) x) h (λ l el kl.
+    both (number w row.scope p.upper) (λ u. if int_lt u l then rejected_of ArcCrossed n.span (reference n.text k row.key) else with_ends ns w row.scope p l u) x (IsBuiltOf (length ns.ranges) x) kl (λ u eu ku.
     step l u (number_small w row.scope p.lower l el) (number_small w row.scope p.upper u eu) (int_lt u l) refl ku))
   where
-    step : (l u : ℤ) → is_small l ≡ true → is_small u ≡ true → (b : Bool) → int_lt u l ≡ b → (if b then refused_of ArcCrossed n.span (reference n.text k row.key) else with_ends ns w row.scope p l u) ≡ Ok x → IsDrawnOf (length ns.ranges) x
+    step : (l u : ℤ) → is_small l ≡ true → is_small u ≡ true → (b : Bool) → int_lt u l ≡ b → (if b then rejected_of ArcCrossed n.span (reference n.text k row.key) else with_ends ns w row.scope p l u) ≡ Ok x → IsBuiltOf (length ns.ranges) x
     step l u sl su true t h = cc
     step l u sl su false t h = let up : l ≤ℤ u = grind (arith, ints) in with_ends_fit ns w row.scope p l u x sl su up e h
 
 -- arcs, key by key
-next_fits : (g : Option ChosenObjective) (ns : DrawnNodes) (w : World) (n : Token) (k : Option ℕ) (p : Parts) (ps : List Phrase) (row : Row) (d new : DrawnArcs) → (is_some p.tail || is_some p.head) ≡ true
-    → All (IsDrawnOf (length ns.ranges)) d.arcs → next_arc g ns w n k p ps row d ≡ Ok new → All (IsDrawnOf (length ns.ranges)) new.arcs
+next_fits : (g : Option ChosenObjective) (ns : BuiltNodes) (w : World) (n : Token) (k : Option ℕ) (p : Parts) (ps : List Phrase) (row : Row) (d new : BuiltArcs) → (is_some p.tail || is_some p.head) ≡ true
+    → All (IsBuiltOf (length ns.ranges)) d.arcs → next_arc g ns w n k p ps row d ≡ Ok new → All (IsBuiltOf (length ns.ranges)) new.arcs
 next_fits g ns w n k p ps row d new e all h = step (nat_lt (length d.arcs) arc_limit) h
   where
-    more : Drawn → Linear → DrawnArcs
+    more : Built → Linear → BuiltArcs
     more x f = record { arcs = d.arcs ++ x ∷ []; form = f; group = d.group }
 
-    step : (b : Bool) → (if b then and_then (drawn ns w n k p row) (λ x. and_then (prices_in g w row.scope (length d.arcs) ps d.form) (λ f. Ok (more x f))) else refused_name TooManyArcs n) ≡ Ok new → All (IsDrawnOf (length ns.ranges)) new.arcs
+    step : (b : Bool) → (if b then and_then (built ns w n k p row) (λ x. and_then (prices_in g w row.scope (length d.arcs) ps d.form) (λ f. Ok (more x f))) else rejected_name TooManyArcs n) ≡ Ok new → All (IsBuiltOf (length ns.ranges)) new.arcs
     step true h =
-        both (drawn ns w n k p row) (λ x. and_then (prices_in g w row.scope (length d.arcs) ps d.form) (λ f. Ok (more x f))) new (All (IsDrawnOf (length ns.ranges)) new.arcs) h (λ x ex kx.
-        both (prices_in g w row.scope (length d.arcs) ps d.form) (λ f. Ok (more x f)) new (All (IsDrawnOf (length ns.ranges)) new.arcs) kx (λ f ef kf.
-        same_out (λ q. All (IsDrawnOf (length ns.ranges)) q.arcs) (more x f) new (Ok (more x f)) refl kf (All-push (IsDrawnOf (length ns.ranges)) d.arcs x all (drawn_fits ns w n k p row x e ex))))
+        both (built ns w n k p row) (λ x. and_then (prices_in g w row.scope (length d.arcs) ps d.form) (λ f. Ok (more x f))) new (All (IsBuiltOf (length ns.ranges)) new.arcs) h (λ x ex kx.
+        both (prices_in g w row.scope (length d.arcs) ps d.form) (λ f. Ok (more x f)) new (All (IsBuiltOf (length ns.ranges)) new.arcs) kx (λ f ef kf.
+        same_out (λ q. All (IsBuiltOf (length ns.ranges)) q.arcs) (more x f) new (Ok (more x f)) refl kf (All-push (IsBuiltOf (length ns.ranges)) d.arcs x all (built_fits ns w n k p row x e ex))))
     step false h = cc
 
-rows_fit : (g : Option ChosenObjective) (ns : DrawnNodes) (w : World) (n : Token) (k : Option ℕ) (p : Parts) (ps : List Phrase) (rows : List Row) (d new : DrawnArcs) → (is_some p.tail || is_some p.head) ≡ true
-    → All (IsDrawnOf (length ns.ranges)) d.arcs → arcs_at g ns w n k p ps rows d ≡ Ok new → All (IsDrawnOf (length ns.ranges)) new.arcs
-rows_fit g ns w n k p ps [] d new e all h = same_out (λ q. All (IsDrawnOf (length ns.ranges)) q.arcs) d new (Ok d) refl h all
+rows_fit : (g : Option ChosenObjective) (ns : BuiltNodes) (w : World) (n : Token) (k : Option ℕ) (p : Parts) (ps : List Phrase) (rows : List Row) (d new : BuiltArcs) → (is_some p.tail || is_some p.head) ≡ true
+    → All (IsBuiltOf (length ns.ranges)) d.arcs → arcs_at g ns w n k p ps rows d ≡ Ok new → All (IsBuiltOf (length ns.ranges)) new.arcs
+rows_fit g ns w n k p ps [] d new e all h = same_out (λ q. All (IsBuiltOf (length ns.ranges)) q.arcs) d new (Ok d) refl h all
 rows_fit g ns w n k p ps (row ∷ rows) d new e all h =
-    both (next_arc g ns w n k p ps row d) (arcs_at g ns w n k p ps rows) new (All (IsDrawnOf (length ns.ranges)) new.arcs) h
+    both (next_arc g ns w n k p ps row d) (arcs_at g ns w n k p ps rows) new (All (IsBuiltOf (length ns.ranges)) new.arcs) h
     (λ m em km. rows_fit g ns w n k p ps rows m new e (next_fits g ns w n k p ps row d m e all em) km)
 
-arcs_fit : (g : Option ChosenObjective) (ns : DrawnNodes) (w : World) (n : Token) (b : Option Braces) (ps : List Phrase) (d new : DrawnArcs) → All (IsDrawnOf (length ns.ranges)) d.arcs
-    → with_arcs g ns w n b ps d ≡ Ok new → All (IsDrawnOf (length ns.ranges)) new.arcs
+arcs_fit : (g : Option ChosenObjective) (ns : BuiltNodes) (w : World) (n : Token) (b : Option Braces) (ps : List Phrase) (d new : BuiltArcs) → All (IsBuiltOf (length ns.ranges)) d.arcs
+    → with_arcs g ns w n b ps d ≡ Ok new → All (IsBuiltOf (length ns.ranges)) new.arcs
 arcs_fit g ns w n b ps d new all h =
-    both (parts_of n ps) (λ p. and_then (indexing_in w b) (arcs_by g ns w n ps d p)) new (All (IsDrawnOf (length ns.ranges)) new.arcs) h (λ p ep kp.
-    both (indexing_in w b) (arcs_by g ns w n ps d p) new (All (IsDrawnOf (length ns.ranges)) new.arcs) kp (λ i ei ki.
-    both (arcs_at g ns w n i.count p ps i.rows d) (λ found. Ok (named_arcs n.text (length d.arcs) i found)) new (All (IsDrawnOf (length ns.ranges)) new.arcs) ki (λ found ef kf.
-    same_out (λ q. All (IsDrawnOf (length ns.ranges)) q.arcs) (named_arcs n.text (length d.arcs) i found) new (Ok (named_arcs n.text (length d.arcs) i found)) refl kf
+    both (parts_of n ps) (λ p. and_then (indexing_in w b) (arcs_by g ns w n ps d p)) new (All (IsBuiltOf (length ns.ranges)) new.arcs) h (λ p ep kp.
+    both (indexing_in w b) (arcs_by g ns w n ps d p) new (All (IsBuiltOf (length ns.ranges)) new.arcs) kp (λ i ei ki.
+    both (arcs_at g ns w n i.count p ps i.rows d) (λ found. Ok (named_arcs n.text (length d.arcs) i found)) new (All (IsBuiltOf (length ns.ranges)) new.arcs) ki (λ found ef kf.
+    same_out (λ q. All (IsBuiltOf (length ns.ranges)) q.arcs) (named_arcs n.text (length d.arcs) i found) new (Ok (named_arcs n.text (length d.arcs) i found)) refl kf
     (rows_fit g ns w n i.count p ps i.rows d found (has_end n ps p ep) all ef))))
 
 -- nodes grow in number
 next_more : (w : World) (n : Token) (k : Option ℕ) (c : Condition) (row : Row) (found more : List Sides) → next_range w n k c row found ≡ Ok more → length found ≤ length more
 next_more w n k c row found more h = step (nat_lt (length found) node_limit) h
   where
-    step : (b : Bool) → (if b then and_then (node_sides w n k c row) (λ r. Ok (found ++ r ∷ [])) else refused_name TooManyNodes n) ≡ Ok more → length found ≤ length more
+    step : (b : Bool) → (if b then and_then (node_sides w n k c row) (λ r. Ok (found ++ r ∷ [])) else rejected_name TooManyNodes n) ≡ Ok more → length found ≤ length more
     step true h =
         both (node_sides w n k c row) (λ r. Ok (found ++ r ∷ [])) more (length found ≤ length more) h
         (λ r e kr. same_out (λ q. length found ≤ length q) (found ++ r ∷ []) more (Ok (found ++ r ∷ [])) refl kr (omega (arith, length-append found (r ∷ []))))
@@ -194,24 +194,24 @@ rows_more w n k c (row ∷ rows) found more h =
     both (next_range w n k c row found) (ranges_at w n k c rows) more (length found ≤ length more) h
     (λ m em km. omega (arith, next_more w n k c row found m em, rows_more w n k c rows m more km))
 
-nodes_grow : (w : World) (n : Token) (b : Option Braces) (c : Condition) (d new : DrawnNodes) → with_nodes w n b c d ≡ Ok new → length d.ranges ≤ length new.ranges
+nodes_grow : (w : World) (n : Token) (b : Option Braces) (c : Condition) (d new : BuiltNodes) → with_nodes w n b c d ≡ Ok new → length d.ranges ≤ length new.ranges
 nodes_grow w n b c d new h =
     both (indexing_in w b) (nodes_by w n c d) new (length d.ranges ≤ length new.ranges) h (λ i ei ki.
     both (ranges_at w n i.count c i.rows d.ranges) (λ ranges. Ok (with i ranges)) new (length d.ranges ≤ length new.ranges) ki (λ ranges er kr.
     same_out (λ q. length d.ranges ≤ length q.ranges) (with i ranges) new (Ok (with i ranges)) refl kr (rows_more w n i.count c i.rows d.ranges ranges er)))
   where
-    with : Indexing → List Sides → DrawnNodes
+    with : Indexing → List Sides → BuiltNodes
     with i ranges = record { ranges = ranges; group = group_with d.group n.text (length d.ranges) i }
 
 below_more : (m n : ℕ) (o : Option ℕ) → m ≤ n → ForSome o (λ v. v < m) → ForSome o (λ v. v < n)
 below_more m n o l h v e = omega (arith, l, h v e)
 
-wider : (m n : ℕ) → m ≤ n → (x : Drawn) → IsDrawnOf m x → IsDrawnOf n x
+wider : (m n : ℕ) → m ≤ n → (x : Built) → IsBuiltOf m x → IsBuiltOf n x
 wider m n l x h = record { lower = h.lower; upper = h.upper; ordered = h.ordered; tail = below_more m n x.tail l h.tail; head = below_more m n x.head l h.head; an_end = h.an_end }
 
 -- declaration by declaration
 abbrev Fits : Drawing → Type 0
-Fits d = All (IsDrawnOf (length d.nodes.ranges)) d.arcs.arcs
+Fits d = All (IsBuiltOf (length d.nodes.ranges)) d.arcs.arcs
 
 declare_fits : (wanted : Option Name) (w : World) (x : Declaration) (d new : Drawing) → Fits d → declare wanted w x d ≡ Ok new → Fits new
 declare_fits wanted w (set t n ps e) d new f h = same_out Fits (known_more d) new (Ok (known_more d)) refl h f
@@ -220,7 +220,7 @@ declare_fits wanted w (check t b m x e) d new f h = same_out Fits d new (Ok d) r
 declare_fits wanted w (node t n b c e) d new f h =
     both (with_nodes (env w d) n b c d.nodes) (λ ns. Ok (nodes_more d ns)) new (Fits new) h (λ ns en kn.
     same_out Fits (nodes_more d ns) new (Ok (nodes_more d ns)) refl kn
-    (All-weaker (IsDrawnOf (length d.nodes.ranges)) (IsDrawnOf (length ns.ranges)) (wider (length d.nodes.ranges) (length ns.ranges) (nodes_grow (env w d) n b c d.nodes ns en)) d.arcs.arcs f))
+    (All-weaker (IsBuiltOf (length d.nodes.ranges)) (IsBuiltOf (length ns.ranges)) (wider (length d.nodes.ranges) (length ns.ranges) (nodes_grow (env w d) n b c d.nodes ns en)) d.arcs.arcs f))
 declare_fits wanted w (arc t n b ps e) d new f h =
     both (with_arcs d.goal d.nodes (env w d) n b ps d.arcs) (λ xs. Ok (arcs_more d xs)) new (Fits new) h (λ xs ex kx.
     same_out Fits (arcs_more d xs) new (Ok (arcs_more d xs)) refl kx (arcs_fit d.goal d.nodes (env w d) n b ps d.arcs xs f ex))
@@ -229,7 +229,7 @@ declare_fits wanted w (objective t n p e) d new f h =
   where
     chosen : (b : Bool) → (if b then with_goal (env w d) t n p d else Ok (passed d)) ≡ Ok new → Fits new
     chosen true k =
-        both (said_form d.arcs.group.numbers (env w d) p) (λ l. Ok (aimed d t n l)) new (Fits new) k (λ l el kl.
+        both (part_form d.arcs.group.numbers (env w d) p) (λ l. Ok (aimed d t n l)) new (Fits new) k (λ l el kl.
         same_out Fits (aimed d t n l) new (Ok (aimed d t n l)) refl kl f)
     chosen false k = same_out Fits (passed d) new (Ok (passed d)) refl k f
 
@@ -239,17 +239,17 @@ all_fit wanted w (x ∷ xs) d new f h =
     both (declare wanted w x d) (draw wanted w xs) new (Fits new) h (λ m em km. all_fit wanted w xs m new (declare_fits wanted w x d m f em) km)
 
 -- the arcs of all declarations are those of a network with the nodes of all
-pub drawn_fit : (wanted : Option Name) (w : World) (xs : List Declaration) (d : Drawing) → draw wanted w xs nothing ≡ Ok d → All (IsDrawnOf (length d.nodes.ranges)) d.arcs.arcs
-drawn_fit wanted w xs d h = all_fit wanted w xs nothing d (All-nil (IsDrawnOf 0)) h
+pub built_fit : (wanted : Option Name) (w : World) (xs : List Declaration) (d : Drawing) → draw wanted w xs nothing ≡ Ok d → All (IsBuiltOf (length d.nodes.ranges)) d.arcs.arcs
+built_fit wanted w xs d h = all_fit wanted w xs nothing d (All-nil (IsBuiltOf 0)) h
 
 -- and so with their coefficients
-each_priced : (count : ℕ) (ps : Products) (a : ℕ) (xs : List Drawn) → AllByRecursion IsPriced (with_coefficients ps a xs) → AllByRecursion (IsDrawnOf count) xs → AllByRecursion (IsArcOf count) (with_coefficients ps a xs)
+each_priced : (count : ℕ) (ps : Products) (a : ℕ) (xs : List Built) → AllByRecursion IsPriced (with_coefficients ps a xs) → AllByRecursion (IsBuiltOf count) xs → AllByRecursion (IsArcOf count) (with_coefficients ps a xs)
 each_priced count ps a [] c h = h
 each_priced count ps a (x ∷ xs) c h =
     (record { lower = h.0.lower; upper = h.0.upper; ordered = h.0.ordered; coefficient = c.0; tail = h.0.tail; head = h.0.head; an_end = h.0.an_end }, each_priced count ps (suc a) xs c.1 h.1)
 
-pub priced_fit : (count nodes : ℕ) (ps : Products) (xs : List Drawn) (all : List InstArc) → all ≡ with_coefficients ps 0 xs → All IsPriced all → All (IsDrawnOf count) xs → nodes ≡ count → All (IsArcOf nodes) all
+pub priced_fit : (count nodes : ℕ) (ps : Products) (xs : List Built) (all : List InstArc) → all ≡ with_coefficients ps 0 xs → All IsPriced all → All (IsBuiltOf count) xs → nodes ≡ count → All (IsArcOf nodes) all
 priced_fit count nodes ps xs all e c h same =
     let priced = subst (All IsPriced) e c in
-    let fit = All-from_recursion (IsArcOf count) (with_coefficients ps 0 xs) (each_priced count ps 0 xs (recursion_from_All IsPriced (with_coefficients ps 0 xs) priced) (recursion_from_All (IsDrawnOf count) xs h)) in
+    let fit = All-from_recursion (IsArcOf count) (with_coefficients ps 0 xs) (each_priced count ps 0 xs (recursion_from_All IsPriced (with_coefficients ps 0 xs) priced) (recursion_from_All (IsBuiltOf count) xs h)) in
     subst (λ n. All (IsArcOf n) all) (sym same) (subst (All (IsArcOf count)) (sym e) fit)

@@ -12,17 +12,17 @@ use Rattle.net_tree.specs.Spans.{span_of, span_between, braces_span}
 use Rattle.net_tree.specs.Tree.{Tree, leaf, indexed, chain, net, none, link, Braces, filled, absent, Phrase, valued, priced, Condition, unsaid, between, Declaration, node, arc, objective}
 use Rattle.net_normal.specs.declared.instance.Sense.TheVariants.{Minimise, Maximise}
 use Rattle.net_fault.specs.declared.language.Language.TheVariants as languages
-use Rattle.net_fault.specs.declared.detail.Detail.TheVariants.{Nothing, Told}
+use Rattle.net_fault.specs.declared.detail.Detail.TheVariants.{Nothing, Reported}
 use Rattle.net_expr.specs.Limits.{is_small}
 use Rattle.net_expr.specs.Numbers.{number_in}
 use Rattle.net_expr.specs.References.{reference_text}
 use Rattle.net_tree.specs.Operations.{operations, operation, reduction, is_minus}
-use Rattle.net_fault.specs.declared.defect.Defect.TheVariants.{NodeCrossed, NoSuchNode, NoLower, NoObjective, TwoObjectives, NoSuchObjective}
+use Rattle.net_fault.specs.declared.error_code.ErrorCode.TheVariants.{NodeCrossed, NoSuchNode, NoLower, NoObjective, TwoObjectives, NoSuchObjective}
 use Rattle.net_linear.specs.NetTerms.{is_outflow}
 use Rattle.net_inst.specs.Arcs.{no_arcs, with_arcs}
 use Rattle.net_inst.specs.Drafts.{sense_of}
 use Rattle.net_inst.specs.Instances.{network}
-use Rattle.net_inst.specs.Nodes.{DrawnNodes, no_nodes, with_nodes}
+use Rattle.net_inst.specs.Nodes.{BuiltNodes, no_nodes, with_nodes}
 
 abbrev name : List ℕ → ℕ → ℕ → Token
 name t a b = record { kind = kinds.Name; text = t; span = record { start = a; end = b } }
@@ -81,7 +81,7 @@ abbrev crossing : Condition
 crossing = between (mark (codes ":") 31 32) (number (codes "4") 33 34) (mark (codes "<=") 35 37) (net None (key (codes "net_in") 38 44)) (mark (codes "<=") 45 47) (leaf (name (codes "i") 48 49))
 
 -- nodes N[1] and N[2]
-abbrev two : DrawnNodes
+abbrev two : BuiltNodes
 two = record {
   ranges = (record { low = Some (pos 1); high = Some (pos 4) }) ∷ (record { low = Some (pos 1); high = Some (pos 4) }) ∷ [];
   group = record {
@@ -99,7 +99,7 @@ unfolding role_of marks keys operations operation reduction is_minus is_small nu
 two_nodes = refl
 
 -- node N {i in 1..2}: 4 <= net_in <= i;    the fault is the first node's
-crossed_node : with_nodes [] (name (codes "N") 17 18) one_and_two crossing no_nodes ≡ Err (record { defect = NodeCrossed; text = languages.Model; at = record { start = 17; end = 18 }; detail = Told (reference_text (codes "N") true (Number (pos 1) ∷ [])) })
+crossed_node : with_nodes [] (name (codes "N") 17 18) one_and_two crossing no_nodes ≡ Err (record { error_code = NodeCrossed; text = languages.Model; at = record { start = 17; end = 18 }; detail = Reported (reference_text (codes "N") true (Number (pos 1) ∷ [])) })
 unfolding role_of marks keys operations operation reduction is_minus is_small number_in numeral_at mantissa_at power_at whole_value span_of span_between braces_span is_outflow sense_of
 crossed_node = refl
 
@@ -114,12 +114,12 @@ unfolding role_of marks keys operations operation reduction is_minus is_small nu
 one_arc = refl
 
 -- arc X <= 3, from N[2];
-no_lower : with_arcs None two [] (name (codes "X") 36 37) None (most ∷ from_node ∷ []) no_arcs ≡ Err (record { defect = NoLower; text = languages.Model; at = record { start = 36; end = 37 }; detail = Told (codes "X") })
+no_lower : with_arcs None two [] (name (codes "X") 36 37) None (most ∷ from_node ∷ []) no_arcs ≡ Err (record { error_code = NoLower; text = languages.Model; at = record { start = 36; end = 37 }; detail = Reported (codes "X") })
 unfolding role_of marks keys operations operation reduction is_minus is_small number_in numeral_at mantissa_at power_at whole_value span_of span_between braces_span is_outflow sense_of
 no_lower = refl
 
 -- arc X >= 0, <= 3, to N;    no node N is declared
-no_node : with_arcs None no_nodes [] (name (codes "X") 36 37) None (least ∷ most ∷ to_node ∷ []) no_arcs ≡ Err (record { defect = NoSuchNode; text = languages.Model; at = record { start = 55; end = 56 }; detail = Told (codes "N") })
+no_node : with_arcs None no_nodes [] (name (codes "X") 36 37) None (least ∷ most ∷ to_node ∷ []) no_arcs ≡ Err (record { error_code = NoSuchNode; text = languages.Model; at = record { start = 55; end = 56 }; detail = Reported (codes "N") })
 unfolding role_of marks keys operations operation reduction is_minus is_small number_in numeral_at mantissa_at power_at whole_value span_of span_between braces_span is_outflow sense_of
 no_node = refl
 
@@ -156,21 +156,21 @@ unfolding role_of marks keys operations operation reduction is_minus is_small nu
 other_objective = refl
 
 -- without a name the second is one too many
-second_objective : network None [] (minimized ∷ nodes ∷ arcs ∷ maximized ∷ []) ≡ Err (record { defect = TwoObjectives; text = languages.Model; at = record { start = 79; end = 80 }; detail = Told (codes "D") })
+second_objective : network None [] (minimized ∷ nodes ∷ arcs ∷ maximized ∷ []) ≡ Err (record { error_code = TwoObjectives; text = languages.Model; at = record { start = 79; end = 80 }; detail = Reported (codes "D") })
 unfolding role_of marks keys operations operation reduction is_minus is_small number_in numeral_at mantissa_at power_at whole_value span_of span_between braces_span is_outflow sense_of network
 second_objective = refl
 
 -- a model without declarations ends at its start
-no_objective : network None [] [] ≡ Err (record { defect = NoObjective; text = languages.Model; at = record { start = 0; end = 0 }; detail = Nothing })
+no_objective : network None [] [] ≡ Err (record { error_code = NoObjective; text = languages.Model; at = record { start = 0; end = 0 }; detail = Nothing })
 unfolding role_of marks keys operations operation reduction is_minus is_small number_in numeral_at mantissa_at power_at whole_value span_of span_between braces_span is_outflow sense_of network
 no_objective = refl
 
 -- a name that is no objective's is told where the declarations end
-no_such_objective : network (Some (codes "E")) [] (minimized ∷ nodes ∷ []) ≡ Err (record { defect = NoSuchObjective; text = languages.Model; at = record { start = 31; end = 31 }; detail = Told (codes "E") })
+no_such_objective : network (Some (codes "E")) [] (minimized ∷ nodes ∷ []) ≡ Err (record { error_code = NoSuchObjective; text = languages.Model; at = record { start = 31; end = 31 }; detail = Reported (codes "E") })
 unfolding role_of marks keys operations operation reduction is_minus is_small number_in numeral_at mantissa_at power_at whole_value span_of span_between braces_span is_outflow sense_of network
 no_such_objective = refl
 
 -- the objective of a name is wanted, and there is none at all
-nodes_alone : network (Some (codes "E")) [] (nodes ∷ []) ≡ Err (record { defect = NoObjective; text = languages.Model; at = record { start = 31; end = 31 }; detail = Nothing })
+nodes_alone : network (Some (codes "E")) [] (nodes ∷ []) ≡ Err (record { error_code = NoObjective; text = languages.Model; at = record { start = 31; end = 31 }; detail = Nothing })
 unfolding role_of marks keys operations operation reduction is_minus is_small number_in numeral_at mantissa_at power_at whole_value span_of span_between braces_span is_outflow sense_of network
 nodes_alone = refl

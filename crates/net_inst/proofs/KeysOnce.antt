@@ -14,7 +14,7 @@ use Rattle.net_expr.specs.Values.{index}
 use Rattle.net_expr.specs.Worlds.{Name, World, entry_of}
 use Rattle.net_expr.proofs.KeysOnce.{have_distinct_keys}
 use Rattle.net_expr.proofs.SetsGiven.{keeps_sets}
-use Rattle.net_inst.specs.AsWritten.{rows_of, known_behind}
+use Rattle.net_inst.specs.AsWritten.{rows_of, known_after}
 use Rattle.net_inst.specs.Indexings.{by_keys, indexing_in, tuples_of}
 use Rattle.net_inst.specs.Laws.{keys_by, HaveKeysOnce, AreDistinctInSets}
 use Rattle.net_fault.specs.Outcomes.{and_then, Outcome}
@@ -58,7 +58,7 @@ keys_once w h (objective t n p e) = none_tuples
 
 all_once : (w : World) → HasSets w → (k : ℕ) (ds : List Declaration) → HaveKeysOnce w k ds
 all_once w h k [] = tt
-all_once w h k (d ∷ ds) = (keys_once (take k w) (front_has k w h) d, all_once w h (known_behind k d) ds)
+all_once w h k (d ∷ ds) = (keys_once (take k w) (front_has k w h) d, all_once w h (known_after k d) ds)
 
 pub are_distinct_in_sets : AreDistinctInSets
 are_distinct_in_sets w ds h nodes arcs = are_distinct_as_declared w ds (record { nodes = nodes; arcs = arcs; keys = all_once w h 0 ds })

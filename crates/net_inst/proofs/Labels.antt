@@ -25,7 +25,7 @@ use Rattle.net_inst.specs.Indexings.{alone, by_keys, indexing_in, tuples_of}
 use Rattle.net_inst.specs.Laws.{IsKeyOf}
 use Rattle.net_inst.specs.Lists.{keyed, AreInOrder}
 use Rattle.net_inst.specs.Readings.{name_alone}
-use Rattle.net_inst.proofs.Zips.{ok_then, ok_is, map_map, map_join, zip_join, zip_as, get_front, get_behind, get_last, get_below, distinct_front, distinct_behind, distinct_of}
+use Rattle.net_inst.proofs.Zips.{ok_then, ok_is, map_map, map_join, zip_join, zip_as, get_front, get_after, get_last, get_below, distinct_front, distinct_after, distinct_of}
 
 abbrev pub label_of : Name → Bool → Tuple → Label
 label_of name flag key = record { name = name; indexed = flag; key = key }
@@ -138,7 +138,7 @@ found_label labels numbers name k key p v finds distinct e at same = (label_of n
     run = map (label_of name r.flag) r.keys
 
     run_distinct : IsDistinct same_label run
-    run_distinct = distinct_front same_label run r.after (distinct_behind same_label r.before (run ++ r.after) (subst (IsDistinct same_label) r.whole distinct))
+    run_distinct = distinct_front same_label run r.after (distinct_after same_label r.before (run ++ r.after) (subst (IsDistinct same_label) r.whole distinct))
 
     each_once : union [] r.keys ≡ r.keys
     each_once = all_last [] r.keys (keys_distinct name r.flag r.keys run_distinct) (λ t h. refl)
@@ -149,7 +149,7 @@ found_label labels numbers name k key p v finds distinct e at same = (label_of n
     there : slice_get labels v ≡ Some (label_of name r.flag key)
     there =
         ap (λ (ls : List Label). slice_get ls v) r.whole
-        ∙ get_behind r.before (run ++ r.after) p v (same ∙ ap (λ (m : ℕ). m + p) r.first)
+        ∙ get_after r.before (run ++ r.after) p v (same ∙ ap (λ (m : ℕ). m + p) r.first)
         ∙ get_front run r.after p (label_of name r.flag key) (get_map (label_of name r.flag) r.keys p key in_keys)
 
 -- the same names have a meaning

@@ -21,10 +21,10 @@ use Rattle.net_linear.specs.Arcs.{declared}
 use Rattle.net_linear.specs.Conditions.{range_in}
 use Rattle.net_linear.specs.Objectives.{key_of}
 use Rattle.net_inst.specs.Indexings.{indexing_in}
-use Rattle.net_inst.specs.Nodes.{DrawnNodes, of_node, node_sides, next_range, ranges_at, nodes_by, with_nodes, among, numbered, node_at, indexed_node, node_named}
+use Rattle.net_inst.specs.Nodes.{BuiltNodes, of_node, node_sides, next_range, ranges_at, nodes_by, with_nodes, among, numbered, node_at, indexed_node, node_named}
 use Rattle.net_inst.specs.Numbers.{number_in, number}
 use Rattle.net_fault.specs.Places.{Places, Finds}
-use Rattle.net_tree.specs.Standing.{Stands, LinksStand, ConditionStands, IndexingStands}
+use Rattle.net_tree.specs.Standing.{Stands, LinksStand, ConditionHasSpans, IndexingHasSpans}
 use Rattle.net_fault.proofs.Found.{finds_then, finds_if}
 use Rattle.net_expr.proofs.OperatorFaults.{finds_member}
 use Rattle.net_expr.proofs.ValueFaults.{whole_stands, finds_value, finds_index}
@@ -52,13 +52,13 @@ module _ (P : Places) (at : Span) (h : P Model at) where
   finds_node_at count name (Some k) key =
       finds_if P (nat_eq (length key) (key_count k.keys)) _ _ (finds_numbered count (reference name k.keys key) k.first (place_of k.index key)) h
 
-  finds_indexed_node : (d : DrawnNodes) (w : World) (s : Scope) (n : Token) (x : Tree) (l : Links) → Stands (P Model) x → LinksStand (P Model) l → Finds P (indexed_node d w s at n x l)
+  finds_indexed_node : (d : BuiltNodes) (w : World) (s : Scope) (n : Token) (x : Tree) (l : Links) → Stands (P Model) x → LinksStand (P Model) l → Finds P (indexed_node d w s at n x l)
   finds_indexed_node d w s n x l j k =
       finds_then P (key_of w s at x l) (node_at (length d.ranges) at n.text (declared d.group.numbers n.text)) (finds_key_of P at h w s x l j k)
       (finds_node_at (length d.ranges) n.text (declared d.group.numbers n.text))
 
 module _ (P : Places) where
-  pub finds_indexing_in : (w : World) (b : Option Braces) → IndexingStands (P Model) b → Finds P (indexing_in w b)
+  pub finds_indexing_in : (w : World) (b : Option Braces) → IndexingHasSpans (P Model) b → Finds P (indexing_in w b)
   finds_indexing_in w None h = tt
   finds_indexing_in w (Some b) h = finds_then P (index w [] b) _ (finds_index P w [] b h) (λ k. tt)
 
@@ -68,7 +68,7 @@ module _ (P : Places) where
       (finds_then P (value w s t) (operators.member (span_of t)) (finds_value P w s t h) (finds_member P (span_of t) (whole_stands (P Model) t h)))
       (finds_number_in P (span_of t) (whole_stands (P Model) t h))
 
-  pub finds_node_named : (d : DrawnNodes) (w : World) (s : Scope) (t : Tree) → Stands (P Model) t → Finds P (node_named d w s t)
+  pub finds_node_named : (d : BuiltNodes) (w : World) (s : Scope) (t : Tree) → Stands (P Model) t → Finds P (node_named d w s t)
   finds_node_named d w s (leaf t) h = finds_node_at P (span_of (leaf t)) h.0 (length d.ranges) t.text (declared d.group.numbers t.text) []
   finds_node_named d w s (indexed n o x l c) (h, i, j, k) = finds_indexed_node P (span_of (indexed n o x l c)) h d w s n x l j k
   finds_node_named d w s (parens o x c) h = h.0
@@ -81,7 +81,7 @@ module _ (P : Places) where
   finds_node_named d w s (choice i x t y e) h = h.0
   finds_node_named d w s (net t u) h = h
 
-module _ (P : Places) (w : World) (n : Token) (h : P Model n.span) (c : Condition) (j : ConditionStands (P Model) c) where
+module _ (P : Places) (w : World) (n : Token) (h : P Model n.span) (c : Condition) (j : ConditionHasSpans (P Model) c) where
   finds_node_sides : (k : Option ℕ) (row : Row) → Finds P (node_sides w n k c row)
   finds_node_sides k row =
       finds_then P (range_in w row.scope c) (of_node n.span (reference n.text k row.key)) (finds_range_in P w row.scope c j) (finds_of_node P n.span h (reference n.text k row.key))
@@ -93,8 +93,8 @@ module _ (P : Places) (w : World) (n : Token) (h : P Model n.span) (c : Conditio
   finds_ranges_at k [] found = tt
   finds_ranges_at k (row ∷ rows) found = finds_then P (next_range w n k c row found) (ranges_at w n k c rows) (finds_next_range k row found) (finds_ranges_at k rows)
 
-  finds_nodes_by : (d : DrawnNodes) (i : _) → Finds P (nodes_by w n c d i)
+  finds_nodes_by : (d : BuiltNodes) (i : _) → Finds P (nodes_by w n c d i)
   finds_nodes_by d i = finds_then P (ranges_at w n i.count c i.rows d.ranges) _ (finds_ranges_at i.count i.rows d.ranges) (λ ranges. tt)
 
-  pub finds_with_nodes : (b : Option Braces) → IndexingStands (P Model) b → (d : DrawnNodes) → Finds P (with_nodes w n b c d)
+  pub finds_with_nodes : (b : Option Braces) → IndexingHasSpans (P Model) b → (d : BuiltNodes) → Finds P (with_nodes w n b c d)
   finds_with_nodes b i d = finds_then P (indexing_in w b) (nodes_by w n c d) (finds_indexing_in P w b i) (finds_nodes_by d)

@@ -11,12 +11,12 @@ use Rattle.net_tree.specs.Tree.{Braces, Phrase, Declaration, set, param, check, 
 use Rattle.net_expr.specs.declared.row.Row.{Row}
 use Rattle.net_expr.specs.Worlds.{Name, World}
 use Rattle.net_inst.specs.declared.names.Declared.{Declared}
-use Rattle.net_inst.specs.AsWritten.{Label, Node, Arc, rows_of, label_at, node_at_row, arc_at_row, nodes_of, arcs_with, arcs_of, known_behind, in_order, node_declared, arc_declared, same_label}
+use Rattle.net_inst.specs.AsWritten.{Label, Node, Arc, rows_of, label_at, node_at_row, arc_at_row, nodes_of, arcs_with, arcs_of, known_after, in_order, node_declared, arc_declared, same_label}
 use Rattle.net_inst.specs.Indexings.{indexing_in, tuples_of}
 use Rattle.net_inst.specs.Laws.{keys_by, HaveKeysOnce, same_name, AreDistinctAsDeclared}
 use Rattle.net_fault.specs.Outcomes.{Outcome}
 use Rattle.net_inst.specs.Phrases.{Parts, parts_of}
-use Rattle.net_inst.proofs.Zips.{map_map, map_join, distinct_behind}
+use Rattle.net_inst.proofs.Zips.{map_map, map_join, distinct_after}
 
 -- a name is among the declared ones
 abbrev among : List Declared → Name → Bool
@@ -34,9 +34,9 @@ pub all_join : {A : Type 0} (P : A → Type 0) (xs ys : List A) → AllByRecursi
 all_join P [] ys h k = k
 all_join P (x ∷ xs) ys h k = (h.0, all_join P xs ys h.1 k)
 
-all_behind : {A : Type 0} (P : A → Type 0) (xs ys : List A) → AllByRecursion P (xs ++ ys) → AllByRecursion P ys
-all_behind P [] ys h = h
-all_behind P (x ∷ xs) ys h = all_behind P xs ys h.1
+all_after : {A : Type 0} (P : A → Type 0) (xs ys : List A) → AllByRecursion P (xs ++ ys) → AllByRecursion P ys
+all_after P [] ys h = h
+all_after P (x ∷ xs) ys h = all_after P xs ys h.1
 
 among_join : (ds es : List Declared) (n : Name) → among (ds ++ es) n ≡ (among ds n || among es n)
 among_join [] es n = refl
@@ -49,8 +49,8 @@ among_join (d ∷ ds) es n = go (bytes_eq d.name n) (among_join ds es n)
 among_front : (ds es : List Declared) (n : Name) → among ds n ≡ true → among (ds ++ es) n ≡ true
 among_front ds es n h = among_join ds es n ∙ ap (λ (b : Bool). b || among es n) h
 
-among_behind : (ds es : List Declared) (n : Name) → among es n ≡ true → among (ds ++ es) n ≡ true
-among_behind ds es n h = among_join ds es n ∙ ap (λ (b : Bool). among ds n || b) h ∙ either (among ds n)
+among_after : (ds es : List Declared) (n : Name) → among es n ≡ true → among (ds ++ es) n ≡ true
+among_after ds es n h = among_join ds es n ∙ ap (λ (b : Bool). among ds n || b) h ∙ either (among ds n)
   where
     either : (b : Bool) → (b || true) ≡ true
     either true = refl
@@ -70,7 +70,7 @@ names_apart [] es n m distinct h k = cc
 names_apart (d ∷ ds) es n m distinct h k = go (bytes_eq d.name n) refl h (names_apart ds es n m (IsDistinct-tail same_name d (ds ++ es) distinct))
   where
     others : AllByRecursion (λ (e : Declared). bytes_eq d.name e.name ≡ false) es
-    others = all_behind (λ (e : Declared). bytes_eq d.name e.name ≡ false) ds es (IsDistinct-head same_name d (ds ++ es) distinct)
+    others = all_after (λ (e : Declared). bytes_eq d.name e.name ≡ false) ds es (IsDistinct-head same_name d (ds ++ es) distinct)
 
     go : (b : Bool) → bytes_eq d.name n ≡ b → (b || among ds n) ≡ true → (among ds n ≡ true → among es m ≡ true → bytes_eq n m ≡ false) → bytes_eq n m ≡ false
     go true f i more = ap (λ (z : Name). bytes_eq z m) (sym ((bytes_eq-Decides d.name n).0 f)) ∙ unlike_all d.name es m others k
@@ -100,15 +100,15 @@ module _ (f : World → Declaration → List Label) (g : Declaration → List De
   all_of : (k : ℕ) (ds : List Declaration) → AreOf (flat_map g ds) (in_order f w k ds)
   all_of k [] = tt
   all_of k (d ∷ ds) =
-      all_join (λ l. among (g d ++ flat_map g ds) l.name ≡ true) (f (take k w) d) (in_order f w (known_behind k d) ds)
+      all_join (λ l. among (g d ++ flat_map g ds) l.name ≡ true) (f (take k w) d) (in_order f w (known_after k d) ds)
       (all_as (λ l. among (g d) l.name ≡ true) (λ l. among (g d ++ flat_map g ds) l.name ≡ true) (f (take k w) d) (λ l i. among_front (g d) (flat_map g ds) l.name i) (h.named (take k w) d))
-      (all_as (λ l. among (flat_map g ds) l.name ≡ true) (λ l. among (g d ++ flat_map g ds) l.name ≡ true) (in_order f w (known_behind k d) ds) (λ l i. among_behind (g d) (flat_map g ds) l.name i) (all_of (known_behind k d) ds))
+      (all_as (λ l. among (flat_map g ds) l.name ≡ true) (λ l. among (g d ++ flat_map g ds) l.name ≡ true) (in_order f w (known_after k d) ds) (λ l i. among_after (g d) (flat_map g ds) l.name i) (all_of (known_after k d) ds))
 
   labelled_once : (k : ℕ) (ds : List Declaration) → HaveKeysOnce w k ds → IsDistinct same_name (flat_map g ds) → IsDistinct same_label (in_order f w k ds)
   labelled_once k [] keys names = none_once
   labelled_once k (d ∷ ds) keys names =
-      distinct_join (f (take k w) d) (in_order f w (known_behind k d) ds) (h.once (take k w) d keys.0) (labelled_once (known_behind k d) ds keys.1 (distinct_behind same_name (g d) (flat_map g ds) names))
-      (labels_apart (g d) (flat_map g ds) (f (take k w) d) (in_order f w (known_behind k d) ds) names (h.named (take k w) d) (all_of (known_behind k d) ds))
+      distinct_join (f (take k w) d) (in_order f w (known_after k d) ds) (h.once (take k w) d keys.0) (labelled_once (known_after k d) ds keys.1 (distinct_after same_name (g d) (flat_map g ds) names))
+      (labels_apart (g d) (flat_map g ds) (f (take k w) d) (in_order f w (known_after k d) ds) names (h.named (take k w) d) (all_of (known_after k d) ds))
 
 -- the labels of one declaration
 rows_named : (n : Token) (b : Option Braces) (rows : List Row) (d : Declared) → d.name ≡ n.text → AreOf (d ∷ []) (map (label_at n b) rows)
@@ -185,7 +185,7 @@ arcs_labelled = record { named = named; once = once }
 
 labels_in_order : {A : Type 0} (f : World → Declaration → List A) (v : A → Label) (w : World) (k : ℕ) (ds : List Declaration) → in_order (λ u d. map v (f u d)) w k ds ≡ map v (in_order f w k ds)
 labels_in_order f v w k [] = refl
-labels_in_order f v w k (d ∷ ds) = ap (λ (ls : List Label). map v (f (take k w) d) ++ ls) (labels_in_order f v w (known_behind k d) ds) ∙ sym (map_join v (f (take k w) d) (in_order f w (known_behind k d) ds))
+labels_in_order f v w k (d ∷ ds) = ap (λ (ls : List Label). map v (f (take k w) d) ++ ls) (labels_in_order f v w (known_after k d) ds) ∙ sym (map_join v (f (take k w) d) (in_order f w (known_after k d) ds))
 
 pub are_distinct_as_declared : AreDistinctAsDeclared
 are_distinct_as_declared w ds h = record {

@@ -9,7 +9,7 @@ use Rattle.net_sets.specs.Sets.{Tuple, place_of}
 use Rattle.net_tree.specs.Spans.{span_of}
 use Rattle.net_tree.specs.Tree.{Tree, leaf, indexed, parens, tuple, negated, braced, signed, reduced, chain, choice, net}
 use Rattle.net_fault.specs.declared.detail.Detail.{Detail}
-use Rattle.net_fault.specs.declared.defect.Defect.TheVariants.{ValueTooLarge, Arity, NoSuchNode, ArcCrossed}
+use Rattle.net_fault.specs.declared.error_code.ErrorCode.TheVariants.{ValueTooLarge, Arity, NoSuchNode, ArcCrossed}
 use Rattle.net_expr.specs.declared.row.Row.{Row}
 use Rattle.net_expr.specs.declared.value.Value.{Value}
 use Rattle.net_expr.specs.declared.value.Value.TheVariants.{One, Several, Many, Truth}
@@ -18,17 +18,17 @@ use Rattle.net_expr.specs.Operators.{member}
 use Rattle.net_expr.specs.Values.{value}
 use Rattle.net_expr.specs.Worlds.{Name, World, Scope, key_count, reference}
 use Rattle.net_linear.specs.declared.arc.ArcKeys.{ArcKeys}
-use Rattle.net_fault.specs.declared.defect.Defect.TheVariants as defects
+use Rattle.net_fault.specs.declared.error_code.ErrorCode.TheVariants as error_codes
 use Rattle.net_linear.specs.Arcs.{declared}
 use Rattle.net_linear.specs.Objectives.{key_of}
-use Rattle.net_inst.specs.declared.arc.Drawn.{Drawn}
-use Rattle.net_inst.specs.Arcs.{end_at, with_ends, drawn}
+use Rattle.net_inst.specs.declared.arc.Built.{Built}
+use Rattle.net_inst.specs.Arcs.{end_at, with_ends, built}
 use Rattle.net_inst.specs.AsWritten.{Label, same_label, with_key, reference_in, end_of}
 use Rattle.net_inst.specs.Groups.{Numbers}
 use Rattle.net_inst.specs.Laws.{IsPlaceOf}
-use Rattle.net_inst.specs.Nodes.{DrawnNodes, numbered, node_at, node_named}
+use Rattle.net_inst.specs.Nodes.{BuiltNodes, numbered, node_at, node_named}
 use Rattle.net_inst.specs.Numbers.{number_in, number}
-use Rattle.net_fault.specs.Outcomes.{Outcome, and_then, refused_of, refused}
+use Rattle.net_fault.specs.Outcomes.{Outcome, and_then, rejected_of, rejected}
 use Rattle.net_inst.specs.Phrases.{Parts}
 use Rattle.net_inst.proofs.Labels.{Finds, found_label}
 use Rattle.net_inst.proofs.Zips.{ok_then, ok_is, get_front}
@@ -48,7 +48,7 @@ place_is labels numbers name key v count at finds distinct e = by_keys (declared
     by_place k h None i d j = cc
     by_place k h (Some p) i d j = go (nat_lt (k.first + p) count) j
       where
-        go : (b : Bool) → (let o : Outcome ℕ = if b then Ok (k.first + p) else refused_of NoSuchNode at d in o ≡ Ok v) → Stands labels name key v
+        go : (b : Bool) → (let o : Outcome ℕ = if b then Ok (k.first + p) else rejected_of NoSuchNode at d in o ≡ Ok v) → Stands labels name key v
         go true f =
             let found = found_label labels numbers name k key p v finds distinct h i (sym (ok_is (k.first + p) v f)) in
             record { label = found.0; at = found.1; name_is = found.2; key_is = found.3 }
@@ -58,7 +58,7 @@ place_is labels numbers name key v count at finds distinct e = by_keys (declared
     by_keys None h i = cc
     by_keys (Some k) h i = go (nat_eq (length key) (key_count k.keys)) i
       where
-        go : (b : Bool) → (if b then numbered count at (reference name k.keys key) k.first (place_of k.index key) else refused Arity at) ≡ Ok v → Stands labels name key v
+        go : (b : Bool) → (if b then numbered count at (reference name k.keys key) k.first (place_of k.index key) else rejected Arity at) ≡ Ok v → Stands labels name key v
         go true f = by_place k h (place_of k.index key) refl (reference name k.keys key) f
         go false f = cc
 
@@ -66,7 +66,7 @@ as_place : (labels : List Label) (name : Name) (key : Tuple) (v : ℕ) → Stand
 as_place labels name key v s = (s.label, s.at, s.name_is, s.key_is)
 
 -- the node that a tree names
-pub named_place : (labels : List Label) (ns : DrawnNodes) (w : World) (s : Scope) (t : Tree) (v : ℕ) → Finds labels ns.group.numbers → IsDistinct same_label labels
+pub named_place : (labels : List Label) (ns : BuiltNodes) (w : World) (s : Scope) (t : Tree) (v : ℕ) → Finds labels ns.group.numbers → IsDistinct same_label labels
     → node_named ns w s t ≡ Ok v → IsPlaceOf labels (reference_in w s t) (Some v)
 named_place labels ns w s (leaf t) v finds distinct e = as_place labels t.text [] v (place_is labels ns.group.numbers t.text [] v (length ns.ranges) (span_of (leaf t)) finds distinct e)
 named_place labels ns w s (indexed n o x l c) v finds distinct e = go (key_of w s (span_of (indexed n o x l c)) x l) e
@@ -84,7 +84,7 @@ named_place labels ns w s (chain n y l) v finds distinct e = cc
 named_place labels ns w s (choice i y t z p) v finds distinct e = cc
 named_place labels ns w s (net t u) v finds distinct e = cc
 
-pub end_place : (labels : List Label) (ns : DrawnNodes) (w : World) (s : Scope) (o : Option Tree) (v : Option ℕ) → Finds labels ns.group.numbers → IsDistinct same_label labels
+pub end_place : (labels : List Label) (ns : BuiltNodes) (w : World) (s : Scope) (o : Option Tree) (v : Option ℕ) → Finds labels ns.group.numbers → IsDistinct same_label labels
     → end_at ns w s o ≡ Ok v → IsPlaceOf labels (end_of w s o) v
 end_place labels ns w s None v finds distinct e = subst (IsPlaceOf labels None) (ok_is None v e) tt
 end_place labels ns w s (Some t) v finds distinct e =
@@ -102,7 +102,7 @@ place_stays labels more (Some r) (Some v) h = (h.0, get_front labels more v h.0 
 pub number_is : (w : World) (s : Scope) (t : Tree) (n : ℤ) → number w s t ≡ Ok n → value w s t ≡ Ok (One (Number n))
 number_is w s t n e = go (value w s t) e
   where
-    small : (m : ℤ) (b : Bool) → (let o : Outcome ℤ = if b then Ok m else refused ValueTooLarge (span_of t) in o ≡ Ok n) → m ≡ n
+    small : (m : ℤ) (b : Bool) → (let o : Outcome ℤ = if b then Ok m else rejected ValueTooLarge (span_of t) in o ≡ Ok n) → m ≡ n
     small m true h = ok_is m n h
     small m false h = cc
 
@@ -118,23 +118,23 @@ number_is w s t n e = go (value w s t) e
     go (Err r) h = cc
 
 -- what an arc at a key comes to
-pub record IsDrawnBy (ns : DrawnNodes) (w : World) (s : Scope) (p : Parts) (x : Drawn) : Type 0 where
+pub record IsBuiltBy (ns : BuiltNodes) (w : World) (s : Scope) (p : Parts) (x : Built) : Type 0 where
   pub lower : value w s p.lower ≡ Ok (One (Number x.lower))
   pub upper : value w s p.upper ≡ Ok (One (Number x.upper))
   pub tail : end_at ns w s p.tail ≡ Ok x.tail
   pub head : end_at ns w s p.head ≡ Ok x.head
 
-pub drawn_is : (ns : DrawnNodes) (w : World) (n : Token) (k : Option ℕ) (p : Parts) (row : Row) (x : Drawn) → drawn ns w n k p row ≡ Ok x → IsDrawnBy ns w row.scope p x
-drawn_is ns w n k p row x e =
+pub built_is : (ns : BuiltNodes) (w : World) (n : Token) (k : Option ℕ) (p : Parts) (row : Row) (x : Built) → built ns w n k p row ≡ Ok x → IsBuiltBy ns w row.scope p x
+built_is ns w n k p row x e =
     ok_then (number w row.scope p.lower) (λ l. and_then (number w row.scope p.upper) (λ u. uncrossed l u)) x e (λ l h i.
     ok_then (number w row.scope p.upper) (uncrossed l) x i (λ u j m. go l u h j (int_lt u l) m))
   where
-    uncrossed : ℤ → ℤ → Outcome Drawn
-    uncrossed l u = if int_lt u l then refused_of ArcCrossed n.span (reference n.text k row.key) else with_ends ns w row.scope p l u
+    uncrossed : ℤ → ℤ → Outcome Built
+    uncrossed l u = if int_lt u l then rejected_of ArcCrossed n.span (reference n.text k row.key) else with_ends ns w row.scope p l u
 
-    go : (l u : ℤ) → number w row.scope p.lower ≡ Ok l → number w row.scope p.upper ≡ Ok u → (b : Bool) → (if b then refused_of ArcCrossed n.span (reference n.text k row.key) else with_ends ns w row.scope p l u) ≡ Ok x → IsDrawnBy ns w row.scope p x
+    go : (l u : ℤ) → number w row.scope p.lower ≡ Ok l → number w row.scope p.upper ≡ Ok u → (b : Bool) → (if b then rejected_of ArcCrossed n.span (reference n.text k row.key) else with_ends ns w row.scope p l u) ≡ Ok x → IsBuiltBy ns w row.scope p x
     go l u h i true m = cc
     go l u h i false m =
         ok_then (end_at ns w row.scope p.tail) (λ t. and_then (end_at ns w row.scope p.head) (λ z. Ok (record { lower = l; upper = u; tail = t; head = z }))) x m (λ t j f.
         ok_then (end_at ns w row.scope p.head) (λ z. Ok (record { lower = l; upper = u; tail = t; head = z })) x f (λ z q y.
-        subst (IsDrawnBy ns w row.scope p) (ok_is (record { lower = l; upper = u; tail = t; head = z }) x y) (record { lower = number_is w row.scope p.lower l h; upper = number_is w row.scope p.upper u i; tail = j; head = q })))
+        subst (IsBuiltBy ns w row.scope p) (ok_is (record { lower = l; upper = u; tail = t; head = z }) x y) (record { lower = number_is w row.scope p.lower l h; upper = number_is w row.scope p.upper u i; tail = j; head = q })))

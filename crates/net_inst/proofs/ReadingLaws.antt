@@ -13,7 +13,7 @@ use Rattle.net_linear.specs.Arcs.{Arcs, declared, is_arc, arc_at}
 use Rattle.net_linear.specs.Forms.{Linear, Term, just, one_arc, join, turn, as_form, form_at}
 use Rattle.net_linear.specs.Objectives.{names_arc, any_arc, part_arc, braces_arc, is_sum, is_linear, key_of, condition, arc_term, objective, otherwise, chained, objective_form}
 use Rattle.net_fault.specs.Outcomes.{Outcome}
-use Rattle.net_linear.specs.Worths.{combine}
+use Rattle.net_linear.specs.ObjectiveValues.{combine}
 use Rattle.net_linear.proofs.FormLaws.{term_at, same_term, form_just, form_arc, join_ok, turn_ok, total_ok, mixed_ok, no_arcs, linear_ok, choose_ok}
 use Rattle.net_linear.proofs.Ranges.{ok_then}
 use Rattle.net_inst.specs.AsWritten.{Assignment}

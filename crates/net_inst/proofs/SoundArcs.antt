@@ -4,8 +4,8 @@ use Rattle.std.specs.List.{AllByRecursion, AllZip}
 use Rattle.std.specs.Str.{bytes_eq}
 use Rattle.std.proofs.Common.{refl, ap, sym, ◌∙◌, subst, arith, inl, inr, append_assoc, append-nil}
 use Rattle.std.proofs.lemmas.Int.{ints}
-use Rattle.net_fault.specs.declared.defect.Defect.TheVariants.{ArcCrossed}
-use Rattle.net_fault.specs.Outcomes.{Outcome, and_then, refused_of}
+use Rattle.net_fault.specs.declared.error_code.ErrorCode.TheVariants.{ArcCrossed}
+use Rattle.net_fault.specs.Outcomes.{Outcome, and_then, rejected_of}
 use Rattle.net_lex.specs.declared.token.Token.{Token}
 use Rattle.net_sets.specs.declared.member.Member.TheVariants as member
 use Rattle.net_sets.specs.Sets.{Tuple}
@@ -32,18 +32,18 @@ use Rattle.net_meaning.specs.Values.{Env, Key, env_of, IsValue, AreKeys, AreValu
 use Rattle.net_meaning.specs.World as world
 use Rattle.net_meaning.specs.World.{AreIndexed}
 use Rattle.net_meaning.proofs.Meaning.{evaluation_is_sound, keys_are_sound, key_is_sound, netless, all_netless}
-use Rattle.net_inst.specs.declared.arc.Drawn.{Drawn}
+use Rattle.net_inst.specs.declared.arc.Built.{Built}
 use Rattle.net_inst.specs.declared.goal.ChosenObjective.{ChosenObjective}
 use Rattle.net_inst.specs.declared.indexing.Indexing.{Indexing}
 use Rattle.net_inst.specs.declared.phrases.ArcWord.{ArcWord}
 use Rattle.net_inst.specs.declared.phrases.ArcWord.TheVariants as words
-use Rattle.net_inst.specs.Arcs.{DrawnArcs, drawn, end_at, with_ends, is_goal, priced_by, price_in, prices_in, next_arc, arcs_at}
+use Rattle.net_inst.specs.Arcs.{BuiltArcs, built, end_at, with_ends, is_goal, priced_by, price_in, prices_in, next_arc, arcs_at}
 use Rattle.net_inst.specs.AsWritten as written
 use Rattle.net_inst.specs.AsWritten.{amount, arc_at_row}
-use Rattle.net_inst.specs.Drafts.{Drawing, said_form, aimed, passed, is_chosen, with_goal, with_objective}
+use Rattle.net_inst.specs.Drafts.{Drawing, part_form, aimed, passed, is_chosen, with_goal, with_objective}
 use Rattle.net_inst.specs.Indexings.{alone, by_keys, indexing_in}
 use Rattle.net_inst.specs.Nodes as nodes
-use Rattle.net_inst.specs.Nodes.{DrawnNodes}
+use Rattle.net_inst.specs.Nodes.{BuiltNodes}
 use Rattle.net_inst.specs.Numbers.{number}
 use Rattle.net_inst.specs.Phrases as phrases
 use Rattle.net_inst.specs.Phrases.{Parts, parts_of, parts_from}
@@ -58,7 +58,7 @@ use Rattle.net_inst.proofs.Zips.{ok_then, ok_is}
 
 -- ---- phrases
 
-said_same : (test : Role → Bool) (a : ArcWord) → ((r : Role) → phrases.is_word a r ≡ test r) → (ps : List Phrase) → phrases.said a ps ≡ world.phrase_value test ps
+said_same : (test : Role → Bool) (a : ArcWord) → ((r : Role) → phrases.is_word a r ≡ test r) → (ps : List Phrase) → phrases.phrase_expression a ps ≡ world.phrase_value test ps
 said_same test a h [] = refl
 said_same test a h (p ∷ ps) = go (phrases.is_word a (role_of p.word)) (test (role_of p.word)) (h (role_of p.word)) (said_same test a h ps)
   where
@@ -67,34 +67,34 @@ said_same test a h (p ∷ ps) = go (phrases.is_word a (role_of p.word)) (test (r
     body (valued x) = refl
     body (priced n x) = refl
 
-    go : (b c : Bool) → b ≡ c → phrases.said a ps ≡ world.phrase_value test ps → (if b then phrases.value_in p.body else phrases.said a ps) ≡ (if c then world.expression_of p.body else world.phrase_value test ps)
+    go : (b c : Bool) → b ≡ c → phrases.phrase_expression a ps ≡ world.phrase_value test ps → (if b then phrases.value_in p.body else phrases.phrase_expression a ps) ≡ (if c then world.expression_of p.body else world.phrase_value test ps)
     go true true e more = body p.body
     go false false e more = more
     go true false e more = cc
     go false true e more = cc
 
-from_said : (ps : List Phrase) → phrases.said words.From ps ≡ world.phrase_value is_from ps
+from_said : (ps : List Phrase) → phrases.phrase_expression words.From ps ≡ world.phrase_value is_from ps
 from_said ps = said_same is_from words.From same ps
   where
     same : (r : Role) → phrases.is_word words.From r ≡ is_from r
     same (roles.Phrase begins.From) = refl
     same _ = refl
 
-to_said : (ps : List Phrase) → phrases.said words.To ps ≡ world.phrase_value is_to ps
+to_said : (ps : List Phrase) → phrases.phrase_expression words.To ps ≡ world.phrase_value is_to ps
 to_said ps = said_same is_to words.To same ps
   where
     same : (r : Role) → phrases.is_word words.To r ≡ is_to r
     same (roles.Phrase begins.To) = refl
     same _ = refl
 
-least_said : (ps : List Phrase) → phrases.said words.AtLeast ps ≡ world.phrase_value is_at_least ps
+least_said : (ps : List Phrase) → phrases.phrase_expression words.AtLeast ps ≡ world.phrase_value is_at_least ps
 least_said ps = said_same is_at_least words.AtLeast same ps
   where
     same : (r : Role) → phrases.is_word words.AtLeast r ≡ is_at_least r
     same (roles.Relation relations.AtLeast) = refl
     same _ = refl
 
-most_said : (ps : List Phrase) → phrases.said words.AtMost ps ≡ world.phrase_value is_at_most ps
+most_said : (ps : List Phrase) → phrases.phrase_expression words.AtMost ps ≡ world.phrase_value is_at_most ps
 most_said ps = said_same is_at_most words.AtMost same ps
   where
     same : (r : Role) → phrases.is_word words.AtMost r ≡ is_at_most r
@@ -106,7 +106,7 @@ most_said ps = said_same is_at_most words.AtMost same ps
 number_is : (w : World) (s : Scope) (t : Tree) (n : ℤ) → number w s t ≡ Ok n → IsValue (env_of w s) t (values.number n)
 number_is w s t n e = evaluation_is_sound w s t (found.One (member.Number n)) (placing.number_is w s t n e)
 
-end_is : (ns : DrawnNodes) (w : World) (s : Scope) (o : Option Tree) (v : Option ℕ) → end_at ns w s o ≡ Ok v → IsEnd (env_of w s) o (written.end_of w s o)
+end_is : (ns : BuiltNodes) (w : World) (s : Scope) (o : Option Tree) (v : Option ℕ) → end_at ns w s o ≡ Ok v → IsEnd (env_of w s) o (written.end_of w s o)
 end_is ns w s None v e = absent_end
 end_is ns w s (Some (leaf t)) v e = name t
 end_is ns w s (Some (indexed n o x l c)) v e = go (key_of w s (span_of (indexed n o x l c)) x l) (key_is_sound (λ n. None) (pos 0) (span_of (indexed n o x l c)) w s x l (netless x) (all_netless l)) e
@@ -180,7 +180,7 @@ parts_are n (Some l) (Some u) None (Some h) p e = subst (AreParts (Some l) (Some
 parts_are n (Some l) (Some u) (Some t) h p e = subst (AreParts (Some l) (Some u) (Some t) h) (ok_is _ p e) (record { lower = refl; upper = refl; tail = refl; head = refl; ended = refl })
 
 -- what the code computes of an arc is what its phrases mean
-record IsRow (w : World) (s : Scope) (ps : List Phrase) (p : Parts) (x : Drawn) : Type 0 where
+record IsRow (w : World) (s : Scope) (ps : List Phrase) (p : Parts) (x : Built) : Type 0 where
   lower : HasNumber (env_of w s) (world.phrase_value is_at_least ps) x.lower
   upper : HasNumber (env_of w s) (world.phrase_value is_at_most ps) x.upper
   ordered : x.lower ≤ℤ x.upper
@@ -188,7 +188,7 @@ record IsRow (w : World) (s : Scope) (ps : List Phrase) (p : Parts) (x : Drawn) 
   to : IsEnd (env_of w s) (world.phrase_value is_to ps) (written.end_of w s p.head)
   ended : IsTrue (is_some (written.end_of w s p.tail) || is_some (written.end_of w s p.head))
 
-ends_are : (ns : DrawnNodes) (w : World) (s : Scope) (ps : List Phrase) (p : Parts) (l u : ℤ) (x : Drawn) → AreParts (phrases.said words.AtLeast ps) (phrases.said words.AtMost ps) (phrases.said words.From ps) (phrases.said words.To ps) p
+ends_are : (ns : BuiltNodes) (w : World) (s : Scope) (ps : List Phrase) (p : Parts) (l u : ℤ) (x : Built) → AreParts (phrases.phrase_expression words.AtLeast ps) (phrases.phrase_expression words.AtMost ps) (phrases.phrase_expression words.From ps) (phrases.phrase_expression words.To ps) p
     → number w s p.lower ≡ Ok l → number w s p.upper ≡ Ok u → l ≤ℤ u → with_ends ns w s p l u ≡ Ok x → IsRow w s ps p x
 ends_are ns w s ps p l u x are low high ordered e =
     ok_then (end_at ns w s p.tail) _ x e (λ t h i. ok_then (end_at ns w s p.head) _ x i (λ z j k.
@@ -204,22 +204,22 @@ ends_are ns w s ps p l u x are low high ordered e =
           ∙ are.ended;
     })))
 
-row_is : (ns : DrawnNodes) (w : World) (n : Token) (k : Option ℕ) (ps : List Phrase) (p : Parts) (row : Row) (x : Drawn) → parts_of n ps ≡ Ok p → drawn ns w n k p row ≡ Ok x → IsRow w row.scope ps p x
+row_is : (ns : BuiltNodes) (w : World) (n : Token) (k : Option ℕ) (ps : List Phrase) (p : Parts) (row : Row) (x : Built) → parts_of n ps ≡ Ok p → built ns w n k p row ≡ Ok x → IsRow w row.scope ps p x
 row_is ns w n k ps p row x parts e =
     ok_then (number w row.scope p.lower) _ x e (λ l h i. ok_then (number w row.scope p.upper) (λ u. uncrossed l u) x i (λ u j m. go l u h j (int_lt u l) refl m))
   where
-    uncrossed : ℤ → ℤ → Outcome Drawn
-    uncrossed l u = if int_lt u l then refused_of ArcCrossed n.span (reference n.text k row.key) else with_ends ns w row.scope p l u
+    uncrossed : ℤ → ℤ → Outcome Built
+    uncrossed l u = if int_lt u l then rejected_of ArcCrossed n.span (reference n.text k row.key) else with_ends ns w row.scope p l u
 
     go : (l u : ℤ) → number w row.scope p.lower ≡ Ok l → number w row.scope p.upper ≡ Ok u → (b : Bool) → int_lt u l ≡ b
-        → (if b then refused_of ArcCrossed n.span (reference n.text k row.key) else with_ends ns w row.scope p l u) ≡ Ok x → IsRow w row.scope ps p x
+        → (if b then rejected_of ArcCrossed n.span (reference n.text k row.key) else with_ends ns w row.scope p l u) ≡ Ok x → IsRow w row.scope ps p x
     go l u h j true f m = cc
-    go l u h j false f m = ends_are ns w row.scope ps p l u x (parts_are n (phrases.said words.AtLeast ps) (phrases.said words.AtMost ps) (phrases.said words.From ps) (phrases.said words.To ps) p parts) h j (search (arith, ints, f)) m
+    go l u h j false f m = ends_are ns w row.scope ps p l u x (parts_are n (phrases.phrase_expression words.AtLeast ps) (phrases.phrase_expression words.AtMost ps) (phrases.phrase_expression words.From ps) (phrases.phrase_expression words.To ps) p parts) h j (search (arith, ints, f)) m
 
 abbrev pub as_key : World → Row → Key
 as_key w row = record { key = row.key; env = env_of w row.scope }
 
-abbrev made : World → Token → Option Braces → Parts → Row → Drawn → ℤ → meaning.Arc
+abbrev made : World → Token → Option Braces → Parts → Row → Built → ℤ → meaning.Arc
 made w n b p row x c = record {
   label = meaning.label_at n b (as_key w row);
   lower = x.lower;
@@ -229,7 +229,7 @@ made w n b p row x c = record {
   coefficient = c;
 }
 
-pub record HasDrawnBounds (a : meaning.Arc) (x : Drawn) : Type 0 where
+pub record HasBuiltBounds (a : meaning.Arc) (x : Built) : Type 0 where
   pub lower : x.lower ≡ a.lower
   pub upper : x.upper ≡ a.upper
 
@@ -237,25 +237,25 @@ pub record HasDrawnBounds (a : meaning.Arc) (x : Drawn) : Type 0 where
 abbrev pub HasPrice : Name → written.Arc → meaning.Arc → Type 0
 HasPrice goal v a = a.coefficient ≡ price_of goal v.env v.scope v.phrases
 
-pub record AreRows (goal : Name) (w : World) (n : Token) (b : Option Braces) (ps : List Phrase) (p : Parts) (rows : List Row) (d new : DrawnArcs) : Type 0 where
+pub record AreRows (goal : Name) (w : World) (n : Token) (b : Option Braces) (ps : List Phrase) (p : Parts) (rows : List Row) (d new : BuiltArcs) : Type 0 where
   pub arcs : List meaning.Arc
   pub are : AllZip (IsArc goal n b ps) (map (as_key w) rows) arcs
   pub same : AllZip IsSameArc (map (arc_at_row w n b ps p) rows) arcs
   pub ended : AllByRecursion HasEnd arcs
   pub prices : AllZip (HasPrice goal) (map (arc_at_row w n b ps p) rows) arcs
-  pub more : List Drawn
+  pub more : List Built
   pub whole : new.arcs ≡ d.arcs ++ more
-  pub bounds : AllZip HasDrawnBounds arcs more
+  pub bounds : AllZip HasBuiltBounds arcs more
 
-pub rows_are : (goal : Name) (g : Option ChosenObjective) (ns : DrawnNodes) (w : World) (n : Token) (b : Option Braces) (k : Option ℕ) (p : Parts) (ps : List Phrase) (rows : List Row) (d new : DrawnArcs) → AgreesOnAll g goal ps → parts_of n ps ≡ Ok p
+pub rows_are : (goal : Name) (g : Option ChosenObjective) (ns : BuiltNodes) (w : World) (n : Token) (b : Option Braces) (k : Option ℕ) (p : Parts) (ps : List Phrase) (rows : List Row) (d new : BuiltArcs) → AgreesOnAll g goal ps → parts_of n ps ≡ Ok p
     → arcs_at g ns w n k p ps rows d ≡ Ok new → AreRows goal w n b ps p rows d new
 rows_are goal g ns w n b k p ps [] d new h parts e =
-    record { arcs = []; are = tt; same = tt; ended = tt; prices = tt; more = []; whole = ap (λ (z : DrawnArcs). z.arcs) (sym (ok_is d new e)) ∙ sym (append-nil d.arcs); bounds = tt }
+    record { arcs = []; are = tt; same = tt; ended = tt; prices = tt; more = []; whole = ap (λ (z : BuiltArcs). z.arcs) (sym (ok_is d new e)) ∙ sym (append-nil d.arcs); bounds = tt }
 rows_are goal g ns w n b k p ps (row ∷ rows) d new h parts e =
     ok_then (next_arc g ns w n k p ps row d) (arcs_at g ns w n k p ps rows) new e (λ next i j.
     let one = next_arc_is g ns w n k p ps row d next i in
     let rest = rows_are goal g ns w n b k p ps rows next new h parts j in
-    let by = row_is ns w n k ps p row one.arc parts one.is_drawn in
+    let by = row_is ns w n k ps p row one.arc parts one.is_built in
     let c = coefficient_is goal g w row.scope (length d.arcs) ps d.form next.form h one.priced in
     record {
       arcs = made w n b p row one.arc c.0 ∷ rest.arcs;
@@ -264,7 +264,7 @@ rows_are goal g ns w n b k p ps (row ∷ rows) d new h parts e =
       ended = (by.ended, rest.ended);
       prices = (c.2, rest.prices);
       more = one.arc ∷ rest.more;
-      whole = rest.whole ∙ ap (λ (l : List Drawn). l ++ rest.more) one.arcs ∙ append_assoc d.arcs (one.arc ∷ []) rest.more;
+      whole = rest.whole ∙ ap (λ (l : List Built). l ++ rest.more) one.arcs ∙ append_assoc d.arcs (one.arc ∷ []) rest.more;
       bounds = (record { lower = refl; upper = refl }, rest.bounds);
     })
 
@@ -292,10 +292,10 @@ pub goal_after : (wanted : Option Name) (w : World) (t n : Token) (p : Part) (d 
 goal_after (Some m) w t n p d new e = go (bytes_eq m n.text) refl e
   where
     go : (b : Bool) → bytes_eq m n.text ≡ b → (if b then with_goal w t n p d else Ok (passed d)) ≡ Ok new → IsGoalAfter (Some m) n d.goal new.goal
-    go true h i = ok_then (said_form d.arcs.group.numbers w p) (λ f. Ok (aimed d t n f)) new i (λ f j k. inl (h, _, ap (λ (z : Drawing). z.goal) (sym (ok_is (aimed d t n f) new k)), refl))
+    go true h i = ok_then (part_form d.arcs.group.numbers w p) (λ f. Ok (aimed d t n f)) new i (λ f j k. inl (h, _, ap (λ (z : Drawing). z.goal) (sym (ok_is (aimed d t n f) new k)), refl))
     go false h i = inr (h, ap (λ (z : Drawing). z.goal) (sym (ok_is (passed d) new i)))
 goal_after None w t n p d new e = go d.goal refl e
   where
     go : (g : Option ChosenObjective) → d.goal ≡ g → and_then (is_chosen None g n) (λ b. if b then with_goal w t n p d else Ok (passed d)) ≡ Ok new → IsGoalAfter None n d.goal new.goal
-    go None h i = ok_then (said_form d.arcs.group.numbers w p) (λ f. Ok (aimed d t n f)) new i (λ f j k. (h, _, ap (λ (z : Drawing). z.goal) (sym (ok_is (aimed d t n f) new k)), refl))
+    go None h i = ok_then (part_form d.arcs.group.numbers w p) (λ f. Ok (aimed d t n f)) new i (λ f j k. (h, _, ap (λ (z : Drawing). z.goal) (sym (ok_is (aimed d t n f) new k)), refl))
     go (Some g) h i = cc

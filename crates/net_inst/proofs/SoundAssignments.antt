@@ -24,12 +24,12 @@ use Rattle.net_inst.specs.AsWritten.{is_named, from_end, to_end, number_on, IsWi
 use Rattle.net_inst.specs.Indexings.{indexing_in}
 use Rattle.net_inst.specs.Laws.{IsBoundedAs}
 use Rattle.net_inst.specs.Instances.{seen_as}
-use Rattle.net_inst.specs.Readings.{Objective, said_value, prices}
+use Rattle.net_inst.specs.Readings.{Objective, part_value, prices}
 use Rattle.net_inst.specs.Readings.{value_of as objective_value}
 use Rattle.net_inst.specs.Soundness.{IsSameNode, IsSameArc, HasBounds, AssignmentsAreSound}
 use Rattle.net_inst.proofs.Agreement.{IsFinished, network_is}
 use Rattle.net_inst.proofs.Aiming.{have_objective, objective_valued}
-use Rattle.net_inst.proofs.Drawn.{HasRange}
+use Rattle.net_inst.proofs.Built.{HasRange}
 use Rattle.net_inst.proofs.Feasible.{amount_of, have_feasible}
 use Rattle.net_inst.proofs.KeysOnce.{are_distinct_in_sets}
 use Rattle.net_inst.proofs.Once.{all_join}
@@ -188,7 +188,7 @@ assignments_are_sound requested w ds n sets names good e = record { has = found.
 
     feasible : (x : meaning.Assignment) → meaning.IsFeasible found.has.nodes found.has.arcs x ↔ IsFeasibleAssignment n.instance (map (meaning.flow_on x) found.has.arcs)
     feasible x =
-        let ranges = (all_written requested w ds f.drawing f.is_drawn).nodes.ranges in
+        let ranges = (all_written requested w ds f.drawing f.is_built).nodes.ranges in
         let alike = feasible_alike w ds found.has.nodes found.has.arcs f.drawing.nodes.ranges n.instance.arcs.items x good found.has.same_nodes found.has.same_arcs ranges found.has.bounds (have_bounds requested w ds (seen_as n) e) in
         let by_number = have_feasible requested w ds n e apart x in (
           (λ h. subst (IsFeasibleAssignment n.instance) (sym (flows x)) (by_number.0 (alike.0 h))),
@@ -198,27 +198,27 @@ assignments_are_sound requested w ds n sets names good e = record { has = found.
     p : Objective
     p = found.objective
 
-    said : meaning.Assignment → ℤ
-    said x = said_value p.before p.env p.expression x
+    phrase_expression : meaning.Assignment → ℤ
+    phrase_expression x = part_value p.before p.env p.expression x
 
     terms : (x : meaning.Assignment) → meaning.coefficient_terms found.has.arcs x ≡ prices p.name p.behind x
     terms x =
         terms_are p.name (written.arcs w ds) found.has.arcs x found.prices found.has.same_arcs
         ∙ all_prices requested [] [] w 0 ds x p names.priced (objectives_once w ds names.once) (λ m l. absurd l) found.is_chosen
 
-    total : (x : meaning.Assignment) → value_of n.instance (map (number_on x) (written.arcs w ds)) ≡ said x +ℤ prices p.name p.behind x
+    total : (x : meaning.Assignment) → value_of n.instance (map (number_on x) (written.arcs w ds)) ≡ phrase_expression x +ℤ prices p.name p.behind x
     total x =
         let aims = have_objective requested w ds (seen_as n) e in
         let same : aims.0 ≡ p = some_is aims.0 p (sym aims.1 ∙ found.is_chosen) in
         aims.2.value apart.arcs x ∙ ap (λ (o : Objective). objective_value o x) same
 
-    whole : (x : meaning.Assignment) → value_of n.instance (map (meaning.flow_on x) found.has.arcs) ≡ said x +ℤ meaning.coefficient_terms found.has.arcs x
-    whole x = ap (value_of n.instance) (flows x) ∙ total x ∙ ap (λ (m : ℤ). said x +ℤ m) (sym (terms x))
+    whole : (x : meaning.Assignment) → value_of n.instance (map (meaning.flow_on x) found.has.arcs) ≡ phrase_expression x +ℤ meaning.coefficient_terms found.has.arcs x
+    whole x = ap (value_of n.instance) (flows x) ∙ total x ∙ ap (λ (m : ℤ). phrase_expression x +ℤ m) (sym (terms x))
 
     value : (x : meaning.Assignment) (m : ℤ) → meaning.HasValue found.has.objective found.has.arcs x m ↔ (m ≡ value_of n.instance (map (meaning.flow_on x) found.has.arcs))
     value x m =
         let valued = objective_valued requested w ds (seen_as n) e p found.is_chosen apart.arcs x in
         subst (λ (o : meaning.Objective). meaning.HasValue o found.has.arcs x m ↔ (m ≡ value_of n.instance (map (meaning.flow_on x) found.has.arcs))) (sym found.same) (
-          (λ h. h.2 ∙ ap (λ (k : ℤ). k +ℤ meaning.coefficient_terms found.has.arcs x) (expression_unique _ p.expression h.0 (said x) h.1 valued) ∙ sym (whole x)),
-          (λ k. (said x, valued, k ∙ whole x)),
+          (λ h. h.2 ∙ ap (λ (k : ℤ). k +ℤ meaning.coefficient_terms found.has.arcs x) (expression_unique _ p.expression h.0 (phrase_expression x) h.1 valued) ∙ sym (whole x)),
+          (λ k. (phrase_expression x, valued, k ∙ whole x)),
         )

@@ -13,7 +13,7 @@ use Rattle.net_meaning.specs.Network.{is_at, IsNodeAt}
 use Rattle.net_inst.specs.AsWritten as written
 use Rattle.net_inst.specs.Laws.{IsPlaceOf, HasEndsOf}
 use Rattle.net_inst.specs.Soundness.{IsSameNode, IsSameArc}
-use Rattle.net_inst.proofs.Drawn.{node_labels, arc_labels}
+use Rattle.net_inst.proofs.Built.{node_labels, arc_labels}
 
 -- ---- labels
 

@@ -12,12 +12,12 @@ use Rattle.net_linear.specs.Forms.{Products}
 use Rattle.net_meaning.specs.Network as meaning
 use Rattle.net_meaning.specs.Network.{IsNode, AreNodesOf, AreArcsOf, InOrder, entries_after}
 use Rattle.net_meaning.specs.Values.{env_of}
-use Rattle.net_inst.specs.declared.arc.Drawn.{Drawn}
+use Rattle.net_inst.specs.declared.arc.Built.{Built}
 use Rattle.net_inst.specs.declared.goal.ChosenObjective.{ChosenObjective}
 use Rattle.net_inst.specs.declared.indexing.Indexing.{Indexing}
-use Rattle.net_inst.specs.Arcs.{DrawnArcs, with_arcs}
+use Rattle.net_inst.specs.Arcs.{BuiltArcs, with_arcs}
 use Rattle.net_inst.specs.AsWritten as written
-use Rattle.net_inst.specs.AsWritten.{known_behind, in_order, nodes_of, arcs_of, rows_of, node_at_row, arc_at_row, arcs_with}
+use Rattle.net_inst.specs.AsWritten.{known_after, in_order, nodes_of, arcs_of, rows_of, node_at_row, arc_at_row, arcs_with}
 use Rattle.net_inst.specs.Drafts.{Drawing, nothing, env, known_more, nodes_more, arcs_more, declare, draw}
 use Rattle.net_inst.specs.Indexings.{indexing_in}
 use Rattle.net_inst.specs.Instances.{Network, with_coefficients, network}
@@ -29,7 +29,7 @@ use Rattle.net_inst.proofs.Agreement.{with_arcs_is, network_is}
 use Rattle.net_inst.proofs.Aiming.{have_objective}
 use Rattle.net_inst.proofs.KeysOnce.{are_distinct_in_sets}
 use Rattle.net_inst.proofs.Once.{all_join}
-use Rattle.net_inst.proofs.SoundArcs.{AgreesOnAll, as_key, HasPrice, HasDrawnBounds, rows_are, keys_are, IsNextGoal}
+use Rattle.net_inst.proofs.SoundArcs.{AgreesOnAll, as_key, HasPrice, HasBuiltBounds, rows_are, keys_are, IsNextGoal}
 use Rattle.net_inst.proofs.SoundEnds.{HasEnd, nodes_apart, arcs_apart, ends_are_nodes}
 use Rattle.net_inst.proofs.SoundGoals.{next_goal, some_is, no_goal, only_goal, named_goal, IsReady, agrees_on_all, ready_after}
 use Rattle.net_inst.proofs.SoundNames.{nodes_once, arcs_once}
@@ -59,9 +59,9 @@ record IsStep (goal : Name) (w : World) (x : Declaration) (d new : Drawing) : Ty
   same_arcs : AllZip IsSameArc (arcs_of (env w d) x) arcs
   prices : AllZip (HasPrice goal) (arcs_of (env w d) x) arcs
   ended : AllByRecursion HasEnd arcs
-  more : List Drawn
+  more : List Built
   whole : new.arcs.arcs ≡ d.arcs.arcs ++ more
-  bounds : AllZip HasDrawnBounds arcs more
+  bounds : AllZip HasBuiltBounds arcs more
   known : new.known ≡ entries_after d.known x
 
 idle : (goal : Name) (w : World) (x : Declaration) (d new : Drawing) → AreNodesOf (env w d) x [] → AreArcsOf goal (env w d) x [] → nodes_of (env w d) x ≡ [] → arcs_of (env w d) x ≡ []
@@ -93,7 +93,7 @@ step wanted goal w (param t n b ps z) d new h e =
     let same = sym (ok_is (known_more d) new e) in idle goal w (param t n b ps z) d new refl refl refl refl (ap (λ (y : Drawing). y.arcs.arcs) same) (ap (λ (y : Drawing). y.known) same)
 step wanted goal w (check t b m x z) d new h e =
     let same = sym (ok_is d new e) in idle goal w (check t b m x z) d new refl refl refl refl (ap (λ (y : Drawing). y.arcs.arcs) same) (ap (λ (y : Drawing). y.known) same)
-step wanted goal w (objective t n p z) d new h e = let by = aimed_is wanted (env w d) t n p d new e in idle goal w (objective t n p z) d new refl refl refl refl (sym by.drawn) by.known
+step wanted goal w (objective t n p z) d new h e = let by = aimed_is wanted (env w d) t n p d new e in idle goal w (objective t n p z) d new refl refl refl refl (sym by.built) by.known
 step wanted goal w (node t n b c z) d new h e =
     ok_then (with_nodes (env w d) n b c d.nodes) (λ ns. Ok (nodes_more d ns)) new e (λ ns i j.
     ok_then (indexing_in (env w d) b) (nodes_by (env w d) n c d.nodes) ns i (λ x k l.
@@ -129,7 +129,7 @@ step wanted goal w (arc t n b ps z) d new h e =
       ended = rows.ended;
       prices = subst (λ (l : List written.Arc). AllZip (HasPrice goal) l rows.arcs) (sym here) rows.prices;
       more = rows.more;
-      whole = ap (λ (y : Drawing). y.arcs.arcs) same ∙ ap (λ (y : DrawnArcs). y.arcs) (sym by.is_named) ∙ rows.whole;
+      whole = ap (λ (y : Drawing). y.arcs.arcs) same ∙ ap (λ (y : BuiltArcs). y.arcs) (sym by.is_named) ∙ rows.whole;
       bounds = rows.bounds;
       known = ap (λ (y : Drawing). y.known) same;
     })
@@ -145,11 +145,11 @@ record IsWalk (goal : Name) (w : World) (k : ℕ) (ds : List Declaration) (d new
   same_arcs : AllZip IsSameArc (in_order arcs_of w k ds) arcs
   prices : AllZip (HasPrice goal) (in_order arcs_of w k ds) arcs
   ended : AllByRecursion HasEnd arcs
-  more : List Drawn
+  more : List Built
   whole : new.arcs.arcs ≡ d.arcs.arcs ++ more
-  bounds : AllZip HasDrawnBounds arcs more
+  bounds : AllZip HasBuiltBounds arcs more
 
-same_after : (k : ℕ) (x : Declaration) → known_behind k x ≡ entries_after k x
+same_after : (k : ℕ) (x : Declaration) → known_after k x ≡ entries_after k x
 same_after k (set t n ps e) = refl
 same_after k (param t n b ps e) = refl
 same_after k (check t b m x e) = refl
@@ -174,8 +174,8 @@ joined goal w x xs d next new one rest = record {
       subst (λ (k : ℕ). AllZip (HasPrice goal) (arcs_of (env w d) x ++ in_order arcs_of w k xs) (one.arcs ++ rest.arcs)) (sym (same_after d.known x))
       (zip_join (HasPrice goal) (arcs_of (env w d) x) (in_order arcs_of w (entries_after d.known x) xs) one.arcs rest.arcs one.prices rest.prices);
   more = one.more ++ rest.more;
-  whole = rest.whole ∙ ap (λ (l : List Drawn). l ++ rest.more) one.whole ∙ append_assoc d.arcs.arcs one.more rest.more;
-  bounds = zip_join HasDrawnBounds one.arcs rest.arcs one.more rest.more one.bounds rest.bounds;
+  whole = rest.whole ∙ ap (λ (l : List Built). l ++ rest.more) one.whole ∙ append_assoc d.arcs.arcs one.more rest.more;
+  bounds = zip_join HasBuiltBounds one.arcs rest.arcs one.more rest.more one.bounds rest.bounds;
 }
 
 -- what the walk knows of the final goal
@@ -245,7 +245,7 @@ walk wanted goal w (x ∷ xs) before d new h r aim e =
 
 -- ---- the law
 
-bounds_are : (ps : Products) (a : ℕ) (all : List meaning.Arc) (xs : List Drawn) → AllZip HasDrawnBounds all xs → AllZip HasBounds all (with_coefficients ps a xs)
+bounds_are : (ps : Products) (a : ℕ) (all : List meaning.Arc) (xs : List Built) → AllZip HasBuiltBounds all xs → AllZip HasBounds all (with_coefficients ps a xs)
 bounds_are ps a [] [] h = tt
 bounds_are ps a [] (x ∷ xs) h = absurd h
 bounds_are ps a (y ∷ all) [] h = absurd h
@@ -263,9 +263,9 @@ pub network_found : (requested : Option Name) (w : World) (ds : List Declaration
 network_found requested w ds n sets names e =
     let f = network_is requested w ds n e in
     let named : (m : Name) → requested ≡ Some m → m ≡ f.goal.name = (λ m q.
-    named_goal m w ds nothing f.drawing (λ z k. absurd (none_is z k)) (subst (λ (o : Option Name). draw o w ds nothing ≡ Ok f.drawing) q f.is_drawn) f.goal f.has_objective) in
+    named_goal m w ds nothing f.drawing (λ z k. absurd (none_is z k)) (subst (λ (o : Option Name). draw o w ds nothing ≡ Ok f.drawing) q f.is_built) f.goal f.has_objective) in
     let aim : IsAim requested f.goal.name f.drawing = record { requested = named; final = f.goal; has = f.has_objective; named = refl } in
-    let found = walk requested f.goal.name w ds [] nothing f.drawing names.priced (λ m l. absurd l) aim f.is_drawn in
+    let found = walk requested f.goal.name w ds [] nothing f.drawing names.priced (λ m l. absurd l) aim f.is_built in
     let aims = have_objective requested w ds n e in
     let apart = are_distinct_in_sets w ds sets (nodes_once ds names.once) (arcs_once ds names.once) in
     let goal : f.goal.name ≡ aims.0.name = ap (λ (z : Network). z.names.objective) f.whole ∙ aims.2.name in
@@ -274,7 +274,7 @@ network_found requested w ds n sets names e =
       arcs = found.arcs;
       objective = as_objective aims.0;
       is_network = record {
-        objective = objective_is requested w ds f.drawing aims.0 names.once f.is_drawn aims.1;
+        objective = objective_is requested w ds f.drawing aims.0 names.once f.is_built aims.1;
         nodes = found.are_nodes;
         arcs = subst (λ (g : Name). InOrder (AreArcsOf g) w 0 ds found.arcs) goal found.are_arcs;
         ends = ends_are_nodes (written.nodes w ds) found.nodes (written.arcs w ds) found.arcs n.arcs found.same_nodes found.same_arcs (have_ends requested w ds n e apart) found.ended;
@@ -286,7 +286,7 @@ network_found requested w ds n sets names e =
       same_nodes = found.same_nodes;
       same_arcs = found.same_arcs;
       bounds = subst (AllZip HasBounds found.arcs) (ap (λ (z : Network). z.arcs) f.whole)
-          (bounds_are f.drawing.arcs.form.products 0 found.arcs f.drawing.arcs.arcs (subst (AllZip HasDrawnBounds found.arcs) (sym found.whole) found.bounds));
+          (bounds_are f.drawing.arcs.form.products 0 found.arcs f.drawing.arcs.arcs (subst (AllZip HasBuiltBounds found.arcs) (sym found.whole) found.bounds));
     } in
     record {
       has = has;

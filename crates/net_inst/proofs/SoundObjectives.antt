@@ -9,7 +9,7 @@ use Rattle.net_meaning.specs.Network as meaning
 use Rattle.net_meaning.specs.Network.{is_eligible, IsObjective}
 use Rattle.net_inst.specs.declared.goal.ChosenObjective.{ChosenObjective}
 use Rattle.net_inst.specs.declared.names.Declared.{Declared}
-use Rattle.net_inst.specs.AsWritten.{Arc, in_order, arcs_of, known_behind, arc_declared}
+use Rattle.net_inst.specs.AsWritten.{Arc, in_order, arcs_of, known_after, arc_declared}
 use Rattle.net_inst.specs.Drafts.{Drawing, nothing, sense_of, declare, draw}
 use Rattle.net_inst.specs.Readings.{Objective, objective_of, objectives_from, objectives, or_else, chosen}
 use Rattle.net_inst.specs.Soundness.{names_in}
@@ -113,9 +113,9 @@ none_later before w k [] d new z h e = refl
 none_later before w k (x ∷ xs) d new z h e =
     ok_then (declare None w x d) (draw None w xs) new e (λ next i j.
     let goes = next_goal None w x d next i in
-    let here = nothing_here before (take k w) x (in_order arcs_of w (known_behind k x) xs) d.goal next.goal z h goes in
-    ap (λ (os : List Objective). os ++ objectives_from (before ++ arc_declared x) w (known_behind k x) xs) here
-    ∙ none_later (before ++ arc_declared x) w (known_behind k x) xs next new z (goal_stays x d.goal next.goal z h goes) j)
+    let here = nothing_here before (take k w) x (in_order arcs_of w (known_after k x) xs) d.goal next.goal z h goes in
+    ap (λ (os : List Objective). os ++ objectives_from (before ++ arc_declared x) w (known_after k x) xs) here
+    ∙ none_later (before ++ arc_declared x) w (known_after k x) xs next new z (goal_stays x d.goal next.goal z h goes) j)
 
 one_more : (before : List Declared) (w : World) (x : Declaration) (later : List Arc) (g h : Option ChosenObjective) (os : List Objective) → IsNextGoal None x g h → AtMostOne os → ((z : ChosenObjective) → h ≡ Some z → os ≡ [])
     → AtMostOne (objective_of before w x later ++ os)
@@ -133,8 +133,8 @@ at_most_one : (before : List Declared) (w : World) (k : ℕ) (ds : List Declarat
 at_most_one before w k [] d new e = tt
 at_most_one before w k (x ∷ xs) d new e =
     ok_then (declare None w x d) (draw None w xs) new e (λ next i j.
-    one_more before (take k w) x (in_order arcs_of w (known_behind k x) xs) d.goal next.goal (objectives_from (before ++ arc_declared x) w (known_behind k x) xs) (next_goal None w x d next i)
-    (at_most_one (before ++ arc_declared x) w (known_behind k x) xs next new j) (λ z h. none_later (before ++ arc_declared x) w (known_behind k x) xs next new z h j))
+    one_more before (take k w) x (in_order arcs_of w (known_after k x) xs) d.goal next.goal (objectives_from (before ++ arc_declared x) w (known_after k x) xs) (next_goal None w x d next i)
+    (at_most_one (before ++ arc_declared x) w (known_after k x) xs next new j) (λ z h. none_later (before ++ arc_declared x) w (known_after k x) xs next new z h j))
 
 -- ---- the objective
 

@@ -14,8 +14,8 @@ use Rattle.net_normal.specs.declared.problem.FlowArc.{FlowArc}
 use Rattle.net_normal.specs.declared.profile.Profile.{Profile}
 use Rattle.net_normal.specs.declared.profile.Profile.TheVariants.{Plain, Lean}
 use Rattle.net_normal.specs.Flows.{IsFeasibleFlow, cost_of}
-use Rattle.net_normal.specs.Links.{lifted, value_at}
-use Rattle.net_normal.specs.NormalForm.{offset_of, is_left_out, numbers_from, flow_arc_of, written_arcs, room_arcs_from, supplies_from}
+use Rattle.net_normal.specs.Links.{mapped_back, value_at}
+use Rattle.net_normal.specs.NormalForm.{offset_of, is_left_out, numbers_from, flow_arc_of, written_arcs, slack_arcs_from, supplies_from}
 use Rattle.net_normal.specs.Sums.{sum_of}
 use Rattle.net_expr.specs.Worlds.{Name}
 use Rattle.net_meaning.specs.Network as meaning
@@ -28,7 +28,7 @@ use Rattle.net_inst.specs.Laws.{IsPlaceOf, HasEndsOf, IsRangeOf}
 use Rattle.net_inst.specs.Nodes.{sides_of}
 use Rattle.net_inst.specs.Represented.{ProblemsRepresent}
 use Rattle.net_inst.specs.Soundness.{IsSameNode, IsSameArc, HasBounds, HasAssignments}
-use Rattle.net_inst.proofs.Drawn.{node_labels}
+use Rattle.net_inst.proofs.Built.{node_labels}
 use Rattle.net_inst.proofs.KeysOnce.{are_distinct_in_sets}
 use Rattle.net_inst.proofs.SoundAssignments.{assignments_are_sound}
 use Rattle.net_inst.proofs.SoundEnds.{both_same}
@@ -187,7 +187,7 @@ problems_represent requested w ds n p problem link sets names good e form one = 
     nodes = have_nodes (written.nodes w ds) vs (written.arcs w ds) all is a.has.same_nodes a.has.same_arcs (have_ends requested w ds (seen_as n) e apart)
 
     rooms : ℕ → List FlowArc
-    rooms outside = room_arcs_from is outside 0 n.instance.nodes.items
+    rooms outside = slack_arcs_from is outside 0 n.instance.nodes.items
 
     arcs_are : problem.arcs.items ≡ written_arcs p n.instance.sense (length vs) is ++ rooms (length vs)
     arcs_are = form.arcs ∙ ap (λ (m : ℕ). written_arcs p n.instance.sense m is ++ rooms m) (n.instance.nodes.ok.0 ∙ long)
@@ -198,5 +198,5 @@ problems_represent requested w ds n p problem link sets names good e form one = 
         (subst (λ l. AreEncoded vs (written_arcs p n.instance.sense (length vs) is ++ rooms (length vs)) all l link.numbers.items) (sym form.offsets)
         (subst (λ l. AreEncoded vs (written_arcs p n.instance.sense (length vs) is ++ rooms (length vs)) all (map (offset_of p) is) l) (sym form.numbers) (encoded p n.instance.sense vs (rooms (length vs)) is all a.has.bounds nodes [])))
 
-    numbers : (flows : List ℤ) → IsFeasibleFlow problem flows → map (flow_on (assignment_of all link flows)) all ≡ lifted link flows
-    numbers flows h = flows_are all (lifted link flows) a.has.is_network.arcs_apart (zip_long IsWithinBounds is (lifted link flows) (one.forward flows h).bounds ∙ zip_long HasBounds all is a.has.bounds)
+    numbers : (flows : List ℤ) → IsFeasibleFlow problem flows → map (flow_on (assignment_of all link flows)) all ≡ mapped_back link flows
+    numbers flows h = flows_are all (mapped_back link flows) a.has.is_network.arcs_apart (zip_long IsWithinBounds is (mapped_back link flows) (one.forward flows h).bounds ∙ zip_long HasBounds all is a.has.bounds)

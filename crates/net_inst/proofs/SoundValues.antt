@@ -17,10 +17,10 @@ use Rattle.net_meaning.specs.Operators as values
 use Rattle.net_meaning.specs.Values.{env_of, env_with, IsValue}
 use Rattle.net_inst.specs.declared.names.Declared.{Declared}
 use Rattle.net_inst.specs.AsWritten.{Arc, same_label, Assignment}
-use Rattle.net_inst.specs.Drafts.{said_form}
+use Rattle.net_inst.specs.Drafts.{part_form}
 use Rattle.net_inst.specs.Groups.{Numbers}
-use Rattle.net_inst.specs.Readings.{Objective, name_alone, said_value}
-use Rattle.net_inst.proofs.Drawn.{arc_labels}
+use Rattle.net_inst.specs.Readings.{Objective, name_alone, part_value}
+use Rattle.net_inst.proofs.Built.{arc_labels}
 use Rattle.net_inst.proofs.Labels.{NameAlike}
 use Rattle.net_inst.proofs.ReadingLaws.{ReadAlike}
 use Rattle.net_inst.proofs.SoundObjectives.{names_back}
@@ -63,8 +63,8 @@ reads_arcs a ds all x alike reads = record {
     pick : Name → Bool → Option (Tuple → ℤ)
     pick n b = if b then Some (x n) else None
 
-pub said_means : (a : Numbers) (ds : List Declared) (all : List Arc) (x : Assignment) (w : World) (p : Part) (f : Linear) → NameAlike a (map name_alone ds) → ReadAlike a (by_place all x) x → said_form a w p ≡ Ok f
-    → IsExpressionValue (with_arcs (env_of w []) (names_back ds []) x) p (said_value ds w p x)
+pub said_means : (a : Numbers) (ds : List Declared) (all : List Arc) (x : Assignment) (w : World) (p : Part) (f : Linear) → NameAlike a (map name_alone ds) → ReadAlike a (by_place all x) x → part_form a w p ≡ Ok f
+    → IsExpressionValue (with_arcs (env_of w []) (names_back ds []) x) p (part_value ds w p x)
 said_means a ds all x w absent f alike reads e = refl
 said_means a ds all x w (part m t) f alike reads e =
     subst (λ (n : ℤ). IsValue (env_with (flows_of ds x) (pos 0) w []) t (values.number n)) (said_is a ds (by_place all x) x w (part m t) f alike reads e)
@@ -73,4 +73,4 @@ said_means a ds all x w (part m t) f alike reads e =
 -- the objective's own expression has its value at each assignment
 abbrev pub IsValued : List Arc → Option Objective → Type 0
 IsValued all None = ⊤
-IsValued all (Some o) = IsDistinct same_label (arc_labels all) → (x : Assignment) → IsExpressionValue (with_arcs (env_of o.env []) (names_back o.before []) x) o.expression (said_value o.before o.env o.expression x)
+IsValued all (Some o) = IsDistinct same_label (arc_labels all) → (x : Assignment) → IsExpressionValue (with_arcs (env_of o.env []) (names_back o.before []) x) o.expression (part_value o.before o.env o.expression x)

@@ -9,7 +9,7 @@ use Rattle.net_normal.specs.Sums.{price_of}
 use Rattle.net_linear.specs.Forms.{Products, coefficient, stands_in, all_apart, products_at}
 use Rattle.net_linear.proofs.Coefficients.{head_apart, tail_apart}
 use Rattle.net_linear.proofs.Rings.{mul-none}
-use Rattle.net_inst.specs.declared.arc.Drawn.{Drawn}
+use Rattle.net_inst.specs.declared.arc.Built.{Built}
 use Rattle.net_inst.specs.AsWritten.{Label, Arc, Assignment, number_on, numbers_on}
 use Rattle.net_inst.specs.Instances.{with_coefficients}
 
@@ -20,7 +20,7 @@ number_at (y ∷ ys) zero = y
 number_at (y ∷ ys) (suc v) = number_at ys v
 
 -- the coefficients from arc a on times the numbers
-abbrev pub sum_from : Products → ℕ → List Drawn → List ℤ → ℤ
+abbrev pub sum_from : Products → ℕ → List Built → List ℤ → ℤ
 sum_from ps a xs ys = price_of (λ x. x.coefficient) (with_coefficients ps a xs) ys
 
 -- from place a on x is these numbers, and behind them 0
@@ -40,7 +40,7 @@ past : (a b : ℕ) → b < a → nat_eq a b ≡ false
 past a b h = grind (arith, h)
 
 -- a product of an arc before them changes nothing
-before_them : (p : ℕ × ℤ) (ps : Products) (a : ℕ) (xs : List Drawn) (ys : List ℤ) → p.0 < a → sum_from (p ∷ ps) a xs ys ≡ sum_from ps a xs ys
+before_them : (p : ℕ × ℤ) (ps : Products) (a : ℕ) (xs : List Built) (ys : List ℤ) → p.0 < a → sum_from (p ∷ ps) a xs ys ≡ sum_from ps a xs ys
 before_them p ps a [] ys h = refl
 before_them p ps a (x ∷ xs) [] h = refl
 before_them p ps a (x ∷ xs) (y ∷ ys) h =
@@ -49,7 +49,7 @@ before_them p ps a (x ∷ xs) (y ∷ ys) h =
     ap (λ (c : ℤ). (c *ℤ y) +ℤ sum_from (p ∷ ps) (suc a) xs ys) first ∙ ap (λ (s : ℤ). (coefficient ps a *ℤ y) +ℤ s) rest
 
 -- a product of one of them, or of one behind them, adds its part
-among_them : (x : ℕ → ℤ) (p : ℕ × ℤ) (ps : Products) (a : ℕ) (xs : List Drawn) (ys : List ℤ) → stands_in p.0 ps ≡ false → a ≤ p.0 → length xs ≡ length ys → Spells x a ys
+among_them : (x : ℕ → ℤ) (p : ℕ × ℤ) (ps : Products) (a : ℕ) (xs : List Built) (ys : List ℤ) → stands_in p.0 ps ≡ false → a ≤ p.0 → length xs ≡ length ys → Spells x a ys
     → sum_from (p ∷ ps) a xs ys ≡ sum_from ps a xs ys +ℤ p.1 *ℤ x p.0
 among_them x p ps a [] [] apart h l s = omega (arith, ints, ap (λ (n : ℤ). p.1 *ℤ n) (s p.0 h), mul-none p.1)
 among_them x p ps a [] (y ∷ ys) apart h l s = absurd (let e = l in omega arith)
@@ -71,12 +71,12 @@ among_them x p ps a (q ∷ xs) (y ∷ ys) apart h l s = go (nat_eq a p.0) refl (
     go true e more = here (eqb-true a p.0 e)
     go false e more = omega (arith, ints, more (later e))
 
-none_of : (a : ℕ) (xs : List Drawn) (ys : List ℤ) → sum_from [] a xs ys ≡ pos 0
+none_of : (a : ℕ) (xs : List Built) (ys : List ℤ) → sum_from [] a xs ys ≡ pos 0
 none_of a [] ys = refl
 none_of a (x ∷ xs) [] = refl
 none_of a (x ∷ xs) (y ∷ ys) = omega (arith, ints, zero-*ℤ y, none_of (suc a) xs ys)
 
-spelled : (x : ℕ → ℤ) (ps : Products) (xs : List Drawn) (ys : List ℤ) → all_apart ps ≡ true → length xs ≡ length ys → Spells x 0 ys → sum_from ps 0 xs ys ≡ products_at x ps
+spelled : (x : ℕ → ℤ) (ps : Products) (xs : List Built) (ys : List ℤ) → all_apart ps ≡ true → length xs ≡ length ys → Spells x 0 ys → sum_from ps 0 xs ys ≡ products_at x ps
 spelled x [] xs ys h l s = none_of 0 xs ys
 spelled x (p ∷ ps) xs ys h l s =
     let rest = spelled x ps xs ys (tail_apart (stands_in p.0 ps) (all_apart ps) h) l s in
@@ -97,7 +97,7 @@ spells front (y ∷ ys) a e =
     at_seam [] = refl
     at_seam (z ∷ front) = at_seam front
 
-pub total_is : (ps : Products) (xs : List Drawn) (ys : List ℤ) → all_apart ps ≡ true → length xs ≡ length ys → sum_from ps 0 xs ys ≡ products_at (number_at ys) ps
+pub total_is : (ps : Products) (xs : List Built) (ys : List ℤ) → all_apart ps ≡ true → length xs ≡ length ys → sum_from ps 0 xs ys ≡ products_at (number_at ys) ps
 total_is ps xs ys h l = spelled (number_at ys) ps xs ys h l (spells [] ys 0 refl)
 
 -- the number at an arc's place

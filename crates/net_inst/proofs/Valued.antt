@@ -12,7 +12,7 @@ use Rattle.net_sets.specs.Sets.{Tuple, place_of}
 use Rattle.net_tree.specs.Spans.{span_of}
 use Rattle.net_tree.specs.Tree.{Tree, Braces, Part, absent, part, Body, plain, valued, priced, Phrase}
 use Rattle.net_fault.specs.declared.detail.Detail.{Detail}
-use Rattle.net_fault.specs.declared.defect.Defect.TheVariants.{Arity}
+use Rattle.net_fault.specs.declared.error_code.ErrorCode.TheVariants.{Arity}
 use Rattle.net_expr.specs.declared.row.Row.{Row}
 use Rattle.net_expr.specs.declared.value.Value.{Value}
 use Rattle.net_expr.specs.Worlds.{Name, World, Scope, key_count, reference}
@@ -25,18 +25,18 @@ use Rattle.net_linear.specs.Objectives.{objective_form}
 use Rattle.net_linear.specs.Amounts.{as_number}
 use Rattle.net_linear.proofs.FormLaws.{form_just, priced_worth}
 use Rattle.net_linear.proofs.Rings.{add-mul}
-use Rattle.net_inst.specs.declared.arc.Drawn.{Drawn}
+use Rattle.net_inst.specs.declared.arc.Built.{Built}
 use Rattle.net_inst.specs.declared.goal.ChosenObjective.{ChosenObjective}
 use Rattle.net_inst.specs.declared.names.Declared.{Declared}
-use Rattle.net_inst.specs.Arcs.{DrawnArcs, priced_by, price_in, prices_in, next_arc, arcs_at, with_arcs}
+use Rattle.net_inst.specs.Arcs.{BuiltArcs, priced_by, price_in, prices_in, next_arc, arcs_at, with_arcs}
 use Rattle.net_inst.specs.AsWritten.{Label, Arc, rows_of, arc_at_row, arcs_with, same_label, Assignment, number_on, numbers_on, amount}
-use Rattle.net_inst.specs.Drafts.{said_form}
+use Rattle.net_inst.specs.Drafts.{part_form}
 use Rattle.net_inst.specs.Groups.{Numbers}
-use Rattle.net_inst.specs.Nodes.{DrawnNodes}
+use Rattle.net_inst.specs.Nodes.{BuiltNodes}
 use Rattle.net_inst.specs.Numbers.{number}
-use Rattle.net_fault.specs.Outcomes.{Outcome, and_then, refused}
+use Rattle.net_fault.specs.Outcomes.{Outcome, and_then, rejected}
 use Rattle.net_inst.specs.Phrases.{Parts, parts_of}
-use Rattle.net_inst.specs.Readings.{reading, name_alone, stands_in, price_of, prices, said_value, value_of, Objective}
+use Rattle.net_inst.specs.Readings.{reading, name_alone, stands_in, price_of, prices, part_value, value_of, Objective}
 use Rattle.net_inst.specs.Readings as written
 use Rattle.net_inst.proofs.Agreement.{IsNextArc, next_arc_is, AreArcsBy, with_arcs_is}
 use Rattle.net_inst.proofs.Apart.{objective_apart, price_apart}
@@ -123,7 +123,7 @@ nothing_more : (g : Option ChosenObjective) (m : ℤ) (x : Assignment) → m ≡
 nothing_more None m x = omega (arith, ints)
 nothing_more (Some g) m x = omega (arith, ints)
 
-row_adds : (all : List Arc) (g : Option ChosenObjective) (dn : DrawnNodes) (w : World) (n : Token) (b : Option Braces) (k : Option ℕ) (p : Parts) (ps : List Phrase) (row : Row) (d next new : DrawnArcs) (front later after : List Arc)
+row_adds : (all : List Arc) (g : Option ChosenObjective) (dn : BuiltNodes) (w : World) (n : Token) (b : Option Braces) (k : Option ℕ) (p : Parts) (ps : List Phrase) (row : Row) (d next new : BuiltArcs) (front later after : List Arc)
     → length d.arcs ≡ length front → all ≡ front ++ (arc_at_row w n b ps p row ∷ later ++ after) → IsNextArc g dn w n k p ps row d next → Adds all g later next.form new.form → Adds all g (arc_at_row w n b ps p row ∷ later) d.form new.form
 row_adds all g dn w n b k p ps row d next new front later after l whole by rest = record {
   apart = λ h. rest.apart (prices_apart g w row.scope (length d.arcs) ps d.form next.form h by.priced);
@@ -137,25 +137,25 @@ row_adds all g dn w n b k p ps row d next new front later after l whole by rest 
     one : Arc
     one = arc_at_row w n b ps p row
 
-rows_add : (all : List Arc) (g : Option ChosenObjective) (dn : DrawnNodes) (w : World) (n : Token) (b : Option Braces) (k : Option ℕ) (p : Parts) (ps : List Phrase) (rows : List Row) (d new : DrawnArcs) (front after : List Arc)
+rows_add : (all : List Arc) (g : Option ChosenObjective) (dn : BuiltNodes) (w : World) (n : Token) (b : Option Braces) (k : Option ℕ) (p : Parts) (ps : List Phrase) (rows : List Row) (d new : BuiltArcs) (front after : List Arc)
     → length d.arcs ≡ length front → all ≡ front ++ (map (arc_at_row w n b ps p) rows ++ after) → arcs_at g dn w n k p ps rows d ≡ Ok new → Adds all g (map (arc_at_row w n b ps p) rows) d.form new.form
 rows_add all g dn w n b k p ps [] d new front after l whole e =
-    let same = ap (λ (z : DrawnArcs). z.form) (ok_is d new e) in
+    let same = ap (λ (z : BuiltArcs). z.form) (ok_is d new e) in
     record { apart = λ h. ap (λ (z : Linear). all_apart z.products) (sym same) ∙ h; sum = λ x. ap (form_at (by_place all x)) (sym same) ∙ nothing_more g (form_at (by_place all x) d.form) x }
 rows_add all g dn w n b k p ps (row ∷ rows) d new front after l whole e =
     ok_then (next_arc g dn w n k p ps row d) (arcs_at g dn w n k p ps rows) new e (λ next i j.
     let by = next_arc_is g dn w n k p ps row d next i in
     let one = arc_at_row w n b ps p row in
     let later = map (arc_at_row w n b ps p) rows in
-    let counted : length next.arcs ≡ length (front ++ one ∷ []) = ap (λ (xs : List Drawn). length xs) by.arcs ∙ omega (arith, length-append d.arcs (by.arc ∷ []), length-append front (one ∷ []), l) in
+    let counted : length next.arcs ≡ length (front ++ one ∷ []) = ap (λ (xs : List Built). length xs) by.arcs ∙ omega (arith, length-append d.arcs (by.arc ∷ []), length-append front (one ∷ []), l) in
     row_adds all g dn w n b k p ps row d next new front later after l whole by
     (rows_add all g dn w n b k p ps rows next new (front ++ one ∷ []) after counted (whole ∙ sym (append_assoc front (one ∷ []) (later ++ after))) j))
 
-pub arcs_add : (all : List Arc) (g : Option ChosenObjective) (dn : DrawnNodes) (w : World) (n : Token) (b : Option Braces) (ps : List Phrase) (d new : DrawnArcs) (front after : List Arc)
+pub arcs_add : (all : List Arc) (g : Option ChosenObjective) (dn : BuiltNodes) (w : World) (n : Token) (b : Option Braces) (ps : List Phrase) (d new : BuiltArcs) (front after : List Arc)
     → length d.arcs ≡ length front → all ≡ front ++ (arcs_with w n b ps (parts_of n ps) ++ after) → with_arcs g dn w n b ps d ≡ Ok new → Adds all g (arcs_with w n b ps (parts_of n ps)) d.form new.form
 arcs_add all g dn w n b ps d new front after l whole e =
     subst (λ (here : List Arc). Adds all g here d.form new.form) (sym here_is)
-    (subst (λ (z : DrawnArcs). Adds all g here d.form z.form) by.is_named (rows_add all g dn w n b by.indexing.count by.parts ps by.indexing.rows d by.found front after l (whole ∙ ap (λ (xs : List Arc). front ++ (xs ++ after)) here_is) by.are_found))
+    (subst (λ (z : BuiltArcs). Adds all g here d.form z.form) by.is_named (rows_add all g dn w n b by.indexing.count by.parts ps by.indexing.rows d by.found front after l (whole ∙ ap (λ (xs : List Arc). front ++ (xs ++ after)) here_is) by.are_found))
   where
     by : AreArcsBy g dn w n b ps d new
     by = with_arcs_is g dn w n b ps d new e
@@ -186,16 +186,16 @@ read_alike all front after x a finds distinct whole = record { alike = λ at n k
     by_keys at n key v None e i = cc
     by_keys at n key v (Some k) e i = go (nat_eq (length key) (key_count k.keys)) i
       where
-        go : (b : Bool) → (if b then numbered at (reference n k.keys key) k.first (place_of k.index key) else refused Arity at) ≡ Ok v → by_place all x v ≡ x n key
+        go : (b : Bool) → (if b then numbered at (reference n k.keys key) k.first (place_of k.index key) else rejected Arity at) ≡ Ok v → by_place all x v ≡ x n key
         go true h = by_number at n key v k e (place_of k.index key) refl (reference n k.keys key) h
         go false h = cc
 
 -- what is said of the arcs before
-pub said_apart : (a : Numbers) (w : World) (p : Part) (f : Linear) → said_form a w p ≡ Ok f → all_apart f.products ≡ true
+pub said_apart : (a : Numbers) (w : World) (p : Part) (f : Linear) → part_form a w p ≡ Ok f → all_apart f.products ≡ true
 said_apart a w absent f e = ap (λ (z : Linear). all_apart z.products) (sym (ok_is (just (pos 0)) f e))
 said_apart a w (part m t) f e = objective_apart a w [] t f e
 
-pub said_is : (a : Numbers) (ds : List Declared) (x : ℕ → ℤ) (y : Assignment) (w : World) (p : Part) (f : Linear) → NameAlike a (map name_alone ds) → ReadAlike a x y → said_form a w p ≡ Ok f → form_at x f ≡ said_value ds w p y
+pub said_is : (a : Numbers) (ds : List Declared) (x : ℕ → ℤ) (y : Assignment) (w : World) (p : Part) (f : Linear) → NameAlike a (map name_alone ds) → ReadAlike a x y → part_form a w p ≡ Ok f → form_at x f ≡ part_value ds w p y
 said_is a ds x y w absent f names alike e = ap (form_at x) (sym (ok_is (just (pos 0)) f e)) ∙ form_just x (pos 0)
 said_is a ds x y w (part m t) f names alike e =
     form_reads x y a alike w [] t f e ∙ ap (λ (arc_in : Tree → Bool). reading arc_in w [] t y) (names_all_same a (map name_alone ds) names)

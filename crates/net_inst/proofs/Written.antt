@@ -9,17 +9,17 @@ use Rattle.net_expr.specs.Worlds.{Name, World}
 use Rattle.net_linear.specs.declared.condition.Sides.{Sides}
 use Rattle.net_linear.specs.Forms.{Products}
 use Rattle.net_linear.proofs.Ranges.{IsWithin, range_exact}
-use Rattle.net_inst.specs.declared.arc.Drawn.{Drawn}
+use Rattle.net_inst.specs.declared.arc.Built.{Built}
 use Rattle.net_inst.specs.declared.group.Group.{Group}
 use Rattle.net_inst.specs.declared.names.Declared.{Declared}
 use Rattle.net_inst.specs.Arcs.{with_arcs}
-use Rattle.net_inst.specs.AsWritten.{Label, Node, Arc, nodes_of, arcs_of, nodes, arcs, known_behind, in_order, node_declared, arc_declared, same_label}
-use Rattle.net_inst.specs.Drafts.{Drawing, nothing, env, said_form, aimed, passed, is_chosen, with_goal, with_objective, known_more, nodes_more, arcs_more, declare, draw}
+use Rattle.net_inst.specs.AsWritten.{Label, Node, Arc, nodes_of, arcs_of, nodes, arcs, known_after, in_order, node_declared, arc_declared, same_label}
+use Rattle.net_inst.specs.Drafts.{Drawing, nothing, env, part_form, aimed, passed, is_chosen, with_goal, with_objective, known_more, nodes_more, arcs_more, declare, draw}
 use Rattle.net_inst.specs.Instances.{Network, with_coefficients}
 use Rattle.net_inst.specs.Laws.{IsInSides, IsRangeOf, HaveExactRanges, AreNames, AreNamesOf, HaveNames, IsBoundedAs, HaveBounds, HasEndsOf, HaveEnds}
 use Rattle.net_inst.specs.Nodes.{with_nodes}
 use Rattle.net_inst.proofs.Agreement.{network_is}
-use Rattle.net_inst.proofs.Drawn.{node_labels, arc_labels, HasRange, AreNodes, nodes_more_are, IsDrawnAs, AreArcs, arcs_more_are, arcs_stay}
+use Rattle.net_inst.proofs.Built.{node_labels, arc_labels, HasRange, AreNodes, nodes_more_are, IsBuiltAs, AreArcs, arcs_more_are, arcs_stay}
 use Rattle.net_inst.proofs.Labels.{IsGroup}
 use Rattle.net_inst.proofs.Zips.{ok_then, ok_is, map_join, zip_as}
 
@@ -42,16 +42,16 @@ behind a b = record { nodes = a.nodes ++ b.nodes; node_names = a.node_names ++ b
 abbrev pub no_lines : Lines
 no_lines = record { nodes = []; node_names = []; arcs = []; arc_names = [] }
 
-behind_none : (a b : Lines) → b.nodes ≡ [] → b.node_names ≡ [] → b.arcs ≡ [] → b.arc_names ≡ [] → a ≡ behind a b
-behind_none a b h i j k =
+after_none : (a b : Lines) → b.nodes ≡ [] → b.node_names ≡ [] → b.arcs ≡ [] → b.arc_names ≡ [] → a ≡ behind a b
+after_none a b h i j k =
     let p = sym (append-nil a.nodes) ∙ ap (λ (x : List Node). a.nodes ++ x) (sym h) in
     let q = sym (append-nil a.node_names) ∙ ap (λ (x : List Declared). a.node_names ++ x) (sym i) in
     let r = sym (append-nil a.arcs) ∙ ap (λ (x : List Arc). a.arcs ++ x) (sym j) in
     let s = sym (append-nil a.arc_names) ∙ ap (λ (x : List Declared). a.arc_names ++ x) (sym k) in
     λ t. record { nodes = p t; node_names = q t; arcs = r t; arc_names = s t }
 
-behind_behind : (a b c : Lines) → behind (behind a b) c ≡ behind a (behind b c)
-behind_behind a b c =
+after_after : (a b c : Lines) → behind (behind a b) c ≡ behind a (behind b c)
+after_after a b c =
     λ t. record { nodes = append_assoc a.nodes b.nodes c.nodes t; node_names = append_assoc a.node_names b.node_names c.node_names t; arcs = append_assoc a.arcs b.arcs c.arcs t; arc_names = append_assoc a.arc_names b.arc_names c.arc_names t }
 
 -- what is drawn is what is written
@@ -63,7 +63,7 @@ pub record IsWritten (m : Lines) (d : Drawing) : Type 0 where
 pub record IsAimed (d new : Drawing) : Type 0 where
   pub known : new.known ≡ d.known
   pub nodes : d.nodes ≡ new.nodes
-  pub drawn : d.arcs.arcs ≡ new.arcs.arcs
+  pub built : d.arcs.arcs ≡ new.arcs.arcs
   pub group : d.arcs.group ≡ new.arcs.group
 
 pub aimed_is : (wanted : Option Name) (w : World) (t n : Token) (p : Part) (d new : Drawing) → with_objective wanted w t n p d ≡ Ok new → IsAimed d new
@@ -72,23 +72,23 @@ aimed_is wanted w t n p d new e =
   where
     go : (b : Bool) → (if b then with_goal w t n p d else Ok (passed d)) ≡ Ok new → IsAimed d new
     go true i =
-        ok_then (said_form d.arcs.group.numbers w p) (λ f. Ok (aimed d t n f)) new i (λ f j k.
-        subst (IsAimed d) (ok_is (aimed d t n f) new k) (record { known = refl; nodes = refl; drawn = refl; group = refl }))
-    go false i = subst (IsAimed d) (ok_is (passed d) new i) (record { known = refl; nodes = refl; drawn = refl; group = refl })
+        ok_then (part_form d.arcs.group.numbers w p) (λ f. Ok (aimed d t n f)) new i (λ f j k.
+        subst (IsAimed d) (ok_is (aimed d t n f) new k) (record { known = refl; nodes = refl; built = refl; group = refl }))
+    go false i = subst (IsAimed d) (ok_is (passed d) new i) (record { known = refl; nodes = refl; built = refl; group = refl })
 
 -- one declaration more
 pub record IsNext (m : Lines) (w : World) (x : Declaration) (d new : Drawing) : Type 0 where
-  pub known : new.known ≡ known_behind d.known x
+  pub known : new.known ≡ known_after d.known x
   pub is_written : IsWritten (behind m (lines_of (env w d) x)) new
 
-unchanged : (m : Lines) (w : World) (x : Declaration) (d new : Drawing) → IsWritten m d → new.known ≡ known_behind d.known x → d.nodes ≡ new.nodes → d.arcs.arcs ≡ new.arcs.arcs → d.arcs.group ≡ new.arcs.group
+unchanged : (m : Lines) (w : World) (x : Declaration) (d new : Drawing) → IsWritten m d → new.known ≡ known_after d.known x → d.nodes ≡ new.nodes → d.arcs.arcs ≡ new.arcs.arcs → d.arcs.group ≡ new.arcs.group
     → nodes_of (env w d) x ≡ [] → node_declared x ≡ [] → arcs_of (env w d) x ≡ [] → arc_declared x ≡ [] → IsNext m w x d new
-unchanged m w x d new h known ns drawn group a b c e = record {
+unchanged m w x d new h known ns built group a b c e = record {
   known = known;
-  is_written = subst (λ (l : Lines). IsWritten l new) (behind_none m (lines_of (env w d) x) a b c e) (record {
+  is_written = subst (λ (l : Lines). IsWritten l new) (after_none m (lines_of (env w d) x) a b c e) (record {
     nodes = subst (AreNodes m.nodes m.node_names) ns h.nodes;
     arcs = record {
-      drawn = subst (AllZip (IsDrawnAs (node_labels m.nodes)) m.arcs) drawn h.arcs.drawn;
+      built = subst (AllZip (IsBuiltAs (node_labels m.nodes)) m.arcs) built h.arcs.built;
       group = subst (IsGroup (arc_labels m.arcs) m.arc_names) group h.arcs.group;
     };
   });
@@ -106,7 +106,7 @@ next_is wanted w m (check t b c x z) d new h e =
     unchanged m w (check t b c x z) d new h (ap (λ (y : Drawing). y.known) (sym same)) (ap (λ (y : Drawing). y.nodes) same) (ap (λ (y : Drawing). y.arcs.arcs) same) (ap (λ (y : Drawing). y.arcs.group) same) refl refl refl refl
 next_is wanted w m (objective t n p z) d new h e =
     let by = aimed_is wanted (env w d) t n p d new e in
-    unchanged m w (objective t n p z) d new h by.known by.nodes by.drawn by.group refl refl refl refl
+    unchanged m w (objective t n p z) d new h by.known by.nodes by.built by.group refl refl refl refl
 next_is wanted w m (node t n b c z) d new h e =
     ok_then (with_nodes (env w d) n b c d.nodes) (λ ns. Ok (nodes_more d ns)) new e (λ ns i j.
     subst (IsNext m w (node t n b c z) d) (ok_is (nodes_more d ns) new j) (record {
@@ -133,18 +133,18 @@ next_is wanted w m (arc t n b ps z) d new h e =
     }))
 
 pub written : (wanted : Option Name) (w : World) (ds : List Declaration) (m : Lines) (d new : Drawing) → IsWritten m d → draw wanted w ds d ≡ Ok new → IsWritten (behind m (all_lines w d.known ds)) new
-written wanted w [] m d new h e = subst (λ (l : Lines). IsWritten l new) (behind_none m (all_lines w d.known []) refl refl refl refl) (subst (IsWritten m) (ok_is d new e) h)
+written wanted w [] m d new h e = subst (λ (l : Lines). IsWritten l new) (after_none m (all_lines w d.known []) refl refl refl refl) (subst (IsWritten m) (ok_is d new e) h)
 written wanted w (x ∷ xs) m d new h e =
     ok_then (declare wanted w x d) (draw wanted w xs) new e (λ next i j.
     let one = next_is wanted w m x d next h i in
     let rest = written wanted w xs (behind m (lines_of (env w d) x)) next new one.is_written j in
-    subst (λ (l : Lines). IsWritten l new) (behind_behind m (lines_of (env w d) x) (all_lines w (known_behind d.known x) xs))
+    subst (λ (l : Lines). IsWritten l new) (after_after m (lines_of (env w d) x) (all_lines w (known_after d.known x) xs))
     (subst (λ (k : ℕ). IsWritten (behind (behind m (lines_of (env w d) x)) (all_lines w k xs)) new) one.known rest))
 
 pub nothing_written : IsWritten no_lines nothing
 nothing_written = record {
   nodes = record { ranges = tt; group = record { declarations = refl; keys = tt; ordered = tt; finds = record { runs = λ name k e. absurd (let h = e in cc) }; known = record { alike = λ n. refl } } };
-  arcs = record { drawn = tt; group = record { declarations = refl; keys = tt; ordered = tt; finds = record { runs = λ name k e. absurd (let h = e in cc) }; known = record { alike = λ n. refl } } };
+  arcs = record { built = tt; group = record { declarations = refl; keys = tt; ordered = tt; finds = record { runs = λ name k e. absurd (let h = e in cc) }; known = record { alike = λ n. refl } } };
 }
 
 pub all_written : (wanted : Option Name) (w : World) (ds : List Declaration) (d : Drawing) → draw wanted w ds nothing ≡ Ok d → IsWritten (all_lines w 0 ds) d
@@ -177,7 +177,7 @@ range_is n r h y =
 pub have_exact_ranges : HaveExactRanges
 have_exact_ranges wanted w ds n e =
     let f = network_is wanted w ds n e in
-    subst (AllZip IsRangeOf (nodes w ds)) (ap (λ (z : Network). z.nodes) f.whole) (zip_as HasRange IsRangeOf (nodes w ds) f.drawing.nodes.ranges range_is (all_written wanted w ds f.drawing f.is_drawn).nodes.ranges)
+    subst (AllZip IsRangeOf (nodes w ds)) (ap (λ (z : Network). z.nodes) f.whole) (zip_as HasRange IsRangeOf (nodes w ds) f.drawing.nodes.ranges range_is (all_written wanted w ds f.drawing f.is_built).nodes.ranges)
 
 names_are : (labels : List Label) (names : List Declared) (g : Group) → IsGroup labels names g → AreNames names labels g.list
 names_are labels names g h = record { declarations = h.declarations; keys = h.keys; ordered = h.ordered }
@@ -185,13 +185,13 @@ names_are labels names g h = record { declarations = h.declarations; keys = h.ke
 pub have_names : HaveNames
 have_names wanted w ds n e =
     let f = network_is wanted w ds n e in
-    let all = all_written wanted w ds f.drawing f.is_drawn in
+    let all = all_written wanted w ds f.drawing f.is_built in
     subst (AreNamesOf w ds) f.whole (record {
       nodes = names_are (node_labels (nodes w ds)) (flat_map node_declared ds) f.drawing.nodes.group all.nodes.group;
       arcs = names_are (arc_labels (arcs w ds)) (flat_map arc_declared ds) f.drawing.arcs.group all.arcs.group;
     })
 
-bounded : (labels : List Label) (ps : Products) (a : ℕ) (all : List Arc) (xs : List Drawn) → AllZip (IsDrawnAs labels) all xs → AllZip IsBoundedAs all (with_coefficients ps a xs)
+bounded : (labels : List Label) (ps : Products) (a : ℕ) (all : List Arc) (xs : List Built) → AllZip (IsBuiltAs labels) all xs → AllZip IsBoundedAs all (with_coefficients ps a xs)
 bounded labels ps a [] [] h = tt
 bounded labels ps a [] (x ∷ xs) h = absurd h
 bounded labels ps a (y ∷ all) [] h = absurd h
@@ -200,10 +200,10 @@ bounded labels ps a (y ∷ all) (x ∷ xs) h = (record { lower = h.0.lower; uppe
 pub have_bounds : HaveBounds
 have_bounds wanted w ds n e =
     let f = network_is wanted w ds n e in
-    let all = all_written wanted w ds f.drawing f.is_drawn in
-    subst (AllZip IsBoundedAs (arcs w ds)) (ap (λ (z : Network). z.arcs) f.whole) (bounded (node_labels (nodes w ds)) f.drawing.arcs.form.products 0 (arcs w ds) f.drawing.arcs.arcs all.arcs.drawn)
+    let all = all_written wanted w ds f.drawing f.is_built in
+    subst (AllZip IsBoundedAs (arcs w ds)) (ap (λ (z : Network). z.arcs) f.whole) (bounded (node_labels (nodes w ds)) f.drawing.arcs.form.products 0 (arcs w ds) f.drawing.arcs.arcs all.arcs.built)
 
-with_ends : (labels : List Label) → IsDistinct same_label labels → (ps : Products) (a : ℕ) (all : List Arc) (xs : List Drawn) → AllZip (IsDrawnAs labels) all xs → AllZip (HasEndsOf labels) all (with_coefficients ps a xs)
+with_ends : (labels : List Label) → IsDistinct same_label labels → (ps : Products) (a : ℕ) (all : List Arc) (xs : List Built) → AllZip (IsBuiltAs labels) all xs → AllZip (HasEndsOf labels) all (with_coefficients ps a xs)
 with_ends labels distinct ps a [] [] h = tt
 with_ends labels distinct ps a [] (x ∷ xs) h = absurd h
 with_ends labels distinct ps a (y ∷ all) [] h = absurd h
@@ -214,6 +214,6 @@ with_ends labels distinct ps a (y ∷ all) (x ∷ xs) h =
 pub have_ends : HaveEnds
 have_ends wanted w ds n e distinct =
     let f = network_is wanted w ds n e in
-    let all = all_written wanted w ds f.drawing f.is_drawn in
+    let all = all_written wanted w ds f.drawing f.is_built in
     subst (AllZip (HasEndsOf (node_labels (nodes w ds))) (arcs w ds)) (ap (λ (z : Network). z.arcs) f.whole)
-    (with_ends (node_labels (nodes w ds)) distinct.nodes f.drawing.arcs.form.products 0 (arcs w ds) f.drawing.arcs.arcs all.arcs.drawn)
+    (with_ends (node_labels (nodes w ds)) distinct.nodes f.drawing.arcs.form.products 0 (arcs w ds) f.drawing.arcs.arcs all.arcs.built)

@@ -100,18 +100,18 @@ unfolding role_of marks keys operations operation reduction is_minus is_small nu
 second_inflow = refl
 
 -- a name, a sense and a value
-abbrev told : Objective → Name × ℤ
-told o = (o.name, value_of o flows)
+abbrev reported : Objective → Name × ℤ
+reported o = (o.name, value_of o flows)
 
 -- 7 + 1 * 4 + 2 * 6
-by_phrases : option_map told (chosen (Some (codes "Cost")) (objectives [] model)) ≡ Some (codes "Cost", pos 23)
+by_phrases : option_map reported (chosen (Some (codes "Cost")) (objectives [] model)) ≡ Some (codes "Cost", pos 23)
 unfolding role_of marks keys operations operation reduction is_minus is_small number_in numeral_at mantissa_at power_at whole_value span_of span_between braces_span sense_of
 by_phrases = refl
 
 -- 3 * 4 - 6 + 1
-by_expression : option_map told (chosen (Some (codes "Gain")) (objectives [] model)) ≡ Some (codes "Gain", pos 7)
+by_expression : option_map reported (chosen (Some (codes "Gain")) (objectives [] model)) ≡ Some (codes "Gain", pos 7)
 unfolding role_of marks keys operations operation reduction is_minus is_small number_in numeral_at mantissa_at power_at whole_value span_of span_between braces_span sense_of
 by_expression = refl
 
-no_other : option_map told (chosen (Some (codes "Loss")) (objectives [] model)) ≡ None
+no_other : option_map reported (chosen (Some (codes "Loss")) (objectives [] model)) ≡ None
 no_other = refl

@@ -43,13 +43,13 @@ get_front [] ys v x e = absurd (let h = e in cc)
 get_front (y ∷ xs) ys zero x e = e
 get_front (y ∷ xs) ys (suc v) x e = get_front xs ys v x e
 
-pub get_behind : {A : Type 0} (xs ys : List A) (i v : ℕ) → v ≡ length xs + i → slice_get (xs ++ ys) v ≡ slice_get ys i
-get_behind [] ys i v e = ap (slice_get ys) (omega (arith, e))
-get_behind (x ∷ xs) ys i zero e = absurd (omega (arith, e))
-get_behind (x ∷ xs) ys i (suc v) e = get_behind xs ys i v (omega (arith, e))
+pub get_after : {A : Type 0} (xs ys : List A) (i v : ℕ) → v ≡ length xs + i → slice_get (xs ++ ys) v ≡ slice_get ys i
+get_after [] ys i v e = ap (slice_get ys) (omega (arith, e))
+get_after (x ∷ xs) ys i zero e = absurd (omega (arith, e))
+get_after (x ∷ xs) ys i (suc v) e = get_after xs ys i v (omega (arith, e))
 
 pub get_last : {A : Type 0} (xs ys : List A) (y : A) → slice_get (xs ++ y ∷ ys) (length xs) ≡ Some y
-get_last xs ys y = get_behind xs (y ∷ ys) 0 (length xs) (omega arith)
+get_last xs ys y = get_after xs (y ∷ ys) 0 (length xs) (omega arith)
 
 pub get_below : {A : Type 0} (xs : List A) (v : ℕ) (x : A) → slice_get xs v ≡ Some x → v < length xs
 get_below [] v x e = absurd (let h = e in cc)
@@ -66,10 +66,10 @@ unfolding IsDistinct
 distinct_front eq [] ys h = tt
 distinct_front eq (x ∷ xs) ys h = (all_front (λ y. eq x y ≡ false) xs ys h.0, distinct_front eq xs ys h.1)
 
-pub distinct_behind : {A : Type 0} (eq : A → A → Bool) (xs ys : List A) → IsDistinct eq (xs ++ ys) → IsDistinct eq ys
+pub distinct_after : {A : Type 0} (eq : A → A → Bool) (xs ys : List A) → IsDistinct eq (xs ++ ys) → IsDistinct eq ys
 unfolding IsDistinct
-distinct_behind eq [] ys h = h
-distinct_behind eq (x ∷ xs) ys h = distinct_behind eq xs ys h.1
+distinct_after eq [] ys h = h
+distinct_after eq (x ∷ xs) ys h = distinct_after eq xs ys h.1
 
 -- keys are distinct where what is made of them is
 pub distinct_of : {A B : Type 0} (eq : A → A → Bool) (other : B → B → Bool) (f : A → B) (xs : List A) → ((x y : A) → eq x y ≡ true → other (f x) (f y) ≡ true) → IsDistinct other (map f xs) → IsDistinct eq xs

@@ -8,40 +8,40 @@ use Rattle.net_normal.specs.Limits.{arc_limit}
 use Rattle.net_expr.specs.declared.row.Row.{Row}
 use Rattle.net_expr.specs.Worlds.{Name, World, Scope, reference}
 use Rattle.net_linear.specs.Forms as forms
-use Rattle.net_inst.specs.declared.arc.Drawn.{Drawn}
-use Rattle.net_fault.specs.declared.defect.Defect.TheVariants.{ArcCrossed, TooManyArcs}
+use Rattle.net_inst.specs.declared.arc.Built.{Built}
+use Rattle.net_fault.specs.declared.error_code.ErrorCode.TheVariants.{ArcCrossed, TooManyArcs}
 use Rattle.net_inst.specs.declared.goal.ChosenObjective.{ChosenObjective}
 use Rattle.net_inst.specs.declared.group.Group.{Group}
 use Rattle.net_inst.specs.declared.indexing.Indexing.{Indexing}
 use Rattle.net_inst.specs.Groups.{no_group, group_with}
 use Rattle.net_inst.specs.Indexings.{indexing_in}
-use Rattle.net_inst.specs.Nodes.{DrawnNodes, node_named}
+use Rattle.net_inst.specs.Nodes.{BuiltNodes, node_named}
 use Rattle.net_inst.specs.Numbers.{number}
-use Rattle.net_fault.specs.Outcomes.{Outcome, and_then, refused_of}
-use Rattle.net_inst.specs.Refusals.{refused_name}
+use Rattle.net_fault.specs.Outcomes.{Outcome, and_then, rejected_of}
+use Rattle.net_inst.specs.Rejections.{rejected_name}
 use Rattle.net_inst.specs.Phrases.{Parts, parts_of}
 
 -- arcs in order without their coefficients, and the linear form of the objective
-pub record DrawnArcs : Type 0 where
-  pub arcs : List Drawn
+pub record BuiltArcs : Type 0 where
+  pub arcs : List Built
   pub form : forms.Linear
   pub group : Group
 
-abbrev pub no_arcs : DrawnArcs
+abbrev pub no_arcs : BuiltArcs
 no_arcs = record { arcs = []; form = forms.just (pos 0); group = no_group }
 
-abbrev pub end_at : DrawnNodes → World → Scope → Option Tree → Outcome (Option ℕ)
+abbrev pub end_at : BuiltNodes → World → Scope → Option Tree → Outcome (Option ℕ)
 end_at ns w s None = Ok None
 end_at ns w s (Some t) = and_then (node_named ns w s t) (λ v. Ok (Some v))
 
-abbrev pub with_ends : DrawnNodes → World → Scope → Parts → ℤ → ℤ → Outcome Drawn
+abbrev pub with_ends : BuiltNodes → World → Scope → Parts → ℤ → ℤ → Outcome Built
 with_ends ns w s p l u = and_then (end_at ns w s p.tail) (λ t. and_then (end_at ns w s p.head) (λ h. Ok (record { lower = l; upper = u; tail = t; head = h })))
 
 -- the arc at a key: first its bounds, then its ends
-abbrev pub drawn : DrawnNodes → World → Token → Option ℕ → Parts → Row → Outcome Drawn
-drawn ns w n k p row =
+abbrev pub built : BuiltNodes → World → Token → Option ℕ → Parts → Row → Outcome Built
+built ns w n k p row =
     and_then (number w row.scope p.lower) (λ l. and_then (number w row.scope p.upper) (λ u.
-    if int_lt u l then refused_of ArcCrossed n.span (reference n.text k row.key) else with_ends ns w row.scope p l u))
+    if int_lt u l then rejected_of ArcCrossed n.span (reference n.text k row.key) else with_ends ns w row.scope p l u))
 
 abbrev pub is_goal : Option ChosenObjective → Name → Bool
 is_goal None name = false
@@ -62,27 +62,27 @@ prices_in g w s a [] f = Ok f
 prices_in g w s a (p ∷ ps) f = and_then (price_in g w s a p.body f) (prices_in g w s a ps)
 
 -- adds the arc at a key
-abbrev pub next_arc : Option ChosenObjective → DrawnNodes → World → Token → Option ℕ → Parts → List Phrase → Row → DrawnArcs → Outcome DrawnArcs
+abbrev pub next_arc : Option ChosenObjective → BuiltNodes → World → Token → Option ℕ → Parts → List Phrase → Row → BuiltArcs → Outcome BuiltArcs
 next_arc g ns w n k p ps row d =
     if nat_lt (length d.arcs) arc_limit then
-    and_then (drawn ns w n k p row) (λ x. and_then (prices_in g w row.scope (length d.arcs) ps d.form) (λ f. Ok (record { arcs = d.arcs ++ x ∷ []; form = f; group = d.group })))
-    else refused_name TooManyArcs n
+    and_then (built ns w n k p row) (λ x. and_then (prices_in g w row.scope (length d.arcs) ps d.form) (λ f. Ok (record { arcs = d.arcs ++ x ∷ []; form = f; group = d.group })))
+    else rejected_name TooManyArcs n
 
 -- adds an arc for each key
-abbrev pub arcs_at : Option ChosenObjective → DrawnNodes → World → Token → Option ℕ → Parts → List Phrase → List Row → DrawnArcs → Outcome DrawnArcs
+abbrev pub arcs_at : Option ChosenObjective → BuiltNodes → World → Token → Option ℕ → Parts → List Phrase → List Row → BuiltArcs → Outcome BuiltArcs
 arcs_at g ns w n k p ps [] d = Ok d
 arcs_at g ns w n k p ps (row ∷ rows) d = and_then (next_arc g ns w n k p ps row d) (arcs_at g ns w n k p ps rows)
 
 -- replaces the linear form of the objective
-abbrev pub formed : DrawnArcs → forms.Linear → DrawnArcs
+abbrev pub formed : BuiltArcs → forms.Linear → BuiltArcs
 formed d f = record { arcs = d.arcs; form = f; group = d.group }
 
-abbrev pub named_arcs : Name → ℕ → Indexing → DrawnArcs → DrawnArcs
+abbrev pub named_arcs : Name → ℕ → Indexing → BuiltArcs → BuiltArcs
 named_arcs name first i d = record { arcs = d.arcs; form = d.form; group = group_with d.group name first i }
 
-abbrev pub arcs_by : Option ChosenObjective → DrawnNodes → World → Token → List Phrase → DrawnArcs → Parts → Indexing → Outcome DrawnArcs
+abbrev pub arcs_by : Option ChosenObjective → BuiltNodes → World → Token → List Phrase → BuiltArcs → Parts → Indexing → Outcome BuiltArcs
 arcs_by g ns w n ps d p i = and_then (arcs_at g ns w n i.count p ps i.rows d) (λ found. Ok (named_arcs n.text (length d.arcs) i found))
 
 -- adds the arcs of a declaration; a missing phrase is reported first
-abbrev pub with_arcs : Option ChosenObjective → DrawnNodes → World → Token → Option Braces → List Phrase → DrawnArcs → Outcome DrawnArcs
+abbrev pub with_arcs : Option ChosenObjective → BuiltNodes → World → Token → Option Braces → List Phrase → BuiltArcs → Outcome BuiltArcs
 with_arcs g ns w n b ps d = and_then (parts_of n ps) (λ p. and_then (indexing_in w b) (arcs_by g ns w n ps d p))

@@ -42,7 +42,7 @@ pub record Arc : Type 0 where
   pub phrases : List Phrase
 
 -- the keys of a declaration, each with the dummies that it binds; empty on an error, which the
--- field `has_network` of `Headline` excludes
+-- field `has_network` of `IsBuilt` excludes
 abbrev pub rows_of : Outcome Indexing → List Row
 rows_of (Ok i) = i.rows
 rows_of (Err r) = []
@@ -73,16 +73,16 @@ arcs_of w _ = []
 
 -- The number of sets and parameters that are visible after a declaration. A world has them in order
 -- of declaration, so those visible to a declaration are its first k entries.
-abbrev pub known_behind : ℕ → Declaration → ℕ
-known_behind k (set t n ps e) = k + 1
-known_behind k (param t n b ps e) = k + 1
-known_behind k _ = k
+abbrev pub known_after : ℕ → Declaration → ℕ
+known_after k (set t n ps e) = k + 1
+known_after k (param t n b ps e) = k + 1
+known_after k _ = k
 
 -- the concatenated results of f for all declarations; the first one sees the first k sets and
 -- parameters of the world, each later one also those declared in between
 abbrev pub in_order : {A : Type 0} → (World → Declaration → List A) → World → ℕ → List Declaration → List A
 in_order f w k [] = []
-in_order f w k (d ∷ ds) = f (take k w) d ++ in_order f w (known_behind k d) ds
+in_order f w k (d ∷ ds) = f (take k w) d ++ in_order f w (known_after k d) ds
 
 -- the nodes (`nodes`) and the arcs (`arcs`) of a model in its world
 abbrev pub nodes : World → List Declaration → List Node
@@ -159,7 +159,7 @@ carried end v (a ∷ all) x = (if is_named v (end a) then number_on x a else pos
 abbrev pub net_inflow : List Arc → Assignment → Label → ℤ
 net_inflow all x v = carried to_end v all x -ℤ carried from_end v all x
 
--- the value of an expression without arcs; 0 on an error, which `has_network` of `Headline` excludes
+-- the value of an expression without arcs; 0 on an error, which `has_network` of `IsBuilt` excludes
 abbrev pub amount : World → Scope → Tree → ℤ
 amount w s t = number_of (number_or_none w s t)
 

@@ -5,7 +5,7 @@ use Rattle.std.specs.Prelude.{◌≡◌, List, map, Option, Some, Ok, ℤ}
 use Rattle.net_tree.specs.Tree.{Declaration}
 use Rattle.net_normal.specs.Correspondence.{CorrespondsOneToOne}
 use Rattle.net_normal.specs.Flows.{IsFeasibleFlow, cost_of}
-use Rattle.net_normal.specs.Links.{lifted, value_at}
+use Rattle.net_normal.specs.Links.{mapped_back, value_at}
 use Rattle.net_normal.specs.declared.link.Link.{Link}
 use Rattle.net_normal.specs.declared.problem.Problem.{Problem}
 use Rattle.net_expr.specs.Worlds.{Name, World}
@@ -16,7 +16,7 @@ use Rattle.net_inst.specs.Readings.{Objective, objectives, chosen, value_of}
 
 -- the assignment that corresponds to a flow
 abbrev pub up : List Arc → Link → List ℤ → Assignment
-up all link flows = by_label (map (λ a. a.label) all) (lifted link flows)
+up all link flows = by_label (map (λ a. a.label) all) (mapped_back link flows)
 
 -- both give each arc the same value
 abbrev pub Agree : List Arc → Assignment → Assignment → Type 0

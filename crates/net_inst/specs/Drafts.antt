@@ -8,14 +8,14 @@ use Rattle.net_normal.specs.declared.instance.Sense.TheVariants.{Minimise, Maxim
 use Rattle.net_expr.specs.Worlds.{Name, World}
 use Rattle.net_linear.specs.Forms.{Linear, just}
 use Rattle.net_linear.specs.Objectives.{objective_form}
-use Rattle.net_fault.specs.declared.defect.Defect.TheVariants.{TwoObjectives}
+use Rattle.net_fault.specs.declared.error_code.ErrorCode.TheVariants.{TwoObjectives}
 use Rattle.net_inst.specs.declared.draft.Draft.{Draft}
 use Rattle.net_inst.specs.declared.goal.ChosenObjective.{ChosenObjective}
-use Rattle.net_inst.specs.Arcs.{DrawnArcs, no_arcs, with_arcs, formed}
+use Rattle.net_inst.specs.Arcs.{BuiltArcs, no_arcs, with_arcs, formed}
 use Rattle.net_inst.specs.Groups.{Numbers}
-use Rattle.net_inst.specs.Nodes.{DrawnNodes, no_nodes, with_nodes}
+use Rattle.net_inst.specs.Nodes.{BuiltNodes, no_nodes, with_nodes}
 use Rattle.net_fault.specs.Outcomes.{Outcome, and_then}
-use Rattle.net_inst.specs.Refusals.{refused_name}
+use Rattle.net_inst.specs.Rejections.{rejected_name}
 
 -- the result of the declarations so far
 abbrev pub Drawing : Type 0
@@ -37,15 +37,15 @@ sense_of t = if bytes_eq (codes "minimize") t.text then Minimise else Maximise
 abbrev pub is_chosen : Option Name → Option ChosenObjective → Token → Outcome Bool
 is_chosen (Some name) g n = Ok (bytes_eq name n.text)
 is_chosen None None n = Ok true
-is_chosen None (Some g) n = refused_name TwoObjectives n
+is_chosen None (Some g) n = rejected_name TwoObjectives n
 
-abbrev pub said_tree : Numbers → World → Tree → Outcome Linear
-said_tree a w x = (objective_form a w [] x)
+abbrev pub tree_form : Numbers → World → Tree → Outcome Linear
+tree_form a w x = (objective_form a w [] x)
 
 -- the linear form of the objective's own expression, over the arcs declared before it
-abbrev pub said_form : Numbers → World → Part → Outcome Linear
-said_form a w absent = Ok (just (pos 0))
-said_form a w (part m x) = said_tree a w x
+abbrev pub part_form : Numbers → World → Part → Outcome Linear
+part_form a w absent = Ok (just (pos 0))
+part_form a w (part m x) = tree_form a w x
 
 abbrev pub passed : Drawing → Drawing
 passed d = record { known = d.known; nodes = d.nodes; arcs = d.arcs; goal = d.goal; has_objective = true }
@@ -60,7 +60,7 @@ aimed d t n f = record {
 }
 
 abbrev pub with_goal : World → Token → Token → Part → Drawing → Outcome Drawing
-with_goal w t n p d = and_then (said_form d.arcs.group.numbers w p) (λ f. Ok (aimed d t n f))
+with_goal w t n p d = and_then (part_form d.arcs.group.numbers w p) (λ f. Ok (aimed d t n f))
 
 abbrev pub with_objective : Option Name → World → Token → Token → Part → Drawing → Outcome Drawing
 with_objective wanted w t n p d = and_then (is_chosen wanted d.goal n) (λ b. if b then with_goal w t n p d else Ok (passed d))
@@ -68,10 +68,10 @@ with_objective wanted w t n p d = and_then (is_chosen wanted d.goal n) (λ b. if
 abbrev pub known_more : Drawing → Drawing
 known_more d = record { known = d.known + 1; nodes = d.nodes; arcs = d.arcs; goal = d.goal; has_objective = d.has_objective }
 
-abbrev pub nodes_more : Drawing → DrawnNodes → Drawing
+abbrev pub nodes_more : Drawing → BuiltNodes → Drawing
 nodes_more d ns = record { known = d.known; nodes = ns; arcs = d.arcs; goal = d.goal; has_objective = d.has_objective }
 
-abbrev pub arcs_more : Drawing → DrawnArcs → Drawing
+abbrev pub arcs_more : Drawing → BuiltArcs → Drawing
 arcs_more d xs = record { known = d.known; nodes = d.nodes; arcs = xs; goal = d.goal; has_objective = d.has_objective }
 
 abbrev pub with_node_declaration : World → Token → Option Braces → Condition → Drawing → Outcome Drawing

@@ -3,10 +3,10 @@ use Rattle.std.specs.Prelude.{ℕ, ◌<◌, ◌||◌, ◌≤ℤ◌, IsTrue, is_s
 use Rattle.std.specs.Option.{ForSome}
 use Rattle.net_normal.specs.declared.instance.InstArc.{InstArc}
 use Rattle.net_normal.specs.Limits.{IsSized, value_limit}
-use Rattle.net_inst.specs.declared.arc.Drawn.{Drawn}
+use Rattle.net_inst.specs.declared.arc.Built.{Built}
 
 -- an arc, without its coefficient, of a network with this many nodes
-pub record IsDrawnOf (nodes : ℕ) (arc : Drawn) : Type 0 where
+pub record IsBuiltOf (nodes : ℕ) (arc : Built) : Type 0 where
   pub lower : IsSized value_limit arc.lower
   pub upper : IsSized value_limit arc.upper
   pub ordered : arc.lower ≤ℤ arc.upper

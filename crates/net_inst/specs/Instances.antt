@@ -7,20 +7,20 @@ use Rattle.net_lex.specs.declared.token.Token.{Token}
 use Rattle.net_tree.specs.Tree.{Declaration, set, param, check, node, arc, objective}
 use Rattle.net_normal.specs.declared.instance.InstArc.{InstArc}
 use Rattle.net_normal.specs.declared.instance.Sense.{Sense}
-use Rattle.net_fault.specs.declared.detail.Detail.TheVariants.{Nothing, Told}
+use Rattle.net_fault.specs.declared.detail.Detail.TheVariants.{Nothing, Reported}
 use Rattle.net_expr.specs.Worlds.{Name, World}
 use Rattle.net_linear.specs.declared.condition.Sides.{Sides}
 use Rattle.net_linear.specs.Forms.{Products, coefficient}
-use Rattle.net_inst.specs.declared.arc.Drawn.{Drawn}
-use Rattle.net_fault.specs.declared.defect.Defect.TheVariants.{NoObjective, NoSuchObjective}
+use Rattle.net_inst.specs.declared.arc.Built.{Built}
+use Rattle.net_fault.specs.declared.error_code.ErrorCode.TheVariants.{NoObjective, NoSuchObjective}
 use Rattle.net_fault.specs.declared.fault.Fault.{Fault}
 use Rattle.net_inst.specs.declared.goal.ChosenObjective.{ChosenObjective}
 use Rattle.net_inst.specs.declared.network.Named.{Named as NamedOfCode}
 use Rattle.net_inst.specs.declared.names.Names.{Names}
-use Rattle.net_inst.specs.Arcs.{DrawnArcs}
+use Rattle.net_inst.specs.Arcs.{BuiltArcs}
 use Rattle.net_inst.specs.Drafts.{Drawing, nothing, draw}
-use Rattle.net_inst.specs.Nodes.{DrawnNodes, sides_of}
-use Rattle.net_fault.specs.Outcomes.{Outcome, and_then, refused_of, AnswersAs}
+use Rattle.net_inst.specs.Nodes.{BuiltNodes, sides_of}
+use Rattle.net_fault.specs.Outcomes.{Outcome, and_then, rejected_of, RefinesAs}
 
 pub record Network : Type 0 where
   pub nodes : List Sides
@@ -29,15 +29,15 @@ pub record Network : Type 0 where
   pub constant : ℤ
   pub names : Names
 
-abbrev pub with_coefficient : Drawn → ℤ → InstArc
+abbrev pub with_coefficient : Built → ℤ → InstArc
 with_coefficient x c = record { lower = x.lower; upper = x.upper; coefficient = c; tail = x.tail; head = x.head }
 
 -- the arcs from number a on, each with its coefficient
-abbrev pub with_coefficients : Products → ℕ → List Drawn → List InstArc
+abbrev pub with_coefficients : Products → ℕ → List Built → List InstArc
 with_coefficients ps a [] = []
 with_coefficients ps a (x ∷ xs) = with_coefficient x (coefficient ps a) ∷ with_coefficients ps (suc a) xs
 
-abbrev pub network_of : DrawnNodes → DrawnArcs → ChosenObjective → Network
+abbrev pub network_of : BuiltNodes → BuiltArcs → ChosenObjective → Network
 network_of ns xs g = record {
   nodes = ns.ranges;
   arcs = with_coefficients xs.form.products 0 xs.arcs;
@@ -48,8 +48,8 @@ network_of ns xs g = record {
 
 -- the error if no objective is declared, or none with the given name
 abbrev pub without_goal : {A : Type 0} → Option Name → Span → Bool → Outcome A
-without_goal wanted at false = refused_of NoObjective at Nothing
-without_goal wanted at true = refused_of NoSuchObjective at (Told (unwrap_or wanted []))
+without_goal wanted at false = rejected_of NoObjective at Nothing
+without_goal wanted at true = rejected_of NoSuchObjective at (Reported (unwrap_or wanted []))
 
 abbrev pub finished : Option Name → Span → Drawing → Option ChosenObjective → Outcome Network
 finished wanted at d (Some g) = Ok (network_of d.nodes d.arcs g)
@@ -80,4 +80,4 @@ seen_as n = record { nodes = map sides_of n.instance.nodes.items; arcs = n.insta
 -- the code returns the network that the definition gives, or the first error, unless memory runs
 -- out
 abbrev pub AnswersNetwork : Outcome Network → Result NamedOfCode Fault → Type 0
-AnswersNetwork wanted result = AnswersAs seen_as wanted result
+AnswersNetwork wanted result = RefinesAs seen_as wanted result

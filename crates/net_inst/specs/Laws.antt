@@ -15,18 +15,18 @@ use Rattle.net_expr.specs.Values.{value}
 use Rattle.net_expr.specs.Worlds.{Name, World}
 use Rattle.net_linear.specs.declared.condition.Sides.{Sides}
 use Rattle.net_linear.specs.Conditions.{Holds}
-use Rattle.net_inst.specs.declared.arc.Drawn.{Drawn}
+use Rattle.net_inst.specs.declared.arc.Built.{Built}
 use Rattle.net_inst.specs.declared.network.Named.{Named as NamedOfCode}
 use Rattle.net_inst.specs.declared.names.Declared.{Declared}
 use Rattle.net_inst.specs.declared.names.Key.{Key}
-use Rattle.net_inst.specs.AsWritten.{Label, Node, Arc, rows_of, known_behind, nodes, arcs, node_declared, arc_declared, same_label, Assignment, numbers_on, by_label, from_end, to_end, AreDistinct, IsFeasible}
+use Rattle.net_inst.specs.AsWritten.{Label, Node, Arc, rows_of, known_after, nodes, arcs, node_declared, arc_declared, same_label, Assignment, numbers_on, by_label, from_end, to_end, AreDistinct, IsFeasible}
 use Rattle.net_inst.specs.Indexings.{indexing_in, tuples_of}
 use Rattle.net_inst.specs.Instances.{Network, network, seen_as}
 use Rattle.net_inst.specs.Lists.{Listed, AreInOrder}
 use Rattle.net_inst.specs.Readings.{Objective, objectives, chosen, value_of}
 
 -- an arc without its coefficient
-abbrev pub shape_of : InstArc → Drawn
+abbrev pub shape_of : InstArc → Built
 shape_of a = record { lower = a.lower; upper = a.upper; tail = a.tail; head = a.head }
 
 -- two networks have the same nodes, ranges, arcs, bounds, ends and names of nodes and arcs
@@ -128,7 +128,7 @@ keys_by w _ = []
 -- no declaration has a key twice
 abbrev pub HaveKeysOnce : World → ℕ → List Declaration → Type 0
 HaveKeysOnce w k [] = ⊤
-HaveKeysOnce w k (d ∷ ds) = IsDistinct same_tuple (keys_by (take k w) d) × HaveKeysOnce w (known_behind k d) ds
+HaveKeysOnce w k (d ∷ ds) = IsDistinct same_tuple (keys_by (take k w) d) × HaveKeysOnce w (known_after k d) ds
 
 abbrev pub same_name : Declared → Declared → Bool
 same_name d e = bytes_eq d.name e.name

@@ -1,4 +1,4 @@
-pub mod Refusals
+pub mod Rejections
 pub mod Lists
 pub mod Indexings
 pub mod Groups

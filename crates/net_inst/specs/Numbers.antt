@@ -5,16 +5,16 @@ use Rattle.net_sets.specs.declared.member.Member.{Member}
 use Rattle.net_sets.specs.declared.member.Member.TheVariants.{Number, Name}
 use Rattle.net_tree.specs.Spans.{span_of}
 use Rattle.net_tree.specs.Tree.{Tree}
-use Rattle.net_fault.specs.declared.defect.Defect.TheVariants.{KindMismatch, ValueTooLarge}
+use Rattle.net_fault.specs.declared.error_code.ErrorCode.TheVariants.{KindMismatch, ValueTooLarge}
 use Rattle.net_expr.specs.Limits.{is_small}
 use Rattle.net_expr.specs.Operators.{member}
 use Rattle.net_expr.specs.Values.{value}
 use Rattle.net_expr.specs.Worlds.{World, Scope}
-use Rattle.net_fault.specs.Outcomes.{Outcome, and_then, refused}
+use Rattle.net_fault.specs.Outcomes.{Outcome, and_then, rejected}
 
 abbrev pub number_in : Span → Member → Outcome ℤ
-number_in at (Number n) = if is_small n then Ok n else refused ValueTooLarge at
-number_in at (Name t) = refused KindMismatch at
+number_in at (Number n) = if is_small n then Ok n else rejected ValueTooLarge at
+number_in at (Name t) = rejected KindMismatch at
 
 -- the value of an expression as a number
 abbrev pub number : World → Scope → Tree → Outcome ℤ

@@ -13,9 +13,9 @@ use Rattle.net_expr.specs.Worlds.{Name, World, Scope}
 use Rattle.net_linear.specs.declared.arc.ArcKeys.{ArcKeys}
 use Rattle.net_linear.specs.Objectives.{names_arc, key_of, condition}
 use Rattle.net_fault.specs.Outcomes.{Outcome}
-use Rattle.net_linear.specs.Worths.{read, combine, sum_in, choose}
+use Rattle.net_linear.specs.ObjectiveValues.{read, combine, sum_in, choose}
 use Rattle.net_inst.specs.declared.names.Declared.{Declared}
-use Rattle.net_inst.specs.AsWritten.{Arc, Assignment, number_on, amount, arcs_of, arc_declared, in_order, known_behind}
+use Rattle.net_inst.specs.AsWritten.{Arc, Assignment, number_on, amount, arcs_of, arc_declared, in_order, known_after}
 use Rattle.net_inst.specs.Drafts.{sense_of}
 
 -- the value of the arc with a name and a key
@@ -85,13 +85,13 @@ pub record Objective : Type 0 where
   pub behind : List Arc
 
 -- the value of the objective's own expression
-abbrev pub said_value : List Declared → World → Part → Assignment → ℤ
-said_value ds w absent x = pos 0
-said_value ds w (part m t) x = reading (stands_in ds) w [] t x
+abbrev pub part_value : List Declared → World → Part → Assignment → ℤ
+part_value ds w absent x = pos 0
+part_value ds w (part m t) x = reading (stands_in ds) w [] t x
 
 -- the value of an assignment
 abbrev pub value_of : Objective → Assignment → ℤ
-value_of o x = said_value o.before o.env o.expression x +ℤ prices o.name o.behind x
+value_of o x = part_value o.before o.env o.expression x +ℤ prices o.name o.behind x
 
 abbrev pub objective_of : List Declared → World → Declaration → List Arc → List Objective
 objective_of before w (objective t n p e) behind = (record { sense = sense_of t; name = n.text; env = w; expression = p; before = before; behind = behind }) ∷ []
@@ -101,7 +101,7 @@ objective_of before w _ behind = []
 abbrev pub objectives_from : List Declared → World → ℕ → List Declaration → List Objective
 objectives_from before w k [] = []
 objectives_from before w k (d ∷ ds) =
-    objective_of before (take k w) d (in_order arcs_of w (known_behind k d) ds) ++ objectives_from (before ++ arc_declared d) w (known_behind k d) ds
+    objective_of before (take k w) d (in_order arcs_of w (known_after k d) ds) ++ objectives_from (before ++ arc_declared d) w (known_after k d) ds
 
 abbrev pub objectives : World → List Declaration → List Objective
 objectives w ds = objectives_from [] w 0 ds

@@ -7,16 +7,16 @@ ghost use Rattle.net_expr.specs.Worlds.{reference};
 ghost use Rattle.net_inst.specs.Arcs as found;
 ghost use Rattle.net_inst.specs.Fitting.{IsPriced};
 ghost use Rattle.net_inst.specs.Instances as network;
-ghost use Rattle.net_fault.specs.Outcomes.{Answers};
+ghost use Rattle.net_fault.specs.Outcomes.{Refines};
 ghost use Rattle.net_inst.specs.Parts.{parts_seen};
 
-use crate::fault::refuse;
+use crate::fault::reject;
 use crate::node_name::node_named;
 use crate::number::number_of;
 use crate::phrases::ArcParts;
 use crate::visible::Visible;
-use net_expr::{Row, Scope, told_reference};
-use net_fault::{Defect, Fault};
+use net_expr::{Row, Scope, reported_reference};
+use net_fault::{ErrorCode, Fault};
 use net_lex::Token;
 use net_linear::Affine;
 use net_normal::InstArc;
@@ -25,7 +25,7 @@ use std::alloc::{AllocError, Global};
 
 /// The arc at a key without its coefficient: its bounds, and the numbers of its nodes.
 #[derive(Clone, Copy)]
-pub(crate) struct Drawn {
+pub(crate) struct Built {
     pub(crate) lower: i64,
     pub(crate) upper: i64,
     pub(crate) tail: Option<u32>,
@@ -48,7 +48,7 @@ fn end_at<'s>(
     scope: &Scope<'s>,
     end: &Option<&Expr<'s>>,
 ) -> Result<Option<u32>, Fault>
-    ensures { Answers (found.end_at visible.now.nodes.now visible.now.env.now scope.now (option_map tree (option_copied end.now))) result }
+    ensures { Refines (found.end_at visible.now.nodes.now visible.now.env.now scope.now (option_map tree (option_copied end.now))) result }
 {
     match end {
         None => Ok(None),
@@ -67,12 +67,12 @@ fn with_ends<'s>(
     parts: &ArcParts<'_, 's>,
     lower: i64,
     upper: i64,
-) -> Result<Drawn, Fault>
-    ensures { Answers (found.with_ends visible.now.nodes.now visible.now.env.now scope.now (parts_seen parts.now) lower upper) result }
+) -> Result<Built, Fault>
+    ensures { Refines (found.with_ends visible.now.nodes.now visible.now.env.now scope.now (parts_seen parts.now) lower upper) result }
 {
     let tail = end_at(alloc, visible, scope, &parts.tail)?;
     let head = end_at(alloc, visible, scope, &parts.head)?;
-    Ok(Drawn {
+    Ok(Built {
         lower,
         upper,
         tail,
@@ -87,22 +87,22 @@ pub(crate) fn arc_at<'s>(
     text: &ArcText<'_, 's>,
     count: &Option<u8>,
     row: &Row<'s>,
-) -> Result<Drawn, Fault>
-    ensures { Answers (found.drawn visible.now.nodes.now visible.now.env.now text.now.name.now count.now (parts_seen text.now.parts) row.now) result }
+) -> Result<Built, Fault>
+    ensures { Refines (found.built visible.now.nodes.now visible.now.env.now text.now.name.now count.now (parts_seen text.now.parts) row.now) result }
 {
     let scope = &row.scope;
     let lower = number_of(alloc, visible.env, scope, text.parts.lower)?;
     let upper = number_of(alloc, visible.env, scope, text.parts.upper)?;
     if upper < lower {
-        let detail = told_reference(alloc, &text.name.text, *count, &row.key)?;
-        Err(refuse(Defect::ArcCrossed, text.name.span, detail))
+        let detail = reported_reference(alloc, &text.name.text, *count, &row.key)?;
+        Err(reject(ErrorCode::ArcCrossed, text.name.span, detail))
     } else {
         with_ends(alloc, visible, scope, &text.parts, lower, upper)
     }
 }
 
 /// Returns the arc with its coefficient.
-fn with_coefficient(arc: &Drawn, coefficient: &i64) -> InstArc
+fn with_coefficient(arc: &Built, coefficient: &i64) -> InstArc
     ensures { result ≡ network.with_coefficient arc.now coefficient.now }
 {
     InstArc {
@@ -118,7 +118,7 @@ fn with_coefficient(arc: &Drawn, coefficient: &i64) -> InstArc
 pub(crate) fn priced(
     alloc: Global,
     form: &Affine,
-    arcs: &[Drawn],
+    arcs: &[Built],
 ) -> Result<Vec<InstArc>, AllocError>
     ensures value { IfOk result (λ all. all.items ≡ network.with_coefficients form.now.products 0 arcs.now) }
     ensures size { IfOk result (λ all. All IsPriced all.items) }

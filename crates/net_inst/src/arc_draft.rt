@@ -4,24 +4,24 @@ ghost use Rattle.std.specs.Prelude.{◌≡◌, ◌≤◌, ◌+◌, All, length, 
 ghost use Rattle.net_tree.specs.View.{indexing_of, option_part, phrase_of};
 ghost use Rattle.net_normal.specs.Limits.{IsSized, arc_limit, value_limit};
 ghost use Rattle.net_inst.specs.Arcs as found;
-ghost use Rattle.net_inst.specs.Drafts.{said_form};
+ghost use Rattle.net_inst.specs.Drafts.{part_form};
 ghost use Rattle.net_inst.specs.Fitting.{IsPriced};
 ghost use Rattle.net_inst.specs.Indexings.{indexing_in};
 ghost use Rattle.net_inst.specs.Instances.{with_coefficients};
-ghost use Rattle.net_fault.specs.Outcomes.{Leaves, and_then};
+ghost use Rattle.net_fault.specs.Outcomes.{Updates, and_then};
 ghost use Rattle.net_inst.specs.Parts.{parts_seen};
 
-use crate::arc::{ArcText, Drawn, arc_at, priced};
-use crate::fault::refuse_name;
+use crate::arc::{ArcText, Built, arc_at, priced};
+use crate::fault::reject_name;
 use crate::group::Group;
 use crate::indexing::{Indexing, indexing_of};
 use crate::names::NameList;
-use crate::objective_form::said_form;
+use crate::objective_form::part_form;
 use crate::phrases::parts_of;
 use crate::price::add_phrases;
 use crate::visible::Visible;
 use net_expr::{Env, Row};
-use net_fault::{Defect, Fault};
+use net_fault::{ErrorCode, Fault};
 use net_lex::Token;
 use net_linear::Affine;
 use net_normal::{ARC_LIMIT, InstArc};
@@ -34,7 +34,7 @@ use std::mem;
 /// The arcs of the declarations so far, in order, and the linear form of the objective.
 #[derive(Drop)]
 pub(crate) struct ArcDraft<'s> {
-    arcs: Vec<Drawn>,
+    arcs: Vec<Built>,
     form: Affine,
     group: Group<'s>,
 }
@@ -42,9 +42,9 @@ pub(crate) struct ArcDraft<'s> {
 impl<'s> Model for ArcDraft<'s> {
     ghost use Rattle.std.specs.Prelude.{◌≤◌, length};
     ghost use Rattle.net_normal.specs.Limits.{arc_limit};
-    ghost use Rattle.net_inst.specs.Arcs.{DrawnArcs};
+    ghost use Rattle.net_inst.specs.Arcs.{BuiltArcs};
 
-    ghost Value = { DrawnArcs };
+    ghost Value = { BuiltArcs };
 
     ghost view = { λ d. record { arcs = d.arcs.items; form = d.form; group = d.group } };
 
@@ -72,7 +72,7 @@ impl<'s> ArcDraft<'s> {
         count: &Option<u8>,
         row: &Row<'s>,
     ) -> Result<(), Fault>
-        ensures value { Leaves (found.next_arc visible.now.goal.now visible.now.nodes.now visible.now.env.now text.now.name.now count.now
+        ensures value { Updates (found.next_arc visible.now.goal.now visible.now.nodes.now visible.now.env.now text.now.name.now count.now
             (parts_seen text.now.parts) (map phrase_of text.now.phrases.now) row.now self.old) result self.new }
         ensures count { OnOk result (length self.new.arcs ≡ length self.old.arcs + 1) }
     {
@@ -90,7 +90,7 @@ impl<'s> ArcDraft<'s> {
             self.arcs.push(new)?;
             Ok(())
         } else {
-            Err(refuse_name(alloc, Defect::TooManyArcs, text.name)?)
+            Err(reject_name(alloc, ErrorCode::TooManyArcs, text.name)?)
         }
     }
 
@@ -103,7 +103,7 @@ impl<'s> ArcDraft<'s> {
         count: &Option<u8>,
         rows: &[Row<'s>],
     ) -> Result<(), Fault>
-        ensures value { Leaves (found.arcs_at visible.now.goal.now visible.now.nodes.now visible.now.env.now text.now.name.now count.now
+        ensures value { Updates (found.arcs_at visible.now.goal.now visible.now.nodes.now visible.now.env.now text.now.name.now count.now
             (parts_seen text.now.parts) (map phrase_of text.now.phrases.now) rows.now self.old) result self.new }
         ensures few { OnOk result (length rows.now ≤ length self.new.arcs) }
     {
@@ -135,7 +135,7 @@ impl<'s> ArcDraft<'s> {
         text: &ArcText<'_, 's>,
         indexing: &Indexing<'s>,
     ) -> Result<(), Fault>
-        ensures { Leaves (found.arcs_by visible.now.goal.now visible.now.nodes.now visible.now.env.now text.now.name.now
+        ensures { Updates (found.arcs_by visible.now.goal.now visible.now.nodes.now visible.now.env.now text.now.name.now
             (map phrase_of text.now.phrases.now) self.old (parts_seen text.now.parts) indexing.now) result self.new }
     {
         let first = self.len() as u32;
@@ -153,7 +153,7 @@ impl<'s> ArcDraft<'s> {
         text: &ArcText<'_, 's>,
         braces: &Option<Braces<'s>>,
     ) -> Result<(), Fault>
-        ensures { Leaves (and_then (indexing_in visible.now.env.now (indexing_of braces.now)) (found.arcs_by visible.now.goal.now
+        ensures { Updates (and_then (indexing_in visible.now.env.now (indexing_of braces.now)) (found.arcs_by visible.now.goal.now
             visible.now.nodes.now visible.now.env.now text.now.name.now (map phrase_of text.now.phrases.now) self.old
             (parts_seen text.now.parts))) result self.new }
     {
@@ -171,7 +171,7 @@ impl<'s> ArcDraft<'s> {
         braces: &Option<Braces<'s>>,
         phrases: &[Phrase<'s>],
     ) -> Result<(), Fault>
-        ensures { Leaves (found.with_arcs visible.now.goal.now visible.now.nodes.now visible.now.env.now name.now (indexing_of braces.now)
+        ensures { Updates (found.with_arcs visible.now.goal.now visible.now.nodes.now visible.now.env.now name.now (indexing_of braces.now)
             (map phrase_of phrases.now) self.old) result self.new }
     {
         let parts = parts_of(alloc, name, phrases)?;
@@ -198,9 +198,9 @@ impl<'s> ArcDraft<'s> {
         env: &Env<'_, 's>,
         part: &Option<Part<'s>>,
     ) -> Result<(), Fault>
-        ensures { Leaves (and_then (said_form self.old.group.numbers env.now (option_part part.now)) (λ f. Ok (found.formed self.old f))) result self.new }
+        ensures { Updates (and_then (part_form self.old.group.numbers env.now (option_part part.now)) (λ f. Ok (found.formed self.old f))) result self.new }
     {
-        self.form = said_form(alloc, &self.group.numbers, env, part)?;
+        self.form = part_form(alloc, &self.group.numbers, env, part)?;
         Ok(())
     }
 

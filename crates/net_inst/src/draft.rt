@@ -4,15 +4,15 @@ ghost use Rattle.std.specs.Prelude.{◌≡◌, ◌+◌, ◌<◌, ◌≤◌, ◌^
 ghost use Rattle.std.specs.Option.{option_copied};
 ghost use Rattle.net_tree.specs.View.{declaration_of, indexing_of, condition_of, phrase_of, option_part};
 ghost use Rattle.net_inst.specs.Drafts as found;
-ghost use Rattle.net_fault.specs.Outcomes.{Answers, Leaves};
+ghost use Rattle.net_fault.specs.Outcomes.{Refines, Updates};
 
 use crate::arc_draft::ArcDraft;
-use crate::fault::refuse_name;
+use crate::fault::reject_name;
 use crate::goal::ChosenObjective;
 use crate::node::NodeDraft;
 use crate::visible::Visible;
 use net_expr::{Env, World};
-use net_fault::{Defect, Fault};
+use net_fault::{ErrorCode, Fault};
 use net_lex::Token;
 use net_normal::Sense;
 use net_sets::HashKey;
@@ -70,13 +70,13 @@ fn is_chosen<'s>(
     goal: &Option<ChosenObjective<'s>>,
     name: &Token<'s>,
 ) -> Result<bool, Fault>
-    ensures { Answers (found.is_chosen (option_copied wanted.now) goal.now name.now) result }
+    ensures { Refines (found.is_chosen (option_copied wanted.now) goal.now name.now) result }
 {
     match wanted {
         Some(wanted) => Ok(*wanted == name.text.as_str()),
         None => match goal {
             None => Ok(true),
-            Some(_) => Err(refuse_name(alloc, Defect::TwoObjectives, name)?),
+            Some(_) => Err(reject_name(alloc, ErrorCode::TwoObjectives, name)?),
         },
     }
 }
@@ -102,11 +102,11 @@ impl<'s> Draft<'s> {
         env: &Env<'_, 's>,
         text: &ObjectiveText<'_, 's>,
     ) -> Result<(), Fault>
-        ensures { Leaves (found.with_goal env.now text.now.word.now text.now.name.now (option_part text.now.part.now) self.old) result self.new }
+        ensures { Updates (found.with_goal env.now text.now.word.now text.now.name.now (option_part text.now.part.now) self.old) result self.new }
     {
         self.arcs.begin_form(alloc, env, text.part)?;
         self.goal = Some(ChosenObjective {
-            name: text.name.text.again(),
+            name: text.name.text.copied(),
             sense: sense_of(text.word),
         });
         self.has_objective = true;
@@ -121,7 +121,7 @@ impl<'s> Draft<'s> {
         wanted: &Option<&str>,
         text: &ObjectiveText<'_, 's>,
     ) -> Result<(), Fault>
-        ensures { Leaves (found.with_objective (option_copied wanted.now) env.now text.now.word.now text.now.name.now
+        ensures { Updates (found.with_objective (option_copied wanted.now) env.now text.now.word.now text.now.name.now
             (option_part text.now.part.now) self.old) result self.new }
     {
         if is_chosen(alloc, wanted, &self.goal, text.name)? {
@@ -141,7 +141,7 @@ impl<'s> Draft<'s> {
         braces: &Option<Braces<'s>>,
         condition: &NetCond<'s>,
     ) -> Result<(), Fault>
-        ensures { Leaves (found.with_node_declaration env.now name.now (indexing_of braces.now) (condition_of condition.now) self.old) result self.new }
+        ensures { Updates (found.with_node_declaration env.now name.now (indexing_of braces.now) (condition_of condition.now) self.old) result self.new }
     {
         self.nodes.declare(alloc, env, name, braces, condition)
     }
@@ -155,7 +155,7 @@ impl<'s> Draft<'s> {
         braces: &Option<Braces<'s>>,
         phrases: &[Phrase<'s>],
     ) -> Result<(), Fault>
-        ensures { Leaves (found.with_arc_declaration env.now name.now (indexing_of braces.now) (map phrase_of phrases.now) self.old) result self.new }
+        ensures { Updates (found.with_arc_declaration env.now name.now (indexing_of braces.now) (map phrase_of phrases.now) self.old) result self.new }
     {
         let visible = Visible {
             env,
@@ -182,7 +182,7 @@ impl<'s> Draft<'s> {
         declaration: &Decl<'s>,
     ) -> Result<(), Fault>
         requires { self.now.known < 2 ^ 63 }
-        ensures value { Leaves (found.declare (option_copied wanted.now) world.now (declaration_of declaration.now) self.old) result self.new }
+        ensures value { Updates (found.declare (option_copied wanted.now) world.now (declaration_of declaration.now) self.old) result self.new }
         ensures known { OnOk result (self.new.known ≤ self.old.known + 1) }
     {
         let env = Env::new(world, self.known);

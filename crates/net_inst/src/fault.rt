@@ -2,29 +2,29 @@
 
 ghost use Rattle.std.specs.Prelude.{◌≡◌, IfOk};
 ghost use Rattle.net_fault.specs.Outcomes.{found};
-ghost use Rattle.net_fault.specs.declared.detail.Detail.TheVariants.{Told};
+ghost use Rattle.net_fault.specs.declared.detail.Detail.TheVariants.{Reported};
 ghost use Rattle.net_fault.specs.declared.fault.Fault.TheVariants.{At};
 ghost use Rattle.net_fault.specs.declared.language.Language.TheVariants.{Model as InModel};
 
-use net_fault::{Defect, Detail, Fault, Language, Span};
+use net_fault::{Detail, ErrorCode, Fault, Language, Span};
 use net_lex::Token;
 use std::alloc::{AllocError, Global};
 
 /// Builds an error with its span and its detail.
-pub(crate) fn refuse(defect: Defect, at: Span, detail: Detail) -> Fault
-    ensures { result ≡ At (found InModel defect at detail) }
+pub(crate) fn reject(error_code: ErrorCode, at: Span, detail: Detail) -> Fault
+    ensures { result ≡ At (found InModel error_code at detail) }
 {
-    Fault::of_text(Language::Model, defect, at, detail)
+    Fault::of_text(Language::Model, error_code, at, detail)
 }
 
 /// Builds an error at a declared name, with the name as its detail. Fails only if memory runs out.
-pub(crate) fn refuse_name(
+pub(crate) fn reject_name(
     alloc: Global,
-    defect: Defect,
+    error_code: ErrorCode,
     name: &Token<'_>,
 ) -> Result<Fault, AllocError>
-    ensures { IfOk result (λ f. f ≡ At (found InModel defect name.now.span (Told name.now.text))) }
+    ensures { IfOk result (λ f. f ≡ At (found InModel error_code name.now.span (Reported name.now.text))) }
 {
     let detail = Detail::of_name(alloc, &name.text)?;
-    Ok(refuse(defect, name.span, detail))
+    Ok(reject(error_code, name.span, detail))
 }

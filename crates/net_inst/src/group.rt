@@ -37,7 +37,7 @@ fn keys_in<'s>(alloc: Global, rows: &[Row<'s>]) -> Result<TupleSet<'s>, AllocErr
 {
     let mut keys = TupleSet::new(alloc, key_of(rows));
     for row in rows {
-        match keys.add(row.key.again()) {
+        match keys.add(row.key.copied()) {
             Ok(()) => {}
             Err(SetFault::OutOfMemory) => return Err(AllocError),
             Err(SetFault::TooMany) => unreachable!(),

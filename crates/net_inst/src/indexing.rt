@@ -3,7 +3,7 @@
 ghost use Rattle.std.specs.Prelude.{◌≡◌, OnOk, IfOk};
 ghost use Rattle.net_tree.specs.View.{indexing_of};
 ghost use Rattle.net_inst.specs.Indexings as indexings;
-ghost use Rattle.net_fault.specs.Outcomes.{Answers};
+ghost use Rattle.net_fault.specs.Outcomes.{Refines};
 
 use net_expr::{Env, Keys, Row, Scope, index_of};
 use net_fault::Fault;
@@ -61,7 +61,7 @@ pub(crate) fn indexing_of<'s>(
     env: &Env<'_, 's>,
     braces: &Option<Braces<'s>>,
 ) -> Result<Indexing<'s>, Fault>
-    ensures { Answers (indexings.indexing_in env.now (indexing_of braces.now)) result }
+    ensures { Refines (indexings.indexing_in env.now (indexing_of braces.now)) result }
 {
     match braces {
         None => {

@@ -1,8 +1,8 @@
 //! Theorems about networks. The functions are empty: their contracts state theorems.
 
 ghost use Rattle.std.specs.Prelude.{ℕ, List, Option};
-ghost use Rattle.net_fault.specs.Places.{Finds, LieIn, LiesIn};
-ghost use Rattle.net_tree.specs.Standing.{ModelStands};
+ghost use Rattle.net_fault.specs.Places.{Finds, IsInFiles, IsSpanIn};
+ghost use Rattle.net_tree.specs.Standing.{ModelHasSpans};
 ghost use Rattle.net_tree.specs.Tree.{Declaration};
 ghost use Rattle.net_expr.specs.Worlds.{Name, World};
 ghost use Rattle.net_inst.specs.Instances.{network};
@@ -64,7 +64,7 @@ pub fn names_declared_once_are_apart()
 
 /// Theorem: if the spans of all parts of the declarations are in a text of this size, so is that of
 /// the first error of their network.
-pub fn errors_lie_in_model()
-    ensures value { (size : ℕ) (wanted : Option Name) (w : World) (ds : List Declaration) → ModelStands (LiesIn size) ds
-        → Finds (LieIn size 0) (network wanted w ds) }
+pub fn errors_are_in_model()
+    ensures value { (size : ℕ) (wanted : Option Name) (w : World) (ds : List Declaration) → ModelHasSpans (IsSpanIn size) ds
+        → Finds (IsInFiles size 0) (network wanted w ds) }
 {}

@@ -21,7 +21,7 @@ mod soundness;
 mod visible;
 
 pub use laws::{
-    arcs_are_written, assignments_are_alike, errors_lie_in_model, flows_stand_for_assignments,
+    arcs_are_written, assignments_are_alike, errors_are_in_model, flows_stand_for_assignments,
     names_are_declared, names_declared_once_are_apart, network_without_objective_is_one,
     objective_is_written, ranges_are_conditions,
 };

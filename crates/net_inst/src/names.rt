@@ -100,7 +100,7 @@ impl<'s> NameList<'s> {
     {
         push_keys(&mut self.keys, self.declarations.len(), rows)?;
         self.declarations.push(Declared {
-            name: name.again(),
+            name: name.copied(),
             indexed: count.is_some(),
         })?;
         Ok(())
@@ -117,7 +117,7 @@ fn push_keys<'s>(
     for row in rows {
         keys.push(Key {
             declaration,
-            tuple: row.key.again(),
+            tuple: row.key.copied(),
         })?;
     }
     Ok(())

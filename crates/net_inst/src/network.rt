@@ -4,19 +4,19 @@ ghost use Rattle.std.specs.Prelude.{◌≡◌, All, None, Ok, Err, IfOk, length,
 ghost use Rattle.std.specs.Option.{option_copied};
 ghost use Rattle.net_tree.specs.View.{declaration_of, model as declared_in};
 ghost use Rattle.net_inst.specs.Drafts as drafts;
-ghost use Rattle.net_inst.specs.Fitting.{IsDrawnOf};
+ghost use Rattle.net_inst.specs.Fitting.{IsBuiltOf};
 ghost use Rattle.net_inst.specs.Instances as found;
 ghost use Rattle.net_inst.specs.Instances.{AnswersNetwork};
-ghost use Rattle.net_fault.specs.Outcomes.{Leaves};
+ghost use Rattle.net_fault.specs.Outcomes.{Updates};
 
 use crate::arc_draft::ArcDraft;
 use crate::draft::Draft;
-use crate::fault::refuse;
+use crate::fault::reject;
 use crate::goal::ChosenObjective;
 use crate::names::Names;
 use crate::node::NodeDraft;
 use net_expr::{World, name_key};
-use net_fault::{Defect, Detail, Fault, Span};
+use net_fault::{Detail, ErrorCode, Fault, Span};
 use net_lex::Token;
 use net_normal::Instance;
 use net_tree::{Decl, Model};
@@ -64,7 +64,7 @@ fn draw<'s>(
     draft: &mut Draft<'s>,
 ) -> Result<(), Fault>
     requires { draft.now.known ≡ 0 }
-    ensures { Leaves (drafts.draw (option_copied wanted.now) world.now (map declaration_of declarations.now) draft.old) result draft.new }
+    ensures { Updates (drafts.draw (option_copied wanted.now) world.now (map declaration_of declarations.now) draft.old) result draft.new }
 {
     for declaration in declarations {
         draft.declare(alloc, wanted, world, declaration)?;
@@ -79,7 +79,7 @@ fn with_names<'s>(
     arcs: &mut ArcDraft<'s>,
     goal: &ChosenObjective<'s>,
 ) -> Result<Named<'s>, Fault>
-    requires { All (IsDrawnOf (length nodes.now.ranges)) arcs.now.arcs }
+    requires { All (IsBuiltOf (length nodes.now.ranges)) arcs.now.arcs }
     ensures { AnswersNetwork (Ok (found.network_of nodes.old arcs.old goal.now)) result }
 {
     let priced = arcs.priced(alloc)?;
@@ -92,7 +92,7 @@ fn with_names<'s>(
             constant: arcs.constant(),
         },
         names: Names {
-            objective: goal.name.again(),
+            objective: goal.name.copied(),
             nodes: nodes.take_names(alloc),
             arcs: arcs.take_names(alloc),
         },
@@ -110,14 +110,14 @@ fn without_goal(
     ensures { IfOk result (λ f. AnswersNetwork (found.without_goal (option_copied wanted.now) at has_objective) (Err f)) }
 {
     if !has_objective {
-        return Ok(refuse(Defect::NoObjective, at, Detail::Nothing));
+        return Ok(reject(ErrorCode::NoObjective, at, Detail::Nothing));
     }
     let name = match wanted {
         Some(name) => Excerpt::new(name),
         None => Excerpt::new(""),
     };
     let detail = Detail::of_name(alloc, &name)?;
-    Ok(refuse(Defect::NoSuchObjective, at, detail))
+    Ok(reject(ErrorCode::NoSuchObjective, at, detail))
 }
 
 /// Builds the network after all declarations.
@@ -127,7 +127,7 @@ fn finished<'s>(
     end: usize,
     draft: &mut Draft<'s>,
 ) -> Result<Named<'s>, Fault>
-    requires { All (IsDrawnOf (length draft.now.nodes.ranges)) draft.now.arcs.arcs }
+    requires { All (IsBuiltOf (length draft.now.nodes.ranges)) draft.now.arcs.arcs }
     ensures { AnswersNetwork (found.finished (option_copied wanted.now) (found.point end) draft.old draft.old.goal) result }
 {
     match &draft.goal {

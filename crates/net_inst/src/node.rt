@@ -7,14 +7,14 @@ ghost use Rattle.net_normal.specs.Limits.{node_limit};
 ghost use Rattle.net_linear.specs.Arcs.{declared};
 ghost use Rattle.net_inst.specs.Nodes as nodes;
 ghost use Rattle.net_inst.specs.Nodes.{sides_of};
-ghost use Rattle.net_fault.specs.Outcomes.{AnswersAs, Leaves};
+ghost use Rattle.net_fault.specs.Outcomes.{RefinesAs, Updates};
 
-use crate::fault::{refuse, refuse_name};
+use crate::fault::{reject, reject_name};
 use crate::group::Group;
 use crate::indexing::{Indexing, indexing_of};
 use crate::names::NameList;
-use net_expr::{Env, Row, told_reference};
-use net_fault::{Defect, Fault};
+use net_expr::{Env, Row, reported_reference};
+use net_fault::{ErrorCode, Fault};
 use net_lex::Token;
 use net_linear::{ArcKeys, node_range};
 use net_normal::{NODE_LIMIT, NodeRange};
@@ -43,9 +43,9 @@ pub(crate) struct NodeDraft<'s> {
 impl<'s> Model for NodeDraft<'s> {
     ghost use Rattle.std.specs.Prelude.{◌≤◌, map, length};
     ghost use Rattle.net_normal.specs.Limits.{node_limit};
-    ghost use Rattle.net_inst.specs.Nodes.{DrawnNodes, sides_of};
+    ghost use Rattle.net_inst.specs.Nodes.{BuiltNodes, sides_of};
 
-    ghost Value = { DrawnNodes };
+    ghost Value = { BuiltNodes };
 
     ghost view = { λ d. record { ranges = map sides_of d.ranges.items; group = d.group } };
 
@@ -61,13 +61,13 @@ fn range_at<'s>(
     count: &Option<u8>,
     row: &Row<'s>,
 ) -> Result<NodeRange, Fault>
-    ensures { AnswersAs sides_of (nodes.node_sides env.now text.now.name.now count.now (condition_of text.now.condition.now) row.now) result }
+    ensures { RefinesAs sides_of (nodes.node_sides env.now text.now.name.now count.now (condition_of text.now.condition.now) row.now) result }
 {
     match node_range(alloc, env, &row.scope, text.condition)? {
         Some(range) => Ok(range),
         None => {
-            let detail = told_reference(alloc, &text.name.text, *count, &row.key)?;
-            Err(refuse(Defect::NodeCrossed, text.name.span, detail))
+            let detail = reported_reference(alloc, &text.name.text, *count, &row.key)?;
+            Err(reject(ErrorCode::NodeCrossed, text.name.span, detail))
         }
     }
 }
@@ -82,7 +82,7 @@ fn push_range<'s>(
     ranges: &mut Vec<NodeRange>,
 ) -> Result<(), Fault>
     requires { length ranges.now.items ≤ node_limit }
-    ensures value { Leaves (nodes.next_range env.now text.now.name.now count.now (condition_of text.now.condition.now) row.now (map sides_of ranges.old.items))
+    ensures value { Updates (nodes.next_range env.now text.now.name.now count.now (condition_of text.now.condition.now) row.now (map sides_of ranges.old.items))
         result (map sides_of ranges.new.items) }
     ensures count { OnOk result (length ranges.new.items ≡ length ranges.old.items + 1) }
     ensures few { length ranges.new.items ≤ node_limit }
@@ -92,7 +92,7 @@ fn push_range<'s>(
         ranges.push(range)?;
         Ok(())
     } else {
-        Err(refuse_name(alloc, Defect::TooManyNodes, text.name)?)
+        Err(reject_name(alloc, ErrorCode::TooManyNodes, text.name)?)
     }
 }
 
@@ -106,7 +106,7 @@ fn push_ranges<'s>(
     ranges: &mut Vec<NodeRange>,
 ) -> Result<(), Fault>
     requires { length ranges.now.items ≤ node_limit }
-    ensures value { Leaves (nodes.ranges_at env.now text.now.name.now count.now (condition_of text.now.condition.now) rows.now (map sides_of ranges.old.items))
+    ensures value { Updates (nodes.ranges_at env.now text.now.name.now count.now (condition_of text.now.condition.now) rows.now (map sides_of ranges.old.items))
         result (map sides_of ranges.new.items) }
     ensures count { OnOk result (length rows.now ≤ node_limit) }
     ensures few { length ranges.new.items ≤ node_limit }
@@ -158,7 +158,7 @@ impl<'s> NodeDraft<'s> {
         text: &NodeText<'_, 's>,
         indexing: &Indexing<'s>,
     ) -> Result<(), Fault>
-        ensures { Leaves (nodes.nodes_by env.now text.now.name.now (condition_of text.now.condition.now) self.old indexing.now) result self.new }
+        ensures { Updates (nodes.nodes_by env.now text.now.name.now (condition_of text.now.condition.now) self.old indexing.now) result self.new }
     {
         let first = self.next_number();
         let rows = indexing.rows.as_slice();
@@ -176,7 +176,7 @@ impl<'s> NodeDraft<'s> {
         braces: &Option<Braces<'s>>,
         condition: &NetCond<'s>,
     ) -> Result<(), Fault>
-        ensures { Leaves (nodes.with_nodes env.now name.now (indexing_of braces.now) (condition_of condition.now) self.old) result self.new }
+        ensures { Updates (nodes.with_nodes env.now name.now (indexing_of braces.now) (condition_of condition.now) self.old) result self.new }
     {
         let indexing = indexing_of(alloc, env, braces)?;
         let text = NodeText { name, condition };

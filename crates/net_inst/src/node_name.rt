@@ -8,16 +8,16 @@ ghost use Rattle.net_tree.specs.View.{tree, links_of};
 ghost use Rattle.net_normal.specs.Limits.{node_limit};
 ghost use Rattle.net_expr.specs.Worlds as worlds;
 ghost use Rattle.net_linear.specs.Arcs.{declared};
-ghost use Rattle.net_fault.specs.declared.defect.Defect.TheVariants.{NoSuchNode};
+ghost use Rattle.net_fault.specs.declared.error_code.ErrorCode.TheVariants.{NoSuchNode};
 ghost use Rattle.net_fault.specs.declared.fault.Fault.TheVariants.{At};
 ghost use Rattle.net_inst.specs.Nodes as found;
 ghost use Rattle.net_fault.specs.declared.language.Language.TheVariants.{Model as InModel};
-ghost use Rattle.net_fault.specs.Outcomes.{Answers, found as finding};
+ghost use Rattle.net_fault.specs.Outcomes.{Refines, found as diagnostic};
 
-use crate::fault::refuse;
+use crate::fault::reject;
 use crate::node::NodeDraft;
-use net_expr::{Env, Scope, refuse_tree, told_reference};
-use net_fault::{Defect, Detail, Fault, Span};
+use net_expr::{Env, Scope, reject_tree, reported_reference};
+use net_fault::{Detail, ErrorCode, Fault, Span};
 use net_lex::Token;
 use net_linear::{ArcKeys, key_of};
 use net_sets::Tuple;
@@ -48,15 +48,15 @@ fn key_count(count: Option<u8>) -> usize
 /// Builds the error for a node that does not exist; the reference is its detail. Fails only if
 /// memory runs out.
 fn no_such_node(alloc: Global, reference: &Reference<'_, '_>) -> Result<Fault, AllocError>
-    ensures { IfOk result (λ f. f ≡ At (finding InModel NoSuchNode reference.now.at (worlds.reference reference.now.name.now reference.now.count
+    ensures { IfOk result (λ f. f ≡ At (diagnostic InModel NoSuchNode reference.now.at (worlds.reference reference.now.name.now reference.now.count
         reference.now.key.now))) }
 {
-    let detail = told_reference(alloc, reference.name, reference.count, reference.key)?;
-    Ok(refuse(Defect::NoSuchNode, reference.at, detail))
+    let detail = reported_reference(alloc, reference.name, reference.count, reference.key)?;
+    Ok(reject(ErrorCode::NoSuchNode, reference.at, detail))
 }
 
 /// Returns the number of the node with this index in its declaration.
-fn number_behind(keys: &ArcKeys<'_>, place: usize) -> usize
+fn number_after(keys: &ArcKeys<'_>, place: usize) -> usize
     requires { place < length keys.now.index }
     ensures { result ≡ keys.now.first + place }
 {
@@ -73,7 +73,7 @@ fn among(
     number: usize,
 ) -> Result<u32, Fault>
     requires { count ≤ node_limit }
-    ensures value { Answers (found.among count reference.now.at (worlds.reference reference.now.name.now reference.now.count reference.now.key.now)
+    ensures value { Refines (found.among count reference.now.at (worlds.reference reference.now.name.now reference.now.count reference.now.key.now)
         number) result }
 {
     if number < count {
@@ -93,7 +93,7 @@ fn numbered<'s>(
     key: Tuple<'s>,
 ) -> Result<u32, Fault>
     requires { count ≤ node_limit }
-    ensures value { Answers (found.numbered count at (worlds.reference name.now keys.now.keys key.entry) keys.now.first (place_of keys.now.index
+    ensures value { Refines (found.numbered count at (worlds.reference name.now keys.now.keys key.entry) keys.now.first (place_of keys.now.index
         key.entry)) result }
 {
     let reference = Reference {
@@ -104,7 +104,7 @@ fn numbered<'s>(
     };
     match keys.index.position(&key) {
         Some(place) => {
-            let number = number_behind(keys, place);
+            let number = number_after(keys, place);
             among(alloc, count, &reference, number)
         }
         None => Err(no_such_node(alloc, &reference)?),
@@ -121,18 +121,18 @@ fn node_at<'s>(
     key: Tuple<'s>,
 ) -> Result<u32, Fault>
     requires { count ≤ node_limit }
-    ensures value { Answers (found.node_at count (trees.span_of (tree whole.now)) name.now (option_copied keys.entry) key.entry) result }
+    ensures value { Refines (found.node_at count (trees.span_of (tree whole.now)) name.now (option_copied keys.entry) key.entry) result }
 {
     match keys {
         None => {
             let detail = Detail::of_name(alloc, name)?;
-            Err(refuse(Defect::NoSuchNode, span_of(whole), detail))
+            Err(reject(ErrorCode::NoSuchNode, span_of(whole), detail))
         }
         Some(keys) => {
             if key.len() == key_count(keys.keys) {
                 numbered(alloc, count, span_of(whole), name, keys, key)
             } else {
-                Err(refuse_tree(Defect::Arity, whole))
+                Err(reject_tree(ErrorCode::Arity, whole))
             }
         }
     }
@@ -146,7 +146,7 @@ fn declared_node<'s>(
     name: &Token<'s>,
     key: Tuple<'s>,
 ) -> Result<u32, Fault>
-    ensures value { Answers (found.node_at (length nodes.now.ranges) (trees.span_of (tree whole.now)) name.now.text (declared
+    ensures value { Refines (found.node_at (length nodes.now.ranges) (trees.span_of (tree whole.now)) name.now.text (declared
         nodes.now.group.numbers name.now.text) key.entry) result }
 {
     let keys = nodes.keys_of(&name.text);
@@ -180,10 +180,10 @@ pub(crate) fn node_named<'s>(
     nodes: &NodeDraft<'s>,
     expr: &Expr<'s>,
 ) -> Result<u32, Fault>
-    ensures value { Answers (found.node_named nodes.now env.now scope.now (tree expr.now)) result }
+    ensures value { Refines (found.node_named nodes.now env.now scope.now (tree expr.now)) result }
 {
     match name_in(expr) {
-        None => Err(refuse_tree(Defect::KindMismatch, expr)),
+        None => Err(reject_tree(ErrorCode::KindMismatch, expr)),
         Some((name, None)) => declared_node(alloc, nodes, expr, name, Tuple::new()),
         Some((name, Some((first, more)))) => {
             let key = key_of(alloc, env, scope, expr, first, more)?;

@@ -2,7 +2,7 @@
 
 ghost use Rattle.net_tree.specs.View.{tree, option_part};
 ghost use Rattle.net_inst.specs.Drafts as found;
-ghost use Rattle.net_fault.specs.Outcomes.{Answers};
+ghost use Rattle.net_fault.specs.Outcomes.{Refines};
 
 use net_expr::{Env, Scope};
 use net_fault::Fault;
@@ -17,7 +17,7 @@ fn form_of<'s>(
     env: &Env<'_, 's>,
     expr: &Expr<'s>,
 ) -> Result<Affine, Fault>
-    ensures { Answers (found.said_tree arcs.now env.now (tree expr.now)) result }
+    ensures { Refines (found.tree_form arcs.now env.now (tree expr.now)) result }
 {
     let scope = Scope::new(alloc);
     objective(alloc, arcs, env, &scope, expr)
@@ -25,13 +25,13 @@ fn form_of<'s>(
 
 /// Returns the linear form of the objective's own expression, over the arcs declared before it.
 #[tactic(auto, using(net_tree::proofs::Views::views))]
-pub(crate) fn said_form<'s>(
+pub(crate) fn part_form<'s>(
     alloc: Global,
     arcs: &ArcNames<'s>,
     env: &Env<'_, 's>,
     part: &Option<Part<'s>>,
 ) -> Result<Affine, Fault>
-    ensures { Answers (found.said_form arcs.now env.now (option_part part.now)) result }
+    ensures { Refines (found.part_form arcs.now env.now (option_part part.now)) result }
 {
     match part {
         None => Ok(Affine::zero(alloc)),

@@ -6,10 +6,10 @@ ghost use Rattle.net_tree.specs.Role.{role_of};
 ghost use Rattle.net_tree.specs.View.{tree, body_of, phrase_of};
 ghost use Rattle.net_inst.specs.Phrases as saying;
 ghost use Rattle.net_inst.specs.Parts.{parts_seen};
-ghost use Rattle.net_fault.specs.Outcomes.{AnswersAs};
+ghost use Rattle.net_fault.specs.Outcomes.{RefinesAs};
 
-use crate::fault::refuse_name;
-use net_fault::{Defect, Fault};
+use crate::fault::reject_name;
+use net_fault::{ErrorCode, Fault};
 use net_lex::Token;
 use net_tree::{Begins, Body, Expr, Phrase, Relation, Role, role_of};
 use std::alloc::Global;
@@ -57,8 +57,8 @@ fn value_in<'a, 's>(body: &'a Body<'s>) -> Option<&'a Expr<'s>>
 }
 
 /// Returns the expression of the phrase with this keyword.
-fn said<'a, 's>(word: ArcWord, phrases: &'a [Phrase<'s>]) -> Option<&'a Expr<'s>>
-    ensures { option_map tree (option_copied result) ≡ saying.said word (map phrase_of phrases.entry.now) }
+fn phrase_expression<'a, 's>(word: ArcWord, phrases: &'a [Phrase<'s>]) -> Option<&'a Expr<'s>>
+    ensures { option_map tree (option_copied result) ≡ saying.phrase_expression word (map phrase_of phrases.entry.now) }
 {
     for phrase in phrases {
         if is_word(word, role_of(&phrase.word)) {
@@ -77,13 +77,13 @@ fn parts_from<'a, 's>(
     tail: Option<&'a Expr<'s>>,
     head: Option<&'a Expr<'s>>,
 ) -> Result<ArcParts<'a, 's>, Fault>
-    ensures { AnswersAs parts_seen (saying.parts_from name.now (option_map tree (option_copied lower.entry)) (option_map tree
+    ensures { RefinesAs parts_seen (saying.parts_from name.now (option_map tree (option_copied lower.entry)) (option_map tree
         (option_copied upper.entry)) (option_map tree (option_copied tail.entry)) (option_map tree (option_copied head.entry))) result }
 {
     match (lower, upper, tail, head) {
-        (None, _, _, _) => Err(refuse_name(alloc, Defect::NoLower, name)?),
-        (Some(_), None, _, _) => Err(refuse_name(alloc, Defect::NoUpper, name)?),
-        (Some(_), Some(_), None, None) => Err(refuse_name(alloc, Defect::NoEnds, name)?),
+        (None, _, _, _) => Err(reject_name(alloc, ErrorCode::NoLower, name)?),
+        (Some(_), None, _, _) => Err(reject_name(alloc, ErrorCode::NoUpper, name)?),
+        (Some(_), Some(_), None, None) => Err(reject_name(alloc, ErrorCode::NoEnds, name)?),
         (Some(lower), Some(upper), tail, head) => Ok(ArcParts {
             lower,
             upper,
@@ -100,11 +100,11 @@ pub(crate) fn parts_of<'a, 's>(
     name: &Token<'s>,
     phrases: &'a [Phrase<'s>],
 ) -> Result<ArcParts<'a, 's>, Fault>
-    ensures { AnswersAs parts_seen (saying.parts_of name.now (map phrase_of phrases.entry.now)) result }
+    ensures { RefinesAs parts_seen (saying.parts_of name.now (map phrase_of phrases.entry.now)) result }
 {
-    let lower = said(ArcWord::AtLeast, phrases);
-    let upper = said(ArcWord::AtMost, phrases);
-    let tail = said(ArcWord::From, phrases);
-    let head = said(ArcWord::To, phrases);
+    let lower = phrase_expression(ArcWord::AtLeast, phrases);
+    let upper = phrase_expression(ArcWord::AtMost, phrases);
+    let tail = phrase_expression(ArcWord::From, phrases);
+    let head = phrase_expression(ArcWord::To, phrases);
     parts_from(alloc, name, lower, upper, tail, head)
 }

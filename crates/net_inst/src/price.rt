@@ -5,7 +5,7 @@ ghost use Rattle.net_tree.specs.Spans as trees;
 ghost use Rattle.net_tree.specs.View.{tree, body_of, phrase_of};
 ghost use Rattle.net_linear.specs.Forms as forms;
 ghost use Rattle.net_inst.specs.Arcs as found;
-ghost use Rattle.net_fault.specs.Outcomes.{Leaves};
+ghost use Rattle.net_fault.specs.Outcomes.{Updates};
 
 use crate::goal::ChosenObjective;
 use crate::number::number_of;
@@ -36,7 +36,7 @@ fn add_price(
     price: &i64,
     form: &mut Affine,
 ) -> Result<(), Fault>
-    ensures { Leaves (forms.priced (trees.span_of (tree whole.now)) form.old arc price.now) result form.new }
+    ensures { Updates (forms.priced (trees.span_of (tree whole.now)) form.old arc price.now) result form.new }
 {
     let before = mem::replace(form, Affine::zero(alloc));
     *form = with_price(alloc, before, arc, whole, price)?;
@@ -52,7 +52,7 @@ fn add_value<'s>(
     expr: &Expr<'s>,
     form: &mut Affine,
 ) -> Result<(), Fault>
-    ensures { Leaves (found.priced_by env.now scope.now arc (tree expr.now) form.old) result form.new }
+    ensures { Updates (found.priced_by env.now scope.now arc (tree expr.now) form.old) result form.new }
 {
     let price = number_of(alloc, env, scope, expr)?;
     add_price(alloc, arc, expr, &price, form)
@@ -68,7 +68,7 @@ fn add_phrase<'s>(
     body: &Body<'s>,
     form: &mut Affine,
 ) -> Result<(), Fault>
-    ensures { Leaves (found.price_in visible.now.goal.now visible.now.env.now scope.now arc (body_of body.now) form.old) result form.new }
+    ensures { Updates (found.price_in visible.now.goal.now visible.now.env.now scope.now arc (body_of body.now) form.old) result form.new }
 {
     match body {
         Body::Plain => Ok(()),
@@ -92,7 +92,7 @@ pub(crate) fn add_phrases<'s>(
     phrases: &[Phrase<'s>],
     form: &mut Affine,
 ) -> Result<(), Fault>
-    ensures { Leaves (found.prices_in visible.now.goal.now visible.now.env.now scope.now arc (map phrase_of phrases.now) form.old) result form.new }
+    ensures { Updates (found.prices_in visible.now.goal.now visible.now.env.now scope.now arc (map phrase_of phrases.now) form.old) result form.new }
 {
     for phrase in phrases {
         add_phrase(alloc, visible, scope, arc, &phrase.body, form)?;

@@ -1,6 +1,6 @@
 -- A text that is short enough and UTF-8 has tokens or a first error.
 use Rattle.std.proofs.Common.{◌≡◌, ℕ, ◌≤◌, List, length, Option, Some, None, MatchOption, IsUtf8}
-use Rattle.net_fault.specs.declared.defect.Defect.{Defect}
+use Rattle.net_fault.specs.declared.error_code.ErrorCode.{ErrorCode}
 use Rattle.net_fault.specs.declared.language.Language.{Language}
 use Rattle.net_fault.specs.declared.span.Span.{Span}
 use Rattle.net_lex.specs.declared.token.Token.{Token}
@@ -11,16 +11,16 @@ use Rattle.net_lex.specs.Lexing.{AreTokensOf, IsFirstFault}
 use Rattle.net_lex.proofs.StandLemmas.{sound_reads, sound_all}
 
 -- what a walk from token to token shows of a text
-abbrev pub Walked : Language → List ℕ → Option (Defect × Span) → Type 0
+abbrev pub Walked : Language → List ℕ → Option (ErrorCode × Span) → Type 0
 Walked language text o = MatchOption o
     ((tokens : List Token) × StandSound limits language EndsInGap 0 text tokens)
     (λ e. (tokens : List Token) × StandSound limits language (λ at rest. IsFault limits language at rest e.0 e.1) 0 text tokens)
 
 -- one of the two
-abbrev pub Decided : Language → List ℕ → Option (Defect × Span) → Type 0
+abbrev pub Decided : Language → List ℕ → Option (ErrorCode × Span) → Type 0
 Decided language text o = MatchOption o ((tokens : List Token) × AreTokensOf language text tokens) (λ e. IsFirstFault language text e.0 e.1)
 
-pub decided : (language : Language) (text : List ℕ) → length text ≤ text_limit language → IsUtf8 text → (o : Option (Defect × Span)) → Walked language text o → Decided language text o
+pub decided : (language : Language) (text : List ℕ) → length text ≤ text_limit language → IsUtf8 text → (o : Option (ErrorCode × Span)) → Walked language text o → Decided language text o
 decided language text short utf8 None (tokens, stand) = (
   tokens,
   record {

@@ -3,7 +3,7 @@ use Rattle.std.proofs.Common.{◌≡◌, ℕ, ◌+◌, ◌-◌, ◌*◌, ◌^◌
 use Rattle.std.proofs.lemmas.Bool.{cases_lt, false≢true}
 use Rattle.std.proofs.lemmas.Bool.Decides.{nat_tests}
 use Rattle.std.proofs.Math.Nat.{le_of_mul-le-mul_right}
-use Rattle.net_fault.specs.declared.defect.Defect.{Defect}
+use Rattle.net_fault.specs.declared.error_code.ErrorCode.{ErrorCode}
 use Rattle.net_lex.specs.declared.gap.Place.TheVariants.{Between}
 use Rattle.net_fault.specs.declared.language.Language.{Language}
 use Rattle.net_fault.specs.declared.language.Language.TheVariants.{Model, Data}
@@ -19,10 +19,10 @@ use Rattle.net_lex.specs.GapFront.{place_after, after_gap}
 use Rattle.net_lex.specs.Numerals.{Parts, SpellsSigned, IsWhole, HasWhole, mantissa, up, down, IsValue, IsNumFault}
 use Rattle.net_lex.specs.Tokens.{Allows, IsString, IsInside, plain, doubled, nothing}
 use Rattle.net_lex.specs.Reading.{IsLongest, IsNext, StandIn, EndsInGap, IsSound, AreSound}
-use Rattle.net_lex.specs.Faults.{EndsWhole, IsDefect, no_token, control, open_string, too_long, not_whole, too_large, IsFault, comment, token, StandSound}
+use Rattle.net_lex.specs.Faults.{EndsWhole, IsErrorCode, no_token, control, open_string, too_long, not_whole, too_large, IsFault, comment, token, StandSound}
 use Rattle.net_lex.specs.Limits.{limits}
 use Rattle.net_lex.specs.Shapes.{string_end}
-use Rattle.net_lex.proofs.FrontTold.{model_strings, data_strings}
+use Rattle.net_lex.proofs.FrontReported.{model_strings, data_strings}
 use Rattle.std.proofs.lemmas.Str.{length-encode, len_utf8_bounds}
 use Rattle.std.specs.Char.{encode_utf8}
 use Rattle.net_lex.proofs.FormLemmas.{same_first}
@@ -147,54 +147,54 @@ ends_single language u behind text q quote begins e longest whole same =
     whole is (same ∙ (sym begins ∙ same_first text u.text behind e (allowed_some language u.kind u.text longest.allowed)))
 
 -- where a sound token stands nothing is wrong
-pub no_defect : (language : Language) (text : List ℕ) (d : Defect) (from to : ℕ) → IsDefect limits language text d from to → (u : Token) (behind : List ℕ) → text ≡ u.text ++ behind
+pub no_error_code : (language : Language) (text : List ℕ) (d : ErrorCode) (from to : ℕ) → IsErrorCode limits language text d from to → (u : Token) (behind : List ℕ) → text ≡ u.text ++ behind
     → IsLongest language u.kind u.text behind → EndsWhole u.kind u.text behind → IsSound 255 1000000000000 u.kind u.text → ⊥
-no_defect language text _ _ _ (no_token c after utf8 split other none) u behind e longest whole sound = none u.kind u.text behind e longest.allowed
-no_defect language text _ _ _ (control q c inside after quote body bad split) u behind e longest whole sound =
+no_error_code language text _ _ _ (no_token c after utf8 split other none) u behind e longest whole sound = none u.kind u.text behind e longest.allowed
+no_error_code language text _ _ _ (control q c inside after quote body bad split) u behind e longest whole sound =
     let begins : first text ≡ q = ap first split in
     let quoted = ap is_quote begins ∙ quote in
     let s = strings_only language text quoted u.kind u.text behind e longest.allowed in
     let (n, closed) = closes_here text behind u.text q (inside ++ c ∷ after) quote split e s (ends_single language u behind text q quoted begins e longest whole) in
     let found = control_found q quote 0 c inside after body bad in
     let both : Closed n ≡ Control (0 + length inside) = sym closed ∙ found in cc
-no_defect language text _ _ _ (open_string q inside quote body split) u behind e longest whole sound =
+no_error_code language text _ _ _ (open_string q inside quote body split) u behind e longest whole sound =
     let begins : first text ≡ q = ap first split in
     let quoted = ap is_quote begins ∙ quote in
     let s = strings_only language text quoted u.kind u.text behind e longest.allowed in
     let (n, closed) = closes_here text behind u.text q inside quote split e s (ends_single language u behind text q quoted begins e longest whole) in
     let both : Closed n ≡ Open = sym closed ∙ open_found q quote 0 inside body in cc
-no_defect language text _ _ _ (too_long kind word after split other whole_word long) u behind e longest whole sound =
+no_error_code language text _ _ _ (too_long kind word after split other whole_word long) u behind e longest whole sound =
     let same = longest_same language kind u.kind word u.text after behind other longest (sym split ∙ e) in
     omega (arith, ap length same.0, sound.short, long)
-no_defect language text _ _ _ (not_whole word after split other short fault) u behind e longest whole sound =
+no_error_code language text _ _ _ (not_whole word after split other short fault) u behind e longest whole sound =
     let same = longest_same language kinds.Num u.kind word u.text after behind other longest (sym split ∙ e) in
     let (v, value) = sound.value (sym same.2) in
     (value_no_fault 1000000000000 u.text v value).0 (subst (λ w. IsNumFault 1000000000000 w num.NotWhole) same.0 fault)
-no_defect language text _ _ _ (too_large word after split other short fault) u behind e longest whole sound =
+no_error_code language text _ _ _ (too_large word after split other short fault) u behind e longest whole sound =
     let same = longest_same language kinds.Num u.kind word u.text after behind other longest (sym split ∙ e) in
     let (v, value) = sound.value (sym same.2) in
     (value_no_fault 1000000000000 u.text v value).1 (subst (λ w. IsNumFault 1000000000000 w num.TooLarge) same.0 fault)
 
-defect_some : (language : Language) (text : List ℕ) (d : Defect) (from to : ℕ) → IsDefect limits language text d from to → 0 < length text
-defect_some language text _ _ _ (no_token c after utf8 split other none) = omega (arith, ap length split, length-append (encode_utf8 c) after, length-encode c, (len_utf8_bounds c).0)
-defect_some language text _ _ _ (control q c inside after quote body bad split) = omega (arith, ap length split)
-defect_some language text _ _ _ (open_string q inside quote body split) = omega (arith, ap length split)
-defect_some language text _ _ _ (too_long kind word after split other whole_word long) = omega (arith, ap length split, length-append word after, long)
-defect_some language text _ _ _ (not_whole word after split other short fault) = omega (arith, ap length split, length-append word after, allowed_some language kinds.Num word other.allowed)
-defect_some language text _ _ _ (too_large word after split other short fault) = omega (arith, ap length split, length-append word after, allowed_some language kinds.Num word other.allowed)
+error_code_some : (language : Language) (text : List ℕ) (d : ErrorCode) (from to : ℕ) → IsErrorCode limits language text d from to → 0 < length text
+error_code_some language text _ _ _ (no_token c after utf8 split other none) = omega (arith, ap length split, length-append (encode_utf8 c) after, length-encode c, (len_utf8_bounds c).0)
+error_code_some language text _ _ _ (control q c inside after quote body bad split) = omega (arith, ap length split)
+error_code_some language text _ _ _ (open_string q inside quote body split) = omega (arith, ap length split)
+error_code_some language text _ _ _ (too_long kind word after split other whole_word long) = omega (arith, ap length split, length-append word after, long)
+error_code_some language text _ _ _ (not_whole word after split other short fault) = omega (arith, ap length split, length-append word after, allowed_some language kinds.Num word other.allowed)
+error_code_some language text _ _ _ (too_large word after split other short fault) = omega (arith, ap length split, length-append word after, allowed_some language kinds.Num word other.allowed)
 
 -- what a reading finds behind a gap
 reading_skips : (language : Language) (at : ℕ) (rest : List ℕ) (us : List Token) → StandIn (IsNext language) EndsInGap at rest us → (x : List ℕ) × (after_gap Between rest rest ≡ Ok x)
 reading_skips language at rest [] last = ([], last_passes rest last)
 reading_skips language at rest (u ∷ us) (hole, behind, next, tail) = (u.text ++ behind, next_skips language at rest u hole behind next)
 
-no_fault : (language : Language) (at : ℕ) (rest : List ℕ) (d : Defect) (span : Span) → IsFault limits language at rest d span → (us : List Token)
+no_fault : (language : Language) (at : ℕ) (rest : List ℕ) (d : ErrorCode) (span : Span) → IsFault limits language at rest d span → (us : List Token)
     → StandIn (IsNext language) EndsInGap at rest us → AreSound 255 1000000000000 us → ⊥
 no_fault language at rest d span (comment gap opened e g o is place) us stand sound =
     let (x, skips) = reading_skips language at rest us stand in
     let found : after_gap Between rest rest ≡ Err opened = ap (after_gap Between rest) e ∙ (gap_passes gap g rest opened ∙ open_passes opened o) in
     let both : Ok x ≡ Err opened = sym skips ∙ found in cc
-no_fault language at rest d span (token gap text from to e g bare no_comment defect place) us stand sound = here us stand sound
+no_fault language at rest d span (token gap text from to e g bare no_comment error_code place) us stand sound = here us stand sound
   where
     found : after_gap Between rest rest ≡ Ok text
     found = ap (after_gap Between rest) e ∙ (gap_passes gap g rest text ∙ gap_stops text text (no_gap text bare no_comment))
@@ -202,13 +202,13 @@ no_fault language at rest d span (token gap text from to e g bare no_comment def
     here : (us : List Token) → StandIn (IsNext language) EndsInGap at rest us → AreSound 255 1000000000000 us → ⊥
     here [] last sound =
         let none : [] ≡ text = ok_same _ _ (sym (last_passes rest last) ∙ found) in
-        omega (arith, ap length none, defect_some language text d from to defect)
+        omega (arith, ap length none, error_code_some language text d from to error_code)
     here (u ∷ us) (hole, behind, next, tail) (own, others) =
         let same : u.text ++ behind ≡ text = ok_same _ _ (sym (next_skips language at rest u hole behind next) ∙ found) in
-        no_defect language text d from to defect u behind (sym same) next.longest (reads_whole language at rest u hole behind us next tail) own
+        no_error_code language text d from to error_code u behind (sym same) next.longest (reads_whole language at rest u hole behind us next tail) own
 
 -- a text that sound tokens read has no fault behind other tokens
-pub no_first_fault : (language : Language) (at : ℕ) (rest : List ℕ) (d : Defect) (span : Span) (ts us : List Token)
+pub no_first_fault : (language : Language) (at : ℕ) (rest : List ℕ) (d : ErrorCode) (span : Span) (ts us : List Token)
     → StandSound limits language (λ at rest. IsFault limits language at rest d span) at rest ts → StandIn (IsNext language) EndsInGap at rest us → AreSound 255 1000000000000 us → ⊥
 no_first_fault language at rest d span [] us fault stand sound = no_fault language at rest d span fault us stand sound
 no_first_fault language at rest d span (t ∷ ts) [] (gap, after, next, tail) last sound = last_no_next language at rest t gap after last next.next

@@ -34,14 +34,14 @@ InLine text r = (body : List ℕ) × IsOneLine body × (((text ≡ body) × (r �
 abbrev InBlock : List ℕ → List ℕ → Result (List ℕ) (List ℕ) → Type 0
 InBlock opened text r = (body : List ℕ) × (has_close body ≡ false) × (((text ≡ body) × (r ≡ Err opened)) ⊎ ((rest : List ℕ) × (text ≡ body ++ star ∷ slash ∷ rest) × Skipped rest r))
 
-abbrev Told : Place → List ℕ → List ℕ → Result (List ℕ) (List ℕ) → Type 0
-Told Between opened text r = Skipped text r
-Told Line opened text r = InLine text r
-Told Opening opened [] r = r ≡ Err opened
-Told Opening opened (c ∷ cs) r = InBlock opened cs r
-Told Block opened text r = InBlock opened text r
-Told Closing opened [] r = r ≡ Err opened
-Told Closing opened (c ∷ cs) r = Skipped cs r
+abbrev Reported : Place → List ℕ → List ℕ → Result (List ℕ) (List ℕ) → Type 0
+Reported Between opened text r = Skipped text r
+Reported Line opened text r = InLine text r
+Reported Opening opened [] r = r ≡ Err opened
+Reported Opening opened (c ∷ cs) r = InBlock opened cs r
+Reported Block opened text r = InBlock opened text r
+Reported Closing opened [] r = r ≡ Err opened
+Reported Closing opened (c ∷ cs) r = Skipped cs r
 
 nothing_last : IsLastGap []
 nothing_last = record { front = []; line = []; joined = refl; gap = nothing; last = none refl }
@@ -79,54 +79,54 @@ block_goes opened c cs r other (body, unclosed, inl (e, ended)) =
     (c ∷ body, no_close c body cs other unclosed (λ some. ap first e), inl (ap (λ t. c ∷ t) e, ended))
 block_goes opened c cs r other (body, unclosed, inr (rest, e, skipped)) = (c ∷ body, no_close c body cs other unclosed (λ some. ap first e ∙ first_append body (star ∷ slash ∷ rest) some), inr (rest, ap (λ t. c ∷ t) e, skipped))
 
-opening_skipped : (cs : List ℕ) (r : Result (List ℕ) (List ℕ)) → (first cs == star) ≡ true → Told Opening (slash ∷ cs) cs r → Skipped (slash ∷ cs) r
+opening_skipped : (cs : List ℕ) (r : Result (List ℕ) (List ℕ)) → (first cs == star) ≡ true → Reported Opening (slash ∷ cs) cs r → Skipped (slash ∷ cs) r
 opening_skipped [] r h t = absurd (false≢true h)
 opening_skipped (d ∷ ds) r h t =
     let e = eqb-true d star h in
     subst (λ k. Skipped (slash ∷ k ∷ ds) r) (sym e) (slash_star ds r (subst (λ k. InBlock (slash ∷ k ∷ ds) ds r) e t))
 
-closing_block : (opened cs : List ℕ) (r : Result (List ℕ) (List ℕ)) → (first cs == slash) ≡ true → Told Closing opened cs r → InBlock opened (star ∷ cs) r
+closing_block : (opened cs : List ℕ) (r : Result (List ℕ) (List ℕ)) → (first cs == slash) ≡ true → Reported Closing opened cs r → InBlock opened (star ∷ cs) r
 closing_block opened [] r h t = absurd (false≢true h)
 closing_block opened (d ∷ ds) r h t = ([], refl, inr (ds, ap (λ k. star ∷ k ∷ ds) (eqb-true d slash h), t))
 
-begins_between : (c : ℕ) (cs opened : List ℕ) → ((place : Place) (opened : List ℕ) → Told place opened cs (after_gap place opened cs))
+begins_between : (c : ℕ) (cs opened : List ℕ) → ((place : Place) (opened : List ℕ) → Reported place opened cs (after_gap place opened cs))
     → Skipped (c ∷ cs) (after_gap Between opened (c ∷ cs))
 unfolding after_gap
-begins_between c cs opened told = elim (cases_Bool (is_blank c)) [
-  | inl is ↦ rw is (lengthened (c ∷ []) cs _ (λ gap g. blank is g) (told Between (c ∷ cs)))
+begins_between c cs opened reported = elim (cases_Bool (is_blank c)) [
+  | inl is ↦ rw is (lengthened (c ∷ []) cs _ (λ gap g. blank is g) (reported Between (c ∷ cs)))
   | inr not_blank ↦ elim (cases_Bool (c == hash)) [
-    | inl is ↦ rw (eqb-true c hash is) (hash_line cs _ (told Line (hash ∷ cs)))
+    | inl is ↦ rw (eqb-true c hash is) (hash_line cs _ (reported Line (hash ∷ cs)))
     | inr not_hash ↦ elim (cases_Bool (c == slash && first cs == star)) [
       | inl is ↦
           let (slashes, stars) = and_parts (c == slash) (first cs == star) is in
-          rw (eqb-true c slash slashes, stars) (opening_skipped cs _ stars (told Opening (slash ∷ cs)))
+          rw (eqb-true c slash slashes, stars) (opening_skipped cs _ stars (reported Opening (slash ∷ cs)))
       | inr not_comment ↦ rw (not_blank, not_hash, not_comment) (inr ([], refl, nothing, rw (not_blank, not_hash, not_comment) refl, omega arith))
     ]
   ]
 ]
 
 -- what is told of each place holds
-told : (place : Place) (opened text : List ℕ) → Told place opened text (after_gap place opened text)
+reported : (place : Place) (opened text : List ℕ) → Reported place opened text (after_gap place opened text)
 unfolding after_gap
-told Between opened [] = inl (refl, nothing_last)
-told Line opened [] = ([], refl, inl (refl, refl))
-told Opening opened [] = refl
-told Block opened [] = ([], refl, inl (refl, refl))
-told Closing opened [] = refl
-told Between opened (c ∷ cs) = begins_between c cs opened (λ place o. told place o cs)
-told Line opened (c ∷ cs) = elim (cases_Bool (c == line_feed)) [
-  | inl is ↦ rw (eqb-true c line_feed is) ([], refl, inr (cs, refl, told Between opened cs))
-  | inr other ↦ rw other (line_goes c cs _ other (told Line opened cs))
+reported Between opened [] = inl (refl, nothing_last)
+reported Line opened [] = ([], refl, inl (refl, refl))
+reported Opening opened [] = refl
+reported Block opened [] = ([], refl, inl (refl, refl))
+reported Closing opened [] = refl
+reported Between opened (c ∷ cs) = begins_between c cs opened (λ place o. reported place o cs)
+reported Line opened (c ∷ cs) = elim (cases_Bool (c == line_feed)) [
+  | inl is ↦ rw (eqb-true c line_feed is) ([], refl, inr (cs, refl, reported Between opened cs))
+  | inr other ↦ rw other (line_goes c cs _ other (reported Line opened cs))
 ]
-told Opening opened (c ∷ cs) = told Block opened cs
-told Block opened (c ∷ cs) = elim (cases_Bool (c == star && first cs == slash)) [
+reported Opening opened (c ∷ cs) = reported Block opened cs
+reported Block opened (c ∷ cs) = elim (cases_Bool (c == star && first cs == slash)) [
   | inl is ↦
       let (stars, slashes) = and_parts (c == star) (first cs == slash) is in
-      rw (eqb-true c star stars, slashes) (closing_block opened cs _ slashes (told Closing opened cs))
-  | inr other ↦ rw other (block_goes opened c cs _ other (told Block opened cs))
+      rw (eqb-true c star stars, slashes) (closing_block opened cs _ slashes (reported Closing opened cs))
+  | inr other ↦ rw other (block_goes opened c cs _ other (reported Block opened cs))
 ]
-told Closing opened (c ∷ cs) = told Between opened cs
+reported Closing opened (c ∷ cs) = reported Between opened cs
 
 -- what follows the blanks and comments of a text, or a comment that is not closed
 pub skipped_is : (text : List ℕ) (r : Result (List ℕ) (List ℕ)) → after_gap Between text text ≡ r → Skipped text r
-skipped_is text r e = subst (Skipped text) e (told Between text text)
+skipped_is text r e = subst (Skipped text) e (reported Between text text)

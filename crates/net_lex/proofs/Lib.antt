@@ -12,7 +12,7 @@ pub mod GapReading
 pub mod Tables
 pub mod MarkLengths
 pub mod FormLemmas
-pub mod FrontTold
+pub mod FrontReported
 pub mod WordReading
 pub mod ScanLemmas
 pub mod StandLemmas
@@ -22,7 +22,7 @@ pub mod UniqueReading
 pub mod FaultReading
 pub mod SpanLemmas
 pub mod Existence
-pub mod Telling
+pub mod Reporting
 pub mod FirstFaults
 pub mod Rising
 pub mod LineEnds

@@ -70,8 +70,8 @@ none_len text no_pair no_mark =
     omega (arith, smaller)
 
 -- what the code's looks at the two bytes tell
-pub pair_told : (text : List ℕ) (front next : ℕ) (told : Bool) → front ≡ first text → next ≡ second text → told ≡ is_among model_marks (front ∷ next ∷ []) → told ≡ pair_there text
-pair_told text front next told is_first is_second is = is ∙ (ap (λ c. is_among model_marks (c ∷ next ∷ [])) is_first ∙ ap (λ c. is_among model_marks (first text ∷ c ∷ [])) is_second)
+pub pair_reported : (text : List ℕ) (front next : ℕ) (reported : Bool) → front ≡ first text → next ≡ second text → reported ≡ is_among model_marks (front ∷ next ∷ []) → reported ≡ pair_there text
+pair_reported text front next reported is_first is_second is = is ∙ (ap (λ c. is_among model_marks (c ∷ next ∷ [])) is_first ∙ ap (λ c. is_among model_marks (first text ∷ c ∷ [])) is_second)
 
-pub mark_told : (text : List ℕ) (front : ℕ) (told : Bool) → front ≡ first text → told ≡ is_among model_marks (front ∷ []) → told ≡ mark_there text
-mark_told text front told is_first is = is ∙ ap (λ c. is_among model_marks (c ∷ [])) is_first
+pub mark_reported : (text : List ℕ) (front : ℕ) (reported : Bool) → front ≡ first text → reported ≡ is_among model_marks (front ∷ []) → reported ≡ mark_there text
+mark_reported text front reported is_first is = is ∙ ap (λ c. is_among model_marks (c ∷ [])) is_first

@@ -1,7 +1,7 @@
 -- Tokens that rise through a text.
 use Rattle.std.specs.Prelude.{◌≡◌, ℕ, ◌+◌, ◌≤◌, List, [], ◌∷◌, ◌++◌, length}
 use Rattle.std.proofs.Common.{arith}
-use Rattle.net_fault.specs.declared.defect.Defect.{Defect}
+use Rattle.net_fault.specs.declared.error_code.ErrorCode.{ErrorCode}
 use Rattle.net_fault.specs.declared.language.Language.{Language}
 use Rattle.net_fault.specs.declared.span.Span.{Span}
 use Rattle.net_lex.specs.declared.token.Token.{Token}
@@ -9,10 +9,10 @@ use Rattle.net_lex.specs.Reading.{IsNext, StandIn, EndsInGap}
 use Rattle.net_lex.specs.Faults as faults
 use Rattle.net_lex.specs.Lexing.{AreTokensOf, IsFirstFault}
 use Rattle.net_lex.specs.Limits.{limits}
-use Rattle.net_lex.proofs.SpanLemmas.{behind_within}
+use Rattle.net_lex.proofs.SpanLemmas.{after_within}
 use Rattle.std.proofs.lemmas.List.{length-append}
 use Rattle.std.proofs.Common.{ap}
-use Rattle.net_fault.specs.Places.{LiesIn}
+use Rattle.net_fault.specs.Places.{IsSpanIn}
 
 -- tokens that rise without overlap from one place on up to another
 abbrev pub Rise : (from to : ℕ) → List Token → Type 0
@@ -43,10 +43,10 @@ pub tokens_rise : (language : Language) (text : List ℕ) (ts : List Token) → 
 tokens_rise language text ts h = rise_upto 0 (0 + length text) (length text) ts (omega arith) (stand_rise language 0 text ts h.read)
 
 -- the first fault of a text lies in it
-pub first_fault_lies : (language : Language) (text : List ℕ) (d : Defect) (at : Span) → IsFirstFault language text d at → LiesIn (length text) at
+pub first_fault_lies : (language : Language) (text : List ℕ) (d : ErrorCode) (at : Span) → IsFirstFault language text d at → IsSpanIn (length text) at
 first_fault_lies language text d at (faults.text_too_long long is place) =
     record { forward = omega (arith, ap (λ s. s.start) place, ap (λ s. s.end) place); inside = omega (arith, ap (λ s. s.end) place) }
 first_fault_lies language text d at (faults.not_utf8 good short valid is place) =
     record { forward = omega (arith, ap (λ s. s.start) place, ap (λ s. s.end) place); inside = omega (arith, ap (λ s. s.end) place, valid.short) }
 first_fault_lies language text d at (faults.after_tokens tokens short utf8 stand) =
-    let (order, within) = behind_within limits language 0 text d at tokens stand in record { forward = order; inside = omega (arith, within) }
+    let (order, within) = after_within limits language 0 text d at tokens stand in record { forward = order; inside = omega (arith, within) }

@@ -5,8 +5,8 @@ use Rattle.std.proofs.lemmas.Bool.Decides.{nat_tests}
 use Rattle.std.proofs.lemmas.Str.{IsUtf8-drop}
 use Rattle.std.proofs.lemmas.Slice.Eq.{bytes_eq-Decides}
 use Rattle.std.specs.Str.{bytes_eq}
-use Rattle.net_fault.specs.declared.defect.Defect.{Defect}
-use Rattle.net_fault.specs.declared.defect.Defect.TheVariants.{OpenComment, NotWhole, NumeralTooLarge, TextTooLong}
+use Rattle.net_fault.specs.declared.error_code.ErrorCode.{ErrorCode}
+use Rattle.net_fault.specs.declared.error_code.ErrorCode.TheVariants.{OpenComment, NotWhole, NumeralTooLarge, TextTooLong}
 use Rattle.net_lex.specs.declared.gap.Place.TheVariants.{Between}
 use Rattle.net_fault.specs.declared.language.Language.{Language}
 use Rattle.net_fault.specs.declared.language.Language.TheVariants.{Model, Data}
@@ -27,20 +27,20 @@ use Rattle.net_lex.specs.Words.{is_reserved}
 use Rattle.net_lex.specs.Shapes.{front}
 use Rattle.net_lex.specs.Tokens.{IsString, HasShape, Allows}
 use Rattle.net_lex.specs.Reading.{IsLongest, BeginsNoComment}
-use Rattle.net_lex.specs.Faults.{EndsWhole, IsDefect, too_long, not_whole, too_large, IsFault, comment, token}
+use Rattle.net_lex.specs.Faults.{EndsWhole, IsErrorCode, too_long, not_whole, too_large, IsFault, comment, token}
 use Rattle.net_lex.specs.Limits.{limits}
-use Rattle.net_lex.specs.Scanning.{BeginsNoGap, IsNumeralKind, IsKindOf, IsTokenAt, IsDefectAt, IsStep}
+use Rattle.net_lex.specs.Scanning.{BeginsNoGap, IsNumeralKind, IsKindOf, IsTokenAt, IsErrorCodeAt, IsStep}
 use Rattle.net_lex.proofs.GapReading.{Skipped, skipped_is}
 use Rattle.net_lex.proofs.NumeralSigned.{signed_spelled, unread_none, unread_rest}
-use Rattle.net_lex.proofs.FrontTold.{FrontIs, Refuses, FrontTold, told_front, first_take}
+use Rattle.net_lex.proofs.FrontReported.{FrontIs, Rejects, FrontReported, reported_front, first_take}
 
 -- a numeral without a sign is one with an optional sign
 pub unsigned_spelled : (text : List ℕ) (p : Parts) → SpellsNumeral text p → SpellsSigned text false p
 unsigned_spelled text p n = record { sign = []; body = text; joined = refl; signed = unsigned refl refl; numeral = n }
 
-pub numeral_shape_kind : (language : Language) (word : List ℕ) (found : Result Kind Defect) → HasShape language Numeral word → IsNumeralKind word (Ok kinds.Num) found
+pub numeral_shape_kind : (language : Language) (word : List ℕ) (found : Result Kind ErrorCode) → HasShape language Numeral word → IsNumeralKind word (Ok kinds.Num) found
     → IsKindOf language word found
-numeral_shape_kind Data word found none told = absurd none
+numeral_shape_kind Data word found none reported = absurd none
 numeral_shape_kind Model word found (p, n) (inl (e, value)) = rw e ((p, n), λ k. value)
 numeral_shape_kind Model word found (p, n) (inr (inl (e, fault))) = rw e ((p, n), inl (refl, fault))
 numeral_shape_kind Model word found (p, n) (inr (inr (inl (e, fault)))) = rw e ((p, n), inr (refl, fault))
@@ -70,10 +70,10 @@ shape_kind Data Word word w = word_kind (numeral_at (after_sign word)) refl
 
 -- what the front of a text is found to be stands there, and what is wrong there is wrong
 pub front_found : (language : Language) (text : List ℕ) (shape : Shape) (n : ℕ) → IsUtf8 text → 0 < length text → front language text ≡ Ok (shape, n) → FrontIs language text shape n
-front_found language text shape n utf8 some e = subst (FrontTold language text) e (told_front language text utf8 some)
+front_found language text shape n utf8 some e = subst (FrontReported language text) e (reported_front language text utf8 some)
 
-pub front_refused : (language : Language) (text : List ℕ) (stop : BadFront) → IsUtf8 text → 0 < length text → front language text ≡ Err stop → Refuses language text stop
-front_refused language text stop utf8 some e = subst (FrontTold language text) e (told_front language text utf8 some)
+pub front_rejected : (language : Language) (text : List ℕ) (stop : BadFront) → IsUtf8 text → 0 < length text → front language text ≡ Err stop → Rejects language text stop
+front_rejected language text stop utf8 some e = subst (FrontReported language text) e (reported_front language text utf8 some)
 
 -- what is found at the front is the longest of its kind
 pub found_longest : (language : Language) (text : List ℕ) (shape : Shape) (n : ℕ) (kind : Kind) → FrontIs language text shape n → Allows language kind (take n text)
@@ -96,23 +96,23 @@ found_whole language text shape n kind found allowed is same =
     string_of Data word s = s
 
 -- a fault of a numeral is a defect of its text
-pub numeral_defect : (language : Language) (text : List ℕ) (shape : Shape) (n : ℕ) (defect : Defect) → FrontIs language text shape n → n ≤ 255 → IsKindOf language (take n text) (Err defect)
-    → IsDefect limits language text defect 0 n
-numeral_defect language text shape n defect found short (allowed, inl (is, fault)) =
+pub numeral_error_code : (language : Language) (text : List ℕ) (shape : Shape) (n : ℕ) (error_code : ErrorCode) → FrontIs language text shape n → n ≤ 255 → IsKindOf language (take n text) (Err error_code)
+    → IsErrorCode limits language text error_code 0 n
+numeral_error_code language text shape n error_code found short (allowed, inl (is, fault)) =
     let len : length (take n text) ≡ n = omega (arith, length-take n text, found.within) in
-    rw is (subst (IsDefect limits language text NotWhole 0) len
+    rw is (subst (IsErrorCode limits language text NotWhole 0) len
     (not_whole (take n text) (drop n text) (sym (take-append-drop n text)) (found_longest language text shape n kinds.Num found allowed) (omega (arith, len)) fault))
-numeral_defect language text shape n defect found short (allowed, inr (is, fault)) =
+numeral_error_code language text shape n error_code found short (allowed, inr (is, fault)) =
     let len : length (take n text) ≡ n = omega (arith, length-take n text, found.within) in
-    rw is (subst (IsDefect limits language text NumeralTooLarge 0) len
+    rw is (subst (IsErrorCode limits language text NumeralTooLarge 0) len
     (too_large (take n text) (drop n text) (sym (take-append-drop n text)) (found_longest language text shape n kinds.Num found allowed) (omega (arith, len)) fault))
 
 -- a token that is too long
-pub long_defect : (language : Language) (text : List ℕ) (shape : Shape) (n : ℕ) → FrontIs language text shape n → 255 < n → IsDefect limits language text TextTooLong 0 n
-long_defect language text shape n found long =
+pub long_error_code : (language : Language) (text : List ℕ) (shape : Shape) (n : ℕ) → FrontIs language text shape n → 255 < n → IsErrorCode limits language text TextTooLong 0 n
+long_error_code language text shape n found long =
     let len : length (take n text) ≡ n = omega (arith, length-take n text, found.within) in
     let (kind, allowed) = shape_kind language shape (take n text) found.formed in
-    subst (IsDefect limits language text TextTooLong 0) len
+    subst (IsErrorCode limits language text TextTooLong 0) len
     (too_long kind (take n text) (drop n text) (sym (take-append-drop n text)) (found_longest language text shape n kind found allowed)
     (found_whole language text shape n kind found allowed) (omega (arith, len)))
 
@@ -153,29 +153,29 @@ pub record GapBefore (rest : List ℕ) (n : ℕ) : Type 0 where
   pub len : length gap ≡ n
 
 pub gap_before : (rest : List ℕ) (n : ℕ) → after_gap Between rest rest ≡ Ok (drop n rest) → n < length rest → GapBefore rest n
-gap_before rest n e within = told (skipped_is rest (Ok (drop n rest)) e)
+gap_before rest n e within = reported (skipped_is rest (Ok (drop n rest)) e)
   where
-    told : Skipped rest (Ok (drop n rest)) → GapBefore rest n
-    told (inl (none, last)) = absurd (omega (arith, ap length none, length-drop n rest))
-    told (inr (gap, joined, is, stops, some)) =
+    reported : Skipped rest (Ok (drop n rest)) → GapBefore rest n
+    reported (inl (none, last)) = absurd (omega (arith, ap length none, length-drop n rest))
+    reported (inr (gap, joined, is, stops, some)) =
         record { gap = gap; joined = joined; blank = is; stops = stops; len = omega (arith, ap length joined, length-append gap (drop n rest), length-drop n rest) }
 
 pub gap_last : (rest : List ℕ) (n : ℕ) → after_gap Between rest rest ≡ Ok (drop n rest) → length rest ≤ n → IsLastGap rest
-gap_last rest n e past = told (skipped_is rest (Ok (drop n rest)) e)
+gap_last rest n e past = reported (skipped_is rest (Ok (drop n rest)) e)
   where
-    told : Skipped rest (Ok (drop n rest)) → IsLastGap rest
-    told (inl (none, last)) = last
-    told (inr (gap, joined, is, stops, some)) = absurd (omega (arith, some, length-drop n rest))
+    reported : Skipped rest (Ok (drop n rest)) → IsLastGap rest
+    reported (inl (none, last)) = last
+    reported (inr (gap, joined, is, stops, some)) = absurd (omega (arith, some, length-drop n rest))
 
 span_at : ℕ → ℕ → Span
 span_at start end = record { start = start; end = end }
 
 pub gap_open : (language : Language) (at : ℕ) (rest : List ℕ) (n : ℕ) → after_gap Between rest rest ≡ Err (drop n rest) → n ≤ length rest
     → IsFault limits language at rest OpenComment (record { start = at + n; end = at + n + 2 })
-gap_open language at rest n e within = told (skipped_is rest (Err (drop n rest)) e)
+gap_open language at rest n e within = reported (skipped_is rest (Err (drop n rest)) e)
   where
-    told : Skipped rest (Err (drop n rest)) → IsFault limits language at rest OpenComment (record { start = at + n; end = at + n + 2 })
-    told (gap, joined, is, opened) =
+    reported : Skipped rest (Err (drop n rest)) → IsFault limits language at rest OpenComment (record { start = at + n; end = at + n + 2 })
+    reported (gap, joined, is, opened) =
         let len : length gap ≡ n = omega (arith, ap length joined, length-append gap (drop n rest), length-drop n rest) in
         comment gap (drop n rest) joined is opened refl (ap (λ (k : ℕ). let s : Span = record { start = at + k; end = at + k + 2 } in s) (sym len))
 
@@ -199,8 +199,8 @@ step_token language at rest n found after g t = (
   t.text_after,
 )
 
-pub step_fault : (language : Language) (at : ℕ) (rest : List ℕ) (n : ℕ) (defect : Defect) (span : Span) → GapBefore rest n
-    → IsDefectAt language (at + n) (drop n rest) defect span → IsFault limits language at rest defect span
-step_fault language at rest n defect span g (from, to, is, place) =
+pub step_fault : (language : Language) (at : ℕ) (rest : List ℕ) (n : ℕ) (error_code : ErrorCode) (span : Span) → GapBefore rest n
+    → IsErrorCodeAt language (at + n) (drop n rest) error_code span → IsFault limits language at rest error_code span
+step_fault language at rest n error_code span g (from, to, is, place) =
     token g.gap (drop n rest) from to g.joined g.blank (no_gap_no_blank (drop n rest) g.stops) (no_gap_no_comment (drop n rest) g.stops) is
     (place ∙ ap (λ (k : ℕ). let s : Span = record { start = at + k + from; end = at + k + to } in s) (sym g.len))

@@ -24,17 +24,17 @@ string_end-nil q delimited at = refl
 
 module _ (q : ℕ) (quote : is_quote q ≡ true) where
   -- what is told of the inside of a string from the byte a on
-  abbrev pub InsideTold : ℕ → List ℕ → StringEnd → Type 0
-  InsideTold a cs (Closed n) = (inside : List ℕ) × (after : List ℕ) × (cs ≡ inside ++ q ∷ after) × IsInside q inside × (n ≡ a + length inside + 1) × (first after ≡ q → ⊥)
-  InsideTold a cs (Control n) = (inside : List ℕ) × (c : ℕ) × (after : List ℕ) × (cs ≡ inside ++ c ∷ after) × IsInside q inside × (is_control c ≡ true) × (n ≡ a + length inside)
-  InsideTold a cs Open = IsInside q cs
+  abbrev pub InsideReported : ℕ → List ℕ → StringEnd → Type 0
+  InsideReported a cs (Closed n) = (inside : List ℕ) × (after : List ℕ) × (cs ≡ inside ++ q ∷ after) × IsInside q inside × (n ≡ a + length inside + 1) × (first after ≡ q → ⊥)
+  InsideReported a cs (Control n) = (inside : List ℕ) × (c : ℕ) × (after : List ℕ) × (cs ≡ inside ++ c ∷ after) × IsInside q inside × (is_control c ≡ true) × (n ≡ a + length inside)
+  InsideReported a cs Open = IsInside q cs
 
-  after_plain : (a c : ℕ) (cs : List ℕ) (r : StringEnd) → (c ≡ q → ⊥) → is_control c ≡ false → InsideTold (a + 1) cs r → InsideTold a (c ∷ cs) r
+  after_plain : (a c : ℕ) (cs : List ℕ) (r : StringEnd) → (c ≡ q → ⊥) → is_control c ≡ false → InsideReported (a + 1) cs r → InsideReported a (c ∷ cs) r
   after_plain a c cs (Closed n) other free (inside, after, e, is, len, single) = (c ∷ inside, after, ap (λ t. c ∷ t) e, plain other free is, omega arith, single)
   after_plain a c cs (Control n) other free (inside, d, after, e, is, bad, len) = (c ∷ inside, d, after, ap (λ t. c ∷ t) e, plain other free is, bad, omega arith)
   after_plain a c cs Open other free is = plain other free is
 
-  after_doubled : (a : ℕ) (cs : List ℕ) (r : StringEnd) → InsideTold (a + 1 + 1) cs r → InsideTold a (q ∷ q ∷ cs) r
+  after_doubled : (a : ℕ) (cs : List ℕ) (r : StringEnd) → InsideReported (a + 1 + 1) cs r → InsideReported a (q ∷ q ∷ cs) r
   after_doubled a cs (Closed n) (inside, after, e, is, len, single) = (q ∷ q ∷ inside, after, ap (λ t. q ∷ q ∷ t) e, doubled is, omega arith, single)
   after_doubled a cs (Control n) (inside, d, after, e, is, bad, len) = (q ∷ q ∷ inside, d, after, ap (λ t. q ∷ q ∷ t) e, doubled is, bad, omega arith)
   after_doubled a cs Open is = doubled is
@@ -43,26 +43,26 @@ module _ (q : ℕ) (quote : is_quote q ≡ true) where
   quote_some e = false≢true (ap is_quote e ∙ quote)
 
   abbrev pub Delimited : Bool → ℕ → List ℕ → StringEnd → Type 0
-  Delimited false a cs r = InsideTold a cs r
-  Delimited true a cs r = InsideTold a (q ∷ cs) r
+  Delimited false a cs r = InsideReported a cs r
+  Delimited true a cs r = InsideReported a (q ∷ cs) r
 
   abbrev pub place : Bool → ℕ → ℕ
   place false a = a
   place true a = a + 1
 
-  pub inside_told : (delimited : Bool) (a : ℕ) (cs : List ℕ) → Delimited delimited a cs (string_end q delimited (place delimited a) cs)
+  pub inside_reported : (delimited : Bool) (a : ℕ) (cs : List ℕ) → Delimited delimited a cs (string_end q delimited (place delimited a) cs)
   unfolding string_end
-  inside_told false a [] = nothing
-  inside_told true a [] = ([], [], refl, nothing, omega arith, quote_some)
-  inside_told false a (c ∷ cs) = elim (cases_Bool (c == q)) [
-    | inl same ↦ rw (same, eqb-true c q same) (inside_told true a cs)
+  inside_reported false a [] = nothing
+  inside_reported true a [] = ([], [], refl, nothing, omega arith, quote_some)
+  inside_reported false a (c ∷ cs) = elim (cases_Bool (c == q)) [
+    | inl same ↦ rw (same, eqb-true c q same) (inside_reported true a cs)
     | inr other ↦ elim (cases_Bool (is_control c)) [
       | inl bad ↦ rw (other, bad) ([], c, cs, refl, nothing, bad, omega arith)
-      | inr free ↦ rw (other, free) (after_plain a c cs _ (eqb-false c q other) free (inside_told false (a + 1) cs))
+      | inr free ↦ rw (other, free) (after_plain a c cs _ (eqb-false c q other) free (inside_reported false (a + 1) cs))
     ]
   ]
-  inside_told true a (c ∷ cs) = elim (cases_Bool (c == q)) [
-    | inl same ↦ rw (same, eqb-true c q same) (after_doubled a cs _ (inside_told false (a + 1 + 1) cs))
+  inside_reported true a (c ∷ cs) = elim (cases_Bool (c == q)) [
+    | inl same ↦ rw (same, eqb-true c q same) (after_doubled a cs _ (inside_reported false (a + 1 + 1) cs))
     | inr other ↦ rw other ([], c ∷ cs, refl, nothing, omega arith, eqb-false c q other)
   ]
 

@@ -23,7 +23,7 @@ use Rattle.net_lex.specs.Tokens.{IsWord, Allows}
 use Rattle.net_lex.specs.Reading.{BeginsNoComment, IsNext}
 use Rattle.net_lex.specs.Scanning.{BeginsNoGap}
 use Rattle.net_lex.proofs.FormLemmas.{BeginsNumeral, numeral_begins, numeral_some, numeral_no_name}
-use Rattle.net_lex.proofs.FrontTold.{Begins, a_name, a_numeral, a_string, a_mark, model_begins, DataBegins, a_word, a_data_string, a_data_mark, data_begins, mark_some, name_some, string_some, mark_no_name, mark_no_quote, mark_no_digit, mark_pointed, mark_first_small, quote_small, quote_no_word}
+use Rattle.net_lex.proofs.FrontReported.{Begins, a_name, a_numeral, a_string, a_mark, model_begins, DataBegins, a_word, a_data_string, a_data_mark, data_begins, mark_some, name_some, string_some, mark_no_name, mark_no_quote, mark_no_digit, mark_pointed, mark_first_small, quote_small, quote_no_word}
 use Rattle.net_lex.proofs.GapPasses.{gap_passes, gap_stops}
 use Rattle.net_lex.proofs.NumeralSigned.{signed_read, signed_spelled}
 use Rattle.net_lex.proofs.Tables.{is_mark_form, model_mark_forms, data_mark_forms, data_marks_no_word, mark_no_blank, reserved_names}

@@ -3,7 +3,7 @@
 use Rattle.std.specs.Prelude.{◌≡◌, ℕ, ◌≤◌, List, length, Result, IfOk, IfErr, MatchResult}
 use Rattle.std.specs.List.{AllByRecursion}
 use Rattle.std.specs.Str.{IsUtf8}
-use Rattle.net_fault.specs.declared.defect.Defect.{Defect}
+use Rattle.net_fault.specs.declared.error_code.ErrorCode.{ErrorCode}
 use Rattle.net_fault.specs.declared.fault.Fault.{Fault}
 use Rattle.net_fault.specs.declared.fault.Fault.TheVariants.{OutOfMemory, At}
 use Rattle.net_fault.specs.Outcomes.{bare}
@@ -24,20 +24,20 @@ pub record AreTokensOf (language : Language) (text : List ℕ) (tokens : List To
   pub sound : AreSound limits.token limits.value tokens
 
 -- the first error of the text
-abbrev pub IsFirstFault : Language → List ℕ → Defect → Span → Type 0
-IsFirstFault language text defect span = faults.IsFirstFault limits language (text_limit language) text defect span
+abbrev pub IsFirstFault : Language → List ℕ → ErrorCode → Span → Type 0
+IsFirstFault language text error_code span = faults.IsFirstFault limits language (text_limit language) text error_code span
 
 -- the first error of the text, reported with its span alone; or memory ran out, in a text that is
 -- within the limit, is UTF-8 and begins with a token
-abbrev pub IsRefusal : Language → List ℕ → Fault → Type 0
-IsRefusal language text OutOfMemory = (length text ≤ text_limit language) × IsUtf8 text × BeginsWithToken limits language text
-IsRefusal language text (At f) = (f ≡ bare language f.defect f.at) × IsFirstFault language text f.defect f.at
+abbrev pub IsRejection : Language → List ℕ → Fault → Type 0
+IsRejection language text OutOfMemory = (length text ≤ text_limit language) × IsUtf8 text × BeginsWithToken limits language text
+IsRejection language text (At f) = (f ≡ bare language f.error_code f.at) × IsFirstFault language text f.error_code f.at
 
 -- The contract of the lexer.
 pub record Lexes {V : Type 0} (items : V → List Token) (language : Language) (text : List ℕ) (answer : Result V Fault) : Type 0 where
   -- the result is the tokens of the text, or its first error
   pub ok : IfOk answer (λ v. AreTokensOf language text (items v))
-  pub refused : IfErr answer (IsRefusal language text)
+  pub rejected : IfErr answer (IsRejection language text)
   -- a text that has tokens is rejected only if memory runs out
   pub complete : (tokens : List Token) → AreTokensOf language text tokens → MatchResult answer (λ v. items v ≡ tokens) (λ e. e ≡ OutOfMemory)
   -- each token is the slice of the text at its span, and the span of an error is within the text

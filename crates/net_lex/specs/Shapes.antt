@@ -3,7 +3,7 @@
 use Rattle.std.specs.Prelude.{ℕ, ◌+◌, ◌-◌, ◌<◌, ◌≤◌, ◌==◌, Bool, true, false, List, [], ◌∷◌, length, take, drop, if◌then◌else◌, Option, Some, None, is_some, unwrap_or, Result, Ok, Err}
 use Rattle.std.specs.List.{prefix_len, take_while}
 use Rattle.std.specs.Str.{chars, encode_utf8_all}
-use Rattle.net_fault.specs.declared.defect.Defect.TheVariants.{BadCharacter, OpenString}
+use Rattle.net_fault.specs.declared.error_code.ErrorCode.TheVariants.{BadCharacter, OpenString}
 use Rattle.net_fault.specs.declared.language.Language.{Language}
 use Rattle.net_fault.specs.declared.language.Language.TheVariants.{Model, Data}
 use Rattle.net_lex.specs.declared.shape.Shape.{Shape}
@@ -47,8 +47,8 @@ Front = Result (Shape × ℕ) BadFront
 
 abbrev pub quoted_front : StringEnd → Front
 quoted_front (Closed n) = Ok (Quoted, n + 1)
-quoted_front (Control n) = Err (record { defect = BadCharacter; from = n + 1; to = n + 2 })
-quoted_front Open = Err (record { defect = OpenString; from = 0; to = 1 })
+quoted_front (Control n) = Err (record { error_code = BadCharacter; from = n + 1; to = n + 2 })
+quoted_front Open = Err (record { error_code = OpenString; from = 0; to = 1 })
 
 -- the string at the beginning of the text
 abbrev pub string_at : List ℕ → Front
@@ -60,7 +60,7 @@ char_len text = length (encode_utf8_all (take 1 (chars text)))
 
 -- the punctuation token of this length, or a character with which no token begins
 abbrev pub mark_front : List ℕ → ℕ → Front
-mark_front text n = if n == 0 then Err (record { defect = BadCharacter; from = 0; to = char_len text }) else Ok (Mark, n)
+mark_front text n = if n == 0 then Err (record { error_code = BadCharacter; from = 0; to = char_len text }) else Ok (Mark, n)
 
 -- a numeral, which extends to the rest; else a string or punctuation
 abbrev pub unnamed_front : List ℕ → Option (Parts × List ℕ) → Front

@@ -8,9 +8,9 @@ ghost use Rattle.net_lex.specs.declared.token.Token.{Token as Word};
 
 use crate::scan::step;
 use crate::tokens::text_limit;
-use net_fault::{Defect, Language, Span};
+use net_fault::{ErrorCode, Language, Span};
 
-fn first_error_in(language: Language, text: &str) -> Option<(Defect, Span)>
+fn first_error_in(language: Language, text: &str) -> Option<(ErrorCode, Span)>
     requires { length text.now ≤ 2 ^ 24 }
     ensures { MatchOption result
         ((tokens : List Word) × StandSound limits language EndsInGap 0 text.now tokens)
@@ -32,13 +32,13 @@ fn first_error_in(language: Language, text: &str) -> Option<(Defect, Span)>
 
 /// Returns the first error of a text and its span, or `None` if the text consists of tokens. Takes
 /// no memory, so each text gets one of the two answers.
-pub fn first_error(language: Language, text: &[u8]) -> Option<(Defect, Span)>
+pub fn first_error(language: Language, text: &[u8]) -> Option<(ErrorCode, Span)>
     ensures { MatchOption result
         ((tokens : List Word) × AreTokensOf language text.now tokens)
         (λ e. IsFirstFault language text.now e.0 e.1) }
 {
     if text.len() > text_limit(language) {
-        return Some((Defect::TextTooLong, Span { start: 0, end: 0 }));
+        return Some((ErrorCode::TextTooLong, Span { start: 0, end: 0 }));
     }
     match str::from_utf8(text) {
         Err(bad) => {
@@ -47,7 +47,7 @@ pub fn first_error(language: Language, text: &[u8]) -> Option<(Defect, Span)>
                 start: good,
                 end: good + 1,
             };
-            Some((Defect::NotUtf8, at))
+            Some((ErrorCode::NotUtf8, at))
         }
         Ok(text) => first_error_in(language, text),
     }

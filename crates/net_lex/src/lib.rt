@@ -26,6 +26,6 @@ pub use line_ends::tokens_have_no_line_ends;
 pub use model_text::{MODEL_LIMIT, lex_model};
 pub use net_fault::{Fault as LexFault, Span};
 pub use places::line_column;
-pub use reading::{one_first_fault, one_reading, read_or_refused};
+pub use reading::{one_first_fault, one_reading, read_or_rejected};
 pub use token::{Kind, Token};
 pub use whole::{NumFault, VALUE_LIMIT, whole_of};

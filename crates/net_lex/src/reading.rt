@@ -2,7 +2,7 @@
 ghost use Rattle.std.specs.Prelude.{◌≡◌, ℕ, List};
 ghost use Rattle.net_lex.specs.Lexing.{AreTokensOf, IsFirstFault};
 ghost use Rattle.net_lex.specs.Reading.{Reads};
-ghost use Rattle.net_fault.specs.declared.defect.Defect.{Defect};
+ghost use Rattle.net_fault.specs.declared.error_code.ErrorCode.{ErrorCode};
 ghost use Rattle.net_fault.specs.declared.language.Language.{Language};
 ghost use Rattle.net_fault.specs.declared.span.Span.{Span};
 ghost use Rattle.net_lex.specs.declared.token.Token.{Token};
@@ -14,13 +14,13 @@ pub fn one_reading()
 {}
 
 /// Theorem: no text has both tokens and a first error.
-pub fn read_or_refused()
-    ensures value { (language : Language) (text : List ℕ) (tokens : List Token) (defect : Defect) (span : Span)
-        → AreTokensOf language text tokens → IsFirstFault language text defect span → ⊥ }
+pub fn read_or_rejected()
+    ensures value { (language : Language) (text : List ℕ) (tokens : List Token) (error_code : ErrorCode) (span : Span)
+        → AreTokensOf language text tokens → IsFirstFault language text error_code span → ⊥ }
 {}
 
 /// Theorem: a text has at most one first error.
 pub fn one_first_fault()
-    ensures value { (language : Language) (text : List ℕ) (defect other : Defect) (span place : Span)
-        → IsFirstFault language text defect span → IsFirstFault language text other place → (defect ≡ other) × (span ≡ place) }
+    ensures value { (language : Language) (text : List ℕ) (error_code other : ErrorCode) (span place : Span)
+        → IsFirstFault language text error_code span → IsFirstFault language text other place → (error_code ≡ other) × (span ≡ place) }
 {}

@@ -5,7 +5,7 @@ ghost use Rattle.net_lex.specs.Tokens.{HasShape};
 ghost use Rattle.net_lex.specs.Gaps.{IsLastGap};
 ghost use Rattle.net_lex.specs.Faults.{IsFault};
 ghost use Rattle.net_lex.specs.Limits.{limits};
-ghost use Rattle.net_lex.specs.Scanning.{BeginsNoGap, IsNumeralKind, IsKindOf, IsTokenAt, IsDefectAt, IsStep};
+ghost use Rattle.net_lex.specs.Scanning.{BeginsNoGap, IsNumeralKind, IsKindOf, IsTokenAt, IsErrorCodeAt, IsStep};
 ghost use Rattle.net_lex.specs.declared.shape.Shape.TheVariants.{Word};
 
 use crate::data_text::data_front;
@@ -15,7 +15,7 @@ use crate::shape::{BadFront, Shape};
 use crate::token::{Kind, Token};
 use crate::whole::{NumFault, whole_of};
 use crate::words::is_reserved;
-use net_fault::{Defect, Language, Span};
+use net_fault::{ErrorCode, Language, Span};
 use net_views::Excerpt;
 
 /// The maximum length of a token, in bytes.
@@ -34,19 +34,19 @@ fn front(language: Language, text: &str) -> Result<(Shape, usize), BadFront>
 
 /// Returns the kind of a numeral after checking its value, or `otherwise` for a word that is not a
 /// numeral.
-fn numeral_kind(word: &str, otherwise: Result<Kind, Defect>) -> Result<Kind, Defect>
+fn numeral_kind(word: &str, otherwise: Result<Kind, ErrorCode>) -> Result<Kind, ErrorCode>
     ensures { IsNumeralKind word.now otherwise result }
 {
     match whole_of(word) {
         Ok(_) => Ok(Kind::Num),
-        Err(NumFault::NotWhole) => Err(Defect::NotWhole),
-        Err(NumFault::TooLarge) => Err(Defect::NumeralTooLarge),
+        Err(NumFault::NotWhole) => Err(ErrorCode::NotWhole),
+        Err(NumFault::TooLarge) => Err(ErrorCode::NumeralTooLarge),
         Err(NumFault::NotNumeral) => otherwise,
     }
 }
 
 /// Returns the kind of a word of this shape, after checking the value of a numeral.
-fn kind_of(language: Language, shape: Shape, word: &str) -> Result<Kind, Defect>
+fn kind_of(language: Language, shape: Shape, word: &str) -> Result<Kind, ErrorCode>
     requires { HasShape language shape word.now }
     ensures { IsKindOf language word.now result }
 {
@@ -58,7 +58,7 @@ fn kind_of(language: Language, shape: Shape, word: &str) -> Result<Kind, Defect>
     }
 }
 
-fn word_kind(language: Language, word: &str) -> Result<Kind, Defect>
+fn word_kind(language: Language, word: &str) -> Result<Kind, ErrorCode>
     requires { HasShape language Word word.now }
     ensures { IsKindOf language word.now result }
 {
@@ -78,14 +78,14 @@ fn token_of<'s>(
     len: usize,
     text: &'s str,
     at: usize,
-) -> Result<(Token<'s>, &'s str), (Defect, Span)>
+) -> Result<(Token<'s>, &'s str), (ErrorCode, Span)>
     requires room { at + length text.now + 4 < 2 ^ 64 }
     requires some { 0 < length text.now }
     requires found { front language text.now ≡ Ok (shape, len) }
     requires short { len ≤ TOKEN_LIMIT }
     ensures { MatchResult result
         (λ x. IsTokenAt language at text.entry.now x.0 x.1.now)
-        (λ e. IsDefectAt language at text.entry.now e.0 e.1) }
+        (λ e. IsErrorCodeAt language at text.entry.now e.0 e.1) }
 {
     let (word, after) = text.split_at(len);
     let span = Span {
@@ -97,22 +97,22 @@ fn token_of<'s>(
             let text = Excerpt::new(word);
             Ok((Token { kind, text, span }, after))
         }
-        Err(defect) => Err((defect, span)),
+        Err(error_code) => Err((error_code, span)),
     }
 }
 
 /// Returns the error and its span, for a token that begins at byte `at`.
-fn fault_at(stop: BadFront, at: usize) -> (Defect, Span)
+fn fault_at(stop: BadFront, at: usize) -> (ErrorCode, Span)
     requires from { at + stop.from < 2 ^ 64 }
     requires to { at + stop.to < 2 ^ 64 }
-    ensures defect { result.0 ≡ stop.defect }
+    ensures error_code { result.0 ≡ stop.error_code }
     ensures span { result.1 ≡ record { start = at + stop.from; end = at + stop.to } }
 {
     let span = Span {
         start: at + stop.from,
         end: at + stop.to,
     };
-    (stop.defect, span)
+    (stop.error_code, span)
 }
 
 /// Reads the token at the beginning of the text; also returns the text after it.
@@ -120,19 +120,19 @@ fn token_at<'s>(
     language: Language,
     text: &'s str,
     at: usize,
-) -> Result<(Token<'s>, &'s str), (Defect, Span)>
+) -> Result<(Token<'s>, &'s str), (ErrorCode, Span)>
     requires room { at + length text.now + 4 < 2 ^ 64 }
     requires some { 0 < length text.now }
     requires here { BeginsNoGap text.now }
     ensures { MatchResult result
         (λ x. IsTokenAt language at text.entry.now x.0 x.1.now)
-        (λ e. IsDefectAt language at text.entry.now e.0 e.1) }
+        (λ e. IsErrorCodeAt language at text.entry.now e.0 e.1) }
 {
     match front(language, text) {
         Err(stop) => Err(fault_at(stop, at)),
         Ok((_, len)) if len > TOKEN_LIMIT => {
             let stop = BadFront {
-                defect: Defect::TextTooLong,
+                error_code: ErrorCode::TextTooLong,
                 from: 0,
                 to: len,
             };
@@ -147,7 +147,7 @@ pub(crate) fn step<'s>(
     language: Language,
     rest: &'s str,
     at: usize,
-) -> Result<Option<(Token<'s>, &'s str)>, (Defect, Span)>
+) -> Result<Option<(Token<'s>, &'s str)>, (ErrorCode, Span)>
     requires room { at + length rest.now + 4 < 2 ^ 64 }
     ensures { MatchResult result
         (λ o. MatchOption o (IsLastGap rest.entry.now) (λ x. IsStep language at rest.entry.now x.0 x.1.now))
@@ -155,7 +155,7 @@ pub(crate) fn step<'s>(
 {
     match gap_len(rest) {
         Err(n) => Err((
-            Defect::OpenComment,
+            ErrorCode::OpenComment,
             Span {
                 start: at + n,
                 end: at + n + 2,

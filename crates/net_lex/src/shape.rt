@@ -4,7 +4,7 @@ ghost use Rattle.std.specs.Prelude.{◌≡◌};
 ghost use Rattle.net_lex.specs.Shapes.{mark_front};
 
 use crate::bare_word::char_len;
-use net_fault::Defect;
+use net_fault::ErrorCode;
 
 /// The lexical form of a token.
 #[derive(Clone, Copy)]
@@ -18,7 +18,7 @@ pub(crate) enum Shape {
 /// An error and its range of bytes, counted from the beginning of the token.
 #[derive(Clone, Copy)]
 pub(crate) struct BadFront {
-    pub defect: Defect,
+    pub error_code: ErrorCode,
     pub from: usize,
     pub to: usize,
 }
@@ -30,7 +30,7 @@ pub(crate) fn mark_front(text: &str, len: usize) -> Result<(Shape, usize), BadFr
 {
     if len == 0 {
         Err(BadFront {
-            defect: Defect::BadCharacter,
+            error_code: ErrorCode::BadCharacter,
             from: 0,
             to: char_len(text),
         })

@@ -5,7 +5,7 @@ ghost use Rattle.net_lex.specs.Characters.{is_control, is_quote};
 
 use crate::cursor::{first, rest};
 use crate::shape::{BadFront, Shape};
-use net_fault::Defect;
+use net_fault::ErrorCode;
 
 /// The end of a string, counted from the byte after its opening quotation mark.
 #[derive(Clone, Copy)]
@@ -72,12 +72,12 @@ pub(crate) fn string_at(bytes: &[u8]) -> Result<(Shape, usize), BadFront>
     match string_end(first(bytes), rest(bytes)) {
         StringEnd::Closed(n) => Ok((Shape::Quoted, n + 1)),
         StringEnd::Control(n) => Err(BadFront {
-            defect: Defect::BadCharacter,
+            error_code: ErrorCode::BadCharacter,
             from: n + 1,
             to: n + 2,
         }),
         StringEnd::Open => Err(BadFront {
-            defect: Defect::OpenString,
+            error_code: ErrorCode::OpenString,
             from: 0,
             to: 1,
         }),

@@ -32,12 +32,12 @@ pub struct Token<'s> {
 
 impl<'s> Token<'s> {
     /// Returns a copy of the token; copies no text.
-    pub fn again(&self) -> Token<'s>
+    pub fn copied(&self) -> Token<'s>
         ensures { result ≡ self.now }
     {
         Token {
             kind: self.kind,
-            text: self.text.again(),
+            text: self.text.copied(),
             span: self.span,
         }
     }

@@ -2,30 +2,30 @@
 ghost use Rattle.std.specs.Prelude.{◌≡◌, ◌≤◌, ◌^◌, length, MatchResult};
 ghost use Rattle.net_lex.specs.Limits.{limits, text_limit};
 ghost use Rattle.net_lex.specs.Reading.{EndsInGap};
-ghost use Rattle.net_lex.specs.Faults.{StandSound, IsFaultBehind};
+ghost use Rattle.net_lex.specs.Faults.{StandSound, IsFaultAfter};
 ghost use Rattle.net_lex.specs.Lexing.{Lexes};
 
 use crate::data_text::DATA_LIMIT;
 use crate::model_text::MODEL_LIMIT;
 use crate::scan::step;
 use crate::token::Token;
-use net_fault::{Defect, Detail, Fault, Language, Span};
+use net_fault::{Detail, ErrorCode, Fault, Language, Span};
 use std::alloc::Global;
 
 fn tokens_of<'s>(alloc: Global, language: Language, text: &'s str) -> Result<Vec<Token<'s>>, Fault>
     requires { length text.now ≤ 2 ^ 24 }
     ensures { MatchResult result
         (λ v. StandSound limits language EndsInGap 0 text.entry.now v.items)
-        (λ e. IsFaultBehind limits language text.entry.now e) }
+        (λ e. IsFaultAfter limits language text.entry.now e) }
 {
     let mut tokens = Vec::new(alloc);
     let mut rest = text;
     let mut at = 0;
     'tokens: loop {
         match step(language, rest, at) {
-            Err((defect, span)) => return Err(Fault::of_text(
+            Err((error_code, span)) => return Err(Fault::of_text(
                 language,
-                defect,
+                error_code,
                 span,
                 Detail::Nothing,
             )),
@@ -61,7 +61,7 @@ pub(crate) fn lex<'s>(
 {
     if text.len() > text_limit(language) {
         let at = Span { start: 0, end: 0 };
-        return Err(Fault::of_text(language, Defect::TextTooLong, at, Detail::Nothing));
+        return Err(Fault::of_text(language, ErrorCode::TextTooLong, at, Detail::Nothing));
     }
     match str::from_utf8(text) {
         Err(bad) => {
@@ -70,7 +70,7 @@ pub(crate) fn lex<'s>(
                 start: good,
                 end: good + 1,
             };
-            Err(Fault::of_text(language, Defect::NotUtf8, at, Detail::Nothing))
+            Err(Fault::of_text(language, ErrorCode::NotUtf8, at, Detail::Nothing))
         }
         Ok(text) => tokens_of(alloc, language, text),
     }

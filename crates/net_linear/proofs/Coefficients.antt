@@ -105,11 +105,11 @@ coefficient_with ps k (q ∷ qs) b h =
     ∙ ap (λ (i : ℤ). i +ℤ k *ℤ coefficient qs b) (coefficient_more ps q.0 b (k *ℤ q.1))
     ∙ step (nat_eq b q.0) refl
   where
-    none_behind : b ≡ q.0 → coefficient qs b ≡ pos 0
-    none_behind e = ap (coefficient qs) e ∙ nowhere qs q.0 (head_apart (stands_in q.0 qs) (all_apart qs) h)
+    none_after : b ≡ q.0 → coefficient qs b ≡ pos 0
+    none_after e = ap (coefficient qs) e ∙ nowhere qs q.0 (head_apart (stands_in q.0 qs) (all_apart qs) h)
 
     step : (t : Bool) → nat_eq b q.0 ≡ t → (if t then coefficient ps q.0 +ℤ k *ℤ q.1 else coefficient ps b) +ℤ k *ℤ coefficient qs b ≡ coefficient ps b +ℤ k *ℤ (if t then q.1 else coefficient qs b)
-    step true e = omega (arith, ints, ap (λ (i : ℤ). k *ℤ i) (none_behind (eqb-true b q.0 e)), mul-none k, ap (coefficient ps) (eqb-true b q.0 e))
+    step true e = omega (arith, ints, ap (λ (i : ℤ). k *ℤ i) (none_after (eqb-true b q.0 e)), mul-none k, ap (coefficient ps) (eqb-true b q.0 e))
     step false e = refl
 
 -- where all are small, so is each

@@ -16,7 +16,7 @@ use Rattle.net_linear.specs.Amounts.{number_or_none}
 use Rattle.net_linear.specs.Conditions.{comparison_in, solved, solved_sides, met_ends, met, from_to, solved_twice, one_in, between_in, sides_in, range_in}
 use Rattle.net_linear.specs.NetTerms.{net_side}
 use Rattle.net_fault.specs.Places.{Places, Finds}
-use Rattle.net_tree.specs.Standing.{Stands, ConditionStands}
+use Rattle.net_tree.specs.Standing.{Stands, ConditionHasSpans}
 use Rattle.net_fault.proofs.Found.{finds_then, finds_if}
 use Rattle.net_expr.proofs.ValueFaults.{finds_value}
 
@@ -75,10 +75,10 @@ module _ (P : Places) (w : World) (s : Scope) where
       finds_then P (number_or_none w s u) _ (finds_number_or_none u k) (λ e.
       finds_solved_twice P (from_to x u) h (comparison_in (role_of o)) (comparison_in (role_of p)) (net_side x) (net_side z) (net_side u) a b e)))
 
-  finds_sides_in : (c : Condition) → ConditionStands (P Model) c → Finds P (sides_in w s c)
+  finds_sides_in : (c : Condition) → ConditionHasSpans (P Model) c → Finds P (sides_in w s c)
   finds_sides_in unsaid h = tt
   finds_sides_in (one m x o z) (h, j, k) = finds_one_in x o z h j k
   finds_sides_in (between m x o z p u) (h, i, j, k) = finds_between_in x o z p u h i j k
 
-  pub finds_range_in : (c : Condition) → ConditionStands (P Model) c → Finds P (range_in w s c)
+  pub finds_range_in : (c : Condition) → ConditionHasSpans (P Model) c → Finds P (range_in w s c)
   finds_range_in c h = finds_then P (sides_in w s c) _ (finds_sides_in c h) (λ r. tt)

@@ -7,7 +7,7 @@ use Rattle.std.proofs.Common.{refl, ap, sym, ◌∙◌, subst, arith, inl, inr}
 use Rattle.std.proofs.lemmas.Bool.Decides.{Decides-int_eq}
 use Rattle.std.proofs.lemmas.Int.{ints}
 use Rattle.net_fault.specs.declared.span.Span.{Span}
-use Rattle.net_fault.specs.Outcomes.{Outcome, and_then, refused}
+use Rattle.net_fault.specs.Outcomes.{Outcome, and_then, rejected}
 use Rattle.net_linear.specs.declared.condition.Sides.{Sides}
 use Rattle.net_linear.specs.declared.condition.Comparison.{Comparison}
 use Rattle.net_linear.specs.declared.condition.Comparison.TheVariants.{Equal, AtMost, AtLeast}
@@ -24,7 +24,7 @@ use Rattle.net_tree.specs.declared.operator.BinOp.{BinOp}
 use Rattle.net_tree.specs.declared.operator.BinOp.TheVariants as op
 use Rattle.net_lex.specs.declared.token.Kind.{Kind}
 use Rattle.net_lex.specs.declared.token.Kind.TheVariants as kinds
-use Rattle.net_fault.specs.declared.defect.Defect.TheVariants.{KindMismatch, ValueTooLarge}
+use Rattle.net_fault.specs.declared.error_code.ErrorCode.TheVariants.{KindMismatch, ValueTooLarge}
 use Rattle.net_tree.specs.declared.role.Role.{Role}
 use Rattle.net_tree.specs.declared.operator.Words.TheVariants as words
 use Rattle.net_tree.specs.Role.{role_of, role_as, found_in, marks, keys}
@@ -258,7 +258,7 @@ compared : (at : Span) (c : Option Comparison) (m n : NetTerm) (a b : Option ℤ
 compared at (Some c) m n (Some a) (Some b) r e = record { how = c; is = refl; left = a; left_is = refl; right = b; right_is = refl }
 compared at None m n (Some a) (Some b) r e = go (is_small a && is_small b) e
   where
-    go : (t : Bool) → (if t then refused KindMismatch at else refused ValueTooLarge at) ≡ Ok r → AreCompared None (Some a) (Some b)
+    go : (t : Bool) → (if t then rejected KindMismatch at else rejected ValueTooLarge at) ≡ Ok r → AreCompared None (Some a) (Some b)
     go true h = cc
     go false h = cc
 compared at c m n None b r e = cc

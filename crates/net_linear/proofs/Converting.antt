@@ -20,16 +20,16 @@ use Rattle.net_fault.specs.declared.fault.Fault.TheVariants.{OutOfMemory, At}
 use Rattle.net_linear.specs.Arcs.{Arcs}
 use Rattle.net_linear.specs.Forms.{Linear, Term, join, turn, total, gathered, gathered_over}
 use Rattle.net_linear.specs.Objectives.{names_arc, any_arc, first_or_any, braces_arc, is_sum, is_linear, mixed, linear, key_of, arc_term, condition, objective, otherwise, chained, with_arcs}
-use Rattle.net_fault.specs.Outcomes.{Outcome, Answers, and_then, refused, bare}
-use Rattle.net_fault.specs.declared.defect.Defect.TheVariants.{NotLinear}
+use Rattle.net_fault.specs.Outcomes.{Outcome, Refines, and_then, rejected, bare}
+use Rattle.net_fault.specs.declared.error_code.ErrorCode.TheVariants.{NotLinear}
 use Rattle.net_fault.specs.declared.detail.Detail.TheVariants.{Nothing}
 
 -- what is answered of one outcome is answered of an equal one
-pub answers_by : {A : Type 0} (o wanted : Outcome A) (r : Result A Fault) → wanted ≡ o → Answers o r → Answers wanted r
-answers_by o wanted r e h = subst (λ k. Answers k r) (sym e) h
+pub answers_by : {A : Type 0} (o wanted : Outcome A) (r : Result A Fault) → wanted ≡ o → Refines o r → Refines wanted r
+answers_by o wanted r e h = subst (λ k. Refines k r) (sym e) h
 
 -- a fault of the first step is a fault of all
-pub stops : {A B : Type 0} (o : Outcome A) (f : A → Outcome B) (wanted : Outcome B) (e : Fault) → wanted ≡ and_then o f → Answers o (Err e) → Answers wanted (Err e)
+pub stops : {A B : Type 0} (o : Outcome A) (f : A → Outcome B) (wanted : Outcome B) (e : Fault) → wanted ≡ and_then o f → Refines o (Err e) → Refines wanted (Err e)
 stops o f wanted OutOfMemory e h = tt
 stops o f wanted (At r) e h = e ∙ ap (λ k. and_then k f) h
 
@@ -97,11 +97,11 @@ pub rows-left : (at : Span) (body : Row → Outcome Term) (rows : List Row) (i :
     → wanted ≡ and_then (body r) (λ u. and_then (gathered at sum u) (gathered_over at body (drop (i + 1) rows)))
 rows-left at body rows i r sum wanted h e same = sym same ∙ ap (λ rs. gathered_over at body rs sum) (drop_row rows i r h e)
 
-pub with-tuple : (a : Arcs) (w : World) (s : Scope) (k : Tree) (o : Token) (x : Tree) (l : Links) (c : Token) → k ≡ tuple o x l c → with_arcs a w s k ≡ refused NotLinear (span_of k)
+pub with-tuple : (a : Arcs) (w : World) (s : Scope) (k : Tree) (o : Token) (x : Tree) (l : Links) (c : Token) → k ≡ tuple o x l c → with_arcs a w s k ≡ rejected NotLinear (span_of k)
 with-tuple a w s k o x l c e = rw e refl
 
-pub with-negated : (a : Arcs) (w : World) (s : Scope) (k : Tree) (n o : Token) (x : Tree) (c : Token) → k ≡ negated n o x c → with_arcs a w s k ≡ refused NotLinear (span_of k)
+pub with-negated : (a : Arcs) (w : World) (s : Scope) (k : Tree) (n o : Token) (x : Tree) (c : Token) → k ≡ negated n o x c → with_arcs a w s k ≡ rejected NotLinear (span_of k)
 with-negated a w s k n o x c e = rw e refl
 
-pub refuses : {A : Type 0} (o : Outcome A) (f : Fault) (at : Span) → o ≡ refused NotLinear at → f ≡ At (bare languages.Model NotLinear at) → Answers o (Err f)
-refuses o f at e h = subst (λ k. Answers o (Err k)) (sym h) e
+pub rejects : {A : Type 0} (o : Outcome A) (f : Fault) (at : Span) → o ≡ rejected NotLinear at → f ≡ At (bare languages.Model NotLinear at) → Refines o (Err f)
+rejects o f at e h = subst (λ k. Refines o (Err k)) (sym h) e

@@ -11,7 +11,7 @@ use Rattle.net_tree.specs.Spans.{span_of, span_between, braces_span}
 use Rattle.net_tree.specs.Tree.{Tree, leaf, chain, net, none, link, one, between, unsaid}
 use Rattle.net_fault.specs.declared.language.Language.TheVariants as languages
 use Rattle.net_fault.specs.declared.detail.Detail.TheVariants.{Nothing}
-use Rattle.net_fault.specs.declared.defect.Defect.TheVariants.{KindMismatch, NodeCrossed, NotLinear}
+use Rattle.net_fault.specs.declared.error_code.ErrorCode.TheVariants.{KindMismatch, NodeCrossed, NotLinear}
 use Rattle.net_expr.specs.Limits.{is_small}
 use Rattle.net_tree.specs.Operations.{operations, operation, reduction, is_minus}
 use Rattle.net_expr.specs.Numbers.{number_in}
@@ -65,7 +65,7 @@ merged = refl
 
 -- 1 + X * X
 squared : objective_form two [] [] (chain 2 (number (codes "1") 0 1) (link (operator.One (mark (codes "+") 2 3)) (chain 1 (leaf (name (codes "X") 4 5)) (link (operator.One (mark (codes "*") 6 7)) (leaf (name (codes "X") 8 9)) none)) none))
-    ≡ Err (record { defect = NotLinear; text = languages.Model; at = record { start = 4; end = 9 }; detail = Nothing })
+    ≡ Err (record { error_code = NotLinear; text = languages.Model; at = record { start = 4; end = 9 }; detail = Nothing })
 unfolding role_of marks keys operations operation reduction is_minus is_small number_in numeral_at mantissa_at power_at whole_value span_of span_between braces_span
 squared = refl
 

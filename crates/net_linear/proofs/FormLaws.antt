@@ -8,7 +8,7 @@ use Rattle.net_tree.specs.Spans.{span_of}
 use Rattle.net_tree.specs.Tree.{Tree}
 use Rattle.net_expr.specs.declared.row.Row.{Row}
 use Rattle.net_expr.specs.declared.row.Keys.{Keys}
-use Rattle.net_fault.specs.declared.defect.Defect.TheVariants.{ValueTooLarge, DivMod, NotLinear}
+use Rattle.net_fault.specs.declared.error_code.ErrorCode.TheVariants.{ValueTooLarge, DivMod, NotLinear}
 use Rattle.net_expr.specs.Limits.{is_small}
 use Rattle.net_expr.specs.Numbers.{turned, divides}
 use Rattle.net_expr.specs.Worlds.{World, Scope}
@@ -17,10 +17,10 @@ use Rattle.net_tree.specs.declared.operator.BinOp.TheVariants.{Plus, Minus, Time
 use Rattle.net_linear.specs.Conditions.{number_of}
 use Rattle.net_linear.specs.Forms.{Products, more, with_times, all_small, Linear, just, one_arc, combined, is_number, Term, sized, minus_one, is_sized, within, times, divided, joined, join, turn, gathered, gathered_over, total, as_form, or_too_large, priced, products_at, form_at}
 use Rattle.net_linear.specs.Objectives.{plain_term, mixed, linear}
-use Rattle.net_fault.specs.Outcomes.{Outcome, Answers, and_then, refused}
+use Rattle.net_fault.specs.Outcomes.{Outcome, Refines, and_then, rejected}
 use Rattle.net_linear.specs.Amounts.{number_or_none}
 use Rattle.net_fault.specs.declared.fault.Fault.{Fault}
-use Rattle.net_linear.specs.Worths.{read, number_at, combine, sum_over, sum_in, choose}
+use Rattle.net_linear.specs.ObjectiveValues.{read, number_at, combine, sum_over, sum_in, choose}
 use Rattle.net_normal.proofs.WholeNumbers.{mul-add}
 use Rattle.net_linear.proofs.Ranges.{ok_then}
 use Rattle.net_linear.proofs.Rings.{add-mul, mul-none, one-mul, minus-mul, mul-mul}
@@ -87,7 +87,7 @@ times_ok : (x : ℕ → ℤ) (at : Span) (f g : Linear) (r : Term) → times at 
 times_ok x at f g r e = go (is_number f.products) (is_number g.products) refl refl e
   where
     go : (b c : Bool) → is_number f.products ≡ b → is_number g.products ≡ c
-        → Comes r (if b then sized at (combined (just (pos 0)) f.constant g) else if c then sized at (combined (just (pos 0)) g.constant f) else refused NotLinear at)
+        → Comes r (if b then sized at (combined (just (pos 0)) f.constant g) else if c then sized at (combined (just (pos 0)) g.constant f) else rejected NotLinear at)
         → term_at x r ≡ form_at x f *ℤ form_at x g
     go true c h k e = sized_ok x at _ r e ∙ form_scaled x f.constant g ∙ ap (λ (i : ℤ). i *ℤ form_at x g) (sym (number_alone x f h))
     go false true h k e = sized_ok x at _ r e ∙ form_scaled x g.constant f ∙ *ℤ_comm g.constant (form_at x f) ∙ ap (λ (i : ℤ). form_at x f *ℤ i) (sym (number_alone x g k))
@@ -97,7 +97,7 @@ divided_ok : (x : ℕ → ℤ) (at : Span) (h : ℤ → ℤ → ℤ) (f g : Line
 divided_ok x at h f g r e = go (is_number f.products) (is_number g.products) (divides f.constant g.constant) refl refl e
   where
     go : (b c d : Bool) → is_number f.products ≡ b → is_number g.products ≡ c
-        → Comes r (if b && c then if d then sized at (just (h f.constant g.constant)) else refused DivMod at else refused NotLinear at)
+        → Comes r (if b && c then if d then sized at (just (h f.constant g.constant)) else rejected DivMod at else rejected NotLinear at)
         → term_at x r ≡ h (form_at x f) (form_at x g)
     go true true true i j e =
         sized_ok x at (just (h f.constant g.constant)) r e ∙ form_just x (h f.constant g.constant) ∙ ap (λ (m : ℤ). h m g.constant) (sym (number_alone x f i)) ∙ ap (λ (m : ℤ). h (form_at x f) m) (sym (number_alone x g j))
@@ -153,10 +153,10 @@ pub mixed_ok : (x : ℕ → ℤ) (w : World) (s : Scope) (t : Tree) (b : Bool) (
 mixed_ok x w s t true u r n e k = k e
 mixed_ok x w s t false u r n e k = plain_ok x (span_of t) (number_or_none w s t) r e
 
-pub no_arcs : (x : ℕ → ℤ) (w : World) (s : Scope) (t : Tree) (b : Bool) (at : Span) (r : Term) → mixed w s t b (refused NotLinear at) ≡ Ok r → term_at x r ≡ number_of (number_or_none w s t)
+pub no_arcs : (x : ℕ → ℤ) (w : World) (s : Scope) (t : Tree) (b : Bool) (at : Span) (r : Term) → mixed w s t b (rejected NotLinear at) ≡ Ok r → term_at x r ≡ number_of (number_or_none w s t)
 no_arcs x w s t true at r e = nothing e
   where
-    nothing : Comes r (refused NotLinear at) → term_at x r ≡ number_of (number_or_none w s t)
+    nothing : Comes r (rejected NotLinear at) → term_at x r ≡ number_of (number_or_none w s t)
     nothing e = cc
 no_arcs x w s t false at r e = plain_ok x (span_of t) (number_or_none w s t) r e
 
@@ -177,13 +177,13 @@ choose_ok x (Err f) u v r m n e h k = cc
 pub priced_worth : (x : ℕ → ℤ) (at : Span) (f : Linear) (arc : ℕ) (price : ℤ) (r : Linear) → priced at f arc price ≡ Ok r → form_at x r ≡ form_at x f +ℤ price *ℤ x arc
 priced_worth x at f arc price r e = go (is_small price) (is_sized (combined f price (one_arc arc))) e
   where
-    go : (b c : Bool) → (if b then or_too_large at (if c then Some (combined f price (one_arc arc)) else None) else refused ValueTooLarge at) ≡ Ok r → form_at x r ≡ form_at x f +ℤ price *ℤ x arc
+    go : (b c : Bool) → (if b then or_too_large at (if c then Some (combined f price (one_arc arc)) else None) else rejected ValueTooLarge at) ≡ Ok r → form_at x r ≡ form_at x f +ℤ price *ℤ x arc
     go true true e =
         let same : combined f price (one_arc arc) ≡ r = cc in
         ap (form_at x) (sym same) ∙ form_combined x f price (one_arc arc) ∙ ap (λ (i : ℤ). form_at x f +ℤ price *ℤ i) (form_arc x arc)
     go true false e = cc
     go false c e = cc
 
-pub priced_by : (at : Span) (f : Linear) (arc : ℕ) (price : ℤ) (r : Result Linear Fault) → Answers (priced at f arc price) r → IfOk r (λ g. (x : ℕ → ℤ) → form_at x g ≡ form_at x f +ℤ price *ℤ x arc)
+pub priced_by : (at : Span) (f : Linear) (arc : ℕ) (price : ℤ) (r : Result Linear Fault) → Refines (priced at f arc price) r → IfOk r (λ g. (x : ℕ → ℤ) → form_at x g ≡ form_at x f +ℤ price *ℤ x arc)
 priced_by at f arc price (Ok g) e = λ x. priced_worth x at f arc price g e
 priced_by at f arc price (Err v) e = tt

@@ -15,7 +15,7 @@ use Rattle.net_tree.specs.View.{tree, links_of}
 use Rattle.net_tree.proofs.Views.{next_link}
 use Rattle.net_tree.specs.declared.operator.BinOp.{BinOp}
 use Rattle.net_tree.specs.declared.operator.BinOp.TheVariants as op
-use Rattle.net_fault.specs.declared.defect.Defect.TheVariants.{ValueTooLarge, KindMismatch}
+use Rattle.net_fault.specs.declared.error_code.ErrorCode.TheVariants.{ValueTooLarge, KindMismatch}
 use Rattle.net_expr.specs.declared.value.Value.{Value}
 use Rattle.net_expr.specs.declared.value.Value.TheVariants as values
 use Rattle.net_expr.specs.Limits.{is_small}
@@ -32,7 +32,7 @@ use Rattle.net_linear.specs.declared.net_term.NetTerm.TheVariants.{Absent, Inflo
 use Rattle.net_linear.specs.Conditions.{number_of, term_at, with_term, terms_at, side_at}
 use Rattle.net_linear.specs.Signs.{is_sign}
 use Rattle.net_linear.specs.NetTerms.{has_minus, is_outflow, with_sign, negated as turned_term, net_term, beside, behind, net_terms, net_side, at_inflow, are_terms}
-use Rattle.net_fault.specs.Outcomes.{Outcome, and_then, refused}
+use Rattle.net_fault.specs.Outcomes.{Outcome, and_then, rejected}
 use Rattle.net_linear.specs.Amounts.{as_number, number_or_none}
 
 -- a step of a walk over links
@@ -62,7 +62,7 @@ number_is at (values.Several t) n e = cc
 number_is at (values.Many d ts) n e = cc
 number_is at (values.Truth b) n e = cc
 
-sized_is : (at : Span) (b : Bool) (n : ℤ) (v : Value) → (if b then Ok (values.One (Number n)) else refused ValueTooLarge at) ≡ Ok v → values.One (Number n) ≡ v
+sized_is : (at : Span) (b : Bool) (n : ℤ) (v : Value) → (if b then Ok (values.One (Number n)) else rejected ValueTooLarge at) ≡ Ok v → values.One (Number n) ≡ v
 sized_is at true n v e = cc
 sized_is at false n v e = cc
 

@@ -4,13 +4,13 @@ use Rattle.std.specs.List.{AllZip}
 use Rattle.std.proofs.Common.{refl, ap, sym, ◌∙◌, subst, arith, inl, inr}
 use Rattle.std.proofs.lemmas.Int.{ints}
 use Rattle.net_fault.specs.declared.span.Span.{Span}
-use Rattle.net_fault.specs.declared.defect.Defect.TheVariants.{NotLinear, DivMod}
-use Rattle.net_fault.specs.Outcomes.{Outcome, and_then, refused}
+use Rattle.net_fault.specs.declared.error_code.ErrorCode.TheVariants.{NotLinear, DivMod}
+use Rattle.net_fault.specs.Outcomes.{Outcome, and_then, rejected}
 use Rattle.net_linear.specs.Amounts.{as_number, number_or_none}
 use Rattle.net_linear.specs.Arcs.{Arcs, declared, is_arc, arc_at}
 use Rattle.net_linear.specs.Forms.{Linear, Products, Term, products_at, just, one_arc, combined, is_number, is_sized, within, sized, minus_one, times, quotient, divided, joined, join, turn, gathered, gathered_over, total, as_form, form_at}
 use Rattle.net_linear.specs.Objectives.{names_arc, any_arc, part_arc, braces_arc, are_signs, may_join, one_factor, is_linear, is_sum, plain_term, mixed, linear, key_of, arc_term, condition, objective, otherwise, chained, objective_form}
-use Rattle.net_linear.specs.Worths.{combine}
+use Rattle.net_linear.specs.ObjectiveValues.{combine}
 use Rattle.net_linear.specs.Signs.{is_sign}
 use Rattle.net_linear.proofs.FormLaws.{form_combined, form_just, form_arc, join_ok, turn_ok}
 use Rattle.net_linear.proofs.Rings.{one-mul}
@@ -110,7 +110,7 @@ module _ (x : ℕ → ℤ) where
       found_some : (h : Linear) → sized at h ≡ Ok r → Joined op.Times f k r
       found_some h i = let s = sized_some at h r i in by_sum op.Times at f k h r (form_at x f *ℤ form_at x k) (make.times (form_at x f) (form_at x k)) s (value_of op.Times at f k h r s e)
 
-      go : (b c : Bool) → (if b then sized at (combined (just (pos 0)) f.constant k) else if c then sized at (combined (just (pos 0)) k.constant f) else refused NotLinear at) ≡ Ok r → Joined op.Times f k r
+      go : (b c : Bool) → (if b then sized at (combined (just (pos 0)) f.constant k) else if c then sized at (combined (just (pos 0)) k.constant f) else rejected NotLinear at) ≡ Ok r → Joined op.Times f k r
       go true c i = found_some _ i
       go false true i = found_some _ i
       go false false i = cc
@@ -119,7 +119,7 @@ module _ (x : ℕ → ℤ) where
   makes_divided j at o make f k r e = go (is_number f.products) (is_number k.products) (divides f.constant k.constant) refl refl refl e
     where
       go : (b c d : Bool) → is_number f.products ≡ b → is_number k.products ≡ c → divides f.constant k.constant ≡ d
-          → (if b && c then if d then sized at (just (o f.constant k.constant)) else refused DivMod at else refused NotLinear at) ≡ Ok r → Joined j f k r
+          → (if b && c then if d then sized at (just (o f.constant k.constant)) else rejected DivMod at else rejected NotLinear at) ≡ Ok r → Joined j f k r
       go true true true p q i e =
           (just (o f.constant k.constant), sized_some at _ r e, rw (form_just x (o f.constant k.constant), number_unique x f p, number_unique x k q) (make f.constant k.constant i))
       go true true false p q i e = cc
@@ -324,7 +324,7 @@ module _ (a : Arcs) (x : ℕ → ℤ) (g : Name → Option (Tuple → ℤ)) (rea
         linear_is (IsTerm w s (choice i y t z p)) (span_of (choice i y t z p)) (not (names_arc a y)) _ (λ f.
         gives_then (λ b. IsValue (E w s) y (Truth b)) _ (condition w s (span_of (choice i y t z p)) y) _ (truth_is_sound g (pos 0) w s y (span_of (choice i y t z p)) (plain y (not_true _ f))) (λ b h.
         choice_is w s i y t z p b h (form_is w s z) (part_is w s p))))
-    form_is w s (net t u) = mixed_is w s (net t u) false (refused NotLinear (span_of (net t u))) (λ e. refl) (λ e. tt)
+    form_is w s (net t u) = mixed_is w s (net t u) false (rejected NotLinear (span_of (net t u))) (λ e. refl) (λ e. tt)
 
     part_is : (w : World) (s : Scope) (p : Part) → IfOk (otherwise a w s p) (Is (IsElse (E w s) p))
     part_is w s absent = ap number (form_just x (pos 0))

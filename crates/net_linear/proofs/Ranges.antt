@@ -10,7 +10,7 @@ use Rattle.net_normal.specs.Assignments.{IsInRange}
 use Rattle.net_normal.specs.Limits.{IsSized, range_limit}
 use Rattle.net_tree.specs.Tree.{Tree, Condition, unsaid, one, between}
 use Rattle.net_tree.specs.Role.{role_of}
-use Rattle.net_fault.specs.declared.defect.Defect.TheVariants.{ValueTooLarge}
+use Rattle.net_fault.specs.declared.error_code.ErrorCode.TheVariants.{ValueTooLarge}
 use Rattle.net_expr.specs.Limits.{is_small}
 use Rattle.net_expr.specs.Worlds.{World, Scope}
 use Rattle.net_linear.specs.declared.condition.Comparison.{Comparison}
@@ -21,7 +21,7 @@ use Rattle.net_linear.specs.declared.net_term.NetTerm.{NetTerm}
 use Rattle.net_linear.specs.declared.net_term.NetTerm.TheVariants.{Absent, Inflow, Outflow}
 use Rattle.net_linear.specs.Conditions.{comparison_in, number_of, side_at, Compares, Holds, compared_with, flipped, solved, solved_sides, met_ends, met, from_to, solved_twice, one_in, between_in, sides_in, are_crossed, uncrossed, range_in, AreSides, AnswersRange}
 use Rattle.net_linear.specs.NetTerms.{net_side, at_inflow}
-use Rattle.net_fault.specs.Outcomes.{Outcome, and_then, refused}
+use Rattle.net_fault.specs.Outcomes.{Outcome, and_then, rejected}
 use Rattle.net_linear.specs.Amounts.{number_or_none}
 use Rattle.net_linear.proofs.NetTerms.{is_clear, side_ok}
 use Rattle.net_linear.proofs.Sizes.{difference_sized}
@@ -69,7 +69,7 @@ solved_ok at (Some c) Outflow Absent a b r y p q e h k = at_same r _ y _ e (with
 solved_ok at (Some c) Absent Inflow a b r y p q e h k = at_same r _ y _ e (within_flipped c (a -ℤ b) y p q (omega (arith, ints, h refl, k refl)))
 solved_ok at _ _ _ a b r y p q e h k = cc
 
-if_small : {A : Type 0} (b : Bool) (o : Outcome A) (at : Span) (r : A) → (if b then o else refused ValueTooLarge at) ≡ Ok r → (b ≡ true) × (o ≡ Ok r)
+if_small : {A : Type 0} (b : Bool) (o : Outcome A) (at : Span) (r : A) → (if b then o else rejected ValueTooLarge at) ≡ Ok r → (b ≡ true) × (o ≡ Ok r)
 if_small true o at r e = (refl, e)
 if_small false o at r e = cc
 

@@ -3,16 +3,16 @@ use Rattle.std.specs.Prelude.{◌≡◌, true, false, Option, Some, Result, ℤ}
 use Rattle.std.proofs.Common.{sym, subst}
 use Rattle.net_fault.specs.declared.span.Span.{Span}
 use Rattle.net_fault.specs.declared.fault.Fault.{Fault}
-use Rattle.net_fault.specs.Outcomes.{Answers}
+use Rattle.net_fault.specs.Outcomes.{Refines}
 use Rattle.net_linear.specs.Forms.{Linear, Term, is_number, just, sized, scaled, times}
 use Rattle.net_linear.specs.Objectives.{plain_term}
 
-pub plain_number : (at : Span) (o : Option ℤ) (n : ℤ) (r : Result Term Fault) → o ≡ Some n → Answers (sized at (just n)) r → Answers (plain_term at o) r
-plain_number at o n r is h = subst (λ k. Answers (plain_term at k) r) (sym is) h
+pub plain_number : (at : Span) (o : Option ℤ) (n : ℤ) (r : Result Term Fault) → o ≡ Some n → Refines (sized at (just n)) r → Refines (plain_term at o) r
+plain_number at o n r is h = subst (λ k. Refines (plain_term at k) r) (sym is) h
 
-pub times_left : (at : Span) (f g : Linear) (k : ℤ) (r : Result Term Fault) → is_number f.products ≡ true → k ≡ f.constant → Answers (scaled at k g) r → Answers (times at f g) r
-times_left at f g k r left is h = rw left (subst (λ m. Answers (scaled at m g) r) is h)
+pub times_left : (at : Span) (f g : Linear) (k : ℤ) (r : Result Term Fault) → is_number f.products ≡ true → k ≡ f.constant → Refines (scaled at k g) r → Refines (times at f g) r
+times_left at f g k r left is h = rw left (subst (λ m. Refines (scaled at m g) r) is h)
 
-pub times_right : (at : Span) (f g : Linear) (k : ℤ) (r : Result Term Fault) → is_number f.products ≡ false → is_number g.products ≡ true → k ≡ g.constant → Answers (scaled at k f) r
-    → Answers (times at f g) r
-times_right at f g k r left right is h = rw left (rw right (subst (λ m. Answers (scaled at m f) r) is h))
+pub times_right : (at : Span) (f g : Linear) (k : ℤ) (r : Result Term Fault) → is_number f.products ≡ false → is_number g.products ≡ true → k ≡ g.constant → Refines (scaled at k f) r
+    → Refines (times at f g) r
+times_right at f g k r left right is h = rw left (rw right (subst (λ m. Refines (scaled at m f) r) is h))

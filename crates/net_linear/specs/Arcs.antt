@@ -4,10 +4,10 @@ use Rattle.net_fault.specs.declared.span.Span.{Span}
 use Rattle.net_sets.specs.Names.{named}
 use Rattle.net_sets.specs.Sets.{Tuple, place_of}
 use Rattle.net_fault.specs.declared.detail.Detail.{Detail}
-use Rattle.net_fault.specs.declared.defect.Defect.TheVariants.{OutsideSet, Arity, NotLinear}
+use Rattle.net_fault.specs.declared.error_code.ErrorCode.TheVariants.{OutsideSet, Arity, NotLinear}
 use Rattle.net_expr.specs.Worlds.{Name, key_count, reference}
 use Rattle.net_linear.specs.declared.arc.ArcKeys.{ArcKeys}
-use Rattle.net_fault.specs.Outcomes.{Outcome, refused, refused_of}
+use Rattle.net_fault.specs.Outcomes.{Outcome, rejected, rejected_of}
 
 -- the declarations of arcs in order, each with its name
 abbrev pub Arcs : Type 0
@@ -22,11 +22,11 @@ is_arc arcs name = is_some (declared arcs name)
 
 -- the number of the arc at this index in its declaration
 abbrev pub numbered : Span → Detail → ℕ → Option ℕ → Outcome ℕ
-numbered at d first None = refused_of OutsideSet at d
+numbered at d first None = rejected_of OutsideSet at d
 numbered at d first (Some place) = Ok (first + place)
 
 -- the number of the arc with a name and a key
 abbrev pub arc_at : Span → Name → Option ArcKeys → Tuple → Outcome ℕ
-arc_at at name None key = refused NotLinear at
+arc_at at name None key = rejected NotLinear at
 arc_at at name (Some a) key =
-    if nat_eq (length key) (key_count a.keys) then numbered at (reference name a.keys key) a.first (place_of a.index key) else refused Arity at
+    if nat_eq (length key) (key_count a.keys) then numbered at (reference name a.keys key) a.first (place_of a.index key) else rejected Arity at

@@ -12,7 +12,7 @@ use Rattle.net_tree.specs.Role.{role_of}
 use Rattle.net_tree.specs.Spans.{span_of}
 pub use Rattle.net_tree.specs.Spans.{from_to}
 use Rattle.net_tree.specs.Tree.{Tree, Links, net, chain, none, link, Condition, unsaid, one, between}
-use Rattle.net_fault.specs.declared.defect.Defect.TheVariants.{KindMismatch, ValueTooLarge}
+use Rattle.net_fault.specs.declared.error_code.ErrorCode.TheVariants.{KindMismatch, ValueTooLarge}
 use Rattle.net_expr.specs.Limits.{is_small}
 use Rattle.net_expr.specs.Numbers.{turned}
 use Rattle.net_tree.specs.Operations.{is_minus, operation}
@@ -27,7 +27,7 @@ use Rattle.net_tree.specs.declared.operator.BinOp.TheVariants.{Plus, Minus}
 use Rattle.net_linear.specs.declared.net_term.NetTerm.{NetTerm}
 use Rattle.net_linear.specs.declared.net_term.NetTerm.TheVariants.{Absent, Inflow, Outflow}
 use Rattle.net_linear.specs.NetTerms.{has_minus, is_outflow, are_terms, net_side}
-use Rattle.net_fault.specs.Outcomes.{Outcome, and_then, refused}
+use Rattle.net_fault.specs.Outcomes.{Outcome, and_then, rejected}
 use Rattle.net_linear.specs.Amounts.{number_or_none}
 
 -- the relations `=`, `==`, `<=` and `>=`
@@ -92,18 +92,18 @@ solved at (Some c) Inflow Absent a b = Ok (compared_with c (b -ℤ a))
 solved at (Some c) Absent Outflow a b = Ok (compared_with c (b -ℤ a))
 solved at (Some c) Outflow Absent a b = Ok (compared_with (flipped c) (a -ℤ b))
 solved at (Some c) Absent Inflow a b = Ok (compared_with (flipped c) (a -ℤ b))
-solved at _ _ _ a b = refused KindMismatch at
+solved at _ _ _ a b = rejected KindMismatch at
 
 -- two sides with a comparison
 abbrev pub solved_sides : Span → Option Comparison → NetTerm → NetTerm → Option ℤ → Option ℤ → Outcome Sides
-solved_sides at c m n (Some a) (Some b) = if is_small a && is_small b then solved at c m n a b else refused ValueTooLarge at
-solved_sides at c m n _ _ = refused KindMismatch at
+solved_sides at c m n (Some a) (Some b) = if is_small a && is_small b then solved at c m n a b else rejected ValueTooLarge at
+solved_sides at c m n _ _ = rejected KindMismatch at
 
 -- the intersection of two ranges, of which one has the low side and the other the high one
 abbrev pub met_ends : Span → Option ℤ → Option ℤ → Option ℤ → Option ℤ → Outcome Sides
 met_ends at None (Some h) (Some l) None = Ok (record { low = Some l; high = Some h })
 met_ends at (Some l) None None (Some h) = Ok (record { low = Some l; high = Some h })
-met_ends at _ _ _ _ = refused KindMismatch at
+met_ends at _ _ _ _ = rejected KindMismatch at
 
 abbrev pub met : Span → Sides → Sides → Outcome Sides
 met at r q = met_ends at r.low r.high q.low q.high

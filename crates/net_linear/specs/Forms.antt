@@ -1,12 +1,12 @@
 -- Linear forms: sums of arcs with coefficients, and their arithmetic.
 use Rattle.std.specs.Prelude.{ℕ, ◌≤◌, unsigned_abs, Bool, true, false, not, ◌&&◌, ◌||◌, List, [], ◌∷◌, nat_eq, Option, None, Some, if◌then◌else◌, Ok, ℤ, pos, negsuc, ◌+ℤ◌, ◌*ℤ◌, int_div, int_rem}
 use Rattle.net_fault.specs.declared.span.Span.{Span}
-use Rattle.net_fault.specs.declared.defect.Defect.TheVariants.{KindMismatch, DivMod, ValueTooLarge, NotLinear}
+use Rattle.net_fault.specs.declared.error_code.ErrorCode.TheVariants.{KindMismatch, DivMod, ValueTooLarge, NotLinear}
 use Rattle.net_expr.specs.Limits.{is_small}
 use Rattle.net_expr.specs.Numbers.{divides}
 use Rattle.net_tree.specs.declared.operator.BinOp.{BinOp}
 use Rattle.net_tree.specs.declared.operator.BinOp.TheVariants.{Plus, Minus, Times, Div, Mod}
-use Rattle.net_fault.specs.Outcomes.{Outcome, and_then, refused}
+use Rattle.net_fault.specs.Outcomes.{Outcome, and_then, rejected}
 
 -- numbers of arcs, each at most once, with their coefficients
 abbrev pub Products : Type 0
@@ -67,7 +67,7 @@ if_sized f = if is_sized f then Some f else None
 
 abbrev pub within : Span → Term → Outcome Term
 within at (Some f) = Ok (Some f)
-within at None = refused ValueTooLarge at
+within at None = rejected ValueTooLarge at
 
 -- the result of arithmetic
 abbrev pub sized : Span → Linear → Outcome Term
@@ -81,14 +81,14 @@ abbrev pub times : Span → Linear → Linear → Outcome Term
 times at f g =
     if is_number f.products then sized at (combined (just (pos 0)) f.constant g)
     else if is_number g.products then sized at (combined (just (pos 0)) g.constant f)
-    else refused NotLinear at
+    else rejected NotLinear at
 
 abbrev pub quotient : Span → (ℤ → ℤ → ℤ) → ℤ → ℤ → Outcome Term
-quotient at h m n = if divides m n then sized at (just (h m n)) else refused DivMod at
+quotient at h m n = if divides m n then sized at (just (h m n)) else rejected DivMod at
 
 -- both sides must be constant
 abbrev pub divided : Span → (ℤ → ℤ → ℤ) → Linear → Linear → Outcome Term
-divided at h f g = if is_number f.products && is_number g.products then quotient at h f.constant g.constant else refused NotLinear at
+divided at h f g = if is_number f.products && is_number g.products then quotient at h f.constant g.constant else rejected NotLinear at
 
 abbrev pub joined : BinOp → Span → Linear → Linear → Outcome Term
 joined Plus at f g = sized at (combined f (pos 1) g)
@@ -96,11 +96,11 @@ joined Minus at f g = sized at (combined f minus_one g)
 joined Times at f g = times at f g
 joined Div at f g = divided at int_div f g
 joined Mod at f g = divided at int_rem f g
-joined _ at f g = refused NotLinear at
+joined _ at f g = rejected NotLinear at
 
 abbrev pub join : BinOp → Span → Term → Term → Outcome Term
 join j at (Some f) (Some g) = joined j at f g
-join j at _ _ = refused KindMismatch at
+join j at _ _ = rejected KindMismatch at
 
 -- k * f
 abbrev pub scaled : Span → ℤ → Linear → Outcome Term
@@ -108,21 +108,21 @@ scaled at k f = sized at (combined (just (pos 0)) k f)
 
 -- with an optional minus sign
 abbrev pub turn : Bool → Span → Term → Outcome Term
-turn minus at None = refused KindMismatch at
+turn minus at None = rejected KindMismatch at
 turn true at (Some f) = scaled at minus_one f
 turn false at (Some f) = Ok (Some f)
 
 abbrev pub or_too_large : Span → Term → Outcome Linear
 or_too_large at (Some f) = Ok f
-or_too_large at None = refused ValueTooLarge at
+or_too_large at None = rejected ValueTooLarge at
 
 -- adds a cost coefficient of an arc, which is within the limit
 abbrev pub priced : Span → Linear → ℕ → ℤ → Outcome Linear
-priced at f arc price = if is_small price then or_too_large at (if_sized (combined f price (one_arc arc))) else refused ValueTooLarge at
+priced at f arc price = if is_small price then or_too_large at (if_sized (combined f price (one_arc arc))) else rejected ValueTooLarge at
 
 -- adds a term of a sum; only the total is checked against the limit
 abbrev pub gathered : Span → Linear → Term → Outcome Linear
-gathered at sum None = refused KindMismatch at
+gathered at sum None = rejected KindMismatch at
 gathered at sum (Some f) = Ok (combined sum (pos 1) f)
 
 abbrev pub gathered_over : {S : Type 0} → Span → (S → Outcome Term) → List S → Linear → Outcome Linear
@@ -134,7 +134,7 @@ total at body ss = and_then (gathered_over at body ss (just (pos 0))) (sized at)
 
 -- a term must be numeric
 abbrev pub as_form : Span → Term → Outcome Linear
-as_form at None = refused KindMismatch at
+as_form at None = rejected KindMismatch at
 as_form at (Some f) = Ok f
 
 -- no arc occurs twice

@@ -5,6 +5,6 @@ pub mod Conditions
 pub mod Arcs
 pub mod Forms
 pub mod Objectives
-pub mod Worths
+pub mod ObjectiveValues
 pub mod Laws
 pub mod Soundness

@@ -13,15 +13,15 @@ use Rattle.net_expr.specs.Operators.{truth, tuple_of}
 use Rattle.net_expr.specs.Values.{value, values, index}
 use Rattle.net_expr.specs.Worlds.{Name, World, Scope}
 use Rattle.net_sets.specs.Sets.{Tuple}
-use Rattle.net_fault.specs.declared.defect.Defect.{Defect}
-use Rattle.net_fault.specs.declared.defect.Defect.TheVariants.{NotLinear}
+use Rattle.net_fault.specs.declared.error_code.ErrorCode.{ErrorCode}
+use Rattle.net_fault.specs.declared.error_code.ErrorCode.TheVariants.{NotLinear}
 use Rattle.net_tree.specs.declared.operator.BinOp.{BinOp}
 use Rattle.net_tree.specs.declared.operator.BinOp.TheVariants.{Plus, Minus, Times, Div, Mod}
 use Rattle.net_linear.specs.Arcs.{Arcs, declared, is_arc, arc_at}
 use Rattle.net_linear.specs.Conditions.{number_of}
 use Rattle.net_linear.specs.Forms.{Linear, Term, just, one_arc, sized, join, turn, total, as_form}
 use Rattle.net_linear.specs.Signs.{is_sign}
-use Rattle.net_fault.specs.Outcomes.{Outcome, and_then, refused}
+use Rattle.net_fault.specs.Outcomes.{Outcome, and_then, rejected}
 use Rattle.net_linear.specs.Amounts.{number_or_none}
 
 -- the tree contains an arc
@@ -95,7 +95,7 @@ mixed w s t false u = and_then (number_or_none w s t) (plain_term (span_of t))
 -- the outcome u if an arc is allowed there, else NotLinear
 abbrev pub linear : Span → Bool → Outcome Term → Outcome Term
 linear at true u = u
-linear at false u = refused NotLinear at
+linear at false u = rejected NotLinear at
 
 -- the key of a reference to an arc; its subscripts are evaluated first
 abbrev pub key_of : World → Scope → Span → Tree → Links → Outcome Tuple
@@ -117,9 +117,9 @@ abbrev mutual
       mixed w s (indexed n o x l c) (names_arc a (indexed n o x l c))
       (linear (span_of (indexed n o x l c)) (not (names_arc a x || any_arc a l)) (arc_term a (span_of (indexed n o x l c)) n.text (key_of w s (span_of (indexed n o x l c)) x l)))
   objective a w s (parens o x c) = mixed w s (parens o x c) (names_arc a x) (objective a w s x)
-  objective a w s (tuple o x l c) = mixed w s (tuple o x l c) (names_arc a (tuple o x l c)) (refused NotLinear (span_of (tuple o x l c)))
-  objective a w s (negated n o x c) = mixed w s (negated n o x c) (names_arc a x) (refused NotLinear (span_of (negated n o x c)))
-  objective a w s (braced b) = mixed w s (braced b) (braces_arc a b) (refused NotLinear (span_of (braced b)))
+  objective a w s (tuple o x l c) = mixed w s (tuple o x l c) (names_arc a (tuple o x l c)) (rejected NotLinear (span_of (tuple o x l c)))
+  objective a w s (negated n o x c) = mixed w s (negated n o x c) (names_arc a x) (rejected NotLinear (span_of (negated n o x c)))
+  objective a w s (braced b) = mixed w s (braced b) (braces_arc a b) (rejected NotLinear (span_of (braced b)))
   objective a w s (signed t x) = mixed w s (signed t x) (names_arc a x) (and_then (objective a w s x) (turn (is_minus t) (span_of (signed t x))))
   objective a w s (reduced r b x) =
       mixed w s (reduced r b x) (names_arc a (reduced r b x))
@@ -132,7 +132,7 @@ abbrev mutual
       mixed w s (choice i x t y e) (names_arc a (choice i x t y e))
       (linear (span_of (choice i x t y e)) (not (names_arc a x))
       (and_then (condition w s (span_of (choice i x t y e)) x) (λ holds. if holds then objective a w s y else otherwise a w s e)))
-  objective a w s (net t u) = mixed w s (net t u) false (refused NotLinear (span_of (net t u)))
+  objective a w s (net t u) = mixed w s (net t u) false (rejected NotLinear (span_of (net t u)))
 
   -- a missing `else` is 0
   pub otherwise : Arcs → World → Scope → Part → Outcome Term
@@ -157,7 +157,7 @@ with_arcs a w s (chain n x l) = linear (span_of (chain n x l)) (is_linear a x l)
 with_arcs a w s (choice i x t y e) =
     linear (span_of (choice i x t y e)) (not (names_arc a x))
     (and_then (condition w s (span_of (choice i x t y e)) x) (λ holds. if holds then objective a w s y else otherwise a w s e))
-with_arcs a w s t = refused NotLinear (span_of t)
+with_arcs a w s t = rejected NotLinear (span_of t)
 
 -- the objective must be numeric
 abbrev pub objective_form : Arcs → World → Scope → Tree → Outcome Linear

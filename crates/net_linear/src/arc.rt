@@ -5,10 +5,10 @@ ghost use Rattle.std.specs.Option.{option_copied};
 ghost use Rattle.net_sets.specs.Sets.{place_of};
 ghost use Rattle.net_expr.specs.Worlds as worlds;
 ghost use Rattle.net_linear.specs.Arcs as lookup;
-ghost use Rattle.net_fault.specs.Outcomes.{Answers};
+ghost use Rattle.net_fault.specs.Outcomes.{Refines};
 
-use net_expr::told_reference;
-use net_fault::{Defect, Fault, Language, Span};
+use net_expr::reported_reference;
+use net_fault::{ErrorCode, Fault, Language, Span};
 use net_sets::{HashKey, NameMap, Tuple, TupleSet};
 use net_views::Excerpt;
 use std::alloc::{AllocError, Global};
@@ -84,7 +84,7 @@ fn key_count(keys: Option<u8>) -> usize
 }
 
 /// Returns the number of the arc with this index in its declaration.
-fn number_behind(arcs: &ArcKeys<'_>, place: usize) -> usize
+fn number_after(arcs: &ArcKeys<'_>, place: usize) -> usize
     requires { place < length arcs.now.index }
     ensures { result ≡ arcs.now.first + place }
 {
@@ -101,13 +101,13 @@ fn numbered<'s>(
     arcs: &ArcKeys<'s>,
     key: Tuple<'s>,
 ) -> Result<usize, Fault>
-    ensures { Answers (lookup.numbered at (worlds.reference name.now arcs.now.keys key.entry) arcs.now.first (place_of arcs.now.index key.entry)) result }
+    ensures { Refines (lookup.numbered at (worlds.reference name.now arcs.now.keys key.entry) arcs.now.first (place_of arcs.now.index key.entry)) result }
 {
     match arcs.index.position(&key) {
-        Some(place) => Ok(number_behind(arcs, place)),
+        Some(place) => Ok(number_after(arcs, place)),
         None => {
-            let detail = told_reference(alloc, name, arcs.keys, &key)?;
-            Err(Fault::of_text(Language::Model, Defect::OutsideSet, at, detail))
+            let detail = reported_reference(alloc, name, arcs.keys, &key)?;
+            Err(Fault::of_text(Language::Model, ErrorCode::OutsideSet, at, detail))
         }
     }
 }
@@ -120,15 +120,15 @@ pub(crate) fn arc_at<'s>(
     arcs: Option<&ArcKeys<'s>>,
     key: Tuple<'s>,
 ) -> Result<usize, Fault>
-    ensures { Answers (lookup.arc_at at name.now (option_copied arcs.entry) key.entry) result }
+    ensures { Refines (lookup.arc_at at name.now (option_copied arcs.entry) key.entry) result }
 {
     match arcs {
-        None => Err(Fault::of_model(Defect::NotLinear, at)),
+        None => Err(Fault::of_model(ErrorCode::NotLinear, at)),
         Some(arcs) => {
             if key.len() == key_count(arcs.keys) {
                 numbered(alloc, at, name, arcs, key)
             } else {
-                Err(Fault::of_model(Defect::Arity, at))
+                Err(Fault::of_model(ErrorCode::Arity, at))
             }
         }
     }

@@ -6,13 +6,13 @@ ghost use Rattle.net_tree.specs.Role as role;
 ghost use Rattle.net_tree.specs.View.{tree, condition_of};
 ghost use Rattle.net_expr.specs.Limits.{is_small};
 ghost use Rattle.net_linear.specs.Conditions as conditions;
-ghost use Rattle.net_fault.specs.Outcomes.{Answers};
+ghost use Rattle.net_fault.specs.Outcomes.{Refines};
 ghost use Rattle.net_linear.specs.declared.condition.Comparison.TheVariants.{Equal};
 
 use crate::net_term::{NetTerm, net_side};
 use crate::value::number_or_none;
 use net_expr::{Env, Scope, is_small};
-use net_fault::{Defect, Fault, Span};
+use net_fault::{ErrorCode, Fault, Span};
 use net_lex::Token;
 use net_normal::NodeRange;
 use net_tree::{Expr, NetCond, Relation, Role, role_of, span_of};
@@ -103,7 +103,7 @@ fn solved(
     b: &i64,
 ) -> Result<Sides, Fault>
     requires { IsTrue (is_small a.now && is_small b.now) }
-    ensures { Answers (conditions.solved at comparison left right a.now b.now) result }
+    ensures { Refines (conditions.solved at comparison left right a.now b.now) result }
 {
     match (comparison, left, right) {
         (Some(comparison), NetTerm::Inflow, NetTerm::Absent) => {
@@ -118,7 +118,7 @@ fn solved(
         (Some(comparison), NetTerm::Absent, NetTerm::Inflow) => {
             Ok(compared_with(flipped(comparison), less(a, b)))
         }
-        _ => Err(Fault::of_model(Defect::KindMismatch, at)),
+        _ => Err(Fault::of_model(ErrorCode::KindMismatch, at)),
     }
 }
 
@@ -130,24 +130,24 @@ fn solved_sides(
     a: &Option<i64>,
     b: &Option<i64>,
 ) -> Result<Sides, Fault>
-    ensures { Answers (conditions.solved_sides at comparison left right a.now b.now) result }
+    ensures { Refines (conditions.solved_sides at comparison left right a.now b.now) result }
 {
     match (a, b) {
         (Some(a), Some(b)) => {
             if is_small(a) && is_small(b) {
                 solved(at, comparison, left, right, a, b)
             } else {
-                Err(Fault::of_model(Defect::ValueTooLarge, at))
+                Err(Fault::of_model(ErrorCode::ValueTooLarge, at))
             }
         }
-        _ => Err(Fault::of_model(Defect::KindMismatch, at)),
+        _ => Err(Fault::of_model(ErrorCode::KindMismatch, at)),
     }
 }
 
 /// Returns the intersection of two ranges, of which one has the low side and the other the high
 /// one.
 fn met(at: Span, first: Sides, second: Sides) -> Result<Sides, Fault>
-    ensures { Answers (conditions.met at first second) result }
+    ensures { Refines (conditions.met at first second) result }
 {
     match (first.low, first.high, second.low, second.high) {
         (None, Some(high), Some(low), None) => Ok(Sides {
@@ -158,7 +158,7 @@ fn met(at: Span, first: Sides, second: Sides) -> Result<Sides, Fault>
             low: Some(low),
             high: Some(high),
         }),
-        _ => Err(Fault::of_model(Defect::KindMismatch, at)),
+        _ => Err(Fault::of_model(ErrorCode::KindMismatch, at)),
     }
 }
 
@@ -170,7 +170,7 @@ fn solved_twice(
     middle: &Option<i64>,
     high: &Option<i64>,
 ) -> Result<Sides, Fault>
-    ensures { Answers (conditions.solved_twice at comparisons.0 comparisons.1 terms.0 terms.1 terms.2 low.now middle.now high.now) result }
+    ensures { Refines (conditions.solved_twice at comparisons.0 comparisons.1 terms.0 terms.1 terms.2 low.now middle.now high.now) result }
 {
     let first = solved_sides(at, comparisons.0, terms.0, terms.1, low, middle)?;
     let second = solved_sides(at, comparisons.1, terms.1, terms.2, middle, high)?;
@@ -185,7 +185,7 @@ fn one<'s>(
     operator: &Token<'s>,
     right: &Expr<'s>,
 ) -> Result<Sides, Fault>
-    ensures { Answers (conditions.one_in env.now scope.now (tree left.now) operator.now (tree right.now)) result }
+    ensures { Refines (conditions.one_in env.now scope.now (tree left.now) operator.now (tree right.now)) result }
 {
     let a = number_or_none(alloc, env, scope, left)?;
     let b = number_or_none(alloc, env, scope, right)?;
@@ -202,7 +202,7 @@ fn between<'s>(
     middle: &Expr<'s>,
     right: (&Token<'s>, &Expr<'s>),
 ) -> Result<Sides, Fault>
-    ensures { Answers (conditions.between_in env.now scope.now (tree left.entry.0.now) left.entry.1.now (tree middle.now) right.entry.0.now (tree
+    ensures { Refines (conditions.between_in env.now scope.now (tree left.entry.0.now) left.entry.1.now (tree middle.now) right.entry.0.now (tree
         right.entry.1.now)) result }
 {
     let low = number_or_none(alloc, env, scope, left.0)?;
@@ -227,7 +227,7 @@ fn sides_of<'s>(
     scope: &Scope<'s>,
     condition: &NetCond<'s>,
 ) -> Result<Sides, Fault>
-    ensures { Answers (conditions.sides_in env.now scope.now (condition_of condition.now)) result }
+    ensures { Refines (conditions.sides_in env.now scope.now (condition_of condition.now)) result }
 {
     match condition {
         NetCond::Absent => Ok(balanced()),

@@ -2,7 +2,7 @@
 
 ghost use Rattle.net_tree.specs.Spans as trees;
 ghost use Rattle.net_tree.specs.View.{tree, links_of};
-ghost use Rattle.net_fault.specs.Outcomes.{Answers};
+ghost use Rattle.net_fault.specs.Outcomes.{Refines};
 ghost use Rattle.net_linear.specs.Objectives as objectives;
 
 use net_expr::{Env, Scope};
@@ -21,7 +21,7 @@ pub fn key_of<'s>(
     first: &Expr<'s>,
     more: &[Link<'s>],
 ) -> Result<Tuple<'s>, Fault>
-    ensures { Answers (objectives.key_of env.now scope.now (trees.span_of (tree whole.now)) (tree first.now) (links_of more.now)) result }
+    ensures { Refines (objectives.key_of env.now scope.now (trees.span_of (tree whole.now)) (tree first.now) (links_of more.now)) result }
 {
     net_expr::key_of(alloc, env, scope, whole, first, more)
 }

@@ -20,7 +20,7 @@ pub use arc::{ArcKeys, ArcNames};
 pub use condition::{Comparison, Sides, node_range};
 pub use form::Affine;
 pub use key::key_of;
-pub use laws::forms_have_worth;
+pub use laws::forms_have_value;
 pub use net_term::NetTerm;
 pub use objectives::objective;
 pub use price::with_price;

@@ -8,8 +8,8 @@ ghost use Rattle.net_tree.specs.Operations as operations;
 ghost use Rattle.net_expr.specs.Values as values;
 ghost use Rattle.net_linear.specs.Forms as forms;
 ghost use Rattle.net_linear.specs.Objectives as objectives;
-ghost use Rattle.net_fault.specs.Outcomes.{Answers, and_then};
-ghost use Rattle.net_linear.specs.Worths.{worth};
+ghost use Rattle.net_fault.specs.Outcomes.{Refines, and_then};
+ghost use Rattle.net_linear.specs.ObjectiveValues.{value_of_tree};
 
 use crate::arc::{ArcNames, arc_at};
 use crate::form::{Affine, Sum};
@@ -17,8 +17,8 @@ use crate::key::key_of;
 use crate::names::{any_arc, braces_arc, is_linear, names_arc};
 use crate::term::{gather, join, plain_term, sized, turn};
 use crate::value::{is_sum, number_or_none, truth_of};
-use net_expr::{Env, Keys, Scope, index_of, refuse_tree};
-use net_fault::{Defect, Fault, Span};
+use net_expr::{Env, Keys, Scope, index_of, reject_tree};
+use net_fault::{ErrorCode, Fault, Span};
 use net_lex::Token;
 use net_sets::Tuple;
 use net_tree::{Braces, Expr, Link, Part, Reducer, Series, Sign, span_of};
@@ -41,7 +41,7 @@ fn arc_term<'s>(
     name: &Token<'s>,
     key: Tuple<'s>,
 ) -> Result<Option<Affine>, Fault>
-    ensures { Answers (objectives.arc_term arcs.now at name.now.text (Ok key.entry)) result }
+    ensures { Refines (objectives.arc_term arcs.now at name.now.text (Ok key.entry)) result }
 {
     let arc = arc_at(alloc, at, &name.text, arcs.get(&name.text), key)?;
     Ok(Some(Affine::arc(alloc, arc)?))
@@ -54,7 +54,7 @@ fn indexed<'s>(
     name: &Token<'s>,
     subscripts: &Series<'s>,
 ) -> Result<Option<Affine>, Fault>
-    ensures { Answers (objectives.linear (trees.span_of (tree whole.now)) (not
+    ensures { Refines (objectives.linear (trees.span_of (tree whole.now)) (not
         (objectives.first_or_any among.now.arcs.now (tree (out-Series subscripts.now).first) (links_of (out-Series subscripts.now).more)))
         (objectives.arc_term among.now.arcs.now (trees.span_of (tree whole.now)) name.now.text (objectives.key_of among.now.env.now
         among.now.scope.now (trees.span_of (tree whole.now)) (tree (out-Series subscripts.now).first) (links_of (out-Series subscripts.now).more)))) result }
@@ -62,7 +62,7 @@ fn indexed<'s>(
     let Series { first, more } = subscripts;
     let more = more.as_slice();
     if any_arc(among.arcs, first, more) {
-        Err(refuse_tree(Defect::NotLinear, whole))
+        Err(reject_tree(ErrorCode::NotLinear, whole))
     } else {
         let key = key_of(alloc, among.env, among.scope, whole, first, more)?;
         arc_term(alloc, among.arcs, span_of(whole), name, key)
@@ -76,7 +76,7 @@ fn term_of<'s>(
     among: &Among<'_, '_, 's>,
     expr: &Expr<'s>,
 ) -> Result<Option<Affine>, Fault>
-    ensures { Answers (objectives.objective among.now.arcs.now among.now.env.now among.now.scope.now (tree expr.now)) result }
+    ensures { Refines (objectives.objective among.now.arcs.now among.now.env.now among.now.scope.now (tree expr.now)) result }
 {
     if names_arc(among.arcs, expr) {
         arcs_term(alloc, among, expr)
@@ -94,7 +94,7 @@ fn arcs_term<'s>(
     among: &Among<'_, '_, 's>,
     expr: &Expr<'s>,
 ) -> Result<Option<Affine>, Fault>
-    ensures { Answers (objectives.with_arcs among.now.arcs.now among.now.env.now among.now.scope.now (tree expr.now)) result }
+    ensures { Refines (objectives.with_arcs among.now.arcs.now among.now.env.now among.now.scope.now (tree expr.now)) result }
 {
     match expr {
         Expr::Leaf(token) => arc_term(alloc, among.arcs, span_of(expr), token, Tuple::new()),
@@ -120,10 +120,10 @@ fn arcs_term<'s>(
             &branch.get().value,
             otherwise,
         ),
-        Expr::Tuple(_) => Err(refuse_tree(Defect::NotLinear, expr)),
-        Expr::Negated(_) => Err(refuse_tree(Defect::NotLinear, expr)),
-        Expr::Braced(_) => Err(refuse_tree(Defect::NotLinear, expr)),
-        Expr::Net(_) => Err(refuse_tree(Defect::NotLinear, expr)),
+        Expr::Tuple(_) => Err(reject_tree(ErrorCode::NotLinear, expr)),
+        Expr::Negated(_) => Err(reject_tree(ErrorCode::NotLinear, expr)),
+        Expr::Braced(_) => Err(reject_tree(ErrorCode::NotLinear, expr)),
+        Expr::Net(_) => Err(reject_tree(ErrorCode::NotLinear, expr)),
     }
 }
 
@@ -135,7 +135,7 @@ fn signed<'s>(
     sign: &Sign<'s>,
     operand: &Expr<'s>,
 ) -> Result<Option<Affine>, Fault>
-    ensures { Answers (and_then (objectives.objective among.now.arcs.now among.now.env.now among.now.scope.now (tree operand.now))
+    ensures { Refines (and_then (objectives.objective among.now.arcs.now among.now.env.now among.now.scope.now (tree operand.now))
         (forms.turn (operations.is_minus sign.now) (trees.span_of (tree whole.now)))) result }
 {
     let term = term_of(alloc, among, operand)?;
@@ -152,7 +152,7 @@ fn reduced<'s>(
     braces: &Braces<'s>,
     body: &Expr<'s>,
 ) -> Result<Option<Affine>, Fault>
-    ensures { Answers (objectives.linear (trees.span_of (tree whole.now)) (objectives.is_sum (operations.reduction word.now) && not
+    ensures { Refines (objectives.linear (trees.span_of (tree whole.now)) (objectives.is_sum (operations.reduction word.now) && not
         (objectives.braces_arc among.now.arcs.now (braces_of braces.now))) (and_then (values.index among.now.env.now among.now.scope.now (braces_of braces.now))
         (λ k. forms.total (trees.span_of (tree whole.now)) (λ row. objectives.objective among.now.arcs.now among.now.env.now row.scope (tree body.now))
         k.rows))) result }
@@ -161,7 +161,7 @@ fn reduced<'s>(
         let keys = index_of(alloc, among.env, among.scope, braces)?;
         total(alloc, among, whole, body, keys)
     } else {
-        Err(refuse_tree(Defect::NotLinear, whole))
+        Err(reject_tree(ErrorCode::NotLinear, whole))
     }
 }
 
@@ -173,7 +173,7 @@ fn total<'s>(
     body: &Expr<'s>,
     keys: Keys<'s>,
 ) -> Result<Option<Affine>, Fault>
-    ensures { Answers (forms.total (trees.span_of (tree whole.now)) (λ row. objectives.objective among.now.arcs.now among.now.env.now row.scope (tree body.now))
+    ensures { Refines (forms.total (trees.span_of (tree whole.now)) (λ row. objectives.objective among.now.arcs.now among.now.env.now row.scope (tree body.now))
         keys.entry.rows) result }
 {
     let mut sum = Sum::number(alloc, &0);
@@ -198,7 +198,7 @@ fn chain<'s>(
     whole: &Expr<'s>,
     operands: &Series<'s>,
 ) -> Result<Option<Affine>, Fault>
-    ensures { Answers (objectives.linear (trees.span_of (tree whole.now)) (objectives.is_linear among.now.arcs.now (tree (out-Series operands.now).first)
+    ensures { Refines (objectives.linear (trees.span_of (tree whole.now)) (objectives.is_linear among.now.arcs.now (tree (out-Series operands.now).first)
         (links_of (out-Series operands.now).more)) (and_then (objectives.objective among.now.arcs.now among.now.env.now among.now.scope.now
         (tree (out-Series operands.now).first)) (objectives.chained among.now.arcs.now (trees.span_of (tree whole.now)) among.now.env.now among.now.scope.now
         (links_of (out-Series operands.now).more)))) result }
@@ -209,7 +209,7 @@ fn chain<'s>(
         let term = term_of(alloc, among, first)?;
         chained(alloc, among, whole, more, term)
     } else {
-        Err(refuse_tree(Defect::NotLinear, whole))
+        Err(reject_tree(ErrorCode::NotLinear, whole))
     }
 }
 
@@ -221,7 +221,7 @@ fn chained<'s>(
     links: &[Link<'s>],
     first: Option<Affine>,
 ) -> Result<Option<Affine>, Fault>
-    ensures { Answers (objectives.chained among.now.arcs.now (trees.span_of (tree whole.now)) among.now.env.now among.now.scope.now
+    ensures { Refines (objectives.chained among.now.arcs.now (trees.span_of (tree whole.now)) among.now.env.now among.now.scope.now
         (links_of links.now) first) result }
 {
     let mut term = first;
@@ -240,7 +240,7 @@ fn joined<'s>(
     link: &Link<'s>,
     term: Option<Affine>,
 ) -> Result<Option<Affine>, Fault>
-    ensures { Answers (and_then (objectives.objective among.now.arcs.now among.now.env.now among.now.scope.now (tree link.now.operand))
+    ensures { Refines (and_then (objectives.objective among.now.arcs.now among.now.env.now among.now.scope.now (tree link.now.operand))
         (forms.join (operations.operation link.now.operator) (trees.span_of (tree whole.now)) term)) result }
 {
     let other = term_of(alloc, among, &link.operand)?;
@@ -256,13 +256,13 @@ fn choice<'s>(
     branch: &Expr<'s>,
     otherwise: &Option<Boxed<Part<'s>>>,
 ) -> Result<Option<Affine>, Fault>
-    ensures { Answers (objectives.linear (trees.span_of (tree whole.now)) (not (objectives.names_arc among.now.arcs.now (tree condition.now))) (and_then
+    ensures { Refines (objectives.linear (trees.span_of (tree whole.now)) (not (objectives.names_arc among.now.arcs.now (tree condition.now))) (and_then
         (objectives.condition among.now.env.now among.now.scope.now (trees.span_of (tree whole.now)) (tree condition.now)) (λ holds.
         if holds then objectives.objective among.now.arcs.now among.now.env.now among.now.scope.now (tree branch.now)
         else objectives.otherwise among.now.arcs.now among.now.env.now among.now.scope.now (option_part otherwise.now)))) result }
 {
     if names_arc(among.arcs, condition) {
-        Err(refuse_tree(Defect::NotLinear, whole))
+        Err(reject_tree(ErrorCode::NotLinear, whole))
     } else {
         let holds = truth_of(alloc, among.env, among.scope, whole, condition)?;
         if holds {
@@ -281,7 +281,7 @@ fn other_branch<'s>(
     among: &Among<'_, '_, 's>,
     otherwise: &Option<Boxed<Part<'s>>>,
 ) -> Result<Option<Affine>, Fault>
-    ensures { Answers (objectives.otherwise among.now.arcs.now among.now.env.now among.now.scope.now (option_part otherwise.now)) result }
+    ensures { Refines (objectives.otherwise among.now.arcs.now among.now.env.now among.now.scope.now (option_part otherwise.now)) result }
 {
     match otherwise {
         None => Ok(Some(Affine::zero(alloc))),
@@ -296,12 +296,12 @@ fn form_of<'s>(
     scope: &Scope<'s>,
     expr: &Expr<'s>,
 ) -> Result<Affine, Fault>
-    ensures { Answers (objectives.objective_form arcs.now env.now scope.now (tree expr.now)) result }
+    ensures { Refines (objectives.objective_form arcs.now env.now scope.now (tree expr.now)) result }
 {
     let among = Among { arcs, env, scope };
     match term_of(alloc, &among, expr)? {
         Some(form) => Ok(form),
-        None => Err(refuse_tree(Defect::KindMismatch, expr)),
+        None => Err(reject_tree(ErrorCode::KindMismatch, expr)),
     }
 }
 
@@ -321,8 +321,8 @@ pub fn objective<'s>(
     scope: &Scope<'s>,
     expr: &Expr<'s>,
 ) -> Result<Affine, Fault>
-    ensures value { Answers (objectives.objective_form arcs.now env.now scope.now (tree expr.now)) result }
-    ensures worth { IfOk result (λ form. (x : ℕ → ℤ) → forms.form_at x form ≡ worth arcs.now env.now scope.now (tree expr.now) x) }
+    ensures value { Refines (objectives.objective_form arcs.now env.now scope.now (tree expr.now)) result }
+    ensures value_of_tree { IfOk result (λ form. (x : ℕ → ℤ) → forms.form_at x form ≡ value_of_tree arcs.now env.now scope.now (tree expr.now) x) }
 {
     form_of(alloc, arcs, env, scope, expr)
 }

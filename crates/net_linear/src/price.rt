@@ -4,20 +4,20 @@ ghost use Rattle.std.specs.Prelude.{◌≡◌, ◌+ℤ◌, ◌*ℤ◌, IfOk, ℕ
 ghost use Rattle.net_tree.specs.Spans as trees;
 ghost use Rattle.net_tree.specs.View.{tree};
 ghost use Rattle.net_linear.specs.Forms as forms;
-ghost use Rattle.net_fault.specs.Outcomes.{Answers};
+ghost use Rattle.net_fault.specs.Outcomes.{Refines};
 
 use crate::form::Affine;
-use net_expr::{is_small_wide, refuse_tree};
-use net_fault::{Defect, Fault};
+use net_expr::{is_small_wide, reject_tree};
+use net_fault::{ErrorCode, Fault};
 use net_tree::Expr;
 use std::alloc::Global;
 
 fn or_too_large(whole: &Expr<'_>, form: Option<Affine>) -> Result<Affine, Fault>
-    ensures { Answers (forms.or_too_large (trees.span_of (tree whole.now)) form) result }
+    ensures { Refines (forms.or_too_large (trees.span_of (tree whole.now)) form) result }
 {
     match form {
         Some(form) => Ok(form),
-        None => Err(refuse_tree(Defect::ValueTooLarge, whole)),
+        None => Err(reject_tree(ErrorCode::ValueTooLarge, whole)),
     }
 }
 
@@ -28,14 +28,14 @@ fn priced_wide(
     whole: &Expr<'_>,
     price: &i128,
 ) -> Result<Affine, Fault>
-    ensures { Answers (forms.priced (trees.span_of (tree whole.now)) form arc price.now) result }
+    ensures { Refines (forms.priced (trees.span_of (tree whole.now)) form arc price.now) result }
 {
     if is_small_wide(price) {
         let one = Affine::arc(alloc, arc)?;
         let sum = form.plus(price, &one)?;
         or_too_large(whole, sum)
     } else {
-        Err(refuse_tree(Defect::ValueTooLarge, whole))
+        Err(reject_tree(ErrorCode::ValueTooLarge, whole))
     }
 }
 
@@ -46,7 +46,7 @@ fn priced(
     whole: &Expr<'_>,
     price: &i64,
 ) -> Result<Affine, Fault>
-    ensures { Answers (forms.priced (trees.span_of (tree whole.now)) form arc price.now) result }
+    ensures { Refines (forms.priced (trees.span_of (tree whole.now)) form arc price.now) result }
 {
     priced_wide(alloc, form, arc, whole, &i128::from(*price))
 }
@@ -61,8 +61,8 @@ pub fn with_price(
     whole: &Expr<'_>,
     price: &i64,
 ) -> Result<Affine, Fault>
-    ensures value { Answers (forms.priced (trees.span_of (tree whole.now)) form arc price.now) result }
-    ensures worth { IfOk result (λ r. (x : ℕ → ℤ) → forms.form_at x r ≡ (forms.form_at x form +ℤ price.now *ℤ x arc)) }
+    ensures value { Refines (forms.priced (trees.span_of (tree whole.now)) form arc price.now) result }
+    ensures value_of_tree { IfOk result (λ r. (x : ℕ → ℤ) → forms.form_at x r ≡ (forms.form_at x form +ℤ price.now *ℤ x arc)) }
 {
     priced(alloc, form, arc, whole, price)
 }

@@ -7,31 +7,31 @@ ghost use Rattle.net_expr.specs.Limits.{is_small};
 ghost use Rattle.net_expr.specs.Numbers as numbers;
 ghost use Rattle.net_linear.specs.Forms as forms;
 ghost use Rattle.net_linear.specs.Objectives as objectives;
-ghost use Rattle.net_fault.specs.Outcomes.{Answers};
+ghost use Rattle.net_fault.specs.Outcomes.{Refines};
 
 use crate::form::{Affine, Sum};
-use net_expr::{is_small_wide, refuse_tree};
-use net_fault::{Defect, Fault};
+use net_expr::{is_small_wide, reject_tree};
+use net_fault::{ErrorCode, Fault};
 use net_tree::{BinOp, Expr};
 use std::alloc::Global;
 
 fn within(whole: &Expr<'_>, form: Option<Affine>) -> Result<Option<Affine>, Fault>
-    ensures { Answers (forms.within (trees.span_of (tree whole.now)) form) result }
+    ensures { Refines (forms.within (trees.span_of (tree whole.now)) form) result }
 {
     match form {
         Some(form) => Ok(Some(form)),
-        None => Err(refuse_tree(Defect::ValueTooLarge, whole)),
+        None => Err(reject_tree(ErrorCode::ValueTooLarge, whole)),
     }
 }
 
 /// Returns a constant as a term.
 fn number_term(alloc: Global, whole: &Expr<'_>, number: &i128) -> Result<Option<Affine>, Fault>
-    ensures { Answers (forms.sized (trees.span_of (tree whole.now)) (forms.just number.now)) result }
+    ensures { Refines (forms.sized (trees.span_of (tree whole.now)) (forms.just number.now)) result }
 {
     if is_small_wide(number) {
         Ok(Some(Affine::number(alloc, number)))
     } else {
-        Err(refuse_tree(Defect::ValueTooLarge, whole))
+        Err(reject_tree(ErrorCode::ValueTooLarge, whole))
     }
 }
 
@@ -41,7 +41,7 @@ pub(crate) fn plain_term(
     whole: &Expr<'_>,
     number: &Option<i64>,
 ) -> Result<Option<Affine>, Fault>
-    ensures { Answers (objectives.plain_term (trees.span_of (tree whole.now)) number.now) result }
+    ensures { Refines (objectives.plain_term (trees.span_of (tree whole.now)) number.now) result }
 {
     match number {
         None => Ok(None),
@@ -57,7 +57,7 @@ fn added(
     right: &Affine,
 ) -> Result<Option<Affine>, Fault>
     requires { is_small factor.now ≡ true }
-    ensures { Answers (forms.sized (trees.span_of (tree whole.now)) (forms.combined left factor.now right.now)) result }
+    ensures { Refines (forms.sized (trees.span_of (tree whole.now)) (forms.combined left factor.now right.now)) result }
 {
     let sum = left.plus(factor, right)?;
     within(whole, sum)
@@ -70,7 +70,7 @@ fn scaled(
     form: &Affine,
 ) -> Result<Option<Affine>, Fault>
     requires { is_small factor.now ≡ true }
-    ensures { Answers (forms.scaled (trees.span_of (tree whole.now)) factor.now form.now) result }
+    ensures { Refines (forms.scaled (trees.span_of (tree whole.now)) factor.now form.now) result }
 {
     added(whole, Affine::zero(alloc), factor, form)
 }
@@ -81,7 +81,7 @@ fn times(
     left: &Affine,
     right: &Affine,
 ) -> Result<Option<Affine>, Fault>
-    ensures { Answers (forms.times (trees.span_of (tree whole.now)) left.now right.now) result }
+    ensures { Refines (forms.times (trees.span_of (tree whole.now)) left.now right.now) result }
 {
     if left.is_number() {
         let factor = left.wide_constant();
@@ -90,7 +90,7 @@ fn times(
         let factor = right.wide_constant();
         scaled(alloc, whole, &factor, left)
     } else {
-        Err(refuse_tree(Defect::NotLinear, whole))
+        Err(reject_tree(ErrorCode::NotLinear, whole))
     }
 }
 
@@ -115,22 +115,22 @@ fn remainder_of(a: &i128, b: &i128) -> i128
 }
 
 fn quotient(alloc: Global, whole: &Expr<'_>, a: &i128, b: &i128) -> Result<Option<Affine>, Fault>
-    ensures { Answers (forms.quotient (trees.span_of (tree whole.now)) int_div a.now b.now) result }
+    ensures { Refines (forms.quotient (trees.span_of (tree whole.now)) int_div a.now b.now) result }
 {
     if divides(a, b) {
         number_term(alloc, whole, &quotient_of(a, b))
     } else {
-        Err(refuse_tree(Defect::DivMod, whole))
+        Err(reject_tree(ErrorCode::DivMod, whole))
     }
 }
 
 fn remainder(alloc: Global, whole: &Expr<'_>, a: &i128, b: &i128) -> Result<Option<Affine>, Fault>
-    ensures { Answers (forms.quotient (trees.span_of (tree whole.now)) int_rem a.now b.now) result }
+    ensures { Refines (forms.quotient (trees.span_of (tree whole.now)) int_rem a.now b.now) result }
 {
     if divides(a, b) {
         number_term(alloc, whole, &remainder_of(a, b))
     } else {
-        Err(refuse_tree(Defect::DivMod, whole))
+        Err(reject_tree(ErrorCode::DivMod, whole))
     }
 }
 
@@ -146,13 +146,13 @@ fn div(
     left: &Affine,
     right: &Affine,
 ) -> Result<Option<Affine>, Fault>
-    ensures { Answers (forms.divided (trees.span_of (tree whole.now)) int_div left.now right.now) result }
+    ensures { Refines (forms.divided (trees.span_of (tree whole.now)) int_div left.now right.now) result }
 {
     if are_numbers(left, right) {
         let (a, b) = (left.wide_constant(), right.wide_constant());
         quotient(alloc, whole, &a, &b)
     } else {
-        Err(refuse_tree(Defect::NotLinear, whole))
+        Err(reject_tree(ErrorCode::NotLinear, whole))
     }
 }
 
@@ -162,20 +162,20 @@ fn modulo(
     left: &Affine,
     right: &Affine,
 ) -> Result<Option<Affine>, Fault>
-    ensures { Answers (forms.divided (trees.span_of (tree whole.now)) int_rem left.now right.now) result }
+    ensures { Refines (forms.divided (trees.span_of (tree whole.now)) int_rem left.now right.now) result }
 {
     if are_numbers(left, right) {
         let (a, b) = (left.wide_constant(), right.wide_constant());
         remainder(alloc, whole, &a, &b)
     } else {
-        Err(refuse_tree(Defect::NotLinear, whole))
+        Err(reject_tree(ErrorCode::NotLinear, whole))
     }
 }
 
 /// Returns the difference of two forms.
 #[tactic(auto, unfolding(net_expr::specs::Limits::is_small))]
 fn less(whole: &Expr<'_>, left: Affine, right: &Affine) -> Result<Option<Affine>, Fault>
-    ensures { Answers (forms.sized (trees.span_of (tree whole.now)) (forms.combined left forms.minus_one right.now)) result }
+    ensures { Refines (forms.sized (trees.span_of (tree whole.now)) (forms.combined left forms.minus_one right.now)) result }
 {
     added(whole, left, &-1, right)
 }
@@ -188,7 +188,7 @@ fn joined(
     left: Affine,
     right: &Affine,
 ) -> Result<Option<Affine>, Fault>
-    ensures { Answers (forms.joined op (trees.span_of (tree whole.now)) left right.now) result }
+    ensures { Refines (forms.joined op (trees.span_of (tree whole.now)) left right.now) result }
 {
     match op {
         BinOp::Plus => added(whole, left, &1, right),
@@ -196,7 +196,7 @@ fn joined(
         BinOp::Times => times(alloc, whole, &left, right),
         BinOp::Div => div(alloc, whole, &left, right),
         BinOp::Mod => modulo(alloc, whole, &left, right),
-        _ => Err(refuse_tree(Defect::NotLinear, whole)),
+        _ => Err(reject_tree(ErrorCode::NotLinear, whole)),
     }
 }
 
@@ -208,12 +208,12 @@ pub(crate) fn join(
     left: Option<Affine>,
     right: &Option<Affine>,
 ) -> Result<Option<Affine>, Fault>
-    ensures { Answers (forms.join op (trees.span_of (tree whole.now)) left right.now) result }
+    ensures { Refines (forms.join op (trees.span_of (tree whole.now)) left right.now) result }
 {
     match left {
-        None => Err(refuse_tree(Defect::KindMismatch, whole)),
+        None => Err(reject_tree(ErrorCode::KindMismatch, whole)),
         Some(left) => match right {
-            None => Err(refuse_tree(Defect::KindMismatch, whole)),
+            None => Err(reject_tree(ErrorCode::KindMismatch, whole)),
             Some(right) => joined(alloc, op, whole, left, right),
         },
     }
@@ -221,7 +221,7 @@ pub(crate) fn join(
 
 #[tactic(auto, unfolding(net_expr::specs::Limits::is_small))]
 fn turned(alloc: Global, whole: &Expr<'_>, form: &Affine) -> Result<Option<Affine>, Fault>
-    ensures { Answers (forms.scaled (trees.span_of (tree whole.now)) forms.minus_one form.now) result }
+    ensures { Refines (forms.scaled (trees.span_of (tree whole.now)) forms.minus_one form.now) result }
 {
     scaled(alloc, whole, &-1, form)
 }
@@ -233,10 +233,10 @@ pub(crate) fn turn(
     whole: &Expr<'_>,
     term: Option<Affine>,
 ) -> Result<Option<Affine>, Fault>
-    ensures { Answers (forms.turn minus (trees.span_of (tree whole.now)) term) result }
+    ensures { Refines (forms.turn minus (trees.span_of (tree whole.now)) term) result }
 {
     match term {
-        None => Err(refuse_tree(Defect::KindMismatch, whole)),
+        None => Err(reject_tree(ErrorCode::KindMismatch, whole)),
         Some(form) => {
             if minus {
                 turned(alloc, whole, &form)
@@ -250,11 +250,11 @@ pub(crate) fn turn(
 /// Adds a term to a sum.
 pub(crate) fn gather(whole: &Expr<'_>, sum: Sum, term: Option<Affine>) -> Result<Sum, Fault>
     requires { forms.AreWithin (2 ^ 125) sum }
-    ensures value { Answers (forms.gathered (trees.span_of (tree whole.now)) sum term) result }
+    ensures value { Refines (forms.gathered (trees.span_of (tree whole.now)) sum term) result }
     ensures room { IfOk result (λ r. (n : ℕ) → forms.AreWithin n sum → forms.AreWithin (n + 1000000000000) r) }
 {
     match term {
-        None => Err(refuse_tree(Defect::KindMismatch, whole)),
+        None => Err(reject_tree(ErrorCode::KindMismatch, whole)),
         Some(form) => {
             let (sum, _) = sum.with(&1, &form)?;
             Ok(sum)
@@ -264,7 +264,7 @@ pub(crate) fn gather(whole: &Expr<'_>, sum: Sum, term: Option<Affine>) -> Result
 
 /// Returns a sum as a term; its total must be within the limit.
 pub(crate) fn sized(whole: &Expr<'_>, sum: Sum) -> Result<Option<Affine>, Fault>
-    ensures { Answers (forms.sized (trees.span_of (tree whole.now)) sum) result }
+    ensures { Refines (forms.sized (trees.span_of (tree whole.now)) sum) result }
 {
     within(whole, Affine::of(sum))
 }

@@ -5,7 +5,7 @@ ghost use Rattle.net_tree.specs.Spans as trees;
 ghost use Rattle.net_tree.specs.View.{tree};
 ghost use Rattle.net_tree.specs.Operations as operations;
 ghost use Rattle.net_linear.specs.Objectives as objectives;
-ghost use Rattle.net_fault.specs.Outcomes.{Answers};
+ghost use Rattle.net_fault.specs.Outcomes.{Refines};
 ghost use Rattle.net_linear.specs.Amounts.{as_number, number_or_none};
 
 use net_expr::{Env, Scope, Value, evaluate, truth};
@@ -34,7 +34,7 @@ pub(crate) fn number_or_none<'s>(
     scope: &Scope<'s>,
     expr: &Expr<'s>,
 ) -> Result<Option<i64>, Fault>
-    ensures { Answers (number_or_none env.now scope.now (tree expr.now)) result }
+    ensures { Refines (number_or_none env.now scope.now (tree expr.now)) result }
 {
     let value = evaluate(alloc, env, scope, expr)?;
     Ok(number_in(&value))
@@ -48,7 +48,7 @@ pub(crate) fn truth_of<'s>(
     whole: &Expr<'s>,
     condition: &Expr<'s>,
 ) -> Result<bool, Fault>
-    ensures { Answers (objectives.condition env.now scope.now (trees.span_of (tree whole.now)) (tree condition.now)) result }
+    ensures { Refines (objectives.condition env.now scope.now (trees.span_of (tree whole.now)) (tree condition.now)) result }
 {
     let value = evaluate(alloc, env, scope, condition)?;
     truth(whole, &value)

@@ -20,7 +20,7 @@ use Rattle.net_expr.specs.Numbers as numbers
 use Rattle.net_expr.specs.Numbers.{turned, sized, range_of}
 use Rattle.net_expr.specs.Operators.{truth, tuple_of}
 use Rattle.net_expr.specs.Rows.{start, with_key, onward, selected, listed, as_set, reduce}
-use Rattle.net_expr.specs.Values.{token_value, value, otherwise, values, chained, index, walk, set_behind, place, left_place, places, holds, with_sign}
+use Rattle.net_expr.specs.Values.{token_value, value, otherwise, values, chained, index, walk, set_after, place, left_place, places, holds, with_sign}
 use Rattle.net_expr.specs.Widths.{width_by_form}
 use Rattle.net_expr.specs.Worlds.{Name, World, Scope, bound, name_at}
 use Rattle.net_expr.specs.Walks.{joined}
@@ -102,17 +102,17 @@ module _ (af : Name → Option (Tuple → ℤ)) (yf : ℤ) where
   placed_is w n x o y t q k cut false h = (k ++ t, cut_longer t q.key k cut, refl)
 
   -- the set of an item
-  set_is : (w : World) (s : Scope) (i : Tree) (at : Span) (b : Bool) → has_in i ≡ b → IfOk (value w s i) (λ v. IsValue (env_with af yf w s) i (meaning_of v)) → (has_in i ≡ true → IfOk (set_behind w s i) (IsSetAfterIn (env_with af yf w s) i))
-      → IfOk (if b then set_behind w s i else and_then (value w s i) (tuples_of at)) (λ ts. Whether b (IsSetAfterIn (env_with af yf w s) i ts) (IsValue (env_with af yf w s) i (Many ts)))
+  set_is : (w : World) (s : Scope) (i : Tree) (at : Span) (b : Bool) → has_in i ≡ b → IfOk (value w s i) (λ v. IsValue (env_with af yf w s) i (meaning_of v)) → (has_in i ≡ true → IfOk (set_after w s i) (IsSetAfterIn (env_with af yf w s) i))
+      → IfOk (if b then set_after w s i else and_then (value w s i) (tuples_of at)) (λ ts. Whether b (IsSetAfterIn (env_with af yf w s) i ts) (IsValue (env_with af yf w s) i (Many ts)))
   set_is w s i at true e h k = k e
   set_is w s i at false e h k = gives_then (λ v. IsValue (env_with af yf w s) i (meaning_of v)) _ (value w s i) (tuples_of at) h (λ v j. gives_as _ _ (tuples_of at v) (λ ts f. subst (IsValue (env_with af yf w s) i) f j) (tuples_are at v))
 
   item_is : (at : Span) (w : World) (o : _) (i : Tree) (is : Links) (q : Place) (k : Tuple) → Cuts q.key k → (before : List Row)
-      → IfOk (value w q.scope i) (λ v. IsValue (env_with af yf w q.scope) i (meaning_of v)) → (has_in i ≡ true → IfOk (set_behind w q.scope i) (IsSetAfterIn (env_with af yf w q.scope) i))
+      → IfOk (value w q.scope i) (λ v. IsValue (env_with af yf w q.scope) i (meaning_of v)) → (has_in i ≡ true → IfOk (set_after w q.scope i) (IsSetAfterIn (env_with af yf w q.scope) i))
       → ((t : Tuple) → IfOk (place w i t q) (PlaceIs af yf w (Extends (key_at af yf w q.scope k) i t))) → Walked af yf w (λ z. Iterates z is) (walk at w is)
       → IfOk (walk at w (link o i is) q before) (Adds af yf w (Iterates (key_at af yf w q.scope k) (link o i is)) before)
   item_is at w o i is q k cut before h set lead next =
-      gives_then (IsItemSet i (IsSetAfterIn (env_with af yf w q.scope) i) (IsValue (env_with af yf w q.scope) i)) _ (if has_in i then set_behind w q.scope i else and_then (value w q.scope i) (tuples_of at)) _
+      gives_then (IsItemSet i (IsSetAfterIn (env_with af yf w q.scope) i) (IsValue (env_with af yf w q.scope) i)) _ (if has_in i then set_after w q.scope i else and_then (value w q.scope i) (tuples_of at)) _
       (set_is w q.scope i at (has_in i) refl h set)
       (λ ts j. gives_as _ _ (each (onward (place w i) (walk at w is) q) ts before) (λ rows (new, e, f). (new, e, (ts, j, f))) (from_each af yf w (Extends (key_at af yf w q.scope k) i) (place w i) (λ z. Iterates z is) (walk at w is) q lead next ts before))
 
@@ -121,8 +121,8 @@ module _ (af : Name → Option (Tuple → ℤ)) (yf : ℤ) where
   Opens w s i (walking ts) = IsItemSet i (IsSetAfterIn (env_with af yf w s) i) (IsValue (env_with af yf w s) i) ts
   Opens w s i (listing v) = IsValue (env_with af yf w s) i (meaning_of v)
 
-  opens : (at : Span) (w : World) (s : Scope) (i : Tree) (indexing : Bool) → IfOk (value w s i) (λ v. IsValue (env_with af yf w s) i (meaning_of v)) → (has_in i ≡ true → IfOk (set_behind w s i) (IsSetAfterIn (env_with af yf w s) i))
-      → IfOk (if has_in i then and_then (set_behind w s i) (λ ts. Ok (walking ts)) else and_then (value w s i) (opened at indexing)) (Opens w s i)
+  opens : (at : Span) (w : World) (s : Scope) (i : Tree) (indexing : Bool) → IfOk (value w s i) (λ v. IsValue (env_with af yf w s) i (meaning_of v)) → (has_in i ≡ true → IfOk (set_after w s i) (IsSetAfterIn (env_with af yf w s) i))
+      → IfOk (if has_in i then and_then (set_after w s i) (λ ts. Ok (walking ts)) else and_then (value w s i) (opened at indexing)) (Opens w s i)
   opens at w s i indexing h k = go (has_in i) refl
     where
       at_set : (b : Bool) → has_in i ≡ b → (ts : List Tuple) → Whether b (IsSetAfterIn (env_with af yf w s) i ts) (IsValue (env_with af yf w s) i (Many ts)) → IsItemSet i (IsSetAfterIn (env_with af yf w s) i) (IsValue (env_with af yf w s) i) ts
@@ -132,8 +132,8 @@ module _ (af : Name → Option (Tuple → ℤ)) (yf : ℤ) where
       opening e v j =
           gives_if _ (indexing || is_set v) _ _ (λ f. gives_then (λ ts. meaning_of v ≡ Many ts) _ (tuples_of at v) _ (tuples_are at v) (λ ts g. at_set false e ts (subst (IsValue (env_with af yf w s) i) g j))) (λ f. j)
 
-      go : (b : Bool) → has_in i ≡ b → IfOk (if b then and_then (set_behind w s i) (λ ts. Ok (walking ts)) else and_then (value w s i) (opened at indexing)) (Opens w s i)
-      go true e = gives_then (IsSetAfterIn (env_with af yf w s) i) _ (set_behind w s i) _ (k e) (λ ts j. at_set true e ts j)
+      go : (b : Bool) → has_in i ≡ b → IfOk (if b then and_then (set_after w s i) (λ ts. Ok (walking ts)) else and_then (value w s i) (opened at indexing)) (Opens w s i)
+      go true e = gives_then (IsSetAfterIn (env_with af yf w s) i) _ (set_after w s i) _ (k e) (λ ts j. at_set true e ts j)
       go false e = gives_then (λ v. IsValue (env_with af yf w s) i (meaning_of v)) _ (value w s i) (opened at indexing) h (opening e)
 
   unsaid : (p : Part) → has_part p ≡ false → IsAbsent p
@@ -141,12 +141,12 @@ module _ (af : Name → Option (Tuple → ℤ)) (yf : ℤ) where
   unsaid (part m x) e = cc
 
   filled_is : (w : World) (s : Scope) (o : Token) (i : Tree) (is : Links) (p : Part) (c : Token)
-      → IfOk (value w s i) (λ v. IsValue (env_with af yf w s) i (meaning_of v)) → (has_in i ≡ true → IfOk (set_behind w s i) (IsSetAfterIn (env_with af yf w s) i))
+      → IfOk (value w s i) (λ v. IsValue (env_with af yf w s) i (meaning_of v)) → (has_in i ≡ true → IfOk (set_after w s i) (IsSetAfterIn (env_with af yf w s) i))
       → ((t : Tuple) (q : Place) (k : Tuple) → Cuts q.key k → IfOk (place w i t q) (PlaceIs af yf w (Extends (key_at af yf w q.scope k) i t))) → Walked af yf w (λ z. Iterates z is) (walk (span_between o c) w is)
       → ((before : List Found) → IfOk (values w s is before) (Operands w s is before)) → ((r : Row) → IfOk (holds (span_between o c) w r.scope p) (HasTruth p (as_key af yf w r)))
       → IfOk (index w s (filled o i is p c)) (λ k. AreKeys (env_with af yf w s) (filled o i is p c) (map (as_key af yf w) k.rows))
   filled_is w s o i is p c h set lead next operands test =
-      gives_then (Opens w s i) _ (if has_in i then and_then (set_behind w s i) (λ ts. Ok (walking ts)) else and_then (value w s i) (opened (span_between o c) (any_in is))) _
+      gives_then (Opens w s i) _ (if has_in i then and_then (set_after w s i) (λ ts. Ok (walking ts)) else and_then (value w s i) (opened (span_between o c) (any_in is))) _
       (opens (span_between o c) w s i (any_in is) h set) keys
     where
       keys : (z : Opening) → Opens w s i z
@@ -220,7 +220,7 @@ module _ (af : Name → Option (Tuple → ℤ)) (yf : ℤ) where
     means_walk at w (link o i is) q k cut before z =
         item_is at w o i is q k cut before (means w q.scope i z.0) (means_set w q.scope i z.0) (λ t. means_place w i t q k cut z.0) (λ q k cut before. means_walk at w is q k cut before z.1)
 
-    means_set : (w : World) (s : Scope) (i : Tree) → IsArcFree af yf i → has_in i ≡ true → IfOk (set_behind w s i) (IsSetAfterIn (env_with af yf w s) i)
+    means_set : (w : World) (s : Scope) (i : Tree) → IsArcFree af yf i → has_in i ≡ true → IfOk (set_after w s i) (IsSetAfterIn (env_with af yf w s) i)
     means_set w s (chain n x (link o y none)) z h =
         gives_then (λ v. IsValue (env_with af yf w s) y (meaning_of v)) _ (value w s y) _ (means w s y z.1.0) (λ v i.
         gives_as _ _ (chosen (span_of (chain n x (link o y none))) (needed x) v) (λ ts e. subst (IsValue (env_with af yf w s) y) e i) (chosen_is (span_of (chain n x (link o y none))) (needed x) v))

@@ -24,7 +24,7 @@ use Rattle.net_expr.specs.declared.value.Value.TheVariants as found
 use Rattle.net_expr.specs.declared.world.Entry.{Entry}
 use Rattle.net_expr.specs.declared.world.Entry.TheVariants.{Set, Parameter}
 use Rattle.net_expr.specs.Numbers.{significant, whole_size, with_sign, if_whole, number_in}
-use Rattle.net_expr.specs.Operators.{longer, member, members_behind, tuple_of}
+use Rattle.net_expr.specs.Operators.{longer, member, members_after, tuple_of}
 use Rattle.net_expr.specs.Values.{number_value, token_value}
 use Rattle.net_expr.specs.Worlds.{Name, World, Scope, key_count, bound, entry_of, value_at, entry_at, name_at}
 use Rattle.net_meaning.specs.Laws.{meaning_of}
@@ -111,12 +111,12 @@ member_is at (found.Several t) = tt
 member_is at (found.Many d ts) = tt
 member_is at (found.Truth b) = tt
 
-members_are : (at : Span) (vs : List Found) (o : Option Tuple) → IfOk (members_behind at vs o) (λ t. (k : Tuple) × (ms : Tuple) × (o ≡ Some k) × (t ≡ k ++ ms) × (map meaning_of vs ≡ map (λ m. One m) ms))
+members_are : (at : Span) (vs : List Found) (o : Option Tuple) → IfOk (members_after at vs o) (λ t. (k : Tuple) × (ms : Tuple) × (o ≡ Some k) × (t ≡ k ++ ms) × (map meaning_of vs ≡ map (λ m. One m) ms))
 members_are at [] None = tt
 members_are at [] (Some k) = (k, [], refl, sym (append-nil k), refl)
 members_are at (v ∷ vs) o =
     gives_then (λ m. meaning_of v ≡ One m) _ (member at v) _ (member_is at v) (λ m e.
-    gives_as _ _ (members_behind at vs (longer (m ∷ []) o)) (λ t (k, ms, f, g, h).
+    gives_as _ _ (members_after at vs (longer (m ∷ []) o)) (λ t (k, ms, f, g, h).
     let (j, i, l) = longer_is (m ∷ []) o k f in
     (j, m ∷ ms, i, g ∙ ap (λ (z : Tuple). z ++ ms) l ∙ append_assoc j (m ∷ []) ms, ap (λ (z : Value). z ∷ map meaning_of vs) e ∙ ap (λ (zs : List Value). One m ∷ zs) h)) (members_are at vs (longer (m ∷ []) o)))
 

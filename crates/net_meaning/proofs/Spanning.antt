@@ -5,8 +5,8 @@ use Rattle.std.proofs.lemmas.Int.{ints}
 use Rattle.std.proofs.lemmas.Bool.Decides.{nat_tests}
 use Rattle.std.proofs.Math.Nat.{le-div_iff_mul-le}
 use Rattle.net_fault.specs.declared.span.Span.{Span}
-use Rattle.net_fault.specs.Outcomes.{refused}
-use Rattle.net_fault.specs.declared.defect.Defect.TheVariants.{DivMod}
+use Rattle.net_fault.specs.Outcomes.{rejected}
+use Rattle.net_fault.specs.declared.error_code.ErrorCode.TheVariants.{DivMod}
 use Rattle.net_sets.specs.Limits.{tuples_limit}
 use Rattle.net_sets.specs.Ranges.{way_up, way_on, size_by, range_size, singles, range}
 use Rattle.net_sets.specs.Sets.{Tuple}
@@ -48,7 +48,7 @@ range_is at a b c =
     gives_any _ (step at c) _ (λ u h. gives_any _ (size at a b c) _ (λ v i.
     gives_if _ (nat_le (range_size a b c) tuples_limit) _ _ (λ e. (singles (range a b c), is_range a b c (positive (int_lt c (pos 1)) refl h), refl)) (λ e. tt)))
   where
-    positive : (t : Bool) → int_lt c (pos 1) ≡ t → {u : Unit {0}} → (if t then refused DivMod at else Ok tt) ≡ Ok u → pos 1 ≤ℤ c
+    positive : (t : Bool) → int_lt c (pos 1) ≡ t → {u : Unit {0}} → (if t then rejected DivMod at else Ok tt) ≡ Ok u → pos 1 ≤ℤ c
     positive true e h = cc
     positive false e h = search (arith, ints, e)
 

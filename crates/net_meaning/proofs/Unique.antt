@@ -209,8 +209,8 @@ keeps_unique P h (k ∷ ks) x y (a, p, inr (t, e)) (b, q, inr (u, f)) = e ∙ ke
 keeps_unique P h (k ∷ ks) x y (a, p, inl (t, e)) (b, q, inr (u, f)) = absurd (true≢false (h k true false t u))
 keeps_unique P h (k ∷ ks) x y (a, p, inr (t, e)) (b, q, inl (u, f)) = absurd (true≢false (h k true false u t))
 
-set_unique : (i : Tree) (Behind : List Tuple → Type 0) (Own : Value → Type 0) → Unique Behind → Unique Own → Unique (IsItemSet i Behind Own)
-set_unique i Behind Own h k x y p q = alone_whether (has_in i) Behind (λ ts. Own (Many ts)) h (λ ts us a b. many_same ts us (k (Many ts) (Many us) a b)) x y p q
+set_unique : (i : Tree) (After : List Tuple → Type 0) (Own : Value → Type 0) → Unique After → Unique Own → Unique (IsItemSet i After Own)
+set_unique i After Own h k x y p q = alone_whether (has_in i) After (λ ts. Own (Many ts)) h (λ ts us a b. many_same ts us (k (Many ts) (Many us) a b)) x y p q
 
 listed_unique : (e : Env) (First : Value → Type 0) (More : List Value → Type 0) → Unique First → Unique More → Unique (AreListed e First More)
 listed_unique e First More h k x y (a, az, ts, p, q, z, f) (b, bs, us, r, s, w, g) =
@@ -305,7 +305,7 @@ mutual
   keys_unique : (e : Env) (b : Braces) → Unique (AreKeys e b)
   keys_unique e (empty o p c) x y a b = a ∙ sym b
   keys_unique e (filled o i is p c) x y a b =
-      filled_unique e o i is p c (value_unique e i) (behind_unique e i) (λ k t. leads_unique k i t) (λ k. walks_unique k is) (values_unique e is) (λ k. true_unique p k) x y a b
+      filled_unique e o i is p c (value_unique e i) (after_unique e i) (λ k t. leads_unique k i t) (λ k. walks_unique k is) (values_unique e is) (λ k. true_unique p k) x y a b
 
   true_unique : (p : Part) (k : Key) → Unique (HasTruth p k)
   true_unique absent k b c h i = h ∙ sym i
@@ -314,12 +314,12 @@ mutual
   walks_unique : (k : Key) (l : Links) → Unique (Iterates k l)
   walks_unique k none x y p q = p ∙ sym q
   walks_unique k (link o i is) x y p q =
-      item_unique (IsItemSet i (IsSetAfterIn k.env i) (IsValue k.env i)) (Extends k i) (λ z. Iterates z is) (set_unique i (IsSetAfterIn k.env i) (IsValue k.env i) (behind_unique k.env i) (value_unique k.env i))
+      item_unique (IsItemSet i (IsSetAfterIn k.env i) (IsValue k.env i)) (Extends k i) (λ z. Iterates z is) (set_unique i (IsSetAfterIn k.env i) (IsValue k.env i) (after_unique k.env i) (value_unique k.env i))
       (λ t. leads_unique k i t) (λ z. walks_unique z is) x y p q
 
-  behind_unique : (e : Env) (i : Tree) → Unique (IsSetAfterIn e i)
-  behind_unique e (chain n x (link o y none)) ts us p q = many_same ts us (value_unique e y (Many ts) (Many us) p q)
-  behind_unique e _ ts us p q = absurd p
+  after_unique : (e : Env) (i : Tree) → Unique (IsSetAfterIn e i)
+  after_unique e (chain n x (link o y none)) ts us p q = many_same ts us (value_unique e y (Many ts) (Many us) p q)
+  after_unique e _ ts us p q = absurd p
 
   leads_unique : (k : Key) (i : Tree) (t : Tuple) → Unique (Extends k i t)
   leads_unique k (chain n x (link o y none)) t r s p q =

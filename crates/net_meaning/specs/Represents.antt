@@ -8,7 +8,7 @@ use Rattle.net_normal.specs.declared.link.Link.{Link}
 use Rattle.net_normal.specs.declared.problem.FlowArc.{FlowArc}
 use Rattle.net_normal.specs.declared.problem.Problem.{Problem}
 use Rattle.net_normal.specs.Flows.{IsFeasibleFlow, cost_of}
-use Rattle.net_normal.specs.Links.{lifted, value_at}
+use Rattle.net_normal.specs.Links.{mapped_back, value_at}
 use Rattle.net_meaning.specs.Network.{Node, Arc, Objective, Assignment, flow_on, is_at, IsFeasible, HasValue}
 
 -- the number of a node in the problem. The problem has one more node after the model's nodes, which is the missing end of arcs with one end.
@@ -37,7 +37,7 @@ by_label (a ∷ all) (y ∷ ys) n key = if bytes_eq a.label.name n && same_tuple
 
 -- the assignment that corresponds to a flow of the problem
 abbrev pub assignment_of : List Arc → Link → List ℤ → Assignment
-assignment_of all link flows = by_label all (lifted link flows)
+assignment_of all link flows = by_label all (mapped_back link flows)
 
 -- both assignments give each arc the same flow
 abbrev pub Agree : List Arc → Assignment → Assignment → Type 0

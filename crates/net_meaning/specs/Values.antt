@@ -114,7 +114,7 @@ IsAbsent (part m x) = ⊥
 
 -- the set of an item: the one after `in`, or the item itself
 abbrev pub IsItemSet : Tree → (List Tuple → Type 0) → (Value → Type 0) → List Tuple → Type 0
-IsItemSet i Behind Own ts = Whether (has_in i) (Behind ts) (Own (Many ts))
+IsItemSet i After Own ts = Whether (has_in i) (After ts) (Own (Many ts))
 
 -- the term is `net_out`, which is the negation of `net_in`
 unfoldable pub is_outflow : Token → Bool

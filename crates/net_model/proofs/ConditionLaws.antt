@@ -13,7 +13,7 @@ use Rattle.net_tree.specs.WellFormed.{precedence}
 use Rattle.net_tree.specs.Conditions.{IsSum, IsNetSum, same_order, IsCondition}
 use Rattle.net_model.specs.declared.expected.Expected.TheVariants as sorts
 use Rattle.net_model.specs.declared.parse_error.Awaiting.TheVariants as awaiting
-use Rattle.net_model.specs.Reading.{Tokens, refused, next_is}
+use Rattle.net_model.specs.Reading.{Tokens, rejected, next_is}
 use Rattle.net_model.specs.Expressions.{Inner, climb, unary, inside}
 use Rattle.net_model.specs.Conditions.{is_at_most, is_at_least, chains, chain_next, high_at, middle_at, bounded_at, said_at, condition_at}
 use Rattle.net_model.proofs.Tools.{bind_ok, given, chosen, on, off, expect-sound, expect-complete}
@@ -78,7 +78,7 @@ middle-sound d o inner m x p ts a colon sx deep bound h =
     let sy = sum-sound d o inner ts y.value y.first in
     by y.value.0.0 y.value.0.1 y.value.1 sy y.after
   where
-    by : (y : Tree) (free : Bool) (r : Tokens) → SoundSum d ts ((y, free), r) → cond free (refused awaiting.Other r) (high_at o m x p y r) ≡ Ok a → SoundCondition d (m ∷ put x (p ∷ ts)) a
+    by : (y : Tree) (free : Bool) (r : Tokens) → SoundSum d ts ((y, free), r) → cond free (rejected awaiting.Other r) (high_at o m x p y r) ≡ Ok a → SoundCondition d (m ∷ put x (p ∷ ts)) a
     by y true r sy e = absurd (let k = e in cc)
     by y false r sy e = rw sy.text (high-sound d o inner m x p y r a colon sx deep bound sy.sum sy.within e)
 

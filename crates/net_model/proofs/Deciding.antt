@@ -2,17 +2,17 @@
 use Rattle.std.specs.Prelude.{◌≡◌, ◌≤◌, ℕ, zero, suc, false, List, [], ◌∷◌, length, Option, None, Some, Ok, Err}
 use Rattle.std.proofs.Common.{refl, ap, ◌∙◌, arith}
 use Rattle.net_resolve.specs.Names.{names_fault}
-use Rattle.net_resolve.specs.Told as names
-use Rattle.net_resolve.specs.Told.{finding_of}
+use Rattle.net_resolve.specs.Reported as names
+use Rattle.net_resolve.specs.Reported.{diagnostic_of}
 use Rattle.net_tree.specs.Tree.{Declaration}
 use Rattle.net_model.specs.declared.parse_error.ParseError.TheVariants as stops
 use Rattle.net_model.specs.Reading.{Tokens, Read}
 use Rattle.net_model.specs.Expressions.{inside}
 use Rattle.net_model.specs.Rows.{row}
-use Rattle.net_model.specs.Faults.{refused_fault, deep_fault, left_of}
+use Rattle.net_model.specs.Faults.{rejected_fault, deep_fault, left_of}
 use Rattle.net_model.specs.Declarations.{any_left, declaration_step, model_at, nesting_limit}
 use Rattle.net_model.specs.Meaning.{Means}
-use Rattle.net_model.specs.Models.{unless_fault, meant_by, meant, Decided, model, refused}
+use Rattle.net_model.specs.Models.{unless_fault, meant_by, meant, Decided, model, rejected}
 use Rattle.net_model.proofs.Tools.{bind_ok, chosen, given, on, off}
 use Rattle.net_model.proofs.Longer.{put_declaration-longer}
 use Rattle.net_model.proofs.ModelLaws.{step-sound}
@@ -48,15 +48,15 @@ model_ends d ts x h = row_ends d (length ts) tt ts x (omega arith) h
 
 by_names : (ts : Tokens) (ds : List Declaration) (o : Option names.Fault) → names_fault [] ds ≡ o → Means ts ds → meant ts ≡ unless_fault ds (names_fault [] ds) → Decided ts
 by_names ts ds None h means is = model ds means (is ∙ ap (unless_fault ds) h)
-by_names ts ds (Some f) h means is = refused (finding_of f) (is ∙ ap (unless_fault ds) h)
+by_names ts ds (Some f) h means is = rejected (diagnostic_of f) (is ∙ ap (unless_fault ds) h)
 
 by_grammar : (ts : Tokens) (r : Read (List Declaration × Unit {0})) → model_at nesting_limit ts ≡ r → Decided ts
 by_grammar ts (Ok x) h =
     let ends = model_ends nesting_limit ts x h in
     by_names ts x.0.0 (names_fault [] x.0.0) refl (means_of ts x.1 x.0.0 h ends) (ap (meant_by ts) h)
 by_grammar ts (Err stops.OutOfMemory) h = absurd (stop-within ts stops.OutOfMemory h)
-by_grammar ts (Err (stops.Refused left a)) h = refused (refused_fault a (left_of left ts) ts) (ap (meant_by ts) h)
-by_grammar ts (Err (stops.TooDeep left)) h = refused (deep_fault (left_of left ts) ts) (ap (meant_by ts) h)
+by_grammar ts (Err (stops.Rejected left a)) h = rejected (rejected_fault a (left_of left ts) ts) (ap (meant_by ts) h)
+by_grammar ts (Err (stops.TooDeep left)) h = rejected (deep_fault (left_of left ts) ts) (ap (meant_by ts) h)
 
 pub decided : (ts : Tokens) → Decided ts
 decided ts = by_grammar ts (model_at nesting_limit ts) refl

@@ -21,7 +21,7 @@ use Rattle.net_model.specs.declared.parse_error.Awaiting.TheVariants as awaiting
 use Rattle.net_model.specs.Reading.{Tokens, next_is}
 use Rattle.net_model.specs.Expressions.{Inner, inside, unary, wide, part_at, present_at}
 use Rattle.net_model.specs.Phrases.{nothing_stood}
-use Rattle.net_model.specs.Declarations.{indexing_at, set_at, param_at, check_at, node_at, arc_at, behind_objective, objective_at, declared_at, declaration_of_role, declaration_at}
+use Rattle.net_model.specs.Declarations.{indexing_at, set_at, param_at, check_at, node_at, arc_at, after_objective, objective_at, declared_at, declaration_of_role, declaration_at}
 use Rattle.net_model.proofs.Tools.{bind_ok, given, chosen, on, off, expect-sound, expect-complete}
 use Rattle.net_model.proofs.LinksSound.{climb-sound}
 use Rattle.net_model.proofs.TreesSound.{Wide, wide_value, IsInside, IsPart, part-sound, unary-sound, wide-sound, braces-sound}
@@ -175,7 +175,7 @@ objective-sound d o inner w ts a is h =
     let p = bind_ok _ _ _ n.after in
     let sp = part-sound d sorts.Colon (Wide 7) (wide o 7) (wide-sound d 7 o (omega arith) (omega arith) inner) n.value.1 p.value p.first in
     let e = bind_ok _ _ _ p.after in
-    let se = expect-sound sorts.Semicolon (behind_objective p.value.0) p.value.1 e.value e.first in
+    let se = expect-sound sorts.Semicolon (after_objective p.value.0) p.value.1 e.value e.first in
     given (λ y. SoundDeclaration d (w ∷ ts) y) (objective w n.value.0 p.value.0 e.value.0, e.value.1) a e.after (record {
       text = ap (λ k. w ∷ k) (sn.text ∙ ap (λ k. n.value.0 ∷ k) (sp.text ∙ ap (put_part p.value.0) se.text));
       level = (is, sn.sort, part_objective p.value.0 sp.level, se.sort);
@@ -312,7 +312,7 @@ objective-complete : (d : ℕ) (w n : Token) (p : Part) (e : Token) (ts : Tokens
     → objective_at (inside d) w (n ∷ put_part p (e ∷ ts)) ≡ Ok (objective w n p e, ts)
 unfolding objective_at
 objective-complete d w n p e ts level deep =
-    rw (expect-complete sorts.Name awaiting.Other n (put_part p (e ∷ ts)) level.1, objective-part d p e ts level.2 deep level.3, expect-complete sorts.Semicolon (behind_objective p) e ts level.3) refl
+    rw (expect-complete sorts.Name awaiting.Other n (put_part p (e ∷ ts)) level.1, objective-part d p e ts level.2 deep level.3, expect-complete sorts.Semicolon (after_objective p) e ts level.3) refl
 
 worded_as : (d : ℕ) (k : Declares) (w : Token) (ts : Tokens) (a : Declaration × Tokens) → role_of w ≡ roles.Declaration k → declared_at (inside d) k w ts ≡ Ok a → declaration_at (inside d) (w ∷ ts) ≡ Ok a
 unfolding declaration_at

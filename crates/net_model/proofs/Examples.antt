@@ -10,7 +10,7 @@ use Rattle.net_tree.specs.Conditions.{IsCondition}
 use Rattle.net_tree.specs.Phrases.{AreParamPhrases}
 use Rattle.net_tree.specs.Declarations.{IsDeclaration}
 use Rattle.net_model.specs.declared.parse_error.Awaiting.TheVariants.{Other}
-use Rattle.net_model.specs.declared.parse_error.ParseError.TheVariants.{Refused, TooDeep}
+use Rattle.net_model.specs.declared.parse_error.ParseError.TheVariants.{Rejected, TooDeep}
 use Rattle.net_model.specs.Reading.{expect}
 use Rattle.net_model.specs.Expressions.{operator_at, chain_at, climb, named_at, unary_at, unary, inner_of, inside}
 use Rattle.net_model.specs.Declarations.{indexing_at, check_at, declared_at, declaration_at, declaration_step, model_at}
@@ -41,8 +41,8 @@ unfolding role_of keys marks
 sum_level = (omega arith, omega arith, (refl, (refl, refl, omega arith, tt, tt, refl), refl, omega arith), omega arith, tt, (refl, refl, refl, omega arith, tt))
 
 -- a product does not go on behind a reduction: (sum {A} a) * 2
-product_behind : IsWellFormed (chain 1 total (link (One (mark (codes "*"))) (leaf (number (codes "2"))) none)) → ⊥
-product_behind h = omega (arith, h.3)
+product_after : IsWellFormed (chain 1 total (link (One (mark (codes "*"))) (leaf (number (codes "2"))) none)) → ⊥
+product_after h = omega (arith, h.3)
 
 -- node N : net_in = 3 ;
 abbrev sink : Declaration
@@ -78,6 +78,6 @@ unfolding model_at declaration_step declaration_at declared_at check_at indexing
 sign_too_deep = refl
 
 -- check : a b ;
-no_operator : model_at 64 (key (codes "check") ∷ mark (codes ":") ∷ name (codes "a") ∷ name (codes "b") ∷ mark (codes ";") ∷ []) ≡ Err (Refused 2 Other)
+no_operator : model_at 64 (key (codes "check") ∷ mark (codes ":") ∷ name (codes "a") ∷ name (codes "b") ∷ mark (codes ";") ∷ []) ≡ Err (Rejected 2 Other)
 unfolding model_at declaration_step declaration_at declared_at check_at indexing_at climb chain_at unary unary_at named_at operator_at inside inner_of expect role_of keys marks
 no_operator = refl

@@ -12,7 +12,7 @@ use Rattle.net_model.specs.declared.expected.Expected.TheVariants as sorts
 use Rattle.net_model.specs.declared.parse_error.Awaiting.TheVariants as awaiting
 use Rattle.net_model.specs.declared.parse_error.ParseError.{ParseError}
 use Rattle.net_model.specs.declared.parse_error.ParseError.TheVariants as stops
-use Rattle.net_model.specs.Reading.{Tokens, Read, ◌>>=◌, read_as, refused, too_deep, next_is, is_sort, expect}
+use Rattle.net_model.specs.Reading.{Tokens, Read, ◌>>=◌, read_as, rejected, too_deep, next_is, is_sort, expect}
 use Rattle.net_model.specs.Expressions.{Reader, Inner, operator_at, links, all_links, chained, chain_at, climb, present_at, part_at, is_subscripted, subscripts_at, named_at, closed, listed, parens_from, parens_at, not_shut, negated_at, is_hollow, hollow_at, items_at, braces_at, braces, reduced_at, choice_at, unary_at, unary, if_at, wide, inner_of, inside}
 
 -- the second is the same, or the first stopped at a nesting too many
@@ -111,7 +111,7 @@ unfolding not_shut negated_at expect
 not_shut-agree j n [] = same refl
 not_shut-agree j n (t ∷ ts) = by (is_open (role_of t))
   where
-    by : (b : Bool) → Agree (cond b (too_deep (t ∷ ts)) (refused awaiting.Other (t ∷ ts))) (cond b (Ok (t, ts)) (refused awaiting.Other (t ∷ ts)) >>= λ o. j.at 10 o.1 >>= λ x. expect sorts.Close awaiting.Other x.1 >>= λ c. read_as (negated n o.0 x.0 c.0) c.1)
+    by : (b : Bool) → Agree (cond b (too_deep (t ∷ ts)) (rejected awaiting.Other (t ∷ ts))) (cond b (Ok (t, ts)) (rejected awaiting.Other (t ∷ ts)) >>= λ o. j.at 10 o.1 >>= λ x. expect sorts.Close awaiting.Other x.1 >>= λ c. read_as (negated n o.0 x.0 c.0) c.1)
     by true = deep (length (t ∷ ts)) refl
     by false = same refl
 
@@ -147,7 +147,7 @@ unfolding braces expect
 braces_shut-agree j [] = same refl
 braces_shut-agree j (t ∷ ts) = by (is_open_brace (role_of t))
   where
-    by : (b : Bool) → Agree (cond b (too_deep (t ∷ ts)) (refused awaiting.Other (t ∷ ts))) (cond b (Ok (t, ts)) (refused awaiting.Other (t ∷ ts)) >>= λ o. braces_at j o.0 o.1)
+    by : (b : Bool) → Agree (cond b (too_deep (t ∷ ts)) (rejected awaiting.Other (t ∷ ts))) (cond b (Ok (t, ts)) (rejected awaiting.Other (t ∷ ts)) >>= λ o. braces_at j o.0 o.1)
     by true = deep (length (t ∷ ts)) refl
     by false = same refl
 

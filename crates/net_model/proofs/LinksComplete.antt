@@ -64,27 +64,27 @@ no_more n p ts x r h over =
 unequal : (m n : ℕ) → nat_eq m n ≡ false → m ≡ n → ⊥
 unequal m n h e = absurd (let k = eq-eqb m n e in cc)
 
-lift_by : (m n p : ℕ) (u : Reader) (ts : Tokens) (x : Tree) (r : Tokens) (b : Bool) → nat_eq m (suc (suc n)) ≡ b → Stops p r → suc (suc n) ≤ suc p → m ≤ suc (suc n)
+map_back_by : (m n p : ℕ) (u : Reader) (ts : Tokens) (x : Tree) (r : Tokens) (b : Bool) → nat_eq m (suc (suc n)) ≡ b → Stops p r → suc (suc n) ≤ suc p → m ≤ suc (suc n)
     → climb m u ts ≡ Ok (x, r) → (m ≤ suc n → climb (suc n) u ts ≡ Ok (x, r)) → climb (suc (suc n)) u ts ≡ Ok (x, r)
 unfolding climb
-lift_by m n p u ts x r true e stops low below h tighter = let P : ℕ → Type 0 = λ k. climb k u ts ≡ Ok (x, r) in subst P (eqb-true m (suc (suc n)) e) h
-lift_by m n p u ts x r false e stops low below h tighter =
+map_back_by m n p u ts x r true e stops low below h tighter = let P : ℕ → Type 0 = λ k. climb k u ts ≡ Ok (x, r) in subst P (eqb-true m (suc (suc n)) e) h
+map_back_by m n p u ts x r false e stops low below h tighter =
     let other : m ≡ suc (suc n) → ⊥ = unequal m (suc (suc n)) e in
     no_more (suc n) (climb (suc n) u) ts x r (tighter (omega (arith, other))) (stops-joins (suc n) p 0 r (omega arith) (omega arith) stops)
 
-pub lift : (m n p : ℕ) (u : Reader) (ts : Tokens) (x : Tree) (r : Tokens) → m ≤ n → n ≤ suc p → Stops p r → climb m u ts ≡ Ok (x, r) → climb n u ts ≡ Ok (x, r)
+pub map_back : (m n p : ℕ) (u : Reader) (ts : Tokens) (x : Tree) (r : Tokens) → m ≤ n → n ≤ suc p → Stops p r → climb m u ts ≡ Ok (x, r) → climb n u ts ≡ Ok (x, r)
 unfolding climb
-lift m zero p u ts x r below low stops h = let same : m ≡ 0 = omega arith in let P : ℕ → Type 0 = λ k. climb k u ts ≡ Ok (x, r) in subst P same h
-lift zero (suc zero) p u ts x r below low stops h = h
-lift (suc m) (suc zero) p u ts x r below low stops h = let same : suc m ≡ 1 = omega arith in let P : ℕ → Type 0 = λ k. climb k u ts ≡ Ok (x, r) in subst P same h
-lift m (suc (suc n)) p u ts x r below low stops h =
-    lift_by m n p u ts x r (nat_eq m (suc (suc n))) refl stops low below h (λ fits. lift m (suc n) p u ts x r fits (omega arith) stops h)
+map_back m zero p u ts x r below low stops h = let same : m ≡ 0 = omega arith in let P : ℕ → Type 0 = λ k. climb k u ts ≡ Ok (x, r) in subst P same h
+map_back zero (suc zero) p u ts x r below low stops h = h
+map_back (suc m) (suc zero) p u ts x r below low stops h = let same : suc m ≡ 1 = omega arith in let P : ℕ → Type 0 = λ k. climb k u ts ≡ Ok (x, r) in subst P same h
+map_back m (suc (suc n)) p u ts x r below low stops h =
+    map_back_by m n p u ts x r (nat_eq m (suc (suc n))) refl stops low below h (λ fits. map_back m (suc n) p u ts x r fits (omega arith) stops h)
 
 -- a tree in a place that takes its precedence
 pub in_place : (d n p : ℕ) (x : Tree) (ts : Tokens) → Complete d x → IsWellFormed x → depth x ≤ d → precedence x ≤ n → n ≤ 10 → n ≤ suc p → reach (precedence x) ≤ p → Stops p ts
     → climb n (unary (inside d)) (put x ts) ≡ Ok (x, ts)
 in_place d n p x ts complete level deep fits high low reaches stops =
-    lift (precedence x) n p (unary (inside d)) (put x ts) x ts fits low stops ((complete level deep ts).narrow (omega arith) (omega arith))
+    map_back (precedence x) n p (unary (inside d)) (put x ts) x ts fits low stops ((complete level deep ts).narrow (omega arith) (omega arith))
 
 -- the operands of a chain
 pub stops-links : (j k p : ℕ) (o : Operator) (r : Tokens) → ((k : ℕ) (r : Role) → joins j k r ≡ true → p < grip r) → joins j k (role_of (head_of o)) ≡ true → Stops p (put_operator o r)

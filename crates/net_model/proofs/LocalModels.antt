@@ -17,17 +17,17 @@ use Rattle.net_model.specs.declared.phrase.Slot.TheVariants as slots
 use Rattle.net_model.specs.declared.phrase.Stood.{Stood}
 use Rattle.net_model.specs.declared.expected.Expected.TheVariants as sorts
 use Rattle.net_model.specs.declared.parse_error.Awaiting.TheVariants as awaiting
-use Rattle.net_model.specs.Reading.{Tokens, Read, ◌>>=◌, read_as, refused, next_is, expect}
+use Rattle.net_model.specs.Reading.{Tokens, Read, ◌>>=◌, read_as, rejected, next_is, expect}
 use Rattle.net_model.specs.Rows.{Step, row}
 use Rattle.net_model.specs.Expressions.{Inner, operator_at, all_links, chained, chain_at, climb, part_at, unary, wide, named_at, braces, inner_of, inside}
 use Rattle.net_model.specs.Conditions.{net_next, signed_net_next, net_at, signed_net_at, term_at, first_term_at, further_term_at, sign_next, further_terms, sum_at, chains, high_at, middle_at, bounded_at, said_at, condition_at}
 use Rattle.net_model.specs.Phrases.{slot_of, stood_before, and_then_stood, nothing_stood, goes_on, phrase_next, awaited, body_of, phrase_of_slot, worded, comma_at, phrase_at, phrases, phrases_end}
-use Rattle.net_model.specs.Declarations.{indexing_at, set_at, param_at, check_at, node_at, arc_at, behind_objective, objective_at, declared_at, declaration_of_role, declaration_at, any_left, declaration_step, model_at}
+use Rattle.net_model.specs.Declarations.{indexing_at, set_at, param_at, check_at, node_at, arc_at, after_objective, objective_at, declared_at, declaration_of_role, declaration_at, any_left, declaration_step, model_at}
 use Rattle.net_model.proofs.Tools.{bind_ok, ok_is}
 use Rattle.net_model.proofs.Longer.{put_operator-longer}
 use Rattle.net_model.proofs.LinksSound.{operator-sound}
 use Rattle.net_model.proofs.TreesComplete.{at_sign}
-use Rattle.net_model.proofs.Readers.{tail-self, tail-next, tail-length, Fork, left, right, lengths-strict, left-some, right-some, Within, within-le, bind-within, Out, reads, passed, bind-out, choose-out, choose-within, next-same, IsReader, reading, refusing, binding, testing, nexting, Head, takes, refuses_it, deepens_it, heading, expecting}
+use Rattle.net_model.proofs.Readers.{tail-self, tail-next, tail-length, Fork, left, right, lengths-strict, left-some, right-some, Within, within-le, bind-within, Out, reads, passed, bind-out, choose-out, choose-within, next-same, IsReader, reading, refusing, binding, testing, nexting, Head, takes, rejects_it, deepens_it, heading, expecting}
 use Rattle.net_model.proofs.LocalTrees.{operating, linking, climbing, parting, AreReaders, MayRead, naming, bracing, unarying, widening, inside-reads, is_tail}
 
 -- things in a row, each of which takes a token at least
@@ -69,7 +69,7 @@ rowing step more each strict same s = record {
 -- a reader that takes a first token takes one
 head-strict : {A : Type 0} (t : Token) (p : Tokens → Read A) → Head t p → (ts : Tokens) (x : A × Tokens) → p ts ≡ Ok x → length x.1 ≤ length ts
 head-strict {A} t p (takes r) ts x e = tail-length x.1 ts (is_tail A ts (p ts) x (r.within ts) e)
-head-strict t p (refuses_it a h) ts x e = absurd (let k = sym (h ts) ∙ e in cc)
+head-strict t p (rejects_it a h) ts x e = absurd (let k = sym (h ts) ∙ e in cc)
 head-strict t p (deepens_it o h) ts x e = absurd (let k = sym (h ts) ∙ e in cc)
 
 -- terms
@@ -186,7 +186,7 @@ middling : (i : Inner) → AreReaders i → (m : Token) (x : Tree) (p : Token) �
 unfolding middle_at
 middling i inner m x p =
     binding (sum_at (Some i) true) _ (summing i inner) λ y.
-    testing (λ ts. y.1) (refused awaiting.Other) (high_at (Some i) m x p y.0) (λ f v. refl) (refusing awaiting.Other) (highing i inner m x p y.0)
+    testing (λ ts. y.1) (rejected awaiting.Other) (high_at (Some i) m x p y.0) (λ f v. refl) (refusing awaiting.Other) (highing i inner m x p y.0)
 
 bounding : (i : Inner) → AreReaders i → (m : Token) (x : Tree) (free : Bool) (p : Token) → IsReader (bounded_at (Some i) m x free p)
 unfolding bounded_at
@@ -213,7 +213,7 @@ bodying o inner slots.Price =
     binding (expect sorts.Name awaiting.Objective) _ (expecting sorts.Name awaiting.Objective) λ n. binding (climb 3 (unary o)) _ (climbing (unary o) (unarying o inner) 3) λ x. reading (priced n x)
 
 slot-head : (o : Option Inner) → MayRead o → (c : Option Token) (w : Token) (s : Stood) (slot : Option Slot) → Head w (phrase_of_slot o c w s slot)
-slot-head o inner c w s None = refuses_it awaiting.Phrase (λ ts. refl)
+slot-head o inner c w s None = rejects_it awaiting.Phrase (λ ts. refl)
 slot-head o inner c w s (Some slot) = takes (binding (body_of o slot) (λ b. read_as (record { comma = c; word = w; body = b.0 }, s) b.1) (bodying o inner slot) λ b. reading (record { comma = c; word = w; body = b }, s))
 
 choose-head : {A : Type 0} (t : Token) (b : Bool) (p q : Tokens → Read A) → Head t p → Head t q → Head t (λ ts. cond b (p ts) (q ts))
@@ -223,8 +223,8 @@ choose-head t false p q h k = k
 word-head : (o : Option Inner) → MayRead o → (owner : Owner) (s : Stood) (c : Option Token) (w : Token) → Head w (λ ts. worded o owner s c (w ∷ ts))
 unfolding worded
 word-head o inner owner s c w =
-    choose-head w (stood_before owner s (role_of w)) (λ ts. refused awaiting.FurtherPhrase (w ∷ ts)) (phrase_of_slot o c w (and_then_stood s (role_of w)) (slot_of owner (role_of w)))
-    (refuses_it awaiting.FurtherPhrase (λ ts. refl)) (slot-head o inner c w (and_then_stood s (role_of w)) (slot_of owner (role_of w)))
+    choose-head w (stood_before owner s (role_of w)) (λ ts. rejected awaiting.FurtherPhrase (w ∷ ts)) (phrase_of_slot o c w (and_then_stood s (role_of w)) (slot_of owner (role_of w)))
+    (rejects_it awaiting.FurtherPhrase (λ ts. refl)) (slot-head o inner c w (and_then_stood s (role_of w)) (slot_of owner (role_of w)))
 
 wording : (o : Option Inner) → MayRead o → (owner : Owner) (s : Stood) (c : Option Token) → IsReader (worded o owner s c)
 unfolding worded
@@ -273,7 +273,7 @@ phrases_reading o inner owner = rowing (phrase_at o owner) (phrase_next owner) (
 end-head : (owner : Owner) (s : Stood) (t : Token) → Head t (λ ts. phrases_end owner s (t ∷ ts))
 unfolding phrases_end
 end-head owner s t =
-    choose-head t (is_semicolon (role_of t)) (read_as t) (λ ts. refused (awaited owner s (role_of t)) (t ∷ ts)) (takes (reading t)) (refuses_it (awaited owner s (role_of t)) (λ ts. refl))
+    choose-head t (is_semicolon (role_of t)) (read_as t) (λ ts. rejected (awaited owner s (role_of t)) (t ∷ ts)) (takes (reading t)) (rejects_it (awaited owner s (role_of t)) (λ ts. refl))
 
 ending : (owner : Owner) (s : Stood) → IsReader (phrases_end owner s)
 unfolding phrases_end
@@ -308,11 +308,11 @@ declaring i inner declares.Node w =
 declaring i inner declares.Objective w =
     binding (expect sorts.Name awaiting.Other) _ (expecting sorts.Name awaiting.Other) λ n.
     binding (part_at sorts.Colon (wide (Some i) 7)) _ (parting sorts.Colon (wide (Some i) 7) (widening (Some i) inner 7)) λ p.
-    binding (expect sorts.Semicolon (behind_objective p)) _ (expecting sorts.Semicolon (behind_objective p)) λ e. reading (objective w n p e)
+    binding (expect sorts.Semicolon (after_objective p)) _ (expecting sorts.Semicolon (after_objective p)) λ e. reading (objective w n p e)
 
 declaration-head : (i : Inner) → AreReaders i → (r : Role) (w : Token) → Head w (declaration_of_role (Some i) r w)
 declaration-head i inner (roles.Declaration k) w = takes (declaring i inner k w)
-declaration-head i inner _ w = refuses_it awaiting.Declaration (λ ts. refl)
+declaration-head i inner _ w = rejects_it awaiting.Declaration (λ ts. refl)
 
 declaration_reading : (i : Inner) → AreReaders i → IsReader (declaration_at (Some i))
 unfolding declaration_at

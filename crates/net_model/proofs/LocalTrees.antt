@@ -13,12 +13,12 @@ use Rattle.net_model.specs.declared.expected.Expected.{Expected}
 use Rattle.net_model.specs.declared.expected.Expected.TheVariants as sorts
 use Rattle.net_model.specs.declared.parse_error.Awaiting.TheVariants as awaiting
 use Rattle.net_model.specs.Meaning.{opens}
-use Rattle.net_model.specs.Reading.{Tokens, Read, ◌>>=◌, read_as, refused, next_is, is_sort, expect}
+use Rattle.net_model.specs.Reading.{Tokens, Read, ◌>>=◌, read_as, rejected, next_is, is_sort, expect}
 use Rattle.net_model.specs.Expressions.{Reader, Inner, operator_at, links, all_links, chained, chain_at, climb, present_at, part_at, subscripts_at, named_at, closed, listed, parens_from, parens_at, not_shut, negated_at, is_hollow, hollow_at, items_at, braces_at, braces, reduced_at, choice_at, unary_at, unary, if_at, wide, inner_of, inside}
 use Rattle.net_model.proofs.Tools.{ok_is}
 use Rattle.net_model.proofs.Longer.{put_operator-longer}
 use Rattle.net_model.proofs.LinksSound.{operator-sound}
-use Rattle.net_model.proofs.Readers.{IsTail, tail-self, tail-length, Fork, left, right, lengths, lengths-strict, left-some, right-some, Within, within-le, bind-within, Out, bind-out, choose-out, choose-within, next-same, IsReader, reading, refusing, binding, testing, nexting, opening, Head, takes, refuses_it, deepens_it, heading, expecting}
+use Rattle.net_model.proofs.Readers.{IsTail, tail-self, tail-length, Fork, left, right, lengths, lengths-strict, left-some, right-some, Within, within-le, bind-within, Out, bind-out, choose-out, choose-within, next-same, IsReader, reading, refusing, binding, testing, nexting, opening, Head, takes, rejects_it, deepens_it, heading, expecting}
 
 operator-head : (t : Token) (b : Bool) → is_not (role_of t) ≡ b → Head t (λ ts. operator_at (t ∷ ts))
 unfolding operator_at
@@ -150,7 +150,7 @@ parenthesizing i inner o =
 
 negating : (o : Option Inner) → MayRead o → (n : Token) → IsReader (negated_at o n)
 unfolding negated_at not_shut
-negating None inner n = opening is_open (refused awaiting.Other) open-opens (refusing awaiting.Other)
+negating None inner n = opening is_open (rejected awaiting.Other) open-opens (refusing awaiting.Other)
 negating (Some i) inner n =
     binding (expect sorts.Open awaiting.Other) _ (expecting sorts.Open awaiting.Other) λ o. binding (i.at 10) _ (inner.at 10) λ x.
     binding (expect sorts.Close awaiting.Other) _ (expecting sorts.Close awaiting.Other) λ c. reading (negated n o x c)
@@ -174,7 +174,7 @@ bracing_at i inner o = nexting is_hollow (hollow_at i o) (items_at i o) (hollowi
 
 pub bracing : (o : Option Inner) → MayRead o → IsReader (braces o)
 unfolding braces
-bracing None inner = opening is_open_brace (refused awaiting.Other) brace-opens (refusing awaiting.Other)
+bracing None inner = opening is_open_brace (rejected awaiting.Other) brace-opens (refusing awaiting.Other)
 bracing (Some i) inner = binding (expect sorts.OpenBrace awaiting.Other) _ (expecting sorts.OpenBrace awaiting.Other) λ o. bracing_at i inner o
 
 reducing : (i : Inner) → AreReaders i → (w : Token) → IsReader (reduced_at i w)
@@ -201,7 +201,7 @@ unary-head (Some i) inner roles.Open t is = takes (parenthesizing i inner t)
 unary-head (Some i) inner roles.OpenBrace t is = takes (binding (braces_at i t) (λ b. read_as (braced b.0) b.1) (bracing_at i inner t) λ b. reading (braced b))
 unary-head (Some i) inner roles.Sign t is = takes (binding (i.at 1) (λ x. read_as (signed t x.0) x.1) (inner.at 1) λ x. reading (signed t x))
 unary-head (Some i) inner roles.Reduction t is = takes (reducing i inner t)
-unary-head o inner r t is = refuses_it awaiting.Other (λ ts. refl)
+unary-head o inner r t is = rejects_it awaiting.Other (λ ts. refl)
 
 pub unarying : (o : Option Inner) → MayRead o → IsReader (unary o)
 unfolding unary

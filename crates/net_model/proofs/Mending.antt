@@ -7,7 +7,7 @@ use Rattle.net_model.specs.declared.parse_error.Awaiting.{Awaiting}
 use Rattle.net_model.specs.declared.parse_error.ParseError.{ParseError}
 use Rattle.net_model.specs.declared.parse_error.ParseError.TheVariants as stops
 use Rattle.net_model.specs.Meaning.{announces}
-use Rattle.net_model.specs.Reading.{Tokens, Read, ◌>>=◌, refused, too_deep}
+use Rattle.net_model.specs.Reading.{Tokens, Read, ◌>>=◌, rejected, too_deep}
 use Rattle.net_model.proofs.Readers.{put_before, twice-before}
 
 -- how things of a kind are written: their tokens, and which of them are as the grammar wants and nested so deep at most
@@ -52,7 +52,7 @@ pub record Opening {A : Type 0} (K : Written A) (d : ℕ) (w : Tokens → Tokens
 
 abbrev pub Mended : {A : Type 0} → Written A → ℕ → (Tokens → Tokens) → Tokens → ParseError → Type 0
 Mended K d w ts stops.OutOfMemory = Unit {0}
-Mended K d w ts (stops.Refused n a) = Before K d w ts n
+Mended K d w ts (stops.Rejected n a) = Before K d w ts n
 Mended K d w ts (stops.TooDeep n) = Opening K d w ts n
 
 -- where this stops, what was read before it, after w, begins a thing
@@ -105,7 +105,7 @@ shallow K L m d w v ends (announced front word is announces b c) =
 -- a part stops
 part-stops : {A B : Type 0} (K : Written A) (L : Written B) (m : Move) (d : ℕ) (w : Tokens → Tokens) (ts : Tokens) (s : ParseError) → Ended K L m d w → Mended K d same ts s → Mended L (moved m d) w ts s
 part-stops K L m d w ts stops.OutOfMemory ends h = tt
-part-stops K L m d w ts (stops.Refused n a) ends h = record { before = h.before; left = h.left; text = h.text; size = h.size; begun = sometime K L m d w h.before ends h.begun }
+part-stops K L m d w ts (stops.Rejected n a) ends h = record { before = h.before; left = h.left; text = h.text; size = h.size; begun = sometime K L m d w h.before ends h.begun }
 part-stops K L m d w ts (stops.TooDeep n) ends h = record {
   before = h.before;
   token = h.token;
@@ -128,7 +128,7 @@ behind-shallow K L d w x v (announced front word is announces b c) =
 -- what follows a part stops
 pub rest-stops : {A B : Type 0} (K : Written A) (L : Written B) (d : ℕ) (w : Tokens → Tokens) (x : A) (ts r : Tokens) (s : ParseError) → ts ≡ K.put x r → Mended L d (λ r. w (K.put x r)) r s → Mended L d w ts s
 rest-stops K L d w x ts r stops.OutOfMemory is h = tt
-rest-stops K L d w x ts r (stops.Refused n a) is h = record {
+rest-stops K L d w x ts r (stops.Rejected n a) is h = record {
   before = K.put x h.before;
   left = h.left;
   text = sym (K.front x h.before h.left) ∙ ap (K.put x) h.text ∙ sym is;
@@ -146,14 +146,14 @@ rest-stops K L d w x ts r (stops.TooDeep n) is h = record {
 }
 
 -- a part and what follows it
-pub record Behind {A B : Type 0} (K : Written A) (L : Written B) (d : ℕ) (w : Tokens → Tokens) (ts : Tokens) (x : A × Tokens) (p : Read B) : Type 0 where
+pub record After {A B : Type 0} (K : Written A) (L : Written B) (d : ℕ) (w : Tokens → Tokens) (ts : Tokens) (x : A × Tokens) (p : Read B) : Type 0 where
   pub text : ts ≡ K.put x.0 x.1
   pub mends : Mending L d (λ r. w (K.put x.0 r)) x.1 p
 
 pub then_mends : {A B : Type 0} (K : Written A) (L : Written B) (m : Move) (d : ℕ) (w : Tokens → Tokens) (ts : Tokens) (p : Read A) (g : A × Tokens → Read B)
     → Mending K d same ts p
     → ((s : ParseError) → p ≡ Err s → Ended K L m d w)
-    → ((x : A × Tokens) → p ≡ Ok x → Behind K L (moved m d) w ts x (g x))
+    → ((x : A × Tokens) → p ≡ Ok x → After K L (moved m d) w ts x (g x))
     → Mending L (moved m d) w ts (p >>= g)
 then_mends K L m d w ts (Ok x) g first ends after s h = let b = after x refl in rest-stops K L (moved m d) w x.0 ts x.1 s b.text (b.mends s h)
 then_mends {A} K L m d w ts (Err t) g first ends after s h =
@@ -181,9 +181,9 @@ choose_mends K d w ts false p q on' off' = off' refl
 pub read_mends : {A : Type 0} (K : Written A) (d : ℕ) (w : Tokens → Tokens) (ts : Tokens) (x : A × Tokens) → Mending K d w ts (Ok x)
 read_mends K d w ts x s h = absurd (cc)
 
-pub refused_mends : {A : Type 0} (K : Written A) (d : ℕ) (w : Tokens → Tokens) (ts : Tokens) (a : Awaiting) → Sometime K d w [] → Mending K d w ts (refused a ts)
-refused_mends K d w ts a b s h =
-    let e : stops.Refused (length ts) a ≡ s = cc in
+pub rejected_mends : {A : Type 0} (K : Written A) (d : ℕ) (w : Tokens → Tokens) (ts : Tokens) (a : Awaiting) → Sometime K d w [] → Mending K d w ts (rejected a ts)
+rejected_mends K d w ts a b s h =
+    let e : stops.Rejected (length ts) a ≡ s = cc in
     subst (Mended K d w ts) e (record { before = []; left = ts; text = refl; size = refl; begun = b })
 
 pub opens_mends : {A : Type 0} (K : Written A) (d : ℕ) (w : Tokens → Tokens) (t : Token) (ts : Tokens) → Begun K d w [] → Sometime K d w (t ∷ []) → Mending K d w (t ∷ ts) (too_deep (t ∷ ts))
@@ -214,7 +214,7 @@ recast_mends K L fits text d w ts p mends s h = by s (mends s h)
   where
     by : (s : ParseError) → Mended K d w ts s → Mended L d w ts s
     by stops.OutOfMemory m = tt
-    by (stops.Refused n a) m = record { before = m.before; left = m.left; text = m.text; size = m.size; begun = (m.begun.0, m.begun.1, recast K L fits text m.begun.0 w m.before m.begun.2) }
+    by (stops.Rejected n a) m = record { before = m.before; left = m.left; text = m.text; size = m.size; begun = (m.begun.0, m.begun.1, recast K L fits text m.begun.0 w m.before m.begun.2) }
     by (stops.TooDeep n) m = record {
       before = m.before;
       token = m.token;

@@ -9,7 +9,7 @@ use Rattle.net_tree.specs.Depth.{depth, condition_depth}
 use Rattle.net_tree.specs.Conditions.{IsSum, IsNetSum, IsCondition}
 use Rattle.net_model.specs.declared.expected.Expected.TheVariants as sorts
 use Rattle.net_model.specs.declared.parse_error.Awaiting.TheVariants as awaiting
-use Rattle.net_model.specs.Reading.{Tokens, ◌>>=◌, read_as, refused, next_is, expect}
+use Rattle.net_model.specs.Reading.{Tokens, ◌>>=◌, read_as, rejected, next_is, expect}
 use Rattle.net_model.specs.Expressions.{Inner, climb, unary}
 use Rattle.net_model.specs.Conditions.{chains, sum_at, high_at, middle_at, bounded_at, said_at, condition_at}
 use Rattle.net_model.proofs.Tools.{expect-complete}
@@ -17,7 +17,7 @@ use Rattle.net_model.proofs.LinksSound.{UpTo}
 use Rattle.net_model.proofs.TreesSound.{unary-sound}
 use Rattle.net_model.proofs.ConditionLaws.{chains-order, order-bounds}
 use Rattle.net_model.proofs.Readers.{put_before}
-use Rattle.net_model.proofs.Mending.{Written, Begun, Mending, here, same, then_mends, last_mends, choose_mends, read_mends, refused_mends, passed_mends, with_token}
+use Rattle.net_model.proofs.Mending.{Written, Begun, Mending, here, same, then_mends, last_mends, choose_mends, read_mends, rejected_mends, passed_mends, with_token}
 use Rattle.net_model.proofs.Fillers.{filler, fills, a_name, a_name_level, tree, put-front}
 use Rattle.net_model.proofs.MendingLinks.{Mends, expect_then, climb-mends}
 use Rattle.net_model.proofs.MendingInside.{Mendable}
@@ -96,8 +96,8 @@ middle-mends d o mendable m x p colon sx deep bound ts =
     (λ s e k y le f. second_begun k m x p y.0 y.1 colon sx (omega (arith, deep, le)) bound f)
     (λ y e. let sy = sum-whole d o mendable ts y e in record { text = sy.0; mends = by y.0.0 y.0.1 y.1 sy.1 })
   where
-    by : (y : Tree) (free : Bool) (r : Tokens) → Sum d (y, free) → Mending condition_of d (λ q. m ∷ put x (p ∷ put y q)) r (cond free (refused awaiting.Other r) (high_at o m x p y r))
-    by y true r s = refused_mends condition_of d (λ q. m ∷ put x (p ∷ put y q)) r awaiting.Other (d, omega arith, second_begun d m x p y true colon sx deep bound s)
+    by : (y : Tree) (free : Bool) (r : Tokens) → Sum d (y, free) → Mending condition_of d (λ q. m ∷ put x (p ∷ put y q)) r (cond free (rejected awaiting.Other r) (high_at o m x p y r))
+    by y true r s = rejected_mends condition_of d (λ q. m ∷ put x (p ∷ put y q)) r awaiting.Other (d, omega arith, second_begun d m x p y true colon sx deep bound s)
     by y false r s = high-mends d o mendable m x p y colon sx deep bound s.sum s.within r
 
 bounded-mends : (d : ℕ) (o : Option Inner) → Mendable d o → (m : Token) (x : Tree) (free : Bool) (p : Token) → is_colon (role_of m) ≡ true → Sum d (x, free) → is_bound (role_of p) ≡ true

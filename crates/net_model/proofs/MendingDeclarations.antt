@@ -19,7 +19,7 @@ use Rattle.net_model.specs.Reading.{Tokens, next_is}
 use Rattle.net_model.specs.Expressions.{Inner, climb, unary, wide, braces, part_at, inside}
 use Rattle.net_model.specs.Phrases.{phrases, phrases_end}
 use Rattle.net_model.specs.Conditions.{condition_at}
-use Rattle.net_model.specs.Declarations.{indexing_at, set_at, param_at, check_at, node_at, arc_at, behind_objective, objective_at, declared_at, declaration_of_role, declaration_at, any_left, declaration_step, model_at}
+use Rattle.net_model.specs.Declarations.{indexing_at, set_at, param_at, check_at, node_at, arc_at, after_objective, objective_at, declared_at, declaration_of_role, declaration_at, any_left, declaration_step, model_at}
 use Rattle.net_model.proofs.LinksSound.{UpTo, climb-sound}
 use Rattle.net_model.proofs.TreesSound.{Wide, part-sound, unary-sound, wide-sound}
 use Rattle.net_model.proofs.ConditionLaws.{condition-sound}
@@ -27,7 +27,7 @@ use Rattle.net_model.proofs.PhraseLaws.{phrases-sound}
 use Rattle.net_model.proofs.DeclarationLaws.{indexing-sound, set_phrases, param_phrases, arc_phrases, part_objective}
 use Rattle.net_model.proofs.ModelLaws.{IsOne, step-sound}
 use Rattle.net_model.proofs.Readers.{put_before}
-use Rattle.net_model.proofs.Mending.{Written, Begun, Mending, here, same, then_mends, last_mends, choose_mends, read_mends, refused_mends, passed_mends}
+use Rattle.net_model.proofs.Mending.{Written, Begun, Mending, here, same, then_mends, last_mends, choose_mends, read_mends, rejected_mends, passed_mends}
 use Rattle.net_model.proofs.Fillers.{made, filler, fills, a_name, a_name_level, token, tree, part_of, braces_of, put-front, put_part-front, put_braces-front}
 use Rattle.net_model.proofs.MendingLinks.{Mends, expect_then, expect_last, climb-mends, part-mends}
 use Rattle.net_model.proofs.MendingInside.{Mendable, inside-mends}
@@ -249,7 +249,7 @@ objective-mends d o some m w is ts =
     record {
       text = sp.text;
       mends =
-          expect_last sorts.Semicolon (behind_objective p.0) declaration_of d (λ r. w ∷ n ∷ put_part p.0 r) p.1 _
+          expect_last sorts.Semicolon (after_objective p.0) declaration_of d (λ r. w ∷ n ∷ put_part p.0 r) p.1 _
           (λ k e le ends. record { thing = objective w n p.0 e; fits = ((is, named, part_objective p.0 sp.level, ends), omega (arith, sp.within, le)); rest = []; text = λ r. refl })
           (λ e s h. cc);
     }))
@@ -281,11 +281,11 @@ a_set k = record {
 
 role-mends : (d : ℕ) (o : Option Inner) → 0 < d → Mendable d o → (r : Role) (w : Token) → role_of w ≡ r → (ts : Tokens) → Mending declaration_of d same (w ∷ ts) (declaration_of_role o r w ts)
 role-mends d o some m (roles.Declaration k) w is ts = passed_mends declaration_of d same w ts _ (declared-mends d o some m k w is ts)
-role-mends d o some m _ w is ts = refused_mends declaration_of d same (w ∷ ts) awaiting.Declaration (d, omega arith, a_set d)
+role-mends d o some m _ w is ts = rejected_mends declaration_of d same (w ∷ ts) awaiting.Declaration (d, omega arith, a_set d)
 
 declaration-mends : (d : ℕ) (o : Option Inner) → 0 < d → Mendable d o → Mends declaration_of d (declaration_at o)
 unfolding declaration_at
-declaration-mends d o some m [] = refused_mends declaration_of d same [] awaiting.Declaration (d, omega arith, a_set d)
+declaration-mends d o some m [] = rejected_mends declaration_of d same [] awaiting.Declaration (d, omega arith, a_set d)
 declaration-mends d o some m (w ∷ ts) = role-mends d o some m (role_of w) w refl ts
 
 abbrev pub One : ℕ → Unit {0} → Declaration → Unit {0} → Type 0

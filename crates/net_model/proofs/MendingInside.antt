@@ -14,12 +14,12 @@ use Rattle.net_model.specs.declared.expected.Expected.TheVariants as sorts
 use Rattle.net_model.specs.declared.parse_error.Awaiting.TheVariants as awaiting
 use Rattle.net_model.specs.declared.parse_error.ParseError.TheVariants as stops
 use Rattle.net_model.specs.Meaning.{announces}
-use Rattle.net_model.specs.Reading.{Tokens, Read, ◌>>=◌, read_as, refused, too_deep, next_is}
+use Rattle.net_model.specs.Reading.{Tokens, Read, ◌>>=◌, read_as, rejected, too_deep, next_is}
 use Rattle.net_model.specs.Expressions.{Inner, climb, named_at, not_shut, negated_at, braces_at, braces, reduced_at, unary_at, unary, if_at, wide, inner_of, inside}
 use Rattle.net_model.proofs.LinksSound.{UpTo}
 use Rattle.net_model.proofs.TreesSound.{Wide, SoundInner, IsInside, unary-sound, inside-sound}
 use Rattle.net_model.proofs.Readers.{put_before}
-use Rattle.net_model.proofs.Mending.{Written, Begun, Mended, Mending, Sometime, announced, here, inward, same, then_mends, last_mends, choose_mends, read_mends, refused_mends, opens_mends, passed_mends, recast_mends}
+use Rattle.net_model.proofs.Mending.{Written, Begun, Mended, Mending, Sometime, announced, here, inward, same, then_mends, last_mends, choose_mends, read_mends, rejected_mends, opens_mends, passed_mends, recast_mends}
 use Rattle.net_model.proofs.Fillers.{filler, fills, a_name, a_name_level, name-leaf, tree, braces_of}
 use Rattle.net_model.proofs.MendingLinks.{Mends, climb-mends}
 use Rattle.net_model.proofs.MendingTrees.{MendInner, reference, named-inside, named-shut, parens-mends, negated-inside, braces_at-mends, braces-mends, choice-mends}
@@ -64,16 +64,16 @@ not_begun d n nots = record {
 }
 
 -- a word that was read, or that is still to come
-told : (k : ℕ) (n : Token) → Begun (tree (UpTo 1)) k (λ r. n ∷ r) [] → Begun (tree (UpTo 1)) k same (n ∷ [])
-told k n b = record { thing = b.thing; fits = b.fits; rest = b.rest; text = b.text }
+reported : (k : ℕ) (n : Token) → Begun (tree (UpTo 1)) k (λ r. n ∷ r) [] → Begun (tree (UpTo 1)) k same (n ∷ [])
+reported k n b = record { thing = b.thing; fits = b.fits; rest = b.rest; text = b.text }
 
 negated-shut : (d : ℕ) (n : Token) → is_not (role_of n) ≡ true → (ts : Tokens) → Mending (tree (UpTo 1)) d same (n ∷ ts) (negated_at None n ts)
 unfolding negated_at not_shut
-negated-shut d n nots [] = passed_mends (tree (UpTo 1)) d same n [] _ (refused_mends (tree (UpTo 1)) d (λ r. n ∷ r) [] awaiting.Other (suc d, omega arith, not_begun d n nots))
+negated-shut d n nots [] = passed_mends (tree (UpTo 1)) d same n [] _ (rejected_mends (tree (UpTo 1)) d (λ r. n ∷ r) [] awaiting.Other (suc d, omega arith, not_begun d n nots))
 negated-shut d n nots (t ∷ ts) =
     choose_mends (tree (UpTo 1)) d same (n ∷ t ∷ ts) (is_open (role_of t)) _ _
-    (λ opens. announced_mends (tree (UpTo 1)) d n t ts (not_announces (role_of n) nots) (name_begun (UpTo 1) d (omega arith)) (told (suc d) n (not_begun d n nots)) (negated_begun d n t nots opens))
-    (λ b. passed_mends (tree (UpTo 1)) d same n (t ∷ ts) _ (refused_mends (tree (UpTo 1)) d (λ r. n ∷ r) (t ∷ ts) awaiting.Other (suc d, omega arith, not_begun d n nots)))
+    (λ opens. announced_mends (tree (UpTo 1)) d n t ts (not_announces (role_of n) nots) (name_begun (UpTo 1) d (omega arith)) (reported (suc d) n (not_begun d n nots)) (negated_begun d n t nots opens))
+    (λ b. passed_mends (tree (UpTo 1)) d same n (t ∷ ts) _ (rejected_mends (tree (UpTo 1)) d (λ r. n ∷ r) (t ∷ ts) awaiting.Other (suc d, omega arith, not_begun d n nots)))
 
 reference_level : (x : Tree) → IsReference (valued x) → IsWellFormed x × (precedence x ≤ 1)
 reference_level (leaf t) h = (name-leaf (role_of t) h, omega arith)
@@ -110,7 +110,7 @@ unary_at-inside d i sound mends roles.Open t is ts = up_one (suc d) (t ∷ ts) _
 unary_at-inside d i sound mends roles.OpenBrace t is ts = braced-mends d i sound mends t (rw is refl) ts
 unary_at-inside d i sound mends roles.Sign t is ts = signed-mends d i mends t (rw is refl) ts
 unary_at-inside d i sound mends roles.Reduction t is ts = mends.reduced t (rw is refl) ts
-unary_at-inside d i sound mends r t is ts = refused_mends (tree (UpTo 1)) (suc d) same (t ∷ ts) awaiting.Other (suc d, omega arith, name_begun (UpTo 1) (suc d) (omega arith))
+unary_at-inside d i sound mends r t is ts = rejected_mends (tree (UpTo 1)) (suc d) same (t ∷ ts) awaiting.Other (suc d, omega arith, name_begun (UpTo 1) (suc d) (omega arith))
 
 reduction_begun : (k : ℕ) (w o : Token) → 2 ≤ k → is_reduction (role_of w) ≡ true → is_open_brace (role_of o) ≡ true → Begun (tree (UpTo 1)) k (λ r. w ∷ o ∷ r) []
 reduction_begun k w o deep reduces opens = record {
@@ -142,16 +142,16 @@ unary_at-shut d roles.Reduction t is ts =
     opens_mends (tree (UpTo 1)) d same t ts (name_begun (UpTo 1) d (omega arith))
     (opened_begun d t (reduced t (empty (filler sorts.OpenBrace) absent (filler sorts.CloseBrace)) a_name) (filler sorts.OpenBrace ∷ filler sorts.CloseBrace ∷ filler sorts.Name ∷ [])
     (rw is refl, (fills sorts.OpenBrace, tt, fills sorts.CloseBrace), a_name_level, omega arith) (omega arith) (omega arith) (λ r. refl))
-unary_at-shut d r t is ts = refused_mends (tree (UpTo 1)) d same (t ∷ ts) awaiting.Other (d, omega arith, name_begun (UpTo 1) d (omega arith))
+unary_at-shut d r t is ts = rejected_mends (tree (UpTo 1)) d same (t ∷ ts) awaiting.Other (d, omega arith, name_begun (UpTo 1) d (omega arith))
 
 unary-inside : (d : ℕ) (i : Inner) → SoundInner d i → MendInner d i → Mends (tree (UpTo 1)) (suc d) (unary (Some i))
 unfolding unary
-unary-inside d i sound mends [] = refused_mends (tree (UpTo 1)) (suc d) same [] awaiting.Other (suc d, omega arith, name_begun (UpTo 1) (suc d) (omega arith))
+unary-inside d i sound mends [] = rejected_mends (tree (UpTo 1)) (suc d) same [] awaiting.Other (suc d, omega arith, name_begun (UpTo 1) (suc d) (omega arith))
 unary-inside d i sound mends (t ∷ ts) = unary_at-inside d i sound mends (role_of t) t refl ts
 
 unary-shut : (d : ℕ) → Mends (tree (UpTo 1)) d (unary None)
 unfolding unary
-unary-shut d [] = refused_mends (tree (UpTo 1)) d same [] awaiting.Other (d, omega arith, name_begun (UpTo 1) d (omega arith))
+unary-shut d [] = rejected_mends (tree (UpTo 1)) d same [] awaiting.Other (d, omega arith, name_begun (UpTo 1) d (omega arith))
 unary-shut d (t ∷ ts) = unary_at-shut d (role_of t) t refl ts
 
 -- an `if`, or an expression of a precedence
@@ -208,16 +208,16 @@ reduced-shut : (w : Token) → is_reduction (role_of w) ≡ true → (ts : Token
 unfolding reduced_at inner_of braces
 reduced-shut w reduces [] =
     passed_mends (tree (UpTo 1)) 1 same w [] _
-    (refused_mends (tree (UpTo 1)) 1 (λ r. w ∷ r) [] awaiting.Other (2, omega arith, word_begun w reduces))
+    (rejected_mends (tree (UpTo 1)) 1 (λ r. w ∷ r) [] awaiting.Other (2, omega arith, word_begun w reduces))
 reduced-shut w reduces (t ∷ ts) = by (is_open_brace (role_of t)) refl
   where
     both_begun : is_open_brace (role_of t) ≡ true → Begun (tree (UpTo 1)) 2 same (w ∷ t ∷ [])
     both_begun opens = let b = reduction_begun 2 w t (omega arith) reduces opens in record { thing = b.thing; fits = b.fits; rest = b.rest; text = b.text }
 
     by : (b : Bool) → is_open_brace (role_of t) ≡ b
-        → Mending (tree (UpTo 1)) 1 same (w ∷ t ∷ ts) ((let p : Read Braces = cond b (too_deep (t ∷ ts)) (refused awaiting.Other (t ∷ ts)) in p) >>= λ b. climb 2 (unary None) b.1 >>= λ x. read_as (reduced w b.0 x.0) x.1)
-    by true opens = announced_mends (tree (UpTo 1)) 1 w t ts (reduction_announces (role_of w) reduces) (name_begun (UpTo 1) 1 (omega arith)) (told 2 w (word_begun w reduces)) (2, omega arith, both_begun opens)
-    by false e = passed_mends (tree (UpTo 1)) 1 same w (t ∷ ts) _ (refused_mends (tree (UpTo 1)) 1 (λ r. w ∷ r) (t ∷ ts) awaiting.Other (2, omega arith, word_begun w reduces))
+        → Mending (tree (UpTo 1)) 1 same (w ∷ t ∷ ts) ((let p : Read Braces = cond b (too_deep (t ∷ ts)) (rejected awaiting.Other (t ∷ ts)) in p) >>= λ b. climb 2 (unary None) b.1 >>= λ x. read_as (reduced w b.0 x.0) x.1)
+    by true opens = announced_mends (tree (UpTo 1)) 1 w t ts (reduction_announces (role_of w) reduces) (name_begun (UpTo 1) 1 (omega arith)) (reported 2 w (word_begun w reduces)) (2, omega arith, both_begun opens)
+    by false e = passed_mends (tree (UpTo 1)) 1 same w (t ∷ ts) _ (rejected_mends (tree (UpTo 1)) 1 (λ r. w ∷ r) (t ∷ ts) awaiting.Other (2, omega arith, word_begun w reduces))
 
 -- the readers at so many nestings
 pub record Mendable (d : ℕ) (o : Option Inner) : Type 0 where

@@ -19,7 +19,7 @@ use Rattle.net_model.specs.Reading.{Tokens, Read, ◌>>=◌, read_as, next_is, i
 use Rattle.net_model.specs.Expressions.{Reader, operator_at, links, all_links, chain_at, climb, present_at, part_at}
 use Rattle.net_model.proofs.Tools.{expect-sound}
 use Rattle.net_model.proofs.LinksSound.{IsSound, UpTo, operator-sound, joins_product, climb-sound}
-use Rattle.net_model.proofs.Mending.{Written, Begun, Mending, here, same, then_mends, last_mends, choose_mends, read_mends, refused_mends, passed_mends}
+use Rattle.net_model.proofs.Mending.{Written, Begun, Mending, here, same, then_mends, last_mends, choose_mends, read_mends, rejected_mends, passed_mends}
 use Rattle.net_model.proofs.Fillers.{filler, fills, a_name, a_name_level, token, operator, tree, links_of, part_of}
 
 -- wherever this reader stops
@@ -28,10 +28,10 @@ Mends K d p = (ts : Tokens) → Mending K d same ts (p ts)
 
 pub expect-mends : (s : Expected) (a : Awaiting) (d : ℕ) → Mends (token s) d (expect s a)
 unfolding expect
-expect-mends s a d [] = refused_mends (token s) d same [] a (d, omega arith, record { thing = filler s; fits = fills s; rest = filler s ∷ []; text = λ r. refl })
+expect-mends s a d [] = rejected_mends (token s) d same [] a (d, omega arith, record { thing = filler s; fits = fills s; rest = filler s ∷ []; text = λ r. refl })
 expect-mends s a d (t ∷ ts) =
     choose_mends (token s) d same (t ∷ ts) (is_sort s (role_of t)) _ _ (λ b. read_mends (token s) d same (t ∷ ts) (t, ts))
-    (λ b. refused_mends (token s) d same (t ∷ ts) a (d, omega arith, record { thing = filler s; fits = fills s; rest = filler s ∷ []; text = λ r. refl }))
+    (λ b. rejected_mends (token s) d same (t ∷ ts) a (d, omega arith, record { thing = filler s; fits = fills s; rest = filler s ∷ []; text = λ r. refl }))
 
 -- a token that is awaited, and what comes behind it
 pub expect_then : {B : Type 0} (s : Expected) (a : Awaiting) (L : Written B) (d : ℕ) (w : Tokens → Tokens) (ts : Tokens) (g : Token × Tokens → Read B)

@@ -31,20 +31,20 @@ keeps d v (so_far b) = kept (begins_within d v b)
 keeps d v (announces_more front word is word_announces b c) = announced front word (sym (before-append front (word ∷ [])) ∙ is) word_announces (begins_within d front b) (begins_within (suc d) v c)
 
 -- the tokens before a refused one, and those from it on
-pub record RefusedBehind (ts : Tokens) (n : ℕ) : Type 0 where
+pub record RejectedAfter (ts : Tokens) (n : ℕ) : Type 0 where
   pub before : Tokens
   pub left : Tokens
   pub text : before ++ left ≡ ts
   pub size : length left ≡ n
   pub begins : Begins before
 
-pub refused_behind : (d : ℕ) (ts : Tokens) (n : ℕ) (a : Awaiting) → model_at (suc d) ts ≡ Err (stops.Refused n a) → RefusedBehind ts n
-refused_behind d ts n a h =
-    let m = model-mends (suc d) (omega arith) ts (stops.Refused n a) h in
+pub rejected_after : (d : ℕ) (ts : Tokens) (n : ℕ) (a : Awaiting) → model_at (suc d) ts ≡ Err (stops.Rejected n a) → RejectedAfter ts n
+rejected_after d ts n a h =
+    let m = model-mends (suc d) (omega arith) ts (stops.Rejected n a) h in
     record { before = m.before; left = m.left; text = sym (before-append m.before m.left) ∙ m.text; size = m.size; begins = begins (suc d) m.before m.begun }
 
 -- the tokens before the one that opens a nesting too many, and those behind it
-pub record OpenedBehind (limit : ℕ) (ts : Tokens) (n : ℕ) : Type 0 where
+pub record OpenedAfter (limit : ℕ) (ts : Tokens) (n : ℕ) : Type 0 where
   pub before : Tokens
   pub token : Token
   pub after : Tokens
@@ -53,8 +53,8 @@ pub record OpenedBehind (limit : ℕ) (ts : Tokens) (n : ℕ) : Type 0 where
   pub kept : KeepsLimit limit before
   pub goes_on : Begins (before ++ token ∷ [])
 
-pub opened_behind : (d : ℕ) (ts : Tokens) (n : ℕ) → model_at (suc d) ts ≡ Err (stops.TooDeep n) → OpenedBehind (suc d) ts n
-opened_behind d ts n h =
+pub opened_after : (d : ℕ) (ts : Tokens) (n : ℕ) → model_at (suc d) ts ≡ Err (stops.TooDeep n) → OpenedAfter (suc d) ts n
+opened_after d ts n h =
     let m = model-mends (suc d) (omega arith) ts (stops.TooDeep n) h in
     record {
       before = m.before;

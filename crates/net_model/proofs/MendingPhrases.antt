@@ -16,7 +16,7 @@ use Rattle.net_model.specs.declared.phrase.Slot.TheVariants as slots
 use Rattle.net_model.specs.declared.phrase.Stood.{Stood}
 use Rattle.net_model.specs.declared.expected.Expected.TheVariants as sorts
 use Rattle.net_model.specs.declared.parse_error.Awaiting.TheVariants as awaiting
-use Rattle.net_model.specs.Reading.{Tokens, Read, ◌>>=◌, read_as, refused, expect}
+use Rattle.net_model.specs.Reading.{Tokens, Read, ◌>>=◌, read_as, rejected, expect}
 use Rattle.net_model.specs.Expressions.{Inner, climb, unary, wide, named_at}
 use Rattle.net_model.specs.Phrases.{slot_of, stood_before, and_then_stood, nothing_stood, phrase_next, awaited, body_of, phrase_of_slot, worded, comma_at, phrase_at, phrases, phrases_end}
 use Rattle.net_model.proofs.LinksSound.{UpTo}
@@ -25,7 +25,7 @@ use Rattle.net_model.proofs.BodyLaws.{BodyOf}
 use Rattle.net_model.proofs.PhraseWords.{Of}
 use Rattle.net_model.proofs.PhraseLaws.{comma-sound, IsPhraseOf, put_phrase, put_all-phrases, phrase-sound, Singly, chain-singly, chain-phrases}
 use Rattle.net_model.proofs.Readers.{put_before}
-use Rattle.net_model.proofs.Mending.{Written, Begun, Mending, here, same, then_mends, last_mends, choose_mends, read_mends, refused_mends, passed_mends, recast_mends}
+use Rattle.net_model.proofs.Mending.{Written, Begun, Mending, here, same, then_mends, last_mends, choose_mends, read_mends, rejected_mends, passed_mends, recast_mends}
 use Rattle.net_model.proofs.Fillers.{made, filler, fills, a_name, a_name_level, token, tree, put-front, put_optional-front}
 use Rattle.net_model.proofs.MendingLinks.{Mends, expect_then, expect_last, climb-mends}
 use Rattle.net_model.proofs.MendingTrees.{reference}
@@ -54,16 +54,16 @@ default_body slots.Price k =
 node-mends : (d : ℕ) (o : Option Inner) → Mendable d o → (ts : Tokens)
     → Mending (body_kind slots.Node) d same ts (expect sorts.Name awaiting.Other ts >>= λ n. named_at o n.0 n.1 >>= λ x. read_as (valued x.0) x.1)
 unfolding expect
-node-mends d o m [] = refused_mends (body_kind slots.Node) d same [] awaiting.Other (d, omega arith, default_body slots.Node d)
+node-mends d o m [] = rejected_mends (body_kind slots.Node) d same [] awaiting.Other (d, omega arith, default_body slots.Node d)
 node-mends d o m (n ∷ ts) = by (is_name (role_of n)) refl
   where
     by : (b : Bool) → is_name (role_of n) ≡ b
-        → Mending (body_kind slots.Node) d same (n ∷ ts) ((let p : Read Token = cond b (Ok (n, ts)) (refused awaiting.Other (n ∷ ts)) in p) >>= λ n. named_at o n.0 n.1 >>= λ x. read_as (valued x.0) x.1)
+        → Mending (body_kind slots.Node) d same (n ∷ ts) ((let p : Read Token = cond b (Ok (n, ts)) (rejected awaiting.Other (n ∷ ts)) in p) >>= λ n. named_at o n.0 n.1 >>= λ x. read_as (valued x.0) x.1)
     by true named =
         last_mends reference (body_kind slots.Node) here d same (n ∷ ts) (named_at o n ts) _ (m.named n named ts)
         (λ s e k x le f. record { thing = valued x; fits = (f.0, f.1); rest = []; text = λ r. refl })
         (λ x s h. cc)
-    by false e = refused_mends (body_kind slots.Node) d same (n ∷ ts) awaiting.Other (d, omega arith, default_body slots.Node d)
+    by false e = rejected_mends (body_kind slots.Node) d same (n ∷ ts) awaiting.Other (d, omega arith, default_body slots.Node d)
 
 trees : (d n : ℕ) (o : Option Inner) → Mendable d o → 0 < n → n ≤ 10 → Mends (tree (UpTo n)) d (climb n (unary o))
 trees d n o m low high = climb-mends d n (unary o) m.unary (unary-sound d o m.sound) low high
@@ -132,7 +132,7 @@ spare_begun o s k c comma =
 
 slotted-mends : (d : ℕ) (i : Option Inner) → Mendable d i → (o : Owner) (s : Stood) (c : Option Token) → IsOptionalComma c → (w : Token) → stood_before o s (role_of w) ≡ false
     → (slot : Option Slot) → slot_of o (role_of w) ≡ slot → (ts : Tokens) → Mending (phrase_kind o s) d (put_optional c) (w ∷ ts) (phrase_of_slot i c w (and_then_stood s (role_of w)) slot ts)
-slotted-mends d i m o s c comma w new None is ts = refused_mends (phrase_kind o s) d (put_optional c) (w ∷ ts) awaiting.Phrase (d, omega arith, spare_begun o s d c comma)
+slotted-mends d i m o s c comma w new None is ts = rejected_mends (phrase_kind o s) d (put_optional c) (w ∷ ts) awaiting.Phrase (d, omega arith, spare_begun o s d c comma)
 slotted-mends d i m o s c comma w new (Some slot) is ts =
     passed_mends (phrase_kind o s) d (put_optional c) w ts _
     (last_mends (body_kind slot) (phrase_kind o s) here d (λ r. put_optional c (w ∷ r)) ts (body_of i slot ts) _ (body-mends d i m slot ts)
@@ -146,10 +146,10 @@ slotted-mends d i m o s c comma w new (Some slot) is ts =
 
 worded-mends : (d : ℕ) (i : Option Inner) → Mendable d i → (o : Owner) (s : Stood) (c : Option Token) → IsOptionalComma c → (ts : Tokens) → Mending (phrase_kind o s) d (put_optional c) ts (worded i o s c ts)
 unfolding worded
-worded-mends d i m o s c comma [] = refused_mends (phrase_kind o s) d (put_optional c) [] awaiting.Phrase (d, omega arith, spare_begun o s d c comma)
+worded-mends d i m o s c comma [] = rejected_mends (phrase_kind o s) d (put_optional c) [] awaiting.Phrase (d, omega arith, spare_begun o s d c comma)
 worded-mends d i m o s c comma (w ∷ ts) =
     choose_mends (phrase_kind o s) d (put_optional c) (w ∷ ts) (stood_before o s (role_of w)) _ _
-    (λ b. refused_mends (phrase_kind o s) d (put_optional c) (w ∷ ts) awaiting.FurtherPhrase (d, omega arith, spare_begun o s d c comma))
+    (λ b. rejected_mends (phrase_kind o s) d (put_optional c) (w ∷ ts) awaiting.FurtherPhrase (d, omega arith, spare_begun o s d c comma))
     (λ b. slotted-mends d i m o s c comma w b (slot_of o (role_of w)) refl ts)
 
 abbrev comma_kind : Written (Option Token)
@@ -191,8 +191,8 @@ phrases-mends d i m o ts =
 pub end-mends : (d : ℕ) (o : Owner) (s : Stood) → Mends (token sorts.Semicolon) d (phrases_end o s)
 unfolding phrases_end
 end-mends d o s [] =
-    refused_mends (token sorts.Semicolon) d same [] awaiting.Phrase (d, omega arith, record { thing = filler sorts.Semicolon; fits = fills sorts.Semicolon; rest = filler sorts.Semicolon ∷ []; text = λ r. refl })
+    rejected_mends (token sorts.Semicolon) d same [] awaiting.Phrase (d, omega arith, record { thing = filler sorts.Semicolon; fits = fills sorts.Semicolon; rest = filler sorts.Semicolon ∷ []; text = λ r. refl })
 end-mends d o s (t ∷ ts) =
     choose_mends (token sorts.Semicolon) d same (t ∷ ts) (is_semicolon (role_of t)) _ _ (λ b. read_mends (token sorts.Semicolon) d same (t ∷ ts) (t, ts))
-    (λ b. refused_mends (token sorts.Semicolon) d same (t ∷ ts) (awaited o s (role_of t))
+    (λ b. rejected_mends (token sorts.Semicolon) d same (t ∷ ts) (awaited o s (role_of t))
     (d, omega arith, record { thing = filler sorts.Semicolon; fits = fills sorts.Semicolon; rest = filler sorts.Semicolon ∷ []; text = λ r. refl }))

@@ -22,12 +22,12 @@ use Rattle.net_model.specs.declared.parse_error.Awaiting.{Awaiting}
 use Rattle.net_model.specs.declared.parse_error.Awaiting.TheVariants as awaiting
 use Rattle.net_model.specs.declared.parse_error.ParseError.{ParseError}
 use Rattle.net_model.specs.declared.parse_error.ParseError.TheVariants as stops
-use Rattle.net_model.specs.Reading.{Tokens, ◌>>=◌, read_as, refused, next_is, expect}
+use Rattle.net_model.specs.Reading.{Tokens, ◌>>=◌, read_as, rejected, next_is, expect}
 use Rattle.net_model.specs.Rows.{Step, row}
 use Rattle.net_model.specs.Expressions.{Inner, operator_at, chained, climb, part_at, unary, wide, named_at, braces, inside}
 use Rattle.net_model.specs.Conditions.{net_next, signed_net_next, net_at, signed_net_at, term_at, first_term_at, further_term_at, sign_next, further_terms, sum_at, chain_next, high_at, middle_at, bounded_at, said_at, condition_at}
 use Rattle.net_model.specs.Phrases.{slot_of, stood_before, and_then_stood, nothing_stood, phrase_next, body_of, phrase_of_slot, worded, comma_at, phrase_at, phrases, phrases_end}
-use Rattle.net_model.specs.Declarations.{indexing_at, set_at, param_at, check_at, node_at, arc_at, behind_objective, objective_at, declared_at, declaration_of_role, declaration_at, any_left, declaration_step, model_at}
+use Rattle.net_model.specs.Declarations.{indexing_at, set_at, param_at, check_at, node_at, arc_at, after_objective, objective_at, declared_at, declaration_of_role, declaration_at, any_left, declaration_step, model_at}
 use Rattle.net_model.proofs.Limits.{Agree, same, deep, agreed, then_agree, choose_agree, Agrees, climb-agree, part-agree, Agreeing, named-agree, braces-agree, unary-agree, wide-agree, inside-agree}
 use Rattle.net_model.proofs.ModelLaws.{model-sound, model-complete}
 
@@ -80,7 +80,7 @@ unfolding bounded_at middle_at
 bounded-agree o q inner m x free p ts =
     choose_agree free _ _ _ _
     (then_agree (sum_at o true ts) (sum_at q true ts) _ _ (sum-agree o q inner true ts) λ y.
-    choose_agree y.0.1 _ _ _ _ (agreed (refused awaiting.Other y.1)) (high-agree o q inner m x p y.0.0 y.1))
+    choose_agree y.0.1 _ _ _ _ (agreed (rejected awaiting.Other y.1)) (high-agree o q inner m x p y.0.0 y.1))
     (then_agree (climb 3 (unary o) ts) (climb 3 (unary q) ts) _ _ (trees-agree o q inner 3 ts) λ y. agreed (read_as (one m x p y.0) y.1))
 
 condition-agree : (o q : Option Inner) → Agreeing o q → Agrees (condition_at o) (condition_at q)
@@ -114,7 +114,7 @@ worded-agree : (o q : Option Inner) → Agreeing o q → (owner : Owner) (s : St
 unfolding worded
 worded-agree o q inner owner s c [] = same refl
 worded-agree o q inner owner s c (w ∷ ts) =
-    choose_agree (stood_before owner s (role_of w)) _ _ _ _ (agreed (refused awaiting.FurtherPhrase (w ∷ ts)))
+    choose_agree (stood_before owner s (role_of w)) _ _ _ _ (agreed (rejected awaiting.FurtherPhrase (w ∷ ts)))
     (slotted-agree o q inner c w (and_then_stood s (role_of w)) (slot_of owner (role_of w)) ts)
 
 phrase-agree : (o q : Option Inner) → Agreeing o q → (owner : Owner) (s : Stood) → Agrees (phrase_at o owner s) (phrase_at q owner s)
@@ -159,7 +159,7 @@ declared-agree o q inner declares.Node w ts =
 declared-agree o q inner declares.Objective w ts =
     then_agree (expect sorts.Name awaiting.Other ts) (expect sorts.Name awaiting.Other ts) _ _ (agreed (expect sorts.Name awaiting.Other ts)) λ n.
     then_agree (part_at sorts.Colon (wide o 7) n.1) (part_at sorts.Colon (wide q 7) n.1) _ _ (part-agree sorts.Colon (wide o 7) (wide q 7) (wide-agree o q inner 7) n.1) λ p.
-    agreed (expect sorts.Semicolon (behind_objective p.0) p.1 >>= λ e. read_as (objective w n.0 p.0 e.0) e.1)
+    agreed (expect sorts.Semicolon (after_objective p.0) p.1 >>= λ e. read_as (objective w n.0 p.0 e.0) e.1)
 
 role-agree : (o q : Option Inner) → Agreeing o q → (r : Role) (w : Token) → Agrees (declaration_of_role o r w) (declaration_of_role q r w)
 role-agree o q inner (roles.Declaration k) w ts = declared-agree o q inner k w ts
@@ -176,16 +176,16 @@ unfolding model_at
 model-agree d e less ts =
     row-agree (declaration_step (inside d)) (declaration_step (inside e)) (λ s. any_left) (declaration-agree (inside d) (inside e) (inside-agree d e less)) (length ts) tt ts
 
-refused_too : {A : Type 0} (p q : Result A ParseError) (n : ℕ) (a : Awaiting) → Agree p q → p ≡ Err (stops.Refused n a) → q ≡ Err (stops.Refused n a)
-refused_too p q n a (same e) h = sym e ∙ h
-refused_too p q n a (deep m e) h = absurd (let k = sym e ∙ h in cc)
+rejected_too : {A : Type 0} (p q : Result A ParseError) (n : ℕ) (a : Awaiting) → Agree p q → p ≡ Err (stops.Rejected n a) → q ≡ Err (stops.Rejected n a)
+rejected_too p q n a (same e) h = sym e ∙ h
+rejected_too p q n a (deep m e) h = absurd (let k = sym e ∙ h in cc)
 
 -- where a token is refused, no model that is as the grammar wants, of any depth, prints the tokens
-pub refused-none : (d n : ℕ) (a : Awaiting) (ts : Tokens) → model_at d ts ≡ Err (stops.Refused n a) → (xs : List Declaration) → AreDeclarations xs → print xs ≡ ts → ⊥
-refused-none d n a ts h xs are printed =
+pub rejected-none : (d n : ℕ) (a : Awaiting) (ts : Tokens) → model_at d ts ≡ Err (stops.Rejected n a) → (xs : List Declaration) → AreDeclarations xs → print xs ≡ ts → ⊥
+rejected-none d n a ts h xs are printed =
     let e = max d (model_depth xs) in
     let read : model_at e (print xs) ≡ Ok ((xs, tt), []) = model-complete e xs are (omega arith) in
-    let stop = refused_too (model_at d ts) (model_at e ts) n a (model-agree d e (omega arith) ts) h in
+    let stop = rejected_too (model_at d ts) (model_at e ts) n a (model-agree d e (omega arith) ts) h in
     let both = sym (ap (model_at e) printed ∙ stop) ∙ read in
     cc
 

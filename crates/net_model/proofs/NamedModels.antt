@@ -3,8 +3,8 @@ use Rattle.std.specs.Prelude.{◌≡◌, List, [], Option, None, Some, Result, O
 use Rattle.std.proofs.Common.{refl, ap, ◌∙◌, subst}
 use Rattle.net_tree.specs.Tree.{Declaration}
 use Rattle.net_resolve.specs.Names.{names_fault, IsWellNamed}
-use Rattle.net_resolve.specs.Told as names
-use Rattle.net_resolve.specs.Told.{TellsOf}
+use Rattle.net_resolve.specs.Reported as names
+use Rattle.net_resolve.specs.Reported.{ReportsOf}
 use Rattle.net_fault.specs.declared.fault.Fault.{Fault}
 use Rattle.net_fault.specs.declared.fault.Fault.TheVariants as faults
 use Rattle.net_model.specs.Declarations.{model_at, nesting_limit}
@@ -35,6 +35,6 @@ named_meant ts ds means well =
     ap (meant_by ts) read ∙ ap (unless_fault ds) well
 
 -- what is told of the names is told of a model that the tokens mean
-pub named_fault : (ts : Tokens) (ds : List Declaration) (f : Fault) → Means ts ds → TellsOf (names_fault [] ds) (Err f) → IsFault ts f
-named_fault ts ds faults.OutOfMemory means told = of_grammar faults.OutOfMemory tt
+pub named_fault : (ts : Tokens) (ds : List Declaration) (f : Fault) → Means ts ds → ReportsOf (names_fault [] ds) (Err f) → IsFault ts f
+named_fault ts ds faults.OutOfMemory means reported = of_grammar faults.OutOfMemory tt
 named_fault ts ds (faults.At g) means (x, is, same) = rw same (of_names ds x.0 x.1 means is)

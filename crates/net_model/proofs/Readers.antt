@@ -8,7 +8,7 @@ use Rattle.net_model.specs.declared.expected.Expected.{Expected}
 use Rattle.net_model.specs.declared.parse_error.Awaiting.{Awaiting}
 use Rattle.net_model.specs.declared.parse_error.ParseError.TheVariants as stops
 use Rattle.net_model.specs.Meaning.{opens}
-use Rattle.net_model.specs.Reading.{Tokens, Read, ◌>>=◌, read_as, refused, too_deep, next_is, is_sort, expect}
+use Rattle.net_model.specs.Reading.{Tokens, Read, ◌>>=◌, read_as, rejected, too_deep, next_is, is_sort, expect}
 
 -- a token, and two ways to go on behind it
 pub record Fork : Type 0 where
@@ -69,31 +69,31 @@ tail-length r ts h = omega (arith, length-before h.0 r, ap length h.1)
 abbrev pub Within : {A : Type 0} → Tokens → Read A → Type 0
 Within ts (Ok x) = IsTail x.1 ts
 Within ts (Err stops.OutOfMemory) = ⊥
-Within ts (Err (stops.Refused n a)) = n ≤ length ts
+Within ts (Err (stops.Rejected n a)) = n ≤ length ts
 Within ts (Err (stops.TooDeep n)) = (rest : Tokens) × IsTail rest ts × (length rest ≡ n) × (next_is opens rest ≡ true)
 
 pub within-le : {A : Type 0} (r ts : Tokens) (p : Read A) → IsTail r ts → Within r p → Within ts p
 within-le r ts (Ok x) less h = tail-tail x.1 r ts h less
 within-le r ts (Err stops.OutOfMemory) less h = absurd h
-within-le r ts (Err (stops.Refused k a)) less h = omega (arith, tail-length r ts less, h)
+within-le r ts (Err (stops.Rejected k a)) less h = omega (arith, tail-length r ts less, h)
 within-le r ts (Err (stops.TooDeep k)) less h = (h.0, tail-tail h.0 r ts h.1 less, h.2, h.3)
 
 pub bind-within : {A B : Type 0} (ts : Tokens) (p : Read A) (g : A × Tokens → Read B) → Within ts p → ((x : A × Tokens) → IsTail x.1 ts → Within ts (g x)) → Within ts (p >>= g)
 bind-within ts (Ok x) g h more = more x h
 bind-within ts (Err stops.OutOfMemory) g h more = absurd h
-bind-within ts (Err (stops.Refused k a)) g h more = h
+bind-within ts (Err (stops.Rejected k a)) g h more = h
 bind-within ts (Err (stops.TooDeep k)) g h more = h
 
 -- what comes of the two texts: the same before the fork, or on the left the fork's token was passed
 pub data Out {A : Type 0} (f : Fork) (p q : Read A) : Type 0 where
   reads : (x : A) (w : Tokens) → p ≡ Ok (x, left f w) → q ≡ Ok (x, right f w) → Out f p q
-  refuses : (a : Awaiting) (w : Tokens) → p ≡ Err (stops.Refused (length (left f w)) a) → q ≡ Err (stops.Refused (length (right f w)) a) → Out f p q
+  rejects : (a : Awaiting) (w : Tokens) → p ≡ Err (stops.Rejected (length (left f w)) a) → q ≡ Err (stops.Rejected (length (right f w)) a) → Out f p q
   deepens : (w : Tokens) → p ≡ Err (stops.TooDeep (length (left f w))) → q ≡ Err (stops.TooDeep (length (right f w))) → Out f p q
   passed : Within f.rest p → Out f p q
 
 moved : {A : Type 0} (f : Fork) (p p' q q' : Read A) → p ≡ p' → q ≡ q' → Out f p' q' → Out f p q
 moved f p p' q q' e e' (reads x w h h') = reads x w (e ∙ h) (e' ∙ h')
-moved f p p' q q' e e' (refuses a w h h') = refuses a w (e ∙ h) (e' ∙ h')
+moved f p p' q q' e e' (rejects a w h h') = rejects a w (e ∙ h) (e' ∙ h')
 moved f p p' q q' e e' (deepens w h h') = deepens w (e ∙ h) (e' ∙ h')
 moved f p p' q q' e e' (passed h) = passed (rw e h)
 
@@ -101,7 +101,7 @@ pub bind-out : {A B : Type 0} (f : Fork) (p q : Read A) (g k : A × Tokens → R
     → ((x : A) (w : Tokens) → p ≡ Ok (x, left f w) → Out f (g (x, left f w)) (k (x, right f w)))
     → ((x : A × Tokens) → Within x.1 (g x)) → Out f (p >>= g) (q >>= k)
 bind-out f p q g k (reads x w e e') more over = moved f (p >>= g) (g (x, left f w)) (q >>= k) (k (x, right f w)) (ap (λ z. z >>= g) e) (ap (λ z. z >>= k) e') (more x w e)
-bind-out f p q g k (refuses a w e e') more over = refuses a w (ap (λ z. z >>= g) e) (ap (λ z. z >>= k) e')
+bind-out f p q g k (rejects a w e e') more over = rejects a w (ap (λ z. z >>= g) e) (ap (λ z. z >>= k) e')
 bind-out f p q g k (deepens w e e') more over = deepens w (ap (λ z. z >>= g) e) (ap (λ z. z >>= k) e')
 bind-out f p q g k (passed h) more over = passed (bind-within f.rest p g h (λ x less. within-le x.1 f.rest (g x) less (over x)))
 
@@ -126,8 +126,8 @@ pub record IsReader {A : Type 0} (p : Tokens → Read A) : Type 0 where
 pub reading : {A : Type 0} (x : A) → IsReader (λ ts. read_as x ts)
 reading x = record { within = tail-self; local = λ f v. reads x v refl refl }
 
-pub refusing : {A : Type 0} (a : Awaiting) → IsReader {A = A} (λ ts. refused a ts)
-refusing a = record { within = λ ts. omega arith; local = λ f v. refuses a v refl refl }
+pub refusing : {A : Type 0} (a : Awaiting) → IsReader {A = A} (λ ts. rejected a ts)
+refusing a = record { within = λ ts. omega arith; local = λ f v. rejects a v refl refl }
 
 pub binding : {A B : Type 0} (p : Tokens → Read A) (g : A × Tokens → Read B) → IsReader p → ((x : A) → IsReader (λ ts. g (x, ts))) → IsReader (λ ts. p ts >>= g)
 binding p g first after = record {
@@ -163,15 +163,15 @@ opening test q only other = record {
 -- a reader that takes the first token, or stops at it
 pub data Head {A : Type 0} (t : Token) (p : Tokens → Read A) : Type 0 where
   takes : IsReader p → Head t p
-  refuses_it : (a : Awaiting) → ((ts : Tokens) → p ts ≡ refused a (t ∷ ts)) → Head t p
+  rejects_it : (a : Awaiting) → ((ts : Tokens) → p ts ≡ rejected a (t ∷ ts)) → Head t p
   deepens_it : opens (role_of t) ≡ true → ((ts : Tokens) → p ts ≡ too_deep (t ∷ ts)) → Head t p
 
-pub heading : {A : Type 0} (a : Awaiting) (p : Tokens → Read A) → p [] ≡ refused a [] → ((t : Token) → Head t (λ ts. p (t ∷ ts))) → IsReader p
+pub heading : {A : Type 0} (a : Awaiting) (p : Tokens → Read A) → p [] ≡ rejected a [] → ((t : Token) → Head t (λ ts. p (t ∷ ts))) → IsReader p
 heading a p none head = record { within = all; local = forks }
   where
     one : (t : Token) (ts : Tokens) → Head t (λ ts. p (t ∷ ts)) → Within (t ∷ ts) (p (t ∷ ts))
     one t ts (takes h) = within-le ts (t ∷ ts) (p (t ∷ ts)) (tail-next t ts) (h.within ts)
-    one t ts (refuses_it b e) = rw (e ts) (omega arith)
+    one t ts (rejects_it b e) = rw (e ts) (omega arith)
     one t ts (deepens_it o e) = rw (e ts) (t ∷ ts, tail-self (t ∷ ts), refl, o)
 
     all : (ts : Tokens) → Within ts (p ts)
@@ -180,12 +180,12 @@ heading a p none head = record { within = all; local = forks }
 
     here : (f : Fork) → Head f.token (λ ts. p (f.token ∷ ts)) → Out f (p (f.token ∷ f.rest)) (p (f.token ∷ f.other))
     here f (takes h) = passed (h.within f.rest)
-    here f (refuses_it b e) = refuses b [] (e f.rest) (e f.other)
+    here f (rejects_it b e) = rejects b [] (e f.rest) (e f.other)
     here f (deepens_it o e) = deepens [] (e f.rest) (e f.other)
 
     before : (f : Fork) (t : Token) (v : Tokens) → Head t (λ ts. p (t ∷ ts)) → Out f (p (t ∷ left f v)) (p (t ∷ right f v))
     before f t v (takes h) = h.local f v
-    before f t v (refuses_it b e) = refuses b (t ∷ v) (e (left f v)) (e (right f v))
+    before f t v (rejects_it b e) = rejects b (t ∷ v) (e (left f v)) (e (right f v))
     before f t v (deepens_it o e) = deepens (t ∷ v) (e (left f v)) (e (right f v))
 
     forks : (f : Fork) (v : Tokens) → Out f (p (left f v)) (p (right f v))
@@ -195,7 +195,7 @@ heading a p none head = record { within = all; local = forks }
 expect-head : (s : Expected) (a : Awaiting) (t : Token) (b : Bool) → is_sort s (role_of t) ≡ b → Head t (λ ts. expect s a (t ∷ ts))
 unfolding expect
 expect-head s a t true e = takes (record { within = λ ts. rw e (tail-self ts); local = λ f v. rw e (reads t v refl refl) })
-expect-head s a t false e = refuses_it a (λ ts. rw e refl)
+expect-head s a t false e = rejects_it a (λ ts. rw e refl)
 
 pub expecting : (s : Expected) (a : Awaiting) → IsReader (expect s a)
 unfolding expect

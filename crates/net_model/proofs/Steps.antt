@@ -7,7 +7,7 @@ use Rattle.net_tree.specs.Role.{role_of}
 use Rattle.net_tree.specs.Tree.{negated}
 use Rattle.net_model.specs.declared.expected.Expected.TheVariants as sorts
 use Rattle.net_model.specs.declared.parse_error.Awaiting.TheVariants as awaiting
-use Rattle.net_model.specs.Reading.{Tokens, Read, ◌>>=◌, read_as, refused, too_deep, is_sort, expect}
+use Rattle.net_model.specs.Reading.{Tokens, Read, ◌>>=◌, read_as, rejected, too_deep, is_sort, expect}
 use Rattle.net_model.specs.Expressions.{Reader, Inner, inside, inner_of, climb, chain_at, braces, braces_at, negated_at, not_shut}
 
 pub inside-none : (d : ℕ) → d ≡ 0 → inside d ≡ None
@@ -38,7 +38,7 @@ one_deeper (Some i) ts read = read i
 
 -- the test for an opening token at the maximum depth, as the attempt to consume it
 shut-step : {A : Type 0} (b : Bool) (x : Token × Tokens) (ts : Tokens)
-    → ◌≡◌ {A = Read A} (if b then too_deep ts else refused awaiting.Other ts) ((if b then Ok x else refused awaiting.Other ts) >>= λ o. too_deep ts)
+    → ◌≡◌ {A = Read A} (if b then too_deep ts else rejected awaiting.Other ts) ((if b then Ok x else rejected awaiting.Other ts) >>= λ o. too_deep ts)
 shut-step true x ts = refl
 shut-step false x ts = refl
 

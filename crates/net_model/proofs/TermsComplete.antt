@@ -84,10 +84,10 @@ no_net_next : (ts : Tokens) → next_is starts ts ≡ true → next_is is_net ts
 no_net_next [] h = refl
 no_net_next (t ∷ ts) h = no_net_start ts (role_of t) h
 
-behind_sign : (d : ℕ) (t : Token) (ts : Tokens) (a : Tree × Tokens) → is_sign (role_of t) ≡ true → unary (inside d) (t ∷ ts) ≡ Ok a → next_is is_net ts ≡ false
+after_sign : (d : ℕ) (t : Token) (ts : Tokens) (a : Tree × Tokens) → is_sign (role_of t) ≡ true → unary (inside d) (t ∷ ts) ≡ Ok a → next_is is_net ts ≡ false
 unfolding unary inside inner_of climb
-behind_sign zero t ts a signs h = absurd (shut_sign t ts a (role_of t) signs h)
-behind_sign (suc d) t ts a signs h =
+after_sign zero t ts a signs h = absurd (shut_sign t ts a (role_of t) signs h)
+after_sign (suc d) t ts a signs h =
     let b = sign_starts (inner_of (inside d)) t ts a (role_of t) signs h in
     no_net_next ts (unary-starts (inside d) ts b.0 b.1)
 
@@ -96,7 +96,7 @@ unary-no_signed_net d [] a h = refl
 unary-no_signed_net d (t ∷ ts) a h = by (is_sign (role_of t)) refl
   where
     by : (b : Bool) → is_sign (role_of t) ≡ b → cond b (next_is is_net ts) false ≡ false
-    by true e = behind_sign d t ts a e h
+    by true e = after_sign d t ts a e h
     by false e = refl
 
 pub climb-no_signed_net : (n d : ℕ) (ts : Tokens) (a : Tree × Tokens) → climb n (unary (inside d)) ts ≡ Ok a → signed_net_next ts ≡ false

@@ -234,14 +234,14 @@ empty_rule d o p c complete level deep ts =
     refl
 
 -- what follows the items
-behind_items : (p : Part) (c : Token) (ts : Tokens) → IsFilter p → is_close_brace (role_of c) ≡ true → (t : Token) × (r : Tokens) × (put_part p (c ∷ ts) ≡ t ∷ r) × Shuts (role_of t)
-behind_items absent c ts level closes = (c, ts, refl, close_brace-shuts (role_of c) closes)
-behind_items (part m x) c ts level closes = (m, put x (c ∷ ts), refl, colon-shuts (role_of m) level.0)
+after_items : (p : Part) (c : Token) (ts : Tokens) → IsFilter p → is_close_brace (role_of c) ≡ true → (t : Token) × (r : Tokens) × (put_part p (c ∷ ts) ≡ t ∷ r) × Shuts (role_of t)
+after_items absent c ts level closes = (c, ts, refl, close_brace-shuts (role_of c) closes)
+after_items (part m x) c ts level closes = (m, put x (c ∷ ts), refl, colon-shuts (role_of m) level.0)
 
 filled_rule : (d : ℕ) (o : Token) (x : Tree) (l : Links) (p : Part) (c : Token) → Complete d x → AllComplete d l → CompletePart d p → CompleteBraces (suc d) (filled o x l p c)
 unfolding braces inside inner_of braces_at items_at
 filled_rule d o x l p c cx cl cp level deep ts =
-    let b = behind_items p c ts level.4 level.5 in
+    let b = after_items p c ts level.4 level.5 in
     let first' = list_first d 8 x l b.0 b.1 (omega arith) (omega arith) cx level.1 (omega arith) level.2 level.3 b.3 8 (omega arith) (omega arith) in
     let first : climb 8 (unary (inside d)) (put x (put_links l (put_part p (c ∷ ts)))) ≡ Ok (x, put_links l (put_part p (c ∷ ts))) = rw b.2 first' in
     let rest' = list_rest d 8 l b.0 b.1 (omega arith) (omega arith) cl level.3 (omega arith) b.3 in
@@ -281,9 +281,9 @@ reduced_rule d w b x cb cx level deep ts =
     at_reduction (inner_of (inside d)) w (put_braces b (put x ts)) (role_of w) level.0 ∙ (rw (cb level.1 (omega arith) (put x ts), inner) refl))
 
 -- what follows the branch of `then`
-behind_then : (e : Part) (ts : Tokens) → IsElse e → Stops 6 ts → Stops 6 (put_part e ts)
-behind_then absent ts level stops = stops
-behind_then (part m x) ts level stops = let s = else-shuts (role_of m) level.0 in omega (arith, s.grips)
+after_then : (e : Part) (ts : Tokens) → IsElse e → Stops 6 ts → Stops 6 (put_part e ts)
+after_then absent ts level stops = stops
+after_then (part m x) ts level stops = let s = else-shuts (role_of m) level.0 in omega (arith, s.grips)
 
 seven_or_if : (r : ℕ) → is_value r ≡ true → (r ≤ 7) ⊎ (r ≡ 11)
 seven_or_if r h = grind (arith, nat_tests)
@@ -306,7 +306,7 @@ choice_rule d i x t y e cx cy ce level deep ts = record {
   narrow = λ fits. absurd (omega (arith, fits));
   loose = λ is stops no_else.
       let first = in_place d 10 10 x (t ∷ put y (put_part e ts)) cx level.1 (omega arith) level.2 (omega arith) (omega arith) (omega (arith, reach-le (precedence x), level.2)) (shut 10 t (put y (put_part e ts)) (omega arith) (then-shuts (role_of t) level.3)) in
-      let second = in_place d 7 6 y (put_part e ts) cy level.4 (omega arith) level.5 (omega arith) (omega arith) (reach-below (precedence y) 6 level.5 (omega arith)) (behind_then e ts level.6 stops) in
+      let second = in_place d 7 6 y (put_part e ts) cy level.4 (omega arith) level.5 (omega arith) (omega arith) (reach-below (precedence y) 6 level.5 (omega arith)) (after_then e ts level.6 stops) in
       rw (first, expect-complete sorts.Then awaiting.Other t (put y (put_part e ts)) level.3, second, else-read d e ts ce level.6 (omega arith) stops no_else) refl;
 }
 

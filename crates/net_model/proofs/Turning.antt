@@ -106,7 +106,7 @@ one_read found more l whole j k p ts o x a r all same room h e f is made before 
 -- a stop in a part is the stop of the whole
 pub fails : {A B : Type 0} (s : ParseError) (part : Read A) (whole : Read B) → Fails s part → ((t : ParseError) → part ≡ Err t → whole ≡ Err t) → Fails s whole
 fails stops.OutOfMemory part whole h onward = tt
-fails (stops.Refused n a) part whole h onward = onward (stops.Refused n a) h
+fails (stops.Rejected n a) part whole h onward = onward (stops.Rejected n a) h
 fails (stops.TooDeep n) part whole h onward = onward (stops.TooDeep n) h
 
 pub no_operator : (found : List Link) (whole j k : ℕ) (p : Reader) (ts : Tokens) (all : Read Links) (s : ParseError)

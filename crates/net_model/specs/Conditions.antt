@@ -11,7 +11,7 @@ use Rattle.net_tree.specs.Tree.{Tree, net, Condition, unsaid, one, between}
 use Rattle.net_tree.specs.View.{linked}
 use Rattle.net_model.specs.declared.parse_error.Awaiting.TheVariants as awaiting
 use Rattle.net_model.specs.declared.expected.Expected.TheVariants as sorts
-use Rattle.net_model.specs.Reading.{Tokens, Read, ◌>>=◌, read_as, refused, next_is, expect}
+use Rattle.net_model.specs.Reading.{Tokens, Read, ◌>>=◌, read_as, rejected, next_is, expect}
 use Rattle.net_model.specs.Expressions.{Inner, unary, climb, operator_at, chained}
 use Rattle.net_model.specs.Rows.{row}
 
@@ -85,7 +85,7 @@ high_at o m x p y ts =
     else read_as (one m x p y) ts
 
 unfoldable pub middle_at : Option Inner → Token → Tree → Token → Tokens → Read Condition
-middle_at o m x p ts = sum_at o true ts >>= λ y. if y.0.1 then refused awaiting.Other y.1 else high_at o m x p y.0.0 y.1
+middle_at o m x p ts = sum_at o true ts >>= λ y. if y.0.1 then rejected awaiting.Other y.1 else high_at o m x p y.0.0 y.1
 
 -- after the first sum and the relation
 unfoldable pub bounded_at : Option Inner → Token → Tree → Bool → Token → Tokens → Read Condition

@@ -12,7 +12,7 @@ use Rattle.net_model.specs.declared.phrase.Owner.TheVariants as owners
 use Rattle.net_model.specs.declared.parse_error.Awaiting.{Awaiting}
 use Rattle.net_model.specs.declared.parse_error.Awaiting.TheVariants as awaiting
 use Rattle.net_model.specs.declared.expected.Expected.TheVariants as sorts
-use Rattle.net_model.specs.Reading.{Tokens, Read, ◌>>=◌, read_as, refused, next_is, expect}
+use Rattle.net_model.specs.Reading.{Tokens, Read, ◌>>=◌, read_as, rejected, next_is, expect}
 use Rattle.net_model.specs.Expressions.{Inner, inside, unary, climb, wide, braces, part_at}
 use Rattle.net_model.specs.Rows.{row}
 use Rattle.net_model.specs.Phrases.{phrases, phrases_end}
@@ -46,13 +46,13 @@ node_at o w ts =
     read_as (node w n.0 b.0 c.0 e.0) e.1
 
 -- what is expected after an objective without an expression
-abbrev pub behind_objective : Part → Awaiting
-behind_objective absent = awaiting.Objective
-behind_objective (part m x) = awaiting.Other
+abbrev pub after_objective : Part → Awaiting
+after_objective absent = awaiting.Objective
+after_objective (part m x) = awaiting.Other
 
 unfoldable pub objective_at : Option Inner → Token → Tokens → Read Declaration
 objective_at o w ts =
-    expect sorts.Name awaiting.Other ts >>= λ n. part_at sorts.Colon (wide o of_union) n.1 >>= λ p. expect sorts.Semicolon (behind_objective p.0) p.1 >>= λ e.
+    expect sorts.Name awaiting.Other ts >>= λ n. part_at sorts.Colon (wide o of_union) n.1 >>= λ p. expect sorts.Semicolon (after_objective p.0) p.1 >>= λ e.
     read_as (objective w n.0 p.0 e.0) e.1
 
 unfoldable pub declared_at : Option Inner → Declares → Token → Tokens → Read Declaration
@@ -65,10 +65,10 @@ declared_at o declares.Objective w ts = objective_at o w ts
 
 abbrev pub declaration_of_role : Option Inner → Role → Token → Tokens → Read Declaration
 declaration_of_role o (roles.Declaration d) w ts = declared_at o d w ts
-declaration_of_role o _ w ts = refused awaiting.Declaration (w ∷ ts)
+declaration_of_role o _ w ts = rejected awaiting.Declaration (w ∷ ts)
 
 unfoldable pub declaration_at : Option Inner → Tokens → Read Declaration
-declaration_at o [] = refused awaiting.Declaration []
+declaration_at o [] = rejected awaiting.Declaration []
 declaration_at o (w ∷ ts) = declaration_of_role o (role_of w) w ts
 
 abbrev pub any_left : Tokens → Bool

@@ -13,14 +13,14 @@ use Rattle.net_tree.specs.WellFormed.{precedence, joins}
 use Rattle.net_model.specs.declared.expected.Expected.{Expected}
 use Rattle.net_model.specs.declared.expected.Expected.TheVariants as sorts
 use Rattle.net_model.specs.declared.parse_error.Awaiting.TheVariants as awaiting
-use Rattle.net_model.specs.Reading.{Tokens, Read, ◌>>=◌, read_as, refused, too_deep, next_is, is_sort, expect}
+use Rattle.net_model.specs.Reading.{Tokens, Read, ◌>>=◌, read_as, rejected, too_deep, next_is, is_sort, expect}
 
 abbrev pub Reader : Type 0
 Reader = Tokens → Read Tree
 
 -- an operator; `not` is followed by `in` or `within`
 unfoldable pub operator_at : Tokens → Read Operator
-operator_at [] = refused awaiting.Other []
+operator_at [] = rejected awaiting.Other []
 operator_at (t ∷ ts) = if is_not (role_of t) then (expect sorts.Membership awaiting.Other ts >>= λ u. read_as (Two t u.0) u.1) else read_as (One t) ts
 
 -- at most `turns` links whose tokens join operands of precedence j, after k links
@@ -53,7 +53,7 @@ climb (suc (suc n)) unary = chain_at (suc n) (climb (suc n) unary)
 
 -- a clause introduced by punctuation or a keyword, if present
 unfoldable pub present_at : Reader → Tokens → Read Part
-present_at value [] = refused awaiting.Other []
+present_at value [] = rejected awaiting.Other []
 present_at value (t ∷ ts) = value ts >>= λ x. read_as (part t x.0) x.1
 
 unfoldable pub part_at : Expected → Reader → Tokens → Read Part
@@ -72,7 +72,7 @@ abbrev pub is_subscripted : Tokens → Bool
 is_subscripted ts = next_is is_open_square ts
 
 unfoldable pub subscripts_at : Inner → Token → Tokens → Read Tree
-subscripts_at i n [] = refused awaiting.Other []
+subscripts_at i n [] = rejected awaiting.Other []
 subscripts_at i n (o ∷ ts) =
     i.at of_sum ts >>= λ x. all_links of_comma (i.at of_sum) x.1 >>= λ l. expect sorts.CloseSquare awaiting.Other l.1 >>= λ c. read_as (indexed n o x.0 l.0 c.0) c.1
 
@@ -95,7 +95,7 @@ parens_at i o ts = i.wide of_or ts >>= λ x. parens_from i o x.0 x.1
 
 -- after `not`, at the maximum depth
 unfoldable pub not_shut : Tokens → Read Tree
-not_shut ts = if next_is (is_sort sorts.Open) ts then too_deep ts else refused awaiting.Other ts
+not_shut ts = if next_is (is_sort sorts.Open) ts then too_deep ts else rejected awaiting.Other ts
 
 unfoldable pub negated_at : Option Inner → Token → Tokens → Read Tree
 negated_at None n ts = not_shut ts
@@ -120,7 +120,7 @@ unfoldable pub braces_at : Inner → Token → Tokens → Read Braces
 braces_at i o ts = if next_is is_hollow ts then hollow_at i o ts else items_at i o ts
 
 unfoldable pub braces : Option Inner → Tokens → Read Braces
-braces None ts = if next_is is_open_brace ts then too_deep ts else refused awaiting.Other ts
+braces None ts = if next_is is_open_brace ts then too_deep ts else rejected awaiting.Other ts
 braces (Some i) ts = expect sorts.OpenBrace awaiting.Other ts >>= λ o. braces_at i o.0 o.1
 
 -- after `sum`, `min` or `max`
@@ -146,16 +146,16 @@ unary_at (Some i) roles.Open t ts = parens_at i t ts
 unary_at (Some i) roles.OpenBrace t ts = braces_at i t ts >>= λ b. read_as (braced b.0) b.1
 unary_at (Some i) roles.Sign t ts = i.at of_reduction ts >>= λ x. read_as (signed t x.0) x.1
 unary_at (Some i) roles.Reduction t ts = reduced_at i t ts
-unary_at o _ t ts = refused awaiting.Other (t ∷ ts)
+unary_at o _ t ts = rejected awaiting.Other (t ∷ ts)
 
 unfoldable pub unary : Option Inner → Reader
-unary o [] = refused awaiting.Other []
+unary o [] = rejected awaiting.Other []
 unary o (t ∷ ts) = unary_at o (role_of t) t ts
 
 -- at an `if`
 unfoldable pub if_at : Option Inner → Reader
 if_at None ts = too_deep ts
-if_at (Some i) [] = refused awaiting.Other []
+if_at (Some i) [] = rejected awaiting.Other []
 if_at (Some i) (t ∷ ts) = choice_at i t ts
 
 unfoldable pub wide : Option Inner → ℕ → Reader

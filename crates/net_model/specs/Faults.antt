@@ -14,11 +14,11 @@ use Rattle.net_model.specs.declared.parse_error.Awaiting.{Awaiting}
 use Rattle.net_model.specs.declared.parse_error.Awaiting.TheVariants as awaiting
 use Rattle.net_model.specs.declared.parse_error.ParseError.{ParseError}
 use Rattle.net_model.specs.declared.parse_error.ParseError.TheVariants as stops
-use Rattle.net_fault.specs.declared.defect.Defect.{Defect}
-use Rattle.net_fault.specs.declared.defect.Defect.TheVariants as defects
+use Rattle.net_fault.specs.declared.error_code.ErrorCode.{ErrorCode}
+use Rattle.net_fault.specs.declared.error_code.ErrorCode.TheVariants as error_codes
 use Rattle.net_fault.specs.declared.detail.Detail.{Detail}
-use Rattle.net_fault.specs.declared.detail.Detail.TheVariants.{Nothing, Told}
-use Rattle.net_fault.specs.declared.finding.Finding.{Finding}
+use Rattle.net_fault.specs.declared.detail.Detail.TheVariants.{Nothing, Reported}
+use Rattle.net_fault.specs.declared.diagnostic.Diagnostic.{Diagnostic}
 use Rattle.net_fault.specs.declared.fault.Fault.{Fault}
 use Rattle.net_fault.specs.declared.fault.Fault.TheVariants.{OutOfMemory, At}
 use Rattle.net_fault.specs.declared.language.Language.TheVariants as languages
@@ -50,9 +50,9 @@ is_foreign kinds.Str r = is_brace_or_equal r
 is_foreign kinds.Mark r = is_brace_or_equal r
 is_foreign kinds.Dot r = is_brace_or_equal r
 
-abbrev pub foreign_defect : Bool → Defect
-foreign_defect true = defects.LeftOut
-foreign_defect false = defects.ModelSyntax
+abbrev pub foreign_error_code : Bool → ErrorCode
+foreign_error_code true = error_codes.LeftOut
+foreign_error_code false = error_codes.ModelSyntax
 
 abbrev pub is_brace : Role → Bool
 is_brace roles.OpenBrace = true
@@ -62,26 +62,26 @@ abbrev pub foreign_for : Awaiting → Kind → Role → Bool
 foreign_for awaiting.FurtherPhrase k r = true
 foreign_for awaiting.Declaration k r = is_foreign k r
 foreign_for awaiting.Phrase k r = is_foreign k r
-foreign_for awaiting.PhraseBehindNode k r = is_foreign k r
+foreign_for awaiting.PhraseAfterNode k r = is_foreign k r
 foreign_for awaiting.Objective k r = is_brace r
 foreign_for awaiting.Other k r = false
 
-abbrev pub misplaced : Awaiting → Kind → Role → Defect
-misplaced a k roles.Net = defects.NetPlace
-misplaced a k roles.LeftOut = defects.LeftOut
-misplaced a k r = foreign_defect (foreign_for a k r)
+abbrev pub misplaced : Awaiting → Kind → Role → ErrorCode
+misplaced a k roles.Net = error_codes.NetPlace
+misplaced a k roles.LeftOut = error_codes.LeftOut
+misplaced a k r = foreign_error_code (foreign_for a k r)
 
-abbrev pub is_behind_node : Awaiting → Bool
-is_behind_node awaiting.PhraseBehindNode = true
-is_behind_node _ = false
+abbrev pub is_after_node : Awaiting → Bool
+is_after_node awaiting.PhraseAfterNode = true
+is_after_node _ = false
 
 -- the error of a token in the position of what is expected
-abbrev pub defect_of : Awaiting → Kind → Role → Defect
-defect_of a k r = if is_behind_node a && begins_gain r then defects.Gain else misplaced a k r
+abbrev pub error_code_of : Awaiting → Kind → Role → ErrorCode
+error_code_of a k r = if is_after_node a && begins_gain r then error_codes.Gain else misplaced a k r
 
 -- an unsupported construct is reported with its word
-abbrev pub detail_of : Defect → List ℕ → Detail
-detail_of defects.LeftOut text = Told text
+abbrev pub detail_of : ErrorCode → List ℕ → Detail
+detail_of error_codes.LeftOut text = Reported text
 detail_of _ text = Nothing
 
 -- the position after the last token, or 0
@@ -94,27 +94,27 @@ end_of (t ∷ u ∷ ts) = end_of (u ∷ ts)
 abbrev pub left_of : ℕ → Tokens → Tokens
 left_of left ts = drop (length ts - left) ts
 
-abbrev pub refused_fault : Awaiting → (left whole : Tokens) → Finding
-refused_fault a [] ts = bare languages.Model defects.ModelSyntax (end_of ts)
-refused_fault a (t ∷ left) ts = found languages.Model (defect_of a t.kind (role_of t)) t.span (detail_of (defect_of a t.kind (role_of t)) t.text)
+abbrev pub rejected_fault : Awaiting → (left whole : Tokens) → Diagnostic
+rejected_fault a [] ts = bare languages.Model error_codes.ModelSyntax (end_of ts)
+rejected_fault a (t ∷ left) ts = found languages.Model (error_code_of a t.kind (role_of t)) t.span (detail_of (error_code_of a t.kind (role_of t)) t.text)
 
-abbrev pub deep_fault : (left whole : Tokens) → Finding
-deep_fault [] ts = bare languages.Model defects.TooDeep (end_of ts)
-deep_fault (t ∷ left) ts = bare languages.Model defects.TooDeep t.span
+abbrev pub deep_fault : (left whole : Tokens) → Diagnostic
+deep_fault [] ts = bare languages.Model error_codes.TooDeep (end_of ts)
+deep_fault (t ∷ left) ts = bare languages.Model error_codes.TooDeep t.span
 
-abbrev pub told : ParseError → Tokens → Fault
-told stops.OutOfMemory ts = OutOfMemory
-told (stops.Refused left a) ts = At (refused_fault a (left_of left ts) ts)
-told (stops.TooDeep left) ts = At (deep_fault (left_of left ts) ts)
+abbrev pub reported : ParseError → Tokens → Fault
+reported stops.OutOfMemory ts = OutOfMemory
+reported (stops.Rejected left a) ts = At (rejected_fault a (left_of left ts) ts)
+reported (stops.TooDeep left) ts = At (deep_fault (left_of left ts) ts)
 
 -- the error for a stop of the parser, unless memory ran out
-abbrev pub IsToldOf : ParseError → Tokens → Fault → Type 0
-IsToldOf s ts OutOfMemory = Unit {0}
-IsToldOf s ts (At f) = told s ts ≡ At f
+abbrev pub IsReportedOf : ParseError → Tokens → Fault → Type 0
+IsReportedOf s ts OutOfMemory = Unit {0}
+IsReportedOf s ts (At f) = reported s ts ≡ At f
 
 -- the result is the model that these tokens are parsed as, or the error for the parser's stop,
 -- unless memory ran out
-abbrev pub Tells : Tokens → Result Model Fault → Read (List Declaration × Unit {0}) → Type 0
-Tells ts (Ok m) read = read ≡ Ok ((views.model m, tt), [])
-Tells ts (Err OutOfMemory) read = Unit {0}
-Tells ts (Err (At f)) read = (s : ParseError) × (read ≡ Err s) × (told s ts ≡ At f)
+abbrev pub Reports : Tokens → Result Model Fault → Read (List Declaration × Unit {0}) → Type 0
+Reports ts (Ok m) read = read ≡ Ok ((views.model m, tt), [])
+Reports ts (Err OutOfMemory) read = Unit {0}
+Reports ts (Err (At f)) read = (s : ParseError) × (read ≡ Err s) × (reported s ts ≡ At f)

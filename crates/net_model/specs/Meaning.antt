@@ -9,8 +9,8 @@ use Rattle.net_tree.specs.Tree.{Declaration}
 use Rattle.net_tree.specs.Print.{print}
 use Rattle.net_tree.specs.Depth.{model_depth}
 use Rattle.net_tree.specs.Declarations.{AreDeclarations}
-use Rattle.net_fault.specs.declared.defect.Defect.TheVariants as defects
-use Rattle.net_fault.specs.declared.defect.Defect.{Defect}
+use Rattle.net_fault.specs.declared.error_code.ErrorCode.TheVariants as error_codes
+use Rattle.net_fault.specs.declared.error_code.ErrorCode.{ErrorCode}
 use Rattle.net_fault.specs.declared.fault.Fault.{Fault}
 use Rattle.net_fault.specs.declared.fault.Fault.TheVariants as faults
 use Rattle.net_model.specs.Reading.{Tokens}
@@ -87,10 +87,10 @@ pub record DeepAt (tokens : Tokens) (place : Span) : Type 0 where
   pub deeper : (others : Tokens) → TooDeep (before ++ token ∷ others)
 
 -- the meaning of a syntax error
-abbrev pub IsDefectAt : Tokens → Defect → Span → Type 0
-IsDefectAt tokens defects.TooDeep place = DeepAt tokens place
-IsDefectAt tokens defect place = WrongAt tokens place
+abbrev pub IsErrorCodeAt : Tokens → ErrorCode → Span → Type 0
+IsErrorCodeAt tokens error_codes.TooDeep place = DeepAt tokens place
+IsErrorCodeAt tokens error_code place = WrongAt tokens place
 
-abbrev pub IsRefused : Tokens → Fault → Type 0
-IsRefused tokens faults.OutOfMemory = Unit {0}
-IsRefused tokens (faults.At f) = IsDefectAt tokens f.defect f.at
+abbrev pub IsRejected : Tokens → Fault → Type 0
+IsRejected tokens faults.OutOfMemory = Unit {0}
+IsRejected tokens (faults.At f) = IsErrorCodeAt tokens f.error_code f.at

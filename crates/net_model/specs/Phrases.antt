@@ -16,7 +16,7 @@ use Rattle.net_model.specs.declared.phrase.Stood.{Stood}
 use Rattle.net_model.specs.declared.parse_error.Awaiting.{Awaiting}
 use Rattle.net_model.specs.declared.parse_error.Awaiting.TheVariants as awaiting
 use Rattle.net_model.specs.declared.expected.Expected.TheVariants as sorts
-use Rattle.net_model.specs.Reading.{Tokens, Read, ◌>>=◌, read_as, refused, next_is, expect}
+use Rattle.net_model.specs.Reading.{Tokens, Read, ◌>>=◌, read_as, rejected, next_is, expect}
 use Rattle.net_model.specs.Expressions.{Inner, unary, climb, wide, named_at}
 use Rattle.net_model.specs.Rows.{row}
 
@@ -73,17 +73,17 @@ stood_before _ _ _ = false
 
 -- the phrases that have occurred, including the one that this keyword begins
 abbrev pub and_then_stood : Stood → Role → Stood
-and_then_stood s (roles.Phrase begins.Dimen) = record s { dimen = true; behind_node = false }
-and_then_stood s (roles.Phrase begins.Default) = record s { default = true; behind_node = false }
-and_then_stood s (roles.Phrase begins.From) = record s { from = true; behind_node = true }
-and_then_stood s (roles.Phrase begins.To) = record s { to = true; behind_node = true }
-and_then_stood s roles.Becomes = record s { becomes = true; behind_node = false }
-and_then_stood s (roles.Relation relations.AtLeast) = record s { at_least = true; behind_node = false }
-and_then_stood s (roles.Relation relations.AtMost) = record s { at_most = true; behind_node = false }
-and_then_stood s _ = record s { behind_node = false }
+and_then_stood s (roles.Phrase begins.Dimen) = record s { dimen = true; after_node = false }
+and_then_stood s (roles.Phrase begins.Default) = record s { default = true; after_node = false }
+and_then_stood s (roles.Phrase begins.From) = record s { from = true; after_node = true }
+and_then_stood s (roles.Phrase begins.To) = record s { to = true; after_node = true }
+and_then_stood s roles.Becomes = record s { becomes = true; after_node = false }
+and_then_stood s (roles.Relation relations.AtLeast) = record s { at_least = true; after_node = false }
+and_then_stood s (roles.Relation relations.AtMost) = record s { at_most = true; after_node = false }
+and_then_stood s _ = record s { after_node = false }
 
 abbrev pub nothing_stood : Stood
-nothing_stood = record { dimen = false; default = false; becomes = false; at_least = false; at_most = false; from = false; to = false; behind_node = false }
+nothing_stood = record { dimen = false; default = false; becomes = false; at_least = false; at_most = false; from = false; to = false; after_node = false }
 
 -- whether this keyword begins a phrase here
 abbrev pub begins_phrase : Owner → Stood → Role → Bool
@@ -97,7 +97,7 @@ phrase_next o s ts = next_is (goes_on o s) ts
 
 -- what is expected at a token that is not accepted
 abbrev pub awaited : Owner → Stood → Role → Awaiting
-awaited o s r = if stood_before o s r then awaiting.FurtherPhrase else if s.behind_node then awaiting.PhraseBehindNode else awaiting.Phrase
+awaited o s r = if stood_before o s r then awaiting.FurtherPhrase else if s.after_node then awaiting.PhraseAfterNode else awaiting.Phrase
 
 abbrev pub body_of : Option Inner → Slot → Tokens → Read Body
 body_of o slots.Nothing ts = read_as plain ts
@@ -110,14 +110,14 @@ body_of o slots.Price ts = expect sorts.Name awaiting.Objective ts >>= λ n. cli
 
 -- after the keyword
 abbrev pub phrase_of_slot : Option Inner → Option Token → Token → Stood → Option Slot → Tokens → Read (Phrase × Stood)
-phrase_of_slot o c w s None ts = refused awaiting.Phrase (w ∷ ts)
+phrase_of_slot o c w s None ts = rejected awaiting.Phrase (w ∷ ts)
 phrase_of_slot o c w s (Some slot) ts = body_of o slot ts >>= λ b. read_as (record { comma = c; word = w; body = b.0 }, s) b.1
 
 unfoldable pub worded : Option Inner → Owner → Stood → Option Token → Tokens → Read (Phrase × Stood)
-worded o owner s c [] = refused awaiting.Phrase []
+worded o owner s c [] = rejected awaiting.Phrase []
 worded o owner s c (w ∷ ts) =
     if stood_before owner s (role_of w)
-    then refused awaiting.FurtherPhrase (w ∷ ts)
+    then rejected awaiting.FurtherPhrase (w ∷ ts)
     else phrase_of_slot o c w (and_then_stood s (role_of w)) (slot_of owner (role_of w)) ts
 
 abbrev pub comma_taken : Tokens → Read (Option Token)
@@ -136,5 +136,5 @@ phrases o owner ts = row (length ts) (phrase_at o owner) (phrase_next owner) not
 
 -- the semicolon after the phrases
 unfoldable pub phrases_end : Owner → Stood → Tokens → Read Token
-phrases_end owner s [] = refused awaiting.Phrase []
-phrases_end owner s (t ∷ ts) = if is_semicolon (role_of t) then read_as t ts else refused (awaited owner s (role_of t)) (t ∷ ts)
+phrases_end owner s [] = rejected awaiting.Phrase []
+phrases_end owner s (t ∷ ts) = if is_semicolon (role_of t) then read_as t ts else rejected (awaited owner s (role_of t)) (t ∷ ts)

@@ -26,8 +26,8 @@ abbrev pub read_as : {A : Type 0} → A → Tokens → Read A
 read_as x rest = Ok (x, rest)
 
 -- the first of these tokens, or the end of the text, is not allowed
-abbrev pub refused : {A : Type 0} → Awaiting → Tokens → Read A
-refused a ts = Err (stops.Refused (length ts) a)
+abbrev pub rejected : {A : Type 0} → Awaiting → Tokens → Read A
+rejected a ts = Err (stops.Rejected (length ts) a)
 
 -- the first of these tokens exceeds the nesting limit
 abbrev pub too_deep : {A : Type 0} → Tokens → Read A
@@ -63,14 +63,14 @@ is_sort sorts.Net r = is_net r
 
 -- a token of this sort
 unfoldable pub expect : Expected → Awaiting → Tokens → Read Token
-expect s a [] = refused a []
-expect s a (t ∷ ts) = if is_sort s (role_of t) then Ok (t, ts) else refused a (t ∷ ts)
+expect s a [] = rejected a []
+expect s a (t ∷ ts) = if is_sort s (role_of t) then Ok (t, ts) else rejected a (t ∷ ts)
 
 -- The result of a call, as the specification sees it, and the remaining tokens are as the
 -- definition gives, unless memory ran out.
 abbrev pub Fails : {A : Type 0} → ParseError → Read A → Type 0
 Fails stops.OutOfMemory read = Unit {0}
-Fails (stops.Refused n a) read = read ≡ Err (stops.Refused n a)
+Fails (stops.Rejected n a) read = read ≡ Err (stops.Rejected n a)
 Fails (stops.TooDeep n) read = read ≡ Err (stops.TooDeep n)
 
 abbrev pub Gives : {X A : Type 0} → (X → A) → Result X ParseError → Tokens → Read A → Type 0

@@ -14,7 +14,7 @@ use crate::chains::{climb_to, links_from};
 use crate::choices::introduced;
 use crate::cursor::{Cursor, expect};
 use crate::expected::Expected;
-use crate::operand::loosest_in_body;
+use crate::operand::max_precedence_in_body;
 use crate::parse_error::{Awaiting, ParseError};
 use crate::stored::Stored;
 use net_lex::Token;
@@ -120,7 +120,7 @@ fn filter_of<'t, 's>(
         return Ok(Carried::new(None));
     }
     let Some(mark) = tokens.next() else {
-        return Err(ParseError::Refused(0, Awaiting::Other));
+        return Err(ParseError::Rejected(0, Awaiting::Other));
     };
     let condition = introduced(alloc, depth, precedence::OR, mark, tokens)?;
     Ok(Carried::new(Some(condition.into_boxed())))
@@ -167,5 +167,5 @@ fn body_inside<'t, 's>(
     ensures value { Gives tree result tokens.new (grammar.climb of_product (unary (inside depth)) tokens.old) }
     ensures shorter { IfOk result (λ x. length tokens.new < length tokens.old) }
 {
-    climb_to(alloc, depth, loosest_in_body(), tokens)
+    climb_to(alloc, depth, max_precedence_in_body(), tokens)
 }

@@ -10,7 +10,7 @@ use crate::carried::Carried;
 use crate::cursor::{Cursor, operator_at};
 use crate::expressions::unary_of;
 use crate::list::push;
-use crate::operand::loosest_at_right;
+use crate::operand::max_precedence_at_right;
 use crate::parse_error::ParseError;
 use crate::stored::Stored;
 use crate::trees::{chained, linked};
@@ -23,16 +23,16 @@ use std::alloc::Global;
 pub(crate) fn climb_to<'t, 's>(
     alloc: Global,
     depth: u8,
-    loosest: u8,
+    max_precedence: u8,
     tokens: &mut Cursor<'t, 's>,
 ) -> Result<Stored<Expr<'s>>, ParseError>
-    ensures value { Gives tree result tokens.new (grammar.climb loosest (unary (inside depth)) tokens.old) }
+    ensures value { Gives tree result tokens.new (grammar.climb max_precedence (unary (inside depth)) tokens.old) }
     ensures shorter { IfOk result (λ x. length tokens.new < length tokens.old) }
 {
-    if loosest < precedence::PRODUCT {
+    if max_precedence < precedence::PRODUCT {
         unary_of(alloc, depth, tokens)
     } else {
-        chain_of(alloc, depth, loosest - 1, tokens)
+        chain_of(alloc, depth, max_precedence - 1, tokens)
     }
 }
 
@@ -42,15 +42,15 @@ pub(crate) fn climb_to<'t, 's>(
 fn chain_of<'t, 's>(
     alloc: Global,
     depth: u8,
-    loosest: u8,
+    max_precedence: u8,
     tokens: &mut Cursor<'t, 's>,
 ) -> Result<Stored<Expr<'s>>, ParseError>
-    ensures value { Gives tree result tokens.new (grammar.chain_at loosest (grammar.climb loosest (unary (inside depth))) tokens.old) }
+    ensures value { Gives tree result tokens.new (grammar.chain_at max_precedence (grammar.climb max_precedence (unary (inside depth))) tokens.old) }
     ensures shorter { IfOk result (λ x. length tokens.new < length tokens.old) }
 {
-    let first = climb_to(alloc, depth, loosest, tokens)?;
-    let more = chain_links(alloc, depth, loosest, tokens)?;
-    Ok(chained(alloc, loosest, first, more)?)
+    let first = climb_to(alloc, depth, max_precedence, tokens)?;
+    let more = chain_links(alloc, depth, max_precedence, tokens)?;
+    Ok(chained(alloc, max_precedence, first, more)?)
 }
 
 /// Parses the links of a chain whose first operand has this precedence.
@@ -58,32 +58,38 @@ fn chain_of<'t, 's>(
 fn chain_links<'t, 's>(
     alloc: Global,
     depth: u8,
-    loosest: u8,
+    max_precedence: u8,
     tokens: &mut Cursor<'t, 's>,
 ) -> Result<Carried<Items<Link<'s>>>, ParseError>
-    ensures value { Gives links_of result tokens.new (grammar.all_links loosest (grammar.climb loosest (unary (inside depth))) tokens.old) }
+    ensures value { Gives links_of result tokens.new (grammar.all_links max_precedence (grammar.climb max_precedence (unary (inside depth))) tokens.old) }
     ensures shorter { IfOk result (λ x. length tokens.new ≤ length tokens.old) }
 {
-    links_from(alloc, depth, loosest, loosest_at_right(loosest), tokens)
+    links_from(
+        alloc,
+        depth,
+        max_precedence,
+        max_precedence_at_right(max_precedence),
+        tokens,
+    )
 }
 
 /// Parses links whose tokens join operands of precedence `joining`, with operands of at most
-/// precedence `loosest`.
+/// precedence `max_precedence`.
 #[cycle(parser)]
 pub(crate) fn links_from<'t, 's>(
     alloc: Global,
     depth: u8,
     joining: u8,
-    loosest: u8,
+    max_precedence: u8,
     tokens: &mut Cursor<'t, 's>,
 ) -> Result<Carried<Items<Link<'s>>>, ParseError>
-    ensures value { Gives links_of result tokens.new (grammar.all_links joining (grammar.climb loosest (unary (inside depth))) tokens.old) }
+    ensures value { Gives links_of result tokens.new (grammar.all_links joining (grammar.climb max_precedence (unary (inside depth))) tokens.old) }
     ensures shorter { IfOk result (λ x. length tokens.new ≤ length tokens.old) }
 {
     let mut found = Vec::new(alloc);
     while tokens.next_joins(joining, found.len()) {
         let operator = operator_at(alloc, tokens)?;
-        let operand = climb_to(alloc, depth, loosest, tokens)?;
+        let operand = climb_to(alloc, depth, max_precedence, tokens)?;
         let link = linked(alloc, operator, operand)?;
         push(&mut found, link)?;
     }

@@ -26,16 +26,16 @@ use std::alloc::Global;
 pub(crate) fn wide_of<'t, 's>(
     alloc: Global,
     depth: u8,
-    loosest: u8,
+    max_precedence: u8,
     tokens: &mut Cursor<'t, 's>,
 ) -> Result<Stored<Expr<'s>>, ParseError>
-    ensures value { Gives tree result tokens.new (grammar.wide (inside depth) loosest tokens.old) }
+    ensures value { Gives tree result tokens.new (grammar.wide (inside depth) max_precedence tokens.old) }
     ensures shorter { IfOk result (λ x. length tokens.new < length tokens.old) }
 {
     if tokens.next_is(Expected::If) {
         if_of(alloc, depth, tokens)
     } else {
-        climb_to(alloc, depth, loosest, tokens)
+        climb_to(alloc, depth, max_precedence, tokens)
     }
 }
 
@@ -53,7 +53,7 @@ fn if_of<'t, 's>(
         return Err(ParseError::TooDeep(tokens.len()));
     }
     match tokens.next() {
-        None => Err(ParseError::Refused(0, Awaiting::Other)),
+        None => Err(ParseError::Rejected(0, Awaiting::Other)),
         Some(word) => choice_inside(alloc, depth - 1, word, tokens),
     }
 }
@@ -64,15 +64,15 @@ fn if_of<'t, 's>(
 pub(crate) fn introduced<'t, 's>(
     alloc: Global,
     depth: u8,
-    loosest: u8,
+    max_precedence: u8,
     mark: Token<'s>,
     tokens: &mut Cursor<'t, 's>,
 ) -> Result<Stored<Part<'s>>, ParseError>
-    ensures value { Gives (λ p. (part_of p).1) result tokens.new (grammar.climb loosest (unary (inside depth)) tokens.old) }
+    ensures value { Gives (λ p. (part_of p).1) result tokens.new (grammar.climb max_precedence (unary (inside depth)) tokens.old) }
     ensures mark { IfOk result (λ p. (part_of p).0 ≡ mark.entry) }
     ensures shorter { IfOk result (λ x. length tokens.new < length tokens.old) }
 {
-    let value = climb_to(alloc, depth, loosest, tokens)?.into_inner();
+    let value = climb_to(alloc, depth, max_precedence, tokens)?.into_inner();
     Stored::new(alloc, Part { mark, value })
 }
 
@@ -115,7 +115,7 @@ fn otherwise_of<'t, 's>(
         return Ok(Carried::new(None));
     }
     let Some(mark) = tokens.next() else {
-        return Err(ParseError::Refused(0, Awaiting::Other));
+        return Err(ParseError::Rejected(0, Awaiting::Other));
     };
     let value = wide_of(alloc, depth, precedence::UNION, tokens)?.into_inner();
     Ok(Carried::new(Some(boxed(alloc, Part { mark, value })?)))

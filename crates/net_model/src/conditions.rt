@@ -256,7 +256,7 @@ fn middle_at<'t, 's>(
 {
     let (middle, free) = sum_at(alloc, depth, true, tokens)?;
     if free {
-        return Err(ParseError::Refused(tokens.len(), Awaiting::Other));
+        return Err(ParseError::Rejected(tokens.len(), Awaiting::Other));
     }
     high_at(alloc, depth, begun, middle, tokens)
 }

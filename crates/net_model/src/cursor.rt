@@ -93,7 +93,7 @@ impl<'t, 's> Cursor<'t, 's> {
     {
         match self.role {
             Some(role) => {
-                let token = self.tokens[self.at].again();
+                let token = self.tokens[self.at].copied();
                 *self = Cursor::starting_at(self.tokens, self.at + 1);
                 Some((role, token))
             }
@@ -170,7 +170,7 @@ pub(crate) fn expect<'t, 's>(
     let left = tokens.len();
     match tokens.next_with_role() {
         Some((role, token)) if is_sort(sort, role) => Ok(token),
-        _ => Err(ParseError::Refused(left, awaiting)),
+        _ => Err(ParseError::Rejected(left, awaiting)),
     }
 }
 
@@ -184,7 +184,7 @@ pub(crate) fn operator_at<'t, 's>(
     ensures shorter { IfOk result (λ x. length tokens.new < length tokens.old) }
 {
     match tokens.next_with_role() {
-        None => Err(ParseError::Refused(0, Awaiting::Other)),
+        None => Err(ParseError::Rejected(0, Awaiting::Other)),
         Some((role, token)) => {
             if is_not(role) {
                 let second = expect(Expected::Membership, Awaiting::Other, tokens)?;

@@ -188,15 +188,15 @@ fn value_part<'t, 's>(
         return Stored::new(alloc, None);
     }
     let Some(mark) = tokens.next() else {
-        return Err(ParseError::Refused(0, Awaiting::Other));
+        return Err(ParseError::Rejected(0, Awaiting::Other));
     };
     let value = wide_of(alloc, depth, precedence::UNION, tokens)?.into_inner();
     Stored::new(alloc, Some(Part { mark, value }))
 }
 
 /// Returns what is expected after an objective, depending on whether it has an expression.
-fn behind_objective(part: &Option<Part<'_>>) -> Awaiting
-    ensures { result ≡ grammar.behind_objective (option_part part.now) }
+fn after_objective(part: &Option<Part<'_>>) -> Awaiting
+    ensures { result ≡ grammar.after_objective (option_part part.now) }
 {
     match part {
         None => Awaiting::Objective,
@@ -216,7 +216,7 @@ fn objective_at<'t, 's>(
 {
     let name = expect(Expected::Name, Awaiting::Other, tokens)?;
     let part = value_part(alloc, depth, tokens)?;
-    let end = expect(Expected::Semicolon, behind_objective(part.get()), tokens)?;
+    let end = expect(Expected::Semicolon, after_objective(part.get()), tokens)?;
     Stored::new(alloc, Decl::Objective(word, name, part.into_inner(), end))
 }
 
@@ -254,11 +254,11 @@ fn declaration_at<'t, 's>(
 {
     let left = tokens.len();
     let Some((role, word)) = tokens.next_with_role() else {
-        return Err(ParseError::Refused(0, Awaiting::Declaration));
+        return Err(ParseError::Rejected(0, Awaiting::Declaration));
     };
     match role {
         Role::Declaration(kind) => declared_at(alloc, depth, kind, word, tokens),
-        _ => Err(ParseError::Refused(left, Awaiting::Declaration)),
+        _ => Err(ParseError::Rejected(left, Awaiting::Declaration)),
     }
 }
 

@@ -1,5 +1,5 @@
 //! Expressions. `depth` is the number of nesting levels that are still allowed; a function
-//! `.._inside` has already entered its own level. `loosest` is the maximum precedence of a tree at
+//! `.._inside` has already entered its own level. `max_precedence` is the maximum precedence of a tree at
 //! that position.
 
 ghost use Rattle.std.specs.Prelude.{◌≡◌, ◌<◌, ◌≤◌, length, IfOk};
@@ -39,7 +39,7 @@ pub(crate) fn unary_of<'t, 's>(
 {
     let left = tokens.len();
     let Some((role, token)) = tokens.next_with_role() else {
-        return Err(ParseError::Refused(0, Awaiting::Other));
+        return Err(ParseError::Rejected(0, Awaiting::Other));
     };
     match role {
         Role::Name => named_of(alloc, depth, token, tokens),
@@ -58,7 +58,7 @@ pub(crate) fn unary_of<'t, 's>(
             signed(alloc, token, operand)
         }
         Role::Reduction => reduced_inside(alloc, depth - 1, token, tokens),
-        _ => Err(ParseError::Refused(left, Awaiting::Other)),
+        _ => Err(ParseError::Rejected(left, Awaiting::Other)),
     }
 }
 
@@ -117,7 +117,7 @@ fn subscripts_inside<'t, 's>(
     ensures shorter { IfOk result (λ x. length tokens.new ≤ length tokens.old) }
 {
     let Some(open) = tokens.next() else {
-        return Err(ParseError::Refused(0, Awaiting::Other));
+        return Err(ParseError::Rejected(0, Awaiting::Other));
     };
     let first = climb_to(alloc, depth, precedence::SUM, tokens)?;
     let more = links_from(alloc, depth, precedence::COMMA, precedence::SUM, tokens)?;

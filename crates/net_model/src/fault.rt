@@ -5,7 +5,7 @@ ghost use Rattle.net_model.specs.Faults as faults;
 ghost use Rattle.net_fault.specs.declared.fault.Fault.TheVariants.{At};
 
 use crate::parse_error::{Awaiting, ParseError};
-use net_fault::{Defect, Detail, Fault, Language, Span};
+use net_fault::{Detail, ErrorCode, Fault, Language, Span};
 use net_lex::{Kind, Token};
 use net_tree::{Relation, Role, role_of};
 use std::alloc::{AllocError, Global};
@@ -34,24 +34,24 @@ fn is_foreign(kind: Kind, role: Role) -> bool
     }
 }
 
-fn foreign_defect(foreign: bool) -> Defect
-    ensures { result ≡ faults.foreign_defect foreign }
+fn foreign_error_code(foreign: bool) -> ErrorCode
+    ensures { result ≡ faults.foreign_error_code foreign }
 {
     if foreign {
-        Defect::LeftOut
+        ErrorCode::LeftOut
     } else {
-        Defect::ModelSyntax
+        ErrorCode::ModelSyntax
     }
 }
 
 /// Returns the error of a token that is not expected and is not a gain factor.
-fn misplaced(awaiting: Awaiting, kind: Kind, role: Role) -> Defect
+fn misplaced(awaiting: Awaiting, kind: Kind, role: Role) -> ErrorCode
     ensures { result ≡ faults.misplaced awaiting kind role }
 {
     match role {
-        Role::Net => Defect::NetPlace,
-        Role::LeftOut => Defect::LeftOut,
-        _ => foreign_defect(foreign_for(awaiting, kind, role)),
+        Role::Net => ErrorCode::NetPlace,
+        Role::LeftOut => ErrorCode::LeftOut,
+        _ => foreign_error_code(foreign_for(awaiting, kind, role)),
     }
 }
 
@@ -60,7 +60,7 @@ fn foreign_for(awaiting: Awaiting, kind: Kind, role: Role) -> bool
 {
     match awaiting {
         Awaiting::FurtherPhrase => true,
-        Awaiting::Declaration | Awaiting::Phrase | Awaiting::PhraseBehindNode => {
+        Awaiting::Declaration | Awaiting::Phrase | Awaiting::PhraseAfterNode => {
             is_foreign(kind, role)
         }
         Awaiting::Objective => matches!(role, Role::OpenBrace),
@@ -68,29 +68,29 @@ fn foreign_for(awaiting: Awaiting, kind: Kind, role: Role) -> bool
     }
 }
 
-fn is_behind_node(awaiting: Awaiting) -> bool
-    ensures { result ≡ faults.is_behind_node awaiting }
+fn is_after_node(awaiting: Awaiting) -> bool
+    ensures { result ≡ faults.is_after_node awaiting }
 {
-    matches!(awaiting, Awaiting::PhraseBehindNode)
+    matches!(awaiting, Awaiting::PhraseAfterNode)
 }
 
 /// Returns the error of a token in the position of what is expected.
-fn defect_of(awaiting: Awaiting, kind: Kind, role: Role) -> Defect
-    ensures { result ≡ faults.defect_of awaiting kind role }
+fn error_code_of(awaiting: Awaiting, kind: Kind, role: Role) -> ErrorCode
+    ensures { result ≡ faults.error_code_of awaiting kind role }
 {
-    if is_behind_node(awaiting) && begins_gain(role) {
-        Defect::Gain
+    if is_after_node(awaiting) && begins_gain(role) {
+        ErrorCode::Gain
     } else {
         misplaced(awaiting, kind, role)
     }
 }
 
 /// Returns the detail that is reported with an error: the word of an unsupported construct.
-fn detail_of(alloc: Global, defect: Defect, token: &Token<'_>) -> Result<Detail, AllocError>
-    ensures { IfOk result (λ d. d ≡ faults.detail_of defect token.now.text) }
+fn detail_of(alloc: Global, error_code: ErrorCode, token: &Token<'_>) -> Result<Detail, AllocError>
+    ensures { IfOk result (λ d. d ≡ faults.detail_of error_code token.now.text) }
 {
-    match defect {
-        Defect::LeftOut => Detail::of_name(alloc, &token.text),
+    match error_code {
+        ErrorCode::LeftOut => Detail::of_name(alloc, &token.text),
         _ => Ok(Detail::Nothing),
     }
 }
@@ -108,20 +108,20 @@ fn end_of(tokens: &[Token<'_>]) -> Span
     }
 }
 
-fn refused_fault(
+fn rejected_fault(
     alloc: Global,
     awaiting: Awaiting,
     left: usize,
     tokens: &[Token<'_>],
 ) -> Result<Fault, AllocError>
-    ensures { IfOk result (λ f. f ≡ At (faults.refused_fault awaiting (faults.left_of left tokens.now) tokens.now)) }
+    ensures { IfOk result (λ f. f ≡ At (faults.rejected_fault awaiting (faults.left_of left tokens.now) tokens.now)) }
 {
     match tokens.get(tokens.len().saturating_sub(left)) {
-        None => Ok(Fault::of_model(Defect::ModelSyntax, end_of(tokens))),
+        None => Ok(Fault::of_model(ErrorCode::ModelSyntax, end_of(tokens))),
         Some(token) => {
-            let defect = defect_of(awaiting, token.kind, role_of(token));
-            let detail = detail_of(alloc, defect, token)?;
-            Ok(Fault::of_text(Language::Model, defect, token.span, detail))
+            let error_code = error_code_of(awaiting, token.kind, role_of(token));
+            let detail = detail_of(alloc, error_code, token)?;
+            Ok(Fault::of_text(Language::Model, error_code, token.span, detail))
         }
     }
 }
@@ -130,18 +130,20 @@ fn deep_fault(left: usize, tokens: &[Token<'_>]) -> Fault
     ensures { result ≡ At (faults.deep_fault (faults.left_of left tokens.now) tokens.now) }
 {
     match tokens.get(tokens.len().saturating_sub(left)) {
-        None => Fault::of_model(Defect::TooDeep, end_of(tokens)),
-        Some(token) => Fault::of_model(Defect::TooDeep, token.span),
+        None => Fault::of_model(ErrorCode::TooDeep, end_of(tokens)),
+        Some(token) => Fault::of_model(ErrorCode::TooDeep, token.span),
     }
 }
 
 /// Returns the error for a stop of the parser.
-pub(crate) fn told(alloc: Global, stop: ParseError, tokens: &[Token<'_>]) -> Fault
-    ensures { faults.IsToldOf stop tokens.now result }
+pub(crate) fn reported(alloc: Global, stop: ParseError, tokens: &[Token<'_>]) -> Fault
+    ensures { faults.IsReportedOf stop tokens.now result }
 {
     match stop {
         ParseError::OutOfMemory => Fault::OutOfMemory,
-        ParseError::Refused(left, awaiting) => match refused_fault(alloc, awaiting, left, tokens) {
+        ParseError::Rejected(left, awaiting) => match rejected_fault(
+            alloc, awaiting, left, tokens,
+        ) {
             Ok(fault) => fault,
             Err(_) => Fault::OutOfMemory,
         },

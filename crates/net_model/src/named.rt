@@ -19,7 +19,7 @@ fn checked<'s>(alloc: Global, tokens: &[Token<'s>], model: Model<'s>) -> Result<
     requires means { Means tokens.now (view.model model) }
     ensures value { Parses result (meant tokens.now) }
     ensures means { IfOk result (λ m. Means tokens.now (view.model m)) }
-    ensures refused { IfErr result (IsFault tokens.now) }
+    ensures rejected { IfErr result (IsFault tokens.now) }
 {
     match check_names(alloc, &model) {
         Ok(()) => Ok(model),
@@ -40,7 +40,7 @@ pub fn parse_model<'s>(alloc: Global, tokens: &[Token<'s>]) -> Result<Model<'s>,
     // The model prints as the tokens, has the grammar's form and is nested at most 64 deep.
     ensures means { IfOk result (λ m. Means tokens.now (view.model m)) }
     // The error is the grammar's; or, if the grammar finds none, it is the first error of the names.
-    ensures refused { IfErr result (IsFault tokens.now) }
+    ensures rejected { IfErr result (IsFault tokens.now) }
 {
     match parse_declarations(alloc, tokens) {
         Ok(model) => checked(alloc, tokens, model),

@@ -7,7 +7,7 @@ use net_tree::precedence;
 
 /// Returns the maximum precedence of a summand: a product, so that a following `+` is not part of
 /// the reduction.
-pub(crate) fn loosest_in_body() -> u8
+pub(crate) fn max_precedence_in_body() -> u8
     ensures { result ≡ of_product }
 {
     precedence::PRODUCT
@@ -15,7 +15,7 @@ pub(crate) fn loosest_in_body() -> u8
 
 /// Returns the maximum precedence of a right operand: that of the left operand, so that chains
 /// associate to the left.
-pub(crate) fn loosest_at_right(left: u8) -> u8
+pub(crate) fn max_precedence_at_right(left: u8) -> u8
     ensures { result ≡ left }
 {
     left

@@ -12,7 +12,7 @@ pub enum Awaiting {
     /// The same as `Phrase`, and the token would begin a phrase that has already occurred.
     FurtherPhrase,
     /// The same as `Phrase`, directly after the node of `from` or `to`.
-    PhraseBehindNode,
+    PhraseAfterNode,
     /// The name of an objective after `obj`, or the rest of a declared objective after its name.
     Objective,
     /// Anything else: an operand, a bracket, a name.
@@ -25,7 +25,7 @@ pub enum ParseError {
     OutOfMemory,
     /// A token that is not allowed: the number of tokens from it to the end, and what was expected
     /// instead.
-    Refused(usize, Awaiting),
+    Rejected(usize, Awaiting),
     /// A token that exceeds the nesting limit: the number of tokens from it to the end.
     TooDeep(usize),
 }
@@ -36,7 +36,7 @@ impl From<AllocError> for ParseError {
 
     ghost from_gives = { λ _ e. e ≡ OutOfMemory };
 
-    fn from(_refused: AllocError) -> ParseError {
+    fn from(_rejected: AllocError) -> ParseError {
         ParseError::OutOfMemory
     }
 }
@@ -47,7 +47,7 @@ impl<T: Drop> From<AllocFailed<T>> for ParseError {
 
     ghost from_gives = { λ _ e. e ≡ OutOfMemory };
 
-    fn from(_refused: AllocFailed<T>) -> ParseError {
+    fn from(_rejected: AllocFailed<T>) -> ParseError {
         ParseError::OutOfMemory
     }
 }

@@ -37,5 +37,5 @@ pub struct Stood {
     pub from: bool,
     pub to: bool,
     /// Whether the last phrase was `from` or `to`.
-    pub behind_node: bool,
+    pub after_node: bool,
 }

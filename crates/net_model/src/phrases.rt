@@ -100,17 +100,17 @@ fn and_then_stood(stood: Stood, role: Role) -> Stood
     ensures { result ≡ grammar.and_then_stood stood role }
 {
     let mut stood = stood;
-    stood.behind_node = false;
+    stood.after_node = false;
     match role {
         Role::Phrase(Begins::Dimen) => stood.dimen = true,
         Role::Phrase(Begins::Default) => stood.default = true,
         Role::Phrase(Begins::From) => {
             stood.from = true;
-            stood.behind_node = true;
+            stood.after_node = true;
         }
         Role::Phrase(Begins::To) => {
             stood.to = true;
-            stood.behind_node = true;
+            stood.after_node = true;
         }
         Role::Becomes => stood.becomes = true,
         Role::Relation(Relation::AtLeast) => stood.at_least = true,
@@ -138,8 +138,8 @@ fn awaited(owner: Owner, stood: Stood, role: Role) -> Awaiting
 {
     if stood_before(owner, stood, role) {
         Awaiting::FurtherPhrase
-    } else if stood.behind_node {
-        Awaiting::PhraseBehindNode
+    } else if stood.after_node {
+        Awaiting::PhraseAfterNode
     } else {
         Awaiting::Phrase
     }
@@ -239,13 +239,13 @@ fn worded<'t, 's>(
 {
     let left = tokens.len();
     let Some((role, word)) = tokens.next_with_role() else {
-        return Err(ParseError::Refused(0, Awaiting::Phrase));
+        return Err(ParseError::Rejected(0, Awaiting::Phrase));
     };
     if stood_before(owner, stood, role) {
-        return Err(ParseError::Refused(left, Awaiting::FurtherPhrase));
+        return Err(ParseError::Rejected(left, Awaiting::FurtherPhrase));
     }
     match slot_of(owner, role) {
-        None => Err(ParseError::Refused(left, Awaiting::Phrase)),
+        None => Err(ParseError::Rejected(left, Awaiting::Phrase)),
         Some(slot) => {
             let body = body_of(alloc, depth, slot, tokens)?;
             let phrase = phrase_of(alloc, comma, word, body)?;
@@ -290,7 +290,7 @@ pub(crate) fn phrases<'t, 's>(
         at_most: false,
         from: false,
         to: false,
-        behind_node: false,
+        after_node: false,
     };
     while phrase_next(owner, stood, tokens) {
         let (phrase, now) = phrase_at(alloc, depth, owner, stood, tokens)?;
@@ -314,12 +314,12 @@ pub(crate) fn phrases_end<'t, 's>(
 {
     let left = tokens.len();
     match tokens.next_with_role() {
-        None => Err(ParseError::Refused(0, Awaiting::Phrase)),
+        None => Err(ParseError::Rejected(0, Awaiting::Phrase)),
         Some((role, token)) => {
             if matches!(role, Role::Semicolon) {
                 Ok(token)
             } else {
-                Err(ParseError::Refused(left, awaited(owner, stood, role)))
+                Err(ParseError::Rejected(left, awaited(owner, stood, role)))
             }
         }
     }

@@ -24,7 +24,7 @@ pub(crate) fn is_sum(expr: &Expr<'_>) -> bool
         Expr::Leaf(_) | Expr::Indexed(_) | Expr::Parens(_) | Expr::Tuple(_) => true,
         Expr::Negated(_) | Expr::Braced(_) | Expr::Reduced(_, _) => true,
         Expr::Signed(parts) => is_sum(&parts.get().1),
-        Expr::Chain(loosest, _) => *loosest < precedence::SUM,
+        Expr::Chain(max_precedence, _) => *max_precedence < precedence::SUM,
         Expr::Choice(_, _, _) | Expr::Net(_) => false,
     }
 }
@@ -58,11 +58,11 @@ pub(crate) fn is_none(links: &Items<Link<'_>>) -> bool
 #[tactic(auto, using(crate::proofs::Making::makings))]
 pub(crate) fn chained<'s>(
     alloc: Global,
-    loosest: u8,
+    max_precedence: u8,
     first: Stored<Expr<'s>>,
     more: Carried<Items<Link<'s>>>,
 ) -> Result<Stored<Expr<'s>>, ParseError>
-    ensures value { IfOk result (λ x. tree x ≡ chained loosest (tree first.entry) (links_of more.entry)) }
+    ensures value { IfOk result (λ x. tree x ≡ chained max_precedence (tree first.entry) (links_of more.entry)) }
     ensures memory { IfErr result (λ e. e ≡ OutOfMemory) }
 {
     if is_none(more.get()) {
@@ -71,5 +71,5 @@ pub(crate) fn chained<'s>(
     let first = first.into_inner();
     let more = more.into_inner();
     let operands = boxed(alloc, Series { first, more })?;
-    Stored::new(alloc, Expr::Chain(loosest, operands))
+    Stored::new(alloc, Expr::Chain(max_precedence, operands))
 }

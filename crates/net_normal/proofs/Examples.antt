@@ -4,8 +4,8 @@ use Rattle.std.proofs.lemmas.Int.{ints}
 use Rattle.net_normal.specs.Limits.{IsSized, range_limit}
 use Rattle.net_normal.specs.Sums.{price_of}
 use Rattle.net_normal.specs.Assignments.{net_inflow}
-use Rattle.net_normal.specs.Links.{lifted_by}
-use Rattle.net_normal.specs.NormalForm.{offsets_of, numbers_from, flow_arc_of, written_arcs, supplies_from, room_arcs_from}
+use Rattle.net_normal.specs.Links.{mapped_back_by}
+use Rattle.net_normal.specs.NormalForm.{offsets_of, numbers_from, flow_arc_of, written_arcs, supplies_from, slack_arcs_from}
 use Rattle.net_normal.specs.declared.instance.Sense.TheVariants.{Minimise}
 use Rattle.net_normal.specs.declared.instance.InstArc.{InstArc}
 use Rattle.net_normal.specs.declared.instance.NodeRange.{NodeRange}
@@ -66,14 +66,14 @@ move_supplies = refl
 move_made : map (flow_arc_of Plain Minimise 2) move_arcs ≡ flow_arc 0 1 (pos 0) (pos 8) (pos 4) ∷ []
 move_made = refl
 
-move_rooms : room_arcs_from move_arcs 2 0 move_nodes ≡ []
+move_rooms : slack_arcs_from move_arcs 2 0 move_nodes ≡ []
 move_rooms = refl
 
 move_constant : price_of (λ (arc : InstArc). arc.coefficient) move_arcs (offsets_of Plain move_arcs) ≡ negsuc 11
 move_constant = refl
 
-move_lifted : lifted_by (numbers_from Plain 1 move_arcs) (offsets_of Plain move_arcs) (pos 5 ∷ []) ≡ pos 2 ∷ []
-move_lifted = refl
+move_mapped_back : mapped_back_by (numbers_from Plain 1 move_arcs) (offsets_of Plain move_arcs) (pos 5 ∷ []) ≡ pos 2 ∷ []
+move_mapped_back = refl
 
 move_inflow_0 : net_inflow move_arcs (pos 2 ∷ []) 0 ≡ negsuc 1
 move_inflow_0 = refl
@@ -100,14 +100,14 @@ feed_supplies = refl
 feed_made : map (flow_arc_of Plain Minimise 1) feed_arcs ≡ flow_arc 1 0 (pos 0) (pos 9) (pos 2) ∷ []
 feed_made = refl
 
-feed_rooms : room_arcs_from feed_arcs 1 0 feed_nodes ≡ flow_arc 0 1 (pos 0) (pos 3) (pos 0) ∷ []
+feed_rooms : slack_arcs_from feed_arcs 1 0 feed_nodes ≡ flow_arc 0 1 (pos 0) (pos 3) (pos 0) ∷ []
 feed_rooms = refl
 
 feed_constant : price_of (λ (arc : InstArc). arc.coefficient) feed_arcs (offsets_of Plain feed_arcs) ≡ pos 0
 feed_constant = refl
 
-feed_lifted : lifted_by (numbers_from Plain 1 feed_arcs) (offsets_of Plain feed_arcs) (pos 1 ∷ pos 0 ∷ []) ≡ pos 1 ∷ []
-feed_lifted = refl
+feed_mapped_back : mapped_back_by (numbers_from Plain 1 feed_arcs) (offsets_of Plain feed_arcs) (pos 1 ∷ pos 0 ∷ []) ≡ pos 1 ∷ []
+feed_mapped_back = refl
 
 feed_inflow_0 : net_inflow feed_arcs (pos 1 ∷ []) 0 ≡ pos 1
 feed_inflow_0 = refl
@@ -131,14 +131,14 @@ out_supplies = refl
 out_made : map (flow_arc_of Plain Minimise 1) out_arcs ≡ flow_arc 0 1 (pos 0) (pos 10) (pos 1) ∷ []
 out_made = refl
 
-out_rooms : room_arcs_from out_arcs 1 0 out_nodes ≡ flow_arc 0 1 (pos 0) (pos 2) (pos 0) ∷ []
+out_rooms : slack_arcs_from out_arcs 1 0 out_nodes ≡ flow_arc 0 1 (pos 0) (pos 2) (pos 0) ∷ []
 out_rooms = refl
 
 out_constant : price_of (λ (arc : InstArc). arc.coefficient) out_arcs (offsets_of Plain out_arcs) ≡ pos 0
 out_constant = refl
 
-out_lifted : lifted_by (numbers_from Plain 1 out_arcs) (offsets_of Plain out_arcs) (pos 2 ∷ pos 2 ∷ []) ≡ pos 2 ∷ []
-out_lifted = refl
+out_mapped_back : mapped_back_by (numbers_from Plain 1 out_arcs) (offsets_of Plain out_arcs) (pos 2 ∷ pos 2 ∷ []) ≡ pos 2 ∷ []
+out_mapped_back = refl
 
 out_inflow_0 : net_inflow out_arcs (pos 2 ∷ []) 0 ≡ negsuc 1
 out_inflow_0 = refl
@@ -162,14 +162,14 @@ loop_supplies = refl
 loop_made : map (flow_arc_of Plain Minimise 1) loop_arcs ≡ flow_arc 0 0 (pos 0) (pos 5) (negsuc 1) ∷ []
 loop_made = refl
 
-loop_rooms : room_arcs_from loop_arcs 1 0 loop_nodes ≡ []
+loop_rooms : slack_arcs_from loop_arcs 1 0 loop_nodes ≡ []
 loop_rooms = refl
 
 loop_constant : price_of (λ (arc : InstArc). arc.coefficient) loop_arcs (offsets_of Plain loop_arcs) ≡ pos 0
 loop_constant = refl
 
-loop_lifted : lifted_by (numbers_from Plain 1 loop_arcs) (offsets_of Plain loop_arcs) (pos 5 ∷ []) ≡ pos 5 ∷ []
-loop_lifted = refl
+loop_mapped_back : mapped_back_by (numbers_from Plain 1 loop_arcs) (offsets_of Plain loop_arcs) (pos 5 ∷ []) ≡ pos 5 ∷ []
+loop_mapped_back = refl
 
 loop_inflow_0 : net_inflow loop_arcs (pos 5 ∷ []) 0 ≡ pos 0
 loop_inflow_0 = refl
@@ -196,14 +196,14 @@ side_supplies = refl
 side_made : map (flow_arc_of Plain Minimise 1) side_arcs ≡ flow_arc 1 0 (pos 0) (pos 8) (pos 1) ∷ flow_arc 1 0 (pos 0) (pos 8) (pos 2) ∷ []
 side_made = refl
 
-side_rooms : room_arcs_from side_arcs 1 0 side_nodes ≡ flow_arc 0 1 (pos 0) (pos 5) (pos 0) ∷ []
+side_rooms : slack_arcs_from side_arcs 1 0 side_nodes ≡ flow_arc 0 1 (pos 0) (pos 5) (pos 0) ∷ []
 side_rooms = refl
 
 side_constant : price_of (λ (arc : InstArc). arc.coefficient) side_arcs (offsets_of Plain side_arcs) ≡ negsuc 11
 side_constant = refl
 
-side_lifted : lifted_by (numbers_from Plain 1 side_arcs) (offsets_of Plain side_arcs) (pos 8 ∷ pos 3 ∷ pos 0 ∷ []) ≡ pos 4 ∷ negsuc 0 ∷ []
-side_lifted = refl
+side_mapped_back : mapped_back_by (numbers_from Plain 1 side_arcs) (offsets_of Plain side_arcs) (pos 8 ∷ pos 3 ∷ pos 0 ∷ []) ≡ pos 4 ∷ negsuc 0 ∷ []
+side_mapped_back = refl
 
 side_inflow_0 : net_inflow side_arcs (pos 4 ∷ negsuc 0 ∷ []) 0 ≡ pos 3
 side_inflow_0 = refl
@@ -218,7 +218,7 @@ past_nodes = at_least (pos 20) (record { above = omega (arith, ints); below = om
 past_supplies : supplies_from Plain side_arcs 0 past_nodes ≡ negsuc 27 ∷ []
 past_supplies = refl
 
-past_rooms : room_arcs_from side_arcs 1 0 past_nodes ≡ flow_arc 0 1 (pos 0) (pos 0) (pos 0) ∷ []
+past_rooms : slack_arcs_from side_arcs 1 0 past_nodes ≡ flow_arc 0 1 (pos 0) (pos 0) (pos 0) ∷ []
 past_rooms = refl
 
 -- one-sided range the other way: `3 >= net_in`
@@ -228,7 +228,7 @@ high_nodes = at_most (pos 3) (record { above = omega (arith, ints); below = omeg
 high_supplies : supplies_from Plain side_arcs 0 high_nodes ≡ pos 0 ∷ []
 high_supplies = refl
 
-high_rooms : room_arcs_from side_arcs 1 0 high_nodes ≡ flow_arc 0 1 (pos 0) (pos 11) (pos 0) ∷ []
+high_rooms : slack_arcs_from side_arcs 1 0 high_nodes ≡ flow_arc 0 1 (pos 0) (pos 11) (pos 0) ∷ []
 high_rooms = refl
 
 -- the lean form of a fixed arc beside a free one: `node A: net_out = 7; node B: net_in = 7; arc P >= 2, <= 2, from A, to B, obj Cost 5;
@@ -257,8 +257,8 @@ lean_numbers = refl
 lean_constant : price_of (λ (arc : InstArc). arc.coefficient) lean_arcs (offsets_of Lean lean_arcs) ≡ pos 13
 lean_constant = refl
 
-lean_lifted : lifted_by (numbers_from Lean 1 lean_arcs) (offsets_of Lean lean_arcs) (pos 4 ∷ []) ≡ pos 2 ∷ pos 5 ∷ []
-lean_lifted = refl
+lean_mapped_back : mapped_back_by (numbers_from Lean 1 lean_arcs) (offsets_of Lean lean_arcs) (pos 4 ∷ []) ≡ pos 2 ∷ pos 5 ∷ []
+lean_mapped_back = refl
 
 -- and the normal form of the same
 plain_supplies : supplies_from Plain lean_arcs 0 lean_nodes ≡ pos 7 ∷ negsuc 6 ∷ []

@@ -8,7 +8,7 @@ use Rattle.net_normal.specs.Limits.{IsSized, IsArcOf, IsFlowArcOf, value_limit, 
 use Rattle.net_normal.specs.Numbers.{CountUp}
 use Rattle.net_normal.specs.Sums.{sum_of}
 use Rattle.net_normal.specs.Links.{signed}
-use Rattle.net_normal.specs.NormalForm.{offset_of, offsets_of, is_left_out, numbers_from, flow_arc_of, written_arcs, is_open, least_inflow, most_inflow, supplies_from, supplies_of, room_arc, room_arcs_from, flow_arcs_of}
+use Rattle.net_normal.specs.NormalForm.{offset_of, offsets_of, is_left_out, numbers_from, flow_arc_of, written_arcs, is_open, least_inflow, most_inflow, supplies_from, supplies_of, slack_arc, slack_arcs_from, flow_arcs_of}
 use Rattle.net_normal.specs.declared.instance.Instance.{Instance}
 use Rattle.net_normal.specs.declared.instance.InstArc.{InstArc}
 use Rattle.net_normal.specs.declared.instance.NodeRange.{NodeRange}
@@ -57,7 +57,7 @@ all_written p sense nodes (a ∷ arcs) h =
     ]
 
 -- each arc for room
-room_fits : (nodes : ℕ) (arcs : List InstArc) (v : ℕ) (r : NodeRange) → All (IsArcOf nodes) arcs → length arcs ≤ arc_limit → v < nodes → IsFlowArcOf (suc nodes) (room_arc arcs nodes v r)
+room_fits : (nodes : ℕ) (arcs : List InstArc) (v : ℕ) (r : NodeRange) → All (IsArcOf nodes) arcs → length arcs ≤ arc_limit → v < nodes → IsFlowArcOf (suc nodes) (slack_arc arcs nodes v r)
 room_fits nodes arcs v r fit few inside =
     let low = low_within nodes arcs v r fit in
     let high = high_within nodes arcs v r fit in
@@ -72,20 +72,20 @@ room_fits nodes arcs v r fit few inside =
       cost = record { above = omega (arith, ints); below = omega (arith, ints) };
     }
 
-all_rooms : (nodes : ℕ) (arcs : List InstArc) (v : ℕ) (ranges : List NodeRange) → All (IsArcOf nodes) arcs → length arcs ≤ arc_limit → v + length ranges ≤ nodes → AllByRecursion (IsFlowArcOf (suc nodes)) (room_arcs_from arcs nodes v ranges)
+all_rooms : (nodes : ℕ) (arcs : List InstArc) (v : ℕ) (ranges : List NodeRange) → All (IsArcOf nodes) arcs → length arcs ≤ arc_limit → v + length ranges ≤ nodes → AllByRecursion (IsFlowArcOf (suc nodes)) (slack_arcs_from arcs nodes v ranges)
 all_rooms nodes arcs v [] fit few upto = tt
 all_rooms nodes arcs v (r ∷ ranges) fit few upto =
     let rest = all_rooms nodes arcs (suc v) ranges fit few (omega arith) in
-    elim (is_open r.low r.high) as (λ b. AllByRecursion (IsFlowArcOf (suc nodes)) (cond b (room_arc arcs nodes v r ∷ room_arcs_from arcs nodes (suc v) ranges) (room_arcs_from arcs nodes (suc v) ranges))) [
+    elim (is_open r.low r.high) as (λ b. AllByRecursion (IsFlowArcOf (suc nodes)) (cond b (slack_arc arcs nodes v r ∷ slack_arcs_from arcs nodes (suc v) ranges) (slack_arcs_from arcs nodes (suc v) ranges))) [
       | true ↦ (room_fits nodes arcs v r fit few (omega arith), rest)
       | false ↦ rest
     ]
 
-length_rooms : (nodes : ℕ) (arcs : List InstArc) (v : ℕ) (ranges : List NodeRange) → length (room_arcs_from arcs nodes v ranges) ≤ length ranges
+length_rooms : (nodes : ℕ) (arcs : List InstArc) (v : ℕ) (ranges : List NodeRange) → length (slack_arcs_from arcs nodes v ranges) ≤ length ranges
 length_rooms nodes arcs v [] = omega arith
 length_rooms nodes arcs v (r ∷ ranges) =
     let rest = length_rooms nodes arcs (suc v) ranges in
-    elim (is_open r.low r.high) as (λ b. length (cond b (room_arc arcs nodes v r ∷ room_arcs_from arcs nodes (suc v) ranges) (room_arcs_from arcs nodes (suc v) ranges)) ≤ suc (length ranges)) [
+    elim (is_open r.low r.high) as (λ b. length (cond b (slack_arc arcs nodes v r ∷ slack_arcs_from arcs nodes (suc v) ranges) (slack_arcs_from arcs nodes (suc v) ranges)) ≤ suc (length ranges)) [
       | true ↦ omega (arith, rest)
       | false ↦ omega (arith, rest)
     ]
@@ -97,9 +97,9 @@ arcs_fit p instance =
     let few : length arcs ≤ arc_limit = omega (arith, instance.few_arcs, instance.arcs.ok.0) in
     let made = all_written p instance.sense nodes arcs (recursion_from_All (IsArcOf nodes) arcs instance.arcs_fit) in
     let rooms = all_rooms nodes arcs 0 instance.nodes.items instance.arcs_fit few (omega (arith, instance.nodes.ok.0)) in
-    All-append (IsFlowArcOf (suc nodes)) (written_arcs p instance.sense nodes arcs) (room_arcs_from arcs nodes 0 instance.nodes.items)
+    All-append (IsFlowArcOf (suc nodes)) (written_arcs p instance.sense nodes arcs) (slack_arcs_from arcs nodes 0 instance.nodes.items)
     (All-from_recursion (IsFlowArcOf (suc nodes)) (written_arcs p instance.sense nodes arcs) made)
-    (All-from_recursion (IsFlowArcOf (suc nodes)) (room_arcs_from arcs nodes 0 instance.nodes.items) rooms)
+    (All-from_recursion (IsFlowArcOf (suc nodes)) (slack_arcs_from arcs nodes 0 instance.nodes.items) rooms)
 
 pub few_arcs : (p : Profile) (instance : Instance) → length (flow_arcs_of p instance) ≤ flow_arc_limit
 few_arcs p instance =
@@ -107,7 +107,7 @@ few_arcs p instance =
     let arcs = instance.arcs.items in
     omega (
       arith,
-      length-append (written_arcs p instance.sense nodes arcs) (room_arcs_from arcs nodes 0 instance.nodes.items),
+      length-append (written_arcs p instance.sense nodes arcs) (slack_arcs_from arcs nodes 0 instance.nodes.items),
       length_written p instance.sense nodes arcs,
       length_rooms nodes arcs 0 instance.nodes.items,
       instance.few_arcs,

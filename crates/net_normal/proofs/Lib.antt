@@ -5,7 +5,7 @@ pub mod RangeSides
 pub mod RoomArcs
 pub mod Surplus
 pub mod Supplies
-pub mod ArcLifts
+pub mod ArcMapsBack
 pub mod Written
 pub mod OneToOne
 pub mod Profiles

@@ -6,8 +6,8 @@ use Rattle.std.proofs.Math.ListN.{drop_of_length-le}
 use Rattle.std.proofs.lemmas.List.{append-nil}
 use Rattle.net_normal.specs.Limits.{IsSized, node_limit, arc_limit, flow_limit}
 use Rattle.net_normal.specs.Sums.{sum_of}
-use Rattle.net_normal.specs.NormalForm.{is_open, high_of, supply_of, supplies_from, supplies_of, room_arc, room_arcs_from, low_side, high_side, shift_of}
-use Rattle.net_normal.specs.NodeSums.{AreSumsAt, own_supply, own_room}
+use Rattle.net_normal.specs.NormalForm.{is_open, high_of, supply_of, supplies_from, supplies_of, slack_arc, slack_arcs_from, low_side, high_side, shift_of}
+use Rattle.net_normal.specs.NodeSums.{AreSumsAt, own_supply, own_slack}
 use Rattle.net_normal.specs.declared.instance.Instance.{Instance}
 use Rattle.net_normal.specs.declared.instance.InstArc.{InstArc}
 use Rattle.net_normal.specs.declared.instance.NodeRange.{NodeRange}
@@ -23,7 +23,7 @@ use Rattle.net_normal.proofs.Sizes.{supply_bound, supply_bounds-sum, supply_with
 pub record HasServed (p : Profile) (instance : Instance) (before : List FlowArc) (i : ℕ) (part : NodePart) : Type 0 where
   pub supplies : part.supplies.items ++ supplies_from p instance.arcs.items i (drop i instance.nodes.items) ≡ supplies_from p instance.arcs.items 0 instance.nodes.items
   pub count : vec_len part.supplies ≡ i
-  pub arcs : part.arcs.items ++ room_arcs_from instance.arcs.items (vec_len instance.nodes) i (drop i instance.nodes.items) ≡ before ++ room_arcs_from instance.arcs.items (vec_len instance.nodes) 0 instance.nodes.items
+  pub arcs : part.arcs.items ++ slack_arcs_from instance.arcs.items (vec_len instance.nodes) i (drop i instance.nodes.items) ≡ before ++ slack_arcs_from instance.arcs.items (vec_len instance.nodes) 0 instance.nodes.items
   pub balance : part.balance ≡ neg_ℤ (sum_of part.supplies.items)
   pub above : neg_ℤ (sum_over (supply_bound instance.arcs.items) 0 i) ≤ℤ part.balance
   pub below : part.balance ≤ℤ sum_over (supply_bound instance.arcs.items) 0 i
@@ -31,7 +31,7 @@ pub record HasServed (p : Profile) (instance : Instance) (before : List FlowArc)
 -- what `add` says of the next node
 pub record Serves (outside : ℕ) (range : NodeRange) (sums : NodeSums) (old new : NodePart) : Type 0 where
   pub supplies : new.supplies.items ≡ old.supplies.items ++ own_supply range sums ∷ []
-  pub arcs : new.arcs.items ≡ old.arcs.items ++ cond (is_open range.low range.high) (own_room (vec_len old.supplies) outside range sums ∷ []) []
+  pub arcs : new.arcs.items ≡ old.arcs.items ++ cond (is_open range.low range.high) (own_slack (vec_len old.supplies) outside range sums ∷ []) []
   pub balance : new.balance ≡ old.balance -ℤ own_supply range sums
 
 -- what is made by a node's own sums is what the rules lay down
@@ -39,8 +39,8 @@ own_supply-is : (p : Profile) (arcs : List InstArc) (v : ℕ) (range : NodeRange
 own_supply-is p arcs v range sums is =
     ap (λ (z : ℤ). z -ℤ low_side range.low range.high sums.least) is.shift ∙ ap (λ (z : ℤ). shift_of p arcs v -ℤ low_side range.low range.high z) is.least
 
-own_room-is : (p : Profile) (arcs : List InstArc) (outside v : ℕ) (range : NodeRange) (sums : NodeSums) → AreSumsAt p arcs v sums → own_room v outside range sums ≡ room_arc arcs outside v range
-own_room-is p arcs outside v range sums is =
+own_slack-is : (p : Profile) (arcs : List InstArc) (outside v : ℕ) (range : NodeRange) (sums : NodeSums) → AreSumsAt p arcs v sums → own_slack v outside range sums ≡ slack_arc arcs outside v range
+own_slack-is p arcs outside v range sums is =
     ap (λ (z : ℤ). let new : FlowArc = record { src = v; dst = outside; low = pos 0; cap = high_side range.low range.high z -ℤ low_side range.low range.high sums.least; cost = pos 0 } in new) is.most
     ∙ ap (λ (z : ℤ). let new : FlowArc = record { src = v; dst = outside; low = pos 0; cap = high_of arcs v range -ℤ low_side range.low range.high z; cost = pos 0 } in new) is.least
 
@@ -66,14 +66,14 @@ has_served_more p instance before i range d sums old new inside read is h serves
     let sums_more : sum_over (supply_bound arcs) 0 (suc i) ≡ sum_over (supply_bound arcs) 0 i +ℤ supply_bound arcs (0 + i) = sum_over_last (supply_bound arcs) 0 i in
     let at : 0 + i ≡ i = omega arith in
     let here : supply_bound arcs (0 + i) ≡ supply_bound arcs i = ap (supply_bound arcs) at in
-    let room : own_room (vec_len old.supplies) outside range sums ≡ room_arc arcs outside i range = ap (λ (v : ℕ). own_room v outside range sums) h.count ∙ own_room-is p arcs outside i range sums is in
+    let room : own_slack (vec_len old.supplies) outside range sums ≡ slack_arc arcs outside i range = ap (λ (v : ℕ). own_slack v outside range sums) h.count ∙ own_slack-is p arcs outside i range sums is in
     record {
       supplies = snoc_step old.supplies.items new.supplies.items (supply_of p arcs i range) (supplies_from p arcs i (drop i nodes)) (supplies_from p arcs (suc i) rest) (supplies_from p arcs 0 nodes)
           (serves.supplies ∙ ap (λ (z : ℤ). old.supplies.items ++ z ∷ []) supply) (ap (supplies_from p arcs i) split) h.supplies;
       count = new.supplies.ok.0 ∙ ap length serves.supplies ∙ omega (arith, length-append old.supplies.items (own_supply range sums ∷ []), old.supplies.ok.0, h.count);
-      arcs = room_step (is_open range.low range.high) old.arcs.items new.arcs.items (room_arc arcs outside i range) (room_arcs_from arcs outside (suc i) rest) (before ++ room_arcs_from arcs outside 0 nodes)
+      arcs = room_step (is_open range.low range.high) old.arcs.items new.arcs.items (slack_arc arcs outside i range) (slack_arcs_from arcs outside (suc i) rest) (before ++ slack_arcs_from arcs outside 0 nodes)
           (serves.arcs ∙ ap (λ (a : FlowArc). old.arcs.items ++ cond (is_open range.low range.high) (a ∷ []) []) room)
-          (ap (λ (rs : List NodeRange). old.arcs.items ++ room_arcs_from arcs outside i rs) (sym split) ∙ h.arcs);
+          (ap (λ (rs : List NodeRange). old.arcs.items ++ slack_arcs_from arcs outside i rs) (sym split) ∙ h.arcs);
       balance = serves.balance ∙ omega (arith, ints, h.balance, sum-append old.supplies.items (own_supply range sums), ap sum_of serves.supplies);
       above = omega (arith, ints, serves.balance, supply, h.above, within.1, sums_more, here);
       below = omega (arith, ints, serves.balance, supply, h.below, within.0, sums_more, here);
@@ -105,7 +105,7 @@ all_supplies p instance before i part all past h e =
     e ∙ ap (λ (z : ℤ). part.supplies.items ++ z ∷ []) h.balance ∙ ap (λ (zs : List ℤ). zs ++ neg_ℤ (sum_of zs) ∷ []) whole
 
 -- and all arcs for room
-pub all_rooms_served : (p : Profile) (instance : Instance) (before : List FlowArc) (i : ℕ) (part : NodePart) → length instance.nodes.items ≤ i → HasServed p instance before i part → part.arcs.items ≡ before ++ room_arcs_from instance.arcs.items (vec_len instance.nodes) 0 instance.nodes.items
+pub all_rooms_served : (p : Profile) (instance : Instance) (before : List FlowArc) (i : ℕ) (part : NodePart) → length instance.nodes.items ≤ i → HasServed p instance before i part → part.arcs.items ≡ before ++ slack_arcs_from instance.arcs.items (vec_len instance.nodes) 0 instance.nodes.items
 all_rooms_served p instance before i part past h =
     let none : drop i instance.nodes.items ≡ [] = drop_of_length-le instance.nodes.items past in
-    sym (append-nil part.arcs.items) ∙ ap (λ (rs : List NodeRange). part.arcs.items ++ room_arcs_from instance.arcs.items (vec_len instance.nodes) i rs) (sym none) ∙ h.arcs
+    sym (append-nil part.arcs.items) ∙ ap (λ (rs : List NodeRange). part.arcs.items ++ slack_arcs_from instance.arcs.items (vec_len instance.nodes) i rs) (sym none) ∙ h.arcs

@@ -7,8 +7,8 @@ use Rattle.net_normal.specs.Limits.{IsFlowArcOf}
 use Rattle.net_normal.specs.Sums.{price_of, sum_of}
 use Rattle.net_normal.specs.Assignments.{enters, leaves, net_inflow, IsWithinBounds, IsFeasibleAssignment, value_of}
 use Rattle.net_normal.specs.Flows.{net_outflow, IsWithinCapacity, IsFeasibleFlow, cost_of}
-use Rattle.net_normal.specs.Links.{signed, lifted, lifted_by, value_at}
-use Rattle.net_normal.specs.NormalForm.{offsets_of, numbers_from, flow_arc_of, written_arcs, least_inflow, most_inflow, shift_of, supply_of, supplies_from, room_arcs_from, IsFormIn}
+use Rattle.net_normal.specs.Links.{signed, mapped_back, mapped_back_by, value_at}
+use Rattle.net_normal.specs.NormalForm.{offsets_of, numbers_from, flow_arc_of, written_arcs, least_inflow, most_inflow, shift_of, supply_of, supplies_from, slack_arcs_from, IsFormIn}
 use Rattle.net_normal.specs.Correspondence.{CorrespondsOneToOne}
 use Rattle.net_normal.specs.declared.instance.Instance.{Instance}
 use Rattle.net_normal.specs.declared.instance.InstArc.{InstArc}
@@ -26,18 +26,18 @@ use Rattle.net_normal.proofs.RangeSides.{within_sides, from_low_side, from_high_
 use Rattle.net_normal.proofs.RoomArcs.{room_out, room_in-none, room_price-zero, surplus_from}
 use Rattle.net_normal.proofs.Surplus.{IsBetween, CarriesOff, surplus_determined, surplus_serves}
 use Rattle.net_normal.proofs.Supplies.{length-supplies_from, each_supply, supply_at, sum-supplies, outflows-sum}
-use Rattle.net_normal.proofs.ArcLifts.{length-offsets, added-within, lessened-within}
-use Rattle.net_normal.proofs.Written.{spread, kept, length-spread, written_outflow, written_price, spread-within, kept-within, spread-kept, kept-spread, lifted_is}
+use Rattle.net_normal.proofs.ArcMapsBack.{length-offsets, added-within, lessened-within}
+use Rattle.net_normal.proofs.Written.{spread, kept, length-spread, written_outflow, written_price, spread-within, kept-within, spread-kept, kept-spread, mapped_back_is}
 
 -- what a node of the network sends out by all arcs of the problem
 node_outflow : (p : Profile) (sense : Sense) (outside : ℕ) (arcs : List InstArc) (ranges : List NodeRange) (xs ys : List ℤ) (u : ℕ) → outside ≢ u → length (written_arcs p sense outside arcs) ≡ length xs →
-    net_outflow (written_arcs p sense outside arcs ++ room_arcs_from arcs outside 0 ranges) (xs ++ ys) u ≡ room_out arcs outside 0 ranges ys u -ℤ net_inflow arcs (spread p arcs xs) u
+    net_outflow (written_arcs p sense outside arcs ++ slack_arcs_from arcs outside 0 ranges) (xs ++ ys) u ≡ room_out arcs outside 0 ranges ys u -ℤ net_inflow arcs (spread p arcs xs) u
 node_outflow p sense outside arcs ranges xs ys u apart same =
     omega (
       arith,
       ints,
-      flow_on-append (λ (a : FlowArc). nat_eq a.src u) (written_arcs p sense outside arcs) (room_arcs_from arcs outside 0 ranges) xs ys same,
-      flow_on-append (λ (a : FlowArc). nat_eq a.dst u) (written_arcs p sense outside arcs) (room_arcs_from arcs outside 0 ranges) xs ys same,
+      flow_on-append (λ (a : FlowArc). nat_eq a.src u) (written_arcs p sense outside arcs) (slack_arcs_from arcs outside 0 ranges) xs ys same,
+      flow_on-append (λ (a : FlowArc). nat_eq a.dst u) (written_arcs p sense outside arcs) (slack_arcs_from arcs outside 0 ranges) xs ys same,
       written_outflow p sense outside u apart arcs xs,
       room_in-none arcs outside 0 ranges ys u apart,
     )
@@ -54,21 +54,21 @@ record Reading (p : Profile) (instance : Instance) (problem : Problem) (link : L
   others : List ℤ
   parts : flows ≡ own ++ others
   written : length (written_arcs p instance.sense (vec_len instance.nodes) instance.arcs.items) ≡ length own
-  lift : lifted link flows ≡ added (spread p instance.arcs.items own) (offsets_of p instance.arcs.items)
+  map_back : mapped_back link flows ≡ added (spread p instance.arcs.items own) (offsets_of p instance.arcs.items)
   bounds : AllZip IsWithinBounds instance.arcs.items (added (spread p instance.arcs.items own) (offsets_of p instance.arcs.items))
   surplus : others ≡ surplus_from instance.arcs.items (net_inflow instance.arcs.items (added (spread p instance.arcs.items own) (offsets_of p instance.arcs.items))) 0 instance.nodes.items
   between : EachNode (IsBetween instance.arcs.items (net_inflow instance.arcs.items (added (spread p instance.arcs.items own) (offsets_of p instance.arcs.items)))) 0 instance.nodes.items
 
 -- a node of the network sends out its supply, so its surplus is carried off
 carries_off : (p : Profile) (instance : Instance) (xs ys : List ℤ) → length (written_arcs p instance.sense (vec_len instance.nodes) instance.arcs.items) ≡ length xs →
-    ((u : ℕ) (r : NodeRange) → slice_get instance.nodes.items u ≡ Some r → net_outflow (written_arcs p instance.sense (vec_len instance.nodes) instance.arcs.items ++ room_arcs_from instance.arcs.items (vec_len instance.nodes) 0 instance.nodes.items) (xs ++ ys) u ≡ supply_of p instance.arcs.items u r) →
-    EachNode (CarriesOff instance.arcs.items (net_inflow instance.arcs.items (added (spread p instance.arcs.items xs) (offsets_of p instance.arcs.items))) (room_arcs_from instance.arcs.items (vec_len instance.nodes) 0 instance.nodes.items) ys) 0 instance.nodes.items
+    ((u : ℕ) (r : NodeRange) → slice_get instance.nodes.items u ≡ Some r → net_outflow (written_arcs p instance.sense (vec_len instance.nodes) instance.arcs.items ++ slack_arcs_from instance.arcs.items (vec_len instance.nodes) 0 instance.nodes.items) (xs ++ ys) u ≡ supply_of p instance.arcs.items u r) →
+    EachNode (CarriesOff instance.arcs.items (net_inflow instance.arcs.items (added (spread p instance.arcs.items xs) (offsets_of p instance.arcs.items))) (slack_arcs_from instance.arcs.items (vec_len instance.nodes) 0 instance.nodes.items) ys) 0 instance.nodes.items
 carries_off p instance xs ys count balance =
     let arcs = instance.arcs.items in
     let ranges = instance.nodes.items in
     let outside = vec_len instance.nodes in
     let zs = spread p arcs xs in
-    each-from_get_zero (CarriesOff arcs (net_inflow arcs (added zs (offsets_of p arcs))) (room_arcs_from arcs outside 0 ranges) ys) ranges
+    each-from_get_zero (CarriesOff arcs (net_inflow arcs (added zs (offsets_of p arcs))) (slack_arcs_from arcs outside 0 ranges) ys) ranges
     (λ u r e.
     let apart : outside ≢ u = λ same. omega (arith, slice_get-inside ranges u r e, instance.nodes.ok.0, same) in
     omega (arith, ints, balance u r e, node_outflow p instance.sense outside arcs ranges xs ys u apart count, inflow-added p arcs zs u (sym (length-spread p arcs xs))))
@@ -79,7 +79,7 @@ reading p instance problem link form flows feasible =
     let ranges = instance.nodes.items in
     let outside = vec_len instance.nodes in
     let written = written_arcs p instance.sense outside arcs in
-    let rooms = room_arcs_from arcs outside 0 ranges in
+    let rooms = slack_arcs_from arcs outside 0 ranges in
     let inner = supplies_from p arcs 0 ranges in
     let zipped : AllZip IsWithinCapacity (written ++ rooms) flows = subst (λ (all : List FlowArc). AllZip IsWithinCapacity all flows) form.arcs feasible.capacity in
     let parts = zipped_parts IsWithinCapacity written rooms flows zipped in
@@ -88,11 +88,11 @@ reading p instance problem link form flows feasible =
     let count : length written ≡ length xs = zipped-length IsWithinCapacity written xs parts.3 in
     let zs = spread p arcs xs in
     let f = net_inflow arcs (added zs (offsets_of p arcs)) in
-    let told : (u : ℕ) (s : ℤ) → slice_get (inner ++ neg_ℤ (sum_of inner) ∷ []) u ≡ Some s → net_outflow (written ++ rooms) (xs ++ ys) u ≡ s
+    let reported : (u : ℕ) (s : ℤ) → slice_get (inner ++ neg_ℤ (sum_of inner) ∷ []) u ≡ Some s → net_outflow (written ++ rooms) (xs ++ ys) u ≡ s
     = λ u s e. ap (λ (all : List FlowArc). net_outflow all (xs ++ ys) u) (sym form.arcs) ∙ ap (λ (ws : List ℤ). net_outflow problem.arcs.items ws u) (sym parts.2) ∙ feasible.balance u s (ap (λ (ss : List ℤ). slice_get ss u) form.supplies ∙ e) in
     let balance : EachNode (λ u r. net_outflow (written ++ rooms) (xs ++ ys) u ≡ supply_of p arcs u r) 0 ranges
     = each_supply p arcs (λ u s. net_outflow (written ++ rooms) (xs ++ ys) u ≡ s) 0 ranges (neg_ℤ (sum_of inner) ∷ [])
-    (λ u s e. let at : u ≡ 0 + u = omega arith in subst (λ (w : ℕ). net_outflow (written ++ rooms) (xs ++ ys) w ≡ s) at (told u s e)) in
+    (λ u s e. let at : u ≡ 0 + u = omega arith in subst (λ (w : ℕ). net_outflow (written ++ rooms) (xs ++ ys) w ≡ s) at (reported u s e)) in
     let carries = carries_off p instance xs ys count (each-get_from_zero (λ u r. net_outflow (written ++ rooms) (xs ++ ys) u ≡ supply_of p arcs u r) ranges balance) in
     let found = surplus_determined arcs outside f 0 ranges ys parts.4 carries in
     record {
@@ -100,13 +100,13 @@ reading p instance problem link form flows feasible =
       others = ys;
       parts = parts.2;
       written = count;
-      lift = ap (λ (ns : List ℕ). lifted_by ns link.offsets.items flows) form.numbers ∙ ap (λ (os : List ℤ). lifted_by (numbers_from p 1 arcs) os flows) form.offsets ∙ lifted_is p instance.sense outside arcs 0 flows xs ys parts.2 count;
+      map_back = ap (λ (ns : List ℕ). mapped_back_by ns link.offsets.items flows) form.numbers ∙ ap (λ (os : List ℤ). mapped_back_by (numbers_from p 1 arcs) os flows) form.offsets ∙ mapped_back_is p instance.sense outside arcs 0 flows xs ys parts.2 count;
       bounds = added-within p instance.sense outside arcs zs (spread-within p instance.sense outside arcs xs parts.3);
       surplus = found.0;
       between = found.1;
     }
 
-forward : (p : Profile) (instance : Instance) (problem : Problem) (link : Link) (flows : List ℤ) → Reading p instance problem link flows → IsFeasibleAssignment instance (lifted link flows)
+forward : (p : Profile) (instance : Instance) (problem : Problem) (link : Link) (flows : List ℤ) → Reading p instance problem link flows → IsFeasibleAssignment instance (mapped_back link flows)
 forward p instance problem link flows r =
     let arcs = instance.arcs.items in
     let x = added (spread p arcs r.own) (offsets_of p arcs) in
@@ -119,16 +119,16 @@ forward p instance problem link flows r =
             high = from_high_side range.low range.high (most_inflow arcs v) (net_inflow arcs x v) between.1;
           };
     } in
-    subst (IsFeasibleAssignment instance) (sym r.lift) feasible
+    subst (IsFeasibleAssignment instance) (sym r.map_back) feasible
 
-injective : (p : Profile) (instance : Instance) (problem : Problem) (link : Link) (flows others : List ℤ) → Reading p instance problem link flows → Reading p instance problem link others → lifted link flows ≡ lifted link others → flows ≡ others
+injective : (p : Profile) (instance : Instance) (problem : Problem) (link : Link) (flows others : List ℤ) → Reading p instance problem link flows → Reading p instance problem link others → mapped_back link flows ≡ mapped_back link others → flows ≡ others
 injective p instance problem link flows others r s e =
     let arcs = instance.arcs.items in
     let outside = vec_len instance.nodes in
     let offsets = offsets_of p arcs in
     let rs = spread p arcs r.own in
     let ss = spread p arcs s.own in
-    let same : added rs offsets ≡ added ss offsets = sym r.lift ∙ e ∙ s.lift in
+    let same : added rs offsets ≡ added ss offsets = sym r.map_back ∙ e ∙ s.map_back in
     let m : length rs ≡ length offsets = length-spread p arcs r.own ∙ sym (length-offsets p arcs) in
     let n : length ss ≡ length offsets = length-spread p arcs s.own ∙ sym (length-offsets p arcs) in
     let all : rs ≡ ss = sym (lessened-added rs offsets m) ∙ ap (λ (zs : List ℤ). lessened zs offsets) same ∙ lessened-added ss offsets n in
@@ -140,17 +140,17 @@ signed_twice : (sense : Sense) (z : ℤ) → signed sense (signed sense z) ≡ z
 signed_twice Minimise z = refl
 signed_twice Maximise z = neg_ℤ-neg_ℤ z
 
-value : (p : Profile) (instance : Instance) (problem : Problem) (link : Link) → IsFormIn p instance problem link → (flows : List ℤ) → Reading p instance problem link flows → value_of instance (lifted link flows) ≡ value_at link (cost_of problem flows)
+value : (p : Profile) (instance : Instance) (problem : Problem) (link : Link) → IsFormIn p instance problem link → (flows : List ℤ) → Reading p instance problem link flows → value_of instance (mapped_back link flows) ≡ value_at link (cost_of problem flows)
 value p instance problem link form flows r =
     let arcs = instance.arcs.items in
     let ranges = instance.nodes.items in
     let outside = vec_len instance.nodes in
     let offsets = offsets_of p arcs in
     let written = written_arcs p instance.sense outside arcs in
-    let rooms = room_arcs_from arcs outside 0 ranges in
+    let rooms = slack_arcs_from arcs outside 0 ranges in
     let zs = spread p arcs r.own in
     let price : List ℤ → ℤ = price_of (λ (a : InstArc). a.coefficient) arcs in
-    let at : value_of instance (lifted link flows) ≡ instance.constant +ℤ price (added zs offsets) = ap (value_of instance) r.lift in
+    let at : value_of instance (mapped_back link flows) ≡ instance.constant +ℤ price (added zs offsets) = ap (value_of instance) r.map_back in
     let sums : price (added zs offsets) ≡ price zs +ℤ price offsets = price_of-added (λ (a : InstArc). a.coefficient) arcs zs offsets (sym (length-spread p arcs r.own)) (sym (length-offsets p arcs)) in
     let whole : cost_of problem flows ≡ price_of (λ (a : FlowArc). a.cost) (written ++ rooms) (r.own ++ r.others) = ap (λ (all : List FlowArc). price_of (λ (a : FlowArc). a.cost) all flows) form.arcs ∙ ap (price_of (λ (a : FlowArc). a.cost) (written ++ rooms)) r.parts in
     let split = price_of-append (λ (a : FlowArc). a.cost) written rooms r.own r.others r.written in
@@ -180,7 +180,7 @@ between_sides instance x feasible =
     (λ u r e. let inside = feasible.ranges u r e in
     within_sides r.low r.high (least_inflow arcs u) (most_inflow arcs u) (net_inflow arcs x u) r.given inside.low inside.high (inflow_least arcs x u feasible.bounds) (inflow_most arcs x u feasible.bounds))
 
-onto : (p : Profile) (instance : Instance) (problem : Problem) (link : Link) → IsFormIn p instance problem link → (x : List ℤ) → IsFeasibleAssignment instance x → (flows : List ℤ) × IsFeasibleFlow problem flows × (lifted link flows ≡ x)
+onto : (p : Profile) (instance : Instance) (problem : Problem) (link : Link) → IsFormIn p instance problem link → (x : List ℤ) → IsFeasibleAssignment instance x → (flows : List ℤ) × IsFeasibleFlow problem flows × (mapped_back link flows ≡ x)
 onto p instance problem link form x feasible =
     let arcs = instance.arcs.items in
     let ranges = instance.nodes.items in
@@ -188,7 +188,7 @@ onto p instance problem link form x feasible =
     let offsets = offsets_of p arcs in
     let made = map (flow_arc_of p instance.sense outside) arcs in
     let written = written_arcs p instance.sense outside arcs in
-    let rooms = room_arcs_from arcs outside 0 ranges in
+    let rooms = slack_arcs_from arcs outside 0 ranges in
     let inner = supplies_from p arcs 0 ranges in
     let f = net_inflow arcs x in
     let zs = lessened x offsets in
@@ -223,7 +223,7 @@ onto p instance problem link form x feasible =
         capacity = subst (λ (them : List FlowArc). AllZip IsWithinCapacity them flows) (sym form.arcs) capacity;
         balance = λ u s e. ap (λ (them : List FlowArc). net_outflow them flows u) form.arcs ∙ balance u s (ap (λ (ss : List ℤ). slice_get ss u) (sym form.supplies) ∙ e);
       },
-      ap (λ (ns : List ℕ). lifted_by ns link.offsets.items flows) form.numbers ∙ ap (λ (os : List ℤ). lifted_by (numbers_from p 1 arcs) os flows) form.offsets ∙ lifted_is p instance.sense outside arcs 0 flows xs ys refl each ∙ back,
+      ap (λ (ns : List ℕ). mapped_back_by ns link.offsets.items flows) form.numbers ∙ ap (λ (os : List ℤ). mapped_back_by (numbers_from p 1 arcs) os flows) form.offsets ∙ mapped_back_is p instance.sense outside arcs 0 flows xs ys refl each ∙ back,
     )
 
 -- the theorem

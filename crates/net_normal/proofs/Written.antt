@@ -11,7 +11,7 @@ use Rattle.net_normal.specs.Sums.{flow_on, price_of}
 use Rattle.net_normal.specs.Numbers.{positives, counted, CountUp}
 use Rattle.net_normal.specs.Assignments.{net_inflow}
 use Rattle.net_normal.specs.Flows.{IsWithinCapacity, net_outflow}
-use Rattle.net_normal.specs.Links.{signed, lifted_by}
+use Rattle.net_normal.specs.Links.{signed, mapped_back_by}
 use Rattle.net_normal.specs.NormalForm.{offset_of, offsets_of, is_left_out, numbers_from, flow_arc_of, written_arcs}
 use Rattle.net_normal.specs.declared.instance.Sense.{Sense}
 use Rattle.net_normal.specs.declared.instance.InstArc.{InstArc}
@@ -19,7 +19,7 @@ use Rattle.net_normal.specs.declared.problem.FlowArc.{FlowArc}
 use Rattle.net_normal.specs.declared.profile.Profile.{Profile}
 use Rattle.net_normal.specs.declared.profile.Profile.TheVariants.{Plain, Lean}
 use Rattle.net_normal.proofs.ArcSums.{added, rest_of, flow_on-nil}
-use Rattle.net_normal.proofs.ArcLifts.{made_outflow, made_price}
+use Rattle.net_normal.proofs.ArcMapsBack.{made_outflow, made_price}
 
 -- the first of some flows
 abbrev pub first_of : List ℤ → ℤ
@@ -37,15 +37,15 @@ kept p [] zs = []
 kept p (a ∷ arcs) zs = cond (is_left_out p a) (kept p arcs (rest_of zs)) (first_of zs ∷ kept p arcs (rest_of zs))
 
 -- an arc that is left out has one number only, its offset
-pub int_eq-tells : (x y : ℤ) → int_eq x y ≡ true → x ≡ y
-int_eq-tells x y h = (Decides-int_eq x y).0 h
+pub int_eq-reports : (x y : ℤ) → int_eq x y ≡ true → x ≡ y
+int_eq-reports x y h = (Decides-int_eq x y).0 h
 
 pub int_eq-same : (x y : ℤ) → x ≡ y → int_eq x y ≡ true
 int_eq-same x y h = (Decides-int_eq x y).1 h
 
 pub left_out-fixed : (p : Profile) (a : InstArc) → is_left_out p a ≡ true → (a.lower ≡ offset_of p a) × (a.upper ≡ offset_of p a)
 left_out-fixed Plain a h = cc
-left_out-fixed Lean a h = (refl, sym (int_eq-tells a.lower a.upper h))
+left_out-fixed Lean a h = (refl, sym (int_eq-reports a.lower a.upper h))
 
 -- a fact by whether an arc is left out
 pub by_case : (b : Bool) (P : Bool → Type 0) → (b ≡ true → P true) → (b ≡ false → P false) → P b
@@ -195,25 +195,25 @@ kept-spread p sense outside (a ∷ arcs) (x ∷ xs) h =
     ] in
     both h
 
-no_flow_lifted : (offset : ℤ) {xs ys : List ℤ} → xs ≡ ys → offset ∷ xs ≡ (pos 0 +ℤ offset) ∷ ys
-no_flow_lifted offset {xs} {ys} e = let same : offset ≡ pos 0 +ℤ offset = omega (arith, ints) in ap (λ (z : ℤ). z ∷ xs) same ∙ ap (λ (zs : List ℤ). (pos 0 +ℤ offset) ∷ zs) e
+no_flow_mapped_back : (offset : ℤ) {xs ys : List ℤ} → xs ≡ ys → offset ∷ xs ≡ (pos 0 +ℤ offset) ∷ ys
+no_flow_mapped_back offset {xs} {ys} e = let same : offset ≡ pos 0 +ℤ offset = omega (arith, ints) in ap (λ (z : ℤ). z ∷ xs) same ∙ ap (λ (zs : List ℤ). (pos 0 +ℤ offset) ∷ zs) e
 
 -- the flows from number k on, each with its offset
-pub lifted_is : (p : Profile) (sense : Sense) (outside : ℕ) (arcs : List InstArc) (k : ℕ) (flows xs ys : List ℤ) → drop k flows ≡ xs ++ ys → length (written_arcs p sense outside arcs) ≡ length xs → lifted_by (numbers_from p (suc k) arcs) (offsets_of p arcs) flows ≡ added (spread p arcs xs) (offsets_of p arcs)
-lifted_is p sense outside [] k flows xs ys e h = refl
-lifted_is p sense outside (a ∷ arcs) k flows [] ys e h =
+pub mapped_back_is : (p : Profile) (sense : Sense) (outside : ℕ) (arcs : List InstArc) (k : ℕ) (flows xs ys : List ℤ) → drop k flows ≡ xs ++ ys → length (written_arcs p sense outside arcs) ≡ length xs → mapped_back_by (numbers_from p (suc k) arcs) (offsets_of p arcs) flows ≡ added (spread p arcs xs) (offsets_of p arcs)
+mapped_back_is p sense outside [] k flows xs ys e h = refl
+mapped_back_is p sense outside (a ∷ arcs) k flows [] ys e h =
     let make = flow_arc_of p sense outside in
     let rest = written_arcs p sense outside arcs in
     let offset = offset_of p a in
     let offsets = offsets_of p arcs in
-    let both : length (written_arcs p sense outside (a ∷ arcs)) ≡ 0 → lifted_by (numbers_from p (suc k) (a ∷ arcs)) (offsets_of p (a ∷ arcs)) flows ≡ added (spread p (a ∷ arcs) []) (offsets_of p (a ∷ arcs)) =
+    let both : length (written_arcs p sense outside (a ∷ arcs)) ≡ 0 → mapped_back_by (numbers_from p (suc k) (a ∷ arcs)) (offsets_of p (a ∷ arcs)) flows ≡ added (spread p (a ∷ arcs) []) (offsets_of p (a ∷ arcs)) =
     elim (is_left_out p a) as (λ b. length (cond b rest (make a ∷ rest)) ≡ 0 →
-    lifted_by (cond b (0 ∷ numbers_from p (suc k) arcs) (suc k ∷ numbers_from p (suc (suc k)) arcs)) (offset ∷ offsets) flows ≡ added (cond b (pos 0 ∷ spread p arcs []) (pos 0 ∷ spread p arcs [])) (offset ∷ offsets)) [
-      | true ↦ λ h. no_flow_lifted offset (lifted_is p sense outside arcs k flows [] ys e h)
+    mapped_back_by (cond b (0 ∷ numbers_from p (suc k) arcs) (suc k ∷ numbers_from p (suc (suc k)) arcs)) (offset ∷ offsets) flows ≡ added (cond b (pos 0 ∷ spread p arcs []) (pos 0 ∷ spread p arcs [])) (offset ∷ offsets)) [
+      | true ↦ λ h. no_flow_mapped_back offset (mapped_back_is p sense outside arcs k flows [] ys e h)
       | false ↦ λ h. absurd (omega (arith, h))
     ] in
     both h
-lifted_is p sense outside (a ∷ arcs) k flows (x ∷ xs) ys e h =
+mapped_back_is p sense outside (a ∷ arcs) k flows (x ∷ xs) ys e h =
     let make = flow_arc_of p sense outside in
     let rest = written_arcs p sense outside arcs in
     let offset = offset_of p a in
@@ -222,13 +222,13 @@ lifted_is p sense outside (a ∷ arcs) k flows (x ∷ xs) ys e h =
     let split : get_or flows k (pos 0) ∷ drop (suc k) flows ≡ x ∷ (xs ++ ys) = sym (drop-cons flows k (pos 0) inside) ∙ e in
     let first : get_or flows k (pos 0) ≡ x = cc in
     let others : drop (suc k) flows ≡ xs ++ ys = cc in
-    let both : length (written_arcs p sense outside (a ∷ arcs)) ≡ suc (length xs) → lifted_by (numbers_from p (suc k) (a ∷ arcs)) (offsets_of p (a ∷ arcs)) flows ≡ added (spread p (a ∷ arcs) (x ∷ xs)) (offsets_of p (a ∷ arcs)) =
+    let both : length (written_arcs p sense outside (a ∷ arcs)) ≡ suc (length xs) → mapped_back_by (numbers_from p (suc k) (a ∷ arcs)) (offsets_of p (a ∷ arcs)) flows ≡ added (spread p (a ∷ arcs) (x ∷ xs)) (offsets_of p (a ∷ arcs)) =
     elim (is_left_out p a) as (λ b. length (cond b rest (make a ∷ rest)) ≡ suc (length xs) →
-    lifted_by (cond b (0 ∷ numbers_from p (suc k) arcs) (suc k ∷ numbers_from p (suc (suc k)) arcs)) (offset ∷ offsets) flows ≡ added (cond b (pos 0 ∷ spread p arcs (x ∷ xs)) (x ∷ spread p arcs xs)) (offset ∷ offsets)) [
-      | true ↦ λ h. no_flow_lifted offset (lifted_is p sense outside arcs k flows (x ∷ xs) ys e h)
+    mapped_back_by (cond b (0 ∷ numbers_from p (suc k) arcs) (suc k ∷ numbers_from p (suc (suc k)) arcs)) (offset ∷ offsets) flows ≡ added (cond b (pos 0 ∷ spread p arcs (x ∷ xs)) (x ∷ spread p arcs xs)) (offset ∷ offsets)) [
+      | true ↦ λ h. no_flow_mapped_back offset (mapped_back_is p sense outside arcs k flows (x ∷ xs) ys e h)
       | false ↦ λ h.
-          ap (λ (z : ℤ). (z +ℤ offset) ∷ lifted_by (numbers_from p (suc (suc k)) arcs) offsets flows) first
-          ∙ ap (λ (zs : List ℤ). (x +ℤ offset) ∷ zs) (lifted_is p sense outside arcs (suc k) flows xs ys others (omega (arith, h)))
+          ap (λ (z : ℤ). (z +ℤ offset) ∷ mapped_back_by (numbers_from p (suc (suc k)) arcs) offsets flows) first
+          ∙ ap (λ (zs : List ℤ). (x +ℤ offset) ∷ zs) (mapped_back_is p sense outside arcs (suc k) flows xs ys others (omega (arith, h)))
     ] in
     both h
 

@@ -1,7 +1,7 @@
 -- How the normal form and the lean form of a network are related.
 use Rattle.std.specs.Prelude.{◌≡◌, List, ℤ}
 use Rattle.net_normal.specs.Flows.{IsFeasibleFlow, cost_of}
-use Rattle.net_normal.specs.Links.{lifted, value_at}
+use Rattle.net_normal.specs.Links.{mapped_back, value_at}
 use Rattle.net_normal.specs.NormalForm.{IsNormalForm, IsLeanForm}
 use Rattle.net_normal.specs.declared.instance.Instance.{Instance}
 use Rattle.net_normal.specs.declared.problem.Problem.{Problem}
@@ -11,7 +11,7 @@ use Rattle.net_normal.specs.declared.link.Link.{Link}
 -- same objective value
 abbrev pub HasEachOf : (problem : Problem) (link : Link) (other : Problem) (other_link : Link) → Type 0
 HasEachOf problem link other other_link = (flows : List ℤ) → IsFeasibleFlow problem flows
-    → (others : List ℤ) × IsFeasibleFlow other others × (lifted other_link others ≡ lifted link flows) × (value_at other_link (cost_of other others) ≡ value_at link (cost_of problem flows))
+    → (others : List ℤ) × IsFeasibleFlow other others × (mapped_back other_link others ≡ mapped_back link flows) × (value_at other_link (cost_of other others) ≡ value_at link (cost_of problem flows))
 
 -- the normal form and the lean form of a network have the same feasible assignments, with the same
 -- objective values

@@ -12,19 +12,19 @@ signed Maximise x = neg_ℤ x
 
 -- the value of one arc: the flow on the arc with this number (counted from 1) plus the offset;
 -- number 0 means that the problem has no such arc, and the value is the offset
-abbrev pub lifted_at : List ℤ → ℕ → ℤ → ℤ
-lifted_at flows zero offset = offset
-lifted_at flows (suc place) offset = slice_index_or flows place (pos 0) +ℤ offset
+abbrev pub mapped_back_at : List ℤ → ℕ → ℤ → ℤ
+mapped_back_at flows zero offset = offset
+mapped_back_at flows (suc place) offset = slice_index_or flows place (pos 0) +ℤ offset
 
 -- the values of all arcs of the network, from their numbers and offsets
-abbrev pub lifted_by : List ℕ → List ℤ → List ℤ → List ℤ
-lifted_by [] offsets flows = []
-lifted_by (number ∷ numbers) [] flows = []
-lifted_by (number ∷ numbers) (offset ∷ offsets) flows = lifted_at flows number offset ∷ lifted_by numbers offsets flows
+abbrev pub mapped_back_by : List ℕ → List ℤ → List ℤ → List ℤ
+mapped_back_by [] offsets flows = []
+mapped_back_by (number ∷ numbers) [] flows = []
+mapped_back_by (number ∷ numbers) (offset ∷ offsets) flows = mapped_back_at flows number offset ∷ mapped_back_by numbers offsets flows
 
 -- the assignment that corresponds to a flow
-abbrev pub lifted : Link → List ℤ → List ℤ
-lifted link flows = lifted_by link.numbers.items link.offsets.items flows
+abbrev pub mapped_back : Link → List ℤ → List ℤ
+mapped_back link flows = mapped_back_by link.numbers.items link.offsets.items flows
 
 -- the objective value that corresponds to a cost
 abbrev pub value_at : Link → ℤ → ℤ

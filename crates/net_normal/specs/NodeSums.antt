@@ -60,5 +60,5 @@ CountsArc p arc old new = (v : ℕ) (d : NodeSums) → v < length old → slice_
 abbrev pub own_supply : NodeRange → NodeSums → ℤ
 own_supply range sums = sums.shift -ℤ low_side range.low range.high sums.least
 
-abbrev pub own_room : ℕ → ℕ → NodeRange → NodeSums → FlowArc
-own_room node outside range sums = record { src = node; dst = outside; low = pos 0; cap = high_side range.low range.high sums.most -ℤ low_side range.low range.high sums.least; cost = pos 0 }
+abbrev pub own_slack : ℕ → ℕ → NodeRange → NodeSums → FlowArc
+own_slack node outside range sums = record { src = node; dst = outside; low = pos 0; cap = high_side range.low range.high sums.most -ℤ low_side range.low range.high sums.least; cost = pos 0 }

@@ -97,14 +97,14 @@ supplies_from p arcs v [] = []
 supplies_from p arcs v (range ∷ ranges) = supply_of p arcs v range ∷ supplies_from p arcs (suc v) ranges
 
 -- the slack arc of a node: it carries the node's inflow above its low side to the outside node
-abbrev pub room_arc : List InstArc → ℕ → ℕ → NodeRange → FlowArc
-room_arc arcs outside v range = record { src = v; dst = outside; low = pos 0; cap = high_of arcs v range -ℤ low_of arcs v range; cost = pos 0 }
+abbrev pub slack_arc : List InstArc → ℕ → ℕ → NodeRange → FlowArc
+slack_arc arcs outside v range = record { src = v; dst = outside; low = pos 0; cap = high_of arcs v range -ℤ low_of arcs v range; cost = pos 0 }
 
-abbrev pub room_arcs_from : List InstArc → ℕ → ℕ → List NodeRange → List FlowArc
-room_arcs_from arcs outside v [] = []
-room_arcs_from arcs outside v (range ∷ ranges) =
-    if is_open range.low range.high then room_arc arcs outside v range ∷ room_arcs_from arcs outside (suc v) ranges
-    else room_arcs_from arcs outside (suc v) ranges
+abbrev pub slack_arcs_from : List InstArc → ℕ → ℕ → List NodeRange → List FlowArc
+slack_arcs_from arcs outside v [] = []
+slack_arcs_from arcs outside v (range ∷ ranges) =
+    if is_open range.low range.high then slack_arc arcs outside v range ∷ slack_arcs_from arcs outside (suc v) ranges
+    else slack_arcs_from arcs outside (suc v) ranges
 
 -- the supply of the outside node makes the supplies sum to 0
 abbrev pub supplies_of : Profile → Instance → List ℤ
@@ -115,7 +115,7 @@ supplies_of p instance = let inner = supplies_from p instance.arcs.items 0 insta
 abbrev pub flow_arcs_of : Profile → Instance → List FlowArc
 flow_arcs_of p instance =
     let outside = vec_len instance.nodes in
-    written_arcs p instance.sense outside instance.arcs.items ++ room_arcs_from instance.arcs.items outside 0 instance.nodes.items
+    written_arcs p instance.sense outside instance.arcs.items ++ slack_arcs_from instance.arcs.items outside 0 instance.nodes.items
 
 -- the objective's constant plus the cost of the offsets
 abbrev pub constant_of : Profile → Instance → ℤ

@@ -2,9 +2,9 @@
 
 ghost use Rattle.std.specs.Prelude.{◌≡◌, ◌<◌, ◌≤◌, ◌+◌, ◌*◌, ◌^◌, ◌++◌, ◌∷◌, [], pos, ◌-ℤ◌, ◌≤ℤ◌, length, IfOk, OnOk, vec_len, if◌then◌else◌};
 ghost use Rattle.net_normal.specs.Limits.{IsSized, node_limit, range_limit, flow_limit, sum_limit};
-ghost use Rattle.net_normal.specs.NormalForm.{low_side, high_side, is_open, supplies_of, room_arcs_from};
+ghost use Rattle.net_normal.specs.NormalForm.{low_side, high_side, is_open, supplies_of, slack_arcs_from};
 ghost use Rattle.net_normal.specs.declared.profile.Profile.{Profile};
-ghost use Rattle.net_normal.specs.NodeSums.{AreSized, AreSumsOf, AreSumsOfEither, own_supply, own_room};
+ghost use Rattle.net_normal.specs.NodeSums.{AreSized, AreSumsOf, AreSumsOfEither, own_supply, own_slack};
 
 use crate::instance::{Instance, NodeRange};
 use crate::node_sums::NodeSums;
@@ -22,9 +22,9 @@ fn own_supply(range: &NodeRange, sums: &NodeSums) -> i64
 }
 
 /// Builds a node's slack arc, which carries its inflow above the low side to the outside node.
-fn own_room(node: u32, outside: u32, range: &NodeRange, sums: &NodeSums) -> FlowArc
+fn own_slack(node: u32, outside: u32, range: &NodeRange, sums: &NodeSums) -> FlowArc
     requires { AreSized sum_limit sums.now }
-    ensures { result ≡ own_room node outside range.now sums.now }
+    ensures { result ≡ own_slack node outside range.now sums.now }
 {
     FlowArc {
         src: node,
@@ -54,7 +54,7 @@ impl NodePart {
         requires balance { IsSized flow_limit self.old.balance }
         ensures supplies { OnOk result (self.new.supplies.items ≡ self.old.supplies.items ++ own_supply range.now sums.now ∷ []) }
         ensures arcs { OnOk result (self.new.arcs.items ≡ self.old.arcs.items ++ (if is_open range.now.low range.now.high
-            then own_room (vec_len self.old.supplies) outside range.now sums.now ∷ [] else [])) }
+            then own_slack (vec_len self.old.supplies) outside range.now sums.now ∷ [] else [])) }
         ensures balance { OnOk result (self.new.balance ≡ self.old.balance -ℤ own_supply range.now sums.now) }
     {
         let node = self.supplies.len() as u32;
@@ -62,7 +62,7 @@ impl NodePart {
         self.supplies.push(supply)?;
         self.balance -= supply;
         if range.is_open() {
-            self.arcs.push(own_room(node, outside, range, sums))?;
+            self.arcs.push(own_slack(node, outside, range, sums))?;
         }
         Ok(())
     }
@@ -79,7 +79,7 @@ impl NodePart {
         requires sums { AreSumsOfEither instance.now.arcs.items sums.now }
         ensures supplies { IfOk result (λ part. (p : Profile) → AreSumsOf p instance.now.arcs.items sums.now
             → part.supplies.items ≡ supplies_of p instance.now) }
-        ensures arcs { IfOk result (λ part. part.arcs.items ≡ arcs.items ++ room_arcs_from instance.now.arcs.items
+        ensures arcs { IfOk result (λ part. part.arcs.items ≡ arcs.items ++ slack_arcs_from instance.now.arcs.items
             (vec_len instance.now.nodes) 0 instance.now.nodes.items) }
     {
         let outside = instance.nodes.len() as u32;

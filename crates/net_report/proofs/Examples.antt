@@ -3,7 +3,7 @@ use Rattle.std.proofs.Common.{◌≡◌, ℕ, Bool, true, false, List, [], ◌�
 use Rattle.std.specs.Fmt.{digits}
 use Rattle.net_sets.specs.Sets.{Tuple}
 use Rattle.net_sets.specs.declared.member.Member.TheVariants.{Number, Name}
-use Rattle.net_normal.specs.Links.{lifted_by}
+use Rattle.net_normal.specs.Links.{mapped_back_by}
 use Rattle.net_normal.specs.declared.instance.Sense.TheVariants.{Maximise}
 use Rattle.net_normal.specs.declared.problem.FlowArc.{FlowArc}
 use Rattle.net_check.specs.Certificates.{supply_in, most_out, least_out}
@@ -61,12 +61,12 @@ no_number : links.arc_lines (0 ∷ 1 ∷ []) (pos 2 ∷ pos 1 ∷ []) (codes "P"
 unfolding digits
 no_number = refl
 
-lifted_to_its_offset : lifted_by (0 ∷ 1 ∷ []) (pos 2 ∷ pos 1 ∷ []) (pos 4 ∷ []) ≡ pos 2 ∷ pos 5 ∷ []
-lifted_to_its_offset = refl
+mapped_back_to_its_offset : mapped_back_by (0 ∷ 1 ∷ []) (pos 2 ∷ pos 1 ∷ []) (pos 4 ∷ []) ≡ pos 2 ∷ pos 5 ∷ []
+mapped_back_to_its_offset = refl
 
 -- the flow of 5 on arc 1 is 2 above the offset of -3
-lifted_by_the_offset : lifted_by (1 ∷ []) (negsuc 2 ∷ []) (pos 5 ∷ []) ≡ pos 2 ∷ []
-lifted_by_the_offset = refl
+mapped_back_by_the_offset : mapped_back_by (1 ∷ []) (negsuc 2 ∷ []) (pos 5 ∷ []) ≡ pos 2 ∷ []
+mapped_back_by_the_offset = refl
 
 -- ---- plans
 

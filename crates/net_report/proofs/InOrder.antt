@@ -57,8 +57,8 @@ none_at_front d a arcs e = ap (λ t. take (cond t (1 + prefix_len (is_of d) arcs
 abbrev pub rest : ℕ → List Assigned → List Assigned
 rest d arcs = drop (prefix_len (is_of d) arcs) arcs
 
-rest_behind : (d : ℕ) (a : Assigned) (arcs : List Assigned) → nat_eq a.0.declaration d ≡ true → rest d (a ∷ arcs) ≡ rest d arcs
-rest_behind d a arcs e = ap (λ t. drop (cond t (1 + prefix_len (is_of d) arcs) 0) (a ∷ arcs)) e ∙ ap (λ n. drop n (a ∷ arcs)) (one_more (prefix_len (is_of d) arcs))
+rest_after : (d : ℕ) (a : Assigned) (arcs : List Assigned) → nat_eq a.0.declaration d ≡ true → rest d (a ∷ arcs) ≡ rest d arcs
+rest_after d a arcs e = ap (λ t. drop (cond t (1 + prefix_len (is_of d) arcs) 0) (a ∷ arcs)) e ∙ ap (λ n. drop n (a ∷ arcs)) (one_more (prefix_len (is_of d) arcs))
 
 all_left : (d : ℕ) (a : Assigned) (arcs : List Assigned) → nat_eq a.0.declaration d ≡ false → rest d (a ∷ arcs) ≡ a ∷ arcs
 all_left d a arcs e = ap (λ t. drop (cond t (1 + prefix_len (is_of d) arcs) 0) (a ∷ arcs)) e
@@ -79,7 +79,7 @@ own_at_front d (a ∷ arcs) h = elim (cases_Bool (nat_eq a.0.declaration d)) [
 rest_ordered : (d : ℕ) (arcs : List Assigned) → IsOrdered d arcs → IsOrdered (suc d) (rest d arcs)
 rest_ordered d [] h = tt
 rest_ordered d (a ∷ arcs) h = elim (cases_Bool (nat_eq a.0.declaration d)) [
-  | inl e ↦ subst (IsOrdered (suc d)) (sym (rest_behind d a arcs e)) (rest_ordered d arcs (from_earlier d a.0.declaration arcs h.0 h.1))
+  | inl e ↦ subst (IsOrdered (suc d)) (sym (rest_after d a arcs e)) (rest_ordered d arcs (from_earlier d a.0.declaration arcs h.0 h.1))
   | inr e ↦
       let behind : d < a.0.declaration = past a.0.declaration d h.0 e in
       subst (IsOrdered (suc d)) (sym (all_left d a arcs e)) (omega (arith, behind), h.1)
@@ -94,7 +94,7 @@ others_in_rest d e (a ∷ arcs) l = elim (cases_Bool (nat_eq a.0.declaration d))
       let not_its : nat_eq a.0.declaration e ≡ false = ap (λ m. nat_eq m e) (alike a.0.declaration d same) ∙ differ d e l in
       ap (λ t. cond t (a ∷ filter (is_of e) arcs) (filter (is_of e) arcs)) not_its
       ∙ others_in_rest d e arcs l
-      ∙ ap (filter (is_of e)) (sym (rest_behind d a arcs same))
+      ∙ ap (filter (is_of e)) (sym (rest_after d a arcs same))
   | inr other ↦ ap (filter (is_of e)) (sym (all_left d a arcs other))
 ]
   where

@@ -25,11 +25,11 @@ own_pairs d (k ∷ ks) [] h = absurd (omega (arith, h))
 own_pairs d (k ∷ ks) (z ∷ zs) h = ap (λ n. cond (nat_eq k.declaration d) (1 + n) 0) (own_pairs d ks zs (omega (arith, h)))
 
 -- lines that tell the number alone
-pub told_alone : (line : ℤ → List ℕ) (ks : List Key) (zs : List ℤ) → length zs ≡ length ks → flat_map (λ (a : Assigned). line a.1) (zip ks zs) ≡ flat_map line zs
-told_alone line [] [] h = refl
-told_alone line [] (z ∷ zs) h = absurd (omega (arith, h))
-told_alone line (k ∷ ks) [] h = absurd (omega (arith, h))
-told_alone line (k ∷ ks) (z ∷ zs) h = ap (λ l. line z ++ l) (told_alone line ks zs (omega (arith, h)))
+pub reported_alone : (line : ℤ → List ℕ) (ks : List Key) (zs : List ℤ) → length zs ≡ length ks → flat_map (λ (a : Assigned). line a.1) (zip ks zs) ≡ flat_map line zs
+reported_alone line [] [] h = refl
+reported_alone line [] (z ∷ zs) h = absurd (omega (arith, h))
+reported_alone line (k ∷ ks) [] h = absurd (omega (arith, h))
+reported_alone line (k ∷ ks) (z ∷ zs) h = ap (λ l. line z ++ l) (reported_alone line ks zs (omega (arith, h)))
 
 -- those at the front that are of a declaration
 pub front_pairs : (d : ℕ) (ks : List Key) (zs : List ℤ) (n : ℕ) → length zs ≡ length ks → n ≡ prefix_len (λ k. nat_eq k.declaration d) ks → take_while (is_of d) (zip ks zs) ≡ zip (take n ks) (take n zs)
@@ -38,7 +38,7 @@ front_pairs d ks zs n h e = ap (λ m. take m (zip ks zs)) (own_pairs d ks zs h �
 -- a declaration without braces
 pub plain_block : (d : Declared) (ks : List Key) (zs : List ℤ) → d.indexed ≡ false → length zs ≡ length ks → flat_map (value_line d.name) zs ≡ block d (zip ks zs)
 plain_block d ks zs e h =
-    sym (told_alone (value_line d.name) ks zs h)
+    sym (reported_alone (value_line d.name) ks zs h)
     ∙ ap (λ (t : Bool). cond t (d.name ++ (codes " :=\n" ++ (flat_map row (zip ks zs) ++ codes ";\n"))) (flat_map (λ (a : Assigned). value_line d.name a.1) (zip ks zs))) (sym e)
 
 -- what is left behind the first n, as it is cut off
@@ -46,19 +46,19 @@ pub behind : {A : Type 0} (n : ℕ) (xs : List A) → take (length xs - n) (drop
 behind n xs = take_all (length xs - n) (drop n xs) (omega (arith, length-drop n xs))
 
 -- the next declaration's block stands behind those before it
-pub next_block : (d told n : ℕ) (xs : List Declared) (x : Declared) (ks mine : List Key) (zs own : List ℤ) (text after wanted : List ℕ)
-    → length zs ≡ length ks → mine ≡ drop told ks → own ≡ drop told zs → d < length xs → x ≡ get_or xs d x
+pub next_block : (d reported n : ℕ) (xs : List Declared) (x : Declared) (ks mine : List Key) (zs own : List ℤ) (text after wanted : List ℕ)
+    → length zs ≡ length ks → mine ≡ drop reported ks → own ≡ drop reported zs → d < length xs → x ≡ get_or xs d x
     → after ≡ text ++ block x (take_while (is_of d) (zip mine own)) → n ≡ prefix_len (is_of d) (zip mine own)
-    → text ++ blocks d (drop d xs) (zip (drop told ks) (drop told zs)) ≡ wanted
-    → after ++ blocks (d + 1) (drop (d + 1) xs) (zip (drop (told + n) ks) (drop (told + n) zs)) ≡ wanted
-next_block d told n xs x ks mine zs own text after wanted h keys_are numbers_are inside e put count so_far =
-    let arcs = zip (drop told ks) (drop told zs) in
-    let left : zip mine own ≡ arcs = ap (λ l. zip l own) keys_are ∙ ap (λ l. zip (drop told ks) l) numbers_are in
-    let same : length (drop told zs) ≡ length (drop told ks) = omega (arith, h, length-drop told zs, length-drop told ks) in
-    let rest : zip (drop (told + n) ks) (drop (told + n) zs) ≡ drop n arcs =
-    ap (λ l. zip l (drop (told + n) zs)) (sym (drop-drop n told ks)) ∙ ap (λ l. zip (drop n (drop told ks)) l) (sym (drop-drop n told zs)) ∙ sym (drop_pairs n (drop told ks) (drop told zs) same) in
+    → text ++ blocks d (drop d xs) (zip (drop reported ks) (drop reported zs)) ≡ wanted
+    → after ++ blocks (d + 1) (drop (d + 1) xs) (zip (drop (reported + n) ks) (drop (reported + n) zs)) ≡ wanted
+next_block d reported n xs x ks mine zs own text after wanted h keys_are numbers_are inside e put count so_far =
+    let arcs = zip (drop reported ks) (drop reported zs) in
+    let left : zip mine own ≡ arcs = ap (λ l. zip l own) keys_are ∙ ap (λ l. zip (drop reported ks) l) numbers_are in
+    let same : length (drop reported zs) ≡ length (drop reported ks) = omega (arith, h, length-drop reported zs, length-drop reported ks) in
+    let rest : zip (drop (reported + n) ks) (drop (reported + n) zs) ≡ drop n arcs =
+    ap (λ l. zip l (drop (reported + n) zs)) (sym (drop-drop n reported ks)) ∙ ap (λ l. zip (drop n (drop reported ks)) l) (sym (drop-drop n reported zs)) ∙ sym (drop_pairs n (drop reported ks) (drop reported zs) same) in
     let first : drop d xs ≡ x ∷ drop (suc d) xs = drop-cons xs d x inside ∙ ap (λ y. y ∷ drop (suc d) xs) (sym e) in
-    ap (λ t. t ++ blocks (d + 1) (drop (d + 1) xs) (zip (drop (told + n) ks) (drop (told + n) zs))) (put ∙ ap (λ l. text ++ block x (take_while (is_of d) l)) left)
+    ap (λ t. t ++ blocks (d + 1) (drop (d + 1) xs) (zip (drop (reported + n) ks) (drop (reported + n) zs))) (put ∙ ap (λ l. text ++ block x (take_while (is_of d) l)) left)
     ∙ ap (λ l. (text ++ block x (take_while (is_of d) arcs)) ++ blocks (d + 1) (drop (d + 1) xs) l) rest
     ∙ ap (λ m. (text ++ block x (take_while (is_of d) arcs)) ++ blocks m (drop m xs) (drop n arcs)) (add-one d)
     ∙ ap (λ m. (text ++ block x (take_while (is_of d) arcs)) ++ blocks (suc d) (drop (suc d) xs) (drop m arcs)) (count ∙ ap (prefix_len (is_of d)) left)

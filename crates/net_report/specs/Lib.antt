@@ -1,6 +1,6 @@
 pub mod References
 pub mod Links
-pub mod Lifts
+pub mod MapsBack
 pub mod Displays
 pub mod Cuts
 pub mod LineNames

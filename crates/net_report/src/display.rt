@@ -72,15 +72,15 @@ fn push_blocks(
     ensures ok { OnOk result (text.new.items ≡ text.old.items ++ displays.blocks 0 arcs.now.declarations (zip arcs.now.keys assignment.now)) }
 {
     let keys = arcs.keys();
-    let mut told = 0;
+    let mut reported = 0;
     for (number, declared) in arcs.declarations().iter().enumerate() {
-        told += push_next(
+        reported += push_next(
             alloc,
             text,
             number,
             declared,
-            &keys[told..],
-            &assignment[told..],
+            &keys[reported..],
+            &assignment[reported..],
         )?;
     }
     Ok(())

@@ -5,13 +5,13 @@
 mod cut;
 mod display;
 mod laws;
-mod lifting;
 mod links;
+mod mapping_back;
 mod reference;
 
 pub use cut::write_cut;
 pub use display::write_display;
 pub use laws::{line_names_are_names, names_stay_within_lines};
-pub use lifting::lift;
 pub use links::{push_in_line, write_links};
+pub use mapping_back::map_back;
 pub use std::alloc::AllocError as OutOfMemory;

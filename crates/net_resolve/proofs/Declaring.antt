@@ -11,10 +11,10 @@ use Rattle.net_tree.proofs.Views.{next_phrase, next_declaration}
 use Rattle.net_resolve.specs.declared.meaning.Meaning.{Meaning}
 use Rattle.net_resolve.specs.declared.meaning.Need.{Need}
 use Rattle.net_resolve.specs.Scopes.{Scope, meaning_in}
-use Rattle.net_resolve.specs.Told.{Fault, first, declared_before}
+use Rattle.net_resolve.specs.Reported.{Fault, first, declared_before}
 use Rattle.net_resolve.specs.Dummies.{with_indexing}
 use Rattle.net_resolve.specs.Items.{with_dummies}
-use Rattle.net_resolve.specs.Names.{need_behind, body_fault, phrases_fault, declaration_fault, declared, with_declaration, names_fault}
+use Rattle.net_resolve.specs.Names.{need_after, body_fault, phrases_fault, declaration_fault, declared, with_declaration, names_fault}
 use Rattle.net_resolve.proofs.Walking.{Begins, begins_same, braces_begin, taken_back}
 
 none_before : (o : Option Meaning) (t : Token) (g : Option Fault) → first (declared_before o t) g ≡ None → o ≡ None
@@ -50,11 +50,11 @@ forgotten_dummies s t d n h e = ap (take n) e ∙ ap (λ k. take k (with_dummies
 
 -- the fault of the phrases from one of them on
 pub phrases_left : (n : Need) (s t : Scope) (ps : List Phrase_of_code) (i : ℕ) (p : Phrase_of_code) (whole : Option Fault) → i < length ps → p ≡ get_or ps i p → t ≡ s
-    → n ≡ need_behind (role_of p.word) → phrases_fault s (map phrase_of (drop i ps)) ≡ whole
+    → n ≡ need_after (role_of p.word) → phrases_fault s (map phrase_of (drop i ps)) ≡ whole
     → first (body_fault n t (phrase_of p).body) (phrases_fault s (map phrase_of (drop (i + 1) ps))) ≡ whole
 phrases_left n s t ps i p whole h e k m before =
     ap (λ u. first (body_fault u t (phrase_of p).body) (phrases_fault s (map phrase_of (drop (i + 1) ps)))) m
-    ∙ ap (λ u. first (body_fault (need_behind (role_of p.word)) u (phrase_of p).body) (phrases_fault s (map phrase_of (drop (i + 1) ps)))) k
+    ∙ ap (λ u. first (body_fault (need_after (role_of p.word)) u (phrase_of p).body) (phrases_fault s (map phrase_of (drop (i + 1) ps)))) k
     ∙ sym (ap (phrases_fault s) (next_phrase ps i p h e)) ∙ before
 
 -- the fault of the declarations from one of them on

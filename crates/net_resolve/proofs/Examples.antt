@@ -8,8 +8,8 @@ use Rattle.net_tree.specs.declared.operator.Words.TheVariants.{One, Two}
 use Rattle.net_tree.specs.Operations.{operation, operations}
 use Rattle.net_tree.specs.Role.{role_of, marks, keys}
 use Rattle.net_tree.specs.Tree.{Tree, Braces, leaf, indexed, parens, tuple, braced, reduced, chain, none, link, absent, part, filled, valued, priced, Phrase, unsaid, Declaration, set, check, node, arc, objective}
-use Rattle.net_fault.specs.declared.defect.Defect.TheVariants as defects
-use Rattle.net_resolve.specs.Told.{Fault}
+use Rattle.net_fault.specs.declared.error_code.ErrorCode.TheVariants as error_codes
+use Rattle.net_resolve.specs.Reported.{Fault}
 use Rattle.net_resolve.specs.Names.{names_fault}
 
 -- a token at a place
@@ -93,13 +93,13 @@ abbrev fine : Option Fault
 fine = None
 
 abbrev undeclared : List ℕ → ℕ → Option Fault
-undeclared t n = Some (defects.Undeclared, name t n)
+undeclared t n = Some (error_codes.Undeclared, name t n)
 
 abbrev redeclared : List ℕ → ℕ → Option Fault
-redeclared t n = Some (defects.Redeclared, name t n)
+redeclared t n = Some (error_codes.Redeclared, name t n)
 
 abbrev left_out : List ℕ → ℕ → Option Fault
-left_out t n = Some (defects.LeftOut, name t n)
+left_out t n = Some (error_codes.LeftOut, name t n)
 
 -- set A; check {i in A}: i; set i;     a dummy may have a name that is declared later
 later_declared : first (a_set (codes "A") 1 ∷ checks (braces (is_in (named (codes "i") 2) (named (codes "A") 3))) (named (codes "i") 4) ∷ a_set (codes "i") 5 ∷ []) ≡ fine
@@ -182,9 +182,9 @@ unfolding role_of marks keys operation operations
 set_as_left = refl
 
 -- set A; check {i in A: i}: (sum {j in A} j) + j;     a dummy of a reduction ends with what is added up
-behind_sum : first (a_set (codes "A") 1 ∷ checks (where_ (is_in (named (codes "i") 2) (named (codes "A") 3)) (named (codes "i") 4)) (plus (reduced mark (braces (is_in (named (codes "j") 5) (named (codes "A") 6))) (named (codes "j") 7)) (named (codes "j") 8)) ∷ []) ≡ undeclared (codes "j") 8
+after_sum : first (a_set (codes "A") 1 ∷ checks (where_ (is_in (named (codes "i") 2) (named (codes "A") 3)) (named (codes "i") 4)) (plus (reduced mark (braces (is_in (named (codes "j") 5) (named (codes "A") 6))) (named (codes "j") 7)) (named (codes "j") 8)) ∷ []) ≡ undeclared (codes "j") 8
 unfolding role_of marks keys operation operations
-behind_sum = refl
+after_sum = refl
 
 -- node N; arc X from N; minimize C: X;     arcs may stand in objectives
 arc_in_objective : first (a_node (codes "N") 1 ∷ an_arc (codes "X") 2 (from (named (codes "N") 3)) ∷ goal_of (codes "C") 4 (named (codes "X") 5) ∷ []) ≡ fine

@@ -5,7 +5,7 @@ use Rattle.net_lex.specs.declared.token.Token.{Token}
 use Rattle.net_tree.specs.Tree.{Declaration}
 use Rattle.net_resolve.specs.declared.meaning.Meaning.{Meaning}
 use Rattle.net_resolve.specs.Scopes.{Name, Scope, meaning_in}
-use Rattle.net_resolve.specs.Told.{Fault, first}
+use Rattle.net_resolve.specs.Reported.{Fault, first}
 use Rattle.net_resolve.specs.Names.{declaration_fault, declared, with_declared, with_declaration, declared_by, names_fault}
 use Rattle.net_resolve.proofs.Keeping.{else_in, meaning_in-append}
 use Rattle.net_resolve.proofs.Walking.{Begins, begins_same, begins_trans, taken_back}
@@ -14,14 +14,14 @@ none_first : (f g : Option Fault) → first f g ≡ None → f ≡ None
 none_first None g h = refl
 none_first (Some f) g h = cc
 
-none_behind : (f g : Option Fault) → first f g ≡ None → g ≡ None
-none_behind None g h = h
-none_behind (Some f) g h = cc
+none_after : (f g : Option Fault) → first f g ≡ None → g ≡ None
+none_after None g h = h
+none_after (Some f) g h = cc
 
 pub each_named : (s : Scope) (done rest : List Declaration) (d : Declaration) → names_fault s (done ++ d ∷ rest) ≡ None → declaration_fault (declared_by s done) d ≡ None
 each_named s [] rest d h = none_first (declaration_fault s d) (names_fault (with_declaration s d) rest) h
 each_named s (x ∷ done) rest d h =
-    each_named (with_declaration s x) done rest d (none_behind (declaration_fault s x) (names_fault (with_declaration s x) (done ++ d ∷ rest)) h)
+    each_named (with_declaration s x) done rest d (none_after (declaration_fault s x) (names_fault (with_declaration s x) (done ++ d ∷ rest)) h)
 
 declared_begins : (s : Scope) (o : Option (Token × Meaning)) → Begins s (with_declared s o)
 declared_begins s None = begins_same s
@@ -31,13 +31,13 @@ all_begin : (s : Scope) (ds : List Declaration) → Begins s (declared_by s ds)
 all_begin s [] = begins_same s
 all_begin s (d ∷ ds) = begins_trans s (with_declaration s d) (declared_by (with_declaration s d) ds) (declared_begins s (declared d)) (all_begin (with_declaration s d) ds)
 
-behind_others : (s : Scope) (done rest : List Declaration) → declared_by s (done ++ rest) ≡ declared_by (declared_by s done) rest
-behind_others s [] rest = refl
-behind_others s (d ∷ done) rest = behind_others (with_declaration s d) done rest
+after_others : (s : Scope) (done rest : List Declaration) → declared_by s (done ++ rest) ≡ declared_by (declared_by s done) rest
+after_others s [] rest = refl
+after_others s (d ∷ done) rest = after_others (with_declaration s d) done rest
 
 pub front_named : (s : Scope) (done rest : List Declaration) → take (length (declared_by s done)) (declared_by s (done ++ rest)) ≡ declared_by s done
 front_named s done rest =
-    ap (take (length (declared_by s done))) (behind_others s done rest)
+    ap (take (length (declared_by s done))) (after_others s done rest)
     ∙ taken_back (declared_by s done) (declared_by (declared_by s done) rest) (all_begin (declared_by s done) rest)
 
 none_in_both : (name : Name) (r : Scope) (o : Option Meaning) → is_none (else_in name r o) ≡ (is_none o && is_none (meaning_in name r))

@@ -9,7 +9,7 @@ use Rattle.std.proofs.lemmas.Slice.Eq.{bytes_eq-Decides}
 use denote.Ref.{Bor}
 use Rattle.net_resolve.specs.declared.meaning.Meaning.{Meaning}
 use Rattle.net_resolve.specs.Scopes.{Name, Scope, meaning_in}
-use Rattle.net_resolve.specs.Kept.{told, AreDistinct, IsKept}
+use Rattle.net_resolve.specs.Consistent.{reported, AreDistinct, IsConsistent}
 
 -- behind a scope come other names
 abbrev pub else_in : Name → Scope → Option Meaning → Option Meaning
@@ -51,27 +51,27 @@ not_first n q m o false e h = other (bytes_eq q n) refl
         cc
     other false f = f
 
-behind_first : (n q : Name) (m : Meaning) (o : Option Meaning) (b : Bool) → at_first b m o ≡ None → o ≡ None
-behind_first n q m o true h = cc
-behind_first n q m o false h = h
+after_first : (n q : Name) (m : Meaning) (o : Option Meaning) (b : Bool) → at_first b m o ≡ None → o ≡ None
+after_first n q m o true h = cc
+after_first n q m o false h = h
 
 distinct_more : (s : Scope) (n : Name) (k : Meaning) → AreDistinct s → meaning_in n s ≡ None → AreDistinct (s ++ (n, k) ∷ [])
 distinct_more [] n k d h = (refl, tt)
 distinct_more (e ∷ s) n k d h =
     let other : bytes_eq n e.0 ≡ false = not_first e.0 n e.1 (meaning_in n s) (bytes_eq e.0 n) refl h in
-    let gone : meaning_in n s ≡ None = behind_first e.0 n e.1 (meaning_in n s) (bytes_eq e.0 n) h in
+    let gone : meaning_in n s ≡ None = after_first e.0 n e.1 (meaning_in n s) (bytes_eq e.0 n) h in
     (meaning_in-append e.0 s ((n, k) ∷ []) ∙ ap (else_in e.0 ((n, k) ∷ [])) d.0 ∙ ap (λ b. at_first b k None) other, distinct_more s n k d.1 gone)
 
-pub kept_more : (s : Scope) (n : Name) (k : Meaning) (old new : BTreeMap (Bor Name) Meaning) → IsKept s old → meaning_in n s ≡ None
-    → ((q : Name) → told new q ≡ if bytes_eq n q then Some k else told old q) → IsKept (s ++ (n, k) ∷ []) new
+pub kept_more : (s : Scope) (n : Name) (k : Meaning) (old new : BTreeMap (Bor Name) Meaning) → IsConsistent s old → meaning_in n s ≡ None
+    → ((q : Name) → reported new q ≡ if bytes_eq n q then Some k else reported old q) → IsConsistent (s ++ (n, k) ∷ []) new
 kept_more s n k old new i h e = record {
-  tells = λ q. e q ∙ ap (at_first (bytes_eq n q) k) (i.tells q) ∙ one_more n q k s (bytes_eq n q) refl h ∙ sym (meaning_in-append q s ((n, k) ∷ []));
+  reports = λ q. e q ∙ ap (at_first (bytes_eq n q) k) (i.reports q) ∙ one_more n q k s (bytes_eq n q) refl h ∙ sym (meaning_in-append q s ((n, k) ∷ []));
   distinct = distinct_more s n k i.distinct h;
 }
 
 -- the map as it was
-pub kept_same : (s : Scope) (old new : BTreeMap (Bor Name) Meaning) → IsKept s old → ((q : Name) → told new q ≡ told old q) → IsKept s new
-kept_same s old new i e = record { tells = λ q. e q ∙ i.tells q; distinct = i.distinct }
+pub kept_same : (s : Scope) (old new : BTreeMap (Bor Name) Meaning) → IsConsistent s old → ((q : Name) → reported new q ≡ reported old q) → IsConsistent s new
+kept_same s old new i e = record { reports = λ q. e q ∙ i.reports q; distinct = i.distinct }
 
 take_whole : {A : Type 0} (s : List A) → take (length s) s ≡ s
 take_whole [] = refl
@@ -103,18 +103,18 @@ apart q (e ∷ t) r d h = here (bytes_eq e.0 q) refl (apart q t r d.1 h)
         cc
     here false f none = none
 
-pub kept_first : (s : Scope) (n : ℕ) (old new : BTreeMap (Bor Name) Meaning) → IsKept s old
-    → ((q : Name) → told new q ≡ if is_some (meaning_in q (drop n s)) then None else told old q) → IsKept (take n s) new
+pub kept_first : (s : Scope) (n : ℕ) (old new : BTreeMap (Bor Name) Meaning) → IsConsistent s old
+    → ((q : Name) → reported new q ≡ if is_some (meaning_in q (drop n s)) then None else reported old q) → IsConsistent (take n s) new
 kept_first s n old new i e =
     let whole : take n s ++ drop n s ≡ s = take-append-drop n s in
     let d : AreDistinct (take n s ++ drop n s) = subst AreDistinct (sym whole) i.distinct in
     record {
-      tells = λ q. e q ∙ left (is_some (meaning_in q (drop n s))) q d refl (i.tells q ∙ ap (meaning_in q) (sym whole) ∙ meaning_in-append q (take n s) (drop n s));
+      reports = λ q. e q ∙ left (is_some (meaning_in q (drop n s))) q d refl (i.reports q ∙ ap (meaning_in q) (sym whole) ∙ meaning_in-append q (take n s) (drop n s));
       distinct = first_distinct (take n s) (drop n s) d;
     }
   where
     left : (b : Bool) (q : Name) → AreDistinct (take n s ++ drop n s) → is_some (meaning_in q (drop n s)) ≡ b
-        → told old q ≡ else_in q (drop n s) (meaning_in q (take n s)) → (if b then None else told old q) ≡ meaning_in q (take n s)
+        → reported old q ≡ else_in q (drop n s) (meaning_in q (take n s)) → (if b then None else reported old q) ≡ meaning_in q (take n s)
     left true q d h f = sym (apart q (take n s) (drop n s) d h)
     left false q d h f = f ∙ else_none q (drop n s) (meaning_in q (take n s)) (nothing (meaning_in q (drop n s)) h)
       where

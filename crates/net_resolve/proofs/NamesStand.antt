@@ -1,7 +1,7 @@
 -- What is wrong with names stands at one of them.
 use Rattle.std.specs.Prelude.{◌≡◌, ℕ, Bool, true, false, List, [], ◌∷◌, Option, None, Some, is_some, if◌then◌else◌, ⊤}
 use Rattle.net_fault.specs.declared.span.Span.{Span}
-use Rattle.net_fault.specs.declared.defect.Defect.{Defect}
+use Rattle.net_fault.specs.declared.error_code.ErrorCode.{ErrorCode}
 use Rattle.net_lex.specs.declared.token.Token.{Token}
 use Rattle.net_tree.specs.declared.role.Role.{Role}
 use Rattle.net_tree.specs.Role.{role_of, is_name}
@@ -10,11 +10,11 @@ use Rattle.net_resolve.specs.declared.meaning.Meaning.{Meaning}
 use Rattle.net_resolve.specs.declared.meaning.Need.{Need}
 use Rattle.net_resolve.specs.declared.meaning.Need.TheVariants as needs
 use Rattle.net_resolve.specs.Dummies.{sides, is_new, with_component, with_item, with_items, with_braces, with_indexing}
-use Rattle.net_resolve.specs.Meanings.{in_subscripts, defect_of}
-use Rattle.net_resolve.specs.Names.{is_tuple, tree_fault, links_fault, part_fault, braces_fault, items_fault, placed_fault, components_fault, further_fault, indexing_fault, need_behind, body_fault, phrases_fault, condition_fault, declaration_fault, with_declaration, names_fault}
+use Rattle.net_resolve.specs.Meanings.{in_subscripts, error_code_of}
+use Rattle.net_resolve.specs.Names.{is_tuple, tree_fault, links_fault, part_fault, braces_fault, items_fault, placed_fault, components_fault, further_fault, indexing_fault, need_after, body_fault, phrases_fault, condition_fault, declaration_fault, with_declaration, names_fault}
 use Rattle.net_resolve.specs.Scopes.{Scope, meaning_in}
-use Rattle.net_resolve.specs.Told.{Fault, first, at_name, name_fault, declared_before}
-use Rattle.net_tree.specs.Standing.{Stands, LinksStand, PartStands, BracesStand, IndexingStands, BodyStands, PhrasesStand, ConditionStands, DeclarationStands, DeclarationsStand}
+use Rattle.net_resolve.specs.Reported.{Fault, first, at_name, name_fault, declared_before}
+use Rattle.net_tree.specs.Standing.{Stands, LinksStand, PartStands, BracesStand, IndexingHasSpans, BodyHasSpans, PhrasesHaveSpans, ConditionHasSpans, DeclarationHasSpans, DeclarationsHaveSpans}
 
 -- the name with the fault, if there is one, stands at one of the places
 abbrev pub FaultStands : (Span → Type 0) → Option Fault → Type 0
@@ -30,12 +30,12 @@ module _ (P : Span → Type 0) where
   if_stands true f g h k = h
   if_stands false f g h k = k
 
-  at_stands : (d : Option Defect) (t : Token) → P t.span → FaultStands P (at_name d t)
+  at_stands : (d : Option ErrorCode) (t : Token) → P t.span → FaultStands P (at_name d t)
   at_stands None t h = tt
   at_stands (Some d) t h = h
 
   name_stands : (n : Need) (s : Scope) (t : Token) → P t.span → FaultStands P (name_fault n s t)
-  name_stands n s t h = at_stands (defect_of n (meaning_in t.text s)) t h
+  name_stands n s t h = at_stands (error_code_of n (meaning_in t.text s)) t h
 
   declared_stands : (m : Option Meaning) (t : Token) → P t.span → FaultStands P (declared_before m t)
   declared_stands None t h = tt
@@ -115,27 +115,27 @@ module _ (P : Span → Type 0) where
     further_stand n s (link o x l) (h, k) =
         first_stands (if is_new s x then None else tree_fault n s x) _ (if_stands (is_new s x) _ (tree_fault n s x) tt (tree_stands n s x h)) (further_stand n (with_component s x) l k)
 
-  indexing_stands : (s : Scope) (b : Option Braces) → IndexingStands P b → FaultStands P (indexing_fault s b)
+  indexing_stands : (s : Scope) (b : Option Braces) → IndexingHasSpans P b → FaultStands P (indexing_fault s b)
   indexing_stands s None h = tt
   indexing_stands s (Some b) h = braces_stand needs.Value s b h
 
-  body_stands : (n : Need) (s : Scope) (b : Body) → BodyStands P b → FaultStands P (body_fault n s b)
+  body_stands : (n : Need) (s : Scope) (b : Body) → BodyHasSpans P b → FaultStands P (body_fault n s b)
   body_stands n s plain h = tt
   body_stands n s (valued x) h = tree_stands n s x h
   body_stands n s (priced t x) h = first_stands (name_fault needs.Objective s t) _ (name_stands needs.Objective s t h.0) (tree_stands needs.Value s x h.1)
 
-  phrases_stand : (s : Scope) (ps : List Phrase) → PhrasesStand P ps → FaultStands P (phrases_fault s ps)
+  phrases_stand : (s : Scope) (ps : List Phrase) → PhrasesHaveSpans P ps → FaultStands P (phrases_fault s ps)
   phrases_stand s [] h = tt
-  phrases_stand s (p ∷ ps) h = first_stands (body_fault (need_behind (role_of p.word)) s p.body) _ (body_stands (need_behind (role_of p.word)) s p.body h.1) (phrases_stand s ps h.2)
+  phrases_stand s (p ∷ ps) h = first_stands (body_fault (need_after (role_of p.word)) s p.body) _ (body_stands (need_after (role_of p.word)) s p.body h.1) (phrases_stand s ps h.2)
 
-  condition_stands : (s : Scope) (c : Condition) → ConditionStands P c → FaultStands P (condition_fault s c)
+  condition_stands : (s : Scope) (c : Condition) → ConditionHasSpans P c → FaultStands P (condition_fault s c)
   condition_stands s unsaid h = tt
   condition_stands s (one m x o y) h = first_stands (tree_fault needs.Value s x) _ (tree_stands needs.Value s x h.1) (tree_stands needs.Value s y h.2)
   condition_stands s (between m x o y p z) h =
       first_stands (tree_fault needs.Value s x) _ (tree_stands needs.Value s x h.1)
       (first_stands (tree_fault needs.Value s y) _ (tree_stands needs.Value s y h.2) (tree_stands needs.Value s z h.3))
 
-  declaration_stands : (s : Scope) (d : Declaration) → DeclarationStands P d → FaultStands P (declaration_fault s d)
+  declaration_stands : (s : Scope) (d : Declaration) → DeclarationHasSpans P d → FaultStands P (declaration_fault s d)
   declaration_stands s (set w t ps e) h = first_stands (declared_before (meaning_in t.text s) t) _ (declared_stands (meaning_in t.text s) t h.0) (phrases_stand s ps h.1)
   declaration_stands s (param w t b ps e) h =
       first_stands (declared_before (meaning_in t.text s) t) _ (declared_stands (meaning_in t.text s) t h.0)
@@ -149,6 +149,6 @@ module _ (P : Span → Type 0) where
       (first_stands (indexing_fault s b) _ (indexing_stands s b h.1) (phrases_stand (with_indexing s b) ps h.2))
   declaration_stands s (objective w t p e) h = first_stands (declared_before (meaning_in t.text s) t) _ (declared_stands (meaning_in t.text s) t h.0) (part_stands needs.Total s p h.1)
 
-  pub names_stand : (s : Scope) (ds : List Declaration) → DeclarationsStand P ds → FaultStands P (names_fault s ds)
+  pub names_stand : (s : Scope) (ds : List Declaration) → DeclarationsHaveSpans P ds → FaultStands P (names_fault s ds)
   names_stand s [] h = tt
   names_stand s (d ∷ ds) h = first_stands (declaration_fault s d) _ (declaration_stands s d h.0) (names_stand (with_declaration s d) ds h.1)

@@ -14,9 +14,9 @@ use Rattle.net_resolve.specs.declared.meaning.Need.{Need}
 use Rattle.net_resolve.specs.declared.fault.NameFault.{NameFault}
 use Rattle.net_resolve.specs.declared.fault.NameFault.TheVariants as faults
 use Rattle.net_resolve.specs.Scopes.{Scope, meaning_in, with_name}
-use Rattle.net_resolve.specs.Told.{Fault, first, Tells}
+use Rattle.net_resolve.specs.Reported.{Fault, first, Reports}
 use Rattle.net_tree.proofs.Items.{behind}
-use Rattle.net_tree.specs.Items.{is_in, both, sides, lone_name}
+use Rattle.net_tree.specs.Items.{is_in, both, sides, single_name}
 use Rattle.net_tree.specs.Operations.{operation}
 use Rattle.net_resolve.specs.Dummies.{with_component, with_components, with_left, with_sides, with_item, with_items, with_braces, with_bare}
 use Rattle.net_resolve.specs.Names.{tree_fault, links_fault, items_fault, further_fault, part_fault, placed_fault, components_fault, braces_fault, is_tuple}
@@ -61,7 +61,7 @@ bare_begins s (Some t) = go (is_none (meaning_in t.text s))
     go false = begins_same s
 
 component_begins : (s : Scope) (x : Tree) → Begins s (with_component s x)
-component_begins s x = bare_begins s (lone_name x)
+component_begins s x = bare_begins s (single_name x)
 
 components_begin : (s : Scope) (l : Links) → Begins s (with_components s l)
 components_begin s none = begins_same s
@@ -110,15 +110,15 @@ sides_lighter (chain k x (link r y none)) p h = go (is_in (operation r)) h
 sides_lighter _ p h = cc
 
 -- the first fault of two, where the first has one, and where it has none
-pub tells_first : (f g : Option Fault) (e : NameFault) → Tells f (Err e) → Tells (first f g) (Err e)
-tells_first f g faults.OutOfMemory h = tt
-tells_first f g (faults.At d t) h = ap (λ k. first k g) h
+pub reports_first : (f g : Option Fault) (e : NameFault) → Reports f (Err e) → Reports (first f g) (Err e)
+reports_first f g faults.OutOfMemory h = tt
+reports_first f g (faults.At d t) h = ap (λ k. first k g) h
 
-pub tells_behind : (f g : Option Fault) (r : Result (Unit {0}) NameFault) → f ≡ None → Tells g r → Tells (first f g) r
-tells_behind f g r e h = subst (λ k. Tells (first k g) r) (sym e) h
+pub reports_after : (f g : Option Fault) (r : Result (Unit {0}) NameFault) → f ≡ None → Reports g r → Reports (first f g) r
+reports_after f g r e h = subst (λ k. Reports (first k g) r) (sym e) h
 
-pub tells_by : (f g : Option Fault) (r : Result (Unit {0}) NameFault) → f ≡ g → Tells g r → Tells f r
-tells_by f g r e h = subst (λ k. Tells k r) (sym e) h
+pub reports_by : (f g : Option Fault) (r : Result (Unit {0}) NameFault) → f ≡ g → Reports g r → Reports f r
+reports_by f g r e h = subst (λ k. Reports k r) (sym e) h
 
 -- a link weighs less than all of them
 pub link_lighter : (ls : List Link) (i : ℕ) (l : Link) → i < length ls → l ≡ get_or ls i l → weight (tree (out-Link l).operand) < weights (links_of ls)
@@ -144,10 +144,10 @@ pub components_left : (n : Need) (s : Scope) (ls : List Link) (i : ℕ) (l : Lin
     → first (component_fault n s (tree (out-Link l).operand)) (further_fault n (with_component s (tree (out-Link l).operand)) (links_of (drop (i + 1) ls))) ≡ whole
 components_left n s ls i l whole h e before = sym (ap (further_fault n s) (next_link ls i l h e)) ∙ before
 
-pub behind_none : (f g whole : Option Fault) → first f g ≡ whole → f ≡ None → g ≡ whole
-behind_none f g whole e h = sym (ap (λ k. first k g) h) ∙ e
+pub after_none : (f g whole : Option Fault) → first f g ≡ whole → f ≡ None → g ≡ whole
+after_none f g whole e h = sym (ap (λ k. first k g) h) ∙ e
 
-pub stops_first : (f g whole : Option Fault) (e : NameFault) → first f g ≡ whole → Tells f (Err e) → Tells whole (Err e)
-stops_first f g whole e h told = tells_by whole (first f g) (Err e) (sym h) (tells_first f g e told)
+pub stops_first : (f g whole : Option Fault) (e : NameFault) → first f g ≡ whole → Reports f (Err e) → Reports whole (Err e)
+stops_first f g whole e h reported = reports_by whole (first f g) (Err e) (sym h) (reports_first f g e reported)
 
-pub ruleset walking = (item_is, braces-items, forgotten_braces, forgotten_components, sides_lighter, tells_first, tells_behind, tells_by)
+pub ruleset walking = (item_is, braces-items, forgotten_braces, forgotten_components, sides_lighter, reports_first, reports_after, reports_by)

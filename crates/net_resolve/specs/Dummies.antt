@@ -2,7 +2,7 @@
 use Rattle.std.specs.Prelude.{Bool, false, Option, None, Some, is_none, if◌then◌else◌}
 use Rattle.net_lex.specs.declared.token.Token.{Token}
 pub use Rattle.net_tree.specs.Items.{sides}
-use Rattle.net_tree.specs.Items.{lone_name}
+use Rattle.net_tree.specs.Items.{single_name}
 use Rattle.net_tree.specs.Tree.{Tree, tuple, Links, none, link, Braces, empty, filled}
 use Rattle.net_resolve.specs.declared.meaning.Meaning.TheVariants as meanings
 use Rattle.net_resolve.specs.Scopes.{Scope, meaning_in, with_name}
@@ -13,7 +13,7 @@ means_nothing s (Some t) = is_none (meaning_in t.text s)
 
 -- a simple name that is not declared
 abbrev pub is_new : Scope → Tree → Bool
-is_new s x = means_nothing s (lone_name x)
+is_new s x = means_nothing s (single_name x)
 
 abbrev pub with_bare : Scope → Option Token → Scope
 with_bare s None = s
@@ -21,7 +21,7 @@ with_bare s (Some t) = if is_none (meaning_in t.text s) then with_name s t meani
 
 -- adds a simple name that is not declared as a dummy: the left side of `in`, or a component of it
 abbrev pub with_component : Scope → Tree → Scope
-with_component s x = with_bare s (lone_name x)
+with_component s x = with_bare s (single_name x)
 
 abbrev pub with_components : Scope → Links → Scope
 with_components s none = s

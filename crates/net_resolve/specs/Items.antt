@@ -3,7 +3,7 @@ use Rattle.std.specs.Prelude.{Option, None, Some, if◌then◌else◌}
 use Rattle.net_tree.specs.Tree.{Tree, Links, Part, Declaration, set, param, check, node, arc, objective}
 use Rattle.net_resolve.specs.declared.meaning.Need.{Need}
 use Rattle.net_resolve.specs.Scopes.{Scope}
-use Rattle.net_resolve.specs.Told.{Fault, first}
+use Rattle.net_resolve.specs.Reported.{Fault, first}
 use Rattle.net_resolve.specs.Dummies.{sides, is_new, with_item, with_items, with_indexing}
 use Rattle.net_resolve.specs.Names.{tree_fault, components_fault, items_fault, part_fault, is_tuple}
 

@@ -1,7 +1,7 @@
 pub mod Meanings
 pub mod Scopes
-pub mod Kept
-pub mod Told
+pub mod Consistent
+pub mod Reported
 pub mod Dummies
 pub mod Names
 pub mod Items

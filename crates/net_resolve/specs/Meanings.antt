@@ -4,11 +4,11 @@ use Rattle.net_resolve.specs.declared.meaning.Meaning.{Meaning}
 use Rattle.net_resolve.specs.declared.meaning.Meaning.TheVariants as meanings
 use Rattle.net_resolve.specs.declared.meaning.Need.{Need}
 use Rattle.net_resolve.specs.declared.meaning.Need.TheVariants as needs
-use Rattle.net_fault.specs.declared.defect.Defect.{Defect}
-use Rattle.net_fault.specs.declared.defect.Defect.TheVariants as defects
+use Rattle.net_fault.specs.declared.error_code.ErrorCode.{ErrorCode}
+use Rattle.net_fault.specs.declared.error_code.ErrorCode.TheVariants as error_codes
 
 -- the error of a name with this meaning, if any
-abbrev pub misfit : Need → Meaning → Option Defect
+abbrev pub misfit : Need → Meaning → Option ErrorCode
 misfit needs.Value meanings.Set = None
 misfit needs.Value meanings.Param = None
 misfit needs.Value meanings.Dummy = None
@@ -18,13 +18,13 @@ misfit needs.Total meanings.Dummy = None
 misfit needs.Total meanings.Arc = None
 misfit needs.Node meanings.Node = None
 misfit needs.Objective meanings.Objective = None
-misfit needs.Objective meanings.StatedObjective = Some defects.LeftOut
-misfit _ _ = Some defects.Undeclared
+misfit needs.Objective meanings.StatedObjective = Some error_codes.LeftOut
+misfit _ _ = Some error_codes.Undeclared
 
 -- an undeclared name is an error, whatever is needed
-abbrev pub defect_of : Need → Option Meaning → Option Defect
-defect_of n None = Some defects.Undeclared
-defect_of n (Some m) = misfit n m
+abbrev pub error_code_of : Need → Option Meaning → Option ErrorCode
+error_code_of n None = Some error_codes.Undeclared
+error_code_of n (Some m) = misfit n m
 
 -- the meanings that names in the subscripts of a name can have
 abbrev pub in_subscripts : Need → Need

@@ -12,7 +12,7 @@ use Rattle.net_resolve.specs.declared.meaning.Need.{Need}
 use Rattle.net_resolve.specs.declared.meaning.Need.TheVariants as needs
 use Rattle.net_resolve.specs.Meanings.{in_subscripts}
 use Rattle.net_resolve.specs.Scopes.{Scope, meaning_in, with_name}
-use Rattle.net_resolve.specs.Told.{Fault, first, name_fault, declared_before}
+use Rattle.net_resolve.specs.Reported.{Fault, first, name_fault, declared_before}
 use Rattle.net_resolve.specs.Dummies.{sides, is_new, with_component, with_item, with_items, with_braces, with_indexing}
 
 abbrev pub is_tuple : Tree → Bool
@@ -73,10 +73,10 @@ indexing_fault s None = None
 indexing_fault s (Some b) = braces_fault needs.Value s b
 
 -- the meanings that a name after this keyword can have
-abbrev pub need_behind : Role → Need
-need_behind (roles.Phrase begins.From) = needs.Node
-need_behind (roles.Phrase begins.To) = needs.Node
-need_behind _ = needs.Value
+abbrev pub need_after : Role → Need
+need_after (roles.Phrase begins.From) = needs.Node
+need_after (roles.Phrase begins.To) = needs.Node
+need_after _ = needs.Value
 
 abbrev pub body_fault : Need → Scope → Body → Option Fault
 body_fault n s plain = None
@@ -85,7 +85,7 @@ body_fault n s (priced t x) = first (name_fault needs.Objective s t) (tree_fault
 
 abbrev pub phrases_fault : Scope → List Phrase → Option Fault
 phrases_fault s [] = None
-phrases_fault s (p ∷ ps) = first (body_fault (need_behind (role_of p.word)) s p.body) (phrases_fault s ps)
+phrases_fault s (p ∷ ps) = first (body_fault (need_after (role_of p.word)) s p.body) (phrases_fault s ps)
 
 abbrev pub condition_fault : Scope → Condition → Option Fault
 condition_fault s unsaid = None

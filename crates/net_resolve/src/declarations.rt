@@ -9,14 +9,14 @@ ghost use Rattle.net_resolve.specs.Dummies.{with_indexing};
 ghost use Rattle.net_resolve.specs.Items as items;
 ghost use Rattle.net_resolve.specs.Names as names;
 ghost use Rattle.net_resolve.specs.Scopes as scopes;
-ghost use Rattle.net_resolve.specs.Told.{Tells, TellsOf, declared_before, Decides};
-ghost use Rattle.net_resolve.specs.Told as told;
+ghost use Rattle.net_resolve.specs.Reported.{Reports, ReportsOf, declared_before, Decides};
+ghost use Rattle.net_resolve.specs.Reported as reported;
 
 use crate::expressions::{check, check_name, read_braces};
 use crate::fault::NameFault;
 use crate::meaning::{Meaning, Need};
 use crate::scope::Scope;
-use net_fault::{Defect, Fault};
+use net_fault::{ErrorCode, Fault};
 use net_lex::Token;
 use net_tree::{Begins, Body, Braces, Decl, Expr, Model, NetCond, Part, Phrase, Role, role_of};
 use std::alloc::Global;
@@ -27,7 +27,7 @@ fn check_declared<'s>(scope: &Scope<'s>, name: &Token<'s>) -> Result<(), NameFau
 {
     match scope.meaning(&name.text) {
         None => Ok(()),
-        Some(_) => Err(NameFault::At(Defect::Redeclared, name.again())),
+        Some(_) => Err(NameFault::At(ErrorCode::Redeclared, name.copied())),
     }
 }
 
@@ -36,7 +36,7 @@ fn read_indexing<'s>(
     scope: &mut Scope<'s>,
     indexing: &Option<Braces<'s>>,
 ) -> Result<(), NameFault<'s>>
-    ensures value { Tells (names.indexing_fault scope.old (indexing_of indexing.now)) result }
+    ensures value { Reports (names.indexing_fault scope.old (indexing_of indexing.now)) result }
     ensures grown { OnOk result (scope.new ≡ with_indexing scope.old (indexing_of indexing.now)) }
 {
     match indexing {
@@ -46,8 +46,8 @@ fn read_indexing<'s>(
 }
 
 /// Returns the need for a name after the keyword of a phrase.
-fn need_behind(role: Role) -> Need
-    ensures { result ≡ names.need_behind role }
+fn need_after(role: Role) -> Need
+    ensures { result ≡ names.need_after role }
 {
     match role {
         Role::Phrase(Begins::From | Begins::To) => Need::Node,
@@ -56,7 +56,7 @@ fn need_behind(role: Role) -> Need
 }
 
 fn check_body<'s>(need: Need, scope: &mut Scope<'s>, body: &Body<'s>) -> Result<(), NameFault<'s>>
-    ensures value { Tells (names.body_fault need scope.old (body_of body.now)) result }
+    ensures value { Reports (names.body_fault need scope.old (body_of body.now)) result }
     ensures kept { OnOk result (scope.new ≡ scope.old) }
 {
     match body {
@@ -70,11 +70,11 @@ fn check_body<'s>(need: Need, scope: &mut Scope<'s>, body: &Body<'s>) -> Result<
 }
 
 fn check_phrases<'s>(scope: &mut Scope<'s>, phrases: &[Phrase<'s>]) -> Result<(), NameFault<'s>>
-    ensures value { Tells (names.phrases_fault scope.old (map phrase_of phrases.now)) result }
+    ensures value { Reports (names.phrases_fault scope.old (map phrase_of phrases.now)) result }
     ensures kept { OnOk result (scope.new ≡ scope.old) }
 {
     for phrase in phrases {
-        check_body(need_behind(role_of(&phrase.word)), scope, &phrase.body)?;
+        check_body(need_after(role_of(&phrase.word)), scope, &phrase.body)?;
     }
     Ok(())
 }
@@ -85,7 +85,7 @@ fn check_sides<'s>(
     left: &Expr<'s>,
     right: &Expr<'s>,
 ) -> Result<(), NameFault<'s>>
-    ensures value { Tells (told.first (names.tree_fault needs.Value scope.old (view.tree left.now))
+    ensures value { Reports (reported.first (names.tree_fault needs.Value scope.old (view.tree left.now))
         (names.tree_fault needs.Value scope.old (view.tree right.now))) result }
     ensures kept { OnOk result (scope.new ≡ scope.old) }
 {
@@ -100,8 +100,8 @@ fn check_between<'s>(
     middle: &Expr<'s>,
     high: &Expr<'s>,
 ) -> Result<(), NameFault<'s>>
-    ensures value { Tells (told.first (names.tree_fault needs.Value scope.old (view.tree low.now))
-        (told.first (names.tree_fault needs.Value scope.old (view.tree middle.now)) (names.tree_fault needs.Value scope.old (view.tree high.now)))) result }
+    ensures value { Reports (reported.first (names.tree_fault needs.Value scope.old (view.tree low.now))
+        (reported.first (names.tree_fault needs.Value scope.old (view.tree middle.now)) (names.tree_fault needs.Value scope.old (view.tree high.now)))) result }
     ensures kept { OnOk result (scope.new ≡ scope.old) }
 {
     check(Need::Value, scope, low)?;
@@ -110,7 +110,7 @@ fn check_between<'s>(
 
 /// Checks the condition of a node's net flow.
 fn check_condition<'s>(scope: &mut Scope<'s>, condition: &NetCond<'s>) -> Result<(), NameFault<'s>>
-    ensures value { Tells (names.condition_fault scope.old (condition_of condition.now)) result }
+    ensures value { Reports (names.condition_fault scope.old (condition_of condition.now)) result }
     ensures kept { OnOk result (scope.new ≡ scope.old) }
 {
     match condition {
@@ -127,8 +127,8 @@ fn read_phrased<'s>(
     indexing: &Option<Braces<'s>>,
     phrases: &[Phrase<'s>],
 ) -> Result<(), NameFault<'s>>
-    ensures value { Tells (told.first (declared_before (scopes.meaning_in name.now.text scope.old) name.now)
-        (told.first (names.indexing_fault scope.old (indexing_of indexing.now))
+    ensures value { Reports (reported.first (declared_before (scopes.meaning_in name.now.text scope.old) name.now)
+        (reported.first (names.indexing_fault scope.old (indexing_of indexing.now))
         (names.phrases_fault (with_indexing scope.old (indexing_of indexing.now)) (map phrase_of phrases.now)))) result }
     ensures grown { OnOk result (scope.new ≡ with_indexing scope.old (indexing_of indexing.now)) }
 {
@@ -144,8 +144,8 @@ fn read_node<'s>(
     indexing: &Option<Braces<'s>>,
     condition: &NetCond<'s>,
 ) -> Result<(), NameFault<'s>>
-    ensures value { Tells (told.first (declared_before (scopes.meaning_in node.now.text scope.old) node.now)
-        (told.first (names.indexing_fault scope.old (indexing_of indexing.now))
+    ensures value { Reports (reported.first (declared_before (scopes.meaning_in node.now.text scope.old) node.now)
+        (reported.first (names.indexing_fault scope.old (indexing_of indexing.now))
         (names.condition_fault (with_indexing scope.old (indexing_of indexing.now)) (condition_of condition.now)))) result }
     ensures grown { OnOk result (scope.new ≡ with_indexing scope.old (indexing_of indexing.now)) }
 {
@@ -160,7 +160,7 @@ fn read_check<'s>(
     indexing: &Option<Braces<'s>>,
     condition: &Expr<'s>,
 ) -> Result<(), NameFault<'s>>
-    ensures value { Tells (told.first (names.indexing_fault scope.old (indexing_of indexing.now))
+    ensures value { Reports (reported.first (names.indexing_fault scope.old (indexing_of indexing.now))
         (names.tree_fault needs.Value (with_indexing scope.old (indexing_of indexing.now)) (view.tree condition.now))) result }
     ensures grown { OnOk result (scope.new ≡ with_indexing scope.old (indexing_of indexing.now)) }
 {
@@ -173,7 +173,7 @@ fn check_set<'s>(
     set: &Token<'s>,
     phrases: &[Phrase<'s>],
 ) -> Result<(), NameFault<'s>>
-    ensures value { Tells (told.first (declared_before (scopes.meaning_in set.now.text scope.old) set.now)
+    ensures value { Reports (reported.first (declared_before (scopes.meaning_in set.now.text scope.old) set.now)
         (names.phrases_fault scope.old (map phrase_of phrases.now))) result }
     ensures kept { OnOk result (scope.new ≡ scope.old) }
 {
@@ -184,7 +184,7 @@ fn check_set<'s>(
 /// Checks the expression of an objective.
 #[tactic(auto, using(net_tree::proofs::Views::views, crate::proofs::Walking::walking))]
 fn check_stated<'s>(scope: &mut Scope<'s>, value: &Option<Part<'s>>) -> Result<(), NameFault<'s>>
-    ensures value { Tells (names.part_fault needs.Total scope.old (option_part value.now)) result }
+    ensures value { Reports (names.part_fault needs.Total scope.old (option_part value.now)) result }
     ensures kept { OnOk result (scope.new ≡ scope.old) }
 {
     match value {
@@ -198,7 +198,7 @@ fn check_objective<'s>(
     objective: &Token<'s>,
     value: &Option<Part<'s>>,
 ) -> Result<(), NameFault<'s>>
-    ensures value { Tells (told.first (declared_before (scopes.meaning_in objective.now.text scope.old) objective.now)
+    ensures value { Reports (reported.first (declared_before (scopes.meaning_in objective.now.text scope.old) objective.now)
         (names.part_fault needs.Total scope.old (option_part value.now))) result }
     ensures kept { OnOk result (scope.new ≡ scope.old) }
 {
@@ -208,7 +208,7 @@ fn check_objective<'s>(
 
 /// Checks a declaration, and adds its dummies to the scope.
 fn read_declaration<'s>(scope: &mut Scope<'s>, declaration: &Decl<'s>) -> Result<(), NameFault<'s>>
-    ensures value { Tells (names.declaration_fault scope.old (declaration_of declaration.now)) result }
+    ensures value { Reports (names.declaration_fault scope.old (declaration_of declaration.now)) result }
     ensures grown { OnOk result (scope.new ≡ items.with_dummies scope.old (declaration_of declaration.now)) }
 {
     match declaration {
@@ -246,12 +246,12 @@ fn declared<'a, 's>(declaration: &'a Decl<'s>) -> Option<(&'a Token<'s>, Meaning
 
 /// Checks a declaration, and adds the name that it declares to the scope.
 fn check_declaration<'s>(scope: &mut Scope<'s>, declaration: &Decl<'s>) -> Result<(), NameFault<'s>>
-    ensures value { Tells (names.declaration_fault scope.old (declaration_of declaration.now)) result }
+    ensures value { Reports (names.declaration_fault scope.old (declaration_of declaration.now)) result }
     ensures grown { OnOk result (scope.new ≡ names.with_declaration scope.old (declaration_of declaration.now)) }
 {
     let known = scope.len();
     read_declaration(scope, declaration)?;
-    scope.forget_behind(known);
+    scope.forget_after(known);
     match declared(declaration) {
         None => Ok(()),
         Some((name, meaning)) => {
@@ -265,7 +265,7 @@ fn check_declarations<'s>(
     scope: &mut Scope<'s>,
     declarations: &[Decl<'s>],
 ) -> Result<(), NameFault<'s>>
-    ensures { Tells (names.names_fault scope.old (map declaration_of declarations.now)) result }
+    ensures { Reports (names.names_fault scope.old (map declaration_of declarations.now)) result }
 {
     for declaration in declarations {
         check_declaration(scope, declaration)?;
@@ -280,11 +280,11 @@ fn check_declarations<'s>(
 /// names, times the logarithm of the number of names in scope. Stack use grows only with the depth
 /// of the trees.
 pub fn check_names(alloc: Global, model: &Model<'_>) -> Result<(), Fault>
-    ensures { TellsOf (names.names_fault [] (view.model model.now)) result }
+    ensures { ReportsOf (names.names_fault [] (view.model model.now)) result }
 {
     let mut scope = Scope::new(alloc);
     match check_declarations(&mut scope, model.declarations.as_slice()) {
         Ok(()) => Ok(()),
-        Err(fault) => Err(fault.told(alloc)),
+        Err(fault) => Err(fault.reported(alloc)),
     }
 }

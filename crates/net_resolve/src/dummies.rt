@@ -6,14 +6,14 @@ ghost use Rattle.net_resolve.specs.Dummies as dummies;
 
 use crate::meaning::Meaning;
 use crate::scope::Scope;
-use net_tree::{Expr, Link, lone_name};
+use net_tree::{Expr, Link, single_name};
 use std::alloc::AllocError;
 
 /// Returns whether a component is a simple name that is not declared.
 pub(crate) fn is_new<'s>(scope: &Scope<'s>, component: &Expr<'s>) -> bool
     ensures { result ≡ dummies.is_new scope.now (tree component.now) }
 {
-    match lone_name(component) {
+    match single_name(component) {
         None => false,
         Some(name) => scope.meaning(&name.text).is_none(),
     }
@@ -26,7 +26,7 @@ pub(crate) fn add_component<'s>(
 ) -> Result<(), AllocError>
     ensures { OnOk result (scope.new ≡ dummies.with_component scope.old (tree component.now)) }
 {
-    match lone_name(component) {
+    match single_name(component) {
         None => Ok(()),
         Some(name) => {
             if scope.meaning(&name.text).is_none() {

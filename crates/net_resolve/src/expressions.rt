@@ -7,15 +7,15 @@ ghost use Rattle.net_resolve.specs.Dummies as dummies;
 ghost use Rattle.net_resolve.specs.Items as items;
 ghost use Rattle.net_resolve.specs.Meanings.{in_subscripts};
 ghost use Rattle.net_resolve.specs.Names as names;
-ghost use Rattle.net_resolve.specs.Told as told;
-ghost use Rattle.net_resolve.specs.Told.{Tells, name_fault, Decides};
+ghost use Rattle.net_resolve.specs.Reported as reported;
+ghost use Rattle.net_resolve.specs.Reported.{Reports, name_fault, Decides};
 ghost use Rattle.net_tree.specs.Tree as trees;
 
 use crate::dummies::{add_component, add_left, is_new};
 use crate::fault::NameFault;
 use crate::meaning::{Need, in_subscripts, misfit};
 use crate::scope::Scope;
-use net_fault::Defect;
+use net_fault::ErrorCode;
 use net_lex::Token;
 use net_tree::{Braces, Expr, Link, Part, Role, role_of, sides_of};
 use net_views::Boxed;
@@ -29,10 +29,10 @@ pub(crate) fn check_name<'s>(
     ensures { Decides (name_fault need scope.now name.now) result }
 {
     match scope.meaning(&name.text) {
-        None => Err(NameFault::At(Defect::Undeclared, name.again())),
+        None => Err(NameFault::At(ErrorCode::Undeclared, name.copied())),
         Some(meaning) => match misfit(need, meaning) {
             None => Ok(()),
-            Some(defect) => Err(NameFault::At(defect, name.again())),
+            Some(error_code) => Err(NameFault::At(error_code, name.copied())),
         },
     }
 }
@@ -53,7 +53,7 @@ pub(crate) fn check<'s>(
     scope: &mut Scope<'s>,
     expr: &Expr<'s>,
 ) -> Result<(), NameFault<'s>>
-    ensures value { Tells (names.tree_fault need scope.old (tree expr.now)) result }
+    ensures value { Reports (names.tree_fault need scope.old (tree expr.now)) result }
     ensures kept { OnOk result (scope.new ≡ scope.old) }
 {
     match expr {
@@ -95,8 +95,8 @@ fn check_subscripts<'s>(
     first: &Expr<'s>,
     more: &[Link<'s>],
 ) -> Result<(), NameFault<'s>>
-    ensures value { Tells (told.first (name_fault need scope.old name.now)
-        (told.first (names.tree_fault (in_subscripts need) scope.old (tree first.now))
+    ensures value { Reports (reported.first (name_fault need scope.old name.now)
+        (reported.first (names.tree_fault (in_subscripts need) scope.old (tree first.now))
         (names.links_fault (in_subscripts need) scope.old (links_of more.now)))) result }
     ensures kept { OnOk result (scope.new ≡ scope.old) }
 {
@@ -111,7 +111,7 @@ fn check_series<'s>(
     first: &Expr<'s>,
     more: &[Link<'s>],
 ) -> Result<(), NameFault<'s>>
-    ensures value { Tells (told.first (names.tree_fault need scope.old (tree first.now)) (names.links_fault need scope.old (links_of more.now))) result }
+    ensures value { Reports (reported.first (names.tree_fault need scope.old (tree first.now)) (names.links_fault need scope.old (links_of more.now))) result }
     ensures kept { OnOk result (scope.new ≡ scope.old) }
 {
     check(need, scope, first)?;
@@ -124,7 +124,7 @@ fn check_links<'s>(
     scope: &mut Scope<'s>,
     links: &[Link<'s>],
 ) -> Result<(), NameFault<'s>>
-    ensures value { Tells (names.links_fault need scope.old (links_of links.now)) result }
+    ensures value { Reports (names.links_fault need scope.old (links_of links.now)) result }
     ensures kept { OnOk result (scope.new ≡ scope.old) }
 {
     for link in links {
@@ -141,8 +141,8 @@ fn check_choice<'s>(
     branch: &Expr<'s>,
     otherwise: &Option<Boxed<Part<'s>>>,
 ) -> Result<(), NameFault<'s>>
-    ensures value { Tells (told.first (names.tree_fault need scope.old (tree condition.now))
-        (told.first (names.tree_fault need scope.old (tree branch.now)) (names.part_fault need scope.old (option_part otherwise.now)))) result }
+    ensures value { Reports (reported.first (names.tree_fault need scope.old (tree condition.now))
+        (reported.first (names.tree_fault need scope.old (tree branch.now)) (names.part_fault need scope.old (option_part otherwise.now)))) result }
     ensures kept { OnOk result (scope.new ≡ scope.old) }
 {
     check(need, scope, condition)?;
@@ -157,7 +157,7 @@ fn check_part<'s>(
     scope: &mut Scope<'s>,
     part: &Option<Boxed<Part<'s>>>,
 ) -> Result<(), NameFault<'s>>
-    ensures value { Tells (names.part_fault need scope.old (option_part part.now)) result }
+    ensures value { Reports (names.part_fault need scope.old (option_part part.now)) result }
     ensures kept { OnOk result (scope.new ≡ scope.old) }
 {
     match part {
@@ -174,12 +174,12 @@ fn check_braced<'s>(
     scope: &mut Scope<'s>,
     braces: &Braces<'s>,
 ) -> Result<(), NameFault<'s>>
-    ensures value { Tells (names.braces_fault need scope.old (braces_of braces.now)) result }
+    ensures value { Reports (names.braces_fault need scope.old (braces_of braces.now)) result }
     ensures kept { OnOk result (scope.new ≡ scope.old) }
 {
     let known = scope.len();
     read_braces(need, scope, braces)?;
-    scope.forget_behind(known);
+    scope.forget_after(known);
     Ok(())
 }
 
@@ -192,14 +192,14 @@ fn check_reduced<'s>(
     braces: &Braces<'s>,
     body: &Expr<'s>,
 ) -> Result<(), NameFault<'s>>
-    ensures value { Tells (told.first (names.braces_fault need scope.old (braces_of braces.now))
+    ensures value { Reports (reported.first (names.braces_fault need scope.old (braces_of braces.now))
         (names.tree_fault need (dummies.with_braces scope.old (braces_of braces.now)) (tree body.now))) result }
     ensures kept { OnOk result (scope.new ≡ scope.old) }
 {
     let outside = scope.len();
     read_braces(need, scope, braces)?;
     check(need, scope, body)?;
-    scope.forget_behind(outside);
+    scope.forget_after(outside);
     Ok(())
 }
 
@@ -211,7 +211,7 @@ pub(crate) fn read_braces<'s>(
     scope: &mut Scope<'s>,
     braces: &Braces<'s>,
 ) -> Result<(), NameFault<'s>>
-    ensures value { Tells (names.braces_fault need scope.old (braces_of braces.now)) result }
+    ensures value { Reports (names.braces_fault need scope.old (braces_of braces.now)) result }
     ensures grown { OnOk result (scope.new ≡ dummies.with_braces scope.old (braces_of braces.now)) }
 {
     match braces {
@@ -231,7 +231,7 @@ fn read_items<'s>(
     more: &[Link<'s>],
     condition: &Option<Boxed<Part<'s>>>,
 ) -> Result<(), NameFault<'s>>
-    ensures value { Tells (items.items_and_part need scope.old (tree item.now) (links_of more.now) (option_part condition.now)) result }
+    ensures value { Reports (items.items_and_part need scope.old (tree item.now) (links_of more.now) (option_part condition.now)) result }
     ensures grown { OnOk result (scope.new ≡ dummies.with_items (dummies.with_item scope.old (tree item.now)) (links_of more.now)) }
 {
     read_item(need, scope, item)?;
@@ -241,7 +241,7 @@ fn read_items<'s>(
 
 #[cycle(names)]
 fn read_more<'s>(need: Need, scope: &mut Scope<'s>, links: &[Link<'s>]) -> Result<(), NameFault<'s>>
-    ensures value { Tells (names.items_fault need scope.old (links_of links.now)) result }
+    ensures value { Reports (names.items_fault need scope.old (links_of links.now)) result }
     ensures grown { OnOk result (scope.new ≡ dummies.with_items scope.old (links_of links.now)) }
 {
     for link in links {
@@ -254,7 +254,7 @@ fn read_more<'s>(need: Need, scope: &mut Scope<'s>, links: &[Link<'s>]) -> Resul
 #[cycle(names)]
 #[tactic(auto, using(crate::proofs::Walking::walking))]
 fn read_item<'s>(need: Need, scope: &mut Scope<'s>, item: &Expr<'s>) -> Result<(), NameFault<'s>>
-    ensures value { Tells (items.item_fault need scope.old (tree item.now)) result }
+    ensures value { Reports (items.item_fault need scope.old (tree item.now)) result }
     ensures grown { OnOk result (scope.new ≡ dummies.with_item scope.old (tree item.now)) }
 {
     match sides_of(item) {
@@ -271,7 +271,7 @@ fn read_sides<'s>(
     left: &Expr<'s>,
     set: &Expr<'s>,
 ) -> Result<(), NameFault<'s>>
-    ensures value { Tells (told.first (items.left_fault need scope.old (tree left.now)) (names.tree_fault need scope.old (tree set.now))) result }
+    ensures value { Reports (reported.first (items.left_fault need scope.old (tree left.now)) (names.tree_fault need scope.old (tree set.now))) result }
     ensures grown { OnOk result (scope.new ≡ dummies.with_left scope.old (tree left.now)) }
 {
     check_left(need, scope, left)?;
@@ -284,7 +284,7 @@ fn read_sides<'s>(
 #[cycle(names)]
 #[tactic(auto, using(net_tree::proofs::Views::views, crate::proofs::Walking::walking))]
 fn check_left<'s>(need: Need, scope: &mut Scope<'s>, left: &Expr<'s>) -> Result<(), NameFault<'s>>
-    ensures value { Tells (items.left_fault need scope.old (tree left.now)) result }
+    ensures value { Reports (items.left_fault need scope.old (tree left.now)) result }
     ensures kept { OnOk result (scope.new ≡ scope.old) }
 {
     match left {
@@ -315,14 +315,14 @@ fn check_components<'s>(
     component: &Expr<'s>,
     more: &[Link<'s>],
 ) -> Result<(), NameFault<'s>>
-    ensures value { Tells (told.first (items.component_fault need scope.old (tree component.now))
+    ensures value { Reports (reported.first (items.component_fault need scope.old (tree component.now))
         (names.further_fault need (dummies.with_component scope.old (tree component.now)) (links_of more.now))) result }
     ensures kept { OnOk result (scope.new ≡ scope.old) }
 {
     let before = scope.len();
     read_component(need, scope, component)?;
     read_components(need, scope, more)?;
-    scope.forget_behind(before);
+    scope.forget_after(before);
     Ok(())
 }
 
@@ -332,7 +332,7 @@ fn read_components<'s>(
     scope: &mut Scope<'s>,
     links: &[Link<'s>],
 ) -> Result<(), NameFault<'s>>
-    ensures value { Tells (names.further_fault need scope.old (links_of links.now)) result }
+    ensures value { Reports (names.further_fault need scope.old (links_of links.now)) result }
     ensures grown { OnOk result (scope.new ≡ dummies.with_components scope.old (links_of links.now)) }
 {
     for link in links {
@@ -348,7 +348,7 @@ fn read_component<'s>(
     scope: &mut Scope<'s>,
     component: &Expr<'s>,
 ) -> Result<(), NameFault<'s>>
-    ensures value { Tells (items.component_fault need scope.old (tree component.now)) result }
+    ensures value { Reports (items.component_fault need scope.old (tree component.now)) result }
     ensures grown { OnOk result (scope.new ≡ dummies.with_component scope.old (tree component.now)) }
 {
     check_component(need, scope, component)?;
@@ -363,7 +363,7 @@ fn check_component<'s>(
     scope: &mut Scope<'s>,
     component: &Expr<'s>,
 ) -> Result<(), NameFault<'s>>
-    ensures value { Tells (items.component_fault need scope.old (tree component.now)) result }
+    ensures value { Reports (items.component_fault need scope.old (tree component.now)) result }
     ensures kept { OnOk result (scope.new ≡ scope.old) }
 {
     if is_new(scope, component) {

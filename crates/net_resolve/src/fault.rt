@@ -1,8 +1,8 @@
 //! Errors of names.
 
-ghost use Rattle.net_resolve.specs.Told.{IsToldOf};
+ghost use Rattle.net_resolve.specs.Reported.{IsReportedOf};
 
-use net_fault::{Defect, Detail, Fault, Language};
+use net_fault::{Detail, ErrorCode, Fault, Language};
 use net_lex::Token;
 use std::alloc::{AllocError, AllocFailed, Global};
 
@@ -12,18 +12,18 @@ pub(crate) enum NameFault<'s> {
     OutOfMemory,
     /// The error and the name: `Undeclared`, `Redeclared`, or `LeftOut` for an `obj` phrase that
     /// names an objective with an expression.
-    At(Defect, Token<'s>),
+    At(ErrorCode, Token<'s>),
 }
 
 impl<'s> NameFault<'s> {
     /// Returns the error as it is reported: at the name and with it.
-    pub(crate) fn told(&self, alloc: Global) -> Fault
-        ensures { IsToldOf self.now result }
+    pub(crate) fn reported(&self, alloc: Global) -> Fault
+        ensures { IsReportedOf self.now result }
     {
         match self {
             NameFault::OutOfMemory => Fault::OutOfMemory,
-            NameFault::At(defect, name) => match Detail::of_name(alloc, &name.text) {
-                Ok(detail) => Fault::of_text(Language::Model, *defect, name.span, detail),
+            NameFault::At(error_code, name) => match Detail::of_name(alloc, &name.text) {
+                Ok(detail) => Fault::of_text(Language::Model, *error_code, name.span, detail),
                 Err(_) => Fault::OutOfMemory,
             },
         }
@@ -36,7 +36,7 @@ impl<'s> From<AllocError> for NameFault<'s> {
 
     ghost from_gives = { λ _ e. e ≡ OutOfMemory };
 
-    fn from(_refused: AllocError) -> NameFault<'s> {
+    fn from(_rejected: AllocError) -> NameFault<'s> {
         NameFault::OutOfMemory
     }
 }
@@ -47,7 +47,7 @@ impl<'s, T: Drop> From<AllocFailed<T>> for NameFault<'s> {
 
     ghost from_gives = { λ _ e. e ≡ OutOfMemory };
 
-    fn from(_refused: AllocFailed<T>) -> NameFault<'s> {
+    fn from(_rejected: AllocFailed<T>) -> NameFault<'s> {
         NameFault::OutOfMemory
     }
 }

@@ -1,8 +1,8 @@
 //! Theorems about the rules for names.
 
 ghost use Rattle.std.specs.Prelude.{◌≡◌, ◌++◌, ◌∷◌, ◌&&◌, ℕ, [], List, None, is_none, length, take, IfSome};
-ghost use Rattle.net_fault.specs.Places.{LiesIn};
-ghost use Rattle.net_tree.specs.Standing.{DeclarationsStand};
+ghost use Rattle.net_fault.specs.Places.{IsSpanIn};
+ghost use Rattle.net_tree.specs.Standing.{DeclarationsHaveSpans};
 ghost use Rattle.net_tree.specs.Tree.{Declaration};
 ghost use Rattle.net_resolve.specs.Names.{declaration_fault, declared_by, names_fault, IsWellNamed};
 ghost use Rattle.net_resolve.specs.Scopes.{Name, Scope, meaning_in};
@@ -27,6 +27,6 @@ pub fn new_dummy()
 
 /// Theorem: if the spans of all parts of the declarations are in a text of this size, so is that of
 /// the first name error.
-pub fn name_errors_lie_in_model()
-    ensures value { (size : ℕ) (ds : List Declaration) → DeclarationsStand (LiesIn size) ds → IfSome (names_fault [] ds) (λ f. LiesIn size f.1.span) }
+pub fn name_errors_are_in_model()
+    ensures value { (size : ℕ) (ds : List Declaration) → DeclarationsHaveSpans (IsSpanIn size) ds → IfSome (names_fault [] ds) (λ f. IsSpanIn size f.1.span) }
 {}

@@ -10,5 +10,5 @@ mod meaning;
 mod scope;
 
 pub use declarations::check_names;
-pub use laws::{front_of_names, name_errors_lie_in_model, new_dummy, well_named_each};
+pub use laws::{front_of_names, name_errors_are_in_model, new_dummy, well_named_each};
 pub use meaning::{Meaning, Need};

@@ -3,7 +3,7 @@
 ghost use Rattle.std.specs.Prelude.{◌≡◌};
 ghost use Rattle.net_resolve.specs.Meanings as meanings;
 
-use net_fault::Defect;
+use net_fault::ErrorCode;
 
 /// The meaning of a name.
 #[derive(Clone, Copy)]
@@ -34,26 +34,26 @@ pub enum Need {
 }
 
 /// Returns the error of a name with this meaning, if any.
-pub(crate) fn misfit(need: Need, meaning: Meaning) -> Option<Defect>
+pub(crate) fn misfit(need: Need, meaning: Meaning) -> Option<ErrorCode>
     ensures { result ≡ meanings.misfit need meaning }
 {
     match need {
         Need::Value => match meaning {
             Meaning::Set | Meaning::Param | Meaning::Dummy => None,
-            _ => Some(Defect::Undeclared),
+            _ => Some(ErrorCode::Undeclared),
         },
         Need::Total => match meaning {
             Meaning::Set | Meaning::Param | Meaning::Dummy | Meaning::Arc => None,
-            _ => Some(Defect::Undeclared),
+            _ => Some(ErrorCode::Undeclared),
         },
         Need::Node => match meaning {
             Meaning::Node => None,
-            _ => Some(Defect::Undeclared),
+            _ => Some(ErrorCode::Undeclared),
         },
         Need::Objective => match meaning {
             Meaning::Objective => None,
-            Meaning::StatedObjective => Some(Defect::LeftOut),
-            _ => Some(Defect::Undeclared),
+            Meaning::StatedObjective => Some(ErrorCode::LeftOut),
+            _ => Some(ErrorCode::Undeclared),
         },
     }
 }

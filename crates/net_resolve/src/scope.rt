@@ -3,7 +3,7 @@
 ghost use Rattle.std.specs.Prelude.{◌≡◌, ◌++◌, ◌∷◌, [], None, Some, length, take, is_some, if◌then◌else◌, ℕ, List, OnOk, OnErr};
 ghost use Rattle.std.specs.Str.{bytes_eq};
 ghost use Rattle.net_resolve.specs.Scopes.{meaning_in};
-ghost use Rattle.net_resolve.specs.Kept.{told, IsKept};
+ghost use Rattle.net_resolve.specs.Consistent.{reported, IsConsistent};
 
 use crate::meaning::Meaning;
 use net_views::Excerpt;
@@ -25,11 +25,11 @@ impl<'s> Model for Scope<'s> {
 
     ghost Value = { List (List ℕ × Meaning) };
 
-    ghost use Rattle.net_resolve.specs.Kept.{IsKept};
+    ghost use Rattle.net_resolve.specs.Consistent.{IsConsistent};
 
     ghost view = { λ s. s.names.items };
 
-    ghost invariant = { λ s. IsKept s.names.items s.meanings };
+    ghost invariant = { λ s. IsConsistent s.names.items s.meanings };
 }
 
 fn insert<'s>(
@@ -37,8 +37,8 @@ fn insert<'s>(
     name: &Excerpt<'s>,
     meaning: Meaning,
 ) -> Result<(), AllocError>
-    ensures ok { OnOk result ((q : List ℕ) → told meanings.new q ≡ if bytes_eq name.now q then Some meaning else told meanings.old q) }
-    ensures err { OnErr result ((q : List ℕ) → told meanings.new q ≡ told meanings.old q) }
+    ensures ok { OnOk result ((q : List ℕ) → reported meanings.new q ≡ if bytes_eq name.now q then Some meaning else reported meanings.old q) }
+    ensures err { OnErr result ((q : List ℕ) → reported meanings.new q ≡ reported meanings.old q) }
 {
     match meanings.insert(name.as_str(), meaning) {
         Ok(_) => Ok(()),
@@ -47,14 +47,14 @@ fn insert<'s>(
 }
 
 fn remove<'s>(meanings: &mut BTreeMap<&'s str, Meaning>, name: &Excerpt<'s>)
-    ensures { (q : List ℕ) → told meanings.new q ≡ if bytes_eq name.now q then None else told meanings.old q }
+    ensures { (q : List ℕ) → reported meanings.new q ≡ if bytes_eq name.now q then None else reported meanings.old q }
 {
     meanings.remove(&name.as_str());
 }
 
 /// Removes these names from the map.
 fn remove_all<'s>(meanings: &mut BTreeMap<&'s str, Meaning>, names: &[(Excerpt<'s>, Meaning)])
-    ensures { (q : List ℕ) → told meanings.new q ≡ if is_some (meaning_in q names.now) then None else told meanings.old q }
+    ensures { (q : List ℕ) → reported meanings.new q ≡ if is_some (meaning_in q names.now) then None else reported meanings.old q }
 {
     for (name, _) in names {
         remove(meanings, name);
@@ -91,18 +91,18 @@ impl<'s> Scope<'s> {
         ensures { OnOk result (self.new ≡ self.old ++ (name.now, meaning) ∷ []) }
     {
         let known = self.names.len();
-        self.names.push((name.again(), meaning))?;
+        self.names.push((name.copied(), meaning))?;
         match insert(&mut self.meanings, name, meaning) {
             Ok(()) => Ok(()),
-            Err(refused) => {
+            Err(rejected) => {
                 self.names.truncate(known);
-                Err(refused)
+                Err(rejected)
             }
         }
     }
 
     /// Truncates the scope to the first `known` names.
-    pub(crate) fn forget_behind(&mut self, known: usize)
+    pub(crate) fn forget_after(&mut self, known: usize)
         ensures { self.new ≡ take known self.old }
     {
         if known < self.names.len() {

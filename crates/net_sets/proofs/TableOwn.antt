@@ -57,12 +57,12 @@ length_front zero (e ∷ es) = omega arith
 length_front (suc n) [] = omega arith
 length_front (suc n) (e ∷ es) = let rest = length_front n es in omega (arith, rest)
 
-pub numbered_turn : (old new es : List (ℕ × Member)) (n p : ℕ) (m again : Member) → old ≡ numbered 0 (take n es) → Some (p, m) ≡ slice_get es n → again ≡ m → new ≡ insert_entry nat_eq old n again → new ≡ numbered 0 (take (n + 1) es)
-numbered_turn old new es n p m again so_far at alike put =
+pub numbered_turn : (old new es : List (ℕ × Member)) (n p : ℕ) (m copied : Member) → old ≡ numbered 0 (take n es) → Some (p, m) ≡ slice_get es n → copied ≡ m → new ≡ insert_entry nat_eq old n copied → new ≡ numbered 0 (take (n + 1) es)
+numbered_turn old new es n p m copied so_far at alike put =
     let front = length_front n es in
     let fresh : lookup (nat_eq n) (numbered 0 (take n es)) ≡ None = unused 0 n (take n es) (omega (arith, front)) in
     let last : 0 + n ≡ n = omega arith in
-    put ∙ (ap (λ rows. insert_entry nat_eq rows n again) so_far ∙ (ap (λ x. insert_entry nat_eq (numbered 0 (take n es)) n x) alike ∙ (insert_last (numbered 0 (take n es)) n m fresh
+    put ∙ (ap (λ rows. insert_entry nat_eq rows n copied) so_far ∙ (ap (λ x. insert_entry nat_eq (numbered 0 (take n es)) n x) alike ∙ (insert_last (numbered 0 (take n es)) n m fresh
     ∙ (ap (λ j. numbered 0 (take n es) ++ (j, m) ∷ []) (sym last) ∙ (sym (numbered_more 0 n es p m at) ∙ ap (λ j. numbered 0 (take j es)) (sym (add-one n)))))))
 
 pub all_numbered : (all es : List (ℕ × Member)) (n : ℕ) → all ≡ numbered 0 (take n es) → length es ≤ n → all ≡ numbered 0 es

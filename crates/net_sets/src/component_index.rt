@@ -55,7 +55,7 @@ fn take_in<'s>(
     match tuples[place].as_slice().get(component) {
         None => {}
         Some(member) => {
-            let later = insert(&mut chains.first, member.again(), place)?;
+            let later = insert(&mut chains.first, member.copied(), place)?;
             chains.next[place] = later.unwrap_or(tuples.len());
         }
     }

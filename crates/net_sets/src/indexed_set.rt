@@ -82,7 +82,7 @@ impl<'s> IndexedSet<'s> {
     pub fn shared(&self) -> Result<SharedSet<'s>, AllocError>
         ensures { IfOk result (λ shared. shared ≡ self.now) }
     {
-        self.set.again()
+        self.set.copied()
     }
 
     /// Returns whether an index was requested.

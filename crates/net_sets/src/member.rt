@@ -14,12 +14,12 @@ pub enum Member<'s> {
 
 impl<'s> Member<'s> {
     /// Returns a copy of the member; copies no text.
-    pub fn again(&self) -> Member<'s>
+    pub fn copied(&self) -> Member<'s>
         ensures { result ≡ self.now }
     {
         match self {
             Member::Number(number) => Member::Number(*number),
-            Member::Name(text) => Member::Name(text.again()),
+            Member::Name(text) => Member::Name(text.copied()),
         }
     }
 }

@@ -2,7 +2,7 @@
 ghost use Rattle.std.specs.Prelude.{◌≡◌, ◌<◌, ◌+◌, ◌≤◌, ◌++◌, ◌∷◌, [], false, if◌then◌else◌, length, IfOk, OnOk, IsErrOf};
 ghost use Rattle.net_sets.specs.Limits.{arity_limit, tuples_limit};
 ghost use Rattle.net_sets.specs.Made.{IsMade, IsCrossed, with_set};
-ghost use Rattle.net_sets.specs.Operations.{union, product, difference, intersection, symmetric_difference, is_within, is_chosen, chosen, behind, widest};
+ghost use Rattle.net_sets.specs.Operations.{union, product, difference, intersection, symmetric_difference, is_within, is_chosen, chosen, joined_to, widest};
 ghost use Rattle.net_sets.specs.Operations.{narrowest};
 ghost use Rattle.net_sets.specs.Sets.{has};
 
@@ -24,7 +24,7 @@ pub fn union<'s>(
     let key = HashKey::of_both(first.as_slice(), second.as_slice());
     let mut all = first.with_key(alloc, key)?;
     for tuple in second.as_slice() {
-        all.add(tuple.again())?;
+        all.add(tuple.copied())?;
     }
     Ok(all)
 }
@@ -46,7 +46,7 @@ fn push_where<'s>(wanted: bool, all: &mut TupleSet<'s>, tuple: &Tuple<'s>) -> Re
     ensures { OnOk result (all.new ≡ (if wanted then all.old ++ tuple.now ∷ [] else all.old)) }
 {
     if wanted {
-        all.push(tuple.again())
+        all.push(tuple.copied())
     } else {
         Ok(())
     }
@@ -147,7 +147,7 @@ fn add_beside<'s>(
     second: &TupleSet<'s>,
 ) -> Result<(), SetFault>
     requires { length front.now + widest second.now ≤ arity_limit }
-    ensures { IsMade (union all.old (behind front.now second.now)) (with_set result all.new) }
+    ensures { IsMade (union all.old (joined_to front.now second.now)) (with_set result all.new) }
 {
     let _few = all.len();
     for tuple in second.as_slice() {

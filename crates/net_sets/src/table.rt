@@ -43,7 +43,7 @@ fn tuple_at<'s>(tuples: &[Tuple<'s>], position: usize) -> Tuple<'s>
     requires { position < length tuples.now }
     ensures { result ≡ get_or tuples.now position [] }
 {
-    tuples[position].again()
+    tuples[position].copied()
 }
 
 /// Builds the set of the keys of rows, followed by one more key.
@@ -66,7 +66,7 @@ fn keys_and<'s>(
             all.push(tuple_at(tuples, *position))?;
         }
     }
-    all.push(key.again())?;
+    all.push(key.copied())?;
     let _distinct = all.as_slice();
     Ok(all)
 }
@@ -81,7 +81,7 @@ fn renumbered<'s>(
     let mut all = IndexMap::new(alloc);
     for row in 0..rows.len() {
         if let Some((_, member)) = rows.get_index(row) {
-            all.insert(row, member.again())?;
+            all.insert(row, member.copied())?;
         }
     }
     Ok(all)
@@ -151,10 +151,10 @@ impl<'s> Table<'s> {
     }
 
     /// Returns the row of a key, counted from 0. The key is probably at position `near` of the set.
-    pub fn row_near(&self, near: usize, key: &Tuple<'s>) -> Option<usize>
+    pub fn row_with_hint(&self, near: usize, key: &Tuple<'s>) -> Option<usize>
         ensures { result ≡ place_of (map (λ row. row.0) self.now) key.now }
     {
-        match self.known.get().position_near(near, key) {
+        match self.known.get().position_with_hint(near, key) {
             None => None,
             Some(position) => self.rows.get_index_of(&position),
         }
@@ -164,14 +164,14 @@ impl<'s> Table<'s> {
     pub fn get(&self, key: &Tuple<'s>) -> Option<&Member<'s>>
         ensures { option_copied result ≡ at_key self.now key.now }
     {
-        self.get_near(self.known.get().len(), key)
+        self.get_with_hint(self.known.get().len(), key)
     }
 
     /// Returns the member of a key that is probably at position `near` of the set.
-    pub fn get_near(&self, near: usize, key: &Tuple<'s>) -> Option<&Member<'s>>
+    pub fn get_with_hint(&self, near: usize, key: &Tuple<'s>) -> Option<&Member<'s>>
         ensures { option_copied result ≡ at_key self.now key.now }
     {
-        match self.known.get().position_near(near, key) {
+        match self.known.get().position_with_hint(near, key) {
             None => None,
             Some(position) => self.rows.get(&position),
         }
@@ -179,7 +179,7 @@ impl<'s> Table<'s> {
 
     /// Appends a row for a key that has none, and that is probably at position `near` of the set. If the set does not have the
     /// key, the table copies its keys into a set of its own. Returns `TooMany` if it has as many rows as a set may have tuples.
-    pub fn insert_near(
+    pub fn insert_with_hint(
         &mut self,
         near: usize,
         key: &Tuple<'s>,
@@ -213,7 +213,7 @@ impl<'s> Table<'s> {
         ensures err { OnErr result (self.new ≡ self.old) }
     {
         let known = self.known.get();
-        match known.position_near(near, key) {
+        match known.position_with_hint(near, key) {
             Some(position) => put(&mut self.rows, position, member),
             None => {
                 let alloc = *self.rows.allocator();

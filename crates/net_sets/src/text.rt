@@ -32,7 +32,7 @@ impl<'s> Model for Text<'s> {
 }
 
 /// Returns the bytes after the first one, and after the second one of a doubled delimiter.
-fn behind_first(first: u8, behind: &[u8], doubled: Option<u8>) -> &[u8]
+fn after_first(first: u8, behind: &[u8], doubled: Option<u8>) -> &[u8]
     ensures value { spelled doubled (first ∷ behind.now) ≡ first ∷ spelled doubled result.now }
     ensures shorter { length result.now < length behind.now + 1 }
 {
@@ -49,7 +49,7 @@ fn first(bytes: &[u8], doubled: Option<u8>) -> Option<(u8, &[u8])>
 {
     match bytes {
         [] => None,
-        [first, behind @ ..] => Some((*first, behind_first(*first, behind, doubled))),
+        [first, behind @ ..] => Some((*first, after_first(*first, behind, doubled))),
     }
 }
 
@@ -212,7 +212,7 @@ impl<'s> Text<'s> {
     }
 
     /// Returns a copy of the text; copies no bytes.
-    pub fn again(&self) -> Text<'s>
+    pub fn copied(&self) -> Text<'s>
         ensures { result ≡ self.now }
     {
         Text { text: self.text }
@@ -225,11 +225,11 @@ fn is_same(a: (&[u8], Option<u8>), b: (&[u8], Option<u8>)) -> bool
 {
     let (mut left, a_doubled) = a;
     let (mut right, b_doubled) = b;
-    while let Some((x, left_behind)) = first(left, a_doubled) {
+    while let Some((x, left_after)) = first(left, a_doubled) {
         match first(right, b_doubled) {
-            Some((y, right_behind)) if x == y => {
-                left = left_behind;
-                right = right_behind;
+            Some((y, right_after)) if x == y => {
+                left = left_after;
+                right = right_after;
             }
             _ => return false,
         }

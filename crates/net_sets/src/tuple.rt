@@ -80,21 +80,21 @@ impl<'s> Tuple<'s> {
         requires { length self.now + length other.now ≤ arity_limit }
         ensures { result ≡ self.now ++ other.now }
     {
-        let mut both = self.again();
+        let mut both = self.copied();
         for member in other.as_slice() {
-            both.add(member.again());
+            both.add(member.copied());
         }
         both
     }
 
     /// Returns a copy of the tuple.
-    pub fn again(&self) -> Tuple<'s>
+    pub fn copied(&self) -> Tuple<'s>
         ensures { result ≡ self.now }
     {
         let mut copy = Tuple::new();
         let members = self.as_slice();
         for member in members {
-            copy.add(member.again());
+            copy.add(member.copied());
         }
         copy
     }

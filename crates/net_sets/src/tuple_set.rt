@@ -64,7 +64,7 @@ impl<'s> TupleSet<'s> {
     {
         let mut all = TupleSet::new(alloc, HashKey::of_tuples(tuples));
         for tuple in tuples {
-            all.add(tuple.again())?;
+            all.add(tuple.copied())?;
         }
         Ok(all)
     }
@@ -99,7 +99,7 @@ impl<'s> TupleSet<'s> {
     }
 
     /// Returns the position of a tuple that is probably at `near`. The set is searched only if it is not.
-    pub fn position_near(&self, near: usize, tuple: &Tuple<'s>) -> Option<usize>
+    pub fn position_with_hint(&self, near: usize, tuple: &Tuple<'s>) -> Option<usize>
         ensures { result ≡ place_of self.now tuple.now }
     {
         if is_at(self.tuples.as_slice(), near, tuple) {
@@ -162,7 +162,7 @@ impl<'s> TupleSet<'s> {
     {
         match self.add_new(tuple) {
             Ok(_) => Ok(()),
-            Err(refused) => Err(refused),
+            Err(rejected) => Err(rejected),
         }
     }
 
@@ -179,13 +179,13 @@ impl<'s> TupleSet<'s> {
     {
         let mut copy = TupleSet::new(alloc, key);
         for tuple in self.as_slice() {
-            copy.push(tuple.again())?;
+            copy.push(tuple.copied())?;
         }
         Ok(copy)
     }
 
     /// Copies the set.
-    pub fn again(&self, alloc: Global) -> Result<TupleSet<'s>, AllocError>
+    pub fn copied(&self, alloc: Global) -> Result<TupleSet<'s>, AllocError>
         ensures { IfOk result (λ copy. copy ≡ self.now) }
     {
         self.with_key(alloc, self.key())

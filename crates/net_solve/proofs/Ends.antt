@@ -19,7 +19,7 @@ use Rattle.net_solve.specs.Pseudoflows.{no_arc}
 use Rattle.net_normal.proofs.NodeRuns.{slice_get-inside}
 use Rattle.net_solve.specs.declared.machine.Machine.{Machine}
 use Rattle.net_solve.specs.Runs.{Reaches, at_start, start, HasEnded, excess_at, epsilon, greatest_scaled}
-use Rattle.net_solve.specs.Machines.{AreDeep, AreNear, IsStanding, state_of}
+use Rattle.net_solve.specs.Machines.{AreDeep, AreEpsilonOptimal, IsConsistent, state_of}
 use Rattle.net_solve.specs.Rounding.{IsRounded}
 use Rattle.net_solve.specs.ScalingRuns.{IsEnded, HasFlows, IsCounted, IsFromZero, IsScalingRun}
 use Rattle.net_solve.proofs.Carrying.{all-within}
@@ -34,7 +34,7 @@ pub lows-within : (problem : Problem) → AllZip IsWithinCapacity problem.arcs.i
 lows-within problem = lows-each (vec_len problem.supplies) problem.arcs.items (recursion_from_All (IsFlowArcOf (vec_len problem.supplies)) problem.arcs.items problem.arcs_fit)
 
 pub standing-start : (problem : Problem) (m : Machine) → m.carried.flows.items ≡ map (λ (arc : FlowArc). arc.low) problem.arcs.items → m.potentials.items ≡ replicate (vec_len problem.supplies) (pos 0) → length m.carried.excess.items ≡ vec_len problem.supplies
-    → ((v : ℕ) → v < vec_len problem.supplies → get_or m.carried.excess.items v (pos 0) ≡ excess_at problem m.carried.flows.items v) → m.phases ≡ 0 → m.steps ≡ 0 → IsStanding problem m
+    → ((v : ℕ) → v < vec_len problem.supplies → get_or m.carried.excess.items v (pos 0) ≡ excess_at problem m.carried.flows.items v) → m.phases ≡ 0 → m.steps ≡ 0 → IsConsistent problem m
 standing-start problem m flows potentials count balance phases steps =
     let n = vec_len problem.supplies in
     let within = subst (AllZip IsWithinCapacity problem.arcs.items) (sym flows) (lows-within problem) in
@@ -71,14 +71,14 @@ optimal-end problem m whole value h r is =
       };
       cost = is;
       slackness = all-complementary problem m.carried.flows.items m.potentials.items whole s.deep.count (λ v l. (s.deep.each v l).below) s.carried.flows_count s.carried.capacity
-          (subst (λ (e : ℕ). AreNear problem e m.carried.flows.items m.potentials.items) (last-epsilon problem m h) h.running.near) r;
+          (subst (λ (e : ℕ). AreEpsilonOptimal problem e m.carried.flows.items m.potentials.items) (last-epsilon problem m h) h.running.near) r;
     }
 
-few-of : (problem : Problem) (m : Machine) → IsStanding problem m → (digits : ℕ) → 1 ≤ digits → greatest_scaled problem < 2 ^ digits → m.phases ≤ digits
+few-of : (problem : Problem) (m : Machine) → IsConsistent problem m → (digits : ℕ) → 1 ≤ digits → greatest_scaled problem < 2 ^ digits → m.phases ≤ digits
 few-of problem m h digits some small = phases-few problem digits (omega (arith, some)) small m.phases m.steps (state_of m) h.run
 
 -- a run that broke off
-pub run-off : (problem : Problem) (m : Machine) (budget : ℕ) → IsStanding problem m → m.budget ≡ budget → IsScalingRun problem budget (record { answer = None; phases = m.phases; steps = m.steps })
+pub run-off : (problem : Problem) (m : Machine) (budget : ℕ) → IsConsistent problem m → m.budget ≡ budget → IsScalingRun problem budget (record { answer = None; phases = m.phases; steps = m.steps })
 run-off problem m budget h is = record {
   certificate = λ x e. cc;
   counted = (state_of m, h.run);
@@ -100,7 +100,7 @@ counted-of problem m (Some (Optimal value flows potentials)) h same =
 counted-of problem m (Some (Cut flags side)) h same = absurd same
 
 -- a run whose last phase has ended
-pub run-ended : (problem : Problem) (m : Machine) (budget : ℕ) (answer : Option Certificate) → IsStanding problem m → m.budget ≡ budget → IsEnded problem m → ForSome answer (IsCertificate problem) → IfSome answer (HasFlows m.carried.flows.items) → IfSome answer IsFromZero → IsScalingRun problem budget (record { answer = answer; phases = m.phases; steps = m.steps })
+pub run-ended : (problem : Problem) (m : Machine) (budget : ℕ) (answer : Option Certificate) → IsConsistent problem m → m.budget ≡ budget → IsEnded problem m → ForSome answer (IsCertificate problem) → IfSome answer (HasFlows m.carried.flows.items) → IfSome answer IsFromZero → IsScalingRun problem budget (record { answer = answer; phases = m.phases; steps = m.steps })
 run-ended problem m budget answer h is ended certificate same zero = record {
   certificate = certificate;
   counted = counted-of problem m answer ended same;

@@ -16,26 +16,26 @@ use Rattle.net_solve.proofs.Rounded.{all-complementary}
 use Rattle.net_solve.specs.Pseudoflows.{no_arc, arc_at, changed}
 use Rattle.net_solve.proofs.SlackScanning.{zipped-from}
 use Rattle.net_solve.specs.Runs.{State, Reaches, at_start, by_phase, by_step, HasEnded, IsPush, IsLowering, IsLeastOut, Begins, Saturates, start, factor, reduced, epsilon}
-use Rattle.net_solve.specs.Machines.{AreNear}
+use Rattle.net_solve.specs.Machines.{AreEpsilonOptimal}
 use Rattle.net_solve.proofs.Carrying.{set-cases}
 use Rattle.net_solve.proofs.Stepping.{pushed-within, near-pushed}
 use Rattle.net_solve.proofs.Sinking.{near-lowered}
 use Rattle.net_solve.proofs.Phases.{near-begun}
 use Rattle.net_solve.proofs.Ends.{lows-within}
 
-pub record IsKept (problem : Problem) (phases : ℕ) (state : State) : Type 0 where
+pub record IsConsistent (problem : Problem) (phases : ℕ) (state : State) : Type 0 where
   pub flows_count : length state.flows ≡ vec_len problem.arcs
   pub potentials_count : length state.potentials ≡ vec_len problem.supplies
   pub capacity : (i : ℕ) → i < vec_len problem.arcs → IsWithinCapacity (arc_at problem i) (get_or state.flows i (pos 0))
   pub below : (v : ℕ) → v < vec_len problem.supplies → get_or state.potentials v (pos 0) ≤ℤ pos 0
-  pub near : 0 < phases → AreNear problem (epsilon problem phases) state.flows state.potentials
+  pub near : 0 < phases → AreEpsilonOptimal problem (epsilon problem phases) state.flows state.potentials
 
 saturated-within : (nodes : ℕ) (cost old new : ℤ) (arc : FlowArc) → IsFlowArcOf nodes arc → Saturates cost arc old new → IsWithinCapacity arc old → IsWithinCapacity arc new
 saturated-within nodes (pos zero) old new arc fits s h = subst (IsWithinCapacity arc) (sym (s.level refl)) h
 saturated-within nodes (pos (suc n)) old new arc fits s h = let e = s.positive (omega (arith, ints)) in record { low = omega (arith, ints, e); cap = omega (arith, ints, e, fits.room) }
 saturated-within nodes (negsuc n) old new arc fits s h = let e = s.negative (omega (arith, ints)) in record { low = omega (arith, ints, e, fits.room); cap = omega (arith, ints, e) }
 
-kept-start : (problem : Problem) → IsKept problem 0 (start problem)
+kept-start : (problem : Problem) → IsConsistent problem 0 (start problem)
 kept-start problem =
     let within = lows-within problem in
     record {
@@ -46,16 +46,16 @@ kept-start problem =
       near = λ some. absurd (omega (arith, some));
     }
 
-kept-begun : (problem : Problem) (phases : ℕ) (old new : State) → IsKept problem phases old → Begins problem old new → IsKept problem (suc phases) new
+kept-begun : (problem : Problem) (phases : ℕ) (old new : State) → IsConsistent problem phases old → Begins problem old new → IsConsistent problem (suc phases) new
 kept-begun problem phases old new h b = record {
   flows_count = b.count;
   potentials_count = ap length b.potentials ∙ h.potentials_count;
   capacity = λ i l. saturated-within (vec_len problem.supplies) (reduced (factor problem) old.potentials (arc_at problem i)) (get_or old.flows i (pos 0)) (get_or new.flows i (pos 0)) (arc_at problem i) (problem.arcs_fit i no_arc (omega (arith, l, problem.arcs.ok.0))) (b.arcs i l) (h.capacity i l);
   below = subst (λ (ps : List ℤ). (v : ℕ) → v < vec_len problem.supplies → get_or ps v (pos 0) ≤ℤ pos 0) (sym b.potentials) h.below;
-  near = λ _. subst (AreNear problem (epsilon problem (suc phases)) new.flows) (sym b.potentials) (near-begun problem (epsilon problem (suc phases)) old new b);
+  near = λ _. subst (AreEpsilonOptimal problem (epsilon problem (suc phases)) new.flows) (sym b.potentials) (near-begun problem (epsilon problem (suc phases)) old new b);
 }
 
-kept-pushed : (problem : Problem) (phases : ℕ) (old new : State) → 0 < phases → IsKept problem phases old → IsPush problem old new → IsKept problem phases new
+kept-pushed : (problem : Problem) (phases : ℕ) (old new : State) → 0 < phases → IsConsistent problem phases old → IsPush problem old new → IsConsistent problem phases new
 kept-pushed problem phases old new some h s =
     let i = s.index in
     let a = arc_at problem i in
@@ -67,11 +67,11 @@ kept-pushed problem phases old new some h s =
       capacity = λ k l. subst (λ (ys : List ℤ). IsWithinCapacity (arc_at problem k) (get_or ys k (pos 0))) (sym s.flows)
           (set-cases (λ j y. IsWithinCapacity (arc_at problem j) y) old.flows i (get_or old.flows i (pos 0) +ℤ d) (pos 0) k inside (pushed-within a (get_or old.flows i (pos 0)) s.amount s.forwards (h.capacity i s.inside) s.some s.room) (λ _. h.capacity k l));
       below = subst (λ (ps : List ℤ). (v : ℕ) → v < vec_len problem.supplies → get_or ps v (pos 0) ≤ℤ pos 0) (sym s.potentials) h.below;
-      near = λ _. subst (λ (ps : List ℤ). AreNear problem (epsilon problem phases) new.flows ps) (sym s.potentials) (subst (λ (ys : List ℤ). AreNear problem (epsilon problem phases) ys old.potentials) (sym s.flows)
+      near = λ _. subst (λ (ps : List ℤ). AreEpsilonOptimal problem (epsilon problem phases) new.flows ps) (sym s.potentials) (subst (λ (ys : List ℤ). AreEpsilonOptimal problem (epsilon problem phases) ys old.potentials) (sym s.flows)
           (near-pushed problem (epsilon problem phases) old.flows old.potentials i s.forwards s.amount (h.near some) s.inside inside s.some s.room s.negative));
     }
 
-kept-lowered : (problem : Problem) (phases : ℕ) (old new : State) → 0 < phases → IsKept problem phases old → IsLowering problem (epsilon problem phases) old new → IsKept problem phases new
+kept-lowered : (problem : Problem) (phases : ℕ) (old new : State) → 0 < phases → IsConsistent problem phases old → IsLowering problem (epsilon problem phases) old new → IsConsistent problem phases new
 kept-lowered problem phases old new some h s =
     let v = s.node in
     let left = subst (λ (ys : List ℤ). IsLeastOut problem (record { flows = ys; potentials = changed old.potentials v (neg_ℤ s.amount) }) v (neg_ℤ (pos (epsilon problem phases)))) s.flows
@@ -82,11 +82,11 @@ kept-lowered problem phases old new some h s =
       capacity = λ k l. subst (λ (ys : List ℤ). IsWithinCapacity (arc_at problem k) (get_or ys k (pos 0))) (sym s.flows) (h.capacity k l);
       below = λ u l. subst (λ (ps : List ℤ). get_or ps u (pos 0) ≤ℤ pos 0) (sym s.potentials)
           (set-cases (λ j x. x ≤ℤ pos 0) old.potentials v (get_or old.potentials v (pos 0) +ℤ neg_ℤ s.amount) (pos 0) u (omega (arith, h.potentials_count, s.inside)) (omega (arith, ints, h.below v s.inside, s.some)) (λ _. h.below u l));
-      near = λ _. subst (λ (ps : List ℤ). AreNear problem (epsilon problem phases) new.flows ps) (sym s.potentials) (subst (λ (ys : List ℤ). AreNear problem (epsilon problem phases) ys (changed old.potentials v (neg_ℤ s.amount))) (sym s.flows)
+      near = λ _. subst (λ (ps : List ℤ). AreEpsilonOptimal problem (epsilon problem phases) new.flows ps) (sym s.potentials) (subst (λ (ys : List ℤ). AreEpsilonOptimal problem (epsilon problem phases) ys (changed old.potentials v (neg_ℤ s.amount))) (sym s.flows)
           (near-lowered problem old.flows old.potentials v (epsilon problem phases) s.amount h.potentials_count s.inside s.some (h.near some) left));
     }
 
-pub kept : (problem : Problem) (phases steps : ℕ) (state : State) → Reaches problem phases steps state → IsKept problem phases state
+pub kept : (problem : Problem) (phases steps : ℕ) (state : State) → Reaches problem phases steps state → IsConsistent problem phases state
 kept problem zero zero state at_start = kept-start problem
 kept problem zero (suc s) state run = elim run [ ]
 kept problem (suc p) steps state (by_phase run may begins) = kept-begun problem p _ state (kept problem p steps _ run) begins
@@ -104,8 +104,8 @@ ended-feasible problem phases steps flows h =
           omega (arith, ints, h.balanced v l, got problem.supplies.items v supply (pos 0) e);
     }
 
-pub ended-near : (problem : Problem) (phases steps : ℕ) (flows : List ℤ) (h : HasEnded problem phases steps flows) → AreNear problem 1 flows h.potentials
-ended-near problem phases steps flows h = subst (λ (e : ℕ). AreNear problem e flows h.potentials) h.last ((kept problem phases steps _ h.run).near h.some)
+pub ended-near : (problem : Problem) (phases steps : ℕ) (flows : List ℤ) (h : HasEnded problem phases steps flows) → AreEpsilonOptimal problem 1 flows h.potentials
+ended-near problem phases steps flows h = subst (λ (e : ℕ). AreEpsilonOptimal problem e flows h.potentials) h.last ((kept problem phases steps _ h.run).near h.some)
 
 -- potentials that are not above 0 can be rounded
 free-of : (potentials : List ℤ) → (q : ℕ) × IsFree potentials q

@@ -12,7 +12,7 @@ use Rattle.net_solve.specs.Pseudoflows.{arc_at}
 use Rattle.net_solve.specs.declared.carried.Carried.{Carried}
 use Rattle.net_solve.specs.declared.machine.Machine.{Machine}
 use Rattle.net_solve.specs.Runs.{State, Reaches, by_phase, by_step, MayBegin, Begins, Saturates, reduced, factor, epsilon, greatest_scaled}
-use Rattle.net_solve.specs.Machines.{IsCarried, IsNear, AreNear, IsStanding, IsRunning, state_of}
+use Rattle.net_solve.specs.Machines.{IsCarried, IsEpsilonOptimal, AreEpsilonOptimal, IsConsistent, IsRunning, state_of}
 
 pub saturated-here : (cost r y z flow : ℤ) (arc a : FlowArc) → arc ≡ a → cost ≡ r → flow ≡ y → Saturates cost arc flow z → Saturates r a y z
 saturated-here cost r y z flow arc a e h k s = subst (λ (b : FlowArc). Saturates r b y z) e (subst (λ (x : ℤ). Saturates x arc y z) h (subst (λ (x : ℤ). Saturates cost arc x z) k s))
@@ -27,12 +27,12 @@ pub difference-sized : (nodes : ℕ) (arc : FlowArc) (t y : ℤ) → IsFlowArcOf
 difference-sized nodes arc t y fits h k = record { above = omega (arith, ints, fits.low, fits.cap, h.low, k.cap); below = omega (arith, ints, fits.low, fits.cap, h.cap, k.low) }
 
 -- where a phase begins no residual arc has a negative reduced cost
-near-saturated : (e cost old new : ℤ) (arc : FlowArc) → pos 0 ≤ℤ e → Saturates cost arc old new → IsNear e cost arc new
+near-saturated : (e cost old new : ℤ) (arc : FlowArc) → pos 0 ≤ℤ e → Saturates cost arc old new → IsEpsilonOptimal e cost arc new
 near-saturated e (pos zero) old new arc plus s = record { forwards = λ l. omega (arith, ints, plus); backwards = λ l. omega (arith, ints, plus) }
 near-saturated e (pos (suc n)) old new arc plus s = record { forwards = λ l. omega (arith, ints, plus); backwards = λ l. absurd (omega (arith, ints, s.positive (omega (arith, ints)), l)) }
 near-saturated e (negsuc n) old new arc plus s = record { forwards = λ l. absurd (omega (arith, ints, s.negative (omega (arith, ints)), l)); backwards = λ l. omega (arith, ints, plus) }
 
-pub near-begun : (problem : Problem) (e : ℕ) (old new : State) → Begins problem old new → AreNear problem e new.flows old.potentials
+pub near-begun : (problem : Problem) (e : ℕ) (old new : State) → Begins problem old new → AreEpsilonOptimal problem e new.flows old.potentials
 near-begun problem e old new h = λ i l. near-saturated (pos e) (reduced (factor problem) old.potentials (arc_at problem i)) (get_or old.flows i (pos 0)) (get_or new.flows i (pos 0)) (arc_at problem i) (omega (arith, ints)) (h.arcs i l)
 
 -- there are at most as many phases as the greatest scaled cost has binary digits
@@ -63,7 +63,7 @@ phases-next problem d phases steps state some small (inr more) = omega (arith, h
 pub run-begun : (problem : Problem) (phases steps : ℕ) (old new : State) → Reaches problem phases steps old → MayBegin problem phases old → Begins problem old new → Reaches problem (phases + 1) steps new
 run-begun problem phases steps old new run may begins = rw add-one (by_phase run may begins)
 
-pub running-begun : (problem : Problem) (m : Machine) (carried : Carried) (e : ℤ) → IsStanding problem m → MayBegin problem m.phases (state_of m) → IsCarried problem carried.flows.items carried.excess.items
+pub running-begun : (problem : Problem) (m : Machine) (carried : Carried) (e : ℤ) → IsConsistent problem m → MayBegin problem m.phases (state_of m) → IsCarried problem carried.flows.items carried.excess.items
     → Begins problem (state_of m) (record { flows = carried.flows.items; potentials = m.potentials.items }) → e ≡ pos (epsilon problem (m.phases + 1)) → IsRunning problem (record m { carried = carried; phases = m.phases + 1; epsilon = e })
 running-begun problem m carried e h may after begins is = record {
   standing = record {

@@ -13,7 +13,7 @@ use Rattle.net_solve.specs.Pseudoflows.{no_arc, arc_at}
 use Rattle.net_solve.proofs.SlackScanning.{zipped-from}
 use Rattle.net_solve.proofs.ForestSinking.{cases_leℤ}
 use Rattle.net_solve.specs.Runs.{reduced, factor}
-use Rattle.net_solve.specs.Machines.{IsNear, AreNear}
+use Rattle.net_solve.specs.Machines.{IsEpsilonOptimal, AreEpsilonOptimal}
 use Rattle.net_solve.specs.Rounding.{AreFromZero, IsLowest, IsRounded, level_at}
 
 -- where the shifted number leaves the greatest, the number leaves the free one
@@ -70,7 +70,7 @@ depth-is (negsuc n) h = refl
 
 pub complementary : (f s : ℕ) (cost top x y u v flow : ℤ) (arc : FlowArc) → x ≤ℤ pos 0 → y ≤ℤ pos 0 → (nat_abs x + s) % f + 1 < f → (nat_abs y + s) % f + 1 < f
     → u ≡ top -ℤ pos ((nat_abs x + s) / f) → v ≡ top -ℤ pos ((nat_abs y + s) / f)
-    → IsWithinCapacity arc flow → IsNear (pos 1) (((cost *ℤ pos f) +ℤ x) -ℤ y) arc flow
+    → IsWithinCapacity arc flow → IsEpsilonOptimal (pos 1) (((cost *ℤ pos f) +ℤ x) -ℤ y) arc flow
     → (pos 0 <ℤ ((cost +ℤ u) -ℤ v) → flow ≡ arc.low) × (((cost +ℤ u) -ℤ v) <ℤ pos 0 → flow ≡ arc.cap)
 complementary f s cost top x y u v flow arc dx dy bx by ux vy within near =
     let ex = depth-is x dx in
@@ -93,7 +93,7 @@ complementary f s cost top x y u v flow arc dx dy bx by ux vy within near =
 
 -- rounded potentials are complementary to a flow that the last phase has ended with
 pub all-complementary : (problem : Problem) (flows potentials whole : List ℤ) → length potentials ≡ vec_len problem.supplies → ((v : ℕ) → v < vec_len problem.supplies → get_or potentials v (pos 0) ≤ℤ pos 0) → length flows ≡ vec_len problem.arcs
-    → ((i : ℕ) → i < vec_len problem.arcs → IsWithinCapacity (arc_at problem i) (get_or flows i (pos 0))) → AreNear problem 1 flows potentials → IsRounded potentials whole → AllZip (IsComplementary whole) problem.arcs.items flows
+    → ((i : ℕ) → i < vec_len problem.arcs → IsWithinCapacity (arc_at problem i) (get_or flows i (pos 0))) → AreEpsilonOptimal problem 1 flows potentials → IsRounded potentials whole → AllZip (IsComplementary whole) problem.arcs.items flows
 all-complementary problem flows potentials whole count deep one_each within near r =
     let n = vec_len problem.supplies in
     zipped-from (IsComplementary whole) problem.arcs.items flows (omega (arith, one_each, problem.arcs.ok.0)) (λ i l.
@@ -109,7 +109,7 @@ all-complementary problem flows potentials whole count deep one_each within near
     (residue-below (nat_abs (get_or potentials arc.src (pos 0))) f r.free r.is_free.inside (r.is_free.not_taken arc.src src))
     (residue-below (nat_abs (get_or potentials arc.dst (pos 0))) f r.free r.is_free.inside (r.is_free.not_taken arc.dst dst))
     (r.each arc.src src) (r.each arc.dst dst) (within i inside)
-    (subst (λ (k : ℕ). IsNear (pos 1) (reduced k potentials arc) arc (get_or flows i (pos 0))) same (near i inside)) in
+    (subst (λ (k : ℕ). IsEpsilonOptimal (pos 1) (reduced k potentials arc) arc (get_or flows i (pos 0))) same (near i inside)) in
     record { positive = both.0; negative = both.1 })
 
 -- counted from the level of the lowest one

@@ -8,7 +8,7 @@ use Rattle.net_normal.specs.declared.problem.FlowArc.{FlowArc}
 use Rattle.net_normal.specs.declared.problem.Problem.{Problem}
 use Rattle.net_solve.specs.Pseudoflows.{no_arc, arc_at}
 use Rattle.net_solve.specs.declared.rows.Entry.{Entry}
-use Rattle.net_solve.specs.Runs.{State, IsLeastOut, factor, reduced_along, tail_of, room_of}
+use Rattle.net_solve.specs.Runs.{State, IsLeastOut, factor, reduced_along, tail_of, residual_of}
 use Rattle.net_solve.specs.Rows.{entry_of, entry_at, IsEntry, IsListed, AreRows, IsScanned}
 use Rattle.net_solve.specs.Machines.{IsDeep}
 use Rattle.net_solve.proofs.Reducing.{scaled-sized, reduced-value}
@@ -56,7 +56,7 @@ scanned-more P first i h here p l m = elim (cases_lt p i) as (λ _. P p) [
 ]
 
 -- from the entry to its arc
-least-one : (problem : Problem) (state : State) (v i : ℕ) (forwards : Bool) (least : ℤ) → tail_of (arc_at problem i) forwards ≡ v → pos 0 <ℤ room_of (arc_at problem i) (get_or state.flows i (pos 0)) forwards
+least-one : (problem : Problem) (state : State) (v i : ℕ) (forwards : Bool) (least : ℤ) → tail_of (arc_at problem i) forwards ≡ v → pos 0 <ℤ residual_of (arc_at problem i) (get_or state.flows i (pos 0)) forwards
     → IsScanned state.flows state.potentials (get_or state.potentials v (pos 0)) least (entry_of problem i forwards) → least ≤ℤ reduced_along (factor problem) state.potentials (arc_at problem i) forwards
 least-one problem state v i true least tail room (inl full) = absurd (omega (arith, ints, room, full))
 least-one problem state v i true least tail room (inr above) = let same : get_or state.potentials (arc_at problem i).src (pos 0) ≡ get_or state.potentials v (pos 0) = ap (λ (u : ℕ). get_or state.potentials u (pos 0)) tail in omega (arith, ints, above, same)

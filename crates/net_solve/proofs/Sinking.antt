@@ -10,7 +10,7 @@ use Rattle.net_solve.proofs.Changes.{set-added}
 use lib.Signed.{lt_z, le_z}
 use Rattle.net_solve.specs.declared.machine.Machine.{Machine}
 use Rattle.net_solve.specs.Runs.{Reaches, IsLeastOut, reduced, factor, epsilon, tail_of}
-use Rattle.net_solve.specs.Machines.{IsRunning, state_of, IsDeep, AreDeep, IsNear, AreNear, MaySink}
+use Rattle.net_solve.specs.Machines.{IsRunning, state_of, IsDeep, AreDeep, IsEpsilonOptimal, AreEpsilonOptimal, MaySink}
 use Rattle.net_solve.proofs.Carrying.{set-cases}
 use Rattle.net_solve.proofs.Stepping.{one-step, plain}
 use Rattle.std.specs.Vec.{with_item}
@@ -52,8 +52,8 @@ left-after problem flows potentials v e least amount count inside h none some le
     (lowered-reduced (factor problem) potentials (arc_at problem i) v amount (omega (arith, count, inside)) (omega (arith, count, fits.src)) (omega (arith, count, fits.dst)))
     (tail-test v (arc_at problem i) forwards at) none some left (omega (arith, ints)) (h i forwards l at room)
 
-near-one : (p q : Bool) (r new amount e : ℤ) (arc : FlowArc) (flow : ℤ) → new ≡ (r -ℤ cond p amount (pos 0)) +ℤ cond q amount (pos 0) → pos 0 <ℤ amount → IsNear e r arc flow
-    → (p ≡ true → flow <ℤ arc.cap → neg_ℤ e ≤ℤ new) → (q ≡ true → arc.low <ℤ flow → neg_ℤ e ≤ℤ neg_ℤ new) → IsNear e new arc flow
+near-one : (p q : Bool) (r new amount e : ℤ) (arc : FlowArc) (flow : ℤ) → new ≡ (r -ℤ cond p amount (pos 0)) +ℤ cond q amount (pos 0) → pos 0 <ℤ amount → IsEpsilonOptimal e r arc flow
+    → (p ≡ true → flow <ℤ arc.cap → neg_ℤ e ≤ℤ new) → (q ≡ true → arc.low <ℤ flow → neg_ℤ e ≤ℤ neg_ℤ new) → IsEpsilonOptimal e new arc flow
 near-one true true r new amount e arc flow is some h out into = record { forwards = λ l. omega (arith, ints, is, h.forwards l); backwards = λ l. omega (arith, ints, is, h.backwards l) }
 near-one true false r new amount e arc flow is some h out into = record { forwards = λ l. out refl l; backwards = λ l. omega (arith, ints, is, some, h.backwards l) }
 near-one false true r new amount e arc flow is some h out into = record { forwards = λ l. omega (arith, ints, is, some, h.forwards l); backwards = λ l. omega (arith, ints, into refl l) }
@@ -62,8 +62,8 @@ near-one false false r new amount e arc flow is some h out into = record { forwa
 same-node : (v u : ℕ) → nat_eq v u ≡ true → u ≡ v
 same-node v u h = grind (arith, nat_tests)
 
-pub near-lowered : (problem : Problem) (flows potentials : List ℤ) (v e : ℕ) (amount : ℤ) → length potentials ≡ vec_len problem.supplies → v < vec_len problem.supplies → pos 0 <ℤ amount → AreNear problem e flows potentials
-    → IsLeastOut problem (record { flows = flows; potentials = changed potentials v (neg_ℤ amount) }) v (neg_ℤ (pos e)) → AreNear problem e flows (changed potentials v (neg_ℤ amount))
+pub near-lowered : (problem : Problem) (flows potentials : List ℤ) (v e : ℕ) (amount : ℤ) → length potentials ≡ vec_len problem.supplies → v < vec_len problem.supplies → pos 0 <ℤ amount → AreEpsilonOptimal problem e flows potentials
+    → IsLeastOut problem (record { flows = flows; potentials = changed potentials v (neg_ℤ amount) }) v (neg_ℤ (pos e)) → AreEpsilonOptimal problem e flows (changed potentials v (neg_ℤ amount))
 near-lowered problem flows potentials v e amount count inside some h left = λ i l.
     let fits = problem.arcs_fit i no_arc (omega (arith, l, problem.arcs.ok.0)) in
     near-one (nat_eq v (arc_at problem i).src) (nat_eq v (arc_at problem i).dst) (reduced (factor problem) potentials (arc_at problem i)) _ amount (pos e) (arc_at problem i) (get_or flows i (pos 0))
@@ -138,5 +138,5 @@ running-lowered problem m node least amount x h inside excess under out sink is 
       };
       some = h.some;
       epsilon_is = h.epsilon_is;
-      near = subst (AreNear problem e m.carried.flows.items) (sym whole) (near-lowered problem m.carried.flows.items ps node e amount count inside sink.some h.near after);
+      near = subst (AreEpsilonOptimal problem e m.carried.flows.items) (sym whole) (near-lowered problem m.carried.flows.items ps node e amount count inside sink.some h.near after);
     }

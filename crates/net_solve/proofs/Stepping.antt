@@ -6,10 +6,10 @@ use Rattle.net_normal.specs.Flows.{IsWithinCapacity}
 use Rattle.net_normal.specs.declared.problem.FlowArc.{FlowArc}
 use Rattle.net_normal.specs.declared.problem.Problem.{Problem}
 use Rattle.net_solve.specs.Pseudoflows.{arc_at, changed}
-use Rattle.net_solve.specs.Runs.{State, Reaches, by_step, IsStep, reduced, reduced_along, factor, epsilon, tail_of, room_of}
+use Rattle.net_solve.specs.Runs.{State, Reaches, by_step, IsStep, reduced, reduced_along, factor, epsilon, tail_of, residual_of}
 use Rattle.net_solve.specs.declared.carried.Carried.{Carried}
 use Rattle.net_solve.specs.declared.machine.Machine.{Machine}
-use Rattle.net_solve.specs.Machines.{IsRunning, IsSendable, IsCarried, IsNear, AreNear}
+use Rattle.net_solve.specs.Machines.{IsRunning, IsSendable, IsCarried, IsEpsilonOptimal, AreEpsilonOptimal}
 use Rattle.net_solve.proofs.Carrying.{Known, known, set-cases}
 
 pub one-step : (problem : Problem) (phases steps : ℕ) (old new : State) → 0 < phases → Reaches problem phases steps old → IsStep problem (epsilon problem phases) old new → Reaches problem phases (steps + 1) new
@@ -17,7 +17,7 @@ one-step problem zero steps old new some run step = absurd (omega (arith, some))
 one-step problem (suc k) steps old new some run step = rw add-one (by_step run step)
 
 -- pushes
-pub pushed-within : (arc : FlowArc) (flow amount : ℤ) (forwards : Bool) → IsWithinCapacity arc flow → pos 0 <ℤ amount → amount ≤ℤ room_of arc flow forwards → IsWithinCapacity arc (flow +ℤ cond forwards amount (neg_ℤ amount))
+pub pushed-within : (arc : FlowArc) (flow amount : ℤ) (forwards : Bool) → IsWithinCapacity arc flow → pos 0 <ℤ amount → amount ≤ℤ residual_of arc flow forwards → IsWithinCapacity arc (flow +ℤ cond forwards amount (neg_ℤ amount))
 pushed-within arc flow amount true h some room = record { low = omega (arith, ints, h.low, some); cap = omega (arith, ints, room) }
 pushed-within arc flow amount false h some room = record { low = omega (arith, ints, room); cap = omega (arith, ints, h.cap, some) }
 
@@ -29,7 +29,7 @@ pub tail-inside : (n : ℕ) (arc : FlowArc) (forwards : Bool) → arc.src < n �
 tail-inside n arc true h k = h
 tail-inside n arc false h k = k
 
-near-pushed-one : (e cost flow amount : ℤ) (arc : FlowArc) (forwards : Bool) → pos 0 ≤ℤ e → IsNear e cost arc flow → pos 0 <ℤ amount → amount ≤ℤ room_of arc flow forwards → cond forwards cost (neg_ℤ cost) <ℤ pos 0 → IsNear e cost arc (flow +ℤ cond forwards amount (neg_ℤ amount))
+near-pushed-one : (e cost flow amount : ℤ) (arc : FlowArc) (forwards : Bool) → pos 0 ≤ℤ e → IsEpsilonOptimal e cost arc flow → pos 0 <ℤ amount → amount ≤ℤ residual_of arc flow forwards → cond forwards cost (neg_ℤ cost) <ℤ pos 0 → IsEpsilonOptimal e cost arc (flow +ℤ cond forwards amount (neg_ℤ amount))
 near-pushed-one e cost flow amount arc true plus h some room negative = record {
   forwards = λ l. h.forwards (omega (arith, ints, l, some));
   backwards = λ l. omega (arith, ints, negative, plus);
@@ -39,15 +39,15 @@ near-pushed-one e cost flow amount arc false plus h some room negative = record 
   backwards = λ l. h.backwards (omega (arith, ints, l, some));
 }
 
-pub near-pushed : (problem : Problem) (e : ℕ) (flows potentials : List ℤ) (i : ℕ) (forwards : Bool) (amount : ℤ) → AreNear problem e flows potentials → i < vec_len problem.arcs → i < length flows → pos 0 <ℤ amount → amount ≤ℤ room_of (arc_at problem i) (get_or flows i (pos 0)) forwards → reduced_along (factor problem) potentials (arc_at problem i) forwards <ℤ pos 0
-    → AreNear problem e (changed flows i (cond forwards amount (neg_ℤ amount))) potentials
+pub near-pushed : (problem : Problem) (e : ℕ) (flows potentials : List ℤ) (i : ℕ) (forwards : Bool) (amount : ℤ) → AreEpsilonOptimal problem e flows potentials → i < vec_len problem.arcs → i < length flows → pos 0 <ℤ amount → amount ≤ℤ residual_of (arc_at problem i) (get_or flows i (pos 0)) forwards → reduced_along (factor problem) potentials (arc_at problem i) forwards <ℤ pos 0
+    → AreEpsilonOptimal problem e (changed flows i (cond forwards amount (neg_ℤ amount))) potentials
 near-pushed problem e flows potentials i forwards amount h inside within some room negative = λ j l.
-    set-cases (λ k y. IsNear (pos e) (reduced (factor problem) potentials (arc_at problem k)) (arc_at problem k) y) flows i (get_or flows i (pos 0) +ℤ cond forwards amount (neg_ℤ amount)) (pos 0) j within
+    set-cases (λ k y. IsEpsilonOptimal (pos e) (reduced (factor problem) potentials (arc_at problem k)) (arc_at problem k) y) flows i (get_or flows i (pos 0) +ℤ cond forwards amount (neg_ℤ amount)) (pos 0) j within
     (near-pushed-one (pos e) (reduced (factor problem) potentials (arc_at problem i)) (get_or flows i (pos 0)) amount (arc_at problem i) forwards (omega (arith, ints)) (h i inside) some room negative)
     (λ _. h j l)
 
 pub run-pushed : (problem : Problem) (flows potentials excess : List ℤ) (phases steps i : ℕ) (forwards : Bool) (amount : ℤ) → IsCarried problem flows excess → Known problem flows i → Reaches problem phases steps (record { flows = flows; potentials = potentials }) → 0 < phases → i < vec_len problem.arcs
-    → pos 0 <ℤ amount → amount ≤ℤ get_or excess (tail_of (arc_at problem i) forwards) (pos 0) → amount ≤ℤ room_of (arc_at problem i) (get_or flows i (pos 0)) forwards → reduced_along (factor problem) potentials (arc_at problem i) forwards <ℤ pos 0
+    → pos 0 <ℤ amount → amount ≤ℤ get_or excess (tail_of (arc_at problem i) forwards) (pos 0) → amount ≤ℤ residual_of (arc_at problem i) (get_or flows i (pos 0)) forwards → reduced_along (factor problem) potentials (arc_at problem i) forwards <ℤ pos 0
     → Reaches problem phases (steps + 1) (record { flows = changed flows i (cond forwards amount (neg_ℤ amount)); potentials = potentials })
 run-pushed problem flows potentials excess phases steps i forwards amount h k run begun inside some has room negative =
     one-step problem phases steps _ _ begun run (inl (record {
@@ -71,17 +71,17 @@ cost-plain x h = omega (arith, ints, h.above, h.below)
 
 -- what may be sent, as the code has it
 pub sendable : (problem : Problem) (m : Machine) (i tail : ℕ) (forwards : Bool) (cost excess flow room r : ℤ) (arc : FlowArc) (potentials : List ℤ) → arc ≡ arc_at problem i → potentials ≡ m.potentials.items → length potentials ≡ vec_len problem.supplies
-    → cost ≡ reduced (length potentials + 1) potentials arc → cond forwards cost (neg_ℤ cost) <ℤ pos 0 → tail ≡ tail_of arc forwards → excess ≡ get_or m.carried.excess.items tail (pos 0) → flow ≡ get_or m.carried.flows.items i (pos 0) → room ≡ room_of arc flow forwards
+    → cost ≡ reduced (length potentials + 1) potentials arc → cond forwards cost (neg_ℤ cost) <ℤ pos 0 → tail ≡ tail_of arc forwards → excess ≡ get_or m.carried.excess.items tail (pos 0) → flow ≡ get_or m.carried.flows.items i (pos 0) → room ≡ residual_of arc flow forwards
     → r ≤ℤ room → r ≤ℤ excess → pos 0 <ℤ r → IsSendable problem m i forwards r
 sendable problem m i tail forwards cost excess flow room r arc potentials arc-is potentials-is count cost-is saves tail-is excess-is flow-is room-is within has some =
     record {
       some = some;
       excess = subst (λ (x : ℤ). r ≤ℤ x) (excess-is ∙ ap (λ (v : ℕ). get_or m.carried.excess.items v (pos 0)) (tail-is ∙ ap (λ (a : FlowArc). tail_of a forwards) arc-is)) has;
-      room = subst (λ (x : ℤ). r ≤ℤ x) (room-is ∙ ap (λ (a : FlowArc). room_of a flow forwards) arc-is ∙ ap (λ (y : ℤ). room_of (arc_at problem i) y forwards) flow-is) within;
+      room = subst (λ (x : ℤ). r ≤ℤ x) (room-is ∙ ap (λ (a : FlowArc). residual_of a flow forwards) arc-is ∙ ap (λ (y : ℤ). residual_of (arc_at problem i) y forwards) flow-is) within;
       negative = subst (λ (x : ℤ). cond forwards x (neg_ℤ x) <ℤ pos 0) (cost-is ∙ ap (λ (n : ℕ). reduced (n + 1) potentials arc) count ∙ ap (λ (ps : List ℤ). reduced (factor problem) ps arc) potentials-is ∙ ap (reduced (factor problem) m.potentials.items) arc-is) saves;
     }
 
-pub sent-sized : (nodes : ℕ) (arc : FlowArc) (flow r : ℤ) (forwards : Bool) → IsFlowArcOf nodes arc → IsWithinCapacity arc flow → pos 0 <ℤ r → r ≤ℤ room_of arc flow forwards → IsSized flow_limit r
+pub sent-sized : (nodes : ℕ) (arc : FlowArc) (flow r : ℤ) (forwards : Bool) → IsFlowArcOf nodes arc → IsWithinCapacity arc flow → pos 0 <ℤ r → r ≤ℤ residual_of arc flow forwards → IsSized flow_limit r
 sent-sized nodes arc flow r true fits h some l = record { above = omega (arith, ints, some); below = omega (arith, ints, fits.low, fits.cap, h.low, l) }
 sent-sized nodes arc flow r false fits h some l = record { above = omega (arith, ints, some); below = omega (arith, ints, fits.low, fits.cap, h.cap, l) }
 
@@ -100,6 +100,6 @@ running-pushed problem m carried i forwards amount h inside s under after is =
       };
       some = h.some;
       epsilon_is = h.epsilon_is;
-      near = subst (λ (ys : List ℤ). AreNear problem (epsilon problem m.phases) ys m.potentials.items) (sym is)
+      near = subst (λ (ys : List ℤ). AreEpsilonOptimal problem (epsilon problem m.phases) ys m.potentials.items) (sym is)
           (near-pushed problem (epsilon problem m.phases) m.carried.flows.items m.potentials.items i forwards amount h.near inside k.flow s.some s.room s.negative);
     }

@@ -21,8 +21,8 @@ abbrev pub head_of : Joined → FlowArc → ℕ
 head_of j arc = if j.forwards then arc.dst else arc.src
 
 -- the residual capacity towards the node
-abbrev pub room_of : Joined → FlowArc → ℤ → ℤ
-room_of j arc flow = if j.forwards then arc.cap -ℤ flow else flow -ℤ arc.low
+abbrev pub residual_of : Joined → FlowArc → ℤ → ℤ
+residual_of j arc flow = if j.forwards then arc.cap -ℤ flow else flow -ℤ arc.low
 
 -- the change of the arc's flow if this amount is sent towards the node
 abbrev pub signed : Joined → ℤ → ℤ
@@ -33,7 +33,7 @@ pub record IsLink (problem : Problem) (flows potentials : List ℤ) (all : List 
   pub level : reduced_cost potentials (arc_at problem j.index) ≡ pos 0
   pub tail : tail_of j (arc_at problem j.index) ≡ (joined_at all j.parent).node
   pub head : head_of j (arc_at problem j.index) ≡ j.node
-  pub room : pos 0 <ℤ room_of j (arc_at problem j.index) (slice_index_or flows j.index (pos 0))
+  pub room : pos 0 <ℤ residual_of j (arc_at problem j.index) (slice_index_or flows j.index (pos 0))
 
 -- each node was reached from an earlier node, or has excess; no node occurs twice
 pub record IsForest (problem : Problem) (flows potentials excess : List ℤ) (all : List Joined) : Type 0 where

@@ -31,13 +31,13 @@ factor problem = vec_len problem.supplies + 1
 abbrev pub reduced : ℕ → List ℤ → FlowArc → ℤ
 reduced by potentials arc = ((arc.cost *ℤ pos by) +ℤ slice_index_or potentials arc.src (pos 0)) -ℤ slice_index_or potentials arc.dst (pos 0)
 
--- a residual arc, forward or backward: its tail (`tail_of`), its residual capacity (`room_of`) and
+-- a residual arc, forward or backward: its tail (`tail_of`), its residual capacity (`residual_of`) and
 -- its reduced cost (`reduced_along`)
 abbrev pub tail_of : FlowArc → Bool → ℕ
 tail_of arc forwards = if forwards then arc.src else arc.dst
 
-abbrev pub room_of : FlowArc → ℤ → Bool → ℤ
-room_of arc flow forwards = if forwards then arc.cap -ℤ flow else flow -ℤ arc.low
+abbrev pub residual_of : FlowArc → ℤ → Bool → ℤ
+residual_of arc flow forwards = if forwards then arc.cap -ℤ flow else flow -ℤ arc.low
 
 abbrev pub reduced_along : ℕ → List ℤ → FlowArc → Bool → ℤ
 reduced_along by potentials arc forwards = if forwards then reduced by potentials arc else neg_ℤ (reduced by potentials arc)
@@ -45,7 +45,7 @@ reduced_along by potentials arc forwards = if forwards then reduced by potential
 -- each residual arc out of node v has at least this reduced cost
 abbrev pub IsLeastOut : Problem → State → ℕ → ℤ → Type 0
 IsLeastOut problem state v least = (i : ℕ) (forwards : Bool) → i < vec_len problem.arcs → tail_of (arc_at problem i) forwards ≡ v
-    → pos 0 <ℤ room_of (arc_at problem i) (slice_index_or state.flows i (pos 0)) forwards → least ≤ℤ reduced_along (factor problem) state.potentials (arc_at problem i) forwards
+    → pos 0 <ℤ residual_of (arc_at problem i) (slice_index_or state.flows i (pos 0)) forwards → least ≤ℤ reduced_along (factor problem) state.potentials (arc_at problem i) forwards
 
 -- a push: a positive amount over a residual arc of negative reduced cost, out of a node with at
 -- least that much excess
@@ -56,7 +56,7 @@ pub record IsPush (problem : Problem) (old new : State) : Type 0 where
   pub inside : index < vec_len problem.arcs
   pub some : pos 0 <ℤ amount
   pub excess : amount ≤ℤ excess_at problem old.flows (tail_of (arc_at problem index) forwards)
-  pub room : amount ≤ℤ room_of (arc_at problem index) (slice_index_or old.flows index (pos 0)) forwards
+  pub room : amount ≤ℤ residual_of (arc_at problem index) (slice_index_or old.flows index (pos 0)) forwards
   pub negative : reduced_along (factor problem) old.potentials (arc_at problem index) forwards <ℤ pos 0
   pub flows : new.flows ≡ changed old.flows index (if forwards then amount else neg_ℤ amount)
   pub potentials : new.potentials ≡ old.potentials

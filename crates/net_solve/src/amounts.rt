@@ -3,7 +3,7 @@
 ghost use Rattle.std.specs.Prelude.{◌≡◌, ℕ, ◌+◌, ◌<◌, ◌^◌, true, pos, ◌<ℤ◌, ◌≤ℤ◌, neg_ℤ, if◌then◌else◌};
 ghost use Rattle.net_normal.specs.Flows.{IsWithinCapacity};
 ghost use Rattle.net_normal.specs.Limits.{IsSized, IsFlowArcOf, flow_limit};
-ghost use Rattle.net_solve.specs.Runs.{tail_of, room_of};
+ghost use Rattle.net_solve.specs.Runs.{tail_of, residual_of};
 
 use net_normal::FlowArc;
 
@@ -15,10 +15,10 @@ pub fn tail_of(arc: &FlowArc, forwards: bool) -> u32
 }
 
 /// Returns the residual capacity.
-pub fn room_of(arc: &FlowArc, flow: &i64, forwards: bool) -> i64
+pub fn residual_of(arc: &FlowArc, flow: &i64, forwards: bool) -> i64
     requires arc { (nodes : ℕ) × IsFlowArcOf nodes arc.now }
     requires within { IsWithinCapacity arc.now flow.now }
-    ensures { result ≡ room_of arc.now flow.now forwards }
+    ensures { result ≡ residual_of arc.now flow.now forwards }
 {
     if forwards {
         arc.cap - *flow

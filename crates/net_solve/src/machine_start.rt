@@ -1,7 +1,7 @@
 //! The start of a run.
 
 ghost use Rattle.std.specs.Prelude.{◌≡◌, IfOk, map};
-ghost use Rattle.net_solve.specs.Machines.{IsStanding};
+ghost use Rattle.net_solve.specs.Machines.{IsConsistent};
 
 use crate::carried::Carried;
 use crate::machine::Machine;
@@ -19,7 +19,7 @@ fn lows(alloc: Global, arcs: &[FlowArc]) -> Result<Vec<i64>, AllocError>
 impl Machine {
     /// Creates the state of a run before its first phase. Fails only if memory runs out.
     pub fn start(alloc: Global, problem: &Problem, budget: u64) -> Result<Machine, AllocError>
-        ensures standing { IfOk result (IsStanding problem.now) }
+        ensures standing { IfOk result (IsConsistent problem.now) }
         ensures phases { IfOk result (λ machine. machine.phases ≡ 0) }
         ensures budget { IfOk result (λ machine. machine.budget ≡ budget) }
     {

@@ -3,7 +3,7 @@
 ghost use Rattle.std.specs.Prelude.{◌≡◌, ◌<◌, ◌^◌, ◌↔◌, IsTrue, pos, true};
 ghost use Rattle.net_solve.specs.Runs.{greatest_scaled};
 ghost use Rattle.net_solve.specs.Rows.{AreRows};
-ghost use Rattle.net_solve.specs.Machines.{IsStanding};
+ghost use Rattle.net_solve.specs.Machines.{IsConsistent};
 ghost use Rattle.net_solve.specs.ScalingRuns.{IsEnded};
 
 use crate::ending::is_balanced;
@@ -34,9 +34,9 @@ impl Machine {
         requires rows { AreRows problem.now rows.now.starts.items rows.now.entries.items }
         requires scale { scale ≡ greatest_scaled problem.now }
         requires size { scale < 2 ^ 55 }
-        requires standing { IsStanding problem.now self.old }
+        requires standing { IsConsistent problem.now self.old }
         requires first { self.old.phases ≡ 0 }
-        ensures standing { IsStanding problem.now self.new }
+        ensures standing { IsConsistent problem.now self.new }
         ensures budget { self.new.budget ≡ self.old.budget }
         ensures ended { result ≡ true → IsEnded problem.now self.new }
     {

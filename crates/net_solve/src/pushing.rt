@@ -3,7 +3,7 @@
 ghost use Rattle.std.specs.Prelude.{◌≡◌, ◌<◌, pos, ◌<ℤ◌, vec_len};
 ghost use Rattle.net_solve.specs.Machines.{IsRunning, IsSendable};
 
-use crate::amounts::{amount_of, change_of, room_of, saves, tail_of};
+use crate::amounts::{amount_of, change_of, residual_of, saves, tail_of};
 use crate::machine::Machine;
 use crate::reduced::reduced;
 use net_normal::Problem;
@@ -26,7 +26,7 @@ impl Machine {
         if excess <= 0 {
             return 0;
         }
-        let room = room_of(&arc, &self.carried.flows[index as usize], forwards);
+        let room = residual_of(&arc, &self.carried.flows[index as usize], forwards);
         amount_of(wanted, &room, &excess)
     }
 

@@ -5,7 +5,7 @@ ghost use Rattle.net_normal.specs.Limits.{IsFlowArcOf};
 ghost use Rattle.net_normal.specs.Flows.{IsWithinCapacity};
 ghost use Rattle.net_solve.specs.Pseudoflows.{arc_at};
 ghost use Rattle.net_solve.specs.Runs.{Begins, MayBegin, Saturates, factor, greatest_scaled, reduced};
-ghost use Rattle.net_solve.specs.Machines.{AreDeep, IsCarried, IsRunning, IsStanding, state_of};
+ghost use Rattle.net_solve.specs.Machines.{AreDeep, IsCarried, IsRunning, IsConsistent, state_of};
 
 use crate::carried::Carried;
 use crate::machine::Machine;
@@ -77,7 +77,7 @@ impl Machine {
     pub fn begin(&mut self, problem: &Problem, scale: u64)
         requires scale { scale ≡ greatest_scaled problem.now }
         requires size { scale < 2 ^ 55 }
-        requires standing { IsStanding problem.now self.old }
+        requires standing { IsConsistent problem.now self.old }
         requires may { MayBegin problem.now self.old.phases (state_of self.old) }
         ensures running { IsRunning problem.now self.new }
         ensures phases { self.new.phases ≡ self.old.phases + 1 }

@@ -2,7 +2,7 @@
 
 ghost use Rattle.std.specs.Prelude.{◌≡◌, ℕ, IfOk, IfSome};
 ghost use Rattle.net_normal.specs.declared.problem.Problem.{Problem};
-ghost use Rattle.net_solve.specs.Machines.{IsStanding};
+ghost use Rattle.net_solve.specs.Machines.{IsConsistent};
 ghost use Rattle.net_solve.specs.ScalingRuns.{IsEnded, IsScalingRun};
 
 use crate::machine::Machine;
@@ -35,7 +35,7 @@ pub struct ScalingRun {
 impl Machine {
     /// Returns the result of a run that stops here.
     fn broken_off(&self) -> ScalingRun
-        ensures { (problem : Problem) → IsStanding problem self.now → IsScalingRun problem self.now.budget result }
+        ensures { (problem : Problem) → IsConsistent problem self.now → IsScalingRun problem self.now.budget result }
     {
         ScalingRun {
             answer: None,

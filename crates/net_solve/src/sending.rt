@@ -6,7 +6,7 @@ ghost use Rattle.net_normal.specs.Limits.{IsSized, IsFlowArcOf};
 ghost use Rattle.net_normal.specs.declared.problem.FlowArc.{FlowArc};
 ghost use Rattle.net_check.specs.Certificates.{reduced_cost};
 ghost use Rattle.net_solve.specs.Pseudoflows.{IsUnderWay, Moves, arc_at};
-ghost use Rattle.net_solve.specs.Forests.{Others, tail_of, head_of, room_of, signed};
+ghost use Rattle.net_solve.specs.Forests.{Others, tail_of, head_of, residual_of, signed};
 
 use crate::forest::Joined;
 use crate::pseudoflow::Pseudoflow;
@@ -33,7 +33,7 @@ impl Joined {
     /// Returns the residual capacity of the arc towards the node.
     fn room(&self, arc: &FlowArc, flow: &i64) -> i64
         requires { (nodes : ℕ) × IsFlowArcOf nodes arc.now × IsWithinCapacity arc.now flow.now }
-        ensures { result ≡ room_of self.now arc.now flow.now }
+        ensures { result ≡ residual_of self.now arc.now flow.now }
     {
         if self.forwards {
             arc.cap - *flow
@@ -59,7 +59,7 @@ impl Pseudoflow {
         requires under_way { IsUnderWay problem.now self.old.flows.items self.old.potentials.items self.old.excess.items }
         requires level { reduced_cost self.old.potentials.items (arc_at problem.now joined.now.index) ≡ pos 0 }
         requires head { head_of joined.now (arc_at problem.now joined.now.index) ≡ joined.now.node }
-        requires room { pos 0 <ℤ room_of joined.now (arc_at problem.now joined.now.index) (slice_index_or self.old.flows.items joined.now.index (pos 0)) }
+        requires room { pos 0 <ℤ residual_of joined.now (arc_at problem.now joined.now.index) (slice_index_or self.old.flows.items joined.now.index (pos 0)) }
         requires deficit { slice_index_or self.old.excess.items joined.now.node (pos 0) <ℤ pos 0 }
         ensures under_way { IsUnderWay problem.now self.new.flows.items self.new.potentials.items self.new.excess.items }
         ensures potentials { self.new.potentials.items ≡ self.old.potentials.items }

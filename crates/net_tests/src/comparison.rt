@@ -11,13 +11,13 @@ use std::test::Fail;
 /// before there was a result.
 pub fn expect(text: &str, answered: Result<String, AllocError>, wanted: &str) -> Result<(), Fail>
     ensures answered { IsOk result → IsOk answered }
-    ensures refuses { IsOk result → IfOk answered (λ told. told.bytes.items ≡ wanted.now) }
-    ensures passes { IfOk answered (λ told. told.bytes.items ≡ wanted.now → IsOk result) }
+    ensures rejects { IsOk result → IfOk answered (λ reported. reported.bytes.items ≡ wanted.now) }
+    ensures passes { IfOk answered (λ reported. reported.bytes.items ≡ wanted.now → IsOk result) }
 {
-    let told = answered?;
-    if told.as_str() == wanted {
+    let reported = answered?;
+    if reported.as_str() == wanted {
         Ok(())
     } else {
-        Err(Fail::new(format_args!("{text}: {told}, not {wanted}")))
+        Err(Fail::new(format_args!("{text}: {reported}, not {wanted}")))
     }
 }

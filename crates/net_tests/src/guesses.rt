@@ -66,7 +66,7 @@ const GUESSES: &[(&[i64], &[i64])] = &[
 ];
 
 /// Formats a certificate: the value and the flows, or the side and the flags of a cut.
-pub fn told(alloc: Global, certificate: &Certificate) -> Result<String, AllocError> {
+pub fn reported(alloc: Global, certificate: &Certificate) -> Result<String, AllocError> {
     match certificate {
         Certificate::Optimal { value, flows, .. } => format!(in alloc; "{value} {flows:?}"),
         Certificate::Cut { flags, side } => format!(in alloc; "{side:?} {flags:?}"),
@@ -81,7 +81,7 @@ fn settled(
     potentials: &[i64],
 ) -> Result<String, AllocError> {
     match read_problem(alloc, text.as_bytes()) {
-        Ok(problem) => told(alloc, &settle(alloc, &problem, flows, potentials)?),
+        Ok(problem) => reported(alloc, &settle(alloc, &problem, flows, potentials)?),
         Err(_) => Err(AllocError),
     }
 }

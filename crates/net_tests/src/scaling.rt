@@ -1,7 +1,7 @@
 //! Step counts of cost scaling, which the program does not print.
 
 use crate::comparison::expect;
-use crate::guesses::told;
+use crate::guesses::reported;
 use crate::texts::PROBLEM;
 use net_check::Certificate;
 use net_dimacs::read_problem;
@@ -37,7 +37,7 @@ fn ran(alloc: Global, text: &str, budget: u64) -> Result<String, AllocError> {
 /// Returns the solution of a problem if such a run is tried first.
 fn settled(alloc: Global, text: &str, budget: u64) -> Result<String, AllocError> {
     match read_problem(alloc, text.as_bytes()) {
-        Ok(problem) => told(alloc, &solve(alloc, &Scaling { budget }, &problem)?),
+        Ok(problem) => reported(alloc, &solve(alloc, &Scaling { budget }, &problem)?),
         Err(_) => Err(AllocError),
     }
 }

@@ -1,7 +1,7 @@
 //! Custom solvers; the program always uses its own.
 
 use crate::comparison::expect;
-use crate::guesses::told;
+use crate::guesses::reported;
 use crate::texts::PROBLEM;
 use net_check::{Certificate, Verdict, check};
 use net_dimacs::read_problem;
@@ -34,7 +34,7 @@ const PARALLEL: &str = "p min 3 2\nn 1 5\nn 2 -5\na 1 2 0 3 1\na 1 2 0 3 1\n";
 /// Returns the solution of the problem with a solver that knows these flows.
 fn answer(alloc: Global, flows: [i64; 2]) -> Result<String, AllocError> {
     match read_problem(alloc, PARALLEL.as_bytes()) {
-        Ok(problem) => told(alloc, &solve(alloc, &Known(flows), &problem)?),
+        Ok(problem) => reported(alloc, &solve(alloc, &Known(flows), &problem)?),
         Err(_) => Err(AllocError),
     }
 }
@@ -67,7 +67,7 @@ impl Solver for Silent {
 /// What settles a problem if the solver that is asked first has no answer.
 fn settled_by_plain(alloc: Global, problem: &str) -> Result<String, AllocError> {
     match read_problem(alloc, problem.as_bytes()) {
-        Ok(problem) => told(alloc, &solve(alloc, &Silent, &problem)?),
+        Ok(problem) => reported(alloc, &solve(alloc, &Silent, &problem)?),
         Err(_) => Err(AllocError),
     }
 }
@@ -98,7 +98,7 @@ fn judged(
     match answer {
         Some(certificate) => {
             let verdict = check(problem, &certificate);
-            let shown = told(alloc, &certificate)?;
+            let shown = reported(alloc, &certificate)?;
             format!(in alloc; "{shown}, {verdict:?}")
         }
         None => String::from_str(alloc, "none"),

@@ -100,7 +100,7 @@ fn fault_of<W: Sink>(
 
 /// Formats the result of a trial: the error, the number of reads of each source, and what was
 /// written.
-fn told(
+fn reported(
     alloc: Global,
     fault: Option<Fault>,
     reads: (u64, u64),
@@ -122,7 +122,7 @@ pub fn ran(alloc: Global, trial: Trial) -> Result<String, AllocError> {
     let mut second = MemorySource::new(other, bytes, trial.second_reads);
     let mut sink = MemorySink::new(Vec::with_capacity(alloc, 4096)?, bytes, trial.writes);
     let fault = fault_of(alloc, trial.run, &mut first, &mut second, &mut sink);
-    told(alloc, fault, (first.reads, second.reads), &sink.taken)
+    reported(alloc, fault, (first.reads, second.reads), &sink.taken)
 }
 
 /// What comes of a run that writes to a writer with this room, a byte a call.
@@ -132,7 +132,7 @@ pub fn filled(alloc: Global, run: Run, room: usize) -> Result<String, AllocError
     let mut second = MemorySource::new(other, 4096, None);
     let mut sink = OfWrite::new(Filling::new(alloc, room));
     let fault = fault_of(alloc, run, &mut first, &mut second, &mut sink);
-    told(
+    reported(
         alloc,
         fault,
         (first.reads, second.reads),

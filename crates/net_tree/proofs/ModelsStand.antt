@@ -5,8 +5,8 @@ use Rattle.net_lex.specs.declared.token.Token.{Token}
 use Rattle.net_tree.specs.Print.{put_optional, put, put_part, put_braces, put_indexing, put_body, put_phrases, put_condition, put_declaration, print}
 use Rattle.net_tree.specs.Spans.{closing, first, final, final_part, span_of, point}
 use Rattle.net_tree.specs.Tree.{Tree, Part, Braces, absent, part, Body, plain, valued, priced, Phrase, Condition, unsaid, one, between, Declaration, set, param, check, node, arc, objective}
-use Rattle.net_fault.specs.Places.{LiesIn}
-use Rattle.net_tree.specs.Standing.{Stands, PartStands, IndexingStands, BodyStands, PhrasesStand, ConditionStands, DeclarationStands, DeclarationsStand, ModelStands}
+use Rattle.net_fault.specs.Places.{IsSpanIn}
+use Rattle.net_tree.specs.Standing.{Stands, PartStands, IndexingHasSpans, BodyHasSpans, PhrasesHaveSpans, ConditionHasSpans, DeclarationHasSpans, DeclarationsHaveSpans, ModelHasSpans}
 use Rattle.net_lex.proofs.Rising.{Rise, rise_ends, rise_later}
 use Rattle.net_tree.proofs.TreesStand.{Placed, tree_rises, braces_rise}
 
@@ -15,20 +15,20 @@ module _ (to : ℕ) where
   abbrev pub Passed : (from : ℕ) → Type 0 → List Token → Type 0
   Passed from Standing rest = Standing × Rise from to rest
 
-  past : (from : ℕ) (t : Token) (r : List Token) → Rise from to (t ∷ r) → Passed from (LiesIn to t.span) r
+  past : (from : ℕ) (t : Token) (r : List Token) → Rise from to (t ∷ r) → Passed from (IsSpanIn to t.span) r
   past from t r (h, k, m) = (record { forward = k; inside = rise_ends t.span.end to r m }, rise_later from t.span.end to r (omega (arith, h, k)) m)
 
-  point_lies : (from : ℕ) (t : Token) (r : List Token) → Rise from to (t ∷ r) → LiesIn to (point t.span.end)
+  point_lies : (from : ℕ) (t : Token) (r : List Token) → Rise from to (t ∷ r) → IsSpanIn to (point t.span.end)
   point_lies from t r (h, k, m) = record { forward = omega arith; inside = rise_ends t.span.end to r m }
 
-  tree_passed : (from : ℕ) (x : Tree) (r : List Token) → Rise from to (put x r) → Passed from (Stands (LiesIn to) x) r
+  tree_passed : (from : ℕ) (x : Tree) (r : List Token) → Rise from to (put x r) → Passed from (Stands (IsSpanIn to) x) r
   tree_passed from x r h = let x' = tree_rises to from x r h in (x'.stands, rise_later from (final x).span.end to r (omega (arith, x'.begins, x'.forward)) x'.behind)
 
-  part_passed : (from : ℕ) (p : Part) (r : List Token) → Rise from to (put_part p r) → Passed from (PartStands (LiesIn to) p) r
+  part_passed : (from : ℕ) (p : Part) (r : List Token) → Rise from to (put_part p r) → Passed from (PartStands (IsSpanIn to) p) r
   part_passed from absent r h = (tt, h)
   part_passed from (part m x) r h = tree_passed from x r (past from m (put x r) h).1
 
-  indexing_passed : (from : ℕ) (b : Option Braces) (r : List Token) → Rise from to (put_indexing b r) → Passed from (IndexingStands (LiesIn to) b) r
+  indexing_passed : (from : ℕ) (b : Option Braces) (r : List Token) → Rise from to (put_indexing b r) → Passed from (IndexingHasSpans (IsSpanIn to) b) r
   indexing_passed from None r h = (tt, h)
   indexing_passed from (Some b) r h = let b' = braces_rise to from b r h in (b'.stands, rise_later from (closing b).span.end to r (omega (arith, b'.begins, b'.forward)) b'.behind)
 
@@ -36,12 +36,12 @@ module _ (to : ℕ) where
   optional_passed from None r h = h
   optional_passed from (Some t) r h = (past from t r h).1
 
-  body_passed : (from : ℕ) (b : Body) (r : List Token) → Rise from to (put_body b r) → Passed from (BodyStands (LiesIn to) b) r
+  body_passed : (from : ℕ) (b : Body) (r : List Token) → Rise from to (put_body b r) → Passed from (BodyHasSpans (IsSpanIn to) b) r
   body_passed from plain r h = (tt, h)
   body_passed from (valued x) r h = tree_passed from x r h
   body_passed from (priced n x) r h = let (name, more) = past from n (put x r) h in let (x', rest) = tree_passed from x r more in ((name, x'), rest)
 
-  phrases_passed : (from : ℕ) (ps : List Phrase) (r : List Token) → Rise from to (put_phrases ps r) → Passed from (PhrasesStand (LiesIn to) ps) r
+  phrases_passed : (from : ℕ) (ps : List Phrase) (r : List Token) → Rise from to (put_phrases ps r) → Passed from (PhrasesHaveSpans (IsSpanIn to) ps) r
   phrases_passed from [] r h = (tt, h)
   phrases_passed from (p ∷ ps) r h =
       let (word, more) = past from p.word (put_body p.body (put_phrases ps r)) (optional_passed from p.comma (p.word ∷ put_body p.body (put_phrases ps r)) h) in
@@ -49,7 +49,7 @@ module _ (to : ℕ) where
       let (all, rest) = phrases_passed from ps r others in
       ((word, b, all), rest)
 
-  condition_passed : (from : ℕ) (c : Condition) (r : List Token) → Rise from to (put_condition c r) → Passed from (ConditionStands (LiesIn to) c) r
+  condition_passed : (from : ℕ) (c : Condition) (r : List Token) → Rise from to (put_condition c r) → Passed from (ConditionHasSpans (IsSpanIn to) c) r
   unfolding span_of
   condition_passed from unsaid r h = (tt, h)
   condition_passed from (one m x o y) r h =
@@ -67,7 +67,7 @@ module _ (to : ℕ) where
       let whole : (first x).span.start ≤ (final z).span.end = omega (arith, x'.forward, i, j, y'.begins, y'.forward, k, l, z'.begins, z'.forward) in
       ((record { forward = whole; inside = rise_ends (final z).span.end to r z'.behind }, x'.stands, y'.stands, z'.stands), rise_later from (final z).span.end to r (omega (arith, x'.begins, whole)) z'.behind)
 
-  pub declaration_passed : (from : ℕ) (d : Declaration) (r : List Token) → Rise from to (put_declaration d r) → Passed from (DeclarationStands (LiesIn to) d) r
+  pub declaration_passed : (from : ℕ) (d : Declaration) (r : List Token) → Rise from to (put_declaration d r) → Passed from (DeclarationHasSpans (IsSpanIn to) d) r
   declaration_passed from (set w n ps e) r h =
       let (name, more) = past from n (put_phrases ps (e ∷ r)) (past from w (n ∷ put_phrases ps (e ∷ r)) h).1 in
       let (all, end) = phrases_passed from ps (e ∷ r) more in
@@ -96,9 +96,9 @@ module _ (to : ℕ) where
       let (p', end) = part_passed from p (e ∷ r) more in
       ((name, p', point_lies from e r end), (past from e r end).1)
 
-  declarations_stand : (from : ℕ) (ds : List Declaration) → Rise from to (print ds) → DeclarationsStand (LiesIn to) ds
+  declarations_stand : (from : ℕ) (ds : List Declaration) → Rise from to (print ds) → DeclarationsHaveSpans (IsSpanIn to) ds
   declarations_stand from [] h = tt
   declarations_stand from (d ∷ ds) h = let (d', more) = declaration_passed from d (print ds) h in (d', declarations_stand from ds more)
 
-  pub model_stands : (ds : List Declaration) → Rise 0 to (print ds) → ModelStands (LiesIn to) ds
+  pub model_stands : (ds : List Declaration) → Rise 0 to (print ds) → ModelHasSpans (IsSpanIn to) ds
   model_stands ds h = (record { forward = omega arith; inside = omega arith }, declarations_stand 0 ds h)

@@ -8,8 +8,8 @@ use Rattle.net_tree.specs.declared.operator.Words.TheVariants.{One, Two}
 use Rattle.net_tree.specs.Print.{put_operator, put_optional, put, put_links, put_part, put_braces, put_indexing, put_body, put_phrases, put_condition, put_declaration}
 use Rattle.net_tree.specs.Spans.{opening, closing, first_or, first, final, final_of, final_part, span_between, span_of, braces_span}
 use Rattle.net_tree.specs.Tree.{Tree, Links, Part, Braces, leaf, indexed, parens, tuple, negated, braced, signed, reduced, chain, choice, net, none, link, absent, part, empty, filled, Body, plain, valued, priced, Phrase, Condition, unsaid, one, between, Declaration, set, param, check, node, arc, objective}
-use Rattle.net_fault.specs.Places.{LiesIn}
-use Rattle.net_tree.specs.Standing.{Stands, LinksStand, PartStands, BracesStand, IndexingStands, BodyStands, PhrasesStand, ConditionStands, DeclarationStands, DeclarationsStand}
+use Rattle.net_fault.specs.Places.{IsSpanIn}
+use Rattle.net_tree.specs.Standing.{Stands, LinksStand, PartStands, BracesStand, IndexingHasSpans, BodyHasSpans, PhrasesHaveSpans, ConditionHasSpans, DeclarationHasSpans, DeclarationsHaveSpans}
 use Rattle.net_lex.proofs.Rising.{Rise, rise_ends, rise_later}
 
 -- what stands between two tokens, the first of which is not before a place, and what rises behind it
@@ -26,18 +26,18 @@ pub record Follows (to : ℕ) (before final : Token) (Standing : Type 0) (rest :
   pub behind : Rise final.span.end to rest
 
 module _ (to : ℕ) where
-  lies : (start end : ℕ) → start ≤ end → end ≤ to → LiesIn to (record { start = start; end = end })
+  lies : (start end : ℕ) → start ≤ end → end ≤ to → IsSpanIn to (record { start = start; end = end })
   lies start end h k = record { forward = h; inside = k }
 
   -- behind an operator
-  behind_operator : (from : ℕ) (o : Operator) (r : List Token) → Rise from to (put_operator o r) → Rise from to r
-  behind_operator from (One t) r (h, k, m) = rise_later from t.span.end to r (omega (arith, h, k)) m
-  behind_operator from (Two t u) r (h, k, (i, j, m)) = rise_later from u.span.end to r (omega (arith, h, k, i, j)) m
+  after_operator : (from : ℕ) (o : Operator) (r : List Token) → Rise from to (put_operator o r) → Rise from to r
+  after_operator from (One t) r (h, k, m) = rise_later from t.span.end to r (omega (arith, h, k)) m
+  after_operator from (Two t u) r (h, k, (i, j, m)) = rise_later from u.span.end to r (omega (arith, h, k, i, j)) m
 
   mutual
     unfolding span_of span_between braces_span
 
-    pub tree_rises : (from : ℕ) (t : Tree) (r : List Token) → Rise from to (put t r) → Placed from to (first t) (final t) (Stands (LiesIn to) t) r
+    pub tree_rises : (from : ℕ) (t : Tree) (r : List Token) → Rise from to (put t r) → Placed from to (first t) (final t) (Stands (IsSpanIn to) t) r
     tree_rises from (leaf t) r (h, k, m) =
         let inside = rise_ends t.span.end to r m in
         record { begins = h; forward = k; stands = (lies _ _ k inside, record { forward = k; inside = inside }); behind = m }
@@ -93,20 +93,20 @@ module _ (to : ℕ) where
         let whole : s.span.start ≤ w.span.end = omega (arith, k, i, j) in
         record { begins = h; forward = whole; stands = lies _ _ whole (rise_ends w.span.end to r m); behind = m }
 
-    links_rise : (before : Token) (l : Links) (r : List Token) → Rise before.span.end to (put_links l r) → Follows to before (final_of before l) (LinksStand (LiesIn to) l) r
+    links_rise : (before : Token) (l : Links) (r : List Token) → Rise before.span.end to (put_links l r) → Follows to before (final_of before l) (LinksStand (IsSpanIn to) l) r
     links_rise before none r h = record { forward = omega arith; stands = tt; behind = h }
     links_rise before (link o x l) r h =
-        let x' = tree_rises before.span.end x (put_links l r) (behind_operator before.span.end o (put x (put_links l r)) h) in
+        let x' = tree_rises before.span.end x (put_links l r) (after_operator before.span.end o (put x (put_links l r)) h) in
         let l' = links_rise (final x) l r x'.behind in
         record { forward = omega (arith, x'.begins, x'.forward, l'.forward); stands = (x'.stands, l'.stands); behind = l'.behind }
 
-    part_rises : (before : Token) (p : Part) (r : List Token) → Rise before.span.end to (put_part p r) → Follows to before (final_part before p) (PartStands (LiesIn to) p) r
+    part_rises : (before : Token) (p : Part) (r : List Token) → Rise before.span.end to (put_part p r) → Follows to before (final_part before p) (PartStands (IsSpanIn to) p) r
     part_rises before absent r h = record { forward = omega arith; stands = tt; behind = h }
     part_rises before (part m x) r (h, k, s) =
         let x' = tree_rises m.span.end x r s in
         record { forward = omega (arith, h, k, x'.begins, x'.forward); stands = x'.stands; behind = x'.behind }
 
-    pub braces_rise : (from : ℕ) (b : Braces) (r : List Token) → Rise from to (put_braces b r) → Placed from to (opening b) (closing b) (BracesStand (LiesIn to) b) r
+    pub braces_rise : (from : ℕ) (b : Braces) (r : List Token) → Rise from to (put_braces b r) → Placed from to (opening b) (closing b) (BracesStand (IsSpanIn to) b) r
     braces_rise from (empty o p c) r (h, k, m) =
         let p' = part_rises o p (c ∷ r) m in
         let (i, j, s) = p'.behind in

@@ -13,9 +13,9 @@ is_in op.In = true
 is_in _ = false
 
 -- the right operand of a single `in`
-abbrev pub behind_in : Links → Option Tree
-behind_in (link o y none) = if is_in (operation o) then Some y else None
-behind_in _ = None
+abbrev pub after_in : Links → Option Tree
+after_in (link o y none) = if is_in (operation o) then Some y else None
+after_in _ = None
 
 abbrev pub both : Tree → Option Tree → Option (Tree × Tree)
 both x None = None
@@ -23,10 +23,10 @@ both x (Some y) = Some (x, y)
 
 -- the two sides of an item whose top operator is `in`
 abbrev pub sides : Tree → Option (Tree × Tree)
-sides (chain n x l) = both x (behind_in l)
+sides (chain n x l) = both x (after_in l)
 sides _ = None
 
 -- the token of a simple name
-abbrev pub lone_name : Tree → Option Token
-lone_name (leaf t) = if is_name (role_of t) then Some t else None
-lone_name _ = None
+abbrev pub single_name : Tree → Option Token
+single_name (leaf t) = if is_name (role_of t) then Some t else None
+single_name _ = None

@@ -32,39 +32,39 @@ abbrev mutual
   BracesStand P (empty o p c) = P (braces_span (empty o p c)) × P (span_between o c) × PartStands P p
   BracesStand P (filled o x l p c) = P (braces_span (filled o x l p c)) × P (span_between o c) × Stands P x × LinksStand P l × PartStands P p
 
-abbrev pub IndexingStands : (Span → Type 0) → Option Braces → Type 0
-IndexingStands P None = ⊤
-IndexingStands P (Some b) = BracesStand P b
+abbrev pub IndexingHasSpans : (Span → Type 0) → Option Braces → Type 0
+IndexingHasSpans P None = ⊤
+IndexingHasSpans P (Some b) = BracesStand P b
 
 -- what follows the keyword of a phrase
-abbrev pub BodyStands : (Span → Type 0) → Body → Type 0
-BodyStands P plain = ⊤
-BodyStands P (valued x) = Stands P x
-BodyStands P (priced n x) = P n.span × Stands P x
+abbrev pub BodyHasSpans : (Span → Type 0) → Body → Type 0
+BodyHasSpans P plain = ⊤
+BodyHasSpans P (valued x) = Stands P x
+BodyHasSpans P (priced n x) = P n.span × Stands P x
 
-abbrev pub PhrasesStand : (Span → Type 0) → List Phrase → Type 0
-PhrasesStand P [] = ⊤
-PhrasesStand P (p ∷ ps) = P p.word.span × BodyStands P p.body × PhrasesStand P ps
+abbrev pub PhrasesHaveSpans : (Span → Type 0) → List Phrase → Type 0
+PhrasesHaveSpans P [] = ⊤
+PhrasesHaveSpans P (p ∷ ps) = P p.word.span × BodyHasSpans P p.body × PhrasesHaveSpans P ps
 
 -- a node's condition: its expressions and the whole condition
-abbrev pub ConditionStands : (Span → Type 0) → Condition → Type 0
-ConditionStands P unsaid = ⊤
-ConditionStands P (one m x o y) = P (from_to x y) × Stands P x × Stands P y
-ConditionStands P (between m x o y p z) = P (from_to x z) × Stands P x × Stands P y × Stands P z
+abbrev pub ConditionHasSpans : (Span → Type 0) → Condition → Type 0
+ConditionHasSpans P unsaid = ⊤
+ConditionHasSpans P (one m x o y) = P (from_to x y) × Stands P x × Stands P y
+ConditionHasSpans P (between m x o y p z) = P (from_to x z) × Stands P x × Stands P y × Stands P z
 
 -- a declaration: its name, its parts, and the position after its semicolon
-abbrev pub DeclarationStands : (Span → Type 0) → Declaration → Type 0
-DeclarationStands P (set w n ps e) = P n.span × PhrasesStand P ps × P (point e.span.end)
-DeclarationStands P (param w n b ps e) = P n.span × IndexingStands P b × PhrasesStand P ps × P (point e.span.end)
-DeclarationStands P (check w b m x e) = IndexingStands P b × Stands P x × P (point e.span.end)
-DeclarationStands P (node w n b c e) = P n.span × IndexingStands P b × ConditionStands P c × P (point e.span.end)
-DeclarationStands P (arc w n b ps e) = P n.span × IndexingStands P b × PhrasesStand P ps × P (point e.span.end)
-DeclarationStands P (objective w n p e) = P n.span × PartStands P p × P (point e.span.end)
+abbrev pub DeclarationHasSpans : (Span → Type 0) → Declaration → Type 0
+DeclarationHasSpans P (set w n ps e) = P n.span × PhrasesHaveSpans P ps × P (point e.span.end)
+DeclarationHasSpans P (param w n b ps e) = P n.span × IndexingHasSpans P b × PhrasesHaveSpans P ps × P (point e.span.end)
+DeclarationHasSpans P (check w b m x e) = IndexingHasSpans P b × Stands P x × P (point e.span.end)
+DeclarationHasSpans P (node w n b c e) = P n.span × IndexingHasSpans P b × ConditionHasSpans P c × P (point e.span.end)
+DeclarationHasSpans P (arc w n b ps e) = P n.span × IndexingHasSpans P b × PhrasesHaveSpans P ps × P (point e.span.end)
+DeclarationHasSpans P (objective w n p e) = P n.span × PartStands P p × P (point e.span.end)
 
-abbrev pub DeclarationsStand : (Span → Type 0) → List Declaration → Type 0
-DeclarationsStand P [] = ⊤
-DeclarationsStand P (d ∷ ds) = DeclarationStands P d × DeclarationsStand P ds
+abbrev pub DeclarationsHaveSpans : (Span → Type 0) → List Declaration → Type 0
+DeclarationsHaveSpans P [] = ⊤
+DeclarationsHaveSpans P (d ∷ ds) = DeclarationHasSpans P d × DeclarationsHaveSpans P ds
 
 -- a whole model; the position 0 is used for a model without declarations
-abbrev pub ModelStands : (Span → Type 0) → List Declaration → Type 0
-ModelStands P ds = P (point 0) × DeclarationsStand P ds
+abbrev pub ModelHasSpans : (Span → Type 0) → List Declaration → Type 0
+ModelHasSpans P ds = P (point 0) × DeclarationsHaveSpans P ds

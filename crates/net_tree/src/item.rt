@@ -19,8 +19,8 @@ fn is_in(operator: &Operator<'_>) -> bool
 }
 
 /// Returns the right operand of a single `in`.
-fn behind_in<'a, 's>(links: &'a [Link<'s>]) -> Option<&'a Expr<'s>>
-    ensures { option_map (λ x. tree x.now) result ≡ items.behind_in (links_of links.entry.now) }
+fn after_in<'a, 's>(links: &'a [Link<'s>]) -> Option<&'a Expr<'s>>
+    ensures { option_map (λ x. tree x.now) result ≡ items.after_in (links_of links.entry.now) }
 {
     match links {
         [] => None,
@@ -43,7 +43,7 @@ pub fn sides_of<'a, 's>(item: &'a Expr<'s>) -> Option<(&'a Expr<'s>, &'a Expr<'s
     match item {
         Expr::Chain(_, operands) => {
             let series = operands.get();
-            match behind_in(series.more.as_slice()) {
+            match after_in(series.more.as_slice()) {
                 None => None,
                 Some(set) => Some((&series.first, set)),
             }
@@ -55,7 +55,7 @@ pub fn sides_of<'a, 's>(item: &'a Expr<'s>) -> Option<(&'a Expr<'s>, &'a Expr<'s
 }
 
 fn if_name<'a, 's>(token: &'a Token<'s>) -> Option<&'a Token<'s>>
-    ensures { option_map (λ t. t.now) result ≡ items.lone_name (leaf token.entry.now) }
+    ensures { option_map (λ t. t.now) result ≡ items.single_name (leaf token.entry.now) }
 {
     match role_of(token) {
         Role::Name => Some(token),
@@ -65,8 +65,8 @@ fn if_name<'a, 's>(token: &'a Token<'s>) -> Option<&'a Token<'s>>
 
 /// Returns the token of a simple name.
 #[tactic(auto, using(crate::proofs::Views::views))]
-pub fn lone_name<'a, 's>(component: &'a Expr<'s>) -> Option<&'a Token<'s>>
-    ensures { option_map (λ t. t.now) result ≡ items.lone_name (tree component.entry.now) }
+pub fn single_name<'a, 's>(component: &'a Expr<'s>) -> Option<&'a Token<'s>>
+    ensures { option_map (λ t. t.now) result ≡ items.single_name (tree component.entry.now) }
 {
     match component {
         Expr::Leaf(token) => if_name(token),

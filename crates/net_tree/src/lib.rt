@@ -11,7 +11,7 @@ mod span;
 
 pub use declaration::{Body, Decl, Model, NetCond, Phrase};
 pub use expr::{Braces, Expr, Link, Part, Series};
-pub use item::{lone_name, sides_of};
+pub use item::{sides_of, single_name};
 pub use operator::{BinOp, Operator, Reducer, Reduction, Sign};
 pub use role::{Begins, Declares, Relation, Role, role_of};
 pub use span::{braces_span, condition_span, span_between, span_of};

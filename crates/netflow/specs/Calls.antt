@@ -2,8 +2,8 @@
 use Rattle.std.specs.Prelude.{◌≡◌, ◌⊎◌, ℕ, Bool, true, List, Option, Some, None, Result, Ok, Err, ⊤}
 use Rattle.std.specs.Option.{option_copied}
 use Rattle.clap.specs.Words.{Text}
-use Rattle.net_driver.specs.declared.ending.Ending.{Ending}
-use Rattle.net_driver.specs.declared.ending.Ending.TheVariants.{Done}
+use Rattle.net_driver.specs.declared.exit_kind.ExitKind.{ExitKind}
+use Rattle.net_driver.specs.declared.exit_kind.ExitKind.TheVariants.{Done}
 use Rattle.net_driver.specs.declared.fault.Fault.{Fault}
 use Rattle.net_driver.specs.declared.fault.Fault.TheVariants.{Unread}
 use Rattle.net_driver.specs.declared.fault.TextName.{TextName}
@@ -15,7 +15,7 @@ use Rattle.netflow.specs.declared.words.Words.{Words}
 use Rattle.netflow.specs.declared.status.Status.{Status}
 use Rattle.netflow.specs.declared.status.Status.TheVariants as statuses
 use Rattle.netflow.specs.CommandLine.{AsksForHelp, IsAskedBy, IsCallOf, IsValid}
-use Rattle.netflow.specs.Statuses.{status_of_ending, status_of_fault}
+use Rattle.netflow.specs.Statuses.{status_of_exit_kind, status_of_fault}
 
 -- the files that can be opened: what opening a path can give, and the state of an opened file
 pub record Files (S : Type 0) : Type 1 where
@@ -30,34 +30,34 @@ source files old new = record { remaining = files.remaining; failed = files.fail
 
 -- the file at this path was opened, and `Then` holds for it; or it could not be opened, the result
 -- reports it, and nothing was written
-abbrev pub Opens : {S W : Type 0} → Files S → Sink W → Result Ending Fault → (path : List ℕ) → TextName → (Then : S → Type 0) → Type 0
+abbrev pub Opens : {S W : Type 0} → Files S → Sink W → Result ExitKind Fault → (path : List ℕ) → TextName → (Then : S → Type 0) → Type 0
 Opens {S} files output result path name Then =
     ((file : S) × files.opens path (Some file) × Then file)
     ⊎ (files.opens path None × (result ≡ Err (Unread name)) × (output.new ≡ output.old))
 
 -- a run on the file at this path
-abbrev pub OnFile : {S W : Type 0} → Files S → Sink W → Result Ending Fault → (path : List ℕ) → TextName → (Source S → Type 0) → Type 0
+abbrev pub OnFile : {S W : Type 0} → Files S → Sink W → Result ExitKind Fault → (path : List ℕ) → TextName → (Source S → Type 0) → Type 0
 OnFile {S} files output result path name IsRunOn =
     Opens files output result path name (λ old. (new : S) × IsRunOn (source files old new))
 
 -- a run on the files at these two paths: the second is opened only if the first was, and read only
 -- if no read of the first failed
-abbrev pub OnFiles : {S W : Type 0} → Files S → Sink W → Result Ending Fault → (path : List ℕ) → TextName → (path₂ : List ℕ) → TextName
+abbrev pub OnFiles : {S W : Type 0} → Files S → Sink W → Result ExitKind Fault → (path : List ℕ) → TextName → (path₂ : List ℕ) → TextName
     → (Source S → Source S → Type 0) → Type 0
 OnFiles {S} files output result path name path₂ name₂ IsRunOn =
     Opens files output result path name (λ old. Opens files output result path₂ name₂ (λ old₂.
     (new new₂ : S) × IsRunOn (source files old new) (source files old₂ new₂) × (files.failed new ≡ true → new₂ ≡ old₂)))
 
 -- the result of the program for a problem that was compiled
-abbrev pub compiled_ending : Result (Unit {0}) Fault → Result Ending Fault
-compiled_ending (Ok done) = Ok Done
-compiled_ending (Err fault) = Err fault
+abbrev pub compiled_exit_kind : Result (Unit {0}) Fault → Result ExitKind Fault
+compiled_exit_kind (Ok done) = Ok Done
+compiled_exit_kind (Err fault) = Err fault
 
 -- the run of a call on its files, with its options
-abbrev pub IsCallRun : {S W : Type 0} → Files S → Sink W → Call → Result Ending Fault → Type 0
+abbrev pub IsCallRun : {S W : Type 0} → Files S → Sink W → Call → Result ExitKind Fault → Type 0
 IsCallRun files output (Compile model other options) result =
     OnFiles files output result model.now Model other.now Data (λ m d.
-    (ran : Result (Unit {0}) Fault) × IsCompileRun options.lean (option_copied options.objective) m d output ran × (result ≡ compiled_ending ran))
+    (ran : Result (Unit {0}) Fault) × IsCompileRun options.lean (option_copied options.objective) m d output ran × (result ≡ compiled_exit_kind ran))
 IsCallRun files output (Solve model other options) result =
     OnFiles files output result model.now Model other.now Data (λ m d. IsSolveRun options.lean (option_copied options.objective) m d output result)
 IsCallRun files output (Min problem) result =
@@ -66,15 +66,15 @@ IsCallRun files output (Check problem certificate) result =
     OnFiles files output result problem.now Problem certificate.now Certificate (λ p c. IsCheckRun p c output result)
 
 -- the status of a call's result
-abbrev pub status_of : Result Ending Fault → Status
-status_of (Ok ending) = status_of_ending ending
+abbrev pub status_of : Result ExitKind Fault → Status
+status_of (Ok exit_kind) = status_of_exit_kind exit_kind
 status_of (Err fault) = status_of_fault fault
 
 -- the call that the arguments request was run, and the status is that of its result
 pub record RunsCall {S W : Type 0} (files : Files S) (output : Sink W) (words : List Text) (status : Status) : Type 0 where
   pub asked : Words
   pub call : Call
-  pub result : Result Ending Fault
+  pub result : Result ExitKind Fault
   pub requested : IsAskedBy words asked
   pub chosen : IsCallOf asked call
   pub run : IsCallRun files output call result
@@ -88,7 +88,7 @@ IsIdle words statuses.Done = AsksForHelp words
 IsIdle words statuses.EndFailed = AsksForHelp words
 IsIdle words statuses.OutOfMemory = ⊤
 IsIdle words statuses.Refuted = ⊥
-IsIdle words statuses.Refused = ⊥
+IsIdle words statuses.Rejected = ⊥
 
 -- no call was run, and nothing was written
 pub record RunsNothing {W : Type 0} (output : Sink W) (words : List Text) (status : Status) : Type 0 where

@@ -9,7 +9,7 @@ use crate::files::{InputFiles, RuntimeFiles};
 use crate::status::Status;
 use crate::words::{WordsFault, words_of};
 use net_driver::{
-    Ending, Fault, Options, TextName, run_check, run_compile_with, run_min, run_solve_with,
+    ExitKind, Fault, Options, TextName, run_check, run_compile_with, run_min, run_solve_with,
 };
 use net_io::{OfWrite, Sink};
 use std::alloc::Global;
@@ -25,7 +25,7 @@ fn compile_files<F: InputFiles, W: Sink>(
     model: &str,
     data: &str,
     options: &Options<'_>,
-) -> Result<Ending, Fault>
+) -> Result<ExitKind, Fault>
     requires { W.failed output.old ≡ false }
     ensures { IsCallRun
         (record { opens = F.opens files.now; remaining = F.Input.remaining; failed = F.Input.failed; reads = F.Input.reads })
@@ -39,7 +39,7 @@ fn compile_files<F: InputFiles, W: Sink>(
         return Err(Fault::Unread(TextName::Data));
     };
     match run_compile_with(alloc, options, &mut model, &mut data, output) {
-        Ok(()) => Ok(Ending::Done),
+        Ok(()) => Ok(ExitKind::Done),
         Err(fault) => Err(fault),
     }
 }
@@ -52,7 +52,7 @@ fn solve_files<F: InputFiles, W: Sink>(
     model: &str,
     data: &str,
     options: &Options<'_>,
-) -> Result<Ending, Fault>
+) -> Result<ExitKind, Fault>
     requires { W.failed output.old ≡ false }
     ensures { IsCallRun
         (record { opens = F.opens files.now; remaining = F.Input.remaining; failed = F.Input.failed; reads = F.Input.reads })
@@ -74,7 +74,7 @@ fn min_file<F: InputFiles, W: Sink>(
     files: &F,
     output: &mut W,
     problem: &str,
-) -> Result<Ending, Fault>
+) -> Result<ExitKind, Fault>
     requires { W.failed output.old ≡ false }
     ensures { IsCallRun
         (record { opens = F.opens files.now; remaining = F.Input.remaining; failed = F.Input.failed; reads = F.Input.reads })
@@ -94,7 +94,7 @@ fn check_files<F: InputFiles, W: Sink>(
     output: &mut W,
     problem: &str,
     certificate: &str,
-) -> Result<Ending, Fault>
+) -> Result<ExitKind, Fault>
     requires { W.failed output.old ≡ false }
     ensures { IsCallRun
         (record { opens = F.opens files.now; remaining = F.Input.remaining; failed = F.Input.failed; reads = F.Input.reads })
@@ -116,7 +116,7 @@ fn run_call<F: InputFiles, W: Sink>(
     files: &F,
     output: &mut W,
     call: Call<'_>,
-) -> Result<Ending, Fault>
+) -> Result<ExitKind, Fault>
     requires { W.failed output.old ≡ false }
     ensures { IsCallRun
         (record { opens = F.opens files.now; remaining = F.Input.remaining; failed = F.Input.failed; reads = F.Input.reads })
@@ -165,7 +165,7 @@ fn run_program<R: Runtime + AllocGlobal, F: InputFiles, W: Sink>(
         }
     };
     match run_call(rt.alloc(), files, output, call_of(&words)) {
-        Ok(ending) => Status::of_ending(ending),
+        Ok(exit_kind) => Status::of_exit_kind(exit_kind),
         Err(fault) => tell(rt, &fault),
     }
 }

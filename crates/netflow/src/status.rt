@@ -1,9 +1,9 @@
 //! Exit statuses.
 
 ghost use Rattle.std.specs.Prelude.{◌≡◌};
-ghost use Rattle.netflow.specs.Statuses.{code_of, status_of_fault, status_of_ending};
+ghost use Rattle.netflow.specs.Statuses.{code_of, status_of_fault, status_of_exit_kind};
 
-use net_driver::{Ending, Fault};
+use net_driver::{ExitKind, Fault};
 
 /// How the program ends.
 #[derive(Clone, Copy)]
@@ -12,7 +12,7 @@ pub enum Status {
     /// There is no feasible flow, or a certificate was rejected.
     Refuted,
     /// An input was rejected.
-    Refused,
+    Rejected,
     /// A file could not be read, or the output could not be written.
     EndFailed,
     OutOfMemory,
@@ -28,7 +28,7 @@ impl Status {
         match self {
             Status::Done => 0,
             Status::Refuted => 2,
-            Status::Refused => 3,
+            Status::Rejected => 3,
             Status::EndFailed => 4,
             Status::OutOfMemory => 5,
             Status::Usage => 64,
@@ -41,20 +41,20 @@ impl Status {
     {
         match fault {
             Fault::OutOfMemory => Status::OutOfMemory,
-            Fault::Refused(_) => Status::Refused,
-            Fault::RefusedLine(_) => Status::Refused,
+            Fault::Rejected(_) => Status::Rejected,
+            Fault::RejectedLine(_) => Status::Rejected,
             Fault::Unread(_) => Status::EndFailed,
             Fault::Unwritten => Status::EndFailed,
         }
     }
 
     /// Returns the status of a run that completed with this result.
-    pub fn of_ending(ending: Ending) -> Status
-        ensures value { result ≡ status_of_ending ending }
+    pub fn of_exit_kind(exit_kind: ExitKind) -> Status
+        ensures value { result ≡ status_of_exit_kind exit_kind }
     {
-        match ending {
-            Ending::Done => Status::Done,
-            Ending::Refuted => Status::Refuted,
+        match exit_kind {
+            ExitKind::Done => Status::Done,
+            ExitKind::Refuted => Status::Refuted,
         }
     }
 }

@@ -360,7 +360,7 @@ fn no_command(command: &mut Command<'_>) -> WordsFault
 /// invalid arguments and for a request for help or the version.
 pub fn words_of(alloc: Global, words: &[String]) -> Result<Words, WordsFault>
     ensures value { IfOk result (IsAskedBy (map string_bytes words.now)) }
-    ensures refused { IfErr result (IsRejection (map string_bytes words.now)) }
+    ensures rejected { IfErr result (IsRejection (map string_bytes words.now)) }
 {
     let mut command = command(alloc)?;
     let matches = match command.try_get_matches_from_mut(words) {

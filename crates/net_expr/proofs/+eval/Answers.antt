@@ -21,7 +21,7 @@ use Rattle.net_expr.specs.Walks.{by_sides, index_items, component_places}
 use Rattle.net_expr.proofs.Cases.{in_indexed, in_parens, in_tuple, in_negated, in_signed, in_reduced, in_chain, in_choice, in_filled}
 use Rattle.net_expr.proofs.Walking.{answers_by, and_then-assoc, is_tuple, value-indexed, value-tuple, value-negated, value-signed, value-reduced, value-chain, value-choice, index-filled, left-tuple, left-other, place-sides, link_lighter, stops, goes, leaves_answers, from_start, ok_same, split_first, rest_first, chained-left, values-left, kept-next, kept-all, gathered-left, if_some_by, unconditioned}
 use Rattle.net_expr.specs.Frames.{weight_of}
-use Rattle.net_expr.proofs.Framing.{AreLight, none_to_come, one_to_come, no_frames, light_last, light_apart, lighter_still, behind_first, entering_stops, entering_leads, entering_lighter, entering_steps, ended, gives_way, led, to_item, fault_of_place, way_shorter, item_shorter}
+use Rattle.net_expr.proofs.Framing.{AreLight, none_to_come, one_to_come, no_frames, light_last, light_apart, lighter_still, after_first, entering_stops, entering_leads, entering_lighter, entering_steps, ended, gives_way, led, to_item, fault_of_place, way_shorter, item_shorter}
 use Rattle.net_expr.proofs.Passing.{selected_from}
 use Rattle.net_expr.proofs.Subscripting.{dummy_value, from_none, one-left, none-left, answers_decided}
 use Rattle.net_expr.proofs.+eval.Goals as goal
@@ -177,11 +177,11 @@ pub keys::walk-tuples-preserved : goal.keys::walk-tuples-preserved
 keys::walk-tuples-preserved t c =
     let pushed = c.in_ok-push-in-Some-2.ensures.items ∙ ap (λ left. c.tuples.below.items ++ (record c.tuples.top { left = left }) ∷ []) c.pass.ensures in
     record {
-      same = to_item c.args.at c.args.env.now (behind_first c.tuples.top) c.in-Some-2.deeper _ c.in_ok-onward-in-Some.field-0 c.tuples.below.items c.push.new.self.items c.onward.new.found.items _
+      same = to_item c.args.at c.args.env.now (after_first c.tuples.top) c.in-Some-2.deeper _ c.in_ok-onward-in-Some.field-0 c.tuples.below.items c.push.new.self.items c.onward.new.found.items _
           (led c.args.at c.args.env.now c.tuples.top c.in-Some.tuple.now c.in_ok-next-in-Some.next c.tuples.below.items c.tuples.found.items _ c.tuples.invariant.same (one_to_come c.tuples.top.left _ c.in-Some.tuple.now c.first.ensures (ap option_copied c.in-Some.is)) c.in_ok-next-in-Some.ensures)
           c.in_ok-onward-in-Some.ensures.leads c.in-Some-2.is pushed;
       light = lighter_still (weight_of c.args.first) c.tuples.top c.in-Some-2.deeper c.in_ok-onward-in-Some.field-0 c.tuples.invariant.light c.in_ok-onward-in-Some.ensures.lighter c.in-Some-2.is;
-      below = subst (AreLight (weight_of c.args.first)) (sym pushed) (light_last (weight_of c.args.first) c.tuples.below.items (behind_first c.tuples.top) c.tuples.invariant.below c.tuples.invariant.light);
+      below = subst (AreLight (weight_of c.args.first)) (sym pushed) (light_last (weight_of c.args.first) c.tuples.below.items (after_first c.tuples.top) c.tuples.invariant.below c.tuples.invariant.light);
     }
 
 pub keys::collect-returns-in_err-walk : goal.keys::collect-returns-in_err-walk
@@ -300,7 +300,7 @@ keys::choose-returns t c = c.chosen.ensures _ c.evaluate.ensures
 
 pub keys::holds-returns-in-Some : goal.keys::holds-returns-in-Some
 keys::holds-returns-in-Some t c =
-    let told = c.truth_at.ensures _ c.evaluate.ensures in search (rules, views, told)
+    let reported = c.truth_at.ensures _ c.evaluate.ensures in search (rules, views, reported)
 
 pub keys::item_tuples-returns-in-None : goal.keys::item_tuples-returns-in-None
 keys::item_tuples-returns-in-None t c =
@@ -308,15 +308,15 @@ keys::item_tuples-returns-in-None t c =
 
 pub keys::open-returns-in_err-tuples : goal.keys::open-returns-in_err-tuples
 keys::open-returns-in_err-tuples t c =
-    let told = c.in_err-tuples.ensures (Ok c.args.value) refl in search (rules, told)
+    let reported = c.in_err-tuples.ensures (Ok c.args.value) refl in search (rules, reported)
 
 pub keys::open-returns-in_ok-tuples : goal.keys::open-returns-in_ok-tuples
 keys::open-returns-in_ok-tuples t c =
-    let told = c.in_ok-tuples.ensures (Ok c.args.value) refl in search (rules, told)
+    let reported = c.in_ok-tuples.ensures (Ok c.args.value) refl in search (rules, reported)
 
 pub keys::open-returns-else-is_set : goal.keys::open-returns-else-is_set
 keys::open-returns-else-is_set t c =
-    let told = c.listed.ensures _ c.evaluate_more-found.ensures in search (rules, told)
+    let reported = c.listed.ensures _ c.evaluate_more-found.ensures in search (rules, reported)
 
 pub eval::chained-loop-link-init : goal.eval::chained-loop-link-init
 eval::chained-loop-link-init t c = grind (arith, common_steps)

@@ -81,36 +81,36 @@ pub expressions::unary_of-returns-in-Reduction-clause-value : goal.expressions::
 unfolding unary unary_at
 expressions::unary_of-returns-in-Reduction-clause-value t c = let some = inside-some c.args.depth c.if-depth-eq0.false in grind (arith, some)
 
-pub chains::climb_to-returns-then-loosest-lt-PRODUCT-clause-value : goal.chains::climb_to-returns-then-loosest-lt-PRODUCT-clause-value
-chains::climb_to-returns-then-loosest-lt-PRODUCT-clause-value t c = rw (climb-low c.args.loosest (unary (inside c.args.depth)) c.if-loosest-lt-PRODUCT.true) c.unary_of.ensures.value
+pub chains::climb_to-returns-then-max_precedence-lt-PRODUCT-clause-value : goal.chains::climb_to-returns-then-max_precedence-lt-PRODUCT-clause-value
+chains::climb_to-returns-then-max_precedence-lt-PRODUCT-clause-value t c = rw (climb-low c.args.max_precedence (unary (inside c.args.depth)) c.if-max_precedence-lt-PRODUCT.true) c.unary_of.ensures.value
 
-pub chains::climb_to-returns-else-loosest-lt-PRODUCT-clause-value : goal.chains::climb_to-returns-else-loosest-lt-PRODUCT-clause-value
-chains::climb_to-returns-else-loosest-lt-PRODUCT-clause-value t c = rw (climb-high c.args.loosest (unary (inside c.args.depth)) c.if-loosest-lt-PRODUCT.false) c.chain_of.ensures.value
+pub chains::climb_to-returns-else-max_precedence-lt-PRODUCT-clause-value : goal.chains::climb_to-returns-else-max_precedence-lt-PRODUCT-clause-value
+chains::climb_to-returns-else-max_precedence-lt-PRODUCT-clause-value t c = rw (climb-high c.args.max_precedence (unary (inside c.args.depth)) c.if-max_precedence-lt-PRODUCT.false) c.chain_of.ensures.value
 
 pub braces::body_inside-returns-clause-value : goal.braces::body_inside-returns-clause-value
-braces::body_inside-returns-clause-value t c = rw c.loosest_in_body.ensures at c.climb_to.ensures.value
+braces::body_inside-returns-clause-value t c = rw c.max_precedence_in_body.ensures at c.climb_to.ensures.value
 
 pub chains::chain_links-returns-clause-value : goal.chains::chain_links-returns-clause-value
-chains::chain_links-returns-clause-value t c = rw c.loosest_at_right.ensures at c.links_from.ensures.value
+chains::chain_links-returns-clause-value t c = rw c.max_precedence_at_right.ensures at c.links_from.ensures.value
 
 pub chains::links_from-returns-in_err-operator-clause-value : goal.chains::links_from-returns-in_err-operator-clause-value
 chains::links_from-returns-in_err-operator-clause-value t c =
     let same : c.len.result ≡ length c.loop-alloc.found.items = omega (arith, c.len.ensures, c.loop-alloc.found.ok) in
     let y = err_from_is_err_and c.from_residual.result c.from_residual.ensures.1 in
-    rw y.1 (rw y.2 (no_operator c.loop-alloc.found.items (length c.args.tokens.now) c.args.joining c.len.result (climb c.args.loosest (unary (inside c.args.depth))) c.loop-alloc.tokens (links (length c.args.tokens.now) c.args.joining 0 (climb c.args.loosest (unary (inside c.args.depth))) c.args.tokens.now) c.in_err-operator.field-0.0
+    rw y.1 (rw y.2 (no_operator c.loop-alloc.found.items (length c.args.tokens.now) c.args.joining c.len.result (climb c.args.max_precedence (unary (inside c.args.depth))) c.loop-alloc.tokens (links (length c.args.tokens.now) c.args.joining 0 (climb c.args.max_precedence (unary (inside c.args.depth))) c.args.tokens.now) c.in_err-operator.field-0.0
     same c.loop-alloc.invariant.room (sym c.next_joins.ensures ∙ c.loop-alloc-test.true) c.loop-alloc.invariant.read c.in_err-operator.ensures.value))
 
 pub chains::links_from-returns-in_err-operand-clause-value : goal.chains::links_from-returns-in_err-operand-clause-value
 chains::links_from-returns-in_err-operand-clause-value t c =
     let same : c.len.result ≡ length c.loop-alloc.found.items = omega (arith, c.len.ensures, c.loop-alloc.found.ok) in
     let y = err_from_is_err_and c.from_residual-in_err-operand.result c.from_residual-in_err-operand.ensures.1 in
-    rw y.1 (rw y.2 (no_operand c.loop-alloc.found.items (length c.args.tokens.now) c.args.joining c.len.result (climb c.args.loosest (unary (inside c.args.depth))) c.loop-alloc.tokens c.in_ok-operator.operator c.operator_at.new.tokens (links (length c.args.tokens.now) c.args.joining 0 (climb c.args.loosest (unary (inside c.args.depth))) c.args.tokens.now) c.in_err-operand.field-0.0
+    rw y.1 (rw y.2 (no_operand c.loop-alloc.found.items (length c.args.tokens.now) c.args.joining c.len.result (climb c.args.max_precedence (unary (inside c.args.depth))) c.loop-alloc.tokens c.in_ok-operator.operator c.operator_at.new.tokens (links (length c.args.tokens.now) c.args.joining 0 (climb c.args.max_precedence (unary (inside c.args.depth))) c.args.tokens.now) c.in_err-operand.field-0.0
     same c.loop-alloc.invariant.room (sym c.next_joins.ensures ∙ c.loop-alloc-test.true) c.in_ok-operator.ensures.value c.loop-alloc.invariant.read c.in_err-operand.ensures.value))
 
 pub chains::links_from-returns-clause-value : goal.chains::links_from-returns-clause-value
 chains::links_from-returns-clause-value t c =
     let same : c.len.result ≡ length c.loop-alloc.found.items = omega (arith, c.len.ensures, c.loop-alloc.found.ok) in
-    all_read c.loop-alloc.found.items (length c.args.tokens.now - length c.loop-alloc.found.items) c.args.joining (length c.loop-alloc.found.items) (climb c.args.loosest (unary (inside c.args.depth))) c.loop-alloc.tokens (links (length c.args.tokens.now) c.args.joining 0 (climb c.args.loosest (unary (inside c.args.depth))) c.args.tokens.now)
+    all_read c.loop-alloc.found.items (length c.args.tokens.now - length c.loop-alloc.found.items) c.args.joining (length c.loop-alloc.found.items) (climb c.args.max_precedence (unary (inside c.args.depth))) c.loop-alloc.tokens (links (length c.args.tokens.now) c.args.joining 0 (climb c.args.max_precedence (unary (inside c.args.depth))) c.args.tokens.now)
     (sym (ap (λ n. next_is (joins c.args.joining n) c.loop-alloc.tokens) same) ∙ (sym c.next_joins.ensures ∙ c.loop-alloc-test.false)) c.loop-alloc.invariant.read
     ∙ ap (λ l. read_as (links_of l) c.loop-alloc.tokens) (sym (c.new-2.ensures ∙ c.new.ensures))
 
@@ -121,8 +121,8 @@ chains::links_from-loop-alloc-preserved t c =
     record {
       read =
           one_read c.loop-alloc.found.items c.push.new.list.items c.in_ok-link.link
-          (length c.args.tokens.now) c.args.joining c.len.result (climb c.args.loosest (unary (inside c.args.depth))) c.loop-alloc.tokens
-          c.in_ok-operator.operator (tree c.in_ok-operand.operand) c.operator_at.new.tokens c.climb_to.new.tokens (links (length c.args.tokens.now) c.args.joining 0 (climb c.args.loosest (unary (inside c.args.depth))) c.args.tokens.now)
+          (length c.args.tokens.now) c.args.joining c.len.result (climb c.args.max_precedence (unary (inside c.args.depth))) c.loop-alloc.tokens
+          c.in_ok-operator.operator (tree c.in_ok-operand.operand) c.operator_at.new.tokens c.climb_to.new.tokens (links (length c.args.tokens.now) c.args.joining 0 (climb c.args.max_precedence (unary (inside c.args.depth))) c.args.tokens.now)
           same c.loop-alloc.invariant.room (sym c.next_joins.ensures ∙ c.loop-alloc-test.true) c.in_ok-operator.ensures.value c.in_ok-operand.ensures.value
           c.in_ok-link.ensures.value c.in_ok-push.ensures.items c.loop-alloc.invariant.read;
       room = omega (arith, more, c.in_ok-operator.ensures.shorter, c.in_ok-operand.ensures.shorter, c.loop-alloc.invariant.room);

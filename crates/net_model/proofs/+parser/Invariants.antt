@@ -44,7 +44,7 @@ abbrev pub decreases-braces::body_inside : goal.decreases-braces::body_inside
 decreases-braces::body_inside l = 100 * l.depth + 11
 
 abbrev pub decreases-choices::wide_of : goal.decreases-choices::wide_of
-decreases-choices::wide_of l = 100 * l.depth + 4 * l.loosest + 10
+decreases-choices::wide_of l = 100 * l.depth + 4 * l.max_precedence + 10
 
 abbrev pub decreases-choices::if_of : goal.decreases-choices::if_of
 decreases-choices::if_of l = 100 * l.depth + 1
@@ -53,28 +53,28 @@ abbrev pub decreases-choices::choice_inside : goal.decreases-choices::choice_ins
 decreases-choices::choice_inside l = 100 * l.depth + 80
 
 abbrev pub decreases-choices::introduced : goal.decreases-choices::introduced
-decreases-choices::introduced l = 100 * l.depth + 4 * l.loosest + 5
+decreases-choices::introduced l = 100 * l.depth + 4 * l.max_precedence + 5
 
 abbrev pub decreases-choices::otherwise_of : goal.decreases-choices::otherwise_of
 decreases-choices::otherwise_of l = 100 * l.depth + 70
 
 abbrev pub decreases-chains::climb_to : goal.decreases-chains::climb_to
-decreases-chains::climb_to l = 100 * l.depth + 4 * l.loosest + 2
+decreases-chains::climb_to l = 100 * l.depth + 4 * l.max_precedence + 2
 
 abbrev pub decreases-chains::chain_of : goal.decreases-chains::chain_of
-decreases-chains::chain_of l = 100 * l.depth + 4 * l.loosest + 5
+decreases-chains::chain_of l = 100 * l.depth + 4 * l.max_precedence + 5
 
 abbrev pub decreases-chains::chain_links : goal.decreases-chains::chain_links
-decreases-chains::chain_links l = 100 * l.depth + 4 * l.loosest + 4
+decreases-chains::chain_links l = 100 * l.depth + 4 * l.max_precedence + 4
 
 abbrev pub decreases-chains::links_from : goal.decreases-chains::links_from
-decreases-chains::links_from l = 100 * l.depth + 4 * l.loosest + 3
+decreases-chains::links_from l = 100 * l.depth + 4 * l.max_precedence + 3
 
 abbrev pub invariant-chains::links_from-loop-alloc : goal.invariant-chains::links_from-loop-alloc
 invariant-chains::links_from-loop-alloc l = record {
   read :
-      with_links (links_of l.found.items) (links (length l.fn.tokens - length l.found.items) l.joining (length l.found.items) (climb l.loosest (unary (inside l.depth))) l.tokens)
-      ≡ links (length l.fn.tokens) l.joining 0 (climb l.loosest (unary (inside l.depth))) l.fn.tokens;
+      with_links (links_of l.found.items) (links (length l.fn.tokens - length l.found.items) l.joining (length l.found.items) (climb l.max_precedence (unary (inside l.depth))) l.tokens)
+      ≡ links (length l.fn.tokens) l.joining 0 (climb l.max_precedence (unary (inside l.depth))) l.fn.tokens;
   room : length l.found.items + length l.tokens ≤ length l.fn.tokens;
 }
 

@@ -9,13 +9,13 @@ returns-in-None c = ap first_item (sym (first_none c.args.tokens.now c.in-None.e
 
 pub returns-then-is_mark : goal.returns-then-is_mark
 returns-then-is_mark c =
-    let told = first_tuple c.args.tokens.now c.in-Some.rest.now c.in-Some.token.now c.in-Some.ensures.value (sym c.is_mark.ensures ∙ c.if-is_mark.true) in
-    cc (told, c.new.ensures, c.split_at.ensures.front, c.inside_len.ensures.value)
+    let reported = first_tuple c.args.tokens.now c.in-Some.rest.now c.in-Some.token.now c.in-Some.ensures.value (sym c.is_mark.ensures ∙ c.if-is_mark.true) in
+    cc (reported, c.new.ensures, c.split_at.ensures.front, c.inside_len.ensures.value)
 
 pub returns-else-is_mark : goal.returns-else-is_mark
 returns-else-is_mark c =
-    let told = first_alone c.args.tokens.now c.in-Some.rest.now c.in-Some.token.now c.in-Some.ensures.value (sym c.is_mark.ensures ∙ c.if-is_mark.false) in
-    cc (told, c.new-in-Some.ensures, c.from_ref.ensures.value)
+    let reported = first_alone c.args.tokens.now c.in-Some.rest.now c.in-Some.token.now c.in-Some.ensures.value (sym c.is_mark.ensures ∙ c.if-is_mark.false) in
+    cc (reported, c.new-in-Some.ensures, c.from_ref.ensures.value)
 
 pub split_at-requires : goal.split_at-requires
 split_at-requires c = grind (arith, common_steps)

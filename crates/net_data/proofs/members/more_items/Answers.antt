@@ -11,19 +11,19 @@ returns-in-None c = let none = first_none c.args.tokens.now c.in-None.ensures.va
 
 pub returns-then-is_mark : goal.returns-then-is_mark
 returns-then-is_mark c =
-    let told = more_tuple c.args.tokens.now c.in-Some.rest.now c.in-Some.token.now c.in-Some.ensures.value (sym c.is_mark.ensures ∙ c.if-is_mark.true) in
-    cc (told, c.new-then-is_mark.ensures, c.behind_first.ensures, c.split_at.ensures.back, c.inside_len.ensures.value)
+    let reported = more_tuple c.args.tokens.now c.in-Some.rest.now c.in-Some.token.now c.in-Some.ensures.value (sym c.is_mark.ensures ∙ c.if-is_mark.true) in
+    cc (reported, c.new-then-is_mark.ensures, c.after_first.ensures, c.split_at.ensures.back, c.inside_len.ensures.value)
 
 pub returns-then-is_mark-2 : goal.returns-then-is_mark-2
 returns-then-is_mark-2 c =
-    let told = more_over c.args.tokens.now c.in-Some.rest.now c.in-Some.token.now c.in-Some.ensures.value (sym c.is_mark.ensures ∙ c.if-is_mark.false) (sym c.is_mark-in-Some.ensures ∙ c.if-is_mark-2.true) in
+    let reported = more_over c.args.tokens.now c.in-Some.rest.now c.in-Some.token.now c.in-Some.ensures.value (sym c.is_mark.ensures ∙ c.if-is_mark.false) (sym c.is_mark-in-Some.ensures ∙ c.if-is_mark-2.true) in
     let none = c.split_at-then-is_mark-2.ensures.back ∙ drop-length c.in-Some.rest.now in
-    c.new-then-is_mark-2.ensures ∙ ap (bare in_set) none ∙ sym told
+    c.new-then-is_mark-2.ensures ∙ ap (bare in_set) none ∙ sym reported
 
 pub returns-else-is_mark-2 : goal.returns-else-is_mark-2
 returns-else-is_mark-2 c =
-    let told = more_alone c.args.tokens.now c.in-Some.rest.now c.in-Some.token.now c.in-Some.ensures.value (sym c.is_mark.ensures ∙ c.if-is_mark.false) (sym c.is_mark-in-Some.ensures ∙ c.if-is_mark-2.false) in
-    cc (told, c.new-in-Some.ensures)
+    let reported = more_alone c.args.tokens.now c.in-Some.rest.now c.in-Some.token.now c.in-Some.ensures.value (sym c.is_mark.ensures ∙ c.if-is_mark.false) (sym c.is_mark-in-Some.ensures ∙ c.if-is_mark-2.false) in
+    cc (reported, c.new-in-Some.ensures)
 
 pub split_at-requires : goal.split_at-requires
 split_at-requires c = grind (arith, common_steps)

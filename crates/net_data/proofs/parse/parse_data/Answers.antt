@@ -1,4 +1,4 @@
-use Rattle.net_data.proofs.FirstWrong.{answer_refused}
+use Rattle.net_data.proofs.FirstWrong.{answer_rejected}
 use Rattle.net_data.proofs.Promise.{answer_means, answer_full, answer_complete}
 use Rattle.net_data.proofs.parse.parse_data.Goals as goal
 
@@ -8,8 +8,8 @@ returns-clause-ok c = answer_means c.end_of.result c.args.tokens.now c.tables.re
 pub returns-clause-full : goal.returns-clause-full
 returns-clause-full c = answer_full c.end_of.result c.args.tokens.now c.tables.result c.tables.ensures
 
-pub returns-clause-refused : goal.returns-clause-refused
-returns-clause-refused c = answer_refused c.args.tokens.now c.tables.result (rw c.end_of.ensures at c.tables.ensures)
+pub returns-clause-rejected : goal.returns-clause-rejected
+returns-clause-rejected c = answer_rejected c.args.tokens.now c.tables.result (rw c.end_of.ensures at c.tables.ensures)
 
 pub returns-clause-complete : goal.returns-clause-complete
 returns-clause-complete c = rw c.end_of.ensures at (answer_complete c.end_of.result c.args.tokens.now c.tables.result c.tables.ensures)

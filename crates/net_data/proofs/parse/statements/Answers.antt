@@ -9,15 +9,15 @@ returns-in-Err c =
 
 pub returns-in-Ok-None : goal.returns-in-Ok-None
 returns-in-Ok-None c =
-    let told = rw c.in-Ok-None.field-0-is at c.in-Ok-None.ensures in
-    ends_with c.args.tokens.now c.statements.statements.items c.statements.unread.tokens.now c.new.result c.statement.new.self.tokens.now c.statements.invariant.value c.statements.invariant.count told.value c.new.ensures told.left
+    let reported = rw c.in-Ok-None.field-0-is at c.in-Ok-None.ensures in
+    ends_with c.args.tokens.now c.statements.statements.items c.statements.unread.tokens.now c.new.result c.statement.new.self.tokens.now c.statements.invariant.value c.statements.invariant.count reported.value c.new.ensures reported.left
 
 pub statements-preserved : goal.statements-preserved
 statements-preserved c =
-    let told = rw c.in-Ok-Some.field-0-is at c.in-Ok-Some.ensures in
+    let reported = rw c.in-Ok-Some.field-0-is at c.in-Ok-Some.ensures in
     record {
-      value = leads_on c.args.tokens.now c.statements.statements.items c.push.new.statements.items c.statements.unread.tokens.now c.statement.new.self.tokens.now c.in-Ok-Some.found c.statements.invariant.value told.value c.in_ok-push-in-Ok-Some.ensures.items;
-      count = count_less c.args.tokens.now c.statements.unread.tokens.now c.statement.new.self.tokens.now c.statements.statements.items c.push.new.statements.items c.in-Ok-Some.found c.statements.invariant.count told.shorter c.in_ok-push-in-Ok-Some.ensures.items;
+      value = leads_on c.args.tokens.now c.statements.statements.items c.push.new.statements.items c.statements.unread.tokens.now c.statement.new.self.tokens.now c.in-Ok-Some.found c.statements.invariant.value reported.value c.in_ok-push-in-Ok-Some.ensures.items;
+      count = count_less c.args.tokens.now c.statements.unread.tokens.now c.statement.new.self.tokens.now c.statements.statements.items c.push.new.statements.items c.in-Ok-Some.found c.statements.invariant.count reported.shorter c.in_ok-push-in-Ok-Some.ensures.items;
     }
 
 pub statements-smaller : goal.statements-smaller

@@ -1,7 +1,7 @@
 use Rattle.std.proofs.Common.{◌≡◌, ◌<◌, ◌+◌, ◌++◌, ◌∷◌, [], List, ℕ, false, length, sym, ap, subst, ◌∙◌, arith}
 use Rattle.std.proofs.lemmas.Bool.Decides.{nat_tests}
 use Rattle.net_dimacs.specs.Lines.{is_feed, HasNone}
-use Rattle.net_dimacs.specs.OpenLines.{IsSaidAlike, short_field}
+use Rattle.net_dimacs.specs.OpenLines.{IsSameStatement, short_field}
 use Rattle.net_dimacs.proofs.Lists.{all_append}
 use Rattle.net_dimacs.proofs.OpenFronts.{IsCutFront, field_cut, blanks_left, field_left, seven_cut, first_stands, after_feedless, next_feedless}
 use Rattle.net_dimacs.proofs.open_line.front_of.Goals as goal
@@ -15,7 +15,7 @@ returns-then-is_empty-clause-alike c =
     let after : List ℕ = c.in-Some.after.now in
     let rest : List ℕ = c.loop.rest.now in
     let none : length after ≡ 0 = grind (arith, nat_tests) in
-    subst (λ (l : List ℕ). IsSaidAlike l c.args.line.now) (sym c.push_field.ensures.text)
+    subst (λ (l : List ℕ). IsSameStatement l c.args.line.now) (sym c.push_field.ensures.text)
     (field_left c.args.line.now c.loop.front.items rest field after (short_field field) c.loop.counter c.loop.invariant.cut c.in-Some.ensures.cut none
     (first_stands rest field after c.in-Some.ensures.cut c.loop.invariant.left))
 

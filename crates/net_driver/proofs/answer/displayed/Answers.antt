@@ -2,11 +2,11 @@ use Rattle.std.proofs.Common.{rules, length, ap, sym, subst, ◌∙◌}
 use Rattle.net_normal.specs.Limits.{IsSized, total_cost_limit}
 use Rattle.net_check.proofs.Sums.{plain_128}
 use Rattle.net_driver.specs.Linked.{written}
-use Rattle.net_driver.proofs.Solving.{carried, cost_sized, lifted_length}
+use Rattle.net_driver.proofs.Solving.{carried, cost_sized, mapped_back_length}
 use Rattle.net_driver.proofs.answer.displayed.Goals as goal
 
-pub lift-requires : goal.lift-requires
-lift-requires c = carried (written c.args.unwritten.now) c.args.flows.now c.requires.sizes c.requires.feasible
+pub map_back-requires : goal.map_back-requires
+map_back-requires c = carried (written c.args.unwritten.now) c.args.flows.now c.requires.sizes c.requires.feasible
 
 pub value-value-requires : goal.value-value-requires
 value-value-requires c =
@@ -15,11 +15,11 @@ value-value-requires c =
 
 pub write_display-requires : goal.write_display-requires
 write_display-requires c =
-    ap length c.deref.ensures.value ∙ ap length c.in_ok-assignment.ensures.value ∙ lifted_length c.args.unwritten.now.link c.args.flows.now ∙ c.requires.sizes.arcs
+    ap length c.deref.ensures.value ∙ ap length c.in_ok-assignment.ensures.value ∙ mapped_back_length c.args.unwritten.now.link c.args.flows.now ∙ c.requires.sizes.arcs
 
 pub returns : goal.returns
 returns c = record {
-  lifts = c.in_ok-assignment.ensures.value;
-  worth = search (rules, c.value-value.ensures);
+  maps_back = c.in_ok-assignment.ensures.value;
+  is_value = search (rules, c.value-value.ensures);
   display = search (rules, c.in_ok-text.ensures.value, c.deref.ensures.value);
 }

@@ -1,6 +1,6 @@
 use Rattle.std.proofs.Common.{sym, subst}
 use Rattle.std.specs.Option.{option_copied}
-use Rattle.net_driver.specs.Answers.{Answers}
+use Rattle.net_driver.specs.IsSolved.{IsSolved}
 use Rattle.net_driver.proofs.NoMemory.{model_may, no_memory}
 use Rattle.net_driver.proofs.answer.solve_model_with.Goals as goal
 
@@ -12,15 +12,15 @@ with_text-requires c = c.in_ok-unwritten.ensures.value.sizes
 
 pub returns-clause-value : goal.returns-clause-value
 returns-clause-value c =
-    subst (λ compiled. Answers c.args.options.now.lean (option_copied c.args.options.now.objective) c.args.model.now c.args.data.now (record { compiled = compiled; outcome = c.in_ok-outcome.outcome }))
+    subst (λ compiled. IsSolved c.args.options.now.lean (option_copied c.args.options.now.objective) c.args.model.now c.args.data.now (record { compiled = compiled; outcome = c.in_ok-outcome.outcome }))
     (sym c.in_ok-compiled.ensures) (c.in_ok-outcome.ensures _ _ _ _ c.in_ok-unwritten.ensures.value)
 
-pub returns-in_err-outcome-clause-refused : goal.returns-in_err-outcome-clause-refused
-returns-in_err-outcome-clause-refused c =
+pub returns-in_err-outcome-clause-rejected : goal.returns-in_err-outcome-clause-rejected
+returns-in_err-outcome-clause-rejected c =
     no_memory _ c.args.model.now c.args.data.now c.from_residual-in_err-outcome.result _ (λ e h. h)
     (model_may c.args.model.now _ c.in_ok-unwritten.ensures.value.accepts.model) c.from_residual-in_err-outcome.ensures.1
 
-pub returns-in_err-compiled-clause-refused : goal.returns-in_err-compiled-clause-refused
-returns-in_err-compiled-clause-refused c =
+pub returns-in_err-compiled-clause-rejected : goal.returns-in_err-compiled-clause-rejected
+returns-in_err-compiled-clause-rejected c =
     no_memory _ c.args.model.now c.args.data.now c.from_residual-in_err-compiled.result _ (λ e h. h)
     (model_may c.args.model.now _ c.in_ok-unwritten.ensures.value.accepts.model) c.from_residual-in_err-compiled.ensures.1

@@ -7,5 +7,5 @@ returns-clause-compiled c = one_answer
 pub returns-clause-solved : goal.returns-clause-solved
 returns-clause-solved c = solved_as_compiled
 
-pub returns-clause-refused : goal.returns-clause-refused
-returns-clause-refused c = no_fault
+pub returns-clause-rejected : goal.returns-clause-rejected
+returns-clause-rejected c = no_fault

@@ -7,5 +7,5 @@ pub returns-in-Ok-clause-ok : goal.returns-in-Ok-clause-ok
 returns-in-Ok-clause-ok c = λ text known.
     record { short = short_problem text _ (c.in-Ok.ensures.value text known); is = c.in-Ok.ensures.ok text known; only = c.in-Ok.ensures.only text known }
 
-pub returns-in-Err-clause-refused : goal.returns-in-Err-clause-refused
-returns-in-Err-clause-refused c = grind (arith, common_steps)
+pub returns-in-Err-clause-rejected : goal.returns-in-Err-clause-rejected
+returns-in-Err-clause-rejected c = grind (arith, common_steps)

@@ -1,11 +1,11 @@
 use Rattle.std.proofs.Common.{rules, arith, refl, []}
 use Rattle.std.specs.Option.{option_copied}
-use Rattle.net_driver.specs.Answers.{text_of, ending_of}
-use Rattle.net_driver.specs.Headline.{Headline}
+use Rattle.net_driver.specs.IsSolved.{text_of, exit_kind_of}
+use Rattle.net_driver.specs.IsBuilt.{IsBuilt}
 use Rattle.net_driver.specs.Linked.{written}
-use Rattle.net_driver.specs.Telling.{IsRefusal}
+use Rattle.net_driver.specs.Reporting.{IsRejection}
 use Rattle.net_driver.proofs.Reading.{read_whole}
-use Rattle.net_driver.proofs.Running.{texts_of, refused_run, stopped_run}
+use Rattle.net_driver.proofs.Running.{texts_of, rejected_run, stopped_run}
 use Rattle.net_driver.proofs.solve_run.run_solve_with.Goals as goal
 
 pub returns-in-Ok-clause-run : goal.returns-in-Ok-clause-run
@@ -14,14 +14,14 @@ returns-in-Ok-clause-run g c =
     let d = c.in_ok-data_text.data_text.items in
     let compiled = written c.in_ok-unwritten.unwritten in
     let outcome = c.in_ok-outcome.outcome in
-    let promise : Headline c.args.options.now.lean (option_copied c.args.options.now.objective) m d compiled = search rules in
+    let promise : IsBuilt c.args.options.now.lean (option_copied c.args.options.now.objective) m d compiled = search rules in
     let solved = c.in_ok-outcome.ensures _ _ m d promise in
     record {
       ok = record {
         texts = texts_of m d [] [];
         read = (read_whole _ _ _ c.in_ok-model_text.ensures.value promise.accepts.model.read.short, (read_whole _ _ _ c.in_ok-data_text.ensures.value promise.accepts.statements.read.short, tt));
         text = text_of outcome;
-        answer = (record { compiled = compiled; outcome = outcome }, solved, c.ending_of-ending.ensures, refl);
+        answer = (record { compiled = compiled; outcome = outcome }, solved, c.exit_kind_of-exit_kind.ensures, refl);
         written = search rules;
       };
       err = tt;
@@ -36,12 +36,12 @@ returns-clause-run g c =
     let d = c.in_ok-data_text.data_text.items in
     let compiled = written c.in_ok-unwritten.unwritten in
     let outcome = c.in_ok-outcome.outcome in
-    let promise : Headline c.args.options.now.lean (option_copied c.args.options.now.objective) m d compiled = search rules in
+    let promise : IsBuilt c.args.options.now.lean (option_copied c.args.options.now.objective) m d compiled = search rules in
     let solved = c.in_ok-outcome.ensures _ _ m d promise in
     record {
       ok = tt;
       err = (
-        ending_of outcome,
+        exit_kind_of outcome,
         record {
           texts = texts_of m d [] [];
           read = (read_whole _ _ _ c.in_ok-model_text.ensures.value promise.accepts.model.read.short, (read_whole _ _ _ c.in_ok-data_text.ensures.value promise.accepts.statements.read.short, tt));
@@ -59,8 +59,8 @@ pub returns-in_err-unwritten-clause-run : goal.returns-in_err-unwritten-clause-r
 returns-in_err-unwritten-clause-run g c =
     let m = c.in_ok-model_text.model_text.items in
     let d = c.in_ok-data_text.data_text.items in
-    let wrong : IsRefusal (option_copied c.args.options.now.objective) m d c.in_err-unwritten.field-0.0 = search rules in
-    refused_run _ _ _ _ (texts_of m d [] []) (λ name h. h) (λ h. h) (c.in_ok-model_text.ensures.value, (c.in_ok-data_text.ensures.value, tt)) refl
+    let wrong : IsRejection (option_copied c.args.options.now.objective) m d c.in_err-unwritten.field-0.0 = search rules in
+    rejected_run _ _ _ _ (texts_of m d [] []) (λ name h. h) (λ h. h) (c.in_ok-model_text.ensures.value, (c.in_ok-data_text.ensures.value, tt)) refl
     (grind (arith), (grind (arith), tt)) (grind (arith)) (c.in_ok-model_text.ensures.reads, (c.in_ok-data_text.ensures.reads, tt))
     c.in_err-unwritten.field-0.0 wrong _ _ (λ e h. h) c.from_residual-in_err-unwritten.ensures.1
 

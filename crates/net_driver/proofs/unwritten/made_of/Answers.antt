@@ -4,14 +4,14 @@ use Rattle.net_driver.proofs.FaultPlaces.{stop_lies_there}
 use Rattle.net_driver.proofs.NoMemory.{model_may, no_memory}
 use Rattle.net_driver.proofs.unwritten.made_of.Goals as goal
 
-pub told-requires : goal.told-requires
-told-requires c = stop_lies_there _ c.args.model.now c.args.data.now c.in-Err.stop c.in-Err.ensures.refused
+pub reported-requires : goal.reported-requires
+reported-requires c = stop_lies_there _ c.args.model.now c.args.data.now c.in-Err.stop c.in-Err.ensures.rejected
 
-pub returns-in-Err-clause-refused : goal.returns-in-Err-clause-refused
-returns-in-Err-clause-refused c = c.told.ensures _ c.in-Err.ensures.refused
+pub returns-in-Err-clause-rejected : goal.returns-in-Err-clause-rejected
+returns-in-Err-clause-rejected c = c.reported.ensures _ c.in-Err.ensures.rejected
 
-pub returns-in_err-problem-clause-refused : goal.returns-in_err-problem-clause-refused
-returns-in_err-problem-clause-refused c =
+pub returns-in_err-problem-clause-rejected : goal.returns-in_err-problem-clause-rejected
+returns-in_err-problem-clause-rejected c =
     let is = c.in-Ok.ensures.ok.model in
     no_memory _ c.args.model.now c.args.data.now c.from_residual.result _ (λ e h. h) (model_may c.args.model.now _ is) c.from_residual.ensures.1
 

@@ -10,8 +10,8 @@ returns-in-Objective-clause-kept c = grind (arith, common_steps)
 
 pub returns-in-Param-clause-value : goal.returns-in-Param-clause-value
 returns-in-Param-clause-value c =
-    let told = c.with_entry-in-Param.ensures.value _ c.entry_of_parameter-entry.ensures in
-    rw (← c.whole-earlier-in-Param.ensures.world) (grind (arith, told))
+    let reported = c.with_entry-in-Param.ensures.value _ c.entry_of_parameter-entry.ensures in
+    rw (← c.whole-earlier-in-Param.ensures.world) (grind (arith, reported))
 
 pub returns-in-Set-clause-kept : goal.returns-in-Set-clause-kept
 returns-in-Set-clause-kept c = grind (arith, common_steps)
@@ -33,8 +33,8 @@ returns-in-Node-clause-kept c = grind (arith, common_steps)
 
 pub returns-in-Set-clause-value : goal.returns-in-Set-clause-value
 returns-in-Set-clause-value c =
-    let told = c.with_entry.ensures.value _ c.entry_of_set-entry.ensures in
-    rw (← c.whole-earlier.ensures.world) (grind (arith, told))
+    let reported = c.with_entry.ensures.value _ c.entry_of_set-entry.ensures in
+    rw (← c.whole-earlier.ensures.world) (grind (arith, reported))
 
 pub returns-in-Node-clause-value : goal.returns-in-Node-clause-value
 returns-in-Node-clause-value c = grind (arith, common_steps)

@@ -8,5 +8,5 @@ bounds-members-0 c = grind (arith, common_steps)
 pub returns-in-empty : goal.returns-in-empty
 returns-in-empty c = grind (arith, common_steps)
 
-pub returns-in_ok-again-in-len1-up : goal.returns-in_ok-again-in-len1-up
-returns-in_ok-again-in-len1-up c = grind (arith, common_steps)
+pub returns-in_ok-copied-in-len1-up : goal.returns-in_ok-copied-in-len1-up
+returns-in_ok-copied-in-len1-up c = grind (arith, common_steps)

@@ -1,7 +1,7 @@
 use Rattle.std.proofs.Common.{ℕ, ◌+◌, Ok, Err, take, subst, ap, arith}
 use Rattle.net_lex.specs.Scanning.{IsKindOf}
 use Rattle.net_fault.specs.declared.span.Span.{Span}
-use Rattle.net_lex.proofs.ScanLemmas.{front_found, numeral_defect, found_token}
+use Rattle.net_lex.proofs.ScanLemmas.{front_found, numeral_error_code, found_token}
 use Rattle.net_lex.proofs.scan.token_of.Goals as goal
 
 pub split_at-requires : goal.split_at-requires
@@ -22,9 +22,9 @@ pub returns-in-Err : goal.returns-in-Err
 returns-in-Err c =
     let text = c.args.text.now in
     let found = front_found c.args.language text c.args.shape c.args.len c.utf8.text c.requires.some c.requires.found in
-    let kind : IsKindOf c.args.language (take c.args.len text) (Err c.in-Err.defect) = subst (λ w. IsKindOf c.args.language w (Err c.in-Err.defect)) c.split_at.ensures.front c.in-Err.ensures in (
+    let kind : IsKindOf c.args.language (take c.args.len text) (Err c.in-Err.error_code) = subst (λ w. IsKindOf c.args.language w (Err c.in-Err.error_code)) c.split_at.ensures.front c.in-Err.ensures in (
       0,
       c.args.len,
-      numeral_defect c.args.language text c.args.shape c.args.len c.in-Err.defect found c.requires.short kind,
+      numeral_error_code c.args.language text c.args.shape c.args.len c.in-Err.error_code found c.requires.short kind,
       ap (λ (k : ℕ). let s : Span = record { start = k; end = c.args.at + c.args.len } in s) (omega arith),
     )

@@ -9,7 +9,7 @@ use Rattle.net_lex.proofs.tokens.tokens_of.Goals as goal
 
 pub returns-in-Err : goal.returns-in-Err
 returns-in-Err c =
-    let faults = λ (at : ℕ) (rest : List ℕ). IsFault limits c.args.language at rest c.in-Err.defect c.in-Err.span in
+    let faults = λ (at : ℕ) (rest : List ℕ). IsFault limits c.args.language at rest c.in-Err.error_code c.in-Err.span in
     rw c.of_text.ensures (refl, c.tokens.tokens.items, stand_ends limits c.args.language faults 0 c.tokens.at c.args.text.now c.tokens.rest.now c.tokens.tokens.items c.tokens.invariant.value c.in-Err.ensures)
 
 pub returns-in-Ok-None : goal.returns-in-Ok-None

@@ -3,5 +3,5 @@ use Rattle.std.proofs.lemmas.Grind.{common_steps}
 use Rattle.net_linear.proofs.Positions.{place_below}
 use Rattle.net_linear.proofs.arc.numbered.Goals as goal
 
-pub number_behind-requires : goal.number_behind-requires
-number_behind-requires c = place_below c.args.arcs.now.index c.args.key c.in-Some.place c.in-Some.ensures
+pub number_after-requires : goal.number_after-requires
+number_after-requires c = place_below c.args.arcs.now.index c.args.key c.in-Some.place c.in-Some.ensures

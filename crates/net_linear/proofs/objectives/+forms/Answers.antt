@@ -9,7 +9,7 @@ use Rattle.net_expr.proofs.Cases.{in_indexed, in_parens, in_signed, in_reduced, 
 use Rattle.net_expr.proofs.Walking.{link_lighter}
 use Rattle.net_linear.specs.Forms.{AreWithin}
 use Rattle.net_linear.specs.Objectives.{objective, with_arcs}
-use Rattle.net_linear.proofs.Converting.{answers_by, stops, goes, with-indexed, with-signed, with-reduced, with-choice, with-tuple, with-negated, refuses, chained-left, rows-left}
+use Rattle.net_linear.proofs.Converting.{answers_by, stops, goes, with-indexed, with-signed, with-reduced, with-choice, with-tuple, with-negated, rejects, chained-left, rows-left}
 use Rattle.net_linear.proofs.FormSizes.{grown}
 use Rattle.net_linear.proofs.objectives.+forms.Goals as goal
 
@@ -35,11 +35,11 @@ arcs_term-returns-in-Choice t c =
 
 pub arcs_term-returns-in-Tuple : goal.arcs_term-returns-in-Tuple
 arcs_term-returns-in-Tuple t c =
-    refuses _ c.refuse_tree.result _ (with-tuple c.args.among.now.arcs.now c.args.among.now.env.now c.args.among.now.scope.now (tree c.args.expr.now) _ _ _ _ (ap tree c.in-Tuple.is ∙ tree-tuple c.in-Tuple.field-0.0 c.in-Tuple.field-0.1 c.in-Tuple.field-0.2)) c.refuse_tree.ensures
+    rejects _ c.reject_tree.result _ (with-tuple c.args.among.now.arcs.now c.args.among.now.env.now c.args.among.now.scope.now (tree c.args.expr.now) _ _ _ _ (ap tree c.in-Tuple.is ∙ tree-tuple c.in-Tuple.field-0.0 c.in-Tuple.field-0.1 c.in-Tuple.field-0.2)) c.reject_tree.ensures
 
 pub arcs_term-returns-in-Negated : goal.arcs_term-returns-in-Negated
 arcs_term-returns-in-Negated t c =
-    refuses _ c.refuse_tree-in-Negated.result _ (with-negated c.args.among.now.arcs.now c.args.among.now.env.now c.args.among.now.scope.now (tree c.args.expr.now) _ _ _ _ (ap tree c.in-Negated.is ∙ tree-negated c.in-Negated.field-0.0 c.in-Negated.field-0.1 c.in-Negated.field-0.2 c.in-Negated.field-0.3)) c.refuse_tree-in-Negated.ensures
+    rejects _ c.reject_tree-in-Negated.result _ (with-negated c.args.among.now.arcs.now c.args.among.now.env.now c.args.among.now.scope.now (tree c.args.expr.now) _ _ _ _ (ap tree c.in-Negated.is ∙ tree-negated c.in-Negated.field-0.0 c.in-Negated.field-0.1 c.in-Negated.field-0.2 c.in-Negated.field-0.3)) c.reject_tree-in-Negated.ensures
 
 pub chained-joined-requires : goal.chained-joined-requires
 chained-joined-requires t c = omega (arith, link_lighter c.args.links.now c.loop-link.link-index c.link-item.result c.loop-link-test.true c.link-item.is)

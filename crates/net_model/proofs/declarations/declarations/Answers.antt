@@ -5,7 +5,7 @@ use Rattle.net_tree.specs.View.{declaration_of}
 use Rattle.net_tree.specs.declared.declaration.Decl.{Decl}
 use Rattle.net_model.specs.Declarations.{declaration_at, declaration_step, any_left, model_at}
 use Rattle.net_model.specs.declared.parse_error.ParseError.{ParseError}
-use Rattle.net_model.specs.declared.parse_error.ParseError.TheVariants.{OutOfMemory, Refused, TooDeep}
+use Rattle.net_model.specs.declared.parse_error.ParseError.TheVariants.{OutOfMemory, Rejected, TooDeep}
 use Rattle.net_model.specs.Expressions.{Inner, inside}
 use Rattle.net_model.specs.Rows.{row}
 use Rattle.net_model.proofs.RowLemmas.{row_read, row_turn, row_stops}
@@ -23,7 +23,7 @@ none_left (t ∷ ts) h = cc
 step_stops : (o : Option Inner) (ts : Tokens) (e : ParseError) → Fails e (declaration_at o ts) → Fails e (declaration_step o tt ts)
 unfolding declaration_step
 step_stops o ts OutOfMemory h = tt
-step_stops o ts (Refused n a) h = rw h refl
+step_stops o ts (Rejected n a) h = rw h refl
 step_stops o ts (TooDeep n) h = rw h refl
 
 step_read : (o : Option Inner) (ts : Tokens) (d : Decl) (rest : Tokens) → declaration_at o ts ≡ Ok (declaration_of d, rest) → declaration_step o tt ts ≡ Ok ((declaration_of d, tt), rest)

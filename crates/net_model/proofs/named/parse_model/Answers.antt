@@ -6,5 +6,5 @@ use Rattle.net_model.proofs.named.parse_model.Goals as goal
 pub returns-in-Err-clause-value : goal.returns-in-Err-clause-value
 returns-in-Err-clause-value c = grind (arith, common_steps)
 
-pub returns-in-Err-clause-refused : goal.returns-in-Err-clause-refused
-returns-in-Err-clause-refused c = of_grammar c.in-Err.fault c.in-Err.ensures.refused
+pub returns-in-Err-clause-rejected : goal.returns-in-Err-clause-rejected
+returns-in-Err-clause-rejected c = of_grammar c.in-Err.fault c.in-Err.ensures.rejected

@@ -1,13 +1,13 @@
 use Rattle.std.proofs.Common.{arith}
 use Rattle.std.proofs.lemmas.Grind.{common_steps}
-use Rattle.net_model.proofs.Promise.{means_of, refused_told}
+use Rattle.net_model.proofs.Promise.{means_of, rejected_reported}
 use Rattle.net_model.proofs.parse.parse_declarations.Goals as goal
 
 pub returns-in-Ok-clause-means : goal.returns-in-Ok-clause-means
 returns-in-Ok-clause-means c = means_of c.args.tokens.now c.declarations.new.tokens _ (rw (c.deepest.ensures, c.new-cursor.ensures) at c.in-Ok.ensures.value) c.in-Ok.ensures.whole
 
-pub returns-in-Err-clause-refused : goal.returns-in-Err-clause-refused
-returns-in-Err-clause-refused c = refused_told c.args.tokens.now c.in-Err.stop c.told.result (rw (c.deepest.ensures, c.new-cursor.ensures) at c.in-Err.ensures.value) c.told.ensures
+pub returns-in-Err-clause-rejected : goal.returns-in-Err-clause-rejected
+returns-in-Err-clause-rejected c = rejected_reported c.args.tokens.now c.in-Err.stop c.reported.result (rw (c.deepest.ensures, c.new-cursor.ensures) at c.in-Err.ensures.value) c.reported.ensures
 
 pub returns-in-Err-clause-value : goal.returns-in-Err-clause-value
 returns-in-Err-clause-value c = grind (arith, common_steps)

@@ -3,21 +3,21 @@ use Rattle.std.proofs.lemmas.Grind.{common_steps}
 use mir.Syntax.{w128}
 use Rattle.std.proofs.lemmas.Int.{ints}
 use Rattle.net_normal.specs.Limits.{IsSized, IsFlowArcOf, flow_limit, value_limit, constant_limit}
-use Rattle.net_normal.specs.NormalForm.{flow_arcs_of, room_arcs_from, written_arcs}
+use Rattle.net_normal.specs.NormalForm.{flow_arcs_of, slack_arcs_from, written_arcs}
 use Rattle.net_normal.specs.declared.instance.Instance.{Instance}
 use Rattle.net_normal.specs.declared.problem.FlowArc.{FlowArc}
 use Rattle.net_normal.specs.declared.profile.Profile.{Profile}
 use Rattle.net_normal.specs.NodeSums.{AreSumsOf}
 use Rattle.net_normal.specs.Numbers.{CountUp}
 use Rattle.net_normal.proofs.Written.{length-numbers}
-use Rattle.net_normal.proofs.ArcLifts.{length-offsets}
+use Rattle.net_normal.proofs.ArcMapsBack.{length-offsets}
 use Rattle.net_normal.proofs.Fits.{arcs_fit, few_arcs, supplies_fit, length-supplies, numbered, offsets_fit}
 use Rattle.net_normal.proofs.OneToOne.{form-corresponds}
 use Rattle.net_normal.proofs.normal_form.form.Goals as goal
 
 -- the arcs of both passes
-all_arcs : (p : Profile) (instance : Instance) (made all : List FlowArc) → made ≡ written_arcs p instance.sense (vec_len instance.nodes) instance.arcs.items → all ≡ made ++ room_arcs_from instance.arcs.items (vec_len instance.nodes) 0 instance.nodes.items → all ≡ flow_arcs_of p instance
-all_arcs p instance made all e h = h ∙ ap (λ (zs : List FlowArc). zs ++ room_arcs_from instance.arcs.items (vec_len instance.nodes) 0 instance.nodes.items) e
+all_arcs : (p : Profile) (instance : Instance) (made all : List FlowArc) → made ≡ written_arcs p instance.sense (vec_len instance.nodes) instance.arcs.items → all ≡ made ++ slack_arcs_from instance.arcs.items (vec_len instance.nodes) 0 instance.nodes.items → all ≡ flow_arcs_of p instance
+all_arcs p instance made all e h = h ∙ ap (λ (zs : List FlowArc). zs ++ slack_arcs_from instance.arcs.items (vec_len instance.nodes) 0 instance.nodes.items) e
 
 pub invariant_of-result-clause-some_node : goal.invariant_of-result-clause-some_node
 invariant_of-result-clause-some_node c =

@@ -14,16 +14,16 @@ returns c =
     let flags = c.args.flags.now in
     let side = c.args.side in
     let begun = c.extend_from_slice.new.self.items in
-    let told = c.push_nodes.new.text.items in
+    let reported = c.push_nodes.new.text.items in
     let need : to_z w128 (of_z w128 c.supply_in.result) ≡ cuts.need problem flags = to_z-of_z w128 c.supply_in.result (record { sfits = c.supply_in.type_inv }) ∙ c.supply_in.ensures in
     let room : to_z w128 (of_z w128 c.room.result) ≡ cuts.room problem flags side = to_z-of_z w128 c.room.result (record { sfits = c.room.type_inv }) ∙ c.room.ensures in
     record {
       value = four_parts (codes "infeasible\n") (cuts.sums_line side (cuts.need problem flags) (cuts.room problem flags side)) (cuts.node_lines flags (names_in c.args.names.now.nodes)) (cuts.outside_line (is_in flags (cuts.outside problem)))
-          begun c.push_sums.new.text.items told c.extend_from_slice-2.new.self.items
+          begun c.push_sums.new.text.items reported c.extend_from_slice-2.new.self.items
           (c.in_ok-extend_from_slice.ensures.items ∙ ap (λ t. t ++ codes "infeasible\n") c.new-text.ensures.items)
           (c.in_ok-push_sums.ensures.ok ∙ ap (λ z. begun ++ cuts.sums_line side z (to_z w128 (of_z w128 c.room.result))) need ∙ ap (λ z. begun ++ cuts.sums_line side (cuts.need problem flags) z) room)
           c.in_ok-push_nodes.ensures.ok
-          (c.in_ok-extend_from_slice-2.ensures.items ∙ ap (λ t. told ++ t) c.outside_line.ensures ∙ ap (λ b. told ++ cuts.outside_line b) c.is_outside_in.ensures);
+          (c.in_ok-extend_from_slice-2.ensures.items ∙ ap (λ t. reported ++ t) c.outside_line.ensures ∙ ap (λ b. reported ++ cuts.outside_line b) c.is_outside_in.ensures);
     }
 
 pub supply_in-requires : goal.supply_in-requires

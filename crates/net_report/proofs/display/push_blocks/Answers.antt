@@ -13,11 +13,11 @@ loop-number-preserved c =
     let all_are = c.declarations-declared-items.ensures in
     let inside : l.number < length arcs.declarations = omega (arith, c.loop-number-test.true, ap length all_are) in
     record {
-      inside = omega (arith, l.invariant.inside, c.in_ok-told.ensures.fits, ap length (behind l.told keys), length-drop l.told keys, ap length keys_are);
-      text = next_block l.number l.told c.in_ok-told.field-0 arcs.declarations c.declared-item.result arcs.keys _ numbers _ l.text.items _ _
-          c.requires (behind l.told keys ∙ ap (drop l.told) keys_are) (behind l.told numbers) inside
+      inside = omega (arith, l.invariant.inside, c.in_ok-reported.ensures.fits, ap length (behind l.reported keys), length-drop l.reported keys, ap length keys_are);
+      text = next_block l.number l.reported c.in_ok-reported.field-0 arcs.declarations c.declared-item.result arcs.keys _ numbers _ l.text.items _ _
+          c.requires (behind l.reported keys ∙ ap (drop l.reported) keys_are) (behind l.reported numbers) inside
           (c.declared-item.is ∙ ap (λ xs. get_or xs l.number c.declared-item.result) all_are)
-          c.in_ok-told.ensures.ok c.in_ok-told.ensures.count l.invariant.text;
+          c.in_ok-reported.ensures.ok c.in_ok-reported.ensures.count l.invariant.text;
     }
 
 pub slice_bounds-push_next-start : goal.slice_bounds-push_next-start
@@ -26,17 +26,17 @@ slice_bounds-push_next-start c = grind (arith, common_steps)
 pub returns : goal.returns
 returns c = grind (arith, common_steps)
 
-pub offset_bounds-keys-told : goal.offset_bounds-keys-told
-offset_bounds-keys-told c = grind (arith, common_steps)
+pub offset_bounds-keys-reported : goal.offset_bounds-keys-reported
+offset_bounds-keys-reported c = grind (arith, common_steps)
 
 pub slice_bounds-push_next-start-in-loop-number : goal.slice_bounds-push_next-start-in-loop-number
 slice_bounds-push_next-start-in-loop-number c = grind (arith, common_steps)
 
-pub overflow_add-told : goal.overflow_add-told
-overflow_add-told c = grind (arith, common_steps)
+pub overflow_add-reported : goal.overflow_add-reported
+overflow_add-reported c = grind (arith, common_steps)
 
-pub offset_bounds-assignment-told : goal.offset_bounds-assignment-told
-offset_bounds-assignment-told c = grind (arith, common_steps)
+pub offset_bounds-assignment-reported : goal.offset_bounds-assignment-reported
+offset_bounds-assignment-reported c = grind (arith, common_steps)
 
 pub slice_bounds-push_next-count-in-loop-number : goal.slice_bounds-push_next-count-in-loop-number
 slice_bounds-push_next-count-in-loop-number c = grind (arith, common_steps)

@@ -3,7 +3,7 @@ use Rattle.std.proofs.lemmas.Grind.{common_steps}
 use Rattle.std.proofs.lemmas.Result.{err_from_is_err_and}
 use Rattle.net_tree.specs.View.{declaration_of}
 use Rattle.net_resolve.specs.Names.{names_fault}
-use Rattle.net_resolve.proofs.Walking.{behind_none, stops_first}
+use Rattle.net_resolve.proofs.Walking.{after_none, stops_first}
 use Rattle.net_resolve.proofs.Declaring.{declarations_left}
 use Rattle.net_resolve.proofs.declarations.check_declarations.Goals as goal
 
@@ -18,7 +18,7 @@ returns-in_err-check_declaration c =
 pub loop-declaration-preserved : goal.loop-declaration-preserved
 loop-declaration-preserved c =
     ap (λ s. names_fault s (map declaration_of (drop (c.loop-declaration.declaration-index + 1) c.args.declarations.now))) c.in_ok-check_declaration.ensures.grown
-    ∙ behind_none _ _ (names_fault c.args.scope.now (map declaration_of c.args.declarations.now))
+    ∙ after_none _ _ (names_fault c.args.scope.now (map declaration_of c.args.declarations.now))
     (declarations_left c.loop-declaration.scope c.args.declarations.now c.loop-declaration.declaration-index c.declaration-item.result _ c.loop-declaration-test.true c.declaration-item.is c.loop-declaration.invariant)
     c.in_ok-check_declaration.ensures.value
 

@@ -2,8 +2,8 @@ use Rattle.std.proofs.Common.{ap, ◌∙◌, map, arith}
 use Rattle.std.proofs.lemmas.Grind.{common_steps}
 use Rattle.std.proofs.lemmas.Result.{err_from_is_err_and}
 use Rattle.net_tree.specs.View.{phrase_of}
-use Rattle.net_resolve.specs.Names.{phrases_fault, need_behind}
-use Rattle.net_resolve.proofs.Walking.{behind_none, stops_first}
+use Rattle.net_resolve.specs.Names.{phrases_fault, need_after}
+use Rattle.net_resolve.proofs.Walking.{after_none, stops_first}
 use Rattle.net_resolve.proofs.Declaring.{phrases_left}
 use Rattle.net_resolve.proofs.declarations.check_phrases.Goals as goal
 
@@ -12,16 +12,16 @@ returns-in_err-check_body-clause-value c =
     let y = err_from_is_err_and c.from_residual.result c.from_residual.ensures.1 in
     rw y.1 (rw y.2
     (stops_first _ _ (phrases_fault c.args.scope.now (map phrase_of c.args.phrases.now)) c.in_err-check_body.field-0.0
-    (phrases_left c.need_behind.result c.args.scope.now c.loop-phrase.scope c.args.phrases.now c.loop-phrase.phrase-index c.phrase-item.result _ c.loop-phrase-test.true c.phrase-item.is c.loop-phrase.invariant.kept
-    (c.need_behind.ensures ∙ ap need_behind c.role_of.ensures) c.loop-phrase.invariant.fault)
+    (phrases_left c.need_after.result c.args.scope.now c.loop-phrase.scope c.args.phrases.now c.loop-phrase.phrase-index c.phrase-item.result _ c.loop-phrase-test.true c.phrase-item.is c.loop-phrase.invariant.kept
+    (c.need_after.ensures ∙ ap need_after c.role_of.ensures) c.loop-phrase.invariant.fault)
     c.in_err-check_body.ensures.value))
 
 pub loop-phrase-preserved : goal.loop-phrase-preserved
 loop-phrase-preserved c = record {
   fault =
-      behind_none _ _ (phrases_fault c.args.scope.now (map phrase_of c.args.phrases.now))
-      (phrases_left c.need_behind.result c.args.scope.now c.loop-phrase.scope c.args.phrases.now c.loop-phrase.phrase-index c.phrase-item.result _ c.loop-phrase-test.true c.phrase-item.is c.loop-phrase.invariant.kept
-      (c.need_behind.ensures ∙ ap need_behind c.role_of.ensures) c.loop-phrase.invariant.fault)
+      after_none _ _ (phrases_fault c.args.scope.now (map phrase_of c.args.phrases.now))
+      (phrases_left c.need_after.result c.args.scope.now c.loop-phrase.scope c.args.phrases.now c.loop-phrase.phrase-index c.phrase-item.result _ c.loop-phrase-test.true c.phrase-item.is c.loop-phrase.invariant.kept
+      (c.need_after.ensures ∙ ap need_after c.role_of.ensures) c.loop-phrase.invariant.fault)
       c.in_ok-check_body.ensures.value;
   kept = c.in_ok-check_body.ensures.kept ∙ c.loop-phrase.invariant.kept;
 }

@@ -7,39 +7,39 @@ use Rattle.net_resolve.specs.Dummies.{with_items, with_components}
 use Rattle.net_resolve.specs.Items.{left_fault}
 use Rattle.net_resolve.specs.Names.{tree_fault, links_fault, items_fault, further_fault, is_tuple}
 use Rattle.net_resolve.proofs.Cases.{in_indexed, in_parens, in_tuple, in_negated, in_signed, in_reduced, in_choice}
-use Rattle.net_resolve.proofs.Walking.{walking, tells_by, left_other, forgotten_braces, forgotten_components, link_lighter, links_left, items_left, components_left, behind_none, stops_first}
+use Rattle.net_resolve.proofs.Walking.{walking, reports_by, left_other, forgotten_braces, forgotten_components, link_lighter, links_left, items_left, components_left, after_none, stops_first}
 use Rattle.net_resolve.proofs.expressions.+names.Goals as goal
 
 pub check-returns-in-Indexed-clause-value : goal.check-returns-in-Indexed-clause-value
 check-returns-in-Indexed-clause-value t c =
-    tells_by _ _ _ (ap (tree_fault c.args.need c.args.scope.now) (in_indexed c.args.expr.now c.in-Indexed.parts c.get.result.now c.as_slice.result.now c.in-Indexed.is c.get.ensures c.as_slice.ensures)) c.check_subscripts.ensures.value
+    reports_by _ _ _ (ap (tree_fault c.args.need c.args.scope.now) (in_indexed c.args.expr.now c.in-Indexed.parts c.get.result.now c.as_slice.result.now c.in-Indexed.is c.get.ensures c.as_slice.ensures)) c.check_subscripts.ensures.value
 
 pub check-returns-in-Parens-clause-value : goal.check-returns-in-Parens-clause-value
 check-returns-in-Parens-clause-value t c =
-    tells_by _ _ _ (ap (tree_fault c.args.need c.args.scope.now) (in_parens c.args.expr.now c.in-Parens.parts c.get-in-Parens.result.now c.in-Parens.is c.get-in-Parens.ensures)) c.check.ensures.value
+    reports_by _ _ _ (ap (tree_fault c.args.need c.args.scope.now) (in_parens c.args.expr.now c.in-Parens.parts c.get-in-Parens.result.now c.in-Parens.is c.get-in-Parens.ensures)) c.check.ensures.value
 
 pub check-returns-in-Tuple-clause-value : goal.check-returns-in-Tuple-clause-value
 check-returns-in-Tuple-clause-value t c =
-    tells_by _ _ _ (ap (tree_fault c.args.need c.args.scope.now) (in_tuple c.args.expr.now c.in-Tuple.parts c.get-in-Tuple.result.now c.as_slice-in-Tuple.result.now c.in-Tuple.is c.get-in-Tuple.ensures c.as_slice-in-Tuple.ensures)) c.check_series.ensures.value
+    reports_by _ _ _ (ap (tree_fault c.args.need c.args.scope.now) (in_tuple c.args.expr.now c.in-Tuple.parts c.get-in-Tuple.result.now c.as_slice-in-Tuple.result.now c.in-Tuple.is c.get-in-Tuple.ensures c.as_slice-in-Tuple.ensures)) c.check_series.ensures.value
 
 pub check-returns-in-Negated-clause-value : goal.check-returns-in-Negated-clause-value
 check-returns-in-Negated-clause-value t c =
-    tells_by _ _ _ (ap (tree_fault c.args.need c.args.scope.now) (in_negated c.args.expr.now c.in-Negated.parts c.get-in-Negated.result.now c.in-Negated.is c.get-in-Negated.ensures)) c.check-in-Negated.ensures.value
+    reports_by _ _ _ (ap (tree_fault c.args.need c.args.scope.now) (in_negated c.args.expr.now c.in-Negated.parts c.get-in-Negated.result.now c.in-Negated.is c.get-in-Negated.ensures)) c.check-in-Negated.ensures.value
 
 pub check-returns-in-Signed-clause-value : goal.check-returns-in-Signed-clause-value
 check-returns-in-Signed-clause-value t c =
-    tells_by _ _ _ (ap (tree_fault c.args.need c.args.scope.now) (in_signed c.args.expr.now c.in-Signed.parts c.get-in-Signed.result.now c.in-Signed.is c.get-in-Signed.ensures)) c.check-in-Signed.ensures.value
+    reports_by _ _ _ (ap (tree_fault c.args.need c.args.scope.now) (in_signed c.args.expr.now c.in-Signed.parts c.get-in-Signed.result.now c.in-Signed.is c.get-in-Signed.ensures)) c.check-in-Signed.ensures.value
 
 pub check-returns-in-Reduced-clause-value : goal.check-returns-in-Reduced-clause-value
 check-returns-in-Reduced-clause-value t c =
-    tells_by _ _ _ (ap (tree_fault c.args.need c.args.scope.now) (in_reduced c.args.expr.now c.in-Reduced.parts c.get-in-Reduced.result.now c.in-Reduced.body c.get-in-Reduced-2.result.now c.in-Reduced.is c.get-in-Reduced.ensures c.get-in-Reduced-2.ensures)) c.check_reduced.ensures.value
+    reports_by _ _ _ (ap (tree_fault c.args.need c.args.scope.now) (in_reduced c.args.expr.now c.in-Reduced.parts c.get-in-Reduced.result.now c.in-Reduced.body c.get-in-Reduced-2.result.now c.in-Reduced.is c.get-in-Reduced.ensures c.get-in-Reduced-2.ensures)) c.check_reduced.ensures.value
 
 pub check-returns-in-Choice-clause-value : goal.check-returns-in-Choice-clause-value
 check-returns-in-Choice-clause-value t c =
-    tells_by _ _ _ (ap (tree_fault c.args.need c.args.scope.now) (in_choice c.args.expr.now c.in-Choice.condition c.in-Choice.branch c.get-in-Choice.result.now c.get-in-Choice-2.result.now c.in-Choice.otherwise c.in-Choice.is c.get-in-Choice.ensures c.get-in-Choice-2.ensures)) c.check_choice.ensures.value
+    reports_by _ _ _ (ap (tree_fault c.args.need c.args.scope.now) (in_choice c.args.expr.now c.in-Choice.condition c.in-Choice.branch c.get-in-Choice.result.now c.get-in-Choice-2.result.now c.in-Choice.otherwise c.in-Choice.is c.get-in-Choice.ensures c.get-in-Choice-2.ensures)) c.check_choice.ensures.value
 
 pub check_braced-returns-clause-kept : goal.check_braced-returns-clause-kept
-check_braced-returns-clause-kept t c = c.forget_behind.ensures ∙ forgotten_braces c.args.scope.now c.read_braces.new.scope (braces_of c.args.braces.now) c.len-known.result c.len-known.ensures c.in_ok-read_braces.ensures.grown
+check_braced-returns-clause-kept t c = c.forget_after.ensures ∙ forgotten_braces c.args.scope.now c.read_braces.new.scope (braces_of c.args.braces.now) c.len-known.result c.len-known.ensures c.in_ok-read_braces.ensures.grown
 
 pub check_links-check-requires : goal.check_links-check-requires
 check_links-check-requires t c = omega (arith, link_lighter c.args.links.now c.loop-link.link-index c.link-item.result c.loop-link-test.true c.link-item.is)
@@ -55,7 +55,7 @@ check_links-returns-in_err-check-clause-value t c =
 pub check_links-loop-link-preserved : goal.check_links-loop-link-preserved
 check_links-loop-link-preserved t c = record {
   fault =
-      behind_none _ _ (links_fault c.args.need c.args.scope.now (links_of c.args.links.now))
+      after_none _ _ (links_fault c.args.need c.args.scope.now (links_of c.args.links.now))
       (links_left c.args.need c.args.scope.now c.loop-link.scope c.args.links.now c.loop-link.link-index c.link-item.result _ c.loop-link-test.true c.link-item.is c.loop-link.invariant.kept c.loop-link.invariant.fault)
       c.in_ok-check.ensures.value;
   kept = c.in_ok-check.ensures.kept ∙ c.loop-link.invariant.kept;
@@ -63,12 +63,12 @@ check_links-loop-link-preserved t c = record {
 
 pub check_left-returns-in-Tuple-clause-value : goal.check_left-returns-in-Tuple-clause-value
 check_left-returns-in-Tuple-clause-value t c =
-    tells_by _ _ _ (ap (left_fault c.args.need c.args.scope.now) (in_tuple c.args.left.now c.in-Tuple.parts c.get.result.now c.as_slice.result.now c.in-Tuple.is c.get.ensures c.as_slice.ensures)) c.check_components.ensures.value
+    reports_by _ _ _ (ap (left_fault c.args.need c.args.scope.now) (in_tuple c.args.left.now c.in-Tuple.parts c.get.result.now c.as_slice.result.now c.in-Tuple.is c.get.ensures c.as_slice.ensures)) c.check_components.ensures.value
 
 pub check_left-returns-in-Leaf-clause-value : goal.check_left-returns-in-Leaf-clause-value
 check_left-returns-in-Leaf-clause-value t c =
     let other : is_tuple (tree c.args.left.now) ≡ false = search (rules, views) in
-    tells_by _ _ _ (left_other c.args.need c.args.scope.now (tree c.args.left.now) other) c.check_component.ensures.value
+    reports_by _ _ _ (left_other c.args.need c.args.scope.now (tree c.args.left.now) other) c.check_component.ensures.value
 
 pub read_more-read_item-requires : goal.read_more-read_item-requires
 read_more-read_item-requires t c = omega (arith, link_lighter c.args.links.now c.loop-link.link-index c.link-item.result c.loop-link-test.true c.link-item.is)
@@ -85,7 +85,7 @@ pub read_more-loop-link-preserved : goal.read_more-loop-link-preserved
 read_more-loop-link-preserved t c = record {
   fault =
       ap (λ s. items_fault c.args.need s (links_of (drop (c.loop-link.link-index + 1) c.args.links.now))) c.in_ok-read_item.ensures.grown
-      ∙ behind_none _ _ (items_fault c.args.need c.args.scope.now (links_of c.args.links.now))
+      ∙ after_none _ _ (items_fault c.args.need c.args.scope.now (links_of c.args.links.now))
       (items_left c.args.need c.loop-link.scope c.args.links.now c.loop-link.link-index c.link-item.result _ c.loop-link-test.true c.link-item.is c.loop-link.invariant.fault)
       c.in_ok-read_item.ensures.value;
   grown =
@@ -109,7 +109,7 @@ pub read_components-loop-link-preserved : goal.read_components-loop-link-preserv
 read_components-loop-link-preserved t c = record {
   fault =
       ap (λ s. further_fault c.args.need s (links_of (drop (c.loop-link.link-index + 1) c.args.links.now))) c.in_ok-read_component.ensures.grown
-      ∙ behind_none _ _ (further_fault c.args.need c.args.scope.now (links_of c.args.links.now))
+      ∙ after_none _ _ (further_fault c.args.need c.args.scope.now (links_of c.args.links.now))
       (components_left c.args.need c.loop-link.scope c.args.links.now c.loop-link.link-index c.link-item.result _ c.loop-link-test.true c.link-item.is c.loop-link.invariant.fault)
       c.in_ok-read_component.ensures.value;
   grown =
@@ -288,12 +288,12 @@ check_left-check_components-requires c = grind (arith, common_steps, views, walk
 
 pub check_components-returns-clause-kept : goal.check_components-returns-clause-kept
 check_components-returns-clause-kept t c =
-    c.forget_behind.ensures
+    c.forget_after.ensures
     ∙ forgotten_components c.args.scope.now c.read_component.new.scope c.read_components.new.scope (tree c.args.component.now) (links_of c.args.more.now) c.len-before.result c.len-before.ensures c.in_ok-read_component.ensures.grown c.in_ok-read_components.ensures.grown
 
 pub check_reduced-returns-clause-kept : goal.check_reduced-returns-clause-kept
 check_reduced-returns-clause-kept t c =
-    c.forget_behind.ensures
+    c.forget_after.ensures
     ∙ forgotten_braces c.args.scope.now c.check.new.scope (braces_of c.args.braces.now) c.len-outside.result c.len-outside.ensures (c.in_ok-check.ensures.kept ∙ c.in_ok-read_braces.ensures.grown)
 
 pub check-check-requires-in-Negated : goal.check-check-requires-in-Negated

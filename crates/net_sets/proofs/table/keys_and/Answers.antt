@@ -39,4 +39,4 @@ push-requires-2-clause-fresh c =
     let past = c.loop-row-test.false in
     let long = c.len-row-end.ensures.len in
     let all = all_keys c.loop-row.all c.args.known.now c.args.rows.now.entries c.loop-row.row c.loop-row.invariant (omega arith) in
-    ap (λ ts. has ts c.again.result) all ∙ (ap (has (keys_at c.args.known.now c.args.rows.now.entries)) c.again.ensures ∙ not_among c.args.known.now c.args.rows.now.entries c.args.key.now c.requires.fresh)
+    ap (λ ts. has ts c.copied.result) all ∙ (ap (has (keys_at c.args.known.now c.args.rows.now.entries)) c.copied.ensures ∙ not_among c.args.known.now c.args.rows.now.entries c.args.key.now c.requires.fresh)

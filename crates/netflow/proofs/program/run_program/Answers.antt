@@ -10,7 +10,7 @@ returns-in-Ok-run_call g c = inl (record {
   requested = c.in-Ok.ensures.value;
   chosen = c.call_of.ensures.value;
   run = c.run_call.ensures;
-  answered = c.of_ending.ensures.value ∙ sym (ap status_of c.in-Ok-run_call.is);
+  answered = c.of_exit_kind.ensures.value ∙ sym (ap status_of c.in-Ok-run_call.is);
 })
 
 pub returns : goal.returns

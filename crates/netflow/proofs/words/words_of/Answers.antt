@@ -19,8 +19,8 @@ returns-clause-value c = record {
   lean = c.lean_of-lean.ensures;
 }
 
-pub returns-in-Err-2-clause-refused : goal.returns-in-Err-2-clause-refused
-returns-in-Err-2-clause-refused c =
+pub returns-in-Err-2-clause-rejected : goal.returns-in-Err-2-clause-rejected
+returns-in-Err-2-clause-rejected c =
     let kinds = fails_by {T = ArgMatches} c.in_ok-command.command (map string_bytes c.args.words.now) (Err c.in-Err.error) c.in_ok-command.ensures c.in-Err.ensures.kinds in
     elim kinds [
       | inl no_memory ↦ let is : c.kind.result ≡ OutOfMemory = c.kind.ensures ∙ no_memory in
@@ -29,8 +29,8 @@ returns-in-Err-2-clause-refused c =
       | inr among ↦ inl among
     ]
 
-pub returns-in_default-action_of-clause-refused : goal.returns-in_default-action_of-clause-refused
-returns-in_default-action_of-clause-refused c =
+pub returns-in_default-action_of-clause-rejected : goal.returns-in_default-action_of-clause-rejected
+returns-in_default-action_of-clause-rejected c =
     let words = map string_bytes c.args.words.now in
     let met = entered c.in_ok-command.command words c.in-Ok.matches c.in_ok-command.ensures c.in-Ok.ensures.ok.2 in
     let rows = rows_of (found_of c.in-Some.found.now) in

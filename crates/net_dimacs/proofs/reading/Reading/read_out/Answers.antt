@@ -2,7 +2,7 @@ use Rattle.std.proofs.Common.{◌≡◌, ◌≤◌, Bool, false, cond, List, ℕ
 use Rattle.std.specs.Prelude.{nat_lt, Result}
 use Rattle.std.specs.Str.Lines.{lines}
 use Rattle.std.proofs.lemmas.Bool.Decides.{nat_tests}
-use Rattle.net_dimacs.specs.declared.problem_fault.Refusal.{Refusal}
+use Rattle.net_dimacs.specs.declared.problem_fault.Rejection.{Rejection}
 use Rattle.net_dimacs.specs.declared.problem_fault.LineFault.TheVariants.{TooLarge}
 use Rattle.net_dimacs.specs.Limits.{text_limit}
 use Rattle.net_dimacs.specs.Reading.{Start, Numbers, read_lines, read_text, Gives}
@@ -18,5 +18,5 @@ returns c = λ text stands.
     ap (λ (l : List ℕ). reads c.args.self.scan (lines l)) (sym (append-nil pending))
     ∙ ap (λ (l : List ℕ). reads c.args.self.scan (lines (l ++ []))) c.deref.ensures.value ∙ stands.scanned small []
     ∙ ap (λ (l : List ℕ). read_lines 1 Start (lines l)) (append-nil text)
-    ∙ ap (λ (t : Bool). cond {A = Result Numbers Refusal} t (Err (record { fault = TooLarge; line = 1 })) (read_lines 1 Start (lines text))) (sym short) in
+    ∙ ap (λ (t : Bool). cond {A = Result Numbers Rejection} t (Err (record { fault = TooLarge; line = 1 })) (read_lines 1 Start (lines text))) (sym short) in
     subst (λ read. Gives read c.ended.result) same c.ended.ensures.value

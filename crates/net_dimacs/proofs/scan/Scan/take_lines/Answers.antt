@@ -1,7 +1,7 @@
 use Rattle.std.proofs.Common.{◌≡◌, ◌∷◌, List, ℕ, ◌∙◌, arith}
 use Rattle.std.proofs.lemmas.Grind.{common_steps}
 use Rattle.std.specs.Str.Lines.{lines}
-use Rattle.net_dimacs.specs.Reading.{with_said, said}
+use Rattle.net_dimacs.specs.Reading.{with_optional_statement, line_statement}
 use Rattle.net_dimacs.specs.Drafts.{state_of}
 use Rattle.net_dimacs.proofs.Scanning.{said_so, line_read, still_unbegun, wants_memory, on_err}
 use Rattle.net_dimacs.proofs.scan.Scan.take_lines.Goals as goal
@@ -14,7 +14,7 @@ loop-line-preserved c =
     let rest : List ℕ = c.loop-line.rest.now in
     let text : List ℕ = c.args.text.now in
     let parts : lines rest ≡ line ∷ lines after = c.in-Some.ensures.parts in
-    let taken : state_of c.take.new.self ≡ with_said now.line (state_of now.progress) (said line) =
+    let taken : state_of c.take.new.self ≡ with_optional_statement now.line (state_of now.progress) (line_statement line) =
     c.in_ok-take.ensures.ok ∙ said_so now.line now.progress line c.statement_of.result c.statement_of.ensures in (
       λ more. line_read now.line (state_of now.progress) (state_of c.take.new.self) line rest after parts taken more ∙ c.loop-line.invariant.0 more,
       omega (arith, c.loop-line.invariant.1, c.in-Some.ensures.shorter),

@@ -8,11 +8,11 @@ returns-in-Unwritten-clause-writes g c = grind (arith, common_steps)
 pub returns-in-Unread-clause-writes : goal.returns-in-Unread-clause-writes
 returns-in-Unread-clause-writes g c = grind (arith, common_steps)
 
-pub returns-in-Refused-clause-writes : goal.returns-in-Refused-clause-writes
-returns-in-Refused-clause-writes g c = grind (arith, common_steps)
+pub returns-in-Rejected-clause-writes : goal.returns-in-Rejected-clause-writes
+returns-in-Rejected-clause-writes g c = grind (arith, common_steps)
 
 pub returns-in-OutOfMemory-clause-writes : goal.returns-in-OutOfMemory-clause-writes
 returns-in-OutOfMemory-clause-writes g c = grind (arith, common_steps)
 
-pub returns-in-RefusedLine-clause-writes : goal.returns-in-RefusedLine-clause-writes
-returns-in-RefusedLine-clause-writes g c = grind (arith, common_steps)
+pub returns-in-RejectedLine-clause-writes : goal.returns-in-RejectedLine-clause-writes
+returns-in-RejectedLine-clause-writes g c = grind (arith, common_steps)

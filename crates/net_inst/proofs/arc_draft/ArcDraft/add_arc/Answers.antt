@@ -20,5 +20,5 @@ invariant_of-self-in_err-push c = grind (arith)
 pub invariant_of-self-then-arc-lt-ARC_LIMIT : goal.invariant_of-self-then-arc-lt-ARC_LIMIT
 invariant_of-self-then-arc-lt-ARC_LIMIT c = grind (arith)
 
-pub returns-in_ok-refuse_name-clause-value : goal.returns-in_ok-refuse_name-clause-value
-returns-in_ok-refuse_name-clause-value c = grind (arith)
+pub returns-in_ok-reject_name-clause-value : goal.returns-in_ok-reject_name-clause-value
+returns-in_ok-reject_name-clause-value c = grind (arith)

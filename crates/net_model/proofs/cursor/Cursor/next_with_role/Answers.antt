@@ -7,4 +7,4 @@ use Rattle.net_model.proofs.cursor.Cursor.next_with_role.Goals as goal
 pub returns-in-Some : goal.returns-in-Some
 returns-in-Some c =
     let kept : first_role c.args.self.now ≡ Some c.in-Some.role = grind (arith) in
-    role_first c.args.self.now _ c.again-token.result c.in-Some.role kept (grind (arith, common_steps, some_within))
+    role_first c.args.self.now _ c.copied-token.result c.in-Some.role kept (grind (arith, common_steps, some_within))

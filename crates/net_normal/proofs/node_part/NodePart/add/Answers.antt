@@ -24,8 +24,8 @@ returns-in_ok-push-2-clause-arcs c = grind (arith, common_steps)
 pub returns-in_ok-push-2-clause-supplies : goal.returns-in_ok-push-2-clause-supplies
 returns-in_ok-push-2-clause-supplies c = grind (arith, common_steps)
 
-pub own_room-requires : goal.own_room-requires
-own_room-requires c = grind (arith, common_steps)
+pub own_slack-requires : goal.own_slack-requires
+own_slack-requires c = grind (arith, common_steps)
 
 pub returns-else-is_open-clause-supplies : goal.returns-else-is_open-clause-supplies
 returns-else-is_open-clause-supplies c = grind (arith, common_steps)

@@ -10,8 +10,8 @@ use Rattle.net_solve.proofs.Carrying.{known, excess-sized}
 use Rattle.net_solve.proofs.Stepping.{plain, cost-plain, sendable, tail-inside}
 use Rattle.net_solve.proofs.machine.Machine.sendable.Goals as goal
 
-pub room_of-room-requires-clause-within : goal.room_of-room-requires-clause-within
-room_of-room-requires-clause-within c =
+pub residual_of-room-requires-clause-within : goal.residual_of-room-requires-clause-within
+residual_of-room-requires-clause-within c =
     let problem = c.args.problem.now in
     let flows = c.args.self.now.carried.flows.items in
     let k = known problem flows _ c.args.index c.requires.running.standing.carried c.requires.index in
@@ -31,9 +31,9 @@ returns c = λ some.
     let excess : c.index-2.result.now ≡ get_or m.carried.excess.items c.tail_of-tail.result (pos 0) = get_or_read m.carried.excess.items _ _ (omega (arith, tail, h.carried.excess_count)) c.index-2.ensures (pos 0) in
     let small = excess-sized problem m.carried.flows.items m.carried.excess.items h.carried c.tail_of-tail.result tail in
     let f : FitsSigned w64 c.amount_of.result = search rules in
-    let g : FitsSigned w64 c.room_of-room.result = search rules in
+    let g : FitsSigned w64 c.residual_of-room.result = search rules in
     let p = plain c.amount_of.result f in
-    let q = plain c.room_of-room.result g in
+    let q = plain c.residual_of-room.result g in
     let wide : to_z w128 (of_z w128 c.index-2.result.now) ≡ c.index-2.result.now = omega (arith, ints, excess, small.above, small.below) in
-    sendable problem m c.args.index c.tail_of-tail.result c.args.forwards (to_z w64 (of_z w64 c.reduced-cost.result)) c.index-2.result.now c.index-3.result.now c.room_of-room.result _ c.index.result.now c.deref.result.now
-    arc c.deref.ensures.value (ap length c.deref.ensures.value ∙ h.deep.count) (cost-plain c.reduced-cost.result c.reduced-cost.ensures.size ∙ c.reduced-cost.ensures.value) (c.saves.ensures c.if-not-saves.false) c.tail_of-tail.ensures excess flow c.room_of-room.ensures (omega (arith, ints, p, q, c.amount_of.ensures.room)) (omega (arith, ints, p, wide, c.amount_of.ensures.excess)) some
+    sendable problem m c.args.index c.tail_of-tail.result c.args.forwards (to_z w64 (of_z w64 c.reduced-cost.result)) c.index-2.result.now c.index-3.result.now c.residual_of-room.result _ c.index.result.now c.deref.result.now
+    arc c.deref.ensures.value (ap length c.deref.ensures.value ∙ h.deep.count) (cost-plain c.reduced-cost.result c.reduced-cost.ensures.size ∙ c.reduced-cost.ensures.value) (c.saves.ensures c.if-not-saves.false) c.tail_of-tail.ensures excess flow c.residual_of-room.ensures (omega (arith, ints, p, q, c.amount_of.ensures.room)) (omega (arith, ints, p, wide, c.amount_of.ensures.excess)) some

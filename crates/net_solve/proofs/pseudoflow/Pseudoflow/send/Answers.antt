@@ -7,7 +7,7 @@ use Rattle.net_normal.specs.Flows.{IsWithinCapacity}
 use Rattle.net_normal.specs.declared.problem.FlowArc.{FlowArc}
 use Rattle.net_normal.specs.declared.problem.Problem.{Problem}
 use Rattle.net_solve.specs.Pseudoflows.{no_arc, arc_at}
-use Rattle.net_solve.specs.Forests.{room_of}
+use Rattle.net_solve.specs.Forests.{residual_of}
 use Rattle.net_solve.specs.declared.forest.Joined.{Joined}
 use Rattle.net_solve.proofs.SentAmounts.{known, room-small, sent-within, signed-small, moved}
 use Rattle.net_solve.proofs.pseudoflow.Pseudoflow.send.Goals as goal
@@ -28,8 +28,8 @@ room-room-requires c =
     (vec_len problem.supplies, subst (IsFlowArcOf (vec_len problem.supplies)) (sym arc) k.fits, subst (λ (a : FlowArc). IsWithinCapacity a c.index-2.result.now) (sym arc) (subst (IsWithinCapacity (arc_at problem j.index)) (sym flow) k.within))
 
 -- the room is what the contract speaks of
-room-is : (problem : Problem) (flows : List ℤ) (j : Joined) (arc : FlowArc) (flow room : ℤ) → arc ≡ arc_at problem j.index → flow ≡ get_or flows j.index (pos 0) → room ≡ room_of j arc flow → room ≡ room_of j (arc_at problem j.index) (get_or flows j.index (pos 0))
-room-is problem flows j arc flow room a f is = is ∙ ap (λ (x : FlowArc). room_of j x flow) a ∙ ap (room_of j (arc_at problem j.index)) f
+room-is : (problem : Problem) (flows : List ℤ) (j : Joined) (arc : FlowArc) (flow room : ℤ) → arc ≡ arc_at problem j.index → flow ≡ get_or flows j.index (pos 0) → room ≡ residual_of j arc flow → room ≡ residual_of j (arc_at problem j.index) (get_or flows j.index (pos 0))
+room-is problem flows j arc flow room a f is = is ∙ ap (λ (x : FlowArc). residual_of j x flow) a ∙ ap (residual_of j (arc_at problem j.index)) f
 
 pub amount_of-amount-requires-clause-room : goal.amount_of-amount-requires-clause-room
 amount_of-amount-requires-clause-room c =

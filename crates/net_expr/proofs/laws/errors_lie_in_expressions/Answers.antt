@@ -1,6 +1,0 @@
-use Rattle.net_fault.specs.Places.{LieIn}
-use Rattle.net_expr.proofs.ValueFaults.{finds_value, finds_index}
-use Rattle.net_expr.proofs.laws.errors_lie_in_expressions.Goals as goal
-
-pub returns : goal.returns
-returns c = record { values = λ size. finds_value (LieIn size 0); keys = λ size. finds_index (LieIn size 0) }
