@@ -1,7 +1,7 @@
 -- How large the numbers of a normal form are: each arc counts at its two ends only, so sums over nodes are bounded by sums over arcs.
 use Rattle.std.proofs.Common.{◌≡◌, ℕ, zero, suc, ◌*◌, ◌≤◌, Bool, true, false, cond, inl, inr, Option, Some, None, List, [], ◌∷◌, length, map, ℤ, pos, ◌+ℤ◌, ◌≤ℤ◌, neg_ℤ, refl, arith}
 use Rattle.std.proofs.lemmas.Int.{ints, clamps}
-use Rattle.std.proofs.lemmas.Bool.Decides.{eqb_reports}
+use Rattle.std.proofs.lemmas.Bool.Decides.{eqb_tells}
 use Rattle.std.specs.Option.{ForSome}
 use Rattle.std.specs.List.{All, AllByRecursion}
 use Rattle.std.proofs.lemmas.List.Elements.{recursion_from_All, All-weaker}
@@ -61,7 +61,7 @@ reach-small b arcs v =
 standing_upto : (e v n b : ℕ) → sum_over (standing e (pos b)) v n ≤ℤ pos b
 standing_upto e v zero b = omega (arith, ints)
 standing_upto e v (suc n) b =
-    elim (eqb_reports e v) as (λ _. sum_over (standing e (pos b)) v (suc n) ≤ℤ pos b) [
+    elim (eqb_tells e v) as (λ _. sum_over (standing e (pos b)) v (suc n) ≤ℤ pos b) [
       | inl t ↦ omega (arith, ints, standing_on e v (pos b) t.1, sum_over-before e (suc v) n (pos b) (omega (arith, t.1)))
       | inr t ↦ omega (arith, ints, standing_off e v (pos b) t.1, standing_upto e (suc v) n b)
     ]
