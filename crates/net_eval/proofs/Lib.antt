@@ -20,3 +20,4 @@ pub mod SetFaults
 pub mod ParameterFaults
 pub mod WorldFaults
 mod SoundRestrictions
+mod SoundChecks

@@ -13,4 +13,6 @@ pub mod Restrictions
 pub mod BoundParameters
 pub mod ParameterValues
 pub mod Binding
+pub mod DataFor
+pub mod DataValues
 pub mod Soundness

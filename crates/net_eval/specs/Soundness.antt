@@ -1,14 +1,36 @@
--- A law that relates the restrictions that the code checks to their meaning.
-use Rattle.std.specs.Prelude.{◌≡◌, List, Ok}
+-- Laws that relate parameters and checks, as the code binds them, to their meaning.
+use Rattle.std.specs.Prelude.{◌≡◌, ℕ, true, List, Option, Ok}
 use Rattle.std.specs.List.{AllByRecursion}
 use Rattle.net_fault.specs.declared.detail.Detail.{Detail}
+use Rattle.net_lex.specs.declared.token.Token.{Token}
+use Rattle.net_data.specs.declared.statement.Statement.{Statement}
+use Rattle.net_data.specs.Meaning.{IsStatement}
 use Rattle.net_sets.specs.declared.member.Member.{Member}
-use Rattle.net_tree.specs.Tree.{Phrase}
+use Rattle.net_tree.specs.Tree.{Tree, Braces, Phrase}
+use Rattle.net_expr.specs.declared.world.Entry.{Entry}
+use Rattle.net_expr.specs.SetValues.{HasSets}
 use Rattle.net_expr.specs.Worlds.{World, Scope}
-use Rattle.net_meaning.specs.Values.{env_of}
-use Rattle.net_meaning.specs.World.{Fits}
+use Rattle.net_meaning.specs.Operators.{Truth}
+use Rattle.net_meaning.specs.Values.{Key, env_of, IsValue}
+use Rattle.net_meaning.specs.World.{Fits, AreIndexed, IsParameter}
+use Rattle.net_eval.specs.Binding.{checked}
+use Rattle.net_eval.specs.BoundParameters.{bound_parameter}
+use Rattle.net_eval.specs.DataFor.{data_for}
+use Rattle.net_eval.specs.DataValues.{HaveValues, NamesNoSet}
+use Rattle.net_eval.specs.Names.{Declared}
 use Rattle.net_eval.specs.Restrictions.{restricted}
 
 -- if the code accepts a value of a parameter, the value satisfies each restriction of the declaration
 abbrev pub RestrictionsAreSound : Type 0
 RestrictionsAreSound = (w : World) (s : Scope) (d : Detail) (m : Member) (ps : List Phrase) → restricted w s d m ps ≡ Ok tt → AllByRecursion (Fits (env_of w s) m) ps
+
+-- if the code binds a parameter with the data of well-formed statements, its entry is the one that AMPL defines
+abbrev pub ParametersAreSound : Type 0
+ParametersAreSound =
+    (w : World) (widths : List ℕ) (name : Token) (b : Option Braces) (ps : List Phrase) (ds : Declared) (i : ℕ) (ss : List Statement) (x : Entry) → HasSets w
+    → AllByRecursion IsStatement ss → AllByRecursion HaveValues ss → AllByRecursion (NamesNoSet name.text) ss
+    → bound_parameter w widths name b ps (data_for ds i name.text ss) ≡ Ok x → IsParameter w ss name.text b ps x
+
+-- if the code accepts a check, its condition is true at each of its keys
+abbrev pub ChecksAreSound : Type 0
+ChecksAreSound = (w : World) (b : Option Braces) (x : Tree) → checked w b x ≡ Ok tt → (keys : List Key) × AreIndexed w b keys × AllByRecursion (λ (k : Key). IsValue k.env x (Truth true)) keys

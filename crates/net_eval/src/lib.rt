@@ -36,5 +36,5 @@ pub use laws::{
 };
 pub use net_expr::{Entry, Keys, Member, Scope, Text, Tuple, World};
 pub use net_fault::Fault as EvalFault;
-pub use soundness::restrictions_are_sound;
+pub use soundness::{checks_are_sound, parameters_are_sound, restrictions_are_sound};
 pub use world::bind;
