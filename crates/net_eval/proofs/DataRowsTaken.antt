@@ -61,7 +61,7 @@ cell_is word n index key (Some value) t = go (points value.kind)
 not_none : (n : ℕ) → 0 < n → nat_eq n 0 ≡ false
 not_none n l = grind (arith, nat_tests)
 
-cut_is : (n m : ℕ) (cells : List Token) → n ≡ m → 0 < m → cut n cells ≡ groups m cells
+pub cut_is : (n m : ℕ) (cells : List Token) → n ≡ m → 0 < m → cut n cells ≡ groups m cells
 cut_is n m cells e l = ap (λ b. if b then [] else groups n cells) (not_none n (omega (arith, e, l))) ∙ ap (λ k. groups k cells) e
 
 groups_are : (word : Token) (n : Option ℕ) (index : List Tuple) (keys place : ℕ) (gs : List (List Token)) (t : Taken)

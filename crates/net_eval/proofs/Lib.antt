@@ -21,3 +21,4 @@ pub mod ParameterFaults
 pub mod WorldFaults
 mod SoundRestrictions
 mod SoundChecks
+pub mod SoundRows
