@@ -70,7 +70,7 @@ each_keeps P f keeps (x ∷ xs) b c h e = then_ok (f x b) (each f xs) c e (λ d 
 -- ---- what data give
 
 -- the values so far are those of a parameter
-abbrev IsSaid : List Tuple → Taken → Type 0
+abbrev pub IsSaid : List Tuple → Taken → Type 0
 IsSaid index t = IsParameterOf index t.0
 
 row_keeps : (word : Token) (n : Option ℕ) (index : List Tuple) (key : List Token) (value : Token) (t u : Taken) → IsSaid index t → with_row word n index key value t ≡ Ok u → IsSaid index u
@@ -125,7 +125,7 @@ statement_keeps widths n index size a m all more h e =
     then_ok (taken widths n index size m.word m.given (a || (is_some m.default && is_some all.1)) all.0) (λ t. Ok (t, either all.1 m.default)) more e (λ t i k.
     subst (λ (z : All). IsSaid index z.0) (is_ok (t, either all.1 m.default) more k) (taken_keeps widths n index size m.word m.given (a || (is_some m.default && is_some all.1)) all.0 t h i))
 
-said_keeps : (widths : List ℕ) (n : Option ℕ) (index : List Tuple) (a : Bool) (ms : List NamedData) (all : All) → IsDistinct same_tuple index → data_of widths n index a ms ≡ Ok all → IsSaid index all.0
+pub said_keeps : (widths : List ℕ) (n : Option ℕ) (index : List Tuple) (a : Bool) (ms : List NamedData) (all : All) → IsDistinct same_tuple index → data_of widths n index a ms ≡ Ok all → IsSaid index all.0
 said_keeps widths n index a ms all h e =
     each_keeps (λ (z : All). IsSaid index z.0) (with_statement widths n index (key_count n) a) (λ m b c k i. statement_keeps widths n index (key_count n) a m b c k i) ms untaken all
     (record { keys = h; inside = tt; once = none_there }) e

@@ -22,3 +22,6 @@ pub mod WorldFaults
 mod SoundRestrictions
 mod SoundChecks
 pub mod SoundRows
+pub mod SoundTaken
+mod SoundValues
+mod SoundParameters

@@ -42,7 +42,7 @@ use Rattle.net_eval.proofs.RowsTaken.{then_ok, is_ok}
 -- ---- what data give
 
 -- the values so far, and those of these rows behind them
-abbrev Adds : Taken → Taken → List DataRow → Type 0
+abbrev pub Adds : Taken → Taken → List DataRow → Type 0
 Adds t u rows = u.0 ≡ t.0 ++ map row_value rows
 
 adds_none : (t u : Taken) → t ≡ u → Adds t u []
@@ -128,11 +128,11 @@ either_join None b c = refl
 either_join (Some a) b c = refl
 
 -- the rows of all statements, and the first default
-record AddsAll (size : ℕ) (all more : All) (ms : List NamedData) : Type 0 where
+pub record AddsAll (size : ℕ) (all more : All) (ms : List NamedData) : Type 0 where
   pub values : Adds all.0 more.0 (flat_map (λ (m : NamedData). rows_given size m.given) ms)
   pub default : more.1 ≡ either all.1 (default_given ms)
 
-statements_add : (widths : List ℕ) (n : Option ℕ) (index : List Tuple) (size : ℕ) (a : Bool) (ms : List NamedData) (all more : All) → each (with_statement widths n index size a) ms all ≡ Ok more → AddsAll size all more ms
+pub statements_add : (widths : List ℕ) (n : Option ℕ) (index : List Tuple) (size : ℕ) (a : Bool) (ms : List NamedData) (all more : All) → each (with_statement widths n index size a) ms all ≡ Ok more → AddsAll size all more ms
 statements_add widths n index size a [] all more e =
     let same = is_ok all more e in
     record { values = adds_none all.0 more.0 (ap (λ (z : All). z.0) same); default = ap (λ (z : All). z.1) (sym same) ∙ sym (either_none all.1) }
@@ -251,11 +251,11 @@ values_filled w name n ps x rows said t once e =
 
 -- ---- the parameter
 
-keys_once : (w : World) (b : Option Braces) (k : Keys) → HasSets w → keys_in w b ≡ Ok k → IsDistinct same_tuple (keys_of k.rows)
+pub keys_once : (w : World) (b : Option Braces) (k : Keys) → HasSets w → keys_in w b ≡ Ok k → IsDistinct same_tuple (keys_of k.rows)
 keys_once w None k sets e = subst (λ (z : Keys). IsDistinct same_tuple (keys_of z.rows)) (is_ok single_key k e) (IsDistinct-cons same_tuple [] [] tt none_there)
 keys_once w (Some b) k sets e = have_distinct_keys w [] b k (keeps_sets w sets) e
 
-table_valued : (w : World) (ws : List ℕ) (name : Token) (ps : List Phrase) (ms : List NamedData) (n : Option ℕ) (rows : List Row) (index : List Tuple) (t : Table) → IsDistinct same_tuple (keys_of rows)
+pub table_valued : (w : World) (ws : List ℕ) (name : Token) (ps : List Phrase) (ms : List NamedData) (n : Option ℕ) (rows : List Row) (index : List Tuple) (t : Table) → IsDistinct same_tuple (keys_of rows)
     → filled w ws name ps ms n rows index ≡ Ok t → AllByRecursion (IsValueAt w ps (values_given (key_count n) ms) ms t) rows
 table_valued w ws name ps ms n rows index t once e =
     then_ok (data_of ws n index (is_some (phrase_value gives.Becomes ps)) ms) (λ all. values w name n ps (source (phrase_value gives.Becomes ps) all.1 (phrase_value gives.Default ps)) rows all.0) t e (λ all i j.

@@ -1,0 +1,224 @@
+-- A parameter that is bound with the data of the statements is the one that AMPL defines.
+use Rattle.std.specs.Prelude.{◌≡◌, ◌⊎◌, ◌+◌, ◌≤◌, ◌||◌, ℕ, Bool, true, false, List, [], ◌∷◌, ◌++◌, length, map, nat_le, is_some, Option, None, Some, if◌then◌else◌, IsTrue, Ok, Err}
+use Rattle.std.specs.List.{AllByRecursion, AllZip, IsDistinct, flat_map}
+use Rattle.std.proofs.Common.{refl, ap, sym, ◌∙◌, subst, arith, inl, inr}
+use Rattle.net_fault.specs.declared.diagnostic.Diagnostic.{Diagnostic}
+use Rattle.net_fault.specs.declared.span.Span.{Span}
+use Rattle.net_fault.specs.Outcomes.{Outcome, and_then, each}
+use Rattle.net_lex.specs.declared.token.Token.{Token}
+use Rattle.net_data.specs.declared.statement.Statement.{Statement}
+use Rattle.net_data.specs.Meaning.{IsStatement}
+use Rattle.net_data.specs.Rows.{Row as DataRow}
+use Rattle.net_sets.specs.declared.member.Member.{Member}
+use Rattle.net_sets.specs.Limits.{tuples_limit}
+use Rattle.net_sets.specs.Operations.{union}
+use Rattle.net_sets.specs.Sets.{Tuple, same_tuple, has, at_key}
+use Rattle.net_sets.proofs.Sames.{tuple_decides}
+use Rattle.net_tree.specs.Phrases.{is_becomes, is_default}
+use Rattle.net_tree.specs.Tree.{Tree, Braces, Phrase}
+use Rattle.net_expr.specs.declared.row.Keys.{Keys}
+use Rattle.net_expr.specs.declared.row.Row.{Row}
+use Rattle.net_expr.specs.declared.world.Entry.{Entry}
+use Rattle.net_expr.specs.declared.world.Entry.TheVariants.{Parameter}
+use Rattle.net_expr.specs.Rows.{keys_of}
+use Rattle.net_expr.specs.Sets.{counted}
+use Rattle.net_expr.specs.SetValues.{HasSets}
+use Rattle.net_expr.specs.Values.{index}
+use Rattle.net_expr.specs.Worlds.{Name, World, key_count}
+use Rattle.net_expr.proofs.Alike.{AreLong, AreKeys, keys_long}
+use Rattle.net_expr.proofs.IteratedSets.{all_as}
+use Rattle.net_eval.specs.declared.given.NamedData.{NamedData}
+use Rattle.net_eval.specs.declared.param.Gives.TheVariants as gives
+use Rattle.net_eval.specs.BoundParameters as bound
+use Rattle.net_eval.specs.BoundParameters.{single_key, keys_in, key_size, span_or, index_list, source, source_text, source_at, with_key, fit_values, untaken, data_of, valued_by, filled, with_data, bound_parameter, keys_with}
+use Rattle.net_eval.specs.Cells.{tuple_in}
+use Rattle.net_eval.specs.DataFor.{data_for}
+use Rattle.net_eval.specs.DataValues.{HaveValues, NamesNoSet}
+use Rattle.net_eval.specs.Names.{Declared}
+use Rattle.net_eval.specs.ParameterValues.{IsParameterOf, row_value, values_given, default_given, IsValue, IsValueAt}
+use Rattle.net_eval.specs.Rows.{Table, All}
+use Rattle.net_eval.specs.Soundness.{ParametersAreSound}
+use Rattle.net_eval.proofs.HeldParameters.{IsIndex, index_is, said_keeps, parameter_is}
+use Rattle.net_eval.proofs.Products.{has_union}
+use Rattle.net_eval.proofs.RowsTaken.{then_ok, is_ok}
+use Rattle.net_eval.proofs.SoundChecks.{as_key, keys_are_indexed}
+use Rattle.net_eval.proofs.SoundRows.{IsMember, all_both, rows_are, defaults_of, defaults_are, mentions_are}
+use Rattle.net_eval.proofs.SoundTaken.{IsWhole, data_members, default_members, AreAccepted, are_accepted}
+use Rattle.net_eval.proofs.SoundValues.{IsRead, row_read, wants_becomes, wants_default, phrase_is, first_of, default_is, value_is_meant, rows_fit}
+use Rattle.net_eval.proofs.ValuesAt.{keys_once, table_valued, statements_add}
+use Rattle.net_meaning.specs.Values.{Key}
+use Rattle.net_meaning.specs.World as world
+use Rattle.net_meaning.specs.World.{AreIndexed, AreDataValues, mentions, data_rows, data_defaults, IsParameterValue, IsParameter}
+
+-- ---- keys
+
+-- the keys of the rows, as the definitions name them
+abbrev keys_at : World → List Row → List Tuple
+keys_at w rows = world.keys_of (map (as_key w) rows)
+
+keys_are : (w : World) (rows : List Row) → keys_at w rows ≡ keys_of rows
+keys_are w [] = refl
+keys_are w (r ∷ rows) = ap (λ (ks : List Tuple). r.key ∷ ks) (keys_are w rows)
+
+all_keys : (w : World) (P : Key → Type 0) (rows : List Row) → AllByRecursion (λ (r : Row). P (as_key w r)) rows → AllByRecursion P (map (as_key w) rows)
+all_keys w P [] h = tt
+all_keys w P (r ∷ rows) h = (h.0, all_keys w P rows h.1)
+
+rows_long : (n : ℕ) (rows : List Row) → AreLong n (keys_of rows) → AllByRecursion (λ (r : Row). length r.key ≡ n) rows
+rows_long n [] h = tt
+rows_long n (r ∷ rows) h = (h.0, rows_long n rows h.1)
+
+lengths_are : (w : World) (b : Option Braces) (k : Keys) → keys_in w b ≡ Ok k → AreLong (key_count (key_size b k)) (keys_of k.rows)
+lengths_are w None k e = subst (λ (z : Keys). AreLong 0 (keys_of z.rows)) (is_ok single_key k e) (refl, tt)
+lengths_are w (Some b) k e = go k.width k.rows (keys_long w [] b k e)
+  where
+    go : (d : Option ℕ) (rows : List Row) → AreKeys d rows → AreLong (counted d) (keys_of rows)
+    go None rows h = subst (λ (z : List Row). AreLong 1 (keys_of z)) (sym h) tt
+    go (Some n) rows h = h
+
+size_is : (b : Option Braces) (k : Keys) → key_size b k ≡ world.key_count b (key_count (key_size b k))
+size_is None k = refl
+size_is (Some b) k = refl
+
+-- what holds of each tuple holds of one that is there
+has_all : (P : Tuple → Type 0) (ts : List Tuple) (t : Tuple) → AllByRecursion P ts → has ts t ≡ true → P t
+has_all P [] t h e = cc
+has_all P (x ∷ ts) t h e = go (same_tuple t x) refl e (has_all P ts t h.1)
+  where
+    go : (b : Bool) → same_tuple t x ≡ b → (b || has ts t) ≡ true → (has ts t ≡ true → P t) → P t
+    go true i f more = subst P (sym ((tuple_decides t x).0 i)) h.0
+    go false i f more = more f
+
+index_made : (at : Span) (rows : List Row) (index : List Tuple) → index_list at rows ≡ Ok index → union [] (keys_of rows) ≡ index
+index_made at rows index e = go _ (nat_le (length (union [] (keys_of rows))) tuples_limit) e
+  where
+    go : (x : Diagnostic) (b : Bool) → (if b then (let o : Outcome (List Tuple) = Ok (union [] (keys_of rows)) in o) else Err x) ≡ Ok index → union [] (keys_of rows) ≡ index
+    go x true i = is_ok (union [] (keys_of rows)) index i
+    go x false i = cc
+
+-- ---- rows of the data
+
+abbrev subscripts_of : List DataRow → List Tuple
+subscripts_of rows = map (λ (r : DataRow). tuple_in r.keys) rows
+
+keys_given : (rows : List DataRow) → keys_with (map row_value rows) ≡ subscripts_of rows
+keys_given [] = refl
+keys_given (r ∷ rows) = ap (λ (ks : List Tuple). tuple_in r.keys ∷ ks) (keys_given rows)
+
+all_read : (rows : List DataRow) → AllByRecursion IsRead rows → AllZip (λ (r : DataRow) key. AreDataValues r.keys key) rows (subscripts_of rows)
+all_read [] h = tt
+all_read (r ∷ rows) h = (h.0.members, all_read rows h.1)
+
+all_inside : (P : Tuple → Type 0) (rows : List DataRow) → AllByRecursion (λ (e : Tuple × Member). P e.0) (map row_value rows) → AllByRecursion P (subscripts_of rows)
+all_inside P [] h = tt
+all_inside P (r ∷ rows) h = (h.0, all_inside P rows h.1)
+
+rows_read : (size : ℕ) (keys : List Tuple) (rows : List DataRow) → AreLong size keys → AllByRecursion (IsWhole size) rows → AllByRecursion (λ t. has keys t ≡ true) (subscripts_of rows) → AllByRecursion IsRead rows
+rows_read size keys [] l h k = tt
+rows_read size keys (r ∷ rows) l h k = (row_read size r h.0 (has_all (λ t. length t ≡ size) keys (tuple_in r.keys) l k.0), rows_read size keys rows l h.1 k.1)
+
+-- ---- the steps of binding
+
+record IsBound (w : World) (ws : List ℕ) (name : Token) (b : Option Braces) (ps : List Phrase) (ms : List NamedData) (x : Entry) : Type 0 where
+  pub keys : Keys
+  pub indexed : keys_in w b ≡ Ok keys
+  pub listed : List Tuple
+  pub is_list : index_list (span_or name.span b) keys.rows ≡ Ok listed
+  pub all : All
+  pub said : data_of ws (key_size b keys) listed (is_some (bound.phrase_value gives.Becomes ps)) ms ≡ Ok all
+  pub table : Table
+  pub fill : filled w ws name ps ms (key_size b keys) keys.rows listed ≡ Ok table
+  pub holds : bound.values w name (key_size b keys) ps (source (bound.phrase_value gives.Becomes ps) all.1 (bound.phrase_value gives.Default ps)) keys.rows all.0 ≡ Ok table
+  pub entry : x ≡ Parameter (key_size b keys) listed table
+
+binds : (w : World) (ws : List ℕ) (name : Token) (b : Option Braces) (ps : List Phrase) (ms : List NamedData) (x : Entry) → bound_parameter w ws name b ps ms ≡ Ok x → IsBound w ws name b ps ms x
+binds w ws name b ps ms x h =
+    then_ok (keys_in w b) _ x h (λ k i o.
+    then_ok (index_list (span_or name.span b) k.rows) (with_data w ws name ps ms (key_size b k) k.rows) x o (λ index j l.
+    then_ok (filled w ws name ps ms (key_size b k) k.rows index) (λ t. Ok (Parameter (key_size b k) index t)) x l (λ t g d.
+    then_ok (data_of ws (key_size b k) index (is_some (bound.phrase_value gives.Becomes ps)) ms)
+    (λ all. bound.values w name (key_size b k) ps (source (bound.phrase_value gives.Becomes ps) all.1 (bound.phrase_value gives.Default ps)) k.rows all.0) t g (λ all p q.
+    record { keys = k; indexed = i; listed = index; is_list = j; all = all; said = p; table = t; fill = g; holds = q; entry = sym (is_ok (Parameter (key_size b k) index t) x d) }))))
+
+table_fits : (w : World) (name : Token) (n : Option ℕ) (ps : List Phrase) (x : bound.Source) (rows : List Row) (all : All) (t : Table) → bound.values w name n ps x rows all.0 ≡ Ok t
+    → fit_values w name n ps (source_text x.1) (source_at name.span x) all.0.1 t rows ≡ Ok tt
+table_fits w name n ps x rows all t e =
+    then_ok (each (with_key w name.span x) rows all.0.0) (valued_by w name n ps x rows all.0) t e (λ u i k.
+    then_ok (fit_values w name n ps (source_text x.1) (source_at name.span x) all.0.1 u rows) (λ v. Ok u) t k (λ v j l.
+    subst (λ z. fit_values w name n ps (source_text x.1) (source_at name.span x) all.0.1 z rows ≡ Ok tt) (is_ok u t l) j))
+
+-- ---- the parameter
+
+is_none : {A : Type 0} (o : Option A) → is_some o ≡ false → o ≡ None
+is_none None e = refl
+is_none (Some x) e = cc
+
+all_valued : (w : World) (ss : List Statement) (n : Name) (ps : List Phrase) (size : ℕ) (ms : List NamedData) (t : Table) → AllByRecursion IsRead (data_rows size n ss) → AllByRecursion IsMember (data_defaults n ss)
+    → values_given size ms ≡ map row_value (data_rows size n ss) → default_given ms ≡ first_of (data_defaults n ss) → (rows : List Row) → AllByRecursion (IsValueAt w ps (values_given size ms) ms t) rows
+    → AllByRecursion (λ (k : Key). IsParameterValue ss n ps size k (at_key t k.key)) (map (as_key w) rows)
+all_valued w ss n ps size ms t h k e f [] v = tt
+all_valued w ss n ps size ms t h k e f (r ∷ rows) v = (
+  value_is_meant w ss n ps size r (at_key t r.key) h k
+      (subst (λ said. IsValue (at_key said r.key) (bound.from_source w r.scope (source (world.phrase_value is_becomes ps) (first_of (data_defaults n ss)) (world.phrase_value is_default ps))) (at_key t r.key)) e
+      (subst (λ c. IsValue (at_key (values_given size ms) r.key) (bound.from_source w r.scope (source (world.phrase_value is_becomes ps) c (world.phrase_value is_default ps))) (at_key t r.key)) f
+      (subst (λ d. IsValue (at_key (values_given size ms) r.key) (bound.from_source w r.scope (source (world.phrase_value is_becomes ps) (default_given ms) d)) (at_key t r.key)) (phrase_is gives.Default is_default wants_default ps)
+      (subst (λ a. IsValue (at_key (values_given size ms) r.key) (bound.from_source w r.scope (source a (default_given ms) (bound.phrase_value gives.Default ps))) (at_key t r.key)) (phrase_is gives.Becomes is_becomes wants_becomes ps) v.0)))),
+  all_valued w ss n ps size ms t h k e f rows v.1,
+)
+
+unassigned : (ps : List Phrase) (ds : Declared) (i : ℕ) (n : Name) (ss : List Statement) → (is_some (bound.phrase_value gives.Becomes ps) ≡ false) ⊎ (data_for ds i n ss ≡ [])
+    → (world.phrase_value is_becomes ps ≡ None) ⊎ (mentions n ss ≡ 0)
+unassigned ps ds i n ss (inl e) = inl (sym (phrase_is gives.Becomes is_becomes wants_becomes ps) ∙ is_none (bound.phrase_value gives.Becomes ps) e)
+unassigned ps ds i n ss (inr e) = inr (sym (mentions_are ds i n ss) ∙ ap length e)
+
+one_at_most : (ts : List Token) → length ts + 0 ≤ 1 → length ts ≤ 1
+one_at_most ts h = omega (arith, h)
+
+-- what holds of a key of the index list holds of the keys
+in_keys : (keys : List Tuple) (t : Table) → AllByRecursion (λ (e : Tuple × Member). has (union [] keys) e.0 ≡ true) t → AllByRecursion (λ (e : Tuple × Member). has keys e.0 ≡ true) t
+in_keys keys t h = all_as (λ (e : Tuple × Member). has (union [] keys) e.0 ≡ true) (λ (e : Tuple × Member). has keys e.0 ≡ true) t (λ e k. sym (has_union [] keys e.0) ∙ k) h
+
+pub parameters_are_sound : ParametersAreSound
+parameters_are_sound w ws name b ps ds i ss x sets forms numerals no_sets h =
+    let n : Name = name.text in
+    let ms : List NamedData = data_for ds i n ss in
+    let y : IsBound w ws name b ps ms x = binds w ws name b ps ms x h in
+    let count : Option ℕ = key_size b y.keys in
+    let size : ℕ = key_count (key_size b y.keys) in
+    let rows : List DataRow = data_rows size n ss in
+    let keys : List Tuple = keys_at w y.keys.rows in
+    let a : Bool = is_some (bound.phrase_value gives.Becomes ps) in
+    let s : bound.Source = source (bound.phrase_value gives.Becomes ps) y.all.1 (bound.phrase_value gives.Default ps) in
+    let members = data_members ds i n ss forms numerals in
+    let accepted : AreAccepted size a None ms = are_accepted ws count y.listed size a ms untaken y.all members y.said in
+    let given : values_given size ms ≡ map row_value rows = ap (map row_value) (rows_are ds i size n ss no_sets) in
+    let adds = statements_add ws count y.listed size a ms untaken y.all y.said in
+    let same : keys ≡ keys_of y.keys.rows = keys_are w y.keys.rows in
+    let list : y.listed ≡ union [] keys = sym (index_made (span_or name.span b) y.keys.rows y.listed y.is_list) ∙ ap (union []) (sym same) in
+    let all_in : IsIndex y.keys.rows y.listed = index_is (span_or name.span b) y.keys.rows y.listed y.is_list in
+    let reported : IsParameterOf y.listed (map row_value rows) = subst (IsParameterOf y.listed) (adds.values ∙ given) (said_keeps ws count y.listed a ms y.all all_in.once y.said) in
+    let reported_in : IsParameterOf (union [] keys) (map row_value rows) = subst (λ l. IsParameterOf l (map row_value rows)) list reported in
+    let held : IsParameterOf (union [] keys) y.table = subst (λ l. IsParameterOf l y.table) list (parameter_is w ws name count ps s a ms y.listed y.keys.rows y.all y.table all_in y.said y.holds) in
+    let long : AreLong size (keys_of y.keys.rows) = lengths_are w b y.keys y.indexed in
+    let within : AllByRecursion (λ t. has keys t ≡ true) (subscripts_of rows) = all_inside (λ t. has keys t ≡ true) rows (in_keys keys (map row_value rows) reported_in.inside) in
+    let reads : AllByRecursion IsRead rows =
+    rows_read size keys rows (subst (AreLong size) (sym same) long) (subst (AllByRecursion (IsWhole size)) (rows_are ds i size n ss no_sets) accepted.rows) within in
+    let tokens : AllByRecursion IsMember (data_defaults n ss) = subst (AllByRecursion IsMember) (defaults_are ds i n ss) (default_members ms members) in
+    let valued = table_valued w ws name ps ms count y.keys.rows y.listed y.table (keys_once w b y.keys sets y.indexed) y.fill in
+    record {
+      keys = map (as_key w) y.keys.rows;
+      size = size;
+      table = y.table;
+      indexed = keys_are_indexed w b y.keys y.indexed;
+      lengths = all_keys w (λ (k : Key). length k.key ≡ size) y.keys.rows (rows_long size y.keys.rows long);
+      entry = y.entry ∙ ap (λ l. Parameter count l y.table) list ∙ ap (λ c. Parameter c (union [] keys) y.table) (size_is b y.keys);
+      values = all_valued w ss n ps size ms y.table reads tokens given (default_is ms ∙ ap first_of (defaults_are ds i n ss)) y.keys.rows valued;
+      only = in_keys keys y.table held.inside;
+      fits = rows_fit w name count ps (source_text s.1) (source_at name.span s) y.all.0.1 y.table y.keys.rows tt (table_fits w name count ps s y.keys.rows y.all y.table y.holds);
+      subscripts = subscripts_of rows;
+      read = all_read rows reads;
+      inside = within;
+      once = subst (IsDistinct same_tuple) (keys_given rows) reported.once;
+      assigned = unassigned ps ds i n ss accepted.assigned;
+      defaults = subst (λ (ts : List Token). length ts ≤ 1) (defaults_are ds i n ss) (one_at_most (defaults_of ms) accepted.defaults);
+    }
