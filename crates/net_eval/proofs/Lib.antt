@@ -25,3 +25,4 @@ pub mod SoundRows
 pub mod SoundTaken
 mod SoundValues
 mod SoundParameters
+pub mod Sorting
