@@ -26,3 +26,4 @@ pub mod SoundTaken
 mod SoundValues
 mod SoundParameters
 pub mod Sorting
+pub mod NamesDeclared
