@@ -30,14 +30,14 @@ use Rattle.net_eval.proofs.Claiming.{AreSound, inside_all, phrases_sound, set_or
 use Rattle.net_eval.proofs.RowsTaken.{then_ok, is_ok, AreTaken, IsTaken, given_taken}
 
 -- a declared set is one, and so is a declared parameter
-abbrev IsEntry : Entry → Type 0
+abbrev pub IsEntry : Entry → Type 0
 IsEntry (Set d ts) = IsSetOf (Some d) ts
 IsEntry (Parameter n index t) = IsParameterOf index t
 
-abbrev AreEntries : World → Type 0
+abbrev pub AreEntries : World → Type 0
 AreEntries w = (name : Name) (e : Entry) → entry_of w name ≡ Some e → IsEntry e
 
-sets_of : (w : World) → AreEntries w → HasSets w
+pub sets_of : (w : World) → AreEntries w → HasSets w
 sets_of w g = λ name d ts i. g name (Set d ts) i
 
 -- ---- a set
@@ -63,7 +63,7 @@ set_entry ws name ms c e h o =
     then_ok (allowed name ts c.phrases) (λ u. Ok (Set n ts)) e l (λ u a m.
     subst IsEntry (is_ok (Set n ts) e m) (chosen_set name c found ts u h (given_taken ws n (is_some (assigned c.phrases)) ms None found tt i) j a))))
 
-bound_set_is : (w : World) → HasSets w → (ws : List ℕ) (name : Token) (ps : List Phrase) (ms : List NamedData) (e : Entry) → bound_set w ws name ps ms ≡ Ok e → IsEntry e
+pub bound_set_is : (w : World) → HasSets w → (ws : List ℕ) (name : Token) (ps : List Phrase) (ms : List NamedData) (e : Entry) → bound_set w ws name ps ms ≡ Ok e → IsEntry e
 bound_set_is w g ws name ps ms e h = then_ok (set_phrases w ps) (set_of ws name ms) e h (λ c i k. set_entry ws name ms c e (phrases_sound w (keeps_sets w g) ps c i) k)
 
 -- ---- a parameter
@@ -102,7 +102,7 @@ world_more w n e g s = λ name f i. entry_more w n e f name i s (g name f)
 entered : (w v : World) (n : Token) (o : Outcome Entry) → AreEntries w → ((e : Entry) → o ≡ Ok e → IsEntry e) → and_then o (with_entry w n) ≡ Ok v → AreEntries v
 entered w v n o g s h = then_ok o (with_entry w n) v h (λ e i k. subst AreEntries (is_ok (w ++ (n.text, e) ∷ []) v k) (world_more w n.text e g (s e i)))
 
-declared_entries : (given : Sorted) (d : Declaration) (w v : World) → AreEntries w → declare given d w ≡ Ok v → AreEntries v
+pub declared_entries : (given : Sorted) (d : Declaration) (w v : World) → AreEntries w → declare given d w ≡ Ok v → AreEntries v
 declared_entries given (set k n ps e) w v g h = entered w v n (bound_set w (widths w) n ps (next_data given w)) g (bound_set_is w (sets_of w g) (widths w) n ps (next_data given w)) h
 declared_entries given (param k n b ps e) w v g h = entered w v n (bound_parameter w (widths w) n b ps (next_data given w)) g (bound_parameter_is w (widths w) n b ps (next_data given w)) h
 declared_entries given (check k b m x e) w v g h = subst AreEntries (is_ok w v h) g
@@ -114,7 +114,7 @@ all_entries : (given : Sorted) (ds : List Declaration) (w v : World) → AreEntr
 all_entries given [] w v g h = subst AreEntries (is_ok w v h) g
 all_entries given (d ∷ ds) w v g h = then_ok (declare given d w) (each (declare given) ds) v h (λ u i k. all_entries given ds u v (declared_entries given d w u g i) k)
 
-no_entries : AreEntries []
+pub no_entries : AreEntries []
 no_entries = λ name f e. absurd (let h = e in cc)
 
 checked_entries : (ds : List Declaration) (w v : World) → AreEntries w → after_checks ds w ≡ Ok v → AreEntries v

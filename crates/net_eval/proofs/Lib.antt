@@ -27,3 +27,7 @@ mod SoundValues
 mod SoundParameters
 pub mod Sorting
 pub mod NamesDeclared
+pub mod SetRowsSound
+pub mod SetItems
+pub mod SoundSets
+pub mod SoundGivenSets

@@ -28,10 +28,10 @@ then_ok (Err x) f r e k = cc
 pub is_ok : {A : Type 0} (a b : A) → (let o : Outcome A = Ok a in o ≡ Ok b) → a ≡ b
 is_ok a b e = cc
 
-abbrev AreOfSize : ℕ → List (List Token) → Type 0
+abbrev pub AreOfSize : ℕ → List (List Token) → Type 0
 AreOfSize n rows = AllByRecursion (λ r. length r ≡ n) rows
 
-sized : (at : Span) (n : ℕ) (rows : List (List Token)) (u : Unit {0}) → all_of_size at n rows ≡ Ok u → AreOfSize n rows
+pub sized : (at : Span) (n : ℕ) (rows : List (List Token)) (u : Unit {0}) → all_of_size at n rows ≡ Ok u → AreOfSize n rows
 sized at n [] u h = tt
 sized at n (r ∷ rows) u h = go (nat_eq (length r) n) refl h (sized at n rows u)
   where
@@ -51,7 +51,7 @@ keys_sized : (at : Span) (keys values : ℕ) (gs : List (List Token)) (u : Unit 
 keys_sized at keys values [] u h = tt
 keys_sized at keys values (g ∷ gs) u h = then_ok (whole_group at keys (keys + values) g) (λ v. whole_groups at keys (keys + values) gs) u h (λ v e k. (key_sized at keys values g v e, keys_sized at keys values gs u k))
 
-rows_sized : (widths : List ℕ) (n : ℕ) (word : Token) (g : Given) (rows : List (List Token)) → given_rows widths n word g ≡ Ok rows → AreOfSize n rows
+pub rows_sized : (widths : List ℕ) (n : ℕ) (word : Token) (g : Given) (rows : List (List Token)) → given_rows widths n word g ≡ Ok rows → AreOfSize n rows
 rows_sized widths n word (given.Members ts) rows h =
     then_ok (all_of_size word.span n (set_rows n ts)) (λ u. Ok (set_rows n ts)) rows h (λ u e k. subst (AreOfSize n) (is_ok (set_rows n ts) rows k) (sized word.span n (set_rows n ts) u e))
 rows_sized widths n word (given.Groups g) rows h =
