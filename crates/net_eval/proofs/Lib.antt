@@ -31,3 +31,4 @@ pub mod SetRowsSound
 pub mod SetItems
 pub mod SoundSets
 pub mod SoundGivenSets
+pub mod SoundWorlds

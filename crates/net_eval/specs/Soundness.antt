@@ -1,19 +1,21 @@
--- Laws that relate parameters and checks, as the code binds them, to their meaning.
-use Rattle.std.specs.Prelude.{◌≡◌, ℕ, true, List, Option, Ok}
+-- Laws that relate parameters, checks and worlds, as the code binds them, to their meaning.
+use Rattle.std.specs.Prelude.{◌≡◌, ℕ, true, List, [], Option, Ok}
 use Rattle.std.specs.List.{AllByRecursion}
 use Rattle.net_fault.specs.declared.detail.Detail.{Detail}
 use Rattle.net_lex.specs.declared.token.Token.{Token}
 use Rattle.net_data.specs.declared.statement.Statement.{Statement}
-use Rattle.net_data.specs.Meaning.{IsStatement}
+use Rattle.net_data.specs.Meaning.{IsStatement, all_judged}
 use Rattle.net_sets.specs.declared.member.Member.{Member}
-use Rattle.net_tree.specs.Tree.{Tree, Braces, Phrase}
+use Rattle.net_tree.specs.Declarations.{AreDeclarations}
+use Rattle.net_tree.specs.Tree.{Tree, Braces, Phrase, Declaration}
 use Rattle.net_expr.specs.declared.world.Entry.{Entry}
 use Rattle.net_expr.specs.SetValues.{HasSets}
 use Rattle.net_expr.specs.Worlds.{World, Scope}
 use Rattle.net_meaning.specs.Operators.{Truth}
 use Rattle.net_meaning.specs.Values.{Key, env_of, IsValue}
-use Rattle.net_meaning.specs.World.{Fits, AreIndexed, IsParameter}
-use Rattle.net_eval.specs.Binding.{checked}
+use Rattle.net_meaning.specs.World.{Fits, AreIndexed, IsParameter, IsWorld}
+use Rattle.net_eval.specs.Binding as binding
+use Rattle.net_eval.specs.Binding.{checked, AreNew}
 use Rattle.net_eval.specs.BoundParameters.{bound_parameter}
 use Rattle.net_eval.specs.DataFor.{data_for}
 use Rattle.net_eval.specs.DataValues.{HaveValues, NamesNoSet}
@@ -34,3 +36,9 @@ ParametersAreSound =
 -- if the code accepts a check, its condition is true at each of its keys
 abbrev pub ChecksAreSound : Type 0
 ChecksAreSound = (w : World) (b : Option Braces) (x : Tree) → checked w b x ≡ Ok tt → (keys : List Key) × AreIndexed w b keys × AllByRecursion (λ (k : Key). IsValue k.env x (Truth true)) keys
+
+-- if the code computes a world of well-formed declarations and data statements, it is the world that AMPL defines
+abbrev pub WorldsAreSound : Type 0
+WorldsAreSound =
+    (ds : List Declaration) (ss : List Statement) (w : World) → AreDeclarations ds → AreNew [] ds → AllByRecursion IsStatement ss → all_judged ss ≡ Ok tt
+    → AllByRecursion HaveValues ss → binding.world ds ss ≡ Ok w → IsWorld ds ss w
