@@ -25,10 +25,10 @@ pub mod SoundRows
 pub mod SoundTaken
 mod SoundValues
 mod SoundParameters
-pub mod Sorting
-pub mod NamesDeclared
-pub mod SetRowsSound
-pub mod SetItems
-pub mod SoundSets
-pub mod SoundGivenSets
-pub mod SoundWorlds
+mod Sorting
+mod NamesDeclared
+mod SetRowsSound
+mod SetItems
+mod SoundSets
+mod SoundGivenSets
+mod SoundWorlds

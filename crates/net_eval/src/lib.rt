@@ -36,5 +36,7 @@ pub use laws::{
 };
 pub use net_expr::{Entry, Keys, Member, Scope, Text, Tuple, World};
 pub use net_fault::Fault as EvalFault;
-pub use soundness::{checks_are_sound, parameters_are_sound, restrictions_are_sound};
+pub use soundness::{
+    checks_are_sound, parameters_are_sound, restrictions_are_sound, worlds_are_sound,
+};
 pub use world::bind;
