@@ -5,6 +5,8 @@ from lib.command import TOP
 
 CRATES = TOP / "crates"
 MAIN_THEOREM = ["net_driver/specs/IsBuilt.antt:IsBuilt", "net_driver/specs/IsSolved.antt:IsSolved"]
+# The same theorem by the meaning of the inputs: the clauses `means`.
+MEANS = ["net_driver/specs/Meaning.antt:IsCompilation", "net_driver/specs/Meaning.antt:IsSolution"]
 WORD = re.compile(r"[A-Za-z_][\w'-]*(?:\.[A-Za-z_][\w'-]*)?")
 USE = re.compile(r"^(?:pub )?use Rattle\.(\w+)\.specs\.([\w.]+?)(?:\.\{([^}]*)\})?(?: as (\w+))?$", re.M)
 NAMED = re.compile(r"^ {0,2}(?:(?:abbrev|unfoldable|pub|record|data) )*([A-Za-z_◌][\w◌>=&|+-]*)(?: .*)?:", re.M)
@@ -119,6 +121,7 @@ def read(starts=MAIN_THEOREM):
 # The stages of an audit, with the crates whose definitions belong to each.
 STAGES = [
     ("claim", ["net_driver"]),
+    ("meaning", ["net_meaning"]),
     ("model as written", ["net_inst", "net_linear"]),
     ("problem", ["net_normal", "net_check", "net_dimacs", "net_report"]),
     ("text to declarations", ["net_lex", "net_tree", "net_model", "net_resolve", "net_data"]),
@@ -139,20 +142,22 @@ def crate_names():
 
 
 def table():
-    """Returns the lines of the table: a row for each crate, in the order of an audit, then crates that the theorem does not reach."""
-    rows, names = read().rows(), crate_names()
-    yield from ("| Crate | Stage | Files | Definitions | Lines to read | Start with | Mutants |", "|---|---|---|---|---|---|---|")
+    """Yields the table: a row for each crate, in the order of an audit, then crates that the theorem does not reach."""
+    rows, meant, names = read().rows(), read(MEANS).rows(), crate_names()
+    yield from ("| Crate | Stage | Files | Definitions | Lines to read | For `means` | Start with | Mutants |", "|---|---|---|---|---|---|---|---|")
     staged = [(stage, crate) for stage, crates in STAGES for crate in crates if crate in names]
     rest = [("", crate) for crate in names if crate not in {it for _, it in staged}]
     for stage, crate in staged + rest:
-        own = [it for it in rows if it[0].partition("/")[0] == crate]
+        own, theirs = ([it for it in reached if it[0].partition("/")[0] == crate] for reached in (rows, meant))
         mutants = len(list((CRATES / crate / "must-fail").glob("*.edit")))
-        start = f"`crates/{FIRST_FILES.get(crate, own[0][0])}`" if own else ""
-        sizes = (len(own), sum(it[1] for it in own), sum(it[2] for it in own))
+        first = FIRST_FILES.get(crate) or next((it[0] for it in own + theirs), None)
+        start = f"`crates/{first}`" if first else ""
+        sizes = (len(own), sum(it[1] for it in own), sum(it[2] for it in own), sum(it[2] for it in theirs))
         link = f"[{crate}](../crates/{crate}/README.md)"
         yield "| " + " | ".join(map(str, (link, stage, *sizes, start, mutants))) + " |"
     mutants = len(list(CRATES.glob("*/must-fail/*.edit")))
-    yield f"| together | | {len(rows)} | {sum(it[1] for it in rows)} | {sum(it[2] for it in rows)} | | {mutants} |"
+    sizes = (len(rows), sum(it[1] for it in rows), sum(it[2] for it in rows), sum(it[2] for it in meant))
+    yield "| " + " | ".join(map(str, ("together", "", *sizes, "", mutants))) + " |"
 
 
 def table_errors():

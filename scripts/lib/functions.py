@@ -1,10 +1,11 @@
 """Functions in the source text of a crate: copies under other names, with their proofs, so that two mutants of a function fit
 into one check; and stubs instead of bodies, so that checking their callers costs less.
 
-Sources are formatted by rt fmt: a function ends at the first brace at its own margin. A copy goes to the end of its file, or to
-the head of its type's impl. A function can be copied if it is not a method of a trait, is in no cycle of calls, and no proof but
-its own cites its goals. A stub keeps the signature and the contract, so the goals of its callers stay the same; its own goals
-cannot be proved. The functions of a cycle become stubs together, if all of them can. Stubs that nothing names are removed.
+Sources are formatted by rt fmt: a function ends at the first brace at its own margin, or at an empty body `{}`. A copy goes to
+the end of its file, or to the head of its type's impl. A function can be copied if it is not a method of a trait, is in no
+cycle of calls, and no proof but its own cites its goals. A stub keeps the signature and the contract, so the goals of its
+callers stay the same; its own goals cannot be proved. The functions of a cycle become stubs together, if all of them can. Stubs
+that nothing names are removed.
 """
 import pathlib
 import re
@@ -30,8 +31,8 @@ class Function:
     def __init__(self, file, text, header):
         self.file, self.name, self.margin = file, header[3], header[1]
         above = max(text.rfind("\n\n", 0, header.start()) + 2, text.rfind("{\n", 0, header.start()) + 2)
-        end = text.find(f"\n{self.margin}}}\n", header.start())
-        self.start, self.end = above, end + len(f"\n{self.margin}}}\n") if end >= 0 else above
+        end = re.compile(rf"\n{self.margin}(?:\{{\}}|\}})\n").search(text, header.start())
+        self.start, self.end = above, end.end() if end else above
         self.text = text[self.start:self.end]
         self.impl = list(IMPL.finditer(text, 0, header.start()))[-1] if self.margin and IMPL.search(text, 0, header.start()) else None
         module = file[len("src/"):-len(".rt")]

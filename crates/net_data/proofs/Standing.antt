@@ -1,4 +1,5 @@
--- Where the tokens of a data text rise through it, its statements lie in it, and so does what stops the reading.
+-- What holds of the tokens of a data text holds of those of its statements. Where the tokens rise through the text, its statements lie in it, and so
+-- does what stops the reading.
 use Rattle.std.specs.Prelude.{◌≡◌, ℕ, ◌-◌, Bool, true, false, ◌&&◌, List, [], ◌∷◌, ◌++◌, length, slice_get, if◌then◌else◌, Option, None, Some, Err, ⊤}
 use Rattle.std.specs.List.{AllByRecursion}
 use Rattle.std.proofs.Common.{refl, subst, arith}
@@ -27,39 +28,39 @@ use Rattle.net_data.proofs.FirstWrong.{answer_rejected}
 use Rattle.net_fault.specs.Places.{IsSpanIn}
 use Rattle.net_fault.proofs.Elements.{OfSome, all_left, all_right, all_get}
 use Rattle.net_lex.proofs.Rising.{Rise, rise_ends}
-use Rattle.net_data.specs.Standing.{TokensHaveSpans, DefaultHasSpan, GivenHasSpans, NamedSetHasSpan, StatementHasSpans, StatementsHaveSpans}
+use Rattle.net_data.specs.Standing.{DefaultToken, GivenTokens, NamedSetToken, AllTokens, SpanOf, TokensHaveSpans, StatementsHaveSpans}
 
-module _ (P : Span → Type 0) where
-  bare_stands : (p : Place) (ts : List Token) → TokensHaveSpans P ts → TokensHaveSpans P (bare p ts)
-  bare_stands p [] h = tt
-  bare_stands p (t ∷ ts) h = go (skips p && is_comma t) (bare_stands p ts h.1) (bare_stands (place_after p t) ts h.1)
+module _ (P : Token → Type 0) where
+  bare_tokens : (p : Place) (ts : List Token) → AllByRecursion P ts → AllByRecursion P (bare p ts)
+  bare_tokens p [] h = tt
+  bare_tokens p (t ∷ ts) h = go (skips p && is_comma t) (bare_tokens p ts h.1) (bare_tokens (place_after p t) ts h.1)
     where
-      go : (b : Bool) → TokensHaveSpans P (bare p ts) → TokensHaveSpans P (bare (place_after p t) ts) → TokensHaveSpans P (if b then bare p ts else t ∷ bare (place_after p t) ts)
+      go : (b : Bool) → AllByRecursion P (bare p ts) → AllByRecursion P (bare (place_after p t) ts) → AllByRecursion P (if b then bare p ts else t ∷ bare (place_after p t) ts)
       go true k m = k
       go false k m = (h.0, m)
 
-  -- what stands, and what follows it
+  -- a part, and what follows it
   abbrev And : Type 0 → List Token → Type 0
-  And Standing rest = Standing × TokensHaveSpans P rest
+  And Part rest = Part × AllByRecursion P rest
 
-  default_and : (d : Option DefaultValue) (r : List Token) → TokensHaveSpans P (put_default d r) → And (DefaultHasSpan P d) r
+  default_and : (d : Option DefaultValue) (r : List Token) → AllByRecursion P (put_default d r) → And (DefaultToken P d) r
   default_and None r h = (tt, h)
   default_and (Some d) r h = (h.1.0, h.1.1)
 
-  given_and : (g : Option Given) (r : List Token) → TokensHaveSpans P (put_given g r) → And (GivenHasSpans P g) r
+  given_and : (g : Option Given) (r : List Token) → AllByRecursion P (put_given g r) → And (GivenTokens P g) r
   given_and None r h = (tt, h)
-  given_and (Some g) r h = (all_left _ g.cells r h.1, all_right _ g.cells r h.1)
+  given_and (Some g) r h = (all_left P g.cells r h.1, all_right P g.cells r h.1)
 
-  transposed_and : (t : Option Transposed) (r : List Token) → TokensHaveSpans P (put_transposed t r) → TokensHaveSpans P r
+  transposed_and : (t : Option Transposed) (r : List Token) → AllByRecursion P (put_transposed t r) → AllByRecursion P r
   transposed_and None r h = h
   transposed_and (Some t) r h = h.1.1.1
 
-  named_and : (s : Option NamedSet) (r : List Token) → TokensHaveSpans P (put_set s r) → And (NamedSetHasSpan P s) r
+  named_and : (s : Option NamedSet) (r : List Token) → AllByRecursion P (put_set s r) → And (NamedSetToken P s) r
   named_and None r h = (tt, h)
   named_and (Some s) r h = (h.0, h.1.1)
 
-  statement_and : (s : Statement) (r : List Token) → TokensHaveSpans P (put s r) → And (StatementHasSpans P s) r
-  statement_and (Set s) r h = ((h.1.0, all_left _ s.items (s.end ∷ r) h.1.1.1), (all_right _ s.items (s.end ∷ r) h.1.1.1).1)
+  statement_and : (s : Statement) (r : List Token) → AllByRecursion P (put s r) → And (AllTokens P s) r
+  statement_and (Set s) r h = ((h.1.0, all_left P s.items (s.end ∷ r) h.1.1.1), (all_right P s.items (s.end ∷ r) h.1.1.1).1)
   statement_and (Listed l) r h =
       let (d, more) = default_and l.default (put_given l.given (l.end ∷ r)) h.1.1 in
       let (g, rest) = given_and l.given (l.end ∷ r) more in
@@ -67,26 +68,30 @@ module _ (P : Span → Type 0) where
   statement_and (Table t) r h =
       let (d, more) = default_and t.default (put_transposed t.transposed (t.colon ∷ (t.columns ++ t.assign ∷ (t.cells ++ t.end ∷ r)))) h.1.1 in
       let others = (transposed_and t.transposed (t.colon ∷ (t.columns ++ t.assign ∷ (t.cells ++ t.end ∷ r))) more).1 in
-      let behind = (all_right _ t.columns (t.assign ∷ (t.cells ++ t.end ∷ r)) others).1 in
-      ((h.1.0, d, all_left _ t.columns (t.assign ∷ (t.cells ++ t.end ∷ r)) others, all_left _ t.cells (t.end ∷ r) behind), (all_right _ t.cells (t.end ∷ r) behind).1)
+      let behind = (all_right P t.columns (t.assign ∷ (t.cells ++ t.end ∷ r)) others).1 in
+      ((h.1.0, d, all_left P t.columns (t.assign ∷ (t.cells ++ t.end ∷ r)) others, all_left P t.cells (t.end ∷ r) behind), (all_right P t.cells (t.end ∷ r) behind).1)
   statement_and (Columns c) r h =
       let (s, more) = named_and c.set (c.names ++ c.assign ∷ (c.cells ++ c.end ∷ r)) h.1.1 in
-      let behind = (all_right _ c.names (c.assign ∷ (c.cells ++ c.end ∷ r)) more).1 in
-      ((s, all_left _ c.names (c.assign ∷ (c.cells ++ c.end ∷ r)) more, all_left _ c.cells (c.end ∷ r) behind), (all_right _ c.cells (c.end ∷ r) behind).1)
+      let behind = (all_right P c.names (c.assign ∷ (c.cells ++ c.end ∷ r)) more).1 in
+      ((s, all_left P c.names (c.assign ∷ (c.cells ++ c.end ∷ r)) more, all_left P c.cells (c.end ∷ r) behind), (all_right P c.cells (c.end ∷ r) behind).1)
 
-  statements_stand : (ss : List Statement) (r : List Token) → TokensHaveSpans P (put_all ss r) → StatementsHaveSpans P ss
-  statements_stand [] r h = tt
-  statements_stand (s ∷ ss) r h = let (one, more) = statement_and s (put_all ss r) h in (one, statements_stand ss r more)
+  all_statements : (ss : List Statement) (r : List Token) → AllByRecursion P (put_all ss r) → AllByRecursion (AllTokens P) ss
+  all_statements [] r h = tt
+  all_statements (s ∷ ss) r h = let (one, more) = statement_and s (put_all ss r) h in (one, all_statements ss r more)
 
-  after_single : (o : Option Single) (r : List Token) → TokensHaveSpans P (put_single o r) → TokensHaveSpans P r
+  after_single : (o : Option Single) (r : List Token) → AllByRecursion P (put_single o r) → AllByRecursion P r
   after_single None r h = h
   after_single (Some l) r h = h.1.1
 
-  -- statements that tokens mean stand where the tokens do
-  pub mean_stand : (tokens : List Token) (x : Tables) → Mean tokens x → TokensHaveSpans P tokens → StatementsHaveSpans P x.statements
-  mean_stand tokens x mean h =
-      statements_stand x.statements (put_single x.ending []) (after_single x.opening (put_all x.statements (put_single x.ending []))
-      (subst (TokensHaveSpans P) mean.printed (bare_stands before tokens h)))
+  -- what holds of each token holds of the tokens of the statements that they mean
+  pub mean_tokens : (tokens : List Token) (x : Tables) → Mean tokens x → AllByRecursion P tokens → AllByRecursion (AllTokens P) x.statements
+  mean_tokens tokens x mean h =
+      all_statements x.statements (put_single x.ending []) (after_single x.opening (put_all x.statements (put_single x.ending []))
+      (subst (AllByRecursion P) mean.printed (bare_tokens before tokens h)))
+
+-- statements that tokens mean stand where the tokens do
+pub mean_stand : (P : Span → Type 0) (tokens : List Token) (x : Tables) → Mean tokens x → TokensHaveSpans P tokens → StatementsHaveSpans P x.statements
+mean_stand P tokens x mean h = mean_tokens (SpanOf P) tokens x mean h
 
 module _ (size : ℕ) where
   pub rising_stand : (from : ℕ) (ts : List Token) → Rise from size ts → TokensHaveSpans (IsSpanIn size) ts

@@ -21,4 +21,6 @@ pub mod FaultPlaces
 pub mod NoMemory
 mod NamedOnce
 mod OneNetwork
+mod ModelWorld
 mod ModelMeaning
+mod Compilations

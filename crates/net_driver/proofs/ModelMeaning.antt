@@ -4,9 +4,10 @@ use Rattle.std.specs.List.{AllZip}
 use Rattle.std.specs.Str.{bytes_eq}
 use Rattle.std.proofs.Common.{refl, ap, sym, ◌∙◌, subst}
 use Rattle.net_sets.specs.Sets.{Tuple, same_tuple}
+use Rattle.net_tree.specs.Tree.{Declaration}
 use Rattle.net_normal.specs.Assignments.{IsFeasibleAssignment, value_of}
 use Rattle.net_expr.specs.SetValues.{HasSets}
-use Rattle.net_expr.specs.Worlds.{Name}
+use Rattle.net_expr.specs.Worlds.{Name, World}
 use Rattle.net_eval.proofs.HeldEntries.{have_sets}
 use Rattle.net_meaning.specs.Network as meaning
 use Rattle.net_meaning.specs.Network.{flow_on}
@@ -23,7 +24,8 @@ use Rattle.net_driver.specs.declared.compiled.Compiled.{Compiled}
 use Rattle.net_driver.specs.IsSolved.{IsAsGood, IsOutcome, by_arc}
 use Rattle.net_driver.specs.IsBuilt.{IsBuilt}
 use Rattle.net_driver.specs.Made.{profile_of}
-use Rattle.net_driver.specs.Meaning.{RepresentsModel, CompiledProblemsRepresent, HoldsIn, AnswersSolveModels}
+use Rattle.net_driver.specs.Meaning.{HoldsIn}
+use Rattle.net_driver.specs.MeaningLaws.{RepresentsModel, CompiledProblemsRepresent, AnswersSolveModels}
 use Rattle.net_driver.proofs.Answered.{aim_of}
 use Rattle.net_driver.proofs.Apart.{bound_apart}
 use Rattle.net_driver.proofs.Counts.{zip_length}
@@ -32,10 +34,10 @@ use Rattle.net_driver.proofs.OneNetwork.{one_network}
 
 -- what an accepted model has
 module _ (lean : Bool) (wanted : Option Name) (m d : List ℕ) (c : Compiled) (h : IsBuilt lean wanted m d c) where
-  sets_of : HasSets h.world
+  pub sets_of : HasSets h.world
   sets_of = have_sets h.declarations h.accepts.tables.statements h.world h.accepts.world
 
-  names_of : IsNamedOnce h.declarations
+  pub names_of : IsNamedOnce h.declarations
   names_of = named_once h.declarations h.accepts.model.named
 
 pub compiled_represent : ProblemsRepresent → CompiledProblemsRepresent
@@ -64,6 +66,15 @@ by_same (v ∷ xs) (a ∷ all) (y ∷ ys) h n key =
     ap (λ (k : Name). if bytes_eq k n && same_tuple a.label.key key then y else by_label all ys n key) h.0.name
     ∙ ap (λ (k : Tuple). if bytes_eq v.label.name n && same_tuple k key then y else by_label all ys n key) h.0.key
     ∙ ap (λ (z : ℤ). if bytes_eq v.label.name n && same_tuple v.label.key key then y else z) (by_same xs all ys h.1 n key)
+
+-- what holds in one network of the declarations holds in the other, which is the same
+pub holds_moved : (wanted : Option Name) (w : World) (ds : List Declaration) (vs us : List meaning.Node) (all others : List meaning.Arc) (o p : meaning.Objective) (outcome : Outcome)
+    → meaning.IsNetwork wanted w ds vs all o → meaning.IsNetwork wanted w ds us others p → HoldsIn vs all o outcome → HoldsIn us others p outcome
+holds_moved wanted w ds vs us all others o p outcome is are h =
+    let same = one_network wanted w ds vs us all others o p is are in
+    subst (λ q. HoldsIn us others q outcome) same.2
+    (subst (λ xs. HoldsIn us xs o outcome) same.1
+    (subst (λ ns. HoldsIn ns all o outcome) same.0 h))
 
 pub answers_solve : ProblemsRepresent → AssignmentsAreSound → HaveFeasible → HaveObjective → AnswersSolveModels
 answers_solve represent sound fits aims lean wanted m d a h = record { network = network; holds = moved }
@@ -122,8 +133,4 @@ answers_solve represent sound fits aims lean wanted m d a h = record { network =
     network = compiled_represent represent lean wanted m d a.compiled p
 
     moved : HoldsIn network.nodes network.arcs network.objective a.outcome
-    moved =
-        let same = one_network wanted p.world p.declarations s.has.nodes network.nodes s.has.arcs network.arcs s.has.objective network.objective s.has.is_network network.is_network in
-        subst (λ o. HoldsIn network.nodes network.arcs o a.outcome) same.2
-        (subst (λ all. HoldsIn network.nodes all s.has.objective a.outcome) same.1
-        (subst (λ vs. HoldsIn vs s.has.arcs s.has.objective a.outcome) same.0 (go a.outcome h.outcome)))
+    moved = holds_moved wanted p.world p.declarations s.has.nodes network.nodes s.has.arcs network.arcs s.has.objective network.objective a.outcome s.has.is_network network.is_network (go a.outcome h.outcome)

@@ -13,7 +13,7 @@ use Rattle.net_meaning.specs.Operators.{Several, number}
 use Rattle.net_meaning.specs.Values.{Env, Key, env_of, IsValue, AreValues, AreMembers}
 use Rattle.net_meaning.specs.World.{AreIndexed, phrase_value}
 use Rattle.net_meaning.proofs.Unique.{values_are_unique, keys_are_unique, number_same}
-use Rattle.net_driver.specs.Meaning.{NetworksAreUnique}
+use Rattle.net_driver.specs.MeaningLaws.{NetworksAreUnique}
 
 zip_unique : {A B : Type 0} (R : A → B → Type 0) → ((x : A) (y z : B) → R x y → R x z → y ≡ z) → (xs : List A) (ys zs : List B) → AllZip R xs ys → AllZip R xs zs → ys ≡ zs
 zip_unique R one [] [] [] h j = refl

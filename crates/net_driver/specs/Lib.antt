@@ -16,3 +16,4 @@ pub mod ProblemSources
 pub mod Accepted
 pub mod OneAnswer
 pub mod Meaning
+pub mod MeaningLaws

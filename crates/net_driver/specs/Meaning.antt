@@ -1,35 +1,85 @@
--- What a compiled model and an answer say of the network that the model means (AMPL book, chapter 15), by the definitions of net_meaning.
-use Rattle.std.specs.Prelude.{◌≡◌, ℕ, Bool, List, Option, length, ℤ}
+-- What a compiled model and a solved model say of the network that the two inputs mean (AMPL book, chapter 15; First DIMACS Implementation
+-- Challenge, minimum-cost flow). The meaning of sets, parameters, expressions and networks is that of net_meaning, which has no errors and no
+-- defaults; no definition of the code's evaluation is cited.
+use Rattle.std.specs.Prelude.{◌≡◌, ℕ, List, ◌++◌, map, Option, length, ℤ}
+use Rattle.std.specs.List.{flat_map}
+use Rattle.net_lex.specs.Lexing.{AreTokensOf}
+use Rattle.net_lex.specs.declared.token.Token.{Token}
+use Rattle.net_tree.specs.Declarations.{AreDeclarations}
+use Rattle.net_tree.specs.Print.{print}
 use Rattle.net_tree.specs.Tree.{Declaration}
-use Rattle.net_normal.specs.declared.link.Link.{Link}
-use Rattle.net_normal.specs.declared.problem.Problem.{Problem}
+use Rattle.net_fault.specs.declared.language.Language.TheVariants as languages
+use Rattle.net_data.specs.declared.tables.Tables.{Tables}
+use Rattle.net_check.specs.Certificates.{IsViolatedCut}
+use Rattle.net_dimacs.specs.Problems.{IsProblemText, IsOnlyProblem}
+use Rattle.net_dimacs.specs.Written.{problem_text}
 use Rattle.net_expr.specs.Worlds.{Name, World}
-use Rattle.net_meaning.specs.Network.{Node, Arc, Objective, Assignment, IsNetwork, IsFeasible, HasValue}
+use Rattle.net_inst.specs.AsWritten as written
+use Rattle.net_inst.specs.AsWritten.{node_declared, arc_declared}
+use Rattle.net_inst.specs.declared.names.Names.{Names}
+use Rattle.net_inst.specs.Laws.{AreNames}
+use Rattle.net_meaning.specs.Network.{Label, Node, Arc, Objective, Assignment, IsNetwork, IsFeasible, HasValue}
 use Rattle.net_meaning.specs.Represents.{Represents, by_label}
+use Rattle.net_meaning.specs.World.{IsWorld}
+use Rattle.net_report.specs.Cuts.{cut_text}
+use Rattle.net_report.specs.Displays.{display_of_all}
+use Rattle.net_report.specs.Links.{link_text}
 use Rattle.net_driver.specs.declared.answer.Answer.{Answer}
 use Rattle.net_driver.specs.declared.answer.Outcome.{Outcome}
 use Rattle.net_driver.specs.declared.answer.Outcome.TheVariants.{Displayed, Infeasible}
 use Rattle.net_driver.specs.declared.compiled.Compiled.{Compiled}
-use Rattle.net_driver.specs.IsSolved.{IsSolved, IsAsGood}
-use Rattle.net_driver.specs.IsBuilt.{IsBuilt}
+use Rattle.net_driver.specs.IsSolved.{IsAsGood}
+use Rattle.net_driver.specs.Reading.{IsData}
 
--- declarations have at most one network in a world
-abbrev pub NetworksAreUnique : Type 0
-NetworksAreUnique = (wanted : Option Name) (w : World) (ds : List Declaration) (vs us : List Node) (all others : List Arc) (o p : Objective)
-    → IsNetwork wanted w ds vs all o → IsNetwork wanted w ds us others p → (vs ≡ us) × (all ≡ others) × (o ≡ p)
+-- ---- the two inputs
 
--- the declarations have a network in the world, and the problem represents it
-pub record RepresentsModel (wanted : Option Name) (w : World) (ds : List Declaration) (problem : Problem) (link : Link) : Type 0 where
+-- the model file contains these declarations: its tokens are theirs, and they are well-formed
+pub record ContainsModel (text : List ℕ) (ds : List Declaration) : Type 0 where
+  pub tokens : List Token
+  pub read : AreTokensOf languages.Model text tokens
+  pub printed : print ds ≡ tokens
+  pub well_formed : AreDeclarations ds
+
+-- The two inputs mean this network. The model contains these declarations, and the data these statements. Together they give each set its
+-- members and each parameter its values: this is the world. In it the declarations have these nodes, arcs and objective, which is the
+-- requested one, or the only one.
+pub record MeanNetwork (requested : Option Name) (model_text data_text : List ℕ) (vs : List Node) (all : List Arc) (o : Objective) : Type 0 where
+  pub declarations : List Declaration
+  pub model : ContainsModel model_text declarations
+  pub tables : Tables
+  pub data_statements : IsData data_text tables
+  pub world : World
+  pub is_world : IsWorld declarations tables.statements world
+  pub is_network : IsNetwork requested world declarations vs all o
+
+-- ---- compiled models
+
+-- the label, in the form of the lists of names
+abbrev pub listed_label : Label → written.Label
+listed_label l = record { name = l.name; indexed = l.indexed; key = l.key }
+
+-- the names to print are those of the network: its objective, the names of its declarations, and in order the key of each node and each arc
+pub record AreNetworkNames (ds : List Declaration) (vs : List Node) (all : List Arc) (o : Objective) (names : Names) : Type 0 where
+  pub objective : names.objective ≡ o.name
+  pub nodes : AreNames (flat_map node_declared ds) (map (λ (v : Node). listed_label v.label) vs) names.nodes
+  pub arcs : AreNames (flat_map arc_declared ds) (map (λ (a : Arc). listed_label a.label) all) names.arcs
+
+-- The compiled model is that of the two inputs.
+pub record IsCompilation (requested : Option Name) (model_text data_text : List ℕ) (c : Compiled) : Type 0 where
+  -- the inputs mean a network
   pub nodes : List Node
   pub arcs : List Arc
   pub objective : Objective
-  pub is_network : IsNetwork wanted w ds nodes arcs objective
-  pub represents : Represents nodes arcs objective problem link
+  pub mean : MeanNetwork requested model_text data_text nodes arcs objective
+  -- the problem represents it: feasible flows correspond one to one to feasible assignments, and costs to values
+  pub represents : Represents nodes arcs objective c.problem c.link
+  pub names : AreNetworkNames mean.declarations nodes arcs objective c.names
+  -- the text is the name map followed by the problem's lines; it contains this problem and no other
+  pub text : c.text.items ≡ link_text c.names c.link ++ problem_text c.problem.supplies.items c.problem.arcs.items
+  pub problem : IsProblemText c.text.items c.problem.supplies.items c.problem.arcs.items
+  pub only : IsOnlyProblem c.text.items c.problem.supplies.items c.problem.arcs.items
 
--- the problem of a compiled model represents the network of the model's declarations, in the world of the model and its data
-abbrev pub CompiledProblemsRepresent : Type 0
-CompiledProblemsRepresent = (lean : Bool) (wanted : Option Name) (model_text data_text : List ℕ) (c : Compiled) (h : IsBuilt lean wanted model_text data_text c)
-    → RepresentsModel wanted h.world h.declarations c.problem c.link
+-- ---- solved models
 
 -- there is a flow for each arc, in order; the assignment of these flows is feasible and has this value; each feasible assignment has a value, and
 -- none has a better one
@@ -45,12 +95,13 @@ abbrev pub HoldsIn : List Node → List Arc → Objective → Outcome → Type 0
 HoldsIn vs all o (Displayed text numbers value) = IsOptimal vs all o numbers.items value
 HoldsIn vs all o (Infeasible text flags side) = (x : Assignment) → ¬ IsFeasible vs all x
 
--- the compiled problem represents the network of the declarations in the world, and the outcome holds in this network
-pub record SolvesModel (wanted : Option Name) (w : World) (ds : List Declaration) (a : Answer) : Type 0 where
-  pub network : RepresentsModel wanted w ds a.compiled.problem a.compiled.link
-  pub holds : HoldsIn network.nodes network.arcs network.objective a.outcome
+-- the text of the outcome: the plan; or the cut, a set of nodes whose supply is outside what its arcs in the problem allow
+abbrev pub IsPrinted : Compiled → Outcome → Type 0
+IsPrinted c (Displayed text numbers value) = text.items ≡ display_of_all c.names numbers.items value
+IsPrinted c (Infeasible text flags side) = IsViolatedCut c.problem flags.items side × (text.items ≡ cut_text c.names c.problem flags.items side)
 
--- the outcome of a solved model holds in the network of the model's declarations, in the world of the model and its data
-abbrev pub AnswersSolveModels : Type 0
-AnswersSolveModels = (lean : Bool) (wanted : Option Name) (model_text data_text : List ℕ) (a : Answer) (h : IsSolved lean wanted model_text data_text a)
-    → SolvesModel wanted h.compiled.world h.compiled.declarations a
+-- The solved model is that of the two inputs: its compiled model is, the outcome holds in the network, and the text prints it.
+pub record IsSolution (requested : Option Name) (model_text data_text : List ℕ) (a : Answer) : Type 0 where
+  pub compilation : IsCompilation requested model_text data_text a.compiled
+  pub holds : HoldsIn compilation.nodes compilation.arcs compilation.objective a.outcome
+  pub printed : IsPrinted a.compiled a.outcome

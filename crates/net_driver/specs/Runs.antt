@@ -21,6 +21,7 @@ use Rattle.net_driver.specs.Settled.{Settles, settled_exit_kind}
 use Rattle.net_driver.specs.IsSolved.{IsSolved, text_of}
 use Rattle.net_driver.specs.IsSolved as answers
 use Rattle.net_driver.specs.IsBuilt.{IsBuilt}
+use Rattle.net_driver.specs.Meaning.{IsCompilation, IsSolution}
 
 abbrev pub model_limit : ℕ
 model_limit = text_limit languages.Model
@@ -139,14 +140,16 @@ pub record IsRun {A S : Type 0} (inputs : List Input) (output : Sink S) (IsAnswe
   -- one for the end
   pub reads : Each (λ i. IsAskedFew i.limit i.reads_before i.reads_after) inputs
 
--- the text of a compiled model with its data
+-- the text of a compiled model with its data; it is the model of these inputs by the main theorem and by the meaning of the inputs
 abbrev pub IsCompiledText : Bool → Option Name → Texts → Unit {0} → List ℕ → Type 0
-IsCompiledText lean wanted texts done text = (c : Compiled) × IsBuilt lean wanted (texts Model) (texts Data) c × (text ≡ c.text.items)
+IsCompiledText lean wanted texts done text =
+    (c : Compiled) × IsBuilt lean wanted (texts Model) (texts Data) c × IsCompilation wanted (texts Model) (texts Data) c × (text ≡ c.text.items)
 
 -- the plan of a model with its data, or the cut that proves that there is none
 abbrev pub IsSolvedText : Bool → Option Name → Texts → ExitKind → List ℕ → Type 0
 IsSolvedText lean wanted texts exit_kind text =
-    (a : Answer) × IsSolved lean wanted (texts Model) (texts Data) a × (exit_kind ≡ answers.exit_kind_of a.outcome) × (text ≡ text_of a.outcome)
+    (a : Answer) × IsSolved lean wanted (texts Model) (texts Data) a × IsSolution wanted (texts Model) (texts Data) a
+    × (exit_kind ≡ answers.exit_kind_of a.outcome) × (text ≡ text_of a.outcome)
 
 -- the line of the verdict on a certificate
 abbrev pub IsVerdictText : Texts → ExitKind → List ℕ → Type 0

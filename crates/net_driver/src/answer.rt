@@ -8,6 +8,7 @@ ghost use Rattle.net_check.specs.Certificates.{IsCertificate};
 ghost use Rattle.net_driver.specs.IsSolved.{IsSolved, text_of};
 ghost use Rattle.net_driver.specs.IsBuilt.{IsBuilt};
 ghost use Rattle.net_driver.specs.Linked.{written};
+ghost use Rattle.net_driver.specs.Meaning.{IsSolution};
 ghost use Rattle.net_driver.specs.Made.{SizesAgree};
 ghost use Rattle.net_expr.specs.Worlds.{Name};
 ghost use Rattle.net_driver.specs.Outcomes.{IsOutcomeOf, IsDisplayOf, IsCutOf};
@@ -15,6 +16,7 @@ ghost use Rattle.net_driver.specs.Reporting.{IsRejection};
 
 use crate::compiled::{Compiled, Options, with_text};
 use crate::fault::Fault;
+use crate::meaning::solutions_are_sound;
 use crate::unwritten::{Unwritten, read_model};
 use net_check::Side;
 use net_inst::objective_is_written;
@@ -67,6 +69,7 @@ pub struct Answer<'s> {
 /// Solves a model with its data, with the model's only objective.
 pub fn solve_model<'s>(alloc: Global, model: &'s [u8], data: &'s [u8]) -> Result<Answer<'s>, Fault>
     ensures value { IfOk result (IsSolved false None model.entry.now «data».entry.now) }
+    ensures means { IfOk result (IsSolution None model.entry.now «data».entry.now) }
     ensures rejected { IfErr result (IsRejection None model.entry.now «data».entry.now) }
 {
     solve_model_with(alloc, &Options::new(), model, data)
@@ -80,11 +83,13 @@ pub fn solve_model_with<'s>(
     data: &'s [u8],
 ) -> Result<Answer<'s>, Fault>
     ensures value { IfOk result (IsSolved options.now.lean (option_copied options.now.objective) model.entry.now «data».entry.now) }
+    ensures means { IfOk result (IsSolution (option_copied options.now.objective) model.entry.now «data».entry.now) }
     ensures rejected { IfErr result (IsRejection (option_copied options.now.objective) model.entry.now «data».entry.now) }
 {
     let unwritten = read_model(alloc, options, model, data)?;
     let outcome = solve_unwritten(alloc, &unwritten)?;
     let compiled = with_text(alloc, unwritten)?;
+    solutions_are_sound();
     Ok(Answer { compiled, outcome })
 }
 

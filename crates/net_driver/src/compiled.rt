@@ -6,9 +6,11 @@ ghost use Rattle.net_driver.specs.Linked.{written};
 ghost use Rattle.net_driver.specs.Made.{SizesAgree};
 ghost use Rattle.net_driver.specs.Reporting.{IsRejection};
 ghost use Rattle.net_driver.specs.IsBuilt.{IsBuilt};
+ghost use Rattle.net_driver.specs.Meaning.{IsCompilation};
 
 use crate::fault::Fault;
 use crate::linked::linked_of;
+use crate::meaning::compilations_are_sound;
 use crate::text::Text;
 use crate::unwritten::{Unwritten, read_model};
 use net_dimacs::write_problem_to;
@@ -53,6 +55,7 @@ pub struct Compiled<'s> {
 /// Compiles a model with its data, with the model's only objective, in the normal form.
 pub fn compile<'s>(alloc: Global, model: &'s [u8], data: &'s [u8]) -> Result<Compiled<'s>, Fault>
     ensures value { IfOk result (IsBuilt false None model.entry.now «data».entry.now) }
+    ensures means { IfOk result (IsCompilation None model.entry.now «data».entry.now) }
     ensures rejected { IfErr result (IsRejection None model.entry.now «data».entry.now) }
 {
     compile_with(alloc, &Options::new(), model, data)
@@ -69,10 +72,12 @@ pub fn compile_with<'s>(
     data: &'s [u8],
 ) -> Result<Compiled<'s>, Fault>
     ensures value { IfOk result (IsBuilt options.now.lean (option_copied options.now.objective) model.entry.now «data».entry.now) }
+    ensures means { IfOk result (IsCompilation (option_copied options.now.objective) model.entry.now «data».entry.now) }
     ensures rejected { IfErr result (IsRejection (option_copied options.now.objective) model.entry.now «data».entry.now) }
 {
     let unwritten = read_model(alloc, options, model, data)?;
     let compiled = with_text(alloc, unwritten)?;
+    compilations_are_sound();
     Ok(compiled)
 }
 

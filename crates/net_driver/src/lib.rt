@@ -33,7 +33,8 @@ pub use first_fault::{
 pub use laws::{answers_are_accepted, texts_have_one_answer};
 pub use line_runs::{run_check, run_min};
 pub use meaning::{
-    answers_solve_models, compiled_problems_represent_models, models_have_one_network,
+    answers_solve_models, compilations_are_sound, compiled_problems_represent_models,
+    models_have_one_network, solutions_are_sound,
 };
 pub use naming::{names_are_declared_once, nodes_and_arcs_are_apart, well_named};
 pub use net_check::{Reason, Side, Verdict};

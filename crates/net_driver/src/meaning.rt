@@ -1,8 +1,10 @@
 //! Theorems that relate results to the meaning of the model. The bodies only call the theorems of
-//! net_inst that they need.
+//! other crates that they need.
 
-ghost use Rattle.net_driver.specs.Meaning.{AnswersSolveModels, CompiledProblemsRepresent, NetworksAreUnique};
+ghost use Rattle.net_driver.specs.MeaningLaws.{CompilationsAreSound, SolutionsAreSound};
+ghost use Rattle.net_driver.specs.MeaningLaws.{AnswersSolveModels, CompiledProblemsRepresent, NetworksAreUnique};
 
+use net_eval::worlds_are_sound;
 use net_inst::{
     assignments_are_alike, assignments_are_sound, objective_is_written, problems_represent_networks,
 };
@@ -28,6 +30,27 @@ pub fn answers_solve_models()
     ensures value { AnswersSolveModels }
 {
     problems_represent_networks();
+    assignments_are_sound();
+    assignments_are_alike();
+    objective_is_written();
+}
+
+/// Theorem: a compiled model that satisfies the main theorem is that of the network that the two
+/// inputs mean: the problem represents this network, and the text contains the problem.
+pub fn compilations_are_sound()
+    ensures value { CompilationsAreSound }
+{
+    problems_represent_networks();
+    worlds_are_sound();
+}
+
+/// Theorem: a solved model that satisfies the main theorem is that of the network that the two
+/// inputs mean: a displayed plan is optimal in it, and with a cut no assignment is feasible.
+pub fn solutions_are_sound()
+    ensures value { SolutionsAreSound }
+{
+    problems_represent_networks();
+    worlds_are_sound();
     assignments_are_sound();
     assignments_are_alike();
     objective_is_written();

@@ -10,6 +10,7 @@ use crate::answer::{Outcome, solve_unwritten};
 use crate::compiled::Options;
 use crate::exit_kind::ExitKind;
 use crate::fault::{Fault, TextName};
+use crate::meaning::solutions_are_sound;
 use crate::run::read_text;
 use crate::unwritten::read_model;
 use net_io::{Sink, Source, write_whole};
@@ -71,6 +72,7 @@ pub fn run_solve_with<M: Source, D: Source, W: Sink>(
     let data_text = read_text(alloc, data, DATA_LIMIT, TextName::Data)?;
     let unwritten = read_model(alloc, options, &model_text, &data_text)?;
     let outcome = solve_unwritten(alloc, &unwritten)?;
+    solutions_are_sound();
     let exit_kind = exit_kind_of(&outcome);
     match write_whole(output, outcome.text()) {
         Ok(()) => Ok(exit_kind),

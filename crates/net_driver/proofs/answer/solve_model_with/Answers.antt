@@ -15,6 +15,15 @@ returns-clause-value c =
     subst (λ compiled. IsSolved c.args.options.now.lean (option_copied c.args.options.now.objective) c.args.model.now c.args.data.now (record { compiled = compiled; outcome = c.in_ok-outcome.outcome }))
     (sym c.in_ok-compiled.ensures) (c.in_ok-outcome.ensures _ _ _ _ c.in_ok-unwritten.ensures.value)
 
+pub returns-clause-means : goal.returns-clause-means
+returns-clause-means c =
+    let wanted = option_copied c.args.options.now.objective in
+    let answers =
+    subst (λ compiled. IsSolved c.args.options.now.lean wanted c.args.model.now c.args.data.now (record { compiled = compiled; outcome = c.in_ok-outcome.outcome }))
+    (sym c.in_ok-compiled.ensures) (c.in_ok-outcome.ensures _ _ _ _ c.in_ok-unwritten.ensures.value) in
+    c.solutions_are_sound.ensures.value c.args.options.now.lean wanted c.args.model.now c.args.data.now
+    (record { compiled = c.in_ok-compiled.compiled; outcome = c.in_ok-outcome.outcome }) answers
+
 pub returns-in_err-outcome-clause-rejected : goal.returns-in_err-outcome-clause-rejected
 returns-in_err-outcome-clause-rejected c =
     no_memory _ c.args.model.now c.args.data.now c.from_residual-in_err-outcome.result _ (λ e h. h)

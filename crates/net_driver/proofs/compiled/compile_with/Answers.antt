@@ -11,6 +11,12 @@ pub returns-clause-value : goal.returns-clause-value
 returns-clause-value c =
     subst (IsBuilt c.args.options.now.lean (option_copied c.args.options.now.objective) c.args.model.now c.args.data.now) (sym c.in_ok-compiled.ensures) c.in_ok-unwritten.ensures.value
 
+pub returns-clause-means : goal.returns-clause-means
+returns-clause-means c =
+    let wanted = option_copied c.args.options.now.objective in
+    c.compilations_are_sound.ensures.value c.args.options.now.lean wanted c.args.model.now c.args.data.now c.in_ok-compiled.compiled
+    (subst (IsBuilt c.args.options.now.lean wanted c.args.model.now c.args.data.now) (sym c.in_ok-compiled.ensures) c.in_ok-unwritten.ensures.value)
+
 pub returns-in_err-compiled-clause-rejected : goal.returns-in_err-compiled-clause-rejected
 returns-in_err-compiled-clause-rejected c =
     no_memory _ c.args.model.now c.args.data.now c.from_residual-in_err-compiled.result _ (λ e h. h)

@@ -18,7 +18,7 @@ returns-in-Ok-clause-run g c =
         texts = texts_of m d [] [];
         read = (read_whole _ _ _ c.in_ok-model_text.ensures.value promise.accepts.model.read.short, (read_whole _ _ _ c.in_ok-data_text.ensures.value promise.accepts.statements.read.short, tt));
         text = answer.text.items;
-        answer = (answer, promise, refl);
+        answer = (answer, promise, c.compilations_are_sound.ensures.value _ _ m d answer promise, refl);
         written = search rules;
       };
       err = tt;
@@ -41,7 +41,7 @@ returns-clause-run g c =
           texts = texts_of m d [] [];
           read = (read_whole _ _ _ c.in_ok-model_text.ensures.value promise.accepts.model.read.short, (read_whole _ _ _ c.in_ok-data_text.ensures.value promise.accepts.statements.read.short, tt));
           text = answer.text.items;
-          answer = (answer, promise, refl);
+          answer = (answer, promise, c.compilations_are_sound.ensures.value _ _ m d answer promise, refl);
           written = search rules;
         },
       );

@@ -21,7 +21,7 @@ returns-in-Ok-clause-run g c =
         texts = texts_of m d [] [];
         read = (read_whole _ _ _ c.in_ok-model_text.ensures.value promise.accepts.model.read.short, (read_whole _ _ _ c.in_ok-data_text.ensures.value promise.accepts.statements.read.short, tt));
         text = text_of outcome;
-        answer = (record { compiled = compiled; outcome = outcome }, solved, c.exit_kind_of-exit_kind.ensures, refl);
+        answer = (record { compiled = compiled; outcome = outcome }, solved, c.solutions_are_sound.ensures.value _ _ m d (record { compiled = compiled; outcome = outcome }) solved, c.exit_kind_of-exit_kind.ensures, refl);
         written = search rules;
       };
       err = tt;
@@ -46,7 +46,7 @@ returns-clause-run g c =
           texts = texts_of m d [] [];
           read = (read_whole _ _ _ c.in_ok-model_text.ensures.value promise.accepts.model.read.short, (read_whole _ _ _ c.in_ok-data_text.ensures.value promise.accepts.statements.read.short, tt));
           text = text_of outcome;
-          answer = (record { compiled = compiled; outcome = outcome }, solved, refl, refl);
+          answer = (record { compiled = compiled; outcome = outcome }, solved, c.solutions_are_sound.ensures.value _ _ m d (record { compiled = compiled; outcome = outcome }) solved, refl, refl);
           written = search rules;
         },
       );

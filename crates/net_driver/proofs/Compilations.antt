@@ -1,0 +1,112 @@
+-- Compiled models and answers are those of the network that the two inputs mean.
+use Rattle.std.specs.Prelude.{◌≡◌, ℕ, Bool, List, [], ◌∷◌, map, Option}
+use Rattle.std.specs.List.{AllZip, flat_map}
+use Rattle.std.proofs.Common.{refl, ap, sym, ◌∙◌, subst}
+use Rattle.net_expr.specs.Worlds.{Name}
+use Rattle.net_eval.specs.Soundness.{WorldsAreSound}
+use Rattle.net_meaning.specs.Network as meaning
+use Rattle.net_meaning.specs.Network.{IsNetwork}
+use Rattle.net_meaning.specs.Represents.{Represents}
+use Rattle.net_inst.specs.AsWritten as written
+use Rattle.net_inst.specs.AsWritten.{nodes, arcs, node_declared, arc_declared}
+use Rattle.net_inst.specs.Instances.{seen_as}
+use Rattle.net_inst.specs.Laws.{AreNames, HaveFeasible, HaveObjective}
+use Rattle.net_inst.specs.Readings.{Objective}
+use Rattle.net_inst.specs.Represented.{ProblemsRepresent}
+use Rattle.net_inst.specs.Soundness.{IsSameNode, IsSameArc, HasNetwork, AssignmentsAreSound}
+use Rattle.net_driver.specs.declared.answer.Outcome.{Outcome}
+use Rattle.net_driver.specs.declared.answer.Outcome.TheVariants.{Displayed, Infeasible}
+use Rattle.net_driver.specs.declared.compiled.Compiled.{Compiled}
+use Rattle.net_driver.specs.IsSolved.{IsOutcome}
+use Rattle.net_driver.specs.IsBuilt.{IsBuilt}
+use Rattle.net_driver.specs.Made.{profile_of}
+use Rattle.net_driver.specs.Meaning.{listed_label, IsCompilation, IsPrinted}
+use Rattle.net_driver.specs.MeaningLaws.{CompilationsAreSound, SolutionsAreSound}
+use Rattle.net_driver.proofs.ModelMeaning.{sets_of, names_of, answers_solve, holds_moved}
+use Rattle.net_driver.proofs.ModelWorld.{is_world}
+
+-- ---- labels
+
+one_label : (m : written.Label) (l : meaning.Label) → l.name ≡ m.name → l.indexed ≡ m.indexed → l.key ≡ m.key → m ≡ listed_label l
+one_label m l name indexed key = λ t. record { name = sym name t; indexed = sym indexed t; key = sym key t }
+
+node_labels : (ns : List written.Node) (vs : List meaning.Node) → AllZip IsSameNode ns vs → map (λ (n : written.Node). n.label) ns ≡ map (λ (v : meaning.Node). listed_label v.label) vs
+node_labels [] [] h = refl
+node_labels [] (v ∷ vs) h = absurd h
+node_labels (n ∷ ns) [] h = absurd h
+node_labels (n ∷ ns) (v ∷ vs) h =
+    let one = one_label n.label v.label h.0.name h.0.indexed h.0.key in
+    let more = node_labels ns vs h.1 in
+    λ t. one t ∷ more t
+
+arc_labels : (xs : List written.Arc) (all : List meaning.Arc) → AllZip IsSameArc xs all → map (λ (x : written.Arc). x.label) xs ≡ map (λ (a : meaning.Arc). listed_label a.label) all
+arc_labels [] [] h = refl
+arc_labels [] (a ∷ all) h = absurd h
+arc_labels (x ∷ xs) [] h = absurd h
+arc_labels (x ∷ xs) (a ∷ all) h =
+    let one = one_label x.label a.label h.0.name h.0.indexed h.0.key in
+    let more = arc_labels xs all h.1 in
+    λ t. one t ∷ more t
+
+-- ---- compiled models
+
+module _ (represent : ProblemsRepresent) (worlds : WorldsAreSound) where
+  -- the compiled model, whose network is one of the declarations in the computed world
+  compilation_of : (lean : Bool) (wanted : Option Name) (m d : List ℕ) (c : Compiled) (h : IsBuilt lean wanted m d c)
+      → (x : IsCompilation wanted m d c) × IsNetwork wanted h.world h.declarations x.nodes x.arcs x.objective
+  compilation_of lean wanted m d c h = (
+    record {
+      nodes = has.nodes;
+      arcs = has.arcs;
+      objective = has.objective;
+      mean = record {
+        declarations = h.declarations;
+        model = record {
+          tokens = h.accepts.model.tokens;
+          read = h.accepts.model.read;
+          printed = h.accepts.model.means.printed;
+          well_formed = h.accepts.model.means.level;
+        };
+        tables = h.accepts.tables;
+        data_statements = h.accepts.statements;
+        world = h.world;
+        is_world = is_world worlds m d h.declarations h.accepts.tables h.world h.accepts.model h.accepts.statements h.accepts.world;
+        is_network = has.is_network;
+      };
+      represents = found.1;
+      names = record {
+        objective = ap (λ n. n.objective) h.names ∙ sym has.same_name;
+        nodes = subst (λ labels. AreNames (flat_map node_declared h.declarations) labels c.names.nodes) (node_labels (nodes h.world h.declarations) has.nodes has.same_nodes) h.node_names;
+        arcs = subst (λ labels. AreNames (flat_map arc_declared h.declarations) labels c.names.arcs) (arc_labels (arcs h.world h.declarations) has.arcs has.same_arcs) h.arc_names;
+      };
+      text = h.text;
+      problem = h.problem;
+      only = h.only;
+    },
+    has.is_network,
+  )
+    where
+      found : (has : HasNetwork wanted h.world h.declarations (seen_as h.made)) × Represents has.nodes has.arcs has.objective c.problem c.link
+      found = represent wanted h.world h.declarations h.made (profile_of lean) c.problem c.link (sets_of lean wanted m d c h) (names_of lean wanted m d c h) h.accepts.model.means.level h.has_network h.normal h.by_number
+
+      has : HasNetwork wanted h.world h.declarations (seen_as h.made)
+      has = found.0
+
+  pub compilations_sound : CompilationsAreSound
+  compilations_sound lean wanted m d c h = (compilation_of lean wanted m d c h).0
+
+  -- ---- solved models
+
+  printed : (c : Compiled) (ns : List written.Node) (xs : List written.Arc) (p : Objective) (o : Outcome) → IsOutcome c ns xs p o → IsPrinted c o
+  printed c ns xs p (Displayed text numbers value) h = h.displayed
+  printed c ns xs p (Infeasible text flags side) h = (h.violated, h.reported)
+
+  pub solutions_sound : AssignmentsAreSound → HaveFeasible → HaveObjective → SolutionsAreSound
+  solutions_sound sound fits aims lean wanted m d a h =
+      let own = compilation_of lean wanted m d a.compiled h.compiled in
+      let solved = answers_solve represent sound fits aims lean wanted m d a h in
+      record {
+        compilation = own.0;
+        holds = holds_moved wanted h.compiled.world h.compiled.declarations _ own.0.nodes _ own.0.arcs _ own.0.objective a.outcome solved.network.is_network own.1 solved.holds;
+        printed = printed a.compiled (nodes h.compiled.world h.compiled.declarations) (arcs h.compiled.world h.compiled.declarations) h.compiled.objective a.outcome h.outcome;
+      }

@@ -1,0 +1,51 @@
+-- Laws about the network that the two inputs mean.
+use Rattle.std.specs.Prelude.{◌≡◌, ℕ, Bool, List, Option}
+use Rattle.net_tree.specs.Tree.{Declaration}
+use Rattle.net_normal.specs.declared.link.Link.{Link}
+use Rattle.net_normal.specs.declared.problem.Problem.{Problem}
+use Rattle.net_expr.specs.Worlds.{Name, World}
+use Rattle.net_meaning.specs.Network.{Node, Arc, Objective, IsNetwork}
+use Rattle.net_meaning.specs.Represents.{Represents}
+use Rattle.net_driver.specs.declared.answer.Answer.{Answer}
+use Rattle.net_driver.specs.declared.compiled.Compiled.{Compiled}
+use Rattle.net_driver.specs.IsSolved.{IsSolved}
+use Rattle.net_driver.specs.IsBuilt.{IsBuilt}
+use Rattle.net_driver.specs.Meaning.{IsCompilation, HoldsIn, IsSolution}
+
+-- a compiled model that satisfies the main theorem by the stages is one by the meaning of the inputs
+abbrev pub CompilationsAreSound : Type 0
+CompilationsAreSound = (lean : Bool) (wanted : Option Name) (model_text data_text : List ℕ) (c : Compiled) → IsBuilt lean wanted model_text data_text c
+    → IsCompilation wanted model_text data_text c
+
+-- the same for the result of a solved model
+abbrev pub SolutionsAreSound : Type 0
+SolutionsAreSound = (lean : Bool) (wanted : Option Name) (model_text data_text : List ℕ) (a : Answer) → IsSolved lean wanted model_text data_text a
+    → IsSolution wanted model_text data_text a
+
+-- declarations have at most one network in a world
+abbrev pub NetworksAreUnique : Type 0
+NetworksAreUnique = (wanted : Option Name) (w : World) (ds : List Declaration) (vs us : List Node) (all others : List Arc) (o p : Objective)
+    → IsNetwork wanted w ds vs all o → IsNetwork wanted w ds us others p → (vs ≡ us) × (all ≡ others) × (o ≡ p)
+
+-- the declarations have a network in the world, and the problem represents it
+pub record RepresentsModel (wanted : Option Name) (w : World) (ds : List Declaration) (problem : Problem) (link : Link) : Type 0 where
+  pub nodes : List Node
+  pub arcs : List Arc
+  pub objective : Objective
+  pub is_network : IsNetwork wanted w ds nodes arcs objective
+  pub represents : Represents nodes arcs objective problem link
+
+-- the problem of a compiled model represents the network of the model's declarations, in the world of the model and its data
+abbrev pub CompiledProblemsRepresent : Type 0
+CompiledProblemsRepresent = (lean : Bool) (wanted : Option Name) (model_text data_text : List ℕ) (c : Compiled) (h : IsBuilt lean wanted model_text data_text c)
+    → RepresentsModel wanted h.world h.declarations c.problem c.link
+
+-- the compiled problem represents the network of the declarations in the world, and the outcome holds in this network
+pub record SolvesModel (wanted : Option Name) (w : World) (ds : List Declaration) (a : Answer) : Type 0 where
+  pub network : RepresentsModel wanted w ds a.compiled.problem a.compiled.link
+  pub holds : HoldsIn network.nodes network.arcs network.objective a.outcome
+
+-- the outcome of a solved model holds in the network of the model's declarations, in the world of the model and its data
+abbrev pub AnswersSolveModels : Type 0
+AnswersSolveModels = (lean : Bool) (wanted : Option Name) (model_text data_text : List ℕ) (a : Answer) (h : IsSolved lean wanted model_text data_text a)
+    → SolvesModel wanted h.compiled.world h.compiled.declarations a
