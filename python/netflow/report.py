@@ -118,7 +118,8 @@ class Report:
 
     def prices(self):
         """Returns the arcs at which one more unit of capacity saves most."""
-        felt = [(amount, it) for amount, it in self.gains.felt if it.is_full() and it.name not in choices(self.net)]
+        chosen = choices(self.net)
+        felt = [(amount, it) for amount, it in self.gains.felt if it.is_full() and it.name not in chosen]
         doubt = "" if self.gains.is_exact else " at most"
         lines = [f"{it.text}, full at {grouped(it.upper)}: the first unit more {better(self.net)}{doubt} {grouped(amount)}" for amount, it in felt[:MOST_GAINS]]
         left = len(felt) - MOST_GAINS

@@ -5,6 +5,9 @@ Output that does not follow the grammar raises Unreadable; nothing is guessed.
 from __future__ import annotations
 
 import dataclasses
+import functools
+import itertools
+import operator
 import re
 
 from .errors import Unreadable
@@ -25,16 +28,10 @@ class Arc:
 
     __slots__ = ("text", "name", "key", "src", "dst", "lower", "upper", "price", "flow", "worth", "is_open")
 
-    def __init__(self, text, src, dst, lower, upper, price):
-        self.text, self.src, self.dst, self.lower, self.upper, self.price = text, src, dst, lower, upper, price
-        self.name, self.key = reference(text)
+    def __init__(self, text, name, key, src, dst, lower, upper, price):
+        self.text, self.name, self.key, self.src, self.dst = text, name, key, src, dst
+        self.lower, self.upper, self.price = lower, upper, price
         self.flow, self.worth, self.is_open = 0, 0, upper == BOUND
-
-    def key_text(self):
-        """Returns the key as a plan prints it."""
-        key = self.text[len(self.name) + 1:-1]
-        # A comma inside a member stays a comma.
-        return key.replace(",", " ") if key.count(",") < len(self.key) else " ".join(map(shown, self.key))
 
     def is_full(self):
         return self.flow == self.upper and self.lower < self.upper
@@ -96,18 +93,23 @@ def between(low, high):
 
 
 class Network:
-    """Nodes and arcs with the model's own bounds and prices. `lines` is the problem's text without comments; `declarations` are the
+    """Nodes and arcs with the model's own bounds and prices. `problem` is the problem's text without comments; `declarations` are the
     names of a plan's declarations of arcs, each with whether it is a table; `factors` are those of a scaled model."""
 
     def __init__(self):
-        self.nodes, self.arcs, self.lines, self.declarations = [], [], [], []
+        self.nodes, self.arcs, self.problem, self.declarations = [], [], "", []
         self.constant, self.sign, self.objective, self.value = 0, 1, "", 0
         self.factors = Factors()
         # The side and the node indices of a cut, if there is no plan.
         self.cut = None
 
+    @functools.cached_property
+    def lines(self):
+        """The lines of the problem."""
+        return lines_of(self.problem)
+
     def divide(self, factors: Factors) -> None:
-        """Brings the numbers of a scaled model back to those of the model; `lines` stay as they are."""
+        """Brings the numbers of a scaled model back to those of the model; `problem` stays as it is."""
         self.factors = factors
         if factors.is_plain():
             return
@@ -122,29 +124,41 @@ class Network:
     def end(self, number):
         return OUTSIDE if number is None else self.nodes[number].text
 
+    @functools.cached_property
+    def _declared(self):
+        found = {}
+        for name, arcs in itertools.groupby(self.arcs, operator.attrgetter("name")):
+            found.setdefault(name, []).extend(arcs)
+        return found
+
     def declared(self):
         """Returns the arcs by the names of their declarations, in the model's order."""
-        found = {}
-        for arc in self.arcs:
-            found.setdefault(arc.name, []).append(arc)
+        return self._declared
+
+
+class Members(dict):
+    """Members by their printed texts. It grows as keys are read, since many keys have few members."""
+
+    def __missing__(self, text):
+        if not MEMBERS.fullmatch(text):
+            raise KeyError(text)
+        found = self[text] = text[1:-1].replace("''", "'") if text.startswith("'") else int(text)
         return found
+
+    def key(self, text):
+        """Returns the members of a key as it is printed, texts without their quotes; None if it is no key."""
+        if not text:
+            return []
+        try:
+            # A comma inside a member leaves an odd number of quotes on both sides, and so no member.
+            return list(map(self.__getitem__, text.split(",")))
+        except KeyError:
+            return list(map(self.__getitem__, MEMBERS.findall(text))) if KEY.fullmatch(text) else None
 
 
 def members(text):
-    """Returns the members of a key as it is printed, texts without their quotes; None if it is no key."""
-    if "'" not in text:
-        try:
-            return [int(it) for it in text.split(",")] if text else []
-        except ValueError:
-            return None
-    parts = text[1:-1].split("','")
-    if text[0] == text[-1] == "'" and "'" not in "".join(parts):
-        return parts
-    return [member(it) for it in MEMBERS.findall(text)] if KEY.fullmatch(text) else None
-
-
-def member(text):
-    return text[1:-1].replace("''", "'") if text.startswith("'") else int(text)
+    """Returns the members of a key as it is printed; None if it is no key."""
+    return Members().key(text)
 
 
 def shown(it):
@@ -154,11 +168,21 @@ def shown(it):
 
 def reference(text):
     """Returns the name and the key of `Ship['PITT','NE']`."""
-    name, bracket, key = text.partition("[")
-    found = members(key[:-1]) if key[-1:] == "]" or not bracket else None
-    if found is None or not NAME.fullmatch(name):
-        raise Unreadable(f"{text!r} is no node and no arc")
-    return name, found
+    (name,), (key,) = references([text])
+    return name, key
+
+
+def references(texts):
+    """Returns the names and the keys of references such as `Ship['PITT','NE']`."""
+    known, names, found, keys = Members(), {}, [], []
+    for text in texts:
+        name, bracket, key = text.partition("[")
+        parts = known.key(key[:-1]) if key[-1:] == "]" or not bracket else None
+        if parts is None or name not in names and not NAME.fullmatch(name):
+            raise Unreadable(f"{text!r} is no node and no arc")
+        found.append(names.setdefault(name, name))
+        keys.append(parts)
+    return found, keys
 
 
 def lines_of(text):
@@ -168,36 +192,45 @@ def lines_of(text):
 
 def numbers(words):
     try:
-        return [int(it) for it in words]
+        return list(map(int, words))
     except ValueError:
         raise Unreadable(f"{' '.join(words)!r} has a word that is no number") from None
 
 
-def columns(lines, mark, width):
+def columns(text, mark, width):
     """Returns the numbers of lines of one kind, which begin with its mark, column by column."""
-    words = " ".join(lines).split(" ") if lines else []
-    if words[::width + 1] != [mark] * len(lines) or len(words) != len(lines) * (width + 1):
+    count = text.count("\n") + (text[-1:] not in ("", "\n"))
+    words = text.rstrip("\n").replace("\n", " ").split(" ") if text else []
+    if words[::width + 1] != [mark] * count or len(words) != count * (width + 1):
         raise Unreadable(f"a line that begins with {mark!r} and has {width} numbers was expected")
     return [numbers(words[place::width + 1]) for place in range(1, width + 1)]
 
 
+def beginning(text, mark, start=0):
+    """Returns the place of the first line, from a line's start on, that begins with the mark; the text's end if there is none."""
+    if text.startswith(mark, start):
+        return start
+    place = text.find(f"\n{mark}", start)
+    return len(text) if place < 0 else place + 1
+
+
 def read_compiled(text):
     """Returns the network of a compiled model (without --lean)."""
-    net, lines = Network(), lines_of(text)
+    net = Network()
     # Comments come first, then the line with the counts, supplies, and arcs.
-    comments = text.count("\nc ") + text.startswith("c ")
-    net.lines = lines[comments:]
-    supplies = text.count("\nn ")
-    names = []
-    for line in lines[:comments]:
+    start = beginning(text, "p ")
+    net.problem = text[start:]
+    links, lines = [], lines_of(text[:start])
+    for line in lines:
         if line.startswith("c arc "):
-            names.append(line.split(" ", 4)[3:])
+            links.append(line.split(" ", 4))
         else:
             read_link(line, net)
-    drawn = columns(net.lines[1 + supplies:], "a", 5)
-    place_arcs(net, names, drawn)
-    nodes, amounts = columns(net.lines[1:1 + supplies], "n", 2)
-    place_nodes(net, dict(zip(nodes, amounts)), zip(drawn[0][len(names):], drawn[3][len(names):]))
+    arcs = beginning(text, "a ", start)
+    drawn = columns(text[arcs:], "a", 5)
+    place_arcs(net, [it[4] for it in links], numbers([it[3] for it in links]), drawn)
+    nodes, amounts = columns(text[text.find("\n", start) + 1:arcs], "n", 2)
+    place_nodes(net, dict(zip(nodes, amounts)), zip(drawn[0][len(links):], drawn[3][len(links):]))
     return net
 
 
@@ -212,24 +245,29 @@ def read_link(line, net):
         net.sign = int(rest)
 
 
-def place_arcs(net, names, drawn):
-    """Makes the arcs of pairs of an offset and a name: ends, bounds without the offsets, prices, and what they allow at each node."""
+def place_arcs(net, texts, offsets, drawn):
+    """Makes the arcs from their names and offsets: ends, bounds without the offsets, prices, and what they allow at each node."""
     outside, sign = len(net.nodes), net.sign
-    low, fewest, greatest = ([0] * (outside + 1) for _ in range(3))
-    for (offset, name), src, dst, least, most, cost in zip(names, *drawn):
-        src, dst = min(src - 1, outside), min(dst - 1, outside)
-        offset = int(offset)
-        least, most = least + offset, most + offset
-        net.arcs.append(Arc(name, src if src < outside else None, dst if dst < outside else None, least, most, sign * cost))
-        low[src] -= offset
-        low[dst] += offset
-        fewest[src] -= most
-        fewest[dst] += least
-        greatest[src] -= least
-        greatest[dst] += most
-    if len(net.arcs) < len(names):
+    srcs, dsts, leasts, mosts, costs = (it[:len(texts)] for it in drawn)
+    if len(costs) < len(texts):
         raise Unreadable("the problem has fewer arcs than the model")
-    for node, *sums in zip(net.nodes, low, fewest, greatest):
+    if any(offsets):
+        leasts, mosts = (list(map(operator.add, it, offsets)) for it in (leasts, mosts))
+    prices = costs if sign > 0 else [sign * it for it in costs]
+    place = [*range(-1, outside), *[None] * (max(srcs + dsts, default=0) - outside)]  # of the ends, which are counted from 1
+    ends = ([place[it] for it in side] for side in (srcs, dsts))
+    net.arcs = list(map(Arc, texts, *references(texts), *ends, leasts, mosts, prices))
+    low, fewest, greatest = ([0] * len(place) for _ in range(3))
+    for src, dst, least, most, offset in zip(srcs, dsts, leasts, mosts, offsets):
+        fewest[src] -= most
+        greatest[dst] += most
+        if least:
+            fewest[dst] += least
+            greatest[src] -= least
+        if offset:
+            low[src] -= offset
+            low[dst] += offset
+    for node, *sums in zip(net.nodes, low[1:], fewest[1:], greatest[1:]):
         node.low, node.fewest, node.greatest = sums
 
 
@@ -258,13 +296,23 @@ def read_plan(text, net):
         else:
             name, flow = valued(lines[line])
             count, keys, flows = 1, [""], [flow]
-        if keys != [it.key_text() for it in arcs[at:at + count]] or not is_table and [it.name for it in arcs[at:at + 1]] != [name]:
+        if "\n".join(keys) != plan_keys(arcs[at:at + count]) or not is_table and [it.name for it in arcs[at:at + 1]] != [name]:
             raise Unreadable(f"the plan has other arcs of {name} than the model")
         net.declarations.append((name, is_table))
         take_flows(net, arcs[at:at + count], numbers(flows))
         at, line = at + count, line + (count + 2 if is_table else 1)
     if at != len(arcs):
         raise Unreadable("the plan ends before its last arc")
+
+
+def plan_keys(arcs):
+    """Returns the keys of a declaration's arcs as a plan prints them, one a line."""
+    start = len(arcs[0].name) + 1 if arcs else 0
+    keys = "\n".join([it.text[start:-1] for it in arcs])
+    if keys.count(",") <= sum([len(it.key) for it in arcs]) - len(arcs):
+        return keys.replace(",", " ")
+    # A comma inside a member stays a comma.
+    return "\n".join([" ".join(map(shown, it.key)) for it in arcs])
 
 
 def take_flows(net, arcs, flows):
@@ -301,9 +349,7 @@ def read_cut(text, net):
 
 def read_prices(certificate, net):
     """Sets the worth of nodes and arcs from the potentials of a certificate; that of the outside is 0. The network is divided."""
-    lines = lines_of(certificate)
-    first = next((here for here, it in enumerate(lines) if it.startswith("v ")), len(lines))
-    found = columns(lines[first:], "v", 2)[1]
+    found = columns(certificate[beginning(certificate, "v "):], "v", 2)[1]
     if len(found) != len(net.nodes) + 1:
         raise Unreadable("the certificate has another number of potentials than there are nodes")
     worths = [divided(it - found[-1], net.factors.cost) for it in found]
@@ -311,8 +357,8 @@ def read_prices(certificate, net):
         node.worth = it
     sign = net.sign
     for arc in net.arcs:
-        tail, head = worths[-1 if arc.src is None else arc.src], worths[-1 if arc.dst is None else arc.dst]
-        arc.worth = sign * arc.price + tail - head
+        src, dst = arc.src, arc.dst
+        arc.worth = sign * arc.price + worths[-1 if src is None else src] - worths[-1 if dst is None else dst]
 
 
 def written(net):

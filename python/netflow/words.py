@@ -102,13 +102,15 @@ def headings(text, name, count):
 def compared_texts(model, data):
     """Returns what a reader may miss: a numeral in quotes that the model compares with something, and that no data text has in quotes.
     It equals no number, and netflow takes it as it is."""
-    known = {it.text for text in data for it in tokens(text)}
-    found, before = [], ""
+    compared, before = [], ""
     for it in tokens(model):
-        if before in ("=", ">") and re.fullmatch(r"(['\"])-?\d+\1", it.text) and it.text not in known:
-            found.append(f"{it.text} in line {it.row} of the model is a text, which equals no number: is {it.bare()} meant?")
+        if before in ("=", ">") and re.fullmatch(r"(['\"])-?\d+\1", it.text):
+            compared.append(it)
         before = it.text
-    return found
+    # Data can be long, and few models compare such texts.
+    known = {it.text for text in data for it in tokens(text)} if compared else ()
+    return [f"{it.text} in line {it.row} of the model is a text, which equals no number: is {it.bare()} meant?"
+            for it in compared if it.text not in known]
 
 
 COMMENT = re.compile(r"\s*(?:#+[ \t]*(?P<line>[^\n]*)|/\*+\s*(?P<block>.*?)\s*\**\*/)", re.S)
