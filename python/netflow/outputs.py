@@ -4,7 +4,7 @@ from __future__ import annotations
 import json
 import re
 from fractions import Fraction
-from typing import Any, Mapping, Sequence
+from typing import Any, Callable, Mapping, Sequence
 
 from .texts import Network
 
@@ -34,29 +34,37 @@ def dump_lines(value: Mapping) -> str:
     fields, encode = [], json.JSONEncoder(default=marked, ensure_ascii=False).encode
     for name, it in value.items():
         is_list = isinstance(it, list) and it and isinstance(it[0], Mapping)
-        text = "[\n    " + ",\n    ".join(map(encode, it)) + "\n  ]" if is_list else encode(it)
+        text = "[\n    " + lines_of_items(it, encode) + "\n  ]" if is_list else encode(it)
         fields.append(f"  {encode(name)}: {text}")
-    return MARKED.sub(r"\1", "{\n" + ",\n".join(fields) + "\n}")
+    text = "{\n" + ",\n".join(fields) + "\n}"
+    return MARKED.sub(r"\1", text) if "\\u0000" in text else text
 
 
-def arc_json(net: Network, arc: Any, has_flow: bool) -> dict:
-    found = {"name": arc.name, "key": list(arc.key), "from": None if arc.src is None else net.nodes[arc.src].text,
-             "to": None if arc.dst is None else net.nodes[arc.dst].text}
-    if has_flow:
-        found["flow"] = arc.flow
-    return {**found, "lower": arc.lower, "upper": None if arc.is_open else arc.upper, "price": arc.price}
+def lines_of_items(items: list, encode: Callable[[Any], str]) -> str:
+    """Returns the JSON texts of objects with equal fields, one a line."""
+    if any(isinstance(part, list) and part and isinstance(part[0], Mapping) for part in items[0].values()):
+        return ",\n    ".join(map(encode, items))
+    # All at once is faster. After the quote that ends a JSON text there is no letter, so the first field is only found between two items.
+    first = f'{{"{next(iter(items[0]))}": '
+    return encode(items)[1:-1].replace(f"}}, {first}", f"}},\n    {first}")
 
 
-def node_json(node: Any, has_flow: bool) -> dict:
-    found = {"name": node.text, "lower": node.low, "upper": node.high}
-    return {**found, "net_in": node.inflow} if has_flow else found
+def arc_json(net: Network, arc: Any) -> dict:
+    nodes, src, dst = net.nodes, arc.src, arc.dst
+    return {"name": arc.name, "key": list(arc.key), "from": None if src is None else nodes[src].text,
+            "to": None if dst is None else nodes[dst].text, "flow": arc.flow,
+            "lower": arc.lower, "upper": None if arc.is_open else arc.upper, "price": arc.price}
+
+
+def node_json(node: Any) -> dict:
+    return {"name": node.text, "lower": node.low, "upper": node.high, "net_in": node.inflow}
 
 
 def plan_json(net: Network) -> dict:
     """Returns the object of a plan."""
     return {"schema": SCHEMA, "status": "optimal",
             "objective": {"name": net.objective, "sense": "minimize" if net.sign > 0 else "maximize", "value": net.value},
-            "arcs": [arc_json(net, it, True) for it in net.arcs], "nodes": [node_json(it, True) for it in net.nodes]}
+            "arcs": [arc_json(net, it) for it in net.arcs], "nodes": [node_json(it) for it in net.nodes]}
 
 
 def reason_json(net: Network, reason: Any) -> dict:

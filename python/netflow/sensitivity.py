@@ -18,21 +18,24 @@ class Residual:
         self.net, self.outside = net, len(net.nodes)
         self.out: list = [[] for _ in range(self.outside + 1)]
         self.into: list = [[] for _ in range(self.outside + 1)]
+        out, into, outside = self.out, self.into, self.outside
         for arc in net.arcs:
-            src, dst = (self.outside if it is None else it for it in (arc.src, arc.dst))
-            if arc.flow < arc.upper:
-                self.add(src, dst, arc.worth)
-            if arc.flow > arc.lower:
-                self.add(dst, src, -arc.worth)
+            flow, worth = arc.flow, arc.worth
+            src = outside if arc.src is None else arc.src
+            dst = outside if arc.dst is None else arc.dst
+            if flow < arc.upper:
+                out[src].append((dst, worth))
+                into[dst].append((src, worth))
+            if flow > arc.lower:
+                out[dst].append((src, -worth))
+                into[src].append((dst, -worth))
         for number, node in enumerate(net.nodes):
             if node.inflow < node.high:
-                self.add(number, self.outside, node.worth)
+                out[number].append((outside, node.worth))
+                into[outside].append((number, node.worth))
             if node.inflow > node.low:
-                self.add(self.outside, number, -node.worth)
-
-    def add(self, src: int, dst: int, length: Any) -> None:
-        self.out[src].append((dst, length))
-        self.into[dst].append((src, length))
+                out[outside].append((number, -node.worth))
+                into[number].append((outside, -node.worth))
 
     def worth(self, number: int) -> Any:
         return 0 if number == self.outside else self.net.nodes[number].worth

@@ -3,8 +3,9 @@ from __future__ import annotations
 
 import argparse
 import csv
+import io
 import sys
-from typing import Any, Iterator
+from typing import Any, Iterable, Iterator
 
 from .command import note_fractions, print_error_json
 from .errors import ProgramError
@@ -17,6 +18,22 @@ from .texts import Network
 from .words import headings
 
 COLUMNS = ("flow", "lower", "upper", "price", "from", "to")
+
+
+class Cells(dict):
+    """Cells as comma-separated values have them, with quotes if they need some. It grows as rows are written."""
+
+    def __missing__(self, value: Any) -> str:
+        out = io.StringIO()
+        csv.writer(out, lineterminator="\n").writerow([value, ""])
+        found = self[value] = out.getvalue()[:-2]
+        return found
+
+
+def write_rows(rows: Iterable[list]) -> None:
+    """Writes rows with equally many cells, two or more, as `csv.writer` does; cells that occur often are made once."""
+    text = Cells().__getitem__
+    sys.stdout.write("".join([",".join(map(text, row)) + "\n" for row in rows]))
 
 
 def arc_cells(net: Network, arc: Any) -> list:
@@ -96,12 +113,12 @@ def write(net: Network, model: str, words: argparse.Namespace) -> None:
         write_xlsx(words.xlsx, [("Summary", summary), *tables_of(net, model, words)])
     elif words.only:
         for _, rows in tables_of(net, model, words):
-            out.writerows(rows)
+            write_rows(rows)
     elif words.grid:
         out.writerow([net.objective, net.value])
         for _, rows in tables_of(net, model, words):
             out.writerow([])
-            out.writerows(rows)
+            write_rows(rows)
     else:
-        out.writerows(one_table(net, [it for it in net.arcs if it.flow or not words.used]))
+        write_rows(one_table(net, [it for it in net.arcs if it.flow or not words.used]))
         out.writerows([[], [net.objective, net.value]])
