@@ -11,7 +11,7 @@ ROWS, COLUMNS, FILLED = 400, 60, 0.15
 def grid_html(arcs: list, titles: list, is_open: bool = True) -> str:
     """Returns the grid of the flows; empty if the arcs have fewer than two keys or fill too little of it. Columns are the last key, or
     the one before it if that gives fewer."""
-    if not arcs or len(arcs[0].key) < 2:
+    if not arcs or len(arcs[0].key) < 2 or len(arcs) > ROWS * COLUMNS:
         return ""
     across = list(dict.fromkeys(it.key[-1] for it in arcs))
     rows: dict = {}

@@ -30,10 +30,23 @@ def cell(value, kind):
     return f'<td class="{kind}">{text(value)}</td>'
 
 
+class Cells(dict):
+    """The cells of a column by their values. It grows as rows are made, since most values occur often."""
+
+    def __init__(self, kind):
+        super().__init__()
+        self.kind = kind
+
+    def __missing__(self, value):
+        found = self[value] = cell(value, self.kind)
+        return found
+
+
 def table(head, rows, classes=""):
     """Returns a table whose columns a click sorts; a column is (title, class), a row its own class and its cells."""
     titles = "".join(f'<th class="{kind}" scope="col"><button type="button">{text(title)}</button></th>' for title, kind in head)
-    lines = ["".join([cell(it, kind) for it, (_, kind) in zip(cells, head)]) for _, cells in rows]
+    columns = [Cells(kind) for _, kind in head]
+    lines = ["".join([column[it] for it, column in zip(cells, columns)]) for _, cells in rows]
     body = "\n".join(f'<tr class="{kind}">{line}</tr>' for (kind, _), line in zip(rows, lines))
     return f'<div class="scroll"><table class="{classes}"><thead><tr>{titles}</tr></thead><tbody>\n{body}\n</tbody></table></div>'
 
@@ -53,7 +66,7 @@ class Arcs:
     def __init__(self, net, name, keys, arcs, lead, has_plan):
         self.net, self.name, self.keys, self.arcs, self.lead, self.has_plan = net, name, keys, arcs, lead, has_plan
         self.has_least = any(it.lower for it in arcs)
-        self.has_worth = has_plan and any(self.gain(it) for it in arcs)
+        self.has_worth = has_plan and any(it.worth and self.gain(it) for it in arcs)
         self.has_price = any(it.price for it in arcs)
 
     def gain(self, arc):
@@ -103,12 +116,13 @@ class Arcs:
         return f'<details><summary>totals</summary><div class="pair">{"".join(made)}</div></details>' if made else ""
 
     def total(self, place, title):
-        sums = {}
-        for arc in self.arcs:
-            flow, spent = sums.get(arc.key[place], (0, 0))
-            sums[arc.key[place]] = flow + arc.flow, spent + arc.flow * arc.price
+        sums = dict.fromkeys([it.key[place] for it in self.arcs], (0, 0))
         if not 1 < len(sums) <= TOTALS or len(sums) == len(self.arcs):
             return ""
+        for arc in self.arcs:
+            if arc.flow:
+                flow, spent = sums[arc.key[place]]
+                sums[arc.key[place]] = flow + arc.flow, spent + arc.flow * arc.price
         head = [(title, ""), ("flow", "number flow")] + [("flow × price", "number")] * self.has_price
         return f'<div>{table(head, [("", [member, *pair][:len(head)]) for member, pair in sums.items()])}</div>'
 
@@ -128,7 +142,7 @@ class Arcs:
 def places_html(net, marginal=None):
     """Returns the table of the places: inflow, outflow, and what one more unit that they need or give costs, as netflow-why says."""
     came, went = [0] * len(net.nodes), [0] * len(net.nodes)
-    for arc in net.arcs:
+    for arc in (it for it in net.arcs if it.flow):
         for counts, number, is_forward in ((came, arc.dst, arc.flow > 0), (went, arc.src, arc.flow > 0)):
             if number is not None:
                 (counts if is_forward else went if counts is came else came)[number] += abs(arc.flow)

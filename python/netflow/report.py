@@ -46,7 +46,7 @@ class Report:
         # If every place is in the set, a mark would say nothing.
         self.marked = set() if len(self.marked) == len(self.net.nodes) else self.marked
         self.cut = bottleneck(self.net, self.gains) if self.has_plan else []
-        self.across = {id(it) for it in self.net.arcs if self.is_across(it)} | {id(it) for it in self.cut}
+        self.across = {id(it) for it in self.net.arcs if self.sets and self.is_across(it)} | {id(it) for it in self.cut}
 
     def is_across(self, arc):
         """Whether the arc leads into one of the sets that are short, or out of it."""
