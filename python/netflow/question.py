@@ -7,6 +7,7 @@ from concurrent.futures import ThreadPoolExecutor
 from fractions import Fraction
 from typing import Any, Sequence
 
+from .conditions import mark_open_sides
 from .data_text import DataText
 from .edits import EditedText
 from .errors import DataError, ProgramError, ScaleError
@@ -210,6 +211,7 @@ class Question:
                 raise self.placed(problem) from None
             if answer.status == 0:
                 read_plan(answer.text, net)
+                mark_open_sides(net, self.model.text())
                 self.check_bounds(net)
             else:
                 net.cut = read_cut(answer.text, net)

@@ -121,7 +121,8 @@ class Report:
         chosen = choices(self.net)
         felt = [(amount, it) for amount, it in self.gains.felt if it.is_full() and it.name not in chosen]
         doubt = "" if self.gains.is_exact else " at most"
-        lines = [f"{it.text}, full at {grouped(it.upper)}: the first unit more {better(self.net)}{doubt} {grouped(amount)}" for amount, it in felt[:MOST_GAINS]]
+        saves = f"the first unit more {better(self.net)}{doubt}"
+        lines = [f"{it.text}, full at {grouped(it.upper)}: {saves} {grouped(amount)}{self.gains.limit(it)}" for amount, it in felt[:MOST_GAINS]]
         left = len(felt) - MOST_GAINS
         lines += [f"{left} more, each {grouped(felt[MOST_GAINS][0])} or less: netflow-why --all lists them"] if left > 0 else []
         return section("Where more capacity helps", bullets(lines)) if lines and not self.cut else ""

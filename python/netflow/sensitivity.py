@@ -1,18 +1,21 @@
-"""What one more unit really costs: shortest paths in the residual network of a plan of least cost.
+"""What one more unit really costs, and how far that holds: shortest paths in the residual network of a plan of least cost.
 
 A path from the outside to a node shows the cheapest way to bring one more unit there; if there is none, the need of the node cannot
-grow by itself. The lengths are exact for the next unit, whichever of several best plans is at hand.
+grow by itself. The lengths are exact for the next unit, whichever of several best plans is at hand. They hold for as many units as all
+paths of that length can carry together.
 """
 from __future__ import annotations
 
 import heapq
+import math
 from typing import Any
 
 from .texts import Network
 
 
 class Residual:
-    """The residual network of a plan with prices; node `len(net.nodes)` is the outside."""
+    """The residual network of a plan with prices; node `len(net.nodes)` is the outside. For each node `out` has the arcs that leave it,
+    as triples of a node, a reduced cost and a capacity, and `into` those that enter it."""
 
     def __init__(self, net: Network) -> None:
         self.net, self.outside = net, len(net.nodes)
@@ -20,41 +23,94 @@ class Residual:
         self.into: list = [[] for _ in range(self.outside + 1)]
         out, into, outside = self.out, self.into, self.outside
         for arc in net.arcs:
-            flow, worth = arc.flow, arc.worth
+            flow, worth, lower = arc.flow, arc.worth, arc.lower
             src = outside if arc.src is None else arc.src
             dst = outside if arc.dst is None else arc.dst
             if flow < arc.upper:
-                out[src].append((dst, worth))
-                into[dst].append((src, worth))
-            if flow > arc.lower:
-                out[dst].append((src, -worth))
-                into[src].append((dst, -worth))
+                room = math.inf if arc.is_open else arc.upper - flow
+                out[src].append((dst, worth, room))
+                into[dst].append((src, worth, room))
+            if flow > lower:
+                out[dst].append((src, -worth, flow - lower))
+                into[src].append((dst, -worth, flow - lower))
         for number, node in enumerate(net.nodes):
-            if node.inflow < node.high:
-                out[number].append((outside, node.worth))
-                into[outside].append((number, node.worth))
-            if node.inflow > node.low:
-                out[outside].append((number, -node.worth))
-                into[number].append((outside, -node.worth))
+            # A side that the model leaves open grows with the bounds of the arcs.
+            above = math.inf if node.is_high_open else node.high - node.inflow
+            below = math.inf if node.is_low_open else node.inflow - node.low
+            if above:
+                out[number].append((outside, node.worth, above))
+                into[outside].append((number, node.worth, above))
+            if below:
+                out[outside].append((number, -node.worth, below))
+                into[number].append((outside, -node.worth, below))
 
     def worth(self, number: int) -> Any:
         return 0 if number == self.outside else self.net.nodes[number].worth
 
-    def distances(self, start: int, is_backward: bool = False) -> list:
-        """Returns the least cost from `start` to each node (or from each node to it); None if there is no path."""
+    def labels(self, start: int, is_backward: bool = False) -> list:
+        """Returns the least reduced cost from `start` to each node (or from each node to it); None if there is no path."""
         near = self.into if is_backward else self.out
-        reduced: list = [None] * (self.outside + 1)
+        found: list = [None] * (self.outside + 1)
         heap = [(0, start)]
         while heap:
             length, here = heapq.heappop(heap)
-            if reduced[here] is not None:
+            if found[here] is not None:
                 continue
-            reduced[here] = length
-            for there, more in near[here]:
-                if reduced[there] is None:
+            found[here] = length
+            for there, more, _ in near[here]:
+                if found[there] is None:
                     heapq.heappush(heap, (length + more, there))
+        return found
+
+    def costs(self, labels: list, start: int, is_backward: bool = False) -> list:
+        """Returns the costs that belong to labels."""
         sign = -1 if is_backward else 1
-        return [None if it is None else it + sign * (self.worth(number) - self.worth(start)) for number, it in enumerate(reduced)]
+        return [None if it is None else it + sign * (self.worth(number) - self.worth(start)) for number, it in enumerate(labels)]
+
+    def distances(self, start: int, is_backward: bool = False) -> list:
+        """Returns the least cost from `start` to each node (or from each node to it); None if there is no path."""
+        return self.costs(self.labels(start, is_backward), start, is_backward)
+
+    def units(self, start: int, end: int, labels: list) -> Any:
+        """Returns how many units all cheapest paths from start to end carry together, infinity for any number. `labels` are those of the
+        start."""
+        if start == end:
+            return math.inf
+        rooms: dict = {}
+        line = [start]
+        for here in line:
+            if here not in rooms:
+                rooms[here] = {}
+                for there, more, room in self.out[here]:
+                    if labels[here] + more == labels[there]:
+                        rooms[here][there] = rooms[here].get(there, 0) + room
+                        line.append(there)
+        return greatest_flow(rooms, start, end)
+
+
+def greatest_flow(rooms: dict, start: int, end: int) -> Any:
+    """Returns the greatest flow through arcs with these capacities, by shortest augmenting paths. It changes the capacities."""
+    total = 0
+    while total < math.inf:
+        before, line = {start: start}, [start]
+        for here in line:
+            for there, room in rooms.get(here, {}).items():
+                if room and there not in before:
+                    before[there] = here
+                    line.append(there)
+        if end not in before:
+            return total
+        path = [end]
+        while path[-1] != start:
+            path.append(before[path[-1]])
+        steps = list(zip(path[1:], path))
+        amount = min(rooms[here][there] for here, there in steps)
+        for here, there in steps:
+            rooms[here][there] -= amount if amount < math.inf else 0
+            back = rooms.setdefault(there, {})
+            back[here] = back.get(here, 0) + amount
+        total += amount
+    return math.inf
 
 
 class Marginal:
@@ -63,8 +119,16 @@ class Marginal:
 
     def __init__(self, net: Network) -> None:
         self.net, self.residual = net, Residual(net)
-        self.more = self.residual.distances(self.residual.outside)[:-1]
+        self.labels = self.residual.labels(self.residual.outside)
+        self.more = self.residual.costs(self.labels, self.residual.outside)[:-1]
         self.less = self.residual.distances(self.residual.outside, True)[:-1]
+
+    def units_more(self, number: int) -> Any:
+        """Returns for how many more required units the cost holds."""
+        return self.residual.units(self.residual.outside, number, self.labels)
+
+    def units_less(self, number: int) -> Any:
+        return self.residual.units(number, self.residual.outside, self.residual.labels(number))
 
     def pair(self, number: int) -> tuple | None:
         """Returns the giving node with which one more unit at the node has a plan, and the cost; None if there is none."""
@@ -76,10 +140,18 @@ class Marginal:
         return giver, cost
 
 
-def arc_change(net: Network, residual: Residual, arc: Any) -> Any:
-    """Returns what one more unit of an upper bound, or one less of a lower bound, really saves: 0 or more."""
+def arc_gain(net: Network, residual: Residual, arc: Any) -> tuple:
+    """Returns what one more unit of an upper bound, or one less of a lower bound, really saves, 0 or more, and for how many units."""
     src, dst = (residual.outside if it is None else it for it in (arc.src, arc.dst))
     start, end = (dst, src) if arc.is_full() else (src, dst)
-    back = residual.distances(start)[end]
+    labels = residual.labels(start)
     price = net.sign * arc.price if arc.is_full() else -net.sign * arc.price
-    return 0 if back is None else max(0, -(price + back))
+    if labels[end] is None:
+        return 0, 0
+    gain = -(price + labels[end] + residual.worth(end) - residual.worth(start))
+    return (gain, residual.units(start, end, labels)) if gain > 0 else (0, 0)
+
+
+def arc_change(net: Network, residual: Residual, arc: Any) -> Any:
+    """Returns what one more unit of an upper bound, or one less of a lower bound, really saves: 0 or more."""
+    return arc_gain(net, residual, arc)[0]

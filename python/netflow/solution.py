@@ -113,8 +113,7 @@ class Solution:
     def _priced(self) -> Marginal:
         """Adds prices to the network, if it has none, and returns what one unit more costs at each node."""
         if self._marginal is None:
-            problem = "".join(f"{it}\n" for it in self.network.lines)
-            read_prices(call(["min", "/dev/stdin"], problem).text, self.network)
+            read_prices(call(["min", "/dev/stdin"], self.network.problem).text, self.network)
             self._marginal = Marginal(self.network)
         return self._marginal
 
@@ -124,6 +123,13 @@ class Solution:
         more = self._priced().more
         sign = self.network.sign
         return {it.text: sign * cost for it, cost in zip(self.network.nodes, more) if cost is not None}
+
+    def price_range(self, node: str) -> Any:
+        """For how many more required units at a node, such as `"Shop['hill']"`, its price holds; infinity for any number."""
+        number = next((number for number, it in enumerate(self.network.nodes) if it.text == node), None)
+        if number is None:
+            raise KeyError(f"the model has no node {node}")
+        return self._priced().units_more(number)
 
     @property
     def reduced_costs(self) -> dict:

@@ -51,8 +51,8 @@ class Arc:
 @dataclasses.dataclass
 class Node:
     """A node of the model: its net inflow is from `low` to `high`, and its arcs allow it from `fewest` to `greatest`. If the model
-    leaves a side open, the compiled model has what the arcs allow in its place. `worth` is the node's price: by how much one
-    more required unit makes the value worse, at least."""
+    leaves a side open, the compiled model has what the arcs allow in its place; `is_low_open` and `is_high_open` say so if the text of
+    the model is known. `worth` is the node's price: by how much one more required unit makes the value worse, at least."""
 
     text: str
     low: Number = 0
@@ -61,6 +61,8 @@ class Node:
     greatest: Number = 0
     inflow: Number = 0
     worth: Number = 0
+    is_low_open: bool = False
+    is_high_open: bool = False
 
     def has_low(self):
         """Whether the low side requires more than the arcs bring in any case."""
@@ -353,8 +355,10 @@ def read_prices(certificate, net):
     if len(found) != len(net.nodes) + 1:
         raise Unreadable("the certificate has another number of potentials than there are nodes")
     worths = [divided(it - found[-1], net.factors.cost) for it in found]
-    for node, it in zip(net.nodes, worths):
-        node.worth = it
+    for number, (node, it) in enumerate(zip(net.nodes, worths)):
+        # A side that is open limits nothing: all arcs of the node are at a bound there, so that a price of 0 proves the plan as well.
+        is_at_most, is_at_least = node.is_high_open and node.inflow == node.high, node.is_low_open and node.inflow == node.low
+        worths[number] = node.worth = 0 if it < 0 and is_at_most or it > 0 and is_at_least else it
     sign = net.sign
     for arc in net.arcs:
         src, dst = arc.src, arc.dst

@@ -7,6 +7,7 @@ check. The exit status is that of netflow.
 """
 from __future__ import annotations
 
+import math
 import re
 from typing import Any, Sequence
 
@@ -17,7 +18,7 @@ from .model_text import Unparsed, parse
 from .outputs import cut_json, dump_lines, plan_json
 from .question import Input, Question
 from .reasons import reasons
-from .sensitivity import Marginal, arc_change
+from .sensitivity import Marginal, arc_gain
 from .texts import Network
 from .words import compared_texts
 
@@ -107,10 +108,22 @@ class Gains:
         arcs = [it for it in net.arcs if it.is_full() or it.is_lowest()]
         felt = [it for it in arcs if it.worth]
         self.is_exact = len(net.arcs) * len(felt) <= EXACT_WORK
-        gain = (lambda it: arc_change(net, marginal.residual, it)) if self.is_exact else (lambda it: abs(it.worth))
-        self.felt = sorted(((gain(it), it) for it in felt), key=lambda pair: -pair[0])
+        gains = {id(it): arc_gain(net, marginal.residual, it) if self.is_exact else (abs(it.worth), 0) for it in felt}
+        self.units = {key: units for key, (_, units) in gains.items()}
+        self.felt = sorted(((gains[id(it)][0], it) for it in felt), key=lambda pair: -pair[0])
         self.free = [it for it in arcs if not it.worth] + [it for amount, it in self.felt if not amount]
         self.felt = [(amount, it) for amount, it in self.felt if amount]
+
+    def limit(self, arc: Any) -> str:
+        """Returns up to which bound the gain of an arc holds, in words; an empty text if it is not known."""
+        return limit_text(arc.upper, self.units[id(arc)]) if arc.is_full() else limit_text(arc.lower, -self.units[id(arc)])
+
+
+def limit_text(amount: Any, units: Any) -> str:
+    """Returns up to which amount the value of one unit holds; `units` below 0 lead down."""
+    if not units:
+        return ""
+    return "; holds for any number" if abs(units) == math.inf else f"; holds {'up' if units > 0 else 'down'} to {amount + units}"
 
 
 def bound_text(arc: Any) -> str:
@@ -144,7 +157,7 @@ def arc_lines(net: Network, gains: Gains, most: int) -> list:
         return ["", "No arc is full, and none is at a lower bound other than 0."]
     lines = ["", f"Arcs at a bound: {count} of {len(net.arcs)}. Arcs at their lower bound 0 are not counted."]
     title = f"  The first unit past it {better(net)}{'' if gains.is_exact else ', at most'}:"
-    lines += [title, *rows([(amount, f"{it.text} {bound_text(it)}") for amount, it in gains.felt], most)] if gains.felt else []
+    lines += [title, *rows([(amount, f"{it.text} {bound_text(it)}{gains.limit(it)}") for amount, it in gains.felt], most)] if gains.felt else []
     return lines + ([f"  More room {better(net)} nothing at: {free_text(gains.free, most)}"] if gains.free else [])
 
 
@@ -176,11 +189,16 @@ class Place:
         is_own = node.has_low() if (self.side == "least") != self.is_giver else node.has_high()
         return bool(self.cost) and is_own and (self.cost < 0 if self.side == "most" else self.side == "least" and self.cost > 0)
 
-    def line(self, net: Network) -> str:
+    def line(self, net: Network, units: Any = 0) -> str:
+        """Returns the place with its cost, which holds for so many units, if that is known."""
         verb = f"costs {self.cost}" if self.cost > 0 else f"{better(net)} {-self.cost}"
         amount = abs(self.node.inflow)
         at = "" if self.side == "fixed" else f", and {'gives' if self.is_giver else 'gets'} the {self.side}, {amount}"
-        return f"    {self.node.text} {self.wish}{at}: one more {verb}"
+        return f"    {self.node.text} {self.wish}{at}: one more {verb}{limit_text(amount, units)}"
+
+    def units(self, marginal: Marginal) -> Any:
+        """Returns for how many units the cost holds."""
+        return marginal.units_less(self.number) if self.is_giver else marginal.units_more(self.number)
 
 
 def matched_lines(net: Network, marginal: Marginal, places: list, most: int) -> list:
@@ -208,7 +226,8 @@ def place_lines(net: Network, marginal: Marginal, most: int) -> list:
     felt = sorted((it for it in places if it.is_felt()), key=lambda it: -abs(it.cost))
     if not felt:
         return matched or ["", "One more unit at a place costs nothing, anywhere."]
-    lines = ["", "One unit more at a place:", *(it.line(net) for it in felt[:most])]
+    has_units = len(net.arcs) * len(felt[:most]) <= EXACT_WORK
+    lines = ["", "One unit more at a place:", *(it.line(net, it.units(marginal) if has_units else 0) for it in felt[:most])]
     left = len(net.nodes) - len(felt[:most])
     others = f"    at the other {f'{left} places' if left > 1 else 'place'}: " + ("nothing" if len(felt) <= most else "--all shows them")
     return lines + ([others] if left and not matched else []) + matched
@@ -231,8 +250,13 @@ def feasible_lines(net: Network, most: int) -> list:
     best = "No plan costs less." if net.sign > 0 else "No plan is worth more."
     lines = [f"There is a plan: {net.objective} = {net.value}. {best}", *bottleneck_lines(net, gains, most), *arc_lines(net, gains, most)]
     lines += place_lines(net, marginal, most) + warning_lines(net)
-    return [*lines, "", "These changes are exact for the next unit; beyond it other arcs may become full." if gains.is_exact else
-            "These changes are for the next unit; those of arcs are at most so much, since beyond it other arcs may become full."]
+    if not gains.is_exact:
+        last = "These changes are for the next unit; those of arcs are at most so much, since beyond it other arcs may become full."
+    elif any("; holds " in it for it in lines):
+        last = "These changes are exact for each unit as far as they hold; beyond that other arcs are full."
+    else:
+        last = "These changes are exact for the next unit; beyond it other arcs may become full."
+    return [*lines, "", last]
 
 
 def without_check(question: Question, problem: ProgramError) -> Question | None:

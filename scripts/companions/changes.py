@@ -1,4 +1,5 @@
 """What netflow-why says, compared with the answers to changed data: the least change gives a plan, and prices are exact."""
+import math
 import random
 
 from companions.common import run, write
@@ -98,14 +99,32 @@ def check_prices(complaints, folder, seeds):
         marginal = sensitivity.Marginal(net)
         for number, node in enumerate(net.nodes):
             tried += check_place(complaints, folder, seed, net, node, marginal.more[number], marginal.less[number])
+            check_range(complaints, folder, seed, net, number, marginal)
         for arc in net.arcs:
             if arc.name == "Go" and (arc.is_full() or arc.is_lowest()):
-                other = Plain(seed)
-                other.arcs[tuple(arc.key)][1 if arc.is_full() else 0] += 1 if arc.is_full() else -1
-                wanted = net.value - sensitivity.arc_change(net, marginal.residual, arc)
-                complaints.same(f"plain {seed}: {arc.text}, one unit past the bound", wanted, value(other.solve(folder)[1]))
-                tried += 1
+                gain, units = sensitivity.arc_gain(net, marginal.residual, arc)
+                limit = 20 if units == math.inf else units
+                for count, wanted in {1: gain, limit: limit * gain}.items() if gain else [(1, 0)]:
+                    other = Plain(seed)
+                    other.arcs[tuple(arc.key)][1 if arc.is_full() else 0] += count if arc.is_full() else -count
+                    complaints.same(f"plain {seed}: {arc.text}, {count} past the bound", net.value - wanted, value(other.solve(folder)[1]))
+                    tried += 1
     complaints.want(tried > seeds, f"only {tried} prices were tried")
+
+
+def check_range(complaints, folder, seed, net, number, marginal):
+    """The price of a place with one amount holds for as many units as it says, and is greater, or there is no plan, one unit later."""
+    node, cost = net.nodes[number], marginal.more[number]
+    units = marginal.units_more(number) if cost is not None else math.inf
+    if node.low != node.high or units == math.inf:
+        return
+    values = []
+    for count in (units, units + 1):
+        other, key = Plain(seed), netflow_texts.reference(node.text)[1][0]
+        other.nodes[key] = [it + count for it in other.nodes[key]]
+        values.append(value(other.solve(folder)[1]))
+    complaints.same(f"plain {seed}: {node.text}, {units} more", net.value + units * cost, values[0])
+    complaints.want(values[1] is None or values[1] > net.value + (units + 1) * cost, f"plain {seed}: {node.text}: the price holds for more than {units}")
 
 
 def check_place(complaints, folder, seed, net, node, more, less):
@@ -179,6 +198,9 @@ PLANS = (
     ("two full arcs in a row", """minimize C; node Hall; node Shop: net_in = 7;
 arc X >= 0, <= 5, to Hall; arc Z >= 0, <= 5, from Hall, to Shop, obj C 1; arc Y >= 0, <= 9, to Shop, obj C 3;
 """, ("Arcs at a bound: 2 of 3. Arcs at their lower bound 0 are not counted.", "More room saves nothing at: ")),
+    ("ends without an upper condition", """maximize F; node S: net_out >= 0; node T: net_in >= 0;
+arc X >= 0, <= 5, from S, to T, obj F 1;
+""", ("Bottleneck: 1 arc, 5 in all", "1 X at its most, 5; holds for any number")),
 )
 
 
