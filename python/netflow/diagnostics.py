@@ -29,7 +29,7 @@ class Diagnostic:
         kinds = TEXTS.get(command, ())
         self.path, self.called = dict(zip(kinds, paths)).get(self.text), dict(zip(kinds, names)).get(self.text)
         self.texts = texts if texts is not None else {kind: read(path) for kind, path in zip(kinds, paths)}
-        self.known_paths = dict(zip(kinds, paths))
+        self.known_paths, self.asked = dict(zip(kinds, paths)), (command, paths, names)
         self.question: Any = None
         lines = self.texts.get(self.text, "").split("\n")
         self.shown = lines[self.row - 1].rstrip("\r") if 0 < self.row <= len(lines) else ""
@@ -56,6 +56,12 @@ class Diagnostic:
             made.called = question.source_of(made.row)[0]
             if made.is_change():
                 made.shown, made.before = question.written(made.row), ""
+        return made
+
+    def another(self, line: str) -> "Diagnostic":
+        """Returns the diagnostic of another error line for the same inputs."""
+        made = Diagnostic(line, *self.asked, self.texts)
+        made.question = self.question
         return made
 
     @property

@@ -3,7 +3,8 @@
 
 Solves a model, with its decimals scaled, as the other tools do. If an input is rejected, the error line is followed by the place as
 editors take it, PATH:LINE:COLUMN, the line of the input with a mark under the place, what the error means, and a hint what was
-probably meant, or how to fix it. With --json the error is a JSON object on standard output.
+probably meant, or how to fix it. Further wrong names, keys and kinds of values in the data follow, a line for each. With --json the
+error is a JSON object on standard output.
 
 With a COMMAND (solve, compile, min, check, ..) netflow runs with these words. Its output and exit status are passed on, and its
 error is explained. It rejects decimals (E04) unless there are several data files, --set, --scale or --bounds.
@@ -22,6 +23,7 @@ from .command import Words, question_of, run as run_tool
 from .diagnostics import LINE, TEXTS, Diagnostic
 from .errors import ModelError, ProgramError
 from .exact import divided
+from .further import further_errors, further_lines
 from .outputs import dump_lines, error_json
 from .program import USAGE, Session, program
 from .question import Question
@@ -84,12 +86,19 @@ def explain(words: list, is_json: bool) -> int:
             raise ProgramError(USAGE, f"{program()}: {problem.strerror}\n") from None
         line = done.stderr.decode("utf-8", "surrogateescape").rstrip("\n")
         found = Diagnostic(line, words[0], session.files, [words[it] for it in places]) if LINE.fullmatch(line) else None
+        options = [it for here, it in enumerate(words[1:], 1) if here not in places]
         if found and is_json:
-            print(dump_lines(error_json(ModelError(found))))
+            print_json(found, options)
             return done.returncode
         sys.stderr.buffer.write(done.stderr)
-        sys.stderr.write("".join(f"{it}\n" for it in lines_of(found)) if found else "")
+        sys.stderr.write("".join(f"{it}\n" for it in [*lines_of(found), *further_lines(found, options)]) if found else "")
     return done.returncode
+
+
+def print_json(found: Diagnostic, options: Sequence[str]) -> None:
+    """Prints an error as a JSON object, with the further errors of the data."""
+    more = [error_json(ModelError(it))["error"] for it in further_errors(found, options)]
+    print(dump_lines({**error_json(ModelError(found)), **({"more": more} if more else {})}))
 
 
 def is_rewriting(words: Sequence[str]) -> bool:
@@ -119,9 +128,10 @@ def explain_rewritten(words: list, is_json: bool) -> int:
             if found is None:
                 raise
             if is_json:
-                print(dump_lines(error_json(ModelError(found))))
+                print_json(found, question.options)
             else:
-                sys.stderr.write("".join(f"{it}\n" for it in [problem.message.rstrip("\n"), *lines_of(found)]))
+                lines = [problem.message.rstrip("\n"), *lines_of(found), *further_lines(found, question.options)]
+                sys.stderr.write("".join(f"{it}\n" for it in lines))
             return problem.status
 
 

@@ -1,4 +1,5 @@
 """What netflow-explain says of rejected inputs, and what all tools pass on."""
+import json
 import pathlib
 import re
 import shlex
@@ -73,6 +74,27 @@ def check_bread(complaints, folder):
         complaints.want(status == 3 and told.startswith(code) and named in " ".join(told.split()), f"{name}: no {code} and {named!r} in {told!r}")
         advice = " ".join(told.split("\n  ", 1)[-1].split())
         complaints.want(absent is None or absent not in advice.replace(named, ""), f"{name}: {absent!r} in {told!r}")
+
+
+def check_further(complaints, folder):
+    """The errors of a data file besides the first are listed, each at its place, and as JSON."""
+    bread = TOP / "examples" / "bread"
+    model, data = bread / "bread.mod", (bread / "bread.dat").read_text(encoding="utf-8")
+    for right, wrong in (("hill 30", "hil 30"), ("lake 45", "lake 4O"), ("mill 25", "mill 25, lake 7, mil 9"), ("south    7", "soth    7")):
+        complaints.want(right in data, f"further errors: {right!r} is not in the data")
+        data = data.replace(right, wrong)
+    words = [model, write(folder, "further.dat", data)]
+    lines = run("netflow-explain", *words)[2].split("\n")
+    start = next((here for here, it in enumerate(lines) if it.endswith("in the data:")), len(lines))
+    complaints.want(lines[start:start + 1] and not any("hil:" in it for it in lines[start:]), f"further errors: {lines}")
+    said = " ".join(lines[start:])
+    for it in ("E36 KindMismatch", "4O: is 40 meant?", "E33 OutsideSet wants['mil']: mil: is mill meant?", "E33 OutsideSet cost['soth','hill']"):
+        complaints.want(it in said, f"further errors: no {it!r} in {said!r}")
+    found = json.loads(run("netflow-explain", "solve", *words, "--json")[1])
+    more = found.get("more", [])
+    complaints.same("further errors as JSON", (len(lines) - start - 2, {"E33", "E36"}), (len(more), {it["code"] for it in more}))
+    alone = run("netflow-explain", model, write(folder, "alone.dat", data.replace("4O", "40").replace(", lake 7, mil 9", "").replace("soth", "south")))[2]
+    complaints.want("is hill meant?" in alone and "in the data:" not in alone, f"one error: {alone!r}")
 
 
 def write_raw(folder, name, content):
