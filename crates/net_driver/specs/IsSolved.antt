@@ -41,8 +41,8 @@ pub record IsDisplay (c : Compiled) (ns : List Node) (all : List Arc) (o : Objec
   pub displayed : text ≡ display_of_all c.names numbers value
   pub best : IsBestPlan ns all o numbers value
 
--- a set of nodes whose supply is above the most that its arcs can carry out of it (side Over), or
--- below the least that they must (side Under), printed by name; so no assignment is feasible
+-- a set of nodes, printed by name. Its supply is more than its arcs can carry away (side Over), or
+-- less than they have to carry away (side Under), so no assignment is feasible
 pub record IsCut (c : Compiled) (ns : List Node) (all : List Arc) (text : List ℕ) (flags : List Bool) (side : Side) : Type 0 where
   pub reported : text ≡ cut_text c.names c.problem flags side
   pub violated : IsViolatedCut c.problem flags side

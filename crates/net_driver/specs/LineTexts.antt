@@ -17,8 +17,8 @@ pub record IsProblemOf (text : List ℕ) (problem : Problem) : Type 0 where
   pub is : IsProblemText text problem.supplies.items problem.arcs.items
   pub only : IsOnlyProblem text problem.supplies.items problem.arcs.items
 
--- a condition for memory to be allocated: the file is within the limit, and its first line with a
--- meaning is a `p` line with counts within the limits
+-- a condition for memory to be allocated: the file is within the limit, and its first line, apart
+-- from empty lines and comments, is a `p` line with counts within the limits
 pub record MayBeProblem (text : List ℕ) : Type 0 where
   pub short : length text ≤ text_limit
   pub begins : BeginsProblem (statements_of text)

@@ -116,8 +116,8 @@ pub record Rejects (inputs : List Input) (IsWrong : Texts → Type 0) : Type 0 w
   pub read : Each (λ i. ReadsUpTo i.limit i.bytes (texts i.name)) inputs
   pub rejected : IsWrong texts
 
--- what an error means; except for a failed write, after which a prefix of the result is written,
--- nothing was written
+-- what an error means: nothing was written, unless a write failed; then a prefix of the result was
+-- written
 abbrev pub Reports : {A S : Type 0} → List Input → Sink S → (Texts → A → List ℕ → Type 0) → (Texts → Fault → Type 0) → Fault → Type 0
 Reports inputs output IsAnswer IsWrong OutOfMemory = output.new ≡ output.old
 Reports inputs output IsAnswer IsWrong (Rejected r) = (output.new ≡ output.old) × Rejects inputs (λ texts. IsWrong texts (Rejected r))

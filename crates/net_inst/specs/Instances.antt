@@ -73,7 +73,7 @@ end_of at (d ∷ ds) = end_of (semicolon d).span.end ds
 unfoldable pub network : Option Name → World → List Declaration → Outcome Network
 network wanted w ds = and_then (draw wanted w ds nothing) (λ d. finished wanted (point (end_of 0 ds)) d d.goal)
 
--- the part of a network with names that contracts see
+-- what contracts see of a network with names
 abbrev pub seen_as : NamedOfCode → Network
 seen_as n = record { nodes = map sides_of n.instance.nodes.items; arcs = n.instance.arcs.items; sense = n.instance.sense; constant = n.instance.constant; names = n.names }
 
