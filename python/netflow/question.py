@@ -20,6 +20,8 @@ from .texts import Network, read_compiled, read_cut, read_plan, read_prices
 from .without_decimals import CERTAIN, GRAMMAR, is_decimal, next_error
 from .words import read
 
+# The beginning of the data of a model with data in one file.
+SECTION = re.compile(r"#[^\n]*|/\*.*?\*/|'(?:[^'\n]|'')*'|\"(?:[^\"\n]|\"\")*\"|;(?:\s|#[^\n]*\n|/\*.*?\*/)*(?P<data>data\s*;)", re.S)
 MAYBE_DECIMAL = re.compile(r"[.eEdD]")
 PLACE = re.compile(r"(E\d\d \w+ (model|data)) (\d+):(\d+)(.*)", re.S)
 
@@ -27,8 +29,8 @@ PLACE = re.compile(r"(E\d\d \w+ (model|data)) (\d+):(\d+)(.*)", re.S)
 class Input:
     """A model or data text: a file, or a text in memory. `name` is what the user calls it; `path` can be a copy of a pipe."""
 
-    def __init__(self, path: str | None = None, text: str | None = None) -> None:
-        self.path, self.name, self.given = path, path, text
+    def __init__(self, path: str | None = None, text: str | None = None, name: str | None = None) -> None:
+        self.path, self.name, self.given = path, path if name is None else name, text
 
     def text(self) -> str:
         return self.given if self.given is not None else read(self.path)
@@ -69,6 +71,8 @@ class Question:
         for it in (self.model, *self.data):
             if it.path is not None:
                 it.path = self.session.lasting(it.path)
+        if not self.data:
+            self.split_model()
         if self.changes or self.scale or self.add_bounds or len(self.data) > 1:
             self.require_files()
             failed = self.failed_rewrite()
@@ -80,6 +84,15 @@ class Question:
             raise failed if not isinstance(failed, Unparsed) else \
                 DataError(f"the model or its data have a form that options cannot change (offset {failed.offset})")
         self.use_files()
+
+    def split_model(self) -> None:
+        """Makes the data that follow `data;` in the model the data text, with each word in its line and column."""
+        text = self.model.text()
+        start = next((it.start("data") for it in SECTION.finditer(text) if it["data"]), None)
+        if start is not None:
+            column = start - text.rfind("\n", 0, start) - 1
+            name, data = self.model.name, "\n" * text.count("\n", 0, start) + " " * column + text[start:]
+            self.model, self.data = Input(text=text[:start], name=name), [Input(text=data, name=name)]
 
     def report_text(self, kinds: re.Pattern) -> None:
         """Raises the program's error for the model, or for the data text `parsed`, besides its decimals."""

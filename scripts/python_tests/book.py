@@ -214,7 +214,7 @@ NAMED = (
     ("ordered", "set S ordered; minimize C;", "", "ordered", "1..T"),
     ("exists", "set S; check: exists {i in S} i > 0; minimize C;", "", "exists", "sum"),
     ("solve", "minimize C; node A; solve;", "", "solve", "netflow solve"),
-    ("data in the model", "set S; minimize C; node A;\ndata;\nset S := a;", "", "data", "a file of their own"),
+    ("data in the model", "set S; minimize C; node A;\ndata;\nset S := a;", "set S := b;", "data", "a file of their own"),
     ("s.t.", "minimize C; node A; s.t. x: 1 = 1;", "", "s.t.", "node B"),
 )
 

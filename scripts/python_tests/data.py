@@ -24,7 +24,15 @@ def check_forms(complaints):
     for name, cost in FORMS:
         complaints.same(f"cost as {name}", 440, netflow.solve(MODEL, cost=cost, **WHOLE).value)
     with open(MODEL, encoding="utf-8") as model, open(DATA, encoding="utf-8") as data:
-        complaints.same("texts", 440, netflow.solve(model.read(), data.read()).value)
+        texts = model.read(), data.read()
+    complaints.same("texts", 440, netflow.solve(*texts).value)
+    whole = f"{texts[0]}\n# data;\n  data ;\n{texts[1]}end;\n"
+    complaints.same("one text", (440, 460), (netflow.solve(whole).value, netflow.solve(whole, van=25).value))
+    try:
+        complaints.append(f"an error in one text: {netflow.solve(whole.replace('lake 45', 'lak 45'))!r}")
+    except netflow.ModelError as problem:
+        row = whole.split("wants :=")[0].count("\n") + 1
+        complaints.same("an error in one text", ("E33", "data", row, "lak: is lake meant?"), (problem.code, problem.text, problem.line, problem.hint))
     complaints.same("a path object", 440, netflow.solve(pathlib.Path(MODEL), pathlib.Path(DATA)).value)
     complaints.same("a dict as data", 440, netflow.solve(MODEL, {**WHOLE, "cost": COST}).value)
     for name, value in (("nothing", 3), ("wants", {("hill", "x"): 3}), ("wants", [("hill",)]), ("SHOPS", "hill"), ("SHOPS", [1.5])):
