@@ -9,7 +9,7 @@ import re
 import time
 from typing import Sequence
 
-from .data_text import DataText
+from .data_text import Cell, DataText, Statement
 from .diagnostics import LINE, Diagnostic
 from .errors import ProgramError, Unreadable
 from .model_text import Shapes, Unparsed, parse
@@ -17,13 +17,14 @@ from .program import Session, call
 from .texts import reference
 from .without_decimals import whole_copy
 
-# The errors that are skipped, and how many further ones are looked for, at most, and for how many seconds.
+# The errors that are skipped, how many further ones are looked for, at most, and for how many seconds; how many of one name are reported.
 SKIPPED = re.compile(r"E3[0136]")
-MOST, SECONDS = 20, 5.0
+MOST, SECONDS, OF_ONE_NAME = 20, 5.0, 3
 
 
 def further_errors(first: Diagnostic, options: Sequence[str] = ()) -> list:
-    """Returns the diagnostics of the errors after the first one; none if they cannot be found."""
+    """Returns the diagnostics of the errors after the first one, apart from those with a hint that an error before them has; none if they
+    cannot be found."""
     question = first.question
     is_joined = question is not None and (len(question.data) > 1 or bool(question.changes))
     if first.text != "data" or not first.row or is_joined or not SKIPPED.match(first.number):
@@ -33,10 +34,12 @@ def further_errors(first: Diagnostic, options: Sequence[str] = ()) -> list:
         cells = Places(model, data)
     except Unparsed:
         return []
-    found, last, end = [], first, time.monotonic() + SECONDS
+    found: list = []
+    last, end = first, time.monotonic() + SECONDS
+    hints, names = set(first.hints()), [name_of(first)]
     with Session([]) as session:
         path = session.write(model)
-        while len(found) < MOST and time.monotonic() < end and cells.clear(last):
+        while len(names) <= MOST and time.monotonic() < end and cells.clear(last):
             try:
                 call(["compile", path, session.write(cells.text()), *options])
                 break
@@ -46,8 +49,17 @@ def further_errors(first: Diagnostic, options: Sequence[str] = ()) -> list:
             if match is None or match[3] != "data" or not SKIPPED.match(match[1]) or (int(match[4] or 0), int(match[5] or 0)) in cells.seen:
                 break
             last = first.another(line)
-            found.append(last)
+            names.append(name_of(last))
+            new = [it for it in last.hints() if it not in hints]
+            if names.count(name_of(last)) <= OF_ONE_NAME and (new or not last.hints()):
+                found.append(last)
+            hints.update(new)
     return found
+
+
+def name_of(error: Diagnostic) -> str:
+    """Returns the name of the set or parameter that an error is about, or its place if it names none."""
+    return error.detail.partition("[")[0] or f"{error.row}:{error.column}"
 
 
 class Places:
@@ -57,7 +69,8 @@ class Places:
         decls = parse(model)
         shapes = Shapes(decls)
         self.data = DataText(data, {it.name: shapes.keys[it.name] for it in decls if it.kind == "param"}, shapes.sets)
-        self.letters, self.seen = list(data), set()
+        self.letters: list = list(data)
+        self.seen: set = set()
         self.starts = [0]
         for line in data.split("\n"):
             self.starts.append(self.starts[-1] + len(line) + 1)
@@ -80,7 +93,7 @@ class Places:
         self.put(cell.token.start, cell.token.end, ".")
         return True
 
-    def clear_name(self, error: Diagnostic, statement, at: int) -> bool:
+    def clear_name(self, error: Diagnostic, statement: Statement, at: int) -> bool:
         """Empties a statement whose name has the error, or a member of a set."""
         if error.number == "E30" and error.detail == statement.name:
             self.put(statement.start, statement.end, "")
@@ -97,7 +110,7 @@ class Places:
             self.letters[here] = "\n" if self.letters[here] == "\n" else text[here - start:here - start + 1] or " "
 
 
-def is_of(error: Diagnostic, cell) -> bool:
+def is_of(error: Diagnostic, cell: Cell) -> bool:
     """Whether a cell has the name and key that an error names, if it names one."""
     try:
         name, key = reference(error.detail)
@@ -113,5 +126,4 @@ def further_lines(first: Diagnostic, options: Sequence[str] = ()) -> list:
     for it in found:
         hint = next(iter(it.hints()), "")
         lines.append(f"{it.place()}: {it.number} {it.name} {it.detail}".rstrip() + (f": {hint}" if hint else ""))
-    count = f"{'At least ' if len(found) == MOST else ''}{len(found)} more {'error' if len(found) == 1 else 'errors'}"
-    return [f"{count} in the data:", *lines] if found else []
+    return ["More errors in the data:", *lines] if found else []
