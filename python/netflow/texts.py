@@ -224,7 +224,7 @@ def read_compiled(text):
     net.problem = text[start:]
     links, lines = [], lines_of(text[:start])
     for line in lines:
-        if line.startswith("c arc "):
+        if line.startswith("c arc ") and line.count(" ") > 3:
             links.append(line.split(" ", 4))
         else:
             read_link(line, net)
@@ -245,6 +245,8 @@ def read_link(line, net):
         net.constant = int(rest)
     elif kind == "sign":
         net.sign = int(rest)
+    else:
+        raise Unreadable(f"{line!r} is no line of a compiled model")
 
 
 def place_arcs(net, texts, offsets, drawn):
