@@ -71,9 +71,9 @@ class Residual:
         """Returns the least cost from `start` to each node (or from each node to it); None if there is no path."""
         return self.costs(self.labels(start, is_backward), start, is_backward)
 
-    def units(self, start: int, end: int, labels: list) -> Any:
-        """Returns how many units all cheapest paths from start to end carry together, infinity for any number. `labels` are those of the
-        start."""
+    def units(self, start: int, end: int, labels: list, work: float = math.inf) -> Any:
+        """Returns how many units all cheapest paths from start to end carry together, infinity for any number; 0 if it takes more steps
+        than `work`. `labels` are those of the start."""
         if start == end:
             return math.inf
         rooms: dict = {}
@@ -85,16 +85,21 @@ class Residual:
                     if labels[here] + more == labels[there]:
                         rooms[here][there] = rooms[here].get(there, 0) + room
                         line.append(there)
-        return greatest_flow(rooms, start, end)
+        return greatest_flow(rooms, start, end, work)
 
 
-def greatest_flow(rooms: dict, start: int, end: int) -> Any:
-    """Returns the greatest flow through arcs with these capacities, by shortest augmenting paths. It changes the capacities."""
+def greatest_flow(rooms: dict, start: int, end: int, work: float) -> Any:
+    """Returns the greatest flow through arcs with these capacities, by shortest augmenting paths; 0 if it takes more steps than `work`.
+    It changes the capacities."""
     total = 0
-    while total < math.inf:
+    while work > 0:
         before, line = {start: start}, [start]
         for here in line:
-            for there, room in rooms.get(here, {}).items():
+            if end in before:
+                break
+            near = rooms.get(here, {})
+            work -= len(near)
+            for there, room in near.items():
                 if room and there not in before:
                     before[there] = here
                     line.append(there)
@@ -105,12 +110,14 @@ def greatest_flow(rooms: dict, start: int, end: int) -> Any:
             path.append(before[path[-1]])
         steps = list(zip(path[1:], path))
         amount = min(rooms[here][there] for here, there in steps)
+        if amount == math.inf:
+            return amount
         for here, there in steps:
-            rooms[here][there] -= amount if amount < math.inf else 0
+            rooms[here][there] -= amount
             back = rooms.setdefault(there, {})
             back[here] = back.get(here, 0) + amount
         total += amount
-    return math.inf
+    return 0
 
 
 class Marginal:
@@ -123,12 +130,12 @@ class Marginal:
         self.more = self.residual.costs(self.labels, self.residual.outside)[:-1]
         self.less = self.residual.distances(self.residual.outside, True)[:-1]
 
-    def units_more(self, number: int) -> Any:
-        """Returns for how many more required units the cost holds."""
-        return self.residual.units(self.residual.outside, number, self.labels)
+    def units_more(self, number: int, work: float = math.inf) -> Any:
+        """Returns for how many more required units the cost holds; 0 if that takes more steps than `work`."""
+        return self.residual.units(self.residual.outside, number, self.labels, work)
 
-    def units_less(self, number: int) -> Any:
-        return self.residual.units(number, self.residual.outside, self.residual.labels(number))
+    def units_less(self, number: int, work: float = math.inf) -> Any:
+        return self.residual.units(number, self.residual.outside, self.residual.labels(number), work)
 
     def pair(self, number: int) -> tuple | None:
         """Returns the giving node with which one more unit at the node has a plan, and the cost; None if there is none."""
@@ -140,18 +147,21 @@ class Marginal:
         return giver, cost
 
 
-def arc_gain(net: Network, residual: Residual, arc: Any) -> tuple:
-    """Returns what one more unit of an upper bound, or one less of a lower bound, really saves, 0 or more, and for how many units."""
-    src, dst = (residual.outside if it is None else it for it in (arc.src, arc.dst))
-    start, end = (dst, src) if arc.is_full() else (src, dst)
-    labels = residual.labels(start)
-    price = net.sign * arc.price if arc.is_full() else -net.sign * arc.price
-    if labels[end] is None:
-        return 0, 0
-    gain = -(price + labels[end] + residual.worth(end) - residual.worth(start))
-    return (gain, residual.units(start, end, labels)) if gain > 0 else (0, 0)
-
-
 def arc_change(net: Network, residual: Residual, arc: Any) -> Any:
     """Returns what one more unit of an upper bound, or one less of a lower bound, really saves: 0 or more."""
-    return arc_gain(net, residual, arc)[0]
+    start, end = way_back(residual, arc)
+    back = residual.distances(start)[end]
+    price = net.sign * arc.price if arc.is_full() else -net.sign * arc.price
+    return 0 if back is None else max(0, -(price + back))
+
+
+def arc_units(residual: Residual, arc: Any, work: float = math.inf) -> Any:
+    """Returns for how many units past its bound an arc saves as much as for the first; 0 if that takes more steps than `work`."""
+    start, end = way_back(residual, arc)
+    return residual.units(start, end, residual.labels(start), work)
+
+
+def way_back(residual: Residual, arc: Any) -> tuple:
+    """Returns between which nodes a path has to carry a unit that the arc carries past its bound."""
+    src, dst = (residual.outside if it is None else it for it in (arc.src, arc.dst))
+    return (dst, src) if arc.is_full() else (src, dst)

@@ -18,13 +18,15 @@ from .model_text import Unparsed, parse
 from .outputs import cut_json, dump_lines, plan_json
 from .question import Input, Question
 from .reasons import reasons
-from .sensitivity import Marginal, arc_gain
+from .sensitivity import Marginal, arc_change, arc_units
 from .texts import Network
 from .words import compared_texts
 
 SHOWN, SETS = 20, 3
 # Up to how many steps exact changes are computed: arcs of the network times listed arcs, or pairs of places.
 EXACT_WORK = 300_000
+# Up to how many steps it is looked for how far one change holds.
+LIMIT_WORK = 50_000
 
 
 def rows(pairs: list, most: int) -> list:
@@ -108,15 +110,16 @@ class Gains:
         arcs = [it for it in net.arcs if it.is_full() or it.is_lowest()]
         felt = [it for it in arcs if it.worth]
         self.is_exact = len(net.arcs) * len(felt) <= EXACT_WORK
-        gains = {id(it): arc_gain(net, marginal.residual, it) if self.is_exact else (abs(it.worth), 0) for it in felt}
-        self.units = {key: units for key, (_, units) in gains.items()}
-        self.felt = sorted(((gains[id(it)][0], it) for it in felt), key=lambda pair: -pair[0])
+        gain = (lambda it: arc_change(net, marginal.residual, it)) if self.is_exact else (lambda it: abs(it.worth))
+        self.residual = marginal.residual
+        self.felt = sorted(((gain(it), it) for it in felt), key=lambda pair: -pair[0])
         self.free = [it for it in arcs if not it.worth] + [it for amount, it in self.felt if not amount]
         self.felt = [(amount, it) for amount, it in self.felt if amount]
 
     def limit(self, arc: Any) -> str:
         """Returns up to which bound the gain of an arc holds, in words; an empty text if it is not known."""
-        return limit_text(arc.upper, self.units[id(arc)]) if arc.is_full() else limit_text(arc.lower, -self.units[id(arc)])
+        units = arc_units(self.residual, arc, LIMIT_WORK) if self.is_exact else 0
+        return limit_text(arc.upper, units) if arc.is_full() else limit_text(arc.lower, -units)
 
 
 def limit_text(amount: Any, units: Any) -> str:
@@ -157,7 +160,9 @@ def arc_lines(net: Network, gains: Gains, most: int) -> list:
         return ["", "No arc is full, and none is at a lower bound other than 0."]
     lines = ["", f"Arcs at a bound: {count} of {len(net.arcs)}. Arcs at their lower bound 0 are not counted."]
     title = f"  The first unit past it {better(net)}{'' if gains.is_exact else ', at most'}:"
-    lines += [title, *rows([(amount, f"{it.text} {bound_text(it)}{gains.limit(it)}") for amount, it in gains.felt], most)] if gains.felt else []
+    # Only the lines that are shown get a limit.
+    listed = [(amount, f"{it.text} {bound_text(it)}{gains.limit(it)}") for amount, it in gains.felt[:most]]
+    lines += [title, *rows(listed + gains.felt[most:], most)] if gains.felt else []
     return lines + ([f"  More room {better(net)} nothing at: {free_text(gains.free, most)}"] if gains.free else [])
 
 
@@ -198,7 +203,7 @@ class Place:
 
     def units(self, marginal: Marginal) -> Any:
         """Returns for how many units the cost holds."""
-        return marginal.units_less(self.number) if self.is_giver else marginal.units_more(self.number)
+        return (marginal.units_less if self.is_giver else marginal.units_more)(self.number, LIMIT_WORK)
 
 
 def matched_lines(net: Network, marginal: Marginal, places: list, most: int) -> list:

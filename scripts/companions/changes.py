@@ -102,7 +102,7 @@ def check_prices(complaints, folder, seeds):
             check_range(complaints, folder, seed, net, number, marginal)
         for arc in net.arcs:
             if arc.name == "Go" and (arc.is_full() or arc.is_lowest()):
-                gain, units = sensitivity.arc_gain(net, marginal.residual, arc)
+                gain, units = sensitivity.arc_change(net, marginal.residual, arc), sensitivity.arc_units(marginal.residual, arc)
                 limit = 20 if units == math.inf else units
                 for count, wanted in {1: gain, limit: limit * gain}.items() if gain else [(1, 0)]:
                     other = Plain(seed)
