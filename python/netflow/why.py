@@ -47,7 +47,7 @@ def part_rows(parts: list, most: int) -> list:
     closed = [it for it in parts if it.is_arc and not it.amount]
     lines = rows(sorted(found, key=lambda pair: -pair[0]), most)
     if closed:
-        lines.append(f"    closed: {few([it.text[3:] for it in closed], 5)}")
+        lines.append(f"    closed: {few([it.text[3:].rpartition(', which carries')[0] for it in closed], 5)}")
     largest = [it for it in parts if it.amount][:5]
     return [*lines, f"    the largest: {few([f'{it.text} ({it.amount})' for it in largest], 5)} (--all shows every line)"]
 
