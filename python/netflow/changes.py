@@ -80,33 +80,42 @@ def moves_of_nodes(net):
             yield Move(f"{number} {outside}", node.text, *((-node.high, -1, "gives") if node.high < 0 else (node.high, 1, takes)), is_exact)
 
 
-def least_change(net, moves):
+class Costless:
+    """The problem of a network without its costs, to which moves are added as arcs."""
+
+    def __init__(self, net):
+        arcs = [it for it in net.lines if it.startswith("a ")]
+        self.nodes, self.arcs, self.size = len(net.nodes) + 1, len(arcs), len(net.lines)
+        supplies = [it for it in net.lines if it.startswith("n ")]
+        self.text = "\n".join([*supplies, *(it.rpartition(" ")[0] + " 0" for it in arcs)])
+
+    def least_flows(self, moves, costs):
+        """Returns by how much each bound is moved at least cost; None if there is no plan even so."""
+        lines = [f"p min {self.nodes} {self.arcs + len(moves)}", *([self.text] if self.text else [])]
+        lines += [f"a {it.ends} 0 {FAR} {cost}" for it, cost in zip(moves, costs)]
+        answer = call(["min", "/dev/stdin"], "\n".join(lines) + "\n")
+        if answer.status:
+            return None
+        # The lines of arcs follow the line with the value.
+        found = answer.text.split("\n")[1 + self.arcs:1 + self.arcs + len(moves)]
+        return [int(it.rpartition(" ")[2]) for it in found]
+
+
+def least_change(net, problem, moves):
     """Returns the moves of least total with which there is a plan, in few places; None if no such moves are enough."""
     if not moves:
         return None
-    flows = least_flows(net, moves, [1] * len(moves))
+    flows = problem.least_flows(moves, [1] * len(moves))
     if flows is None:
         return None
-    flows = concentrated(net, moves, flows)
+    flows = concentrated(problem, moves, flows)
     return [move.change(divided(flow, net.factors.flow)) for move, flow in zip(moves, flows) if flow]
 
 
-def least_flows(net, moves, costs):
-    """Returns by how much each bound is moved at least cost; None if there is no plan even so."""
-    arcs = [it for it in net.lines if it.startswith("a ")]
-    lines = [f"p min {len(net.nodes) + 1} {len(arcs) + len(moves)}", *(it for it in net.lines if it.startswith("n "))]
-    lines += [it.rsplit(" ", 1)[0] + " 0" for it in arcs]
-    lines += [f"a {it.ends} 0 {FAR} {cost}" for it, cost in zip(moves, costs)]
-    answer = call(["min", "/dev/stdin"], "".join(f"{it}\n" for it in lines))
-    if answer.status:
-        return None
-    return [int(it.split(" ")[3]) for it in answer.text.splitlines() if it.startswith("f ")][len(arcs):]
-
-
-def concentrated(net, moves, flows):
+def concentrated(problem, moves, flows):
     """Returns moves of the same total in fewer places, if some are found: first each of the largest ones is preferred to all others,
     then those of the best answer by their size."""
-    whole, limit = sum(flows), min(TRIES, TRIED // (len(net.lines) + len(moves)))
+    whole, limit = sum(flows), min(TRIES, TRIED // (problem.size + len(moves)))
     largest = sorted((it for it, flow in enumerate(flows) if flow), key=lambda it: -flows[it])
     for first in [[it] for it in largest[:limit]] + [None]:
         if sum(map(bool, flows)) == 1:
@@ -116,7 +125,7 @@ def concentrated(net, moves, flows):
         base = whole * len(ranks) + 1  # one unit more in all costs more than any order saves
         if base > MOST_COST:
             break
-        found = least_flows(net, moves, [base + ranks.get(it, len(ranks)) for it in range(len(moves))])
+        found = problem.least_flows(moves, [base + ranks.get(it, len(ranks)) for it in range(len(moves))])
         if found is not None and sum(found) == whole and sum(map(bool, found)) < sum(map(bool, flows)):
             flows = found
     return flows
@@ -128,8 +137,9 @@ def least_changes(net):
     nodes, arcs = list(moves_of_nodes(net)), list(moves_of_arcs(net))
     if len(net.lines) + len(nodes) + len(arcs) > LARGEST:
         return {}, True
-    found = {"of what places need and give": least_change(net, nodes), "of what arcs may carry": least_change(net, arcs)}
-    totals, both = [total(it) for it in found.values() if it], least_change(net, nodes + arcs)
+    problem = Costless(net)
+    found = {"of what places need and give": least_change(net, problem, nodes), "of what arcs may carry": least_change(net, problem, arcs)}
+    totals, both = [total(it) for it in found.values() if it], least_change(net, problem, nodes + arcs)
     if both and (not totals or total(both) < min(totals)):
         found["of both"] = both
     return found, False

@@ -135,8 +135,10 @@ class Cuts:
             line = [left.pop()]
             for it in line:
                 for arc in self.near[it]:
-                    line += [other for other in (arc.src, arc.dst) if other in left]
-                    left -= {arc.src, arc.dst}
+                    other = arc.dst if arc.src == it else arc.src
+                    if other in left:
+                        left.discard(other)
+                        line.append(other)
             yield set(line)
 
     def reason(self, nodes):
@@ -194,9 +196,9 @@ def cut_besides(net, found):
         amount = int(it.short() * net.factors.flow)
         for src, dst in ((outside, grant), *((grant, number + 1) for number in it.nodes)):
             arcs.append(f"a {src} {dst} 0 {amount} 0" if it.side == "under" else f"a {dst} {src} 0 {amount} 0")
-    head, *rest = net.lines
-    counts = f"p min {outside + len(found)} {int(head.split(' ')[3]) + len(arcs)}"
-    answer = run(["min", "/dev/stdin"], "".join(f"{it}\n" for it in (counts, *rest, *arcs)))
+    head, _, rest = net.problem.partition("\n")
+    counts = f"p min {outside + len(found)} {int(head.split(' ')[3]) + len(arcs)}\n"
+    answer = run(["min", "/dev/stdin"], counts + rest + "".join(f"{it}\n" for it in arcs))
     lines = answer.stdout.split("\n")
     if answer.returncode != 2 or not lines[0].startswith("x "):
         return None
@@ -209,7 +211,8 @@ def shows(net, side, nodes):
     """Whether `netflow check` accepts the set as a proof that there is no plan."""
     with tempfile.TemporaryDirectory(prefix="netflow-") as folder:
         problem, cut = os.path.join(folder, "problem"), os.path.join(folder, "cut")
-        for path, lines in ((problem, net.lines), (cut, [f"x {side}", *(f"m {it + 1}" for it in sorted(nodes))])):
+        lines = [f"x {side}", *(f"m {it + 1}" for it in sorted(nodes))]
+        for path, text in ((problem, net.problem), (cut, "\n".join(lines) + "\n")):
             with open(path, "w", encoding="ascii") as file:
-                file.writelines(f"{it}\n" for it in lines)
+                file.write(text)
         return run(["check", problem, cut]).returncode == 0
