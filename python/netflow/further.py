@@ -20,6 +20,8 @@ from .without_decimals import whole_copy
 # The errors that are skipped, how many further ones are looked for, at most, and for how many seconds; how many of one name are reported.
 SKIPPED = re.compile(r"E3[0136]")
 MOST, SECONDS, OF_ONE_NAME = 20, 5.0, 3
+# The longest data, in characters, of which copies are made.
+LONGEST = 2_000_000
 
 
 def further_errors(first: Diagnostic, options: Sequence[str] = ()) -> list:
@@ -27,7 +29,7 @@ def further_errors(first: Diagnostic, options: Sequence[str] = ()) -> list:
     cannot be found."""
     question = first.question
     is_joined = question is not None and (len(question.data) > 1 or bool(question.changes))
-    if first.text != "data" or not first.row or is_joined or not SKIPPED.match(first.number):
+    if first.text != "data" or not first.row or is_joined or not SKIPPED.match(first.number) or len(first.texts["data"]) > LONGEST:
         return []
     model, data = (whole_copy(first.texts[kind], kind) for kind in ("model", "data"))
     try:
@@ -63,7 +65,7 @@ def name_of(error: Diagnostic) -> str:
 
 
 class Places:
-    """The statements and cells of a data text by their places. `clear` empties the place of an error; all others stay where they are."""
+    """The statements and cells of a data text by their places. `clear` empties the place of an error; the others do not move."""
 
     def __init__(self, model: str, data: str) -> None:
         decls = parse(model)
