@@ -8,15 +8,13 @@ ghost use Rattle.net_model.specs.Expressions as grammar;
 ghost use Rattle.net_model.specs.Expressions.{inside, inner_of, unary};
 ghost use Rattle.net_model.specs.Reading.{Tokens, Gives, read_as};
 
-use crate::boxed::boxed;
 use crate::carried::Carried;
 use crate::chains::{climb_to, links_from};
 use crate::choices::introduced;
 use crate::cursor::{Cursor, expect};
 use crate::expected::Expected;
-use crate::operand::max_precedence_in_body;
 use crate::parse_error::{Awaiting, ParseError};
-use crate::stored::Stored;
+use crate::stored::{Stored, boxed};
 use net_lex::Token;
 use net_tree::{Braces, Expr, Part, Reducer, Series, precedence};
 use net_views::Boxed;
@@ -168,4 +166,12 @@ fn body_inside<'t, 's>(
     ensures shorter { IfOk result (λ x. length tokens.new < length tokens.old) }
 {
     climb_to(alloc, depth, max_precedence_in_body(), tokens)
+}
+
+/// Returns the maximum precedence of a summand: a product, so that a following `+` is not part of
+/// the reduction.
+fn max_precedence_in_body() -> u8
+    ensures { result ≡ of_product }
+{
+    precedence::PRODUCT
 }

@@ -9,10 +9,8 @@ ghost use Rattle.net_model.specs.Reading.{Gives};
 use crate::carried::Carried;
 use crate::cursor::{Cursor, operator_at};
 use crate::expressions::unary_of;
-use crate::list::push;
-use crate::operand::max_precedence_at_right;
 use crate::parse_error::ParseError;
-use crate::stored::Stored;
+use crate::stored::{Stored, push};
 use crate::trees::{chained, linked};
 use net_tree::{Expr, Link, precedence};
 use net_views::Items;
@@ -71,6 +69,14 @@ fn chain_links<'t, 's>(
         max_precedence_at_right(max_precedence),
         tokens,
     )
+}
+
+/// Returns the maximum precedence of a right operand: that of the left operand, so that chains
+/// associate to the left.
+fn max_precedence_at_right(left: u8) -> u8
+    ensures { result ≡ left }
+{
+    left
 }
 
 /// Parses links whose tokens join operands of precedence `joining`, with operands of at most

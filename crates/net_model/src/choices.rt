@@ -8,13 +8,12 @@ ghost use Rattle.net_model.specs.Expressions.{inside, inner_of, unary};
 ghost use Rattle.net_model.specs.Reading.{Gives};
 ghost use Rattle.net_model.specs.declared.expected.Expected.TheVariants as sorts;
 
-use crate::boxed::boxed;
 use crate::carried::Carried;
 use crate::chains::climb_to;
 use crate::cursor::{Cursor, expect};
 use crate::expected::Expected;
 use crate::parse_error::{Awaiting, ParseError};
-use crate::stored::Stored;
+use crate::stored::{Stored, boxed};
 use net_lex::Token;
 use net_tree::{Expr, Part, precedence};
 use net_views::Boxed;

@@ -11,14 +11,12 @@ ghost use Rattle.net_model.specs.declared.expected.Expected.TheVariants as sorts
 ghost use Rattle.net_model.specs.declared.parse_error.Awaiting.TheVariants as awaiting;
 ghost use Rattle.net_model.specs.declared.parse_error.ParseError.TheVariants.{OutOfMemory};
 
-use crate::boxed::boxed;
 use crate::carried::Carried;
 use crate::chains::climb_to;
 use crate::cursor::{Cursor, expect, operator_at};
 use crate::expected::Expected;
-use crate::list::push;
 use crate::parse_error::{Awaiting, ParseError};
-use crate::stored::Stored;
+use crate::stored::{Stored, boxed, push};
 use crate::trees::{chained, linked};
 use net_lex::Token;
 use net_tree::{Expr, Link, NetCond, Relation, Role, Sign, precedence, role_of};

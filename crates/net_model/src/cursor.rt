@@ -9,10 +9,10 @@ ghost use Rattle.net_model.specs.Declarations.{any_left};
 ghost use Rattle.net_model.specs.Expressions.{operator_at, is_hollow};
 ghost use Rattle.net_model.specs.Reading.{Gives, first_role, next_is, is_sort, expect};
 
-use crate::boxed::boxed;
 use crate::carried::Carried;
 use crate::expected::{Expected, is_hollow, is_not, is_sort, joins};
 use crate::parse_error::{Awaiting, ParseError};
+use crate::stored::boxed;
 use net_lex::Token;
 use net_tree::{Operator, Role, role_of};
 use std::alloc::Global;

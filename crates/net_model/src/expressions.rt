@@ -11,7 +11,6 @@ ghost use Rattle.net_model.specs.Reading.{Tokens, Gives, ◌>>=◌ as ◌▷◌,
 ghost use Rattle.net_model.specs.declared.expected.Expected.TheVariants as sorts;
 ghost use Rattle.net_model.specs.declared.parse_error.Awaiting.TheVariants as awaiting;
 
-use crate::boxed::boxed;
 use crate::braces::{braces_inside, reduced_inside};
 use crate::carried::Carried;
 use crate::chains::{climb_to, links_from};
@@ -19,7 +18,7 @@ use crate::choices::wide_of;
 use crate::cursor::{Cursor, expect};
 use crate::expected::Expected;
 use crate::parse_error::{Awaiting, ParseError};
-use crate::stored::Stored;
+use crate::stored::{Stored, boxed};
 use crate::trees::{is_none, is_sum};
 use net_lex::Token;
 use net_tree::{Braces, Expr, Link, Role, Series, Sign, precedence};

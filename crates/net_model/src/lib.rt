@@ -1,7 +1,6 @@
 //! The parser: from the tokens of a model to its declarations.
 #![tactic(auto)]
 
-mod boxed;
 mod braces;
 mod carried;
 mod chains;
@@ -13,10 +12,7 @@ mod expected;
 mod expressions;
 mod fault;
 mod laws;
-mod list;
-mod model;
 mod named;
-mod operand;
 mod parse;
 mod parse_error;
 mod phrase;
@@ -25,8 +21,7 @@ mod stored;
 mod trees;
 
 pub use laws::{one_tree, parsed_or_rejected, read_back};
-pub use model::free_model;
-pub use named::parse_model;
+pub use named::{free_model, parse_model};
 pub use net_fault::Fault as ModelFault;
 pub use net_tree::{Decl, Expr, Model, NetCond};
 pub use parse::parse_declarations;

@@ -1,6 +1,6 @@
-//! A boxed wrapper that makes dropping a large value one call.
+//! Allocating boxes and lists in the parser, and a boxed wrapper that makes dropping a large value one call.
 
-ghost use Rattle.std.specs.Prelude.{◌≡◌, IfOk, IfErr};
+ghost use Rattle.std.specs.Prelude.{◌≡◌, [], ◌∷◌, ◌++◌, IfOk, OnOk, IfErr};
 ghost use Rattle.net_model.specs.declared.parse_error.ParseError.TheVariants.{OutOfMemory};
 
 use crate::parse_error::ParseError;
@@ -56,4 +56,21 @@ impl<T: Drop> Stored<T> {
     {
         &self.inner
     }
+}
+
+/// Allocates a box for the value. Fails only if memory runs out.
+pub(crate) fn boxed<T: Drop>(alloc: Global, value: T) -> Result<Boxed<T>, ParseError>
+    ensures value { IfOk result (λ b. b ≡ value) }
+    ensures memory { IfErr result (λ e. e ≡ OutOfMemory) }
+{
+    Ok(Boxed::new(Box::new(alloc, value)?))
+}
+
+/// Appends a value. Fails only if memory runs out.
+pub(crate) fn push<T: Drop>(list: &mut Vec<T>, item: Stored<T>) -> Result<(), ParseError>
+    ensures items { OnOk result (list.new.items ≡ list.old.items ++ (item ∷ [])) }
+    ensures memory { IfErr result (λ e. e ≡ OutOfMemory) }
+{
+    list.push(item.into_inner())?;
+    Ok(())
 }

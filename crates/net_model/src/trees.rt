@@ -7,10 +7,9 @@ ghost use Rattle.net_tree.specs.View.{tree, link_of, links_of};
 ghost use Rattle.net_model.specs.Expressions.{chained, is_none};
 ghost use Rattle.net_model.specs.declared.parse_error.ParseError.TheVariants.{OutOfMemory};
 
-use crate::boxed::boxed;
 use crate::carried::Carried;
 use crate::parse_error::ParseError;
-use crate::stored::Stored;
+use crate::stored::{Stored, boxed};
 use net_tree::{Expr, Link, Operator, Series, precedence};
 use net_views::Items;
 use std::alloc::Global;

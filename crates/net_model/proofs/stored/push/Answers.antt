@@ -1,6 +1,6 @@
 use Rattle.std.proofs.Common.{arith}
 use Rattle.std.proofs.lemmas.Grind.{common_steps}
-use Rattle.net_model.proofs.list.push.Goals as goal
+use Rattle.net_model.proofs.stored.push.Goals as goal
 
 pub returns-clause-items : goal.returns-clause-items
 returns-clause-items g c = grind (arith, common_steps)
