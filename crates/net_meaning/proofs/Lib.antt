@@ -6,4 +6,10 @@ mod Spanning
 pub mod Walking
 pub mod Meaning
 pub mod Unique
+mod TextOperators
+pub mod TextValues
+mod TextRows
+pub mod TextWorlds
+pub mod TextNetworks
+pub mod TextTokens
 mod Examples

@@ -1,6 +1,6 @@
 //! Laws about the definitions of this crate. The functions are empty: their contracts are theorems.
 
-ghost use Rattle.net_meaning.specs.Laws.{EvaluationIsSound, EvaluationIsSoundWith, KeysAreSound, KeysAreUnique, ValuesAreUnique};
+ghost use Rattle.net_meaning.specs.Laws.{EvaluationIsSound, EvaluationIsSoundWith, KeysAreSound, KeysAreUnique, TextsOfKeysPass, TextsOfLabelsPass, TextsOfValuesPass, TextsOfWorldsPass, ValuesAreUnique};
 
 /// States that a value that the evaluator computes is the value of the expression.
 pub fn evaluation_is_sound()
@@ -13,4 +13,12 @@ pub fn evaluation_is_sound()
 pub fn values_are_unique()
     ensures value { ValuesAreUnique }
     ensures keys { KeysAreUnique }
+{}
+
+/// States that the texts of values come from the names and strings of the model and the data.
+pub fn texts_come_from_tokens()
+    ensures values { TextsOfValuesPass }
+    ensures keys { TextsOfKeysPass }
+    ensures world { TextsOfWorldsPass }
+    ensures labels { TextsOfLabelsPass }
 {}

@@ -3,4 +3,4 @@
 
 mod laws;
 
-pub use laws::{evaluation_is_sound, values_are_unique};
+pub use laws::{evaluation_is_sound, texts_come_from_tokens, values_are_unique};

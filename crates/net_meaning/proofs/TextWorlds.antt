@@ -1,0 +1,137 @@
+-- The texts of a world come from the names and strings of the declarations and the data statements.
+use Rattle.std.specs.Prelude.{◌≡◌, ℕ, Bool, true, false, ◌||◌, List, [], ◌∷◌, ◌++◌, Option, None, Some, if◌then◌else◌, IsTrue}
+use Rattle.std.specs.List.{AllByRecursion, Contains}
+use Rattle.std.specs.Option.{ForSome}
+use Rattle.std.proofs.Common.{refl, sym, subst}
+use Rattle.std.proofs.lemmas.List.Elements.{All-from_recursion, All-contains}
+use Rattle.std.proofs.lemmas.Map.Views.{Contains-from_lookup}
+use Rattle.net_fault.proofs.Elements.{OfSome, all_append}
+use Rattle.net_data.specs.declared.statement.Statement.{Statement}
+use Rattle.net_sets.specs.declared.member.Member.{Member}
+use Rattle.net_sets.specs.Sets.{Tuple, same_tuple, has, at_key}
+use Rattle.net_sets.proofs.Sames.{tuple_decides}
+use Rattle.net_tree.specs.declared.role.Role.{Role}
+use Rattle.net_tree.specs.declared.role.Role.TheVariants as roles
+use Rattle.net_tree.specs.Phrases.{is_becomes, is_default}
+use Rattle.net_tree.specs.Role.{role_of}
+use Rattle.net_tree.specs.Tree.{Tree, Braces, Body, plain, valued, priced, Phrase, Declaration, set, param, check, node, arc, objective}
+use Rattle.net_expr.specs.declared.world.Entry.{Entry}
+use Rattle.net_expr.specs.declared.world.Entry.TheVariants.{Set}
+use Rattle.net_expr.specs.Worlds.{Name, World}
+use Rattle.net_meaning.specs.Operators.{One, Many}
+use Rattle.net_meaning.specs.Texts.{MemberHolds, TuplesHold, EntryHolds, WorldHolds, EnvHolds, KeyHolds, KeysHold, TokenHolds, TreeHolds, BracesHold, BodyHolds, PhrasesHold, DeclarationsHold, StatementsHold}
+use Rattle.net_meaning.specs.Values.{Key, env_of, IsValue}
+use Rattle.net_meaning.specs.World.{expression_of, phrase_value, AreIndexed, SatisfiesRole, Satisfies, AreGivenMembers, IsSet, data_rows, data_defaults, IsParameterValue, row, assigned, data_default, default, nothing, keys_of, IsParameter, Binds, IsWorld}
+use Rattle.net_meaning.proofs.TextOperators.{union_holds}
+use Rattle.net_meaning.proofs.TextRows.{data_value_holds, RowHolds, lines_hold, data_rows_hold, all_set_rows_hold, data_defaults_hold}
+use Rattle.net_meaning.proofs.TextValues.{none_is, some_is, value_holds, keys_hold, of_keys}
+
+module _ (P : List ℕ → Type 0) where
+  pub env_holds : (w : World) → WorldHolds P w → EnvHolds P (env_of w [])
+  env_holds w h = (h, tt)
+
+  pub indexed_hold : (w : World) (b : Option Braces) (ks : List Key) → WorldHolds P w → ForSome b (BracesHold P) → AreIndexed w b ks → KeysHold P ks
+  indexed_hold w None ks h i e = subst (KeysHold P) (sym e) ((tt, env_holds w h), tt)
+  indexed_hold w (Some b) ks h i is = keys_hold P (env_of w []) b ks (env_holds w h) (i b refl) is
+
+  -- ---- phrases
+
+  expression_holds : (b : Body) → BodyHolds P b → ForSome (expression_of b) (TreeHolds P)
+  expression_holds (valued y) h x e = subst (TreeHolds P) (some_is y x e) h
+  expression_holds plain h x e = absurd (none_is x e)
+  expression_holds (priced n y) h x e = absurd (none_is x e)
+
+  pub phrase_holds : (test : Role → Bool) (ps : List Phrase) → PhrasesHold P ps → ForSome (phrase_value test ps) (TreeHolds P)
+  phrase_holds test [] h x e = absurd (none_is x e)
+  phrase_holds test (p ∷ ps) h x e = go (test (role_of p.word)) (phrase_holds test ps h.1) x e
+    where
+      go : (b : Bool) → ForSome (phrase_value test ps) (TreeHolds P) → ForSome (if b then expression_of p.body else phrase_value test ps) (TreeHolds P)
+      go true more = expression_holds p.body h.0
+      go false more = more
+
+  -- ---- sets
+
+  -- the value of the expression is the set with these members
+  abbrev AreMembersOf : World → List Tuple → Option Tree → Type 0
+  AreMembersOf w ts o = ForSome o (λ x. IsValue (env_of w []) x (Many ts))
+
+  -- the members of a set are the value of the expression after `:=`
+  becomes_members : (w : World) (d : ℕ) (ts : List Tuple) (ps : List Phrase) → AllByRecursion (Satisfies w d ts) ps → AreMembersOf w ts (phrase_value is_becomes ps)
+  becomes_members w d ts [] h x e = absurd (none_is x e)
+  becomes_members w d ts (p ∷ ps) h x e = go (role_of p.word) h.0 (becomes_members w d ts ps h.1) x e
+    where
+      go : (r : Role) → ForSome (expression_of p.body) (SatisfiesRole w d ts r) → AreMembersOf w ts (phrase_value is_becomes ps) → AreMembersOf w ts (if is_becomes r then expression_of p.body else phrase_value is_becomes ps)
+      go roles.Becomes s more = s
+      go _ s more = more
+
+  given_members_hold : (w : World) (ss : List Statement) (n : Name) (d : ℕ) (ts : List Tuple) (o : Option Tree) → WorldHolds P w → StatementsHold P ss → ForSome o (TreeHolds P)
+      → AreMembersOf w ts o → AreGivenMembers ss n d ts o → TuplesHold P ts
+  given_members_hold w ss n d ts (Some x) h k t is m = value_holds P (env_of w []) x (Many ts) (env_holds w h) (t x refl) (is x refl)
+  given_members_hold w ss n d ts None h k t is (once, z) = lines_hold P _ ts (all_set_rows_hold P d n ss k) z
+
+  set_holds : (w : World) (ss : List Statement) (n : Name) (ps : List Phrase) (d : ℕ) (ts : List Tuple) → WorldHolds P w → StatementsHold P ss → PhrasesHold P ps → IsSet w ss n ps d ts → TuplesHold P ts
+  set_holds w ss n ps d ts h k p is =
+      given_members_hold w ss n d ts (phrase_value is_becomes ps) h k (phrase_holds is_becomes ps p) (becomes_members w d ts ps is.phrases) is.members
+
+  -- ---- parameters
+
+  parameter_value_holds : (ss : List Statement) (n : Name) (ps : List Phrase) (size : ℕ) (k : Key) (o : Option Member) → StatementsHold P ss → PhrasesHold P ps → KeyHolds P k
+      → IsParameterValue ss n ps size k o → OfSome (MemberHolds P) o
+  parameter_value_holds ss n ps size k o h p i (row r m at keys is) =
+      data_value_holds P r.value m (All-contains (RowHolds P) (data_rows size n ss) r (All-from_recursion (RowHolds P) (data_rows size n ss) (data_rows_hold P size n ss h)) at).1 is
+  parameter_value_holds ss n ps size k o h p i (assigned x m free e is) = value_holds P k.env x (One m) i.1 (phrase_holds is_becomes ps p x e) is
+  parameter_value_holds ss n ps size k o h p i (data_default t m free e at is) =
+      data_value_holds P t m (All-contains (TokenHolds P) (data_defaults n ss) t (All-from_recursion (TokenHolds P) (data_defaults n ss) (data_defaults_hold P n ss h)) at) is
+  parameter_value_holds ss n ps size k o h p i (default x m free e f g is) = value_holds P k.env x (One m) i.1 (phrase_holds is_default ps p x g) is
+  parameter_value_holds ss n ps size k o h p i (nothing free e f g) = tt
+
+  -- the value at a key that is one of the keys
+  value_at_holds : (ss : List Statement) (n : Name) (ps : List Phrase) (size : ℕ) (table : List (Tuple × Member)) (key : Tuple) (ks : List Key) → StatementsHold P ss → PhrasesHold P ps → KeysHold P ks
+      → AllByRecursion (λ (k : Key). IsParameterValue ss n ps size k (at_key table k.key)) ks → IsTrue (has (keys_of ks) key) → OfSome (MemberHolds P) (at_key table key)
+  value_at_holds ss n ps size table key [] h p i v f = absurd (none_has f)
+    where
+      none_has : false ≡ true → ⊥
+      none_has e = cc
+  value_at_holds ss n ps size table key (k ∷ ks) h p i v f = go (same_tuple key k.key) refl f (value_at_holds ss n ps size table key ks h p i.1 v.1)
+    where
+      go : (b : Bool) → same_tuple key k.key ≡ b → (b || has (keys_of ks) key) ≡ true → (IsTrue (has (keys_of ks) key) → OfSome (MemberHolds P) (at_key table key)) → OfSome (MemberHolds P) (at_key table key)
+      go true e f more =
+          subst (λ q. OfSome (MemberHolds P) (at_key table q)) (sym ((tuple_decides key k.key).0 e)) (parameter_value_holds ss n ps size k (at_key table k.key) h p i.0 v.0)
+      go false e f more = more f
+
+  of_some : (o : Option Member) → OfSome (MemberHolds P) o → ForSome o (MemberHolds P)
+  of_some None h m e = absurd (none_is m e)
+  of_some (Some k) h m e = subst (MemberHolds P) (some_is k m e) h
+
+  parameter_holds : (w : World) (ss : List Statement) (n : Name) (b : Option Braces) (ps : List Phrase) (x : Entry) → WorldHolds P w → StatementsHold P ss → ForSome b (BracesHold P) → PhrasesHold P ps
+      → IsParameter w ss n b ps x → EntryHolds P x
+  parameter_holds w ss n b ps x h k i p is = subst (EntryHolds P) (sym is.entry) (union_holds P [] (keys_of is.keys) tt (of_keys P is.keys keys), values)
+    where
+      keys : KeysHold P is.keys
+      keys = indexed_hold w b is.keys h i is.indexed
+
+      values : (key : Tuple) → ForSome (at_key is.table key) (MemberHolds P)
+      values key m e =
+          let at : Contains is.table (key, m) = Contains-from_lookup (λ (s t : Tuple) f. (tuple_decides s t).0 f) key m is.table e in
+          let inside : IsTrue (has (keys_of is.keys) key) =
+          All-contains (λ (r : Tuple × Member). IsTrue (has (keys_of is.keys) r.0)) is.table (key, m) (All-from_recursion (λ (r : Tuple × Member). IsTrue (has (keys_of is.keys) r.0)) is.table is.only) at in
+          of_some (at_key is.table key) (value_at_holds ss n ps is.size is.table key is.keys k p keys is.values inside) m e
+
+  -- ---- worlds
+
+  with_entry : (w : World) (n : Name) (x : Entry) → WorldHolds P w → EntryHolds P x → WorldHolds P (w ++ (n, x) ∷ [])
+  with_entry w n x h k = all_append (λ (y : Name × Entry). EntryHolds P y.1) w ((n, x) ∷ []) h (k, tt)
+
+  bound_holds : (ss : List Statement) (before : World) (ds : List Declaration) (w : World) → StatementsHold P ss → WorldHolds P before → DeclarationsHold P ds → Binds ss before ds w → WorldHolds P w
+  bound_holds ss before [] w h k i e = subst (WorldHolds P) (sym e) k
+  bound_holds ss before (set t n ps e ∷ ds) w h k i (d, ts, is, more) =
+      bound_holds ss (before ++ (n.text, Set d ts) ∷ []) ds w h (with_entry before n.text (Set d ts) k (set_holds before ss n.text ps d ts k h i.0 is)) i.1 more
+  bound_holds ss before (param t n b ps e ∷ ds) w h k i (x, is, more) =
+      bound_holds ss (before ++ (n.text, x) ∷ []) ds w h (with_entry before n.text x k (parameter_holds before ss n.text b ps x k h i.0.0 i.0.1 is)) i.1 more
+  bound_holds ss before (check t b m x e ∷ ds) w h k i (keys, is, all, more) = bound_holds ss before ds w h k i.1 more
+  bound_holds ss before (node t n b c e ∷ ds) w h k i more = bound_holds ss before ds w h k i.1 more
+  bound_holds ss before (arc t n b ps e ∷ ds) w h k i more = bound_holds ss before ds w h k i.1 more
+  bound_holds ss before (objective t n p e ∷ ds) w h k i more = bound_holds ss before ds w h k i.1 more
+
+  pub world_holds : (ds : List Declaration) (ss : List Statement) (w : World) → DeclarationsHold P ds → StatementsHold P ss → IsWorld ds ss w → WorldHolds P w
+  world_holds ds ss w h k is = bound_holds ss [] ds w k tt h is.bound
