@@ -23,7 +23,7 @@ use Rattle.net_expr.specs.SetValues.{IsSetOf, GivesSets}
 use Rattle.net_expr.specs.Values.{value}
 use Rattle.net_expr.specs.Worlds.{World}
 use Rattle.net_expr.proofs.Alike.{AreLong}
-use Rattle.net_expr.proofs.IteratedSets.{none_there}
+use Rattle.net_expr.proofs.Walked.{none_there}
 use Rattle.net_eval.specs.declared.set_phrase.SetWord.{SetWord}
 use Rattle.net_eval.specs.declared.set_phrase.SetWord.TheVariants as words
 use Rattle.net_eval.specs.declared.set_phrase.Claim.{Claim}

@@ -17,7 +17,7 @@ use Rattle.net_expr.specs.declared.row.Row.{Row}
 use Rattle.net_expr.specs.Rows.{keys_of}
 use Rattle.net_expr.specs.Worlds.{World, key_count}
 use Rattle.net_expr.proofs.KeysOnce.{union_distinct}
-use Rattle.net_expr.proofs.IteratedSets.{none_there, all_join}
+use Rattle.net_expr.proofs.Walked.{none_there, all_join}
 use Rattle.net_fault.specs.declared.diagnostic.Diagnostic.{Diagnostic}
 use Rattle.net_eval.specs.declared.given.Given.{Given}
 use Rattle.net_eval.specs.declared.given.Given.TheVariants as given

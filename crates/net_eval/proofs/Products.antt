@@ -10,7 +10,7 @@ use Rattle.std.proofs.lemmas.Slice.Eq.{bytes_eq-Decides}
 use Rattle.std.proofs.Math.Bool.{and_assoc, or_assoc, or-true, or-false, and-false, and-or_distrib_left, and-or_distrib_right}
 use Rattle.net_fault.specs.declared.span.Span.{Span}
 use Rattle.net_sets.specs.Limits.{arity_limit, tuples_limit}
-use Rattle.net_sets.specs.Operations.{union, behind, product, widest, narrowest}
+use Rattle.net_sets.specs.Operations.{union, joined_to, product, widest, narrowest}
 use Rattle.net_sets.specs.Sets.{Tuple, same_member, same_tuple, has, added}
 use Rattle.net_sets.proofs.Crossing.{least, length_product}
 use Rattle.net_sets.proofs.Distinct.{put_last, stays}
@@ -50,24 +50,24 @@ pub has_union : (xs ys : List Tuple) (t : Tuple) → has (union xs ys) t ≡ (ha
 has_union xs [] t = sym (or-false (has xs t))
 has_union xs (y ∷ ys) t = has_union (added xs y) ys t ∙ ap (λ b. b || has ys t) (has_added xs y t) ∙ or_assoc (has xs t) (same_tuple t y) (has ys t)
 
--- a tuple is two behind each other where each is the same as its part
+-- a tuple is two joined_to each other where each is the same as its part
 same_parts : (x y t : Tuple) → same_tuple t (x ++ y) ≡ (same_tuple (take (length x) t) x && same_tuple (drop (length x) t) y)
 same_parts [] y t = refl
 same_parts (m ∷ x) y [] = refl
 same_parts (m ∷ x) y (k ∷ t) = ap (λ b. same_member k m && b) (same_parts x y t) ∙ sym (and_assoc (same_member k m) (same_tuple (take (length x) t) x) (same_tuple (drop (length x) t) y))
 
-has_after : (x : Tuple) (ys : List Tuple) (t : Tuple) → has (behind x ys) t ≡ (same_tuple (take (length x) t) x && has ys (drop (length x) t))
+has_after : (x : Tuple) (ys : List Tuple) (t : Tuple) → has (joined_to x ys) t ≡ (same_tuple (take (length x) t) x && has ys (drop (length x) t))
 has_after x [] t = sym (and-false (same_tuple (take (length x) t) x))
 has_after x (y ∷ ys) t =
     let front = same_tuple (take (length x) t) x in
-    ap (λ b. b || has (behind x ys) t) (same_parts x y t)
+    ap (λ b. b || has (joined_to x ys) t) (same_parts x y t)
     ∙ ap (λ b. (front && same_tuple (drop (length x) t) y) || b) (has_after x ys t)
     ∙ sym (and-or_distrib_left front (same_tuple (drop (length x) t) y) (has ys (drop (length x) t)))
 
 has_product : (n : ℕ) (xs ys : List Tuple) (t : Tuple) → AreLong n xs → has (product xs ys) t ≡ (has xs (take n t) && has ys (drop n t))
 has_product n [] ys t long = refl
 has_product n (x ∷ xs) ys t long =
-    list_any-append (same_tuple t) (behind x ys) (product xs ys)
+    list_any-append (same_tuple t) (joined_to x ys) (product xs ys)
     ∙ ap (λ b. b || has (product xs ys) t) (has_after x ys t ∙ ap (λ k. same_tuple (take k t) x && has ys (drop k t)) long.0)
     ∙ ap (λ b. (same_tuple (take n t) x && has ys (drop n t)) || b) (has_product n xs ys t long.1)
     ∙ sym (and-or_distrib_right (same_tuple (take n t) x) (has xs (take n t)) (has ys (drop n t)))

@@ -13,7 +13,7 @@ use Rattle.net_fault.specs.declared.detail.Detail.TheVariants.{Reported}
 use Rattle.net_fault.specs.declared.error_code.ErrorCode.TheVariants.{Arity, TooMany, DoubleValue}
 use Rattle.net_expr.proofs.Alike.{AreLong, all_added}
 use Rattle.net_expr.proofs.KeysOnce.{union_distinct}
-use Rattle.net_expr.proofs.IteratedSets.{none_there}
+use Rattle.net_expr.proofs.Walked.{none_there}
 use Rattle.net_eval.specs.declared.given.Given.{Given}
 use Rattle.net_eval.specs.declared.given.Given.TheVariants as given
 use Rattle.net_eval.specs.declared.given.NamedData.{NamedData}

@@ -22,7 +22,7 @@ use Rattle.net_expr.specs.declared.world.Entry.{Entry}
 use Rattle.net_expr.specs.declared.world.Entry.TheVariants.{Set}
 use Rattle.net_expr.specs.SetValues.{IsSetOf, HasSets}
 use Rattle.net_expr.specs.Worlds.{Name, World}
-use Rattle.net_expr.proofs.IteratedSets.{all_join}
+use Rattle.net_expr.proofs.Walked.{all_join}
 use Rattle.net_meaning.specs.World.{phrase_value, AreDataValues, set_rows_of, AreGivenMembers, IsSet}
 use Rattle.net_eval.specs.declared.given.Given.{Given}
 use Rattle.net_eval.specs.declared.given.Given.TheVariants as given

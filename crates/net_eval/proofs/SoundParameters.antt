@@ -26,7 +26,7 @@ use Rattle.net_expr.specs.SetValues.{HasSets}
 use Rattle.net_expr.specs.Values.{index}
 use Rattle.net_expr.specs.Worlds.{Name, World, key_count}
 use Rattle.net_expr.proofs.Alike.{AreLong, AreKeys, keys_long}
-use Rattle.net_expr.proofs.IteratedSets.{all_as}
+use Rattle.net_expr.proofs.Walked.{all_as}
 use Rattle.net_eval.specs.declared.given.NamedData.{NamedData}
 use Rattle.net_eval.specs.declared.param.Gives.TheVariants as gives
 use Rattle.net_eval.specs.BoundParameters as bound

@@ -28,7 +28,7 @@ use Rattle.net_sets.specs.declared.member.Member.{Member}
 use Rattle.net_sets.specs.Sets.{Tuple}
 use Rattle.net_expr.specs.Worlds.{Name}
 use Rattle.net_expr.proofs.Numerals.{value_is}
-use Rattle.net_expr.proofs.IteratedSets.{all_join}
+use Rattle.net_expr.proofs.Walked.{all_join}
 use Rattle.net_meaning.specs.World.{IsDataValueOf, IsDataValue, AreDataValues, rows_at, rows_of, is_set_named, default_token, default_in, count_name, mentions_in, mentions, data_rows, data_defaults}
 use Rattle.net_eval.specs.declared.given.Given.{Given}
 use Rattle.net_eval.specs.declared.given.Given.TheVariants as given

@@ -21,7 +21,7 @@ use Rattle.net_data.specs.Rows.{Row, points, row_of}
 use Rattle.net_data.specs.Tests.{is_member, stands_for_member}
 use Rattle.net_sets.specs.Sets.{Tuple}
 use Rattle.net_expr.specs.Worlds.{Name}
-use Rattle.net_expr.proofs.IteratedSets.{all_join}
+use Rattle.net_expr.proofs.Walked.{all_join}
 use Rattle.net_eval.specs.declared.given.Given.{Given}
 use Rattle.net_eval.specs.declared.given.Given.TheVariants as given
 use Rattle.net_eval.specs.declared.given.NamedData.{NamedData}

@@ -25,7 +25,7 @@ use Rattle.net_expr.specs.Values.{index}
 use Rattle.net_expr.specs.Worlds.{World, key_count}
 use Rattle.net_expr.proofs.KeysOnce.{have_distinct_keys}
 use Rattle.net_expr.proofs.SetsGiven.{keeps_sets}
-use Rattle.net_expr.proofs.IteratedSets.{none_there}
+use Rattle.net_expr.proofs.Walked.{none_there}
 use Rattle.net_fault.specs.declared.diagnostic.Diagnostic.{Diagnostic}
 use Rattle.net_eval.specs.declared.given.Given.{Given}
 use Rattle.net_eval.specs.declared.given.Given.TheVariants as given

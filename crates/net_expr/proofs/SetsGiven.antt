@@ -13,7 +13,7 @@ use Rattle.net_lex.specs.declared.token.Token.{Token}
 use Rattle.net_sets.specs.declared.member.Member.{Member}
 use Rattle.net_sets.specs.declared.member.Member.TheVariants as member
 use Rattle.net_sets.specs.Limits.{arity_limit, tuples_limit}
-use Rattle.net_sets.specs.Operations.{union, widest, behind, product, difference, intersection, symmetric_difference}
+use Rattle.net_sets.specs.Operations.{union, widest, joined_to, product, difference, intersection, symmetric_difference}
 use Rattle.net_sets.specs.Ranges.{range_size, singles, numbers_by}
 use Rattle.net_sets.specs.Sets.{Tuple, same_tuple, has}
 use Rattle.net_tree.specs.declared.role.Role.{Role}
@@ -194,13 +194,13 @@ closed_symmetric n xs ys h =
       all_join (λ t. length t ≡ n) (difference xs ys) (difference ys xs) one.1 two.1,
     )
 
-all_after : (n m : ℕ) (x : Tuple) (ys : List Tuple) → length x ≡ n → AreLong m ys → AreLong (n + m) (behind x ys)
+all_after : (n m : ℕ) (x : Tuple) (ys : List Tuple) → length x ≡ n → AreLong m ys → AreLong (n + m) (joined_to x ys)
 all_after n m x [] h k = tt
 all_after n m x (y ∷ ys) h k = (length-append x y ∙ omega (arith, h, k.0), all_after n m x ys h k.1)
 
 all_product : (n m : ℕ) (xs ys : List Tuple) → AreLong n xs → AreLong m ys → AreLong (n + m) (product xs ys)
 all_product n m [] ys h k = tt
-all_product n m (x ∷ xs) ys h k = all_join (λ t. length t ≡ n + m) (behind x ys) (product xs ys) (all_after n m x ys h.0 k) (all_product n m xs ys h.1 k)
+all_product n m (x ∷ xs) ys h k = all_join (λ t. length t ≡ n + m) (joined_to x ys) (product xs ys) (all_after n m x ys h.0 k) (all_product n m xs ys h.1 k)
 
 long_of : (d : Option ℕ) (ts : List Tuple) → IsSetOf d ts → AreLong (counted d) ts
 long_of None ts h = subst (AreLong 1) (sym h) tt
