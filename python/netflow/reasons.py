@@ -18,12 +18,16 @@ ROUNDS, LARGEST = 12, 200_000
 
 @dataclasses.dataclass
 class Part:
-    """One line of a reason: an amount, what it is of, and the name of that declaration."""
+    """One line of a reason: an amount, what it is of, the name of that declaration, and the arc if it is one."""
 
     amount: Number
     text: str
     name: str = ""
-    is_arc: bool = False
+    arc: str = ""
+
+    @property
+    def is_arc(self):
+        return bool(self.arc)
 
 
 @dataclasses.dataclass
@@ -70,6 +74,12 @@ class Reason:
 
     def short(self):
         return self.needed() - self.given()
+
+    def is_mirror(self, other):
+        """Whether both say the same from two sides: what cannot leave one set is short in the other, and mostly the same arcs carry too
+        little."""
+        ours, theirs = ({it.arc for it in reason.helps if it.arc and it.amount} for reason in (self, other))
+        return self.side != other.side and self.short() == other.short() and 2 * len(ours & theirs) > len(ours | theirs)
 
 
 class Cuts:
@@ -154,9 +164,9 @@ class Cuts:
             amount = self.carried(arc, is_inward)
             is_way = is_inward == self.is_under
             if amount or is_way:
-                (asks if amount < 0 else helps).append(Part(abs(amount), "by " + self.way(arc, is_inward), arc.name, True))
+                (asks if amount < 0 else helps).append(Part(abs(amount), "by " + self.way(arc, is_inward), arc.name, arc.text))
             else:
-                idle.append(Part(0, self.way(arc, is_inward), arc.name, True))
+                idle.append(Part(0, self.way(arc, is_inward), arc.name, arc.text))
         return Reason(self.side, sorted(nodes), *(sorted(it, key=lambda part: -part.amount) for it in (asks, helps, idle)))
 
     def way(self, arc, is_inward):
@@ -165,8 +175,18 @@ class Cuts:
 
 
 def reasons(net, side, nodes):
-    """Returns the sets that are short, the largest shortage first: those of the cut, and further ones that remain short if the sets
-    before them get what they lack."""
+    """Returns the sets that are short, the largest shortage first, without those that say the same as one before them from its other
+    side."""
+    found = []
+    for it in all_reasons(net, side, nodes):
+        if not any(it.is_mirror(other) for other in found):
+            found.append(it)
+    return sorted(found, key=lambda it: -it.short())
+
+
+def all_reasons(net, side, nodes):
+    """Returns the sets that are short: those of the cut, and further ones that remain short if the sets before them get what they
+    lack."""
     found = reasons_of_cut(net, side, nodes)
     for _ in range(min(ROUNDS, LARGEST // len(net.lines))):
         cut = cut_besides(net, found)
@@ -175,7 +195,7 @@ def reasons(net, side, nodes):
         if not more:
             break
         found += more
-    return sorted(found, key=lambda it: -it.short())
+    return found
 
 
 def reasons_of_cut(net, side, nodes):
