@@ -211,3 +211,6 @@ def check_shapes(complaints, folder):
         found = " ".join(text.split())
         for it in wanted:
             complaints.want(it in found, f"why, {name}: no {it!r} in {found}")
+    model = "minimize C; node Plant: net_out = 10; node Shop: net_in = 10; arc X >= 0, <= 6, from Plant, to Shop;\n"
+    lines = run("netflow-why", write(folder, "mirror.mod", model))[1].split("\n")
+    complaints.same("why, one shortage between two places", 1, sum(it.endswith((": 4 short", ": 4 too much")) for it in lines))
