@@ -24,3 +24,5 @@ mod OneNetwork
 mod ModelWorld
 mod ModelMeaning
 mod Compilations
+mod TokenTexts
+mod LineNames

@@ -17,3 +17,4 @@ pub mod Accepted
 pub mod OneAnswer
 pub mod Meaning
 pub mod MeaningLaws
+pub mod LineNames

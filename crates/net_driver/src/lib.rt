@@ -8,6 +8,7 @@ mod exit_kind;
 mod fault;
 mod first_fault;
 mod laws;
+mod line_names;
 mod line_runs;
 mod linked;
 mod meaning;
@@ -31,6 +32,7 @@ pub use first_fault::{
     first_error_is_in_its_file, one_first_fault, one_of_network_and_error, read_or_rejected,
 };
 pub use laws::{answers_are_accepted, texts_have_one_answer};
+pub use line_names::line_names_are_exact;
 pub use line_runs::{run_check, run_min};
 pub use meaning::{
     answers_solve_models, compilations_are_sound, compiled_problems_represent_models,

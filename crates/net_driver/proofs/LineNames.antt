@@ -1,0 +1,135 @@
+-- The names of a network are without line endings, since the tokens of the files are.
+use Rattle.std.specs.Prelude.{◌≡◌, ℕ, List, [], ◌∷◌, map}
+use Rattle.std.specs.List.{AllByRecursion, AllZip, flat_map}
+use Rattle.std.proofs.Common.{sym, subst}
+use Rattle.net_fault.specs.declared.language.Language.TheVariants as languages
+use Rattle.net_lex.specs.declared.token.Token.{Token}
+use Rattle.net_lex.specs.LineEnds.{HasNoLineEnd}
+use Rattle.net_lex.proofs.LineEnds.{tokens_stay}
+use Rattle.net_tree.specs.Print.{print}
+use Rattle.net_tree.specs.Tree.{Declaration, set, param, check, node, arc, objective}
+use Rattle.net_data.specs.declared.tables.Tables.{Tables}
+use Rattle.net_sets.specs.declared.member.Member.TheVariants as member
+use Rattle.net_sets.specs.Sets.{Tuple}
+use Rattle.net_sets.specs.Texts.{text_of}
+use Rattle.net_driver.proofs.TokenTexts.{text_stays}
+use Rattle.net_expr.specs.Worlds.{Name}
+use Rattle.net_meaning.specs.Network.{Label, Node, Arc}
+use Rattle.net_meaning.specs.Texts.{TupleHolds, DeclarationsHold, StatementsHold, nodes_in, arcs_in, LabelHolds}
+use Rattle.net_meaning.proofs.TextNetworks.{network_holds}
+use Rattle.net_meaning.proofs.TextTokens.{declaration_and, declarations_hold, statements_hold}
+use Rattle.net_meaning.proofs.TextWorlds.{world_holds}
+use Rattle.net_inst.specs.AsWritten as written
+use Rattle.net_inst.specs.AsWritten.{node_declared, arc_declared}
+use Rattle.net_inst.specs.declared.names.Declared.{Declared}
+use Rattle.net_inst.specs.declared.names.Key.{Key}
+use Rattle.net_inst.specs.Laws.{IsKeyOf, AreNames}
+use Rattle.net_inst.specs.Lists.{Listed}
+use Rattle.net_report.specs.LineNames.{AreWithinLine, HasLineNames}
+use Rattle.net_report.specs.Links.{in_line}
+use Rattle.net_report.specs.References.{names_in}
+use Rattle.net_driver.specs.LineNames.{AreExact, NamesAreExact, BuiltNamesAreExact}
+use Rattle.net_driver.specs.Meaning.{ContainsModel, listed_label}
+use Rattle.net_driver.specs.MeaningLaws.{CompilationsAreSound}
+use Rattle.net_driver.specs.Reading.{IsData}
+
+-- ---- tokens
+
+abbrev Stays : Token → Type 0
+Stays t = HasNoLineEnd t.text
+
+text_of_token : (t : Token) → Stays t → HasNoLineEnd (text_of t.text)
+text_of_token t h = text_stays t.text h
+
+printed_stay : (m : List ℕ) (ds : List Declaration) → ContainsModel m ds → AllByRecursion Stays (print ds)
+printed_stay m ds is = subst (AllByRecursion Stays) (sym is.printed) (tokens_stay languages.Model 0 m is.tokens is.read.read)
+
+declarations_stay : (m : List ℕ) (ds : List Declaration) → ContainsModel m ds → DeclarationsHold HasNoLineEnd ds
+declarations_stay m ds is = declarations_hold HasNoLineEnd Stays text_of_token ds (printed_stay m ds is)
+
+statements_stay : (d : List ℕ) (x : Tables) → IsData d x → StatementsHold HasNoLineEnd x.statements
+statements_stay d x is = statements_hold HasNoLineEnd Stays text_of_token is.tokens x is.written (tokens_stay languages.Data 0 d is.tokens is.read.read)
+
+-- ---- declared names
+
+abbrev NamesStay : List Declared → Type 0
+NamesStay declared = AllByRecursion (λ (d : Declared). HasNoLineEnd d.name) declared
+
+nodes_declared_stay : (ds : List Declaration) → AllByRecursion Stays (print ds) → NamesStay (flat_map node_declared ds)
+nodes_declared_stay [] h = tt
+nodes_declared_stay (d ∷ ds) h = go d h (nodes_declared_stay ds (declaration_and HasNoLineEnd Stays text_of_token d (print ds) h).1)
+  where
+    go : (d : Declaration) → AllByRecursion Stays (print (d ∷ ds)) → NamesStay (flat_map node_declared ds) → NamesStay (flat_map node_declared (d ∷ ds))
+    go (node t n b c e) h more = (h.1.0, more)
+    go (set t n ps e) h more = more
+    go (param t n b ps e) h more = more
+    go (check t b m x e) h more = more
+    go (arc t n b ps e) h more = more
+    go (objective t n p e) h more = more
+
+arcs_declared_stay : (ds : List Declaration) → AllByRecursion Stays (print ds) → NamesStay (flat_map arc_declared ds)
+arcs_declared_stay [] h = tt
+arcs_declared_stay (d ∷ ds) h = go d h (arcs_declared_stay ds (declaration_and HasNoLineEnd Stays text_of_token d (print ds) h).1)
+  where
+    go : (d : Declaration) → AllByRecursion Stays (print (d ∷ ds)) → NamesStay (flat_map arc_declared ds) → NamesStay (flat_map arc_declared (d ∷ ds))
+    go (arc t n b ps e) h more = (h.1.0, more)
+    go (set t n ps e) h more = more
+    go (param t n b ps e) h more = more
+    go (check t b m x e) h more = more
+    go (node t n b c e) h more = more
+    go (objective t n p e) h more = more
+
+-- ---- keys
+
+key_within : (key : Tuple) → TupleHolds HasNoLineEnd key → AreWithinLine key
+key_within [] h = tt
+key_within (member.Number n ∷ key) h = (tt, key_within key h.1)
+key_within (member.Name text ∷ key) h = (h.0, key_within key h.1)
+
+abbrev LabelsStay : List written.Label → Type 0
+LabelsStay labels = AllByRecursion (λ (l : written.Label). TupleHolds HasNoLineEnd l.key) labels
+
+keys_within : (declared : List Declared) (labels : List written.Label) (keys : List Key) → LabelsStay labels → AllZip (IsKeyOf declared) labels keys → AllByRecursion (λ (k : Key). AreWithinLine k.tuple) keys
+keys_within declared [] [] h z = tt
+keys_within declared [] (k ∷ keys) h z = absurd z
+keys_within declared (l ∷ labels) [] h z = absurd z
+keys_within declared (l ∷ labels) (k ∷ keys) h z = (subst AreWithinLine (sym z.0.key) (key_within l.key h.0), keys_within declared labels keys h.1 z.1)
+
+-- names without line endings are unchanged in their lines
+abbrev AreUnchanged : Type 0
+AreUnchanged = (listed : Listed) → HasLineNames listed → AllByRecursion (λ (name : List ℕ). in_line name ≡ name) (names_in listed)
+
+-- the names of labels are exact in the name map
+exact : AreUnchanged → (declared : List Declared) (labels : List written.Label) (listed : Listed) → NamesStay declared → LabelsStay labels → AreNames declared labels listed → AreExact listed
+exact same declared labels listed h k are = record { within = within; unchanged = same listed within }
+  where
+    within : HasLineNames listed
+    within = record { names = subst NamesStay (sym are.declarations) h; keys = keys_within declared labels listed.keys k are.keys }
+
+labels_stay : {A : Type 0} (label : A → Label) (names : List Name) (xs : List A) → AllByRecursion (λ x. LabelHolds HasNoLineEnd names (label x)) xs → LabelsStay (map (λ x. listed_label (label x)) xs)
+labels_stay label names [] h = tt
+labels_stay label names (x ∷ xs) h = (h.0.1, labels_stay label names xs h.1)
+
+-- ---- compiled models
+
+pub names_exact : AreUnchanged → NamesAreExact
+names_exact same requested m d c is = record {
+  nodes = exact same (flat_map node_declared is.mean.declarations) (map (λ (v : Node). listed_label v.label) is.nodes) c.names.nodes (nodes_declared_stay is.mean.declarations printed)
+      (labels_stay (λ (v : Node). v.label) (nodes_in is.mean.declarations) is.nodes here.0) is.names.nodes;
+  arcs = exact same (flat_map arc_declared is.mean.declarations) (map (λ (a : Arc). listed_label a.label) is.arcs) c.names.arcs (arcs_declared_stay is.mean.declarations printed)
+      (labels_stay (λ (a : Arc). a.label) (arcs_in is.mean.declarations) is.arcs here.1) is.names.arcs;
+}
+  where
+    printed : AllByRecursion Stays (print is.mean.declarations)
+    printed = printed_stay m is.mean.declarations is.mean.model
+
+    own : DeclarationsHold HasNoLineEnd is.mean.declarations
+    own = declarations_stay m is.mean.declarations is.mean.model
+
+    here : AllByRecursion (λ (v : Node). LabelHolds HasNoLineEnd (nodes_in is.mean.declarations) v.label) is.nodes × AllByRecursion (λ (a : Arc). LabelHolds HasNoLineEnd (arcs_in is.mean.declarations) a.label) is.arcs
+    here =
+        network_holds HasNoLineEnd requested is.mean.world is.mean.declarations is.nodes is.arcs is.objective
+        (world_holds HasNoLineEnd is.mean.declarations is.mean.tables.statements is.mean.world own (statements_stay d is.mean.tables is.mean.data_statements) is.mean.is_world) own is.mean.is_network
+
+pub built_exact : AreUnchanged → CompilationsAreSound → BuiltNamesAreExact
+built_exact same sound lean requested m d c is = names_exact same requested m d c (sound lean requested m d c is)
