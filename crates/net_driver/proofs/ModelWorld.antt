@@ -48,9 +48,9 @@ cells_valued (Some g) h = h
 
 statement_valued : (s : Statement) → AllTokens HasValue s → HaveValues s
 statement_valued (statements.Set s) h = h.1
-statement_valued (statements.List l) h = (default_valued l.default h.1.0, cells_valued l.given h.1.1)
-statement_valued (statements.Table t) h = (default_valued t.default h.1.0, h.1.1.0, h.1.1.1)
-statement_valued (statements.Columns c) h = h.1.1
+statement_valued (statements.List l) h = (default_valued l.default h.1, cells_valued l.given h.2)
+statement_valued (statements.Table t) h = (default_valued t.default h.1, h.2, h.3)
+statement_valued (statements.Columns c) h = h.2
 
 statements_valued : (ss : List Statement) → AllByRecursion (AllTokens HasValue) ss → AllByRecursion HaveValues ss
 statements_valued [] h = tt
