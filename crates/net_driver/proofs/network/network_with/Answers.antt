@@ -14,7 +14,7 @@ returns-in-Err-clause-rejected c text is =
 pub returns-in-Err-parse_data-clause-rejected : goal.returns-in-Err-parse_data-clause-rejected
 returns-in-Err-parse_data-clause-rejected c text is =
     let fault = c.in-Err-parse_data.fault in
-    let place = subst (λ (t : List Token). data_reading.IsSolved (data_reading.end_of t) (data_reading.tables t) (Err fault)) c.deref.ensures.value c.in-Err-parse_data.ensures.place in
+    let place = subst (λ (t : List Token). data_reading.Answers (data_reading.end_of t) (data_reading.tables t) (Err fault)) c.deref.ensures.value c.in-Err-parse_data.ensures.place in
     data_parse _ text c.args.data.now (view.model c.args.declared.now) c.in-Ok.tokens.items fault is c.in-Ok.ensures.value.ok place
 
 pub returns-clause-rejected : goal.returns-clause-rejected
