@@ -72,7 +72,8 @@ def uneven(it: Any) -> Hint:
     usual = wanted_cells(whole[:cut]) or next((count for count in counts if 2 * counts.count(count) > len(counts) > 2), 0)
     if not usual or counts[-1] > 2 * usual - 2 > 0:
         found = misfit(it, whole[:cut], [token for line in rows.values() for token in line if token.text != ","])
-        if found:
+        # A digit that is written as a letter is the mistake, and no cell is missing.
+        if found and not any(True for _ in almost_number(it)):
             yield found, True
         return
     for row in [row for row, count in cells.items() if count != usual][:3]:
