@@ -20,7 +20,7 @@ HasNumeral _ text = ⊤
 abbrev pub HasValue : Token → Type 0
 HasValue t = HasNumeral t.kind t.text
 
--- this holds for each token of the statement that stands for a member or a value
+-- this holds for each token of the statement that is a member or a value
 abbrev pub HaveValues : Statement → Type 0
 HaveValues (Set s) = AllByRecursion HasValue s.items
 HaveValues (Listed l) = IfSome l.default (λ d. HasValue d.value) × AllByRecursion HasValue (given_cells l.given)
