@@ -17,3 +17,4 @@ pub mod Faults
 pub mod Scanning
 pub mod LineEnds
 pub mod Lexing
+pub mod Productions

@@ -1,15 +1,14 @@
 -- Where a tree's tokens rise through a text, the tree and its parts lie in it.
-use Rattle.std.specs.Prelude.{ℕ, ◌≤◌, List, [], ◌∷◌, Option, None, Some}
+use Rattle.std.specs.Prelude.{ℕ, ◌≤◌, List, ◌∷◌, None, Some}
 use Rattle.std.proofs.Common.{arith}
-use Rattle.net_fault.specs.declared.span.Span.{Span}
 use Rattle.net_lex.specs.declared.token.Token.{Token}
 use Rattle.net_tree.specs.declared.operator.Words.{Words as Operator}
 use Rattle.net_tree.specs.declared.operator.Words.TheVariants.{One, Two}
-use Rattle.net_tree.specs.Print.{put_operator, put_optional, put, put_links, put_part, put_braces, put_indexing, put_body, put_phrases, put_condition, put_declaration}
-use Rattle.net_tree.specs.Spans.{opening, closing, first_or, first, final, final_of, final_part, span_between, span_of, braces_span}
-use Rattle.net_tree.specs.Tree.{Tree, Links, Part, Braces, leaf, indexed, parens, tuple, negated, braced, signed, reduced, chain, choice, net, none, link, absent, part, empty, filled, Body, plain, valued, priced, Phrase, Condition, unsaid, one, between, Declaration, set, param, check, node, arc, objective}
+use Rattle.net_tree.specs.Print.{put_operator, put, put_links, put_part, put_braces}
+use Rattle.net_tree.specs.Spans.{opening, closing, first, final, final_of, final_part, span_between, span_of, braces_span}
+use Rattle.net_tree.specs.Tree.{Tree, Links, Part, Braces, leaf, indexed, parens, tuple, negated, braced, signed, reduced, chain, choice, net, none, link, absent, part, empty, filled}
 use Rattle.net_fault.specs.Places.{IsSpanIn}
-use Rattle.net_tree.specs.Standing.{Stands, LinksStand, PartStands, BracesStand, IndexingHasSpans, BodyHasSpans, PhrasesHaveSpans, ConditionHasSpans, DeclarationHasSpans, DeclarationsHaveSpans}
+use Rattle.net_tree.specs.Standing.{Stands, LinksStand, PartStands, BracesStand}
 use Rattle.net_lex.proofs.Rising.{Rise, rise_ends, rise_later}
 
 -- what stands between two tokens, the first of which is not before a place, and what rises behind it

@@ -13,3 +13,5 @@ pub mod WellFormed
 pub mod Conditions
 pub mod Phrases
 pub mod Declarations
+pub mod Syntax
+pub mod Erasure
