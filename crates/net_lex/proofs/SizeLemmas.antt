@@ -1,7 +1,7 @@
 -- From the numbers that the code keeps to the whole value of a numeral's parts.
 use Rattle.std.proofs.Common.{◌≡◌, ℕ, ◌+◌, ◌-◌, ◌*◌, ◌^◌, ◌<◌, min, true, false, length, refl, ap, ◌∙◌, arith, subst, inl, fold}
 use Rattle.std.proofs.lemmas.List.Sums.{fold-append}
-use Rattle.net_lex.specs.Numerals.{Parts, AllDigits, digits_value, mantissa, up, down, IsSized}
+use Rattle.net_lex.specs.Numerals.{Parts, AllDigits, digits_value, mantissa, up, down, IsWhole, IsSized}
 use Rattle.net_lex.specs.Significands.{Significand, with_digits, whole_value}
 use Rattle.net_lex.proofs.SignificandLemmas.{number, digits_number, digits_end}
 use Rattle.net_lex.proofs.WholeValues.{EndsInNoZero, ScalesAlike, value_kept, whole_value_sized}
@@ -52,3 +52,7 @@ sized_negative p whole fraction sign short =
     (subst (λ z. IsSized 1000000000000 (mantissa p) 0 (length p.fraction + digits_value p.power)
     (whole_value 1000000000000 (significand p).digits z (length p.fraction + digits_value p.power)))
     bare (sized_at p whole fraction 1000000000000 0 (length p.fraction + digits_value p.power)))
+
+-- a number is itself times 10 ^ 0
+pub whole_of_digits : (m : ℕ) → IsWhole m 0 0 m
+whole_of_digits m = record { raised = λ h. omega arith; lowered = λ h. omega arith }

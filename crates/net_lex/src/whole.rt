@@ -65,8 +65,30 @@ fn scaled(digits: u64, up: u128, down: u128) -> Result<u64, NumFault>
     Ok(value as u64)
 }
 
+/// Returns the number written by digits, saturated at `PAST_LIMIT`.
+fn saturated_value(digits: &[u8]) -> u64
+    ensures { result ≡ min (digits_value digits.now) PAST_LIMIT }
+{
+    let mut value: u64 = 0;
+    for byte in digits {
+        value = (10 * value + u64::from(byte.saturating_sub(b'0'))).min(PAST_LIMIT);
+    }
+    value
+}
+
+/// Returns the number written by digits, or the reason why there is none.
+fn plain_size(digits: &[u8]) -> Result<u64, NumFault>
+    ensures { IsSized limits.value (digits_value digits.now) 0 0 result }
+{
+    let value = saturated_value(digits);
+    if value > VALUE_LIMIT {
+        return Err(NumFault::TooLarge);
+    }
+    Ok(value)
+}
+
 /// Returns the integer value of a numeral's parts, or the reason why there is none.
-fn size_of(parts: &Parts<'_>) -> Result<u64, NumFault>
+fn scaled_size(parts: &Parts<'_>) -> Result<u64, NumFault>
     requires whole { AllDigits parts.now.whole.now }
     requires fraction { AllDigits parts.now.fraction.now }
     ensures { let p = parts_view parts.now in IsSized limits.value (mantissa p) (up p) (down p) result }
@@ -83,6 +105,19 @@ fn size_of(parts: &Parts<'_>) -> Result<u64, NumFault>
     } else {
         scaled(number.digits, number.zeros + power, places)
     }
+}
+
+/// Returns the integer value of a numeral's parts, or the reason why there is none. Most numerals
+/// are digits alone, which take one pass.
+fn size_of(parts: &Parts<'_>) -> Result<u64, NumFault>
+    requires whole { AllDigits parts.now.whole.now }
+    requires fraction { AllDigits parts.now.fraction.now }
+    ensures { let p = parts_view parts.now in IsSized limits.value (mantissa p) (up p) (down p) result }
+{
+    if parts.fraction.is_empty() && parts.power.is_empty() {
+        return plain_size(parts.whole);
+    }
+    scaled_size(parts)
 }
 
 fn with_sign(negative: bool, size: u64) -> i64

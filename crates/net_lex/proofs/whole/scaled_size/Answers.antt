@@ -3,7 +3,7 @@ use Rattle.net_lex.specs.Significands.{Significand}
 use Rattle.net_lex.specs.Saturation.{StandsFor}
 use Rattle.net_lex.specs.NumeralViews.{parts_view}
 use Rattle.net_lex.proofs.SizeLemmas.{significand, sized_positive, sized_negative}
-use Rattle.net_lex.proofs.whole.size_of.Goals as goal
+use Rattle.net_lex.proofs.whole.scaled_size.Goals as goal
 
 pub returns-then-parts : goal.returns-then-parts
 returns-then-parts c =
