@@ -2,8 +2,9 @@
 
 A mutant is a file must-fail/NAME.edit with a line `file: src/FILE.rt` and pairs of lines `old: TEXT` and `new: TEXT`. It is
 rejected if the prover fails at a goal of the function that it changes: not because a callee is unproved, and not because a proof
-names something that the mutant removed. A mutant that changes only definitions (files in specs/) is tried by itself, in a check of
-the whole crate, and is rejected if a goal or a lemma fails.
+names something that the mutant removed. A mutant that changes only definitions (files in specs/) is tried by itself and is rejected
+if a goal or a lemma fails: in a check of the whole crate or, if it has a line `law: MODULE::FUNCTION`, of this theorem and the lemmas
+that its proof cites.
 """
 import os
 import pathlib
@@ -25,7 +26,7 @@ COMPILER = re.compile(r"(\./)?src/\S+:\d+:\d+: error\[")
 LOST = r"(?m)^(?:\./)?proofs/(?:\S*/)?(?:{})/Answers\.antt:\d+:\d+: error: .*Goals` has no `([^`]+)`"
 # The complaints about mutants that the prover accepts.
 STILL_PROVED = "NOT REJECTED: the function is still proved"
-ALL_PROVED = "NOT REJECTED: the whole crate is still proved"
+ALL_PROVED = "NOT REJECTED: everything that was checked is still proved"
 
 
 class Mutant:
@@ -38,6 +39,8 @@ class Mutant:
         self.places = []
         # The goals that the mutant removed, as found by a check.
         self.lost = set()
+        # For a mutant of definitions, the theorem that has to notice it, if it names one.
+        self.law = None
         texts, self.bad = RT.read_edit(path, crate.folder)
         if self.bad is None:
             self.read(open(path, encoding="utf-8").read())
@@ -49,6 +52,8 @@ class Mutant:
         for line in text.split("\n"):
             if line.startswith("file: "):
                 file = line[len("file: "):].strip()
+            elif line.startswith("law: "):
+                self.law = line[len("law: "):].strip()
             elif line.startswith("old: "):
                 old = line[len("old: "):]
             elif line.startswith("new:"):
@@ -189,11 +194,11 @@ def judge(mutant, functions, output):
 
 
 def judge_definitions(mutant, output):
-    """Returns None if the crate has a goal or a lemma that fails with the mutant's definitions, else a complaint."""
+    """Returns None if a goal or a lemma fails with the mutant's definitions, else a complaint."""
     said = unread(output, {file for file, _, _ in mutant.changes})
     if said:
         return f"the prover cannot read the changed text: {said[:200]}"
-    if re.search(r"(?m)^logic=proved", output):
+    if re.search(r"(?m)^logic=proved|^only=(\d+) proved=\1$", output):
         return ALL_PROVED
     goals = [line for line in re.findall(r"(?m)^fn \w+::\S+: (no proof.*)$", output) if "did not prove" in line]
     errors = re.findall(r"(?m)^(?:\./)?proofs/\S+: error:.*$", output)
@@ -203,11 +208,12 @@ def judge_definitions(mutant, output):
 
 
 def try_definitions(crate, mutant):
-    """Checks the whole crate with a mutant of its definitions; returns the complaint or None, and processor seconds."""
+    """Checks the crate, or the theorem that the mutant names, with a mutant of its definitions; returns the complaint or None, and
+    processor seconds."""
     with tempfile.TemporaryDirectory(prefix="mutants-") as copy:
         prover.copy_of(crate.folder, copy)
         mutant.changes_texts(copy)
-        _, seconds, output = prover.check(crate, copy)
+        _, seconds, output = prover.check(crate, copy, *(("--only", mutant.law) if mutant.law else ()))
         return judge_definitions(mutant, output), seconds
 
 

@@ -47,6 +47,9 @@ double n = n + n
     "crates/defined/must-fail/one_added.edit": "file: specs/Doubles.antt\nold: n + n\nnew: n + 1\n",
     "crates/defined/must-fail/another_letter.edit": "file: specs/Doubles.antt\nold: double n = n + n\nnew: double m = m + m\n",
     "crates/defined/must-fail/unknown_word.edit": "file: specs/Doubles.antt\nold: n + n\nnew: n + nowhere\n",
+    "crates/defined/must-fail/one_added_by_law.edit": "file: specs/Doubles.antt\nlaw: twice\nold: n + n\nnew: n + 1\n",
+    "crates/defined/must-fail/another_letter_by_law.edit": "file: specs/Doubles.antt\nlaw: twice\nold: double n = n + n\nnew: double m = m + m\n",
+    "crates/defined/must-fail/law_that_is_none.edit": "file: specs/Doubles.antt\nlaw: thrice\nold: n + n\nnew: n + 1\n",
     "HANDLES": "Handles allowed: none.\n",
     "crates/sample/src/lib.rt": """//! A crate to try the script on.
 #![tactic(auto)]
@@ -223,6 +226,9 @@ EXPECTED = {
     "one_added.edit": None,
     "another_letter.edit": "NOT REJECTED",
     "unknown_word.edit": "cannot read",
+    "one_added_by_law.edit": None,
+    "another_letter_by_law.edit": "NOT REJECTED",
+    "law_that_is_none.edit": "no goal and no lemma fails",
 }
 
 
