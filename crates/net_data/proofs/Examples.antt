@@ -13,13 +13,13 @@ use Rattle.net_data.specs.Rows.{list_rows, row_across, first_item, more_items, s
 use Rattle.net_data.specs.Commas.{before, bare}
 use Rattle.net_data.specs.Reading.{tables, stop, met, wanted, rejected, run, items, items_from, set, heading, cells, filled, table, given, list, body, default, named, named_set, columns, param, statement, statements, single, finished}
 
-abbrev at : ℕ → Kind → List ℕ → Token
+abbrev pub at : ℕ → Kind → List ℕ → Token
 at n kind text = record { kind = kind; text = text; span = record { start = n; end = n } }
 
-abbrev name : ℕ → List ℕ → Token
+abbrev pub name : ℕ → List ℕ → Token
 name n text = at n Name text
 
-abbrev mark : ℕ → List ℕ → Token
+abbrev pub mark : ℕ → List ℕ → Token
 mark n text = at n Mark text
 
 abbrev outcome : Result Tables ParseError → Result ℕ ParseError

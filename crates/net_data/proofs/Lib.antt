@@ -17,6 +17,11 @@ pub mod StatementComplete
 pub mod TablesMean
 pub mod Blames
 pub mod Promise
+pub mod GrammarTerms
+pub mod GrammarItems
+pub mod GrammarStatements
+pub mod GrammarAgrees
+pub mod GrammarExamples
 pub mod RunsAhead
 pub mod StatementsAhead
 pub mod GoingOn

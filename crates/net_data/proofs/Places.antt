@@ -2,10 +2,10 @@
 use Rattle.std.proofs.Common.{◌≡◌, ℕ, true, false, List, codes}
 use Rattle.std.specs.Str.{bytes_eq}
 use Rattle.net_lex.specs.declared.token.Token.{Token}
-use Rattle.net_data.specs.Tests.{is_name, is_member, is_word, is_mark}
+use Rattle.net_data.specs.Tests.{is_name, is_member, is_cell, is_word, is_mark}
 use Rattle.net_data.specs.Commas.{before, in_set, elsewhere, place_after}
 use Rattle.net_data.specs.Reading.{semicolon}
-use Rattle.net_data.proofs.Apart.{name-mark, member-mark, word-mark, word-word, mark-mark}
+use Rattle.net_data.proofs.Apart.{name-mark, member-mark, cell-mark, word-mark, word-word, mark-mark}
 
 pub after_set : (token : Token) → is_word (codes "set") token ≡ true → place_after before token ≡ in_set
 after_set token h = rw h
@@ -27,6 +27,9 @@ else_name token h = let no = name-mark (codes ";") token h in rw no
 
 pub else_member : (token : Token) → is_member token ≡ true → place_after elsewhere token ≡ elsewhere
 else_member token h = let no = member-mark (codes ";") token h in rw no
+
+pub else_cell : (token : Token) → is_cell token ≡ true → place_after elsewhere token ≡ elsewhere
+else_cell token h = let no = cell-mark (codes ";") token h in rw no
 
 pub else_word : (word : List ℕ) (token : Token) → is_word word token ≡ true → place_after elsewhere token ≡ elsewhere
 else_word word token h = let no = word-mark (codes ";") word token h in rw no

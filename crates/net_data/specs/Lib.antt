@@ -4,6 +4,8 @@ pub mod Spots
 pub mod Reading
 pub mod Printing
 pub mod Meaning
+pub mod Grammar
+pub mod GrammarLaws
 pub mod Rejections
 pub mod GoingOn
 pub mod Rows

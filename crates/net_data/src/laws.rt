@@ -6,10 +6,26 @@ ghost use Rattle.net_lex.specs.declared.token.Token.{Token};
 ghost use Rattle.net_data.specs.declared.tables.Tables.{Tables};
 ghost use Rattle.net_data.specs.Meaning.{Mean, all_judged};
 ghost use Rattle.net_data.specs.GoingOn.{NoneGoOn, AllBegin};
+ghost use Rattle.net_data.specs.GrammarLaws.{IsComplete, IsSound, IsUnambiguous};
 
 /// Theorem: if tokens are tables without an error, they are no other tables.
 pub fn one_meaning()
     ensures value { (tokens : List Token) (x y : Tables) → Mean tokens x → Mean tokens y → all_judged x.statements ≡ Ok tt → x ≡ y }
+{}
+
+/// Theorem: the grammar of data files derives all tokens that are tables without an error.
+pub fn grammar_is_complete()
+    ensures value { IsComplete }
+{}
+
+/// Theorem: tokens that the grammar of data files derives are these tables, without an error.
+pub fn grammar_is_sound()
+    ensures value { IsSound }
+{}
+
+/// Theorem: the grammar of data files is unambiguous.
+pub fn grammar_is_unambiguous()
+    ensures value { IsUnambiguous }
 {}
 
 /// Theorem: the groups of cells are the first group and the groups of the cells after it, so

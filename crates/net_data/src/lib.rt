@@ -21,7 +21,10 @@ mod test;
 mod word;
 
 pub use cells::Cells;
-pub use laws::{group_by_group, no_statements_go_on, one_meaning, set_row_by_row};
+pub use laws::{
+    grammar_is_complete, grammar_is_sound, grammar_is_unambiguous, group_by_group,
+    no_statements_go_on, one_meaning, set_row_by_row,
+};
 pub use members::Members;
 pub use net_fault::Fault as DataFault;
 pub use parse::parse_data;
