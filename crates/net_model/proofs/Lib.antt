@@ -43,3 +43,12 @@ pub mod MendingDeclarations
 pub mod MendingModels
 pub mod Promise
 pub mod Deciding
+pub mod GrammarTokens
+pub mod GrammarOperators
+pub mod GrammarSpelling
+pub mod GrammarComplete
+pub mod GrammarKeywords
+pub mod GrammarConditions
+pub mod GrammarPhrases
+pub mod GrammarOnce
+pub mod GrammarModelsComplete
