@@ -52,3 +52,8 @@ pub mod GrammarConditions
 pub mod GrammarPhrases
 pub mod GrammarOnce
 pub mod GrammarModelsComplete
+pub mod GrammarSpelled
+pub mod GrammarSound
+pub mod GrammarConditionsSound
+pub mod GrammarPhrasesSound
+pub mod GrammarModelsSound

@@ -9,7 +9,7 @@ ghost use Rattle.net_tree.specs.Declarations.{AreDeclarations};
 ghost use Rattle.net_model.specs.Declarations.{model_at};
 ghost use Rattle.net_model.specs.Models.{Decided};
 ghost use Rattle.net_model.specs.Reading.{Tokens};
-ghost use Rattle.net_model.specs.GrammarLaws.{IsComplete};
+ghost use Rattle.net_model.specs.GrammarLaws.{IsComplete, IsSound, IsUnique};
 ghost use Rattle.net_model.specs.declared.parse_error.ParseError.TheVariants.{TooDeep};
 
 /// Theorem: two well-formed expressions, or two well-formed models, with the same tokens are equal.
@@ -35,4 +35,15 @@ pub fn parsed_or_rejected()
 /// syntax the tree has.
 pub fn grammar_complete()
     ensures value { IsComplete }
+{}
+
+/// Theorem: each model of the grammar is the abstract syntax of a well-formed tree with the same
+/// tokens.
+pub fn grammar_sound()
+    ensures value { IsSound }
+{}
+
+/// Theorem: no tokens are two models of the grammar.
+pub fn grammar_unique()
+    ensures value { IsUnique }
 {}
