@@ -57,3 +57,4 @@ pub mod GrammarSound
 pub mod GrammarConditionsSound
 pub mod GrammarPhrasesSound
 pub mod GrammarModelsSound
+pub mod GrammarExamples

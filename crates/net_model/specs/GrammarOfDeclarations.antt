@@ -22,7 +22,8 @@ abbrev pub flow : Bool → Production
 flow true = word (codes "net_out")
 flow false = word (codes "net_in")
 
--- a term of a sum is a product or a net term; only the first net term can have a sign of its own
+-- a term of a sum is a product or a net term; only as the first term does a net term have a sign of
+-- its own
 abbrev pub IsFirstTerm : Expression → Production
 IsFirstTerm (net true out) = sign true ⨾ flow out
 IsFirstTerm (net false out) = (nothing ∪ sign false) ⨾ flow out
