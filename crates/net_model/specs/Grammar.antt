@@ -20,11 +20,12 @@ exactly kind t ts rest = (t.kind ≡ kind) × (ts ≡ t ∷ rest)
 abbrev pub name : List ℕ → Production
 name = literal kinds.Name
 
--- a sign, whether or not it is a minus
+-- `-` if the argument is true, otherwise `+`
 abbrev pub sign : Bool → Production
 sign true = mark (codes "-")
 sign false = mark (codes "+")
 
+-- the keyword of a reduction
 abbrev pub reducer : Reduction → Production
 reducer reductions.Sum = word (codes "sum")
 reducer reductions.Min = word (codes "min")
@@ -36,7 +37,7 @@ abbrev pub room : ℕ → Operands → ℕ
 room n none = n
 room n (apply o x os) = if nat_eq n of_reduction then of_one else n
 
--- the maximum precedence of a value: a value is an `if`, or a set, number or text
+-- the maximum precedence of this expression as a value: a value is an `if`, or at most a union
 abbrev pub of_value : Expression → ℕ
 of_value (conditional x y p) = of_if
 of_value _ = of_union

@@ -17,7 +17,7 @@ use Rattle.net_model.specs.Grammar.{exactly, name, sign, IsExpression, IsIndexin
 
 -- Conditions
 
--- `net_out`, or `net_in`
+-- the keyword of a net term, by whether it is `net_out`
 abbrev pub flow : Bool → Production
 flow true = word (codes "net_out")
 flow false = word (codes "net_in")
@@ -54,15 +54,18 @@ IsNetSum (net minus out) = IsFirstTerm (net minus out)
 IsNetSum (chain x (apply o y os)) = when (nets x + nets_in (apply o y os) ≡ 1) (IsFirstTerm x ⨾ AreTerms (apply o y os))
 IsNetSum _ = never
 
+-- the relations of a two-sided condition
 abbrev pub bound : BinOp → Production
 bound op.AtMost = mark (codes "<=")
 bound op.AtLeast = mark (codes ">=")
 bound _ = never
 
+-- the relations of a one-sided condition
 abbrev pub relation : BinOp → Production
 relation op.Equal = mark (codes "=") ∪ mark (codes "==")
 relation o = bound o
 
+-- the condition of a node with the colon before it, if there is one
 abbrev pub IsCondition : Condition → Production
 IsCondition unsaid = nothing
 IsCondition (one x o y) =
@@ -128,7 +131,7 @@ AreArcPhrases ps =
 
 -- Declarations
 
--- whether the objective minimizes
+-- the keyword of an objective, by whether it minimizes
 abbrev pub direction : Bool → Production
 direction true = word (codes "minimize")
 direction false = word (codes "maximize")
