@@ -3,8 +3,12 @@ pub mod Conditions
 pub mod Declarations
 pub mod Expressions
 pub mod Faults
+pub mod Grammar
+pub mod GrammarLaws
+pub mod GrammarOfDeclarations
 pub mod Meaning
 pub mod Models
+pub mod Operators
 pub mod Phrases
 pub mod Reading
 pub mod Rows

@@ -9,6 +9,7 @@ ghost use Rattle.net_tree.specs.Declarations.{AreDeclarations};
 ghost use Rattle.net_model.specs.Declarations.{model_at};
 ghost use Rattle.net_model.specs.Models.{Decided};
 ghost use Rattle.net_model.specs.Reading.{Tokens};
+ghost use Rattle.net_model.specs.GrammarLaws.{IsComplete, IsSound, IsUnique};
 ghost use Rattle.net_model.specs.declared.parse_error.ParseError.TheVariants.{TooDeep};
 
 /// Theorem: two well-formed expressions, or two well-formed models, with the same tokens are equal.
@@ -28,4 +29,21 @@ pub fn read_back()
 /// Theorem: any tokens are a model whose names are valid, or have a first error.
 pub fn parsed_or_rejected()
     ensures value { (tokens : Tokens) → Decided tokens }
+{}
+
+/// Theorem: the tokens of each well-formed model are a model of the grammar: the one whose abstract
+/// syntax the tree has.
+pub fn grammar_complete()
+    ensures value { IsComplete }
+{}
+
+/// Theorem: each model of the grammar is the abstract syntax of a well-formed tree with the same
+/// tokens.
+pub fn grammar_sound()
+    ensures value { IsSound }
+{}
+
+/// Theorem: no tokens are two models of the grammar.
+pub fn grammar_unique()
+    ensures value { IsUnique }
 {}
