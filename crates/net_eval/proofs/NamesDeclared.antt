@@ -11,7 +11,8 @@ use Rattle.net_data.specs.declared.statement.Statement.TheVariants.{Set, List as
 use Rattle.net_tree.specs.Tree.{Declaration, set, param, check, node, arc, objective}
 use Rattle.net_expr.specs.Worlds.{Name}
 use Rattle.net_fault.specs.Outcomes.{and_then, each}
-use Rattle.net_meaning.specs.World.{is_set_named, sets_in, params_in, AreNamesIn, AreDeclared}
+use Rattle.net_meaning.specs.OfTrees.{sets_in, params_in, AreDeclared}
+use Rattle.net_meaning.specs.World.{is_set_named, AreNamesIn}
 use Rattle.net_eval.specs.declared.given.NamedData.{NamedData}
 use Rattle.net_eval.specs.DataByName.{Sorted, no_data, with_named_data, with_named, set_first, first_of, or_zero, headed, set_headed, in_statement, data_by_name}
 use Rattle.net_eval.specs.DataValues.{NamesNoSet}

@@ -20,10 +20,10 @@ use Rattle.net_eval.specs.Binding.{judged, hold}
 use Rattle.net_eval.specs.BoundParameters.{single_key, keys_in}
 use Rattle.net_eval.specs.Soundness.{ChecksAreSound}
 use Rattle.net_eval.proofs.RowsTaken.{then_ok, is_ok}
+use Rattle.net_meaning.specs.OfTrees.{IsValue, AreIndexed}
 use Rattle.net_meaning.specs.Laws.{meaning_of}
 use Rattle.net_meaning.specs.Operators.{Truth}
-use Rattle.net_meaning.specs.Values.{Key, env_of, IsValue}
-use Rattle.net_meaning.specs.World.{AreIndexed}
+use Rattle.net_meaning.specs.Values.{Key, env_of}
 use Rattle.net_meaning.proofs.Meaning.{evaluation_is_sound, keys_are_sound}
 
 -- a key of the code as a key of the definitions

@@ -1,5 +1,5 @@
 -- The sets that data statements give are those that AMPL defines.
-use Rattle.std.specs.Prelude.{◌≡◌, ◌+◌, ◌<◌, ℕ, zero, suc, Bool, true, false, List, [], ◌∷◌, length, map, take, drop, nat_eq, is_some, unwrap_or, Option, None, Some, if◌then◌else◌, Ok, Err}
+use Rattle.std.specs.Prelude.{◌≡◌, ◌+◌, ◌<◌, ℕ, zero, suc, Bool, true, false, List, [], ◌∷◌, length, map, take, drop, nat_eq, is_some, unwrap_or, Option, None, Some, if◌then◌else◌, option_map, Ok, Err}
 use Rattle.std.specs.List.{AllByRecursion, AllZip, flat_map}
 use Rattle.std.specs.Str.{bytes_eq}
 use Rattle.std.proofs.Common.{refl, ap, sym, ◌∙◌, subst, arith, append-nil}
@@ -16,6 +16,7 @@ use Rattle.net_data.specs.Meaning.{AreItems, IsStatement, heading_judged, judged
 use Rattle.net_data.specs.Rows as stated
 use Rattle.net_data.specs.Rows.{points, groups}
 use Rattle.net_sets.specs.Sets.{Tuple}
+use Rattle.net_tree.specs.Erasure.{expression, phrase}
 use Rattle.net_tree.specs.Phrases.{AreSetPhrases, is_becomes}
 use Rattle.net_tree.specs.Tree.{Tree, Phrase}
 use Rattle.net_expr.specs.declared.world.Entry.{Entry}
@@ -23,7 +24,9 @@ use Rattle.net_expr.specs.declared.world.Entry.TheVariants.{Set}
 use Rattle.net_expr.specs.SetValues.{IsSetOf, HasSets}
 use Rattle.net_expr.specs.Worlds.{Name, World}
 use Rattle.net_expr.proofs.Walked.{all_join}
-use Rattle.net_meaning.specs.World.{phrase_value, AreDataValues, set_rows_of, AreGivenMembers, IsSet}
+use Rattle.net_meaning.specs.OfTrees.{phrase_value, IsSet}
+use Rattle.net_meaning.specs.World.{AreDataValues, set_rows_of, AreGivenMembers}
+use Rattle.net_meaning.proofs.Erased.{phrase_value_is}
 use Rattle.net_eval.specs.declared.given.Given.{Given}
 use Rattle.net_eval.specs.declared.given.Given.TheVariants as given
 use Rattle.net_eval.specs.declared.given.NamedData.{NamedData}
@@ -166,7 +169,7 @@ from_data widths d ds i n ss ts sound none long e =
 -- the expression after `:=`, or else the data
 members_are : (widths : List ℕ) (d : ℕ) (ds : Declared) (i : ℕ) (name : Token) (ss : List Statement) (ts : List Tuple) → AllByRecursion IsSoundData (data_for ds i name.text ss) → AllByRecursion (NamesNoParameter name.text) ss
     → AllByRecursion (λ t. length t ≡ d) ts → (x : Option Tree) (o found : Option (List Tuple)) → is_some x ≡ is_some o → given_set widths d (is_some o) (data_for ds i name.text ss) ≡ Ok found → one_of name o found ≡ Ok ts
-    → AreGivenMembers ss name.text d ts x
+    → AreGivenMembers ss name.text d ts (option_map expression x)
 members_are widths d ds i name ss ts sound none long (Some x) None found s e f = cc
 members_are widths d ds i name ss ts sound none long None (Some us) found s e f = cc
 members_are widths d ds i name ss ts sound none long (Some x) (Some us) found s e f =
@@ -189,7 +192,7 @@ one_dimension : (o : Option ℕ) (n : ℕ) → o ≡ Some n → n ≡ unwrap_or 
 one_dimension o n e = sym (ap (λ (z : Option ℕ). unwrap_or z 1) e)
 
 -- without phrases the dimension is 1
-single_dimension : (w : World) (ps : List Phrase) (c : Claims) → set_phrases w ps ≡ Ok c → ps ≡ [] → unwrap_or c.dimension 1 ≡ 1
+single_dimension : (w : World) (ps : List Phrase) (c : Claims) → set_phrases w ps ≡ Ok c → map phrase ps ≡ [] → unwrap_or c.dimension 1 ≡ 1
 single_dimension w [] c e h = ap (λ (z : Claims). unwrap_or z.dimension 1) (sym (is_ok unclaimed c e))
 single_dimension w (p ∷ ps) c e h = cc
 
@@ -217,6 +220,7 @@ set_is w widths name ps ds i ss x sets (well, dimens, once) are whole valued non
         dimension = single_dimension w ps c f;
         phrases = all_satisfied w c.dimension d ts (one_dimension c.dimension) ps c.phrases claimed (inside_all name ts c.phrases u a) own;
         members =
-            members_are widths d ds i name ss ts (all_sound ds i name.text ss are whole valued) none entry.1 (phrase_value is_becomes ps) (assigned c.phrases) found (assigned_alike w c.dimension ps c.phrases claimed) h j;
+            subst (AreGivenMembers ss name.text d ts) (sym (phrase_value_is is_becomes ps))
+            (members_are widths d ds i name ss ts (all_sound ds i name.text ss are whole valued) none entry.1 (phrase_value is_becomes ps) (assigned c.phrases) found (assigned_alike w c.dimension ps c.phrases claimed) h j);
       },
     )))))

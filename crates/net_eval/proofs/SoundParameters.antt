@@ -14,6 +14,7 @@ use Rattle.net_sets.specs.Limits.{tuples_limit}
 use Rattle.net_sets.specs.Operations.{union}
 use Rattle.net_sets.specs.Sets.{Tuple, same_tuple, has, at_key}
 use Rattle.net_sets.proofs.Sames.{tuple_decides}
+use Rattle.net_tree.specs.Erasure.{indexing, phrase}
 use Rattle.net_tree.specs.Phrases.{is_becomes, is_default}
 use Rattle.net_tree.specs.Tree.{Tree, Braces, Phrase}
 use Rattle.net_expr.specs.declared.row.Keys.{Keys}
@@ -27,6 +28,7 @@ use Rattle.net_expr.specs.Values.{index}
 use Rattle.net_expr.specs.Worlds.{Name, World, key_count}
 use Rattle.net_expr.proofs.Alike.{AreLong, AreKeys, keys_long}
 use Rattle.net_expr.proofs.Walked.{all_as}
+use Rattle.net_meaning.proofs.Erased.{phrase_none}
 use Rattle.net_eval.specs.declared.given.NamedData.{NamedData}
 use Rattle.net_eval.specs.declared.param.Gives.TheVariants as gives
 use Rattle.net_eval.specs.BoundParameters as bound
@@ -46,9 +48,10 @@ use Rattle.net_eval.proofs.SoundRows.{IsMember, all_both, rows_are, defaults_of,
 use Rattle.net_eval.proofs.SoundTaken.{IsWhole, data_members, default_members, AreAccepted, are_accepted}
 use Rattle.net_eval.proofs.SoundValues.{IsRead, row_read, wants_becomes, wants_default, phrase_is, first_of, default_is, value_is_meant, rows_fit}
 use Rattle.net_eval.proofs.ValuesAt.{keys_once, table_valued, statements_add}
+use Rattle.net_meaning.specs.OfTrees.{phrase_value, AreIndexed, IsParameterValue, IsParameter}
 use Rattle.net_meaning.specs.Values.{Key}
 use Rattle.net_meaning.specs.World as world
-use Rattle.net_meaning.specs.World.{AreIndexed, AreDataValues, mentions, data_rows, data_defaults, IsParameterValue, IsParameter}
+use Rattle.net_meaning.specs.World.{AreDataValues, mentions, data_rows, data_defaults}
 
 -- ---- keys
 
@@ -76,7 +79,7 @@ lengths_are w (Some b) k e = go k.width k.rows (keys_long w [] b k e)
     go None rows h = subst (λ (z : List Row). AreLong 1 (keys_of z)) (sym h) tt
     go (Some n) rows h = h
 
-size_is : (b : Option Braces) (k : Keys) → key_size b k ≡ world.key_count b (key_count (key_size b k))
+size_is : (b : Option Braces) (k : Keys) → key_size b k ≡ world.key_count (indexing b) (key_count (key_size b k))
 size_is None k = refl
 size_is (Some b) k = refl
 
@@ -159,16 +162,16 @@ all_valued : (w : World) (ss : List Statement) (n : Name) (ps : List Phrase) (si
 all_valued w ss n ps size ms t h k e f [] v = tt
 all_valued w ss n ps size ms t h k e f (r ∷ rows) v = (
   value_is_meant w ss n ps size r (at_key t r.key) h k
-      (subst (λ said. IsValue (at_key said r.key) (bound.from_source w r.scope (source (world.phrase_value is_becomes ps) (first_of (data_defaults n ss)) (world.phrase_value is_default ps))) (at_key t r.key)) e
-      (subst (λ c. IsValue (at_key (values_given size ms) r.key) (bound.from_source w r.scope (source (world.phrase_value is_becomes ps) c (world.phrase_value is_default ps))) (at_key t r.key)) f
-      (subst (λ d. IsValue (at_key (values_given size ms) r.key) (bound.from_source w r.scope (source (world.phrase_value is_becomes ps) (default_given ms) d)) (at_key t r.key)) (phrase_is gives.Default is_default wants_default ps)
+      (subst (λ said. IsValue (at_key said r.key) (bound.from_source w r.scope (source (phrase_value is_becomes ps) (first_of (data_defaults n ss)) (phrase_value is_default ps))) (at_key t r.key)) e
+      (subst (λ c. IsValue (at_key (values_given size ms) r.key) (bound.from_source w r.scope (source (phrase_value is_becomes ps) c (phrase_value is_default ps))) (at_key t r.key)) f
+      (subst (λ d. IsValue (at_key (values_given size ms) r.key) (bound.from_source w r.scope (source (phrase_value is_becomes ps) (default_given ms) d)) (at_key t r.key)) (phrase_is gives.Default is_default wants_default ps)
       (subst (λ a. IsValue (at_key (values_given size ms) r.key) (bound.from_source w r.scope (source a (default_given ms) (bound.phrase_value gives.Default ps))) (at_key t r.key)) (phrase_is gives.Becomes is_becomes wants_becomes ps) v.0)))),
   all_valued w ss n ps size ms t h k e f rows v.1,
 )
 
 unassigned : (ps : List Phrase) (ds : Declared) (i : ℕ) (n : Name) (ss : List Statement) → (is_some (bound.phrase_value gives.Becomes ps) ≡ false) ⊎ (data_for ds i n ss ≡ [])
-    → (world.phrase_value is_becomes ps ≡ None) ⊎ (mentions n ss ≡ 0)
-unassigned ps ds i n ss (inl e) = inl (sym (phrase_is gives.Becomes is_becomes wants_becomes ps) ∙ is_none (bound.phrase_value gives.Becomes ps) e)
+    → (world.phrase_value is_becomes (map phrase ps) ≡ None) ⊎ (mentions n ss ≡ 0)
+unassigned ps ds i n ss (inl e) = inl (phrase_none is_becomes ps (sym (phrase_is gives.Becomes is_becomes wants_becomes ps) ∙ is_none (bound.phrase_value gives.Becomes ps) e))
 unassigned ps ds i n ss (inr e) = inr (sym (mentions_are ds i n ss) ∙ ap length e)
 
 one_at_most : (ts : List Token) → length ts + 0 ≤ 1 → length ts ≤ 1

@@ -14,6 +14,8 @@ use Rattle.net_tree.specs.declared.role.Relation.{Relation}
 use Rattle.net_tree.specs.declared.role.Relation.TheVariants as relations
 use Rattle.net_tree.specs.declared.role.Role.{Role}
 use Rattle.net_tree.specs.declared.role.Role.TheVariants as roles
+use Rattle.net_tree.specs.Erasure as erased
+use Rattle.net_tree.specs.Erasure.{expression}
 use Rattle.net_tree.specs.Role.{role_of}
 use Rattle.net_tree.specs.Spans.{span_of}
 use Rattle.net_tree.specs.Tree.{Tree, Body, plain, valued, priced, Phrase}
@@ -26,9 +28,10 @@ use Rattle.net_expr.specs.Worlds.{World, Scope}
 use Rattle.net_expr.proofs.Parting.{then_ok, is_ok}
 use Rattle.net_eval.specs.Soundness.{RestrictionsAreSound}
 use Rattle.net_eval.specs.Restrictions.{restricting, relation_as, related, holding, restricted_by, restricted_in, restricted}
+use Rattle.net_meaning.specs.OfTrees.{IsValue}
 use Rattle.net_meaning.specs.Laws.{meaning_of}
 use Rattle.net_meaning.specs.Operators.{One, Truth, IsResult}
-use Rattle.net_meaning.specs.Values.{env_of, IsValue}
+use Rattle.net_meaning.specs.Values.{env_of}
 use Rattle.net_meaning.specs.World as world
 use Rattle.net_meaning.specs.World.{Fits, FitsBy}
 use Rattle.net_meaning.proofs.Giving.{gives_ok}
@@ -57,11 +60,11 @@ held at d (Err r) e = cc
 
 -- a relation that restricts, as an operator
 by_value : (w : World) (s : Scope) (d : Detail) (m : Member) (r : Relation) (o : BinOp) (x : Tree) → ((v : Value) → related (span_of x) r m v ≡ Ok true → IsResult o (One m) (meaning_of v) (Truth true))
-    → restricted_by w s d m (Some r) x ≡ Ok tt → FitsBy (env_of w s) m (Some o) (Some x)
+    → restricted_by w s d m (Some r) x ≡ Ok tt → FitsBy (env_of w s) m (Some o) (Some (expression x))
 by_value w s d m r o x make e =
     then_ok (value w s x) _ tt e (λ v h i. (meaning_of v, evaluation_is_sound w s x v h, make v (held (span_of x) d (related (span_of x) r m v) i)))
 
-fits_by : (w : World) (s : Scope) (d : Detail) (m : Member) (r : Role) (x : Tree) → restricted_by w s d m (relation_as r) x ≡ Ok tt → FitsBy (env_of w s) m (world.restriction_operator r) (Some x)
+fits_by : (w : World) (s : Scope) (d : Detail) (m : Member) (r : Role) (x : Tree) → restricted_by w s d m (relation_as r) x ≡ Ok tt → FitsBy (env_of w s) m (world.restriction_operator r) (Some (expression x))
 fits_by w s d m (roles.Relation relations.Less) x e = by_value w s d m relations.Less op.Less x (λ v k. by_applying op.Less (span_of x) m v refl (in_order (number (span_of x) (found.One m)) (number (span_of x) v) int_lt k)) e
 fits_by w s d m (roles.Relation relations.AtMost) x e = by_value w s d m relations.AtMost op.AtMost x (λ v k. by_applying op.AtMost (span_of x) m v refl (in_order (number (span_of x) (found.One m)) (number (span_of x) v) int_le k)) e
 fits_by w s d m (roles.Relation relations.Greater) x e =
@@ -74,7 +77,7 @@ fits_by w s d m (roles.Relation relations.Equal) x e = tt
 fits_by w s d m (roles.Relation relations.Within) x e = tt
 fits_by w s d m _ x e = tt
 
-fits_body : (w : World) (s : Scope) (d : Detail) (m : Member) (p : Phrase) (b : Body) → restricted_in w s d m p.word b ≡ Ok tt → FitsBy (env_of w s) m (world.restriction_operator (role_of p.word)) (world.expression_of b)
+fits_body : (w : World) (s : Scope) (d : Detail) (m : Member) (p : Phrase) (b : Body) → restricted_in w s d m p.word b ≡ Ok tt → FitsBy (env_of w s) m (world.restriction_operator (role_of p.word)) (world.expression_of (erased.body b))
 fits_body w s d m p plain e = nothing_asked (world.restriction_operator (role_of p.word))
   where
     nothing_asked : (o : Option BinOp) → FitsBy (env_of w s) m o None

@@ -1,5 +1,5 @@
 -- The sets that the code binds are those that AMPL defines.
-use Rattle.std.specs.Prelude.{◌≡◌, ◌≤◌, ℕ, suc, Bool, true, false, List, [], ◌∷◌, ◌++◌, nat_eq, unsigned_abs, is_some, Option, None, Some, if◌then◌else◌, Ok, ℤ, pos, negsuc}
+use Rattle.std.specs.Prelude.{◌≡◌, ◌≤◌, ℕ, suc, Bool, true, false, List, [], ◌∷◌, ◌++◌, map, nat_eq, unsigned_abs, is_some, Option, None, Some, if◌then◌else◌, Ok, ℤ, pos, negsuc}
 use Rattle.std.specs.List.{AllByRecursion, AllZip}
 use Rattle.std.proofs.Common.{refl, ap, sym, ◌∙◌, subst, arith, append_assoc, append-nil}
 use Rattle.std.proofs.lemmas.Bool.{eqb-true}
@@ -12,17 +12,22 @@ use Rattle.net_tree.specs.declared.role.Begins.TheVariants as begins
 use Rattle.net_tree.specs.declared.role.Relation.TheVariants as relations
 use Rattle.net_tree.specs.declared.role.Role.{Role}
 use Rattle.net_tree.specs.declared.role.Role.TheVariants as roles
+use Rattle.net_tree.specs.Erasure as erased
+use Rattle.net_tree.specs.Erasure.{expression}
 use Rattle.net_tree.specs.Phrases.{OfSet, ArePhrases, count, is_becomes}
 use Rattle.net_tree.specs.Role.{role_of}
 use Rattle.net_tree.specs.Spans.{span_of}
+use Rattle.net_tree.specs.Syntax.{Expression}
 use Rattle.net_tree.specs.Tree.{Tree, Body, plain, valued, priced, Phrase}
 use Rattle.net_expr.specs.declared.value.Value.{Value}
 use Rattle.net_expr.specs.declared.value.Value.TheVariants.{One, Several, Many, Truth}
 use Rattle.net_expr.specs.Values.{value}
 use Rattle.net_expr.specs.Worlds.{World}
+use Rattle.net_meaning.specs.OfTrees.{IsValue, expression_of, phrase_value, SatisfiesRole}
 use Rattle.net_meaning.specs.Operators as meant
-use Rattle.net_meaning.specs.Values.{env_of, IsValue}
-use Rattle.net_meaning.specs.World.{expression_of, phrase_value, SatisfiesRole, Satisfies}
+use Rattle.net_meaning.specs.Values.{env_of}
+use Rattle.net_meaning.specs.World as world
+use Rattle.net_meaning.specs.World.{Satisfies}
 use Rattle.net_meaning.proofs.Meaning.{evaluation_is_sound}
 use Rattle.net_eval.specs.declared.set_phrase.Claim.{Claim}
 use Rattle.net_eval.specs.declared.set_phrase.Claim.TheVariants as claims
@@ -215,19 +220,19 @@ satisfied w o d ts k roles.Becomes x (Several t) c e f a i own = cc
 satisfied w o d ts k roles.Becomes x (Truth b) c e f a i own = cc
 satisfied w o d ts k _ x v c e f a i own = tt
 
-satisfied_in : (w : World) (o : Option ℕ) (d : ℕ) (ts : List Tuple) → ((n : ℕ) → o ≡ Some n → n ≡ d) → (p : Phrase) (q : SetPhrase) → IsClaimedIn w o (role_of p.word) p.body q.claim → is_allowed ts q.claim ≡ true → IsOwn ts q → Satisfies w d ts p
+satisfied_in : (w : World) (o : Option ℕ) (d : ℕ) (ts : List Tuple) → ((n : ℕ) → o ≡ Some n → n ≡ d) → (p : Phrase) (q : SetPhrase) → IsClaimedIn w o (role_of p.word) p.body q.claim → is_allowed ts q.claim ≡ true → IsOwn ts q → Satisfies w d ts (erased.phrase p)
 satisfied_in w o d ts k p q h i own = λ x e. go x p.body e h
   where
-    go : (x : Tree) (b : Body) → expression_of b ≡ Some x → IsClaimedIn w o (role_of p.word) b q.claim → SatisfiesRole w d ts (role_of p.word) x
+    go : (x : Expression) (b : Body) → world.expression_of (erased.body b) ≡ Some x → IsClaimedIn w o (role_of p.word) b q.claim → world.SatisfiesRole w d ts (role_of p.word) x
     go x plain e h = absurd h
     go x (priced n y) e h = absurd h
-    go x (valued y) e h = subst (SatisfiesRole w d ts (role_of p.word)) (same y x e) (satisfied w o d ts k (role_of p.word) y h.found q.claim h.value h.claim h.agrees i own)
+    go x (valued y) e h = subst (world.SatisfiesRole w d ts (role_of p.word)) (same (expression y) x e) (satisfied w o d ts k (role_of p.word) y h.found q.claim h.value h.claim h.agrees i own)
       where
-        same : (y x : Tree) → Some y ≡ Some x → y ≡ x
+        same : (y x : Expression) → Some y ≡ Some x → y ≡ x
         same y x e = cc
 
 pub all_satisfied : (w : World) (o : Option ℕ) (d : ℕ) (ts : List Tuple) → ((n : ℕ) → o ≡ Some n → n ≡ d) → (ps : List Phrase) (qs : List SetPhrase) → AreClaimed w o ps qs → AllByRecursion (λ (q : SetPhrase). is_allowed ts q.claim ≡ true) qs
-    → AllByRecursion (IsOwn ts) qs → AllByRecursion (Satisfies w d ts) ps
+    → AllByRecursion (IsOwn ts) qs → AllByRecursion (Satisfies w d ts) (map erased.phrase ps)
 all_satisfied w o d ts k [] [] h i own = tt
 all_satisfied w o d ts k [] (q ∷ qs) h i own = absurd h
 all_satisfied w o d ts k (p ∷ ps) [] h i own = absurd h

@@ -18,6 +18,8 @@ use Rattle.net_sets.proofs.Sames.{tuple_decides}
 use Rattle.net_tree.specs.declared.role.Begins.TheVariants as begins
 use Rattle.net_tree.specs.declared.role.Role.{Role}
 use Rattle.net_tree.specs.declared.role.Role.TheVariants as roles
+use Rattle.net_tree.specs.Erasure as erased
+use Rattle.net_tree.specs.Erasure.{expression}
 use Rattle.net_tree.specs.Phrases.{is_becomes, is_default}
 use Rattle.net_tree.specs.Role.{role_of}
 use Rattle.net_tree.specs.Spans.{span_of}
@@ -42,12 +44,14 @@ use Rattle.net_eval.proofs.SoundChecks.{as_key}
 use Rattle.net_eval.proofs.SoundRestrictions.{restrictions_are_sound}
 use Rattle.net_eval.proofs.SoundRows.{IsMember, value_in, values_in, values_are_in, defaults_of}
 use Rattle.net_eval.proofs.SoundTaken.{IsWhole}
+use Rattle.net_meaning.specs.OfTrees.{IsParameterValue, IsOfKind, expression_of}
 use Rattle.net_meaning.specs.Laws.{meaning_of}
 use Rattle.net_meaning.specs.Operators.{One}
 use Rattle.net_meaning.specs.Values.{Key, env_of}
-use Rattle.net_meaning.specs.Values as meant
+use Rattle.net_meaning.specs.OfTrees as trees
 use Rattle.net_meaning.specs.World as world
-use Rattle.net_meaning.specs.World.{IsDataValue, AreDataValues, data_rows, data_defaults, HasNoRow, IsParameterValue, row, assigned, data_default, default, nothing, Fits, IsOfKind, expression_of}
+use Rattle.net_meaning.specs.World.{IsDataValue, AreDataValues, data_rows, data_defaults, HasNoRow, row, assigned, data_default, default, nothing, Fits}
+use Rattle.net_meaning.proofs.Erased.{phrase_some, phrase_none}
 use Rattle.net_meaning.proofs.Meaning.{evaluation_is_sound}
 
 -- ---- phrases
@@ -66,11 +70,11 @@ wants_default (roles.Phrase begins.Default) = refl
 wants_default (roles.Phrase _) = refl
 wants_default _ = refl
 
-pub phrase_is : (g : Gives) (test : Role → Bool) → ((r : Role) → is_wanted g r ≡ test r) → (ps : List Phrase) → bound.phrase_value g ps ≡ world.phrase_value test ps
+pub phrase_is : (g : Gives) (test : Role → Bool) → ((r : Role) → is_wanted g r ≡ test r) → (ps : List Phrase) → bound.phrase_value g ps ≡ trees.phrase_value test ps
 phrase_is g test same [] = refl
 phrase_is g test same (p ∷ ps) = ap (λ b. if b then body_value p.body else bound.phrase_value g ps) (same (role_of p.word)) ∙ go (test (role_of p.word)) (phrase_is g test same ps)
   where
-    go : (b : Bool) → bound.phrase_value g ps ≡ world.phrase_value test ps → (if b then body_value p.body else bound.phrase_value g ps) ≡ (if b then expression_of p.body else world.phrase_value test ps)
+    go : (b : Bool) → bound.phrase_value g ps ≡ trees.phrase_value test ps → (if b then body_value p.body else bound.phrase_value g ps) ≡ (if b then expression_of p.body else trees.phrase_value test ps)
     go true e = body_is p.body
     go false e = e
 
@@ -79,7 +83,7 @@ symbolic_is (roles.Phrase begins.Symbolic) = refl
 symbolic_is (roles.Phrase _) = refl
 symbolic_is _ = refl
 
-texts_are : (ps : List Phrase) → takes_texts ps ≡ world.is_symbolic ps
+texts_are : (ps : List Phrase) → takes_texts ps ≡ world.is_symbolic (map erased.phrase ps)
 texts_are [] = refl
 texts_are (p ∷ ps) = ap (λ b. b || takes_texts ps) (symbolic_is (role_of p.word)) ∙ ap (λ b. world.is_symbolic_word (role_of p.word) || b) (texts_are ps)
 
@@ -160,40 +164,40 @@ member_is at (found.Truth b) m e = cc
 record IsGiven (w : World) (s : Scope) (x : Tree) (o : Option Member) : Type 0 where
   pub one : Member
   pub is : Some one ≡ o
-  pub holds : meant.IsValue (env_of w s) x (One one)
+  pub holds : trees.IsValue (env_of w s) x (One one)
 
 expression_given : (w : World) (s : Scope) (x : Tree) (found : Option Member) → and_then (and_then (value w s x) (member_of (span_of x))) some ≡ Ok found → IsGiven w s x found
 expression_given w s x found e =
     then_ok (and_then (value w s x) (member_of (span_of x))) some found e (λ m i k.
     then_ok (value w s x) (member_of (span_of x)) m i (λ v j l.
-    record { one = m; is = is_ok (Some m) found k; holds = subst (meant.IsValue (env_of w s) x) (member_is (span_of x) v m l) (evaluation_is_sound w s x v j) }))
+    record { one = m; is = is_ok (Some m) found k; holds = subst (trees.IsValue (env_of w s) x) (member_is (span_of x) v m l) (evaluation_is_sound w s x v j) }))
 
 module _ (w : World) (ss : List Statement) (n : Name) (ps : List Phrase) (size : ℕ) where
-  by_source : (r : Row) (found : Option Member) (a : Option Tree) (ds : List Token) (d : Option Tree) → world.phrase_value is_becomes ps ≡ a → data_defaults n ss ≡ ds → world.phrase_value is_default ps ≡ d → AllByRecursion IsMember ds
+  by_source : (r : Row) (found : Option Member) (a : Option Tree) (ds : List Token) (d : Option Tree) → trees.phrase_value is_becomes ps ≡ a → data_defaults n ss ≡ ds → trees.phrase_value is_default ps ≡ d → AllByRecursion IsMember ds
       → HasNoRow size n ss r.key → from_source w r.scope (source a (first_of ds) d) ≡ Ok found → IsParameterValue ss n ps size (as_key w r) found
   by_source r found (Some x) ds d ea eds ed h none e =
       let g = expression_given w r.scope x found e in
-      subst (IsParameterValue ss n ps size (as_key w r)) g.is (assigned x g.one none ea g.holds)
+      subst (IsParameterValue ss n ps size (as_key w r)) g.is (assigned (expression x) g.one none (phrase_some is_becomes ps x ea) g.holds)
   by_source r found None (t ∷ ds) d ea eds ed h none e =
-      subst (IsParameterValue ss n ps size (as_key w r)) (is_ok (Some (member_in t)) found e) (data_default t (member_in t) none ea (subst (λ l. Contains l t) (sym eds) (0, omega arith, refl)) (value_in t h.0))
+      subst (IsParameterValue ss n ps size (as_key w r)) (is_ok (Some (member_in t)) found e) (data_default t (member_in t) none (phrase_none is_becomes ps ea) (subst (λ l. Contains l t) (sym eds) (0, omega arith, refl)) (value_in t h.0))
   by_source r found None [] (Some y) ea eds ed h none e =
       let g = expression_given w r.scope y found e in
-      subst (IsParameterValue ss n ps size (as_key w r)) g.is (default y g.one none ea eds ed g.holds)
-  by_source r found None [] None ea eds ed h none e = subst (IsParameterValue ss n ps size (as_key w r)) (is_ok None found e) (nothing none ea eds ed)
+      subst (IsParameterValue ss n ps size (as_key w r)) g.is (default (expression y) g.one none (phrase_none is_becomes ps ea) eds (phrase_some is_default ps y ed) g.holds)
+  by_source r found None [] None ea eds ed h none e = subst (IsParameterValue ss n ps size (as_key w r)) (is_ok None found e) (nothing none (phrase_none is_becomes ps ea) eds (phrase_none is_default ps ed))
 
   by_row : (r : Row) (m : Member) → IsRowAt (data_rows size n ss) r.key m → IsParameterValue ss n ps size (as_key w r) (Some m)
   by_row r m a = row a.from m a.there (subst (AreDataValues a.from.keys) (sym a.key_is) a.read.members) (subst (IsDataValue a.from.value) a.value_is a.read.value)
 
   pub value_is_meant : (r : Row) (found : Option Member) → AllByRecursion IsRead (data_rows size n ss) → AllByRecursion IsMember (data_defaults n ss)
-      → IsValue (at_key (map row_value (data_rows size n ss)) r.key) (from_source w r.scope (source (world.phrase_value is_becomes ps) (first_of (data_defaults n ss)) (world.phrase_value is_default ps))) found
+      → IsValue (at_key (map row_value (data_rows size n ss)) r.key) (from_source w r.scope (source (trees.phrase_value is_becomes ps) (first_of (data_defaults n ss)) (trees.phrase_value is_default ps))) found
       → IsParameterValue ss n ps size (as_key w r) found
   value_is_meant r found h k v = go (at_key (map row_value (data_rows size n ss)) r.key) refl v
     where
       go : (o : Option Member) → at_key (map row_value (data_rows size n ss)) r.key ≡ o
-          → IsValue o (from_source w r.scope (source (world.phrase_value is_becomes ps) (first_of (data_defaults n ss)) (world.phrase_value is_default ps))) found → IsParameterValue ss n ps size (as_key w r) found
+          → IsValue o (from_source w r.scope (source (trees.phrase_value is_becomes ps) (first_of (data_defaults n ss)) (trees.phrase_value is_default ps))) found → IsParameterValue ss n ps size (as_key w r) found
       go (Some m) i e = subst (IsParameterValue ss n ps size (as_key w r)) (sym e) (by_row r m (row_at (data_rows size n ss) r.key m h i))
       go None i e =
-          by_source r found (world.phrase_value is_becomes ps) (data_defaults n ss) (world.phrase_value is_default ps) refl refl refl k (no_row (data_rows size n ss) r.key h i) e
+          by_source r found (trees.phrase_value is_becomes ps) (data_defaults n ss) (trees.phrase_value is_default ps) refl refl refl k (no_row (data_rows size n ss) r.key h i) e
 
 -- ---- the phrases of the parameter
 
@@ -207,15 +211,15 @@ kind_is ps text at cell (member.Name t) u e = sym (texts_are ps) ∙ go (takes_t
     go false (Some s) i = cc
 
 pub rows_fit : (w : World) (name : Token) (n : Option ℕ) (ps : List Phrase) (text : Language) (at : Span) (cells : List Span) (t : Table) (rows : List Row) (u : Unit {0}) → fit_values w name n ps text at cells t rows ≡ Ok u
-    → AllByRecursion (λ (k : Key). ForSome (at_key t k.key) (λ m. AllByRecursion (Fits k.env m) ps × IsOfKind ps m)) (map (as_key w) rows)
+    → AllByRecursion (λ (k : Key). ForSome (at_key t k.key) (λ m. AllByRecursion (Fits k.env m) (map erased.phrase ps) × IsOfKind ps m)) (map (as_key w) rows)
 rows_fit w name n ps text at cells t [] u e = tt
 rows_fit w name n ps text at cells t (r ∷ rows) u e =
     then_ok (fit_row w name n ps text at cells t r) (λ v. fit_values w name n ps text at cells t rows) u e (λ v i k. (fits v i, rows_fit w name n ps text at cells t rows u k))
   where
-    fit_one : (v : Unit {0}) (m : Member) → fit_value w name n ps text at cells t r (Some m) ≡ Ok v → AllByRecursion (Fits (env_of w r.scope) m) ps × IsOfKind ps m
+    fit_one : (v : Unit {0}) (m : Member) → fit_value w name n ps text at cells t r (Some m) ≡ Ok v → AllByRecursion (Fits (env_of w r.scope) m) (map erased.phrase ps) × IsOfKind ps m
     fit_one v m e =
         then_ok (fit_kind (takes_texts ps) text at (cell_of cells (place_of (keys_with t) r.key)) m) (λ x. restricted w r.scope (reference name.text n r.key) m ps) v e (λ x i k.
         (restrictions_are_sound w r.scope (reference name.text n r.key) m ps k, kind_is ps text at (cell_of cells (place_of (keys_with t) r.key)) m x i))
 
-    fits : (v : Unit {0}) → fit_row w name n ps text at cells t r ≡ Ok v → ForSome (at_key t r.key) (λ m. AllByRecursion (Fits (env_of w r.scope) m) ps × IsOfKind ps m)
+    fits : (v : Unit {0}) → fit_row w name n ps text at cells t r ≡ Ok v → ForSome (at_key t r.key) (λ m. AllByRecursion (Fits (env_of w r.scope) m) (map erased.phrase ps) × IsOfKind ps m)
     fits v e m f = fit_one v m (subst (λ o. fit_value w name n ps text at cells t r o ≡ Ok v) f e)

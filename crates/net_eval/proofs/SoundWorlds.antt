@@ -13,9 +13,9 @@ use Rattle.net_tree.specs.Tree.{Tree, Braces, Phrase, Declaration, set, param, c
 use Rattle.net_expr.specs.declared.world.Entry.{Entry}
 use Rattle.net_expr.specs.declared.world.Entry.TheVariants.{Set}
 use Rattle.net_expr.specs.Worlds.{Name, World}
+use Rattle.net_meaning.specs.OfTrees.{IsValue, AreIndexed, IsSet, IsParameter, Binds}
 use Rattle.net_meaning.specs.Operators.{Truth}
-use Rattle.net_meaning.specs.Values.{Key, IsValue}
-use Rattle.net_meaning.specs.World.{AreIndexed, IsSet, IsParameter, Binds}
+use Rattle.net_meaning.specs.Values.{Key}
 use Rattle.net_eval.specs.Binding as binding
 use Rattle.net_eval.specs.Binding.{widths, next_data, with_entry, declare, checked, check_one, after_checks, with_given, AreNew}
 use Rattle.net_eval.specs.BoundParameters.{bound_parameter}

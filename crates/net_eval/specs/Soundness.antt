@@ -1,5 +1,5 @@
 -- Laws that relate parameters, checks and worlds, as the code binds them, to their meaning.
-use Rattle.std.specs.Prelude.{◌≡◌, ℕ, true, List, [], Option, Ok}
+use Rattle.std.specs.Prelude.{◌≡◌, ℕ, true, List, [], map, Option, Ok}
 use Rattle.std.specs.List.{AllByRecursion}
 use Rattle.net_fault.specs.declared.detail.Detail.{Detail}
 use Rattle.net_lex.specs.declared.token.Token.{Token}
@@ -7,13 +7,15 @@ use Rattle.net_data.specs.declared.statement.Statement.{Statement}
 use Rattle.net_data.specs.Meaning.{IsStatement, all_judged}
 use Rattle.net_sets.specs.declared.member.Member.{Member}
 use Rattle.net_tree.specs.Declarations.{AreDeclarations}
+use Rattle.net_tree.specs.Erasure.{phrase}
 use Rattle.net_tree.specs.Tree.{Tree, Braces, Phrase, Declaration}
 use Rattle.net_expr.specs.declared.world.Entry.{Entry}
 use Rattle.net_expr.specs.SetValues.{HasSets}
 use Rattle.net_expr.specs.Worlds.{World, Scope}
+use Rattle.net_meaning.specs.OfTrees.{IsValue, AreIndexed, IsParameter, IsWorld}
 use Rattle.net_meaning.specs.Operators.{Truth}
-use Rattle.net_meaning.specs.Values.{Key, env_of, IsValue}
-use Rattle.net_meaning.specs.World.{Fits, AreIndexed, IsParameter, IsWorld}
+use Rattle.net_meaning.specs.Values.{Key, env_of}
+use Rattle.net_meaning.specs.World.{Fits}
 use Rattle.net_eval.specs.Binding as binding
 use Rattle.net_eval.specs.Binding.{checked, AreNew}
 use Rattle.net_eval.specs.BoundParameters.{bound_parameter}
@@ -24,7 +26,7 @@ use Rattle.net_eval.specs.Restrictions.{restricted}
 
 -- if the code accepts a value of a parameter, the value satisfies each restriction of the declaration
 abbrev pub RestrictionsAreSound : Type 0
-RestrictionsAreSound = (w : World) (s : Scope) (d : Detail) (m : Member) (ps : List Phrase) → restricted w s d m ps ≡ Ok tt → AllByRecursion (Fits (env_of w s) m) ps
+RestrictionsAreSound = (w : World) (s : Scope) (d : Detail) (m : Member) (ps : List Phrase) → restricted w s d m ps ≡ Ok tt → AllByRecursion (Fits (env_of w s) m) (map phrase ps)
 
 -- if the code binds a parameter with the data of well-formed statements, its entry is the one that AMPL defines
 abbrev pub ParametersAreSound : Type 0

@@ -1,5 +1,5 @@
 -- The network that the code computes is the one that the model means.
-use Rattle.std.specs.Prelude.{◌≡◌, ◌⊎◌, ◌||◌, ℕ, Bool, true, false, List, [], ◌∷◌, ◌++◌, length, map, Option, None, Some, is_some, IsTrue, if◌then◌else◌, Ok, Err, IfOk, ⊤, ℤ, pos, ◌+ℤ◌, ◌≤ℤ◌, int_lt}
+use Rattle.std.specs.Prelude.{◌≡◌, ◌⊎◌, ◌||◌, ℕ, Bool, true, false, List, [], ◌∷◌, ◌++◌, length, map, Option, None, Some, is_some, IsTrue, if◌then◌else◌, option_map, Ok, Err, IfOk, ⊤, ℤ, pos, ◌+ℤ◌, ◌≤ℤ◌, int_lt}
 use Rattle.std.specs.List.{AllByRecursion, AllZip}
 use Rattle.std.specs.Str.{bytes_eq}
 use Rattle.std.proofs.Common.{refl, ap, sym, ◌∙◌, subst, arith, inl, inr, append_assoc, append-nil}
@@ -13,9 +13,11 @@ use Rattle.net_tree.specs.declared.role.Begins.TheVariants as begins
 use Rattle.net_tree.specs.declared.role.Relation.TheVariants as relations
 use Rattle.net_tree.specs.declared.role.Role.{Role}
 use Rattle.net_tree.specs.declared.role.Role.TheVariants as roles
+use Rattle.net_tree.specs.Erasure.{expression, expressions, indexing}
 use Rattle.net_tree.specs.Phrases.{is_at_least, is_at_most, is_from, is_to}
 use Rattle.net_tree.specs.Role.{role_of}
 use Rattle.net_tree.specs.Spans.{span_of}
+use Rattle.net_tree.specs.Syntax.{Expression}
 use Rattle.net_tree.specs.Tree.{Tree, Braces, Part, Phrase, Body, plain, valued, priced, leaf, indexed, parens, tuple, negated, braced, signed, reduced, chain, choice, net, Declaration, set, param, check, node, arc, objective}
 use Rattle.net_expr.specs.declared.row.Row.{Row}
 use Rattle.net_expr.specs.declared.value.Value.TheVariants as found
@@ -25,12 +27,13 @@ use Rattle.net_linear.specs.Arcs.{declared}
 use Rattle.net_linear.specs.Forms as forms
 use Rattle.net_linear.specs.Forms.{Linear}
 use Rattle.net_linear.specs.Objectives.{key_of}
+use Rattle.net_meaning.specs.OfTrees.{IsEnd, HasNumber, IsArc, IsCoefficient, IsCoefficientIn, IsCoefficientFor, IsValue, AreKeys, AreValues, AreIndexed}
 use Rattle.net_meaning.specs.Network as meaning
-use Rattle.net_meaning.specs.Network.{IsEnd, absent_end, name, name_and_key, HasNumber, IsArc, IsCoefficient, IsCoefficientIn, IsCoefficientFor}
+use Rattle.net_meaning.specs.Network.{absent_end, name, name_and_key}
 use Rattle.net_meaning.specs.Operators as values
-use Rattle.net_meaning.specs.Values.{Env, Key, env_of, IsValue, AreKeys, AreValues, AreMembers}
-use Rattle.net_meaning.specs.World as world
-use Rattle.net_meaning.specs.World.{AreIndexed}
+use Rattle.net_meaning.specs.Values.{Env, Key, env_of, AreMembers}
+use Rattle.net_meaning.specs.OfTrees as trees
+use Rattle.net_meaning.proofs.Erased.{phrase_value_is, indexed_is, some_kept}
 use Rattle.net_meaning.proofs.Meaning.{evaluation_is_sound, keys_are_sound, key_is_sound, netless, all_netless}
 use Rattle.net_inst.specs.declared.arc.Built.{Built}
 use Rattle.net_inst.specs.declared.goal.ChosenObjective.{ChosenObjective}
@@ -58,43 +61,43 @@ use Rattle.net_inst.proofs.Zips.{ok_then, ok_is}
 
 -- ---- phrases
 
-said_same : (test : Role → Bool) (a : ArcWord) → ((r : Role) → phrases.is_word a r ≡ test r) → (ps : List Phrase) → phrases.phrase_expression a ps ≡ world.phrase_value test ps
+said_same : (test : Role → Bool) (a : ArcWord) → ((r : Role) → phrases.is_word a r ≡ test r) → (ps : List Phrase) → phrases.phrase_expression a ps ≡ trees.phrase_value test ps
 said_same test a h [] = refl
 said_same test a h (p ∷ ps) = go (phrases.is_word a (role_of p.word)) (test (role_of p.word)) (h (role_of p.word)) (said_same test a h ps)
   where
-    body : (b : Body) → phrases.value_in b ≡ world.expression_of b
+    body : (b : Body) → phrases.value_in b ≡ trees.expression_of b
     body plain = refl
     body (valued x) = refl
     body (priced n x) = refl
 
-    go : (b c : Bool) → b ≡ c → phrases.phrase_expression a ps ≡ world.phrase_value test ps → (if b then phrases.value_in p.body else phrases.phrase_expression a ps) ≡ (if c then world.expression_of p.body else world.phrase_value test ps)
+    go : (b c : Bool) → b ≡ c → phrases.phrase_expression a ps ≡ trees.phrase_value test ps → (if b then phrases.value_in p.body else phrases.phrase_expression a ps) ≡ (if c then trees.expression_of p.body else trees.phrase_value test ps)
     go true true e more = body p.body
     go false false e more = more
     go true false e more = cc
     go false true e more = cc
 
-from_said : (ps : List Phrase) → phrases.phrase_expression words.From ps ≡ world.phrase_value is_from ps
+from_said : (ps : List Phrase) → phrases.phrase_expression words.From ps ≡ trees.phrase_value is_from ps
 from_said ps = said_same is_from words.From same ps
   where
     same : (r : Role) → phrases.is_word words.From r ≡ is_from r
     same (roles.Phrase begins.From) = refl
     same _ = refl
 
-to_said : (ps : List Phrase) → phrases.phrase_expression words.To ps ≡ world.phrase_value is_to ps
+to_said : (ps : List Phrase) → phrases.phrase_expression words.To ps ≡ trees.phrase_value is_to ps
 to_said ps = said_same is_to words.To same ps
   where
     same : (r : Role) → phrases.is_word words.To r ≡ is_to r
     same (roles.Phrase begins.To) = refl
     same _ = refl
 
-least_said : (ps : List Phrase) → phrases.phrase_expression words.AtLeast ps ≡ world.phrase_value is_at_least ps
+least_said : (ps : List Phrase) → phrases.phrase_expression words.AtLeast ps ≡ trees.phrase_value is_at_least ps
 least_said ps = said_same is_at_least words.AtLeast same ps
   where
     same : (r : Role) → phrases.is_word words.AtLeast r ≡ is_at_least r
     same (roles.Relation relations.AtLeast) = refl
     same _ = refl
 
-most_said : (ps : List Phrase) → phrases.phrase_expression words.AtMost ps ≡ world.phrase_value is_at_most ps
+most_said : (ps : List Phrase) → phrases.phrase_expression words.AtMost ps ≡ trees.phrase_value is_at_most ps
 most_said ps = said_same is_at_most words.AtMost same ps
   where
     same : (r : Role) → phrases.is_word words.AtMost r ≡ is_at_most r
@@ -114,7 +117,7 @@ end_is ns w s (Some (indexed n o x l c)) v e = go (key_of w s (span_of (indexed 
     go : (k : Outcome Tuple) → IfOk k (AreMembers (IsValue (env_of w s) x) (AreValues (env_of w s) l))
         → and_then (and_then k (nodes.node_at (length ns.ranges) (span_of (indexed n o x l c)) n.text (declared ns.group.numbers n.text))) (λ u. Ok (Some u)) ≡ Ok v
         → IsEnd (env_of w s) (Some (indexed n o x l c)) (written.with_key n.text k)
-    go (Ok key) h i = name_and_key n o x l c key h
+    go (Ok key) h i = name_and_key n.text (expression x) (expressions l) key h
     go (Err r) h i = cc
 end_is ns w s (Some (parens o y c)) v e = cc
 end_is ns w s (Some (tuple o y l c)) v e = cc
@@ -128,9 +131,12 @@ end_is ns w s (Some (net t u)) v e = cc
 
 -- an end is present if and only if its phrase is
 end_present : (e : Env) (o : Option Tree) (r : Option (Name × Tuple)) → IsEnd e o r → is_some r ≡ is_some o
-end_present e o r absent_end = refl
-end_present e o r (name t) = refl
-end_present e o r (name_and_key n q x l c key h) = refl
+end_present e o r h = present (option_map expression o) r h ∙ some_kept expression o
+  where
+    present : (x : Option Expression) (r : Option (Name × Tuple)) → meaning.IsEnd e x r → is_some r ≡ is_some x
+    present x r absent_end = refl
+    present x r (name t) = refl
+    present x r (name_and_key n y l key h) = refl
 
 -- the objective so far and the final one agree about the names of these phrases
 abbrev pub AgreesOn : Option ChosenObjective → Name → Body → Type 0
@@ -181,11 +187,11 @@ parts_are n (Some l) (Some u) (Some t) h p e = subst (AreParts (Some l) (Some u)
 
 -- what the code computes of an arc is what its phrases mean
 record IsRow (w : World) (s : Scope) (ps : List Phrase) (p : Parts) (x : Built) : Type 0 where
-  lower : HasNumber (env_of w s) (world.phrase_value is_at_least ps) x.lower
-  upper : HasNumber (env_of w s) (world.phrase_value is_at_most ps) x.upper
+  lower : HasNumber (env_of w s) (trees.phrase_value is_at_least ps) x.lower
+  upper : HasNumber (env_of w s) (trees.phrase_value is_at_most ps) x.upper
   ordered : x.lower ≤ℤ x.upper
-  from : IsEnd (env_of w s) (world.phrase_value is_from ps) (written.end_of w s p.tail)
-  to : IsEnd (env_of w s) (world.phrase_value is_to ps) (written.end_of w s p.head)
+  from : IsEnd (env_of w s) (trees.phrase_value is_from ps) (written.end_of w s p.tail)
+  to : IsEnd (env_of w s) (trees.phrase_value is_to ps) (written.end_of w s p.head)
   ended : IsTrue (is_some (written.end_of w s p.tail) || is_some (written.end_of w s p.head))
 
 ends_are : (ns : BuiltNodes) (w : World) (s : Scope) (ps : List Phrase) (p : Parts) (l u : ℤ) (x : Built) → AreParts (phrases.phrase_expression words.AtLeast ps) (phrases.phrase_expression words.AtMost ps) (phrases.phrase_expression words.From ps) (phrases.phrase_expression words.To ps) p
@@ -221,7 +227,7 @@ as_key w row = record { key = row.key; env = env_of w row.scope }
 
 abbrev made : World → Token → Option Braces → Parts → Row → Built → ℤ → meaning.Arc
 made w n b p row x c = record {
-  label = meaning.label_at n b (as_key w row);
+  label = meaning.label_at n.text (indexing b) (as_key w row);
   lower = x.lower;
   upper = x.upper;
   from = written.end_of w row.scope p.tail;
@@ -236,6 +242,18 @@ pub record HasBuiltBounds (a : meaning.Arc) (x : Built) : Type 0 where
 -- the coefficient of an arc is the sum of its `obj` phrases for this objective
 abbrev pub HasPrice : Name → written.Arc → meaning.Arc → Type 0
 HasPrice goal v a = a.coefficient ≡ price_of goal v.env v.scope v.phrases
+
+is_arc : (goal : Name) (w : World) (n : Token) (b : Option Braces) (ps : List Phrase) (p : Parts) (row : Row) (x : Built) (c : ℤ) → IsRow w row.scope ps p x → IsCoefficient goal (env_of w row.scope) ps c
+    → IsArc goal n b ps (as_key w row) (made w n b p row x c)
+is_arc goal w n b ps p row x c by h = record {
+  label = refl;
+  lower = subst (λ o. meaning.HasNumber (env_of w row.scope) o x.lower) (sym (phrase_value_is is_at_least ps)) by.lower;
+  upper = subst (λ o. meaning.HasNumber (env_of w row.scope) o x.upper) (sym (phrase_value_is is_at_most ps)) by.upper;
+  ordered = by.ordered;
+  from = subst (λ o. meaning.IsEnd (env_of w row.scope) o (written.end_of w row.scope p.tail)) (sym (phrase_value_is is_from ps)) by.from;
+  to = subst (λ o. meaning.IsEnd (env_of w row.scope) o (written.end_of w row.scope p.head)) (sym (phrase_value_is is_to ps)) by.to;
+  coefficient = h;
+}
 
 pub record AreRows (goal : Name) (w : World) (n : Token) (b : Option Braces) (ps : List Phrase) (p : Parts) (rows : List Row) (d new : BuiltArcs) : Type 0 where
   pub arcs : List meaning.Arc
@@ -259,8 +277,8 @@ rows_are goal g ns w n b k p ps (row ∷ rows) d new h parts e =
     let c = coefficient_is goal g w row.scope (length d.arcs) ps d.form next.form h one.priced in
     record {
       arcs = made w n b p row one.arc c.0 ∷ rest.arcs;
-      are = (record { label = refl; lower = by.lower; upper = by.upper; ordered = by.ordered; from = by.from; to = by.to; coefficient = c.1 }, rest.are);
-      same = (record { name = refl; indexed = refl; key = refl; from = refl; to = refl }, rest.same);
+      are = (is_arc goal w n b ps p row one.arc c.0 by c.1, rest.are);
+      same = (record { name = refl; indexed = indexed_is b; key = refl; from = refl; to = refl }, rest.same);
       ended = (by.ended, rest.ended);
       prices = (c.2, rest.prices);
       more = one.arc ∷ rest.more;

@@ -6,7 +6,9 @@ use Rattle.std.proofs.lemmas.Int.{ints}
 use Rattle.net_sets.specs.Sets.{Tuple}
 use Rattle.net_tree.specs.Conditions.{IsCondition}
 use Rattle.net_tree.specs.Declarations.{AreDeclarations}
-use Rattle.net_tree.specs.Tree.{Part, absent, part, Declaration, set, param, check, node, arc, objective}
+use Rattle.net_tree.specs.Erasure.{clause}
+use Rattle.net_tree.specs.Syntax.{Clause, absent, present}
+use Rattle.net_tree.specs.Tree.{Declaration, set, param, check, node, arc, objective}
 use Rattle.net_normal.specs.Assignments.{IsFeasibleAssignment, value_of}
 use Rattle.net_normal.specs.declared.instance.InstArc.{InstArc}
 use Rattle.net_expr.specs.declared.row.Row.{Row}
@@ -167,9 +169,9 @@ feasible_alike w ds vs all rs is x good nodes arcs ranges has ok = (
   (λ h. record { bounds = bounds_from (written.arcs w ds) all is x arcs has ok h.bounds; conditions = conditions_from (written.arcs w ds) all x arcs (written.nodes w ds) vs rs nodes (conditions_of w 0 ds good) ranges h.conditions }),
 )
 
-expression_unique : (e : Env) (p : Part) (k m : ℤ) → IsExpressionValue e p k → IsExpressionValue e p m → k ≡ m
+expression_unique : (e : Env) (p : Clause) (k m : ℤ) → IsExpressionValue e p k → IsExpressionValue e p m → k ≡ m
 expression_unique e absent k m h j = h ∙ sym j
-expression_unique e (part q t) k m h j = number_same k m (values_are_unique e t (values.number k) (values.number m) h j)
+expression_unique e (present x) k m h j = number_same k m (values_are_unique e x (values.number k) (values.number m) h j)
 
 pub assignments_are_sound : AssignmentsAreSound
 assignments_are_sound requested w ds n sets names good e = record { has = found.has; feasible = feasible; value = value }
@@ -219,6 +221,6 @@ assignments_are_sound requested w ds n sets names good e = record { has = found.
     value x m =
         let valued = objective_valued requested w ds (seen_as n) e p found.is_chosen apart.arcs x in
         subst (λ (o : meaning.Objective). meaning.HasValue o found.has.arcs x m ↔ (m ≡ value_of n.instance (map (meaning.flow_on x) found.has.arcs))) (sym found.same) (
-          (λ h. h.2 ∙ ap (λ (k : ℤ). k +ℤ meaning.coefficient_terms found.has.arcs x) (expression_unique _ p.expression h.0 (phrase_expression x) h.1 valued) ∙ sym (whole x)),
+          (λ h. h.2 ∙ ap (λ (k : ℤ). k +ℤ meaning.coefficient_terms found.has.arcs x) (expression_unique _ (clause p.expression) h.0 (phrase_expression x) h.1 valued) ∙ sym (whole x)),
           (λ k. (phrase_expression x, valued, k ∙ whole x)),
         )

@@ -4,14 +4,17 @@ use Rattle.std.specs.List.{AllByRecursion, AllZip}
 use Rattle.std.proofs.Common.{refl, ap, sym, ◌∙◌, subst, append_assoc, append-nil}
 use Rattle.net_fault.specs.Outcomes.{Outcome}
 use Rattle.net_lex.specs.declared.token.Token.{Token}
+use Rattle.net_tree.specs.Erasure.{indexing, condition, declarations}
 use Rattle.net_tree.specs.Tree.{Braces, Condition, Declaration, set, param, check, node, arc, objective}
 use Rattle.net_expr.specs.declared.row.Row.{Row}
 use Rattle.net_expr.specs.SetValues.{HasSets}
 use Rattle.net_expr.specs.Worlds.{Name, World}
 use Rattle.net_linear.specs.Forms.{Products}
+use Rattle.net_meaning.specs.OfTrees.{IsNode, AreNodesOf, AreArcsOf, entries_after}
 use Rattle.net_meaning.specs.Network as meaning
-use Rattle.net_meaning.specs.Network.{IsNode, AreNodesOf, AreArcsOf, InOrder, entries_after}
+use Rattle.net_meaning.specs.Network.{InOrder}
 use Rattle.net_meaning.specs.Values.{env_of}
+use Rattle.net_meaning.proofs.Erased.{indexed_is}
 use Rattle.net_inst.specs.declared.arc.Built.{Built}
 use Rattle.net_inst.specs.declared.goal.ChosenObjective.{ChosenObjective}
 use Rattle.net_inst.specs.declared.indexing.Indexing.{Indexing}
@@ -40,7 +43,7 @@ use Rattle.net_inst.proofs.Zips.{ok_then, ok_is, zip_join}
 -- ---- a declaration
 
 abbrev node_made : World → Token → Option Braces → Condition → Row → meaning.Node
-node_made w n b c row = record { label = meaning.label_at n b (as_key w row); env = env_of w row.scope; condition = c }
+node_made w n b c row = record { label = meaning.label_at n.text (indexing b) (as_key w row); env = env_of w row.scope; condition = condition c }
 
 nodes_are : (w : World) (n : Token) (b : Option Braces) (c : Condition) (rows : List Row) → AllZip (IsNode n b c) (map (as_key w) rows) (map (node_made w n b c) rows)
 nodes_are w n b c [] = tt
@@ -48,7 +51,7 @@ nodes_are w n b c (row ∷ rows) = (refl, nodes_are w n b c rows)
 
 nodes_same : (w : World) (n : Token) (b : Option Braces) (c : Condition) (rows : List Row) → AllZip IsSameNode (map (node_at_row w n b c) rows) (map (node_made w n b c) rows)
 nodes_same w n b c [] = tt
-nodes_same w n b c (row ∷ rows) = (record { name = refl; indexed = refl; key = refl; condition = refl; env = refl }, nodes_same w n b c rows)
+nodes_same w n b c (row ∷ rows) = (record { name = refl; indexed = indexed_is b; key = refl; condition = refl; env = refl }, nodes_same w n b c rows)
 
 record IsStep (goal : Name) (w : World) (x : Declaration) (d new : Drawing) : Type 0 where
   nodes : List meaning.Node
@@ -139,8 +142,8 @@ step wanted goal w (arc t n b ps z) d new h e =
 record IsWalk (goal : Name) (w : World) (k : ℕ) (ds : List Declaration) (d new : Drawing) : Type 0 where
   nodes : List meaning.Node
   arcs : List meaning.Arc
-  are_nodes : InOrder AreNodesOf w k ds nodes
-  are_arcs : InOrder (AreArcsOf goal) w k ds arcs
+  are_nodes : InOrder meaning.AreNodesOf w k (declarations ds) nodes
+  are_arcs : InOrder (meaning.AreArcsOf goal) w k (declarations ds) arcs
   same_nodes : AllZip IsSameNode (in_order nodes_of w k ds) nodes
   same_arcs : AllZip IsSameArc (in_order arcs_of w k ds) arcs
   prices : AllZip (HasPrice goal) (in_order arcs_of w k ds) arcs
@@ -276,7 +279,7 @@ network_found requested w ds n sets names e =
       is_network = record {
         objective = objective_is requested w ds f.drawing aims.0 names.once f.is_built aims.1;
         nodes = found.are_nodes;
-        arcs = subst (λ (g : Name). InOrder (AreArcsOf g) w 0 ds found.arcs) goal found.are_arcs;
+        arcs = subst (λ (g : Name). InOrder (meaning.AreArcsOf g) w 0 (declarations ds) found.arcs) goal found.are_arcs;
         ends = ends_are_nodes (written.nodes w ds) found.nodes (written.arcs w ds) found.arcs n.arcs found.same_nodes found.same_arcs (have_ends requested w ds n e apart) found.ended;
         nodes_apart = nodes_apart (written.nodes w ds) found.nodes found.same_nodes apart.nodes;
         arcs_apart = arcs_apart (written.arcs w ds) found.arcs found.same_arcs apart.arcs;

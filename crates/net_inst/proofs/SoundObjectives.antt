@@ -3,10 +3,12 @@ use Rattle.std.specs.Prelude.{◌≡◌, ◌+◌, ℕ, Bool, true, false, cond, 
 use Rattle.std.specs.List.{AllByRecursion, IsDistinct}
 use Rattle.std.specs.Str.{bytes_eq}
 use Rattle.std.proofs.Common.{refl, ap, sym, ◌∙◌, subst, append-nil}
+use Rattle.net_tree.specs.Erasure.{clause, is_minimize}
 use Rattle.net_tree.specs.Tree.{Declaration, set, param, check, node, arc, objective}
 use Rattle.net_expr.specs.Worlds.{Name, World}
+use Rattle.net_meaning.specs.OfTrees.{objectives as objectives_in, IsObjective}
 use Rattle.net_meaning.specs.Network as meaning
-use Rattle.net_meaning.specs.Network.{is_eligible, IsObjective}
+use Rattle.net_meaning.specs.Network.{is_eligible}
 use Rattle.net_inst.specs.declared.goal.ChosenObjective.{ChosenObjective}
 use Rattle.net_inst.specs.declared.names.Declared.{Declared}
 use Rattle.net_inst.specs.AsWritten.{Arc, in_order, arcs_of, known_after, arc_declared}
@@ -27,20 +29,20 @@ names_back (d ∷ ds) ns = names_back ds (d.name ∷ ns)
 
 -- an objective as written, in the words of the meaning
 abbrev pub as_objective : Objective → meaning.Objective
-as_objective o = record { sense = o.sense; name = o.name; env = o.env; arcs = names_back o.before []; expression = o.expression }
+as_objective o = record { sense = o.sense; name = o.name; env = o.env; arcs = names_back o.before []; expression = clause o.expression }
 
 back_last : (ds : List Declared) (d : Declared) (ns : List Name) → names_back (ds ++ d ∷ []) ns ≡ d.name ∷ names_back ds ns
 back_last [] d ns = refl
 back_last (x ∷ ds) d ns = back_last ds d (x.name ∷ ns)
 
-same_objectives : (before : List Declared) (w : World) (k : ℕ) (ds : List Declaration) → meaning.objectives w k (names_back before []) ds ≡ map as_objective (objectives_from before w k ds)
-unfolding sense_of
+same_objectives : (before : List Declared) (w : World) (k : ℕ) (ds : List Declaration) → objectives_in w k (names_back before []) ds ≡ map as_objective (objectives_from before w k ds)
+unfolding sense_of is_minimize
 same_objectives before w k [] = refl
 same_objectives before w k (set t n ps e ∷ ds) = same_objectives before w (k + 1) ds ∙ ap (λ (b : List Declared). map as_objective (objectives_from b w (k + 1) ds)) (sym (append-nil before))
 same_objectives before w k (param t n b ps e ∷ ds) = same_objectives before w (k + 1) ds ∙ ap (λ (c : List Declared). map as_objective (objectives_from c w (k + 1) ds)) (sym (append-nil before))
 same_objectives before w k (check t b m x e ∷ ds) = same_objectives before w k ds ∙ ap (λ (c : List Declared). map as_objective (objectives_from c w k ds)) (sym (append-nil before))
 same_objectives before w k (node t n b c e ∷ ds) = same_objectives before w k ds ∙ ap (λ (q : List Declared). map as_objective (objectives_from q w k ds)) (sym (append-nil before))
-same_objectives before w k (arc t n b ps e ∷ ds) = ap (λ (ns : List Name). meaning.objectives w k ns ds) (sym (back_last before one [])) ∙ same_objectives (before ++ one ∷ []) w k ds
+same_objectives before w k (arc t n b ps e ∷ ds) = ap (λ (ns : List Name). objectives_in w k ns ds) (sym (back_last before one [])) ∙ same_objectives (before ++ one ∷ []) w k ds
   where
     one : Declared
     one = record { name = n.text; indexed = is_some b }

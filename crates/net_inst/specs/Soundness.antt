@@ -2,14 +2,16 @@
 use Rattle.std.specs.Prelude.{◌≡◌, ◌⊎◌, ◌↔◌, List, [], ◌∷◌, map, Option, Ok, ⊤, ℤ}
 use Rattle.std.specs.List.{AllByRecursion, AllZip, IsDistinct}
 use Rattle.std.specs.Str.{bytes_eq}
+use Rattle.net_tree.specs.Erasure.{condition}
 use Rattle.net_tree.specs.Tree.{Body, plain, valued, priced, Phrase, Declaration, set, param, check, node, arc, objective}
 use Rattle.net_tree.specs.Declarations.{AreDeclarations}
 use Rattle.net_normal.specs.Assignments.{IsFeasibleAssignment, value_of}
 use Rattle.net_normal.specs.declared.instance.InstArc.{InstArc}
 use Rattle.net_expr.specs.SetValues.{HasSets}
 use Rattle.net_expr.specs.Worlds.{Name, World}
+use Rattle.net_meaning.specs.OfTrees.{IsNetwork}
 use Rattle.net_meaning.specs.Network as meaning
-use Rattle.net_meaning.specs.Network.{IsNetwork, flow_on, HasValue}
+use Rattle.net_meaning.specs.Network.{flow_on, HasValue}
 use Rattle.net_meaning.specs.Values.{env_of}
 use Rattle.net_inst.specs.declared.network.Named.{Named}
 use Rattle.net_inst.specs.AsWritten as written
@@ -52,12 +54,12 @@ pub record IsNamedOnce (ds : List Declaration) : Type 0 where
   -- each `obj` phrase names an objective that is declared before it
   pub priced : NameObjectives [] ds
 
--- a node as written and its meaning have the same label and the same condition, in the same environment
+-- a node as written and its meaning have the same label and, without punctuation, the same condition, in the same environment
 pub record IsSameNode (v : written.Node) (a : meaning.Node) : Type 0 where
   pub name : a.label.name ≡ v.label.name
   pub indexed : a.label.indexed ≡ v.label.indexed
   pub key : a.label.key ≡ v.label.key
-  pub condition : a.condition ≡ v.condition
+  pub condition : a.condition ≡ condition v.condition
   pub env : a.env ≡ env_of v.env v.scope
 
 -- an arc as written and its meaning have the same label and the same ends

@@ -1,9 +1,8 @@
 -- A condition is true of a net inflow just where it holds of it.
-use Rattle.std.specs.Prelude.{◌≡◌, ◌&&◌, ◌↔◌, ℕ, Bool, true, false, List, [], ◌∷◌, map, Option, None, Some, is_some, if◌then◌else◌, Ok, Err, IfOk, ℤ, pos, ◌+ℤ◌, ◌-ℤ◌, ◌≤ℤ◌, int_lt, int_le}
+use Rattle.std.specs.Prelude.{◌≡◌, ◌&&◌, ◌↔◌, ℕ, Bool, true, false, List, [], ◌∷◌, Option, None, Some, if◌then◌else◌, Ok, Err, ℤ, int_le}
 use Rattle.std.specs.List.{list_all}
-use Rattle.std.specs.Ordering.{int_eq}
 use Rattle.std.specs.Str.{bytes_eq}
-use Rattle.std.proofs.Common.{refl, ap, sym, ◌∙◌, subst, arith, inl, inr}
+use Rattle.std.proofs.Common.{refl, ap, sym, ◌∙◌, subst, arith, inr}
 use Rattle.std.proofs.lemmas.Bool.Decides.{Decides-int_eq}
 use Rattle.std.proofs.lemmas.Int.{ints}
 use Rattle.net_fault.specs.declared.span.Span.{Span}
@@ -13,7 +12,7 @@ use Rattle.net_linear.specs.declared.condition.Comparison.{Comparison}
 use Rattle.net_linear.specs.declared.condition.Comparison.TheVariants.{Equal, AtMost, AtLeast}
 use Rattle.net_linear.specs.declared.net_term.NetTerm.{NetTerm}
 use Rattle.net_linear.specs.Amounts.{as_number, number_or_none}
-use Rattle.net_linear.specs.Conditions.{comparison_in, number_of, term_at, with_term, terms_at, side_at, Compares, Holds, solved_sides, met, from_to, sides_in}
+use Rattle.net_linear.specs.Conditions.{comparison_in, number_of, term_at, with_term, terms_at, side_at, Compares, solved_sides, met, from_to}
 use Rattle.net_linear.specs.NetTerms as linear
 use Rattle.net_linear.specs.NetTerms.{are_terms, net_side}
 use Rattle.net_linear.specs.Signs.{is_sign}
@@ -30,9 +29,10 @@ use Rattle.net_tree.specs.declared.operator.Words.TheVariants as words
 use Rattle.net_tree.specs.Role.{role_of, role_as, found_in, marks, keys}
 use Rattle.net_expr.specs.Limits.{is_small}
 use Rattle.std.proofs.lemmas.Slice.Eq.{bytes_eq-Decides}
+use Rattle.net_tree.specs.Erasure.{expression, is_outflow}
 use Rattle.net_tree.specs.Operations.{operation, operation_in, operations, is_range}
 use Rattle.net_tree.specs.Spans.{span_of}
-use Rattle.net_tree.specs.Tree.{Tree, Links, leaf, indexed, parens, tuple, negated, braced, signed, reduced, chain, choice, net, none, link, Condition, unsaid, one, between}
+use Rattle.net_tree.specs.Tree.{Tree, Links, leaf, indexed, parens, tuple, negated, braced, signed, reduced, chain, choice, net, none, link, unsaid, one, between}
 use Rattle.net_expr.specs.declared.value.Value.{Value as Found}
 use Rattle.net_expr.specs.declared.value.Value.TheVariants as found
 use Rattle.net_expr.specs.Items.{begins_range}
@@ -41,14 +41,14 @@ use Rattle.net_expr.specs.Operators.{apply, decided}
 use Rattle.net_expr.specs.Values.{value, values, chained, either}
 use Rattle.net_expr.specs.Worlds.{Name, World, Scope}
 use Rattle.net_expr.proofs.Parting.{then_ok, is_ok}
+use Rattle.net_meaning.specs.OfTrees as meant
+use Rattle.net_meaning.specs.OfTrees.{AreOperandValues, IsValue, AreValues, IsChain, IsSatisfied}
 use Rattle.net_meaning.specs.Laws.{meaning_of, IsArcFree, AreArcFree}
-use Rattle.net_linear.specs.Soundness.{IsTermArcFree, AreTermsArcFree, IsSideArcFree, IsConditionArcFree, ConditionsAreSound}
+use Rattle.net_linear.specs.Soundness.{IsTermArcFree, AreTermsArcFree, IsSideArcFree, ConditionsAreSound}
 use Rattle.net_meaning.specs.Operators.{Value, Truth, number, IsResult, Combines}
 use Rattle.net_meaning.specs.Operators as make
-use Rattle.net_meaning.specs.Values as meaning
-use Rattle.net_meaning.specs.Values.{env_with, Env, Whether, IsValue, AreValues, IsChain, HasRange}
-use Rattle.net_meaning.specs.Network as network
-use Rattle.net_meaning.specs.Network.{IsSatisfied}
+use Rattle.net_meaning.specs.Values.{env_with, Env, Whether, HasRange}
+use Rattle.net_meaning.proofs.Erased.{begins_range_is}
 use Rattle.net_meaning.proofs.Giving.{gives_ok}
 use Rattle.net_meaning.proofs.Meaning.{value_is_sound}
 use Rattle.net_meaning.proofs.Unique.{values_are_unique, makes_unique, truth_same}
@@ -73,7 +73,7 @@ module _ (g : Name → Option (Tuple → ℤ)) (y : ℤ) (w : World) (s : Scope)
       subst (λ n. IsValue E x (number n)) (sym same) (gives_ok (λ v. IsValue E x (meaning_of v)) (value w s x) (of c) (value_is_sound g y w s x z) e)
 
   net_is : (t : Option Token) (u : Token) → IsValue E (net t u) (number (term_at w s (net t u) y))
-  unfolding linear.is_outflow meaning.is_outflow
+  unfolding linear.is_outflow is_outflow
   net_is None u = refl
   net_is (Some t) u = refl
 
@@ -148,7 +148,7 @@ module _ (g : Name → Option (Tuple → ℤ)) (y : ℤ) (w : World) (s : Scope)
       let sum = links_are (span_of (chain n x l)) l v a f z.1 (subst (λ c. (if c then and_then (values w s l (v ∷ [])) (numbers.range_of (span_of (chain n x l))) else chained (span_of (chain n x l)) w s l v) ≡ Ok (of a)) (no_range l f) j) in (
         number (term_at w s x y),
         term_is x sum.0.0 z.0 (i ∙ ap (λ z. Ok z) sum.0.1),
-        subst (λ c. Whether c (HasRange (AreValues E l) (number (term_at w s x y)) (number (terms_at w s l (term_at w s x y) y))) (IsChain E (number (term_at w s x y)) l (number (terms_at w s l (term_at w s x y) y)))) (sym (no_range l f)) (sum.1 (term_at w s x y)),
+        subst (λ c. Whether c (HasRange (AreOperandValues E l) (number (term_at w s x y)) (number (terms_at w s l (term_at w s x y) y))) (IsChain E (number (term_at w s x y)) l (number (terms_at w s l (term_at w s x y) y)))) (sym (no_range l f) ∙ begins_range_is l) (sum.1 (term_at w s x y)),
       ))
 
   side_is : (x : Tree) (a : ℤ) → IsSideArcFree g y x → value w s x ≡ Ok (of a) → IsValue E x (number (side_at w s x y))
@@ -266,7 +266,7 @@ compared at c m n (Some a) None r e = cc
 
 module _ (g : Name → Option (Tuple → ℤ)) (y : ℤ) (w : World) (s : Scope) where
   pair_is : (x z : Tree) (o : Token) (a b : Option ℤ) → IsSideArcFree g y x → IsSideArcFree g y z → number_or_none w s x ≡ Ok a → number_or_none w s z ≡ Ok b → AreCompared (comparison_in (role_of o)) a b
-      → network.Compares (env_with g y w s) x (words.One o) z ↔ Compares (comparison_in (role_of o)) (side_at w s x y) (side_at w s z y)
+      → meant.Compares (env_with g y w s) x (words.One o) z ↔ Compares (comparison_in (role_of o)) (side_at w s x y) (side_at w s z y)
   pair_is x z o a b p q e f c =
       let left = side_is g y w s x c.left p (value_of (value w s x) c.left (e ∙ ap (λ k. Ok k) c.left_is)) in
       let right = side_is g y w s z c.right q (value_of (value w s z) c.right (f ∙ ap (λ k. Ok k) c.right_is)) in
@@ -274,8 +274,8 @@ module _ (g : Name → Option (Tuple → ℤ)) (y : ℤ) (w : World) (s : Scope)
         (λ (u, v, hu, hv, m).
             subst (λ k. Compares k (side_at w s x y) (side_at w s z y)) (sym c.is) ((compares_is c.how (side_at w s x y) (side_at w s z y)).0
             (subst (λ k. IsResult k (number (side_at w s x y)) (number (side_at w s z y)) (Truth true)) how
-            (subst (λ k. IsResult (operation (words.One o)) k (number (side_at w s z y)) (Truth true)) (values_are_unique _ x u _ hu left)
-            (subst (λ k. IsResult (operation (words.One o)) u k (Truth true)) (values_are_unique _ z v _ hv right) m))))),
+            (subst (λ k. IsResult (operation (words.One o)) k (number (side_at w s z y)) (Truth true)) (values_are_unique _ (expression x) u _ hu left)
+            (subst (λ k. IsResult (operation (words.One o)) u k (Truth true)) (values_are_unique _ (expression z) v _ hv right) m))))),
         (λ h. (
           number (side_at w s x y),
           number (side_at w s z y),

@@ -1,15 +1,15 @@
 -- The form of an objective is its value.
-use Rattle.std.specs.Prelude.{◌≡◌, ◌&&◌, ◌||◌, ◌+◌, ℕ, zero, suc, Bool, true, false, not, List, [], ◌∷◌, map, Option, None, Some, if◌then◌else◌, Ok, Err, IfOk, ℤ, pos, negsuc, ◌+ℤ◌, ◌*ℤ◌, int_div, int_rem, int_le}
+use Rattle.std.specs.Prelude.{◌≡◌, ◌&&◌, ◌||◌, ℕ, zero, suc, Bool, true, false, not, List, [], ◌∷◌, map, Option, None, Some, if◌then◌else◌, Ok, Err, IfOk, ℤ, pos, negsuc, ◌+ℤ◌, ◌*ℤ◌, int_div, int_rem, int_le}
 use Rattle.std.specs.List.{AllZip}
-use Rattle.std.proofs.Common.{refl, ap, sym, ◌∙◌, subst, arith, inl, inr}
+use Rattle.std.proofs.Common.{refl, ap, sym, ◌∙◌, subst, arith, inr}
 use Rattle.std.proofs.lemmas.Int.{ints}
 use Rattle.net_fault.specs.declared.span.Span.{Span}
 use Rattle.net_fault.specs.declared.error_code.ErrorCode.TheVariants.{NotLinear, DivMod}
 use Rattle.net_fault.specs.Outcomes.{Outcome, and_then, rejected}
-use Rattle.net_linear.specs.Amounts.{as_number, number_or_none}
+use Rattle.net_linear.specs.Amounts.{as_number}
 use Rattle.net_linear.specs.Arcs.{Arcs, declared, is_arc, arc_at}
-use Rattle.net_linear.specs.Forms.{Linear, Products, Term, products_at, just, one_arc, combined, is_number, is_sized, within, sized, minus_one, times, quotient, divided, joined, join, turn, gathered, gathered_over, total, as_form, form_at}
-use Rattle.net_linear.specs.Objectives.{names_arc, any_arc, part_arc, braces_arc, are_signs, may_join, one_factor, is_linear, is_sum, plain_term, mixed, linear, key_of, arc_term, condition, objective, otherwise, chained, objective_form}
+use Rattle.net_linear.specs.Forms.{Linear, Products, Term, products_at, just, one_arc, combined, is_number, is_sized, within, sized, times, divided, joined, join, turn, gathered, gathered_over, total, as_form, form_at}
+use Rattle.net_linear.specs.Objectives.{names_arc, any_arc, part_arc, braces_arc, are_signs, may_join, one_factor, is_linear, is_sum, plain_term, mixed, linear, key_of, arc_term, condition, objective, otherwise, chained}
 use Rattle.net_linear.specs.ObjectiveValues.{combine}
 use Rattle.net_linear.specs.Signs.{is_sign}
 use Rattle.net_linear.proofs.FormLaws.{form_combined, form_just, form_arc, join_ok, turn_ok}
@@ -30,16 +30,17 @@ use Rattle.net_expr.specs.declared.value.Value.{Value as Found}
 use Rattle.net_expr.specs.declared.value.Value.TheVariants as found
 use Rattle.net_sets.specs.declared.member.Member.TheVariants as member
 use Rattle.net_expr.specs.Items.{begins_range}
-use Rattle.net_expr.specs.Numbers.{divides, turned}
-use Rattle.net_expr.specs.Operators.{truth}
+use Rattle.net_expr.specs.Numbers.{divides}
 use Rattle.net_expr.specs.Values.{value, index}
 use Rattle.net_expr.specs.Worlds.{Name, World, Scope}
+use Rattle.net_meaning.specs.OfTrees.{AreOperandValues, IsValue, IsElse, AreValues, IsChain, AreKeys}
 use Rattle.net_meaning.specs.Laws.{meaning_of, IsArcFree, AreArcFree, IsPartArcFree, AreBracesArcFree}
 use Rattle.net_linear.specs.Soundness.{ReadsArcs, ObjectivesAreSound}
 use Rattle.net_meaning.specs.Operators.{Value, One, Truth, number, IsResult, Combines, Reduces, sum_of}
 use Rattle.net_meaning.specs.Operators as make
-use Rattle.net_meaning.specs.Values.{Env, Key, env_with, Whether, IsArcOr, Denotes, IsLeaf, AreMembers, HasRange, IsValue, IsElse, AreValues, IsChain, AreKeys}
-use Rattle.net_meaning.proofs.Giving.{gives_then, gives_any, gives_if, gives_as, gives_ok}
+use Rattle.net_meaning.specs.Values.{Env, Key, env_with, Whether, IsArcOr, Denotes, IsLeaf, AreMembers, HasRange}
+use Rattle.net_meaning.proofs.Erased.{begins_range_is}
+use Rattle.net_meaning.proofs.Giving.{gives_then, gives_any, gives_as}
 use Rattle.net_meaning.proofs.Meaning.{key_is_sound, braces_are_sound, truth_is_sound, value_is_sound}
 use Rattle.net_meaning.proofs.Walking.{as_key}
 
@@ -276,7 +277,7 @@ module _ (a : Arcs) (x : ℕ → ℤ) (g : Name → Option (Tuple → ℤ)) (rea
   chain_is w s n y l e u h None i = tt
   chain_is w s n y l e None h (Some r) i = absurd i
   chain_is w s n y l e (Some u) h (Some r) i =
-      (number (form_at x u), h, subst (λ b. Whether b (HasRange (AreValues (E w s) l) (number (form_at x u)) (number (form_at x r))) (IsChain (E w s) (number (form_at x u)) l (number (form_at x r)))) (sym e) i)
+      (number (form_at x u), h, subst (λ b. Whether b (HasRange (AreOperandValues (E w s) l) (number (form_at x u)) (number (form_at x r))) (IsChain (E w s) (number (form_at x u)) l (number (form_at x r)))) (sym e ∙ begins_range_is l) i)
 
   choice_is : (w : World) (s : Scope) (i : Token) (y : Tree) (t : Token) (z : Tree) (p : Part) (b : Bool) → IsValue (E w s) y (Truth b) → IfOk (objective a w s z) (IsTerm w s z) → IfOk (otherwise a w s p) (Is (IsElse (E w s) p))
       → IfOk (if b then objective a w s z else otherwise a w s p) (IsTerm w s (choice i y t z p))

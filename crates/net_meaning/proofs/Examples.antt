@@ -1,6 +1,6 @@
 -- Worked examples of the definitions. The expected values are worked out by hand from the AMPL book.
-use Rattle.std.specs.Prelude.{◌≡◌, ◌⊎◌, ℕ, Bool, true, false, List, [], ◌∷◌, ◌++◌, Option, None, Some, codes, ⊤, ℤ, pos, negsuc}
-use Rattle.std.proofs.Common.{refl, sym, ◌∙◌, subst, inl, inr, arith}
+use Rattle.std.specs.Prelude.{ℕ, true, false, List, [], ◌∷◌, Option, None, Some, codes, ℤ, pos, negsuc}
+use Rattle.std.proofs.Common.{refl, subst, inl, arith}
 use Rattle.std.proofs.lemmas.Int.{ints}
 use lib.IntN.{zero-*ℤ}
 use Rattle.net_lex.specs.Limits.{limits}
@@ -12,30 +12,31 @@ use Rattle.net_lex.specs.declared.token.Kind.TheVariants as kinds
 use Rattle.net_lex.specs.declared.token.Token.{Token}
 use Rattle.net_sets.specs.declared.member.Member.TheVariants.{Number}
 use Rattle.net_normal.specs.declared.instance.Sense.TheVariants.{Minimise}
-use Rattle.net_tree.specs.declared.operator.Words.TheVariants as operator
-use Rattle.net_tree.specs.Operations.{operations, operation, reduction, is_minus}
+use Rattle.net_tree.specs.declared.operator.BinOp.TheVariants as op
+use Rattle.net_tree.specs.declared.operator.Reduction.TheVariants.{Sum}
+use Rattle.net_tree.specs.declared.role.Begins.TheVariants as begins
+use Rattle.net_tree.specs.declared.role.Relation.TheVariants as relations
+use Rattle.net_tree.specs.declared.role.Role.{Role}
+use Rattle.net_tree.specs.declared.role.Role.TheVariants as roles
 use Rattle.net_tree.specs.Role.{role_of, marks, keys}
-use Rattle.net_tree.specs.Tree.{Tree, leaf, tuple, signed, reduced, chain, net, none, link, absent, part, filled, Phrase, valued, Condition, between}
+use Rattle.net_tree.specs.Syntax.{Expression, leaf, tuple, signed, reduced, chain, net, no_more, more, none, apply, absent, present, filled, Phrase, valued, Condition, between}
 use Rattle.net_expr.specs.Numbers.{number_in}
 use Rattle.net_expr.specs.Worlds.{World}
 use Rattle.net_expr.specs.declared.world.Entry.TheVariants.{Set}
-use Rattle.net_meaning.specs.Operators.{Value, One, Many, Truth, number, IsResult, at_most}
-use Rattle.net_meaning.specs.Values.{Env, Key, env_of, start, bind, a_set, dummy, is_outflow, IsValue, AreKeys, Extends}
+use Rattle.net_meaning.specs.Operators.{Value, Truth, number, IsResult, at_most}
+use Rattle.net_meaning.specs.Values.{Env, Key, env_of, start, bind, a_set, dummy, IsValue, AreKeys, Extends}
 use Rattle.net_meaning.specs.Network.{Arc, IsArc, name, IsSatisfied, with_inflow, Objective, Assignment, HasValue}
 use Rattle.net_meaning.proofs.Naming.{numeral_is}
-use Rattle.net_meaning.proofs.Unique.{values_are_unique, number_same}
+use Rattle.net_meaning.proofs.Unique.{values_are_unique}
 
 -- positions in the file do not matter here
 abbrev token : Kind → List ℕ → Token
 token k t = record { kind = k; text = t; span = record { start = 0; end = 0 } }
 
-abbrev mark : List ℕ → Token
-mark t = token kinds.Mark t
-
-abbrev named : List ℕ → Tree
+abbrev named : List ℕ → Expression
 named t = leaf (token kinds.Name t)
 
-abbrev numeral : List ℕ → Tree
+abbrev numeral : List ℕ → Expression
 numeral t = leaf (token kinds.Num t)
 
 two_is : IsNumeral limits.value (codes "2") (pos 2)
@@ -59,8 +60,8 @@ five_is = numeral_is (codes "5") (pos 5) refl
 abbrev links : World
 links = (codes "LINKS", Set 2 ((Number (pos 1) ∷ Number (pos 2) ∷ []) ∷ (Number (pos 3) ∷ Number (pos 2) ∷ []) ∷ (Number (pos 1) ∷ Number (pos 3) ∷ []) ∷ [])) ∷ []
 
-abbrev to_two : Tree
-to_two = chain 7 (tuple (mark (codes "(")) (named (codes "i")) (link (operator.One (mark (codes ","))) (numeral (codes "2")) none) (mark (codes ")"))) (link (operator.One (token kinds.Key (codes "in"))) (named (codes "LINKS")) none)
+abbrev to_two : Expression
+to_two = chain (tuple (named (codes "i")) (more (numeral (codes "2")) no_more)) (apply op.In (named (codes "LINKS")) none)
 
 abbrev key_of : ℤ → Key
 key_of m = bind (codes "i") (Number m) (start (env_of links []))
@@ -69,15 +70,15 @@ no_key : Option Key
 no_key = None
 
 takes : (m : ℤ) → Extends (start (env_of links [])) to_two (Number m ∷ Number (pos 2) ∷ []) (Some (key_of m))
-unfolding role_of marks keys operations operation
+unfolding role_of marks keys
 takes m = (Number (pos 2), (pos 2, two_is, refl), refl)
 
 passes_over : Extends (start (env_of links [])) to_two (Number (pos 1) ∷ Number (pos 3) ∷ []) None
-unfolding role_of marks keys operations operation
+unfolding role_of marks keys
 passes_over = (Number (pos 2), (pos 2, two_is, refl), refl)
 
-selects : AreKeys (env_of links []) (filled (mark (codes "{")) to_two none absent (mark (codes "}"))) (key_of (pos 1) ∷ key_of (pos 3) ∷ [])
-unfolding role_of marks keys operations operation
+selects : AreKeys (env_of links []) (filled to_two no_more absent) (key_of (pos 1) ∷ key_of (pos 3) ∷ [])
+unfolding role_of marks keys
 selects = inl (
   key_of (pos 1) ∷ key_of (pos 3) ∷ [],
   (
@@ -98,14 +99,15 @@ selects = inl (
 
 -- ---- an arc with a negative lower bound: arc A >= -5, <= 3, from X, to Y
 
-abbrev minus_five : Tree
-minus_five = signed (mark (codes "-")) (numeral (codes "5"))
+abbrev minus_five : Expression
+minus_five = signed true (numeral (codes "5"))
 
-abbrev phrase : Token → Tree → Phrase
-phrase w x = record { comma = None; word = w; body = valued x }
+abbrev phrase : Role → Expression → Phrase
+phrase r x = record { word = r; body = valued x }
 
 abbrev phrases : List Phrase
-phrases = phrase (mark (codes ">=")) minus_five ∷ phrase (mark (codes "<=")) (numeral (codes "3")) ∷ phrase (token kinds.Key (codes "from")) (named (codes "X")) ∷ phrase (token kinds.Key (codes "to")) (named (codes "Y")) ∷ []
+phrases =
+    phrase (roles.Relation relations.AtLeast) minus_five ∷ phrase (roles.Relation relations.AtMost) (numeral (codes "3")) ∷ phrase (roles.Phrase begins.From) (named (codes "X")) ∷ phrase (roles.Phrase begins.To) (named (codes "Y")) ∷ []
 
 abbrev an_arc : Arc
 an_arc = record {
@@ -118,15 +120,15 @@ an_arc = record {
 }
 
 lower_is : IsValue (env_of [] []) minus_five (number (negsuc 4))
-unfolding role_of marks keys is_minus
+unfolding role_of marks keys
 lower_is = (pos 5, (pos 5, five_is, refl), refl)
 
 upper_is : IsValue (env_of [] []) (numeral (codes "3")) (number (pos 3))
 unfolding role_of marks keys
 upper_is = (pos 3, three_is, refl)
 
-arc_with_negative_bound : IsArc (codes "Cost") (token kinds.Name (codes "A")) None phrases (start (env_of [] [])) an_arc
-unfolding role_of marks keys operations operation is_minus
+arc_with_negative_bound : IsArc (codes "Cost") (codes "A") None phrases (start (env_of [] [])) an_arc
+unfolding role_of marks keys
 arc_with_negative_bound = record {
   label = refl;
   lower = lower_is;
@@ -140,20 +142,20 @@ arc_with_negative_bound = record {
 -- ---- a condition with a range at the key i = 2: 0 <= net_in <= i is true of 1, and not of 3
 
 abbrev in_range : Condition
-in_range = between (mark (codes ":")) (numeral (codes "0")) (mark (codes "<=")) (net None (token kinds.Key (codes "net_in"))) (mark (codes "<=")) (named (codes "i"))
+in_range = between (numeral (codes "0")) op.AtMost (net false false) op.AtMost (named (codes "i"))
 
 abbrev at_two : Env
 at_two = env_of [] ((record { name = codes "i"; member = Number (pos 2) }) ∷ [])
 
 true_of_one : IsSatisfied at_two in_range (pos 1)
-unfolding role_of marks keys operations operation is_minus is_outflow
+unfolding role_of marks keys
 true_of_one = ((number (pos 0), number (pos 1), (pos 0, zero_is, refl), refl, at_most (pos 0) (pos 1)), (number (pos 1), number (pos 2), refl, dummy (Number (pos 2)) refl, at_most (pos 1) (pos 2)))
 
 not_true_of_three : IsSatisfied at_two in_range (pos 3) → ⊥
-unfolding role_of marks keys operations operation is_minus is_outflow
-not_true_of_three (low, (u, v, a, b, c)) = three_at_most_two (subst (λ (z : Value). IsResult (operation (operator.One (mark (codes "<=")))) z (number (pos 2)) (Truth true)) a (subst (λ (z : Value). IsResult (operation (operator.One (mark (codes "<=")))) u z (Truth true)) (values_are_unique (with_inflow at_two (pos 3)) (named (codes "i")) v (number (pos 2)) b (dummy (Number (pos 2)) refl)) c))
+unfolding role_of marks keys
+not_true_of_three (low, (u, v, a, b, c)) = three_at_most_two (subst (λ (z : Value). IsResult op.AtMost z (number (pos 2)) (Truth true)) a (subst (λ (z : Value). IsResult op.AtMost u z (Truth true)) (values_are_unique (with_inflow at_two (pos 3)) (named (codes "i")) v (number (pos 2)) b (dummy (Number (pos 2)) refl)) c))
   where
-    three_at_most_two : IsResult (operation (operator.One (mark (codes "<=")))) (number (pos 3)) (number (pos 2)) (Truth true) → ⊥
+    three_at_most_two : IsResult op.AtMost (number (pos 3)) (number (pos 2)) (Truth true) → ⊥
     three_at_most_two h = elim h [ ]
 
 -- ---- a dummy index may have the name of a later arc: minimize Total: sum {i in S} i; arc i ..; where S is {2}. The value is 2 at every flow
@@ -161,17 +163,17 @@ not_true_of_three (low, (u, v, a, b, c)) = three_at_most_two (subst (λ (z : Val
 abbrev just_two : World
 just_two = (codes "S", Set 1 ((Number (pos 2) ∷ []) ∷ [])) ∷ []
 
-abbrev total : Tree
-total = reduced (token kinds.Key (codes "sum")) (filled (mark (codes "{")) (chain 7 (named (codes "i")) (link (operator.One (token kinds.Key (codes "in"))) (named (codes "S")) none)) none absent (mark (codes "}"))) (named (codes "i"))
+abbrev total : Expression
+total = reduced Sum (filled (chain (named (codes "i")) (apply op.In (named (codes "S")) none)) no_more absent) (named (codes "i"))
 
 abbrev minimize_total : Objective
-minimize_total = record { sense = Minimise; name = codes "Total"; env = just_two; arcs = []; expression = part (mark (codes ":")) total }
+minimize_total = record { sense = Minimise; name = codes "Total"; env = just_two; arcs = []; expression = present total }
 
 abbrev arc_i : Arc
 arc_i = record { label = record { name = codes "i"; indexed = false; key = [] }; lower = pos 0; upper = pos 9; from = None; to = Some (codes "Y", []); coefficient = pos 0 }
 
 later_arc_is_no_flow : (x : Assignment) → HasValue minimize_total (arc_i ∷ []) x (pos 2)
-unfolding role_of marks keys operations operation reduction is_minus
+unfolding role_of marks keys
 later_arc_is_no_flow x = (
   pos 2,
   (

@@ -1,4 +1,5 @@
 pub mod Giving
+pub mod Erased
 pub mod Operating
 mod Naming
 mod Reducing

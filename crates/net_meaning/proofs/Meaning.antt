@@ -6,6 +6,7 @@ use Rattle.net_fault.specs.declared.span.Span.{Span}
 use Rattle.net_fault.specs.Outcomes.{and_then, each}
 use Rattle.net_sets.specs.Sets.{Tuple}
 use Rattle.net_lex.specs.declared.token.Token.{Token}
+use Rattle.net_tree.specs.Erasure.{has_minus, is_outflow}
 use Rattle.net_tree.specs.Items.{is_in}
 use Rattle.net_tree.specs.Operations.{operation, reduction, is_minus}
 use Rattle.net_tree.specs.Role.{role_of}
@@ -15,7 +16,8 @@ use Rattle.net_expr.specs.declared.row.Place.{Place}
 use Rattle.net_expr.specs.declared.row.Row.{Row}
 use Rattle.net_expr.specs.declared.value.Value.{Value as Found}
 use Rattle.net_expr.specs.declared.value.Value.TheVariants as found
-use Rattle.net_expr.specs.Items.{begins_range, has_in, any_in, has_part, new_dummy, needed, fits_needed, chosen, tuples_of, is_set, Opening, walking, listing, opened, open_with}
+use Rattle.net_expr.specs.Items as items
+use Rattle.net_expr.specs.Items.{begins_range, has_in, any_in, has_part, needed, fits_needed, chosen, tuples_of, is_set, Opening, walking, listing, opened, open_with}
 use Rattle.net_expr.specs.Numbers as numbers
 use Rattle.net_expr.specs.Numbers.{turned, sized, range_of}
 use Rattle.net_expr.specs.Operators.{truth, tuple_of}
@@ -25,10 +27,13 @@ use Rattle.net_expr.specs.Widths.{width_by_form}
 use Rattle.net_expr.specs.Worlds.{Name, World, Scope, bound, name_at}
 use Rattle.net_expr.specs.Walks.{joined}
 use Rattle.net_expr.proofs.Walking.{chained-step}
+use Rattle.net_meaning.specs.OfTrees.{new_dummy, AreOperandValues, IsItemSet, IsAbsent, IsValue, IsElse, AreValues, IsChain, AreKeys, HasTruth, Iterates, IsSetAfterIn, Extends, Agrees, AllAgree}
 use Rattle.net_meaning.specs.Laws.{meaning_of, IsArcFree, AreArcFree, IsPartArcFree, AreBracesArcFree, EvaluationIsSoundWith, EvaluationIsSound, KeysAreSound}
+use Rattle.net_meaning.specs.OfTrees as meant
 use Rattle.net_meaning.specs.Operators.{Value, Many, Truth, number, Combines, IsTuple, IsRangeOf}
 use Rattle.net_meaning.specs.Values as meaning
-use Rattle.net_meaning.specs.Values.{env_with, env_of, Env, Key, Whether, IsArcOr, Denotes, IsLeaf, AreMembers, IsItemSet, FromItem, IsAbsent, IsValue, IsElse, AreValues, IsChain, AreKeys, HasTruth, Iterates, IsSetAfterIn, Extends, Agrees, AllAgree}
+use Rattle.net_meaning.specs.Values.{Matches, MatchesWhole, env_with, env_of, Env, Key, Whether, IsArcOr, Denotes, IsLeaf, AreMembers, FromItem}
+use Rattle.net_meaning.proofs.Erased.{begins_range_is, new_dummy_is, item_set, operand_values}
 use Rattle.net_meaning.proofs.Giving.{gives_then, gives_if, gives_as, gives_ok}
 use Rattle.net_meaning.proofs.Naming.{leaf_is, name_is, tuple_is}
 use Rattle.net_meaning.proofs.Operating.{number_is, truth_is, sized_is, joins}
@@ -83,10 +88,10 @@ module _ (af : Name → Option (Tuple → ℤ)) (yf : ℤ) where
   chain_is : (w : World) (s : Scope) (n : ℕ) (x : Tree) (l : Links) (v : Found) → IsValue (env_with af yf w s) x (meaning_of v) → (b : Bool)
       → ((before : List Found) → IfOk (values w s l before) (Operands w s l before)) → IfOk (chained (span_of (chain n x l)) w s l v) (λ u. IsChain (env_with af yf w s) (meaning_of v) l (meaning_of u))
       → IfOk (if b then and_then (values w s l (v ∷ [])) (range_of (span_of (chain n x l))) else chained (span_of (chain n x l)) w s l v)
-      (λ u. (z : Value) × IsValue (env_with af yf w s) x z × Whether b (meaning.HasRange (AreValues (env_with af yf w s) l) z (meaning_of u)) (IsChain (env_with af yf w s) z l (meaning_of u)))
+      (λ u. (z : Value) × IsValue (env_with af yf w s) x z × Whether b (meaning.HasRange (AreOperandValues (env_with af yf w s) l) z (meaning_of u)) (IsChain (env_with af yf w s) z l (meaning_of u)))
   chain_is w s n x l v h true i j =
       gives_then (Operands w s l (v ∷ [])) _ (values w s l (v ∷ [])) (range_of (span_of (chain n x l))) (i (v ∷ [])) (λ vs (us, e, all).
-      gives_as _ _ (range_of (span_of (chain n x l)) vs) (λ u (ts, r, f). (meaning_of v, h, (map meaning_of us, ts, all, subst (λ zs. IsRangeOf (map meaning_of zs) ts) e r, f))) (span_is (span_of (chain n x l)) vs))
+      gives_as _ _ (range_of (span_of (chain n x l)) vs) (λ u (ts, r, f). (meaning_of v, h, (map meaning_of us, ts, operand_values (env_with af yf w s) l (map meaning_of us) all, subst (λ zs. IsRangeOf (map meaning_of zs) ts) e r, f))) (span_is (span_of (chain n x l)) vs))
   chain_is w s n x l v h false i j = gives_as _ _ (chained (span_of (chain n x l)) w s l v) (λ u m. (meaning_of v, h, m)) j
 
   placed_is : (w : World) (n : ℕ) (x : Tree) (o : _) (y : Tree) (t : Tuple) (q : Place) (k : Tuple) → Cuts q.key k → (b : Bool)
@@ -113,7 +118,7 @@ module _ (af : Name → Option (Tuple → ℤ)) (yf : ℤ) where
       → IfOk (walk at w (link o i is) q before) (Adds af yf w (Iterates (key_at af yf w q.scope k) (link o i is)) before)
   item_is at w o i is q k cut before h set lead next =
       gives_then (IsItemSet i (IsSetAfterIn (env_with af yf w q.scope) i) (IsValue (env_with af yf w q.scope) i)) _ (if has_in i then set_after w q.scope i else and_then (value w q.scope i) (tuples_of at)) _
-      (set_is w q.scope i at (has_in i) refl h set)
+      (gives_as _ _ (if has_in i then set_after w q.scope i else and_then (value w q.scope i) (tuples_of at)) (item_set i (IsSetAfterIn (env_with af yf w q.scope) i) (IsValue (env_with af yf w q.scope) i)) (set_is w q.scope i at (has_in i) refl h set))
       (λ ts j. gives_as _ _ (each (onward (place w i) (walk at w is) q) ts before) (λ rows (new, e, f). (new, e, (ts, j, f))) (from_each af yf w (Extends (key_at af yf w q.scope k) i) (place w i) (λ z. Iterates z is) (walk at w is) q lead next ts before))
 
   -- what the first item of braces opens
@@ -126,7 +131,8 @@ module _ (af : Name → Option (Tuple → ℤ)) (yf : ℤ) where
   opens at w s i indexing h k = go (has_in i) refl
     where
       at_set : (b : Bool) → has_in i ≡ b → (ts : List Tuple) → Whether b (IsSetAfterIn (env_with af yf w s) i ts) (IsValue (env_with af yf w s) i (Many ts)) → IsItemSet i (IsSetAfterIn (env_with af yf w s) i) (IsValue (env_with af yf w s) i) ts
-      at_set b e ts j = subst (λ c. Whether c (IsSetAfterIn (env_with af yf w s) i ts) (IsValue (env_with af yf w s) i (Many ts))) (sym e) j
+      at_set b e ts j =
+          item_set i (IsSetAfterIn (env_with af yf w s) i) (IsValue (env_with af yf w s) i) ts (subst (λ c. Whether c (IsSetAfterIn (env_with af yf w s) i ts) (IsValue (env_with af yf w s) i (Many ts))) (sym e) j)
 
       opening : has_in i ≡ false → (v : Found) → IsValue (env_with af yf w s) i (meaning_of v) → IfOk (opened at indexing v) (Opens w s i)
       opening e v j =
@@ -162,6 +168,15 @@ module _ (af : Name → Option (Tuple → ℤ)) (yf : ℤ) where
           gives_then (Operands w s is (v ∷ [])) _ (values w s is (v ∷ [])) _ (operands (v ∷ [])) (λ vs (us, e, all).
           gives_as _ _ (listed (span_between o c) s (has_part p) vs) (λ k (f, ts, tuples, g). inr ((meaning_of v, map meaning_of us, ts, j, all, subst (λ zs. AllZip IsTuple (map meaning_of zs) ts) e tuples, g), unsaid p f)) (listed_is af yf w (span_between o c) s (has_part p) vs))
 
+  -- a range or a chain, as the code tells them apart
+  range_or_chain : (e : Env) (a : Value) (l : Links) (v : Value) → Whether (begins_range l) (meaning.HasRange (AreOperandValues e l) a v) (IsChain e a l v)
+      → Whether (meant.begins_range l) (meaning.HasRange (AreOperandValues e l) a v) (IsChain e a l v)
+  range_or_chain e a l v h = subst (λ b. Whether b (meaning.HasRange (AreOperandValues e l) a v) (IsChain e a l v)) (begins_range_is l) h
+
+  -- what holds of the dummy index that the code finds holds of the one that is meant
+  as_dummy : (w : World) (s : Scope) (x : Tree) (R : Option Name → Type 0) → R (items.new_dummy w s x) → R (new_dummy (env_with af yf w s) x)
+  as_dummy w s x R h = subst R (new_dummy_is (env_with af yf w s) x) h
+
   mutual
     means : (w : World) (s : Scope) (t : Tree) → IsArcFree af yf t → IfOk (value w s t) (λ v. IsValue (env_with af yf w s) t (meaning_of v))
     means w s (leaf t) z = gives_as _ _ (token_value w s t (role_of t)) (λ v h. subst (λ r. IsArcOr r [] (meaning_of v) (IsLeaf (env_with af yf w s) t (role_of t) (meaning_of v))) (sym z) h) (leaf_is af yf w s t (role_of t))
@@ -186,12 +201,12 @@ module _ (af : Name → Option (Tuple → ℤ)) (yf : ℤ) where
         (reduce_is (span_of (reduced r b x)) (reduction r) (λ q. value w q x) (as_key af yf w) (λ (k : Key) v. IsValue k.env x v) (λ row. means w row.scope x z.1) k))
     means w s (chain n x l) z =
         gives_then (λ v. IsValue (env_with af yf w s) x (meaning_of v)) _ (value w s x) _ (means w s x z.0) (λ v h.
-        chain_is w s n x l v h (begins_range l)
-        (λ before. means_values w s l before z.1) (means_chained (span_of (chain n x l)) w s l v z.1))
+        gives_as _ _ (if begins_range l then and_then (values w s l (v ∷ [])) (range_of (span_of (chain n x l))) else chained (span_of (chain n x l)) w s l v) (λ u (a, i, j). (a, i, range_or_chain (env_with af yf w s) a l (meaning_of u) j))
+        (chain_is w s n x l v h (begins_range l) (λ before. means_values w s l before z.1) (means_chained (span_of (chain n x l)) w s l v z.1)))
     means w s (choice i x t y p) z =
         gives_then (λ b. IsValue (env_with af yf w s) x (Truth b)) _ (and_then (value w s x) (truth (span_of (choice i x t y p)))) _ (is_true w s x (span_of (choice i x t y p)) (means w s x z.0))
         (λ b h. choice_is w s x y p b h (means w s y z.1) (means_else w s p z.2))
-    means w s (net t u) z = ap number (sym (ap (λ m. turned (meaning.has_minus t) (turned (meaning.is_outflow u) m)) z ∙ ap (turned (meaning.has_minus t)) (still_zero (meaning.is_outflow u)) ∙ still_zero (meaning.has_minus t)))
+    means w s (net t u) z = ap number (sym (ap (λ m. turned (has_minus t) (turned (is_outflow u) m)) z ∙ ap (turned (has_minus t)) (still_zero (is_outflow u)) ∙ still_zero (has_minus t)))
 
     means_else : (w : World) (s : Scope) (p : Part) → IsPartArcFree af yf p → IfOk (otherwise w s p) (λ v. IsElse (env_with af yf w s) p (meaning_of v))
     means_else w s absent z = refl
@@ -235,15 +250,19 @@ module _ (af : Name → Option (Tuple → ℤ)) (yf : ℤ) where
         → IfOk (left_place at w x (value w q.scope x) t q) (PlaceIs af yf w (Agrees (key_at af yf w q.scope k) x (IsValue (env_with af yf w q.scope) x) t))
     means_left at w (tuple o x l c) [] q k cut z h = (k, cut, refl)
     means_left at w (tuple o x l c) (m ∷ ms) q k cut z h =
-        meets af yf w (span_of (tuple o x l c)) (new_dummy w q.scope x) (value w q.scope x) (IsValue (env_with af yf w q.scope) x) m q k cut (means w q.scope x z.0) (λ r. AllAgree r l ms) (places (span_of (tuple o x l c)) w l ms)
-        (λ r j cut. means_places (span_of (tuple o x l c)) w l ms r j cut z.1)
-    means_left at w x t q k cut z h = meets_whole af yf w at (new_dummy w q.scope x) (value w q.scope x) (IsValue (env_with af yf w q.scope) x) t q k cut h
+        as_dummy w q.scope x (λ d. IfOk (left_place at w (tuple o x l c) (value w q.scope (tuple o x l c)) (m ∷ ms) q) (PlaceIs af yf w (Matches (key_at af yf w q.scope k) d (IsValue (env_with af yf w q.scope) x) m (λ r. AllAgree r l ms))))
+        (meets af yf w (span_of (tuple o x l c)) (items.new_dummy w q.scope x) (value w q.scope x) (IsValue (env_with af yf w q.scope) x) m q k cut (means w q.scope x z.0) (λ r. AllAgree r l ms) (places (span_of (tuple o x l c)) w l ms)
+        (λ r j cut. means_places (span_of (tuple o x l c)) w l ms r j cut z.1))
+    means_left at w x t q k cut z h =
+        as_dummy w q.scope x (λ d. IfOk (left_place at w x (value w q.scope x) t q) (PlaceIs af yf w (MatchesWhole (key_at af yf w q.scope k) d (IsValue (env_with af yf w q.scope) x) t)))
+        (meets_whole af yf w at (items.new_dummy w q.scope x) (value w q.scope x) (IsValue (env_with af yf w q.scope) x) t q k cut h)
 
     means_places : (at : Span) (w : World) (l : Links) (ms : Tuple) (q : Place) (k : Tuple) → Cuts q.key k → AreArcFree af yf l → IfOk (places at w l ms q) (PlaceIs af yf w (AllAgree (key_at af yf w q.scope k) l ms))
     means_places at w none ms q k cut z = (k, cut, refl)
     means_places at w (link o x l) [] q k cut z = (k, cut, refl)
     means_places at w (link o x l) (m ∷ ms) q k cut z =
-        meets af yf w at (new_dummy w q.scope x) (value w q.scope x) (IsValue (env_with af yf w q.scope) x) m q k cut (means w q.scope x z.0) (λ r. AllAgree r l ms) (places at w l ms) (λ r j cut. means_places at w l ms r j cut z.1)
+        as_dummy w q.scope x (λ d. IfOk (places at w (link o x l) (m ∷ ms) q) (PlaceIs af yf w (Matches (key_at af yf w q.scope k) d (IsValue (env_with af yf w q.scope) x) m (λ r. AllAgree r l ms))))
+        (meets af yf w at (items.new_dummy w q.scope x) (value w q.scope x) (IsValue (env_with af yf w q.scope) x) m q k cut (means w q.scope x z.0) (λ r. AllAgree r l ms) (places at w l ms) (λ r j cut. means_places at w l ms r j cut z.1))
 
     means_holds : (at : Span) (w : World) (s : Scope) (k : Tuple) (p : Part) → IsPartArcFree af yf p → IfOk (holds at w s p) (HasTruth p (key_at af yf w s k))
     means_holds at w s k absent z = refl

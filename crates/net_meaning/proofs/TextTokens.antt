@@ -1,5 +1,5 @@
 -- If each token of a file has a property Q, and P follows for its text, the declarations and the statements of the file hold P.
-use Rattle.std.specs.Prelude.{ℕ, Bool, true, false, ◌&&◌, List, [], ◌∷◌, ◌++◌, if◌then◌else◌, Option, None, Some}
+use Rattle.std.specs.Prelude.{ℕ, Bool, true, false, ◌&&◌, List, [], ◌∷◌, ◌++◌, map, if◌then◌else◌, Option, None, Some}
 use Rattle.std.specs.List.{AllByRecursion}
 use Rattle.std.specs.Option.{ForSome}
 use Rattle.std.proofs.Common.{subst}
@@ -20,9 +20,10 @@ use Rattle.net_data.specs.Printing.{put_default, put_given, put_transposed, put_
 use Rattle.net_data.specs.Tests.{is_comma}
 use Rattle.net_tree.specs.declared.operator.Words.{Words as Operator}
 use Rattle.net_tree.specs.declared.operator.Words.TheVariants as words
+use Rattle.net_tree.specs.Erasure.{expression, expressions, operands, clause, braces, indexing, body, phrase, condition, declaration, declarations}
 use Rattle.net_tree.specs.Print.{put_operator, put_optional, put, put_links, put_part, put_braces, put_indexing, put_body, put_phrases, put_condition, put_declaration, print}
 use Rattle.net_tree.specs.Tree.{Tree, Links, Part, Braces, leaf, indexed, parens, tuple, negated, braced, signed, reduced, chain, choice, net, none, link, absent, part, empty, filled, Body, plain, valued, priced, Phrase, Condition, unsaid, one, between, Declaration, set, param, check, node, arc, objective}
-use Rattle.net_meaning.specs.Texts.{TokenHolds, TokensHold, TreeHolds, LinksHold, PartHolds, BracesHold, BodyHolds, PhrasesHold, ConditionHolds, DeclarationHolds, DeclarationsHold, StatementHolds, StatementsHold}
+use Rattle.net_meaning.specs.Texts.{TokenHolds, TokensHold, ExpressionHolds, ExpressionsHold, OperandsHold, ClauseHolds, BracesHold, BodyHolds, PhrasesHold, ConditionHolds, DeclarationHolds, DeclarationsHold, StatementHolds, StatementsHold}
 use Rattle.net_meaning.proofs.TextValues.{none_is, some_is}
 
 module _ (P : List ℕ → Type 0) (Q : Token → Type 0) (f : (t : Token) → Q t → TokenHolds P t) where
@@ -47,8 +48,12 @@ module _ (P : List ℕ → Type 0) (Q : Token → Type 0) (f : (t : Token) → Q
   after_optional None r h = h
   after_optional (Some t) r h = h.1
 
+  operands_hold : (l : Links) → ExpressionsHold P (expressions l) → OperandsHold P (operands l)
+  operands_hold none h = tt
+  operands_hold (link o x l) h = (h.0, operands_hold l h.1)
+
   mutual
-    tree_and : (t : Tree) (r : List Token) → All (put t r) → And (TreeHolds P t) r
+    tree_and : (t : Tree) (r : List Token) → All (put t r) → And (ExpressionHolds P (expression t)) r
     tree_and (leaf t) r h = (f t h.0, h.1)
     tree_and (indexed n o x l c) r h = let (x', more) = tree_and x (put_links l (c ∷ r)) h.1.1 in let (l', rest) = links_and l (c ∷ r) more in ((x', l'), rest.1)
     tree_and (parens o x c) r h = let (x', rest) = tree_and x (c ∷ r) h.1 in (x', rest.1)
@@ -57,7 +62,7 @@ module _ (P : List ℕ → Type 0) (Q : Token → Type 0) (f : (t : Token) → Q
     tree_and (braced b) r h = braces_and b r h
     tree_and (signed t x) r h = tree_and x r h.1
     tree_and (reduced w b x) r h = let (b', more) = braces_and b (put x r) h.1 in let (x', rest) = tree_and x r more in ((b', x'), rest)
-    tree_and (chain n x l) r h = let (x', more) = tree_and x (put_links l r) h in let (l', rest) = links_and l r more in ((x', l'), rest)
+    tree_and (chain n x l) r h = let (x', more) = tree_and x (put_links l r) h in let (l', rest) = links_and l r more in ((x', operands_hold l l'), rest)
     tree_and (choice i x t y e) r h =
         let (x', more) = tree_and x (t ∷ put y (put_part e r)) h.1 in
         let (y', others) = tree_and y (put_part e r) more.1 in
@@ -65,15 +70,15 @@ module _ (P : List ℕ → Type 0) (Q : Token → Type 0) (f : (t : Token) → Q
         ((x', y', e'), rest)
     tree_and (net s w) r h = (tt, (after_optional s (w ∷ r) h).1)
 
-    links_and : (l : Links) (r : List Token) → All (put_links l r) → And (LinksHold P l) r
+    links_and : (l : Links) (r : List Token) → All (put_links l r) → And (ExpressionsHold P (expressions l)) r
     links_and none r h = (tt, h)
     links_and (link o x l) r h = let (x', more) = tree_and x (put_links l r) (after_operator o (put x (put_links l r)) h) in let (l', rest) = links_and l r more in ((x', l'), rest)
 
-    part_and : (p : Part) (r : List Token) → All (put_part p r) → And (PartHolds P p) r
+    part_and : (p : Part) (r : List Token) → All (put_part p r) → And (ClauseHolds P (clause p)) r
     part_and absent r h = (tt, h)
     part_and (part m x) r h = tree_and x r h.1
 
-    braces_and : (b : Braces) (r : List Token) → All (put_braces b r) → And (BracesHold P b) r
+    braces_and : (b : Braces) (r : List Token) → All (put_braces b r) → And (BracesHold P (braces b)) r
     braces_and (empty o p c) r h = let (p', rest) = part_and p (c ∷ r) h.1 in (p', rest.1)
     braces_and (filled o x l p c) r h =
         let (x', more) = tree_and x (put_links l (put_part p (c ∷ r))) h.1 in
@@ -81,23 +86,23 @@ module _ (P : List ℕ → Type 0) (Q : Token → Type 0) (f : (t : Token) → Q
         let (p', rest) = part_and p (c ∷ r) others in
         ((x', l', p'), rest.1)
 
-  indexing_and : (b : Option Braces) (r : List Token) → All (put_indexing b r) → And (ForSome b (BracesHold P)) r
+  indexing_and : (b : Option Braces) (r : List Token) → All (put_indexing b r) → And (ForSome (indexing b) (BracesHold P)) r
   indexing_and None r h = ((λ x e. absurd (none_is x e)), h)
-  indexing_and (Some b) r h = let (b', rest) = braces_and b r h in ((λ x e. subst (BracesHold P) (some_is b x e) b'), rest)
+  indexing_and (Some b) r h = let (b', rest) = braces_and b r h in ((λ x e. subst (BracesHold P) (some_is (braces b) x e) b'), rest)
 
-  body_and : (b : Body) (r : List Token) → All (put_body b r) → And (BodyHolds P b) r
+  body_and : (b : Body) (r : List Token) → All (put_body b r) → And (BodyHolds P (body b)) r
   body_and plain r h = (tt, h)
   body_and (valued x) r h = tree_and x r h
   body_and (priced n x) r h = tree_and x r h.1
 
-  phrases_and : (ps : List Phrase) (r : List Token) → All (put_phrases ps r) → And (PhrasesHold P ps) r
+  phrases_and : (ps : List Phrase) (r : List Token) → All (put_phrases ps r) → And (PhrasesHold P (map phrase ps)) r
   phrases_and [] r h = (tt, h)
   phrases_and (p ∷ ps) r h =
       let (b, more) = body_and p.body (put_phrases ps r) (after_optional p.comma (p.word ∷ put_body p.body (put_phrases ps r)) h).1 in
       let (all, rest) = phrases_and ps r more in
       ((b, all), rest)
 
-  condition_and : (c : Condition) (r : List Token) → All (put_condition c r) → And (ConditionHolds P c) r
+  condition_and : (c : Condition) (r : List Token) → All (put_condition c r) → And (ConditionHolds P (condition c)) r
   condition_and unsaid r h = (tt, h)
   condition_and (one m x o y) r h = let (x', more) = tree_and x (o ∷ put y r) h.1 in let (y', rest) = tree_and y r more.1 in ((x', y'), rest)
   condition_and (between m x o y p z) r h =
@@ -106,7 +111,7 @@ module _ (P : List ℕ → Type 0) (Q : Token → Type 0) (f : (t : Token) → Q
       let (z', rest) = tree_and z r others.1 in
       ((x', y', z'), rest)
 
-  pub declaration_and : (d : Declaration) (r : List Token) → All (put_declaration d r) → And (DeclarationHolds P d) r
+  pub declaration_and : (d : Declaration) (r : List Token) → All (put_declaration d r) → And (DeclarationHolds P (declaration d)) r
   declaration_and (set w n ps e) r h = let (ps', rest) = phrases_and ps (e ∷ r) h.1.1 in (ps', rest.1)
   declaration_and (param w n b ps e) r h =
       let (b', more) = indexing_and b (put_phrases ps (e ∷ r)) h.1.1 in
@@ -126,7 +131,7 @@ module _ (P : List ℕ → Type 0) (Q : Token → Type 0) (f : (t : Token) → Q
       ((b', ps'), rest.1)
   declaration_and (objective w n p e) r h = let (p', rest) = part_and p (e ∷ r) h.1.1 in (p', rest.1)
 
-  pub declarations_hold : (ds : List Declaration) → All (print ds) → DeclarationsHold P ds
+  pub declarations_hold : (ds : List Declaration) → All (print ds) → DeclarationsHold P (declarations ds)
   declarations_hold [] h = tt
   declarations_hold (d ∷ ds) h = let (d', more) = declaration_and d (print ds) h in (d', declarations_hold ds more)
 

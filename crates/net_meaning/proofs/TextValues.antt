@@ -11,15 +11,13 @@ use Rattle.net_sets.specs.Sets.{Tuple, same_member, same_tuple}
 use Rattle.net_tree.specs.declared.role.Role.{Role}
 use Rattle.net_tree.specs.declared.role.Role.TheVariants as roles
 use Rattle.net_tree.specs.Items.{is_in}
-use Rattle.net_tree.specs.Operations.{operation}
 use Rattle.net_tree.specs.Role.{role_of}
-use Rattle.net_tree.specs.Tree.{Tree, Links, Part, Braces, leaf, indexed, parens, tuple, negated, braced, signed, reduced, chain, choice, net, none, link, absent, part, empty, filled}
+use Rattle.net_tree.specs.Syntax.{Expression, Expressions, Operands, Clause, Braces, leaf, indexed, parens, tuple, negated, braced, signed, reduced, chain, conditional, net, no_more, more, none, apply, absent, present, empty, filled}
 use Rattle.net_expr.specs.declared.world.Entry.TheVariants.{Set, Parameter}
-use Rattle.net_expr.specs.Items.{begins_range, has_in, new_dummy}
 use Rattle.net_expr.specs.Worlds.{Name, World, Scope, entry_of, bound}
 use Rattle.net_meaning.specs.Operators.{Value, Many}
-use Rattle.net_meaning.specs.Texts.{MemberHolds, TupleHolds, TuplesHold, ValueHolds, EntryHolds, WorldHolds, ScopeHolds, EnvHolds, KeyHolds, KeysHold, TokenHolds, TreeHolds, LinksHold, PartHolds, BracesHold}
-use Rattle.net_meaning.specs.Values.{Env, Key, Whether, Denotes, dummy, a_set, parameter, IsArcOr, bind, Filters, Continues, FromEach, FromItem, AreMembers, HasRange, start, extended, AreListed, IsItemSet, IsLeaf, Matches, MatchesWhole, IsValue, IsElse, AreValues, IsChain, AreKeys, HasTruth, Iterates, IsSetAfterIn, Extends, Agrees, AllAgree}
+use Rattle.net_meaning.specs.Texts.{MemberHolds, TupleHolds, TuplesHold, ValueHolds, EntryHolds, WorldHolds, ScopeHolds, EnvHolds, KeyHolds, KeysHold, TokenHolds, ExpressionHolds, ExpressionsHold, OperandsHold, ClauseHolds, BracesHold}
+use Rattle.net_meaning.specs.Values.{begins_range, has_in, new_dummy, AreOperandValues, IsItemSet, IsValue, IsElse, AreValues, IsChain, AreKeys, HasTruth, Iterates, IsSetAfterIn, Extends, Agrees, AllAgree, Env, Key, Whether, Denotes, dummy, a_set, parameter, IsArcOr, bind, Filters, Continues, FromEach, FromItem, AreMembers, HasRange, start, extended, AreListed, IsLeaf, Matches, MatchesWhole}
 use Rattle.net_meaning.proofs.TextOperators.{combined_holds, ValuesHold, tuples_hold, members_hold, range_holds, union_holds}
 
 pub none_is : {A : Type 0} (a : A) → None ≡ Some a → ⊥
@@ -111,8 +109,8 @@ module _ (P : List ℕ → Type 0) where
   each_hold : (Place : Tuple → Option Key → Type 0) (Next : Key → List Key → Type 0) → PlaceHolds Place → NextHolds Next → (ts : List Tuple) (ks : List Key) → TuplesHold P ts → FromEach Place Next ts ks
       → KeysHold P ks
   each_hold Place Next f g [] ks h e = subst (KeysHold P) (sym e) tt
-  each_hold Place Next f g (t ∷ ts) ks h (r, here, rest, p, c, more, e) =
-      subst (KeysHold P) (sym e) (all_append (KeyHolds P) here rest (continued_hold Next g r here (f t r h.0 p) c) (each_hold Place Next f g ts rest h.1 more))
+  each_hold Place Next f g (t ∷ ts) ks h (r, here, rest, p, c, others, e) =
+      subst (KeysHold P) (sym e) (all_append (KeyHolds P) here rest (continued_hold Next g r here (f t r h.0 p) c) (each_hold Place Next f g ts rest h.1 others))
 
   item_holds : (IsSet : List Tuple → Type 0) (Place : Tuple → Option Key → Type 0) (Next : Key → List Key → Type 0) → ((ts : List Tuple) → IsSet ts → TuplesHold P ts) → PlaceHolds Place → NextHolds Next
       → (ks : List Key) → FromItem IsSet Place Next ks → KeysHold P ks
@@ -133,25 +131,25 @@ module _ (P : List ℕ → Type 0) where
 
   -- ---- items
 
-  all_agree_hold : (k : Key) (l : Links) (ms : Tuple) (r : Option Key) → KeyHolds P k → TupleHolds P ms → AllAgree k l ms r → OfSome (KeyHolds P) r
-  all_agree_hold k none ms r h j is = some_holds r k h is
-  all_agree_hold k (link o x l) [] r h j is = some_holds r k h is
-  all_agree_hold k (link o x l) (m ∷ ms) r h j is =
-      matched_holds k (new_dummy k.env.world k.env.dummies x) (IsValue k.env x) m (λ q. AllAgree q l ms) r h j.0 (λ q a b. all_agree_hold q l ms r a j.1 b) is
+  all_agree_hold : (k : Key) (l : Expressions) (ms : Tuple) (r : Option Key) → KeyHolds P k → TupleHolds P ms → AllAgree k l ms r → OfSome (KeyHolds P) r
+  all_agree_hold k no_more ms r h j is = some_holds r k h is
+  all_agree_hold k (more x l) [] r h j is = some_holds r k h is
+  all_agree_hold k (more x l) (m ∷ ms) r h j is =
+      matched_holds k (new_dummy k.env x) (IsValue k.env x) m (λ q. AllAgree q l ms) r h j.0 (λ q a b. all_agree_hold q l ms r a j.1 b) is
 
-  agrees_holds : (k : Key) (x : Tree) (Own : Value → Type 0) (t : Tuple) (r : Option Key) → KeyHolds P k → TupleHolds P t → Agrees k x Own t r → OfSome (KeyHolds P) r
-  agrees_holds k (tuple o x l c) Own [] r h j is = some_holds r k h is
-  agrees_holds k (tuple o x l c) Own (m ∷ ms) r h j is =
-      matched_holds k (new_dummy k.env.world k.env.dummies x) (IsValue k.env x) m (λ q. AllAgree q l ms) r h j.0 (λ q a b. all_agree_hold q l ms r a j.1 b) is
-  agrees_holds k x Own t r h j is = matched_whole_holds k (new_dummy k.env.world k.env.dummies x) Own t r h j is
+  agrees_holds : (k : Key) (x : Expression) (Own : Value → Type 0) (t : Tuple) (r : Option Key) → KeyHolds P k → TupleHolds P t → Agrees k x Own t r → OfSome (KeyHolds P) r
+  agrees_holds k (tuple x l) Own [] r h j is = some_holds r k h is
+  agrees_holds k (tuple x l) Own (m ∷ ms) r h j is =
+      matched_holds k (new_dummy k.env x) (IsValue k.env x) m (λ q. AllAgree q l ms) r h j.0 (λ q a b. all_agree_hold q l ms r a j.1 b) is
+  agrees_holds k x Own t r h j is = matched_whole_holds k (new_dummy k.env x) Own t r h j is
 
-  extends_holds : (k : Key) (i : Tree) (t : Tuple) (r : Option Key) → KeyHolds P k → TupleHolds P t → Extends k i t r → OfSome (KeyHolds P) r
-  extends_holds k (chain n x (link o y none)) t r h j is =
-      whether (is_in (operation o)) (Agrees k x (IsValue k.env x) t r) (r ≡ Some (extended k t)) (OfSome (KeyHolds P) r) (agrees_holds k x (IsValue k.env x) t r h j) (some_holds r (extended k t) (extended_holds k t h j)) is
+  extends_holds : (k : Key) (i : Expression) (t : Tuple) (r : Option Key) → KeyHolds P k → TupleHolds P t → Extends k i t r → OfSome (KeyHolds P) r
+  extends_holds k (chain x (apply o y none)) t r h j is =
+      whether (is_in o) (Agrees k x (IsValue k.env x) t r) (r ≡ Some (extended k t)) (OfSome (KeyHolds P) r) (agrees_holds k x (IsValue k.env x) t r h j) (some_holds r (extended k t) (extended_holds k t h j)) is
   extends_holds k _ t r h j is = some_holds r (extended k t) (extended_holds k t h j) is
 
   -- the members of an item's set
-  item_set_holds : (i : Tree) (After : List Tuple → Type 0) (Own : Value → Type 0) (ts : List Tuple) → (After ts → TuplesHold P ts) → (Own (Many ts) → TuplesHold P ts) → IsItemSet i After Own ts → TuplesHold P ts
+  item_set_holds : (i : Expression) (After : List Tuple → Type 0) (Own : Value → Type 0) (ts : List Tuple) → (After ts → TuplesHold P ts) → (Own (Many ts) → TuplesHold P ts) → IsItemSet i After Own ts → TuplesHold P ts
   item_set_holds i After Own ts f g is = whether (has_in i) (After ts) (Own (Many ts)) (TuplesHold P ts) f g is
 
   -- ---- expressions
@@ -164,47 +162,47 @@ module _ (P : List ℕ → Type 0) where
   spanned_holds More u v (us, ts, m, r, e) = subst (ValueHolds P) (sym e) (range_holds P (u ∷ us) ts r)
 
   mutual
-    pub value_holds : (e : Env) (t : Tree) (v : Value) → EnvHolds P e → TreeHolds P t → IsValue e t v → ValueHolds P v
+    pub value_holds : (e : Env) (t : Expression) (v : Value) → EnvHolds P e → ExpressionHolds P t → IsValue e t v → ValueHolds P v
     value_holds e (leaf t) v h k is = arc_or_holds (e.arcs t.text) [] v (IsLeaf e t (role_of t) v) (leaf_holds e t (role_of t) v h k) is
-    value_holds e (indexed n o x l c) v h k (key, i, is) = arc_or_holds (e.arcs n.text) key v (Denotes e n.text key v) (denoted_holds e n.text key v h) is
-    value_holds e (parens o x c) v h k is = value_holds e x v h k is
-    value_holds e (tuple o x l c) v h k (t, i, is) =
+    value_holds e (indexed n x l) v h k (key, i, is) = arc_or_holds (e.arcs n) key v (Denotes e n key v) (denoted_holds e n key v h) is
+    value_holds e (parens x) v h k is = value_holds e x v h k is
+    value_holds e (tuple x l) v h k (t, i, is) =
         subst (ValueHolds P) (sym is) (components_hold (IsValue e x) (AreValues e l) t (λ u j. value_holds e x u h k.0 j) (λ us j. values_hold e l us h k.1 j) i)
-    value_holds e (negated n o x c) v h k (b, i, is) = subst (ValueHolds P) (sym is) tt
+    value_holds e (negated x) v h k (b, i, is) = subst (ValueHolds P) (sym is) tt
     value_holds e (braced b) v h k (ks, i, is) = subst (ValueHolds P) (sym is) (union_holds P [] (map (λ (q : Key). q.key) ks) tt (of_keys ks (keys_hold e b ks h k i)))
-    value_holds e (signed t x) v h k (n, i, is) = subst (ValueHolds P) (sym is) tt
+    value_holds e (signed minus x) v h k (n, i, is) = subst (ValueHolds P) (sym is) tt
     value_holds e (reduced r b x) v h k (ks, ns, n, i, all, red, is) = subst (ValueHolds P) (sym is) tt
-    value_holds e (chain n x l) v h k (u, i, is) =
-        whether (begins_range l) (HasRange (AreValues e l) u v) (IsChain e u l v) (ValueHolds P v) (spanned_holds (AreValues e l) u v) (chain_holds e u l v h (value_holds e x u h k.0 i) k.1) is
-    value_holds e (choice i x t y p) v h k (b, j, is) = whether b (IsValue e y v) (IsElse e p v) (ValueHolds P v) (value_holds e y v h k.1) (else_holds e p v h k.2) is
-    value_holds e (net s t) v h k is = subst (ValueHolds P) (sym is) tt
+    value_holds e (chain x l) v h k (u, i, is) =
+        whether (begins_range l) (HasRange (AreOperandValues e l) u v) (IsChain e u l v) (ValueHolds P v) (spanned_holds (AreOperandValues e l) u v) (chain_holds e u l v h (value_holds e x u h k.0 i) k.1) is
+    value_holds e (conditional x y p) v h k (b, j, is) = whether b (IsValue e y v) (IsElse e p v) (ValueHolds P v) (value_holds e y v h k.1) (else_holds e p v h k.2) is
+    value_holds e (net minus out) v h k is = subst (ValueHolds P) (sym is) tt
 
-    else_holds : (e : Env) (p : Part) (v : Value) → EnvHolds P e → PartHolds P p → IsElse e p v → ValueHolds P v
+    else_holds : (e : Env) (p : Clause) (v : Value) → EnvHolds P e → ClauseHolds P p → IsElse e p v → ValueHolds P v
     else_holds e absent v h k is = subst (ValueHolds P) (sym is) tt
-    else_holds e (part m x) v h k is = value_holds e x v h k is
+    else_holds e (present x) v h k is = value_holds e x v h k is
 
-    values_hold : (e : Env) (l : Links) (vs : List Value) → EnvHolds P e → LinksHold P l → AreValues e l vs → ValuesHold P vs
-    values_hold e none vs h k is = subst (ValuesHold P) (sym is) tt
-    values_hold e (link o x l) vs h k (u, us, i, j, is) = subst (ValuesHold P) (sym is) (value_holds e x u h k.0 i, values_hold e l us h k.1 j)
+    values_hold : (e : Env) (l : Expressions) (vs : List Value) → EnvHolds P e → ExpressionsHold P l → AreValues e l vs → ValuesHold P vs
+    values_hold e no_more vs h k is = subst (ValuesHold P) (sym is) tt
+    values_hold e (more x l) vs h k (u, us, i, j, is) = subst (ValuesHold P) (sym is) (value_holds e x u h k.0 i, values_hold e l us h k.1 j)
 
-    chain_holds : (e : Env) (u : Value) (l : Links) (v : Value) → EnvHolds P e → ValueHolds P u → LinksHold P l → IsChain e u l v → ValueHolds P v
+    chain_holds : (e : Env) (u : Value) (l : Operands) (v : Value) → EnvHolds P e → ValueHolds P u → OperandsHold P l → IsChain e u l v → ValueHolds P v
     chain_holds e u none v h i k is = subst (ValueHolds P) (sym is) i
-    chain_holds e u (link o x l) v h i k (w, j, is) =
-        chain_holds e w l v h (combined_holds P (operation o) u w (IsValue e x) i (λ z r. value_holds e x z h k.0 r) j) k.1 is
+    chain_holds e u (apply o x l) v h i k (w, j, is) =
+        chain_holds e w l v h (combined_holds P o u w (IsValue e x) i (λ z r. value_holds e x z h k.0 r) j) k.1 is
 
     pub keys_hold : (e : Env) (b : Braces) (ks : List Key) → EnvHolds P e → BracesHold P b → AreKeys e b ks → KeysHold P ks
-    keys_hold e (empty o p c) ks h k is = subst (KeysHold P) (sym is) tt
-    keys_hold e (filled o i is p c) ks h k (inl (all, f, left)) =
+    keys_hold e (empty p) ks h k is = subst (KeysHold P) (sym is) tt
+    keys_hold e (filled i is p) ks h k (inl (all, f, left)) =
         filtered_hold (HasTruth p) all ks (item_holds (IsItemSet i (IsSetAfterIn e i) (IsValue e i)) (Extends (start e) i) (λ q. Iterates q is) (λ ts s. item_set_holds i (IsSetAfterIn e i) (IsValue e i) ts (after_holds e i ts h k.0) (value_holds e i (Many ts) h k.0) s)
         (λ t r a b. extends_holds (start e) i t r (tt, h) a b) (λ q qs a b. iterated_hold q is qs a k.1 b) all f) left
-    keys_hold e (filled o i is p c) ks h k (inr (l, a)) = listed_hold e (IsValue e i) (AreValues e is) h (λ u j. value_holds e i u h k.0 j) (λ us j. values_hold e is us h k.1 j) ks l
+    keys_hold e (filled i is p) ks h k (inr (l, a)) = listed_hold e (IsValue e i) (AreValues e is) h (λ u j. value_holds e i u h k.0 j) (λ us j. values_hold e is us h k.1 j) ks l
 
-    iterated_hold : (k : Key) (l : Links) (ks : List Key) → KeyHolds P k → LinksHold P l → Iterates k l ks → KeysHold P ks
-    iterated_hold k none ks h j is = subst (KeysHold P) (sym is) (h, tt)
-    iterated_hold k (link o i is) ks h j f =
+    iterated_hold : (k : Key) (l : Expressions) (ks : List Key) → KeyHolds P k → ExpressionsHold P l → Iterates k l ks → KeysHold P ks
+    iterated_hold k no_more ks h j is = subst (KeysHold P) (sym is) (h, tt)
+    iterated_hold k (more i is) ks h j f =
         item_holds (IsItemSet i (IsSetAfterIn k.env i) (IsValue k.env i)) (Extends k i) (λ q. Iterates q is) (λ ts s. item_set_holds i (IsSetAfterIn k.env i) (IsValue k.env i) ts (after_holds k.env i ts h.1 j.0) (value_holds k.env i (Many ts) h.1 j.0) s)
         (λ t r a b. extends_holds k i t r h a b) (λ q qs a b. iterated_hold q is qs a j.1 b) ks f
 
-    after_holds : (e : Env) (i : Tree) (ts : List Tuple) → EnvHolds P e → TreeHolds P i → IsSetAfterIn e i ts → TuplesHold P ts
-    after_holds e (chain n x (link o y none)) ts h k is = value_holds e y (Many ts) h k.1.0 is
+    after_holds : (e : Env) (i : Expression) (ts : List Tuple) → EnvHolds P e → ExpressionHolds P i → IsSetAfterIn e i ts → TuplesHold P ts
+    after_holds e (chain x (apply o y none)) ts h k is = value_holds e y (Many ts) h k.1.0 is
     after_holds e _ ts h k is = absurd is

@@ -13,15 +13,14 @@ use Rattle.net_sets.proofs.Sames.{tuple_decides}
 use Rattle.net_tree.specs.declared.role.Role.{Role}
 use Rattle.net_tree.specs.declared.role.Role.TheVariants as roles
 use Rattle.net_tree.specs.Phrases.{is_becomes, is_default}
-use Rattle.net_tree.specs.Role.{role_of}
-use Rattle.net_tree.specs.Tree.{Tree, Braces, Body, plain, valued, priced, Phrase, Declaration, set, param, check, node, arc, objective}
+use Rattle.net_tree.specs.Syntax.{Expression, Braces, Body, plain, valued, priced, Phrase, Declaration, set, param, check, node, arc, objective}
 use Rattle.net_expr.specs.declared.world.Entry.{Entry}
 use Rattle.net_expr.specs.declared.world.Entry.TheVariants.{Set}
 use Rattle.net_expr.specs.Worlds.{Name, World}
 use Rattle.net_meaning.specs.Operators.{One, Many}
-use Rattle.net_meaning.specs.Texts.{MemberHolds, TuplesHold, EntryHolds, WorldHolds, EnvHolds, KeyHolds, KeysHold, TokenHolds, TreeHolds, BracesHold, BodyHolds, PhrasesHold, DeclarationsHold, StatementsHold}
-use Rattle.net_meaning.specs.Values.{Key, env_of, IsValue}
-use Rattle.net_meaning.specs.World.{expression_of, phrase_value, AreIndexed, SatisfiesRole, Satisfies, AreGivenMembers, IsSet, data_rows, data_defaults, IsParameterValue, row, assigned, data_default, default, nothing, keys_of, IsParameter, Binds, IsWorld}
+use Rattle.net_meaning.specs.Texts.{MemberHolds, TuplesHold, EntryHolds, WorldHolds, EnvHolds, KeyHolds, KeysHold, TokenHolds, ExpressionHolds, BracesHold, BodyHolds, PhrasesHold, DeclarationsHold, StatementsHold}
+use Rattle.net_meaning.specs.Values.{IsValue, Key, env_of}
+use Rattle.net_meaning.specs.World.{expression_of, phrase_value, AreIndexed, SatisfiesRole, Satisfies, IsSet, IsParameterValue, IsParameter, Binds, IsWorld, AreGivenMembers, data_rows, data_defaults, row, assigned, data_default, default, nothing, keys_of}
 use Rattle.net_meaning.proofs.TextOperators.{union_holds}
 use Rattle.net_meaning.proofs.TextRows.{data_value_holds, RowHolds, lines_hold, data_rows_hold, all_set_rows_hold, data_defaults_hold}
 use Rattle.net_meaning.proofs.TextValues.{none_is, some_is, value_holds, keys_hold, of_keys}
@@ -36,35 +35,35 @@ module _ (P : List ℕ → Type 0) where
 
   -- ---- phrases
 
-  expression_holds : (b : Body) → BodyHolds P b → ForSome (expression_of b) (TreeHolds P)
-  expression_holds (valued y) h x e = subst (TreeHolds P) (some_is y x e) h
+  expression_holds : (b : Body) → BodyHolds P b → ForSome (expression_of b) (ExpressionHolds P)
+  expression_holds (valued y) h x e = subst (ExpressionHolds P) (some_is y x e) h
   expression_holds plain h x e = absurd (none_is x e)
   expression_holds (priced n y) h x e = absurd (none_is x e)
 
-  pub phrase_holds : (test : Role → Bool) (ps : List Phrase) → PhrasesHold P ps → ForSome (phrase_value test ps) (TreeHolds P)
+  pub phrase_holds : (test : Role → Bool) (ps : List Phrase) → PhrasesHold P ps → ForSome (phrase_value test ps) (ExpressionHolds P)
   phrase_holds test [] h x e = absurd (none_is x e)
-  phrase_holds test (p ∷ ps) h x e = go (test (role_of p.word)) (phrase_holds test ps h.1) x e
+  phrase_holds test (p ∷ ps) h x e = go (test p.word) (phrase_holds test ps h.1) x e
     where
-      go : (b : Bool) → ForSome (phrase_value test ps) (TreeHolds P) → ForSome (if b then expression_of p.body else phrase_value test ps) (TreeHolds P)
+      go : (b : Bool) → ForSome (phrase_value test ps) (ExpressionHolds P) → ForSome (if b then expression_of p.body else phrase_value test ps) (ExpressionHolds P)
       go true more = expression_holds p.body h.0
       go false more = more
 
   -- ---- sets
 
   -- the value of the expression is the set with these members
-  abbrev AreMembersOf : World → List Tuple → Option Tree → Type 0
+  abbrev AreMembersOf : World → List Tuple → Option Expression → Type 0
   AreMembersOf w ts o = ForSome o (λ x. IsValue (env_of w []) x (Many ts))
 
   -- the members of a set are the value of the expression after `:=`
   becomes_members : (w : World) (d : ℕ) (ts : List Tuple) (ps : List Phrase) → AllByRecursion (Satisfies w d ts) ps → AreMembersOf w ts (phrase_value is_becomes ps)
   becomes_members w d ts [] h x e = absurd (none_is x e)
-  becomes_members w d ts (p ∷ ps) h x e = go (role_of p.word) h.0 (becomes_members w d ts ps h.1) x e
+  becomes_members w d ts (p ∷ ps) h x e = go p.word h.0 (becomes_members w d ts ps h.1) x e
     where
       go : (r : Role) → ForSome (expression_of p.body) (SatisfiesRole w d ts r) → AreMembersOf w ts (phrase_value is_becomes ps) → AreMembersOf w ts (if is_becomes r then expression_of p.body else phrase_value is_becomes ps)
       go roles.Becomes s more = s
       go _ s more = more
 
-  given_members_hold : (w : World) (ss : List Statement) (n : Name) (d : ℕ) (ts : List Tuple) (o : Option Tree) → WorldHolds P w → StatementsHold P ss → ForSome o (TreeHolds P)
+  given_members_hold : (w : World) (ss : List Statement) (n : Name) (d : ℕ) (ts : List Tuple) (o : Option Expression) → WorldHolds P w → StatementsHold P ss → ForSome o (ExpressionHolds P)
       → AreMembersOf w ts o → AreGivenMembers ss n d ts o → TuplesHold P ts
   given_members_hold w ss n d ts (Some x) h k t is m = value_holds P (env_of w []) x (Many ts) (env_holds w h) (t x refl) (is x refl)
   given_members_hold w ss n d ts None h k t is (once, z) = lines_hold P _ ts (all_set_rows_hold P d n ss k) z
@@ -124,14 +123,14 @@ module _ (P : List ℕ → Type 0) where
 
   bound_holds : (ss : List Statement) (before : World) (ds : List Declaration) (w : World) → StatementsHold P ss → WorldHolds P before → DeclarationsHold P ds → Binds ss before ds w → WorldHolds P w
   bound_holds ss before [] w h k i e = subst (WorldHolds P) (sym e) k
-  bound_holds ss before (set t n ps e ∷ ds) w h k i (d, ts, is, more) =
-      bound_holds ss (before ++ (n.text, Set d ts) ∷ []) ds w h (with_entry before n.text (Set d ts) k (set_holds before ss n.text ps d ts k h i.0 is)) i.1 more
-  bound_holds ss before (param t n b ps e ∷ ds) w h k i (x, is, more) =
-      bound_holds ss (before ++ (n.text, x) ∷ []) ds w h (with_entry before n.text x k (parameter_holds before ss n.text b ps x k h i.0.0 i.0.1 is)) i.1 more
-  bound_holds ss before (check t b m x e ∷ ds) w h k i (keys, is, all, more) = bound_holds ss before ds w h k i.1 more
-  bound_holds ss before (node t n b c e ∷ ds) w h k i more = bound_holds ss before ds w h k i.1 more
-  bound_holds ss before (arc t n b ps e ∷ ds) w h k i more = bound_holds ss before ds w h k i.1 more
-  bound_holds ss before (objective t n p e ∷ ds) w h k i more = bound_holds ss before ds w h k i.1 more
+  bound_holds ss before (set n ps ∷ ds) w h k i (d, ts, is, more) =
+      bound_holds ss (before ++ (n, Set d ts) ∷ []) ds w h (with_entry before n (Set d ts) k (set_holds before ss n ps d ts k h i.0 is)) i.1 more
+  bound_holds ss before (param n b ps ∷ ds) w h k i (x, is, more) =
+      bound_holds ss (before ++ (n, x) ∷ []) ds w h (with_entry before n x k (parameter_holds before ss n b ps x k h i.0.0 i.0.1 is)) i.1 more
+  bound_holds ss before (check b x ∷ ds) w h k i (keys, is, all, more) = bound_holds ss before ds w h k i.1 more
+  bound_holds ss before (node n b c ∷ ds) w h k i more = bound_holds ss before ds w h k i.1 more
+  bound_holds ss before (arc n b ps ∷ ds) w h k i more = bound_holds ss before ds w h k i.1 more
+  bound_holds ss before (objective minimizes n p ∷ ds) w h k i more = bound_holds ss before ds w h k i.1 more
 
   pub world_holds : (ds : List Declaration) (ss : List Statement) (w : World) → DeclarationsHold P ds → StatementsHold P ss → IsWorld ds ss w → WorldHolds P w
   world_holds ds ss w h k is = bound_holds ss [] ds w k tt h is.bound

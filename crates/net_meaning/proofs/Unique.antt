@@ -1,5 +1,5 @@
 -- An expression has one value at most.
-use Rattle.std.specs.Prelude.{◌≡◌, ◌<◌, ◌≤◌, ℕ, zero, suc, Bool, true, false, not, List, [], ◌∷◌, ◌++◌, map, Option, None, Some, is_some, if◌then◌else◌, ℤ, pos, ◌≤ℤ◌}
+use Rattle.std.specs.Prelude.{◌≡◌, ◌<◌, ◌≤◌, ℕ, zero, suc, Bool, true, false, not, List, [], ◌∷◌, ◌++◌, map, Option, None, Some, ℤ, pos, ◌≤ℤ◌}
 use Rattle.std.specs.List.{AllByRecursion, AllZip}
 use Rattle.std.proofs.Common.{refl, ap, sym, ◌∙◌, subst, arith, inl, inr}
 use Rattle.std.proofs.lemmas.Int.{ints}
@@ -15,18 +15,17 @@ use Rattle.net_tree.specs.declared.operator.Reduction.{Reduction}
 use Rattle.net_tree.specs.declared.operator.Reduction.TheVariants.{Sum, Min, Max}
 use Rattle.net_tree.specs.declared.role.Role.{Role}
 use Rattle.net_tree.specs.declared.role.Role.TheVariants as roles
-use Rattle.net_tree.specs.Items.{is_in, both}
-use Rattle.net_tree.specs.Operations.{operation, is_range, reduction, is_minus}
+use Rattle.net_tree.specs.Items.{is_in}
+use Rattle.net_tree.specs.Operations.{is_range}
 use Rattle.net_tree.specs.Role.{role_of}
-use Rattle.net_tree.specs.Tree.{Tree, Links, Part, Braces, leaf, indexed, parens, tuple, negated, braced, signed, reduced, chain, choice, net, none, link, absent, part, empty, filled}
-use Rattle.net_expr.specs.Items.{begins_range, has_in, new_dummy}
+use Rattle.net_tree.specs.Syntax.{Expression, Expressions, Operands, Clause, Braces, leaf, indexed, parens, tuple, negated, braced, signed, reduced, chain, conditional, net, no_more, more, none, apply, absent, present, empty, filled}
 use Rattle.net_expr.specs.Numbers.{turned}
 use Rattle.net_expr.specs.Worlds.{Name}
 use Rattle.net_expr.proofs.Numerals.{value_is}
 use Rattle.net_meaning.specs.Operators.{Value, One, Several, Many, Truth, number, IsTuple, one, several, IsResult, ShortCircuits, and_false, or_true, IsAmong, Reduces, IsRange, IsRangeOf, to, by, Combines}
 use Rattle.net_meaning.specs.Laws.{ValuesAreUnique, KeysAreUnique}
 use Rattle.net_meaning.specs.Operators as make
-use Rattle.net_meaning.specs.Values.{Env, Key, Whether, Denotes, dummy, a_set, parameter, IsArcOr, bind, Filters, Continues, FromEach, FromItem, AreMembers, HasRange, start, extended, AreListed, IsItemSet, IsLeaf, Matches, MatchesWhole, IsValue, IsElse, AreValues, IsChain, AreKeys, HasTruth, Iterates, IsSetAfterIn, Extends, Agrees, AllAgree}
+use Rattle.net_meaning.specs.Values.{Env, Key, Whether, Denotes, dummy, a_set, parameter, IsArcOr, bind, Filters, Continues, FromEach, FromItem, AreMembers, HasRange, start, extended, AreListed, IsItemSet, IsLeaf, Matches, MatchesWhole, begins_range, has_in, new_dummy, IsValue, IsElse, AreValues, AreOperandValues, IsChain, AreKeys, HasTruth, Iterates, IsSetAfterIn, Extends, Agrees, AllAgree}
 
 -- at most one has it
 abbrev pub Unique : {A : Type 0} → (A → Type 0) → Type 0
@@ -209,7 +208,7 @@ keeps_unique P h (k ∷ ks) x y (a, p, inr (t, e)) (b, q, inr (u, f)) = e ∙ ke
 keeps_unique P h (k ∷ ks) x y (a, p, inl (t, e)) (b, q, inr (u, f)) = absurd (true≢false (h k true false t u))
 keeps_unique P h (k ∷ ks) x y (a, p, inr (t, e)) (b, q, inl (u, f)) = absurd (true≢false (h k true false u t))
 
-set_unique : (i : Tree) (After : List Tuple → Type 0) (Own : Value → Type 0) → Unique After → Unique Own → Unique (IsItemSet i After Own)
+set_unique : (i : Expression) (After : List Tuple → Type 0) (Own : Value → Type 0) → Unique After → Unique Own → Unique (IsItemSet i After Own)
 set_unique i After Own h k x y p q = alone_whether (has_in i) After (λ ts. Own (Many ts)) h (λ ts us a b. many_same ts us (k (Many ts) (Many us) a b)) x y p q
 
 listed_unique : (e : Env) (First : Value → Type 0) (More : List Value → Type 0) → Unique First → Unique More → Unique (AreListed e First More)
@@ -238,105 +237,109 @@ membership_is_truth x Right v (inr (z, r, m)) = by_making x z v m
     by_making x z v (make.is_in a t ts h) = (_, refl)
 
 -- an item with `in` is a truth where it is evaluated
-in_is_no_tuple : (e : Env) (x : Value) (o : _) (y : Tree) (u : Value) (t : Tuple) → operation o ≡ op.In → Whether (is_range (operation o)) (HasRange (AreValues e (link o y none)) x u) (IsChain e x (link o y none) u) → IsTuple u t → ⊥
-in_is_no_tuple e x o y u t f h k = go (subst (λ g. Whether (is_range g) (HasRange (AreValues e (link o y none)) x u) ((w : Value) × Combines g x (IsValue e y) w × (u ≡ w))) f h)
+in_is_no_tuple : (e : Env) (x : Value) (o : _) (y : Expression) (u : Value) (t : Tuple) → o ≡ op.In → Whether (is_range o) (HasRange (AreOperandValues e (apply o y none)) x u) (IsChain e x (apply o y none) u) → IsTuple u t → ⊥
+in_is_no_tuple e x o y u t f h k = go (subst (λ g. Whether (is_range g) (HasRange (AreOperandValues e (apply o y none)) x u) ((w : Value) × Combines g x (IsValue e y) w × (u ≡ w))) f h)
   where
     go : (w : Value) × Combines op.In x (IsValue e y) w × (u ≡ w) → ⊥
     go (w, j, i) = let (b, m) = membership_is_truth x (IsValue e y) w j in no_truth b t (subst (λ z. IsTuple z t) (i ∙ m) k)
 
-item_is_no_tuple : (e : Env) (i : Tree) → Unique (IsValue e i) → (ts : List Tuple) → IsItemSet i (IsSetAfterIn e i) (IsValue e i) ts → (u : Value) (t : Tuple) → IsValue e i u → IsTuple u t → ⊥
-item_is_no_tuple e (chain n x (link o y none)) alone ts set u t (a, g, h) k = go (is_in (operation o)) refl set
+item_is_no_tuple : (e : Env) (i : Expression) → Unique (IsValue e i) → (ts : List Tuple) → IsItemSet i (IsSetAfterIn e i) (IsValue e i) ts → (u : Value) (t : Tuple) → IsValue e i u → IsTuple u t → ⊥
+item_is_no_tuple e (chain x (apply o y none)) alone ts set u t (a, g, h) k = go (is_in o) refl set
   where
-    go : (b : Bool) → is_in (operation o) ≡ b → Whether (is_some (both x (if b then Some y else None))) (IsValue e y (Many ts)) (IsValue e (chain n x (link o y none)) (Many ts)) → ⊥
-    go true f s = in_is_no_tuple e a o y u t (in_is (operation o) f) h k
+    go : (b : Bool) → is_in o ≡ b → Whether b (IsValue e y (Many ts)) (IsValue e (chain x (apply o y none)) (Many ts)) → ⊥
+    go true f s = in_is_no_tuple e a o y u t (in_is o f) h k
     go false f s = no_set ts t (subst (λ z. IsTuple z t) (alone u (Many ts) (a, g, h) s) k)
 item_is_no_tuple e i alone ts set u t h k = no_set ts t (subst (λ z. IsTuple z t) (alone u (Many ts) h set) k)
 
-walked_or_listed : (e : Env) (i : Tree) → Unique (IsValue e i) → (ts : List Tuple) → IsItemSet i (IsSetAfterIn e i) (IsValue e i) ts → (u : Value) (us : List Value) (vs : List Tuple) → IsValue e i u → AllZip IsTuple (u ∷ us) vs → ⊥
+walked_or_listed : (e : Env) (i : Expression) → Unique (IsValue e i) → (ts : List Tuple) → IsItemSet i (IsSetAfterIn e i) (IsValue e i) ts → (u : Value) (us : List Value) (vs : List Tuple) → IsValue e i u → AllZip IsTuple (u ∷ us) vs → ⊥
 walked_or_listed e i alone ts s u us [] h z = absurd z
 walked_or_listed e i alone ts s u us (t ∷ vs) h z = item_is_no_tuple e i alone ts s u t h z.0
 
-filled_unique : (e : Env) (o : Token) (i : Tree) (is : Links) (p : Part) (c : Token) → Unique (IsValue e i) → Unique (IsSetAfterIn e i) → ((k : Key) (t : Tuple) → Unique (Extends k i t)) → ((k : Key) → Unique (Iterates k is))
-    → Unique (AreValues e is) → ((k : Key) → Unique (HasTruth p k)) → Unique (AreKeys e (filled o i is p c))
-filled_unique e o i is p c value set leads walks values tested x y (inl (all, f, k)) (inl (others, g, l)) =
+filled_unique : (e : Env) (i : Expression) (is : Expressions) (p : Clause) → Unique (IsValue e i) → Unique (IsSetAfterIn e i) → ((k : Key) (t : Tuple) → Unique (Extends k i t)) → ((k : Key) → Unique (Iterates k is))
+    → Unique (AreValues e is) → ((k : Key) → Unique (HasTruth p k)) → Unique (AreKeys e (filled i is p))
+filled_unique e i is p value set leads walks values tested x y (inl (all, f, k)) (inl (others, g, l)) =
     let same : others ≡ all = item_unique (IsItemSet i (IsSetAfterIn e i) (IsValue e i)) (Extends (start e) i) (λ z. Iterates z is) (set_unique i (IsSetAfterIn e i) (IsValue e i) set value) (λ t. leads (start e) t) walks others all g f in
     keeps_unique (HasTruth p) tested all x y k (subst (λ z. Filters (HasTruth p) z y) same l)
-filled_unique e o i is p c value set leads walks values tested x y (inr (f, a)) (inr (g, b)) = listed_unique e (IsValue e i) (AreValues e is) value values x y f g
-filled_unique e o i is p c value set leads walks values tested x y (inl (all, (ts, s, f), k)) (inr ((u, us, vs, h, g, z, l), b)) = absurd (walked_or_listed e i value ts s u us vs h z)
-filled_unique e o i is p c value set leads walks values tested x y (inr ((u, us, vs, h, g, z, l), b)) (inl (all, (ts, s, f), k)) = absurd (walked_or_listed e i value ts s u us vs h z)
+filled_unique e i is p value set leads walks values tested x y (inr (f, a)) (inr (g, b)) = listed_unique e (IsValue e i) (AreValues e is) value values x y f g
+filled_unique e i is p value set leads walks values tested x y (inl (all, (ts, s, f), k)) (inr ((u, us, vs, h, g, z, l), b)) = absurd (walked_or_listed e i value ts s u us vs h z)
+filled_unique e i is p value set leads walks values tested x y (inr ((u, us, vs, h, g, z, l), b)) (inl (all, (ts, s, f), k)) = absurd (walked_or_listed e i value ts s u us vs h z)
 
 mutual
-  value_unique : (e : Env) (t : Tree) → Unique (IsValue e t)
+  value_unique : (e : Env) (t : Expression) → Unique (IsValue e t)
   value_unique e (leaf t) u v p q = read_unique (e.arcs t.text) [] (IsLeaf e t (role_of t)) (leaf_unique e t (role_of t)) u v p q
-  value_unique e (indexed n o x l c) u v (key, a, p) (other, b, q) =
+  value_unique e (indexed n x l) u v (key, a, p) (other, b, q) =
       let same : other ≡ key = members_unique (IsValue e x) (AreValues e l) (value_unique e x) (values_unique e l) other key b a in
-      read_unique (e.arcs n.text) key (Denotes e n.text key) (named_unique e n.text key) u v p (subst (λ z. IsArcOr (e.arcs n.text) z v (Denotes e n.text z v)) same q)
-  value_unique e (parens o x c) u v p q = value_unique e x u v p q
-  value_unique e (tuple o x l c) u v (t, a, p) (s, b, q) = p ∙ ap (λ z. Several z) (members_unique (IsValue e x) (AreValues e l) (value_unique e x) (values_unique e l) t s a b) ∙ sym q
-  value_unique e (negated n o x c) u v (b, h, p) (c', i, q) = p ∙ ap (λ z. Truth (not z)) (truth_same b c' (value_unique e x (Truth b) (Truth c') h i)) ∙ sym q
+      read_unique (e.arcs n) key (Denotes e n key) (named_unique e n key) u v p (subst (λ z. IsArcOr (e.arcs n) z v (Denotes e n z v)) same q)
+  value_unique e (parens x) u v p q = value_unique e x u v p q
+  value_unique e (tuple x l) u v (t, a, p) (s, b, q) = p ∙ ap (λ z. Several z) (members_unique (IsValue e x) (AreValues e l) (value_unique e x) (values_unique e l) t s a b) ∙ sym q
+  value_unique e (negated x) u v (b, h, p) (c', i, q) = p ∙ ap (λ z. Truth (not z)) (truth_same b c' (value_unique e x (Truth b) (Truth c') h i)) ∙ sym q
   value_unique e (braced b) u v (ks, h, p) (js, i, q) = p ∙ ap (λ z. Many (union [] (map (λ k. k.key) z))) (keys_unique e b ks js h i) ∙ sym q
-  value_unique e (signed t x) u v (n, h, p) (m, i, q) = p ∙ ap (λ z. number (turned (is_minus t) z)) (number_same n m (value_unique e x (number n) (number m) h i)) ∙ sym q
+  value_unique e (signed minus x) u v (n, h, p) (m, i, q) = p ∙ ap (λ z. number (turned minus z)) (number_same n m (value_unique e x (number n) (number m) h i)) ∙ sym q
   value_unique e (reduced r b x) u v (ks, ns, n, h, all, red, p) (js, ms, m, i, each, red', q) =
       let keys : js ≡ ks = keys_unique e b js ks i h in
       let numbers : ms ≡ ns = zip_unique (λ (k : Key) m. IsValue k.env x (number m)) (λ k m n a b. number_same m n (value_unique k.env x (number m) (number n) a b)) ks ms ns (subst (λ z. AllZip (λ (k : Key) m. IsValue k.env x (number m)) z ms) keys each) all in
-      p ∙ ap number (reduces_unique (reduction r) ns n m red (subst (λ z. Reduces (reduction r) z m) numbers red')) ∙ sym q
-  value_unique e (chain n x l) u v (a, h, p) (b, i, q) =
+      p ∙ ap number (reduces_unique r ns n m red (subst (λ z. Reduces r z m) numbers red')) ∙ sym q
+  value_unique e (chain x l) u v (a, h, p) (b, i, q) =
       let same : b ≡ a = value_unique e x b a i h in
-      alone_whether (begins_range l) (HasRange (AreValues e l) a) (IsChain e a l) (spans_unique (AreValues e l) (values_unique e l) a) (follows_unique e a l) u v p
-      (subst (λ z. Whether (begins_range l) (HasRange (AreValues e l) z v) (IsChain e z l v)) same q)
-  value_unique e (choice i x t y p) u v (b, h, r) (c, j, s) =
+      alone_whether (begins_range l) (HasRange (AreOperandValues e l) a) (IsChain e a l) (spans_unique (AreOperandValues e l) (operands_unique e l) a) (follows_unique e a l) u v p
+      (subst (λ z. Whether (begins_range l) (HasRange (AreOperandValues e l) z v) (IsChain e z l v)) same q)
+  value_unique e (conditional x y p) u v (b, h, r) (c, j, s) =
       let same : c ≡ b = truth_same c b (value_unique e x (Truth c) (Truth b) j h) in
       alone_whether b (IsValue e y) (IsElse e p) (value_unique e y) (else_unique e p) u v r (subst (λ z. Whether z (IsValue e y v) (IsElse e p v)) same s)
-  value_unique e (net s t) u v p q = p ∙ sym q
+  value_unique e (net minus out) u v p q = p ∙ sym q
 
-  else_unique : (e : Env) (p : Part) → Unique (IsElse e p)
+  else_unique : (e : Env) (p : Clause) → Unique (IsElse e p)
   else_unique e absent u v p q = p ∙ sym q
-  else_unique e (part m x) u v p q = value_unique e x u v p q
+  else_unique e (present x) u v p q = value_unique e x u v p q
 
-  values_unique : (e : Env) (l : Links) → Unique (AreValues e l)
-  values_unique e none u v p q = p ∙ sym q
-  values_unique e (link o x l) u v (a, as', h, i, p) (b, bs, j, k, q) = p ∙ ap (λ z. z ∷ as') (value_unique e x a b h j) ∙ ap (λ z. b ∷ z) (values_unique e l as' bs i k) ∙ sym q
+  values_unique : (e : Env) (l : Expressions) → Unique (AreValues e l)
+  values_unique e no_more u v p q = p ∙ sym q
+  values_unique e (more x l) u v (a, as', h, i, p) (b, bs, j, k, q) = p ∙ ap (λ z. z ∷ as') (value_unique e x a b h j) ∙ ap (λ z. b ∷ z) (values_unique e l as' bs i k) ∙ sym q
 
-  follows_unique : (e : Env) (x : Value) (l : Links) → Unique (IsChain e x l)
+  operands_unique : (e : Env) (l : Operands) → Unique (AreOperandValues e l)
+  operands_unique e none u v p q = p ∙ sym q
+  operands_unique e (apply o x l) u v (a, as', h, i, p) (b, bs, j, k, q) = p ∙ ap (λ z. z ∷ as') (value_unique e x a b h j) ∙ ap (λ z. b ∷ z) (operands_unique e l as' bs i k) ∙ sym q
+
+  follows_unique : (e : Env) (x : Value) (l : Operands) → Unique (IsChain e x l)
   follows_unique e x none u v p q = p ∙ sym q
-  follows_unique e x (link o y l) u v (a, h, i) (b, j, k) =
-      follows_unique e a l u v i (subst (λ z. IsChain e z l v) (joins_unique (operation o) x (IsValue e y) (value_unique e y) b a j h) k)
+  follows_unique e x (apply o y l) u v (a, h, i) (b, j, k) =
+      follows_unique e a l u v i (subst (λ z. IsChain e z l v) (joins_unique o x (IsValue e y) (value_unique e y) b a j h) k)
 
   keys_unique : (e : Env) (b : Braces) → Unique (AreKeys e b)
-  keys_unique e (empty o p c) x y a b = a ∙ sym b
-  keys_unique e (filled o i is p c) x y a b =
-      filled_unique e o i is p c (value_unique e i) (after_unique e i) (λ k t. leads_unique k i t) (λ k. walks_unique k is) (values_unique e is) (λ k. true_unique p k) x y a b
+  keys_unique e (empty p) x y a b = a ∙ sym b
+  keys_unique e (filled i is p) x y a b =
+      filled_unique e i is p (value_unique e i) (after_unique e i) (λ k t. leads_unique k i t) (λ k. walks_unique k is) (values_unique e is) (λ k. true_unique p k) x y a b
 
-  true_unique : (p : Part) (k : Key) → Unique (HasTruth p k)
+  true_unique : (p : Clause) (k : Key) → Unique (HasTruth p k)
   true_unique absent k b c h i = h ∙ sym i
-  true_unique (part m x) k b c h i = truth_same b c (value_unique k.env x (Truth b) (Truth c) h i)
+  true_unique (present x) k b c h i = truth_same b c (value_unique k.env x (Truth b) (Truth c) h i)
 
-  walks_unique : (k : Key) (l : Links) → Unique (Iterates k l)
-  walks_unique k none x y p q = p ∙ sym q
-  walks_unique k (link o i is) x y p q =
+  walks_unique : (k : Key) (l : Expressions) → Unique (Iterates k l)
+  walks_unique k no_more x y p q = p ∙ sym q
+  walks_unique k (more i is) x y p q =
       item_unique (IsItemSet i (IsSetAfterIn k.env i) (IsValue k.env i)) (Extends k i) (λ z. Iterates z is) (set_unique i (IsSetAfterIn k.env i) (IsValue k.env i) (after_unique k.env i) (value_unique k.env i))
       (λ t. leads_unique k i t) (λ z. walks_unique z is) x y p q
 
-  after_unique : (e : Env) (i : Tree) → Unique (IsSetAfterIn e i)
-  after_unique e (chain n x (link o y none)) ts us p q = many_same ts us (value_unique e y (Many ts) (Many us) p q)
+  after_unique : (e : Env) (i : Expression) → Unique (IsSetAfterIn e i)
+  after_unique e (chain x (apply o y none)) ts us p q = many_same ts us (value_unique e y (Many ts) (Many us) p q)
   after_unique e _ ts us p q = absurd p
 
-  leads_unique : (k : Key) (i : Tree) (t : Tuple) → Unique (Extends k i t)
-  leads_unique k (chain n x (link o y none)) t r s p q =
-      alone_whether (is_in (operation o)) (Agrees k x (IsValue k.env x) t) (λ z. z ≡ Some (extended k t)) (agrees_unique k x t (value_unique k.env x)) (λ a b e f. e ∙ sym f) r s p q
+  leads_unique : (k : Key) (i : Expression) (t : Tuple) → Unique (Extends k i t)
+  leads_unique k (chain x (apply o y none)) t r s p q =
+      alone_whether (is_in o) (Agrees k x (IsValue k.env x) t) (λ z. z ≡ Some (extended k t)) (agrees_unique k x t (value_unique k.env x)) (λ a b e f. e ∙ sym f) r s p q
   leads_unique k _ t r s p q = p ∙ sym q
 
-  agrees_unique : (k : Key) (x : Tree) (t : Tuple) → Unique (IsValue k.env x) → Unique (Agrees k x (IsValue k.env x) t)
-  agrees_unique k (tuple o x l c) [] h r s p q = p ∙ sym q
-  agrees_unique k (tuple o x l c) (m ∷ ms) h r s p q =
-      meets_unique k (new_dummy k.env.world k.env.dummies x) (IsValue k.env x) m (λ z. AllAgree z l ms) (value_unique k.env x) (λ z. all_agree_unique z l ms) r s p q
-  agrees_unique k x t h r s p q = meets_whole_unique k (new_dummy k.env.world k.env.dummies x) (IsValue k.env x) t h r s p q
+  agrees_unique : (k : Key) (x : Expression) (t : Tuple) → Unique (IsValue k.env x) → Unique (Agrees k x (IsValue k.env x) t)
+  agrees_unique k (tuple x l) [] h r s p q = p ∙ sym q
+  agrees_unique k (tuple x l) (m ∷ ms) h r s p q =
+      meets_unique k (new_dummy k.env x) (IsValue k.env x) m (λ z. AllAgree z l ms) (value_unique k.env x) (λ z. all_agree_unique z l ms) r s p q
+  agrees_unique k x t h r s p q = meets_whole_unique k (new_dummy k.env x) (IsValue k.env x) t h r s p q
 
-  all_agree_unique : (k : Key) (l : Links) (ms : Tuple) → Unique (AllAgree k l ms)
-  all_agree_unique k none ms r s p q = p ∙ sym q
-  all_agree_unique k (link o x l) [] r s p q = p ∙ sym q
-  all_agree_unique k (link o x l) (m ∷ ms) r s p q =
-      meets_unique k (new_dummy k.env.world k.env.dummies x) (IsValue k.env x) m (λ z. AllAgree z l ms) (value_unique k.env x) (λ z. all_agree_unique z l ms) r s p q
+  all_agree_unique : (k : Key) (l : Expressions) (ms : Tuple) → Unique (AllAgree k l ms)
+  all_agree_unique k no_more ms r s p q = p ∙ sym q
+  all_agree_unique k (more x l) [] r s p q = p ∙ sym q
+  all_agree_unique k (more x l) (m ∷ ms) r s p q =
+      meets_unique k (new_dummy k.env x) (IsValue k.env x) m (λ z. AllAgree z l ms) (value_unique k.env x) (λ z. all_agree_unique z l ms) r s p q
 
 pub values_are_unique : ValuesAreUnique
 values_are_unique e t u v p q = value_unique e t u v p q

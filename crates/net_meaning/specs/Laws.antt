@@ -3,7 +3,8 @@ use Rattle.std.specs.Prelude.{◌≡◌, ℕ, Bool, true, List, map, None, Ok, O
 use Rattle.std.specs.List.{AllByRecursion}
 use Rattle.net_data.specs.declared.statement.Statement.{Statement}
 use Rattle.net_sets.specs.Sets.{Tuple}
-use Rattle.net_tree.specs.Tree.{Tree, Links, Part, Braces, Declaration, leaf, indexed, parens, tuple, negated, braced, signed, reduced, chain, choice, net, none, link, absent, part, empty, filled}
+use Rattle.net_tree.specs.Syntax as forms
+use Rattle.net_tree.specs.Tree.{Tree, Links, Part, Braces, leaf, indexed, parens, tuple, negated, braced, signed, reduced, chain, choice, net, none, link, absent, part, empty, filled}
 use Rattle.net_expr.specs.declared.row.Keys.{Keys}
 use Rattle.net_expr.specs.declared.row.Row.{Row}
 use Rattle.net_expr.specs.declared.value.Value.{Value as Found}
@@ -12,8 +13,10 @@ use Rattle.net_expr.specs.Values.{value, index}
 use Rattle.net_expr.specs.Worlds.{Name, World, Scope}
 use Rattle.net_meaning.specs.Operators.{Value, One, Several, Many, Truth}
 use Rattle.net_meaning.specs.Network.{Node, Arc, Objective, IsNetwork}
-use Rattle.net_meaning.specs.Texts.{ValueHolds, WorldHolds, EnvHolds, KeysHold, TreeHolds, BracesHold, DeclarationsHold, StatementsHold, nodes_in, arcs_in, LabelHolds}
-use Rattle.net_meaning.specs.Values.{Env, Key, env_with, env_of, IsValue, AreKeys}
+use Rattle.net_meaning.specs.OfTrees.{IsValue, AreKeys}
+use Rattle.net_meaning.specs.Texts.{ValueHolds, WorldHolds, EnvHolds, KeysHold, ExpressionHolds, BracesHold, DeclarationsHold, StatementsHold, nodes_in, arcs_in, LabelHolds}
+use Rattle.net_meaning.specs.Values as values
+use Rattle.net_meaning.specs.Values.{Env, Key, env_with, env_of}
 use Rattle.net_meaning.specs.World.{IsWorld}
 
 -- the value of the evaluator as a value of these definitions, which have no dimensions
@@ -64,11 +67,11 @@ KeysAreSound = (w : World) (s : Scope) (b : Braces) (k : Keys) → index w s b �
 
 -- an expression has at most one value
 abbrev pub ValuesAreUnique : Type 0
-ValuesAreUnique = (e : Env) (t : Tree) (u v : Value) → IsValue e t u → IsValue e t v → u ≡ v
+ValuesAreUnique = (e : Env) (x : forms.Expression) (u v : Value) → values.IsValue e x u → values.IsValue e x v → u ≡ v
 
 -- an indexing expression has at most one list of keys
 abbrev pub KeysAreUnique : Type 0
-KeysAreUnique = (e : Env) (b : Braces) (ks js : List Key) → AreKeys e b ks → AreKeys e b js → ks ≡ js
+KeysAreUnique = (e : Env) (b : forms.Braces) (ks js : List Key) → values.AreKeys e b ks → values.AreKeys e b js → ks ≡ js
 
 -- the text passes the test
 abbrev pub Passes : (List ℕ → Bool) → List ℕ → Type 0
@@ -76,19 +79,19 @@ Passes test text = test text ≡ true
 
 -- if the texts of the environment and the names and strings of the expression pass a test, the texts of the value pass it
 abbrev pub TextsOfValuesPass : Type 0
-TextsOfValuesPass = (test : List ℕ → Bool) (e : Env) (t : Tree) (v : Value) → EnvHolds (Passes test) e → TreeHolds (Passes test) t → IsValue e t v → ValueHolds (Passes test) v
+TextsOfValuesPass = (test : List ℕ → Bool) (e : Env) (x : forms.Expression) (v : Value) → EnvHolds (Passes test) e → ExpressionHolds (Passes test) x → values.IsValue e x v → ValueHolds (Passes test) v
 
 -- the same for the keys of an indexing expression, and for the environment at each key
 abbrev pub TextsOfKeysPass : Type 0
-TextsOfKeysPass = (test : List ℕ → Bool) (e : Env) (b : Braces) (ks : List Key) → EnvHolds (Passes test) e → BracesHold (Passes test) b → AreKeys e b ks → KeysHold (Passes test) ks
+TextsOfKeysPass = (test : List ℕ → Bool) (e : Env) (b : forms.Braces) (ks : List Key) → EnvHolds (Passes test) e → BracesHold (Passes test) b → values.AreKeys e b ks → KeysHold (Passes test) ks
 
 -- if the names and strings of the declarations and the data statements pass a test, the texts of their world pass it
 abbrev pub TextsOfWorldsPass : Type 0
-TextsOfWorldsPass = (test : List ℕ → Bool) (ds : List Declaration) (ss : List Statement) (w : World) → DeclarationsHold (Passes test) ds → StatementsHold (Passes test) ss → IsWorld ds ss w → WorldHolds (Passes test) w
+TextsOfWorldsPass = (test : List ℕ → Bool) (ds : List forms.Declaration) (ss : List Statement) (w : World) → DeclarationsHold (Passes test) ds → StatementsHold (Passes test) ss → IsWorld ds ss w → WorldHolds (Passes test) w
 
 -- if the texts of the world and the names and strings of the declarations pass a test, the texts of the keys of nodes and arcs pass it; the name
 -- of each node and each arc is the name of a declaration
 abbrev pub TextsOfLabelsPass : Type 0
-TextsOfLabelsPass = (test : List ℕ → Bool) (requested : Option Name) (w : World) (ds : List Declaration) (vs : List Node) (all : List Arc) (o : Objective) → WorldHolds (Passes test) w → DeclarationsHold (Passes test) ds
+TextsOfLabelsPass = (test : List ℕ → Bool) (requested : Option Name) (w : World) (ds : List forms.Declaration) (vs : List Node) (all : List Arc) (o : Objective) → WorldHolds (Passes test) w → DeclarationsHold (Passes test) ds
     → IsNetwork requested w ds vs all o
     → AllByRecursion (λ (v : Node). LabelHolds (Passes test) (nodes_in ds) v.label) vs × AllByRecursion (λ (a : Arc). LabelHolds (Passes test) (arcs_in ds) a.label) all

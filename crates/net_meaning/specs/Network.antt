@@ -1,16 +1,14 @@
 -- The network of a model: its nodes and arcs by name and key, the feasible assignments of flows to arcs, and their values (AMPL book, chapter 15).
-use Rattle.std.specs.Prelude.{◌≡◌, ◌+◌, ◌||◌, ◌&&◌, ℕ, Bool, true, false, List, [], ◌∷◌, ◌++◌, map, take, filter, codes, Option, None, Some, is_some, if◌then◌else◌, IsTrue, ⊤, ℤ, pos, ◌+ℤ◌, ◌-ℤ◌, ◌*ℤ◌, ◌≤ℤ◌}
+use Rattle.std.specs.Prelude.{◌≡◌, ◌+◌, ◌||◌, ◌&&◌, ℕ, Bool, true, false, List, [], ◌∷◌, ◌++◌, map, take, filter, Option, None, Some, is_some, if◌then◌else◌, IsTrue, ⊤, ℤ, pos, ◌+ℤ◌, ◌-ℤ◌, ◌*ℤ◌, ◌≤ℤ◌}
 use Rattle.std.specs.List.{AllByRecursion, AllZip, IsDistinct, list_any}
 use Rattle.std.specs.Str.{bytes_eq}
 use Rattle.net_lex.specs.declared.token.Token.{Token}
 use Rattle.net_normal.specs.declared.instance.Sense.{Sense}
 use Rattle.net_normal.specs.declared.instance.Sense.TheVariants.{Minimise, Maximise}
 use Rattle.net_sets.specs.Sets.{Tuple, same_tuple}
-use Rattle.net_tree.specs.declared.operator.Words.{Words as Operator}
-use Rattle.net_tree.specs.declared.operator.Words.TheVariants as words
-use Rattle.net_tree.specs.Operations.{operation}
+use Rattle.net_tree.specs.declared.operator.BinOp.{BinOp}
 use Rattle.net_tree.specs.Phrases.{is_at_least, is_at_most, is_from, is_to}
-use Rattle.net_tree.specs.Tree.{Tree, Links, leaf, indexed, Part, absent, part, Braces, Body, plain, valued, priced, Phrase, Condition, unsaid, one, between, Declaration, set, param, node, arc, objective}
+use Rattle.net_tree.specs.Syntax.{Expression, Expressions, leaf, indexed, Clause, absent, present, Braces, Body, plain, valued, priced, Phrase, Condition, unsaid, one, between, Declaration, set, param, node, arc, objective}
 use Rattle.net_expr.specs.Worlds.{Name, World}
 use Rattle.net_meaning.specs.Operators.{Value, Truth, number, IsResult}
 use Rattle.net_meaning.specs.Values.{Env, Key, env_of, IsValue, AreValues, AreMembers}
@@ -25,8 +23,8 @@ pub record Label : Type 0 where
   pub key : Tuple
 
 -- the label of a declaration at a key
-abbrev pub label_at : Token → Option Braces → Key → Label
-label_at n b k = record { name = n.text; indexed = is_some b; key = k.key }
+abbrev pub label_at : Name → Option Braces → Key → Label
+label_at n b k = record { name = n; indexed = is_some b; key = k.key }
 
 -- both labels have the same name and the same key
 abbrev pub same_label : Label → Label → Bool
@@ -49,19 +47,19 @@ pub record Arc : Type 0 where
   pub coefficient : ℤ
 
 -- the node after `from` or `to`; None if the arc has no such phrase
-pub data IsEnd (e : Env) : Option Tree → Option (Name × Tuple) → Type 0 where
+pub data IsEnd (e : Env) : Option Expression → Option (Name × Tuple) → Type 0 where
   absent_end : IsEnd e None None
   name : (t : Token) → IsEnd e (Some (leaf t)) (Some (t.text, []))
-  name_and_key : (n o : Token) (x : Tree) (l : Links) (c : Token) (key : Tuple) → AreMembers (IsValue e x) (AreValues e l) key → IsEnd e (Some (indexed n o x l c)) (Some (n.text, key))
+  name_and_key : (n : Name) (x : Expression) (l : Expressions) (key : Tuple) → AreMembers (IsValue e x) (AreValues e l) key → IsEnd e (Some (indexed n x l)) (Some (n, key))
 
 -- the number of an `obj` phrase if it names this objective; otherwise 0, and its expression is not evaluated
-abbrev pub IsCoefficientFor : Env → Tree → ℤ → Bool → Type 0
+abbrev pub IsCoefficientFor : Env → Expression → ℤ → Bool → Type 0
 IsCoefficientFor e x c true = IsValue e x (number c)
 IsCoefficientFor e x c false = c ≡ pos 0
 
 -- the number that a phrase adds to the coefficient; only `obj` phrases add one
 abbrev pub IsCoefficientIn : Name → Env → Body → ℤ → Type 0
-IsCoefficientIn objective_name e (priced n x) c = IsCoefficientFor e x c (bytes_eq objective_name n.text)
+IsCoefficientIn objective_name e (priced n x) c = IsCoefficientFor e x c (bytes_eq objective_name n)
 IsCoefficientIn objective_name e plain c = c ≡ pos 0
 IsCoefficientIn objective_name e (valued x) c = c ≡ pos 0
 
@@ -71,13 +69,13 @@ IsCoefficient objective_name e [] c = c ≡ pos 0
 IsCoefficient objective_name e (p ∷ ps) c = (a : ℤ) × (b : ℤ) × IsCoefficientIn objective_name e p.body a × IsCoefficient objective_name e ps b × (c ≡ a +ℤ b)
 
 -- the expression is present, and its value is this number
-abbrev pub HasNumber : Env → Option Tree → ℤ → Type 0
+abbrev pub HasNumber : Env → Option Expression → ℤ → Type 0
 HasNumber e None n = ⊥
 HasNumber e (Some x) n = IsValue e x (number n)
 
--- the arc a that a declaration of arcs, with token t, indexing expression b and phrases ps, declares at the key k
-pub record IsArc (objective_name : Name) (t : Token) (b : Option Braces) (ps : List Phrase) (k : Key) (a : Arc) : Type 0 where
-  pub label : a.label ≡ label_at t b k
+-- the arc a that a declaration of arcs, with name n, indexing expression b and phrases ps, declares at the key k
+pub record IsArc (objective_name n : Name) (b : Option Braces) (ps : List Phrase) (k : Key) (a : Arc) : Type 0 where
+  pub label : a.label ≡ label_at n b k
   pub lower : HasNumber k.env (phrase_value is_at_least ps) a.lower
   pub upper : HasNumber k.env (phrase_value is_at_most ps) a.upper
   pub ordered : a.lower ≤ℤ a.upper
@@ -86,23 +84,23 @@ pub record IsArc (objective_name : Name) (t : Token) (b : Option Braces) (ps : L
   pub coefficient : IsCoefficient objective_name k.env ps a.coefficient
 
 -- the node that a declaration of nodes declares at a key
-abbrev pub IsNode : Token → Option Braces → Condition → Key → Node → Type 0
-IsNode t b c k v = v ≡ record { label = label_at t b k; env = k.env; condition = c }
+abbrev pub IsNode : Name → Option Braces → Condition → Key → Node → Type 0
+IsNode n b c k v = v ≡ record { label = label_at n b k; env = k.env; condition = c }
 
 -- the nodes of a declaration: one at each key, in order
 abbrev pub AreNodesOf : World → Declaration → List Node → Type 0
-AreNodesOf w (node t n b c e) vs = (keys : List Key) × AreIndexed w b keys × AllZip (IsNode n b c) keys vs
+AreNodesOf w (node n b c) vs = (keys : List Key) × AreIndexed w b keys × AllZip (IsNode n b c) keys vs
 AreNodesOf w d vs = vs ≡ []
 
 -- the arcs of a declaration: one at each key, in order
 abbrev pub AreArcsOf : Name → World → Declaration → List Arc → Type 0
-AreArcsOf objective_name w (arc t n b ps e) all = (keys : List Key) × AreIndexed w b keys × AllZip (IsArc objective_name n b ps) keys all
+AreArcsOf objective_name w (arc n b ps) all = (keys : List Key) × AreIndexed w b keys × AllZip (IsArc objective_name n b ps) keys all
 AreArcsOf objective_name w d all = all ≡ []
 
 -- the number of sets and parameters that are declared up to and including a declaration
 abbrev pub entries_after : ℕ → Declaration → ℕ
-entries_after k (set t n ps e) = k + 1
-entries_after k (param t n b ps e) = k + 1
+entries_after k (set n ps) = k + 1
+entries_after k (param n b ps) = k + 1
 entries_after k _ = k
 
 -- `InOrder P w k ds all`: all is the concatenation of what P gives for each declaration, in order. Each declaration sees the sets and parameters
@@ -120,18 +118,18 @@ pub record Objective : Type 0 where
   pub name : Name
   pub env : World
   pub arcs : List Name
-  pub expression : Part
+  pub expression : Clause
 
--- the sense of the keyword
-abbrev pub sense_of : Token → Sense
-sense_of t = if bytes_eq (codes "minimize") t.text then Minimise else Maximise
+-- the sense of an objective
+abbrev pub sense_of : Bool → Sense
+sense_of minimizes = if minimizes then Minimise else Maximise
 
 -- `objectives w k before ds`: the objectives of the declarations ds, in order; the first k entries of the world w and the arcs with the names
 -- before are declared before ds
 abbrev pub objectives : World → ℕ → List Name → List Declaration → List Objective
 objectives w k before [] = []
-objectives w k before (objective t n p e ∷ ds) = (record { sense = sense_of t; name = n.text; env = take k w; arcs = before; expression = p }) ∷ objectives w k before ds
-objectives w k before (arc t n b ps e ∷ ds) = objectives w k (n.text ∷ before) ds
+objectives w k before (objective minimizes n p ∷ ds) = (record { sense = sense_of minimizes; name = n; env = take k w; arcs = before; expression = p }) ∷ objectives w k before ds
+objectives w k before (arc n b ps ∷ ds) = objectives w k (n ∷ before) ds
 objectives w k before (d ∷ ds) = objectives w (entries_after k d) before ds
 
 -- an objective is eligible if it has the requested name, or if no name is requested
@@ -184,18 +182,14 @@ abbrev pub with_inflow : Env → ℤ → Env
 with_inflow e y = record e { inflow = y }
 
 -- both sides have values, and the comparison is true of them
-abbrev pub Compares : Env → Tree → Operator → Tree → Type 0
-Compares e x o z = (u : Value) × (v : Value) × IsValue e x u × IsValue e z v × IsResult (operation o) u v (Truth true)
-
--- the comparison operator
-abbrev pub compare_word : Token → Operator
-compare_word t = words.One t
+abbrev pub Compares : Env → Expression → BinOp → Expression → Type 0
+Compares e x o z = (u : Value) × (v : Value) × IsValue e x u × IsValue e z v × IsResult o u v (Truth true)
 
 -- the condition is true if `net_in` has the value y and `net_out` the value -y; without a condition the net inflow is 0
 abbrev pub IsSatisfied : Env → Condition → ℤ → Type 0
 IsSatisfied e unsaid y = y ≡ pos 0
-IsSatisfied e (one m x o z) y = Compares (with_inflow e y) x (compare_word o) z
-IsSatisfied e (between m x o z p u) y = Compares (with_inflow e y) x (compare_word o) z × Compares (with_inflow e y) z (compare_word p) u
+IsSatisfied e (one x o z) y = Compares (with_inflow e y) x o z
+IsSatisfied e (between x o z p u) y = Compares (with_inflow e y) x o z × Compares (with_inflow e y) z p u
 
 -- each flow is within its arc's bounds, and each node's condition is true of its net inflow
 pub record IsFeasible (vs : List Node) (all : List Arc) (x : Assignment) : Type 0 where
@@ -216,9 +210,9 @@ coefficient_terms [] x = pos 0
 coefficient_terms (a ∷ all) x = (a.coefficient *ℤ flow_on x a) +ℤ coefficient_terms all x
 
 -- the value of the objective's expression; 0 if it is absent
-abbrev pub IsExpressionValue : Env → Part → ℤ → Type 0
+abbrev pub IsExpressionValue : Env → Clause → ℤ → Type 0
 IsExpressionValue e absent n = n ≡ pos 0
-IsExpressionValue e (part m t) n = IsValue e t (number n)
+IsExpressionValue e (present x) n = IsValue e x (number n)
 
 -- the value of an assignment: that of the objective's expression, plus for each arc its coefficient times its flow
 abbrev pub HasValue : Objective → List Arc → Assignment → ℤ → Type 0

@@ -12,7 +12,7 @@ use Rattle.net_sets.specs.declared.member.Member.{Member}
 use Rattle.net_sets.specs.declared.member.Member.TheVariants as member
 use Rattle.net_sets.specs.Sets.{Tuple, at_key}
 use Rattle.net_sets.specs.Texts.{text_of}
-use Rattle.net_tree.specs.Tree.{Tree, Links, Part, Braces, leaf, indexed, parens, tuple, negated, braced, signed, reduced, chain, choice, net, none, link, absent, part, empty, filled, Body, plain, valued, priced, Phrase, Condition, unsaid, one, between, Declaration, set, param, check, node, arc, objective}
+use Rattle.net_tree.specs.Syntax.{Expression, Expressions, Operands, Clause, Braces, leaf, indexed, parens, tuple, negated, braced, signed, reduced, chain, conditional, net, no_more, more, none, apply, absent, present, empty, filled, Body, plain, valued, priced, Phrase, Condition, unsaid, one, between, Declaration, set, param, check, node, arc, objective}
 use Rattle.net_expr.specs.declared.scope.Binding.{Binding}
 use Rattle.net_expr.specs.declared.world.Entry.{Entry}
 use Rattle.net_expr.specs.declared.world.Entry.TheVariants.{Set, Parameter}
@@ -71,54 +71,58 @@ abbrev pub TokensHold : (List ℕ → Type 0) → List Token → Type 0
 TokensHold P ts = AllByRecursion (TokenHolds P) ts
 
 abbrev mutual
-  pub TreeHolds : (List ℕ → Type 0) → Tree → Type 0
-  TreeHolds P (leaf t) = TokenHolds P t
-  TreeHolds P (indexed n o x l c) = TreeHolds P x × LinksHold P l
-  TreeHolds P (parens o x c) = TreeHolds P x
-  TreeHolds P (tuple o x l c) = TreeHolds P x × LinksHold P l
-  TreeHolds P (negated n o x c) = TreeHolds P x
-  TreeHolds P (braced b) = BracesHold P b
-  TreeHolds P (signed t x) = TreeHolds P x
-  TreeHolds P (reduced r b x) = BracesHold P b × TreeHolds P x
-  TreeHolds P (chain n x l) = TreeHolds P x × LinksHold P l
-  TreeHolds P (choice i x t y e) = TreeHolds P x × TreeHolds P y × PartHolds P e
-  TreeHolds P (net s t) = ⊤
+  pub ExpressionHolds : (List ℕ → Type 0) → Expression → Type 0
+  ExpressionHolds P (leaf t) = TokenHolds P t
+  ExpressionHolds P (indexed n x l) = ExpressionHolds P x × ExpressionsHold P l
+  ExpressionHolds P (parens x) = ExpressionHolds P x
+  ExpressionHolds P (tuple x l) = ExpressionHolds P x × ExpressionsHold P l
+  ExpressionHolds P (negated x) = ExpressionHolds P x
+  ExpressionHolds P (braced b) = BracesHold P b
+  ExpressionHolds P (signed minus x) = ExpressionHolds P x
+  ExpressionHolds P (reduced r b x) = BracesHold P b × ExpressionHolds P x
+  ExpressionHolds P (chain x l) = ExpressionHolds P x × OperandsHold P l
+  ExpressionHolds P (conditional x y p) = ExpressionHolds P x × ExpressionHolds P y × ClauseHolds P p
+  ExpressionHolds P (net minus out) = ⊤
 
-  pub LinksHold : (List ℕ → Type 0) → Links → Type 0
-  LinksHold P none = ⊤
-  LinksHold P (link o x l) = TreeHolds P x × LinksHold P l
+  pub ExpressionsHold : (List ℕ → Type 0) → Expressions → Type 0
+  ExpressionsHold P no_more = ⊤
+  ExpressionsHold P (more x l) = ExpressionHolds P x × ExpressionsHold P l
 
-  pub PartHolds : (List ℕ → Type 0) → Part → Type 0
-  PartHolds P absent = ⊤
-  PartHolds P (part m x) = TreeHolds P x
+  pub OperandsHold : (List ℕ → Type 0) → Operands → Type 0
+  OperandsHold P none = ⊤
+  OperandsHold P (apply o x l) = ExpressionHolds P x × OperandsHold P l
+
+  pub ClauseHolds : (List ℕ → Type 0) → Clause → Type 0
+  ClauseHolds P absent = ⊤
+  ClauseHolds P (present x) = ExpressionHolds P x
 
   pub BracesHold : (List ℕ → Type 0) → Braces → Type 0
-  BracesHold P (empty o p c) = PartHolds P p
-  BracesHold P (filled o x l p c) = TreeHolds P x × LinksHold P l × PartHolds P p
+  BracesHold P (empty p) = ClauseHolds P p
+  BracesHold P (filled x l p) = ExpressionHolds P x × ExpressionsHold P l × ClauseHolds P p
 
 -- ---- declarations
 
 abbrev pub BodyHolds : (List ℕ → Type 0) → Body → Type 0
 BodyHolds P plain = ⊤
-BodyHolds P (valued x) = TreeHolds P x
-BodyHolds P (priced n x) = TreeHolds P x
+BodyHolds P (valued x) = ExpressionHolds P x
+BodyHolds P (priced n x) = ExpressionHolds P x
 
 abbrev pub PhrasesHold : (List ℕ → Type 0) → List Phrase → Type 0
 PhrasesHold P ps = AllByRecursion (λ (p : Phrase). BodyHolds P p.body) ps
 
 abbrev pub ConditionHolds : (List ℕ → Type 0) → Condition → Type 0
 ConditionHolds P unsaid = ⊤
-ConditionHolds P (one m x o y) = TreeHolds P x × TreeHolds P y
-ConditionHolds P (between m x o y p z) = TreeHolds P x × TreeHolds P y × TreeHolds P z
+ConditionHolds P (one x o y) = ExpressionHolds P x × ExpressionHolds P y
+ConditionHolds P (between x o y p z) = ExpressionHolds P x × ExpressionHolds P y × ExpressionHolds P z
 
 -- the expressions of a declaration
 abbrev pub DeclarationHolds : (List ℕ → Type 0) → Declaration → Type 0
-DeclarationHolds P (set w n ps e) = PhrasesHold P ps
-DeclarationHolds P (param w n b ps e) = ForSome b (BracesHold P) × PhrasesHold P ps
-DeclarationHolds P (check w b m x e) = ForSome b (BracesHold P) × TreeHolds P x
-DeclarationHolds P (node w n b c e) = ForSome b (BracesHold P) × ConditionHolds P c
-DeclarationHolds P (arc w n b ps e) = ForSome b (BracesHold P) × PhrasesHold P ps
-DeclarationHolds P (objective w n p e) = PartHolds P p
+DeclarationHolds P (set n ps) = PhrasesHold P ps
+DeclarationHolds P (param n b ps) = ForSome b (BracesHold P) × PhrasesHold P ps
+DeclarationHolds P (check b x) = ForSome b (BracesHold P) × ExpressionHolds P x
+DeclarationHolds P (node n b c) = ForSome b (BracesHold P) × ConditionHolds P c
+DeclarationHolds P (arc n b ps) = ForSome b (BracesHold P) × PhrasesHold P ps
+DeclarationHolds P (objective minimizes n p) = ClauseHolds P p
 
 abbrev pub DeclarationsHold : (List ℕ → Type 0) → List Declaration → Type 0
 DeclarationsHold P ds = AllByRecursion (DeclarationHolds P) ds
@@ -140,13 +144,13 @@ StatementsHold P ss = AllByRecursion (StatementHolds P) ss
 -- the names of the declarations of nodes
 abbrev pub nodes_in : List Declaration → List Name
 nodes_in [] = []
-nodes_in (node t n b c e ∷ ds) = n.text ∷ nodes_in ds
+nodes_in (node n b c ∷ ds) = n ∷ nodes_in ds
 nodes_in (d ∷ ds) = nodes_in ds
 
 -- the names of the declarations of arcs
 abbrev pub arcs_in : List Declaration → List Name
 arcs_in [] = []
-arcs_in (arc t n b ps e ∷ ds) = n.text ∷ arcs_in ds
+arcs_in (arc n b ps ∷ ds) = n ∷ arcs_in ds
 arcs_in (d ∷ ds) = arcs_in ds
 
 -- the name is one of these, and the texts of the key have the property

@@ -1,9 +1,8 @@
 -- The value of an expression, and the keys of an indexing expression, as AMPL defines them (Fourer, Gay, Kernighan: AMPL, second edition,
 -- chapters 5 to 8 and appendix A). The definitions are relations: an expression with an error has no value, so no value is a default.
 -- Limits on sizes are not part of the meaning.
-use Rattle.std.specs.Prelude.{◌≡◌, ◌⊎◌, ℕ, Bool, true, false, not, List, [], ◌∷◌, ◌++◌, map, Option, None, Some, codes, ⊤, ℤ, pos}
+use Rattle.std.specs.Prelude.{◌≡◌, ◌⊎◌, ◌&&◌, ℕ, Bool, true, false, not, List, [], ◌∷◌, ◌++◌, map, Option, None, Some, if◌then◌else◌, ⊤, ℤ, pos}
 use Rattle.std.specs.List.{AllZip}
-use Rattle.std.specs.Str.{bytes_eq}
 use Rattle.net_lex.specs.Limits.{limits}
 use Rattle.net_lex.specs.Numerals.{IsValue as IsNumeral}
 use Rattle.net_lex.specs.declared.token.Token.{Token}
@@ -15,13 +14,12 @@ use Rattle.net_sets.specs.Texts.{text_of}
 use Rattle.net_tree.specs.declared.role.Role.{Role}
 use Rattle.net_tree.specs.declared.role.Role.TheVariants as roles
 use Rattle.net_tree.specs.Items.{is_in}
-use Rattle.net_tree.specs.Operations.{operation, reduction, is_minus}
-use Rattle.net_tree.specs.Role.{role_of}
-use Rattle.net_tree.specs.Tree.{Tree, Links, Part, Braces, leaf, indexed, parens, tuple, negated, braced, signed, reduced, chain, choice, net, none, link, absent, part, empty, filled}
+use Rattle.net_tree.specs.Operations.{is_range}
+use Rattle.net_tree.specs.Role.{role_of, is_name}
+use Rattle.net_tree.specs.Syntax.{Expression, Expressions, Operands, Clause, Braces, leaf, indexed, parens, tuple, negated, braced, signed, reduced, chain, conditional, net, no_more, more, none, apply, absent, present, empty, filled}
 use Rattle.net_expr.specs.declared.world.Entry.TheVariants.{Set, Parameter}
-use Rattle.net_expr.specs.Items.{begins_range, has_in, new_dummy}
 use Rattle.net_expr.specs.Numbers.{turned}
-use Rattle.net_expr.specs.Worlds.{Name, World, Scope, entry_of, bound, with_dummy}
+use Rattle.net_expr.specs.Worlds.{Name, World, Scope, entry_of, bound, is_known, with_dummy}
 use Rattle.net_meaning.specs.Operators.{Value, One, Several, Many, Truth, number, IsTuple, Reduces, IsRangeOf, Combines}
 
 -- what names denote at a place: declared sets and parameters, dummy indices with their members, the flows of arcs in an objective, and the
@@ -108,22 +106,28 @@ AreListed e First More keys =
     (u : Value) × (us : List Value) × (ts : List Tuple) × First u × More us × AllZip IsTuple (u ∷ us) ts × (keys ≡ map (λ t. record { key = t; env = e }) (union [] ts))
 
 -- there is no condition
-abbrev pub IsAbsent : Part → Type 0
+abbrev pub IsAbsent : Clause → Type 0
 IsAbsent absent = ⊤
-IsAbsent (part m x) = ⊥
+IsAbsent (present x) = ⊥
+
+-- a chain is a range if its first operator is `..`
+abbrev pub begins_range : Operands → Bool
+begins_range none = false
+begins_range (apply o x l) = is_range o
+
+-- the only operator of the item is `in`
+abbrev pub has_in : Expression → Bool
+has_in (chain x (apply o y none)) = is_in o
+has_in _ = false
+
+-- the name of a new dummy index: a name alone that is neither declared nor a dummy index
+abbrev pub new_dummy : Env → Expression → Option Name
+new_dummy e (leaf t) = if is_name (role_of t) && not (is_known e.world e.dummies t.text) then Some t.text else None
+new_dummy e _ = None
 
 -- the set of an item: the one after `in`, or the item itself
-abbrev pub IsItemSet : Tree → (List Tuple → Type 0) → (Value → Type 0) → List Tuple → Type 0
+abbrev pub IsItemSet : Expression → (List Tuple → Type 0) → (Value → Type 0) → List Tuple → Type 0
 IsItemSet i After Own ts = Whether (has_in i) (After ts) (Own (Many ts))
-
--- the term is `net_out`, which is the negation of `net_in`
-unfoldable pub is_outflow : Token → Bool
-is_outflow t = bytes_eq (codes "net_out") t.text
-
--- a `-` precedes the term
-abbrev pub has_minus : Option Token → Bool
-has_minus None = false
-has_minus (Some t) = is_minus t
 
 -- the value of a token: a numeral, a quoted string, or a name
 abbrev pub IsLeaf : Env → Token → Role → Value → Type 0
@@ -145,72 +149,77 @@ MatchesWhole k (Some n) Own (m ∷ ms) r = r ≡ Some (bind n m k)
 MatchesWhole k None Own t r = (v : Value) × (u : Tuple) × Own v × IsTuple v u × Whether (same_tuple u t) (r ≡ Some k) (r ≡ None)
 
 abbrev mutual
-  -- `IsValue e t v`: in the environment e the expression t has the value v
-  pub IsValue : Env → Tree → Value → Type 0
+  -- `IsValue e x v`: in the environment e the expression x has the value v
+  pub IsValue : Env → Expression → Value → Type 0
   IsValue e (leaf t) v = IsArcOr (e.arcs t.text) [] v (IsLeaf e t (role_of t) v)
-  IsValue e (indexed n o x l c) v = (key : Tuple) × AreMembers (IsValue e x) (AreValues e l) key × IsArcOr (e.arcs n.text) key v (Denotes e n.text key v)
-  IsValue e (parens o x c) v = IsValue e x v
-  IsValue e (tuple o x l c) v = (t : Tuple) × AreMembers (IsValue e x) (AreValues e l) t × (v ≡ Several t)
-  IsValue e (negated n o x c) v = (b : Bool) × IsValue e x (Truth b) × (v ≡ Truth (not b))
+  IsValue e (indexed n x l) v = (key : Tuple) × AreMembers (IsValue e x) (AreValues e l) key × IsArcOr (e.arcs n) key v (Denotes e n key v)
+  IsValue e (parens x) v = IsValue e x v
+  IsValue e (tuple x l) v = (t : Tuple) × AreMembers (IsValue e x) (AreValues e l) t × (v ≡ Several t)
+  IsValue e (negated x) v = (b : Bool) × IsValue e x (Truth b) × (v ≡ Truth (not b))
   IsValue e (braced b) v = (keys : List Key) × AreKeys e b keys × (v ≡ Many (union [] (map (λ k. k.key) keys)))
-  IsValue e (signed t x) v = (n : ℤ) × IsValue e x (number n) × (v ≡ number (turned (is_minus t) n))
+  IsValue e (signed minus x) v = (n : ℤ) × IsValue e x (number n) × (v ≡ number (turned minus n))
   IsValue e (reduced r b x) v =
-      (keys : List Key) × (ns : List ℤ) × (n : ℤ) × AreKeys e b keys × AllZip (λ k m. IsValue k.env x (number m)) keys ns × Reduces (reduction r) ns n × (v ≡ number n)
-  IsValue e (chain n x l) v = (u : Value) × IsValue e x u × Whether (begins_range l) (HasRange (AreValues e l) u v) (IsChain e u l v)
-  IsValue e (choice i x t y p) v = (b : Bool) × IsValue e x (Truth b) × Whether b (IsValue e y v) (IsElse e p v)
-  IsValue e (net s t) v = v ≡ number (turned (has_minus s) (turned (is_outflow t) e.inflow))
+      (keys : List Key) × (ns : List ℤ) × (n : ℤ) × AreKeys e b keys × AllZip (λ k m. IsValue k.env x (number m)) keys ns × Reduces r ns n × (v ≡ number n)
+  IsValue e (chain x l) v = (u : Value) × IsValue e x u × Whether (begins_range l) (HasRange (AreOperandValues e l) u v) (IsChain e u l v)
+  IsValue e (conditional x y p) v = (b : Bool) × IsValue e x (Truth b) × Whether b (IsValue e y v) (IsElse e p v)
+  IsValue e (net minus out) v = v ≡ number (turned minus (turned out e.inflow))
 
   -- a missing `else` is 0
-  pub IsElse : Env → Part → Value → Type 0
+  pub IsElse : Env → Clause → Value → Type 0
   IsElse e absent v = v ≡ number (pos 0)
-  IsElse e (part m x) v = IsValue e x v
+  IsElse e (present x) v = IsValue e x v
+
+  -- the values of expressions, in order
+  pub AreValues : Env → Expressions → List Value → Type 0
+  AreValues e no_more vs = vs ≡ []
+  AreValues e (more x l) vs = (u : Value) × (us : List Value) × IsValue e x u × AreValues e l us × (vs ≡ u ∷ us)
 
   -- the values of operands, in order
-  pub AreValues : Env → Links → List Value → Type 0
-  AreValues e none vs = vs ≡ []
-  AreValues e (link o x l) vs = (u : Value) × (us : List Value) × IsValue e x u × AreValues e l us × (vs ≡ u ∷ us)
+  pub AreOperandValues : Env → Operands → List Value → Type 0
+  AreOperandValues e none vs = vs ≡ []
+  AreOperandValues e (apply o x l) vs = (u : Value) × (us : List Value) × IsValue e x u × AreOperandValues e l us × (vs ≡ u ∷ us)
 
   -- `IsChain e u l v`: the operators and operands l, applied to u from the left, give v
-  pub IsChain : Env → Value → Links → Value → Type 0
+  pub IsChain : Env → Value → Operands → Value → Type 0
   IsChain e u none v = v ≡ u
-  IsChain e u (link o x l) v = (w : Value) × Combines (operation o) u (IsValue e x) w × IsChain e w l v
+  IsChain e u (apply o x l) v = (w : Value) × Combines o u (IsValue e x) w × IsChain e w l v
 
   -- the keys of an indexing expression: those of its items at which the condition is true, or its listed members and tuples
   pub AreKeys : Env → Braces → List Key → Type 0
-  AreKeys e (empty o p c) keys = keys ≡ []
-  AreKeys e (filled o i is p c) keys =
+  AreKeys e (empty p) keys = keys ≡ []
+  AreKeys e (filled i is p) keys =
       ((all : List Key) × FromItem (IsItemSet i (IsSetAfterIn e i) (IsValue e i)) (Extends (start e) i) (λ k. Iterates k is) all × Filters (HasTruth p) all keys)
       ⊎ (AreListed e (IsValue e i) (AreValues e is) keys × IsAbsent p)
 
   -- the condition of an indexing expression is true or false at a key; an absent condition is true
-  pub HasTruth : Part → Key → Bool → Type 0
+  pub HasTruth : Clause → Key → Bool → Type 0
   HasTruth absent k b = b ≡ true
-  HasTruth (part m x) k b = IsValue k.env x (Truth b)
+  HasTruth (present x) k b = IsValue k.env x (Truth b)
 
   -- the keys that extend a key by the items, from left to right
-  pub Iterates : Key → Links → List Key → Type 0
-  Iterates k none keys = keys ≡ k ∷ []
-  Iterates k (link o i is) keys = FromItem (IsItemSet i (IsSetAfterIn k.env i) (IsValue k.env i)) (Extends k i) (λ q. Iterates q is) keys
+  pub Iterates : Key → Expressions → List Key → Type 0
+  Iterates k no_more keys = keys ≡ k ∷ []
+  Iterates k (more i is) keys = FromItem (IsItemSet i (IsSetAfterIn k.env i) (IsValue k.env i)) (Extends k i) (λ q. Iterates q is) keys
 
   -- the set after `in`
-  pub IsSetAfterIn : Env → Tree → List Tuple → Type 0
-  IsSetAfterIn e (chain n x (link o y none)) ts = IsValue e y (Many ts)
+  pub IsSetAfterIn : Env → Expression → List Tuple → Type 0
+  IsSetAfterIn e (chain x (apply o y none)) ts = IsValue e y (Many ts)
   IsSetAfterIn e _ ts = ⊥
 
   -- `Extends k i t r`: the tuple t of the set of item i extends the key k to r, or is passed over if r is None. To the left of `in` the tuple
   -- has to agree with what is written there; an item without `in` takes the whole tuple.
-  pub Extends : Key → Tree → Tuple → Option Key → Type 0
-  Extends k (chain n x (link o y none)) t r = Whether (is_in (operation o)) (Agrees k x (IsValue k.env x) t r) (r ≡ Some (extended k t))
+  pub Extends : Key → Expression → Tuple → Option Key → Type 0
+  Extends k (chain x (apply o y none)) t r = Whether (is_in o) (Agrees k x (IsValue k.env x) t r) (r ≡ Some (extended k t))
   Extends k _ t r = r ≡ Some (extended k t)
 
   -- the tuple agrees with the expression to the left of `in`, component by component
-  pub Agrees : Key → Tree → (Value → Type 0) → Tuple → Option Key → Type 0
-  Agrees k (tuple o x l c) Own [] r = r ≡ Some k
-  Agrees k (tuple o x l c) Own (m ∷ ms) r = Matches k (new_dummy k.env.world k.env.dummies x) (IsValue k.env x) m (λ q. AllAgree q l ms) r
-  Agrees k x Own t r = MatchesWhole k (new_dummy k.env.world k.env.dummies x) Own t r
+  pub Agrees : Key → Expression → (Value → Type 0) → Tuple → Option Key → Type 0
+  Agrees k (tuple x l) Own [] r = r ≡ Some k
+  Agrees k (tuple x l) Own (m ∷ ms) r = Matches k (new_dummy k.env x) (IsValue k.env x) m (λ q. AllAgree q l ms) r
+  Agrees k x Own t r = MatchesWhole k (new_dummy k.env x) Own t r
 
   -- the other components agree
-  pub AllAgree : Key → Links → Tuple → Option Key → Type 0
-  AllAgree k none ms r = r ≡ Some k
-  AllAgree k (link o x l) [] r = r ≡ Some k
-  AllAgree k (link o x l) (m ∷ ms) r = Matches k (new_dummy k.env.world k.env.dummies x) (IsValue k.env x) m (λ q. AllAgree q l ms) r
+  pub AllAgree : Key → Expressions → Tuple → Option Key → Type 0
+  AllAgree k no_more ms r = r ≡ Some k
+  AllAgree k (more x l) [] r = r ≡ Some k
+  AllAgree k (more x l) (m ∷ ms) r = Matches k (new_dummy k.env x) (IsValue k.env x) m (λ q. AllAgree q l ms) r

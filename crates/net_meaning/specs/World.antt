@@ -26,8 +26,7 @@ use Rattle.net_tree.specs.declared.role.Relation.TheVariants as relations
 use Rattle.net_tree.specs.declared.role.Role.{Role}
 use Rattle.net_tree.specs.declared.role.Role.TheVariants as roles
 use Rattle.net_tree.specs.Phrases.{is_becomes, is_default}
-use Rattle.net_tree.specs.Role.{role_of}
-use Rattle.net_tree.specs.Tree.{Tree, Braces, Body, plain, valued, priced, Phrase, Declaration, set, param, check}
+use Rattle.net_tree.specs.Syntax.{Expression, Braces, Body, plain, valued, priced, Phrase, Declaration, set, param, check}
 use Rattle.net_expr.specs.declared.world.Entry.{Entry}
 use Rattle.net_expr.specs.declared.world.Entry.TheVariants.{Set, Parameter}
 use Rattle.net_expr.specs.Worlds.{Name, World}
@@ -37,15 +36,15 @@ use Rattle.net_meaning.specs.Values.{Env, Key, start, env_of, IsValue, AreKeys}
 -- ---- phrases of declarations
 
 -- the expression of a phrase, if it has one
-abbrev pub expression_of : Body → Option Tree
+abbrev pub expression_of : Body → Option Expression
 expression_of (valued x) = Some x
 expression_of plain = None
 expression_of (priced n x) = None
 
 -- the expression of the first phrase whose keyword passes the test
-abbrev pub phrase_value : (Role → Bool) → List Phrase → Option Tree
+abbrev pub phrase_value : (Role → Bool) → List Phrase → Option Expression
 phrase_value test [] = None
-phrase_value test (p ∷ ps) = if test (role_of p.word) then expression_of p.body else phrase_value test ps
+phrase_value test (p ∷ ps) = if test p.word then expression_of p.body else phrase_value test ps
 
 -- the keys over which a declaration is indexed; without an indexing expression there is one, the empty key
 abbrev pub AreIndexed : World → Option Braces → List Key → Type 0
@@ -120,7 +119,7 @@ mentions n (s ∷ ss) = mentions_in n s + mentions n ss
 -- ---- sets
 
 -- what a phrase requires of a set with dimension d and members ts
-abbrev pub SatisfiesRole : World → ℕ → List Tuple → Role → Tree → Type 0
+abbrev pub SatisfiesRole : World → ℕ → List Tuple → Role → Expression → Type 0
 SatisfiesRole w d ts (roles.Phrase begins.Dimen) x = IsValue (env_of w []) x (number (pos d))
 SatisfiesRole w d ts (roles.Relation relations.Within) x = (us : List Tuple) × IsValue (env_of w []) x (Many us) × IsTrue (is_within ts us)
 SatisfiesRole w d ts roles.Becomes x = IsValue (env_of w []) x (Many ts)
@@ -128,11 +127,11 @@ SatisfiesRole w d ts _ x = ⊤
 
 -- the set satisfies the phrase
 abbrev pub Satisfies : World → ℕ → List Tuple → Phrase → Type 0
-Satisfies w d ts p = ForSome (expression_of p.body) (SatisfiesRole w d ts (role_of p.word))
+Satisfies w d ts p = ForSome (expression_of p.body) (SatisfiesRole w d ts p.word)
 
 -- the members of a set: those of the expression after `:=`, and then no statement names the set; otherwise the rows of the one statement that
 -- names it
-abbrev pub AreGivenMembers : List Statement → Name → ℕ → List Tuple → Option Tree → Type 0
+abbrev pub AreGivenMembers : List Statement → Name → ℕ → List Tuple → Option Expression → Type 0
 AreGivenMembers ss n d ts (Some x) = mentions n ss ≡ 0
 AreGivenMembers ss n d ts None = (mentions n ss ≡ 1) × AllZip AreDataValues (flat_map (set_rows_of d n) ss) ts
 
@@ -162,9 +161,9 @@ HasNoRow size n ss key = AllByRecursion (λ (r : Row). AreDataValues r.keys key 
 -- the expression after `:=`, the data's default, the expression after `default`
 pub data IsParameterValue (ss : List Statement) (n : Name) (ps : List Phrase) (size : ℕ) (k : Key) : Option Member → Type 0 where
   row : (r : Row) (m : Member) → Contains (data_rows size n ss) r → AreDataValues r.keys k.key → IsDataValue r.value m → IsParameterValue ss n ps size k (Some m)
-  assigned : (x : Tree) (m : Member) → HasNoRow size n ss k.key → phrase_value is_becomes ps ≡ Some x → IsValue k.env x (One m) → IsParameterValue ss n ps size k (Some m)
+  assigned : (x : Expression) (m : Member) → HasNoRow size n ss k.key → phrase_value is_becomes ps ≡ Some x → IsValue k.env x (One m) → IsParameterValue ss n ps size k (Some m)
   data_default : (t : Token) (m : Member) → HasNoRow size n ss k.key → phrase_value is_becomes ps ≡ None → Contains (data_defaults n ss) t → IsDataValue t m → IsParameterValue ss n ps size k (Some m)
-  default : (x : Tree) (m : Member) → HasNoRow size n ss k.key → phrase_value is_becomes ps ≡ None → data_defaults n ss ≡ [] → phrase_value is_default ps ≡ Some x → IsValue k.env x (One m)
+  default : (x : Expression) (m : Member) → HasNoRow size n ss k.key → phrase_value is_becomes ps ≡ None → data_defaults n ss ≡ [] → phrase_value is_default ps ≡ Some x → IsValue k.env x (One m)
       → IsParameterValue ss n ps size k (Some m)
   nothing : HasNoRow size n ss k.key → phrase_value is_becomes ps ≡ None → data_defaults n ss ≡ [] → phrase_value is_default ps ≡ None → IsParameterValue ss n ps size k None
 
@@ -179,13 +178,13 @@ restriction_operator (roles.Relation relations.In) = Some op.In
 restriction_operator _ = None
 
 -- the operator holds between the value and that of the expression
-abbrev pub FitsBy : Env → Member → Option BinOp → Option Tree → Type 0
+abbrev pub FitsBy : Env → Member → Option BinOp → Option Expression → Type 0
 FitsBy e m (Some o) (Some x) = (v : Value) × IsValue e x v × IsResult o (One m) v (Truth true)
 FitsBy e m _ _ = ⊤
 
 -- a value satisfies the restriction of a phrase, if it is one
 abbrev pub Fits : Env → Member → Phrase → Type 0
-Fits e m p = FitsBy e m (restriction_operator (role_of p.word)) (expression_of p.body)
+Fits e m p = FitsBy e m (restriction_operator p.word) (expression_of p.body)
 
 -- the keyword `symbolic`
 abbrev pub is_symbolic_word : Role → Bool
@@ -194,7 +193,7 @@ is_symbolic_word _ = false
 
 abbrev pub is_symbolic : List Phrase → Bool
 is_symbolic [] = false
-is_symbolic (p ∷ ps) = is_symbolic_word (role_of p.word) || is_symbolic ps
+is_symbolic (p ∷ ps) = is_symbolic_word p.word || is_symbolic ps
 
 -- only a symbolic parameter has strings as values
 abbrev pub IsOfKind : List Phrase → Member → Type 0
@@ -236,21 +235,21 @@ pub record IsParameter (w : World) (ss : List Statement) (n : Name) (b : Option 
 -- the declarations in order, each in the world of those before it; a `check` is true at each of its keys
 abbrev pub Binds : List Statement → World → List Declaration → World → Type 0
 Binds ss before [] w = w ≡ before
-Binds ss before (set t n ps e ∷ ds) w = (d : ℕ) × (ts : List Tuple) × IsSet before ss n.text ps d ts × Binds ss (before ++ (n.text, Set d ts) ∷ []) ds w
-Binds ss before (param t n b ps e ∷ ds) w = (x : Entry) × IsParameter before ss n.text b ps x × Binds ss (before ++ (n.text, x) ∷ []) ds w
-Binds ss before (check t b m x e ∷ ds) w = (keys : List Key) × AreIndexed before b keys × AllByRecursion (λ (k : Key). IsValue k.env x (Truth true)) keys × Binds ss before ds w
+Binds ss before (set n ps ∷ ds) w = (d : ℕ) × (ts : List Tuple) × IsSet before ss n ps d ts × Binds ss (before ++ (n, Set d ts) ∷ []) ds w
+Binds ss before (param n b ps ∷ ds) w = (x : Entry) × IsParameter before ss n b ps x × Binds ss (before ++ (n, x) ∷ []) ds w
+Binds ss before (check b x ∷ ds) w = (keys : List Key) × AreIndexed before b keys × AllByRecursion (λ (k : Key). IsValue k.env x (Truth true)) keys × Binds ss before ds w
 Binds ss before (d ∷ ds) w = Binds ss before ds w
 
 -- the names of declared sets
 abbrev pub sets_in : List Declaration → List Name
 sets_in [] = []
-sets_in (set t n ps e ∷ ds) = n.text ∷ sets_in ds
+sets_in (set n ps ∷ ds) = n ∷ sets_in ds
 sets_in (d ∷ ds) = sets_in ds
 
 -- the names of declared parameters
 abbrev pub params_in : List Declaration → List Name
 params_in [] = []
-params_in (param t n b ps e ∷ ds) = n.text ∷ params_in ds
+params_in (param n b ps ∷ ds) = n ∷ params_in ds
 params_in (d ∷ ds) = params_in ds
 
 -- each token is one of the names

@@ -1,6 +1,5 @@
 use Rattle.net_meaning.specs.Laws.{Passes}
 use Rattle.net_meaning.proofs.TextNetworks.{network_holds}
-use Rattle.net_meaning.proofs.TextTokens.{declarations_hold, statements_hold}
 use Rattle.net_meaning.proofs.TextValues.{value_holds, keys_hold}
 use Rattle.net_meaning.proofs.TextWorlds.{world_holds}
 use Rattle.net_meaning.proofs.laws.texts_come_from_tokens.Goals as goal

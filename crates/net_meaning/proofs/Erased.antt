@@ -1,0 +1,86 @@
+-- What the code asks of a tree, its abstract syntax says as well.
+use Rattle.std.specs.Prelude.{◌≡◌, ◌&&◌, Bool, true, false, not, List, [], ◌∷◌, map, Option, None, Some, is_some, if◌then◌else◌, option_map}
+use Rattle.std.proofs.Common.{refl, ap, ◌∙◌, subst}
+use Rattle.net_sets.specs.Sets.{Tuple}
+use Rattle.net_tree.specs.declared.role.Role.{Role}
+use Rattle.net_tree.specs.Erasure as erased
+use Rattle.net_tree.specs.Erasure.{expression, expressions, operands, indexing}
+use Rattle.net_tree.specs.Items.{is_in, both}
+use Rattle.net_tree.specs.Operations.{operation}
+use Rattle.net_tree.specs.Role.{role_of, is_name}
+use Rattle.net_tree.specs.Tree.{Tree, Links, Braces, leaf, chain, none, link, Body, plain, valued, priced, Phrase}
+use Rattle.net_expr.specs.Items as items
+use Rattle.net_expr.specs.Items.{text_of, unless_known}
+use Rattle.net_expr.specs.Worlds.{is_known}
+use Rattle.net_meaning.specs.Operators.{Value, Many}
+use Rattle.net_meaning.specs.OfTrees.{begins_range, has_in, new_dummy, AreValues, AreOperandValues, expression_of, phrase_value, IsItemSet}
+use Rattle.net_meaning.specs.Values.{Env, Whether}
+use Rattle.net_meaning.specs.World as world
+
+-- ---- items
+
+pub begins_range_is : (l : Links) → items.begins_range l ≡ begins_range l
+begins_range_is none = refl
+begins_range_is (link o x l) = refl
+
+pub has_in_is : (i : Tree) → items.has_in i ≡ has_in i
+has_in_is (chain n x (link o y none)) = go (is_in (operation o))
+  where
+    go : (b : Bool) → is_some (both x (if b then Some y else None)) ≡ b
+    go true = refl
+    go false = refl
+has_in_is _ = refl
+
+pub new_dummy_is : (e : Env) (x : Tree) → items.new_dummy e.world e.dummies x ≡ new_dummy e x
+new_dummy_is e (leaf t) = go (is_name (role_of t)) (is_known e.world e.dummies t.text)
+  where
+    known : (b : Bool) → (if b then None else Some t.text) ≡ (if not b then Some t.text else None)
+    known true = refl
+    known false = refl
+
+    go : (a b : Bool) → unless_known e.world e.dummies (text_of (if a then Some t else None)) ≡ (if a && not (is_known e.world e.dummies t.text) then Some t.text else None)
+    go true b = known (is_known e.world e.dummies t.text)
+    go false b = refl
+new_dummy_is e _ = refl
+
+-- the set of an item, as the code finds it
+pub item_set : (i : Tree) (After : List Tuple → Type 0) (Own : Value → Type 0) (ts : List Tuple) → Whether (items.has_in i) (After ts) (Own (Many ts)) → IsItemSet i After Own ts
+item_set i After Own ts h = subst (λ b. Whether b (After ts) (Own (Many ts))) (has_in_is i) h
+
+-- ---- operands
+
+pub operand_values : (e : Env) (l : Links) (vs : List Value) → AreValues e l vs → AreOperandValues e l vs
+operand_values e none vs h = h
+operand_values e (link o x l) vs (u, us, h, i, j) = (u, us, h, operand_values e l us i, j)
+
+-- ---- phrases
+
+pub expression_is : (b : Body) → world.expression_of (erased.body b) ≡ option_map expression (expression_of b)
+expression_is plain = refl
+expression_is (valued x) = refl
+expression_is (priced n x) = refl
+
+pub phrase_value_is : (test : Role → Bool) (ps : List Phrase) → world.phrase_value test (map erased.phrase ps) ≡ option_map expression (phrase_value test ps)
+phrase_value_is test [] = refl
+phrase_value_is test (p ∷ ps) = go (test (role_of p.word)) (expression_is p.body) (phrase_value_is test ps)
+  where
+    go : (b : Bool) → world.expression_of (erased.body p.body) ≡ option_map expression (expression_of p.body) → world.phrase_value test (map erased.phrase ps) ≡ option_map expression (phrase_value test ps)
+        → (if b then world.expression_of (erased.body p.body) else world.phrase_value test (map erased.phrase ps)) ≡ option_map expression (if b then expression_of p.body else phrase_value test ps)
+    go true e f = e
+    go false e f = f
+
+pub phrase_some : (test : Role → Bool) (ps : List Phrase) (x : Tree) → phrase_value test ps ≡ Some x → world.phrase_value test (map erased.phrase ps) ≡ Some (expression x)
+phrase_some test ps x e = phrase_value_is test ps ∙ ap (option_map expression) e
+
+pub phrase_none : (test : Role → Bool) (ps : List Phrase) → phrase_value test ps ≡ None → world.phrase_value test (map erased.phrase ps) ≡ None
+phrase_none test ps e = phrase_value_is test ps ∙ ap (option_map expression) e
+
+-- ---- indexing expressions
+
+pub indexed_is : (b : Option Braces) → is_some (indexing b) ≡ is_some b
+indexed_is None = refl
+indexed_is (Some b) = refl
+
+pub some_kept : {A B : Type 0} (f : A → B) (o : Option A) → is_some (option_map f o) ≡ is_some o
+some_kept f None = refl
+some_kept f (Some x) = refl
