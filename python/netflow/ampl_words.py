@@ -16,6 +16,7 @@ REPLACEMENTS = {
     "let": "set the value in the data, or call a tool with --set NAME=VALUE",
     "fix": "give the arc two equal bounds: >= 5, <= 5",
     "Infinity": "for no limit write a number that no plan reaches, such as sum {i in S} supply[i]; the tools add it with --bounds",
+    "inf": "for no limit write a number that no plan reaches, such as sum {i in S} supply[i]; the tools add it with --bounds",
     "/": "`/` is left out, since results have to be whole: multiply the other side, or use div",
     "^": "there are no powers: write a product, or a value in the data",
     "**": "there are no powers: write a product, or a value in the data",
@@ -55,4 +56,4 @@ KEYWORDS = ("set", "param", "check", "node", "arc", "minimize", "maximize", "wit
 MEANT = {"minimise": "minimize", "maximise": "maximize", "min": "minimize", "max": "maximize", "minimum": "minimize", "sets": "set",
          "params": "param", "parameter": "param", "parameters": "param", "nodes": "node", "arcs": "arc", "edge": "arc", "link": "arc",
          "cost": "obj", "price": "obj", "objective": "obj", "netin": "net_in", "netout": "net_out", "inflow": "net_in", "outflow": "net_out",
-         "modulo": "mod", "source": "from", "target": "to"}
+         "modulo": "mod", "int": "integer", "subset": "within", "source": "from", "target": "to"}

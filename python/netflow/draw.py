@@ -7,7 +7,7 @@ from __future__ import annotations
 import math
 from html import escape
 
-from .layout import Bend, apart, has_cycle, layers, mean
+from .layout import Bend, apart, components, has_cycle, layers, mean
 from .style import DRAWING_STYLE
 
 LETTER, LABELLED = 7.4, 60
@@ -18,6 +18,10 @@ PORT, BARE_PORT, STUB = 17, 8, 34
 MOST_ROOM = 170
 # From this width on a drawing is tried from top to bottom.
 WIDE = 1400
+# From this height on the components of a drawing with so few layers become pictures of their own, which a page sets in rows.
+HIGH, FLAT = 700, 4
+# The room around a drawing.
+MARGIN = 12
 
 
 def draw(net, arcs, marked=frozenset(), across=frozenset(), alone=False):
@@ -27,24 +31,43 @@ def draw(net, arcs, marked=frozenset(), across=frozenset(), alone=False):
         other = Picture(net, arcs, marked, across, alone, is_down=True)
         if other.sheet[0] <= max(WIDE, found.sheet[0] / 2):
             return other
+    if found.sheet[1] > HIGH and len(set(found.layer.values())) <= FLAT:
+        found.parts = split(found)
     return found
+
+
+def split(whole):
+    """Returns a picture of each component of a picture; none if it is connected."""
+    groups = components(whole.nodes, whole.arcs)
+    if len(groups) < 2:
+        return []
+    part = {it: number for number, nodes in enumerate(groups) for it in nodes}
+    shown, known = [[] for _ in groups], [[] for _ in groups]
+    for arcs, parts in ((whole.arcs, shown), (whole.net.arcs, known)):
+        for arc in arcs:
+            ends = {part.get(it) for it in (arc.src, arc.dst) if it is not None}
+            if len(ends) == 1 and None not in ends:
+                parts[ends.pop()].append(arc)
+    is_small = max(map(len, shown)) <= LABELLED
+    return [Picture(whole.net, shown[it], whole.marked, whole.across, nodes=nodes, known=known[it], is_small=is_small) for it, nodes in enumerate(groups)]
 
 
 class Picture:
     """A drawing of some arcs of a network. `marked` are node indices, `across` the ids of arcs across that set; `alone` draws all nodes.
-    Positions are `u` along the layers and `v` across them."""
+    Positions are `u` along the layers and `v` across them. `nodes`, `known` and `is_small` are for a part of a picture: its nodes, the
+    arcs between them, and whether arcs have numbers."""
 
-    def __init__(self, net, arcs, marked=frozenset(), across=frozenset(), alone=False, is_down=False):
-        self.net, self.arcs, self.marked, self.across, self.is_down = net, arcs, marked, across, is_down
+    def __init__(self, net, arcs, marked=frozenset(), across=frozenset(), alone=False, is_down=False, nodes=None, known=None, is_small=None):
+        self.net, self.arcs, self.marked, self.across, self.is_down, self.parts = net, arcs, marked, across, is_down, []
         ends = {it for arc in arcs for it in (arc.src, arc.dst) if it is not None}
-        self.nodes = list(range(len(net.nodes))) if alone else sorted(ends | set(marked if len(marked) <= 80 else ()))
-        self.is_small = len(arcs) <= LABELLED
+        self.nodes = nodes or (list(range(len(net.nodes))) if alone else sorted(ends | set(marked if len(marked) <= 80 else ())))
+        self.is_small = len(arcs) <= LABELLED if is_small is None else is_small
         self.links = [it for it in arcs if None not in (it.src, it.dst) and it.src != it.dst]
         self.stubs = {}
         for arc in arcs:
             if (arc.src is None) != (arc.dst is None):
                 self.stubs.setdefault((arc.src, arc.dst), []).append(arc)
-        self.layer = layers(self.nodes, net.arcs)
+        self.layer = layers(self.nodes, net.arcs if known is None else known)
         level = sum(self.layer[it.src] == self.layer[it.dst] for it in self.links)
         if 3 * level > len(self.links) and not has_cycle(self.nodes, self.links):
             # If arcs lead from anywhere to anywhere, only those that are drawn have an order.
@@ -278,6 +301,7 @@ class Picture:
         curves, flow, kind = self.curves(arc), abs(arc.flow or 0), self.kind(arc)
         if not curves:
             return "", ""
+        self.reach += [(x - 4, y - 4, x + 4, y + 4) for curve in curves for x, y in curve]
         path = f"M{spot(curves[0][0])}" + "".join(f"C{spot(b)} {spot(c)} {spot(d)}" for _, b, c, d in curves)
         thick = 4.8 if most > 1 else 0.8
         width = 1.2 + thick * math.sqrt(float(flow / most)) if flow else 2.5 if kind == "across" else 1.2
@@ -289,6 +313,8 @@ class Picture:
             return made, ""
         # In a large picture the numbers of the arcs of a place are shown when the pointer is on it.
         x, y = self.text_place(arc, text, curves) if self.is_small else along(curves[len(curves) // 2], 0.5)
+        half = self.text_width(text) / 2
+        self.reach.append((x - half, y - 8, x + half, y + 8))
         return made, f'<g class="arc number {ends}"><text x="{x:.0f}" y="{y + 4:.0f}">{text}</text></g>'
 
     def node_svg(self, number):
@@ -308,19 +334,27 @@ class Picture:
         return x - wide, y - high, x + wide, y + high
 
     def svg(self, is_alone=False):
-        """Returns the text of the picture; one that is a file of its own has its style in it."""
+        """Returns the text of the picture, or of its parts; one that is a file of its own has its style in it, and is whole."""
         most = max([abs(it.flow or 0) for it in self.arcs] + [1])
-        self.boxes = [self.box(it) for it in self.nodes]
-        wide, high = (math.ceil(it) for it in self.sheet)
         heads = "".join(f'<marker id="{it}" class="head {it}" viewBox="0 0 8 8" refX="6" refY="4" markerUnits="userSpaceOnUse" markerWidth="9" '
                         'markerHeight="9" orient="auto"><path d="M0,0L8,4L0,8z"/></marker>' for it in ("idle", "used", "full", "across"))
+        defs = f"{f'<style>{DRAWING_STYLE}</style>' * is_alone}<defs>{heads}</defs>"
+        if is_alone or not self.parts:
+            return self.sheet_svg(most, defs)
+        return "\n".join(it.sheet_svg(most, "" if here else defs) for here, it in enumerate(self.parts))
+
+    def sheet_svg(self, most, defs):
+        """Returns one picture, cut to what it shows; an arc that carries `most` has the thickest line."""
+        self.boxes = [self.box(it) for it in self.nodes]
+        self.reach = list(self.boxes)
         drawn = sorted(self.arcs, key=lambda it: (id(it) in self.across, abs(it.flow or 0)))
         # Numbers are placed from the largest flow on; arcs are drawn from the smallest.
         arcs = {id(it): self.arc_svg(it, most) for it in reversed(drawn)}
+        left, top, right, low = (math.floor(pick(sides)) for pick, sides in zip((min, min, max, max), zip(*self.reach)))
+        wide, high = right - left + 2 * MARGIN, low - top + 2 * MARGIN
         large = "" if self.is_small else 'class="large" '
-        sheet = f'{large}width="{wide}" height="{high}" viewBox="0 0 {wide} {high}"'
-        return (f'<svg xmlns="http://www.w3.org/2000/svg" role="img" aria-label="the network" {sheet}>'
-                f"{f'<style>{DRAWING_STYLE}</style>' * is_alone}<defs>{heads}</defs>"
+        sheet = f'{large}width="{wide}" height="{high}" viewBox="{left - MARGIN} {top - MARGIN} {wide} {high}" style="--wide:{wide}px"'
+        return (f'<svg xmlns="http://www.w3.org/2000/svg" role="img" aria-label="the network" {sheet}>{defs}'
                 + "\n".join([*(arcs[id(it)][0] for it in drawn), *(arcs[id(it)][1] for it in drawn), *map(self.node_svg, self.nodes)]) + "</svg>")
 
 

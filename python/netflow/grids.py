@@ -6,6 +6,8 @@ from .page import text
 
 # The most rows and columns of a grid, and the smallest part of its cells that has to have arcs.
 ROWS, COLUMNS, FILLED = 400, 60, 0.15
+# From so many letters on the headings of columns are upright in a narrow window, and in any.
+WORDY, LONG = 40, 110
 
 
 def grid_html(arcs: list, titles: list, is_open: bool = True) -> str:
@@ -21,14 +23,21 @@ def grid_html(arcs: list, titles: list, is_open: bool = True) -> str:
         return ""
     if {(it,) for it in across} == set(rows):
         across = [it for it, in rows]
-    head = "".join(f'<th scope="col"><button type="button">{text(it)}</button></th>' for it in [*titles[:-1], *across, "total"])
+    head = grid_head(titles[:-1], [*across, "total"], "number")
     lines = [grid_row(key, cells, across) for key, cells in rows.items()]
     sums = [sum(cells[it].flow for cells in rows.values() if it in cells) for it in across]
     last = "".join(f"<td>{grouped(it)}</td>" for it in [*sums, sum(sums)])
     title = f"{text(' and '.join(map(str, titles[:-1])))} by {text(titles[-1])}"
     foot = f'<tfoot><tr class="sum"><td class="key" colspan="{len(titles) - 1}">total</td>{last}</tr></tfoot>'
-    table = f'<table class="grid"><thead><tr>{head}</tr></thead><tbody>\n{chr(10).join(lines)}\n</tbody>{foot}</table>'
+    letters = sum(len(str(it)) + 2 for it in across)
+    kind = "grid long wordy" if letters > LONG else "grid wordy" if letters > WORDY else "grid"
+    table = f'<table class="{kind}"><thead><tr>{head}</tr></thead><tbody>\n{chr(10).join(lines)}\n</tbody>{foot}</table>'
     return f'<details class="as-grid"{" open" if is_open else ""}><summary>{title}</summary><div class="scroll">{table}</div></details>'
+
+
+def grid_head(titles: list, across: list, kind: str) -> str:
+    heads = [*(("", it) for it in titles), *((kind, it) for it in across)]
+    return "".join(f'<th class="{kind}" scope="col"><button type="button">{text(it)}</button></th>' for kind, it in heads)
 
 
 def grid_row(key: tuple, cells: dict, across: list) -> str:
@@ -57,7 +66,7 @@ def roster_html(arcs: list, titles: list) -> str:
     for it in arcs:
         cell = rows.setdefault(it.key[0], {}).setdefault(it.key[column], [])
         cell += [str(it.key[chosen])] if it.flow else []
-    head = "".join(f'<th scope="col"><button type="button">{text(it)}</button></th>' for it in [titles[0], *across])
+    head = grid_head(titles[:1], across, "chosen")
     lines = []
     for row, cells in rows.items():
         made = "".join(f'<td class="{"none" if it not in cells else "chosen"}">{text(", ".join(cells.get(it, [])))}</td>' for it in across)

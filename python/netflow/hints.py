@@ -10,7 +10,7 @@ import re
 import unicodedata
 from typing import Iterator
 
-from . import hints_data, hints_forms, hints_keys, hints_syntax, hints_values
+from . import hints_data, hints_forms, hints_keys, hints_names, hints_syntax, hints_values
 from .ampl_words import KEYWORDS, MEANT, REPLACEMENTS
 from .diagnostics import DECLARING, Diagnostic
 from .words import TOKEN, tokens
@@ -21,7 +21,7 @@ PAIRS = {")": "(", "]": "[", "}": "{"}
 
 
 def hints_of(it: Diagnostic) -> Hint:
-    for numbers, hint in (*hints_syntax.HINTS, *hints_forms.HINTS, *HINTS, *hints_keys.HINTS, *hints_values.HINTS, *hints_data.HINTS):
+    for numbers, hint in (*hints_syntax.HINTS, *hints_forms.HINTS, *HINTS, *hints_keys.HINTS, *hints_values.HINTS, *hints_names.HINTS, *hints_data.HINTS):
         if it.number in numbers:
             yield from hint(it)
 
@@ -50,6 +50,8 @@ def odd_character(it: Diagnostic) -> Hint:
         yield "the file begins with a byte order mark, which cannot be seen: save it as UTF-8 without one", True
     elif character == "=" and it.text == "data":
         yield "write := for = in data", True
+    elif character == "/" and it.text == "data" and re.search(r"[:=\s]\d+$", it.before) and re.match(r"/\d+\b", it.at()):
+        yield "a value is one number: write 0.5 for 1/2", True
     elif character == "/" and it.text == "data":
         yield ("comments begin with #", True) if it.at().startswith("//") else ("quote a text with /: 'a/b'", False)
     elif character and not character.isascii():
@@ -70,13 +72,19 @@ def replaced_word(it: Diagnostic) -> Hint:
     if it.text != "model":
         return
     at = it.at()
+    if at.startswith("--") and not it.before.strip(" ;").endswith(tuple("+-*([{,=<>")) and not it.statement_before():
+        yield REPLACEMENTS["//"], True
     if at.startswith("//"):
         yield REPLACEMENTS["//"], True
+    elif at.startswith("!") and it.before.endswith("="):
+        return
+    elif word == "forall" and not it.statement_before():
+        yield "forall: index the declaration itself: node B {j in S}: net_in = need[j]; or check {j in S}: ..", True
     elif at.startswith("/*"):
         return
     elif word in REPLACEMENTS and not (word == "data" and it.row == 1) and is_meant(word, at):
         yield f"{word}: {REPLACEMENTS[word]}", True
-    elif at and (at[:2] in REPLACEMENTS or at[:1] in "/^!&"):
+    elif at and (at[:2] in REPLACEMENTS or at[:1] in "/^!&") and not it.before.endswith("="):
         mark = at[:2] if at[:2] in REPLACEMENTS else at[:1]
         yield f"{mark}: {REPLACEMENTS[mark]}", True
     elif word == "s" and at.startswith("s.t"):
@@ -91,7 +99,7 @@ def is_meant(word: str, at: str) -> bool:
 
 def misspelt_keyword(it: Diagnostic) -> Hint:
     word = it.word()
-    if it.text != "model" or not re.fullmatch(r"[A-Za-z_.]+", word) or word in DECLARING or it.number == "E12" and it.before.strip():
+    if it.text != "model" or not re.fullmatch(r"[A-Za-z_.]+", word) or word in DECLARING or word in REPLACEMENTS or it.number == "E12" and it.before.strip():
         return
     declared = {name.bare() for name in tokens(it.texts["model"])}
     lower = word.lower()
@@ -168,6 +176,8 @@ def misplaced(it: Diagnostic) -> Hint:
         yield "an arc has a lower and an upper bound: are >= and <= meant?", True
     if it.word() == "=" and any(token.text == "param" for token in statement[:1]):
         yield "a parameter gets its value by :=, not by =", True
+    if it.word() == "in" and [token.text for token in statement[:1]] == ["set"] and not in_braces(it):
+        yield "in: is within meant?", True
     if it.word() == "=" and any(token.text == "set" for token in statement[:1]):
         yield "a set gets its members by :=, not by =", True
     if before.endswith(",") and re.search(r"\bfrom\b[^,]*(\[[^\]]*\])?,$", before):

@@ -61,7 +61,7 @@ def uneven(it: Any) -> Hint:
     """Rows of a table or list with another number of cells than is expected, or than most have."""
     whole = it.statement() if it.text == "data" and not it.is_change() else []
     cut = next((here for here, token in enumerate(whole) if token.text == ":="), None)
-    if cut is None:
+    if cut is None or re.fullmatch(r"\d+-\d+", it.word()):
         return
     rows: dict = {}
     for token in whole[cut + 1:]:
@@ -164,22 +164,6 @@ def unknown_member(it: Any) -> Hint:
         yield "are the two members exchanged? In a table (tr) before the : turns rows and columns", False
 
 
-def respelled(it: Any) -> Hint:
-    """Names near one that is not known; indices of other declarations are not known here."""
-    name = it.detail.partition("[")[0]
-    if it.number == "E12" and (declared_below(it, name) or name in members_in_data(it)):
-        return
-    known = it.words("model")
-    gone = set(indices(list(tokens(it.texts.get("model", "")))))  - set(indices(it.statement())) - declared(it) if it.number == "E12" else set()
-    same = [other for other in dict.fromkeys(known) if other in gone and other.lower() == name.lower()]
-    others = [other for other in dict.fromkeys(known) if other != name and other not in DECLARING | gone and other[:1].isalnum()]
-    found = [other for other in others if other.lower() == name.lower()] or difflib.get_close_matches(name, others, 1, 0.7)
-    if found:
-        yield f"{name}: is {found[0]} meant?", True
-    elif same:
-        yield f"{same[0]} is an index of another declaration and ends with it: index this one too, as in {{{same[0]} in ..}}", True
-
-
 def declared(it: Any) -> set:
     words = it.words("model")
     return {words[here + 1] for here in range(len(words) - 1) if words[here] in DECLARING}
@@ -252,7 +236,8 @@ def large_number(it: Any) -> Hint:
 
 def gain(it: Any) -> Hint:
     """A number after an end of an arc."""
-    if it.text == "model" and re.search(r"\b(?:from|to)\s+\w+(?:\[[^\]]*\])?\s*$", it.before):
+    is_end = re.search(r"\b(?:from|to)\s+\w+(?:\[[^\]]*\])?\s*$", it.before)
+    if it.text == "model" and is_end and it.word() not in declared_as(it, "node"):
         yield "a number after an end of an arc is a gain, and no network has gains: what leaves one end arrives at the other", True
 
 
@@ -367,7 +352,6 @@ HINTS: tuple = (
     (("E04",), fraction),
     (("E33", "E50"), unknown_member),
     (("E12",), late),
-    (("E12", "E30", "E61"), respelled),
     (("E32",), no_data),
     (("E31", "E32", "E34", "E53", "E54"), speaking),
     (("E34",), outside),

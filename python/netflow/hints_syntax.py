@@ -40,7 +40,7 @@ def chained(it: Any) -> Hint:
 def reversed_sign(it: Any) -> Hint:
     """`=<` and `=>`."""
     place = len(it.before)
-    for wrong, right in (("=<", "<="), ("=>", ">=")):
+    for wrong, right in (("=<", "<="), ("=>", ">="), ("=!", "!=")):
         if it.text == "model" and wrong in (it.shown[place:place + 2], it.shown[max(place - 1, 0):place + 1]):
             yield f"{wrong}: is {right} meant?", True
 
@@ -112,7 +112,27 @@ def no_objective(it: Any) -> Hint:
     is_price = head in declared(it, "param") if head else re.match(r"[\d(]", it.at()) is not None
     if is_price:
         price = (found[1] or "") + re.match(r"(?:\[[^\]]*\]|[^,;])*", it.at())[0].strip()  # type: ignore[index]
+        price = re.sub(rf"\s+(?:{'|'.join(names)})$", "", price)
         yield f"the objective's name comes after obj: obj {names[0]} {price}", True
+
+
+def check_without_colon(it: Any) -> Hint:
+    if it.text == "model" and [token.text for token in it.statement_before()] == ["check"] and not it.at().startswith((":", "{")):
+        yield "is a : missing after check?", True
+
+
+def colon_range(it: Any) -> Hint:
+    """`{1:last}` and `{t in 1:last}`."""
+    found = re.match(rf"\{{?\s*(?:{NAME}\s+in\s+)?(\w+)\s*:\s*(\w+)\s*[}},]", it.at())
+    if it.text == "model" and found and not found[1].isidentifier():
+        yield f"{found[1]}:{found[2]}: is {found[1]}..{found[2]} meant?", True
+
+
+def nothing_after(it: Any) -> Hint:
+    """`default;`, `>= ,`: a phrase without its value."""
+    found = re.search(r"(\bdefault|\bwithin|\bdimen|\bobj|\bfrom|\bto|:=|<=|>=|[-+*=:(\[])\s*$", it.before)
+    if it.text == "model" and found and it.at()[:1] in (";", ",", "}", "]", ")"):
+        yield f"what comes after {found[1]} is missing", True
 
 
 def tuple_without_comma(it: Any) -> Hint:
@@ -140,6 +160,9 @@ HINTS: tuple = (
     (("E10",), mixed_range),
     (("E36",), comma_for_colon),
     (("E10", "E12"), no_objective),
+    (("E10", "E14"), check_without_colon),
+    (("E36",), colon_range),
+    (("E10",), nothing_after),
     (("E20",), tuple_without_comma),
     (("E01",), braces_in_data),
 )

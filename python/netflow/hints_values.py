@@ -43,8 +43,39 @@ def unit(it: Any) -> Hint:
         return
     if it.number == "E36" and found and not word.translate(str.maketrans("OoIl", "0011")).isdigit():
         yield f"{word}: write the number without its unit, {found[1]}", True
+    elif it.number == "E31" and "[" not in it.detail and re.search(r":=\s*\d{1,3}(?:\s\d{3})*\s$", it.before) and re.match(r"\d{3}\b", it.at()):
+        digits = re.search(r":=\s*([\d\s]+)$", it.before)
+        yield f"{it.detail} has one value: is {''.join(digits[1].split())}{it.at()[:3]} meant? Digits are not grouped", True  # type: ignore[index]
     elif it.number == "E31" and "[" not in it.detail and re.search(r"\d\s*$", it.before) and re.match(r"[^\W\d]", word):
         yield f"{it.detail} has one value: is {word} a unit? Leave it out", True
+
+
+def one_number(it: Any) -> Hint:
+    """`30-45` for a value."""
+    if it.text == "data" and re.fullmatch(r"\d+-\d+", it.word()):
+        yield f"{it.word()} is no number, and a value is one number; a range needs two parameters, a least and a most", True
+
+
+def keys_as_tuples(it: Any) -> Hint:
+    """`param cost := (north,hill) 4`."""
+    words = [token.text for token in it.statement_before()]
+    found = re.match(r"\(([^()]*)\)\s*(\S+)", it.at())
+    if it.text == "data" and words[:1] == ["param"] and words[-1:] == [":="] and found:
+        yield f"the keys of a value have no parentheses: {' '.join(part.strip() for part in found[1].split(','))} {found[2].rstrip(';')}", True
+
+
+def short_item(it: Any) -> Hint:
+    """`hill 30, lake, mill 25`: an item between commas without its value."""
+    text = "\n".join(it.texts.get("data", "").split("\n")[:it.row])
+    start = text.rfind(":=", 0, len(text) - len(it.at()))
+    if it.text != "data" or it.is_change() or start < 0:
+        return
+    rest = it.texts["data"][start + 2:].partition(";")[0]
+    sizes = [len(part.split()) for part in rest.split(",")]
+    usual = max(sizes, key=sizes.count)
+    short = [part.split() for part in rest.split(",") if 0 < len(part.split()) == usual - 1]
+    if usual > 1 and len(short) == 1 and sizes.count(usual) == len(sizes) - 1:
+        yield f"is the value of {' '.join(short[0])} missing?", True
 
 
 def misspelt_statement(it: Any) -> Hint:
@@ -202,6 +233,9 @@ def statement_of(it: Any, row: int) -> int:
 HINTS: tuple = (
     (("E01",), character),
     (("E31", "E36"), unit),
+    (("E36",), one_number),
+    (("E20",), keys_as_tuples),
+    (("E37", "E36", "E31"), short_item),
     (("E20",), misspelt_statement),
     (("E20",), missing_mark),
     (("E34",), restricted),

@@ -84,6 +84,24 @@ def apart(wanted, sizes):
     return [it + shift for it, shift in zip(flat, shifts)]
 
 
+def components(nodes, arcs):
+    """Returns the sets of nodes that the arcs connect, each in order."""
+    head = {it: it for it in nodes}
+
+    def top(it):
+        while head[it] != it:
+            head[it] = it = head[head[it]]
+        return it
+    for arc in arcs:
+        if arc.src in head and arc.dst in head:
+            one, two = sorted((top(arc.src), top(arc.dst)))
+            head[two] = one
+    found = {}
+    for it in nodes:
+        found.setdefault(top(it), []).append(it)
+    return list(found.values())
+
+
 def has_cycle(nodes, arcs):
     """Whether the arcs between these nodes contain a cycle."""
     into, out = neighbours(nodes, arcs)

@@ -22,6 +22,8 @@ from .words import compared_texts, first_comment, headings
 from .why import Gains, better, bottleneck
 
 DRAWN, ALL_DRAWN, SHOWN, SETS = 400, 60, 20, 5
+# Pixels: the printed page, the least scale at which names can be read, and the height from which a drawing needs a page of its own.
+PRINTED, READABLE, TALL = (688, 907), 0.36, 1890
 # How many arcs are listed at which more capacity may help.
 MOST_GAINS = 8
 KINDS = (("used", "carries something"), ("full", "full, and more would help"), ("across", "to or from the places in red"), ("idle", "carries nothing"))
@@ -96,7 +98,7 @@ class Report:
                 '<button type="button" data-scale="fit">fit</button></span>'
         point = '<span class="dim point">Point at a place to see only its arcs.</span><span class="more-right">The drawing goes on to the right.</span>' \
                 '<span class="more-down">The drawing goes on below.</span>'
-        return f'<p class="key">{keys}{marked}{note}{point}{tools}</p><div class="picture">{picture}</div>'
+        return f'<p class="key">{keys}{marked}{note}{point}{tools}</p>{framed(picture)}'
 
     def choice(self, count):
         what = "those that carry something" if self.has_plan else "those of the places that are short"
@@ -155,6 +157,17 @@ class Report:
         prices, places = ([self.bottleneck(), self.prices()], [places_html(self.net, self.marginal)]) if self.has_plan else ([], [])
         parts = [*why, section("The network", self.drawing()), *prices, self.remarks(), *self.tables(), *places]
         return page(self.title, self.files, self.head(), parts)
+
+
+def framed(picture):
+    """Returns the frame of a drawing, or of its parts in columns. Print leaves out a drawing with names too small to read."""
+    sizes = [tuple(map(int, it)) for it in re.findall(r'<svg [^>]*?width="(\d+)" height="(\d+)"', picture)]
+    wide, high = max(sizes)[0], sizes[0][1]
+    if len(sizes) > 1:
+        return f'<div class="picture"><div class="parts" style="--widest:{wide}px">{picture}</div></div>'
+    if min(PRINTED[0] / wide, PRINTED[1] / high) < READABLE:
+        return f'<div class="picture screen">{picture}</div><p class="print-note">The drawing is on the page for the screen: its names are too small for print.</p>'
+    return f'<div class="picture whole{" tall" if high > TALL else ""}">{picture}</div>'
 
 
 def objective_unit(model, name):

@@ -42,22 +42,25 @@ summary{cursor:pointer;margin:8px 0}
 th.wrap button{white-space:normal;min-width:8rem;max-width:11rem;margin-left:auto}.numbers td{white-space:nowrap}
 .toggle,.tools button{font:inherit;font-size:.9rem;color:inherit;background:var(--soft);border:1px solid var(--line);
 border-radius:5px;padding:2px 10px;cursor:pointer}
-.pair{display:flex;flex-wrap:wrap;gap:8px 32px}.pair>div{max-width:100%}
+.pair{display:flex;flex-wrap:wrap;gap:8px 32px}.pair>div{max-width:100%}.pair div>.scroll{max-height:none}
 .picture{border:1px solid var(--line);border-radius:6px;overflow:auto;max-height:85vh;background:var(--back)}svg{display:block;margin:0 auto}
+.parts{column-width:var(--widest);column-gap:8px}.parts svg{break-inside:avoid}
 .more-right,.more-down{display:none;color:var(--across)}.is-cut .more-right,.is-long .more-down{display:inline}
 .grid td{text-align:right}.grid td,.grid th button{padding-left:8px;padding-right:8px}.grid td:first-child,.grid td.key{text-align:left;position:sticky;left:0;background:var(--back)}
 .grid th:first-child{left:0;z-index:1}.grid td.key~td.key{position:static}.grid td.zero{color:var(--dim)}.grid td.full{background:var(--full-back)}
-.grid td.chosen{text-align:center}.grid td.none{background:var(--soft)}.grid tr.sum td{font-weight:600;border-top:2px solid var(--line)}.grid td.sum{font-weight:600}
+.grid td.chosen,.grid th.chosen button{text-align:center}.grid td.none{background:var(--soft)}.grid tr.sum td{font-weight:600;border-top:2px solid var(--line);position:sticky;bottom:0;background:var(--back)}.as-grid .scroll{max-height:40rem}.print-note{display:none}.grid td.sum{font-weight:600}
 .unit{font-size:1.1rem;font-weight:400;color:var(--dim)}
 p.key{display:flex;flex-wrap:wrap;gap:4px 18px;align-items:center}
 .key i{display:inline-block;width:26px;height:0;border-top:4px solid;margin-right:6px;vertical-align:middle}
 .key .idle{border-top:2px dashed var(--idle)}.key .used{border-color:var(--used)}.key .full{border-color:var(--full)}
 .key .across{border-color:var(--across)}
-@media (max-width:700px){td,th button{padding-left:7px;padding-right:7px}.grid td,.grid th button{padding-left:4px;padding-right:4px}
-th.end,td.end{display:none}}
-@media print{body{max-width:none;padding:0;font-size:11px}.scroll,.picture{max-height:none;overflow:visible;border-color:#bbb;background:none}
-.picture svg{width:100%!important;height:auto!important;max-height:18cm}.toggle,.tools,.find,.point,summary,.more-right,.more-down{display:none!important}
-th{position:static}tfoot{display:table-row-group}th button{display:contents}th.number{text-align:right}td,th{padding:1px 6px!important}.scroll{max-width:100%;width:100%}table{width:100%}tr,.picture{break-inside:avoid}
+@media (max-width:700px){table{font-size:.87rem}td,th button{padding-left:6px;padding-right:6px}.grid td,.grid th button{padding-left:4px;padding-right:4px}
+th,.numbers td:not(.number){white-space:normal}th.wrap button{min-width:0}th.end,td.end{display:none}.grid.wordy th.number button{display:inline-block;writing-mode:vertical-rl;transform:rotate(180deg);padding:6px 2px}}
+.grid.long th.number button{display:inline-block;writing-mode:vertical-rl;transform:rotate(180deg);padding:6px 2px}.grid.long th,.grid.wordy th{vertical-align:bottom}.grid.long th.number,.grid.wordy th.number{text-align:right}
+@media print{body{max-width:none;padding:0 1px;font-size:11px}.scroll,.picture{max-height:none;overflow:visible;border-color:#bbb;background:none}
+.picture svg{width:100%!important;height:auto!important;max-height:18cm}.picture.tall svg{max-height:24cm}.picture.screen{display:none}.print-note{display:block}
+.parts{column-width:calc(var(--widest)*.75)!important}.parts svg{width:calc(var(--wide)*.75)!important}.toggle,.tools,.find,.point,details:not([open]),.more-right,.more-down{display:none!important}summary{list-style:none;font-weight:600}
+th,.grid tr.sum td,.grid td:first-child,.grid td.key{position:static;background:none}thead th{background:var(--soft)}tfoot{display:table-row-group}th button{display:contents}th.number{text-align:right}td,th{padding:1px 6px!important}.scroll{max-width:100%;width:100%}table{width:100%}tr,.picture.whole{break-inside:avoid}
 section{break-inside:auto}h2,h3{break-after:avoid}}
 @page{margin:1.4cm}
 """
@@ -83,16 +86,19 @@ document.querySelectorAll('.find').forEach(function(line){
    row.classList.toggle('out',!hit);count+=hit});
   section.classList.toggle('found',on);label.textContent=on?count+' of '+rows.length:''}
  words.oninput=find;if(full)full.onchange=find});
-(function(){var svg=document.querySelector('.picture svg');if(!svg)return;
- var wide=+svg.getAttribute('width'),high=+svg.getAttribute('height'),scale=1,arcs=Array.from(svg.querySelectorAll('.arc'));
- function size(to){scale=Math.min(4,Math.max(.1,to));svg.setAttribute('width',wide*scale);svg.setAttribute('height',high*scale);
-  var box=svg.parentNode,all=svg.closest('section').classList;all.toggle('is-cut',wide*scale>box.clientWidth+1);
-  all.toggle('is-long',high*scale>box.clientHeight+1)}
- function fit(){return svg.parentNode.clientWidth/wide}
- size(Math.max(.7,Math.min(1,fit())));onresize=function(){size(scale)};
+(function(){var box=document.querySelector('.picture');if(!box)return;
+ var all=Array.from(box.querySelectorAll('svg')),widest=0,scale=1,arcs=Array.from(box.querySelectorAll('.arc'));
+ all.forEach(function(svg){svg.wide=+svg.getAttribute('width');svg.high=+svg.getAttribute('height');widest=Math.max(widest,svg.wide)});
+ function size(to){scale=Math.min(4,Math.max(.1,to));
+  all.forEach(function(svg){svg.setAttribute('width',svg.wide*scale);svg.setAttribute('height',svg.high*scale)});
+  box.firstChild.style.columnWidth=widest*scale+'px';
+  var marks=box.closest('section').classList;marks.toggle('is-cut',box.scrollWidth>box.clientWidth+1);
+  marks.toggle('is-long',box.scrollHeight>box.clientHeight+1)}
+ function fit(){return box.clientWidth/widest}
+ size(Math.max(.45,Math.min(1,fit())));onresize=function(){size(scale)};
  document.querySelectorAll('.tools button').forEach(function(button){button.onclick=function(){
   var to=button.dataset.scale;size(to==='fit'?fit():scale*to)}});
- svg.querySelectorAll('.node').forEach(function(node){
+ box.querySelectorAll('.node').forEach(function(node){
   function show(on){return function(){arcs.forEach(function(arc){var its=arc.classList.contains(node.id);
    arc.classList.toggle('faint',on&&!its);arc.classList.toggle('near',on&&its)})}}
   node.onmouseenter=node.onfocus=show(true);node.onmouseleave=node.onblur=show(false)})})();

@@ -113,17 +113,37 @@ def compared_texts(model, data):
             for it in compared if it.text not in known]
 
 
-COMMENT = re.compile(r"\s*(?:#+[ \t]*(?P<line>[^\n]*)|/\*+\s*(?P<block>.*?)\s*\**\*/)", re.S)
+COMMENT = re.compile(r"(?P<gap>\s*)(?:#+[ \t]*(?P<line>[^\n]*)|/\*+\s*(?P<block>.*?)\s*\**\*/)", re.S)
+# The end of a sentence: not that of an abbreviation such as `e.g.` or `St.`
+SENTENCE = re.compile(r"(?<=[^\W\d_]{3}[.!?])\s+(?![a-z0-9])|(?<=[\d)\"'%][.!?])\s+(?=[A-Z])")
+# The most letters of a title, and from how many on a line was wrapped.
+TITLE, WRAPPED = 100, 50
 
 
 def first_comment(text):
-    """Returns the first sentence of a comment that the model begins with; an empty text if it begins with none."""
-    at = 0
-    while True:
-        found = COMMENT.match(text, at)
-        if not found:
-            return ""
-        words = " ".join((found["line"] or found["block"] or "").strip(" #*-=").split())
-        if words:
-            return re.split(r"(?<=[.!?])\s", words)[0].rstrip(".:")[:90]
+    """Returns the first sentence of the comment that the model begins with; an empty text if it begins with none. A sentence that is
+    too long for a title is cut after a word."""
+    sentence = SENTENCE.split(paragraph(comment_lines(text)))[0].rstrip(".:")
+    cut = sentence[:TITLE]
+    return sentence if cut == sentence else (cut.rpartition(" ")[0] or cut).rstrip(",;:-(") + "\u2026"
+
+
+def comment_lines(text):
+    """Yields the lines of the comments at the beginning of a text, without their marks and rules."""
+    at, found = 0, COMMENT.match(text)
+    while found:
+        yield from [""] * (found["gap"].count("\n") > 1)
+        for line in (found["line"] if found["block"] is None else found["block"]).split("\n"):
+            yield " ".join(line.strip(" \t#*-=").split())
         at = found.end()
+        found = COMMENT.match(text, at)
+
+
+def paragraph(lines):
+    """Joins lines up to the first empty one, or to one that begins anew: with a capital letter after a short line."""
+    words = last = ""
+    for line in lines:
+        if words and (not line or line[0].isupper() and len(last) < WRAPPED):
+            break
+        words, last = f"{words} {line}".strip(), line
+    return words

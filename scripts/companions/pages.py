@@ -70,6 +70,15 @@ def pages(folder):
         yield name, words, run("netflow-report", *words)
 
 
+def twice(names):
+    return sorted({it for it in names if names.count(it) > 1})
+
+
+def drawings(text):
+    """Returns the drawings of a page; the parts of one each have their own coordinates."""
+    return re.findall(r"<svg .*?</svg>", text, re.S)
+
+
 def overlapping(svg):
     """Pairs of nodes that are drawn one on the other."""
     boxes = [tuple(map(float, it)) for it in re.findall(r'<rect x="([-\d.]+)" y="([-\d.]+)" width="([\d.]+)" height="([\d.]+)"', svg)]
@@ -88,8 +97,9 @@ def check_pages(complaints, folder):
         complaints.same(f"report {name}: arcs", {it: len(arcs) for it, arcs in net.declared().items()}, {it: int(count) for it, count in tables})
         rows = sum(part.count("<tr") - 1 for part in re.findall(r"<section><h2>[^<]*</h2>\n<p>\d+ arcs?,(.*?)(?:<details|</section>)", text, re.S))
         complaints.same(f"report {name}: rows", len(net.arcs), rows)
-        complaints.same(f"report {name}: nodes on one another", [], overlapping(text))
+        complaints.same(f"report {name}: nodes on one another", [], [it for svg in drawings(text) for it in overlapping(svg)])
         complaints.want(status == 0 or re.search(r'class="reason">[^<]* (short|too much)\.', text), f"report {name}: no reason")
+        complaints.same(f"report {name}: places drawn twice", [], twice(re.findall(r'<g class="node [^"]*" id="(n\d+)"', text)))
         drawn = run("netflow-report", *words, "--svg")[1].strip()
         complaints.same(f"report {name}: the drawing's tags", [], Page(drawn).faults if drawn else [])
         complaints.want(drawn.startswith("<svg ") and "<style>" in drawn or "so none is drawn" in text, f"report {name}: no drawing")
@@ -99,7 +109,7 @@ def check_pages(complaints, folder):
             inflows = [int(cells[it + 2]) - int(cells[it + 3]) for it in range(0, len(cells), each)]
             complaints.same(f"report {name}: inflow minus outflow", [it.inflow for it in net.nodes], inflows)
         complaints.want(status or f"{net.objective} = {draw.grouped(net.value)}<" in text, f"report {name}: no value")
-        complaints.same(f"report {name}: numbers on one another or on nodes", [], crowded(text))
+        complaints.same(f"report {name}: numbers on one another or on nodes", [], [it for svg in drawings(text) for it in crowded(svg)])
         check_grids(complaints, name, net, text)
         check_totals(complaints, name, net, text)
 
@@ -120,15 +130,14 @@ def cells_of(part):
     return [data or shown for data, shown in re.findall(r'<td[^>]*?(?: data-n="([^"]*)")?>([^<]*)</td>', part)]
 
 
-def crowded(text):
+def crowded(svg):
     """Returns the numbers of a small drawing that overlap another number or a node, by the widths that the drawing assumes."""
-    svg = re.search(r"<svg .*?</svg>", text, re.S)
-    if not svg or 'class="large"' in svg[0]:
+    if 'class="large"' in svg:
         return []
-    nodes = [tuple(map(float, it)) for it in re.findall(r'<rect x="([-\d.]+)" y="([-\d.]+)" width="([\d.]+)" height="([\d.]+)"', svg[0])]
+    nodes = [tuple(map(float, it)) for it in re.findall(r'<rect x="([-\d.]+)" y="([-\d.]+)" width="([\d.]+)" height="([\d.]+)"', svg)]
     boxes = [(x, y, x + wide, y + high) for x, y, wide, high in nodes]
     numbers = []
-    for x, y, shown in re.findall(r'<g class="arc number [^"]*"><text x="([-\d]+)" y="([-\d]+)">([^<]*)</text>', svg[0]):
+    for x, y, shown in re.findall(r'<g class="arc number [^"]*"><text x="([-\d]+)" y="([-\d]+)">([^<]*)</text>', svg):
         half = draw.LETTER * len(shown) / 2 - 1
         numbers.append((float(x) - half, float(y) - 10, float(x) + half, float(y) + 1, shown))
     found = [it[4] for it in numbers if any(draw.overlaps(it, box) for box in boxes)]
@@ -137,7 +146,7 @@ def crowded(text):
 
 def check_grids(complaints, name, net, text):
     """The cells of a grid come to what flows in all, and so does the total in its corner."""
-    for title, part in re.findall(r"<h2>([^<]*)</h2>(?:(?!</section>).)*?<table class=\"grid\">(.*?)</table>", text, re.S):
+    for title, part in re.findall(r"<h2>([^<]*)</h2>(?:(?!</section>).)*?<table class=\"grid[^\"]*\">(.*?)</table>", text, re.S):
         if '<tfoot>' not in part:
             continue
         flows = sum(it.flow for it in net.declared()[title])

@@ -71,7 +71,7 @@ MISTAKES = (
     ("a member without quotes", "model", "net_in = needed[p,t]", "net_in = (if p = HAM then 0 else needed[p,t])", "E12", "write it with quotes, 'HAM'", "case matters"),
     ("a tuple without a comma", "data", "(HAM,GOA)", "(HAM GOA)", "E20", "the members of a tuple have commas between them: (HAM,GOA)", "missing :="),
     ("braces in data", "data", "set P := HAM GOA;", "set P := {HAM, GOA};", "E01", "data have no braces: set P := HAM GOA;", "byte order"),
-    ("E10 in a line without if", "model", "minimize Cost;", "minimize Cost: 3 +;", "E10", "check the token and the one before it", NO_IF),
+    ("E10 in a line without if", "model", "minimize Cost;", "minimize 3;\nminimize Cost;", "E10", "check the token and the one before it", NO_IF),
     ("a check with >=", "model", "minimize Cost;", "check: sum {p in P} yard[p] >= 60;\nminimize Cost;", "E35", "the left side of >= is too small", "two sums"),
     ("a check with <", "model", "minimize Cost;", "check {p in P}: yard[p] < 25;\nminimize Cost;", "E35", "the right side of < is too small", "left side of"),
     ("decimals", "data", "HAM 20", "HAM 20.5", "E04", "scale the column, for example to cents. In data", "(units)"),

@@ -4,6 +4,7 @@ import pathlib
 import re
 
 from companions.common import COMPANIONS, TOP, run, script, write
+from netflow.words import first_comment
 
 LOOK = script(TOP / "scripts" / "first_look")
 
@@ -34,6 +35,18 @@ def check_editors(complaints):
     for word in words[1].split() if words else ():
         complaints.want(re.search(rf"\b{word}\b", vim), f"share/editors/netflow.vim: no {word}")
         complaints.want(any(found.fullmatch(word) for found in patterns), f"netflow.tmLanguage.json: no {word}")
+
+
+TITLES = (("# Coils from three mills\n# to seven towns, as in the book. In dollars.\nset S;", "Coils from three mills to seven towns, as in the book"),
+          ("/* Shifts of the ward\n   for two weeks. */", "Shifts of the ward for two weeks"), ("# =====\n# Bread\n# Author: Jane\n", "Bread"),
+          ("# To St. Gallen, e.g. by van. More.", "To St. Gallen, e.g. by van"), ("set S; # no title\n", ""), ("# Costs of 3.5 (see p. 4). More", "Costs of 3.5 (see p. 4)"),
+          ("# one\n\n# two", "one"), ("# " + "word " * 40, "word " * 19 + "word\u2026"))
+
+
+def check_titles(complaints):
+    """A page's title is the first sentence of the comment that the model begins with."""
+    for text, title in TITLES:
+        complaints.same(f"the title of {text[:30]!r}", title, first_comment(text))
 
 
 def check_look(complaints, folder):
