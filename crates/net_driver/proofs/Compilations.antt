@@ -1,14 +1,17 @@
 -- Compiled models and answers are those of the network that the two inputs mean.
-use Rattle.std.specs.Prelude.{◌≡◌, ℕ, Bool, List, [], ◌∷◌, map, Option}
+use Rattle.std.specs.Prelude.{◌≡◌, ℕ, Bool, List, [], ◌∷◌, ◌++◌, map, Option}
 use Rattle.std.specs.List.{AllZip, flat_map}
 use Rattle.std.proofs.Common.{refl, ap, sym, ◌∙◌, subst}
+use Rattle.net_tree.specs.Erasure.{declaration, declarations}
+use Rattle.net_tree.specs.Tree.{Declaration, set, param, check, node, arc, objective}
 use Rattle.net_expr.specs.Worlds.{Name}
 use Rattle.net_eval.specs.Soundness.{WorldsAreSound}
 use Rattle.net_meaning.specs.Network as meaning
 use Rattle.net_meaning.specs.Network.{IsNetwork}
 use Rattle.net_meaning.specs.Represents.{Represents}
+use Rattle.net_meaning.proofs.Erased.{indexed_is}
 use Rattle.net_inst.specs.AsWritten as written
-use Rattle.net_inst.specs.AsWritten.{nodes, arcs, node_declared, arc_declared}
+use Rattle.net_inst.specs.AsWritten.{nodes, arcs}
 use Rattle.net_inst.specs.Instances.{seen_as}
 use Rattle.net_inst.specs.Laws.{AreNames, HaveFeasible, HaveObjective}
 use Rattle.net_inst.specs.Readings.{Objective}
@@ -20,7 +23,7 @@ use Rattle.net_driver.specs.declared.compiled.Compiled.{Compiled}
 use Rattle.net_driver.specs.IsSolved.{IsOutcome}
 use Rattle.net_driver.specs.IsBuilt.{IsBuilt}
 use Rattle.net_driver.specs.Made.{profile_of}
-use Rattle.net_driver.specs.Meaning.{listed_label, IsCompilation, IsPrinted}
+use Rattle.net_driver.specs.Meaning.{listed_label, node_declared, arc_declared, IsCompilation, IsPrinted}
 use Rattle.net_driver.specs.MeaningLaws.{CompilationsAreSound, SolutionsAreSound}
 use Rattle.net_driver.proofs.ModelMeaning.{sets_of, names_of, answers_solve, holds_moved}
 use Rattle.net_driver.proofs.ModelWorld.{is_world}
@@ -48,24 +51,52 @@ arc_labels (x ∷ xs) (a ∷ all) h =
     let more = arc_labels xs all h.1 in
     λ t. one t ∷ more t
 
+-- ---- declared names
+
+nodes_are_declared : (ds : List Declaration) → flat_map node_declared (declarations ds) ≡ flat_map written.node_declared ds
+nodes_are_declared [] = refl
+nodes_are_declared (d ∷ ds) = ap (λ names. names ++ flat_map node_declared (declarations ds)) (one d) ∙ ap (λ names. written.node_declared d ++ names) (nodes_are_declared ds)
+  where
+    one : (d : Declaration) → node_declared (declaration d) ≡ written.node_declared d
+    one (node t n b c e) = ap (λ i. (record { name = n.text; indexed = i }) ∷ []) (indexed_is b)
+    one (set t n ps e) = refl
+    one (param t n b ps e) = refl
+    one (check t b m x e) = refl
+    one (arc t n b ps e) = refl
+    one (objective t n p e) = refl
+
+arcs_are_declared : (ds : List Declaration) → flat_map arc_declared (declarations ds) ≡ flat_map written.arc_declared ds
+arcs_are_declared [] = refl
+arcs_are_declared (d ∷ ds) = ap (λ names. names ++ flat_map arc_declared (declarations ds)) (one d) ∙ ap (λ names. written.arc_declared d ++ names) (arcs_are_declared ds)
+  where
+    one : (d : Declaration) → arc_declared (declaration d) ≡ written.arc_declared d
+    one (arc t n b ps e) = ap (λ i. (record { name = n.text; indexed = i }) ∷ []) (indexed_is b)
+    one (set t n ps e) = refl
+    one (param t n b ps e) = refl
+    one (check t b m x e) = refl
+    one (node t n b c e) = refl
+    one (objective t n p e) = refl
+
 -- ---- compiled models
 
 module _ (represent : ProblemsRepresent) (worlds : WorldsAreSound) where
   -- the compiled model, whose network is one of the declarations in the computed world
   compilation_of : (lean : Bool) (wanted : Option Name) (m d : List ℕ) (c : Compiled) (h : IsBuilt lean wanted m d c)
-      → (x : IsCompilation wanted m d c) × IsNetwork wanted h.world h.declarations x.nodes x.arcs x.objective
+      → (x : IsCompilation wanted m d c) × IsNetwork wanted h.world (declarations h.declarations) x.nodes x.arcs x.objective
   compilation_of lean wanted m d c h = (
     record {
       nodes = has.nodes;
       arcs = has.arcs;
       objective = has.objective;
       mean = record {
-        declarations = h.declarations;
+        declarations = declarations h.declarations;
         model = record {
           tokens = h.accepts.model.tokens;
           read = h.accepts.model.read;
+          written = h.declarations;
           printed = h.accepts.model.means.printed;
           well_formed = h.accepts.model.means.level;
+          declarations = refl;
         };
         tables = h.accepts.tables;
         data_statements = h.accepts.statements;
@@ -76,8 +107,10 @@ module _ (represent : ProblemsRepresent) (worlds : WorldsAreSound) where
       represents = found.1;
       names = record {
         objective = ap (λ n. n.objective) h.names ∙ sym has.same_name;
-        nodes = subst (λ labels. AreNames (flat_map node_declared h.declarations) labels c.names.nodes) (node_labels (nodes h.world h.declarations) has.nodes has.same_nodes) h.node_names;
-        arcs = subst (λ labels. AreNames (flat_map arc_declared h.declarations) labels c.names.arcs) (arc_labels (arcs h.world h.declarations) has.arcs has.same_arcs) h.arc_names;
+        nodes = subst (λ names. AreNames names (map (λ (v : meaning.Node). listed_label v.label) has.nodes) c.names.nodes) (sym (nodes_are_declared h.declarations))
+            (subst (λ labels. AreNames (flat_map written.node_declared h.declarations) labels c.names.nodes) (node_labels (nodes h.world h.declarations) has.nodes has.same_nodes) h.node_names);
+        arcs = subst (λ names. AreNames names (map (λ (a : meaning.Arc). listed_label a.label) has.arcs) c.names.arcs) (sym (arcs_are_declared h.declarations))
+            (subst (λ labels. AreNames (flat_map written.arc_declared h.declarations) labels c.names.arcs) (arc_labels (arcs h.world h.declarations) has.arcs has.same_arcs) h.arc_names);
       };
       text = h.text;
       problem = h.problem;
@@ -107,6 +140,6 @@ module _ (represent : ProblemsRepresent) (worlds : WorldsAreSound) where
       let solved = answers_solve represent sound fits aims lean wanted m d a h in
       record {
         compilation = own.0;
-        holds = holds_moved wanted h.compiled.world h.compiled.declarations _ own.0.nodes _ own.0.arcs _ own.0.objective a.outcome solved.network.is_network own.1 solved.holds;
+        holds = holds_moved wanted h.compiled.world (declarations h.compiled.declarations) _ own.0.nodes _ own.0.arcs _ own.0.objective a.outcome solved.network.is_network own.1 solved.holds;
         printed = printed a.compiled (nodes h.compiled.world h.compiled.declarations) (arcs h.compiled.world h.compiled.declarations) h.compiled.objective a.outcome h.outcome;
       }

@@ -7,6 +7,8 @@ use Rattle.net_lex.specs.declared.token.Token.{Token}
 use Rattle.net_lex.specs.LineEnds.{HasNoLineEnd}
 use Rattle.net_lex.proofs.LineEnds.{tokens_stay}
 use Rattle.net_tree.specs.Print.{print}
+use Rattle.net_tree.specs.Erasure.{declarations}
+use Rattle.net_tree.specs.Syntax as forms
 use Rattle.net_tree.specs.Tree.{Declaration, set, param, check, node, arc, objective}
 use Rattle.net_data.specs.declared.tables.Tables.{Tables}
 use Rattle.net_sets.specs.declared.member.Member.TheVariants as member
@@ -20,7 +22,6 @@ use Rattle.net_meaning.proofs.TextNetworks.{network_holds}
 use Rattle.net_meaning.proofs.TextTokens.{declaration_and, declarations_hold, statements_hold}
 use Rattle.net_meaning.proofs.TextWorlds.{world_holds}
 use Rattle.net_inst.specs.AsWritten as written
-use Rattle.net_inst.specs.AsWritten.{node_declared, arc_declared}
 use Rattle.net_inst.specs.declared.names.Declared.{Declared}
 use Rattle.net_inst.specs.declared.names.Key.{Key}
 use Rattle.net_inst.specs.Laws.{IsKeyOf, AreNames}
@@ -29,7 +30,7 @@ use Rattle.net_report.specs.LineNames.{AreWithinLine, HasLineNames}
 use Rattle.net_report.specs.Links.{in_line}
 use Rattle.net_report.specs.References.{names_in}
 use Rattle.net_driver.specs.LineNames.{AreExact, NamesAreExact, BuiltNamesAreExact}
-use Rattle.net_driver.specs.Meaning.{ContainsModel, listed_label}
+use Rattle.net_driver.specs.Meaning.{ContainsModel, listed_label, node_declared, arc_declared}
 use Rattle.net_driver.specs.MeaningLaws.{CompilationsAreSound}
 use Rattle.net_driver.specs.Reading.{IsData}
 
@@ -41,11 +42,11 @@ Stays t = HasNoLineEnd t.text
 text_of_token : (t : Token) → Stays t → HasNoLineEnd (text_of t.text)
 text_of_token t h = text_stays t.text h
 
-printed_stay : (m : List ℕ) (ds : List Declaration) → ContainsModel m ds → AllByRecursion Stays (print ds)
+printed_stay : (m : List ℕ) (ds : List forms.Declaration) → (is : ContainsModel m ds) → AllByRecursion Stays (print is.written)
 printed_stay m ds is = subst (AllByRecursion Stays) (sym is.printed) (tokens_stay languages.Model 0 m is.tokens is.read.read)
 
-declarations_stay : (m : List ℕ) (ds : List Declaration) → ContainsModel m ds → DeclarationsHold HasNoLineEnd ds
-declarations_stay m ds is = declarations_hold HasNoLineEnd Stays text_of_token ds (printed_stay m ds is)
+declarations_stay : (m : List ℕ) (ds : List forms.Declaration) → ContainsModel m ds → DeclarationsHold HasNoLineEnd ds
+declarations_stay m ds is = subst (DeclarationsHold HasNoLineEnd) is.declarations (declarations_hold HasNoLineEnd Stays text_of_token is.written (printed_stay m ds is))
 
 statements_stay : (d : List ℕ) (x : Tables) → IsData d x → StatementsHold HasNoLineEnd x.statements
 statements_stay d x is = statements_hold HasNoLineEnd Stays text_of_token is.tokens x is.written (tokens_stay languages.Data 0 d is.tokens is.read.read)
@@ -55,11 +56,11 @@ statements_stay d x is = statements_hold HasNoLineEnd Stays text_of_token is.tok
 abbrev NamesStay : List Declared → Type 0
 NamesStay declared = AllByRecursion (λ (d : Declared). HasNoLineEnd d.name) declared
 
-nodes_declared_stay : (ds : List Declaration) → AllByRecursion Stays (print ds) → NamesStay (flat_map node_declared ds)
+nodes_declared_stay : (ds : List Declaration) → AllByRecursion Stays (print ds) → NamesStay (flat_map node_declared (declarations ds))
 nodes_declared_stay [] h = tt
 nodes_declared_stay (d ∷ ds) h = go d h (nodes_declared_stay ds (declaration_and HasNoLineEnd Stays text_of_token d (print ds) h).1)
   where
-    go : (d : Declaration) → AllByRecursion Stays (print (d ∷ ds)) → NamesStay (flat_map node_declared ds) → NamesStay (flat_map node_declared (d ∷ ds))
+    go : (d : Declaration) → AllByRecursion Stays (print (d ∷ ds)) → NamesStay (flat_map node_declared (declarations ds)) → NamesStay (flat_map node_declared (declarations (d ∷ ds)))
     go (node t n b c e) h more = (h.1.0, more)
     go (set t n ps e) h more = more
     go (param t n b ps e) h more = more
@@ -67,11 +68,11 @@ nodes_declared_stay (d ∷ ds) h = go d h (nodes_declared_stay ds (declaration_a
     go (arc t n b ps e) h more = more
     go (objective t n p e) h more = more
 
-arcs_declared_stay : (ds : List Declaration) → AllByRecursion Stays (print ds) → NamesStay (flat_map arc_declared ds)
+arcs_declared_stay : (ds : List Declaration) → AllByRecursion Stays (print ds) → NamesStay (flat_map arc_declared (declarations ds))
 arcs_declared_stay [] h = tt
 arcs_declared_stay (d ∷ ds) h = go d h (arcs_declared_stay ds (declaration_and HasNoLineEnd Stays text_of_token d (print ds) h).1)
   where
-    go : (d : Declaration) → AllByRecursion Stays (print (d ∷ ds)) → NamesStay (flat_map arc_declared ds) → NamesStay (flat_map arc_declared (d ∷ ds))
+    go : (d : Declaration) → AllByRecursion Stays (print (d ∷ ds)) → NamesStay (flat_map arc_declared (declarations ds)) → NamesStay (flat_map arc_declared (declarations (d ∷ ds)))
     go (arc t n b ps e) h more = (h.1.0, more)
     go (set t n ps e) h more = more
     go (param t n b ps e) h more = more
@@ -114,13 +115,13 @@ labels_stay label names (x ∷ xs) h = (h.0.1, labels_stay label names xs h.1)
 
 pub names_exact : AreUnchanged → NamesAreExact
 names_exact same requested m d c is = record {
-  nodes = exact same (flat_map node_declared is.mean.declarations) (map (λ (v : Node). listed_label v.label) is.nodes) c.names.nodes (nodes_declared_stay is.mean.declarations printed)
+  nodes = exact same (flat_map node_declared is.mean.declarations) (map (λ (v : Node). listed_label v.label) is.nodes) c.names.nodes (subst (λ ds. NamesStay (flat_map node_declared ds)) is.mean.model.declarations (nodes_declared_stay is.mean.model.written printed))
       (labels_stay (λ (v : Node). v.label) (nodes_in is.mean.declarations) is.nodes here.0) is.names.nodes;
-  arcs = exact same (flat_map arc_declared is.mean.declarations) (map (λ (a : Arc). listed_label a.label) is.arcs) c.names.arcs (arcs_declared_stay is.mean.declarations printed)
+  arcs = exact same (flat_map arc_declared is.mean.declarations) (map (λ (a : Arc). listed_label a.label) is.arcs) c.names.arcs (subst (λ ds. NamesStay (flat_map arc_declared ds)) is.mean.model.declarations (arcs_declared_stay is.mean.model.written printed))
       (labels_stay (λ (a : Arc). a.label) (arcs_in is.mean.declarations) is.arcs here.1) is.names.arcs;
 }
   where
-    printed : AllByRecursion Stays (print is.mean.declarations)
+    printed : AllByRecursion Stays (print is.mean.model.written)
     printed = printed_stay m is.mean.declarations is.mean.model
 
     own : DeclarationsHold HasNoLineEnd is.mean.declarations

@@ -4,7 +4,8 @@ use Rattle.std.specs.List.{AllZip}
 use Rattle.std.specs.Str.{bytes_eq}
 use Rattle.std.proofs.Common.{refl, ap, sym, ◌∙◌, subst}
 use Rattle.net_sets.specs.Sets.{Tuple, same_tuple}
-use Rattle.net_tree.specs.Tree.{Declaration}
+use Rattle.net_tree.specs.Erasure.{declarations}
+use Rattle.net_tree.specs.Syntax.{Declaration}
 use Rattle.net_normal.specs.Assignments.{IsFeasibleAssignment, value_of}
 use Rattle.net_expr.specs.SetValues.{HasSets}
 use Rattle.net_expr.specs.Worlds.{Name, World}
@@ -129,8 +130,8 @@ answers_solve represent sound fits aims lean wanted m d a h = record { network =
         }
     go (Infeasible text flags side) k = λ x f. k.none x ((feasible x).0 f)
 
-    network : RepresentsModel wanted p.world p.declarations a.compiled.problem a.compiled.link
+    network : RepresentsModel wanted p.world (declarations p.declarations) a.compiled.problem a.compiled.link
     network = compiled_represent represent lean wanted m d a.compiled p
 
     moved : HoldsIn network.nodes network.arcs network.objective a.outcome
-    moved = holds_moved wanted p.world p.declarations s.has.nodes network.nodes s.has.arcs network.arcs s.has.objective network.objective a.outcome s.has.is_network network.is_network (go a.outcome h.outcome)
+    moved = holds_moved wanted p.world (declarations p.declarations) s.has.nodes network.nodes s.has.arcs network.arcs s.has.objective network.objective a.outcome s.has.is_network network.is_network (go a.outcome h.outcome)

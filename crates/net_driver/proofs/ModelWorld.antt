@@ -23,7 +23,7 @@ use Rattle.net_eval.specs.DataByName.{given_cells}
 use Rattle.net_eval.specs.DataValues.{HasNumeral, HasValue, HaveValues}
 use Rattle.net_eval.specs.Soundness.{WorldsAreSound}
 use Rattle.net_eval.proofs.NewNames.{new_names}
-use Rattle.net_meaning.specs.World.{IsWorld}
+use Rattle.net_meaning.specs.OfTrees.{IsWorld}
 use Rattle.net_driver.specs.Reading.{IsModel, IsData}
 
 numeral : (k : Kind) (text : List ℕ) → (k ≡ Num → (v : ℤ) × IsValue limits.value text v) → HasNumeral k text

@@ -1,13 +1,15 @@
 -- What a compiled model and a solved model say of the network that the two inputs mean (AMPL book, chapter 15; First DIMACS Implementation
 -- Challenge, minimum-cost flow). The meaning of sets, parameters, expressions and networks is that of net_meaning, which has no errors and no
 -- defaults; no definition of the code's evaluation is cited.
-use Rattle.std.specs.Prelude.{◌≡◌, ℕ, List, ◌++◌, map, Option, length, ℤ}
+use Rattle.std.specs.Prelude.{◌≡◌, ℕ, List, [], ◌∷◌, ◌++◌, map, Option, is_some, length, ℤ}
 use Rattle.std.specs.List.{flat_map}
 use Rattle.net_lex.specs.Lexing.{AreTokensOf}
 use Rattle.net_lex.specs.declared.token.Token.{Token}
 use Rattle.net_tree.specs.Declarations.{AreDeclarations}
+use Rattle.net_tree.specs.Erasure as erased
 use Rattle.net_tree.specs.Print.{print}
-use Rattle.net_tree.specs.Tree.{Declaration}
+use Rattle.net_tree.specs.Syntax.{Declaration, node, arc}
+use Rattle.net_tree.specs.Tree as trees
 use Rattle.net_fault.specs.declared.language.Language.TheVariants as languages
 use Rattle.net_data.specs.declared.tables.Tables.{Tables}
 use Rattle.net_check.specs.Certificates.{IsViolatedCut}
@@ -15,7 +17,7 @@ use Rattle.net_dimacs.specs.Problems.{IsProblemText, IsOnlyProblem}
 use Rattle.net_dimacs.specs.Written.{problem_text}
 use Rattle.net_expr.specs.Worlds.{Name, World}
 use Rattle.net_inst.specs.AsWritten as written
-use Rattle.net_inst.specs.AsWritten.{node_declared, arc_declared}
+use Rattle.net_inst.specs.declared.names.Declared.{Declared}
 use Rattle.net_inst.specs.declared.names.Names.{Names}
 use Rattle.net_inst.specs.Laws.{AreNames}
 use Rattle.net_meaning.specs.Network.{Label, Node, Arc, Objective, Assignment, IsNetwork, IsFeasible, HasValue}
@@ -33,12 +35,14 @@ use Rattle.net_driver.specs.Reading.{IsData}
 
 -- ---- the two inputs
 
--- the model file contains these declarations: its tokens are theirs, and they are well-formed
+-- the model file contains these declarations: its tokens are those of well-formed syntax trees, which without punctuation are the declarations
 pub record ContainsModel (text : List ℕ) (ds : List Declaration) : Type 0 where
   pub tokens : List Token
   pub read : AreTokensOf languages.Model text tokens
-  pub printed : print ds ≡ tokens
-  pub well_formed : AreDeclarations ds
+  pub written : List trees.Declaration
+  pub printed : print written ≡ tokens
+  pub well_formed : AreDeclarations written
+  pub declarations : erased.declarations written ≡ ds
 
 -- The two inputs mean this network. The model contains these declarations, and the data these statements. Together they give each set its
 -- members and each parameter its values: this is the world. In it the declarations have these nodes, arcs and objective, which is the
@@ -57,6 +61,15 @@ pub record MeanNetwork (requested : Option Name) (model_text data_text : List �
 -- the label, in the form of the lists of names
 abbrev pub listed_label : Label → written.Label
 listed_label l = record { name = l.name; indexed = l.indexed; key = l.key }
+
+-- the names of nodes and of arcs that a declaration declares, each with whether it is indexed
+abbrev pub node_declared : Declaration → List Declared
+node_declared (node n b c) = (record { name = n; indexed = is_some b }) ∷ []
+node_declared _ = []
+
+abbrev pub arc_declared : Declaration → List Declared
+arc_declared (arc n b ps) = (record { name = n; indexed = is_some b }) ∷ []
+arc_declared _ = []
 
 -- the names to print are those of the network: its objective, the names of its declarations, and in order the key of each node and each arc
 pub record AreNetworkNames (ds : List Declaration) (vs : List Node) (all : List Arc) (o : Objective) (names : Names) : Type 0 where

@@ -1,6 +1,7 @@
 -- Laws about the network that the two inputs mean.
 use Rattle.std.specs.Prelude.{◌≡◌, ℕ, Bool, List, Option}
-use Rattle.net_tree.specs.Tree.{Declaration}
+use Rattle.net_tree.specs.Erasure.{declarations}
+use Rattle.net_tree.specs.Syntax.{Declaration}
 use Rattle.net_normal.specs.declared.link.Link.{Link}
 use Rattle.net_normal.specs.declared.problem.Problem.{Problem}
 use Rattle.net_expr.specs.Worlds.{Name, World}
@@ -38,7 +39,7 @@ pub record RepresentsModel (wanted : Option Name) (w : World) (ds : List Declara
 -- the problem of a compiled model represents the network of the model's declarations, in the world of the model and its data
 abbrev pub CompiledProblemsRepresent : Type 0
 CompiledProblemsRepresent = (lean : Bool) (wanted : Option Name) (model_text data_text : List ℕ) (c : Compiled) (h : IsBuilt lean wanted model_text data_text c)
-    → RepresentsModel wanted h.world h.declarations c.problem c.link
+    → RepresentsModel wanted h.world (declarations h.declarations) c.problem c.link
 
 -- the compiled problem represents the network of the declarations in the world, and the outcome holds in this network
 pub record SolvesModel (wanted : Option Name) (w : World) (ds : List Declaration) (a : Answer) : Type 0 where
@@ -48,4 +49,4 @@ pub record SolvesModel (wanted : Option Name) (w : World) (ds : List Declaration
 -- the outcome of a solved model holds in the network of the model's declarations, in the world of the model and its data
 abbrev pub AnswersSolveModels : Type 0
 AnswersSolveModels = (lean : Bool) (wanted : Option Name) (model_text data_text : List ℕ) (a : Answer) (h : IsSolved lean wanted model_text data_text a)
-    → SolvesModel wanted h.compiled.world h.compiled.declarations a
+    → SolvesModel wanted h.compiled.world (declarations h.compiled.declarations) a
