@@ -16,6 +16,7 @@ use Rattle.net_meaning.specs.Operators.{Value, Many}
 use Rattle.net_meaning.specs.OfTrees.{begins_range, has_in, new_dummy, AreValues, AreOperandValues, expression_of, phrase_value, IsItemSet}
 use Rattle.net_meaning.specs.Values.{Env, Whether}
 use Rattle.net_meaning.specs.World as world
+use Rattle.net_meaning.proofs.Leaves.{name_is as kind_is}
 
 -- ---- items
 
@@ -32,7 +33,7 @@ has_in_is (chain n x (link o y none)) = go (is_in (operation o))
 has_in_is _ = refl
 
 pub new_dummy_is : (e : Env) (x : Tree) → items.new_dummy e.world e.dummies x ≡ new_dummy e x
-new_dummy_is e (leaf t) = go (is_name (role_of t)) (is_known e.world e.dummies t.text)
+new_dummy_is e (leaf t) = subst (λ b. unless_known e.world e.dummies (text_of (if is_name (role_of t) then Some t else None)) ≡ (if b && not (is_known e.world e.dummies t.text) then Some t.text else None)) (kind_is t) (go (is_name (role_of t)) (is_known e.world e.dummies t.text))
   where
     known : (b : Bool) → (if b then None else Some t.text) ≡ (if not b then Some t.text else None)
     known true = refl

@@ -1,4 +1,5 @@
 pub mod Giving
+mod Leaves
 pub mod Erased
 pub mod Operating
 mod Naming

@@ -179,7 +179,7 @@ module _ (af : Name → Option (Tuple → ℤ)) (yf : ℤ) where
 
   mutual
     means : (w : World) (s : Scope) (t : Tree) → IsArcFree af yf t → IfOk (value w s t) (λ v. IsValue (env_with af yf w s) t (meaning_of v))
-    means w s (leaf t) z = gives_as _ _ (token_value w s t (role_of t)) (λ v h. subst (λ r. IsArcOr r [] (meaning_of v) (IsLeaf (env_with af yf w s) t (role_of t) (meaning_of v))) (sym z) h) (leaf_is af yf w s t (role_of t))
+    means w s (leaf t) z = gives_as _ _ (token_value w s t (role_of t)) (λ v h. subst (λ r. IsArcOr r [] (meaning_of v) (IsLeaf (env_with af yf w s) t.kind t.text (meaning_of v))) (sym z) h) (leaf_is af yf w s t)
     means w s (indexed n o x l c) z =
         gives_then (FromFirst w s x l) _ (and_then (value w s x) (λ v. values w s l (v ∷ []))) _ (first_of w s x l (means w s x z.1) (λ before. means_values w s l before z.2)) (λ vs h.
         gives_then (AreMembers (IsValue (env_with af yf w s) x) (AreValues (env_with af yf w s) l)) _ (tuple_of (span_of (indexed n o x l c)) vs) _ (members_of (span_of (indexed n o x l c)) w s x l vs h) (λ key i.
@@ -226,7 +226,7 @@ module _ (af : Name → Option (Tuple → ℤ)) (yf : ℤ) where
         (λ r h. gives_as _ _ (chained at w s l r) (λ u i. (meaning_of r, h, i)) (means_chained at w s l r z.1)))
 
     means_keys : (w : World) (s : Scope) (b : Braces) → AreBracesArcFree af yf b → IfOk (index w s b) (λ k. AreKeys (env_with af yf w s) b (map (as_key af yf w) k.rows))
-    means_keys w s (empty o p c) z = gives_if _ (has_part p) _ _ (λ e. tt) (λ e. refl)
+    means_keys w s (empty o p c) z = gives_if _ (has_part p) _ _ (λ e. tt) (λ e. (refl, unsaid p e))
     means_keys w s (filled o i is p c) z =
         filled_is w s o i is p c (means w s i z.0) (means_set w s i z.0) (λ t q k cut. means_place w i t q k cut z.0) (λ q k cut before. means_walk (span_between o c) w is q k cut before z.1) (λ before. means_values w s is before z.1) (λ row. means_holds (span_between o c) w row.scope row.key p z.2)
 

@@ -4,6 +4,8 @@ use Rattle.std.proofs.Common.{refl, ap, sym, ◌∙◌, inl, append_assoc, appen
 use Rattle.std.proofs.lemmas.List.Sums.{fold-append}
 use Rattle.net_fault.specs.declared.detail.Detail.{Detail}
 use Rattle.net_fault.specs.declared.span.Span.{Span}
+use Rattle.net_lex.specs.declared.token.Kind.{Kind}
+use Rattle.net_lex.specs.declared.token.Kind.TheVariants as kinds
 use Rattle.net_lex.specs.declared.token.Token.{Token}
 use Rattle.net_lex.specs.declared.whole.NumFault.{NumFault}
 use Rattle.net_lex.specs.Bytes.{first, minus, after_sign}
@@ -30,6 +32,8 @@ use Rattle.net_expr.specs.Worlds.{Name, World, Scope, key_count, bound, entry_of
 use Rattle.net_meaning.specs.Laws.{meaning_of}
 use Rattle.net_meaning.specs.Operators.{Value, One}
 use Rattle.net_meaning.specs.Values.{env_with, Denotes, IsLeaf, dummy, a_set, parameter}
+use Rattle.net_tree.specs.Role.{role_of, role_as, is_leaf}
+use Rattle.net_meaning.proofs.Leaves.{mark_no_leaf, key_no_leaf}
 use Rattle.net_meaning.proofs.Giving.{gives_then, gives_if, gives_as}
 
 -- ---- numerals
@@ -85,15 +89,27 @@ module _ (af : Name → Option (Tuple → ℤ)) (yf : ℤ) where
       go (Some m) h (k ∷ ks) = tt
       go None h key = by_entry h (entry_of w n) refl key
 
-  pub leaf_is : (w : World) (s : Scope) (t : Token) (r : Role) → IfOk (token_value w s t r) (λ v. IsLeaf (env_with af yf w s) t r (meaning_of v))
-  leaf_is w s t roles.Number = go (number_in t.text) refl
+  unvalued : (w : World) (s : Scope) (t : Token) (r : Role) (P : Found → Type 0) → is_leaf r ≡ false → IfOk (token_value w s t r) P
+  unvalued w s t roles.Number P h = absurd (cc)
+  unvalued w s t roles.Text P h = absurd (cc)
+  unvalued w s t roles.Name P h = absurd (cc)
+  unvalued w s t _ P h = tt
+
+  pub leaf_is : (w : World) (s : Scope) (t : Token) → IfOk (token_value w s t (role_of t)) (λ v. IsLeaf (env_with af yf w s) t.kind t.text (meaning_of v))
+  unfolding role_of
+  leaf_is w s t = by_kind t.kind
     where
-      go : (o : Option ℤ) → number_in t.text ≡ o → IfOk (number_value t.span o) (λ v. IsLeaf (env_with af yf w s) t roles.Number (meaning_of v))
+      go : (o : Option ℤ) → number_in t.text ≡ o → IfOk (number_value t.span o) (λ v. IsLeaf (env_with af yf w s) kinds.Num t.text (meaning_of v))
       go None e = tt
       go (Some n) e = (n, numeral_is t.text n e, refl)
-  leaf_is w s t roles.Text = refl
-  leaf_is w s t roles.Name = name_is t.span w s t.text []
-  leaf_is w s t _ = tt
+
+      by_kind : (k : Kind) → IfOk (token_value w s t (role_as k t.text)) (λ v. IsLeaf (env_with af yf w s) k t.text (meaning_of v))
+      by_kind kinds.Num = go (number_in t.text) refl
+      by_kind kinds.Str = refl
+      by_kind kinds.Name = name_is t.span w s t.text []
+      by_kind kinds.Dot = tt
+      by_kind kinds.Mark = unvalued w s t (role_as kinds.Mark t.text) _ (mark_no_leaf t.text)
+      by_kind kinds.Key = unvalued w s t (role_as kinds.Key t.text) _ (key_no_leaf t.text)
 
 -- ---- subscripts
 

@@ -4,14 +4,13 @@ use Rattle.std.specs.Option.{ForSome}
 use Rattle.std.specs.Str.{bytes_eq}
 use Rattle.std.proofs.Common.{sym, subst, inl, inr}
 use Rattle.net_fault.proofs.Elements.{OfSome, all_append}
+use Rattle.net_lex.specs.declared.token.Kind.{Kind}
+use Rattle.net_lex.specs.declared.token.Kind.TheVariants as kinds
 use Rattle.net_lex.specs.declared.token.Token.{Token}
 use Rattle.net_sets.specs.declared.member.Member.{Member}
 use Rattle.net_sets.specs.Operations.{union}
 use Rattle.net_sets.specs.Sets.{Tuple, same_member, same_tuple}
-use Rattle.net_tree.specs.declared.role.Role.{Role}
-use Rattle.net_tree.specs.declared.role.Role.TheVariants as roles
 use Rattle.net_tree.specs.Items.{is_in}
-use Rattle.net_tree.specs.Role.{role_of}
 use Rattle.net_tree.specs.Syntax.{Expression, Expressions, Operands, Clause, Braces, leaf, indexed, parens, tuple, negated, braced, signed, reduced, chain, conditional, net, no_more, more, none, apply, absent, present, empty, filled}
 use Rattle.net_expr.specs.declared.world.Entry.TheVariants.{Set, Parameter}
 use Rattle.net_expr.specs.Worlds.{Name, World, Scope, entry_of, bound}
@@ -54,10 +53,10 @@ module _ (P : List ℕ → Type 0) where
   arc_or_holds None key v Else k h = k h
   arc_or_holds (Some x) key v Else k h = subst (ValueHolds P) (sym h) tt
 
-  leaf_holds : (e : Env) (t : Token) (r : Role) (v : Value) → EnvHolds P e → TokenHolds P t → IsLeaf e t r v → ValueHolds P v
-  leaf_holds e t roles.Number v h k (n, i, is) = subst (ValueHolds P) (sym is) tt
-  leaf_holds e t roles.Text v h k is = subst (ValueHolds P) (sym is) k
-  leaf_holds e t roles.Name v h k is = denoted_holds e t.text [] v h is
+  leaf_holds : (e : Env) (t : Token) (k : Kind) (v : Value) → EnvHolds P e → TokenHolds P t → IsLeaf e k t.text v → ValueHolds P v
+  leaf_holds e t kinds.Num v h k (n, i, is) = subst (ValueHolds P) (sym is) tt
+  leaf_holds e t kinds.Str v h k is = subst (ValueHolds P) (sym is) k
+  leaf_holds e t kinds.Name v h k is = denoted_holds e t.text [] v h is
   leaf_holds e t _ v h k is = absurd is
 
   -- ---- keys
@@ -163,7 +162,7 @@ module _ (P : List ℕ → Type 0) where
 
   mutual
     pub value_holds : (e : Env) (t : Expression) (v : Value) → EnvHolds P e → ExpressionHolds P t → IsValue e t v → ValueHolds P v
-    value_holds e (leaf t) v h k is = arc_or_holds (e.arcs t.text) [] v (IsLeaf e t (role_of t) v) (leaf_holds e t (role_of t) v h k) is
+    value_holds e (leaf t) v h k is = arc_or_holds (e.arcs t.text) [] v (IsLeaf e t.kind t.text v) (leaf_holds e t t.kind v h k) is
     value_holds e (indexed n x l) v h k (key, i, is) = arc_or_holds (e.arcs n) key v (Denotes e n key v) (denoted_holds e n key v h) is
     value_holds e (parens x) v h k is = value_holds e x v h k is
     value_holds e (tuple x l) v h k (t, i, is) =
@@ -191,7 +190,7 @@ module _ (P : List ℕ → Type 0) where
         chain_holds e w l v h (combined_holds P o u w (IsValue e x) i (λ z r. value_holds e x z h k.0 r) j) k.1 is
 
     pub keys_hold : (e : Env) (b : Braces) (ks : List Key) → EnvHolds P e → BracesHold P b → AreKeys e b ks → KeysHold P ks
-    keys_hold e (empty p) ks h k is = subst (KeysHold P) (sym is) tt
+    keys_hold e (empty p) ks h k is = subst (KeysHold P) (sym is.0) tt
     keys_hold e (filled i is p) ks h k (inl (all, f, left)) =
         filtered_hold (HasTruth p) all ks (item_holds (IsItemSet i (IsSetAfterIn e i) (IsValue e i)) (Extends (start e) i) (λ q. Iterates q is) (λ ts s. item_set_holds i (IsSetAfterIn e i) (IsValue e i) ts (after_holds e i ts h k.0) (value_holds e i (Many ts) h k.0) s)
         (λ t r a b. extends_holds (start e) i t r (tt, h) a b) (λ q qs a b. iterated_hold q is qs a k.1 b) all f) left

@@ -4,6 +4,8 @@ use Rattle.std.specs.List.{AllByRecursion, AllZip}
 use Rattle.std.proofs.Common.{refl, ap, sym, ◌∙◌, subst, arith, inl, inr}
 use Rattle.std.proofs.lemmas.Int.{ints}
 use Rattle.std.proofs.lemmas.Bool.{true≢false}
+use Rattle.net_lex.specs.declared.token.Kind.{Kind}
+use Rattle.net_lex.specs.declared.token.Kind.TheVariants as kinds
 use Rattle.net_lex.specs.declared.token.Token.{Token}
 use Rattle.net_sets.specs.declared.member.Member.{Member}
 use Rattle.net_sets.specs.Operations.{union}
@@ -13,11 +15,8 @@ use Rattle.net_tree.specs.declared.operator.BinOp.{BinOp}
 use Rattle.net_tree.specs.declared.operator.BinOp.TheVariants as op
 use Rattle.net_tree.specs.declared.operator.Reduction.{Reduction}
 use Rattle.net_tree.specs.declared.operator.Reduction.TheVariants.{Sum, Min, Max}
-use Rattle.net_tree.specs.declared.role.Role.{Role}
-use Rattle.net_tree.specs.declared.role.Role.TheVariants as roles
 use Rattle.net_tree.specs.Items.{is_in}
 use Rattle.net_tree.specs.Operations.{is_range}
-use Rattle.net_tree.specs.Role.{role_of}
 use Rattle.net_tree.specs.Syntax.{Expression, Expressions, Operands, Clause, Braces, leaf, indexed, parens, tuple, negated, braced, signed, reduced, chain, conditional, net, no_more, more, none, apply, absent, present, empty, filled}
 use Rattle.net_expr.specs.Numbers.{turned}
 use Rattle.net_expr.specs.Worlds.{Name}
@@ -91,10 +90,10 @@ read_unique : (o : Option (Tuple → ℤ)) (key : Tuple) (P : Value → Type 0) 
 read_unique None key P h u v p q = h u v p q
 read_unique (Some x) key P h u v p q = p ∙ sym q
 
-pub leaf_unique : (e : Env) (t : Token) (r : Role) → Unique (IsLeaf e t r)
-leaf_unique e t roles.Number u v (n, h, i) (m, j, k) = i ∙ ap number (some_is n m (sym (value_is t.text n h) ∙ value_is t.text m j)) ∙ sym k
-leaf_unique e t roles.Text u v h i = h ∙ sym i
-leaf_unique e t roles.Name u v h i = named_unique e t.text [] u v h i
+pub leaf_unique : (e : Env) (t : Token) (k : Kind) → Unique (IsLeaf e k t.text)
+leaf_unique e t kinds.Num u v (n, h, i) (m, j, k) = i ∙ ap number (some_is n m (sym (value_is t.text n h) ∙ value_is t.text m j)) ∙ sym k
+leaf_unique e t kinds.Str u v h i = h ∙ sym i
+leaf_unique e t kinds.Name u v h i = named_unique e t.text [] u v h i
 leaf_unique e t _ u v h i = absurd h
 
 -- ---- reductions and ranges
@@ -266,7 +265,7 @@ filled_unique e i is p value set leads walks values tested x y (inr ((u, us, vs,
 
 mutual
   value_unique : (e : Env) (t : Expression) → Unique (IsValue e t)
-  value_unique e (leaf t) u v p q = read_unique (e.arcs t.text) [] (IsLeaf e t (role_of t)) (leaf_unique e t (role_of t)) u v p q
+  value_unique e (leaf t) u v p q = read_unique (e.arcs t.text) [] (IsLeaf e t.kind t.text) (leaf_unique e t t.kind) u v p q
   value_unique e (indexed n x l) u v (key, a, p) (other, b, q) =
       let same : other ≡ key = members_unique (IsValue e x) (AreValues e l) (value_unique e x) (values_unique e l) other key b a in
       read_unique (e.arcs n) key (Denotes e n key) (named_unique e n key) u v p (subst (λ z. IsArcOr (e.arcs n) z v (Denotes e n z v)) same q)
@@ -306,7 +305,7 @@ mutual
       follows_unique e a l u v i (subst (λ z. IsChain e z l v) (joins_unique o x (IsValue e y) (value_unique e y) b a j h) k)
 
   keys_unique : (e : Env) (b : Braces) → Unique (AreKeys e b)
-  keys_unique e (empty p) x y a b = a ∙ sym b
+  keys_unique e (empty p) x y a b = a.0 ∙ sym b.0
   keys_unique e (filled i is p) x y a b =
       filled_unique e i is p (value_unique e i) (after_unique e i) (λ k t. leads_unique k i t) (λ k. walks_unique k is) (values_unique e is) (λ k. true_unique p k) x y a b
 

@@ -5,17 +5,15 @@ use Rattle.std.specs.Prelude.{◌≡◌, ◌⊎◌, ◌&&◌, ℕ, Bool, true, f
 use Rattle.std.specs.List.{AllZip}
 use Rattle.net_lex.specs.Limits.{limits}
 use Rattle.net_lex.specs.Numerals.{IsValue as IsNumeral}
-use Rattle.net_lex.specs.declared.token.Token.{Token}
+use Rattle.net_lex.specs.declared.token.Kind.{Kind}
+use Rattle.net_lex.specs.declared.token.Kind.TheVariants as kinds
 use Rattle.net_sets.specs.declared.member.Member.{Member}
 use Rattle.net_sets.specs.declared.member.Member.TheVariants as member
 use Rattle.net_sets.specs.Operations.{union}
 use Rattle.net_sets.specs.Sets.{Tuple, same_member, same_tuple, at_key}
 use Rattle.net_sets.specs.Texts.{text_of}
-use Rattle.net_tree.specs.declared.role.Role.{Role}
-use Rattle.net_tree.specs.declared.role.Role.TheVariants as roles
 use Rattle.net_tree.specs.Items.{is_in}
 use Rattle.net_tree.specs.Operations.{is_range}
-use Rattle.net_tree.specs.Role.{role_of, is_name}
 use Rattle.net_tree.specs.Syntax.{Expression, Expressions, Operands, Clause, Braces, leaf, indexed, parens, tuple, negated, braced, signed, reduced, chain, conditional, net, no_more, more, none, apply, absent, present, empty, filled}
 use Rattle.net_expr.specs.declared.world.Entry.TheVariants.{Set, Parameter}
 use Rattle.net_expr.specs.Numbers.{turned}
@@ -120,9 +118,14 @@ abbrev pub has_in : Expression → Bool
 has_in (chain x (apply o y none)) = is_in o
 has_in _ = false
 
+-- a name
+abbrev pub is_name : Kind → Bool
+is_name kinds.Name = true
+is_name _ = false
+
 -- the name of a new dummy index: a name alone that is neither declared nor a dummy index
 abbrev pub new_dummy : Env → Expression → Option Name
-new_dummy e (leaf t) = if is_name (role_of t) && not (is_known e.world e.dummies t.text) then Some t.text else None
+new_dummy e (leaf t) = if is_name t.kind && not (is_known e.world e.dummies t.text) then Some t.text else None
 new_dummy e _ = None
 
 -- the set of an item: the one after `in`, or the item itself
@@ -130,11 +133,11 @@ abbrev pub IsItemSet : Expression → (List Tuple → Type 0) → (Value → Typ
 IsItemSet i After Own ts = Whether (has_in i) (After ts) (Own (Many ts))
 
 -- the value of a token: a numeral, a quoted string, or a name
-abbrev pub IsLeaf : Env → Token → Role → Value → Type 0
-IsLeaf e t roles.Number v = (n : ℤ) × IsNumeral limits.value t.text n × (v ≡ number n)
-IsLeaf e t roles.Text v = v ≡ One (member.Name (text_of t.text))
-IsLeaf e t roles.Name v = Denotes e t.text [] v
-IsLeaf e t _ v = ⊥
+abbrev pub IsLeaf : Env → Kind → List ℕ → Value → Type 0
+IsLeaf e kinds.Num text v = (n : ℤ) × IsNumeral limits.value text n × (v ≡ number n)
+IsLeaf e kinds.Str text v = v ≡ One (member.Name (text_of text))
+IsLeaf e kinds.Name text v = Denotes e text [] v
+IsLeaf e _ text v = ⊥
 
 -- one component of a tuple to the left of `in`: a new dummy index takes the member of the set's tuple; any other expression selects, since
 -- its value has to equal the member
@@ -151,7 +154,7 @@ MatchesWhole k None Own t r = (v : Value) × (u : Tuple) × Own v × IsTuple v u
 abbrev mutual
   -- `IsValue e x v`: in the environment e the expression x has the value v
   pub IsValue : Env → Expression → Value → Type 0
-  IsValue e (leaf t) v = IsArcOr (e.arcs t.text) [] v (IsLeaf e t (role_of t) v)
+  IsValue e (leaf t) v = IsArcOr (e.arcs t.text) [] v (IsLeaf e t.kind t.text v)
   IsValue e (indexed n x l) v = (key : Tuple) × AreMembers (IsValue e x) (AreValues e l) key × IsArcOr (e.arcs n) key v (Denotes e n key v)
   IsValue e (parens x) v = IsValue e x v
   IsValue e (tuple x l) v = (t : Tuple) × AreMembers (IsValue e x) (AreValues e l) t × (v ≡ Several t)
@@ -184,9 +187,10 @@ abbrev mutual
   IsChain e u none v = v ≡ u
   IsChain e u (apply o x l) v = (w : Value) × Combines o u (IsValue e x) w × IsChain e w l v
 
-  -- the keys of an indexing expression: those of its items at which the condition is true, or its listed members and tuples
+  -- the keys of an indexing expression: those of its items at which the condition is true, or its listed members and tuples. Only items that
+  -- iterate can have a condition.
   pub AreKeys : Env → Braces → List Key → Type 0
-  AreKeys e (empty p) keys = keys ≡ []
+  AreKeys e (empty p) keys = (keys ≡ []) × IsAbsent p
   AreKeys e (filled i is p) keys =
       ((all : List Key) × FromItem (IsItemSet i (IsSetAfterIn e i) (IsValue e i)) (Extends (start e) i) (λ k. Iterates k is) all × Filters (HasTruth p) all keys)
       ⊎ (AreListed e (IsValue e i) (AreValues e is) keys × IsAbsent p)
