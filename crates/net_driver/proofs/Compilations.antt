@@ -4,6 +4,9 @@ use Rattle.std.specs.List.{AllZip, flat_map}
 use Rattle.std.proofs.Common.{refl, ap, sym, ◌∙◌, subst}
 use Rattle.net_tree.specs.Erasure.{declaration, declarations}
 use Rattle.net_tree.specs.Tree.{Declaration, set, param, check, node, arc, objective}
+use Rattle.net_model.specs.GrammarLaws as model_laws
+use Rattle.net_model.specs.GrammarOfDeclarations.{IsModel}
+use Rattle.net_data.specs.GrammarLaws as data_laws
 use Rattle.net_expr.specs.Worlds.{Name}
 use Rattle.net_eval.specs.Soundness.{WorldsAreSound}
 use Rattle.net_meaning.specs.Network as meaning
@@ -79,7 +82,7 @@ arcs_are_declared (d ∷ ds) = ap (λ names. names ++ flat_map arc_declared (dec
 
 -- ---- compiled models
 
-module _ (represent : ProblemsRepresent) (worlds : WorldsAreSound) where
+module _ (represent : ProblemsRepresent) (worlds : WorldsAreSound) (models : model_laws.IsComplete) (data_files : data_laws.IsComplete) where
   -- the compiled model, whose network is one of the declarations in the computed world
   compilation_of : (lean : Bool) (wanted : Option Name) (m d : List ℕ) (c : Compiled) (h : IsBuilt lean wanted m d c)
       → (x : IsCompilation wanted m d c) × IsNetwork wanted h.world (declarations h.declarations) x.nodes x.arcs x.objective
@@ -93,13 +96,14 @@ module _ (represent : ProblemsRepresent) (worlds : WorldsAreSound) where
         model = record {
           tokens = h.accepts.model.tokens;
           read = h.accepts.model.read;
-          written = h.declarations;
-          printed = h.accepts.model.means.printed;
-          well_formed = h.accepts.model.means.level;
-          declarations = refl;
+          derived = subst (λ ts. IsModel (declarations h.declarations) ts) h.accepts.model.means.printed (models h.declarations h.accepts.model.means.level);
         };
         tables = h.accepts.tables;
-        data_statements = h.accepts.statements;
+        data_statements = record {
+          tokens = h.accepts.statements.tokens;
+          read = h.accepts.statements.read;
+          derived = data_files h.accepts.statements.tokens h.accepts.tables h.accepts.statements.written h.accepts.statements.full;
+        };
         world = h.world;
         is_world = is_world worlds m d h.declarations h.accepts.tables h.world h.accepts.model h.accepts.statements h.accepts.world;
         is_network = has.is_network;

@@ -5,13 +5,11 @@ use Rattle.std.specs.Prelude.{◌≡◌, ℕ, List, [], ◌∷◌, ◌++◌, map
 use Rattle.std.specs.List.{flat_map}
 use Rattle.net_lex.specs.Lexing.{AreTokensOf}
 use Rattle.net_lex.specs.declared.token.Token.{Token}
-use Rattle.net_tree.specs.Declarations.{AreDeclarations}
-use Rattle.net_tree.specs.Erasure as erased
-use Rattle.net_tree.specs.Print.{print}
 use Rattle.net_tree.specs.Syntax.{Declaration, node, arc}
-use Rattle.net_tree.specs.Tree as trees
 use Rattle.net_fault.specs.declared.language.Language.TheVariants as languages
+use Rattle.net_model.specs.GrammarOfDeclarations.{IsModel}
 use Rattle.net_data.specs.declared.tables.Tables.{Tables}
+use Rattle.net_data.specs.Grammar.{IsDataFile}
 use Rattle.net_check.specs.Certificates.{IsViolatedCut}
 use Rattle.net_dimacs.specs.Problems.{IsProblemText, IsOnlyProblem}
 use Rattle.net_dimacs.specs.Written.{problem_text}
@@ -31,18 +29,20 @@ use Rattle.net_driver.specs.declared.answer.Outcome.{Outcome}
 use Rattle.net_driver.specs.declared.answer.Outcome.TheVariants.{Displayed, Infeasible}
 use Rattle.net_driver.specs.declared.compiled.Compiled.{Compiled}
 use Rattle.net_driver.specs.IsSolved.{IsAsGood}
-use Rattle.net_driver.specs.Reading.{IsData}
 
 -- ---- the two inputs
 
--- the model file contains these declarations: its tokens are those of well-formed syntax trees, which without punctuation are the declarations
+-- the model file contains these declarations: by the grammar, its tokens are theirs
 pub record ContainsModel (text : List ℕ) (ds : List Declaration) : Type 0 where
   pub tokens : List Token
   pub read : AreTokensOf languages.Model text tokens
-  pub written : List trees.Declaration
-  pub printed : print written ≡ tokens
-  pub well_formed : AreDeclarations written
-  pub declarations : erased.declarations written ≡ ds
+  pub derived : IsModel ds tokens
+
+-- the data file contains these statements
+pub record ContainsData (text : List ℕ) (tables : Tables) : Type 0 where
+  pub tokens : List Token
+  pub read : AreTokensOf languages.Data text tokens
+  pub derived : IsDataFile tables tokens
 
 -- The two inputs mean this network. The model contains these declarations, and the data these statements. Together they give each set its
 -- members and each parameter its values: this is the world. In it the declarations have these nodes, arcs and objective, which is the
@@ -51,7 +51,7 @@ pub record MeanNetwork (requested : Option Name) (model_text data_text : List �
   pub declarations : List Declaration
   pub model : ContainsModel model_text declarations
   pub tables : Tables
-  pub data_statements : IsData data_text tables
+  pub data_statements : ContainsData data_text tables
   pub world : World
   pub is_world : IsWorld declarations tables.statements world
   pub is_network : IsNetwork requested world declarations vs all o

@@ -4,10 +4,12 @@
 ghost use Rattle.net_driver.specs.MeaningLaws.{CompilationsAreSound, SolutionsAreSound};
 ghost use Rattle.net_driver.specs.MeaningLaws.{AnswersSolveModels, CompiledProblemsRepresent, NetworksAreUnique};
 
+use net_data::grammar_is_complete;
 use net_eval::worlds_are_sound;
 use net_inst::{
     assignments_are_alike, assignments_are_sound, objective_is_written, problems_represent_networks,
 };
+use net_model::grammar_complete;
 
 /// Theorem: the declarations of a model have at most one network in a world.
 pub fn models_have_one_network()
@@ -42,6 +44,8 @@ pub fn compilations_are_sound()
 {
     problems_represent_networks();
     worlds_are_sound();
+    grammar_complete();
+    grammar_is_complete();
 }
 
 /// Theorem: a solved model that satisfies the main theorem is that of the network that the two
@@ -51,6 +55,8 @@ pub fn solutions_are_sound()
 {
     problems_represent_networks();
     worlds_are_sound();
+    grammar_complete();
+    grammar_is_complete();
     assignments_are_sound();
     assignments_are_alike();
     objective_is_written();

@@ -20,7 +20,9 @@ mod phrases;
 mod stored;
 mod trees;
 
-pub use laws::{one_tree, parsed_or_rejected, read_back};
+pub use laws::{
+    grammar_complete, grammar_sound, grammar_unique, one_tree, parsed_or_rejected, read_back,
+};
 pub use named::{free_model, parse_model};
 pub use net_fault::Fault as ModelFault;
 pub use net_tree::{Decl, Expr, Model, NetCond};
