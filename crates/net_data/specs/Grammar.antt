@@ -86,7 +86,8 @@ IsTransposed t = mark (codes "(") t.opening ⨾ word (codes "tr") t.word ⨾ mar
 abbrev pub IsNamedSet : NamedSet → Production
 IsNamedSet s = name s.name ⨾ mark (codes ":") s.colon
 
--- A table has a column, and its cells fill complete rows: a member, and a cell for each column. A heading with several parameters has a name.
+-- A table has at least one column, and its cells fill complete rows: one cell for the row, and one for each column. A heading with several
+-- parameters has at least one name.
 abbrev pub IsStatement : Statement → Production
 IsStatement (Set s) = word (codes "set") s.keyword ⨾ name s.name ⨾ mark (codes ":=") s.assign ⨾ IsItems s.items ⨾ mark (codes ";") s.end
 IsStatement (Listed l) = word (codes "param") l.keyword ⨾ name l.name ⨾ optional IsDefault l.default ⨾ optional IsGiven l.given ⨾ mark (codes ";") l.end

@@ -21,7 +21,7 @@ abbrev pub points : Kind → Bool
 points Dot = true
 points _ = false
 
--- a row with this value; none for a dot or an incomplete group
+-- a row with this value; none for a dot, or for a group that is too short to have one
 abbrev pub row_of : List Token → Option Token → List Row
 row_of keys None = []
 row_of keys (Some value) = if points value.kind then [] else record { keys = keys; value = value } ∷ []

@@ -46,7 +46,7 @@ pub record Arc : Type 0 where
   pub to : Option (Name × Tuple)
   pub coefficient : ℤ
 
--- the node after `from` or `to`; None if the arc has no such phrase
+-- the reference after `from` or `to`, by name and key; None if the arc has no such phrase. The network has the node (`IsNodeAt`).
 pub data IsEnd (e : Env) : Option Expression → Option (Name × Tuple) → Type 0 where
   absent_end : IsEnd e None None
   name : (t : Token) → IsEnd e (Some (leaf t)) (Some (t.text, []))
@@ -112,7 +112,7 @@ InOrder {A} P w k (d ∷ ds) all = (these : List A) × (others : List A) × P (t
 -- ---- the objective
 
 -- an objective: its sense, its name, its expression, which may be absent, the sets and parameters declared before it, and the names of the
--- arcs declared before it. Its expression can refer to these arcs alone: in it the name of a later arc can be a dummy index.
+-- arcs declared before it. In its expression only these names denote arcs; the name of a later arc is free, for example for a dummy index.
 pub record Objective : Type 0 where
   pub sense : Sense
   pub name : Name

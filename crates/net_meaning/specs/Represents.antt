@@ -43,8 +43,8 @@ assignment_of all link flows = by_label all (mapped_back link flows)
 abbrev pub Agree : List Arc → Assignment → Assignment → Type 0
 Agree all x y = map (flow_on x) all ≡ map (flow_on y) all
 
--- the problem represents the network: each node and each arc is in it, and its feasible flows correspond one to one to the feasible
--- assignments, with costs and values
+-- the problem represents the network: it has the network's nodes and one more, each arc is in it, and its feasible flows correspond one to one
+-- to the feasible assignments, with costs and values. If no assignment is feasible, this says nothing of supplies and costs.
 pub record Represents (vs : List Node) (all : List Arc) (o : Objective) (problem : Problem) (link : Link) : Type 0 where
   pub sense : link.sense ≡ o.sense
   pub nodes : length problem.supplies.items ≡ length vs + 1

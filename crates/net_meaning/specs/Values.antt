@@ -1,6 +1,6 @@
 -- The value of an expression, and the keys of an indexing expression, as AMPL defines them (Fourer, Gay, Kernighan: AMPL, second edition,
--- chapters 5 to 8 and appendix A). The definitions are relations: an expression with an error has no value, so no value is a default.
--- Limits on sizes are not part of the meaning.
+-- chapters 5 to 8 and appendix A). The definitions are relations: an expression with an error of kind, of division or of a missing value has no
+-- value, so no value is a default. Dimensions of sets and tuples, and limits on sizes except that of numerals, are not part of the meaning.
 use Rattle.std.specs.Prelude.{◌≡◌, ◌⊎◌, ◌&&◌, ℕ, Bool, true, false, not, List, [], ◌∷◌, ◌++◌, map, Option, None, Some, if◌then◌else◌, ⊤, ℤ, pos}
 use Rattle.std.specs.List.{AllZip}
 use Rattle.net_lex.specs.Limits.{limits}
@@ -139,13 +139,14 @@ IsLeaf e kinds.Str text v = v ≡ One (member.Name (text_of text))
 IsLeaf e kinds.Name text v = Denotes e text [] v
 IsLeaf e _ text v = ⊥
 
--- one component of a tuple to the left of `in`: a new dummy index takes the member of the set's tuple; any other expression selects, since
+-- one component of a tuple to the left of `in`: a new dummy index takes the member at its place; any other expression selects, since
 -- its value has to equal the member
 abbrev pub Matches : Key → Option Name → (Value → Type 0) → Member → (Key → Option Key → Type 0) → Option Key → Type 0
 Matches k (Some n) Own m Rest r = Rest (bind n m k) r
 Matches k None Own m Rest r = (u : Member) × Own (One u) × Whether (same_member u m) (Rest k r) (r ≡ None)
 
--- a single expression to the left of `in`: a new dummy index takes the member; any other expression has to equal the whole tuple
+-- a single expression to the left of `in`: a new dummy index takes the member, of a longer tuple the first one; any other expression has to
+-- equal the whole tuple
 abbrev pub MatchesWhole : Key → Option Name → (Value → Type 0) → Tuple → Option Key → Type 0
 MatchesWhole k (Some n) Own [] r = r ≡ Some k
 MatchesWhole k (Some n) Own (m ∷ ms) r = r ≡ Some (bind n m k)
@@ -216,13 +217,13 @@ abbrev mutual
   Extends k (chain x (apply o y none)) t r = Whether (is_in o) (Agrees k x (IsValue k.env x) t r) (r ≡ Some (extended k t))
   Extends k _ t r = r ≡ Some (extended k t)
 
-  -- the tuple agrees with the expression to the left of `in`, component by component
+  -- the tuple agrees with the expression to the left of `in`, component by component; what only one of them has is not compared
   pub Agrees : Key → Expression → (Value → Type 0) → Tuple → Option Key → Type 0
   Agrees k (tuple x l) Own [] r = r ≡ Some k
   Agrees k (tuple x l) Own (m ∷ ms) r = Matches k (new_dummy k.env x) (IsValue k.env x) m (λ q. AllAgree q l ms) r
   Agrees k x Own t r = MatchesWhole k (new_dummy k.env x) Own t r
 
-  -- the other components agree
+  -- the other components agree, as far as both have them
   pub AllAgree : Key → Expressions → Tuple → Option Key → Type 0
   AllAgree k no_more ms r = r ≡ Some k
   AllAgree k (more x l) [] r = r ≡ Some k

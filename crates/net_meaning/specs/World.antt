@@ -70,7 +70,7 @@ abbrev pub rows_at : ℕ → ℕ → Statement → Name → List Token → List 
 rows_at size column s n [] = []
 rows_at size column s n (t ∷ ts) = (if bytes_eq t.text n then rows size column s else []) ++ rows_at size (column + 1) s n ts
 
--- the rows that a statement has for a parameter with this number of subscripts
+-- the rows that a statement has for a parameter, if it has this number of subscripts
 abbrev pub rows_of : ℕ → Name → Statement → List Row
 rows_of size n (statements.Set s) = []
 rows_of size n (statements.List l) = rows_at size 0 (statements.List l) n (l.name ∷ [])
@@ -82,7 +82,7 @@ abbrev pub is_set_named : Option NamedSet → Name → Bool
 is_set_named None n = false
 is_set_named (Some s) n = bytes_eq s.name.text n
 
--- the rows that a statement has for a set of this dimension
+-- the rows that a statement has for a set, if it has this dimension
 abbrev pub set_rows_of : ℕ → Name → Statement → List (List Token)
 set_rows_of d n (statements.Set s) = if bytes_eq s.name.text n then set_rows d s.items else []
 set_rows_of d n (statements.List l) = []

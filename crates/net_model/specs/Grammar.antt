@@ -1,6 +1,6 @@
 -- The grammar of expressions: a production for each form of the abstract syntax.
 -- `IsExpression r x ts rest` says that ts begins with the tokens of x, an expression of precedence at
--- most r, and that rest follows.
+-- most r, and that rest follows. A greater precedence binds less tightly.
 use Rattle.std.specs.Prelude.{◌≡◌, ◌≤◌, ◌<◌, ℕ, suc, min, nat_eq, if◌then◌else◌, Bool, true, false, List, ◌∷◌, codes, Option, None, Some}
 use Rattle.net_lex.specs.declared.token.Kind.{Kind}
 use Rattle.net_lex.specs.declared.token.Kind.TheVariants as kinds
@@ -31,8 +31,8 @@ reducer reductions.Sum = word (codes "sum")
 reducer reductions.Min = word (codes "min")
 reducer reductions.Max = word (codes "max")
 
--- the maximum precedence of an operand before these operators: a reduction takes all of the product
--- after it, so no operator of that product can follow it
+-- the maximum precedence of an operand that these operators follow: a reduction takes all of the
+-- product after it, so no operator of that product can follow a reduction
 abbrev pub room : ℕ → Operands → ℕ
 room n none = n
 room n (apply o x os) = if nat_eq n of_reduction then of_one else n
