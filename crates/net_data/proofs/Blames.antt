@@ -19,7 +19,7 @@ use Rattle.net_data.specs.Spots.{spot_after, rests, outside}
 use Rattle.net_data.specs.Printing.{put, put_default, put_transposed, put_all, put_single}
 use Rattle.net_data.specs.Meaning.{IsDefault, IsTransposed, IsStatement, all_judged}
 use Rattle.net_data.specs.Rejections.{IsFaulty, HasFault}
-use Rattle.net_data.specs.Reading.{Read, stop, wanted, wanted_by, rejected, run, heading, headed, cells, filled, fills, last_span, last_span_or, items, items_from, with_token, items_after, spot_or, set, table, turned, given, list, body, body_by, default, default_by, named, named_set, columns, param, param_by, statement, statement_by, found, statements, statements_by, with_statement, single, single_by, finished, finished_by, tables, met, front, semicolon, colon, assign, ◌>>=◌}
+use Rattle.net_data.specs.Reading.{Read, stop, wanted, wanted_by, rejected, run, heading, headed, cells, check_rows, fills, last_span, last_span_or, items, items_from, with_token, items_after, spot_or, set, table, turned, given, list, body, body_by, default, default_by, named, named_set, columns, param, param_by, statement, statement_by, some_statement, statements, statements_by, with_statement, single, single_by, finished, finished_by, tables, met, front, semicolon, colon, assign, ◌>>=◌}
 use Rattle.net_data.proofs.RunLemmas.{Keeps, keeps_member, keeps_name, ran}
 use Rattle.net_data.proofs.Steps.{in_name, in_word, in_mark, to_else, got, got_met}
 use Rattle.net_data.proofs.TableSound.{heading-sound, cells-sound}
@@ -116,13 +116,13 @@ filled_of : (columns xs : List Token) (e : ParseError) (b : Bool) → (let r : R
 filled_of columns xs e true h = absurd (cc)
 filled_of columns xs e false h = (refl, sym (err_is _ e h))
 
-pub filled_err : (columns xs : List Token) (e : ParseError) → filled columns xs ≡ Err e → (fills columns xs ≡ false) × (e ≡ stop RowWidth (last_span xs))
-unfolding filled
+pub filled_err : (columns xs : List Token) (e : ParseError) → check_rows columns xs ≡ Err e → (fills columns xs ≡ false) × (e ≡ stop RowWidth (last_span xs))
+unfolding check_rows
 filled_err columns xs e h = filled_of columns xs e (fills columns xs) h
 
-last_some : (found : Span) (xs : List Token) → (span : Span) × (last_span_or (Some found) xs ≡ Some span)
-last_some found [] = (found, refl)
-last_some found (x ∷ xs) = last_some x.span xs
+last_some : (some_statement : Span) (xs : List Token) → (span : Span) × (last_span_or (Some some_statement) xs ≡ Some span)
+last_some some_statement [] = (some_statement, refl)
+last_some some_statement (x ∷ xs) = last_some x.span xs
 
 -- no cells fill their rows
 last_cell : (columns xs : List Token) → fills columns xs ≡ false → (span : Span) × (last_span xs ≡ Some span)
@@ -267,7 +267,7 @@ param_err : (keyword : Token) (tokens : List Token) (e : ParseError) → is_word
 unfolding param
 param_err keyword tokens e key h = param_of keyword tokens (met colon tokens) e key refl h
 
-found_err : (read : Read Statement) (e : ParseError) → found read ≡ Err e → read ≡ Err e
+found_err : (read : Read Statement) (e : ParseError) → some_statement read ≡ Err e → read ≡ Err e
 found_err (Ok x) e h = absurd (cc)
 found_err (Err d) e h = let same = err_is d e h in rw same refl
 

@@ -11,7 +11,7 @@ use Rattle.net_data.specs.declared.tables.Tables.{Tables}
 use Rattle.net_data.specs.declared.statement.Transposed.{Transposed}
 use Rattle.net_data.specs.Rows.{list_rows, row_across, first_item, more_items, set_rows}
 use Rattle.net_data.specs.Commas.{before, bare}
-use Rattle.net_data.specs.Reading.{tables, stop, met, wanted, rejected, run, items, items_from, set, heading, cells, filled, table, given, list, body, default, named, named_set, columns, param, statement, statements, single, finished}
+use Rattle.net_data.specs.Reading.{tables, stop, met, wanted, rejected, run, items, items_from, set, heading, cells, check_rows, table, given, list, body, default, named, named_set, columns, param, statement, statements, single, finished}
 
 abbrev pub at : ℕ → Kind → List ℕ → Token
 at n kind text = record { kind = kind; text = text; span = record { start = n; end = n } }
@@ -63,7 +63,7 @@ no_column = refl
 -- param p : x y := a 1 2 b 3 ;
 short_row : outcome (tables (name 1 (codes "param") ∷ name 2 (codes "p") ∷ mark 3 (codes ":") ∷ name 4 (codes "x") ∷ name 5 (codes "y") ∷ mark 6 (codes ":=") ∷ name 7 (codes "a") ∷ at 8 Num (codes "1")
     ∷ at 9 Num (codes "2") ∷ name 10 (codes "b") ∷ at 11 Num (codes "3") ∷ mark 12 (codes ";") ∷ [])) ≡ Err (stop RowWidth (place 11))
-unfolding tables single met statements statement param named wanted default body table heading run cells filled
+unfolding tables single met statements statement param named wanted default body table heading run cells check_rows
 short_row = refl
 
 -- param : S : := ;

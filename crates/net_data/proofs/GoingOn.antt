@@ -7,7 +7,7 @@ use Rattle.net_data.specs.declared.parse_error.ParseError.{ParseError}
 use Rattle.net_data.specs.declared.statement.Statement.{Statement}
 use Rattle.net_data.specs.declared.tables.Single.{Single}
 use Rattle.net_data.specs.declared.tables.Tables.{Tables}
-use Rattle.net_data.specs.Reading.{Read, stop, front, met, wanted, semicolon, set, param, found, statement, statement_by, with_statement, statements, statements_by, single, single_by, finished, finished_by, tables, ◌>>=◌}
+use Rattle.net_data.specs.Reading.{Read, stop, front, met, wanted, semicolon, set, param, some_statement, statement, statement_by, with_statement, statements, statements_by, single, single_by, finished, finished_by, tables, ◌>>=◌}
 use Rattle.net_data.specs.Tests.{is_word}
 use Rattle.net_data.proofs.Lookahead.{never, err_is, place_is, StopsAt, Stops, Local, bind_stops, bind_local, same_local, pure_local}
 use Rattle.net_data.proofs.NextToken.{first_token, wanted_local, choose, met_parts, choose_local}
@@ -40,7 +40,7 @@ statements_on : (n : ℕ) (ts : List Token) → statements (suc n) ts ≡ one_by
 unfolding statements statement
 statements_on n ts = go (met (is_word (codes "set")) ts) (met (is_word (codes "param")) ts)
   where
-    by : (r : Read Statement) → statements_by (statements n) ts (found r) ≡ (r >>= on_with (statements n))
+    by : (r : Read Statement) → statements_by (statements n) ts (some_statement r) ≡ (r >>= on_with (statements n))
     by (Ok x) = refl
     by (Err e) = refl
 

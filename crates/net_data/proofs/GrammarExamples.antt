@@ -8,7 +8,7 @@ use Rattle.net_data.specs.declared.statement.Statement.TheVariants as kinds
 use Rattle.net_data.specs.declared.tables.Tables.{Tables}
 use Rattle.net_data.specs.Grammar as grammar
 use Rattle.net_data.specs.Grammar.{many}
-use Rattle.net_data.specs.Reading.{tables, met, wanted, run, items, items_from, set, heading, cells, filled, table, body, default, named, param, statement, statements, single, ◌>>=◌}
+use Rattle.net_data.specs.Reading.{tables, met, wanted, run, items, items_from, set, heading, cells, check_rows, table, body, default, named, param, statement, statements, single, ◌>>=◌}
 use Rattle.net_data.specs.Reading as reading
 use Rattle.net_data.proofs.Examples.{at, name, mark}
 use Rattle.net_data.proofs.TablesMean.{tables-complete}
@@ -220,7 +220,7 @@ no_column = rejected _ _ refl
 
 -- param p : x := a 1 b ;
 short_row : (x : Tables) → grammar.IsDataFile x (name 1 (codes "param") ∷ name 2 (codes "p") ∷ mark 3 (codes ":") ∷ name 4 (codes "x") ∷ mark 5 (codes ":=") ∷ name 6 (codes "a") ∷ at 7 Num (codes "1") ∷ name 8 (codes "b") ∷ mark 9 (codes ";") ∷ []) → ⊥
-unfolding tables single met statements statement param named wanted default body table heading run cells filled
+unfolding tables single met statements statement param named wanted default body table heading run cells check_rows
 short_row = rejected _ _ refl
 
 -- set S := ( a , , b ) ;

@@ -16,7 +16,7 @@ use Rattle.net_data.specs.declared.tables.Single.{Single}
 use Rattle.net_data.specs.Commas.{Place, before, elsewhere}
 use Rattle.net_data.specs.Tests.{is_name, is_member, is_cell, is_word, is_mark}
 use Rattle.net_data.specs.Printing.{put, put_default, put_given, put_transposed, put_set, put_all, put_single}
-use Rattle.net_data.specs.Reading.{filled, fills, stop, last_span}
+use Rattle.net_data.specs.Reading.{check_rows, fills, stop, last_span}
 use Rattle.net_data.specs.Meaning.{IsDefault, IsGiven, IsTransposed, IsNamedSet, IsSingle, IsStatement, heading_judged, judged, all_judged, and_then}
 use Rattle.net_data.specs.Grammar as grammar
 use Rattle.net_data.proofs.Apart.{name-mark, member-mark, cell-mark, mark-mark, word-mark}
@@ -90,16 +90,16 @@ wide_judged [] t h = absurd (cc)
 wide_judged (c ∷ columns) t h = omega arith
 
 -- cells fill rows
-filled_when : (columns cells : List Token) → length cells % (length columns + 1) ≡ 0 → filled columns cells ≡ Ok tt
-unfolding filled
+filled_when : (columns cells : List Token) → length cells % (length columns + 1) ≡ 0 → check_rows columns cells ≡ Ok tt
+unfolding check_rows
 filled_when columns cells h = rw h refl
 
 fills_of : (b : Bool) (e : ParseError) → (let r : Result (Unit {0}) ParseError = cond b (Ok tt) (Err e) in r ≡ Ok tt) → b ≡ true
 fills_of true e h = refl
 fills_of false e h = absurd (cc)
 
-when_filled : (columns cells : List Token) → filled columns cells ≡ Ok tt → length cells % (length columns + 1) ≡ 0
-unfolding filled
+when_filled : (columns cells : List Token) → check_rows columns cells ≡ Ok tt → length cells % (length columns + 1) ≡ 0
+unfolding check_rows
 when_filled columns cells h = eqb-true _ _ (fills_of (fills columns cells) (stop RowWidth (last_span cells)) h)
 
 pub both_ok : (x y : Result (Unit {0}) ParseError) → x ≡ Ok tt → y ≡ Ok tt → and_then x y ≡ Ok tt
@@ -135,7 +135,7 @@ statement_agrees (Table t) =
       both_ok _ _ (judged_wide t.columns t.assign wide) (filled_when t.columns t.cells fills),
     ))
     (λ (h, full).
-    let (wide, fills) = ok_both (heading_judged t.columns t.assign) (filled t.columns t.cells) full in
+    let (wide, fills) = ok_both (heading_judged t.columns t.assign) (check_rows t.columns t.cells) full in
     let g = h.heading in
     (g.keyword, (g.name, (g.default, (g.transposed, (g.colon, (g.columns, (g.assign, (h.cells, (h.end, (wide_judged t.columns t.assign wide, when_filled t.columns t.cells fills)))))))))))
 statement_agrees (Columns c) =

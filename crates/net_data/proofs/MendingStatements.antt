@@ -11,7 +11,7 @@ use Rattle.net_data.specs.declared.parse_error.ParseError.{ParseError}
 use Rattle.net_data.specs.Commas.{Place, before, in_set, elsewhere, bare}
 use Rattle.net_data.specs.Meaning.{AreItems, IsDefault, IsTransposed, IsStatement}
 use Rattle.net_data.specs.Printing.{put, put_default, put_transposed}
-use Rattle.net_data.specs.Reading.{stop, wanted, items, semicolon, colon, assign, set, headed, heading, cells, filled, table, turned, ◌>>=◌}
+use Rattle.net_data.specs.Reading.{stop, wanted, items, semicolon, colon, assign, set, headed, heading, cells, check_rows, table, turned, ◌>>=◌}
 use Rattle.net_data.specs.Tests.{is_name, is_member, is_cell, is_word, is_mark}
 use Rattle.net_data.proofs.Blames.{filled_err}
 use Rattle.net_data.proofs.Lookahead.{err_is}
@@ -120,7 +120,7 @@ judged_reads {U} {A} K q w tokens (Err t) x never r = record {
   mends = λ e h d. absurd (never e (ap (λ z. let j : Result U ParseError = Err z in j) (err_is {A = A × List Token} t e h)) d);
 }
 
-filled_never : (heads all : List Token) (e : ParseError) → filled heads all ≡ Err e → e.error_code ≡ DataSyntax → ⊥
+filled_never : (heads all : List Token) (e : ParseError) → check_rows heads all ≡ Err e → e.error_code ≡ DataSyntax → ⊥
 filled_never heads all e h d = let k = (filled_err heads all e h).1 in absurd (cc)
 
 abbrev table_of : Token → Token → Option DefaultValue → Option Transposed → Token → List Token → Token → List Token → Token → Statement
@@ -149,7 +149,7 @@ table_reads keyword name value turned mark tokens key names defaults turns colon
       text = λ r. refl;
     })
     (λ all r2 e2 g.
-    judged_reads statement_kind before _ r2 (filled head.0 all.0) (table_of keyword name value turned mark head.0 head.1 all.0 all.1, r2) (filled_never head.0 all.0)
+    judged_reads statement_kind before _ r2 (check_rows head.0 all.0) (table_of keyword name value turned mark head.0 head.1 all.0 all.1, r2) (filled_never head.0 all.0)
     (reported_reads statement_kind before _ (table_of keyword name value turned mark head.0 head.1 all.0 all.1) r2
     (record { heading = record { keyword = key; name = names; default = defaults; transposed = turns; colon = colons; columns = f.0; assign = f.1 }; cells = g.0; end = g.1 })
     (λ r. refl))))

@@ -13,7 +13,7 @@ use Rattle.net_data.specs.Commas.{before, in_set, elsewhere, bare}
 use Rattle.net_data.specs.GoingOn.{Begins}
 use Rattle.net_data.specs.Meaning.{IsSingle, IsStatement, AreTables}
 use Rattle.net_data.specs.Printing.{put_all, put_single}
-use Rattle.net_data.specs.Reading.{Read, stop, front, met, wanted, semicolon, set, param, found, statement, statement_by, with_statement, statements, statements_by, single, single_by, finished, finished_by, tables, ◌>>=◌}
+use Rattle.net_data.specs.Reading.{Read, stop, front, met, wanted, semicolon, set, param, some_statement, statement, statement_by, with_statement, statements, statements_by, single, single_by, finished, finished_by, tables, ◌>>=◌}
 use Rattle.net_data.specs.Tests.{is_word}
 use Rattle.net_data.proofs.Lookahead.{err_is}
 use Rattle.net_data.proofs.Steps.{to_set, to_else, in_end}
@@ -31,13 +31,13 @@ with_is : (x : Statement) (read : Read (List Statement)) → with_statement x re
 with_is x (Ok y) = refl
 with_is x (Err e) = refl
 
-found_is : (more : List Token → Read (List Statement)) (tokens : List Token) (read : Read Statement) → statements_by more tokens (found read) ≡ (read >>= after_one more)
+found_is : (more : List Token → Read (List Statement)) (tokens : List Token) (read : Read Statement) → statements_by more tokens (some_statement read) ≡ (read >>= after_one more)
 found_is more tokens (Ok x) = with_is x.0 (more x.1)
 found_is more tokens (Err e) = refl
 
 -- a statement, and those behind it
 one_reads : (more : List Token → Read (List Statement)) (tokens : List Token) (read : Read Statement) → ((rest : List Token) → Reads statements_kind before before same rest (more rest))
-    → Reads statement_kind before before same tokens read → Reads statements_kind before before same tokens (statements_by more tokens (found read))
+    → Reads statement_kind before before same tokens read → Reads statements_kind before before same tokens (statements_by more tokens (some_statement read))
 one_reads more tokens read others one =
     subst (Reads statements_kind before before same tokens) (sym (found_is more tokens read))
     (then_reads statement_kind statements_kind before before before same tokens read (after_one more) one

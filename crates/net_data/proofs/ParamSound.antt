@@ -9,7 +9,7 @@ use Rattle.net_data.specs.Tests.{is_name, is_member, is_word, is_mark}
 use Rattle.net_data.specs.Commas.{before, in_set, elsewhere, bare}
 use Rattle.net_data.specs.Printing.{put, put_default, put_set, put_all}
 use Rattle.net_data.specs.Meaning.{IsDefault, IsNamedSet, IsStatement, all_judged}
-use Rattle.net_data.specs.Reading.{Read, body, body_by, default, default_by, named, named_set, named_set_by, met_after, columns, param, param_by, statement, statement_by, found, statements, statements_by, with_statement, met, colon}
+use Rattle.net_data.specs.Reading.{Read, body, body_by, default, default_by, named, named_set, named_set_by, met_after, columns, param, param_by, statement, statement_by, some_statement, statements, statements_by, with_statement, met, colon}
 use Rattle.std.specs.List.{AllByRecursion}
 use Rattle.net_data.proofs.RunLemmas.{keeps_name}
 use Rattle.net_data.proofs.Steps.{to_set, to_else, in_name, in_member, in_word, in_mark, got, got_met, bind_ok, ok_is, some_is}
@@ -103,7 +103,7 @@ param-sound : (keyword : Token) (tokens : List Token) (x : Statement × List Tok
 unfolding param
 param-sound keyword tokens x key h = param_of keyword tokens (met colon tokens) x key refl h
 
-found_is : (read : Read Statement) (x : Statement × List Token) → found read ≡ Ok (Some x) → read ≡ Ok x
+found_is : (read : Read Statement) (x : Statement × List Token) → some_statement read ≡ Ok (Some x) → read ≡ Ok x
 found_is (Ok y) x h = let same : y ≡ x = some_is y x (ok_is _ _ h) in rw same refl
 found_is (Err e) x h = absurd (cc)
 

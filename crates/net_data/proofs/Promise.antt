@@ -14,7 +14,7 @@ use Rattle.net_data.specs.declared.statement.Statement.{Statement}
 use Rattle.net_data.specs.declared.statement.Statement.TheVariants as kinds
 use Rattle.net_data.specs.declared.tables.Tables.{Tables}
 use Rattle.net_data.specs.Meaning.{Mean, judged, all_judged, heading_judged, and_then, unless_faulty, checked}
-use Rattle.net_data.specs.Reading.{tables, filled, stop, span_or_end, fault_of, Answers, ◌>>=◌}
+use Rattle.net_data.specs.Reading.{tables, check_rows, stop, span_or_end, fault_of, Answers, ◌>>=◌}
 use Rattle.net_data.proofs.TablesMean.{tables-sound, tables-complete}
 use Rattle.net_data.proofs.Blames.{filled_err}
 
@@ -37,7 +37,7 @@ heading_width : (columns : List Token) (assign : Token) (e : ParseError) → hea
 heading_width [] assign e h s = let same : stop TableWidth (Some assign.span) ≡ e = cc in let k = ap (λ (x : ParseError). x.error_code) same in cc
 heading_width (c ∷ columns) assign e h s = cc
 
-filled_width : (columns cells : List Token) (e : ParseError) → filled columns cells ≡ Err e → e.error_code ≡ DataSyntax → ⊥
+filled_width : (columns cells : List Token) (e : ParseError) → check_rows columns cells ≡ Err e → e.error_code ≡ DataSyntax → ⊥
 filled_width columns cells e h s = let k = ap (λ (x : ParseError). x.error_code) (filled_err columns cells e h).1 in cc
 
 and_width : (j k : Result (Unit {0}) ParseError) (e : ParseError) → (j ≡ Err e → e.error_code ≡ DataSyntax → ⊥) → (k ≡ Err e → e.error_code ≡ DataSyntax → ⊥) → and_then j k ≡ Err e → e.error_code ≡ DataSyntax → ⊥
@@ -47,7 +47,7 @@ and_width (Err d) k e first second h s = first h s
 judged_width : (x : Statement) (e : ParseError) → judged x ≡ Err e → e.error_code ≡ DataSyntax → ⊥
 judged_width (kinds.Set x) e h s = cc
 judged_width (kinds.List x) e h s = cc
-judged_width (kinds.Table x) e h s = and_width (heading_judged x.columns x.assign) (filled x.columns x.cells) e (heading_width x.columns x.assign e) (filled_width x.columns x.cells e) h s
+judged_width (kinds.Table x) e h s = and_width (heading_judged x.columns x.assign) (check_rows x.columns x.cells) e (heading_width x.columns x.assign e) (filled_width x.columns x.cells e) h s
 judged_width (kinds.Columns x) e h s = heading_width x.names x.assign e h s
 
 all_width : (xs : List Statement) (e : ParseError) → all_judged xs ≡ Err e → e.error_code ≡ DataSyntax → ⊥

@@ -18,7 +18,7 @@ use Rattle.net_data.specs.Tests.{is_name, is_member, is_word, is_mark}
 use Rattle.net_data.specs.Commas.{before, in_set, elsewhere, bare}
 use Rattle.net_data.specs.Printing.{put, put_default, put_given, put_transposed, put_set}
 use Rattle.net_data.specs.Meaning.{IsDefault, IsGiven, IsTransposed, IsNamedSet, IsSet, IsList, IsTable, IsColumns, IsStatement, heading_judged, judged}
-use Rattle.net_data.specs.Reading.{heading, cells, table, body, default, named, named_set, columns, param, statement, found, met, semicolon, colon, assign, ◌>>=◌}
+use Rattle.net_data.specs.Reading.{heading, cells, table, body, default, named, named_set, columns, param, statement, some_statement, met, semicolon, colon, assign, ◌>>=◌}
 use Rattle.net_data.proofs.Apart.{mark-name, mark-mark, name-mark, mark-word, word-word}
 use Rattle.net_data.proofs.Bare.{misses}
 use Rattle.net_data.proofs.RunLemmas.{keeps_name}
@@ -176,7 +176,7 @@ pub record StatementBack (tokens : List Token) (s : Statement) (more : List Toke
   pub read : statement tokens ≡ (judged s >>= (λ full. Ok (Some (s, rest))))
   pub left : bare before rest ≡ more
 
-found_judged : (s : Statement) (rest : List Token) (j : Result (Unit {0}) ParseError) → found (j >>= (λ full. Ok (s, rest))) ≡ (j >>= (λ full. Ok (Some (s, rest))))
+found_judged : (s : Statement) (rest : List Token) (j : Result (Unit {0}) ParseError) → some_statement (j >>= (λ full. Ok (s, rest))) ≡ (j >>= (λ full. Ok (Some (s, rest))))
 found_judged s rest (Ok x) = refl
 found_judged s rest (Err e) = refl
 
@@ -187,14 +187,14 @@ param_statement s keyword tokens behind more key h reads =
     let none = misses before (is_word (codes "set")) tokens behind keyword refl h (word-word (codes "param") (codes "set") keyword refl key) in
     let a = gives before elsewhere (is_word (codes "param")) tokens behind keyword (to_else (codes "param") refl) h key in
     let r = reads a.rest a.left in
-    record { rest = r.rest; read = rw (none, a.met) (ap found r.read ∙ found_judged s r.rest (judged s)); left = r.left }
+    record { rest = r.rest; read = rw (none, a.met) (ap some_statement r.read ∙ found_judged s r.rest (judged s)); left = r.left }
 
 set_statement : (s : SetStatement) (tokens more : List Token) → IsSet s → bare before tokens ≡ s.keyword ∷ s.name ∷ s.assign ∷ (s.items ++ s.end ∷ more) → StatementBack tokens (kinds.Set s) more
 unfolding statement
 set_statement s tokens more are h =
     let a = gives before in_set (is_word (codes "set")) tokens _ s.keyword to_set h are.keyword in
     let r = set-complete s a.rest more are a.left in
-    record { rest = r.rest; read = rw (a.met) (ap found r.read); left = r.left }
+    record { rest = r.rest; read = rw (a.met) (ap some_statement r.read); left = r.left }
 
 pub statement-complete : (s : Statement) (tokens more : List Token) → IsStatement s → bare before tokens ≡ put s more → StatementBack tokens s more
 statement-complete (kinds.Set s) tokens more are h = set_statement s tokens more are h

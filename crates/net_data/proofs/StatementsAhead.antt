@@ -10,7 +10,7 @@ use Rattle.net_data.specs.declared.statement.NamedSet.{NamedSet}
 use Rattle.net_data.specs.declared.statement.Transposed.{Transposed}
 use Rattle.net_data.specs.declared.statement.Statement.{Statement}
 use Rattle.net_data.specs.declared.statement.Statement.TheVariants as kinds
-use Rattle.net_data.specs.Reading.{Read, stop, front, met, met_after, wanted, run, items, semicolon, colon, assign, set, headed, heading, cells, filled, table, turned, given, given_by, list, body, body_by, default, default_by, named, named_set, named_set_by, columns, param, param_by, ◌>>=◌}
+use Rattle.net_data.specs.Reading.{Read, stop, front, met, met_after, wanted, run, items, semicolon, colon, assign, set, headed, heading, cells, check_rows, table, turned, given, given_by, list, body, body_by, default, default_by, named, named_set, named_set_by, columns, param, param_by, ◌>>=◌}
 use Rattle.net_data.specs.Tests.{is_name, is_member, is_cell, is_word, is_mark, is_comma}
 use Rattle.net_data.proofs.Blames.{filled_err}
 use Rattle.net_data.proofs.Lookahead.{never_ok, err_is, Local, bind_local, same_local, pure_local, const_local}
@@ -56,7 +56,7 @@ cells_local tokens =
     (bind_local (ran is_cell) read_cells tokens (run_local is_cell tokens) (λ all behind i.
     bind_local (wanted semicolon) _ behind (wanted_local semicolon behind) (λ end rest j. pure_local (all, end) rest)))
 
-filled_never : (heads all : List Token) (e : ParseError) → filled heads all ≡ Err e → e.error_code ≡ DataSyntax → ⊥
+filled_never : (heads all : List Token) (e : ParseError) → check_rows heads all ≡ Err e → e.error_code ≡ DataSyntax → ⊥
 filled_never heads all e h d = let k = (filled_err heads all e h).1 in absurd (cc)
 
 table_local : (keyword name : Token) (given : Option DefaultValue) (transposed : Option Transposed) (mark : Token) (tokens : List Token) → Local (table keyword name given transposed mark) tokens
@@ -65,7 +65,7 @@ table_local keyword name given transposed mark tokens =
     same_local (table keyword name given transposed mark) _ tokens (λ ts. refl)
     (bind_local (heading is_member) _ tokens (heading_local is_member tokens) (λ head behind i.
     bind_local cells _ behind (cells_local behind) (λ all rest j.
-    const_local (filled head.0 all.0) _ rest (filled_never head.0 all.0) (λ u. pure_local _ rest))))
+    const_local (check_rows head.0 all.0) _ rest (filled_never head.0 all.0) (λ u. pure_local _ rest))))
 
 turned_local : (keyword name : Token) (given : Option DefaultValue) (opening : Token) (tokens : List Token) → Local (turned keyword name given opening) tokens
 unfolding turned

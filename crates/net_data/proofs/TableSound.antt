@@ -10,7 +10,7 @@ use Rattle.net_data.specs.Tests.{is_name, is_member, is_cell, is_word, is_mark}
 use Rattle.net_data.specs.Commas.{before, elsewhere, bare}
 use Rattle.net_data.specs.Printing.{put_default, put_given, put_transposed}
 use Rattle.net_data.specs.Meaning.{IsDefault, IsGiven, IsTransposed, heading_judged, and_then}
-use Rattle.net_data.specs.Reading.{run, heading, headed, cells, filled, table, turned, given, given_by, list, met, semicolon, colon, assign}
+use Rattle.net_data.specs.Reading.{run, heading, headed, cells, check_rows, table, turned, given, given_by, list, met, semicolon, colon, assign}
 use Rattle.net_data.proofs.RunLemmas.{Keeps, keeps_cell, keeps_member, ran}
 use Rattle.net_data.proofs.Steps.{in_word, in_mark, in_end, got, got_met, bind_ok, ok_is}
 use Rattle.net_data.proofs.SetSound.{Stated}
@@ -60,7 +60,7 @@ table-sound keyword name default transposed mark tokens x key named defaults tur
     let b = bind_ok _ _ _ a.then in
     let body = cells-sound a.value.1 b.value b.first in
     let c = bind_ok _ _ _ b.then in
-    let fine : and_then (heading_judged a.value.0.0 a.value.0.1) (filled a.value.0.0 b.value.0.0) ≡ Ok tt = rw head.judged c.first in
+    let fine : and_then (heading_judged a.value.0.0 a.value.0.1) (check_rows a.value.0.0 b.value.0.0) ≡ Ok tt = rw head.judged c.first in
     let P : Statement × List Token → Type 0 = λ z. Stated (keyword ∷ name ∷ put_default default (put_transposed transposed (mark ∷ bare elsewhere tokens))) z in
     subst P (ok_is _ x c.then) (record {
       printed = rw (head.printed, body.printed) refl;

@@ -18,7 +18,7 @@ use Rattle.net_data.specs.declared.tables.Single.{Single}
 use Rattle.net_data.specs.Commas.{Place, before, elsewhere, place_after, skips, bare}
 use Rattle.net_data.specs.Meaning.{IsTransposed, IsTableHeading, IsColumnsHeading, IsStatement, judged, all_judged, and_then}
 use Rattle.net_data.specs.Printing.{put, put_default, put_given, put_transposed, put_set, put_table_heading, put_columns_heading, put_all, put_single}
-use Rattle.net_data.specs.Reading.{stop, fills, last_span, filled, heading, table, turned, body, named, columns, param, statement, statements, with_statement, tables, met, colon, assign, ◌>>=◌}
+use Rattle.net_data.specs.Reading.{stop, fills, last_span, check_rows, heading, table, turned, body, named, columns, param, statement, statements, with_statement, tables, met, colon, assign, ◌>>=◌}
 use Rattle.net_data.specs.Rejections.{IsFaulty, short_row, no_column, no_name, HasFault}
 use Rattle.net_data.specs.Tests.{is_name, is_member, is_comma, is_word, is_mark}
 use Rattle.net_data.proofs.Apart.{mark-mark, mark-member, mark-name, name-mark, word-word}
@@ -147,8 +147,8 @@ param_first keyword tokens more e key h fails =
     let a = gives before elsewhere (is_word (codes "param")) tokens more keyword (to_else (codes "param") refl) h key in
     rw (none, a.met, fails a.rest a.left) refl
 
-filled_fault : (heads all : List Token) → fills heads all ≡ false → (e : ParseError) × (filled heads all ≡ Err e) × (e.error_code ≡ RowWidth)
-unfolding filled
+filled_fault : (heads all : List Token) → fills heads all ≡ false → (e : ParseError) × (check_rows heads all ≡ Err e) × (e.error_code ≡ RowWidth)
+unfolding check_rows
 filled_fault heads all h = (stop RowWidth (last_span all), rw h refl, refl)
 
 -- tokens that begin with the fault

@@ -20,7 +20,7 @@ use Rattle.net_data.specs.declared.tables.Tables.{Tables}
 use Rattle.net_data.specs.Tests.{is_name, is_member, is_cell, is_word, is_mark, is_comma}
 use Rattle.net_data.specs.Commas.{before, bare}
 use Rattle.net_data.specs.Printing.{print}
-use Rattle.net_data.specs.Reading.{semicolon, colon, assign, stop, filled}
+use Rattle.net_data.specs.Reading.{semicolon, colon, assign, stop, check_rows}
 
 -- after the first member of a tuple: one or more pairs of a comma and a member, and `)`; then the
 -- rest
@@ -128,7 +128,7 @@ and_then (Err e) next = Err e
 abbrev pub judged : Statement → Result (Unit {0}) ParseError
 judged (Set set) = Ok tt
 judged (Listed list) = Ok tt
-judged (Table table) = and_then (heading_judged table.columns table.assign) (filled table.columns table.cells)
+judged (Table table) = and_then (heading_judged table.columns table.assign) (check_rows table.columns table.cells)
 judged (Columns columns) = heading_judged columns.names columns.assign
 
 abbrev pub all_judged : List Statement → Result (Unit {0}) ParseError

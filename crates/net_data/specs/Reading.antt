@@ -216,21 +216,21 @@ fills columns cells = length cells % (length columns + 1) == 0
 
 -- the span of the last token
 abbrev pub last_span_or : Option Span → List Token → Option Span
-last_span_or found [] = found
-last_span_or found (token ∷ tokens) = last_span_or (Some token.span) tokens
+last_span_or some_statement [] = some_statement
+last_span_or some_statement (token ∷ tokens) = last_span_or (Some token.span) tokens
 
 abbrev pub last_span : List Token → Option Span
 last_span tokens = last_span_or None tokens
 
-unfoldable pub filled : List Token → List Token → Result (Unit {0}) ParseError
-filled columns cells = if fills columns cells then Ok tt else Err (stop RowWidth (last_span cells))
+unfoldable pub check_rows : List Token → List Token → Result (Unit {0}) ParseError
+check_rows columns cells = if fills columns cells then Ok tt else Err (stop RowWidth (last_span cells))
 
 -- after the colon of a table
 unfoldable pub table : Token → Token → Option DefaultValue → Option Transposed → Token → List Token → Read Statement
 table keyword name default transposed colon tokens = do
   head ← heading is_member tokens
   cells ← cells head.1
-  full ← filled head.0.0 cells.0.0
+  full ← check_rows head.0.0 cells.0.0
   Ok (kinds.Table (record { keyword = keyword; name = name; default = default; transposed = transposed; colon = colon; columns = head.0.0; assign = head.0.1; cells = cells.0.0; end = cells.0.1 }), cells.1)
 
 -- after the `(` of `(tr)`
@@ -307,13 +307,13 @@ param_by keyword tokens None = named keyword tokens
 unfoldable pub param : Token → List Token → Read Statement
 param keyword tokens = param_by keyword tokens (met colon tokens)
 
-abbrev pub found : Read Statement → Result (Option (Statement × List Token)) ParseError
-found (Ok x) = Ok (Some x)
-found (Err e) = Err e
+abbrev pub some_statement : Read Statement → Result (Option (Statement × List Token)) ParseError
+some_statement (Ok x) = Ok (Some x)
+some_statement (Err e) = Err e
 
 abbrev pub statement_by : Option (Token × List Token) → Option (Token × List Token) → Result (Option (Statement × List Token)) ParseError
-statement_by (Some keyword) param_word = found (set keyword.0 keyword.1)
-statement_by None (Some keyword) = found (param keyword.0 keyword.1)
+statement_by (Some keyword) param_word = some_statement (set keyword.0 keyword.1)
+statement_by None (Some keyword) = some_statement (param keyword.0 keyword.1)
 statement_by None None = Ok None
 
 -- the next statement, if there is one

@@ -1,7 +1,7 @@
 //! The heading and the cells of a table.
 ghost use Rattle.std.specs.Prelude.{◌≡◌, ◌<◌, ◌≤◌, ◌+◌, ◌^◌, length, IfOk, Result, Ok, Err};
 ghost use Rattle.net_data.specs.Tests.{is_of};
-ghost use Rattle.net_data.specs.Reading.{cells, heading, headed, filled, Reads, ReadsPair};
+ghost use Rattle.net_data.specs.Reading.{cells, heading, headed, check_rows, Reads, ReadsPair};
 
 use crate::cells::Cells;
 use crate::cursor::wanted;
@@ -59,9 +59,9 @@ pub(crate) fn cells<'t, 's>(tokens: &'t [Token<'s>]) -> Result<Row<'t, 's>, Pars
 }
 
 /// Checks that the cells fill complete rows of a member and one value for each column.
-#[tactic(auto, unfolding(crate::specs::Reading::filled))]
-pub(crate) fn filled(columns: &Cells<'_, '_>, cells: &Cells<'_, '_>) -> Result<(), ParseError>
-    ensures { result ≡ filled columns.now cells.now }
+#[tactic(auto, unfolding(crate::specs::Reading::check_rows))]
+pub(crate) fn check_rows(columns: &Cells<'_, '_>, cells: &Cells<'_, '_>) -> Result<(), ParseError>
+    ensures { result ≡ check_rows columns.now cells.now }
 {
     if cells.len() % (columns.len() + 1) == 0 {
         return Ok(());

@@ -4,7 +4,7 @@ ghost use Rattle.net_data.specs.Reading.{table, turned, given, list, body, defau
 
 use crate::cursor::{met, wanted};
 use crate::expected::Expected;
-use crate::heading::{cells, filled, heading};
+use crate::heading::{cells, check_rows, heading};
 use crate::parse_error::ParseError;
 use crate::runs::run;
 use crate::stated::{Stated, stated};
@@ -40,7 +40,7 @@ fn table<'t, 's>(
 {
     let (columns, assign, rest) = heading(Expected::Member, tokens)?;
     let (cells, end, rest) = cells(rest)?;
-    filled(&columns, &cells)?;
+    check_rows(&columns, &cells)?;
     let Parameter {
         keyword,
         name,

@@ -14,7 +14,7 @@ use Rattle.net_dimacs.specs.declared.problem_fault.LineFault.TheVariants as line
 use Rattle.net_dimacs.specs.declared.problem_fault.Rejection.{Rejection}
 use Rattle.net_dimacs.specs.Claims.{claimed}
 use Rattle.net_dimacs.specs.Certificates.{Account, Optimal, Cut, flow_claim, flow_claims, potential_claims, member_claims, claims_in, IsOfSize, IsCertificateText}
-use Rattle.net_dimacs.specs.CertificateReading.{with_number, is_node, are_ends, first_claim, in_account, next_claim, Start, Open, kept, with_claimed, missing, completed, read_lines}
+use Rattle.net_dimacs.specs.CertificateReading.{with_number, is_node, are_ends, first_claim, in_account, next_claim, Start, Open, progress_from, with_claimed, missing, completed, read_lines}
 
 -- ---- claims one after the other
 
@@ -39,8 +39,8 @@ line_leads nodes arcs line a None ls says account more e leads = more (line + 1)
 line_leads nodes arcs line a (Some claim) ls [] account more e leads = absurd cc
 line_leads nodes arcs line a (Some claim) ls (c ∷ says) account more e leads =
     let both = same_head claim c (filter_map claimed ls) says e in
-    ap (λ (x : Claim). read_lines nodes arcs (line + 1) (kept line (next_claim nodes arcs a x)) ls) both.0
-    ∙ ap (λ (r : Result Account LineFault). read_lines nodes arcs (line + 1) (kept line r) ls) leads.1
+    ap (λ (x : Claim). read_lines nodes arcs (line + 1) (progress_from line (next_claim nodes arcs a x)) ls) both.0
+    ∙ ap (λ (r : Result Account LineFault). read_lines nodes arcs (line + 1) (progress_from line r) ls) leads.1
     ∙ more (line + 1) leads.0 says both.1 leads.2
 
 lines_lead : (nodes : ℕ) (arcs : List FlowArc) (ls : List (List ℕ)) (account : Account) → LinesLead nodes arcs ls account
@@ -54,8 +54,8 @@ head_leads : (nodes : ℕ) (arcs : List FlowArc) (line : ℕ) (x : Option Claim)
 head_leads nodes arcs line None ls c says a account first leads more e = more e
 head_leads nodes arcs line (Some claim) ls c says a account first leads more e =
     let both = same_head claim c (filter_map claimed ls) says e in
-    ap (λ (x : Claim). read_lines nodes arcs (line + 1) (kept line (first_claim x)) ls) both.0
-    ∙ ap (λ (r : Result Account LineFault). read_lines nodes arcs (line + 1) (kept line r) ls) first
+    ap (λ (x : Claim). read_lines nodes arcs (line + 1) (progress_from line (first_claim x)) ls) both.0
+    ∙ ap (λ (r : Result Account LineFault). read_lines nodes arcs (line + 1) (progress_from line r) ls) first
     ∙ lines_lead nodes arcs ls account (line + 1) a says both.1 leads
 
 start_leads : (nodes : ℕ) (arcs : List FlowArc) (line : ℕ) (ls : List (List ℕ)) (c : Claim) (says : List Claim) (a account : Account) → first_claim c ≡ Ok a → Leads nodes arcs a says account

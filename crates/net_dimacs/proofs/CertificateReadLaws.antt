@@ -17,7 +17,7 @@ use Rattle.net_dimacs.specs.declared.problem_fault.ProblemFault.TheVariants as f
 use Rattle.net_dimacs.specs.Limits.{text_limit}
 use Rattle.net_dimacs.specs.Claims.{claimed}
 use Rattle.net_dimacs.specs.Certificates.{Account, Optimal, Cut, account_of, BeginsCertificate, IsOfSize, IsCertificateText, IsNoCertificateText, IsOnlyCertificate}
-use Rattle.net_dimacs.specs.CertificateReading.{first_claim, next_claim, Progress, Start, Open, Rejected, kept, with_claim, with_claimed, missing, finished, read_lines, read_text, Fails, Gives, IfRejected}
+use Rattle.net_dimacs.specs.CertificateReading.{first_claim, next_claim, Progress, Start, Open, Rejected, progress_from, with_claim, with_claimed, missing, finished, read_lines, read_text, Fails, Gives, IfRejected}
 use Rattle.net_dimacs.specs.CertificateDrafts.{Stops}
 use Rattle.net_dimacs.proofs.CertificateSound.{rejected_stays, is_certificate_text}
 use Rattle.net_dimacs.proofs.CertificateComplete.{text_is_read, one_certificate}
@@ -103,7 +103,7 @@ IsPlaced line Start = Unit {0}
 IsPlaced line (Open a) = Unit {0}
 IsPlaced line (Rejected r) = IsAt 1 line r
 
-kept_placed : (line : ℕ) (read : Result Account LineFault) → 1 ≤ line → IsPlaced (line + 1) (kept line read)
+kept_placed : (line : ℕ) (read : Result Account LineFault) → 1 ≤ line → IsPlaced (line + 1) (progress_from line read)
 kept_placed line (Ok a) some = tt
 kept_placed line (Err fault) some = record { low = some; high = omega arith }
 

@@ -16,7 +16,7 @@ use Rattle.net_dimacs.specs.declared.problem_fault.LineFault.TheVariants as line
 use Rattle.net_dimacs.specs.declared.problem_fault.Rejection.{Rejection}
 use Rattle.net_dimacs.specs.Claims.{claimed}
 use Rattle.net_dimacs.specs.Certificates.{Account, Optimal, Cut, flow_claim, flow_claims, potential_claims, member_claims, claims_in, IsOfSize, IsCertificateText}
-use Rattle.net_dimacs.specs.CertificateReading.{with_number, is_node, are_ends, with_flow, with_potential, with_member, first_claim, in_account, next_claim, Progress, Start, Open, Rejected, kept, with_claimed, missing, completed, read_lines}
+use Rattle.net_dimacs.specs.CertificateReading.{with_number, is_node, are_ends, with_flow, with_potential, with_member, first_claim, in_account, next_claim, Progress, Start, Open, Rejected, progress_from, with_claimed, missing, completed, read_lines}
 
 -- ---- a refusal stays
 
@@ -234,7 +234,7 @@ Reads nodes arcs line a ls account = read_lines nodes arcs line (Open a) ls ≡ 
 
 next_reports : (nodes : ℕ) (arcs : List FlowArc) (line : ℕ) (a : Account) (claim : Claim) (ls : List (List ℕ)) (account : Account) (r : Result Account LineFault) → next_claim nodes arcs a claim ≡ r → IsFront nodes arcs a
     → ((b : Account) → IsFront nodes arcs b → Reads nodes arcs (line + 1) b ls account → Reports nodes arcs (claims_in arcs b ++ filter_map claimed ls) account)
-    → read_lines nodes arcs (line + 1) (kept line r) ls ≡ Ok account → Reports nodes arcs (claims_in arcs a ++ (claim ∷ filter_map claimed ls)) account
+    → read_lines nodes arcs (line + 1) (progress_from line r) ls ≡ Ok account → Reports nodes arcs (claims_in arcs a ++ (claim ∷ filter_map claimed ls)) account
 next_reports nodes arcs line a claim ls account (Err fault) w front more e = absurd (let stays = rejected_stays nodes arcs (line + 1) (record { fault = fault; line = line }) ls in cc)
 next_reports nodes arcs line a claim ls account (Ok b) w front more e =
     let s = step nodes arcs a claim b front w in
@@ -272,7 +272,7 @@ first_step nodes arcs (claims.Member v) a e = absurd cc
 first_step nodes arcs claims.Other a e = absurd cc
 
 head_reports : (nodes : ℕ) (arcs : List FlowArc) (line : ℕ) (claim : Claim) (ls : List (List ℕ)) (account : Account) (r : Result Account LineFault) → first_claim claim ≡ r
-    → read_lines nodes arcs (line + 1) (kept line r) ls ≡ Ok account → Reports nodes arcs (claim ∷ filter_map claimed ls) account
+    → read_lines nodes arcs (line + 1) (progress_from line r) ls ≡ Ok account → Reports nodes arcs (claim ∷ filter_map claimed ls) account
 head_reports nodes arcs line claim ls account (Err fault) w e = absurd (let stays = rejected_stays nodes arcs (line + 1) (record { fault = fault; line = line }) ls in cc)
 head_reports nodes arcs line claim ls account (Ok a) w e =
     let s = first_step nodes arcs claim a w in

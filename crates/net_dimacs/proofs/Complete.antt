@@ -14,7 +14,7 @@ use Rattle.net_dimacs.specs.declared.statement.Statement.TheVariants as statemen
 use Rattle.net_dimacs.specs.declared.problem_fault.Rejection.{Rejection}
 use Rattle.net_dimacs.specs.declared.problem_fault.LineFault.{LineFault}
 use Rattle.net_dimacs.specs.declared.problem_fault.LineFault.TheVariants.{LineOrder, Count}
-use Rattle.net_dimacs.specs.Reading.{Sketch, place_of, is_past, new_sketch, with_node, with_node_at, with_arc, with_arc_at, with_arc_or, bounds_fault, State, Start, Open, kept, with_statement, with_optional_statement, line_statement, Numbers, finished, read_lines}
+use Rattle.net_dimacs.specs.Reading.{Sketch, place_of, is_past, new_sketch, with_node, with_node_at, with_arc, with_arc_at, with_arc_or, bounds_fault, State, Start, Open, state_from, with_statement, with_optional_statement, line_statement, Numbers, finished, read_lines}
 use Rattle.net_dimacs.specs.Problems.{Named, node_statement, arc_statement, AreDistinct, supply_after, IsProblemText, BeginsProblem, statements_of}
 use Rattle.net_normal.specs.Limits.{IsWithinLimits}
 use Rattle.net_dimacs.proofs.Lists.{all_map, all_both}
@@ -96,7 +96,7 @@ arc_said line d (Some x) ls (arc ∷ more) follow e fit count =
     let both = same_head x (arc_statement arc) (filter_map line_statement ls) (map arc_statement more) e in
     let room : length d.arcs < d.arc_count = omega arith in
     ap (λ (y : Statement). read_lines (line + 1) (with_statement line (Open d) y) ls) both.0
-    ∙ ap (λ (y : Result Sketch LineFault). read_lines (line + 1) (kept line y) ls) (arc_taken d arc fit.0 room)
+    ∙ ap (λ (y : Result Sketch LineFault). read_lines (line + 1) (state_from line y) ls) (arc_taken d arc fit.0 room)
     ∙ follow (line + 1) (with_one d arc) more both.1 fit.1 (omega (arith, length-append d.arcs (arc ∷ [])))
     ∙ ap (λ (y : List FlowArc). Ok (d.supplies, y)) (append_assoc d.arcs (arc ∷ []) more)
 
@@ -145,7 +145,7 @@ node_said line d (Some x) ls n nodes more follow e none may fit count =
     let both = same_head x (node_statement n) (filter_map line_statement ls) (map node_statement nodes ++ map arc_statement more) e in
     let size = sym (length-set d.supplies n.0 n.1) in
     ap (λ (y : Statement). read_lines (line + 1) (with_statement line (Open d) y) ls) both.0
-    ∙ ap (λ (y : Result Sketch LineFault). read_lines (line + 1) (kept line y) ls) (node_taken d n.0 n.1 none may.0 may.2 may.1)
+    ∙ ap (λ (y : Result Sketch LineFault). read_lines (line + 1) (state_from line y) ls) (node_taken d n.0 n.1 none may.0 may.2 may.1)
     ∙ follow (line + 1) (marked d n.0 n.1) nodes more both.1 none
     (subst (λ (k : ℕ). MayName (set d.named n.0 true) k nodes) size may.3)
     (subst (λ (k : ℕ). AllByRecursion (IsFlowArcOf k) more) size fit) count
@@ -184,7 +184,7 @@ head_said line None ls says n m s a some few_nodes few_arcs rest more e = more e
 head_said line (Some x) ls says n m s a some few_nodes few_arcs rest more e =
     let both = same_head x (statements.Problem (pos n) (pos m)) (filter_map line_statement ls) says e in
     ap (λ (y : Statement). read_lines (line + 1) (with_statement line Start y) ls) both.0
-    ∙ ap (λ (y : Result Sketch LineFault). read_lines (line + 1) (kept line y) ls) (new_taken n m some few_nodes few_arcs)
+    ∙ ap (λ (y : Result Sketch LineFault). read_lines (line + 1) (state_from line y) ls) (new_taken n m some few_nodes few_arcs)
     ∙ rest (line + 1) ls both.1
 
 head_read : (line : ℕ) (ls : List (List ℕ)) (says : List Statement) (n m : ℕ) (s : List ℤ) (a : List FlowArc) → 1 ≤ n → n ≤ flow_node_limit → m ≤ flow_arc_limit → RestGives says n m s a

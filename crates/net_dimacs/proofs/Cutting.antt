@@ -9,7 +9,7 @@ use Rattle.net_dimacs.specs.declared.statement.Statement.TheVariants as statemen
 use Rattle.net_dimacs.specs.declared.problem_fault.LineFault.{LineFault}
 use Rattle.net_dimacs.specs.declared.problem_fault.LineFault.TheVariants.{LineOrder, DoubleNode, Count, Bounds, TooLarge}
 use Rattle.net_dimacs.specs.Numbers.{greatest_signed, cut, cut_statement}
-use Rattle.net_dimacs.specs.Reading.{Sketch, place_of, new_sketch, is_past, with_node, with_node_at, bounds_fault, with_arc, with_arc_at, with_arc_or, State, Start, Open, Rejected, kept, with_optional_statement}
+use Rattle.net_dimacs.specs.Reading.{Sketch, place_of, new_sketch, is_past, with_node, with_node_at, bounds_fault, with_arc, with_arc_at, with_arc_or, State, Start, Open, Rejected, state_from, with_optional_statement}
 
 -- a negative number, cut off
 cut_negative : (n : ℕ) → cut (negsuc n) ≡ negsuc (min n (greatest_signed - 1))
@@ -218,12 +218,12 @@ IsSmall (Rejected r) = Unit {0}
 
 pub said_cut : (line : ℕ) (state : State) (line_statement : Option Statement) → IsSmall state → with_optional_statement line state (option_map cut_statement line_statement) ≡ with_optional_statement line state line_statement
 said_cut line state None few = refl
-said_cut line Start (Some (statements.Problem nodes arcs)) few = ap (kept line) (new_cut nodes arcs)
+said_cut line Start (Some (statements.Problem nodes arcs)) few = ap (state_from line) (new_cut nodes arcs)
 said_cut line Start (Some (statements.Node node supply)) few = refl
 said_cut line Start (Some (statements.Arc src dst low cap cost)) few = refl
 said_cut line Start (Some statements.Other) few = refl
 said_cut line (Open d) (Some (statements.Problem nodes arcs)) few = refl
-said_cut line (Open d) (Some (statements.Node node supply)) few = ap (kept line) (node_cut d node supply few)
-said_cut line (Open d) (Some (statements.Arc src dst low cap cost)) few = ap (kept line) (arc_cut d src dst low cap cost few)
+said_cut line (Open d) (Some (statements.Node node supply)) few = ap (state_from line) (node_cut d node supply few)
+said_cut line (Open d) (Some (statements.Arc src dst low cap cost)) few = ap (state_from line) (arc_cut d src dst low cap cost few)
 said_cut line (Open d) (Some statements.Other) few = refl
 said_cut line (Rejected r) (Some statement) few = refl

@@ -11,7 +11,7 @@ use Rattle.net_dimacs.specs.declared.statement.Statement.{Statement}
 use Rattle.net_dimacs.specs.declared.statement.Statement.TheVariants as statements
 use Rattle.net_dimacs.specs.declared.problem_fault.LineFault.{LineFault}
 use Rattle.net_dimacs.specs.declared.problem_fault.LineFault.TheVariants.{LineOrder, Count}
-use Rattle.net_dimacs.specs.Reading.{Sketch, place_of, new_sketch, is_past, with_node, with_node_at, bounds_fault, with_arc, with_arc_at, with_arc_or, State, Start, Open, Rejected, kept, with_optional_statement}
+use Rattle.net_dimacs.specs.Reading.{Sketch, place_of, new_sketch, is_past, with_node, with_node_at, bounds_fault, with_arc, with_arc_at, with_arc_or, State, Start, Open, Rejected, state_from, with_optional_statement}
 use Rattle.net_dimacs.proofs.Cutting.{sketch_by, node_by, IsSmall}
 
 -- ---- a draft keeps its nodes
@@ -20,7 +20,7 @@ abbrev IsSmallDraft : Result Sketch LineFault → Type 0
 IsSmallDraft (Ok d) = length d.supplies ≤ flow_node_limit
 IsSmallDraft (Err fault) = Unit {0}
 
-small_kept : (line : ℕ) (read : Result Sketch LineFault) → IsSmallDraft read → IsSmall (kept line read)
+small_kept : (line : ℕ) (read : Result Sketch LineFault) → IsSmallDraft read → IsSmall (state_from line read)
 small_kept line (Ok d) h = h
 small_kept line (Err fault) h = tt
 

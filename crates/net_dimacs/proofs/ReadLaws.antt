@@ -14,7 +14,7 @@ use Rattle.net_dimacs.specs.declared.problem_fault.Rejection.{Rejection}
 use Rattle.net_dimacs.specs.declared.problem_fault.ProblemFault.{ProblemFault}
 use Rattle.net_dimacs.specs.declared.problem_fault.ProblemFault.TheVariants as faults
 use Rattle.net_dimacs.specs.Limits.{text_limit}
-use Rattle.net_dimacs.specs.Reading.{Sketch, new_sketch, with_node, with_arc, State, Start, Open, Rejected, kept, with_optional_statement, line_statement, Numbers, finished, read_lines, read_text, Gives, IfRejected}
+use Rattle.net_dimacs.specs.Reading.{Sketch, new_sketch, with_node, with_arc, State, Start, Open, Rejected, state_from, with_optional_statement, line_statement, Numbers, finished, read_lines, read_text, Gives, IfRejected}
 use Rattle.net_dimacs.specs.Problems.{IsProblemText, IsNoProblemText, IsOnlyProblem}
 use Rattle.net_normal.specs.Limits.{IsWithinLimits}
 use Rattle.net_dimacs.proofs.Sound.{is_problem_text}
@@ -70,7 +70,7 @@ IsPlaced line Start = Unit {0}
 IsPlaced line (Open d) = Unit {0}
 IsPlaced line (Rejected r) = IsAt 1 line r
 
-kept_placed : (line : ℕ) (read : Result Sketch LineFault) → 1 ≤ line → IsPlaced (line + 1) (kept line read)
+kept_placed : (line : ℕ) (read : Result Sketch LineFault) → 1 ≤ line → IsPlaced (line + 1) (state_from line read)
 kept_placed line (Ok d) some = tt
 kept_placed line (Err fault) some = record { low = some; high = omega arith }
 

@@ -11,7 +11,7 @@ use Rattle.net_dimacs.specs.declared.scan.Scan.{Scan}
 use Rattle.net_dimacs.specs.declared.progress.Progress.{Progress}
 use Rattle.net_dimacs.specs.declared.progress.Progress.TheVariants as progresses
 use Rattle.net_dimacs.specs.Numbers.{cut_statement}
-use Rattle.net_dimacs.specs.Reading.{Sketch, new_sketch, next_sketch, State, Start, Open, Rejected, kept, with_optional_statement, read_lines, line_statement}
+use Rattle.net_dimacs.specs.Reading.{Sketch, new_sketch, next_sketch, State, Start, Open, Rejected, state_from, with_optional_statement, read_lines, line_statement}
 use Rattle.net_dimacs.specs.Problems.{BeginsProblem, statements_of}
 use Rattle.net_dimacs.specs.Drafts.{state_of}
 use Rattle.net_dimacs.specs.Lines.{EndsLine}
@@ -39,7 +39,7 @@ line_read n state next line rest after parts e more =
 statements_split : (line rest after : List ℕ) → lines rest ≡ line ∷ lines after → statements_of rest ≡ cons_option (line_statement line) (statements_of after)
 statements_split line rest after parts = ap (filter_map line_statement) parts
 
-kept_begun : (n : ℕ) (read : Result Sketch LineFault) → kept n read ≡ Start → ⊥
+kept_begun : (n : ℕ) (read : Result Sketch LineFault) → state_from n read ≡ Start → ⊥
 kept_begun n (Ok d) e = cc
 kept_begun n (Err fault) e = cc
 

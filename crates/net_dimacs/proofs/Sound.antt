@@ -11,7 +11,7 @@ use Rattle.net_dimacs.specs.declared.statement.Statement.TheVariants as statemen
 use Rattle.net_dimacs.specs.declared.problem_fault.Rejection.{Rejection}
 use Rattle.net_dimacs.specs.declared.problem_fault.LineFault.{LineFault}
 use Rattle.net_dimacs.specs.declared.problem_fault.LineFault.TheVariants.{Count}
-use Rattle.net_dimacs.specs.Reading.{Sketch, new_sketch, with_node, with_arc, State, Start, Open, Rejected, kept, with_optional_statement, line_statement, Numbers, finished, read_lines}
+use Rattle.net_dimacs.specs.Reading.{Sketch, new_sketch, with_node, with_arc, State, Start, Open, Rejected, state_from, with_optional_statement, line_statement, Numbers, finished, read_lines}
 use Rattle.net_dimacs.specs.Problems.{Named, node_statement, arc_statement, AreDistinct, supply_after, IsProblemText}
 use Rattle.net_dimacs.proofs.Steps.{marked, with_one, first_sketch, set_supply, NodeStep, node_step, ArcStep, arc_step, new_step}
 
@@ -143,7 +143,7 @@ Reads line d ls s a = read_lines line (Open d) ls ≡ Ok (s, a)
 
 node_line : (line : ℕ) (d : Sketch) (z f : ℤ) (ls : List (List ℕ)) (s : List ℤ) (a : List FlowArc) (r : Result Sketch LineFault) → with_node d z f ≡ r → IsSound d
     → ((d' : Sketch) → IsSound d' → Reads (line + 1) d' ls s a → Extends d' (filter_map line_statement ls) s a)
-    → read_lines (line + 1) (kept line r) ls ≡ Ok (s, a) → Extends d (statements.Node z f ∷ filter_map line_statement ls) s a
+    → read_lines (line + 1) (state_from line r) ls ≡ Ok (s, a) → Extends d (statements.Node z f ∷ filter_map line_statement ls) s a
 node_line line d z f ls s a (Err fault) w good more e = no_more (line + 1) (record { fault = fault; line = line }) ls (s, a) e
 node_line line d z f ls s a (Ok d') w good more e =
     let n = node_step d z f d' w in
@@ -152,7 +152,7 @@ node_line line d z f ls s a (Ok d') w good more e =
 
 arc_line : (line : ℕ) (d : Sketch) (src dst low cap cost : ℤ) (ls : List (List ℕ)) (s : List ℤ) (a : List FlowArc) (r : Result Sketch LineFault) → with_arc d src dst low cap cost ≡ r → IsSound d
     → ((d' : Sketch) → IsSound d' → Reads (line + 1) d' ls s a → Extends d' (filter_map line_statement ls) s a)
-    → read_lines (line + 1) (kept line r) ls ≡ Ok (s, a) → Extends d (statements.Arc src dst low cap cost ∷ filter_map line_statement ls) s a
+    → read_lines (line + 1) (state_from line r) ls ≡ Ok (s, a) → Extends d (statements.Arc src dst low cap cost ∷ filter_map line_statement ls) s a
 arc_line line d src dst low cap cost ls s a (Err fault) w good more e = no_more (line + 1) (record { fault = fault; line = line }) ls (s, a) e
 arc_line line d src dst low cap cost ls s a (Ok d') w good more e =
     let step = arc_step d src dst low cap cost d' w in
@@ -199,7 +199,7 @@ reports n m says s a more =
     }
 
 head_line : (line : ℕ) (nodes arcs : ℤ) (ls : List (List ℕ)) (s : List ℤ) (a : List FlowArc) (r : Result Sketch LineFault) → new_sketch nodes arcs ≡ r
-    → read_lines (line + 1) (kept line r) ls ≡ Ok (s, a) → Reports (statements.Problem nodes arcs ∷ filter_map line_statement ls) s a
+    → read_lines (line + 1) (state_from line r) ls ≡ Ok (s, a) → Reports (statements.Problem nodes arcs ∷ filter_map line_statement ls) s a
 head_line line nodes arcs ls s a (Err fault) w e = no_more (line + 1) (record { fault = fault; line = line }) ls (s, a) e
 head_line line nodes arcs ls s a (Ok d') w e =
     let step = new_step nodes arcs d' w in

@@ -74,13 +74,13 @@ pub data Progress : Type 0 where
   Open : Account → Progress
   Rejected : Rejection → Progress
 
-abbrev pub kept : ℕ → Result Account LineFault → Progress
-kept line (Ok account) = Open account
-kept line (Err fault) = Rejected (record { fault = fault; line = line })
+abbrev pub progress_from : ℕ → Result Account LineFault → Progress
+progress_from line (Ok account) = Open account
+progress_from line (Err fault) = Rejected (record { fault = fault; line = line })
 
 abbrev pub with_claim : ℕ → List FlowArc → ℕ → Progress → Claim → Progress
-with_claim nodes arcs line Start claim = kept line (first_claim claim)
-with_claim nodes arcs line (Open account) claim = kept line (next_claim nodes arcs account claim)
+with_claim nodes arcs line Start claim = progress_from line (first_claim claim)
+with_claim nodes arcs line (Open account) claim = progress_from line (next_claim nodes arcs account claim)
 with_claim nodes arcs line (Rejected r) claim = Rejected r
 
 abbrev pub with_claimed : ℕ → List FlowArc → ℕ → Progress → Option Claim → Progress

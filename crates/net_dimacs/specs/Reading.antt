@@ -98,13 +98,13 @@ pub data State : Type 0 where
 abbrev pub rejected : ℕ → LineFault → State
 rejected line fault = Rejected (record { fault = fault; line = line })
 
-abbrev pub kept : ℕ → Result Sketch LineFault → State
-kept line (Ok d) = Open d
-kept line (Err fault) = rejected line fault
+abbrev pub state_from : ℕ → Result Sketch LineFault → State
+state_from line (Ok d) = Open d
+state_from line (Err fault) = rejected line fault
 
 -- the state after the first line with a meaning
 abbrev pub new_state : ℕ → Statement → State
-new_state line (statements.Problem nodes arcs) = kept line (new_sketch nodes arcs)
+new_state line (statements.Problem nodes arcs) = state_from line (new_sketch nodes arcs)
 new_state line (statements.Node node supply) = rejected line NoProblemLine
 new_state line (statements.Arc src dst low cap cost) = rejected line NoProblemLine
 new_state line statements.Other = rejected line BadLine
@@ -118,7 +118,7 @@ next_sketch d statements.Other = Err BadLine
 
 abbrev pub with_statement : ℕ → State → Statement → State
 with_statement line Start statement = new_state line statement
-with_statement line (Open d) statement = kept line (next_sketch d statement)
+with_statement line (Open d) statement = state_from line (next_sketch d statement)
 with_statement line (Rejected r) statement = Rejected r
 
 abbrev pub with_optional_statement : ℕ → State → Option Statement → State

@@ -7,7 +7,7 @@ ghost use Rattle.net_normal.specs.Flows.{IsFeasibleFlow, cost_of};
 ghost use Rattle.net_check.specs.Certificates.{IsCertificate};
 ghost use Rattle.net_driver.specs.IsSolved.{IsSolved, text_of};
 ghost use Rattle.net_driver.specs.IsBuilt.{IsBuilt};
-ghost use Rattle.net_driver.specs.Linked.{written};
+ghost use Rattle.net_driver.specs.MappedNetwork.{written};
 ghost use Rattle.net_driver.specs.Meaning.{IsSolution};
 ghost use Rattle.net_driver.specs.Made.{SizesAgree};
 ghost use Rattle.net_expr.specs.Worlds.{Name};
@@ -15,9 +15,9 @@ ghost use Rattle.net_driver.specs.Outcomes.{IsOutcomeOf, IsDisplayOf, IsCutOf};
 ghost use Rattle.net_driver.specs.Reporting.{IsRejection};
 
 use crate::compiled::{Compiled, Options, with_text};
+use crate::compiled_network::{CompiledNetwork, read_model};
 use crate::fault::Fault;
 use crate::meaning::solutions_are_sound;
-use crate::unwritten::{Unwritten, read_model};
 use net_check::Side;
 use net_inst::objective_is_written;
 use net_report::{map_back, write_cut, write_display};
@@ -87,16 +87,16 @@ pub fn solve_model_with<'s>(
     ensures rejected { IfErr result (IsRejection (option_copied options.now.objective) model.entry.now «data».entry.now) }
 {
     let unwritten = read_model(alloc, options, model, data)?;
-    let outcome = solve_unwritten(alloc, &unwritten)?;
+    let outcome = solve_network(alloc, &unwritten)?;
     let compiled = with_text(alloc, unwritten)?;
     solutions_are_sound();
     Ok(Answer { compiled, outcome })
 }
 
 /// Solves a compiled model, for which no text is needed. Fails only if memory runs out.
-pub(crate) fn solve_unwritten(
+pub(crate) fn solve_network(
     alloc: Global,
-    unwritten: &Unwritten<'_>,
+    unwritten: &CompiledNetwork<'_>,
 ) -> Result<Outcome, AllocError>
     requires { SizesAgree (written unwritten.now) }
     ensures { (lean : Bool) (wanted : Option Name) (m d : List ℕ) → IsBuilt lean wanted m d (written unwritten.now)
@@ -111,7 +111,7 @@ pub(crate) fn solve_unwritten(
 /// Returns the outcome for a certificate of the problem. Fails only if memory runs out.
 fn outcome_of(
     alloc: Global,
-    unwritten: &Unwritten<'_>,
+    unwritten: &CompiledNetwork<'_>,
     settled: Settled,
 ) -> Result<Outcome, AllocError>
     requires sizes { SizesAgree (written unwritten.now) }
@@ -127,7 +127,7 @@ fn outcome_of(
 /// Returns the plan that corresponds to a feasible flow. Fails only if memory runs out.
 fn displayed(
     alloc: Global,
-    unwritten: &Unwritten<'_>,
+    unwritten: &CompiledNetwork<'_>,
     cost: i128,
     flows: &[i64],
 ) -> Result<Outcome, AllocError>
@@ -149,7 +149,7 @@ fn displayed(
 /// Returns the explanation of a violated cut. Fails only if memory runs out.
 fn infeasible(
     alloc: Global,
-    unwritten: &Unwritten<'_>,
+    unwritten: &CompiledNetwork<'_>,
     flags: Vec<bool>,
     side: Side,
 ) -> Result<Outcome, AllocError>

@@ -2,17 +2,17 @@
 
 ghost use Rattle.std.specs.Prelude.{◌≡◌, None, false, IfOk, IfErr};
 ghost use Rattle.std.specs.Option.{option_copied};
-ghost use Rattle.net_driver.specs.Linked.{written};
+ghost use Rattle.net_driver.specs.MappedNetwork.{written};
 ghost use Rattle.net_driver.specs.Made.{SizesAgree};
 ghost use Rattle.net_driver.specs.Reporting.{IsRejection};
 ghost use Rattle.net_driver.specs.IsBuilt.{IsBuilt};
 ghost use Rattle.net_driver.specs.Meaning.{IsCompilation};
 
+use crate::compiled_network::{CompiledNetwork, read_model};
 use crate::fault::Fault;
-use crate::linked::linked_of;
+use crate::mapped_network::with_name_map;
 use crate::meaning::compilations_are_sound;
 use crate::text::Text;
-use crate::unwritten::{Unwritten, read_model};
 use net_dimacs::write_problem_to;
 use net_inst::Names;
 use net_io::GrowingSink;
@@ -83,11 +83,14 @@ pub fn compile_with<'s>(
 
 /// Adds the text to a compiled model: the name map, then the problem's lines. Fails only if memory
 /// runs out.
-pub(crate) fn with_text(alloc: Global, unwritten: Unwritten<'_>) -> Result<Compiled<'_>, AllocError>
+pub(crate) fn with_text(
+    alloc: Global,
+    unwritten: CompiledNetwork<'_>,
+) -> Result<Compiled<'_>, AllocError>
     requires { SizesAgree (written unwritten) }
     ensures { IfOk result (λ compiled. compiled ≡ written unwritten.entry) }
 {
-    let linked = linked_of(alloc, unwritten)?;
+    let linked = with_name_map(alloc, unwritten)?;
     let mut sink = GrowingSink::new(linked.lines);
     match write_problem_to(&linked.problem, &mut sink) {
         Ok(()) => Ok(Compiled {

@@ -4,13 +4,14 @@
 mod answer;
 mod checking;
 mod compiled;
+mod compiled_network;
 mod exit_kind;
 mod fault;
 mod first_fault;
 mod laws;
 mod line_names;
 mod line_runs;
-mod linked;
+mod mapped_network;
 mod meaning;
 mod naming;
 mod network;
@@ -21,7 +22,6 @@ mod settling;
 mod solve_run;
 mod text;
 mod texts;
-mod unwritten;
 
 pub use answer::{Answer, Outcome, solve_model, solve_model_with};
 pub use checking::check_bytes;

@@ -8,7 +8,7 @@ ghost use Rattle.net_driver.specs.Runs.{IsCompileRun, IsAskedFew};
 
 use crate::compiled::Options;
 use crate::fault::{Fault, TextName};
-use crate::linked::{link_model, write_linked};
+use crate::mapped_network::{link_model, write_mapped};
 use crate::meaning::compilations_are_sound;
 use net_io::{ReadFault, Sink, Source, read_to_limit};
 use net_lex::{DATA_LIMIT, MODEL_LIMIT};
@@ -59,7 +59,7 @@ pub fn run_compile_with<M: Source, D: Source, W: Sink>(
     let data_text = read_text(alloc, data, DATA_LIMIT, TextName::Data)?;
     let linked = link_model(alloc, options, &model_text, &data_text)?;
     compilations_are_sound();
-    match write_linked(output, &linked) {
+    match write_mapped(output, &linked) {
         Ok(()) => Ok(()),
         Err(_) => Err(Fault::Unwritten),
     }

@@ -6,13 +6,13 @@ ghost use Rattle.std.specs.Option.{option_copied};
 ghost use Rattle.net_driver.specs.IsSolved.{exit_kind_of};
 ghost use Rattle.net_driver.specs.Runs.{IsSolveRun};
 
-use crate::answer::{Outcome, solve_unwritten};
+use crate::answer::{Outcome, solve_network};
 use crate::compiled::Options;
+use crate::compiled_network::read_model;
 use crate::exit_kind::ExitKind;
 use crate::fault::{Fault, TextName};
 use crate::meaning::solutions_are_sound;
 use crate::run::read_text;
-use crate::unwritten::read_model;
 use net_io::{Sink, Source, write_whole};
 use net_lex::{DATA_LIMIT, MODEL_LIMIT};
 use std::alloc::Global;
@@ -71,7 +71,7 @@ pub fn run_solve_with<M: Source, D: Source, W: Sink>(
     let model_text = read_text(alloc, model, MODEL_LIMIT, TextName::Model)?;
     let data_text = read_text(alloc, data, DATA_LIMIT, TextName::Data)?;
     let unwritten = read_model(alloc, options, &model_text, &data_text)?;
-    let outcome = solve_unwritten(alloc, &unwritten)?;
+    let outcome = solve_network(alloc, &unwritten)?;
     solutions_are_sound();
     let exit_kind = exit_kind_of(&outcome);
     match write_whole(output, outcome.text()) {

@@ -18,7 +18,7 @@ use Rattle.net_eval.specs.declared.set_phrase.Claims.{Claims}
 use Rattle.net_fault.specs.Outcomes.{Outcome, and_then, each}
 use Rattle.net_eval.specs.Binding as binding
 use Rattle.net_eval.specs.Binding.{widths, next_data, with_entry, declare, check_one, after_checks, with_given}
-use Rattle.net_eval.specs.BoundParameters.{keys_in, key_size, span_or, index_list, source, data_of, phrase_value, filled, with_data, bound_parameter}
+use Rattle.net_eval.specs.BoundParameters.{keys_in, key_size, span_or, index_list, source, data_of, phrase_value, fill_table, with_data, bound_parameter}
 use Rattle.net_eval.specs.BoundSets.{one_of, allowed, set_of, bound_set}
 use Rattle.net_eval.specs.DataByName.{Sorted, data_by_name}
 use Rattle.net_eval.specs.Names.{declared}
@@ -70,7 +70,7 @@ bound_set_is w g ws name ps ms e h = then_ok (set_phrases w ps) (set_of ws name 
 
 with_data_is : (w : World) (ws : List ℕ) (name : Token) (ps : List Phrase) (ms : List NamedData) (n : Option ℕ) (rows : List Row) (index : List Tuple) (e : Entry) → IsIndex rows index → with_data w ws name ps ms n rows index ≡ Ok e → IsEntry e
 with_data_is w ws name ps ms n rows index e f h =
-    then_ok (filled w ws name ps ms n rows index) (λ t. Ok (Parameter n index t)) e h (λ t k l.
+    then_ok (fill_table w ws name ps ms n rows index) (λ t. Ok (Parameter n index t)) e h (λ t k l.
     then_ok (data_of ws n index (is_some (phrase_value gives.Becomes ps)) ms) _ t k (λ all i j.
     subst IsEntry (is_ok (Parameter n index t) e l)
     (parameter_is w ws name n ps (source (phrase_value gives.Becomes ps) all.1 (phrase_value gives.Default ps)) (is_some (phrase_value gives.Becomes ps)) ms index rows all t f i j)))

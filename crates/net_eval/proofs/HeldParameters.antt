@@ -22,7 +22,7 @@ use Rattle.net_fault.specs.declared.diagnostic.Diagnostic.{Diagnostic}
 use Rattle.net_eval.specs.declared.given.Given.{Given}
 use Rattle.net_eval.specs.declared.given.Given.TheVariants as given
 use Rattle.net_eval.specs.declared.given.NamedData.{NamedData}
-use Rattle.net_eval.specs.BoundParameters.{keys_with, index_list, Source, source_text, source_at, from_source, with_found, with_key, fit_values, untaken, data_of, valued_by, values}
+use Rattle.net_eval.specs.BoundParameters.{keys_with, index_list, Source, source_text, source_at, from_source, insert_value, with_key, fit_values, untaken, data_of, valued_by, values}
 use Rattle.net_eval.specs.Cells.{member_in, tuple_in}
 use Rattle.net_fault.specs.Outcomes.{Outcome, and_then, each}
 use Rattle.net_eval.specs.ParameterValues.{IsParameterOf}
@@ -136,7 +136,7 @@ said_keeps widths n index a ms all h e =
 abbrev AreAmong : List Tuple → List Row → Type 0
 AreAmong index rows = AllByRecursion (λ (r : Row). has index r.key ≡ true) rows
 
-found_keeps : (index : List Tuple) (text : Language) (at : Span) (key : Tuple) (m : Option Member) (t u : Table) → IsParameterOf index t → has index key ≡ true → at_key t key ≡ None → with_found text at key m t ≡ Ok u → IsParameterOf index u
+found_keeps : (index : List Tuple) (text : Language) (at : Span) (key : Tuple) (m : Option Member) (t u : Table) → IsParameterOf index t → has index key ≡ true → at_key t key ≡ None → insert_value text at key m t ≡ Ok u → IsParameterOf index u
 found_keeps index text at key None t u h there free e = subst (IsParameterOf index) (is_ok t u e) h
 found_keeps index text at key (Some m) t u h there free e = value_more index text at key m t u h there free e
 
@@ -144,10 +144,10 @@ key_keeps : (w : World) (at : Span) (x : Source) (index : List Tuple) (r : Row) 
 key_keeps w at x index r t u there h e = go (at_key t r.key) refl e
   where
     go : (o : Option Member) → at_key t r.key ≡ o
-        → (if is_some o then (let a : Outcome Table = Ok t in a) else and_then (from_source w r.scope x) (λ m. with_found (source_text x.1) (source_at at x) r.key m t)) ≡ Ok u → IsParameterOf index u
+        → (if is_some o then (let a : Outcome Table = Ok t in a) else and_then (from_source w r.scope x) (λ m. insert_value (source_text x.1) (source_at at x) r.key m t)) ≡ Ok u → IsParameterOf index u
     go (Some m) i k = subst (IsParameterOf index) (is_ok t u k) h
     go None i k =
-        then_ok (from_source w r.scope x) (λ m. with_found (source_text x.1) (source_at at x) r.key m t) u k (λ m j l.
+        then_ok (from_source w r.scope x) (λ m. insert_value (source_text x.1) (source_at at x) r.key m t) u k (λ m j l.
         found_keeps index (source_text x.1) (source_at at x) r.key m t u h there i l)
 
 keys_keep : (w : World) (at : Span) (x : Source) (index : List Tuple) (rows : List Row) (t u : Table) → AreAmong index rows → IsParameterOf index t → each (with_key w at x) rows t ≡ Ok u → IsParameterOf index u

@@ -5,24 +5,24 @@ use Rattle.std.proofs.Common.{refl, ap, ◌∙◌, sym, arith}
 use Rattle.std.proofs.lemmas.Slice.Eq.{bytes_eq-Decides}
 use Rattle.net_sets.specs.Names.{named}
 use Rattle.net_expr.specs.Worlds.{Name}
-use Rattle.net_eval.specs.Names.{Declared, found_after}
+use Rattle.net_eval.specs.Names.{Declared, index_after}
 use Rattle.net_eval.specs.Consistent.{or_else, IsConsistent}
 
 at_end : (i : ℕ) (ds : Declared) (n : Name) (s : Bool) (q : Name)
-    → found_after i (ds ++ (n, s) ∷ []) q ≡ or_else (found_after i ds q) (if bytes_eq n q then Some (i + length ds, s) else None)
+    → index_after i (ds ++ (n, s) ∷ []) q ≡ or_else (index_after i ds q) (if bytes_eq n q then Some (i + length ds, s) else None)
 at_end i [] n s q = ap (λ k. if bytes_eq n q then Some (k, s) else None) (omega arith)
 at_end i (x ∷ ds) n s q = step (bytes_eq x.0 q) (at_end (i + 1) ds n s q)
   where
-    step : (b : Bool) → found_after (i + 1) (ds ++ (n, s) ∷ []) q ≡ or_else (found_after (i + 1) ds q) (if bytes_eq n q then Some (i + 1 + length ds, s) else None)
-        → (if b then Some (i, x.1) else found_after (i + 1) (ds ++ (n, s) ∷ []) q) ≡ or_else (if b then Some (i, x.1) else found_after (i + 1) ds q) (if bytes_eq n q then Some (i + length (x ∷ ds), s) else None)
+    step : (b : Bool) → index_after (i + 1) (ds ++ (n, s) ∷ []) q ≡ or_else (index_after (i + 1) ds q) (if bytes_eq n q then Some (i + 1 + length ds, s) else None)
+        → (if b then Some (i, x.1) else index_after (i + 1) (ds ++ (n, s) ∷ []) q) ≡ or_else (if b then Some (i, x.1) else index_after (i + 1) ds q) (if bytes_eq n q then Some (i + length (x ∷ ds), s) else None)
     step true more = refl
-    step false more = more ∙ ap (λ k. or_else (found_after (i + 1) ds q) (if bytes_eq n q then Some (k, s) else None)) (omega arith)
+    step false more = more ∙ ap (λ k. or_else (index_after (i + 1) ds q) (if bytes_eq n q then Some (k, s) else None)) (omega arith)
 
 pub kept_more : (ds : Declared) (n : Name) (s : Bool) (place : ℕ) (old new : List (Name × (ℕ × Bool))) → IsConsistent ds old → place ≡ length ds
     → ((q : Name) → named new q ≡ or_else (named old q) (if bytes_eq n q then Some (place, s) else None)) → IsConsistent (ds ++ (n, s) ∷ []) new
 kept_more ds n s place old new kept last update = record {
   reports = λ q. update q ∙ ap (λ o. or_else o (if bytes_eq n q then Some (place, s) else None)) (kept.reports q)
-      ∙ ap (λ k. or_else (found_after 0 ds q) (if bytes_eq n q then Some (k, s) else None)) here ∙ sym (at_end 0 ds n s q);
+      ∙ ap (λ k. or_else (index_after 0 ds q) (if bytes_eq n q then Some (k, s) else None)) here ∙ sym (at_end 0 ds n s q);
 }
   where
     here : place ≡ 0 + length ds

@@ -35,7 +35,7 @@ use Rattle.net_eval.specs.Cells.{tuple_in, member_in}
 use Rattle.net_eval.specs.SetData.{begins_at, whole_groups, cut, leading_size, agrees, doubled}
 use Rattle.net_eval.specs.Restrictions.{relation, ordered, compared, related, holding, restricted_by, restricted_in, restricted}
 use Rattle.net_eval.specs.Rows.{Table, Taken, All, with_value, with_row, with_cell, with_group, pair_of, across, with_line, has_two, shaped, with_rows, taken, either, with_statement}
-use Rattle.net_eval.specs.BoundParameters.{is_wanted, body_value, phrase_value, takes_texts, single_key, keys_in, key_size, span_or, index_list, Source, source, source_text, place_in, source_at, member_by, from_source, with_found, with_key, is_number, cell_of, no_text, fit_kind, keys_with, fit_value, fit_row, fit_values, untaken, data_of, valued_by, values, filled, with_data, bound_parameter}
+use Rattle.net_eval.specs.BoundParameters.{is_wanted, body_value, phrase_value, takes_texts, single_key, keys_in, key_size, span_or, index_list, Source, source, source_text, place_in, source_at, member_by, from_source, insert_value, with_key, is_number, cell_of, no_text, fit_kind, keys_with, fit_value, fit_row, fit_values, untaken, data_of, valued_by, values, fill_table, with_data, bound_parameter}
 use Rattle.net_sets.specs.Sets.{place_of}
 use Rattle.net_fault.specs.Places.{Places, Finds}
 use Rattle.net_tree.specs.Standing.{Stands, BracesStand, IndexingHasSpans, BodyHasSpans, PhrasesHaveSpans}
@@ -195,7 +195,7 @@ module _ (P : Places) where
   finds_member_by w s None (Some c) h = tt
   finds_member_by w s None None h = tt
 
-  finds_with_found : (text : Language) (at : Span) → P text at → (key : Tuple) (m : Option Member) (t : Table) → Finds P (with_found text at key m t)
+  finds_with_found : (text : Language) (at : Span) → P text at → (key : Tuple) (m : Option Member) (t : Table) → Finds P (insert_value text at key m t)
   finds_with_found text at h key None t = tt
   finds_with_found text at h key (Some m) t = finds_with_value text at h key m t
 
@@ -257,7 +257,7 @@ module _ (P : Places) where
   chosen_stands None None None h k j = tt
 
   finds_filled : (w : World) (widths : List ℕ) (name : Token) → P Model name.span → (ps : List Phrase) → PhrasesHaveSpans (P Model) ps → (ms : List NamedData) → MentionsStand (P Data) ms
-      → (n : Option ℕ) (rows : List Row) (index : List Tuple) → Finds P (filled w widths name ps ms n rows index)
+      → (n : Option ℕ) (rows : List Row) (index : List Tuple) → Finds P (fill_table w widths name ps ms n rows index)
   finds_filled w widths name h ps k ms j n rows index =
       finds_after P AllStand (data_of widths n index (is_some (phrase_value gives.Becomes ps)) ms) _ (gives_said_of widths n index (is_some (phrase_value gives.Becomes ps)) ms j) (λ all i.
       finds_values w name h n ps k (source (phrase_value gives.Becomes ps) all.1 (phrase_value gives.Default ps))
@@ -268,4 +268,4 @@ module _ (P : Places) where
   finds_bound_parameter w widths name h b g ps k ms j =
       finds_then P (keys_in w b) _ (finds_keys_in w b g) (λ keys.
       finds_then P (index_list (span_or name.span b) keys.rows) _ (finds_index_list (span_or name.span b) (span_or_stands name.span h b g) keys.rows) (λ index.
-      finds_then P (filled w widths name ps ms (key_size b keys) keys.rows index) _ (finds_filled w widths name h ps k ms j (key_size b keys) keys.rows index) (λ t. tt)))
+      finds_then P (fill_table w widths name ps ms (key_size b keys) keys.rows index) _ (finds_filled w widths name h ps k ms j (key_size b keys) keys.rows index) (λ t. tt)))

@@ -32,7 +32,7 @@ use Rattle.net_meaning.proofs.Erased.{phrase_none}
 use Rattle.net_eval.specs.declared.given.NamedData.{NamedData}
 use Rattle.net_eval.specs.declared.param.Gives.TheVariants as gives
 use Rattle.net_eval.specs.BoundParameters as bound
-use Rattle.net_eval.specs.BoundParameters.{single_key, keys_in, key_size, span_or, index_list, source, source_text, source_at, with_key, fit_values, untaken, data_of, valued_by, filled, with_data, bound_parameter, keys_with}
+use Rattle.net_eval.specs.BoundParameters.{single_key, keys_in, key_size, span_or, index_list, source, source_text, source_at, with_key, fit_values, untaken, data_of, valued_by, fill_table, with_data, bound_parameter, keys_with}
 use Rattle.net_eval.specs.Cells.{tuple_in}
 use Rattle.net_eval.specs.DataFor.{data_for}
 use Rattle.net_eval.specs.DataValues.{HaveValues, NamesNoSet}
@@ -130,7 +130,7 @@ record IsBound (w : World) (ws : List ℕ) (name : Token) (b : Option Braces) (p
   pub all : All
   pub said : data_of ws (key_size b keys) listed (is_some (bound.phrase_value gives.Becomes ps)) ms ≡ Ok all
   pub table : Table
-  pub fill : filled w ws name ps ms (key_size b keys) keys.rows listed ≡ Ok table
+  pub fill : fill_table w ws name ps ms (key_size b keys) keys.rows listed ≡ Ok table
   pub holds : bound.values w name (key_size b keys) ps (source (bound.phrase_value gives.Becomes ps) all.1 (bound.phrase_value gives.Default ps)) keys.rows all.0 ≡ Ok table
   pub entry : x ≡ Parameter (key_size b keys) listed table
 
@@ -138,7 +138,7 @@ binds : (w : World) (ws : List ℕ) (name : Token) (b : Option Braces) (ps : Lis
 binds w ws name b ps ms x h =
     then_ok (keys_in w b) _ x h (λ k i o.
     then_ok (index_list (span_or name.span b) k.rows) (with_data w ws name ps ms (key_size b k) k.rows) x o (λ index j l.
-    then_ok (filled w ws name ps ms (key_size b k) k.rows index) (λ t. Ok (Parameter (key_size b k) index t)) x l (λ t g d.
+    then_ok (fill_table w ws name ps ms (key_size b k) k.rows index) (λ t. Ok (Parameter (key_size b k) index t)) x l (λ t g d.
     then_ok (data_of ws (key_size b k) index (is_some (bound.phrase_value gives.Becomes ps)) ms)
     (λ all. bound.values w name (key_size b k) ps (source (bound.phrase_value gives.Becomes ps) all.1 (bound.phrase_value gives.Default ps)) k.rows all.0) t g (λ all p q.
     record { keys = k; indexed = i; listed = index; is_list = j; all = all; said = p; table = t; fill = g; holds = q; entry = sym (is_ok (Parameter (key_size b k) index t) x d) }))))

@@ -31,7 +31,7 @@ use Rattle.net_eval.specs.declared.given.Given.{Given}
 use Rattle.net_eval.specs.declared.given.Given.TheVariants as given
 use Rattle.net_eval.specs.declared.given.NamedData.{NamedData}
 use Rattle.net_eval.specs.declared.param.Gives.TheVariants as gives
-use Rattle.net_eval.specs.BoundParameters.{single_key, keys_in, key_size, span_or, index_list, phrase_value, Source, source, source_text, source_at, from_source, with_found, with_key, fit_values, untaken, data_of, valued_by, values, filled, with_data, bound_parameter}
+use Rattle.net_eval.specs.BoundParameters.{single_key, keys_in, key_size, span_or, index_list, phrase_value, Source, source, source_text, source_at, from_source, insert_value, with_key, fit_values, untaken, data_of, valued_by, values, fill_table, with_data, bound_parameter}
 use Rattle.net_eval.specs.Cells.{member_in, tuple_in}
 use Rattle.net_fault.specs.Outcomes.{Outcome, and_then, each}
 use Rattle.net_eval.specs.ParameterValues.{rows_across, rows_given, row_value, values_given, default_given, source_of, IsValue, IsValueAt, IsValued}
@@ -183,7 +183,7 @@ value_kept : (o found : Option Member) (later : Outcome (Option Member)) → fou
 value_kept None found later e k = k refl
 value_kept (Some m) found later e k = e
 
-found_one : (w : World) (text : Language) (at : Span) (x : Source) (r : Row) (m : Option Member) (t u : Table) → at_key t r.key ≡ None → from_source w r.scope x ≡ Ok m → with_found text at r.key m t ≡ Ok u → IsOneMore w x r t u
+found_one : (w : World) (text : Language) (at : Span) (x : Source) (r : Row) (m : Option Member) (t u : Table) → at_key t r.key ≡ None → from_source w r.scope x ≡ Ok m → insert_value text at r.key m t ≡ Ok u → IsOneMore w x r t u
 found_one w text at x r None t u free gives e =
     let same = is_ok t u e in
     record {
@@ -201,7 +201,7 @@ key_one : (w : World) (at : Span) (x : Source) (r : Row) (t u : Table) → with_
 key_one w at x r t u e = go (at_key t r.key) refl e
   where
     go : (o : Option Member) → at_key t r.key ≡ o
-        → (if is_some o then (let a : Outcome Table = Ok t in a) else and_then (from_source w r.scope x) (λ m. with_found (source_text x.1) (source_at at x) r.key m t)) ≡ Ok u → IsOneMore w x r t u
+        → (if is_some o then (let a : Outcome Table = Ok t in a) else and_then (from_source w r.scope x) (λ m. insert_value (source_text x.1) (source_at at x) r.key m t)) ≡ Ok u → IsOneMore w x r t u
     go (Some m) i k =
         let same = is_ok t u k in
         record {
@@ -209,7 +209,7 @@ key_one w at x r t u e = go (at_key t r.key) refl e
           others = λ key apart. ap (λ z. at_key z key) (sym same);
         }
     go None i k =
-        then_ok (from_source w r.scope x) (λ m. with_found (source_text x.1) (source_at at x) r.key m t) u k (λ m j l.
+        then_ok (from_source w r.scope x) (λ m. insert_value (source_text x.1) (source_at at x) r.key m t) u k (λ m j l.
         found_one w (source_text x.1) (source_at at x) x r m t u i j l)
 
 -- each key has its value, and those of others are as they were
@@ -256,20 +256,20 @@ keys_once w None k sets e = subst (λ (z : Keys). IsDistinct same_tuple (keys_of
 keys_once w (Some b) k sets e = have_distinct_keys w [] b k (keeps_sets w sets) e
 
 pub table_valued : (w : World) (ws : List ℕ) (name : Token) (ps : List Phrase) (ms : List NamedData) (n : Option ℕ) (rows : List Row) (index : List Tuple) (t : Table) → IsDistinct same_tuple (keys_of rows)
-    → filled w ws name ps ms n rows index ≡ Ok t → AllByRecursion (IsValueAt w ps (values_given (key_count n) ms) ms t) rows
+    → fill_table w ws name ps ms n rows index ≡ Ok t → AllByRecursion (IsValueAt w ps (values_given (key_count n) ms) ms t) rows
 table_valued w ws name ps ms n rows index t once e =
     then_ok (data_of ws n index (is_some (phrase_value gives.Becomes ps)) ms) (λ all. values w name n ps (source (phrase_value gives.Becomes ps) all.1 (phrase_value gives.Default ps)) rows all.0) t e (λ all i j.
     let adds = statements_add ws n index (key_count n) (is_some (phrase_value gives.Becomes ps)) ms untaken all i in
-    let filled = values_filled w name n ps (source (phrase_value gives.Becomes ps) all.1 (phrase_value gives.Default ps)) rows all.0 t once j in
+    let fill_table = values_filled w name n ps (source (phrase_value gives.Becomes ps) all.1 (phrase_value gives.Default ps)) rows all.0 t once j in
     let by : (given : Table) (x : Source) → Type 0 = λ given x. AllByRecursion (λ (r : Row). IsValue (at_key given r.key) (from_source w r.scope x) (at_key t r.key)) rows in
     subst (λ x. by (values_given (key_count n) ms) x) (ap (λ c. source (phrase_value gives.Becomes ps) c (phrase_value gives.Default ps)) adds.default)
-    (subst (λ given. by given (source (phrase_value gives.Becomes ps) all.1 (phrase_value gives.Default ps))) adds.values filled.each))
+    (subst (λ given. by given (source (phrase_value gives.Becomes ps) all.1 (phrase_value gives.Default ps))) adds.values fill_table.each))
 
 pub are_valued : (w : World) (ws : List ℕ) (name : Token) (b : Option Braces) (ps : List Phrase) (ms : List NamedData) (e : Entry) → HasSets w → bound_parameter w ws name b ps ms ≡ Ok e → IsValued w b ps ms e
 are_valued w ws name b ps ms e sets h =
     then_ok (keys_in w b) _ e h (λ k i o.
     then_ok (index_list (span_or name.span b) k.rows) (with_data w ws name ps ms (key_size b k) k.rows) e o (λ index j l.
-    then_ok (filled w ws name ps ms (key_size b k) k.rows index) (λ t. Ok (Parameter (key_size b k) index t)) e l (λ t g d.
+    then_ok (fill_table w ws name ps ms (key_size b k) k.rows index) (λ t. Ok (Parameter (key_size b k) index t)) e l (λ t g d.
     record {
       keys = k;
       indexed = i;

@@ -121,14 +121,14 @@ member_by w s None None = Ok None
 abbrev pub from_source : World → Scope → Source → Outcome (Option Member)
 from_source w s x = member_by w s x.0 x.1
 
-abbrev pub with_found : Language → Span → Tuple → Option Member → Table → Outcome Table
-with_found text at key None t = Ok t
-with_found text at key (Some m) t = with_value text at key m t
+abbrev pub insert_value : Language → Span → Tuple → Option Member → Table → Outcome Table
+insert_value text at key None t = Ok t
+insert_value text at key (Some m) t = with_value text at key m t
 
 -- a key without a value gets one from the source
 abbrev pub with_key : World → Span → Source → Row → Table → Outcome Table
 with_key w at x r t =
-    if is_some (at_key t r.key) then Ok t else and_then (from_source w r.scope x) (λ m. with_found (source_text x.1) (source_at at x) r.key m t)
+    if is_some (at_key t r.key) then Ok t else and_then (from_source w r.scope x) (λ m. insert_value (source_text x.1) (source_at at x) r.key m t)
 
 abbrev pub is_number : Member → Bool
 is_number (Number n) = true
@@ -180,13 +180,13 @@ abbrev pub values : World → Token → Option ℕ → List Phrase → Source �
 values w name n ps x rows taken = and_then (each (with_key w name.span x) rows taken.0) (valued_by w name n ps x rows taken)
 
 -- the table: the values from the data, then the missing values
-abbrev pub filled : World → List ℕ → Token → List Phrase → List NamedData → Option ℕ → List Row → List Tuple → Outcome Table
-filled w widths name ps ms n rows index =
+abbrev pub fill_table : World → List ℕ → Token → List Phrase → List NamedData → Option ℕ → List Row → List Tuple → Outcome Table
+fill_table w widths name ps ms n rows index =
     and_then (data_of widths n index (is_some (phrase_value gives.Becomes ps)) ms) (λ all.
     values w name n ps (source (phrase_value gives.Becomes ps) all.1 (phrase_value gives.Default ps)) rows all.0)
 
 abbrev pub with_data : World → List ℕ → Token → List Phrase → List NamedData → Option ℕ → List Row → List Tuple → Outcome Entry
-with_data w widths name ps ms n rows index = and_then (filled w widths name ps ms n rows index) (λ t. Ok (Parameter n index t))
+with_data w widths name ps ms n rows index = and_then (fill_table w widths name ps ms n rows index) (λ t. Ok (Parameter n index t))
 
 abbrev pub bound_parameter : World → List ℕ → Token → Option Braces → List Phrase → List NamedData → Outcome Entry
 bound_parameter w widths name b ps ms =

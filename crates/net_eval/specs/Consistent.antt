@@ -2,7 +2,7 @@
 use Rattle.std.specs.Prelude.{◌≡◌, ℕ, Bool, Option, None, Some, List}
 use Rattle.net_sets.specs.Names.{named}
 use Rattle.net_expr.specs.Worlds.{Name}
-use Rattle.net_eval.specs.Names.{found_after}
+use Rattle.net_eval.specs.Names.{index_after}
 
 -- the first value if there is one, else the second
 abbrev pub or_else : {A : Type 0} → Option A → Option A → Option A
@@ -10,4 +10,4 @@ or_else None b = b
 or_else (Some a) b = Some a
 
 pub record IsConsistent (ns : List (Name × Bool)) (places : List (Name × (ℕ × Bool))) : Type 0 where
-  pub reports : (name : Name) → named places name ≡ found_after 0 ns name
+  pub reports : (name : Name) → named places name ≡ index_after 0 ns name

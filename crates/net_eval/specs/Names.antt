@@ -23,9 +23,9 @@ declared (arc w n b ps e ∷ ds) = declared ds
 declared (objective w n p e ∷ ds) = declared ds
 
 -- the index of a name plus i, and whether it is a set
-abbrev pub found_after : ℕ → Declared → Name → Option (ℕ × Bool)
-found_after i [] name = None
-found_after i (d ∷ ds) name = if bytes_eq d.0 name then Some (i, d.1) else found_after (i + 1) ds name
+abbrev pub index_after : ℕ → Declared → Name → Option (ℕ × Bool)
+index_after i [] name = None
+index_after i (d ∷ ds) name = if bytes_eq d.0 name then Some (i, d.1) else index_after (i + 1) ds name
 
 -- the index of a set, or of a parameter
 abbrev pub as_wanted : Bool → Option (ℕ × Bool) → Option ℕ
@@ -39,4 +39,4 @@ at_place t (Some i) = Ok i
 
 -- the index of the set or the parameter that a token in the data names
 abbrev pub target : Declared → Bool → Token → Outcome ℕ
-target ds is_set t = at_place t (as_wanted is_set (found_after 0 ds t.text))
+target ds is_set t = at_place t (as_wanted is_set (index_after 0 ds t.text))

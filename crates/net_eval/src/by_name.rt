@@ -7,7 +7,7 @@ ghost use Rattle.net_eval.specs.DataByName as named_data;
 ghost use Rattle.net_fault.specs.Outcomes.{Refines, Updates};
 
 use crate::cell::Cell;
-use crate::flattened::Flattened;
+use crate::flattened::StatementCells;
 use crate::given::{DataFor, Given, Grid, Groups, Line, NamedData};
 use crate::names::Names;
 use net_data::{
@@ -261,7 +261,7 @@ fn in_columns<'m, 't, 's>(
 
 fn in_statement<'m, 't, 's>(
     names: &Names<'s>,
-    sheet: &'m Flattened<'m, 't, 's>,
+    sheet: &'m StatementCells<'m, 't, 's>,
     all: &mut Vec<DataFor<'m, 't, 's>>,
 ) -> Result<(), Fault>
     ensures { Updates (named_data.in_statement names.now sheet.entry.now all.old.items) result all.new.items }
@@ -298,7 +298,7 @@ fn no_data<'m, 't, 's>(
 pub(crate) fn data_by_name<'m, 't, 's>(
     alloc: Global,
     names: &Names<'s>,
-    statements: &'m [Flattened<'m, 't, 's>],
+    statements: &'m [StatementCells<'m, 't, 's>],
 ) -> Result<Items<DataFor<'m, 't, 's>>, Fault>
     ensures { Refines (named_data.data_by_name names.now statements.entry.now) result }
 {

@@ -55,8 +55,8 @@ fn factors<'a, 's>(expr: &'a Expr<'s>) -> Option<(&'a Expr<'s>, &'a Expr<'s>)>
             }
         }
         Expr::Leaf(_) | Expr::Indexed(_) | Expr::Tuple(_) | Expr::Negated(_) => None,
-        Expr::Braced(_) | Expr::Signed(_) | Expr::Reduced(_, _) => None,
-        Expr::Choice(_, _, _) | Expr::Net(_) => None,
+        Expr::Braced(_) | Expr::Signed(_) | Expr::Reduction(_, _) => None,
+        Expr::If(_, _, _) | Expr::Net(_) => None,
     }
 }
 

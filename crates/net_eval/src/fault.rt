@@ -1,7 +1,7 @@
 //! Building errors about declared sets and parameters.
 
 ghost use Rattle.std.specs.Prelude.{◌≡◌, IfOk};
-ghost use Rattle.net_fault.specs.Outcomes.{found};
+ghost use Rattle.net_fault.specs.Outcomes.{diagnostic_at};
 ghost use Rattle.net_fault.specs.declared.detail.Detail.TheVariants.{Reported};
 ghost use Rattle.net_fault.specs.declared.fault.Fault.TheVariants.{At};
 
@@ -18,7 +18,7 @@ pub(crate) fn reject_name(
     at: Span,
     name: &Excerpt<'_>,
 ) -> Result<Fault, AllocError>
-    ensures { IfOk result (λ f. f ≡ At (found text error_code at (Reported name.now))) }
+    ensures { IfOk result (λ f. f ≡ At (diagnostic_at text error_code at (Reported name.now))) }
 {
     let detail = Detail::of_name(alloc, name)?;
     Ok(Fault::of_text(text, error_code, at, detail))

@@ -11,13 +11,13 @@ use std::marker::Model;
 
 /// A statement with the tokens of its heading and its cells; contracts see only the statement.
 #[derive(Drop)]
-pub(crate) struct Flattened<'m, 't, 's> {
+pub(crate) struct StatementCells<'m, 't, 's> {
     statement: &'m Statement<'t, 's>,
     words: Items<Cell<'t, 's>>,
     cells: Items<Cell<'t, 's>>,
 }
 
-impl<'m, 't, 's> Model for Flattened<'m, 't, 's> {
+impl<'m, 't, 's> Model for StatementCells<'m, 't, 's> {
     ghost use Rattle.std.specs.Prelude.{◌≡◌};
     ghost use Rattle.net_data.specs.declared.statement.Statement.{Statement};
     ghost use Rattle.net_eval.specs.DataByName.{heading, body, given_cells};
@@ -91,14 +91,14 @@ fn body_of<'t, 's>(
     }
 }
 
-impl<'m, 't, 's> Flattened<'m, 't, 's> {
+impl<'m, 't, 's> StatementCells<'m, 't, 's> {
     fn new(
         alloc: Global,
         statement: &'m Statement<'t, 's>,
-    ) -> Result<Flattened<'m, 't, 's>, AllocError>
+    ) -> Result<StatementCells<'m, 't, 's>, AllocError>
         ensures { IfOk result (λ l. l ≡ statement.entry.now) }
     {
-        Ok(Flattened {
+        Ok(StatementCells {
             statement,
             words: heading_of(alloc, statement)?,
             cells: body_of(alloc, statement)?,
@@ -127,15 +127,15 @@ impl<'m, 't, 's> Flattened<'m, 't, 's> {
 }
 
 /// Flattens all statements. Fails only if memory runs out.
-pub(crate) fn laid_out<'m, 't, 's>(
+pub(crate) fn index_statements<'m, 't, 's>(
     alloc: Global,
     statements: &'m [Statement<'t, 's>],
-) -> Result<Items<Flattened<'m, 't, 's>>, AllocError>
+) -> Result<Items<StatementCells<'m, 't, 's>>, AllocError>
     ensures { IfOk result (λ all. all ≡ statements.entry.now) }
 {
     let mut all = Vec::new(alloc);
     for statement in statements {
-        all.push(Flattened::new(alloc, statement)?)?;
+        all.push(StatementCells::new(alloc, statement)?)?;
     }
     Ok(Items::new(all))
 }

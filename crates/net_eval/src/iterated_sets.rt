@@ -91,12 +91,12 @@ fn read<'s>(iterated_sets: &mut IteratedSets<'s>, expr: &Expr<'s>) -> Result<(),
         Expr::Negated(parts) => read(iterated_sets, &parts.get().2),
         Expr::Braced(braces) => read_braces(iterated_sets, braces.get()),
         Expr::Signed(parts) => read(iterated_sets, &parts.get().1),
-        Expr::Reduced(parts, body) => read_reduced(iterated_sets, &parts.get().1, body.get()),
+        Expr::Reduction(parts, body) => read_reduced(iterated_sets, &parts.get().1, body.get()),
         Expr::Chain(_, operands) => {
             let series = operands.get();
             read_chain(iterated_sets, &series.first, series.more.as_slice())
         }
-        Expr::Choice(condition, branch, otherwise) => read_choice(
+        Expr::If(condition, branch, otherwise) => read_choice(
             iterated_sets,
             &condition.get().value,
             &branch.get().value,

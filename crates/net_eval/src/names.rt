@@ -92,7 +92,7 @@ impl<'s> Names<'s> {
 
     /// Returns the index of a name, and whether it is a set.
     fn find(&self, name: &Excerpt<'s>) -> Option<(usize, bool)>
-        ensures { result ≡ names.found_after 0 self.now name.now }
+        ensures { result ≡ names.index_after 0 self.now name.now }
     {
         self.places.get(name).copied()
     }

@@ -9,7 +9,7 @@ ghost use Rattle.net_eval.specs.declared.param.Gives.TheVariants as gives;
 ghost use Rattle.net_fault.specs.Outcomes.{Refines, Updates};
 
 use crate::cell::Cell;
-use crate::earlier::Earlier;
+use crate::earlier::BindingEnv;
 use crate::given::NamedData;
 use crate::indexing::{index_list, key_size, keys_in, span_or};
 use crate::param_data::data_of;
@@ -239,14 +239,14 @@ fn parameter_entry<'s>(
 /// Adds the values from the data to an empty table, then the missing values.
 fn filled<'s>(
     alloc: Global,
-    earlier: &Earlier<'_, 's>,
+    earlier: &BindingEnv<'_, 's>,
     parameter: &Parameter<'_, 's>,
     named_data: &[NamedData<'_, '_, 's>],
     rows: &[Row<'s>],
     values: &mut Values<'s>,
 ) -> Result<(), Fault>
     requires { values.old ≡ ([], []) }
-    ensures { Updates (bound.filled earlier.now.env earlier.now.widths.now parameter.now.name.now (map phrase_of parameter.now.phrases.now)
+    ensures { Updates (bound.fill_table earlier.now.env earlier.now.widths.now parameter.now.name.now (map phrase_of parameter.now.phrases.now)
         named_data.now parameter.now.keys rows.now parameter.now.index.now) result values.new.0 }
 {
     let is_assigned = phrase_value(Gives::Becomes, parameter.phrases).is_some();
@@ -264,7 +264,7 @@ fn filled<'s>(
 
 fn with_data<'s>(
     alloc: Global,
-    earlier: &Earlier<'_, 's>,
+    earlier: &BindingEnv<'_, 's>,
     parameter: &Parameter<'_, 's>,
     named_data: &[NamedData<'_, '_, 's>],
     rows: &[Row<'s>],
@@ -281,7 +281,7 @@ fn with_data<'s>(
 /// restrictions in its phrases.
 pub(crate) fn bound_parameter<'s>(
     alloc: Global,
-    earlier: &Earlier<'_, 's>,
+    earlier: &BindingEnv<'_, 's>,
     name: &Token<'s>,
     braces: &Option<Braces<'s>>,
     phrases: &[Phrase<'s>],

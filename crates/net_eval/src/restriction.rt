@@ -2,7 +2,7 @@
 
 ghost use Rattle.std.specs.Prelude.{◌≡◌, IfOk, map};
 ghost use Rattle.net_tree.specs.View.{tree, body_of, phrase_of};
-ghost use Rattle.net_fault.specs.Outcomes.{Refines, found};
+ghost use Rattle.net_fault.specs.Outcomes.{Refines, diagnostic_at};
 ghost use Rattle.net_fault.specs.declared.error_code.ErrorCode.TheVariants.{Restriction};
 ghost use Rattle.net_fault.specs.declared.fault.Fault.TheVariants.{At};
 ghost use Rattle.net_fault.specs.declared.language.Language.TheVariants.{Model};
@@ -156,7 +156,7 @@ pub(crate) struct KeyedValue<'a, 's> {
 /// Builds the error for a value that a phrase does not allow; the parameter with the key is its
 /// detail. Fails only if memory runs out.
 fn reject_value(alloc: Global, at: Span, keyed: &KeyedValue<'_, '_>) -> Result<Fault, AllocError>
-    ensures { IfOk result (λ f. f ≡ At (found Model Restriction at (worlds.reference keyed.now.name.now keyed.now.keys keyed.now.row.now.key))) }
+    ensures { IfOk result (λ f. f ≡ At (diagnostic_at Model Restriction at (worlds.reference keyed.now.name.now keyed.now.keys keyed.now.row.now.key))) }
 {
     let detail = reported_reference(alloc, keyed.name, keyed.keys, &keyed.row.key)?;
     Ok(Fault::of_text(Language::Model, ErrorCode::Restriction, at, detail))

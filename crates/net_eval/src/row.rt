@@ -8,7 +8,7 @@ ghost use Rattle.net_fault.specs.declared.language.Language.TheVariants.{Data};
 ghost use Rattle.net_sets.specs.Sets.{at_key};
 ghost use Rattle.net_expr.specs.Worlds as worlds;
 ghost use Rattle.net_eval.specs.Rows as rows;
-ghost use Rattle.net_fault.specs.Outcomes.{Updates, each, bare, found};
+ghost use Rattle.net_fault.specs.Outcomes.{Updates, each, bare, diagnostic_at};
 
 use crate::cell::{Cell, tuple_in};
 use crate::given::Line;
@@ -77,7 +77,7 @@ fn reject_row(
     at: Span,
     key: &Tuple<'_>,
 ) -> Result<Fault, AllocError>
-    ensures { IfOk result (λ f. f ≡ At (found Data error_code at (worlds.reference parameter.now.word.now.text parameter.now.keys key.now))) }
+    ensures { IfOk result (λ f. f ≡ At (diagnostic_at Data error_code at (worlds.reference parameter.now.word.now.text parameter.now.keys key.now))) }
 {
     let name = &parameter.word.token().text;
     let detail = reported_reference(alloc, name, parameter.keys, key)?;

@@ -11,10 +11,10 @@ ghost use Rattle.net_eval.specs.declared.given.Given.TheVariants as given;
 ghost use Rattle.net_tree.specs.View.{phrase_of};
 ghost use Rattle.net_eval.specs.BoundSets as bound;
 ghost use Rattle.net_eval.specs.SetData as set_data;
-ghost use Rattle.net_fault.specs.Outcomes.{Refines, Updates, each, found};
+ghost use Rattle.net_fault.specs.Outcomes.{Refines, Updates, each, diagnostic_at};
 
 use crate::cell::{Cell, tuple_in};
-use crate::earlier::Earlier;
+use crate::earlier::BindingEnv;
 use crate::fault::reject_name;
 use crate::given::{Given, Groups, NamedData};
 use crate::group::{all_of_size, begins_at, cut, keys_of, whole_groups};
@@ -54,7 +54,7 @@ pub(crate) fn agrees(word: &Cell<'_, '_>, reported: usize, own: usize) -> Result
 /// Builds the error for a statement that repeats earlier data for a name. Fails only if memory runs
 /// out.
 pub(crate) fn doubled(alloc: Global, word: &Cell<'_, '_>) -> Result<Fault, AllocError>
-    ensures { IfOk result (λ f. f ≡ At (found InData DoubleValue word.now.span (Reported word.now.text))) }
+    ensures { IfOk result (λ f. f ≡ At (diagnostic_at InData DoubleValue word.now.span (Reported word.now.text))) }
 {
     let token = word.token();
     reject_name(
@@ -167,10 +167,10 @@ fn members_of<'s>(
 }
 
 /// Returns whether the set already has a value from `:=` or an earlier statement.
-fn is_given(is_assigned: bool, found: &Option<Boxed<TupleSet<'_>>>) -> bool
-    ensures { result ≡ (is_assigned || is_some found.now) }
+fn is_given(is_assigned: bool, diagnostic_at: &Option<Boxed<TupleSet<'_>>>) -> bool
+    ensures { result ≡ (is_assigned || is_some diagnostic_at.now) }
 {
-    is_assigned || found.is_some()
+    is_assigned || diagnostic_at.is_some()
 }
 
 /// Adds a statement with the members of a set, which must not have a value yet.
@@ -180,12 +180,12 @@ fn with_statement<'s>(
     dimension: usize,
     is_assigned: bool,
     named: &NamedData<'_, '_, 's>,
-    found: Option<Boxed<TupleSet<'s>>>,
+    diagnostic_at: Option<Boxed<TupleSet<'s>>>,
 ) -> Result<Option<Boxed<TupleSet<'s>>>, Fault>
-    ensures { Refines (set_data.with_statement widths.now dimension is_assigned named.now found.entry) result }
+    ensures { Refines (set_data.with_statement widths.now dimension is_assigned named.now diagnostic_at.entry) result }
 {
     let rows = given_rows(alloc, widths, dimension, named)?;
-    if is_given(is_assigned, &found) {
+    if is_given(is_assigned, &diagnostic_at) {
         Err(doubled(alloc, &named.word)?)
     } else {
         Ok(Some(members_of(alloc, &named.word, rows.as_slice())?))
@@ -202,11 +202,18 @@ fn given_set<'s>(
 ) -> Result<Option<Boxed<TupleSet<'s>>>, Fault>
     ensures { Refines (set_data.given_set widths.now dimension is_assigned named_data.now) result }
 {
-    let mut found = None;
+    let mut diagnostic_at = None;
     for named in named_data {
-        found = with_statement(alloc, widths, dimension, is_assigned, named, found)?;
+        diagnostic_at = with_statement(
+            alloc,
+            widths,
+            dimension,
+            is_assigned,
+            named,
+            diagnostic_at,
+        )?;
     }
-    Ok(found)
+    Ok(diagnostic_at)
 }
 
 /// Returns the set of `:=`, or else the set from the data.
@@ -214,11 +221,11 @@ fn one_of<'s>(
     alloc: Global,
     name: &Token<'s>,
     assigned: Option<&TupleSet<'s>>,
-    found: Option<Boxed<TupleSet<'s>>>,
+    diagnostic_at: Option<Boxed<TupleSet<'s>>>,
 ) -> Result<Boxed<TupleSet<'s>>, Fault>
-    ensures { Refines (bound.one_of name.now (option_copied assigned.entry) found.entry) result }
+    ensures { Refines (bound.one_of name.now (option_copied assigned.entry) diagnostic_at.entry) result }
 {
-    match (assigned, found) {
+    match (assigned, diagnostic_at) {
         (Some(set), _found) => Ok(boxed(alloc, set.copied(alloc)?)?),
         (None, Some(set)) => Ok(set),
         (None, None) => Err(reject_name(
@@ -292,14 +299,14 @@ fn set_of<'s>(
     let phrases = claims.phrases.as_slice();
     let dimension = claims.dimension.unwrap_or(1);
     let assigned = assigned(phrases);
-    let found = given_set(
+    let diagnostic_at = given_set(
         alloc,
         widths,
         usize::from(dimension),
         assigned.is_some(),
         named_data,
     )?;
-    let set = one_of(alloc, name, assigned, found)?;
+    let set = one_of(alloc, name, assigned, diagnostic_at)?;
     allowed(alloc, name, set.get(), phrases)?;
     Ok(set_entry(alloc, is_iterated, dimension, set)?)
 }
@@ -308,7 +315,7 @@ fn set_of<'s>(
 pub(crate) fn bound_set<'s>(
     alloc: Global,
     is_iterated: bool,
-    earlier: &Earlier<'_, 's>,
+    earlier: &BindingEnv<'_, 's>,
     name: &Token<'s>,
     phrases: &[Phrase<'s>],
     named_data: &[NamedData<'_, '_, 's>],

@@ -12,8 +12,8 @@ ghost use Rattle.net_fault.specs.Outcomes.{Outcome, Refines, Updates, and_then, 
 
 use crate::by_name::data_by_name;
 use crate::check::all_checked;
-use crate::earlier::Earlier;
-use crate::flattened::{Flattened, laid_out};
+use crate::earlier::BindingEnv;
+use crate::flattened::{StatementCells, index_statements};
 use crate::given::{DataFor, NamedData};
 use crate::iterated_sets::{IteratedSets, find_iterated_sets};
 use crate::names::declared;
@@ -59,12 +59,12 @@ fn with_entry<'s>(
 }
 
 /// Returns everything declared so far.
-fn whole<'w, 's>(world: &'w World<'s>, widths: &'w [usize]) -> Earlier<'w, 's>
+fn whole<'w, 's>(world: &'w World<'s>, widths: &'w [usize]) -> BindingEnv<'w, 's>
     requires { widths.now ≡ binding.widths world.now }
     ensures world { result.env ≡ world.entry.now }
     ensures widths { result.widths.now ≡ binding.widths world.entry.now }
 {
-    Earlier {
+    BindingEnv {
         env: Env::new(world, widths.len()),
         widths,
     }
@@ -76,7 +76,7 @@ fn entry_of_set<'s>(
     given: &[DataFor<'_, '_, 's>],
     name: &Token<'s>,
     phrases: &[Phrase<'s>],
-    earlier: &Earlier<'_, 's>,
+    earlier: &BindingEnv<'_, 's>,
 ) -> Result<Boxed<Entry<'s>>, Fault>
     requires { earlier.now.widths.now ≡ binding.widths earlier.now.env }
     ensures { Refines (sets.bound_set earlier.now.env (binding.widths earlier.now.env) name.now (map phrase_of phrases.now) (binding.next_data
@@ -100,7 +100,7 @@ fn entry_of_parameter<'s>(
     name: &Token<'s>,
     braces: &Option<Braces<'s>>,
     phrases: &[Phrase<'s>],
-    earlier: &Earlier<'_, 's>,
+    earlier: &BindingEnv<'_, 's>,
 ) -> Result<Boxed<Entry<'s>>, Fault>
     requires { earlier.now.widths.now ≡ binding.widths earlier.now.env }
     ensures { Refines (parameters.bound_parameter earlier.now.env (binding.widths earlier.now.env) name.now (indexing_of braces.now) (map phrase_of
@@ -198,7 +198,7 @@ fn bind_given<'s>(
 fn bind_statements<'m, 's>(
     alloc: Global,
     decls: &[Decl<'s>],
-    sheets: &'m [Flattened<'m, '_, 's>],
+    sheets: &'m [StatementCells<'m, '_, 's>],
 ) -> Result<World<'s>, Fault>
     requires { binding.AreNew [] (map declaration_of decls.now) }
     ensures { Refines (binding.world (map declaration_of decls.now) sheets.entry.now) result }
@@ -221,6 +221,6 @@ pub fn bind<'s>(
     requires { binding.AreNew [] (view.model model.now) }
     ensures { Refines (binding.world (view.model model.now) tables.now.statements) result }
 {
-    let sheets = laid_out(alloc, tables.statements.as_slice())?;
+    let sheets = index_statements(alloc, tables.statements.as_slice())?;
     bind_statements(alloc, model.declarations.as_slice(), sheets.as_slice())
 }

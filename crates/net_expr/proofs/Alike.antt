@@ -16,7 +16,7 @@ use Rattle.net_expr.specs.declared.row.Row.{Row}
 use Rattle.net_expr.specs.declared.value.Value.{Value}
 use Rattle.net_expr.specs.Items.{has_in, any_in, has_part, tuples_of, Opening, walking, listing, opened, open_with}
 use Rattle.net_fault.specs.Outcomes.{Outcome, and_then, rejected, each}
-use Rattle.net_expr.specs.Rows.{start, go_on, onward, same_arity, finished_key, keep, kept, width_of, keys, selected, no_keys, keys_of, rows_of, tuples_in, all_of, listed_as, listed}
+use Rattle.net_expr.specs.Rows.{start, go_on, onward, same_arity, finished_key, keep, filter_rows, width_of, keys, selected, no_keys, keys_of, rows_of, tuples_in, all_of, listed_as, listed}
 use Rattle.net_expr.specs.Values.{value, values, index, walk, set_after, place, holds}
 use Rattle.net_expr.specs.Widths.{width_by_form}
 use Rattle.net_expr.specs.Worlds.{World, Scope}
@@ -87,10 +87,10 @@ walk_alike at w (link o i is) p found rows h e =
     then_ok (if has_in i then set_after w p.scope i else and_then (value w p.scope i) (tuples_of at)) (λ ts. each (onward (place w i) (walk at w is) p) ts found) rows e (λ ts j k.
     each_alike (place w i) (walk at w is) (λ q f r a b. walk_alike at w is q f r a b) p ts found rows h k)
 
-kept_long : (n : ℕ) (test : Scope → Outcome Bool) (rows found left : List Row) → AreLong n (keys_of rows) → AreLong n (keys_of found) → kept test rows found ≡ Ok left → AreLong n (keys_of left)
+kept_long : (n : ℕ) (test : Scope → Outcome Bool) (rows found left : List Row) → AreLong n (keys_of rows) → AreLong n (keys_of found) → filter_rows test rows found ≡ Ok left → AreLong n (keys_of left)
 kept_long n test [] found left h k e = subst (λ (l : List Row). AreLong n (keys_of l)) (is_ok found left e) k
 kept_long n test (r ∷ rows) found left h k e =
-    then_ok (test r.scope) (λ b. kept test rows (keep r found b)) left e (λ b i j. kept_long n test rows (keep r found b) left h.1 (go b) j)
+    then_ok (test r.scope) (λ b. filter_rows test rows (keep r found b)) left e (λ b i j. kept_long n test rows (keep r found b) left h.1 (go b) j)
   where
     go : (b : Bool) → AreLong n (keys_of (keep r found b))
     go true = subst (AreLong n) (sym (keys_join found (r ∷ []))) (all_join (λ t. length t ≡ n) (keys_of found) (r.key ∷ []) k (h.0, tt))
@@ -98,8 +98,8 @@ kept_long n test (r ∷ rows) found left h k e =
 
 selected_long : (by_form : Outcome ℕ) (test : Scope → Outcome Bool) (rows : List Row) (k : Keys) → AreAlike rows → selected by_form test rows ≡ Ok k → AreKeys k.width k.rows
 selected_long by_form test rows k h e =
-    then_ok (width_of rows by_form) (λ n. and_then (kept test rows []) (λ left. Ok (keys n left))) k e (λ n i j.
-    then_ok (kept test rows []) (λ left. Ok (keys n left)) k j (λ left l m.
+    then_ok (width_of rows by_form) (λ n. and_then (filter_rows test rows []) (λ left. Ok (keys n left))) k e (λ n i j.
+    then_ok (filter_rows test rows []) (λ left. Ok (keys n left)) k j (λ left l m.
     subst (λ (z : Keys). AreKeys z.width z.rows) (is_ok (keys n left) k m) (kept_long n test rows [] left (long rows h n i) tt l)))
   where
     long : (rows : List Row) → AreAlike rows → (n : ℕ) → width_of rows by_form ≡ Ok n → AreLong n (keys_of rows)

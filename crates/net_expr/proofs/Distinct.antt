@@ -13,7 +13,7 @@ use Rattle.net_expr.specs.declared.value.Value.TheVariants.{One, Several, Many, 
 use Rattle.net_expr.specs.Items.{new_dummy, is_in, needed}
 use Rattle.net_tree.specs.Operations.{operation}
 use Rattle.net_fault.specs.Outcomes.{Outcome, rejected}
-use Rattle.net_expr.specs.Rows.{with_key, bind, matches_tuple, matches_as_tuple, fitted, fitted_alone}
+use Rattle.net_expr.specs.Rows.{with_key, bind, matches_tuple, matches_as_tuple, match_component, match_whole}
 use Rattle.net_expr.specs.Values.{value, place, left_place, places}
 use Rattle.net_expr.specs.Worlds.{Name, World}
 use Rattle.net_expr.proofs.Parting.{then_ok, is_ok, OnFrom, on_same, on_join, on_longer, first_difference, PartedFrom, longer_parted, fits_then, fitted_on, places_on, pair_parted, places_parted}
@@ -52,12 +52,12 @@ same_place p q e = let same : Some p ≡ Some q = is_ok (Some p) (Some q) e in c
 on_place : (p z q : Place) → OnFrom p.key z.key → (let o : Outcome (Option Place) = Ok (Some z) in o ≡ Ok (Some q)) → OnFrom p.key q.key
 on_place p z q h e = subst (λ (y : Place). OnFrom p.key y.key) (same_place z q e) h
 
-alone_on : (at : Span) (d : Option Name) (own : Outcome Value) (t : Tuple) (p q : Place) → fitted_alone at d own t p ≡ Ok (Some q) → OnFrom p.key q.key
+alone_on : (at : Span) (d : Option Name) (own : Outcome Value) (t : Tuple) (p q : Place) → match_whole at d own t p ≡ Ok (Some q) → OnFrom p.key q.key
 alone_on at (Some name) own [] p q e = on_place p p q (on_same p.key) e
 alone_on at (Some name) own (m ∷ ms) p q e = on_place p (bind name m p) q (on_longer (m ∷ []) p.key) e
 alone_on at None own t p q e = then_ok own (matches_as_tuple at t p) (Some q) e (λ v h i. subst (λ (z : Place). OnFrom p.key z.key) (value_agreed at t p q v i).1 (on_same p.key))
 
-none_parted : (at : Span) (own : Outcome Value) (t u : Tuple) (p q r : Place) → same_tuple t u ≡ false → fitted_alone at None own t p ≡ Ok (Some q) → fitted_alone at None own u p ≡ Ok (Some r) → PartedFrom q.key r.key
+none_parted : (at : Span) (own : Outcome Value) (t u : Tuple) (p q r : Place) → same_tuple t u ≡ false → match_whole at None own t p ≡ Ok (Some q) → match_whole at None own u p ≡ Ok (Some r) → PartedFrom q.key r.key
 none_parted at own t u p q r unlike e f =
     then_ok own (matches_as_tuple at t p) (Some q) e (λ v h i. then_ok own (matches_as_tuple at u p) (Some r) f (λ x j k.
     let a = value_agreed at t p q v i in
@@ -70,7 +70,7 @@ none_parted at own t u p q r unlike e f =
 places_of : (p y z q r : Place) → PartedFrom y.key z.key → (let o : Outcome (Option Place) = Ok (Some y) in o ≡ Ok (Some q)) → (let o : Outcome (Option Place) = Ok (Some z) in o ≡ Ok (Some r)) → PartedFrom q.key r.key
 places_of p y z q r h e f = subst (λ (x : Place). PartedFrom x.key r.key) (same_place y q e) (subst (λ (x : Place). PartedFrom y.key x.key) (same_place z r f) h)
 
-alone_parted : (at : Span) (d : Option Name) (own : Outcome Value) (t u : Tuple) (p q r : Place) → length t ≡ 1 → length u ≡ 1 → same_tuple t u ≡ false → fitted_alone at d own t p ≡ Ok (Some q) → fitted_alone at d own u p ≡ Ok (Some r) → PartedFrom q.key r.key
+alone_parted : (at : Span) (d : Option Name) (own : Outcome Value) (t u : Tuple) (p q r : Place) → length t ≡ 1 → length u ≡ 1 → same_tuple t u ≡ false → match_whole at d own t p ≡ Ok (Some q) → match_whole at d own u p ≡ Ok (Some r) → PartedFrom q.key r.key
 alone_parted at None own t u p q r i j unlike e f = none_parted at own t u p q r unlike e f
 alone_parted at (Some name) own [] u p q r i j unlike e f = absurd (let h = i in omega arith)
 alone_parted at (Some name) own (m ∷ k ∷ ms) u p q r i j unlike e f = absurd (let h = i in omega arith)
@@ -82,7 +82,7 @@ alone_parted at (Some name) own (m ∷ []) (n ∷ []) p q r i j unlike e f =
 left_on : (at : Span) (w : World) (x : Tree) (own : Outcome Value) (t : Tuple) (p q : Place) → left_place at w x own t p ≡ Ok (Some q) → OnFrom p.key q.key
 left_on at w (tuple o x l c) own [] p q e = on_place p p q (on_same p.key) e
 left_on at w (tuple o x l c) own (m ∷ ms) p q e =
-    let s = fits_then (fitted (span_of (tuple o x l c)) (new_dummy w p.scope x) (value w p.scope x) m p) (places (span_of (tuple o x l c)) w l ms) q e in
+    let s = fits_then (match_component (span_of (tuple o x l c)) (new_dummy w p.scope x) (value w p.scope x) m p) (places (span_of (tuple o x l c)) w l ms) q e in
     on_join p.key s.0.key q.key (fitted_on (span_of (tuple o x l c)) (new_dummy w p.scope x) (value w p.scope x) m p s.0 s.1) (places_on (span_of (tuple o x l c)) w l ms s.0 q s.2)
 left_on at w x own t p q e = alone_on at (new_dummy w p.scope x) own t p q e
 

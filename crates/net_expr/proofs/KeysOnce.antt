@@ -16,7 +16,7 @@ use Rattle.net_expr.specs.declared.row.Row.{Row}
 use Rattle.net_expr.specs.declared.value.Value.{Value}
 use Rattle.net_expr.specs.Items.{has_in, any_in, has_part, is_set, tuples_of, Opening, walking, listing, opened, open_with}
 use Rattle.net_fault.specs.Outcomes.{Outcome, and_then, rejected, each}
-use Rattle.net_expr.specs.Rows.{start, onward, keep, kept, width_of, keys, selected, no_keys, keys_of, rows_of, tuples_in, all_of, listed_as, listed}
+use Rattle.net_expr.specs.Rows.{start, onward, keep, filter_rows, width_of, keys, selected, no_keys, keys_of, rows_of, tuples_in, all_of, listed_as, listed}
 use Rattle.net_expr.specs.SetValues.{HaveDistinctKeys}
 use Rattle.net_expr.specs.Values.{value, values, walk, set_after, place, holds}
 use Rattle.net_expr.specs.Widths.{width_by_form}
@@ -62,7 +62,7 @@ listing_once : (at : Span) (s : Scope) (conditioned : Bool) (vs : List Value) (k
 listing_once at s conditioned vs k e =
     then_ok (if conditioned then rejected KindMismatch at else tuples_in at vs []) (λ ts. listed_as at s ts (union [] ts)) k e (λ ts h i. listed_once at s ts (union [] ts) k (union_distinct [] ts none_there) i)
 
--- ---- rows that are kept
+-- ---- rows that are filter_rows
 
 keys_join : (xs ys : List Row) → keys_of (xs ++ ys) ≡ keys_of xs ++ keys_of ys
 keys_join [] ys = refl
@@ -77,10 +77,10 @@ without [] r ys h = IsDistinct-tail same_tuple r.key (keys_of ys) h
 without (x ∷ xs) r ys h =
     IsDistinct-cons same_tuple x.key (keys_of (xs ++ ys)) (all_without (λ t. same_tuple x.key t ≡ false) xs r ys (IsDistinct-head same_tuple x.key (keys_of (xs ++ r ∷ ys)) h)) (without xs r ys (IsDistinct-tail same_tuple x.key (keys_of (xs ++ r ∷ ys)) h))
 
-kept_once : (test : Scope → Outcome Bool) (rows found left : List Row) → IsDistinct same_tuple (keys_of (found ++ rows)) → kept test rows found ≡ Ok left → IsDistinct same_tuple (keys_of left)
+kept_once : (test : Scope → Outcome Bool) (rows found left : List Row) → IsDistinct same_tuple (keys_of (found ++ rows)) → filter_rows test rows found ≡ Ok left → IsDistinct same_tuple (keys_of left)
 kept_once test [] found left h e = subst (λ (l : List Row). IsDistinct same_tuple (keys_of l)) (append-nil found ∙ is_ok found left e) h
 kept_once test (r ∷ rows) found left h e =
-    then_ok (test r.scope) (λ b. kept test rows (keep r found b)) left e (λ b i k. kept_once test rows (keep r found b) left (go b) k)
+    then_ok (test r.scope) (λ b. filter_rows test rows (keep r found b)) left e (λ b i k. kept_once test rows (keep r found b) left (go b) k)
   where
     go : (b : Bool) → IsDistinct same_tuple (keys_of (keep r found b ++ rows))
     go true = subst (λ (l : List Row). IsDistinct same_tuple (keys_of l)) (sym (append_assoc found (r ∷ []) rows)) h
@@ -88,8 +88,8 @@ kept_once test (r ∷ rows) found left h e =
 
 selected_once : (by_form : Outcome ℕ) (test : Scope → Outcome Bool) (rows : List Row) (k : Keys) → IsDistinct same_tuple (keys_of rows) → selected by_form test rows ≡ Ok k → IsDistinct same_tuple (keys_of k.rows)
 selected_once by_form test rows k h e =
-    then_ok (width_of rows by_form) (λ n. and_then (kept test rows []) (λ left. Ok (keys n left))) k e (λ n i j.
-    then_ok (kept test rows []) (λ left. Ok (keys n left)) k j (λ left l m.
+    then_ok (width_of rows by_form) (λ n. and_then (filter_rows test rows []) (λ left. Ok (keys n left))) k e (λ n i j.
+    then_ok (filter_rows test rows []) (λ left. Ok (keys n left)) k j (λ left l m.
     subst (λ (z : Keys). IsDistinct same_tuple (keys_of z.rows)) (is_ok (keys n left) k m) (kept_once test rows [] left h l)))
 
 -- ---- braces

@@ -20,7 +20,7 @@ use Rattle.net_expr.specs.Limits.{is_small}
 use Rattle.net_expr.specs.Numbers.{sized, number, plus, less, times, quotient, remainder, divides, are_small, step, size, range, range_of}
 use Rattle.net_expr.specs.Operators.{of_numbers, of_two, compared, same, of_sets, crossed, belongs, contained, truth, as_truth, as_denial, apply, decided, short_enough, members_after, tuple_of, longer}
 use Rattle.net_expr.specs.Operators as operators
-use Rattle.net_expr.specs.Sets.{counted, shared, fits, within_size, set_of, cross, among, inside}
+use Rattle.net_expr.specs.Sets.{counted, shared, fits, within_size, set_of, cross, membership, inclusion}
 use Rattle.net_expr.specs.Worlds.{Name, World, key_count, entry_of, missing, value_at, entry_at, name_at}
 use Rattle.net_fault.specs.Places.{Places, Finds}
 use Rattle.net_fault.proofs.Found.{finds_then, finds_if}
@@ -66,10 +66,10 @@ module _ (P : Places) (at : Span) (h : P Model at) where
   finds_cross d xs e ys =
       finds_if P (nat_le (counted d + counted e) arity_limit && nat_le (widest xs + widest ys) arity_limit) _ _ (finds_if P (nat_le (length (product xs ys)) tuples_limit) _ _ tt h) h
 
-  finds_among : (t : Tuple) (d : Option ℕ) (ts : List Tuple) → Finds P (among at t d ts)
+  finds_among : (t : Tuple) (d : Option ℕ) (ts : List Tuple) → Finds P (membership at t d ts)
   finds_among t d ts = finds_if P (fits d (length t)) _ _ tt h
 
-  finds_inside : (d : Option ℕ) (xs ys : List Tuple) → Finds P (inside at d xs ys)
+  finds_inside : (d : Option ℕ) (xs ys : List Tuple) → Finds P (inclusion at d xs ys)
   finds_inside None xs ys = h
   finds_inside (Some d) xs ys = tt
 

@@ -13,7 +13,7 @@ use Rattle.net_sets.specs.Limits.{arity_limit}
 use Rattle.net_expr.specs.Items.{new_dummy, size}
 use Rattle.net_expr.specs.Operators.{longer}
 use Rattle.net_fault.specs.Outcomes.{Outcome, and_then}
-use Rattle.net_expr.specs.Rows.{bind, matches_member, fitted, if_fits}
+use Rattle.net_expr.specs.Rows.{bind, matches_member, match_component, if_fits}
 use Rattle.net_expr.specs.Values.{value, places}
 use Rattle.net_expr.specs.Worlds.{Name, World}
 
@@ -152,14 +152,14 @@ agreed at m p q (Several t) e = cc
 agreed at m p q (Many d ts) e = cc
 agreed at m p q (Truth b) e = cc
 
-pub fitted_on : (at : Span) (d : Option Name) (own : Outcome Value) (m : Member) (p q : Place) → fitted at d own m p ≡ Ok (Some q) → OnFrom p.key q.key
+pub fitted_on : (at : Span) (d : Option Name) (own : Outcome Value) (m : Member) (p q : Place) → match_component at d own m p ≡ Ok (Some q) → OnFrom p.key q.key
 fitted_on at (Some name) own m p q e =
     let same : Some (bind name m p) ≡ Some q = is_ok (Some (bind name m p)) (Some q) e in
     let is : bind name m p ≡ q = cc in
     subst (λ (z : Place). OnFrom p.key z.key) is (on_longer (m ∷ []) p.key)
 fitted_on at None own m p q e = then_ok own (matches_member at m p) (Some q) e (λ v h i. let a = agreed at m p q v i in subst (λ (z : Place). OnFrom p.key z.key) a.3 (on_same p.key))
 
-fitted_parted : (at : Span) (d : Option Name) (own : Outcome Value) (m n : Member) (p q r : Place) → same_member m n ≡ false → fitted at d own m p ≡ Ok (Some q) → fitted at d own n p ≡ Ok (Some r) → PartedFrom q.key r.key
+fitted_parted : (at : Span) (d : Option Name) (own : Outcome Value) (m n : Member) (p q r : Place) → same_member m n ≡ false → match_component at d own m p ≡ Ok (Some q) → match_component at d own n p ≡ Ok (Some r) → PartedFrom q.key r.key
 fitted_parted at (Some name) own m n p q r unlike e f =
     let same : Some (bind name m p) ≡ Some q = is_ok (Some (bind name m p)) (Some q) e in
     let other : Some (bind name n p) ≡ Some r = is_ok (Some (bind name n p)) (Some r) f in
@@ -188,24 +188,24 @@ pub places_on : (at : Span) (w : World) (l : Links) (ms : Tuple) (p q : Place) �
 places_on at w none ms p q e = let same : Some p ≡ Some q = is_ok (Some p) (Some q) e in let is : p ≡ q = cc in subst (λ (z : Place). OnFrom p.key z.key) is (on_same p.key)
 places_on at w (link o x l) [] p q e = let same : Some p ≡ Some q = is_ok (Some p) (Some q) e in let is : p ≡ q = cc in subst (λ (z : Place). OnFrom p.key z.key) is (on_same p.key)
 places_on at w (link o x l) (m ∷ ms) p q e =
-    let s = fits_then (fitted at (new_dummy w p.scope x) (value w p.scope x) m p) (places at w l ms) q e in
+    let s = fits_then (match_component at (new_dummy w p.scope x) (value w p.scope x) m p) (places at w l ms) q e in
     on_join p.key s.0.key q.key (fitted_on at (new_dummy w p.scope x) (value w p.scope x) m p s.0 s.1) (places_on at w l ms s.0 q s.2)
 
 -- two tuples that differ, at one component and those behind it
 pub pair_parted : (at : Span) (d : Option Name) (own : Outcome Value) (w : World) (l : Links) (m n : Member) (ms ns : Tuple) (p q r : Place)
     → ((z : Place) → same_tuple ms ns ≡ false → places at w l ms z ≡ Ok (Some q) → places at w l ns z ≡ Ok (Some r) → PartedFrom q.key r.key)
-    → same_tuple (m ∷ ms) (n ∷ ns) ≡ false → and_then (fitted at d own m p) (if_fits (places at w l ms)) ≡ Ok (Some q) → and_then (fitted at d own n p) (if_fits (places at w l ns)) ≡ Ok (Some r) → PartedFrom q.key r.key
+    → same_tuple (m ∷ ms) (n ∷ ns) ≡ false → and_then (match_component at d own m p) (if_fits (places at w l ms)) ≡ Ok (Some q) → and_then (match_component at d own n p) (if_fits (places at w l ns)) ≡ Ok (Some r) → PartedFrom q.key r.key
 pair_parted at d own w l m n ms ns p q r more unlike e f = go (same_member m n) refl unlike
   where
-    s : (z : Place) × (fitted at d own m p ≡ Ok (Some z)) × (places at w l ms z ≡ Ok (Some q))
-    s = fits_then (fitted at d own m p) (places at w l ms) q e
+    s : (z : Place) × (match_component at d own m p ≡ Ok (Some z)) × (places at w l ms z ≡ Ok (Some q))
+    s = fits_then (match_component at d own m p) (places at w l ms) q e
 
-    t : (z : Place) × (fitted at d own n p ≡ Ok (Some z)) × (places at w l ns z ≡ Ok (Some r))
-    t = fits_then (fitted at d own n p) (places at w l ns) r f
+    t : (z : Place) × (match_component at d own n p ≡ Ok (Some z)) × (places at w l ns z ≡ Ok (Some r))
+    t = fits_then (match_component at d own n p) (places at w l ns) r f
 
     go : (b : Bool) → same_member m n ≡ b → b && same_tuple ms ns ≡ false → PartedFrom q.key r.key
     go true h i =
-        let copied : fitted at d own m p ≡ Ok (Some t.0) = ap (λ (z : Member). fitted at d own z p) ((member_decides m n).0 h) ∙ t.1 in
+        let copied : match_component at d own m p ≡ Ok (Some t.0) = ap (λ (z : Member). match_component at d own z p) ((member_decides m n).0 h) ∙ t.1 in
         let somes : Some s.0 ≡ Some t.0 = is_ok (Some s.0) (Some t.0) (sym s.1 ∙ copied) in
         let same : s.0 ≡ t.0 = cc in
         more s.0 i s.2 (ap (places at w l ns) same ∙ t.2)

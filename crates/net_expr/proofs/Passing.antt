@@ -26,7 +26,7 @@ use Rattle.net_expr.specs.declared.value.Value.TheVariants.{One}
 use Rattle.net_fault.specs.Outcomes.{Outcome, and_then, each}
 use Rattle.net_expr.specs.Worlds.{Name, World, Scope, bound, entry_of, with_dummy}
 use Rattle.net_expr.specs.Items.{sides, text_of, bare, unless_known, new_dummy}
-use Rattle.net_expr.specs.Rows.{bind, fitted, if_fits, go_on, onward}
+use Rattle.net_expr.specs.Rows.{bind, match_component, if_fits, go_on, onward}
 use Rattle.net_expr.specs.Values.{value, token_value, place, left_place, places}
 use Rattle.net_expr.specs.Walks.{placed}
 use Rattle.net_expr.specs.Selecting.{dummy_alone, picked, selecting_from, selecting_components, selecting_left, selecting_sides, selecting}
@@ -96,11 +96,11 @@ same_pick j k v m e = (ap (λ o. (pick_or o).0) e, ap (λ o. (pick_or o).1) e)
 fit_apart : (at : Span) (w : World) (s : Scope) (k : ℕ) (m : Member) (x : Tree) (rest : Option (ℕ × Member)) (j : ℕ) (t : Tuple) (y : Member) (p : Place) (next : Place → Outcome (Option Place))
     → picked j (dummy_alone s (bare x)) (if is_some (new_dummy w s x) then rest else None) ≡ Some (k, m) → slice_get t j ≡ Some y → agrees k m t ≡ false → Keeps s p.scope
     → (rest ≡ Some (k, m) → (q : Place) → Keeps s q.scope → next q ≡ Ok None)
-    → and_then (fitted at (new_dummy w p.scope x) (value w p.scope x) y p) (if_fits next) ≡ Ok None
+    → and_then (match_component at (new_dummy w p.scope x) (value w p.scope x) y p) (if_fits next) ≡ Ok None
 fit_apart at w s k m x rest j t y p next chosen here apart kept more = by_name (bare x) refl chosen
   where
     fit : Option Name → Outcome Value → Outcome (Option Place)
-    fit d own = and_then (fitted at d own y p) (if_fits next)
+    fit d own = and_then (match_component at d own y p) (if_fits next)
 
     known : (name : Name) (v : Member) → bound p.scope name ≡ Some v → unless_known w p.scope (Some name) ≡ None
     known name v e = ap (λ b. if is_some b || is_some (entry_of w name) then None else Some name) e

@@ -16,7 +16,7 @@ use Rattle.net_expr.specs.declared.value.Value.{Value}
 use Rattle.net_expr.specs.declared.value.Value.TheVariants.{One, Several, Many, Truth}
 use Rattle.net_expr.specs.Items.{fits_needed, chosen, tuples_of, is_set, Opening, walking, listing, opened, open_with}
 use Rattle.net_expr.specs.Numbers.{number, gathered}
-use Rattle.net_expr.specs.Rows.{matches_member, matches_tuple, matches_as_tuple, fitted, bound_first, fitted_alone, if_fits, go_on, onward, same_arity, add_row, finished_key, finished, keep, kept, width_of, selected, keys_of, as_set, tuple_in, tuples_in, all_of, listed_as, listed, gathered_over, nothing_reduced, reduced_to, reduce}
+use Rattle.net_expr.specs.Rows.{matches_member, matches_tuple, matches_as_tuple, match_component, bound_first, match_whole, if_fits, go_on, onward, same_arity, add_row, finished_key, finished, keep, filter_rows, width_of, selected, keys_of, as_set, tuple_in, tuples_in, all_of, listed_as, listed, gathered_over, nothing_reduced, reduced_to, reduce}
 use Rattle.net_expr.specs.Worlds.{Name, Scope}
 use Rattle.net_fault.specs.Places.{Places, Finds}
 use Rattle.net_fault.proofs.Found.{finds_then, finds_if}
@@ -53,7 +53,7 @@ module _ (P : Places) (at : Span) (h : P Model at) where
   finds_agrees_as t p (Many d ts) = h
   finds_agrees_as t p (Truth b) = h
 
-  pub finds_fitted : (name : Option Name) (own : Outcome Value) → Finds P own → (m : Member) (p : Place) → Finds P (fitted at name own m p)
+  pub finds_fitted : (name : Option Name) (own : Outcome Value) → Finds P own → (m : Member) (p : Place) → Finds P (match_component at name own m p)
   finds_fitted (Some name) own k m p = tt
   finds_fitted None own k m p = finds_then P own (matches_member at m p) k (finds_agrees m p)
 
@@ -61,7 +61,7 @@ module _ (P : Places) (at : Span) (h : P Model at) where
   finds_bound_first name [] p = tt
   finds_bound_first name (m ∷ ms) p = tt
 
-  pub finds_fitted_alone : (name : Option Name) (own : Outcome Value) → Finds P own → (t : Tuple) (p : Place) → Finds P (fitted_alone at name own t p)
+  pub finds_fitted_alone : (name : Option Name) (own : Outcome Value) → Finds P own → (t : Tuple) (p : Place) → Finds P (match_whole at name own t p)
   finds_fitted_alone (Some name) own k t p = finds_bound_first name t p
   finds_fitted_alone None own k t p = finds_then P own (matches_as_tuple at t p) k (finds_agrees_as t p)
 
@@ -131,7 +131,7 @@ module _ (P : Places) where
   finds_open_with walk list j k (walking ts) = j ts
   finds_open_with walk list j k (listing v) = k v
 
-  finds_kept : (holds : Scope → Outcome Bool) → ((s : Scope) → Finds P (holds s)) → (rows found : List Row) → Finds P (kept holds rows found)
+  finds_kept : (holds : Scope → Outcome Bool) → ((s : Scope) → Finds P (holds s)) → (rows found : List Row) → Finds P (filter_rows holds rows found)
   finds_kept holds k [] found = tt
   finds_kept holds k (r ∷ rows) found = finds_then P (holds r.scope) _ (k r.scope) (λ b. finds_kept holds k rows (keep r found b))
 
@@ -141,4 +141,4 @@ module _ (P : Places) where
 
   pub finds_selected : (by_form : Outcome ℕ) (holds : Scope → Outcome Bool) → Finds P by_form → ((s : Scope) → Finds P (holds s)) → (rows : List Row) → Finds P (selected by_form holds rows)
   finds_selected by_form holds j k rows =
-      finds_then P (width_of rows by_form) _ (finds_width_of rows by_form j) (λ n. finds_then P (kept holds rows []) _ (finds_kept holds k rows []) (λ left. tt))
+      finds_then P (width_of rows by_form) _ (finds_width_of rows by_form j) (λ n. finds_then P (filter_rows holds rows []) _ (finds_kept holds k rows []) (λ left. tt))

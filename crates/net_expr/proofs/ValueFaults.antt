@@ -18,7 +18,7 @@ use Rattle.net_expr.specs.Items.{is_in, has_in, any_in, begins_range, has_part, 
 use Rattle.net_expr.specs.Numbers.{number_in, number, range_of}
 use Rattle.net_tree.specs.Operations.{operation, reduction, is_minus}
 use Rattle.net_expr.specs.Operators.{apply, decided, truth, tuple_of}
-use Rattle.net_expr.specs.Rows.{start, fitted, if_fits, onward, selected, as_set, listed, reduce}
+use Rattle.net_expr.specs.Rows.{start, match_component, if_fits, onward, selected, as_set, listed, reduce}
 use Rattle.net_expr.specs.Values.{number_value, token_value, subscripted, tupled, with_sign, either, value, otherwise, values, chained, index, walk, set_after, place, left_place, places, holds}
 use Rattle.net_expr.specs.Widths.{width_by_form, begin, with_item, with_items}
 use Rattle.net_expr.specs.Worlds.{Name, World, Scope, bound}
@@ -180,7 +180,7 @@ module _ (P : Places) where
     finds_left : (at : Span) → P Model at → (w : World) (x : Tree) → Stands (P Model) x → (own : Outcome Value) → Finds P own → (t : Tuple) (p : Place) → Finds P (left_place at w x own t p)
     finds_left at g w (tuple o x l c) h own k [] p = tt
     finds_left at g w (tuple o x l c) (h, i, j) own k (m ∷ ms) p =
-        finds_then P (fitted (span_of (tuple o x l c)) (new_dummy w p.scope x) (value w p.scope x) m p) (if_fits (places (span_of (tuple o x l c)) w l ms))
+        finds_then P (match_component (span_of (tuple o x l c)) (new_dummy w p.scope x) (value w p.scope x) m p) (if_fits (places (span_of (tuple o x l c)) w l ms))
         (finds_fitted P (span_of (tuple o x l c)) h (new_dummy w p.scope x) (value w p.scope x) (finds_value w p.scope x i) m p)
         (finds_if_fits P (places (span_of (tuple o x l c)) w l ms) (finds_places (span_of (tuple o x l c)) h w l j ms))
     finds_left at g w (leaf a) h own k t p = finds_fitted_alone P at g (new_dummy w p.scope (leaf a)) own k t p
@@ -198,7 +198,7 @@ module _ (P : Places) where
     finds_places at h w none k ms p = tt
     finds_places at h w (link o x l) k [] p = tt
     finds_places at h w (link o x l) (j, k) (m ∷ ms) p =
-        finds_then P (fitted at (new_dummy w p.scope x) (value w p.scope x) m p) (if_fits (places at w l ms))
+        finds_then P (match_component at (new_dummy w p.scope x) (value w p.scope x) m p) (if_fits (places at w l ms))
         (finds_fitted P at h (new_dummy w p.scope x) (value w p.scope x) (finds_value w p.scope x j) m p)
         (finds_if_fits P (places at w l ms) (finds_places at h w l k ms))
 

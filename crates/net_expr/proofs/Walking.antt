@@ -29,7 +29,7 @@ use Rattle.net_expr.specs.Numbers.{number, gathered, range_of}
 use Rattle.net_tree.proofs.Items.{behind}
 use Rattle.net_expr.specs.Items.{is_in, both, sides, size, any_in, has_in, has_part, begins_range, new_dummy, tuples_of, is_set, walking as walking_over, listing, opened, open_with}
 use Rattle.net_expr.specs.Widths.{makes_set, begin_set}
-use Rattle.net_expr.specs.Rows.{start, onward, listed, reduce, fitted_alone, keep, kept, keys, gathered_over}
+use Rattle.net_expr.specs.Rows.{start, onward, listed, reduce, match_whole, keep, filter_rows, keys, gathered_over}
 use Rattle.net_expr.specs.Values.{value, values, chained, index, walk, holds, set_after, place, left_place, either, subscripted, tupled, with_sign, otherwise}
 use Rattle.net_expr.specs.Walks.{joined, walked, opened_keys, by_sides, item_tuples, keys_by_sides, index_items, placed, component_places}
 
@@ -204,7 +204,7 @@ abbrev pub is_tuple : Tree → Bool
 is_tuple (tuple o x l c) = true
 is_tuple _ = false
 
-pub left-other : (at : Span) (w : World) (k : Tree) (own : Outcome Value) (t : Tuple) (p : Place) → is_tuple k ≡ false → left_place at w k own t p ≡ fitted_alone at (new_dummy w p.scope k) own t p
+pub left-other : (at : Span) (w : World) (k : Tree) (own : Outcome Value) (t : Tuple) (p : Place) → is_tuple k ≡ false → left_place at w k own t p ≡ match_whole at (new_dummy w p.scope k) own t p
 left-other at w (tuple o x l c) own t p h = absurd (true≢false h)
 left-other at w _ own t p h = refl
 
@@ -276,12 +276,12 @@ drop_at xs i x h e = let a = drop-cons xs i x h in let b = add-one i in cc
 
 -- one step over rows
 pub kept-next : (f : Scope → Outcome Bool) (rows left : List Row) (r : Row) (found : List Row) (wanted : Outcome (List Row)) → rows ≡ r ∷ left
-    → kept f rows found ≡ wanted
-    → wanted ≡ and_then (and_then (f r.scope) (λ b. Ok (keep r found b))) (kept f left)
+    → filter_rows f rows found ≡ wanted
+    → wanted ≡ and_then (and_then (f r.scope) (λ b. Ok (keep r found b))) (filter_rows f left)
 kept-next f rows left r found wanted e same =
-    sym same ∙ ap (λ k. kept f k found) e ∙ sym (and_then-assoc (f r.scope) (λ b. Ok (keep r found b)) (kept f left))
+    sym same ∙ ap (λ k. filter_rows f k found) e ∙ sym (and_then-assoc (f r.scope) (λ b. Ok (keep r found b)) (filter_rows f left))
 
-pub kept-all : (f : Scope → Outcome Bool) (rows found : List Row) (wanted : Outcome (List Row)) → length rows ≡ 0 → kept f rows found ≡ wanted → wanted ≡ Ok found
+pub kept-all : (f : Scope → Outcome Bool) (rows found : List Row) (wanted : Outcome (List Row)) → length rows ≡ 0 → filter_rows f rows found ≡ wanted → wanted ≡ Ok found
 kept-all f [] found wanted h same = sym same
 kept-all f (r ∷ rows) found wanted h same = absurd (omega (arith, h))
 
@@ -301,8 +301,8 @@ pub if_some_by : (o : Option ℤ) (k n : ℕ) → k ≤ n → IfSome o (λ a. un
 if_some_by None k n h small = small
 if_some_by (Some a) k n h small = omega arith
 
--- without a condition all rows are kept
-all_kept : (rows found : List Row) → kept (λ q. Ok true) rows found ≡ Ok (found ++ rows)
+-- without a condition all rows are filter_rows
+all_kept : (rows found : List Row) → filter_rows (λ q. Ok true) rows found ≡ Ok (found ++ rows)
 all_kept [] found = ap Ok (sym (append_nil found))
   where
     append_nil : (rs : List Row) → rs ++ [] ≡ rs
@@ -310,7 +310,7 @@ all_kept [] found = ap Ok (sym (append_nil found))
     append_nil (r ∷ rs) = ap (◌∷◌ r) (append_nil rs)
 all_kept (r ∷ rows) found = all_kept rows (found ++ r ∷ []) ∙ ap Ok (append_assoc found (r ∷ []) rows)
 
-pub unconditioned : (at : Span) (w : World) (p : Part) (n : ℕ) (rows : List Row) → has_part p ≡ false → and_then (kept (λ q. holds at w q p) rows []) (λ left. Ok (keys n left)) ≡ Ok (keys n rows)
+pub unconditioned : (at : Span) (w : World) (p : Part) (n : ℕ) (rows : List Row) → has_part p ≡ false → and_then (filter_rows (λ q. holds at w q p) rows []) (λ left. Ok (keys n left)) ≡ Ok (keys n rows)
 unconditioned at w absent n rows h = ap (λ o. and_then o (λ left. Ok (keys n left))) (all_kept rows [])
 unconditioned at w (part m x) n rows h = cc
 

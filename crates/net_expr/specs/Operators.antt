@@ -12,7 +12,7 @@ use Rattle.net_expr.specs.declared.value.Value.{Value}
 use Rattle.net_expr.specs.declared.value.Value.TheVariants.{One, Several, Many, Truth}
 use Rattle.net_fault.specs.Outcomes.{Outcome, and_then, rejected}
 use Rattle.net_expr.specs.Numbers.{number, plus, less, times, quotient, remainder}
-use Rattle.net_expr.specs.Sets.{shared, set_of, cross, among, inside}
+use Rattle.net_expr.specs.Sets.{shared, set_of, cross, membership, inclusion}
 
 -- both sides must be numbers
 abbrev pub of_numbers : Span → (ℤ → ℤ → Outcome Value) → Value → Value → Outcome Value
@@ -59,12 +59,12 @@ crossed at _ _ = rejected KindMismatch at
 
 -- a member or tuple on the left, a set on the right
 abbrev pub belongs : Span → Value → Value → Outcome Bool
-belongs at (One m) (Many d ts) = among at (m ∷ []) d ts
-belongs at (Several t) (Many d ts) = among at t d ts
+belongs at (One m) (Many d ts) = membership at (m ∷ []) d ts
+belongs at (Several t) (Many d ts) = membership at t d ts
 belongs at _ _ = rejected KindMismatch at
 
 abbrev pub contained : Span → Value → Value → Outcome Bool
-contained at (Many d xs) (Many e ys) = inside at (shared d e) xs ys
+contained at (Many d xs) (Many e ys) = inclusion at (shared d e) xs ys
 contained at _ _ = rejected KindMismatch at
 
 abbrev pub truth : Span → Value → Outcome Bool

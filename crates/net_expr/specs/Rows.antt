@@ -45,9 +45,9 @@ matches_as_tuple at t p (Several v) = matches_tuple at t p v
 matches_as_tuple at t p _ = rejected KindMismatch at
 
 -- a new dummy is bound to the member; any other component must evaluate to it
-abbrev pub fitted : Span → Option Name → Outcome Value → Member → Place → Outcome (Option Place)
-fitted at (Some name) own m p = Ok (Some (bind name m p))
-fitted at None own m p = and_then own (matches_member at m p)
+abbrev pub match_component : Span → Option Name → Outcome Value → Member → Place → Outcome (Option Place)
+match_component at (Some name) own m p = Ok (Some (bind name m p))
+match_component at None own m p = and_then own (matches_member at m p)
 
 -- the single member of a tuple
 abbrev pub bound_first : Name → Tuple → Place → Outcome (Option Place)
@@ -55,9 +55,9 @@ bound_first name [] p = Ok (Some p)
 bound_first name (m ∷ ms) p = Ok (Some (bind name m p))
 
 -- the same for a single expression on the left side of `in`
-abbrev pub fitted_alone : Span → Option Name → Outcome Value → Tuple → Place → Outcome (Option Place)
-fitted_alone at (Some name) own t p = bound_first name t p
-fitted_alone at None own t p = and_then own (matches_as_tuple at t p)
+abbrev pub match_whole : Span → Option Name → Outcome Value → Tuple → Place → Outcome (Option Place)
+match_whole at (Some name) own t p = bound_first name t p
+match_whole at None own t p = and_then own (matches_as_tuple at t p)
 
 abbrev pub if_fits : (Place → Outcome (Option Place)) → Option Place → Outcome (Option Place)
 if_fits next None = Ok None
@@ -95,9 +95,9 @@ keep r found true = found ++ r ∷ []
 keep r found false = found
 
 -- the rows that satisfy the condition
-abbrev pub kept : (Scope → Outcome Bool) → List Row → List Row → Outcome (List Row)
-kept holds [] found = Ok found
-kept holds (r ∷ rows) found = and_then (holds r.scope) (λ b. kept holds rows (keep r found b))
+abbrev pub filter_rows : (Scope → Outcome Bool) → List Row → List Row → Outcome (List Row)
+filter_rows holds [] found = Ok found
+filter_rows holds (r ∷ rows) found = and_then (holds r.scope) (λ b. filter_rows holds rows (keep r found b))
 
 -- the number of members of the keys; if there is no key, the number that their form gives
 abbrev pub width_of : List Row → Outcome ℕ → Outcome ℕ
@@ -109,7 +109,7 @@ keys n rows = record { width = Some n; rows = rows }
 
 -- the rows that the items produce, filtered by the condition
 abbrev pub selected : Outcome ℕ → (Scope → Outcome Bool) → List Row → Outcome Keys
-selected by_form holds rows = and_then (width_of rows by_form) (λ n. and_then (kept holds rows []) (λ left. Ok (keys n left)))
+selected by_form holds rows = and_then (width_of rows by_form) (λ n. and_then (filter_rows holds rows []) (λ left. Ok (keys n left)))
 
 -- `{}`
 abbrev pub no_keys : Keys

@@ -50,10 +50,10 @@ cross at d xs e ys =
     else rejected Arity at
 
 -- whether a set contains a tuple
-abbrev pub among : Span → Tuple → Option ℕ → List Tuple → Outcome Bool
-among at t d ts = if fits d (length t) then Ok (has ts t) else rejected Arity at
+abbrev pub membership : Span → Tuple → Option ℕ → List Tuple → Outcome Bool
+membership at t d ts = if fits d (length t) then Ok (has ts t) else rejected Arity at
 
 -- whether a set is a subset of another
-abbrev pub inside : Span → Option ℕ → List Tuple → List Tuple → Outcome Bool
-inside at None xs ys = rejected Arity at
-inside at (Some d) xs ys = Ok (is_within xs ys)
+abbrev pub inclusion : Span → Option ℕ → List Tuple → List Tuple → Outcome Bool
+inclusion at None xs ys = rejected Arity at
+inclusion at (Some d) xs ys = Ok (is_within xs ys)

@@ -22,7 +22,7 @@ use Rattle.net_tree.specs.Operations.{operation, reduction, is_minus}
 use Rattle.net_expr.specs.Numbers.{number_in, number, sized, turned, range_of}
 use Rattle.net_expr.specs.Operators.{apply, decided, truth, tuple_of}
 use Rattle.net_expr.specs.Items.{is_in, has_in, any_in, begins_range, has_part, new_dummy, needed, chosen, tuples_of, walking, opened, open_with}
-use Rattle.net_expr.specs.Rows.{start, with_key, fitted, fitted_alone, if_fits, onward, finished, selected, no_keys, as_set, listed, reduce}
+use Rattle.net_expr.specs.Rows.{start, with_key, match_component, match_whole, if_fits, onward, finished, selected, no_keys, as_set, listed, reduce}
 use Rattle.net_expr.specs.Widths.{width_by_form}
 
 abbrev pub number_value : Span → Option ℤ → Outcome Value
@@ -115,13 +115,13 @@ abbrev mutual
   pub left_place : Span → World → Tree → Outcome Value → Tuple → Place → Outcome (Option Place)
   left_place at w (tuple o x l c) own [] p = Ok (Some p)
   left_place at w (tuple o x l c) own (m ∷ ms) p =
-      and_then (fitted (span_of (tuple o x l c)) (new_dummy w p.scope x) (value w p.scope x) m p) (if_fits (places (span_of (tuple o x l c)) w l ms))
-  left_place at w x own t p = fitted_alone at (new_dummy w p.scope x) own t p
+      and_then (match_component (span_of (tuple o x l c)) (new_dummy w p.scope x) (value w p.scope x) m p) (if_fits (places (span_of (tuple o x l c)) w l ms))
+  left_place at w x own t p = match_whole at (new_dummy w p.scope x) own t p
 
   pub places : Span → World → Links → Tuple → Place → Outcome (Option Place)
   places at w none ms p = Ok (Some p)
   places at w (link o x l) [] p = Ok (Some p)
-  places at w (link o x l) (m ∷ ms) p = and_then (fitted at (new_dummy w p.scope x) (value w p.scope x) m p) (if_fits (places at w l ms))
+  places at w (link o x l) (m ∷ ms) p = and_then (match_component at (new_dummy w p.scope x) (value w p.scope x) m p) (if_fits (places at w l ms))
 
   -- the condition after the items
   pub holds : Span → World → Scope → Part → Outcome Bool

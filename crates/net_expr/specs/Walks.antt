@@ -13,7 +13,7 @@ use Rattle.net_fault.specs.Outcomes.{Outcome, and_then, rejected, each}
 use Rattle.net_expr.specs.Worlds.{World, Scope}
 use Rattle.net_expr.specs.Operators.{apply, decided}
 use Rattle.net_expr.specs.Items.{sides, any_in, has_part, new_dummy, needed, chosen, tuples_of, is_set}
-use Rattle.net_expr.specs.Rows.{start, with_key, fitted, if_fits, onward, selected, no_keys, listed}
+use Rattle.net_expr.specs.Rows.{start, with_key, match_component, if_fits, onward, selected, no_keys, listed}
 use Rattle.net_expr.specs.Widths.{width_by_form}
 use Rattle.net_expr.specs.Values.{value, values, place, left_place, places, walk, holds, either}
 
@@ -57,4 +57,4 @@ placed w i t p (Some q) = left_place (span_of i) w q.0 (value w p.scope q.0) t p
 -- matches the components of a tuple with the members
 abbrev pub component_places : Span → World → Tree → Links → Tuple → Place → Outcome (Option Place)
 component_places at w x l [] p = Ok (Some p)
-component_places at w x l (m ∷ ms) p = and_then (fitted at (new_dummy w p.scope x) (value w p.scope x) m p) (if_fits (places at w l ms))
+component_places at w x l (m ∷ ms) p = and_then (match_component at (new_dummy w p.scope x) (value w p.scope x) m p) (if_fits (places at w l ms))

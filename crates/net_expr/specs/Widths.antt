@@ -137,8 +137,8 @@ abbrev mutual
   with_items w f (link o i is) = with_items w (with_sides w f (sides i) (width w f.scope i) (is_set_form w f.scope i)) is
 
 -- braces with these items
-abbrev pub filled_width : World → Scope → Tree → Links → Option ℕ
-filled_width w s i is =
+abbrev pub items_width : World → Scope → Tree → Links → Option ℕ
+items_width w s i is =
     if has_in i || any_in is || is_set_form w s i
     then Some (with_items w (with_sides w (begin s) (sides i) (width w s i) (is_set_form w s i)) is).count
     else width w s i

@@ -2,7 +2,7 @@
 
 ghost use Rattle.std.specs.Prelude.{◌≡◌, ◌∷◌, [], Ok, None, not, pos, if◌then◌else◌};
 ghost use Rattle.net_tree.specs.Spans as trees;
-ghost use Rattle.net_tree.specs.declared.expr.Series.{out-Series};
+ghost use Rattle.net_tree.specs.declared.expr.Operands.{out-Operands};
 ghost use Rattle.net_tree.specs.View.{tree, braces_of, links_of, option_part};
 ghost use Rattle.net_expr.specs.Items as items;
 ghost use Rattle.net_expr.specs.Numbers as numbers;
@@ -30,7 +30,9 @@ use crate::world::Env;
 use net_fault::Fault;
 use net_lex::Token;
 use net_sets::Member;
-use net_tree::{Braces, Expr, Link, Part, Reducer, Reduction, Series, Sign, braces_span, span_of};
+use net_tree::{
+    Braces, Expr, Link, Operands, Part, Reducer, Reduction, Sign, braces_span, span_of,
+};
 use net_views::{Boxed, Items};
 use std::alloc::Global;
 
@@ -59,9 +61,9 @@ pub fn evaluate<'w, 's>(
             let (sign, operand) = parts.get();
             signed(alloc, env, scope, expr, sign, operand)
         }
-        Expr::Reduced(front, body) => reduced(alloc, env, scope, expr, front.get(), body.get()),
+        Expr::Reduction(front, body) => reduced(alloc, env, scope, expr, front.get(), body.get()),
         Expr::Chain(_, operands) => chain(alloc, env, scope, expr, operands.get()),
-        Expr::Choice(condition, branch, otherwise) => choice(
+        Expr::If(condition, branch, otherwise) => choice(
             alloc,
             env,
             scope,
@@ -80,13 +82,13 @@ fn subscripted<'w, 's>(
     scope: &Scope<'s>,
     whole: &Expr<'s>,
     name: &Token<'s>,
-    subscripts: &Series<'s>,
+    subscripts: &Operands<'s>,
 ) -> Result<Value<'w, 's>, Fault>
-    ensures { Refines (and_then (and_then (values.value env.now scope.now (tree (out-Series subscripts.now).first))
-        (λ v. values.values env.now scope.now (links_of (out-Series subscripts.now).more) (v ∷ [])))
+    ensures { Refines (and_then (and_then (values.value env.now scope.now (tree (out-Operands subscripts.now).first))
+        (λ v. values.values env.now scope.now (links_of (out-Operands subscripts.now).more) (v ∷ [])))
         (values.subscripted (trees.span_of (tree whole.now)) env.now scope.now name.now.text)) result }
 {
-    let Series { first, more } = subscripts;
+    let Operands { first, more } = subscripts;
     let key = key_of(alloc, env, scope, whole, first, more.as_slice())?;
     name_at(alloc, span_of(whole), env, scope, &name.text, key)
 }
@@ -97,12 +99,12 @@ fn tupled<'w, 's>(
     env: &Env<'w, 's>,
     scope: &Scope<'s>,
     whole: &Expr<'s>,
-    components: &Series<'s>,
+    components: &Operands<'s>,
 ) -> Result<Value<'w, 's>, Fault>
-    ensures { Refines (and_then (and_then (values.value env.now scope.now (tree (out-Series components.now).first))
-        (λ v. values.values env.now scope.now (links_of (out-Series components.now).more) (v ∷ []))) (values.tupled (trees.span_of (tree whole.now)))) result }
+    ensures { Refines (and_then (and_then (values.value env.now scope.now (tree (out-Operands components.now).first))
+        (λ v. values.values env.now scope.now (links_of (out-Operands components.now).more) (v ∷ []))) (values.tupled (trees.span_of (tree whole.now)))) result }
 {
-    let Series { first, more } = components;
+    let Operands { first, more } = components;
     let tuple = key_of(alloc, env, scope, whole, first, more.as_slice())?;
     Ok(Value::Several(tuple))
 }
@@ -190,12 +192,12 @@ fn chain<'w, 's>(
     env: &Env<'w, 's>,
     scope: &Scope<'s>,
     whole: &Expr<'s>,
-    operands: &Series<'s>,
+    operands: &Operands<'s>,
 ) -> Result<Value<'w, 's>, Fault>
-    ensures { Refines (and_then (values.value env.now scope.now (tree (out-Series operands.now).first)) (λ v.
-        if items.begins_range (links_of (out-Series operands.now).more)
-        then and_then (values.values env.now scope.now (links_of (out-Series operands.now).more) (v ∷ [])) (numbers.range_of (trees.span_of (tree whole.now)))
-        else values.chained (trees.span_of (tree whole.now)) env.now scope.now (links_of (out-Series operands.now).more) v)) result }
+    ensures { Refines (and_then (values.value env.now scope.now (tree (out-Operands operands.now).first)) (λ v.
+        if items.begins_range (links_of (out-Operands operands.now).more)
+        then and_then (values.values env.now scope.now (links_of (out-Operands operands.now).more) (v ∷ [])) (numbers.range_of (trees.span_of (tree whole.now)))
+        else values.chained (trees.span_of (tree whole.now)) env.now scope.now (links_of (out-Operands operands.now).more) v)) result }
 {
     let value = evaluate(alloc, env, scope, &operands.first)?;
     let more = operands.more.as_slice();

@@ -2,7 +2,7 @@
 
 ghost use Rattle.std.specs.Prelude.{◌∷◌};
 ghost use Rattle.net_tree.specs.Spans as trees;
-ghost use Rattle.net_tree.specs.declared.expr.Series.{out-Series};
+ghost use Rattle.net_tree.specs.declared.expr.Operands.{out-Operands};
 ghost use Rattle.net_tree.specs.View.{tree, links_of};
 ghost use Rattle.net_expr.specs.Items as items;
 ghost use Rattle.net_fault.specs.Outcomes.{Refines};
@@ -16,7 +16,7 @@ use crate::row::{Place, bind_first, matches_as_tuple, matches_member, stay, with
 use crate::world::Env;
 use net_fault::Fault;
 use net_sets::{Member, Tuple};
-use net_tree::{Expr, Link, Series, sides_of};
+use net_tree::{Expr, Link, Operands, sides_of};
 use std::alloc::Global;
 
 /// Returns the state after an item for one tuple of its set, or `None` if the tuple does not match.
@@ -56,10 +56,10 @@ fn left_place<'s>(
         Expr::Leaf(_) | Expr::Indexed(_) | Expr::Parens(_) | Expr::Negated(_) => {
             alone(alloc, env, item, left, tuple, place)
         }
-        Expr::Braced(_) | Expr::Signed(_) | Expr::Reduced(_, _) | Expr::Chain(_, _) => {
+        Expr::Braced(_) | Expr::Signed(_) | Expr::Reduction(_, _) | Expr::Chain(_, _) => {
             alone(alloc, env, item, left, tuple, place)
         }
-        Expr::Choice(_, _, _) | Expr::Net(_) => alone(alloc, env, item, left, tuple, place),
+        Expr::If(_, _, _) | Expr::Net(_) => alone(alloc, env, item, left, tuple, place),
     }
 }
 
@@ -73,7 +73,7 @@ fn alone<'s>(
     tuple: &Tuple<'s>,
     place: &Place<'s>,
 ) -> Result<Option<Place<'s>>, Fault>
-    ensures { Refines (rows.fitted_alone (trees.span_of (tree item.now)) (items.new_dummy env.now place.now.scope (tree left.now))
+    ensures { Refines (rows.match_whole (trees.span_of (tree item.now)) (items.new_dummy env.now place.now.scope (tree left.now))
         (values.value env.now place.now.scope (tree left.now)) tuple.now place.now) result }
 {
     match new_dummy(env, &place.scope, left) {
@@ -91,12 +91,12 @@ fn components<'s>(
     alloc: Global,
     env: &Env<'_, 's>,
     whole: &Expr<'s>,
-    series: &Series<'s>,
+    series: &Operands<'s>,
     tuple: &Tuple<'s>,
     place: &Place<'s>,
 ) -> Result<Option<Place<'s>>, Fault>
-    ensures { Refines (walks.component_places (trees.span_of (tree whole.now)) env.now (tree (out-Series series.now).first)
-        (links_of (out-Series series.now).more) tuple.now place.now) result }
+    ensures { Refines (walks.component_places (trees.span_of (tree whole.now)) env.now (tree (out-Operands series.now).first)
+        (links_of (out-Operands series.now).more) tuple.now place.now) result }
 {
     match tuple.as_slice() {
         [] => stay(alloc, place),
@@ -163,7 +163,7 @@ fn fit<'s>(
     member: &Member<'s>,
     place: Place<'s>,
 ) -> Result<Option<Place<'s>>, Fault>
-    ensures { Refines (rows.fitted (trees.span_of (tree whole.now)) (items.new_dummy env.now place.entry.scope (tree component.now))
+    ensures { Refines (rows.match_component (trees.span_of (tree whole.now)) (items.new_dummy env.now place.entry.scope (tree component.now))
         (values.value env.now place.entry.scope (tree component.now)) member.now place.entry) result }
 {
     match new_dummy(env, &place.scope, component) {

@@ -114,8 +114,8 @@ fn fits_needed(dimension: Option<u8>, left: &Expr<'_>) -> bool
         Expr::Tuple(parts) => fits_size(dimension, links_len(parts.get().1.more.as_slice())),
         Expr::Leaf(_) => fits_size(dimension, 0),
         Expr::Indexed(_) | Expr::Parens(_) | Expr::Negated(_) | Expr::Braced(_) => true,
-        Expr::Signed(_) | Expr::Reduced(_, _) | Expr::Chain(_, _) => true,
-        Expr::Choice(_, _, _) | Expr::Net(_) => true,
+        Expr::Signed(_) | Expr::Reduction(_, _) | Expr::Chain(_, _) => true,
+        Expr::If(_, _, _) | Expr::Net(_) => true,
     }
 }
 

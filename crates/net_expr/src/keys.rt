@@ -283,7 +283,7 @@ fn keep<'s>(
     width: u8,
     found: Items<Row<'s>>,
 ) -> Result<Keys<'s>, Fault>
-    ensures { Refines (and_then (rows.kept (λ q. values.holds at env.now q (option_part condition.now)) found.entry [])
+    ensures { Refines (and_then (rows.filter_rows (λ q. values.holds at env.now q (option_part condition.now)) found.entry [])
         (λ left. Ok (rows.keys width left))) result }
 {
     if !has_part(condition) {

@@ -68,8 +68,8 @@ fn selecting_left<'s>(
             selecting_first(env, scope, &series.first, series.more.as_slice())
         }
         Expr::Leaf(_) | Expr::Indexed(_) | Expr::Parens(_) | Expr::Negated(_) => None,
-        Expr::Braced(_) | Expr::Signed(_) | Expr::Reduced(_, _) | Expr::Chain(_, _) => None,
-        Expr::Choice(_, _, _) | Expr::Net(_) => None,
+        Expr::Braced(_) | Expr::Signed(_) | Expr::Reduction(_, _) | Expr::Chain(_, _) => None,
+        Expr::If(_, _, _) | Expr::Net(_) => None,
     }
 }
 

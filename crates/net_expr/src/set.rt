@@ -191,7 +191,7 @@ fn among<'s>(
     dimension: Option<u8>,
     set: &TupleSet<'s>,
 ) -> Result<bool, Fault>
-    ensures { Yields (sets.among (trees.span_of (tree whole.now)) tuple.now dimension set.now) result }
+    ensures { Yields (sets.membership (trees.span_of (tree whole.now)) tuple.now dimension set.now) result }
 {
     if fits(dimension, tuple.len()) {
         Ok(set.contains(tuple))
@@ -230,7 +230,7 @@ fn inside<'s>(
     first: &TupleSet<'s>,
     second: &TupleSet<'s>,
 ) -> Result<bool, Fault>
-    ensures { Yields (sets.inside (trees.span_of (tree whole.now)) dimension first.now second.now) result }
+    ensures { Yields (sets.inclusion (trees.span_of (tree whole.now)) dimension first.now second.now) result }
 {
     match dimension {
         None => Err(reject_tree(ErrorCode::Arity, whole)),

@@ -110,9 +110,9 @@ fn is_set_form<'s>(env: &Env<'_, 's>, scope: &Scope<'s>, expr: &Expr<'s>) -> boo
         Expr::Parens(parts) => is_set_form(env, scope, &parts.get().1),
         Expr::Braced(_) => true,
         Expr::Chain(_, operands) => begin_set(operands.get().more.as_slice()),
-        Expr::Choice(_, branch, _) => is_set_form(env, scope, &branch.get().value),
+        Expr::If(_, branch, _) => is_set_form(env, scope, &branch.get().value),
         Expr::Indexed(_) | Expr::Tuple(_) | Expr::Negated(_) | Expr::Signed(_) => false,
-        Expr::Reduced(_, _) | Expr::Net(_) => false,
+        Expr::Reduction(_, _) | Expr::Net(_) => false,
     }
 }
 
@@ -214,10 +214,10 @@ fn with_left<'s>(
         Expr::Leaf(_) | Expr::Indexed(_) | Expr::Parens(_) | Expr::Negated(_) => {
             with_component(alloc, env, form, left)
         }
-        Expr::Braced(_) | Expr::Signed(_) | Expr::Reduced(_, _) | Expr::Chain(_, _) => {
+        Expr::Braced(_) | Expr::Signed(_) | Expr::Reduction(_, _) | Expr::Chain(_, _) => {
             with_component(alloc, env, form, left)
         }
-        Expr::Choice(_, _, _) | Expr::Net(_) => with_component(alloc, env, form, left),
+        Expr::If(_, _, _) | Expr::Net(_) => with_component(alloc, env, form, left),
     }
 }
 
@@ -257,9 +257,9 @@ fn tree_width<'s>(
             let series = operands.get();
             chain_width(alloc, env, scope, &series.first, series.more.as_slice())
         }
-        Expr::Choice(_, branch, _) => tree_width(alloc, env, scope, &branch.get().value),
+        Expr::If(_, branch, _) => tree_width(alloc, env, scope, &branch.get().value),
         Expr::Indexed(_) | Expr::Negated(_) | Expr::Signed(_) => Ok(Some(1)),
-        Expr::Reduced(_, _) | Expr::Net(_) => Ok(Some(1)),
+        Expr::Reduction(_, _) | Expr::Net(_) => Ok(Some(1)),
     }
 }
 
@@ -307,7 +307,7 @@ fn filled_width<'s>(
     item: &Expr<'s>,
     more: &[Link<'s>],
 ) -> Result<Option<u8>, AllocError>
-    ensures { IfOk result (λ d. d ≡ widths.filled_width env.now scope.now (tree item.now) (links_of more.now)) }
+    ensures { IfOk result (λ d. d ≡ widths.items_width env.now scope.now (tree item.now) (links_of more.now)) }
 {
     if has_in(item) || any_in(more) || is_set_form(env, scope, item) {
         let form = items_form(alloc, env, scope, item, more)?;

@@ -74,7 +74,7 @@ impl<'s> World<'s> {
     fn find_among(&self, known: usize, name: &Excerpt<'s>) -> Option<&Entry<'s>>
         ensures { option_copied result ≡ entry_of (take known self.now) name.now }
     {
-        self.entries.get_among(known, name)
+        self.entries.get_among_first(known, name)
     }
 }
 

@@ -10,12 +10,12 @@ use Rattle.net_fault.specs.declared.diagnostic.Diagnostic.{Diagnostic}
 use Rattle.net_fault.specs.declared.fault.Fault.{Fault}
 use Rattle.net_fault.specs.declared.fault.Fault.TheVariants.{OutOfMemory, At}
 
-abbrev pub found : Language → ErrorCode → Span → Detail → Diagnostic
-found text d at x = record { error_code = d; text = text; at = at; detail = x }
+abbrev pub diagnostic_at : Language → ErrorCode → Span → Detail → Diagnostic
+diagnostic_at text d at x = record { error_code = d; text = text; at = at; detail = x }
 
 -- an error without a detail
 abbrev pub bare : Language → ErrorCode → Span → Diagnostic
-bare text d at = found text d at Nothing
+bare text d at = diagnostic_at text d at Nothing
 
 abbrev pub Outcome : Type 0 → Type 0
 Outcome A = Result A Diagnostic
@@ -26,7 +26,7 @@ and_then (Ok a) f = f a
 and_then (Err r) f = Err r
 
 abbrev pub rejected_as : {A : Type 0} → Language → ErrorCode → Span → Detail → Outcome A
-rejected_as text d at x = Err (found text d at x)
+rejected_as text d at x = Err (diagnostic_at text d at x)
 
 -- an error in the model, without a detail
 abbrev pub rejected : {A : Type 0} → ErrorCode → Span → Outcome A
@@ -42,8 +42,8 @@ rejected_there d at = rejected_as Data d at Nothing
 
 -- f applied to each element in turn, with the result so far
 abbrev pub each : {A B : Type 0} → (A → B → Outcome B) → List A → B → Outcome B
-each f [] found = Ok found
-each f (x ∷ xs) found = and_then (f x found) (each f xs)
+each f [] diagnostic_at = Ok diagnostic_at
+each f (x ∷ xs) diagnostic_at = and_then (f x diagnostic_at) (each f xs)
 
 -- the code returns what the definition gives, unless memory runs out
 abbrev pub Refines : {A : Type 0} → Outcome A → Result A Fault → Type 0

@@ -1,7 +1,7 @@
 //! The error type of the pipeline: an error in a text, or out of memory.
 
 ghost use Rattle.std.specs.Prelude.{◌≡◌};
-ghost use Rattle.net_fault.specs.Outcomes.{bare, found};
+ghost use Rattle.net_fault.specs.Outcomes.{bare, diagnostic_at};
 ghost use Rattle.net_fault.specs.declared.fault.Fault.TheVariants.{At};
 ghost use Rattle.net_fault.specs.declared.language.Language.TheVariants.{Model as InModel, Data as InData};
 
@@ -24,7 +24,7 @@ pub enum Fault {
 impl Fault {
     /// Builds an error in a file, with its detail.
     pub fn of_text(text: Language, error_code: ErrorCode, at: Span, detail: Detail) -> Fault
-        ensures { result ≡ At (found text error_code at detail) }
+        ensures { result ≡ At (diagnostic_at text error_code at detail) }
     {
         Fault::At(Diagnostic {
             error_code,

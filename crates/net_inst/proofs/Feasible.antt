@@ -22,7 +22,7 @@ use Rattle.net_expr.specs.Values.{value}
 use Rattle.net_expr.specs.Worlds.{Name, World, Scope}
 use Rattle.net_linear.specs.Conditions.{number_of}
 use Rattle.net_linear.specs.Amounts.{as_number}
-use Rattle.net_inst.specs.AsWritten.{Label, Node, Arc, nodes, arcs, same_label, Assignment, number_on, numbers_on, by_label, is_named, from_end, to_end, carried, net_inflow, amount, IsWithin, IsMet}
+use Rattle.net_inst.specs.AsWritten.{Label, Node, Arc, nodes, arcs, same_label, Assignment, number_on, numbers_on, by_label, is_named, from_end, to_end, flow_at_ends, net_inflow, amount, IsWithin, IsMet}
 use Rattle.net_inst.specs.Instances.{seen_as}
 use Rattle.net_inst.specs.Laws.{IsInSides, IsRangeOf, IsPlaceOf, IsBoundedAs, HasEndsOf, HaveFeasible, HaveAssignments}
 use Rattle.net_inst.specs.Nodes.{sides_of}
@@ -85,20 +85,20 @@ named_as labels v l (Some r) (Some u) d e h = ap (λ (n : Name). bytes_eq n l.na
 choices : (b c : Bool) (y : ℤ) (m n : ℤ) → b ≡ c → m ≡ n → (if b then y else pos 0) +ℤ m ≡ (if c then y else pos 0) +ℤ n
 choices b c y m n e f = ap (λ (t : Bool). (if t then y else pos 0) +ℤ m) e ∙ ap (λ (z : ℤ). (if c then y else pos 0) +ℤ z) f
 
-brought : (labels : List Label) (v : ℕ) (l : Label) → IsDistinct same_label labels → slice_get labels v ≡ Some l → (all : List Arc) (xs : List InstArc) (x : Assignment) → AllZip (HasEndsOf labels) all xs → carried to_end l all x ≡ flow_on (enters v) xs (numbers_on x all)
+brought : (labels : List Label) (v : ℕ) (l : Label) → IsDistinct same_label labels → slice_get labels v ≡ Some l → (all : List Arc) (xs : List InstArc) (x : Assignment) → AllZip (HasEndsOf labels) all xs → flow_at_ends to_end l all x ≡ flow_on (enters v) xs (numbers_on x all)
 brought labels v l d e [] [] x h = refl
 brought labels v l d e [] (q ∷ xs) x h = absurd h
 brought labels v l d e (a ∷ all) [] x h = absurd h
 brought labels v l d e (a ∷ all) (q ∷ xs) x h = choices (is_named l (to_end a)) (is_node v q.head) (number_on x a) _ _ (named_as labels v l (to_end a) q.head d e h.0.to) (brought labels v l d e all xs x h.1)
 
-taken : (labels : List Label) (v : ℕ) (l : Label) → IsDistinct same_label labels → slice_get labels v ≡ Some l → (all : List Arc) (xs : List InstArc) (x : Assignment) → AllZip (HasEndsOf labels) all xs → carried from_end l all x ≡ flow_on (leaves v) xs (numbers_on x all)
+taken : (labels : List Label) (v : ℕ) (l : Label) → IsDistinct same_label labels → slice_get labels v ≡ Some l → (all : List Arc) (xs : List InstArc) (x : Assignment) → AllZip (HasEndsOf labels) all xs → flow_at_ends from_end l all x ≡ flow_on (leaves v) xs (numbers_on x all)
 taken labels v l d e [] [] x h = refl
 taken labels v l d e [] (q ∷ xs) x h = absurd h
 taken labels v l d e (a ∷ all) [] x h = absurd h
 taken labels v l d e (a ∷ all) (q ∷ xs) x h = choices (is_named l (from_end a)) (is_node v q.tail) (number_on x a) _ _ (named_as labels v l (from_end a) q.tail d e h.0.from) (taken labels v l d e all xs x h.1)
 
 inflow_is : (labels : List Label) (v : ℕ) (l : Label) → IsDistinct same_label labels → slice_get labels v ≡ Some l → (all : List Arc) (xs : List InstArc) (x : Assignment) → AllZip (HasEndsOf labels) all xs → net_inflow all x l ≡ by_number.net_inflow xs (numbers_on x all) v
-inflow_is labels v l d e all xs x h = ap (λ (m : ℤ). m -ℤ carried from_end l all x) (brought labels v l d e all xs x h) ∙ ap (λ (m : ℤ). flow_on (enters v) xs (numbers_on x all) -ℤ m) (taken labels v l d e all xs x h)
+inflow_is labels v l d e all xs x h = ap (λ (m : ℤ). m -ℤ flow_at_ends from_end l all x) (brought labels v l d e all xs x h) ∙ ap (λ (m : ℤ). flow_on (enters v) xs (numbers_on x all) -ℤ m) (taken labels v l d e all xs x h)
 
 -- ---- bounds
 

@@ -40,7 +40,7 @@ use Rattle.net_inst.specs.Fitting.{IsBuiltOf, IsPriced}
 use Rattle.net_inst.specs.Groups.{group_with}
 use Rattle.net_inst.specs.Indexings.{indexing_in}
 use Rattle.net_inst.specs.Instances.{with_coefficients}
-use Rattle.net_inst.specs.Nodes.{BuiltNodes, next_range, ranges_at, nodes_by, with_nodes, among, numbered, node_at, name_in, node_of, node_by, node_named, node_sides}
+use Rattle.net_inst.specs.Nodes.{BuiltNodes, next_range, ranges_at, nodes_by, with_nodes, index_within, numbered, node_at, name_in, node_of, node_by, node_named, node_sides}
 use Rattle.net_inst.specs.Numbers.{number_in, number}
 use Rattle.net_fault.specs.Outcomes.{Outcome, and_then, rejected_of, rejected}
 use Rattle.net_inst.specs.Rejections.{rejected_name}
@@ -68,7 +68,7 @@ number_small : (w : World) (s : Scope) (t : Tree) (n : ℤ) → number w s t ≡
 number_small w s t n h = both (and_then (value w s t) (member (span_of t))) (number_in (span_of t)) n (is_small n ≡ true) h (λ m e k. in_small (span_of t) m n k)
 
 -- nodes that are named
-among_below : (count : ℕ) (at : Span) (d : Detail) (v n : ℕ) → among count at d v ≡ Ok n → n < count
+among_below : (count : ℕ) (at : Span) (d : Detail) (v n : ℕ) → index_within count at d v ≡ Ok n → n < count
 among_below count at d v n h = step (nat_lt v count) refl h
   where
     step : (b : Bool) → nat_lt v count ≡ b → (if b then Ok v else rejected_of NoSuchNode at d) ≡ Ok n → n < count

@@ -21,7 +21,7 @@ use Rattle.net_linear.specs.Arcs.{declared}
 use Rattle.net_linear.specs.Conditions.{range_in}
 use Rattle.net_linear.specs.Objectives.{key_of}
 use Rattle.net_inst.specs.Indexings.{indexing_in}
-use Rattle.net_inst.specs.Nodes.{BuiltNodes, of_node, node_sides, next_range, ranges_at, nodes_by, with_nodes, among, numbered, node_at, indexed_node, node_named}
+use Rattle.net_inst.specs.Nodes.{BuiltNodes, of_node, node_sides, next_range, ranges_at, nodes_by, with_nodes, index_within, numbered, node_at, indexed_node, node_named}
 use Rattle.net_inst.specs.Numbers.{number_in, number}
 use Rattle.net_fault.specs.Places.{Places, Finds}
 use Rattle.net_tree.specs.Standing.{Stands, LinksStand, ConditionHasSpans, IndexingHasSpans}
@@ -40,7 +40,7 @@ module _ (P : Places) (at : Span) (h : P Model at) where
   finds_of_node d None = h
   finds_of_node d (Some r) = tt
 
-  finds_among : (count : ℕ) (d : Detail) (v : ℕ) → Finds P (among count at d v)
+  finds_among : (count : ℕ) (d : Detail) (v : ℕ) → Finds P (index_within count at d v)
   finds_among count d v = finds_if P (nat_lt v count) _ _ tt h
 
   finds_numbered : (count : ℕ) (d : Detail) (first : ℕ) (place : Option ℕ) → Finds P (numbered count at d first place)

@@ -13,7 +13,7 @@ use Rattle.net_tree.specs.declared.operator.Words.TheVariants.{One, Two}
 use Rattle.net_tree.specs.declared.role.Role.{Role}
 use Rattle.net_tree.specs.Operations.{operation, operation_in, operations}
 use Rattle.net_tree.specs.Precedence.{of_comma, of_reduction, of_sum, of_relation, of_union, of_if}
-use Rattle.net_tree.specs.Role.{role_of, role_as, is_sign, marks, keys, found_in}
+use Rattle.net_tree.specs.Role.{role_of, role_as, is_sign, marks, keys, role_in}
 use Rattle.net_tree.specs.Tree.{Tree, Links, Part, Braces, leaf, indexed, parens, tuple, negated, braced, signed, reduced, chain, choice, net, none, link, absent, part, empty, filled, Condition, unsaid, one, between}
 use Rattle.net_tree.specs.WellFormed.{precedence, room, is_value, IsWellFormed, AreWellFormed, IsElse, IsFilter, AreBraces}
 use Rattle.net_expr.specs.Worlds.{Name}
@@ -89,11 +89,11 @@ second_of : (b c : Bool) → (b && c) ≡ true → c ≡ true
 second_of true c f = f
 second_of false c f = cc
 
-in_table : (table : List (List ℕ × Role)) → list_all fits table ≡ true → (text : List ℕ) → is_sign (found_in table text) ≡ true → signs.is_sign (operation_in operations text) ≡ true
+in_table : (table : List (List ℕ × Role)) → list_all fits table ≡ true → (text : List ℕ) → is_sign (role_in table text) ≡ true → signs.is_sign (operation_in operations text) ≡ true
 in_table [] h text e = cc
 in_table (word ∷ others) h text e = go (bytes_eq word.0 text) refl e (in_table others (second_of (fits word) (list_all fits others) h) text)
   where
-    go : (b : Bool) → bytes_eq word.0 text ≡ b → is_sign (if b then word.1 else found_in others text) ≡ true → (is_sign (found_in others text) ≡ true → signs.is_sign (operation_in operations text) ≡ true)
+    go : (b : Bool) → bytes_eq word.0 text ≡ b → is_sign (if b then word.1 else role_in others text) ≡ true → (is_sign (role_in others text) ≡ true → signs.is_sign (operation_in operations text) ≡ true)
         → signs.is_sign (operation_in operations text) ≡ true
     go true f i more =
         let own : signs.is_sign (operation_in operations word.0) ≡ true = subst (λ (c : Bool). (if c then signs.is_sign (operation_in operations word.0) else true) ≡ true) i (first_of (fits word) (list_all fits others) h) in

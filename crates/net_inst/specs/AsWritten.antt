@@ -151,13 +151,13 @@ is_named l None = false
 is_named l (Some r) = bytes_eq r.0 l.name && same_tuple r.1 l.key
 
 -- the total value of the arcs whose end is the node; the function `end` is `from_end` or `to_end`
-abbrev pub carried : (Arc → Option (Name × Tuple)) → Label → List Arc → Assignment → ℤ
-carried end v [] x = pos 0
-carried end v (a ∷ all) x = (if is_named v (end a) then number_on x a else pos 0) +ℤ carried end v all x
+abbrev pub flow_at_ends : (Arc → Option (Name × Tuple)) → Label → List Arc → Assignment → ℤ
+flow_at_ends end v [] x = pos 0
+flow_at_ends end v (a ∷ all) x = (if is_named v (end a) then number_on x a else pos 0) +ℤ flow_at_ends end v all x
 
 -- inflow minus outflow of a node
 abbrev pub net_inflow : List Arc → Assignment → Label → ℤ
-net_inflow all x v = carried to_end v all x -ℤ carried from_end v all x
+net_inflow all x v = flow_at_ends to_end v all x -ℤ flow_at_ends from_end v all x
 
 -- the value of an expression without arcs; 0 on an error, which `has_network` of `IsBuilt` excludes
 abbrev pub amount : World → Scope → Tree → ℤ

@@ -62,13 +62,13 @@ nodes_by w n c d i =
 abbrev pub with_nodes : World → Token → Option Braces → Condition → BuiltNodes → Outcome BuiltNodes
 with_nodes w n b c d = and_then (indexing_in w b) (nodes_by w n c d)
 
-abbrev pub among : ℕ → Span → Detail → ℕ → Outcome ℕ
-among count at d v = if nat_lt v count then Ok v else rejected_of NoSuchNode at d
+abbrev pub index_within : ℕ → Span → Detail → ℕ → Outcome ℕ
+index_within count at d v = if nat_lt v count then Ok v else rejected_of NoSuchNode at d
 
 -- the node with an index in a declaration
 abbrev pub numbered : ℕ → Span → Detail → ℕ → Option ℕ → Outcome ℕ
 numbered count at d first None = rejected_of NoSuchNode at d
-numbered count at d first (Some place) = among count at d (first + place)
+numbered count at d first (Some place) = index_within count at d (first + place)
 
 -- the node with a name and a key
 abbrev pub node_at : ℕ → Span → Name → Option ArcKeys → Tuple → Outcome ℕ

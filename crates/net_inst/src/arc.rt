@@ -14,7 +14,7 @@ use crate::fault::reject;
 use crate::node_name::node_named;
 use crate::number::number_of;
 use crate::phrases::ArcParts;
-use crate::visible::Visible;
+use crate::visible::ArcEnv;
 use net_expr::{Row, Scope, reported_reference};
 use net_fault::{ErrorCode, Fault};
 use net_lex::Token;
@@ -44,7 +44,7 @@ pub(crate) struct ArcText<'a, 's> {
 /// Returns the node at an end, or `None` if the end is not given.
 fn end_at<'s>(
     alloc: Global,
-    visible: &Visible<'_, 's>,
+    visible: &ArcEnv<'_, 's>,
     scope: &Scope<'s>,
     end: &Option<&Expr<'s>>,
 ) -> Result<Option<u32>, Fault>
@@ -62,7 +62,7 @@ fn end_at<'s>(
 /// Builds an arc with these bounds and its ends.
 fn with_ends<'s>(
     alloc: Global,
-    visible: &Visible<'_, 's>,
+    visible: &ArcEnv<'_, 's>,
     scope: &Scope<'s>,
     parts: &ArcParts<'_, 's>,
     lower: i64,
@@ -83,7 +83,7 @@ fn with_ends<'s>(
 /// Returns the arc at a key: evaluates first its bounds, then its ends.
 pub(crate) fn arc_at<'s>(
     alloc: Global,
-    visible: &Visible<'_, 's>,
+    visible: &ArcEnv<'_, 's>,
     text: &ArcText<'_, 's>,
     count: &Option<u8>,
     row: &Row<'s>,

@@ -19,7 +19,7 @@ use crate::names::NameList;
 use crate::objective_form::part_form;
 use crate::phrases::parts_of;
 use crate::price::add_phrases;
-use crate::visible::Visible;
+use crate::visible::ArcEnv;
 use net_expr::{Env, Row};
 use net_fault::{ErrorCode, Fault};
 use net_lex::Token;
@@ -67,7 +67,7 @@ impl<'s> ArcDraft<'s> {
     fn add_arc(
         &mut self,
         alloc: Global,
-        visible: &Visible<'_, 's>,
+        visible: &ArcEnv<'_, 's>,
         text: &ArcText<'_, 's>,
         count: &Option<u8>,
         row: &Row<'s>,
@@ -98,7 +98,7 @@ impl<'s> ArcDraft<'s> {
     fn add_rows(
         &mut self,
         alloc: Global,
-        visible: &Visible<'_, 's>,
+        visible: &ArcEnv<'_, 's>,
         text: &ArcText<'_, 's>,
         count: &Option<u8>,
         rows: &[Row<'s>],
@@ -131,7 +131,7 @@ impl<'s> ArcDraft<'s> {
     fn declare_at(
         &mut self,
         alloc: Global,
-        visible: &Visible<'_, 's>,
+        visible: &ArcEnv<'_, 's>,
         text: &ArcText<'_, 's>,
         indexing: &Indexing<'s>,
     ) -> Result<(), Fault>
@@ -149,7 +149,7 @@ impl<'s> ArcDraft<'s> {
     fn declare_said(
         &mut self,
         alloc: Global,
-        visible: &Visible<'_, 's>,
+        visible: &ArcEnv<'_, 's>,
         text: &ArcText<'_, 's>,
         braces: &Option<Braces<'s>>,
     ) -> Result<(), Fault>
@@ -166,7 +166,7 @@ impl<'s> ArcDraft<'s> {
     pub(crate) fn declare(
         &mut self,
         alloc: Global,
-        visible: &Visible<'_, 's>,
+        visible: &ArcEnv<'_, 's>,
         name: &Token<'s>,
         braces: &Option<Braces<'s>>,
         phrases: &[Phrase<'s>],

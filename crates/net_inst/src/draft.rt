@@ -10,7 +10,7 @@ use crate::arc_draft::ArcDraft;
 use crate::fault::reject_name;
 use crate::goal::ChosenObjective;
 use crate::node::NodeDraft;
-use crate::visible::Visible;
+use crate::visible::ArcEnv;
 use net_expr::{Env, World};
 use net_fault::{ErrorCode, Fault};
 use net_lex::Token;
@@ -157,7 +157,7 @@ impl<'s> Draft<'s> {
     ) -> Result<(), Fault>
         ensures { Updates (found.with_arc_declaration env.now name.now (indexing_of braces.now) (map phrase_of phrases.now) self.old) result self.new }
     {
-        let visible = Visible {
+        let visible = ArcEnv {
             env,
             nodes: &self.nodes,
             goal: &self.goal,

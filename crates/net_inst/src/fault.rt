@@ -1,7 +1,7 @@
 //! Building errors about nodes, arcs and objectives.
 
 ghost use Rattle.std.specs.Prelude.{◌≡◌, IfOk};
-ghost use Rattle.net_fault.specs.Outcomes.{found};
+ghost use Rattle.net_fault.specs.Outcomes.{diagnostic_at};
 ghost use Rattle.net_fault.specs.declared.detail.Detail.TheVariants.{Reported};
 ghost use Rattle.net_fault.specs.declared.fault.Fault.TheVariants.{At};
 ghost use Rattle.net_fault.specs.declared.language.Language.TheVariants.{Model as InModel};
@@ -12,7 +12,7 @@ use std::alloc::{AllocError, Global};
 
 /// Builds an error with its span and its detail.
 pub(crate) fn reject(error_code: ErrorCode, at: Span, detail: Detail) -> Fault
-    ensures { result ≡ At (found InModel error_code at detail) }
+    ensures { result ≡ At (diagnostic_at InModel error_code at detail) }
 {
     Fault::of_text(Language::Model, error_code, at, detail)
 }
@@ -23,7 +23,7 @@ pub(crate) fn reject_name(
     error_code: ErrorCode,
     name: &Token<'_>,
 ) -> Result<Fault, AllocError>
-    ensures { IfOk result (λ f. f ≡ At (found InModel error_code name.now.span (Reported name.now.text))) }
+    ensures { IfOk result (λ f. f ≡ At (diagnostic_at InModel error_code name.now.span (Reported name.now.text))) }
 {
     let detail = Detail::of_name(alloc, &name.text)?;
     Ok(reject(error_code, name.span, detail))

@@ -12,7 +12,7 @@ ghost use Rattle.net_fault.specs.declared.error_code.ErrorCode.TheVariants.{NoSu
 ghost use Rattle.net_fault.specs.declared.fault.Fault.TheVariants.{At};
 ghost use Rattle.net_inst.specs.Nodes as found;
 ghost use Rattle.net_fault.specs.declared.language.Language.TheVariants.{Model as InModel};
-ghost use Rattle.net_fault.specs.Outcomes.{Refines, found as diagnostic};
+ghost use Rattle.net_fault.specs.Outcomes.{Refines, diagnostic_at as diagnostic};
 
 use crate::fault::reject;
 use crate::node::NodeDraft;
@@ -73,7 +73,7 @@ fn among(
     number: usize,
 ) -> Result<u32, Fault>
     requires { count ≤ node_limit }
-    ensures value { Refines (found.among count reference.now.at (worlds.reference reference.now.name.now reference.now.count reference.now.key.now)
+    ensures value { Refines (found.index_within count reference.now.at (worlds.reference reference.now.name.now reference.now.count reference.now.key.now)
         number) result }
 {
     if number < count {
@@ -167,8 +167,8 @@ fn name_in<'a, 's>(
             Some((name, Some((&series.first, series.more.as_slice()))))
         }
         Expr::Parens(_) | Expr::Tuple(_) | Expr::Negated(_) | Expr::Braced(_) => None,
-        Expr::Signed(_) | Expr::Reduced(_, _) | Expr::Chain(_, _) => None,
-        Expr::Choice(_, _, _) | Expr::Net(_) => None,
+        Expr::Signed(_) | Expr::Reduction(_, _) | Expr::Chain(_, _) => None,
+        Expr::If(_, _, _) | Expr::Net(_) => None,
     }
 }
 

@@ -9,7 +9,7 @@ ghost use Rattle.net_fault.specs.Outcomes.{Updates};
 
 use crate::goal::ChosenObjective;
 use crate::number::number_of;
-use crate::visible::Visible;
+use crate::visible::ArcEnv;
 use net_expr::{Env, Scope};
 use net_fault::Fault;
 use net_linear::{Affine, with_price};
@@ -62,7 +62,7 @@ fn add_value<'s>(
 /// objectives.
 fn add_phrase<'s>(
     alloc: Global,
-    visible: &Visible<'_, 's>,
+    visible: &ArcEnv<'_, 's>,
     scope: &Scope<'s>,
     arc: usize,
     body: &Body<'s>,
@@ -86,7 +86,7 @@ fn add_phrase<'s>(
 /// Adds the contributions of all phrases to the coefficient of an arc, in text order.
 pub(crate) fn add_phrases<'s>(
     alloc: Global,
-    visible: &Visible<'_, 's>,
+    visible: &ArcEnv<'_, 's>,
     scope: &Scope<'s>,
     arc: usize,
     phrases: &[Phrase<'s>],

@@ -6,7 +6,7 @@ use net_expr::Env;
 
 /// What is visible to a declaration of arcs: what is declared before it.
 #[derive(Clone, Copy)]
-pub(crate) struct Visible<'a, 's> {
+pub(crate) struct ArcEnv<'a, 's> {
     /// The sets and parameters.
     pub(crate) env: &'a Env<'a, 's>,
     pub(crate) nodes: &'a NodeDraft<'s>,

@@ -26,7 +26,7 @@ use Rattle.net_lex.specs.declared.token.Kind.TheVariants as kinds
 use Rattle.net_fault.specs.declared.error_code.ErrorCode.TheVariants.{KindMismatch, ValueTooLarge}
 use Rattle.net_tree.specs.declared.role.Role.{Role}
 use Rattle.net_tree.specs.declared.operator.Words.TheVariants as words
-use Rattle.net_tree.specs.Role.{role_of, role_as, found_in, marks, keys}
+use Rattle.net_tree.specs.Role.{role_of, role_as, role_in, marks, keys}
 use Rattle.net_expr.specs.Limits.{is_small}
 use Rattle.std.proofs.lemmas.Slice.Eq.{bytes_eq-Decides}
 use Rattle.net_tree.specs.Erasure.{expression, is_outflow}
@@ -189,7 +189,7 @@ is_of_is AtLeast _ e = cc
 abbrev fits : List ℕ × Role → Bool
 fits word = is_of (comparison_in word.1) (operation_in operations word.0)
 
-in_table : (table : List (List ℕ × Role)) → list_all fits table ≡ true → (text : List ℕ) (k : Comparison) → comparison_in (found_in table text) ≡ Some k → operation_in operations text ≡ op_of k
+in_table : (table : List (List ℕ × Role)) → list_all fits table ≡ true → (text : List ℕ) (k : Comparison) → comparison_in (role_in table text) ≡ Some k → operation_in operations text ≡ op_of k
 in_table [] h text k e = cc
 in_table (word ∷ others) h text k e = go (bytes_eq word.0 text) refl e (in_table others (second_of (fits word) (list_all fits others) h) text k)
   where
@@ -201,7 +201,7 @@ in_table (word ∷ others) h text k e = go (bytes_eq word.0 text) refl e (in_tab
     first_of true c f = refl
     first_of false c f = cc
 
-    go : (b : Bool) → bytes_eq word.0 text ≡ b → comparison_in (if b then word.1 else found_in others text) ≡ Some k → (comparison_in (found_in others text) ≡ Some k → operation_in operations text ≡ op_of k) → operation_in operations text ≡ op_of k
+    go : (b : Bool) → bytes_eq word.0 text ≡ b → comparison_in (if b then word.1 else role_in others text) ≡ Some k → (comparison_in (role_in others text) ≡ Some k → operation_in operations text ≡ op_of k) → operation_in operations text ≡ op_of k
     go true f i more =
         let same : word.0 ≡ text = (bytes_eq-Decides word.0 text).0 f in
         is_of_is k (operation_in operations text) (subst (λ t. is_of (Some k) (operation_in operations t) ≡ true) same (subst (λ c. is_of c (operation_in operations word.0) ≡ true) i (first_of (fits word) (list_all fits others) h)))

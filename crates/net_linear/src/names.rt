@@ -29,14 +29,14 @@ pub(crate) fn names_arc<'s>(arcs: &ArcNames<'s>, expr: &Expr<'s>) -> bool
         Expr::Negated(parts) => names_arc(arcs, &parts.get().2),
         Expr::Braced(braces) => braces_arc(arcs, braces.get()),
         Expr::Signed(parts) => names_arc(arcs, &parts.get().1),
-        Expr::Reduced(parts, body) => {
+        Expr::Reduction(parts, body) => {
             braces_arc(arcs, &parts.get().1) || names_arc(arcs, body.get())
         }
         Expr::Chain(_, operands) => {
             let series = operands.get();
             any_arc(arcs, &series.first, series.more.as_slice())
         }
-        Expr::Choice(condition, branch, otherwise) => {
+        Expr::If(condition, branch, otherwise) => {
             names_arc(arcs, &condition.get().value)
                 || names_arc(arcs, &branch.get().value)
                 || part_arc(arcs, otherwise)

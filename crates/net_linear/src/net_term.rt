@@ -75,7 +75,7 @@ fn net_term(term: &Expr<'_>) -> NetTerm
         }
         Expr::Leaf(_) | Expr::Indexed(_) | Expr::Parens(_) | Expr::Tuple(_) => NetTerm::Absent,
         Expr::Negated(_) | Expr::Braced(_) | Expr::Signed(_) => NetTerm::Absent,
-        Expr::Reduced(_, _) | Expr::Chain(_, _) | Expr::Choice(_, _, _) => NetTerm::Absent,
+        Expr::Reduction(_, _) | Expr::Chain(_, _) | Expr::If(_, _, _) => NetTerm::Absent,
     }
 }
 
@@ -149,7 +149,7 @@ pub(crate) fn net_side(side: &Expr<'_>) -> NetTerm
         }
         Expr::Leaf(_) | Expr::Indexed(_) | Expr::Parens(_) | Expr::Tuple(_) => NetTerm::Absent,
         Expr::Negated(_) | Expr::Braced(_) | Expr::Signed(_) => NetTerm::Absent,
-        Expr::Reduced(_, _) | Expr::Choice(_, _, _) => NetTerm::Absent,
+        Expr::Reduction(_, _) | Expr::If(_, _, _) => NetTerm::Absent,
         Expr::Net(_) => net_term(side),
     }
 }

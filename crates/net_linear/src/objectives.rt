@@ -2,7 +2,7 @@
 
 ghost use Rattle.std.specs.Prelude.{◌≡◌, ◌&&◌, Ok, not, if◌then◌else◌, IfOk, ℕ, ℤ};
 ghost use Rattle.net_tree.specs.Spans as trees;
-ghost use Rattle.net_tree.specs.declared.expr.Series.{out-Series};
+ghost use Rattle.net_tree.specs.declared.expr.Operands.{out-Operands};
 ghost use Rattle.net_tree.specs.View.{tree, braces_of, links_of, option_part};
 ghost use Rattle.net_tree.specs.Operations as operations;
 ghost use Rattle.net_expr.specs.Values as values;
@@ -21,13 +21,13 @@ use net_expr::{Env, Keys, Scope, index_of, reject_tree};
 use net_fault::{ErrorCode, Fault, Span};
 use net_lex::Token;
 use net_sets::Tuple;
-use net_tree::{Braces, Expr, Link, Part, Reducer, Series, Sign, span_of};
+use net_tree::{Braces, Expr, Link, Operands, Part, Reducer, Sign, span_of};
 use net_views::Boxed;
 use std::alloc::Global;
 
 /// The context of an expression: the arcs, the declarations that are visible, and the dummies.
 #[derive(Drop)]
-struct Among<'a, 'w, 's> {
+struct FormEnv<'a, 'w, 's> {
     arcs: &'a ArcNames<'s>,
     env: &'a Env<'w, 's>,
     scope: &'a Scope<'s>,
@@ -49,17 +49,17 @@ fn arc_term<'s>(
 
 fn indexed<'s>(
     alloc: Global,
-    among: &Among<'_, '_, 's>,
+    among: &FormEnv<'_, '_, 's>,
     whole: &Expr<'s>,
     name: &Token<'s>,
-    subscripts: &Series<'s>,
+    subscripts: &Operands<'s>,
 ) -> Result<Option<Affine>, Fault>
     ensures { Refines (objectives.linear (trees.span_of (tree whole.now)) (not
-        (objectives.first_or_any among.now.arcs.now (tree (out-Series subscripts.now).first) (links_of (out-Series subscripts.now).more)))
+        (objectives.first_or_any among.now.arcs.now (tree (out-Operands subscripts.now).first) (links_of (out-Operands subscripts.now).more)))
         (objectives.arc_term among.now.arcs.now (trees.span_of (tree whole.now)) name.now.text (objectives.key_of among.now.env.now
-        among.now.scope.now (trees.span_of (tree whole.now)) (tree (out-Series subscripts.now).first) (links_of (out-Series subscripts.now).more)))) result }
+        among.now.scope.now (trees.span_of (tree whole.now)) (tree (out-Operands subscripts.now).first) (links_of (out-Operands subscripts.now).more)))) result }
 {
-    let Series { first, more } = subscripts;
+    let Operands { first, more } = subscripts;
     let more = more.as_slice();
     if any_arc(among.arcs, first, more) {
         Err(reject_tree(ErrorCode::NotLinear, whole))
@@ -73,7 +73,7 @@ fn indexed<'s>(
 #[cycle(forms)]
 fn term_of<'s>(
     alloc: Global,
-    among: &Among<'_, '_, 's>,
+    among: &FormEnv<'_, '_, 's>,
     expr: &Expr<'s>,
 ) -> Result<Option<Affine>, Fault>
     ensures { Refines (objectives.objective among.now.arcs.now among.now.env.now among.now.scope.now (tree expr.now)) result }
@@ -91,7 +91,7 @@ fn term_of<'s>(
 #[tactic(auto, using(net_tree::proofs::Views::views))]
 fn arcs_term<'s>(
     alloc: Global,
-    among: &Among<'_, '_, 's>,
+    among: &FormEnv<'_, '_, 's>,
     expr: &Expr<'s>,
 ) -> Result<Option<Affine>, Fault>
     ensures { Refines (objectives.with_arcs among.now.arcs.now among.now.env.now among.now.scope.now (tree expr.now)) result }
@@ -107,12 +107,12 @@ fn arcs_term<'s>(
             let (sign, operand) = parts.get();
             signed(alloc, among, expr, sign, operand)
         }
-        Expr::Reduced(front, body) => {
+        Expr::Reduction(front, body) => {
             let (word, braces) = front.get();
             reduced(alloc, among, expr, word, braces, body.get())
         }
         Expr::Chain(_, operands) => chain(alloc, among, expr, operands.get()),
-        Expr::Choice(condition, branch, otherwise) => choice(
+        Expr::If(condition, branch, otherwise) => choice(
             alloc,
             among,
             expr,
@@ -130,7 +130,7 @@ fn arcs_term<'s>(
 #[cycle(forms)]
 fn signed<'s>(
     alloc: Global,
-    among: &Among<'_, '_, 's>,
+    among: &FormEnv<'_, '_, 's>,
     whole: &Expr<'s>,
     sign: &Sign<'s>,
     operand: &Expr<'s>,
@@ -146,7 +146,7 @@ fn signed<'s>(
 #[cycle(forms)]
 fn reduced<'s>(
     alloc: Global,
-    among: &Among<'_, '_, 's>,
+    among: &FormEnv<'_, '_, 's>,
     whole: &Expr<'s>,
     word: &Reducer<'s>,
     braces: &Braces<'s>,
@@ -168,7 +168,7 @@ fn reduced<'s>(
 #[cycle(forms)]
 fn total<'s>(
     alloc: Global,
-    among: &Among<'_, '_, 's>,
+    among: &FormEnv<'_, '_, 's>,
     whole: &Expr<'s>,
     body: &Expr<'s>,
     keys: Keys<'s>,
@@ -179,7 +179,7 @@ fn total<'s>(
     let mut sum = Sum::number(alloc, &0);
     let rows = keys.rows.as_slice();
     for row in rows {
-        let here = Among {
+        let here = FormEnv {
             arcs: among.arcs,
             env: among.env,
             scope: &row.scope,
@@ -194,16 +194,16 @@ fn total<'s>(
 #[cycle(forms)]
 fn chain<'s>(
     alloc: Global,
-    among: &Among<'_, '_, 's>,
+    among: &FormEnv<'_, '_, 's>,
     whole: &Expr<'s>,
-    operands: &Series<'s>,
+    operands: &Operands<'s>,
 ) -> Result<Option<Affine>, Fault>
-    ensures { Refines (objectives.linear (trees.span_of (tree whole.now)) (objectives.is_linear among.now.arcs.now (tree (out-Series operands.now).first)
-        (links_of (out-Series operands.now).more)) (and_then (objectives.objective among.now.arcs.now among.now.env.now among.now.scope.now
-        (tree (out-Series operands.now).first)) (objectives.chained among.now.arcs.now (trees.span_of (tree whole.now)) among.now.env.now among.now.scope.now
-        (links_of (out-Series operands.now).more)))) result }
+    ensures { Refines (objectives.linear (trees.span_of (tree whole.now)) (objectives.is_linear among.now.arcs.now (tree (out-Operands operands.now).first)
+        (links_of (out-Operands operands.now).more)) (and_then (objectives.objective among.now.arcs.now among.now.env.now among.now.scope.now
+        (tree (out-Operands operands.now).first)) (objectives.chained among.now.arcs.now (trees.span_of (tree whole.now)) among.now.env.now among.now.scope.now
+        (links_of (out-Operands operands.now).more)))) result }
 {
-    let Series { first, more } = operands;
+    let Operands { first, more } = operands;
     let more = more.as_slice();
     if is_linear(among.arcs, first, more) {
         let term = term_of(alloc, among, first)?;
@@ -216,7 +216,7 @@ fn chain<'s>(
 #[cycle(forms)]
 fn chained<'s>(
     alloc: Global,
-    among: &Among<'_, '_, 's>,
+    among: &FormEnv<'_, '_, 's>,
     whole: &Expr<'s>,
     links: &[Link<'s>],
     first: Option<Affine>,
@@ -235,7 +235,7 @@ fn chained<'s>(
 #[cycle(forms)]
 fn joined<'s>(
     alloc: Global,
-    among: &Among<'_, '_, 's>,
+    among: &FormEnv<'_, '_, 's>,
     whole: &Expr<'s>,
     link: &Link<'s>,
     term: Option<Affine>,
@@ -250,7 +250,7 @@ fn joined<'s>(
 #[cycle(forms)]
 fn choice<'s>(
     alloc: Global,
-    among: &Among<'_, '_, 's>,
+    among: &FormEnv<'_, '_, 's>,
     whole: &Expr<'s>,
     condition: &Expr<'s>,
     branch: &Expr<'s>,
@@ -278,7 +278,7 @@ fn choice<'s>(
 #[tactic(auto, using(net_tree::proofs::Views::views))]
 fn other_branch<'s>(
     alloc: Global,
-    among: &Among<'_, '_, 's>,
+    among: &FormEnv<'_, '_, 's>,
     otherwise: &Option<Boxed<Part<'s>>>,
 ) -> Result<Option<Affine>, Fault>
     ensures { Refines (objectives.otherwise among.now.arcs.now among.now.env.now among.now.scope.now (option_part otherwise.now)) result }
@@ -298,7 +298,7 @@ fn form_of<'s>(
 ) -> Result<Affine, Fault>
     ensures { Refines (objectives.objective_form arcs.now env.now scope.now (tree expr.now)) result }
 {
-    let among = Among { arcs, env, scope };
+    let among = FormEnv { arcs, env, scope };
     match term_of(alloc, &among, expr)? {
         Some(form) => Ok(form),
         None => Err(reject_tree(ErrorCode::KindMismatch, expr)),

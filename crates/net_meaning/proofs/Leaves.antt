@@ -9,18 +9,18 @@ use Rattle.net_lex.specs.declared.token.Token.{Token}
 use Rattle.net_tree.specs.declared.role.Role.{Role}
 use Rattle.net_tree.specs.declared.role.Role.TheVariants as roles
 use Rattle.net_tree.specs.Role as of_role
-use Rattle.net_tree.specs.Role.{role_of, role_as, found_in, is_leaf, marks, keys}
+use Rattle.net_tree.specs.Role.{role_of, role_as, role_in, is_leaf, marks, keys}
 use Rattle.net_meaning.specs.Values.{is_name}
 
 -- no entry of the table has the role of an expression by itself
 abbrev has_no_leaf : List (List ℕ × Role) → Bool
 has_no_leaf table = list_all (λ (e : List ℕ × Role). not (is_leaf e.1)) table
 
-found_no_leaf : (table : List (List ℕ × Role)) (text : List ℕ) → has_no_leaf table ≡ true → is_leaf (found_in table text) ≡ false
+found_no_leaf : (table : List (List ℕ × Role)) (text : List ℕ) → has_no_leaf table ≡ true → is_leaf (role_in table text) ≡ false
 found_no_leaf [] text h = refl
 found_no_leaf (e ∷ es) text h = step (bytes_eq e.0 text) (is_leaf e.1) (has_no_leaf es) h refl (found_no_leaf es text)
   where
-    step : (b c d : Bool) → (not c && d) ≡ true → is_leaf e.1 ≡ c → (d ≡ true → is_leaf (found_in es text) ≡ false) → is_leaf (if b then e.1 else found_in es text) ≡ false
+    step : (b c d : Bool) → (not c && d) ≡ true → is_leaf e.1 ≡ c → (d ≡ true → is_leaf (role_in es text) ≡ false) → is_leaf (if b then e.1 else role_in es text) ≡ false
     step b true d h q r = absurd (cc)
     step true false d h q r = q
     step false false d h q r = r h

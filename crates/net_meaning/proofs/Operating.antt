@@ -124,7 +124,7 @@ of_belonging at (found.Truth b) y = tt
 of_containing : (at : Span) (x y : Found) → IfOk (contained at x y) (λ b. (xs : List Tuple) × (ys : List Tuple) × (meaning_of x ≡ Many xs) × (meaning_of y ≡ Many ys) × (b ≡ is_within xs ys))
 of_containing at (found.Many d xs) (found.Many e ys) = go (shared d e)
   where
-    go : (o : Option ℕ) → IfOk (sets.inside at o xs ys) (λ b. (us : List Tuple) × (vs : List Tuple) × (Many xs ≡ Many us) × (Many ys ≡ Many vs) × (b ≡ is_within us vs))
+    go : (o : Option ℕ) → IfOk (sets.inclusion at o xs ys) (λ b. (us : List Tuple) × (vs : List Tuple) × (Many xs ≡ Many us) × (Many ys ≡ Many vs) × (b ≡ is_within us vs))
     go None = tt
     go (Some n) = (xs, ys, refl, refl, refl)
 of_containing at (found.Many d xs) (found.One m) = tt

@@ -15,7 +15,7 @@ use Rattle.net_expr.specs.declared.row.Keys.{Keys}
 use Rattle.net_expr.specs.declared.value.Value.{Value as Found}
 use Rattle.net_expr.specs.declared.value.Value.TheVariants as found
 use Rattle.net_expr.specs.Operators.{longer}
-use Rattle.net_expr.specs.Rows.{bind, matches_member, matches_tuple, matches_as_tuple, fitted, fitted_alone, if_fits, go_on, onward, same_arity, finished_key, keep, kept, width_of, selected, as_set, keys_of, rows_of, tuple_in, tuples_in, all_of, listed_as, listed}
+use Rattle.net_expr.specs.Rows.{bind, matches_member, matches_tuple, matches_as_tuple, match_component, match_whole, if_fits, go_on, onward, same_arity, finished_key, keep, filter_rows, width_of, selected, as_set, keys_of, rows_of, tuple_in, tuples_in, all_of, listed_as, listed}
 use Rattle.net_expr.specs.Worlds.{Name, World, Scope}
 use Rattle.net_meaning.specs.Laws.{meaning_of}
 use Rattle.net_meaning.specs.Operators.{Value, One, Several, Many, IsTuple}
@@ -58,7 +58,7 @@ module _ (af : Name → Option (Tuple → ℤ)) (yf : ℤ) (w : World) where
   -- a component
   pub meets : (at : Span) (o : Option Name) (own : Outcome Found) (Own : Value → Type 0) (m : Member) (p : Place) (k : Tuple) → Cuts p.key k → IfOk own (λ v. Own (meaning_of v))
       → (Rest : Key → Option Key → Type 0) (next : Place → Outcome (Option Place)) → Steps Rest next
-      → IfOk (and_then (fitted at o own m p) (if_fits next)) (PlaceIs (Matches (key_at p.scope k) o Own m Rest))
+      → IfOk (and_then (match_component at o own m p) (if_fits next)) (PlaceIs (Matches (key_at p.scope k) o Own m Rest))
   meets at (Some name) own Own m p k c h Rest next rest = rest (bind name m p) (k ++ m ∷ []) (cut_longer (m ∷ []) p.key k c)
   meets at None own Own m p k c h Rest next rest =
       gives_then (λ o. (u : Member) × Own (One u) × (o ≡ (if same_member u m then Some p else None))) _ (and_then own (matches_member at m p)) (if_fits next)
@@ -81,7 +81,7 @@ module _ (af : Name → Option (Tuple → ℤ)) (yf : ℤ) (w : World) where
 
   -- what stands alone
   pub meets_whole : (at : Span) (o : Option Name) (own : Outcome Found) (Own : Value → Type 0) (t : Tuple) (p : Place) (k : Tuple) → Cuts p.key k → IfOk own (λ v. Own (meaning_of v))
-      → IfOk (fitted_alone at o own t p) (PlaceIs (MatchesWhole (key_at p.scope k) o Own t))
+      → IfOk (match_whole at o own t p) (PlaceIs (MatchesWhole (key_at p.scope k) o Own t))
   meets_whole at (Some name) own Own [] p k c h = (k, c, refl)
   meets_whole at (Some name) own Own (m ∷ ms) p k c h = (k ++ m ∷ [], cut_longer (m ∷ []) p.key k c, refl)
   meets_whole at None own Own t p k c h = gives_then (λ v. Own (meaning_of v)) _ own (matches_as_tuple at t p) h whole
@@ -128,18 +128,18 @@ module _ (af : Name → Option (Tuple → ℤ)) (yf : ℤ) (w : World) where
       gives_if _ (same_arity u found) _ _ (λ e. gives_if _ (nat_lt (length found) tuples_limit) _ _ (λ f. ((record { key = u; scope = s }) ∷ [], refl, ap (λ (z : Tuple). key_at s z ∷ []) c)) (λ f. tt)) (λ e. tt)
 
   -- the rows at which a condition holds
-  pub keeps : (P : Key → Bool → Type 0) (test : Scope → Outcome Bool) → ((r : Row) → IfOk (test r.scope) (P (as_key r))) → (rows found : List Row) → IfOk (kept test rows found) (Adds (Filters P (map as_key rows)) found)
+  pub keeps : (P : Key → Bool → Type 0) (test : Scope → Outcome Bool) → ((r : Row) → IfOk (test r.scope) (P (as_key r))) → (rows found : List Row) → IfOk (filter_rows test rows found) (Adds (Filters P (map as_key rows)) found)
   keeps P test h [] found = ([], sym (append-nil found), refl)
   keeps P test h (r ∷ rows) found = gives_then (P (as_key r)) _ (test r.scope) _ (h r) (go (λ others. keeps P test h rows others))
     where
-      go : ((others : List Row) → IfOk (kept test rows others) (Adds (Filters P (map as_key rows)) others)) → (b : Bool) → P (as_key r) b → IfOk (kept test rows (keep r found b)) (Adds (Filters P (map as_key (r ∷ rows))) found)
-      go rest true i = gives_as _ _ (kept test rows (found ++ r ∷ [])) (λ left (new, e, j). (r ∷ new, e ∙ append_assoc found (r ∷ []) new, (map as_key new, j, inl (i, refl)))) (rest (found ++ r ∷ []))
-      go rest false i = gives_as _ _ (kept test rows found) (λ left (new, e, j). (new, e, (map as_key new, j, inr (i, refl)))) (rest found)
+      go : ((others : List Row) → IfOk (filter_rows test rows others) (Adds (Filters P (map as_key rows)) others)) → (b : Bool) → P (as_key r) b → IfOk (filter_rows test rows (keep r found b)) (Adds (Filters P (map as_key (r ∷ rows))) found)
+      go rest true i = gives_as _ _ (filter_rows test rows (found ++ r ∷ [])) (λ left (new, e, j). (r ∷ new, e ∙ append_assoc found (r ∷ []) new, (map as_key new, j, inl (i, refl)))) (rest (found ++ r ∷ []))
+      go rest false i = gives_as _ _ (filter_rows test rows found) (λ left (new, e, j). (new, e, (map as_key new, j, inr (i, refl)))) (rest found)
 
   pub selected_is : (P : Key → Bool → Type 0) (by_form : Outcome ℕ) (test : Scope → Outcome Bool) → ((r : Row) → IfOk (test r.scope) (P (as_key r))) → (rows : List Row)
       → IfOk (selected by_form test rows) (λ k. Filters P (map as_key rows) (map as_key k.rows))
   selected_is P by_form test h rows =
-      gives_any _ (width_of rows by_form) _ (λ n e. gives_then _ _ (kept test rows []) _ (keeps P test h rows []) (λ left (new, f, j). subst (λ z. Filters P (map as_key rows) (map as_key z)) (sym f) j))
+      gives_any _ (width_of rows by_form) _ (λ n e. gives_then _ _ (filter_rows test rows []) _ (keeps P test h rows []) (λ left (new, f, j). subst (λ z. Filters P (map as_key rows) (map as_key z)) (sym f) j))
 
   -- members and tuples that are listed
   tuple_in_is : (at : Span) (v : Found) → IfOk (tuple_in at v) (IsTuple (meaning_of v))

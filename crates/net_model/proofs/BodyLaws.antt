@@ -15,7 +15,7 @@ use Rattle.net_model.specs.declared.phrase.Slot.TheVariants as slots
 use Rattle.net_model.specs.declared.expected.Expected.TheVariants as sorts
 use Rattle.net_model.specs.declared.parse_error.Awaiting.TheVariants as awaiting
 use Rattle.net_model.specs.Reading.{Tokens, next_is}
-use Rattle.net_model.specs.Expressions.{Inner, all_links, climb, unary_at, unary, inside, is_subscripted, subscripts_at, named_at}
+use Rattle.net_model.specs.Expressions.{Inner, all_links, climb, unary_at, unary, nested, is_subscripted, subscripts_at, named_at}
 use Rattle.net_model.specs.Phrases.{body_of}
 use Rattle.net_model.proofs.Tools.{bind_ok, given, chosen, on, off, expect-sound, expect-complete}
 use Rattle.net_model.proofs.LinksSound.{climb-sound}
@@ -107,7 +107,7 @@ pub record Ends (ts : Tokens) : Type 0 where
   pub stops : Stops 6 ts
   pub no_else : next_is is_else ts ≡ false
 
-operand : (d p : ℕ) (x : Tree) (ts : Tokens) → IsWellFormed x → depth x ≤ d → precedence x ≤ suc p → suc p ≤ 10 → 0 < p → Stops p ts → climb (suc p) (unary (inside d)) (put x ts) ≡ Ok (x, ts)
+operand : (d p : ℕ) (x : Tree) (ts : Tokens) → IsWellFormed x → depth x ≤ d → precedence x ≤ suc p → suc p ≤ 10 → 0 < p → Stops p ts → climb (suc p) (unary (nested d)) (put x ts) ≡ Ok (x, ts)
 operand d p x ts level deep fits high low stops = in_place d (suc p) p x ts (trees-complete x d) level deep fits high (omega arith) (reach-below (precedence x) p fits low) stops
 
 leaf_read : (o : Option Inner) (n : Token) (ts : Tokens) → Stops 0 ts → named_at o n ts ≡ Ok (leaf n, ts)
@@ -121,14 +121,14 @@ at_name o n ts roles.Name h = refl
 at_name o n ts _ h = absurd (cc)
 
 indexed_read : (d : ℕ) (n o : Token) (x : Tree) (l : Links) (c : Token) (ts : Tokens) → IsWellFormed (indexed n o x l c) → depth (indexed n o x l c) ≤ d → Stops 0 ts
-    → (rest : Tokens) → put (indexed n o x l c) ts ≡ n ∷ rest → named_at (inside d) n rest ≡ Ok (indexed n o x l c, ts)
+    → (rest : Tokens) → put (indexed n o x l c) ts ≡ n ∷ rest → named_at (nested d) n rest ≡ Ok (indexed n o x l c, ts)
 unfolding unary climb
 indexed_read d n o x l c ts level deep stops rest text =
     let read = (trees-complete (indexed n o x l c) d level deep ts).narrow (omega arith) stops in
-    let at : unary (inside d) (n ∷ rest) ≡ Ok (indexed n o x l c, ts) = ap (unary (inside d)) (sym text) ∙ read in
-    sym (at_name (inside d) n rest (role_of n) level.0) ∙ at
+    let at : unary (nested d) (n ∷ rest) ≡ Ok (indexed n o x l c, ts) = ap (unary (nested d)) (sym text) ∙ read in
+    sym (at_name (nested d) n rest (role_of n) level.0) ∙ at
 
-pub body-complete : (d : ℕ) (s : Slot) (b : Body) (ts : Tokens) → BodyOf s b → body_depth b ≤ d → Ends ts → body_of (inside d) s (put_body b ts) ≡ Ok (b, ts)
+pub body-complete : (d : ℕ) (s : Slot) (b : Body) (ts : Tokens) → BodyOf s b → body_depth b ≤ d → Ends ts → body_of (nested d) s (put_body b ts) ≡ Ok (b, ts)
 body-complete d slots.Nothing plain ts is deep ends = refl
 body-complete d slots.Nothing b ts is deep ends = absurd is
 body-complete d slots.Number (valued (leaf t)) ts is deep ends = rw (expect-complete sorts.Number awaiting.Other t ts is) refl
@@ -140,7 +140,7 @@ body-complete d slots.Sum b ts is deep ends = absurd is
 body-complete d slots.Value (valued x) ts is deep ends = rw (value-read d x ts (trees-complete x d) is.0 deep is.1 ends.stops ends.no_else) refl
 body-complete d slots.Value b ts is deep ends = absurd is
 body-complete d slots.Node (valued (leaf t)) ts is deep ends =
-    let s = ends.stops in rw (expect-complete sorts.Name awaiting.Other t ts is, leaf_read (inside d) t ts (omega (arith, s))) refl
+    let s = ends.stops in rw (expect-complete sorts.Name awaiting.Other t ts is, leaf_read (nested d) t ts (omega (arith, s))) refl
 body-complete d slots.Node (valued (indexed n o x l c)) ts is deep ends =
     let s = ends.stops in
     rw (expect-complete sorts.Name awaiting.Other n (o ∷ put_rest) is.0, indexed_read d n o x l c ts is deep (omega (arith, s)) (o ∷ put_rest) refl) refl

@@ -14,7 +14,7 @@ use Rattle.net_tree.specs.Conditions.{IsSum, IsNetSum, same_order, IsCondition}
 use Rattle.net_model.specs.declared.expected.Expected.TheVariants as sorts
 use Rattle.net_model.specs.declared.parse_error.Awaiting.TheVariants as awaiting
 use Rattle.net_model.specs.Reading.{Tokens, rejected, next_is}
-use Rattle.net_model.specs.Expressions.{Inner, climb, unary, inside}
+use Rattle.net_model.specs.Expressions.{Inner, climb, unary, nested}
 use Rattle.net_model.specs.Conditions.{is_at_most, is_at_least, chains, chain_next, high_at, middle_at, bounded_at, said_at, condition_at}
 use Rattle.net_model.proofs.Tools.{bind_ok, given, chosen, on, off, expect-sound, expect-complete}
 use Rattle.net_model.proofs.LinksSound.{climb-sound}
@@ -143,11 +143,11 @@ semicolon-no_chain (roles.Relation relations.AtMost) q h = at_most-no_semicolon 
 semicolon-no_chain (roles.Relation relations.AtLeast) q h = at_least-no_semicolon q h
 semicolon-no_chain _ q h = refl
 
-sum-read : (d : ℕ) (x : Tree) (ts : Tokens) → IsSum x → depth x ≤ d → Stops 2 ts → climb 3 (unary (inside d)) (put x ts) ≡ Ok (x, ts)
+sum-read : (d : ℕ) (x : Tree) (ts : Tokens) → IsSum x → depth x ≤ d → Stops 2 ts → climb 3 (unary (nested d)) (put x ts) ≡ Ok (x, ts)
 sum-read d x ts sum deep stops = in_place d 3 2 x ts (trees-complete x d) sum.0 deep sum.1 (omega arith) (omega arith) (reach-below (precedence x) 2 sum.1 (omega arith)) stops
 
 pub condition-complete : (d : ℕ) (c : Condition) (e : Token) (ts : Tokens) → IsCondition c → condition_depth c ≤ d → is_semicolon (role_of e) ≡ true
-    → condition_at (inside d) (put_condition c (e ∷ ts)) ≡ Ok (c, e ∷ ts)
+    → condition_at (nested d) (put_condition c (e ∷ ts)) ≡ Ok (c, e ∷ ts)
 unfolding condition_at said_at bounded_at middle_at high_at
 condition-complete d unsaid e ts level deep ends = rw (semicolon-no_colon (role_of e) ends) refl
 condition-complete d (one m x p y) e ts level deep ends =

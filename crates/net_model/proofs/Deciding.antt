@@ -7,7 +7,7 @@ use Rattle.net_resolve.specs.Reported.{diagnostic_of}
 use Rattle.net_tree.specs.Tree.{Declaration}
 use Rattle.net_model.specs.declared.parse_error.ParseError.TheVariants as stops
 use Rattle.net_model.specs.Reading.{Tokens, Read}
-use Rattle.net_model.specs.Expressions.{inside}
+use Rattle.net_model.specs.Expressions.{nested}
 use Rattle.net_model.specs.Rows.{row}
 use Rattle.net_model.specs.Faults.{rejected_fault, deep_fault, left_of}
 use Rattle.net_model.specs.Declarations.{any_left, declaration_step, model_at, nesting_limit}
@@ -28,7 +28,7 @@ no_tokens (t ∷ ts) h = absurd (omega (arith, h))
 
 -- nothing is left of the tokens
 row_ends : (d turns : ℕ) (s : Unit {0}) (ts : Tokens) (x : (List Declaration × Unit {0}) × Tokens) → length ts ≤ turns
-    → row turns (declaration_step (inside d)) (λ s. any_left) s ts ≡ Ok x → x.1 ≡ []
+    → row turns (declaration_step (nested d)) (λ s. any_left) s ts ≡ Ok x → x.1 ≡ []
 row_ends d zero s ts x few h = given (λ y. y.1 ≡ []) (([], s), ts) x h (no_tokens ts few)
 row_ends d (suc turns) s ts x few h =
     elim (chosen (any_left ts) _ _ _ h) [

@@ -19,7 +19,7 @@ use Rattle.net_model.specs.declared.phrase.Owner.TheVariants as owners
 use Rattle.net_model.specs.declared.expected.Expected.TheVariants as sorts
 use Rattle.net_model.specs.declared.parse_error.Awaiting.TheVariants as awaiting
 use Rattle.net_model.specs.Reading.{Tokens, next_is}
-use Rattle.net_model.specs.Expressions.{Inner, inside, unary, wide, part_at, present_at}
+use Rattle.net_model.specs.Expressions.{Inner, nested, unary, wide, part_at, present_at}
 use Rattle.net_model.specs.Phrases.{nothing_stood}
 use Rattle.net_model.specs.Declarations.{indexing_at, set_at, param_at, check_at, node_at, arc_at, after_objective, objective_at, declared_at, declaration_of_role, declaration_at}
 use Rattle.net_model.proofs.Tools.{bind_ok, given, chosen, on, off, expect-sound, expect-complete}
@@ -202,12 +202,12 @@ declaration-sound d o inner [] a h = absurd (let k = h in cc)
 declaration-sound d o inner (w ∷ ts) a h = role-sound d o inner w ts a (role_of w) refl h
 
 -- the other way round
-indexing-some : (d : ℕ) (b : Braces) (ts : Tokens) → AreBraces b → braces_depth b ≤ d → indexing_at (inside d) (put_braces b ts) ≡ Ok (Some b, ts)
+indexing-some : (d : ℕ) (b : Braces) (ts : Tokens) → AreBraces b → braces_depth b ≤ d → indexing_at (nested d) (put_braces b ts) ≡ Ok (Some b, ts)
 unfolding indexing_at
 indexing-some d (empty o p c) ts level deep = rw (level.0, braces-complete (empty o p c) d level deep ts) refl
 indexing-some d (filled o x l p c) ts level deep = rw (level.0, braces-complete (filled o x l p c) d level deep ts) refl
 
-indexing-complete : (d : ℕ) (b : Option Braces) (ts : Tokens) → IsIndexing b → indexing_depth b ≤ d → next_is is_open_brace ts ≡ false → indexing_at (inside d) (put_indexing b ts) ≡ Ok (b, ts)
+indexing-complete : (d : ℕ) (b : Option Braces) (ts : Tokens) → IsIndexing b → indexing_depth b ≤ d → next_is is_open_brace ts ≡ false → indexing_at (nested d) (put_indexing b ts) ≡ Ok (b, ts)
 unfolding indexing_at
 indexing-complete d None ts level deep no_brace = rw no_brace refl
 indexing-complete d (Some b) ts level deep no_brace = indexing-some d b ts level deep
@@ -258,21 +258,21 @@ semicolon-no_else _ h = absurd (cc)
 semicolon-stops : (p : ℕ) (e : Token) (ts : Tokens) → p < 20 → is_semicolon (role_of e) ≡ true → Stops p (e ∷ ts)
 semicolon-stops p e ts h ends = let s = semicolon-shuts (role_of e) ends in omega (arith, s.grips)
 
-objective-part : (d : ℕ) (p : Part) (e : Token) (ts : Tokens) → IsObjective p → part_depth p ≤ d → is_semicolon (role_of e) ≡ true → part_at sorts.Colon (wide (inside d) 7) (put_part p (e ∷ ts)) ≡ Ok (p, e ∷ ts)
+objective-part : (d : ℕ) (p : Part) (e : Token) (ts : Tokens) → IsObjective p → part_depth p ≤ d → is_semicolon (role_of e) ≡ true → part_at sorts.Colon (wide (nested d) 7) (put_part p (e ∷ ts)) ≡ Ok (p, e ∷ ts)
 unfolding part_at present_at
 objective-part d absent e ts level deep ends = rw (semicolon-no_colon (role_of e) ends) refl
 objective-part d (part m x) e ts level deep ends =
     rw (level.0, value-read d x (e ∷ ts) (trees-complete x d) level.1 deep level.2 (semicolon-stops 6 e ts (omega arith) ends) (semicolon-no_else (role_of e) ends)) refl
 
 set-complete : (d : ℕ) (w n : Token) (ps : List Phrase) (e : Token) (ts : Tokens) → IsDeclaration (set w n ps e) → phrases_depth ps ≤ d
-    → set_at (inside d) w (n ∷ put_phrases ps (e ∷ ts)) ≡ Ok (set w n ps e, ts)
+    → set_at (nested d) w (n ∷ put_phrases ps (e ∷ ts)) ≡ Ok (set w n ps e, ts)
 unfolding set_at
 set-complete d w n ps e ts level deep =
     let p = phrases-complete d owners.Set ps e ts level.2.0 (set_singly ps level.2) deep level.3 in
     rw (expect-complete sorts.Name awaiting.Other n (put_phrases ps (e ∷ ts)) level.1, p.read, end-complete owners.Set p.stands e ts level.3) refl
 
 param-complete : (d : ℕ) (w n : Token) (b : Option Braces) (ps : List Phrase) (e : Token) (ts : Tokens) → IsDeclaration (param w n b ps e) → declaration_depth (param w n b ps e) ≤ d
-    → param_at (inside d) w (n ∷ put_indexing b (put_phrases ps (e ∷ ts))) ≡ Ok (param w n b ps e, ts)
+    → param_at (nested d) w (n ∷ put_indexing b (put_phrases ps (e ∷ ts))) ≡ Ok (param w n b ps e, ts)
 unfolding param_at
 param-complete d w n b ps e ts level deep =
     let p = phrases-complete d owners.Param ps e ts level.3.0 (param_singly ps level.3) (omega (arith, deep)) level.4 in
@@ -280,7 +280,7 @@ param-complete d w n b ps e ts level deep =
     rw (expect-complete sorts.Name awaiting.Other n (put_indexing b (put_phrases ps (e ∷ ts))) level.1, indexed, p.read, end-complete owners.Param p.stands e ts level.4) refl
 
 arc-complete : (d : ℕ) (w n : Token) (b : Option Braces) (ps : List Phrase) (e : Token) (ts : Tokens) → IsDeclaration (arc w n b ps e) → declaration_depth (arc w n b ps e) ≤ d
-    → arc_at (inside d) w (n ∷ put_indexing b (put_phrases ps (e ∷ ts))) ≡ Ok (arc w n b ps e, ts)
+    → arc_at (nested d) w (n ∷ put_indexing b (put_phrases ps (e ∷ ts))) ≡ Ok (arc w n b ps e, ts)
 unfolding arc_at
 arc-complete d w n b ps e ts level deep =
     let p = phrases-complete d owners.Arc ps e ts level.3.0 (arc_singly ps level.3) (omega (arith, deep)) level.4 in
@@ -288,7 +288,7 @@ arc-complete d w n b ps e ts level deep =
     rw (expect-complete sorts.Name awaiting.Other n (put_indexing b (put_phrases ps (e ∷ ts))) level.1, indexed, p.read, end-complete owners.Arc p.stands e ts level.4) refl
 
 check-complete : (d : ℕ) (w : Token) (b : Option Braces) (m : Token) (x : Tree) (e : Token) (ts : Tokens) → IsDeclaration (check w b m x e) → declaration_depth (check w b m x e) ≤ d
-    → check_at (inside d) w (put_indexing b (m ∷ put x (e ∷ ts))) ≡ Ok (check w b m x e, ts)
+    → check_at (nested d) w (put_indexing b (m ∷ put x (e ∷ ts))) ≡ Ok (check w b m x e, ts)
 unfolding check_at
 check-complete d w b m x e ts level deep =
     let indexed = indexing-complete d b (m ∷ put x (e ∷ ts)) level.1 (omega (arith, deep)) (colon-no_brace (role_of m) level.2) in
@@ -296,7 +296,7 @@ check-complete d w b m x e ts level deep =
     rw (indexed, expect-complete sorts.Colon awaiting.Other m (put x (e ∷ ts)) level.2, inner, expect-complete sorts.Semicolon awaiting.Other e ts level.5) refl
 
 node-complete : (d : ℕ) (w n : Token) (b : Option Braces) (c : Condition) (e : Token) (ts : Tokens) → IsDeclaration (node w n b c e) → declaration_depth (node w n b c e) ≤ d
-    → node_at (inside d) w (n ∷ put_indexing b (put_condition c (e ∷ ts))) ≡ Ok (node w n b c e, ts)
+    → node_at (nested d) w (n ∷ put_indexing b (put_condition c (e ∷ ts))) ≡ Ok (node w n b c e, ts)
 unfolding node_at
 node-complete d w n b c e ts level deep =
     let indexed = indexing-complete d b (put_condition c (e ∷ ts)) level.2 (omega (arith, deep)) (condition-no_brace c e ts level.3 level.4) in
@@ -309,16 +309,16 @@ node-complete d w n b c e ts level deep =
     refl
 
 objective-complete : (d : ℕ) (w n : Token) (p : Part) (e : Token) (ts : Tokens) → IsDeclaration (objective w n p e) → part_depth p ≤ d
-    → objective_at (inside d) w (n ∷ put_part p (e ∷ ts)) ≡ Ok (objective w n p e, ts)
+    → objective_at (nested d) w (n ∷ put_part p (e ∷ ts)) ≡ Ok (objective w n p e, ts)
 unfolding objective_at
 objective-complete d w n p e ts level deep =
     rw (expect-complete sorts.Name awaiting.Other n (put_part p (e ∷ ts)) level.1, objective-part d p e ts level.2 deep level.3, expect-complete sorts.Semicolon (after_objective p) e ts level.3) refl
 
-worded_as : (d : ℕ) (k : Declares) (w : Token) (ts : Tokens) (a : Declaration × Tokens) → role_of w ≡ roles.Declaration k → declared_at (inside d) k w ts ≡ Ok a → declaration_at (inside d) (w ∷ ts) ≡ Ok a
+worded_as : (d : ℕ) (k : Declares) (w : Token) (ts : Tokens) (a : Declaration × Tokens) → role_of w ≡ roles.Declaration k → declared_at (nested d) k w ts ≡ Ok a → declaration_at (nested d) (w ∷ ts) ≡ Ok a
 unfolding declaration_at
 worded_as d k w ts a is h = rw is h
 
-pub declaration-complete : (d : ℕ) (x : Declaration) (ts : Tokens) → IsDeclaration x → declaration_depth x ≤ d → declaration_at (inside d) (put_declaration x ts) ≡ Ok (x, ts)
+pub declaration-complete : (d : ℕ) (x : Declaration) (ts : Tokens) → IsDeclaration x → declaration_depth x ≤ d → declaration_at (nested d) (put_declaration x ts) ≡ Ok (x, ts)
 unfolding declared_at
 declaration-complete d (set w n ps e) ts level deep = worded_as d declares.Set w _ (set w n ps e, ts) level.0 (set-complete d w n ps e ts level deep)
 declaration-complete d (param w n b ps e) ts level deep = worded_as d declares.Param w _ (param w n b ps e, ts) level.0 (param-complete d w n b ps e ts level deep)

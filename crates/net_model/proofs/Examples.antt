@@ -12,7 +12,7 @@ use Rattle.net_tree.specs.Declarations.{IsDeclaration}
 use Rattle.net_model.specs.declared.parse_error.Awaiting.TheVariants.{Other}
 use Rattle.net_model.specs.declared.parse_error.ParseError.TheVariants.{Rejected, TooDeep}
 use Rattle.net_model.specs.Reading.{expect}
-use Rattle.net_model.specs.Expressions.{operator_at, chain_at, climb, named_at, unary_at, unary, inner_of, inside}
+use Rattle.net_model.specs.Expressions.{operator_at, chain_at, climb, named_at, unary_at, unary, inner_of, nested}
 use Rattle.net_model.specs.Declarations.{indexing_at, check_at, declared_at, declaration_at, declaration_step, model_at}
 
 abbrev name : List ℕ → Token
@@ -69,15 +69,15 @@ two_defaults h = omega (arith, h.1)
 -- check : a < 3 ;
 check_read : model_at 64 (key (codes "check") ∷ mark (codes ":") ∷ name (codes "a") ∷ mark (codes "<") ∷ number (codes "3") ∷ mark (codes ";") ∷ [])
     ≡ Ok ((check (key (codes "check")) None (mark (codes ":")) (chain 7 (leaf (name (codes "a"))) (link (One (mark (codes "<"))) (leaf (number (codes "3"))) none)) (mark (codes ";")) ∷ [], tt), [])
-unfolding model_at declaration_step declaration_at declared_at check_at indexing_at climb chain_at unary unary_at named_at operator_at inside inner_of expect role_of keys marks
+unfolding model_at declaration_step declaration_at declared_at check_at indexing_at climb chain_at unary unary_at named_at operator_at nested inner_of expect role_of keys marks
 check_read = refl
 
 -- check : - a ;    where no nesting may be opened
 sign_too_deep : model_at 0 (key (codes "check") ∷ mark (codes ":") ∷ mark (codes "-") ∷ name (codes "a") ∷ mark (codes ";") ∷ []) ≡ Err (TooDeep 3)
-unfolding model_at declaration_step declaration_at declared_at check_at indexing_at climb chain_at unary unary_at inside expect role_of keys marks
+unfolding model_at declaration_step declaration_at declared_at check_at indexing_at climb chain_at unary unary_at nested expect role_of keys marks
 sign_too_deep = refl
 
 -- check : a b ;
 no_operator : model_at 64 (key (codes "check") ∷ mark (codes ":") ∷ name (codes "a") ∷ name (codes "b") ∷ mark (codes ";") ∷ []) ≡ Err (Rejected 2 Other)
-unfolding model_at declaration_step declaration_at declared_at check_at indexing_at climb chain_at unary unary_at named_at operator_at inside inner_of expect role_of keys marks
+unfolding model_at declaration_step declaration_at declared_at check_at indexing_at climb chain_at unary unary_at named_at operator_at nested inner_of expect role_of keys marks
 no_operator = refl

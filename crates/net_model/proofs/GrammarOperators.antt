@@ -15,7 +15,7 @@ use Rattle.net_tree.specs.declared.role.Role.{Role}
 use Rattle.net_tree.specs.declared.role.Role.TheVariants as roles
 use Rattle.net_tree.specs.Operations.{operation, operations, operation_in, denied}
 use Rattle.net_tree.specs.Print.{put_operator}
-use Rattle.net_tree.specs.Role.{marks, keys, found_in, role_of, is_not, is_membership}
+use Rattle.net_tree.specs.Role.{marks, keys, role_in, role_of, is_not, is_membership}
 use Rattle.net_tree.specs.WellFormed.{joins, head_of}
 use Rattle.net_tree.specs.WellFormed as trees
 use Rattle.net_model.specs.Operators.{Production, operators, IsEntry, can_follow, IsOperator}
@@ -181,7 +181,7 @@ two-joined n k t u rest j is membership =
     let first = is-not-word t is in
     go first (subst (λ r. joins n k r ≡ true) (has-role kinds.Key (codes "not") t first) j) (token-spelled is_membership u (refl, refl, refl, refl) membership)
   where
-    go : Has kinds.Key (codes "not") t → joins n k (found_in keys (codes "not")) ≡ true
+    go : Has kinds.Key (codes "not") t → joins n k (role_in keys (codes "not")) ≡ true
         → (((u.kind ≡ kinds.Mark) × IsAmong (texts is_membership marks) u.text (role_of u)) ⊎ ((u.kind ≡ kinds.Key) × IsAmong (texts is_membership keys) u.text (role_of u)))
         → IsOperator k n (operation (Two t u)) (t ∷ u ∷ rest) rest
     go first j' (inl (kind, h)) = absurd h

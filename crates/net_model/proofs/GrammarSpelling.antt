@@ -11,7 +11,7 @@ use Rattle.net_tree.specs.declared.role.Role.TheVariants as roles
 use Rattle.net_tree.specs.declared.operator.Reduction.TheVariants as reductions
 use Rattle.net_tree.specs.Erasure.{is_outflow}
 use Rattle.net_tree.specs.Operations.{is_minus, reduction}
-use Rattle.net_tree.specs.Role.{marks, keys, found_in, role_as, role_of, is_name, is_leaf, is_number, is_open, is_close, is_open_brace, is_close_brace, is_open_square, is_close_square, is_comma, is_colon, is_semicolon, is_sign, is_not, is_if, is_then, is_else, is_reduction, is_net}
+use Rattle.net_tree.specs.Role.{marks, keys, role_in, role_as, role_of, is_name, is_leaf, is_number, is_open, is_close, is_open_brace, is_close_brace, is_open_square, is_close_square, is_comma, is_colon, is_semicolon, is_sign, is_not, is_if, is_then, is_else, is_reduction, is_net}
 use Rattle.net_tree.specs.WellFormed.{joins}
 use Rattle.net_model.specs.Operators.{Production, ◌∪◌, word}
 use Rattle.net_model.specs.Grammar.{exactly, name, sign, reducer}
@@ -95,8 +95,8 @@ unfolding Plain
 plain P kinds.Name text unknown no-key no-mark h = inl (refl, h)
 plain P kinds.Num text unknown no-key no-mark h = inr (inl (refl, h))
 plain P kinds.Str text unknown no-key no-mark h = inr (inr (refl, h))
-plain P kinds.Key text unknown no-key no-mark h = absurd (subst (λ es. IsAmong es text (found_in keys text)) no-key (found P keys text unknown h))
-plain P kinds.Mark text unknown no-key no-mark h = absurd (subst (λ es. IsAmong es text (found_in marks text)) no-mark (found P marks text unknown h))
+plain P kinds.Key text unknown no-key no-mark h = absurd (subst (λ es. IsAmong es text (role_in keys text)) no-key (found P keys text unknown h))
+plain P kinds.Mark text unknown no-key no-mark h = absurd (subst (λ es. IsAmong es text (role_in marks text)) no-mark (found P marks text unknown h))
 plain P kinds.Dot text unknown no-key no-mark h = absurd (cc)
 
 pub at-leaf : (t : Token) (rest : List Token) → is_leaf (role_of t) ≡ true → (exactly kinds.Name t ∪ exactly kinds.Num t ∪ exactly kinds.Str t) (t ∷ rest) rest

@@ -9,7 +9,7 @@ use Rattle.net_lex.specs.declared.token.Token.{Token}
 use Rattle.net_lex.specs.Productions.{literal}
 use Rattle.net_tree.specs.declared.role.Role.{Role}
 use Rattle.net_tree.specs.declared.role.Role.TheVariants as roles
-use Rattle.net_tree.specs.Role.{marks, keys, found_in, role_as, role_of}
+use Rattle.net_tree.specs.Role.{marks, keys, role_in, role_as, role_of}
 
 -- the entries of a table of roles that pass the test
 abbrev pub texts : (Role → Bool) → List (List ℕ × Role) → List (List ℕ × Role)
@@ -21,14 +21,14 @@ IsAmong [] text role = ⊥
 IsAmong (e ∷ es) text role = ((text ≡ e.0) × (role ≡ e.1)) ⊎ IsAmong es text role
 
 found-step : (P : Role → Bool) (e : List ℕ × Role) (es : List (List ℕ × Role)) (text : List ℕ) (b c : Bool) → (b ≡ true → text ≡ e.0) → P e.1 ≡ c
-    → (P (found_in es text) ≡ true → IsAmong (texts P es) text (found_in es text)) → P (if b then e.1 else found_in es text) ≡ true
-    → IsAmong (if c then e ∷ texts P es else texts P es) text (if b then e.1 else found_in es text)
+    → (P (role_in es text) ≡ true → IsAmong (texts P es) text (role_in es text)) → P (if b then e.1 else role_in es text) ≡ true
+    → IsAmong (if c then e ∷ texts P es else texts P es) text (if b then e.1 else role_in es text)
 found-step P e es text true true same test rest pass = inl (same refl, refl)
 found-step P e es text true false same test rest pass = absurd (cc)
 found-step P e es text false true same test rest pass = inr (rest pass)
 found-step P e es text false false same test rest pass = rest pass
 
-pub found : (P : Role → Bool) (table : List (List ℕ × Role)) (text : List ℕ) → P roles.Unknown ≡ false → P (found_in table text) ≡ true → IsAmong (texts P table) text (found_in table text)
+pub found : (P : Role → Bool) (table : List (List ℕ × Role)) (text : List ℕ) → P roles.Unknown ≡ false → P (role_in table text) ≡ true → IsAmong (texts P table) text (role_in table text)
 found P [] text unknown pass = absurd (cc)
 found P (e ∷ es) text unknown pass =
     found-step P e es text (bytes_eq e.0 text) (P e.1) (λ h. sym ((bytes_eq-Decides e.0 text).0 h)) refl (λ h. found P es text unknown h) pass

@@ -11,7 +11,7 @@ use Rattle.net_tree.specs.Role.{role_of, is_open_square, is_close, is_close_squa
 use Rattle.net_tree.specs.Print.{put_operator}
 use Rattle.net_tree.specs.WellFormed.{joins, head_of}
 use Rattle.net_model.specs.Reading.{Tokens, next_is}
-use Rattle.net_model.specs.Expressions.{is_hollow}
+use Rattle.net_model.specs.Expressions.{ends_braces}
 
 -- the precedence of the operands that a token joins; 0 for what opens subscripts, 20 for what goes on with no operand
 abbrev pub grip : Role → ℕ
@@ -130,11 +130,11 @@ pub close_brace-no_colon : (r : Role) → is_close_brace r ≡ true → is_colon
 close_brace-no_colon roles.CloseBrace h = refl
 close_brace-no_colon _ h = absurd (cc)
 
-pub colon-hollow : (r : Role) → is_colon r ≡ true → is_hollow r ≡ true
+pub colon-hollow : (r : Role) → is_colon r ≡ true → ends_braces r ≡ true
 colon-hollow roles.Colon h = refl
 colon-hollow _ h = absurd (cc)
 
-pub close_brace-hollow : (r : Role) → is_close_brace r ≡ true → is_hollow r ≡ true
+pub close_brace-hollow : (r : Role) → is_close_brace r ≡ true → ends_braces r ≡ true
 close_brace-hollow roles.CloseBrace h = refl
 close_brace-hollow _ h = absurd (cc)
 

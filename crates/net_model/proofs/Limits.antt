@@ -13,7 +13,7 @@ use Rattle.net_model.specs.declared.parse_error.Awaiting.TheVariants as awaiting
 use Rattle.net_model.specs.declared.parse_error.ParseError.{ParseError}
 use Rattle.net_model.specs.declared.parse_error.ParseError.TheVariants as stops
 use Rattle.net_model.specs.Reading.{Tokens, Read, ◌>>=◌, read_as, rejected, too_deep, next_is, is_sort, expect}
-use Rattle.net_model.specs.Expressions.{Reader, Inner, operator_at, links, all_links, chained, chain_at, climb, present_at, part_at, is_subscripted, subscripts_at, named_at, closed, listed, parens_from, parens_at, not_shut, negated_at, is_hollow, hollow_at, items_at, braces_at, braces, reduced_at, choice_at, unary_at, unary, if_at, wide, inner_of, inside}
+use Rattle.net_model.specs.Expressions.{Reader, Inner, operator_at, links, all_links, chained, chain_at, climb, present_at, part_at, is_subscripted, subscripts_at, named_at, closed, listed, parens_from, parens_at, not_shut, negated_at, ends_braces, empty_braces_at, items_at, braces_at, braces, reduction_at, conditional_at, unary_at, unary, if_at, wide, inner_of, nested}
 
 -- the second is the same, or the first stopped at a nesting too many
 pub data Agree {A : Type 0} (p q : Result A ParseError) : Type 0 where
@@ -124,8 +124,8 @@ negated-agree (Some i) (Some j) inner n ts =
     then_agree (expect sorts.Open awaiting.Other ts) (expect sorts.Open awaiting.Other ts) _ _ (agreed (expect sorts.Open awaiting.Other ts)) λ o.
     then_agree (i.at 10 o.1) (j.at 10 o.1) _ _ (inner.at 10 o.1) λ x. agreed (expect sorts.Close awaiting.Other x.1 >>= λ c. read_as (negated n o.0 x.0 c.0) c.1)
 
-hollow-agree : (i j : Inner) → InnerAgree i j → (o : Token) → Agrees (hollow_at i o) (hollow_at j o)
-unfolding hollow_at
+hollow-agree : (i j : Inner) → InnerAgree i j → (o : Token) → Agrees (empty_braces_at i o) (empty_braces_at j o)
+unfolding empty_braces_at
 hollow-agree i j inner o ts =
     then_agree (part_at sorts.Colon (i.at 10) ts) (part_at sorts.Colon (j.at 10) ts) _ _ (part-agree sorts.Colon (i.at 10) (j.at 10) (inner.at 10) ts) λ p.
     agreed (expect sorts.CloseBrace awaiting.Other p.1 >>= λ c. read_as (empty o p.0 c.0) c.1)
@@ -140,7 +140,7 @@ items-agree i j inner o ts =
 
 braces_at-agree : (i j : Inner) → InnerAgree i j → (o : Token) → Agrees (braces_at i o) (braces_at j o)
 unfolding braces_at
-braces_at-agree i j inner o ts = choose_agree (next_is is_hollow ts) (hollow_at i o ts) (hollow_at j o ts) (items_at i o ts) (items_at j o ts) (hollow-agree i j inner o ts) (items-agree i j inner o ts)
+braces_at-agree i j inner o ts = choose_agree (next_is ends_braces ts) (empty_braces_at i o ts) (empty_braces_at j o ts) (items_at i o ts) (items_at j o ts) (hollow-agree i j inner o ts) (items-agree i j inner o ts)
 
 braces_shut-agree : (j : Inner) → Agrees (braces None) (braces (Some j))
 unfolding braces expect
@@ -159,13 +159,13 @@ braces-agree (Some i) None inner ts = absurd inner
 braces-agree (Some i) (Some j) inner ts =
     then_agree (expect sorts.OpenBrace awaiting.Other ts) (expect sorts.OpenBrace awaiting.Other ts) _ _ (agreed (expect sorts.OpenBrace awaiting.Other ts)) λ o. braces_at-agree i j inner o.0 o.1
 
-reduced-agree : (i j : Inner) → InnerAgree i j → (w : Token) → Agrees (reduced_at i w) (reduced_at j w)
-unfolding reduced_at
+reduced-agree : (i j : Inner) → InnerAgree i j → (w : Token) → Agrees (reduction_at i w) (reduction_at j w)
+unfolding reduction_at
 reduced-agree i j inner w ts =
     then_agree (i.braces ts) (j.braces ts) _ _ (inner.braces ts) λ b. then_agree (i.at 2 b.1) (j.at 2 b.1) _ _ (inner.at 2 b.1) λ x. agreed (read_as (reduced w b.0 x.0) x.1)
 
-choice-agree : (i j : Inner) → InnerAgree i j → (w : Token) → Agrees (choice_at i w) (choice_at j w)
-unfolding choice_at
+choice-agree : (i j : Inner) → InnerAgree i j → (w : Token) → Agrees (conditional_at i w) (conditional_at j w)
+unfolding conditional_at
 choice-agree i j inner w ts =
     then_agree (i.at 10 ts) (j.at 10 ts) _ _ (inner.at 10 ts) λ x.
     then_agree (expect sorts.Then awaiting.Other x.1) (expect sorts.Then awaiting.Other x.1) _ _ (agreed (expect sorts.Then awaiting.Other x.1)) λ t.
@@ -210,8 +210,8 @@ inner-agree : (o q : Option Inner) → Agreeing o q → InnerAgree (inner_of o) 
 unfolding inner_of
 inner-agree o q inner = record { at = climb-agree (unary o) (unary q) (unary-agree o q inner); wide = wide-agree o q inner; braces = braces-agree o q inner }
 
-pub inside-agree : (d e : ℕ) → d ≤ e → Agreeing (inside d) (inside e)
-unfolding inside
+pub inside-agree : (d e : ℕ) → d ≤ e → Agreeing (nested d) (nested e)
+unfolding nested
 inside-agree zero e less = tt
 inside-agree (suc d) zero less = absurd (omega arith)
-inside-agree (suc d) (suc e) less = inner-agree (inside d) (inside e) (inside-agree d e (omega arith))
+inside-agree (suc d) (suc e) less = inner-agree (nested d) (nested e) (inside-agree d e (omega arith))

@@ -13,7 +13,7 @@ use Rattle.net_tree.specs.WellFormed.{precedence, room, joins, head_of, IsOperat
 use Rattle.net_model.specs.declared.expected.Expected.TheVariants as sorts
 use Rattle.net_model.specs.declared.parse_error.Awaiting.TheVariants as awaiting
 use Rattle.net_model.specs.Reading.{Tokens, next_is}
-use Rattle.net_model.specs.Expressions.{Reader, operator_at, links, all_links, chain_at, climb, unary, if_at, inside}
+use Rattle.net_model.specs.Expressions.{Reader, operator_at, links, all_links, chain_at, climb, unary, if_at, nested}
 use Rattle.net_model.proofs.Tools.{expect-complete}
 use Rattle.net_model.proofs.Longer.{put-longer, put_operator-longer}
 use Rattle.net_model.proofs.Grips.{grip, Stops, stops-joins, joins-grip, list-grip, next_grip-operator, reach, reach-le, reach-below}
@@ -44,8 +44,8 @@ links-complete j p (suc turns) k (link o x l) ts enough are =
 
 -- The tree is read back from what is printed, where no token behind it goes on with it.
 pub record IsReadBack (d : ℕ) (x : Tree) (ts : Tokens) : Type 0 where
-  pub narrow : precedence x ≤ 10 → Stops (reach (precedence x)) ts → climb (precedence x) (unary (inside d)) (put x ts) ≡ Ok (x, ts)
-  pub loose : precedence x ≡ 11 → Stops 6 ts → next_is is_else ts ≡ false → if_at (inside d) (put x ts) ≡ Ok (x, ts)
+  pub narrow : precedence x ≤ 10 → Stops (reach (precedence x)) ts → climb (precedence x) (unary (nested d)) (put x ts) ≡ Ok (x, ts)
+  pub loose : precedence x ≡ 11 → Stops 6 ts → next_is is_else ts ≡ false → if_at (nested d) (put x ts) ≡ Ok (x, ts)
 
 abbrev pub Complete : ℕ → Tree → Type 0
 Complete d x = IsWellFormed x → depth x ≤ d → (ts : Tokens) → IsReadBack d x ts
@@ -82,9 +82,9 @@ map_back m (suc (suc n)) p u ts x r below low stops h =
 
 -- a tree in a place that takes its precedence
 pub in_place : (d n p : ℕ) (x : Tree) (ts : Tokens) → Complete d x → IsWellFormed x → depth x ≤ d → precedence x ≤ n → n ≤ 10 → n ≤ suc p → reach (precedence x) ≤ p → Stops p ts
-    → climb n (unary (inside d)) (put x ts) ≡ Ok (x, ts)
+    → climb n (unary (nested d)) (put x ts) ≡ Ok (x, ts)
 in_place d n p x ts complete level deep fits high low reaches stops =
-    map_back (precedence x) n p (unary (inside d)) (put x ts) x ts fits low stops ((complete level deep ts).narrow (omega arith) (omega arith))
+    map_back (precedence x) n p (unary (nested d)) (put x ts) x ts fits low stops ((complete level deep ts).narrow (omega arith) (omega arith))
 
 -- the operands of a chain
 pub stops-links : (j k p : ℕ) (o : Operator) (r : Tokens) → ((k : ℕ) (r : Role) → joins j k r ≡ true → p < grip r) → joins j k (role_of (head_of o)) ≡ true → Stops p (put_operator o r)
@@ -103,7 +103,7 @@ closed_rank-le n = by (nat_eq n 1)
 pub operand-read : (d j n p k : ℕ) (x : Tree) (l : Links) (ts : Tokens) → Complete d x → n ≤ 10 → n ≤ suc p → p ≤ n
     → ((k : ℕ) (r : Role) → joins j k r ≡ true → p < grip r) → ((r : ℕ) → r ≤ closed_rank n → reach r ≤ p)
     → IsWellFormed x → depth x ≤ d → precedence x ≤ room n l → AreWellFormed j n k l → Stops n ts
-    → climb n (unary (inside d)) (put x (put_links l ts)) ≡ Ok (x, put_links l ts)
+    → climb n (unary (nested d)) (put x (put_links l ts)) ≡ Ok (x, put_links l ts)
 operand-read d j n p k x none ts complete high near under joint reaches level deep fits are stops =
     in_place d n n x ts complete level deep fits high (omega arith) (omega (arith, reach-le (precedence x))) stops
 operand-read d j n p k x (link o y l) ts complete high near under joint reaches level deep fits are stops =
@@ -113,7 +113,7 @@ operand-read d j n p k x (link o y l) ts complete high near under joint reaches 
 pub links-are_read : (d j n p k : ℕ) (l : Links) (ts : Tokens) → AllComplete d l → n ≤ 10 → n ≤ suc p → p ≤ n
     → ((k : ℕ) (r : Role) → joins j k r ≡ true → p < grip r) → ((r : ℕ) → r ≤ closed_rank n → reach r ≤ p)
     → AreWellFormed j n k l → links_depth l ≤ d → Stops n ts → ((k : ℕ) → next_is (joins j k) ts ≡ false)
-    → AreRead j (climb n (unary (inside d))) k l ts
+    → AreRead j (climb n (unary (nested d))) k l ts
 links-are_read d j n p k none ts complete high near under joint reaches are deep stops over = over k
 links-are_read d j n p k (link o x l) ts complete high near under joint reaches are deep stops over = (
   are.0,

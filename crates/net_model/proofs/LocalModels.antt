@@ -9,7 +9,7 @@ use Rattle.net_tree.specs.declared.role.Role.{Role}
 use Rattle.net_tree.specs.declared.role.Role.TheVariants as roles
 use Rattle.net_tree.specs.Role.{role_of, is_open_brace, is_colon, is_comma, is_semicolon, is_sign, is_net}
 use Rattle.net_tree.specs.Tree.{Tree, signed, net, leaf, plain, valued, priced, Phrase, unsaid, one, between, Declaration, set, param, check, node, arc, objective}
-use Rattle.net_tree.specs.View.{linked}
+use Rattle.net_tree.specs.View.{links_from}
 use Rattle.net_model.specs.declared.phrase.Owner.{Owner}
 use Rattle.net_model.specs.declared.phrase.Owner.TheVariants as owners
 use Rattle.net_model.specs.declared.phrase.Slot.{Slot}
@@ -19,7 +19,7 @@ use Rattle.net_model.specs.declared.expected.Expected.TheVariants as sorts
 use Rattle.net_model.specs.declared.parse_error.Awaiting.TheVariants as awaiting
 use Rattle.net_model.specs.Reading.{Tokens, Read, ◌>>=◌, read_as, rejected, next_is, expect}
 use Rattle.net_model.specs.Rows.{Step, row}
-use Rattle.net_model.specs.Expressions.{Inner, operator_at, all_links, chained, chain_at, climb, part_at, unary, wide, named_at, braces, inner_of, inside}
+use Rattle.net_model.specs.Expressions.{Inner, operator_at, all_links, chained, chain_at, climb, part_at, unary, wide, named_at, braces, inner_of, nested}
 use Rattle.net_model.specs.Conditions.{net_next, signed_net_next, net_at, signed_net_at, term_at, first_term_at, further_term_at, sign_next, further_terms, sum_at, chains, high_at, middle_at, bounded_at, said_at, condition_at}
 use Rattle.net_model.specs.Phrases.{slot_of, stood_before, and_then_stood, nothing_stood, goes_on, phrase_next, awaited, body_of, phrase_of_slot, worded, comma_at, phrase_at, phrases, phrases_end}
 use Rattle.net_model.specs.Declarations.{indexing_at, set_at, param_at, check_at, node_at, arc_at, after_objective, objective_at, declared_at, declaration_of_role, declaration_at, any_left, declaration_step, model_at}
@@ -170,9 +170,9 @@ summing : (i : Inner) → AreReaders i → IsReader (sum_at (Some i) true)
 unfolding sum_at further_terms
 summing i inner =
     binding (first_term_at (Some i) true) _ (first_terming i inner) λ x.
-    binding (λ ts. row (length ts) (further_term_at (Some i)) sign_next x.1 ts) (λ l. read_as (chained 2 x.0 (linked l.0.0), l.0.1) l.1)
+    binding (λ ts. row (length ts) (further_term_at (Some i)) sign_next x.1 ts) (λ l. read_as (chained 2 x.0 (links_from l.0.0), l.0.1) l.1)
     (rowing (further_term_at (Some i)) sign_next (further_terming i inner) (further-takes i inner) (λ s f v. next-same is_sign f v) x.1) λ l.
-    reading (chained 2 x.0 (linked l.0), l.1)
+    reading (chained 2 x.0 (links_from l.0), l.1)
 
 -- conditions
 highing : (i : Inner) → AreReaders i → (m : Token) (x : Tree) (p : Token) (y : Tree) → IsReader (high_at (Some i) m x p y)
@@ -340,13 +340,13 @@ any-same f [] = refl
 any-same f (t ∷ v) = refl
 
 pub model_reading : (d : ℕ) → IsReader (model_at (suc d))
-unfolding model_at inside
+unfolding model_at nested
 model_reading d =
     let inner = inside-reads (suc d) in
-    rowing (declaration_step (inside (suc d))) (λ s. any_left) (stepping_of d) (takes_of d) (λ s f v. any-same f v) tt
+    rowing (declaration_step (nested (suc d))) (λ s. any_left) (stepping_of d) (takes_of d) (λ s f v. any-same f v) tt
   where
-    stepping_of : (d : ℕ) (s : Unit {0}) → IsReader (declaration_step (inside (suc d)) s)
-    stepping_of d s = stepping (inner_of (inside d)) (inside-reads (suc d)) s
+    stepping_of : (d : ℕ) (s : Unit {0}) → IsReader (declaration_step (nested (suc d)) s)
+    stepping_of d s = stepping (inner_of (nested d)) (inside-reads (suc d)) s
 
-    takes_of : (d : ℕ) → Takes (declaration_step (inside (suc d)))
-    takes_of d = step-takes (inner_of (inside d)) (inside-reads (suc d))
+    takes_of : (d : ℕ) → Takes (declaration_step (nested (suc d)))
+    takes_of d = step-takes (inner_of (nested d)) (inside-reads (suc d))

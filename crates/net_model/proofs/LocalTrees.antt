@@ -14,7 +14,7 @@ use Rattle.net_model.specs.declared.expected.Expected.TheVariants as sorts
 use Rattle.net_model.specs.declared.parse_error.Awaiting.TheVariants as awaiting
 use Rattle.net_model.specs.Meaning.{opens}
 use Rattle.net_model.specs.Reading.{Tokens, Read, ◌>>=◌, read_as, rejected, next_is, is_sort, expect}
-use Rattle.net_model.specs.Expressions.{Reader, Inner, operator_at, links, all_links, chained, chain_at, climb, present_at, part_at, subscripts_at, named_at, closed, listed, parens_from, parens_at, not_shut, negated_at, is_hollow, hollow_at, items_at, braces_at, braces, reduced_at, choice_at, unary_at, unary, if_at, wide, inner_of, inside}
+use Rattle.net_model.specs.Expressions.{Reader, Inner, operator_at, links, all_links, chained, chain_at, climb, present_at, part_at, subscripts_at, named_at, closed, listed, parens_from, parens_at, not_shut, negated_at, ends_braces, empty_braces_at, items_at, braces_at, braces, reduction_at, conditional_at, unary_at, unary, if_at, wide, inner_of, nested}
 use Rattle.net_model.proofs.Tools.{ok_is}
 use Rattle.net_model.proofs.Longer.{put_operator-longer}
 use Rattle.net_model.proofs.LinksSound.{operator-sound}
@@ -155,8 +155,8 @@ negating (Some i) inner n =
     binding (expect sorts.Open awaiting.Other) _ (expecting sorts.Open awaiting.Other) λ o. binding (i.at 10) _ (inner.at 10) λ x.
     binding (expect sorts.Close awaiting.Other) _ (expecting sorts.Close awaiting.Other) λ c. reading (negated n o x c)
 
-hollowing : (i : Inner) → AreReaders i → (o : Token) → IsReader (hollow_at i o)
-unfolding hollow_at
+hollowing : (i : Inner) → AreReaders i → (o : Token) → IsReader (empty_braces_at i o)
+unfolding empty_braces_at
 hollowing i inner o =
     binding (part_at sorts.Colon (i.at 10)) _ (parting sorts.Colon (i.at 10) (inner.at 10)) λ p.
     binding (expect sorts.CloseBrace awaiting.Other) _ (expecting sorts.CloseBrace awaiting.Other) λ c. reading (empty o p c)
@@ -170,19 +170,19 @@ itemizing i inner o =
 
 bracing_at : (i : Inner) → AreReaders i → (o : Token) → IsReader (braces_at i o)
 unfolding braces_at
-bracing_at i inner o = nexting is_hollow (hollow_at i o) (items_at i o) (hollowing i inner o) (itemizing i inner o)
+bracing_at i inner o = nexting ends_braces (empty_braces_at i o) (items_at i o) (hollowing i inner o) (itemizing i inner o)
 
 pub bracing : (o : Option Inner) → MayRead o → IsReader (braces o)
 unfolding braces
 bracing None inner = opening is_open_brace (rejected awaiting.Other) brace-opens (refusing awaiting.Other)
 bracing (Some i) inner = binding (expect sorts.OpenBrace awaiting.Other) _ (expecting sorts.OpenBrace awaiting.Other) λ o. bracing_at i inner o
 
-reducing : (i : Inner) → AreReaders i → (w : Token) → IsReader (reduced_at i w)
-unfolding reduced_at
+reducing : (i : Inner) → AreReaders i → (w : Token) → IsReader (reduction_at i w)
+unfolding reduction_at
 reducing i inner w = binding i.braces _ inner.braces λ b. binding (i.at 2) _ (inner.at 2) λ x. reading (reduced w b x)
 
-choosing : (i : Inner) → AreReaders i → (w : Token) → IsReader (choice_at i w)
-unfolding choice_at
+choosing : (i : Inner) → AreReaders i → (w : Token) → IsReader (conditional_at i w)
+unfolding conditional_at
 choosing i inner w =
     binding (i.at 10) _ (inner.at 10) λ x. binding (expect sorts.Then awaiting.Other) _ (expecting sorts.Then awaiting.Other) λ t.
     binding (i.at 7) _ (inner.at 7) λ y. binding (part_at sorts.Else (i.wide 7)) _ (parting sorts.Else (i.wide 7) (inner.wide 7)) λ e. reading (choice w x t y e)
@@ -213,9 +213,9 @@ widening None inner n = opening is_if (climb n (unary None)) if-opens (climbing 
 widening (Some i) inner n =
     nexting is_if (if_at (Some i)) (climb n (unary (Some i))) (heading awaiting.Other (if_at (Some i)) refl (λ t. takes (choosing i inner t))) (climbing (unary (Some i)) (unarying (Some i) inner) n)
 
-pub inside-reads : (d : ℕ) → MayRead (inside d)
-unfolding inside inner_of
+pub inside-reads : (d : ℕ) → MayRead (nested d)
+unfolding nested inner_of
 inside-reads zero = tt
 inside-reads (suc d) =
     let inner = inside-reads d in
-    record { at = climbing (unary (inside d)) (unarying (inside d) inner); wide = widening (inside d) inner; braces = bracing (inside d) inner }
+    record { at = climbing (unary (nested d)) (unarying (nested d) inner); wide = widening (nested d) inner; braces = bracing (nested d) inner }

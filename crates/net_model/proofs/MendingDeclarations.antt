@@ -16,7 +16,7 @@ use Rattle.net_model.specs.declared.phrase.Owner.TheVariants as owners
 use Rattle.net_model.specs.declared.expected.Expected.TheVariants as sorts
 use Rattle.net_model.specs.declared.parse_error.Awaiting.TheVariants as awaiting
 use Rattle.net_model.specs.Reading.{Tokens, next_is}
-use Rattle.net_model.specs.Expressions.{Inner, climb, unary, wide, braces, part_at, inside}
+use Rattle.net_model.specs.Expressions.{Inner, climb, unary, wide, braces, part_at, nested}
 use Rattle.net_model.specs.Phrases.{phrases, phrases_end}
 use Rattle.net_model.specs.Conditions.{condition_at}
 use Rattle.net_model.specs.Declarations.{indexing_at, set_at, param_at, check_at, node_at, arc_at, after_objective, objective_at, declared_at, declaration_of_role, declaration_at, any_left, declaration_step, model_at}
@@ -294,15 +294,15 @@ One k s x after = IsOne k s x after
 abbrev pub model_of : Written (List Declaration × Unit {0})
 model_of = row_of put_declaration put_declaration-front One tt
 
-step-mends : (d : ℕ) → 0 < d → (s : Unit {0}) → Mends (step_of put_declaration put_declaration-front One s) d (declaration_step (inside d) s)
+step-mends : (d : ℕ) → 0 < d → (s : Unit {0}) → Mends (step_of put_declaration put_declaration-front One s) d (declaration_step (nested d) s)
 unfolding declaration_step
 step-mends d some s ts =
-    last_mends declaration_of (step_of put_declaration put_declaration-front One s) here d same ts (declaration_at (inside d) ts) _ (declaration-mends d (inside d) some (inside-mends d) ts)
+    last_mends declaration_of (step_of put_declaration put_declaration-front One s) here d same ts (declaration_at (nested d) ts) _ (declaration-mends d (nested d) some (inside-mends d) ts)
     (λ stop e k x le f. record { thing = (x, s); fits = record { level = f.0; within = f.1 }; rest = []; text = λ r. refl })
     (λ x stop h. cc)
 
 pub model-mends : (d : ℕ) → 0 < d → Mends model_of d (model_at d)
 unfolding model_at
 model-mends d some ts =
-    row-mends put_declaration put_declaration-front One d (declaration_step (inside d)) (λ s. any_left) (λ k s x after le f. record { level = f.level; within = omega (arith, f.within, le) }) (step-sound d)
+    row-mends put_declaration put_declaration-front One d (declaration_step (nested d)) (λ s. any_left) (λ k s x after le f. record { level = f.level; within = omega (arith, f.within, le) }) (step-sound d)
     (λ s ts b. step-mends d some s ts) (length ts) tt ts

@@ -15,7 +15,7 @@ use Rattle.net_model.specs.declared.parse_error.Awaiting.TheVariants as awaiting
 use Rattle.net_model.specs.declared.parse_error.ParseError.TheVariants as stops
 use Rattle.net_model.specs.Meaning.{announces}
 use Rattle.net_model.specs.Reading.{Tokens, Read, ◌>>=◌, read_as, rejected, too_deep, next_is}
-use Rattle.net_model.specs.Expressions.{Inner, climb, named_at, not_shut, negated_at, braces_at, braces, reduced_at, unary_at, unary, if_at, wide, inner_of, inside}
+use Rattle.net_model.specs.Expressions.{Inner, climb, named_at, not_shut, negated_at, braces_at, braces, reduction_at, unary_at, unary, if_at, wide, inner_of, nested}
 use Rattle.net_model.proofs.LinksSound.{UpTo}
 use Rattle.net_model.proofs.TreesSound.{Wide, SoundInner, IsInside, unary-sound, inside-sound}
 use Rattle.net_model.proofs.Readers.{put_before}
@@ -184,8 +184,8 @@ wide-mends d n o low high inner mends ifs ts =
 
 -- behind the word of a reduction
 reduced-mends : (d : ℕ) (i : Inner) → SoundInner d i → Mends braces_of d i.braces → Mends (tree (UpTo 2)) d (i.at 2) → (w : Token) → is_reduction (role_of w) ≡ true → (ts : Tokens)
-    → Mending (tree (UpTo 1)) (suc d) same (w ∷ ts) (reduced_at i w ts)
-unfolding reduced_at
+    → Mending (tree (UpTo 1)) (suc d) same (w ∷ ts) (reduction_at i w ts)
+unfolding reduction_at
 reduced-mends d i sound bracing products w reduces ts =
     passed_mends (tree (UpTo 1)) (suc d) same w ts _
     (then_mends braces_of (tree (UpTo 1)) inward d (λ r. w ∷ r) ts (i.braces ts) _ (bracing ts)
@@ -204,8 +204,8 @@ word_begun : (w : Token) → is_reduction (role_of w) ≡ true → Begun (tree (
 word_begun w reduces =
     let b = reduction_begun 2 w (filler sorts.OpenBrace) (omega arith) reduces (fills sorts.OpenBrace) in record { thing = b.thing; fits = b.fits; rest = filler sorts.OpenBrace ∷ b.rest; text = b.text }
 
-reduced-shut : (w : Token) → is_reduction (role_of w) ≡ true → (ts : Tokens) → Mending (tree (UpTo 1)) 1 same (w ∷ ts) (reduced_at (inner_of None) w ts)
-unfolding reduced_at inner_of braces
+reduced-shut : (w : Token) → is_reduction (role_of w) ≡ true → (ts : Tokens) → Mending (tree (UpTo 1)) 1 same (w ∷ ts) (reduction_at (inner_of None) w ts)
+unfolding reduction_at inner_of braces
 reduced-shut w reduces [] =
     passed_mends (tree (UpTo 1)) 1 same w [] _
     (rejected_mends (tree (UpTo 1)) 1 (λ r. w ∷ r) [] awaiting.Other (2, omega arith, word_begun w reduces))
@@ -227,26 +227,26 @@ pub record Mendable (d : ℕ) (o : Option Inner) : Type 0 where
   pub named : (n : Token) → is_name (role_of n) ≡ true → (ts : Tokens) → Mending reference d same (n ∷ ts) (named_at o n ts)
   pub braces : 0 < d → Mends braces_of d (braces o)
 
-sound_inner : (d : ℕ) → SoundInner d (inner_of (inside d))
-unfolding inside
-sound_inner d = let s = inside-sound (suc d) in let P : ℕ → Type 0 = λ e. SoundInner e (inner_of (inside d)) in let e : s.0 ≡ d = omega (arith, s.1) in subst P e s.2
+sound_inner : (d : ℕ) → SoundInner d (inner_of (nested d))
+unfolding nested
+sound_inner d = let s = inside-sound (suc d) in let P : ℕ → Type 0 = λ e. SoundInner e (inner_of (nested d)) in let e : s.0 ≡ d = omega (arith, s.1) in subst P e s.2
 
-reduced-inner : (d : ℕ) → Mendable d (inside d) → (w : Token) → is_reduction (role_of w) ≡ true → (ts : Tokens) → Mending (tree (UpTo 1)) (suc d) same (w ∷ ts) (reduced_at (inner_of (inside d)) w ts)
-unfolding inside inner_of
+reduced-inner : (d : ℕ) → Mendable d (nested d) → (w : Token) → is_reduction (role_of w) ≡ true → (ts : Tokens) → Mending (tree (UpTo 1)) (suc d) same (w ∷ ts) (reduction_at (inner_of (nested d)) w ts)
+unfolding nested inner_of
 reduced-inner zero m w reduces ts = reduced-shut w reduces ts
 reduced-inner (suc d) m w reduces ts =
-    reduced-mends (suc d) (inner_of (inside (suc d))) (sound_inner (suc d)) (m.braces (omega arith)) (climb-mends (suc d) 2 (unary (inside (suc d))) m.unary (unary-sound (suc d) (inside (suc d)) m.sound) (omega arith) (omega arith)) w reduces ts
+    reduced-mends (suc d) (inner_of (nested (suc d))) (sound_inner (suc d)) (m.braces (omega arith)) (climb-mends (suc d) 2 (unary (nested (suc d))) m.unary (unary-sound (suc d) (nested (suc d)) m.sound) (omega arith) (omega arith)) w reduces ts
 
-inner-mends : (d : ℕ) → Mendable d (inside d) → MendInner d (inner_of (inside d))
+inner-mends : (d : ℕ) → Mendable d (nested d) → MendInner d (inner_of (nested d))
 unfolding inner_of
 inner-mends d m = record {
-  at = λ n low high. climb-mends d n (unary (inside d)) m.unary (unary-sound d (inside d) m.sound) low high;
+  at = λ n low high. climb-mends d n (unary (nested d)) m.unary (unary-sound d (nested d) m.sound) low high;
   wide = m.wide;
   reduced = reduced-inner d m;
 }
 
-pub inside-mends : (d : ℕ) → Mendable d (inside d)
-unfolding inside
+pub inside-mends : (d : ℕ) → Mendable d (nested d)
+unfolding nested
 inside-mends zero = record {
   sound = inside-sound zero;
   unary = unary-shut zero;
@@ -255,7 +255,7 @@ inside-mends zero = record {
   braces = λ some. absurd (omega (arith, some));
 }
 inside-mends (suc d) =
-    let i = inner_of (inside d) in
+    let i = inner_of (nested d) in
     let sound = sound_inner d in
     let mends = inner-mends d (inside-mends d) in
     record {

@@ -6,7 +6,7 @@ use Rattle.net_tree.specs.declared.operator.Words.{Words as Operator}
 use Rattle.net_tree.specs.declared.operator.Words.TheVariants.{One, Two}
 use Rattle.net_tree.specs.Role.{role_of, is_sign}
 use Rattle.net_tree.specs.Tree.{Tree, Links, net, none, link, chain}
-use Rattle.net_tree.specs.View.{linked}
+use Rattle.net_tree.specs.View.{links_from}
 use Rattle.net_tree.specs.Print.{put, put_links, put_operator}
 use Rattle.net_tree.specs.Depth.{depth, links_depth}
 use Rattle.net_tree.specs.WellFormed.{IsLinked}
@@ -178,9 +178,9 @@ sum-whole d o m ts a h =
     let sx = first_term-sound d o m.sound true ts x.value x.first in
     let l = bind_ok _ _ _ x.after in
     let sl = terms-sound d o m.sound x.value.0.1 x.value.1 l.value l.first in
-    given (λ z. (ts ≡ put z.0.0 z.1) × Sum d z.0) ((chained 2 x.value.0.0 (linked l.value.0.0), l.value.0.1), l.value.1) a l.after (
-      sx.text ∙ ap (put x.value.0.0) sl.text ∙ sym (chained-text x.value.0.0 (linked l.value.0.0) l.value.1),
-      sum d x.value.0.0 (linked l.value.0.0) l.value.0.1 sx.term sl.terms (omega (arith, sx.nets, sl.nets)) sx.within sl.within,
+    given (λ z. (ts ≡ put z.0.0 z.1) × Sum d z.0) ((chained 2 x.value.0.0 (links_from l.value.0.0), l.value.0.1), l.value.1) a l.after (
+      sx.text ∙ ap (put x.value.0.0) sl.text ∙ sym (chained-text x.value.0.0 (links_from l.value.0.0) l.value.1),
+      sum d x.value.0.0 (links_from l.value.0.0) l.value.0.1 sx.term sl.terms (omega (arith, sx.nets, sl.nets)) sx.within sl.within,
     )
 
 pub sum-mends : (d : ℕ) (o : Option Inner) → Mendable d o → Mends sum_kind d (sum_at o true)
@@ -197,10 +197,10 @@ sum-mends d o m ts =
           (λ s e k l le f.
           let t = terms_of k x.0.1 l.1 l.0 f in
           record {
-            thing = (chained 2 x.0.0 (linked l.0), l.1);
-            fits = sum k x.0.0 (linked l.0) l.1 sx.term t.0 (omega (arith, sx.nets, t.2)) (omega (arith, sx.within, le)) t.1;
+            thing = (chained 2 x.0.0 (links_from l.0), l.1);
+            fits = sum k x.0.0 (links_from l.0) l.1 sx.term t.0 (omega (arith, sx.nets, t.2)) (omega (arith, sx.within, le)) t.1;
             rest = [];
-            text = λ r. chained-text x.0.0 (linked l.0) r ∙ ap (put x.0.0) (sym (put_further-links l.0 r));
+            text = λ r. chained-text x.0.0 (links_from l.0) r ∙ ap (put x.0.0) (sym (put_further-links l.0 r));
           })
           (λ l s h. cc);
     })

@@ -12,7 +12,7 @@ use Rattle.net_tree.specs.Phrases.{IsReference}
 use Rattle.net_model.specs.declared.expected.Expected.TheVariants as sorts
 use Rattle.net_model.specs.declared.parse_error.Awaiting.TheVariants as awaiting
 use Rattle.net_model.specs.Reading.{Tokens, next_is, is_sort}
-use Rattle.net_model.specs.Expressions.{Inner, all_links, part_at, is_subscripted, subscripts_at, named_at, closed, listed, parens_from, parens_at, negated_at, is_hollow, hollow_at, items_at, braces_at, braces, reduced_at, choice_at}
+use Rattle.net_model.specs.Expressions.{Inner, all_links, part_at, is_subscripted, subscripts_at, named_at, closed, listed, parens_from, parens_at, negated_at, ends_braces, empty_braces_at, items_at, braces_at, braces, reduction_at, conditional_at}
 use Rattle.net_model.proofs.LinksSound.{UpTo, links-sound}
 use Rattle.net_model.proofs.TreesSound.{Wide, wide_value, SoundInner, IsPart, part-sound, part_filter}
 use Rattle.net_model.proofs.Mending.{Written, Begun, Mending, inward, same, then_mends, last_mends, choose_mends, read_mends, opens_mends, passed_mends}
@@ -24,7 +24,7 @@ pub record MendInner (d : ℕ) (i : Inner) : Type 0 where
   pub at : (n : ℕ) → 0 < n → n ≤ 10 → Mends (tree (UpTo n)) d (i.at n)
   pub wide : (n : ℕ) → 0 < n → n ≤ 10 → Mends (tree (Wide n)) d (i.wide n)
   -- and behind the word of a reduction
-  pub reduced : (w : Token) → is_reduction (role_of w) ≡ true → (ts : Tokens) → Mending (tree (UpTo 1)) (suc d) same (w ∷ ts) (reduced_at i w ts)
+  pub reduced : (w : Token) → is_reduction (role_of w) ≡ true → (ts : Tokens) → Mending (tree (UpTo 1)) (suc d) same (w ∷ ts) (reduction_at i w ts)
 
 list-mends : (d n : ℕ) (i : Inner) → SoundInner d i → MendInner d i → 1 < n → n ≤ 10 → Mends (links_of 0 n 0) d (all_links 0 (i.at n))
 list-mends d n i sound mends low high ts = links-mends d 0 n (i.at n) (mends.at n (omega arith) high) (sound.at n (omega arith) high) (λ e. absurd (omega (arith, e))) (length ts) 0 ts
@@ -180,8 +180,8 @@ negated-inside d i sound mends n nots ts =
     })))
 
 -- behind `{`
-hollow-mends : (d : ℕ) (i : Inner) → SoundInner d i → MendInner d i → (o : Token) → is_open_brace (role_of o) ≡ true → (ts : Tokens) → Mending braces_of (suc d) (λ r. o ∷ r) ts (hollow_at i o ts)
-unfolding hollow_at
+hollow-mends : (d : ℕ) (i : Inner) → SoundInner d i → MendInner d i → (o : Token) → is_open_brace (role_of o) ≡ true → (ts : Tokens) → Mending braces_of (suc d) (λ r. o ∷ r) ts (empty_braces_at i o ts)
+unfolding empty_braces_at
 hollow-mends d i sound mends o opens ts =
     then_mends (part_of sorts.Colon (UpTo 10)) braces_of inward d (λ r. o ∷ r) ts (part_at sorts.Colon (i.at 10) ts) _ (part-mends d sorts.Colon (UpTo 10) (i.at 10) (mends.at 10 (omega arith) (omega arith)) ts)
     (λ s e k p le f. record {
@@ -255,7 +255,7 @@ items-mends d i sound mends o opens ts =
 pub braces_at-mends : (d : ℕ) (i : Inner) → SoundInner d i → MendInner d i → (o : Token) → is_open_brace (role_of o) ≡ true → (ts : Tokens) → Mending braces_of (suc d) (λ r. o ∷ r) ts (braces_at i o ts)
 unfolding braces_at
 braces_at-mends d i sound mends o opens ts =
-    choose_mends braces_of (suc d) (λ r. o ∷ r) ts (next_is is_hollow ts) _ _ (λ b. hollow-mends d i sound mends o opens ts) (λ b. items-mends d i sound mends o opens ts)
+    choose_mends braces_of (suc d) (λ r. o ∷ r) ts (next_is ends_braces ts) _ _ (λ b. hollow-mends d i sound mends o opens ts) (λ b. items-mends d i sound mends o opens ts)
 
 pub braces-mends : (d : ℕ) (i : Inner) → SoundInner d i → MendInner d i → Mends braces_of (suc d) (braces (Some i))
 unfolding braces
@@ -269,8 +269,8 @@ part_else : (p : Part) → IsPart sorts.Else (Wide 7) p → IsElse p
 part_else absent h = tt
 part_else (part m x) h = (h.0, h.1, wide_value (precedence x) h.2)
 
-pub choice-mends : (d : ℕ) (i : Inner) → SoundInner d i → MendInner d i → (w : Token) → is_if (role_of w) ≡ true → (ts : Tokens) → Mending (tree (λ r. r ≡ 11)) (suc d) same (w ∷ ts) (choice_at i w ts)
-unfolding choice_at
+pub choice-mends : (d : ℕ) (i : Inner) → SoundInner d i → MendInner d i → (w : Token) → is_if (role_of w) ≡ true → (ts : Tokens) → Mending (tree (λ r. r ≡ 11)) (suc d) same (w ∷ ts) (conditional_at i w ts)
+unfolding conditional_at
 choice-mends d i sound mends w ifs ts =
     passed_mends (tree (λ r. r ≡ 11)) (suc d) same w ts _
     (then_mends (tree (UpTo 10)) (tree (λ r. r ≡ 11)) inward d (λ r. w ∷ r) ts (i.at 10 ts) _ (mends.at 10 (omega arith) (omega arith) ts)

@@ -11,7 +11,7 @@ use Rattle.net_tree.specs.Tree.{Tree, valued, priced, unsaid, one, between, Decl
 use Rattle.net_tree.specs.Print.{print}
 use Rattle.net_tree.specs.Depth.{model_depth}
 use Rattle.net_tree.specs.Declarations.{AreDeclarations}
-use Rattle.net_tree.specs.View.{linked}
+use Rattle.net_tree.specs.View.{links_from}
 use Rattle.net_model.specs.declared.phrase.Owner.{Owner}
 use Rattle.net_model.specs.declared.phrase.Owner.TheVariants as owners
 use Rattle.net_model.specs.declared.phrase.Slot.{Slot}
@@ -24,7 +24,7 @@ use Rattle.net_model.specs.declared.parse_error.ParseError.{ParseError}
 use Rattle.net_model.specs.declared.parse_error.ParseError.TheVariants as stops
 use Rattle.net_model.specs.Reading.{Tokens, ◌>>=◌, read_as, rejected, next_is, expect}
 use Rattle.net_model.specs.Rows.{Step, row}
-use Rattle.net_model.specs.Expressions.{Inner, operator_at, chained, climb, part_at, unary, wide, named_at, braces, inside}
+use Rattle.net_model.specs.Expressions.{Inner, operator_at, chained, climb, part_at, unary, wide, named_at, braces, nested}
 use Rattle.net_model.specs.Conditions.{net_next, signed_net_next, net_at, signed_net_at, term_at, first_term_at, further_term_at, sign_next, further_terms, sum_at, chain_next, high_at, middle_at, bounded_at, said_at, condition_at}
 use Rattle.net_model.specs.Phrases.{slot_of, stood_before, and_then_stood, nothing_stood, phrase_next, body_of, phrase_of_slot, worded, comma_at, phrase_at, phrases, phrases_end}
 use Rattle.net_model.specs.Declarations.{indexing_at, set_at, param_at, check_at, node_at, arc_at, after_objective, objective_at, declared_at, declaration_of_role, declaration_at, any_left, declaration_step, model_at}
@@ -65,7 +65,7 @@ sum-agree o q inner free ts =
     then_agree (first_term_at o free ts) (first_term_at q free ts) _ _ (first_term-agree o q inner free ts) λ x.
     then_agree (further_terms o x.0.1 x.1) (further_terms q x.0.1 x.1) _ _
     (row-agree (further_term_at o) (further_term_at q) sign_next (further_term-agree o q inner) (length x.1) x.0.1 x.1) λ l.
-    agreed (read_as (chained 2 x.0.0 (linked l.0.0), l.0.1) l.1)
+    agreed (read_as (chained 2 x.0.0 (links_from l.0.0), l.0.1) l.1)
 
 high-agree : (o q : Option Inner) → Agreeing o q → (m : Token) (x : Tree) (p : Token) (y : Tree) → Agrees (high_at o m x p y) (high_at q m x p y)
 unfolding high_at
@@ -174,7 +174,7 @@ declaration-agree o q inner s (w ∷ ts) =
 pub model-agree : (d e : ℕ) → d ≤ e → Agrees (model_at d) (model_at e)
 unfolding model_at
 model-agree d e less ts =
-    row-agree (declaration_step (inside d)) (declaration_step (inside e)) (λ s. any_left) (declaration-agree (inside d) (inside e) (inside-agree d e less)) (length ts) tt ts
+    row-agree (declaration_step (nested d)) (declaration_step (nested e)) (λ s. any_left) (declaration-agree (nested d) (nested e) (inside-agree d e less)) (length ts) tt ts
 
 rejected_too : {A : Type 0} (p q : Result A ParseError) (n : ℕ) (a : Awaiting) → Agree p q → p ≡ Err (stops.Rejected n a) → q ≡ Err (stops.Rejected n a)
 rejected_too p q n a (same e) h = sym e ∙ h

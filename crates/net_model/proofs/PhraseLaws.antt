@@ -13,7 +13,7 @@ use Rattle.net_model.specs.declared.phrase.Owner.{Owner}
 use Rattle.net_model.specs.declared.phrase.Slot.{Slot}
 use Rattle.net_model.specs.declared.phrase.Stood.{Stood}
 use Rattle.net_model.specs.Reading.{Tokens}
-use Rattle.net_model.specs.Expressions.{Inner, inside}
+use Rattle.net_model.specs.Expressions.{Inner, nested}
 use Rattle.net_model.specs.Phrases.{slot_of, stood_before, and_then_stood, nothing_stood, begins_phrase, phrase_next, phrase_of_slot, worded, comma_at, phrase_at, phrases, phrases_end}
 use Rattle.net_model.proofs.Tools.{bind_ok, given, chosen, on, off, next}
 use Rattle.net_model.proofs.TreesSound.{IsInside}
@@ -138,12 +138,12 @@ comma-complete None w r comma no_comma = rw no_comma refl
 comma-complete (Some c) w r comma no_comma = rw comma refl
 
 worded-complete : (d : ℕ) (o : Owner) (s : Stood) (p : Phrase) (after : Stood) (r : Tokens) → IsPhraseOf d o s p after → Ends r
-    → worded (inside d) o s p.comma (p.word ∷ put_body p.body r) ≡ Ok ((p, and_then_stood s (role_of p.word)), r)
+    → worded (nested d) o s p.comma (p.word ∷ put_body p.body r) ≡ Ok ((p, and_then_stood s (role_of p.word)), r)
 unfolding worded
 worded-complete d o s p after r q ends = rw (q.fresh, q.has, body-complete d q.slot p.body r q.body q.within ends) refl
 
 phrase-complete : (d : ℕ) (o : Owner) (s : Stood) (p : Phrase) (after : Stood) (r : Tokens) → IsPhraseOf d o s p after → Ends r
-    → phrase_at (inside d) o s (put_phrase p r) ≡ Ok ((p, after), r)
+    → phrase_at (nested d) o s (put_phrase p r) ≡ Ok ((p, after), r)
 unfolding phrase_at
 phrase-complete d o s p after r q ends =
     let word = slot-word o (role_of p.word) q.slot q.has in
@@ -173,7 +173,7 @@ phrase-ends : (c : Option Token) (w : Token) (r : Tokens) → IsOptionalComma c 
 phrase-ends None w r comma word = record { stops = word.loose; no_else = word.no_else }
 phrase-ends (Some c) w r comma word = let k = comma-ends (role_of c) comma in record { stops = k.0; no_else = k.1 }
 
-phrase_step : (d : ℕ) (o : Owner) → CompleteStep put_phrase (IsPhraseOf d o) Ends (phrase_at (inside d) o) (phrase_next o)
+phrase_step : (d : ℕ) (o : Owner) → CompleteStep put_phrase (IsPhraseOf d o) Ends (phrase_at (nested d) o) (phrase_next o)
 phrase_step d o = record {
   longer = λ p r. omega (arith, put_optional-longer p.comma (p.word ∷ put_body p.body r), put_body-longer p.body r);
   goes = λ s p m r q. goes-on d o s p.comma p.word q.slot (put_body p.body r) q.comma q.fresh q.has;
@@ -202,7 +202,7 @@ steps_of d o s (p ∷ ps) are deep singly =
 
 pub record PhrasesBack (d : ℕ) (o : Owner) (ps : List Phrase) (e : Token) (ts : Tokens) : Type 0 where
   pub stands : Stood
-  pub read : phrases (inside d) o (put_phrases ps (e ∷ ts)) ≡ Ok ((ps, stands), e ∷ ts)
+  pub read : phrases (nested d) o (put_phrases ps (e ∷ ts)) ≡ Ok ((ps, stands), e ∷ ts)
 
 semicolon-no_else : (r : Role) → is_semicolon r ≡ true → is_else r ≡ false
 semicolon-no_else roles.Semicolon h = refl
@@ -215,7 +215,7 @@ phrases-complete d o ps e ts are singly deep ends =
     let steps = steps_of d o nothing_stood ps are deep singly in
     let s = semicolon-shuts (role_of e) ends in
     let text = put_all-phrases ps (e ∷ ts) in
-    let read = row-complete put_phrase (IsPhraseOf d o) Ends (phrase_at (inside d) o) (phrase_next o) (phrase_step d o) (length (put_all put_phrase ps (e ∷ ts))) nothing_stood ps steps.0 (e ∷ ts)
+    let read = row-complete put_phrase (IsPhraseOf d o) Ends (phrase_at (nested d) o) (phrase_next o) (phrase_step d o) (length (put_all put_phrase ps (e ∷ ts))) nothing_stood ps steps.0 (e ∷ ts)
     (omega arith) steps.1 (record { stops = omega (arith, s.grips); no_else = semicolon-no_else (role_of e) ends }) (semicolon-over o steps.0 (role_of e) ends) in
     record { stands = steps.0; read = rw text at read }
 

@@ -7,7 +7,7 @@ use Rattle.net_tree.specs.declared.role.Role.TheVariants as roles
 use Rattle.net_tree.specs.Role.{role_of, is_if, is_net}
 use Rattle.net_tree.specs.Tree.{Tree}
 use Rattle.net_model.specs.Reading.{Tokens, next_is}
-use Rattle.net_model.specs.Expressions.{Inner, chain_at, climb, unary_at, unary, is_hollow}
+use Rattle.net_model.specs.Expressions.{Inner, chain_at, climb, unary_at, unary, ends_braces}
 use Rattle.net_model.proofs.Tools.{bind_ok}
 
 abbrev pub starts : Role → Bool
@@ -57,7 +57,7 @@ starts-no_net : (r : Role) → starts r ≡ true → is_net r ≡ false
 starts-no_net roles.Net h = absurd (cc)
 starts-no_net _ h = refl
 
-starts-no_hollow : (r : Role) → starts r ≡ true → is_hollow r ≡ false
+starts-no_hollow : (r : Role) → starts r ≡ true → ends_braces r ≡ false
 starts-no_hollow roles.Colon h = absurd (cc)
 starts-no_hollow roles.CloseBrace h = absurd (cc)
 starts-no_hollow _ h = refl
@@ -68,5 +68,5 @@ climb-no_if n o ts a h = apart is_if starts-no_if ts (climb-starts n o ts a h)
 pub climb-no_net : (n : ℕ) (o : Option Inner) (ts : Tokens) (a : Tree × Tokens) → climb n (unary o) ts ≡ Ok a → next_is is_net ts ≡ false
 climb-no_net n o ts a h = apart is_net starts-no_net ts (climb-starts n o ts a h)
 
-pub climb-no_hollow : (n : ℕ) (o : Option Inner) (ts : Tokens) (a : Tree × Tokens) → climb n (unary o) ts ≡ Ok a → next_is is_hollow ts ≡ false
-climb-no_hollow n o ts a h = apart is_hollow starts-no_hollow ts (climb-starts n o ts a h)
+pub climb-no_hollow : (n : ℕ) (o : Option Inner) (ts : Tokens) (a : Tree × Tokens) → climb n (unary o) ts ≡ Ok a → next_is ends_braces ts ≡ false
+climb-no_hollow n o ts a h = apart ends_braces starts-no_hollow ts (climb-starts n o ts a h)

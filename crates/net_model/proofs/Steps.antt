@@ -8,16 +8,16 @@ use Rattle.net_tree.specs.Tree.{negated}
 use Rattle.net_model.specs.declared.expected.Expected.TheVariants as sorts
 use Rattle.net_model.specs.declared.parse_error.Awaiting.TheVariants as awaiting
 use Rattle.net_model.specs.Reading.{Tokens, Read, ◌>>=◌, read_as, rejected, too_deep, is_sort, expect}
-use Rattle.net_model.specs.Expressions.{Reader, Inner, inside, inner_of, climb, chain_at, braces, braces_at, negated_at, not_shut}
+use Rattle.net_model.specs.Expressions.{Reader, Inner, nested, inner_of, climb, chain_at, braces, braces_at, negated_at, not_shut}
 
-pub inside-none : (d : ℕ) → d ≡ 0 → inside d ≡ None
-unfolding inside
-inside-none d h = ap inside h
+pub inside-none : (d : ℕ) → d ≡ 0 → nested d ≡ None
+unfolding nested
+inside-none d h = ap nested h
 
-pub inside-some : (d : ℕ) → (d ≡ 0 → ⊥) → inside d ≡ Some (inner_of (inside (d - 1)))
-unfolding inside
+pub inside-some : (d : ℕ) → (d ≡ 0 → ⊥) → nested d ≡ Some (inner_of (nested (d - 1)))
+unfolding nested
 inside-some zero h = absurd (h refl)
-inside-some (suc d) h = let e : d ≡ suc d - 1 = omega arith in ap (λ k. Some (inner_of (inside k))) e
+inside-some (suc d) h = let e : d ≡ suc d - 1 = omega arith in ap (λ k. Some (inner_of (nested k))) e
 
 pub climb-low : (n : ℕ) (u : Reader) → n < 2 → climb n u ≡ u
 unfolding climb

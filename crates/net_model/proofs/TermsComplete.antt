@@ -10,7 +10,7 @@ use Rattle.net_tree.specs.declared.role.Role.{Role}
 use Rattle.net_tree.specs.declared.role.Role.TheVariants as roles
 use Rattle.net_tree.specs.Role.{role_of, is_not, is_sign, is_net}
 use Rattle.net_tree.specs.Tree.{Tree, Links, leaf, indexed, parens, tuple, negated, braced, signed, reduced, chain, choice, net, none, link}
-use Rattle.net_tree.specs.View.{linked}
+use Rattle.net_tree.specs.View.{links_from}
 use Rattle.net_tree.specs.Print.{put, put_links}
 use Rattle.net_tree.specs.Depth.{depth, links_depth}
 use Rattle.net_tree.specs.WellFormed.{precedence, room, IsOperator, IsWellFormed, AreWellFormed}
@@ -18,7 +18,7 @@ use Rattle.net_tree.specs.Conditions.{IsFirstTerm, IsFurtherTerm, AreTerms, nets
 use Rattle.net_model.specs.declared.expected.Expected.TheVariants as sorts
 use Rattle.net_model.specs.declared.parse_error.Awaiting.TheVariants as awaiting
 use Rattle.net_model.specs.Reading.{Tokens, next_is}
-use Rattle.net_model.specs.Expressions.{Inner, chained, chain_at, climb, unary_at, unary, inside, inner_of}
+use Rattle.net_model.specs.Expressions.{Inner, chained, chain_at, climb, unary_at, unary, nested, inner_of}
 use Rattle.net_model.specs.Conditions.{signed_net_next, net_at, signed_net_at, term_at, first_term_at, further_term_at, sign_next, further_terms, sum_at}
 use Rattle.net_model.proofs.Tools.{bind_ok, expect-complete}
 use Rattle.net_model.proofs.Longer.{put-longer, put_operator-longer}
@@ -35,11 +35,11 @@ off : (free test : Bool) → test ≡ false → cond free test false ≡ false
 off true test h = h
 off false test h = refl
 
-term_plain : (d : ℕ) (x : Tree) (free : Bool) (ts : Tokens) → IsWellFormed x → precedence x ≤ 2 → depth x ≤ d → Stops 1 ts → term_at (inside d) free (put x ts) ≡ Ok ((x, free), ts)
+term_plain : (d : ℕ) (x : Tree) (free : Bool) (ts : Tokens) → IsWellFormed x → precedence x ≤ 2 → depth x ≤ d → Stops 1 ts → term_at (nested d) free (put x ts) ≡ Ok ((x, free), ts)
 unfolding term_at
 term_plain d x free ts level fits deep stops =
     let read = in_place d 2 1 x ts (trees-complete x d) level deep fits (omega arith) (omega arith) (reach-below (precedence x) 1 fits (omega arith)) stops in
-    rw (off free (next_is is_net (put x ts)) (climb-no_net 2 (inside d) (put x ts) (x, ts) read), read) refl
+    rw (off free (next_is is_net (put x ts)) (climb-no_net 2 (nested d) (put x ts) (x, ts) read), read) refl
 
 taken : (free after : Bool) → 1 + left after ≡ left free → (free ≡ true) × (after ≡ false)
 taken true false h = (refl, refl)
@@ -57,10 +57,10 @@ unfolding term_at net_at
 term_net o w ts h = rw (h, expect-complete sorts.Net awaiting.Other w ts h) refl
 
 pub term-complete : (d : ℕ) (x : Tree) (free after : Bool) (ts : Tokens) → IsFurtherTerm x → depth x ≤ d → nets x + left after ≡ left free → Stops 1 ts
-    → term_at (inside d) free (put x ts) ≡ Ok ((x, after), ts)
+    → term_at (nested d) free (put x ts) ≡ Ok ((x, after), ts)
 term-complete d (net s w) free after ts term deep total stops =
     let t = taken free after total in
-    rw (t.0, t.1, term.0) (term_net (inside d) w ts term.1)
+    rw (t.0, t.1, term.0) (term_net (nested d) w ts term.1)
 term-complete d x free after ts term deep total stops =
     let same : after ≡ free = kept free after total in
     rw same (term_plain d x free ts term.0 term.1 deep stops)
@@ -84,14 +84,14 @@ no_net_next : (ts : Tokens) → next_is starts ts ≡ true → next_is is_net ts
 no_net_next [] h = refl
 no_net_next (t ∷ ts) h = no_net_start ts (role_of t) h
 
-after_sign : (d : ℕ) (t : Token) (ts : Tokens) (a : Tree × Tokens) → is_sign (role_of t) ≡ true → unary (inside d) (t ∷ ts) ≡ Ok a → next_is is_net ts ≡ false
-unfolding unary inside inner_of climb
+after_sign : (d : ℕ) (t : Token) (ts : Tokens) (a : Tree × Tokens) → is_sign (role_of t) ≡ true → unary (nested d) (t ∷ ts) ≡ Ok a → next_is is_net ts ≡ false
+unfolding unary nested inner_of climb
 after_sign zero t ts a signs h = absurd (shut_sign t ts a (role_of t) signs h)
 after_sign (suc d) t ts a signs h =
-    let b = sign_starts (inner_of (inside d)) t ts a (role_of t) signs h in
-    no_net_next ts (unary-starts (inside d) ts b.0 b.1)
+    let b = sign_starts (inner_of (nested d)) t ts a (role_of t) signs h in
+    no_net_next ts (unary-starts (nested d) ts b.0 b.1)
 
-unary-no_signed_net : (d : ℕ) (ts : Tokens) (a : Tree × Tokens) → unary (inside d) ts ≡ Ok a → signed_net_next ts ≡ false
+unary-no_signed_net : (d : ℕ) (ts : Tokens) (a : Tree × Tokens) → unary (nested d) ts ≡ Ok a → signed_net_next ts ≡ false
 unary-no_signed_net d [] a h = refl
 unary-no_signed_net d (t ∷ ts) a h = by (is_sign (role_of t)) refl
   where
@@ -99,13 +99,13 @@ unary-no_signed_net d (t ∷ ts) a h = by (is_sign (role_of t)) refl
     by true e = after_sign d t ts a e h
     by false e = refl
 
-pub climb-no_signed_net : (n d : ℕ) (ts : Tokens) (a : Tree × Tokens) → climb n (unary (inside d)) ts ≡ Ok a → signed_net_next ts ≡ false
+pub climb-no_signed_net : (n d : ℕ) (ts : Tokens) (a : Tree × Tokens) → climb n (unary (nested d)) ts ≡ Ok a → signed_net_next ts ≡ false
 unfolding climb chain_at
 climb-no_signed_net zero d ts a h = unary-no_signed_net d ts a h
 climb-no_signed_net (suc zero) d ts a h = unary-no_signed_net d ts a h
 climb-no_signed_net (suc (suc n)) d ts a h = let x = bind_ok _ _ _ h in climb-no_signed_net (suc n) d ts x.value x.first
 
-first_plain : (d : ℕ) (x : Tree) (free : Bool) (ts : Tokens) → IsWellFormed x → precedence x ≤ 2 → depth x ≤ d → Stops 1 ts → first_term_at (inside d) free (put x ts) ≡ Ok ((x, free), ts)
+first_plain : (d : ℕ) (x : Tree) (free : Bool) (ts : Tokens) → IsWellFormed x → precedence x ≤ 2 → depth x ≤ d → Stops 1 ts → first_term_at (nested d) free (put x ts) ≡ Ok ((x, free), ts)
 unfolding first_term_at
 first_plain d x free ts level fits deep stops =
     let read = in_place d 2 1 x ts (trees-complete x d) level deep fits (omega arith) (omega arith) (reach-below (precedence x) 1 fits (omega arith)) stops in
@@ -121,10 +121,10 @@ first_net o None w ts level = rw (net_no_sign (role_of w) level.1) (term_net o w
 first_net o (Some s) w ts level = rw (level.0, level.1, expect-complete sorts.Sign awaiting.Other s (w ∷ ts) level.0, expect-complete sorts.Net awaiting.Other w ts level.1) refl
 
 pub first_term-complete : (d : ℕ) (x : Tree) (free after : Bool) (ts : Tokens) → IsFirstTerm x → depth x ≤ d → nets x + left after ≡ left free → Stops 1 ts
-    → first_term_at (inside d) free (put x ts) ≡ Ok ((x, after), ts)
+    → first_term_at (nested d) free (put x ts) ≡ Ok ((x, after), ts)
 first_term-complete d (net s w) free after ts term deep total stops =
     let t = taken free after total in
-    rw (t.0, t.1) (first_net (inside d) s w ts term)
+    rw (t.0, t.1) (first_net (nested d) s w ts term)
 first_term-complete d x free after ts term deep total stops =
     let same : after ≡ free = kept free after total in
     rw same (first_plain d x free ts term.0 term.1 deep stops)
@@ -134,7 +134,7 @@ parts : Links → List (Operator × Tree)
 parts none = []
 parts (link o x l) = (o, x) ∷ parts l
 
-linked_parts : (l : Links) → linked (parts l) ≡ l
+linked_parts : (l : Links) → links_from (parts l) ≡ l
 unfolding parts
 linked_parts none = refl
 linked_parts (link o x l) = ap (link o x) (linked_parts l)
@@ -166,13 +166,13 @@ sign_no_not _ h = absurd (cc)
 sign-stops : (t : Token) (r : Tokens) → is_sign (role_of t) ≡ true → Stops 1 (t ∷ r)
 sign-stops t r h = let e = sign-grip (role_of t) h in omega (arith, e)
 
-further-read : (d : ℕ) (free : Bool) (p : Operator × Tree) (after : Bool) (r : Tokens) → IsFurther d free p after → Stops 1 r → further_term_at (inside d) free (put_further p r) ≡ Ok ((p, after), r)
+further-read : (d : ℕ) (free : Bool) (p : Operator × Tree) (after : Bool) (r : Tokens) → IsFurther d free p after → Stops 1 r → further_term_at (nested d) free (put_further p r) ≡ Ok ((p, after), r)
 unfolding further_term_at
 further-read d free p after r f stops =
     let level : IsOperator p.0 = rw f.one (sign_no_not (role_of f.sign) f.signs) in
     rw (operator-complete p.0 (put p.1 r) level, term-complete d p.1 free after r f.term f.within f.nets stops) refl
 
-further_step : (d : ℕ) → CompleteStep put_further (IsFurther d) (Stops 1) (further_term_at (inside d)) sign_next
+further_step : (d : ℕ) → CompleteStep put_further (IsFurther d) (Stops 1) (further_term_at (nested d)) sign_next
 further_step d = record {
   longer = λ p r. omega (arith, put_operator-longer p.0 (put p.1 r), put-longer p.1 r);
   goes = λ s p m r f. rw f.one f.signs;
@@ -189,11 +189,11 @@ stops-sign [] h = refl
 stops-sign (t ∷ ts) h = no_sign (role_of t) h
 
 terms-complete : (d : ℕ) (free after : Bool) (l : Links) (ts : Tokens) → AreTerms l → links_depth l ≤ d → nets_in l + left after ≡ left free → Stops 2 ts
-    → further_terms (inside d) free (put_links l ts) ≡ Ok ((parts l, after), ts)
+    → further_terms (nested d) free (put_links l ts) ≡ Ok ((parts l, after), ts)
 unfolding further_terms
 terms-complete d free after l ts terms deep total stops =
     let text : put_all put_further (parts l) ts ≡ put_links l ts = put_further-links (parts l) ts ∙ ap (λ k. put_links k ts) (linked_parts l) in
-    let read = row-complete put_further (IsFurther d) (Stops 1) (further_term_at (inside d)) sign_next (further_step d) (length (put_all put_further (parts l) ts)) free (parts l) after ts
+    let read = row-complete put_further (IsFurther d) (Stops 1) (further_term_at (nested d)) sign_next (further_step d) (length (put_all put_further (parts l) ts)) free (parts l) after ts
     (omega arith) (steps_of d free after l terms deep total) (omega (arith, stops)) (stops-sign ts stops) in
     rw text at read
 
@@ -203,7 +203,7 @@ terms-stop (link (One t) x l) ts terms stops = sign-stops t (put x (put_links l 
 terms-stop (link (Two t u) x l) ts terms stops = absurd terms
 
 read_sum : (d : ℕ) (after : Bool) (x : Tree) (l : Links) (ts : Tokens) → IsFirstTerm x → AreTerms l → depth x ≤ d → links_depth l ≤ d → nets x + nets_in l + left after ≡ 1 → Stops 2 ts
-    → sum_at (inside d) true (put x (put_links l ts)) ≡ Ok ((chained 2 x l, after), ts)
+    → sum_at (nested d) true (put x (put_links l ts)) ≡ Ok ((chained 2 x l, after), ts)
 unfolding sum_at
 read_sum d after x l ts first terms deep deep' total stops =
     let m = middle (nets x) (nets_in l) true after total in
@@ -270,14 +270,14 @@ chained-parts : (d : ℕ) (x : Tree) (l : Links) → depth (chained 2 x l) ≤ d
 chained-parts d x none h = (h, omega arith)
 chained-parts d x (link o y l) h = (omega (arith, h), omega (arith, h))
 
-plain_sum : (d : ℕ) (x : Tree) (ts : Tokens) → Terms x → depth x ≤ d → Stops 2 ts → sum_at (inside d) true (put x ts) ≡ Ok ((x, true), ts)
+plain_sum : (d : ℕ) (x : Tree) (ts : Tokens) → Terms x → depth x ≤ d → Stops 2 ts → sum_at (nested d) true (put x ts) ≡ Ok ((x, true), ts)
 plain_sum d x ts t deep stops =
     let deep' = chained-parts d t.first t.more (rw t.same deep) in
     let read = read_sum d true t.first t.more ts t.is_first t.are_terms deep'.0 deep'.1 (omega (arith, t.no_nets)) stops in
     let text : put t.first (put_links t.more ts) ≡ put x ts = sym (chained-text t.first t.more ts) ∙ ap (λ y. put y ts) t.same in
     rw (text, t.same) at read
 
-net_sum : (d : ℕ) (x : Tree) (ts : Tokens) → IsNetSum x → depth x ≤ d → Stops 2 ts → sum_at (inside d) true (put x ts) ≡ Ok ((x, false), ts)
+net_sum : (d : ℕ) (x : Tree) (ts : Tokens) → IsNetSum x → depth x ≤ d → Stops 2 ts → sum_at (nested d) true (put x ts) ≡ Ok ((x, false), ts)
 net_sum d (net s w) ts sum deep stops = read_sum d false (net s w) none ts sum tt deep (omega arith) (omega arith) stops
 net_sum d (chain n x none) ts sum deep stops = absurd sum.2
 net_sum d (chain n x (link o y l)) ts sum deep stops =
@@ -285,6 +285,6 @@ net_sum d (chain n x (link o y l)) ts sum deep stops =
     rw (ap (λ k. chain k x (link o y l)) sum.0) read
 net_sum d x ts sum deep stops = absurd sum
 
-pub sum-complete : (d : ℕ) (free : Bool) (x : Tree) (ts : Tokens) → IsSumOf free x → depth x ≤ d → Stops 2 ts → sum_at (inside d) true (put x ts) ≡ Ok ((x, free), ts)
+pub sum-complete : (d : ℕ) (free : Bool) (x : Tree) (ts : Tokens) → IsSumOf free x → depth x ≤ d → Stops 2 ts → sum_at (nested d) true (put x ts) ≡ Ok ((x, free), ts)
 sum-complete d true x ts sum deep stops = plain_sum d x ts (sum_terms x sum.0 sum.1) deep stops
 sum-complete d false x ts sum deep stops = net_sum d x ts sum deep stops

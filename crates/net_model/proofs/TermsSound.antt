@@ -8,7 +8,7 @@ use Rattle.net_tree.specs.declared.role.Role.{Role}
 use Rattle.net_tree.specs.declared.role.Role.TheVariants as roles
 use Rattle.net_tree.specs.Role.{role_of, is_not, is_sign}
 use Rattle.net_tree.specs.Tree.{Tree, Links, net, none, link}
-use Rattle.net_tree.specs.View.{linked}
+use Rattle.net_tree.specs.View.{links_from}
 use Rattle.net_tree.specs.Print.{put, put_links, put_operator}
 use Rattle.net_tree.specs.Depth.{depth, links_depth}
 use Rattle.net_tree.specs.WellFormed.{precedence, room, joins, IsOperator, IsWellFormed, AreWellFormed}
@@ -130,27 +130,27 @@ further_term-sound d o inner free ts a next h =
     given (λ z. SoundStep put_further (IsFurther d) free ts z) (((p.value.0, x.value.0.0), x.value.0.1), x.value.1) a x.after
     (record { text = sp.text ∙ ap (put_operator p.value.0) sx.text; holds = record { sign = s.0; one = s.1; signs = s.2; term = sx.term; within = sx.within; nets = sx.nets } })
 
-pub put_further-links : (l : List (Operator × Tree)) (r : Tokens) → put_all put_further l r ≡ put_links (linked l) r
+pub put_further-links : (l : List (Operator × Tree)) (r : Tokens) → put_all put_further l r ≡ put_links (links_from l) r
 put_further-links [] r = refl
 put_further-links (p ∷ l) r = ap (λ k. put_operator p.0 (put p.1 k)) (put_further-links l r)
 
 pub record SoundTerms (d : ℕ) (free : Bool) (ts : Tokens) (a : (List (Operator × Tree) × Bool) × Tokens) : Type 0 where
-  pub text : ts ≡ put_links (linked a.0.0) a.1
-  pub terms : AreTerms (linked a.0.0)
-  pub within : links_depth (linked a.0.0) ≤ d
-  pub nets : nets_in (linked a.0.0) + left a.0.1 ≡ left free
+  pub text : ts ≡ put_links (links_from a.0.0) a.1
+  pub terms : AreTerms (links_from a.0.0)
+  pub within : links_depth (links_from a.0.0) ≤ d
+  pub nets : nets_in (links_from a.0.0) + left a.0.1 ≡ left free
 
 pub are_terms : (o : Operator) (x : Tree) (l : Links) (t : Token) → o ≡ One t → is_sign (role_of t) ≡ true → IsFurtherTerm x → AreTerms l → AreTerms (link o x l)
 are_terms (One u) x l t is signs term terms = let same : u ≡ t = cc in (rw same signs, term, terms)
 are_terms (Two u v) x l t is signs term terms = absurd (cc)
 
 pub terms_of : (d : ℕ) (free after : Bool) (l : List (Operator × Tree)) → Chain (IsFurther d) free l after
-    → AreTerms (linked l) × (links_depth (linked l) ≤ d) × (nets_in (linked l) + left after ≡ left free)
+    → AreTerms (links_from l) × (links_depth (links_from l) ≤ d) × (nets_in (links_from l) + left after ≡ left free)
 terms_of d free after [] steps = (tt, omega arith, omega (arith, ap left steps))
 terms_of d free after (p ∷ l) steps =
     let f = steps.1 in
     let rest = terms_of d steps.0 after l steps.2 in
-    (are_terms p.0 p.1 (linked l) f.sign f.one f.signs f.term rest.0, omega (arith, f.within, rest.1), omega (arith, f.nets, rest.2))
+    (are_terms p.0 p.1 (links_from l) f.sign f.one f.signs f.term rest.0, omega (arith, f.within, rest.1), omega (arith, f.nets, rest.2))
 
 pub terms-sound : (d : ℕ) (o : Option Inner) → IsInside d o → (free : Bool) (ts : Tokens) (a : (List (Operator × Tree) × Bool) × Tokens) → further_terms o free ts ≡ Ok a → SoundTerms d free ts a
 unfolding further_terms
@@ -219,8 +219,8 @@ sum-sound d o inner ts a h =
     let sx = first_term-sound d o inner true ts x.value x.first in
     let l = bind_ok _ _ _ x.after in
     let sl = terms-sound d o inner x.value.0.1 x.value.1 l.value l.first in
-    given (λ z. SoundSum d ts z) ((chained 2 x.value.0.0 (linked l.value.0.0), l.value.0.1), l.value.1) a l.after (record {
-      text = sx.text ∙ ap (put x.value.0.0) sl.text ∙ sym (chained-text x.value.0.0 (linked l.value.0.0) l.value.1);
-      sum = sum_of x.value.0.0 (linked l.value.0.0) l.value.0.1 sx.term sl.terms (omega (arith, sx.nets, sl.nets));
-      within = chained-depth d x.value.0.0 (linked l.value.0.0) sx.within sl.within;
+    given (λ z. SoundSum d ts z) ((chained 2 x.value.0.0 (links_from l.value.0.0), l.value.0.1), l.value.1) a l.after (record {
+      text = sx.text ∙ ap (put x.value.0.0) sl.text ∙ sym (chained-text x.value.0.0 (links_from l.value.0.0) l.value.1);
+      sum = sum_of x.value.0.0 (links_from l.value.0.0) l.value.0.1 sx.term sl.terms (omega (arith, sx.nets, sl.nets));
+      within = chained-depth d x.value.0.0 (links_from l.value.0.0) sx.within sl.within;
     })

@@ -10,7 +10,7 @@ use Rattle.net_tree.specs.Print.{put}
 use Rattle.net_tree.specs.Depth.{depth}
 use Rattle.net_tree.specs.WellFormed.{precedence, IsWellFormed}
 use Rattle.net_model.specs.Reading.{Tokens, next_is}
-use Rattle.net_model.specs.Expressions.{climb, unary, wide, inside}
+use Rattle.net_model.specs.Expressions.{climb, unary, wide, nested}
 use Rattle.net_model.specs.Conditions.{signed_net_next}
 use Rattle.net_model.proofs.Tools.{ok_is}
 use Rattle.net_model.proofs.Grips.{reach-le}
@@ -26,10 +26,10 @@ plain_or_net (chain n x l) level = inl (omega (arith, level.1))
 plain_or_net (signed s x) level = inl (omega (arith, level.2))
 plain_or_net x level = inl (omega arith)
 
-narrow_read : (d : ℕ) (x : Tree) → IsWellFormed x → depth x ≤ d → precedence x ≤ 10 → climb 10 (unary (inside d)) (put x []) ≡ Ok (x, [])
+narrow_read : (d : ℕ) (x : Tree) → IsWellFormed x → depth x ≤ d → precedence x ≤ 10 → climb 10 (unary (nested d)) (put x []) ≡ Ok (x, [])
 narrow_read d x level deep fits = in_place d 10 10 x [] (trees-complete x d) level deep fits (omega arith) (omega arith) (omega (arith, reach-le (precedence x), fits)) (omega arith)
 
-plain_read : (d : ℕ) (x : Tree) → IsWellFormed x → depth x ≤ d → precedence x ≤ 11 → wide (inside d) 10 (put x []) ≡ Ok (x, [])
+plain_read : (d : ℕ) (x : Tree) → IsWellFormed x → depth x ≤ d → precedence x ≤ 11 → wide (nested d) 10 (put x []) ≡ Ok (x, [])
 plain_read d x level deep fits =
     elim (ten_or_if (precedence x) fits) [
       | inl h ↦ wide_narrow d 10 x [] (narrow_read d x level deep h)
@@ -54,7 +54,7 @@ plain_start d x level deep fits =
     elim (ten_or_if (precedence x) fits) [
       | inl h ↦
           let read = narrow_read d x level deep h in
-          (climb-no_net 10 (inside d) (put x []) (x, []) read, climb-no_signed_net 10 d (put x []) (x, []) read)
+          (climb-no_net 10 (nested d) (put x []) (x, []) read, climb-no_signed_net 10 d (put x []) (x, []) read)
       | inr h ↦ if_next (put x []) (begins_if x [] level h)
     ]
 
@@ -87,9 +87,9 @@ nets_same (Some s) None w u same = absurd (let e = (first_of (w ∷ []) [] s u s
 plain_same : (x y : Tree) → IsWellFormed x → IsWellFormed y → precedence x ≤ 11 → precedence y ≤ 11 → put x [] ≡ put y [] → x ≡ y
 plain_same x y level other fits also same =
     let d = max (depth x) (depth y) in
-    let a : wide (inside d) 10 (put x []) ≡ Ok (x, []) = plain_read d x level (omega arith) fits in
-    let b : wide (inside d) 10 (put y []) ≡ Ok (y, []) = plain_read d y other (omega arith) also in
-    ap (λ (r : Tree × Tokens). r.0) (ok_is _ _ (sym a ∙ ap (wide (inside d) 10) same ∙ b))
+    let a : wide (nested d) 10 (put x []) ≡ Ok (x, []) = plain_read d x level (omega arith) fits in
+    let b : wide (nested d) 10 (put y []) ≡ Ok (y, []) = plain_read d y other (omega arith) also in
+    ap (λ (r : Tree × Tokens). r.0) (ok_is _ _ (sym a ∙ ap (wide (nested d) 10) same ∙ b))
 
 plain_no_net : (x y : Tree) → IsWellFormed x → IsWellFormed y → precedence x ≤ 11 → precedence y ≡ 12 → put x [] ≡ put y [] → ⊥
 plain_no_net x y level other fits is same =

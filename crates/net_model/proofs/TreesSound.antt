@@ -14,7 +14,7 @@ use Rattle.net_model.specs.declared.expected.Expected.{Expected}
 use Rattle.net_model.specs.declared.expected.Expected.TheVariants as sorts
 use Rattle.net_model.specs.declared.parse_error.Awaiting.TheVariants as awaiting
 use Rattle.net_model.specs.Reading.{Tokens, Read, ◌>>=◌, read_as, next_is, is_sort}
-use Rattle.net_model.specs.Expressions.{Reader, Inner, climb, present_at, part_at, is_subscripted, subscripts_at, named_at, closed, listed, parens_from, parens_at, not_shut, negated_at, is_hollow, hollow_at, items_at, braces_at, braces, reduced_at, choice_at, unary_at, unary, if_at, wide, inner_of, inside}
+use Rattle.net_model.specs.Expressions.{Reader, Inner, climb, present_at, part_at, is_subscripted, subscripts_at, named_at, closed, listed, parens_from, parens_at, not_shut, negated_at, ends_braces, empty_braces_at, items_at, braces_at, braces, reduction_at, conditional_at, unary_at, unary, if_at, wide, inner_of, nested}
 use Rattle.net_model.proofs.Tools.{bind_ok, given, chosen, on, off, expect-sound}
 use Rattle.net_model.proofs.LinksSound.{Sound, IsSound, UpTo, SoundLinks, links-sound, SoundChain, chain-sound, climb-sound, joins_product}
 
@@ -177,8 +177,8 @@ negated-sound d i n ts a inner nots h =
       ended = λ e. absurd (omega arith);
     })
 
-hollow-sound : (d : ℕ) (i : Inner) (o : Token) (ts : Tokens) (a : Braces × Tokens) → SoundInner d i → is_open_brace (role_of o) ≡ true → hollow_at i o ts ≡ Ok a → SoundBraces (suc d) (o ∷ ts) a
-unfolding hollow_at
+hollow-sound : (d : ℕ) (i : Inner) (o : Token) (ts : Tokens) (a : Braces × Tokens) → SoundInner d i → is_open_brace (role_of o) ≡ true → empty_braces_at i o ts ≡ Ok a → SoundBraces (suc d) (o ∷ ts) a
+unfolding empty_braces_at
 hollow-sound d i o ts a inner opens h =
     let p = bind_ok _ _ _ h in
     let sp = part-sound d sorts.Colon (UpTo 10) (i.at 10) (inner.at 10 (omega arith) (omega arith)) ts p.value p.first in
@@ -210,7 +210,7 @@ items-sound d i o ts a inner opens h =
 braces_at-sound : (d : ℕ) (i : Inner) (o : Token) (ts : Tokens) (a : Braces × Tokens) → SoundInner d i → is_open_brace (role_of o) ≡ true → braces_at i o ts ≡ Ok a → SoundBraces (suc d) (o ∷ ts) a
 unfolding braces_at
 braces_at-sound d i o ts a inner opens h =
-    elim (chosen (next_is is_hollow ts) _ _ _ h) [ on b e ↦ hollow-sound d i o ts a inner opens e | off b e ↦ items-sound d i o ts a inner opens e ]
+    elim (chosen (next_is ends_braces ts) _ _ _ h) [ on b e ↦ hollow-sound d i o ts a inner opens e | off b e ↦ items-sound d i o ts a inner opens e ]
 
 pub braces-sound : (d : ℕ) (o : Option Inner) → IsInside d o → AreSound d (braces o)
 unfolding braces
@@ -222,8 +222,8 @@ braces-sound d (Some i) inner ts a h =
     let b = braces_at-sound inner.0 i o.value.0 o.value.1 a inner.2 so.sort o.after in
     record { text = so.text ∙ b.text; level = b.level; within = omega (arith, b.within, inner.1) }
 
-reduced-sound : (d : ℕ) (i : Inner) (w : Token) (ts : Tokens) (a : Tree × Tokens) → SoundInner d i → is_reduction (role_of w) ≡ true → reduced_at i w ts ≡ Ok a → Sound (suc d) (UpTo 1) (w ∷ ts) a
-unfolding reduced_at
+reduced-sound : (d : ℕ) (i : Inner) (w : Token) (ts : Tokens) (a : Tree × Tokens) → SoundInner d i → is_reduction (role_of w) ≡ true → reduction_at i w ts ≡ Ok a → Sound (suc d) (UpTo 1) (w ∷ ts) a
+unfolding reduction_at
 reduced-sound d i w ts a inner reduces h =
     let b = bind_ok _ _ _ h in
     let sb = inner.braces ts b.value b.first in
@@ -241,8 +241,8 @@ reduced-sound d i w ts a inner reduces h =
     no_product k [] h = refl
     no_product k (t ∷ r) h = joins_product 0 k (role_of t) ∙ h
 
-choice-sound : (d : ℕ) (i : Inner) (w : Token) (ts : Tokens) (a : Tree × Tokens) → SoundInner d i → is_if (role_of w) ≡ true → choice_at i w ts ≡ Ok a → Sound (suc d) (λ r. r ≡ 11) (w ∷ ts) a
-unfolding choice_at
+choice-sound : (d : ℕ) (i : Inner) (w : Token) (ts : Tokens) (a : Tree × Tokens) → SoundInner d i → is_if (role_of w) ≡ true → conditional_at i w ts ≡ Ok a → Sound (suc d) (λ r. r ≡ 11) (w ∷ ts) a
+unfolding conditional_at
 choice-sound d i w ts a inner ifs h =
     let x = bind_ok _ _ _ h in
     let sx = inner.at 10 (omega arith) (omega arith) ts x.value x.first in
@@ -345,7 +345,7 @@ inner-sound d o inner = record {
 }
 
 -- the readers at so many nestings
-pub inside-sound : (d : ℕ) → IsInside d (inside d)
-unfolding inside
+pub inside-sound : (d : ℕ) → IsInside d (nested d)
+unfolding nested
 inside-sound zero = tt
-inside-sound (suc d) = (d, refl, inner-sound d (inside d) (inside-sound d))
+inside-sound (suc d) = (d, refl, inner-sound d (nested d) (inside-sound d))

@@ -8,7 +8,7 @@ use Rattle.net_lex.specs.declared.token.Kind.{Kind}
 use Rattle.net_lex.specs.declared.token.Kind.TheVariants as kinds
 use Rattle.net_tree.specs.declared.role.Role.{Role}
 use Rattle.net_tree.specs.declared.role.Role.TheVariants as roles
-use Rattle.net_tree.specs.Role.{marks, keys, found_in, role_as, role_of, is_sign}
+use Rattle.net_tree.specs.Role.{marks, keys, role_in, role_as, role_of, is_sign}
 use Rattle.net_tree.specs.WellFormed.{joins}
 
 -- a role that no table should give
@@ -28,12 +28,12 @@ both : (b c : Bool) → cond b c false ≡ true → (b ≡ true) × (c ≡ true)
 both true c h = (refl, h)
 both false c h = absurd (cc)
 
-passes : (test : Role → Bool) (table : List (List ℕ × Role)) (text : List ℕ) → all_pass test table ≡ true → test roles.Unknown ≡ true → test (found_in table text) ≡ true
+passes : (test : Role → Bool) (table : List (List ℕ × Role)) (text : List ℕ) → all_pass test table ≡ true → test roles.Unknown ≡ true → test (role_in table text) ≡ true
 unfolding all_pass
 passes test [] text all other = other
 passes test (w ∷ ws) text all other =
     let h = both (test w.1) (all_pass test ws) all in
-    found test (bytes_eq w.0 text) w.1 (found_in ws text) h.0 (passes test ws text h.1 other)
+    found test (bytes_eq w.0 text) w.1 (role_in ws text) h.0 (passes test ws text h.1 other)
 
 role_unjoining : (kind : Kind) (text : List ℕ) → unjoining (role_as kind text) ≡ true
 unfolding unjoining all_pass marks keys

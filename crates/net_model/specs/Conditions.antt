@@ -8,7 +8,7 @@ use Rattle.net_tree.specs.declared.role.Relation.TheVariants as relations
 use Rattle.net_tree.specs.Role.{role_of, is_net, is_sign, is_colon}
 use Rattle.net_tree.specs.Precedence.{of_product, of_sum}
 use Rattle.net_tree.specs.Tree.{Tree, net, Condition, unsaid, one, between}
-use Rattle.net_tree.specs.View.{linked}
+use Rattle.net_tree.specs.View.{links_from}
 use Rattle.net_model.specs.declared.parse_error.Awaiting.TheVariants as awaiting
 use Rattle.net_model.specs.declared.expected.Expected.TheVariants as sorts
 use Rattle.net_model.specs.Reading.{Tokens, Read, ◌>>=◌, read_as, rejected, next_is, expect}
@@ -58,7 +58,7 @@ further_terms o free ts = row (length ts) (further_term_at o) sign_next free ts
 -- a sum, and whether a net term is still allowed after it
 unfoldable pub sum_at : Option Inner → Bool → Tokens → Read (Tree × Bool)
 sum_at o free ts =
-    first_term_at o free ts >>= λ x. further_terms o x.0.1 x.1 >>= λ l. read_as (chained of_product x.0.0 (linked l.0.0), l.0.1) l.1
+    first_term_at o free ts >>= λ x. further_terms o x.0.1 x.1 >>= λ l. read_as (chained of_product x.0.0 (links_from l.0.0), l.0.1) l.1
 
 -- whether a bound can be followed by the same one: `<=` or `>=`
 abbrev pub is_at_most : Role → Bool

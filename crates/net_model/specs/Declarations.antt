@@ -13,7 +13,7 @@ use Rattle.net_model.specs.declared.parse_error.Awaiting.{Awaiting}
 use Rattle.net_model.specs.declared.parse_error.Awaiting.TheVariants as awaiting
 use Rattle.net_model.specs.declared.expected.Expected.TheVariants as sorts
 use Rattle.net_model.specs.Reading.{Tokens, Read, ◌>>=◌, read_as, rejected, next_is, expect}
-use Rattle.net_model.specs.Expressions.{Inner, inside, unary, climb, wide, braces, part_at}
+use Rattle.net_model.specs.Expressions.{Inner, nested, unary, climb, wide, braces, part_at}
 use Rattle.net_model.specs.Rows.{row}
 use Rattle.net_model.specs.Phrases.{phrases, phrases_end}
 use Rattle.net_model.specs.Conditions.{condition_at}
@@ -84,4 +84,4 @@ nesting_limit = 64
 
 -- parses all tokens as declarations
 unfoldable pub model_at : ℕ → Tokens → Read (List Declaration × Unit {0})
-model_at depth ts = row (length ts) (declaration_step (inside depth)) (λ s. any_left) tt ts
+model_at depth ts = row (length ts) (declaration_step (nested depth)) (λ s. any_left) tt ts

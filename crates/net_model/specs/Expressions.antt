@@ -103,33 +103,33 @@ negated_at (Some i) n ts =
     expect sorts.Open awaiting.Other ts >>= λ o. i.at of_or o.1 >>= λ x. expect sorts.Close awaiting.Other x.1 >>= λ c. read_as (negated n o.0 x.0 c.0) c.1
 
 -- after `{`: the braces have no items
-abbrev pub is_hollow : Role → Bool
-is_hollow r = is_colon r || is_close_brace r
+abbrev pub ends_braces : Role → Bool
+ends_braces r = is_colon r || is_close_brace r
 
 abbrev pub filter_at : Inner → Tokens → Read Part
 filter_at i ts = part_at sorts.Colon (i.at of_or) ts
 
-unfoldable pub hollow_at : Inner → Token → Tokens → Read Braces
-hollow_at i o ts = filter_at i ts >>= λ p. expect sorts.CloseBrace awaiting.Other p.1 >>= λ c. read_as (empty o p.0 c.0) c.1
+unfoldable pub empty_braces_at : Inner → Token → Tokens → Read Braces
+empty_braces_at i o ts = filter_at i ts >>= λ p. expect sorts.CloseBrace awaiting.Other p.1 >>= λ c. read_as (empty o p.0 c.0) c.1
 
 unfoldable pub items_at : Inner → Token → Tokens → Read Braces
 items_at i o ts =
     i.at of_relation ts >>= λ x. all_links of_comma (i.at of_relation) x.1 >>= λ l. filter_at i l.1 >>= λ p. expect sorts.CloseBrace awaiting.Other p.1 >>= λ c. read_as (filled o x.0 l.0 p.0 c.0) c.1
 
 unfoldable pub braces_at : Inner → Token → Tokens → Read Braces
-braces_at i o ts = if next_is is_hollow ts then hollow_at i o ts else items_at i o ts
+braces_at i o ts = if next_is ends_braces ts then empty_braces_at i o ts else items_at i o ts
 
 unfoldable pub braces : Option Inner → Tokens → Read Braces
 braces None ts = if next_is is_open_brace ts then too_deep ts else rejected awaiting.Other ts
 braces (Some i) ts = expect sorts.OpenBrace awaiting.Other ts >>= λ o. braces_at i o.0 o.1
 
 -- after `sum`, `min` or `max`
-unfoldable pub reduced_at : Inner → Token → Tokens → Read Tree
-reduced_at i w ts = i.braces ts >>= λ b. i.at of_product b.1 >>= λ x. read_as (reduced w b.0 x.0) x.1
+unfoldable pub reduction_at : Inner → Token → Tokens → Read Tree
+reduction_at i w ts = i.braces ts >>= λ b. i.at of_product b.1 >>= λ x. read_as (reduced w b.0 x.0) x.1
 
 -- after `if`
-unfoldable pub choice_at : Inner → Token → Tokens → Read Tree
-choice_at i w ts =
+unfoldable pub conditional_at : Inner → Token → Tokens → Read Tree
+conditional_at i w ts =
     i.at of_or ts >>= λ x. expect sorts.Then awaiting.Other x.1 >>= λ t. i.at of_union t.1 >>= λ y. part_at sorts.Else (i.wide of_union) y.1 >>= λ e.
     read_as (choice w x.0 t.0 y.0 e.0) e.1
 
@@ -145,7 +145,7 @@ unary_at None roles.Reduction t ts = too_deep (t ∷ ts)
 unary_at (Some i) roles.Open t ts = parens_at i t ts
 unary_at (Some i) roles.OpenBrace t ts = braces_at i t ts >>= λ b. read_as (braced b.0) b.1
 unary_at (Some i) roles.Sign t ts = i.at of_reduction ts >>= λ x. read_as (signed t x.0) x.1
-unary_at (Some i) roles.Reduction t ts = reduced_at i t ts
+unary_at (Some i) roles.Reduction t ts = reduction_at i t ts
 unary_at o _ t ts = rejected awaiting.Other (t ∷ ts)
 
 unfoldable pub unary : Option Inner → Reader
@@ -156,7 +156,7 @@ unary o (t ∷ ts) = unary_at o (role_of t) t ts
 unfoldable pub if_at : Option Inner → Reader
 if_at None ts = too_deep ts
 if_at (Some i) [] = rejected awaiting.Other []
-if_at (Some i) (t ∷ ts) = choice_at i t ts
+if_at (Some i) (t ∷ ts) = conditional_at i t ts
 
 unfoldable pub wide : Option Inner → ℕ → Reader
 wide o n ts = if next_is is_if ts then if_at o ts else climb n (unary o) ts
@@ -164,7 +164,7 @@ wide o n ts = if next_is is_if ts then if_at o ts else climb n (unary o) ts
 unfoldable pub inner_of : Option Inner → Inner
 inner_of o = record { at = λ n. climb n (unary o); wide = wide o; braces = braces o }
 
--- the parsers inside, if n more nesting levels are allowed
-unfoldable pub inside : ℕ → Option Inner
-inside zero = None
-inside (suc n) = Some (inner_of (inside n))
+-- the parsers nested, if n more nesting levels are allowed
+unfoldable pub nested : ℕ → Option Inner
+nested zero = None
+nested (suc n) = Some (inner_of (nested n))

@@ -22,7 +22,7 @@ use Rattle.net_fault.specs.declared.diagnostic.Diagnostic.{Diagnostic}
 use Rattle.net_fault.specs.declared.fault.Fault.{Fault}
 use Rattle.net_fault.specs.declared.fault.Fault.TheVariants.{OutOfMemory, At}
 use Rattle.net_fault.specs.declared.language.Language.TheVariants as languages
-use Rattle.net_fault.specs.Outcomes.{bare, found}
+use Rattle.net_fault.specs.Outcomes.{bare, diagnostic_at}
 use Rattle.net_model.specs.Reading.{Tokens, Read}
 
 abbrev pub begins_gain : Role → Bool
@@ -96,7 +96,7 @@ left_of left ts = drop (length ts - left) ts
 
 abbrev pub rejected_fault : Awaiting → (left whole : Tokens) → Diagnostic
 rejected_fault a [] ts = bare languages.Model error_codes.ModelSyntax (end_of ts)
-rejected_fault a (t ∷ left) ts = found languages.Model (error_code_of a t.kind (role_of t)) t.span (detail_of (error_code_of a t.kind (role_of t)) t.text)
+rejected_fault a (t ∷ left) ts = diagnostic_at languages.Model (error_code_of a t.kind (role_of t)) t.span (detail_of (error_code_of a t.kind (role_of t)) t.text)
 
 abbrev pub deep_fault : (left whole : Tokens) → Diagnostic
 deep_fault [] ts = bare languages.Model error_codes.TooDeep (end_of ts)

@@ -5,7 +5,7 @@ ghost use Rattle.net_tree.specs.Precedence.{of_product};
 ghost use Rattle.net_tree.specs.Tree.{reduced};
 ghost use Rattle.net_tree.specs.View.{tree, braces_of, option_part};
 ghost use Rattle.net_model.specs.Expressions as grammar;
-ghost use Rattle.net_model.specs.Expressions.{inside, inner_of, unary};
+ghost use Rattle.net_model.specs.Expressions.{nested, inner_of, unary};
 ghost use Rattle.net_model.specs.Reading.{Tokens, Gives, read_as};
 
 use crate::carried::Carried;
@@ -16,7 +16,7 @@ use crate::expected::Expected;
 use crate::parse_error::{Awaiting, ParseError};
 use crate::stored::{Stored, boxed};
 use net_lex::Token;
-use net_tree::{Braces, Expr, Part, Reducer, Series, precedence};
+use net_tree::{Braces, Expr, Operands, Part, Reducer, precedence};
 use net_views::Boxed;
 use std::alloc::Global;
 
@@ -27,7 +27,7 @@ pub(crate) fn braces_of<'t, 's>(
     depth: u8,
     tokens: &mut Cursor<'t, 's>,
 ) -> Result<Stored<Braces<'s>>, ParseError>
-    ensures value { Gives braces_of result tokens.new (grammar.braces (inside depth) tokens.old) }
+    ensures value { Gives braces_of result tokens.new (grammar.braces (nested depth) tokens.old) }
     ensures shorter { IfOk result (λ x. length tokens.new < length tokens.old) }
 {
     let left = tokens.len();
@@ -48,10 +48,10 @@ pub(crate) fn braces_inside<'t, 's>(
     opening: Token<'s>,
     tokens: &mut Cursor<'t, 's>,
 ) -> Result<Stored<Braces<'s>>, ParseError>
-    ensures value { Gives braces_of result tokens.new (grammar.braces_at (inner_of (inside depth)) opening.entry tokens.old) }
+    ensures value { Gives braces_of result tokens.new (grammar.braces_at (inner_of (nested depth)) opening.entry tokens.old) }
     ensures shorter { IfOk result (λ x. length tokens.new < length tokens.old) }
 {
-    if tokens.next_is_hollow() {
+    if tokens.next_ends_braces() {
         hollow_inside(alloc, depth, opening, tokens)
     } else {
         items_inside(alloc, depth, opening, tokens)
@@ -60,14 +60,14 @@ pub(crate) fn braces_inside<'t, 's>(
 
 /// Parses braces without items.
 #[cycle(parser)]
-#[tactic(auto, using(net_tree::proofs::Views::views), unfolding(crate::specs::Expressions::hollow_at))]
+#[tactic(auto, using(net_tree::proofs::Views::views), unfolding(crate::specs::Expressions::empty_braces_at))]
 fn hollow_inside<'t, 's>(
     alloc: Global,
     depth: u8,
     opening: Token<'s>,
     tokens: &mut Cursor<'t, 's>,
 ) -> Result<Stored<Braces<'s>>, ParseError>
-    ensures value { Gives braces_of result tokens.new (grammar.hollow_at (inner_of (inside depth)) opening.entry tokens.old) }
+    ensures value { Gives braces_of result tokens.new (grammar.empty_braces_at (inner_of (nested depth)) opening.entry tokens.old) }
     ensures shorter { IfOk result (λ x. length tokens.new < length tokens.old) }
 {
     let filter = filter_of(alloc, depth, tokens)?;
@@ -84,7 +84,7 @@ fn items_inside<'t, 's>(
     opening: Token<'s>,
     tokens: &mut Cursor<'t, 's>,
 ) -> Result<Stored<Braces<'s>>, ParseError>
-    ensures value { Gives braces_of result tokens.new (grammar.items_at (inner_of (inside depth)) opening.entry tokens.old) }
+    ensures value { Gives braces_of result tokens.new (grammar.items_at (inner_of (nested depth)) opening.entry tokens.old) }
     ensures shorter { IfOk result (λ x. length tokens.new < length tokens.old) }
 {
     let first = climb_to(alloc, depth, precedence::RELATION, tokens)?;
@@ -99,7 +99,12 @@ fn items_inside<'t, 's>(
     let close = expect(Expected::CloseBrace, Awaiting::Other, tokens)?;
     let first = first.into_inner();
     let more = more.into_inner();
-    let braces = Braces::Filled(opening, Series { first, more }, filter.into_inner(), close);
+    let braces = Braces::Filled(
+        opening,
+        Operands { first, more },
+        filter.into_inner(),
+        close,
+    );
     Stored::new(alloc, braces)
 }
 
@@ -111,7 +116,7 @@ fn filter_of<'t, 's>(
     depth: u8,
     tokens: &mut Cursor<'t, 's>,
 ) -> Result<Carried<Option<Boxed<Part<'s>>>>, ParseError>
-    ensures value { Gives option_part result tokens.new (grammar.filter_at (inner_of (inside depth)) tokens.old) }
+    ensures value { Gives option_part result tokens.new (grammar.filter_at (inner_of (nested depth)) tokens.old) }
     ensures shorter { IfOk result (λ x. length tokens.new ≤ length tokens.old) }
 {
     if !tokens.next_is(Expected::Colon) {
@@ -126,14 +131,14 @@ fn filter_of<'t, 's>(
 
 /// Parses a reduction after `sum`, `min` or `max`.
 #[cycle(parser)]
-#[tactic(auto, unfolding(crate::specs::Expressions::reduced_at, crate::specs::Expressions::inner_of))]
+#[tactic(auto, unfolding(crate::specs::Expressions::reduction_at, crate::specs::Expressions::inner_of))]
 pub(crate) fn reduced_inside<'t, 's>(
     alloc: Global,
     depth: u8,
     word: Token<'s>,
     tokens: &mut Cursor<'t, 's>,
 ) -> Result<Stored<Expr<'s>>, ParseError>
-    ensures value { Gives tree result tokens.new (grammar.reduced_at (inner_of (inside depth)) word.entry tokens.old) }
+    ensures value { Gives tree result tokens.new (grammar.reduction_at (inner_of (nested depth)) word.entry tokens.old) }
     ensures shorter { IfOk result (λ x. length tokens.new < length tokens.old) }
 {
     let braces = braces_of(alloc, depth, tokens)?;
@@ -152,7 +157,7 @@ fn reduced<'s>(
     ensures { (rest : Tokens) → Gives tree result rest (read_as (reduced word.entry (braces_of braces.entry) (tree body.entry)) rest) }
 {
     let front = boxed(alloc, (Reducer::new(word), braces.into_inner()))?;
-    Stored::new(alloc, Expr::Reduced(front, body.into_boxed()))
+    Stored::new(alloc, Expr::Reduction(front, body.into_boxed()))
 }
 
 /// Parses the summand of a reduction, after its braces.
@@ -162,7 +167,7 @@ fn body_inside<'t, 's>(
     depth: u8,
     tokens: &mut Cursor<'t, 's>,
 ) -> Result<Stored<Expr<'s>>, ParseError>
-    ensures value { Gives tree result tokens.new (grammar.climb of_product (unary (inside depth)) tokens.old) }
+    ensures value { Gives tree result tokens.new (grammar.climb of_product (unary (nested depth)) tokens.old) }
     ensures shorter { IfOk result (λ x. length tokens.new < length tokens.old) }
 {
     climb_to(alloc, depth, max_precedence_in_body(), tokens)

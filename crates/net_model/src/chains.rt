@@ -3,7 +3,7 @@
 ghost use Rattle.std.specs.Prelude.{◌≡◌, ◌<◌, ◌≤◌, length, IfOk};
 ghost use Rattle.net_tree.specs.View.{tree, links_of};
 ghost use Rattle.net_model.specs.Expressions as grammar;
-ghost use Rattle.net_model.specs.Expressions.{inside, unary};
+ghost use Rattle.net_model.specs.Expressions.{nested, unary};
 ghost use Rattle.net_model.specs.Reading.{Gives};
 
 use crate::carried::Carried;
@@ -24,7 +24,7 @@ pub(crate) fn climb_to<'t, 's>(
     max_precedence: u8,
     tokens: &mut Cursor<'t, 's>,
 ) -> Result<Stored<Expr<'s>>, ParseError>
-    ensures value { Gives tree result tokens.new (grammar.climb max_precedence (unary (inside depth)) tokens.old) }
+    ensures value { Gives tree result tokens.new (grammar.climb max_precedence (unary (nested depth)) tokens.old) }
     ensures shorter { IfOk result (λ x. length tokens.new < length tokens.old) }
 {
     if max_precedence < precedence::PRODUCT {
@@ -43,7 +43,7 @@ fn chain_of<'t, 's>(
     max_precedence: u8,
     tokens: &mut Cursor<'t, 's>,
 ) -> Result<Stored<Expr<'s>>, ParseError>
-    ensures value { Gives tree result tokens.new (grammar.chain_at max_precedence (grammar.climb max_precedence (unary (inside depth))) tokens.old) }
+    ensures value { Gives tree result tokens.new (grammar.chain_at max_precedence (grammar.climb max_precedence (unary (nested depth))) tokens.old) }
     ensures shorter { IfOk result (λ x. length tokens.new < length tokens.old) }
 {
     let first = climb_to(alloc, depth, max_precedence, tokens)?;
@@ -59,7 +59,7 @@ fn chain_links<'t, 's>(
     max_precedence: u8,
     tokens: &mut Cursor<'t, 's>,
 ) -> Result<Carried<Items<Link<'s>>>, ParseError>
-    ensures value { Gives links_of result tokens.new (grammar.all_links max_precedence (grammar.climb max_precedence (unary (inside depth))) tokens.old) }
+    ensures value { Gives links_of result tokens.new (grammar.all_links max_precedence (grammar.climb max_precedence (unary (nested depth))) tokens.old) }
     ensures shorter { IfOk result (λ x. length tokens.new ≤ length tokens.old) }
 {
     links_from(
@@ -89,7 +89,7 @@ pub(crate) fn links_from<'t, 's>(
     max_precedence: u8,
     tokens: &mut Cursor<'t, 's>,
 ) -> Result<Carried<Items<Link<'s>>>, ParseError>
-    ensures value { Gives links_of result tokens.new (grammar.all_links joining (grammar.climb max_precedence (unary (inside depth))) tokens.old) }
+    ensures value { Gives links_of result tokens.new (grammar.all_links joining (grammar.climb max_precedence (unary (nested depth))) tokens.old) }
     ensures shorter { IfOk result (λ x. length tokens.new ≤ length tokens.old) }
 {
     let mut found = Vec::new(alloc);

@@ -4,7 +4,7 @@ ghost use Rattle.std.specs.Prelude.{◌≡◌, ◌<◌, ◌≤◌, length, IfOk}
 ghost use Rattle.net_tree.specs.Precedence.{of_union};
 ghost use Rattle.net_tree.specs.View.{tree, option_part, part_of};
 ghost use Rattle.net_model.specs.Expressions as grammar;
-ghost use Rattle.net_model.specs.Expressions.{inside, inner_of, unary};
+ghost use Rattle.net_model.specs.Expressions.{nested, inner_of, unary};
 ghost use Rattle.net_model.specs.Reading.{Gives};
 ghost use Rattle.net_model.specs.declared.expected.Expected.TheVariants as sorts;
 
@@ -28,7 +28,7 @@ pub(crate) fn wide_of<'t, 's>(
     max_precedence: u8,
     tokens: &mut Cursor<'t, 's>,
 ) -> Result<Stored<Expr<'s>>, ParseError>
-    ensures value { Gives tree result tokens.new (grammar.wide (inside depth) max_precedence tokens.old) }
+    ensures value { Gives tree result tokens.new (grammar.wide (nested depth) max_precedence tokens.old) }
     ensures shorter { IfOk result (λ x. length tokens.new < length tokens.old) }
 {
     if tokens.next_is(Expected::If) {
@@ -45,7 +45,7 @@ fn if_of<'t, 's>(
     depth: u8,
     tokens: &mut Cursor<'t, 's>,
 ) -> Result<Stored<Expr<'s>>, ParseError>
-    ensures value { Gives tree result tokens.new (grammar.if_at (inside depth) tokens.old) }
+    ensures value { Gives tree result tokens.new (grammar.if_at (nested depth) tokens.old) }
     ensures shorter { IfOk result (λ x. length tokens.new < length tokens.old) }
 {
     if depth == 0 {
@@ -67,7 +67,7 @@ pub(crate) fn introduced<'t, 's>(
     mark: Token<'s>,
     tokens: &mut Cursor<'t, 's>,
 ) -> Result<Stored<Part<'s>>, ParseError>
-    ensures value { Gives (λ p. (part_of p).1) result tokens.new (grammar.climb max_precedence (unary (inside depth)) tokens.old) }
+    ensures value { Gives (λ p. (part_of p).1) result tokens.new (grammar.climb max_precedence (unary (nested depth)) tokens.old) }
     ensures mark { IfOk result (λ p. (part_of p).0 ≡ mark.entry) }
     ensures shorter { IfOk result (λ x. length tokens.new < length tokens.old) }
 {
@@ -77,21 +77,21 @@ pub(crate) fn introduced<'t, 's>(
 
 /// Parses an `if` expression after its keyword.
 #[cycle(parser)]
-#[tactic(auto, using(net_tree::proofs::Views::views), unfolding(crate::specs::Expressions::choice_at, crate::specs::Expressions::inner_of))]
+#[tactic(auto, using(net_tree::proofs::Views::views), unfolding(crate::specs::Expressions::conditional_at, crate::specs::Expressions::inner_of))]
 fn choice_inside<'t, 's>(
     alloc: Global,
     depth: u8,
     word: Token<'s>,
     tokens: &mut Cursor<'t, 's>,
 ) -> Result<Stored<Expr<'s>>, ParseError>
-    ensures value { Gives tree result tokens.new (grammar.choice_at (inner_of (inside depth)) word.entry tokens.old) }
+    ensures value { Gives tree result tokens.new (grammar.conditional_at (inner_of (nested depth)) word.entry tokens.old) }
     ensures shorter { IfOk result (λ x. length tokens.new < length tokens.old) }
 {
     let condition = introduced(alloc, depth, precedence::OR, word, tokens)?;
     let then = expect(Expected::Then, Awaiting::Other, tokens)?;
     let branch = introduced(alloc, depth, precedence::UNION, then, tokens)?;
     let otherwise = otherwise_of(alloc, depth, tokens)?;
-    let choice = Expr::Choice(
+    let choice = Expr::If(
         condition.into_boxed(),
         branch.into_boxed(),
         otherwise.into_inner(),
@@ -107,7 +107,7 @@ fn otherwise_of<'t, 's>(
     depth: u8,
     tokens: &mut Cursor<'t, 's>,
 ) -> Result<Carried<Option<Boxed<Part<'s>>>>, ParseError>
-    ensures value { Gives option_part result tokens.new (grammar.part_at sorts.Else ((inner_of (inside depth)).wide of_union) tokens.old) }
+    ensures value { Gives option_part result tokens.new (grammar.part_at sorts.Else ((inner_of (nested depth)).wide of_union) tokens.old) }
     ensures shorter { IfOk result (λ x. length tokens.new ≤ length tokens.old) }
 {
     if !tokens.next_is(Expected::Else) {

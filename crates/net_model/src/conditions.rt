@@ -5,7 +5,7 @@ ghost use Rattle.net_tree.specs.Precedence.{of_sum};
 ghost use Rattle.net_tree.specs.Tree.{one, between};
 ghost use Rattle.net_tree.specs.View.{tree, link_of, links_of, condition_of};
 ghost use Rattle.net_model.specs.Conditions as grammar;
-ghost use Rattle.net_model.specs.Expressions.{inside, climb, unary};
+ghost use Rattle.net_model.specs.Expressions.{nested, climb, unary};
 ghost use Rattle.net_model.specs.Reading.{Gives, ◌>>=◌ as ◌▷◌, read_as, expect};
 ghost use Rattle.net_model.specs.declared.expected.Expected.TheVariants as sorts;
 ghost use Rattle.net_model.specs.declared.parse_error.Awaiting.TheVariants as awaiting;
@@ -71,7 +71,7 @@ fn term_at<'t, 's>(
     free: bool,
     tokens: &mut Cursor<'t, 's>,
 ) -> Result<(Stored<Expr<'s>>, bool), ParseError>
-    ensures value { Gives (λ x. (tree x.0, x.1)) result tokens.new (grammar.term_at (inside depth) free tokens.old) }
+    ensures value { Gives (λ x. (tree x.0, x.1)) result tokens.new (grammar.term_at (nested depth) free tokens.old) }
     ensures shorter { IfOk result (λ x. length tokens.new < length tokens.old) }
 {
     if free && tokens.next_is(Expected::Net) {
@@ -89,7 +89,7 @@ fn first_term_at<'t, 's>(
     free: bool,
     tokens: &mut Cursor<'t, 's>,
 ) -> Result<(Stored<Expr<'s>>, bool), ParseError>
-    ensures value { Gives (λ x. (tree x.0, x.1)) result tokens.new (grammar.first_term_at (inside depth) free tokens.old) }
+    ensures value { Gives (λ x. (tree x.0, x.1)) result tokens.new (grammar.first_term_at (nested depth) free tokens.old) }
     ensures shorter { IfOk result (λ x. length tokens.new < length tokens.old) }
 {
     if free && tokens.next_is_signed_net() {
@@ -107,7 +107,7 @@ fn further_term_at<'t, 's>(
     free: bool,
     tokens: &mut Cursor<'t, 's>,
 ) -> Result<(Stored<Link<'s>>, bool), ParseError>
-    ensures value { Gives (λ x. (link_of x.0, x.1)) result tokens.new (grammar.further_term_at (inside depth) free tokens.old) }
+    ensures value { Gives (λ x. (link_of x.0, x.1)) result tokens.new (grammar.further_term_at (nested depth) free tokens.old) }
     ensures shorter { IfOk result (λ x. length tokens.new < length tokens.old) }
 {
     let operator = operator_at(alloc, tokens)?;
@@ -123,7 +123,7 @@ fn further_terms<'t, 's>(
     first: bool,
     tokens: &mut Cursor<'t, 's>,
 ) -> Result<(Carried<Items<Link<'s>>>, bool), ParseError>
-    ensures value { Gives (λ x. (map link_of x.0, x.1)) result tokens.new (grammar.further_terms (inside depth) first tokens.old) }
+    ensures value { Gives (λ x. (map link_of x.0, x.1)) result tokens.new (grammar.further_terms (nested depth) first tokens.old) }
     ensures shorter { IfOk result (λ x. length tokens.new ≤ length tokens.old) }
 {
     let mut found = Vec::new(alloc);
@@ -144,7 +144,7 @@ fn sum_at<'t, 's>(
     free: bool,
     tokens: &mut Cursor<'t, 's>,
 ) -> Result<(Stored<Expr<'s>>, bool), ParseError>
-    ensures value { Gives (λ x. (tree x.0, x.1)) result tokens.new (grammar.sum_at (inside depth) free tokens.old) }
+    ensures value { Gives (λ x. (tree x.0, x.1)) result tokens.new (grammar.sum_at (nested depth) free tokens.old) }
     ensures shorter { IfOk result (λ x. length tokens.new < length tokens.old) }
 {
     let (first, free) = first_term_at(alloc, depth, free, tokens)?;
@@ -203,7 +203,7 @@ fn between_at<'t, 's>(
     middle: Stored<Expr<'s>>,
     tokens: &mut Cursor<'t, 's>,
 ) -> Result<Stored<NetCond<'s>>, ParseError>
-    ensures value { Gives condition_of result tokens.new (expect sorts.Bound awaiting.Other tokens.old ▷ λ q. climb of_sum (unary (inside depth)) q.1 ▷ λ z.
+    ensures value { Gives condition_of result tokens.new (expect sorts.Bound awaiting.Other tokens.old ▷ λ q. climb of_sum (unary (nested depth)) q.1 ▷ λ z.
         read_as (between begun.entry.colon (tree begun.entry.left) begun.entry.bound (tree middle.entry) q.0 z.0) z.1) }
     ensures shorter { IfOk result (λ x. length tokens.new ≤ length tokens.old) }
 {
@@ -230,7 +230,7 @@ fn high_at<'t, 's>(
     middle: Stored<Expr<'s>>,
     tokens: &mut Cursor<'t, 's>,
 ) -> Result<Stored<NetCond<'s>>, ParseError>
-    ensures value { Gives condition_of result tokens.new (grammar.high_at (inside depth) begun.entry.colon (tree begun.entry.left) begun.entry.bound
+    ensures value { Gives condition_of result tokens.new (grammar.high_at (nested depth) begun.entry.colon (tree begun.entry.left) begun.entry.bound
         (tree middle.entry) tokens.old) }
     ensures shorter { IfOk result (λ x. length tokens.new ≤ length tokens.old) }
 {
@@ -248,7 +248,7 @@ fn middle_at<'t, 's>(
     begun: Begun<'s>,
     tokens: &mut Cursor<'t, 's>,
 ) -> Result<Stored<NetCond<'s>>, ParseError>
-    ensures value { Gives condition_of result tokens.new (grammar.middle_at (inside depth) begun.entry.colon (tree begun.entry.left)
+    ensures value { Gives condition_of result tokens.new (grammar.middle_at (nested depth) begun.entry.colon (tree begun.entry.left)
         begun.entry.bound tokens.old) }
     ensures shorter { IfOk result (λ x. length tokens.new ≤ length tokens.old) }
 {
@@ -268,7 +268,7 @@ fn bounded_at<'t, 's>(
     free: bool,
     tokens: &mut Cursor<'t, 's>,
 ) -> Result<Stored<NetCond<'s>>, ParseError>
-    ensures value { Gives condition_of result tokens.new (grammar.bounded_at (inside depth) begun.entry.colon (tree begun.entry.left) free
+    ensures value { Gives condition_of result tokens.new (grammar.bounded_at (nested depth) begun.entry.colon (tree begun.entry.left) free
         begun.entry.bound tokens.old) }
     ensures shorter { IfOk result (λ x. length tokens.new ≤ length tokens.old) }
 {
@@ -286,7 +286,7 @@ fn said_at<'t, 's>(
     depth: u8,
     tokens: &mut Cursor<'t, 's>,
 ) -> Result<Stored<NetCond<'s>>, ParseError>
-    ensures value { Gives condition_of result tokens.new (grammar.said_at (inside depth) tokens.old) }
+    ensures value { Gives condition_of result tokens.new (grammar.said_at (nested depth) tokens.old) }
     ensures shorter { IfOk result (λ x. length tokens.new ≤ length tokens.old) }
 {
     let colon = expect(Expected::Colon, Awaiting::Other, tokens)?;
@@ -303,7 +303,7 @@ pub(crate) fn condition_at<'t, 's>(
     depth: u8,
     tokens: &mut Cursor<'t, 's>,
 ) -> Result<Stored<NetCond<'s>>, ParseError>
-    ensures value { Gives condition_of result tokens.new (grammar.condition_at (inside depth) tokens.old) }
+    ensures value { Gives condition_of result tokens.new (grammar.condition_at (nested depth) tokens.old) }
     ensures shorter { IfOk result (λ x. length tokens.new ≤ length tokens.old) }
 {
     if tokens.next_is(Expected::Colon) {

@@ -6,11 +6,11 @@ ghost use Rattle.net_tree.specs.Role.{role_of};
 ghost use Rattle.net_tree.specs.WellFormed.{joins};
 ghost use Rattle.net_model.specs.Conditions.{signed_net_next};
 ghost use Rattle.net_model.specs.Declarations.{any_left};
-ghost use Rattle.net_model.specs.Expressions.{operator_at, is_hollow};
+ghost use Rattle.net_model.specs.Expressions.{operator_at, ends_braces};
 ghost use Rattle.net_model.specs.Reading.{Gives, first_role, next_is, is_sort, expect};
 
 use crate::carried::Carried;
-use crate::expected::{Expected, is_hollow, is_not, is_sort, joins};
+use crate::expected::{Expected, ends_braces, is_not, is_sort, joins};
 use crate::parse_error::{Awaiting, ParseError};
 use crate::stored::boxed;
 use net_lex::Token;
@@ -134,11 +134,11 @@ impl<'t, 's> Cursor<'t, 's> {
 
     /// Returns whether braces that continue here have no items.
     #[tactic(auto, using(crate::proofs::Roles::roles))]
-    pub(crate) fn next_is_hollow(&self) -> bool
-        ensures { result ≡ next_is is_hollow self.now }
+    pub(crate) fn next_ends_braces(&self) -> bool
+        ensures { result ≡ next_is ends_braces self.now }
     {
         match self.role {
-            Some(role) => is_hollow(role),
+            Some(role) => ends_braces(role),
             None => false,
         }
     }

@@ -7,7 +7,7 @@ ghost use Rattle.net_tree.specs.Tree as tree;
 ghost use Rattle.net_tree.specs.Tree.{Declaration};
 ghost use Rattle.net_tree.specs.View.{declaration_of, indexing_of, option_part, phrase_of};
 ghost use Rattle.net_model.specs.Declarations as grammar;
-ghost use Rattle.net_model.specs.Expressions.{inside, part_at, wide};
+ghost use Rattle.net_model.specs.Expressions.{nested, part_at, wide};
 ghost use Rattle.net_model.specs.Phrases.{phrases, phrases_end};
 ghost use Rattle.net_model.specs.Reading.{Gives, ◌>>=◌ as ◌▷◌, read_as, expect};
 ghost use Rattle.net_model.specs.declared.parse_error.Awaiting.TheVariants as awaiting;
@@ -35,7 +35,7 @@ fn indexing_at<'t, 's>(
     depth: u8,
     tokens: &mut Cursor<'t, 's>,
 ) -> Result<Stored<Option<Braces<'s>>>, ParseError>
-    ensures value { Gives indexing_of result tokens.new (grammar.indexing_at (inside depth) tokens.old) }
+    ensures value { Gives indexing_of result tokens.new (grammar.indexing_at (nested depth) tokens.old) }
     ensures shorter { IfOk result (λ x. length tokens.new ≤ length tokens.old) }
 {
     if tokens.next_is(Expected::OpenBrace) {
@@ -55,7 +55,7 @@ fn phrased<'t, 's>(
 ) -> Result<Stored<(Items<Phrase<'s>>, Token<'s>)>, ParseError>
     ensures value { (made : List tree.Phrase → Token → Declaration)
         → Gives (λ p. made (map phrase_of p.0) p.1) result tokens.new
-        (phrases (inside depth) owner tokens.old ▷ λ p. phrases_end owner p.0.1 p.1 ▷ λ e. read_as (made p.0.0 e.0) e.1) }
+        (phrases (nested depth) owner tokens.old ▷ λ p. phrases_end owner p.0.1 p.1 ▷ λ e. read_as (made p.0.0 e.0) e.1) }
     ensures shorter { IfOk result (λ x. length tokens.new ≤ length tokens.old) }
 {
     let (said, stood) = phrases(alloc, depth, owner, tokens)?;
@@ -72,7 +72,7 @@ fn detailed<'t, 's>(
 ) -> Result<Stored<(Token<'s>, Option<Braces<'s>>, Items<Phrase<'s>>, Token<'s>)>, ParseError>
     ensures value { (made : Token → Option tree.Braces → List tree.Phrase → Token → Declaration)
         → Gives (λ p. made p.0 (indexing_of p.1) (map phrase_of p.2) p.3) result tokens.new
-        (expect sorts.Name awaiting.Other tokens.old ▷ λ n. grammar.indexing_at (inside depth) n.1 ▷ λ b. phrases (inside depth) owner b.1 ▷ λ p.
+        (expect sorts.Name awaiting.Other tokens.old ▷ λ n. grammar.indexing_at (nested depth) n.1 ▷ λ b. phrases (nested depth) owner b.1 ▷ λ p.
         phrases_end owner p.0.1 p.1 ▷ λ e. read_as (made n.0 b.0 p.0.0 e.0) e.1) }
     ensures shorter { IfOk result (λ x. length tokens.new ≤ length tokens.old) }
 {
@@ -89,7 +89,7 @@ fn set_at<'t, 's>(
     word: Token<'s>,
     tokens: &mut Cursor<'t, 's>,
 ) -> Result<Stored<Decl<'s>>, ParseError>
-    ensures value { Gives declaration_of result tokens.new (grammar.set_at (inside depth) word.entry tokens.old) }
+    ensures value { Gives declaration_of result tokens.new (grammar.set_at (nested depth) word.entry tokens.old) }
     ensures shorter { IfOk result (λ x. length tokens.new ≤ length tokens.old) }
 {
     let name = expect(Expected::Name, Awaiting::Other, tokens)?;
@@ -104,7 +104,7 @@ fn param_at<'t, 's>(
     word: Token<'s>,
     tokens: &mut Cursor<'t, 's>,
 ) -> Result<Stored<Decl<'s>>, ParseError>
-    ensures value { Gives declaration_of result tokens.new (grammar.param_at (inside depth) word.entry tokens.old) }
+    ensures value { Gives declaration_of result tokens.new (grammar.param_at (nested depth) word.entry tokens.old) }
     ensures shorter { IfOk result (λ x. length tokens.new ≤ length tokens.old) }
 {
     let (name, indexing, said, end) = detailed(alloc, depth, Owner::Param, tokens)?.into_inner();
@@ -118,7 +118,7 @@ fn arc_at<'t, 's>(
     word: Token<'s>,
     tokens: &mut Cursor<'t, 's>,
 ) -> Result<Stored<Decl<'s>>, ParseError>
-    ensures value { Gives declaration_of result tokens.new (grammar.arc_at (inside depth) word.entry tokens.old) }
+    ensures value { Gives declaration_of result tokens.new (grammar.arc_at (nested depth) word.entry tokens.old) }
     ensures shorter { IfOk result (λ x. length tokens.new ≤ length tokens.old) }
 {
     let (name, indexing, said, end) = detailed(alloc, depth, Owner::Arc, tokens)?.into_inner();
@@ -132,7 +132,7 @@ fn check_at<'t, 's>(
     word: Token<'s>,
     tokens: &mut Cursor<'t, 's>,
 ) -> Result<Stored<Decl<'s>>, ParseError>
-    ensures value { Gives declaration_of result tokens.new (grammar.check_at (inside depth) word.entry tokens.old) }
+    ensures value { Gives declaration_of result tokens.new (grammar.check_at (nested depth) word.entry tokens.old) }
     ensures shorter { IfOk result (λ x. length tokens.new ≤ length tokens.old) }
 {
     let indexing = indexing_at(alloc, depth, tokens)?;
@@ -156,7 +156,7 @@ fn node_at<'t, 's>(
     word: Token<'s>,
     tokens: &mut Cursor<'t, 's>,
 ) -> Result<Stored<Decl<'s>>, ParseError>
-    ensures value { Gives declaration_of result tokens.new (grammar.node_at (inside depth) word.entry tokens.old) }
+    ensures value { Gives declaration_of result tokens.new (grammar.node_at (nested depth) word.entry tokens.old) }
     ensures shorter { IfOk result (λ x. length tokens.new ≤ length tokens.old) }
 {
     let name = expect(Expected::Name, Awaiting::Other, tokens)?;
@@ -180,7 +180,7 @@ fn value_part<'t, 's>(
     depth: u8,
     tokens: &mut Cursor<'t, 's>,
 ) -> Result<Stored<Option<Part<'s>>>, ParseError>
-    ensures value { Gives option_part result tokens.new (part_at sorts.Colon (wide (inside depth) of_union) tokens.old) }
+    ensures value { Gives option_part result tokens.new (part_at sorts.Colon (wide (nested depth) of_union) tokens.old) }
     ensures shorter { IfOk result (λ x. length tokens.new ≤ length tokens.old) }
 {
     if !tokens.next_is(Expected::Colon) {
@@ -210,7 +210,7 @@ fn objective_at<'t, 's>(
     word: Token<'s>,
     tokens: &mut Cursor<'t, 's>,
 ) -> Result<Stored<Decl<'s>>, ParseError>
-    ensures value { Gives declaration_of result tokens.new (grammar.objective_at (inside depth) word.entry tokens.old) }
+    ensures value { Gives declaration_of result tokens.new (grammar.objective_at (nested depth) word.entry tokens.old) }
     ensures shorter { IfOk result (λ x. length tokens.new ≤ length tokens.old) }
 {
     let name = expect(Expected::Name, Awaiting::Other, tokens)?;
@@ -228,7 +228,7 @@ fn declared_at<'t, 's>(
     word: Token<'s>,
     tokens: &mut Cursor<'t, 's>,
 ) -> Result<Stored<Decl<'s>>, ParseError>
-    ensures value { Gives declaration_of result tokens.new (grammar.declared_at (inside depth) kind word.entry tokens.old) }
+    ensures value { Gives declaration_of result tokens.new (grammar.declared_at (nested depth) kind word.entry tokens.old) }
     ensures shorter { IfOk result (λ x. length tokens.new ≤ length tokens.old) }
 {
     match kind {
@@ -248,7 +248,7 @@ fn declaration_at<'t, 's>(
     depth: u8,
     tokens: &mut Cursor<'t, 's>,
 ) -> Result<Stored<Decl<'s>>, ParseError>
-    ensures value { Gives declaration_of result tokens.new (grammar.declaration_at (inside depth) tokens.old) }
+    ensures value { Gives declaration_of result tokens.new (grammar.declaration_at (nested depth) tokens.old) }
     ensures shorter { IfOk result (λ x. length tokens.new < length tokens.old) }
 {
     let left = tokens.len();

@@ -3,7 +3,7 @@
 ghost use Rattle.std.specs.Prelude.{◌≡◌};
 ghost use Rattle.net_tree.specs.WellFormed.{joins};
 ghost use Rattle.net_tree.specs.Role.{is_not};
-ghost use Rattle.net_model.specs.Expressions.{is_hollow};
+ghost use Rattle.net_model.specs.Expressions.{ends_braces};
 ghost use Rattle.net_model.specs.Reading.{is_sort};
 
 use net_tree::{Relation, Role, precedence};
@@ -85,8 +85,8 @@ pub(crate) fn is_not(role: Role) -> bool
 }
 
 /// Returns whether braces that continue with a token of this role have no items.
-pub(crate) fn is_hollow(role: Role) -> bool
-    ensures { result ≡ is_hollow role }
+pub(crate) fn ends_braces(role: Role) -> bool
+    ensures { result ≡ ends_braces role }
 {
     matches!(role, Role::Colon | Role::CloseBrace)
 }

@@ -6,7 +6,7 @@ ghost use Rattle.std.specs.Prelude.{◌≡◌, ◌<◌, ◌≤◌, length, IfOk}
 ghost use Rattle.net_tree.specs.Tree.{braced, indexed, negated, signed};
 ghost use Rattle.net_tree.specs.View.{tree, braces_of, links_of};
 ghost use Rattle.net_model.specs.Expressions as grammar;
-ghost use Rattle.net_model.specs.Expressions.{inside, inner_of, unary};
+ghost use Rattle.net_model.specs.Expressions.{nested, inner_of, unary};
 ghost use Rattle.net_model.specs.Reading.{Tokens, Gives, ◌>>=◌ as ◌▷◌, read_as, expect};
 ghost use Rattle.net_model.specs.declared.expected.Expected.TheVariants as sorts;
 ghost use Rattle.net_model.specs.declared.parse_error.Awaiting.TheVariants as awaiting;
@@ -21,7 +21,7 @@ use crate::parse_error::{Awaiting, ParseError};
 use crate::stored::{Stored, boxed};
 use crate::trees::{is_none, is_sum};
 use net_lex::Token;
-use net_tree::{Braces, Expr, Link, Role, Series, Sign, precedence};
+use net_tree::{Braces, Expr, Link, Operands, Role, Sign, precedence};
 use net_views::Items;
 use std::alloc::Global;
 
@@ -33,7 +33,7 @@ pub(crate) fn unary_of<'t, 's>(
     depth: u8,
     tokens: &mut Cursor<'t, 's>,
 ) -> Result<Stored<Expr<'s>>, ParseError>
-    ensures value { Gives tree result tokens.new (unary (inside depth) tokens.old) }
+    ensures value { Gives tree result tokens.new (unary (nested depth) tokens.old) }
     ensures shorter { IfOk result (λ x. length tokens.new < length tokens.old) }
 {
     let left = tokens.len();
@@ -91,7 +91,7 @@ pub(crate) fn named_of<'t, 's>(
     name: Token<'s>,
     tokens: &mut Cursor<'t, 's>,
 ) -> Result<Stored<Expr<'s>>, ParseError>
-    ensures value { Gives tree result tokens.new (grammar.named_at (inside depth) name.entry tokens.old) }
+    ensures value { Gives tree result tokens.new (grammar.named_at (nested depth) name.entry tokens.old) }
     ensures shorter { IfOk result (λ x. length tokens.new ≤ length tokens.old) }
 {
     if !tokens.next_is(Expected::OpenSquare) {
@@ -112,7 +112,7 @@ fn subscripts_inside<'t, 's>(
     name: Token<'s>,
     tokens: &mut Cursor<'t, 's>,
 ) -> Result<Stored<Expr<'s>>, ParseError>
-    ensures value { Gives tree result tokens.new (grammar.subscripts_at (inner_of (inside depth)) name.entry tokens.old) }
+    ensures value { Gives tree result tokens.new (grammar.subscripts_at (inner_of (nested depth)) name.entry tokens.old) }
     ensures shorter { IfOk result (λ x. length tokens.new ≤ length tokens.old) }
 {
     let Some(open) = tokens.next() else {
@@ -140,7 +140,7 @@ fn indexed<'t, 's>(
     let close = expect(Expected::CloseSquare, Awaiting::Other, tokens)?;
     let first = first.into_inner();
     let more = more.into_inner();
-    let parts = (name, opening, Series { first, more }, close);
+    let parts = (name, opening, Operands { first, more }, close);
     let parts = boxed(alloc, parts)?;
     Stored::new(alloc, Expr::Indexed(parts))
 }
@@ -154,7 +154,7 @@ fn parens_inside<'t, 's>(
     opening: Token<'s>,
     tokens: &mut Cursor<'t, 's>,
 ) -> Result<Stored<Expr<'s>>, ParseError>
-    ensures value { Gives tree result tokens.new (grammar.parens_at (inner_of (inside depth)) opening.entry tokens.old) }
+    ensures value { Gives tree result tokens.new (grammar.parens_at (inner_of (nested depth)) opening.entry tokens.old) }
     ensures shorter { IfOk result (λ x. length tokens.new < length tokens.old) }
 {
     let inner = wide_of(alloc, depth, precedence::OR, tokens)?;
@@ -171,7 +171,7 @@ fn parens_from<'t, 's>(
     first: Stored<Expr<'s>>,
     tokens: &mut Cursor<'t, 's>,
 ) -> Result<Stored<Expr<'s>>, ParseError>
-    ensures value { Gives tree result tokens.new (grammar.parens_from (inner_of (inside depth)) opening.entry (tree first.entry) tokens.old) }
+    ensures value { Gives tree result tokens.new (grammar.parens_from (inner_of (nested depth)) opening.entry (tree first.entry) tokens.old) }
     ensures shorter { IfOk result (λ x. length tokens.new < length tokens.old) }
 {
     if is_sum(first.get()) {
@@ -217,7 +217,7 @@ fn listed<'t, 's>(
     let close = expect(Expected::Close, Awaiting::Other, tokens)?;
     let first = first.into_inner();
     let more = more.into_inner();
-    let parts = (opening, Series { first, more }, close);
+    let parts = (opening, Operands { first, more }, close);
     let parts = boxed(alloc, parts)?;
     Stored::new(alloc, Expr::Tuple(parts))
 }
@@ -230,7 +230,7 @@ fn negated_of<'t, 's>(
     word: Token<'s>,
     tokens: &mut Cursor<'t, 's>,
 ) -> Result<Stored<Expr<'s>>, ParseError>
-    ensures value { Gives tree result tokens.new (grammar.negated_at (inside depth) word.entry tokens.old) }
+    ensures value { Gives tree result tokens.new (grammar.negated_at (nested depth) word.entry tokens.old) }
     ensures shorter { IfOk result (λ x. length tokens.new < length tokens.old) }
 {
     let left = tokens.len();

@@ -3,7 +3,7 @@
 ghost use Rattle.std.specs.Prelude.{◌≡◌, ◌<◌, ◌≤◌, Some, None, length, map, IfOk, IfErr};
 ghost use Rattle.net_tree.specs.Tree.{valued};
 ghost use Rattle.net_tree.specs.View as view;
-ghost use Rattle.net_model.specs.Expressions.{inside};
+ghost use Rattle.net_model.specs.Expressions.{nested};
 ghost use Rattle.net_model.specs.Phrases as grammar;
 ghost use Rattle.net_model.specs.Reading.{Gives};
 ghost use Rattle.net_model.specs.declared.parse_error.ParseError.TheVariants.{OutOfMemory};
@@ -171,7 +171,7 @@ fn body_of<'t, 's>(
     slot: Slot,
     tokens: &mut Cursor<'t, 's>,
 ) -> Result<Stored<Body<'s>>, ParseError>
-    ensures value { Gives view.body_of result tokens.new (grammar.body_of (inside depth) slot tokens.old) }
+    ensures value { Gives view.body_of result tokens.new (grammar.body_of (nested depth) slot tokens.old) }
     ensures shorter { IfOk result (λ x. length tokens.new ≤ length tokens.old) }
 {
     match slot {
@@ -233,7 +233,7 @@ fn worded<'t, 's>(
     comma: Option<Token<'s>>,
     tokens: &mut Cursor<'t, 's>,
 ) -> Result<(Stored<Phrase<'s>>, Stood), ParseError>
-    ensures value { Gives (λ p. (view.phrase_of p.0, p.1)) result tokens.new (grammar.worded (inside depth) owner stood comma.entry tokens.old) }
+    ensures value { Gives (λ p. (view.phrase_of p.0, p.1)) result tokens.new (grammar.worded (nested depth) owner stood comma.entry tokens.old) }
     ensures shorter { IfOk result (λ x. length tokens.new < length tokens.old) }
 {
     let left = tokens.len();
@@ -262,7 +262,7 @@ fn phrase_at<'t, 's>(
     stood: Stood,
     tokens: &mut Cursor<'t, 's>,
 ) -> Result<(Stored<Phrase<'s>>, Stood), ParseError>
-    ensures value { Gives (λ p. (view.phrase_of p.0, p.1)) result tokens.new (grammar.phrase_at (inside depth) owner stood tokens.old) }
+    ensures value { Gives (λ p. (view.phrase_of p.0, p.1)) result tokens.new (grammar.phrase_at (nested depth) owner stood tokens.old) }
     ensures shorter { IfOk result (λ x. length tokens.new < length tokens.old) }
 {
     let comma = comma_at(tokens)?;
@@ -277,7 +277,7 @@ pub(crate) fn phrases<'t, 's>(
     owner: Owner,
     tokens: &mut Cursor<'t, 's>,
 ) -> Result<(Carried<Items<Phrase<'s>>>, Stood), ParseError>
-    ensures value { Gives (λ p. (map view.phrase_of p.0, p.1)) result tokens.new (grammar.phrases (inside depth) owner tokens.old) }
+    ensures value { Gives (λ p. (map view.phrase_of p.0, p.1)) result tokens.new (grammar.phrases (nested depth) owner tokens.old) }
     ensures shorter { IfOk result (λ x. length tokens.new ≤ length tokens.old) }
 {
     let mut found = Vec::new(alloc);

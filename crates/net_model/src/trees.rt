@@ -10,7 +10,7 @@ ghost use Rattle.net_model.specs.declared.parse_error.ParseError.TheVariants.{Ou
 use crate::carried::Carried;
 use crate::parse_error::ParseError;
 use crate::stored::{Stored, boxed};
-use net_tree::{Expr, Link, Operator, Series, precedence};
+use net_tree::{Expr, Link, Operands, Operator, precedence};
 use net_views::Items;
 use std::alloc::Global;
 
@@ -21,10 +21,10 @@ pub(crate) fn is_sum(expr: &Expr<'_>) -> bool
 {
     match expr {
         Expr::Leaf(_) | Expr::Indexed(_) | Expr::Parens(_) | Expr::Tuple(_) => true,
-        Expr::Negated(_) | Expr::Braced(_) | Expr::Reduced(_, _) => true,
+        Expr::Negated(_) | Expr::Braced(_) | Expr::Reduction(_, _) => true,
         Expr::Signed(parts) => is_sum(&parts.get().1),
         Expr::Chain(max_precedence, _) => *max_precedence < precedence::SUM,
-        Expr::Choice(_, _, _) | Expr::Net(_) => false,
+        Expr::If(_, _, _) | Expr::Net(_) => false,
     }
 }
 
@@ -69,6 +69,6 @@ pub(crate) fn chained<'s>(
     }
     let first = first.into_inner();
     let more = more.into_inner();
-    let operands = boxed(alloc, Series { first, more })?;
+    let operands = boxed(alloc, Operands { first, more })?;
     Stored::new(alloc, Expr::Chain(max_precedence, operands))
 }

@@ -12,7 +12,7 @@ use Rattle.net_fault.specs.declared.fault.Fault.TheVariants as reported_faults
 use Rattle.net_fault.specs.declared.detail.Detail.TheVariants.{Reported}
 use Rattle.net_fault.specs.declared.diagnostic.Diagnostic.{Diagnostic}
 use Rattle.net_fault.specs.declared.language.Language.TheVariants.{Model}
-use Rattle.net_fault.specs.Outcomes.{found}
+use Rattle.net_fault.specs.Outcomes.{diagnostic_at}
 use Rattle.net_resolve.specs.Meanings.{error_code_of}
 use Rattle.net_resolve.specs.Scopes.{Scope, meaning_in}
 
@@ -52,7 +52,7 @@ Decides f (Err (faults.At d t)) = f ≡ Some (d, t)
 
 -- the error is reported at the span of the name, with the name as its detail
 abbrev pub diagnostic_of : Fault → Diagnostic
-diagnostic_of f = found Model f.0 f.1.span (Reported f.1.text)
+diagnostic_of f = diagnostic_at Model f.0 f.1.span (Reported f.1.text)
 
 abbrev pub IsReportedOf : NameFault → outcomes.Fault → Type 0
 IsReportedOf faults.OutOfMemory reported = reported ≡ reported_faults.OutOfMemory

@@ -70,7 +70,7 @@ pub(crate) fn add_left<'s>(scope: &mut Scope<'s>, left: &Expr<'s>) -> Result<(),
         }
         Expr::Leaf(_) => add_component(scope, left),
         Expr::Indexed(_) | Expr::Parens(_) | Expr::Negated(_) | Expr::Braced(_) => Ok(()),
-        Expr::Signed(_) | Expr::Reduced(_, _) | Expr::Chain(_, _) => Ok(()),
-        Expr::Choice(_, _, _) | Expr::Net(_) => Ok(()),
+        Expr::Signed(_) | Expr::Reduction(_, _) | Expr::Chain(_, _) => Ok(()),
+        Expr::If(_, _, _) | Expr::Net(_) => Ok(()),
     }
 }

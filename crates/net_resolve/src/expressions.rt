@@ -70,12 +70,12 @@ pub(crate) fn check<'s>(
         Expr::Negated(parts) => check(need, scope, &parts.get().2),
         Expr::Braced(braces) => check_braced(need, scope, braces.get()),
         Expr::Signed(parts) => check(need, scope, &parts.get().1),
-        Expr::Reduced(parts, body) => check_reduced(need, scope, &parts.get().1, body.get()),
+        Expr::Reduction(parts, body) => check_reduced(need, scope, &parts.get().1, body.get()),
         Expr::Chain(_, operands) => {
             let series = operands.get();
             check_series(need, scope, &series.first, series.more.as_slice())
         }
-        Expr::Choice(condition, branch, otherwise) => check_choice(
+        Expr::If(condition, branch, otherwise) => check_choice(
             need,
             scope,
             &condition.get().value,
@@ -298,9 +298,9 @@ fn check_left<'s>(need: Need, scope: &mut Scope<'s>, left: &Expr<'s>) -> Result<
         | Expr::Negated(_)
         | Expr::Braced(_)
         | Expr::Signed(_)
-        | Expr::Reduced(_, _)
+        | Expr::Reduction(_, _)
         | Expr::Chain(_, _)
-        | Expr::Choice(_, _, _)
+        | Expr::If(_, _, _)
         | Expr::Net(_) => check_component(need, scope, left),
     }
 }

@@ -116,7 +116,7 @@ impl<'s, T> NameMap<'s, T> {
     }
 
     /// Returns the value of a name if it is one of the first `known`.
-    pub fn get_among(&self, known: usize, name: &Excerpt<'s>) -> Option<&T>
+    pub fn get_among_first(&self, known: usize, name: &Excerpt<'s>) -> Option<&T>
         ensures { option_copied result ≡ named (take known self.now) name.now }
     {
         if known <= FEW {

@@ -7,28 +7,28 @@ use Rattle.net_tree.specs.declared.operator.Words.{Words as Operator}
 use Rattle.net_tree.specs.declared.expr.Expr.{Expr}
 use Rattle.net_tree.specs.declared.expr.Expr.TheVariants as e
 use Rattle.net_tree.specs.declared.expr.Link.{Link, out-Link}
-use Rattle.net_tree.specs.declared.expr.Series.{Series, out-Series}
+use Rattle.net_tree.specs.declared.expr.Operands.{Operands, out-Operands}
 use Rattle.net_tree.specs.declared.expr.Part.{Part as Part_of_code, out-Part}
 use Rattle.net_tree.specs.declared.expr.Braces.{Braces as Braces_of_code}
 use Rattle.net_tree.specs.declared.expr.Braces.TheVariants as b
 use Rattle.net_tree.specs.declared.expr.Braces.TheOpen.{Expr-F, Braces-F}
-use Rattle.net_tree.specs.declared.expr.Braces.TheFolds.{fold-roll-Expr, fold-roll-Braces, fold_out-Link, fold_out-Part, fold_out-Series}
+use Rattle.net_tree.specs.declared.expr.Braces.TheFolds.{fold-roll-Expr, fold-roll-Braces, fold_out-Link, fold_out-Part, fold_out-Operands}
 use Rattle.net_tree.specs.declared.declaration.Phrase.{Phrase as Phrase_of_code}
 use Rattle.net_tree.specs.declared.declaration.Decl.{Decl}
 use Rattle.net_tree.specs.Tree.{Tree, Links, Braces, leaf, indexed, parens, tuple, negated, braced, signed, reduced, chain, choice, net, link, absent, part, empty, filled}
-use Rattle.net_tree.specs.View.{tree, link_of, series_of, part_of, braces_of, links_of, option_part, phrase_of, declaration_of, expr_step, link_step, part_step, braces_step, series_step}
+use Rattle.net_tree.specs.View.{tree, link_of, operands_of, part_of, braces_of, links_of, option_part, phrase_of, declaration_of, expr_step, link_step, part_step, braces_step, operands_step}
 
 pub link_of-out : (l : Link) → link_of l ≡ ((out-Link l).operator, tree (out-Link l).operand)
-unfolding tree link_of series_of part_of braces_of
-link_of-out l = fold_out-Link Braces Tree (Operator × Tree) (Token × Tree) (Tree × Links) braces_step expr_step link_step part_step series_step l
+unfolding tree link_of operands_of part_of braces_of
+link_of-out l = fold_out-Link Braces Tree (Operator × Tree) (Tree × Links) (Token × Tree) braces_step expr_step link_step operands_step part_step l
 
 pub part_of-out : (p : Part_of_code) → part_of p ≡ ((out-Part p).mark, tree (out-Part p).value)
-unfolding tree link_of series_of part_of braces_of
-part_of-out p = fold_out-Part Braces Tree (Operator × Tree) (Token × Tree) (Tree × Links) braces_step expr_step link_step part_step series_step p
+unfolding tree link_of operands_of part_of braces_of
+part_of-out p = fold_out-Part Braces Tree (Operator × Tree) (Tree × Links) (Token × Tree) braces_step expr_step link_step operands_step part_step p
 
-pub series_of-out : (s : Series) → series_of s ≡ (tree (out-Series s).first, links_of (out-Series s).more)
-unfolding tree link_of series_of part_of braces_of
-series_of-out s = fold_out-Series Braces Tree (Operator × Tree) (Token × Tree) (Tree × Links) braces_step expr_step link_step part_step series_step s
+pub series_of-out : (s : Operands) → operands_of s ≡ (tree (out-Operands s).first, links_of (out-Operands s).more)
+unfolding tree link_of operands_of part_of braces_of
+series_of-out s = fold_out-Operands Braces Tree (Operator × Tree) (Tree × Links) (Token × Tree) braces_step expr_step link_step operands_step part_step s
 
 pub links_of-cons : (l : Link) (ls : List Link) → links_of (l ∷ ls) ≡ link (out-Link l).operator (tree (out-Link l).operand) (links_of ls)
 links_of-cons l ls = ap (λ p. link p.0 p.1 (links_of ls)) (link_of-out l)
@@ -37,87 +37,87 @@ pub option_part-some : (p : Part_of_code) → option_part (Some p) ≡ part (out
 option_part-some p = ap (λ q. part q.0 q.1) (part_of-out p)
 
 pub tree-leaf : (t : Token) → tree (e.Leaf t) ≡ leaf t
-unfolding tree link_of series_of part_of braces_of
-tree-leaf t = ap tree (sym (e.rolls-Leaf t)) ∙ fold-roll-Expr Braces Tree (Operator × Tree) (Token × Tree) (Tree × Links) braces_step expr_step link_step part_step series_step (Expr-F.Leaf t)
+unfolding tree link_of operands_of part_of braces_of
+tree-leaf t = ap tree (sym (e.rolls-Leaf t)) ∙ fold-roll-Expr Braces Tree (Operator × Tree) (Tree × Links) (Token × Tree) braces_step expr_step link_step operands_step part_step (Expr-F.Leaf t)
 
-pub tree-indexed : (n o : Token) (s : Series) (c : Token) → tree (e.Indexed (n, o, s, c)) ≡ indexed n o (tree (out-Series s).first) (links_of (out-Series s).more) c
-unfolding tree link_of series_of part_of braces_of
-tree-indexed n o s c = ap tree (sym (e.rolls-Indexed (n, o, s, c))) ∙ fold-roll-Expr Braces Tree (Operator × Tree) (Token × Tree) (Tree × Links) braces_step expr_step link_step part_step series_step (Expr-F.Indexed (n, o, s, c)) ∙ ap (λ q. indexed n o q.0 q.1 c) (series_of-out s)
+pub tree-indexed : (n o : Token) (s : Operands) (c : Token) → tree (e.Indexed (n, o, s, c)) ≡ indexed n o (tree (out-Operands s).first) (links_of (out-Operands s).more) c
+unfolding tree link_of operands_of part_of braces_of
+tree-indexed n o s c = ap tree (sym (e.rolls-Indexed (n, o, s, c))) ∙ fold-roll-Expr Braces Tree (Operator × Tree) (Tree × Links) (Token × Tree) braces_step expr_step link_step operands_step part_step (Expr-F.Indexed (n, o, s, c)) ∙ ap (λ q. indexed n o q.0 q.1 c) (series_of-out s)
 
 pub tree-parens : (o : Token) (x : Expr) (c : Token) → tree (e.Parens (o, x, c)) ≡ parens o (tree x) c
-unfolding tree link_of series_of part_of braces_of
-tree-parens o x c = ap tree (sym (e.rolls-Parens (o, x, c))) ∙ fold-roll-Expr Braces Tree (Operator × Tree) (Token × Tree) (Tree × Links) braces_step expr_step link_step part_step series_step (Expr-F.Parens (o, x, c))
+unfolding tree link_of operands_of part_of braces_of
+tree-parens o x c = ap tree (sym (e.rolls-Parens (o, x, c))) ∙ fold-roll-Expr Braces Tree (Operator × Tree) (Tree × Links) (Token × Tree) braces_step expr_step link_step operands_step part_step (Expr-F.Parens (o, x, c))
 
-pub tree-tuple : (o : Token) (s : Series) (c : Token) → tree (e.Tuple (o, s, c)) ≡ tuple o (tree (out-Series s).first) (links_of (out-Series s).more) c
-unfolding tree link_of series_of part_of braces_of
-tree-tuple o s c = ap tree (sym (e.rolls-Tuple (o, s, c))) ∙ fold-roll-Expr Braces Tree (Operator × Tree) (Token × Tree) (Tree × Links) braces_step expr_step link_step part_step series_step (Expr-F.Tuple (o, s, c)) ∙ ap (λ q. tuple o q.0 q.1 c) (series_of-out s)
+pub tree-tuple : (o : Token) (s : Operands) (c : Token) → tree (e.Tuple (o, s, c)) ≡ tuple o (tree (out-Operands s).first) (links_of (out-Operands s).more) c
+unfolding tree link_of operands_of part_of braces_of
+tree-tuple o s c = ap tree (sym (e.rolls-Tuple (o, s, c))) ∙ fold-roll-Expr Braces Tree (Operator × Tree) (Tree × Links) (Token × Tree) braces_step expr_step link_step operands_step part_step (Expr-F.Tuple (o, s, c)) ∙ ap (λ q. tuple o q.0 q.1 c) (series_of-out s)
 
 pub tree-negated : (n o : Token) (x : Expr) (c : Token) → tree (e.Negated (n, o, x, c)) ≡ negated n o (tree x) c
-unfolding tree link_of series_of part_of braces_of
-tree-negated n o x c = ap tree (sym (e.rolls-Negated (n, o, x, c))) ∙ fold-roll-Expr Braces Tree (Operator × Tree) (Token × Tree) (Tree × Links) braces_step expr_step link_step part_step series_step (Expr-F.Negated (n, o, x, c))
+unfolding tree link_of operands_of part_of braces_of
+tree-negated n o x c = ap tree (sym (e.rolls-Negated (n, o, x, c))) ∙ fold-roll-Expr Braces Tree (Operator × Tree) (Tree × Links) (Token × Tree) braces_step expr_step link_step operands_step part_step (Expr-F.Negated (n, o, x, c))
 
 pub tree-braced : (x : Braces_of_code) → tree (e.Braced x) ≡ braced (braces_of x)
-unfolding tree link_of series_of part_of braces_of
-tree-braced x = ap tree (sym (e.rolls-Braced x)) ∙ fold-roll-Expr Braces Tree (Operator × Tree) (Token × Tree) (Tree × Links) braces_step expr_step link_step part_step series_step (Expr-F.Braced x)
+unfolding tree link_of operands_of part_of braces_of
+tree-braced x = ap tree (sym (e.rolls-Braced x)) ∙ fold-roll-Expr Braces Tree (Operator × Tree) (Tree × Links) (Token × Tree) braces_step expr_step link_step operands_step part_step (Expr-F.Braced x)
 
 pub tree-signed : (s : Token) (x : Expr) → tree (e.Signed (s, x)) ≡ signed s (tree x)
-unfolding tree link_of series_of part_of braces_of
-tree-signed s x = ap tree (sym (e.rolls-Signed (s, x))) ∙ fold-roll-Expr Braces Tree (Operator × Tree) (Token × Tree) (Tree × Links) braces_step expr_step link_step part_step series_step (Expr-F.Signed (s, x))
+unfolding tree link_of operands_of part_of braces_of
+tree-signed s x = ap tree (sym (e.rolls-Signed (s, x))) ∙ fold-roll-Expr Braces Tree (Operator × Tree) (Tree × Links) (Token × Tree) braces_step expr_step link_step operands_step part_step (Expr-F.Signed (s, x))
 
-pub tree-reduced : (r : Token) (y : Braces_of_code) (x : Expr) → tree (e.Reduced (r, y) x) ≡ reduced r (braces_of y) (tree x)
-unfolding tree link_of series_of part_of braces_of
-tree-reduced r y x = ap tree (sym (e.rolls-Reduced (r, y) x)) ∙ fold-roll-Expr Braces Tree (Operator × Tree) (Token × Tree) (Tree × Links) braces_step expr_step link_step part_step series_step (Expr-F.Reduced (r, y) x)
+pub tree-reduced : (r : Token) (y : Braces_of_code) (x : Expr) → tree (e.Reduction (r, y) x) ≡ reduced r (braces_of y) (tree x)
+unfolding tree link_of operands_of part_of braces_of
+tree-reduced r y x = ap tree (sym (e.rolls-Reduction (r, y) x)) ∙ fold-roll-Expr Braces Tree (Operator × Tree) (Tree × Links) (Token × Tree) braces_step expr_step link_step operands_step part_step (Expr-F.Reduction (r, y) x)
 
-pub tree-chain : (n : ℕ) (s : Series) → tree (e.Chain n s) ≡ chain n (tree (out-Series s).first) (links_of (out-Series s).more)
-unfolding tree link_of series_of part_of braces_of
-tree-chain n s = ap tree (sym (e.rolls-Chain n s)) ∙ fold-roll-Expr Braces Tree (Operator × Tree) (Token × Tree) (Tree × Links) braces_step expr_step link_step part_step series_step (Expr-F.Chain n s) ∙ ap (λ q. chain n q.0 q.1) (series_of-out s)
+pub tree-chain : (n : ℕ) (s : Operands) → tree (e.Chain n s) ≡ chain n (tree (out-Operands s).first) (links_of (out-Operands s).more)
+unfolding tree link_of operands_of part_of braces_of
+tree-chain n s = ap tree (sym (e.rolls-Chain n s)) ∙ fold-roll-Expr Braces Tree (Operator × Tree) (Tree × Links) (Token × Tree) braces_step expr_step link_step operands_step part_step (Expr-F.Chain n s) ∙ ap (λ q. chain n q.0 q.1) (series_of-out s)
 
 pub tree-net : (p : Option Token × Token) → tree (e.Net p) ≡ net p.0 p.1
-unfolding tree link_of series_of part_of braces_of
-tree-net p = ap tree (sym (e.rolls-Net p)) ∙ fold-roll-Expr Braces Tree (Operator × Tree) (Token × Tree) (Tree × Links) braces_step expr_step link_step part_step series_step (Expr-F.Net p)
+unfolding tree link_of operands_of part_of braces_of
+tree-net p = ap tree (sym (e.rolls-Net p)) ∙ fold-roll-Expr Braces Tree (Operator × Tree) (Tree × Links) (Token × Tree) braces_step expr_step link_step operands_step part_step (Expr-F.Net p)
 
-choice-alone : (i t : Part_of_code) → tree (e.Choice i t None) ≡ choice (part_of i).0 (part_of i).1 (part_of t).0 (part_of t).1 absent
-unfolding tree link_of series_of part_of braces_of
-choice-alone i t = ap tree (sym (e.rolls-Choice i t None)) ∙ fold-roll-Expr Braces Tree (Operator × Tree) (Token × Tree) (Tree × Links) braces_step expr_step link_step part_step series_step (Expr-F.Choice i t None)
+choice-alone : (i t : Part_of_code) → tree (e.If i t None) ≡ choice (part_of i).0 (part_of i).1 (part_of t).0 (part_of t).1 absent
+unfolding tree link_of operands_of part_of braces_of
+choice-alone i t = ap tree (sym (e.rolls-If i t None)) ∙ fold-roll-Expr Braces Tree (Operator × Tree) (Tree × Links) (Token × Tree) braces_step expr_step link_step operands_step part_step (Expr-F.If i t None)
 
-choice-both : (i t p : Part_of_code) → tree (e.Choice i t (Some p)) ≡ choice (part_of i).0 (part_of i).1 (part_of t).0 (part_of t).1 (option_part (Some p))
-unfolding tree link_of series_of part_of braces_of
-choice-both i t p = ap tree (sym (e.rolls-Choice i t (Some p))) ∙ fold-roll-Expr Braces Tree (Operator × Tree) (Token × Tree) (Tree × Links) braces_step expr_step link_step part_step series_step (Expr-F.Choice i t (Some p))
+choice-both : (i t p : Part_of_code) → tree (e.If i t (Some p)) ≡ choice (part_of i).0 (part_of i).1 (part_of t).0 (part_of t).1 (option_part (Some p))
+unfolding tree link_of operands_of part_of braces_of
+choice-both i t p = ap tree (sym (e.rolls-If i t (Some p))) ∙ fold-roll-Expr Braces Tree (Operator × Tree) (Tree × Links) (Token × Tree) braces_step expr_step link_step operands_step part_step (Expr-F.If i t (Some p))
 
-choice-parts : (i t : Part_of_code) (p : Option Part_of_code) → tree (e.Choice i t p) ≡ choice (part_of i).0 (part_of i).1 (part_of t).0 (part_of t).1 (option_part p)
+choice-parts : (i t : Part_of_code) (p : Option Part_of_code) → tree (e.If i t p) ≡ choice (part_of i).0 (part_of i).1 (part_of t).0 (part_of t).1 (option_part p)
 choice-parts i t None = choice-alone i t
 choice-parts i t (Some p) = choice-both i t p
 
 pub tree-choice : (i t : Part_of_code) (p : Option Part_of_code)
-    → tree (e.Choice i t p) ≡ choice (out-Part i).mark (tree (out-Part i).value) (out-Part t).mark (tree (out-Part t).value) (option_part p)
+    → tree (e.If i t p) ≡ choice (out-Part i).mark (tree (out-Part i).value) (out-Part t).mark (tree (out-Part t).value) (option_part p)
 tree-choice i t p = choice-parts i t p ∙ ap (λ q. choice q.0 q.1 (part_of t).0 (part_of t).1 (option_part p)) (part_of-out i) ∙ ap (λ q. choice (out-Part i).mark (tree (out-Part i).value) q.0 q.1 (option_part p)) (part_of-out t)
 
 empty-alone : (o c : Token) → braces_of (b.Empty o None c) ≡ empty o absent c
-unfolding tree link_of series_of part_of braces_of
-empty-alone o c = ap braces_of (sym (b.rolls-Empty o None c)) ∙ fold-roll-Braces Braces Tree (Operator × Tree) (Token × Tree) (Tree × Links) braces_step expr_step link_step part_step series_step (Braces-F.Empty o None c)
+unfolding tree link_of operands_of part_of braces_of
+empty-alone o c = ap braces_of (sym (b.rolls-Empty o None c)) ∙ fold-roll-Braces Braces Tree (Operator × Tree) (Tree × Links) (Token × Tree) braces_step expr_step link_step operands_step part_step (Braces-F.Empty o None c)
 
 empty-with : (o : Token) (p : Part_of_code) (c : Token) → braces_of (b.Empty o (Some p) c) ≡ empty o (option_part (Some p)) c
-unfolding tree link_of series_of part_of braces_of
-empty-with o p c = ap braces_of (sym (b.rolls-Empty o (Some p) c)) ∙ fold-roll-Braces Braces Tree (Operator × Tree) (Token × Tree) (Tree × Links) braces_step expr_step link_step part_step series_step (Braces-F.Empty o (Some p) c)
+unfolding tree link_of operands_of part_of braces_of
+empty-with o p c = ap braces_of (sym (b.rolls-Empty o (Some p) c)) ∙ fold-roll-Braces Braces Tree (Operator × Tree) (Tree × Links) (Token × Tree) braces_step expr_step link_step operands_step part_step (Braces-F.Empty o (Some p) c)
 
 pub braces_of-empty : (o : Token) (p : Option Part_of_code) (c : Token) → braces_of (b.Empty o p c) ≡ empty o (option_part p) c
 braces_of-empty o None c = empty-alone o c
 braces_of-empty o (Some p) c = empty-with o p c
 
-filled-alone : (o : Token) (s : Series) (c : Token) → braces_of (b.Filled o s None c) ≡ filled o (series_of s).0 (series_of s).1 absent c
-unfolding tree link_of series_of part_of braces_of
-filled-alone o s c = ap braces_of (sym (b.rolls-Filled o s None c)) ∙ fold-roll-Braces Braces Tree (Operator × Tree) (Token × Tree) (Tree × Links) braces_step expr_step link_step part_step series_step (Braces-F.Filled o s None c)
+filled-alone : (o : Token) (s : Operands) (c : Token) → braces_of (b.Filled o s None c) ≡ filled o (operands_of s).0 (operands_of s).1 absent c
+unfolding tree link_of operands_of part_of braces_of
+filled-alone o s c = ap braces_of (sym (b.rolls-Filled o s None c)) ∙ fold-roll-Braces Braces Tree (Operator × Tree) (Tree × Links) (Token × Tree) braces_step expr_step link_step operands_step part_step (Braces-F.Filled o s None c)
 
-filled-with : (o : Token) (s : Series) (p : Part_of_code) (c : Token) → braces_of (b.Filled o s (Some p) c) ≡ filled o (series_of s).0 (series_of s).1 (option_part (Some p)) c
-unfolding tree link_of series_of part_of braces_of
-filled-with o s p c = ap braces_of (sym (b.rolls-Filled o s (Some p) c)) ∙ fold-roll-Braces Braces Tree (Operator × Tree) (Token × Tree) (Tree × Links) braces_step expr_step link_step part_step series_step (Braces-F.Filled o s (Some p) c)
+filled-with : (o : Token) (s : Operands) (p : Part_of_code) (c : Token) → braces_of (b.Filled o s (Some p) c) ≡ filled o (operands_of s).0 (operands_of s).1 (option_part (Some p)) c
+unfolding tree link_of operands_of part_of braces_of
+filled-with o s p c = ap braces_of (sym (b.rolls-Filled o s (Some p) c)) ∙ fold-roll-Braces Braces Tree (Operator × Tree) (Tree × Links) (Token × Tree) braces_step expr_step link_step operands_step part_step (Braces-F.Filled o s (Some p) c)
 
-filled-parts : (o : Token) (s : Series) (p : Option Part_of_code) (c : Token) → braces_of (b.Filled o s p c) ≡ filled o (series_of s).0 (series_of s).1 (option_part p) c
+filled-parts : (o : Token) (s : Operands) (p : Option Part_of_code) (c : Token) → braces_of (b.Filled o s p c) ≡ filled o (operands_of s).0 (operands_of s).1 (option_part p) c
 filled-parts o s None c = filled-alone o s c
 filled-parts o s (Some p) c = filled-with o s p c
 
-pub braces_of-filled : (o : Token) (s : Series) (p : Option Part_of_code) (c : Token)
-    → braces_of (b.Filled o s p c) ≡ filled o (tree (out-Series s).first) (links_of (out-Series s).more) (option_part p) c
+pub braces_of-filled : (o : Token) (s : Operands) (p : Option Part_of_code) (c : Token)
+    → braces_of (b.Filled o s p c) ≡ filled o (tree (out-Operands s).first) (links_of (out-Operands s).more) (option_part p) c
 braces_of-filled o s p c = filled-parts o s p c ∙ ap (λ q. filled o q.0 q.1 (option_part p) c) (series_of-out s)
 
 -- for each function that builds or reads a tree

@@ -40,17 +40,17 @@ keys =
     ∷ (codes "exists", roles.LeftOut) ∷ (codes "forall", roles.LeftOut) ∷ (codes "Infinity", roles.LeftOut) ∷ (codes "less", roles.LeftOut)
     ∷ (codes "prod", roles.LeftOut) ∷ (codes "setof", roles.LeftOut) ∷ []
 
-abbrev pub found_in : List (List ℕ × Role) → List ℕ → Role
-found_in [] text = roles.Unknown
-found_in (word ∷ others) text = if bytes_eq word.0 text then word.1 else found_in others text
+abbrev pub role_in : List (List ℕ × Role) → List ℕ → Role
+role_in [] text = roles.Unknown
+role_in (word ∷ others) text = if bytes_eq word.0 text then word.1 else role_in others text
 
 -- the role of a token of this kind and text
 abbrev pub role_as : Kind → List ℕ → Role
 role_as kinds.Name text = roles.Name
-role_as kinds.Key text = found_in keys text
+role_as kinds.Key text = role_in keys text
 role_as kinds.Num text = roles.Number
 role_as kinds.Str text = roles.Text
-role_as kinds.Mark text = found_in marks text
+role_as kinds.Mark text = role_in marks text
 role_as kinds.Dot text = roles.Unknown
 
 unfoldable pub role_of : Token → Role

@@ -12,11 +12,11 @@ pub enum Expr<'s> {
     /// `3`, `'NE'`, `i`
     Leaf(Token<'s>),
     /// `cost[i, j]`: the name, `[`, the subscripts, `]`
-    Indexed(Boxed<(Token<'s>, Token<'s>, Series<'s>, Token<'s>)>),
+    Indexed(Boxed<(Token<'s>, Token<'s>, Operands<'s>, Token<'s>)>),
     /// `(a + b)`: `(`, the expression, `)`
     Parens(Boxed<(Token<'s>, Expr<'s>, Token<'s>)>),
     /// `(i, j)`: `(`, the components, `)`
-    Tuple(Boxed<(Token<'s>, Series<'s>, Token<'s>)>),
+    Tuple(Boxed<(Token<'s>, Operands<'s>, Token<'s>)>),
     /// `not (a < b)`: `not`, `(`, the condition, `)`
     Negated(Boxed<(Token<'s>, Token<'s>, Expr<'s>, Token<'s>)>),
     /// `{i in A: a[i] > 0}` as a set
@@ -24,12 +24,12 @@ pub enum Expr<'s> {
     /// `- a`: the sign and its operand
     Signed(Boxed<(Sign<'s>, Expr<'s>)>),
     /// `sum {i in A} a[i]`: the keyword with the indexing, and the summand
-    Reduced(Boxed<(Reducer<'s>, Braces<'s>)>, Boxed<Expr<'s>>),
+    Reduction(Boxed<(Reducer<'s>, Braces<'s>)>, Boxed<Expr<'s>>),
     /// `a + b - c`: the maximum precedence of an operand (see [`precedence`](crate::precedence)),
     /// and the operands with their operators
-    Chain(u8, Boxed<Series<'s>>),
+    Chain(u8, Boxed<Operands<'s>>),
     /// `if a then b else c`: `if` and the condition, `then` and its branch, `else` and its branch
-    Choice(Boxed<Part<'s>>, Boxed<Part<'s>>, Option<Boxed<Part<'s>>>),
+    If(Boxed<Part<'s>>, Boxed<Part<'s>>, Option<Boxed<Part<'s>>>),
     /// `net_in` in a node's condition, `- net_in` as its first term
     Net(Boxed<(Option<Sign<'s>>, Token<'s>)>),
 }
@@ -38,7 +38,7 @@ pub enum Expr<'s> {
 /// commas or operators before them.
 #[derive(Drop)]
 #[cycle(tree)]
-pub struct Series<'s> {
+pub struct Operands<'s> {
     pub first: Expr<'s>,
     pub more: Items<Link<'s>>,
 }
@@ -66,5 +66,5 @@ pub enum Braces<'s> {
     /// `{}`, and `{: a > b}` with only a condition
     Empty(Token<'s>, Option<Boxed<Part<'s>>>, Token<'s>),
     /// `{i in A, j in B: i > j}`: `{`, the items, the condition, `}`
-    Filled(Token<'s>, Series<'s>, Option<Boxed<Part<'s>>>, Token<'s>),
+    Filled(Token<'s>, Operands<'s>, Option<Boxed<Part<'s>>>, Token<'s>),
 }

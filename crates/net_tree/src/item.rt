@@ -49,8 +49,8 @@ pub fn sides_of<'a, 's>(item: &'a Expr<'s>) -> Option<(&'a Expr<'s>, &'a Expr<'s
             }
         }
         Expr::Leaf(_) | Expr::Indexed(_) | Expr::Parens(_) | Expr::Tuple(_) => None,
-        Expr::Negated(_) | Expr::Braced(_) | Expr::Signed(_) | Expr::Reduced(_, _) => None,
-        Expr::Choice(_, _, _) | Expr::Net(_) => None,
+        Expr::Negated(_) | Expr::Braced(_) | Expr::Signed(_) | Expr::Reduction(_, _) => None,
+        Expr::If(_, _, _) | Expr::Net(_) => None,
     }
 }
 
@@ -71,7 +71,7 @@ pub fn single_name<'a, 's>(component: &'a Expr<'s>) -> Option<&'a Token<'s>>
     match component {
         Expr::Leaf(token) => if_name(token),
         Expr::Indexed(_) | Expr::Parens(_) | Expr::Tuple(_) | Expr::Negated(_) => None,
-        Expr::Braced(_) | Expr::Signed(_) | Expr::Reduced(_, _) | Expr::Chain(_, _) => None,
-        Expr::Choice(_, _, _) | Expr::Net(_) => None,
+        Expr::Braced(_) | Expr::Signed(_) | Expr::Reduction(_, _) | Expr::Chain(_, _) => None,
+        Expr::If(_, _, _) | Expr::Net(_) => None,
     }
 }

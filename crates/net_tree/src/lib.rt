@@ -10,7 +10,7 @@ mod role;
 mod span;
 
 pub use declaration::{Body, Decl, Model, NetCond, Phrase};
-pub use expr::{Braces, Expr, Link, Part, Series};
+pub use expr::{Braces, Expr, Link, Operands, Part};
 pub use item::{sides_of, single_name};
 pub use operator::{BinOp, Operator, Reducer, Reduction, Sign};
 pub use role::{Begins, Declares, Relation, Role, role_of};

@@ -1,7 +1,7 @@
 //! The grammatical roles of tokens.
 
 ghost use Rattle.std.specs.Prelude.{◌≡◌, map};
-ghost use Rattle.net_tree.specs.Role.{marks, keys, found_in, role_of};
+ghost use Rattle.net_tree.specs.Role.{marks, keys, role_in, role_of};
 
 use crate::precedence;
 use net_lex::{Kind, Token};
@@ -188,8 +188,8 @@ fn keys() -> &'static [(&'static [u8], Role)]
 }
 
 /// Looks up the role of a text in a table. Returns `Unknown` if it is not there.
-fn found_in(table: &[(&'static [u8], Role)], text: &[u8]) -> Role
-    ensures { result ≡ found_in (map (λ word. (word.0.now, word.1)) table.now) text.now }
+fn role_in(table: &[(&'static [u8], Role)], text: &[u8]) -> Role
+    ensures { result ≡ role_in (map (λ word. (word.0.now, word.1)) table.now) text.now }
 {
     for (word, role) in table {
         if *word == text {
@@ -208,8 +208,8 @@ pub fn role_of(token: &Token<'_>) -> Role
         Kind::Name => Role::Name,
         Kind::Num => Role::Number,
         Kind::Str => Role::Text,
-        Kind::Key => found_in(keys(), token.text.as_str().as_bytes()),
-        Kind::Mark => found_in(marks(), token.text.as_str().as_bytes()),
+        Kind::Key => role_in(keys(), token.text.as_str().as_bytes()),
+        Kind::Mark => role_in(marks(), token.text.as_str().as_bytes()),
         Kind::Dot => Role::Unknown,
     }
 }

@@ -25,9 +25,9 @@ fn start_of(expr: &Expr<'_>) -> usize
         Expr::Negated(parts) => parts.get().0.span.start,
         Expr::Braced(braces) => opening_of(braces.get()),
         Expr::Signed(parts) => parts.get().0.token().span.start,
-        Expr::Reduced(parts, _) => parts.get().0.token().span.start,
+        Expr::Reduction(parts, _) => parts.get().0.token().span.start,
         Expr::Chain(_, operands) => start_of(&operands.get().first),
-        Expr::Choice(condition, _, _) => condition.get().mark.span.start,
+        Expr::If(condition, _, _) => condition.get().mark.span.start,
         Expr::Net(parts) => net_start(&parts.get().0, &parts.get().1),
     }
 }
@@ -75,12 +75,12 @@ fn end_of(expr: &Expr<'_>) -> usize
         Expr::Negated(parts) => parts.get().3.span.end,
         Expr::Braced(braces) => closing_of(braces.get()),
         Expr::Signed(parts) => end_of(&parts.get().1),
-        Expr::Reduced(_, body) => end_of(body.get()),
+        Expr::Reduction(_, body) => end_of(body.get()),
         Expr::Chain(_, operands) => {
             let series = operands.get();
             end_of(last_of(&series.first, series.more.as_slice()))
         }
-        Expr::Choice(_, first, otherwise) => end_of(later_of(&first.get().value, otherwise)),
+        Expr::If(_, first, otherwise) => end_of(later_of(&first.get().value, otherwise)),
         Expr::Net(parts) => parts.get().1.span.end,
     }
 }

@@ -5,12 +5,12 @@ use Rattle.std.proofs.Common.{◌≡◌, ◌*◌, ◌^◌, ◌∷◌, ◌++◌, 
 use Rattle.std.proofs.lemmas.Grind.{common_steps}
 use Rattle.std.proofs.lemmas.Result.{err_from_is_err_and}
 use Rattle.std.specs.Vec.Iter.{into_iter_items}
-use Rattle.net_tree.specs.declared.expr.Series.{out-Series}
+use Rattle.net_tree.specs.declared.expr.Operands.{out-Operands}
 use Rattle.net_tree.specs.View.{tree, links_of, option_part}
 use Rattle.net_tree.proofs.Views.{views}
 use Rattle.net_tree.specs.Spans.{span_of}
 use Rattle.net_fault.specs.Outcomes.{and_then}
-use Rattle.net_expr.specs.Rows.{kept, fitted, fitted_alone, reduce, reduced_to, keys}
+use Rattle.net_expr.specs.Rows.{filter_rows, match_component, match_whole, reduce, reduced_to, keys}
 use Rattle.net_expr.specs.Operators.{tuple_of}
 use Rattle.net_expr.specs.Subscripts.{with_value}
 use Rattle.net_expr.specs.Worlds.{bound, name_at}
@@ -46,17 +46,17 @@ pub eval::evaluate-returns-in-Signed : goal.eval::evaluate-returns-in-Signed
 eval::evaluate-returns-in-Signed t c =
     answers_by _ _ _ (value-signed c.args.env.now c.args.scope.now (tree c.args.expr.now) _ _ (in_signed c.args.expr.now c.in-Signed.parts c.get-in-Signed.result.now c.in-Signed.is c.get-in-Signed.ensures)) c.signed.ensures
 
-pub eval::evaluate-returns-in-Reduced : goal.eval::evaluate-returns-in-Reduced
-eval::evaluate-returns-in-Reduced t c =
-    answers_by _ _ _ (value-reduced c.args.env.now c.args.scope.now (tree c.args.expr.now) _ _ _ (in_reduced c.args.expr.now c.in-Reduced.front c.get-in-Reduced.result.now c.in-Reduced.body c.get-in-Reduced-2.result.now c.in-Reduced.is c.get-in-Reduced.ensures c.get-in-Reduced-2.ensures)) c.reduced.ensures
+pub eval::evaluate-returns-in-Reduction : goal.eval::evaluate-returns-in-Reduction
+eval::evaluate-returns-in-Reduction t c =
+    answers_by _ _ _ (value-reduced c.args.env.now c.args.scope.now (tree c.args.expr.now) _ _ _ (in_reduced c.args.expr.now c.in-Reduction.front c.get-in-Reduction.result.now c.in-Reduction.body c.get-in-Reduction-2.result.now c.in-Reduction.is c.get-in-Reduction.ensures c.get-in-Reduction-2.ensures)) c.reduced.ensures
 
 pub eval::evaluate-returns-in-Chain : goal.eval::evaluate-returns-in-Chain
 eval::evaluate-returns-in-Chain t c =
     answers_by _ _ _ (value-chain c.args.env.now c.args.scope.now (tree c.args.expr.now) _ _ _ (in_chain c.args.expr.now _ c.in-Chain.operands c.get-in-Chain.result.now _ c.in-Chain.is c.get-in-Chain.ensures refl)) c.chain.ensures
 
-pub eval::evaluate-returns-in-Choice : goal.eval::evaluate-returns-in-Choice
-eval::evaluate-returns-in-Choice t c =
-    answers_by _ _ _ (value-choice c.args.env.now c.args.scope.now (tree c.args.expr.now) _ _ _ _ _ (in_choice c.args.expr.now c.in-Choice.condition c.in-Choice.branch c.get-in-Choice.result.now c.get-in-Choice-2.result.now c.in-Choice.otherwise c.in-Choice.is c.get-in-Choice.ensures c.get-in-Choice-2.ensures)) c.choice.ensures
+pub eval::evaluate-returns-in-If : goal.eval::evaluate-returns-in-If
+eval::evaluate-returns-in-If t c =
+    answers_by _ _ _ (value-choice c.args.env.now c.args.scope.now (tree c.args.expr.now) _ _ _ _ _ (in_choice c.args.expr.now c.in-If.condition c.in-If.branch c.get-in-If.result.now c.get-in-If-2.result.now c.in-If.otherwise c.in-If.is c.get-in-If.ensures c.get-in-If-2.ensures)) c.choice.ensures
 
 pub fitting::left_place-returns-in-Tuple : goal.fitting::left_place-returns-in-Tuple
 fitting::left_place-returns-in-Tuple t c =
@@ -74,7 +74,7 @@ fitting::left_place-returns-in-Braced t c =
 
 pub keys::index-returns-in-Filled : goal.keys::index-returns-in-Filled
 keys::index-returns-in-Filled t c =
-    let first = (out-Series c.in-Filled.series).first in
+    let first = (out-Operands c.in-Filled.series).first in
     answers_by _ _ _
     (ap (index c.args.env.now c.args.scope.now) (in_filled c.args.braces.now c.in-Filled.open c.in-Filled.series c.in-Filled.condition c.in-Filled.close c.as_slice.result.now c.in-Filled.is c.as_slice.ensures)
     ∙ index-filled c.args.env.now c.args.scope.now c.in-Filled.open (tree first) (links_of c.as_slice.result.now) (option_part c.in-Filled.condition) c.in-Filled.close
@@ -222,7 +222,7 @@ keys::keep-loop-row-preserved t c =
     record {
       same =
           sym (goes _ _ _ _
-          (kept-next (λ q. holds c.args.at c.args.env.now q (option_part c.args.condition.now)) (into_iter_items c.loop-row.row-iterator) (into_iter_items c.next.new.self) c.in-Some.row c.loop-row.kept.items _ c.in-Some.ensures.steps.0 c.loop-row.invariant.same)
+          (kept-next (λ q. holds c.args.at c.args.env.now q (option_part c.args.condition.now)) (into_iter_items c.loop-row.row-iterator) (into_iter_items c.next.new.self) c.in-Some.row c.loop-row.filter_rows.items _ c.in-Some.ensures.steps.0 c.loop-row.invariant.same)
           (c.in_ok-keep_if.ensures _ c.holds-holds.ensures));
       counted = omega (arith, left, more, counted);
     }
@@ -236,7 +236,7 @@ keys::keep-returns-in_err-keep_if t c =
     rw y.1 (rw y.2
     (stops _ (λ left. Ok (keys c.args.width left)) _ c.in_err-keep_if.field-0.0 refl
     (stops _ _ _ c.in_err-keep_if.field-0.0
-    (kept-next (λ q. holds c.args.at c.args.env.now q (option_part c.args.condition.now)) (into_iter_items c.loop-row.row-iterator) (into_iter_items c.next.new.self) c.in-Some.row c.loop-row.kept.items _ c.in-Some.ensures.steps.0 c.loop-row.invariant.same)
+    (kept-next (λ q. holds c.args.at c.args.env.now q (option_part c.args.condition.now)) (into_iter_items c.loop-row.row-iterator) (into_iter_items c.next.new.self) c.in-Some.row c.loop-row.filter_rows.items _ c.in-Some.ensures.steps.0 c.loop-row.invariant.same)
     (leaves_answers _ _ c.in_err-keep_if.field-0.0 _ refl (c.in_err-keep_if.ensures _ c.holds-holds.ensures)))))
 
 pub eval::gather-returns-in_err-so_far : goal.eval::gather-returns-in_err-so_far
@@ -261,12 +261,12 @@ eval::gather-loop-row-preserved t c =
 pub fitting::components-returns-in_ok-here-in-len1-up : goal.fitting::components-returns-in_ok-here-in-len1-up
 fitting::components-returns-in_ok-here-in-len1-up t c =
     answers_by _ _ _
-    (ap (λ ms. component_places (span_of (tree c.args.whole.now)) c.args.env.now (tree (out-Series c.args.series.now).first) (links_of (out-Series c.args.series.now).more) ms c.args.place.now)
+    (ap (λ ms. component_places (span_of (tree c.args.whole.now)) c.args.env.now (tree (out-Operands c.args.series.now).first) (links_of (out-Operands c.args.series.now).more) ms c.args.place.now)
     (sym c.as_slice.ensures.members ∙ split_first c.as_slice.result.now c.member-item.result c.in-len1-up.len_at_least c.member-item.is)
     ∙ ap
-    (component_places (span_of (tree c.args.whole.now)) c.args.env.now (tree (out-Series c.args.series.now).first) (links_of (out-Series c.args.series.now).more) (c.member-item.result ∷ take (length c.as_slice.result.now - 1) (drop 1 c.as_slice.result.now)))
+    (component_places (span_of (tree c.args.whole.now)) c.args.env.now (tree (out-Operands c.args.series.now).first) (links_of (out-Operands c.args.series.now).more) (c.member-item.result ∷ take (length c.as_slice.result.now - 1) (drop 1 c.as_slice.result.now)))
     (sym c.in_ok-here-in-len1-up.ensures)
-    ∙ ap (λ (m : List Link). component_places (span_of (tree c.args.whole.now)) c.args.env.now (tree (out-Series c.args.series.now).first) (links_of m) (c.member-item.result ∷ take (length c.as_slice.result.now - 1) (drop 1 c.as_slice.result.now)) c.in_ok-here-in-len1-up.here) (sym c.as_slice-in-len1-up.ensures))
+    ∙ ap (λ (m : List Link). component_places (span_of (tree c.args.whole.now)) c.args.env.now (tree (out-Operands c.args.series.now).first) (links_of m) (c.member-item.result ∷ take (length c.as_slice.result.now - 1) (drop 1 c.as_slice.result.now)) c.in_ok-here-in-len1-up.here) (sym c.as_slice-in-len1-up.ensures))
     c.fit_all.ensures
 
 pub eval::is_met-returns : goal.eval::is_met-returns
@@ -286,13 +286,13 @@ eval::chain-returns-then-begins_range t c =
 pub fitting::alone-returns-in-None : goal.fitting::alone-returns-in-None
 fitting::alone-returns-in-None t c =
     answers_by _ _ _
-    (ap (λ o. fitted_alone (span_of (tree c.args.item.now)) o (value c.args.env.now c.args.place.now.scope (tree c.args.left.now)) c.args.tuple.now c.args.place.now) (sym c.in-None.ensures))
+    (ap (λ o. match_whole (span_of (tree c.args.item.now)) o (value c.args.env.now c.args.place.now.scope (tree c.args.left.now)) c.args.tuple.now c.args.place.now) (sym c.in-None.ensures))
     (c.matches_as_tuple.ensures _ c.evaluate-value.ensures)
 
 pub fitting::fit-returns-in-None : goal.fitting::fit-returns-in-None
 fitting::fit-returns-in-None t c =
     answers_by _ _ _
-    (ap (λ o. fitted (span_of (tree c.args.whole.now)) o (value c.args.env.now c.args.place.scope (tree c.args.component.now)) c.args.member.now c.args.place) (sym c.in-None.ensures))
+    (ap (λ o. match_component (span_of (tree c.args.whole.now)) o (value c.args.env.now c.args.place.scope (tree c.args.component.now)) c.args.member.now c.args.place) (sym c.in-None.ensures))
     (c.matches_member.ensures _ c.evaluate-value.ensures)
 
 pub keys::choose-returns : goal.keys::choose-returns
@@ -340,13 +340,13 @@ pub keys::keep-loop-row-init : goal.keys::keep-loop-row-init
 keys::keep-loop-row-init t c =
     let begins = c.into_iter-row-iterator.ensures.into_iter_gives.0 ∙ c.into_vec-row-items.ensures in
     record {
-      same = ap (λ rows. kept (λ q. holds c.args.at c.args.env.now q (option_part c.args.condition.now)) rows c.new-kept.result.items) begins ∙ ap (kept (λ q. holds c.args.at c.args.env.now q (option_part c.args.condition.now)) c.args.found) c.new-kept.ensures.items;
+      same = ap (λ rows. filter_rows (λ q. holds c.args.at c.args.env.now q (option_part c.args.condition.now)) rows c.new-kept.result.items) begins ∙ ap (filter_rows (λ q. holds c.args.at c.args.env.now q (option_part c.args.condition.now)) c.args.found) c.new-kept.ensures.items;
       counted = c.into_iter-row-iterator.ensures.into_iter_gives.1 ∙ c.into_vec-row-items.result.ok.0 ∙ ap length (sym c.into_iter-row-iterator.ensures.into_iter_gives.0);
     }
 
 pub keys::keep-returns : goal.keys::keep-returns
 keys::keep-returns t c =
-    let all = kept-all (λ q. holds c.args.at c.args.env.now q (option_part c.args.condition.now)) (into_iter_items c.loop-row.row-iterator) c.loop-row.kept.items _ (sym c.loop-row.invariant.counted ∙ c.in-None.ensures.steps.0) c.loop-row.invariant.same in
+    let all = kept-all (λ q. holds c.args.at c.args.env.now q (option_part c.args.condition.now)) (into_iter_items c.loop-row.row-iterator) c.loop-row.filter_rows.items _ (sym c.loop-row.invariant.counted ∙ c.in-None.ensures.steps.0) c.loop-row.invariant.same in
     search (rules, all)
 
 pub keys::select-returns : goal.keys::select-returns
@@ -409,8 +409,8 @@ eval::evaluate-returns-in-Net t c = grind (arith, views)
 pub eval::other_branch-returns-in-Some : goal.eval::other_branch-returns-in-Some
 eval::other_branch-returns-in-Some t c = grind (arith, views)
 
-pub fitting::left_place-returns-in-Choice : goal.fitting::left_place-returns-in-Choice
-fitting::left_place-returns-in-Choice t c = grind (arith, views)
+pub fitting::left_place-returns-in-If : goal.fitting::left_place-returns-in-If
+fitting::left_place-returns-in-If t c = grind (arith, views)
 
 pub fitting::places-returns-in-empty : goal.fitting::places-returns-in-empty
 fitting::places-returns-in-empty t c = grind (arith, common_steps)
@@ -444,8 +444,8 @@ pub eval::subscripted-returns : goal.eval::subscripted-returns
 eval::subscripted-returns t c =
     answers_by _ _ _
     (goes _ _ _ _
-    (sym (and_then-assoc (and_then (value c.args.env.now c.args.scope.now (tree (out-Series c.args.subscripts.now).first)) (λ v. values c.args.env.now c.args.scope.now (links_of (out-Series c.args.subscripts.now).more) (v ∷ []))) (tuple_of (span_of (tree c.args.whole.now))) (name_at (span_of (tree c.args.whole.now)) c.args.env.now c.args.name.now.text (bound c.args.scope.now c.args.name.now.text))))
-    (ap (λ (m : List Link). and_then (and_then (value c.args.env.now c.args.scope.now (tree (out-Series c.args.subscripts.now).first)) (λ v. values c.args.env.now c.args.scope.now (links_of m) (v ∷ []))) (tuple_of (span_of (tree c.args.whole.now)))) (sym c.as_slice.ensures)
+    (sym (and_then-assoc (and_then (value c.args.env.now c.args.scope.now (tree (out-Operands c.args.subscripts.now).first)) (λ v. values c.args.env.now c.args.scope.now (links_of (out-Operands c.args.subscripts.now).more) (v ∷ []))) (tuple_of (span_of (tree c.args.whole.now))) (name_at (span_of (tree c.args.whole.now)) c.args.env.now c.args.name.now.text (bound c.args.scope.now c.args.name.now.text))))
+    (ap (λ (m : List Link). and_then (and_then (value c.args.env.now c.args.scope.now (tree (out-Operands c.args.subscripts.now).first)) (λ v. values c.args.env.now c.args.scope.now (links_of m) (v ∷ []))) (tuple_of (span_of (tree c.args.whole.now)))) (sym c.as_slice.ensures)
     ∙ c.in_ok-key.ensures)
     ∙ ap (λ at. name_at at c.args.env.now c.args.name.now.text (bound c.args.scope.now c.args.name.now.text) c.in_ok-key.key) (sym c.span_of.ensures))
     c.name_at.ensures

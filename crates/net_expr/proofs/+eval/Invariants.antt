@@ -3,10 +3,10 @@ use Rattle.std.specs.Vec.Iter.{into_iter_items, into_iter_len}
 use Rattle.net_tree.specs.View.{tree, links_of, braces_of, option_part}
 use Rattle.net_tree.specs.Weights.{weight, weights, braces_weight, part_weight}
 use Rattle.net_tree.specs.Spans.{span_of}
-use Rattle.net_tree.specs.declared.expr.Series.{out-Series}
+use Rattle.net_tree.specs.declared.expr.Operands.{out-Operands}
 use Rattle.net_expr.specs.Frames.{still, steps_still, weight_of}
 use Rattle.net_fault.specs.Outcomes.{and_then}
-use Rattle.net_expr.specs.Rows.{kept, gathered_over}
+use Rattle.net_expr.specs.Rows.{filter_rows, gathered_over}
 use Rattle.net_expr.specs.Operators.{tuple_of}
 use Rattle.net_expr.specs.Values as values
 use Rattle.net_expr.proofs.Subscripting.{rest}
@@ -17,10 +17,10 @@ abbrev pub decreases-eval::evaluate : goal.decreases-eval::evaluate
 decreases-eval::evaluate l = 12 * weight (tree l.expr.now)
 
 abbrev pub decreases-eval::subscripted : goal.decreases-eval::subscripted
-decreases-eval::subscripted l = 12 * (weight (tree (out-Series l.subscripts.now).first) + weights (links_of (out-Series l.subscripts.now).more)) + 3
+decreases-eval::subscripted l = 12 * (weight (tree (out-Operands l.subscripts.now).first) + weights (links_of (out-Operands l.subscripts.now).more)) + 3
 
 abbrev pub decreases-eval::tupled : goal.decreases-eval::tupled
-decreases-eval::tupled l = 12 * (weight (tree (out-Series l.components.now).first) + weights (links_of (out-Series l.components.now).more)) + 3
+decreases-eval::tupled l = 12 * (weight (tree (out-Operands l.components.now).first) + weights (links_of (out-Operands l.components.now).more)) + 3
 
 abbrev pub decreases-subscripts::key_of : goal.decreases-subscripts::key_of
 decreases-subscripts::key_of l = 12 * (weight (tree l.first.now) + weights (links_of l.more.now)) + 2
@@ -44,7 +44,7 @@ abbrev pub decreases-eval::reduced : goal.decreases-eval::reduced
 decreases-eval::reduced l = 12 * (braces_weight (braces_of l.front.now.1) + weight (tree l.body.now)) + 3
 
 abbrev pub decreases-eval::chain : goal.decreases-eval::chain
-decreases-eval::chain l = 12 * (weight (tree (out-Series l.operands.now).first) + weights (links_of (out-Series l.operands.now).more)) + 3
+decreases-eval::chain l = 12 * (weight (tree (out-Operands l.operands.now).first) + weights (links_of (out-Operands l.operands.now).more)) + 3
 
 abbrev pub decreases-eval::choice : goal.decreases-eval::choice
 decreases-eval::choice l = 12 * (weight (tree l.condition.now) + weight (tree l.branches.0.now) + part_weight (option_part l.branches.1.now)) + 2
@@ -104,7 +104,7 @@ abbrev pub decreases-fitting::alone : goal.decreases-fitting::alone
 decreases-fitting::alone l = 12 * weight (tree l.left.now) + 1
 
 abbrev pub decreases-fitting::components : goal.decreases-fitting::components
-decreases-fitting::components l = 12 * (weight (tree (out-Series l.series.now).first) + weights (links_of (out-Series l.series.now).more)) + 3
+decreases-fitting::components l = 12 * (weight (tree (out-Operands l.series.now).first) + weights (links_of (out-Operands l.series.now).more)) + 3
 
 abbrev pub decreases-fitting::places : goal.decreases-fitting::places
 decreases-fitting::places l = 12 * weights (links_of l.links.now)
@@ -143,8 +143,8 @@ decreases-keys::walk-tuples l = steps_still l.fn.at l.fn.env l.top + steps_below
 
 abbrev pub invariant-keys::keep-loop-row : goal.invariant-keys::keep-loop-row
 invariant-keys::keep-loop-row l = record {
-  same : kept (λ q. values.holds l.fn.at l.fn.env q (option_part l.fn.condition)) (into_iter_items l.row-iterator) l.kept.items
-      ≡ kept (λ q. values.holds l.fn.at l.fn.env q (option_part l.fn.condition)) l.fn.found [];
+  same : filter_rows (λ q. values.holds l.fn.at l.fn.env q (option_part l.fn.condition)) (into_iter_items l.row-iterator) l.filter_rows.items
+      ≡ filter_rows (λ q. values.holds l.fn.at l.fn.env q (option_part l.fn.condition)) l.fn.found [];
   counted : into_iter_len l.row-iterator ≡ length (into_iter_items l.row-iterator);
 }
 

@@ -1,6 +1,6 @@
 use Rattle.std.proofs.Common.{◌≡◌, ◌≤◌, ◌+◌, ◌*◌, ◌-◌, length}
 use Rattle.net_tree.specs.View.{links_of}
-use Rattle.net_model.specs.Expressions.{links, climb, unary, inside}
+use Rattle.net_model.specs.Expressions.{links, climb, unary, nested}
 use Rattle.net_model.specs.Chains.{with_links}
 use Rattle.net_model.proofs.+parser.Given as goal
 
@@ -73,8 +73,8 @@ decreases-chains::links_from l = 100 * l.depth + 4 * l.max_precedence + 3
 abbrev pub invariant-chains::links_from-loop-alloc : goal.invariant-chains::links_from-loop-alloc
 invariant-chains::links_from-loop-alloc l = record {
   read :
-      with_links (links_of l.found.items) (links (length l.fn.tokens - length l.found.items) l.joining (length l.found.items) (climb l.max_precedence (unary (inside l.depth))) l.tokens)
-      ≡ links (length l.fn.tokens) l.joining 0 (climb l.max_precedence (unary (inside l.depth))) l.fn.tokens;
+      with_links (links_of l.found.items) (links (length l.fn.tokens - length l.found.items) l.joining (length l.found.items) (climb l.max_precedence (unary (nested l.depth))) l.tokens)
+      ≡ links (length l.fn.tokens) l.joining 0 (climb l.max_precedence (unary (nested l.depth))) l.fn.tokens;
   room : length l.found.items + length l.tokens ≤ length l.fn.tokens;
 }
 

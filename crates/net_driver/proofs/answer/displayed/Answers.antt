@@ -1,7 +1,7 @@
 use Rattle.std.proofs.Common.{rules, length, ap, sym, subst, ◌∙◌}
 use Rattle.net_normal.specs.Limits.{IsSized, total_cost_limit}
 use Rattle.net_check.proofs.Sums.{plain_128}
-use Rattle.net_driver.specs.Linked.{written}
+use Rattle.net_driver.specs.MappedNetwork.{written}
 use Rattle.net_driver.proofs.Solving.{carried, cost_sized, mapped_back_length}
 use Rattle.net_driver.proofs.answer.displayed.Goals as goal
 

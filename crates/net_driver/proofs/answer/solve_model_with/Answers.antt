@@ -4,8 +4,8 @@ use Rattle.net_driver.specs.IsSolved.{IsSolved}
 use Rattle.net_driver.proofs.NoMemory.{model_may, no_memory}
 use Rattle.net_driver.proofs.answer.solve_model_with.Goals as goal
 
-pub solve_unwritten-requires : goal.solve_unwritten-requires
-solve_unwritten-requires c = c.in_ok-unwritten.ensures.value.sizes
+pub solve_network-requires : goal.solve_network-requires
+solve_network-requires c = c.in_ok-unwritten.ensures.value.sizes
 
 pub with_text-requires : goal.with_text-requires
 with_text-requires c = c.in_ok-unwritten.ensures.value.sizes

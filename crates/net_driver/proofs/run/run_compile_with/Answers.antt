@@ -1,7 +1,7 @@
 use Rattle.std.proofs.Common.{rules, arith, refl, []}
 use Rattle.std.specs.Option.{option_copied}
 use Rattle.net_driver.specs.IsBuilt.{IsBuilt}
-use Rattle.net_driver.specs.Linked.{whole}
+use Rattle.net_driver.specs.MappedNetwork.{whole}
 use Rattle.net_driver.specs.Reporting.{IsRejection}
 use Rattle.net_driver.proofs.Reading.{read_whole}
 use Rattle.net_driver.proofs.Running.{texts_of, rejected_run}

@@ -2,7 +2,7 @@ use Rattle.std.proofs.Common.{rules, arith, refl, []}
 use Rattle.std.specs.Option.{option_copied}
 use Rattle.net_driver.specs.IsSolved.{text_of, exit_kind_of}
 use Rattle.net_driver.specs.IsBuilt.{IsBuilt}
-use Rattle.net_driver.specs.Linked.{written}
+use Rattle.net_driver.specs.MappedNetwork.{written}
 use Rattle.net_driver.specs.Reporting.{IsRejection}
 use Rattle.net_driver.proofs.Reading.{read_whole}
 use Rattle.net_driver.proofs.Running.{texts_of, rejected_run, stopped_run}

@@ -15,11 +15,11 @@ returns-in-Indexed c = grind (arith, views)
 pub returns-in-Signed : goal.returns-in-Signed
 returns-in-Signed c = grind (arith, views)
 
-pub returns-in-Choice : goal.returns-in-Choice
-returns-in-Choice c = grind (arith, views)
+pub returns-in-If : goal.returns-in-If
+returns-in-If c = grind (arith, views)
 
-pub returns-in-Choice-2 : goal.returns-in-Choice-2
-returns-in-Choice-2 c = grind (arith, common_steps, views)
+pub returns-in-If-2 : goal.returns-in-If-2
+returns-in-If-2 c = grind (arith, common_steps, views)
 
 pub returns-in-Signed-2 : goal.returns-in-Signed-2
 returns-in-Signed-2 c = grind (arith, common_steps, views)

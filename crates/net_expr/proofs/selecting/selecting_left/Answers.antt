@@ -14,8 +14,8 @@ returns-in-Tuple c =
 pub returns-in-Leaf : goal.returns-in-Leaf
 returns-in-Leaf c = grind (arith, common_steps, views)
 
-pub returns-in-Choice : goal.returns-in-Choice
-returns-in-Choice c = grind (arith, common_steps, views)
+pub returns-in-If : goal.returns-in-If
+returns-in-If c = grind (arith, common_steps, views)
 
 pub returns-in-Braced : goal.returns-in-Braced
 returns-in-Braced c = grind (arith, common_steps, views)

@@ -8,8 +8,8 @@ returns-in-Braced t c = grind (arith, views)
 pub returns-in-Chain : goal.returns-in-Chain
 returns-in-Chain t c = grind (arith, views)
 
-pub returns-in-Choice : goal.returns-in-Choice
-returns-in-Choice t c = grind (arith, views)
+pub returns-in-If : goal.returns-in-If
+returns-in-If t c = grind (arith, views)
 
 pub returns-in-Indexed : goal.returns-in-Indexed
 returns-in-Indexed t c = grind (arith, views)
@@ -20,8 +20,8 @@ returns-in-Leaf t c = grind (arith, views)
 pub returns-in-Parens : goal.returns-in-Parens
 returns-in-Parens t c = grind (arith, views)
 
-pub returns-in-Reduced : goal.returns-in-Reduced
-returns-in-Reduced t c = grind (arith, views)
+pub returns-in-Reduction : goal.returns-in-Reduction
+returns-in-Reduction t c = grind (arith, views)
 
 pub returns-in-Indexed-2 : goal.returns-in-Indexed-2
 returns-in-Indexed-2 t c = grind (arith, views)
@@ -32,5 +32,5 @@ returns-in-Indexed-3 t c = grind (arith, views)
 pub returns-in-Indexed-4 : goal.returns-in-Indexed-4
 returns-in-Indexed-4 t c = grind (arith, views)
 
-pub returns-in-Reduced-2 : goal.returns-in-Reduced-2
-returns-in-Reduced-2 t c = grind (arith, views)
+pub returns-in-Reduction-2 : goal.returns-in-Reduction-2
+returns-in-Reduction-2 t c = grind (arith, views)

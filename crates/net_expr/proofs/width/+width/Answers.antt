@@ -32,8 +32,8 @@ tree_width-returns-in-Braced t c = grind (arith, views)
 pub tree_width-returns-in-Chain : goal.tree_width-returns-in-Chain
 tree_width-returns-in-Chain t c = grind (arith, views)
 
-pub tree_width-returns-in-Choice : goal.tree_width-returns-in-Choice
-tree_width-returns-in-Choice t c = grind (arith, views)
+pub tree_width-returns-in-If : goal.tree_width-returns-in-If
+tree_width-returns-in-If t c = grind (arith, views)
 
 pub tree_width-returns-in-Indexed : goal.tree_width-returns-in-Indexed
 tree_width-returns-in-Indexed t c = grind (arith, views)
@@ -44,8 +44,8 @@ tree_width-returns-in-Leaf t c = grind (arith, views)
 pub tree_width-returns-in-Parens : goal.tree_width-returns-in-Parens
 tree_width-returns-in-Parens t c = grind (arith, views)
 
-pub tree_width-returns-in-Reduced : goal.tree_width-returns-in-Reduced
-tree_width-returns-in-Reduced t c = grind (arith, views)
+pub tree_width-returns-in-Reduction : goal.tree_width-returns-in-Reduction
+tree_width-returns-in-Reduction t c = grind (arith, views)
 
 pub tree_width-returns-in-Tuple : goal.tree_width-returns-in-Tuple
 tree_width-returns-in-Tuple t c = grind (arith, views)
@@ -59,8 +59,8 @@ braces_width-returns-in-Filled t c = grind (arith, views)
 pub tree_width-tree_width-requires : goal.tree_width-tree_width-requires
 tree_width-tree_width-requires t c = grind (arith, views)
 
-pub tree_width-tree_width-requires-in-Choice : goal.tree_width-tree_width-requires-in-Choice
-tree_width-tree_width-requires-in-Choice t c = grind (arith, views)
+pub tree_width-tree_width-requires-in-If : goal.tree_width-tree_width-requires-in-If
+tree_width-tree_width-requires-in-If t c = grind (arith, views)
 
 pub tree_width-braces_width-requires : goal.tree_width-braces_width-requires
 tree_width-braces_width-requires t c = grind (arith, views)
@@ -95,8 +95,8 @@ tree_width-returns-in-Indexed-2 t c = grind (arith, views)
 pub tree_width-returns-in-Indexed-3 : goal.tree_width-returns-in-Indexed-3
 tree_width-returns-in-Indexed-3 t c = grind (arith, views)
 
-pub tree_width-returns-in-Reduced-2 : goal.tree_width-returns-in-Reduced-2
-tree_width-returns-in-Reduced-2 t c = grind (arith, views)
+pub tree_width-returns-in-Reduction-2 : goal.tree_width-returns-in-Reduction-2
+tree_width-returns-in-Reduction-2 t c = grind (arith, views)
 
 pub filled_width-returns-in_ok-form : goal.filled_width-returns-in_ok-form
 filled_width-returns-in_ok-form t c = grind (arith)

@@ -10,8 +10,8 @@ pub returns-in-Tuple : goal.returns-in-Tuple
 returns-in-Tuple c =
     ok_by _ _ _ (ap (with_left c.args.env.now c.args.form) (in_tuple c.args.left.now c.in-Tuple.parts c.get.result.now c.as_slice.result.now c.in-Tuple.is c.get.ensures c.as_slice.ensures)) c.with_tuple.ensures
 
-pub returns-in-Choice : goal.returns-in-Choice
-returns-in-Choice c = grind (arith, common_steps, views)
+pub returns-in-If : goal.returns-in-If
+returns-in-If c = grind (arith, common_steps, views)
 
 pub returns-in-Braced : goal.returns-in-Braced
 returns-in-Braced c = grind (arith, views)

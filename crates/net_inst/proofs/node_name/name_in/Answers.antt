@@ -12,8 +12,8 @@ returns-in-Parens c = grind (arith, common_steps, views)
 pub returns-in-Signed : goal.returns-in-Signed
 returns-in-Signed c = grind (arith, common_steps, views)
 
-pub returns-in-Choice : goal.returns-in-Choice
-returns-in-Choice c = grind (arith, common_steps, views)
+pub returns-in-If : goal.returns-in-If
+returns-in-If c = grind (arith, common_steps, views)
 
 pub returns-in-Leaf : goal.returns-in-Leaf
 returns-in-Leaf c = grind (arith, common_steps, views)

@@ -12,7 +12,7 @@ links_arc-names_arc-requires t c = omega (arith, link_lighter c.args.links.now c
 
 pub names_arc-names_arc-requires-else-names_arc : goal.names_arc-names_arc-requires-else-names_arc
 names_arc-names_arc-requires-else-names_arc t c =
-    omega (arith, ap weight (in_choice c.args.expr.now c.in-Choice.condition c.in-Choice.branch c.get-in-Choice.result.now c.get-else-names_arc.result.now c.in-Choice.otherwise c.in-Choice.is c.get-in-Choice.ensures c.get-else-names_arc.ensures))
+    omega (arith, ap weight (in_choice c.args.expr.now c.in-If.condition c.in-If.branch c.get-in-If.result.now c.get-else-names_arc.result.now c.in-If.otherwise c.in-If.is c.get-in-If.ensures c.get-else-names_arc.ensures))
 
 pub links_arc-returns-then-names_arc : goal.links_arc-returns-then-names_arc
 links_arc-returns-then-names_arc t c =
@@ -70,8 +70,8 @@ names_arc-any_arc-requires-in-Tuple t c = grind (arith, views)
 pub names_arc-braces_arc-requires : goal.names_arc-braces_arc-requires
 names_arc-braces_arc-requires t c = grind (arith, views)
 
-pub names_arc-braces_arc-requires-in-Reduced : goal.names_arc-braces_arc-requires-in-Reduced
-names_arc-braces_arc-requires-in-Reduced t c = grind (arith, views)
+pub names_arc-braces_arc-requires-in-Reduction : goal.names_arc-braces_arc-requires-in-Reduction
+names_arc-braces_arc-requires-in-Reduction t c = grind (arith, views)
 
 pub names_arc-names_arc-requires : goal.names_arc-names_arc-requires
 names_arc-names_arc-requires t c = grind (arith, views)
@@ -79,8 +79,8 @@ names_arc-names_arc-requires t c = grind (arith, views)
 pub names_arc-names_arc-requires-else-braces_arc : goal.names_arc-names_arc-requires-else-braces_arc
 names_arc-names_arc-requires-else-braces_arc t c = grind (arith, views)
 
-pub names_arc-names_arc-requires-in-Choice : goal.names_arc-names_arc-requires-in-Choice
-names_arc-names_arc-requires-in-Choice t c = grind (arith, views)
+pub names_arc-names_arc-requires-in-If : goal.names_arc-names_arc-requires-in-If
+names_arc-names_arc-requires-in-If t c = grind (arith, views)
 
 pub names_arc-names_arc-requires-in-Negated : goal.names_arc-names_arc-requires-in-Negated
 names_arc-names_arc-requires-in-Negated t c = grind (arith, views)

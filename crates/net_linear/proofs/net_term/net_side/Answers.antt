@@ -21,14 +21,14 @@ returns-in-Negated-3 c = grind (arith, common_steps, views)
 pub returns-in-Leaf-3 : goal.returns-in-Leaf-3
 returns-in-Leaf-3 c = grind (arith, common_steps, views)
 
-pub returns-in-Reduced : goal.returns-in-Reduced
-returns-in-Reduced c = grind (arith, common_steps, views)
+pub returns-in-Reduction : goal.returns-in-Reduction
+returns-in-Reduction c = grind (arith, common_steps, views)
 
 pub returns-in-Leaf-4 : goal.returns-in-Leaf-4
 returns-in-Leaf-4 c = grind (arith, common_steps, views)
 
-pub returns-in-Reduced-2 : goal.returns-in-Reduced-2
-returns-in-Reduced-2 c = grind (arith, common_steps, views)
+pub returns-in-Reduction-2 : goal.returns-in-Reduction-2
+returns-in-Reduction-2 c = grind (arith, common_steps, views)
 
 pub returns-in-Net : goal.returns-in-Net
 returns-in-Net c = grind (arith, common_steps, views)

@@ -15,8 +15,8 @@ returns-in-Leaf-3 c = grind (arith, common_steps, views)
 pub returns-in-Leaf-2 : goal.returns-in-Leaf-2
 returns-in-Leaf-2 c = grind (arith, common_steps, views)
 
-pub returns-in-Reduced : goal.returns-in-Reduced
-returns-in-Reduced c = grind (arith, common_steps, views)
+pub returns-in-Reduction : goal.returns-in-Reduction
+returns-in-Reduction c = grind (arith, common_steps, views)
 
 pub returns-in-Negated-3 : goal.returns-in-Negated-3
 returns-in-Negated-3 c = grind (arith, common_steps, views)
@@ -24,11 +24,11 @@ returns-in-Negated-3 c = grind (arith, common_steps, views)
 pub returns-in-Negated-2 : goal.returns-in-Negated-2
 returns-in-Negated-2 c = grind (arith, common_steps, views)
 
-pub returns-in-Reduced-2 : goal.returns-in-Reduced-2
-returns-in-Reduced-2 c = grind (arith, common_steps, views)
+pub returns-in-Reduction-2 : goal.returns-in-Reduction-2
+returns-in-Reduction-2 c = grind (arith, common_steps, views)
 
-pub returns-in-Reduced-3 : goal.returns-in-Reduced-3
-returns-in-Reduced-3 c = grind (arith, common_steps, views)
+pub returns-in-Reduction-3 : goal.returns-in-Reduction-3
+returns-in-Reduction-3 c = grind (arith, common_steps, views)
 
 pub returns-in-Leaf : goal.returns-in-Leaf
 returns-in-Leaf c = grind (arith, common_steps, views)

@@ -25,13 +25,13 @@ pub arcs_term-returns-in-Signed : goal.arcs_term-returns-in-Signed
 arcs_term-returns-in-Signed t c =
     answers_by _ _ _ (with-signed c.args.among.now.arcs.now c.args.among.now.env.now c.args.among.now.scope.now (tree c.args.expr.now) _ _ (in_signed c.args.expr.now c.in-Signed.parts c.get-in-Signed.result.now c.in-Signed.is c.get-in-Signed.ensures)) c.signed.ensures
 
-pub arcs_term-returns-in-Reduced : goal.arcs_term-returns-in-Reduced
-arcs_term-returns-in-Reduced t c =
-    answers_by _ _ _ (with-reduced c.args.among.now.arcs.now c.args.among.now.env.now c.args.among.now.scope.now (tree c.args.expr.now) _ _ _ (in_reduced c.args.expr.now c.in-Reduced.front c.get-in-Reduced.result.now c.in-Reduced.body c.get-in-Reduced-2.result.now c.in-Reduced.is c.get-in-Reduced.ensures c.get-in-Reduced-2.ensures)) c.reduced.ensures
+pub arcs_term-returns-in-Reduction : goal.arcs_term-returns-in-Reduction
+arcs_term-returns-in-Reduction t c =
+    answers_by _ _ _ (with-reduced c.args.among.now.arcs.now c.args.among.now.env.now c.args.among.now.scope.now (tree c.args.expr.now) _ _ _ (in_reduced c.args.expr.now c.in-Reduction.front c.get-in-Reduction.result.now c.in-Reduction.body c.get-in-Reduction-2.result.now c.in-Reduction.is c.get-in-Reduction.ensures c.get-in-Reduction-2.ensures)) c.reduced.ensures
 
-pub arcs_term-returns-in-Choice : goal.arcs_term-returns-in-Choice
-arcs_term-returns-in-Choice t c =
-    answers_by _ _ _ (with-choice c.args.among.now.arcs.now c.args.among.now.env.now c.args.among.now.scope.now (tree c.args.expr.now) _ _ _ _ _ (in_choice c.args.expr.now c.in-Choice.condition c.in-Choice.branch c.get-in-Choice.result.now c.get-in-Choice-2.result.now c.in-Choice.otherwise c.in-Choice.is c.get-in-Choice.ensures c.get-in-Choice-2.ensures)) c.choice.ensures
+pub arcs_term-returns-in-If : goal.arcs_term-returns-in-If
+arcs_term-returns-in-If t c =
+    answers_by _ _ _ (with-choice c.args.among.now.arcs.now c.args.among.now.env.now c.args.among.now.scope.now (tree c.args.expr.now) _ _ _ _ _ (in_choice c.args.expr.now c.in-If.condition c.in-If.branch c.get-in-If.result.now c.get-in-If-2.result.now c.in-If.otherwise c.in-If.is c.get-in-If.ensures c.get-in-If-2.ensures)) c.choice.ensures
 
 pub arcs_term-returns-in-Tuple : goal.arcs_term-returns-in-Tuple
 arcs_term-returns-in-Tuple t c =

@@ -2,7 +2,7 @@ use Rattle.std.specs.Prelude.{◌≡◌, ◌≤◌, ◌+◌, ◌*◌, drop, pos}
 use Rattle.net_tree.specs.View.{tree, links_of, option_part}
 use Rattle.net_tree.specs.Weights.{weight, weights, part_weight}
 use Rattle.net_tree.specs.Spans.{span_of}
-use Rattle.net_tree.specs.declared.expr.Series.{out-Series}
+use Rattle.net_tree.specs.declared.expr.Operands.{out-Operands}
 use Rattle.net_linear.specs.Forms.{AreWithin, gathered_over, just}
 use Rattle.net_linear.specs.Objectives as objectives
 use Rattle.net_linear.proofs.objectives.+forms.Given as goal
@@ -23,7 +23,7 @@ abbrev pub decreases-total : goal.decreases-total
 decreases-total l = 12 * weight (tree l.body.now) + 2
 
 abbrev pub decreases-chain : goal.decreases-chain
-decreases-chain l = 12 * (weight (tree (out-Series l.operands.now).first) + weights (links_of (out-Series l.operands.now).more)) + 4
+decreases-chain l = 12 * (weight (tree (out-Operands l.operands.now).first) + weights (links_of (out-Operands l.operands.now).more)) + 4
 
 abbrev pub decreases-chained : goal.decreases-chained
 decreases-chained l = 12 * weights (links_of l.links.now) + 3

@@ -1,6 +1,6 @@
 use Rattle.std.proofs.Common.{◌≡◌, ◌≤◌, ◌+◌, ◌-◌, length, map}
 use Rattle.net_tree.specs.View.{link_of}
-use Rattle.net_model.specs.Expressions.{inside}
+use Rattle.net_model.specs.Expressions.{nested}
 use Rattle.net_model.specs.Conditions.{further_term_at, sign_next}
 use Rattle.net_model.specs.Rows.{row, with_row}
 use Rattle.net_model.proofs.conditions.further_terms.Given as goal
@@ -8,8 +8,8 @@ use Rattle.net_model.proofs.conditions.further_terms.Given as goal
 abbrev pub invariant-loop-alloc : goal.invariant-loop-alloc
 invariant-loop-alloc l = record {
   read :
-      with_row (map link_of l.found.items) (row (length l.fn.tokens - length l.found.items) (further_term_at (inside l.depth)) sign_next l.free l.tokens)
-      ≡ row (length l.fn.tokens) (further_term_at (inside l.depth)) sign_next l.fn.first l.fn.tokens;
+      with_row (map link_of l.found.items) (row (length l.fn.tokens - length l.found.items) (further_term_at (nested l.depth)) sign_next l.free l.tokens)
+      ≡ row (length l.fn.tokens) (further_term_at (nested l.depth)) sign_next l.fn.first l.fn.tokens;
   room : length l.found.items + length l.tokens ≤ length l.fn.tokens;
 }
 

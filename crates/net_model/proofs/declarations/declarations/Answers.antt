@@ -6,7 +6,7 @@ use Rattle.net_tree.specs.declared.declaration.Decl.{Decl}
 use Rattle.net_model.specs.Declarations.{declaration_at, declaration_step, any_left, model_at}
 use Rattle.net_model.specs.declared.parse_error.ParseError.{ParseError}
 use Rattle.net_model.specs.declared.parse_error.ParseError.TheVariants.{OutOfMemory, Rejected, TooDeep}
-use Rattle.net_model.specs.Expressions.{Inner, inside}
+use Rattle.net_model.specs.Expressions.{Inner, nested}
 use Rattle.net_model.specs.Rows.{row}
 use Rattle.net_model.proofs.RowLemmas.{row_read, row_turn, row_stops}
 use Rattle.net_model.specs.Reading.{Tokens, Fails}
@@ -39,15 +39,15 @@ returns-in_err-declaration-clause-value c =
     let on : any_left c.loop-alloc.tokens ≡ true = sym c.has_more.ensures ∙ c.loop-alloc-test.true in
     let y = err_from_is_err_and c.from_residual.result c.from_residual.ensures.1 in
     rw y.1 (rw y.2
-    (row_stops declaration_of c.loop-alloc.found.items (length c.args.tokens.now) (declaration_step (inside c.args.depth)) (λ s. any_left) tt c.loop-alloc.tokens
-    (row (length c.args.tokens.now) (declaration_step (inside c.args.depth)) (λ s. any_left) tt c.args.tokens.now) c.in_err-declaration.field-0.0
-    (more_left c.loop-alloc.tokens on) c.loop-alloc.invariant.room on c.loop-alloc.invariant.read (step_stops (inside c.args.depth) c.loop-alloc.tokens c.in_err-declaration.field-0.0 c.in_err-declaration.ensures.value)))
+    (row_stops declaration_of c.loop-alloc.found.items (length c.args.tokens.now) (declaration_step (nested c.args.depth)) (λ s. any_left) tt c.loop-alloc.tokens
+    (row (length c.args.tokens.now) (declaration_step (nested c.args.depth)) (λ s. any_left) tt c.args.tokens.now) c.in_err-declaration.field-0.0
+    (more_left c.loop-alloc.tokens on) c.loop-alloc.invariant.room on c.loop-alloc.invariant.read (step_stops (nested c.args.depth) c.loop-alloc.tokens c.in_err-declaration.field-0.0 c.in_err-declaration.ensures.value)))
 
 pub returns-clause-value : goal.returns-clause-value
 unfolding model_at
 returns-clause-value c =
-    row_read declaration_of c.loop-alloc.found.items (length c.args.tokens.now - length c.loop-alloc.found.items) (declaration_step (inside c.args.depth)) (λ s. any_left) tt c.loop-alloc.tokens
-    (row (length c.args.tokens.now) (declaration_step (inside c.args.depth)) (λ s. any_left) tt c.args.tokens.now)
+    row_read declaration_of c.loop-alloc.found.items (length c.args.tokens.now - length c.loop-alloc.found.items) (declaration_step (nested c.args.depth)) (λ s. any_left) tt c.loop-alloc.tokens
+    (row (length c.args.tokens.now) (declaration_step (nested c.args.depth)) (λ s. any_left) tt c.args.tokens.now)
     (sym c.has_more.ensures ∙ c.loop-alloc-test.false) c.loop-alloc.invariant.read
     ∙ ap (λ l. Ok ((map declaration_of l, tt), c.loop-alloc.tokens)) (sym c.new.ensures)
 
@@ -57,9 +57,9 @@ loop-alloc-preserved c =
     let more : length c.push.new.list.items ≡ length c.loop-alloc.found.items + 1 = omega (arith, ap length c.in_ok-push.ensures.items, length-append c.loop-alloc.found.items (c.in_ok-declaration.declaration ∷ [])) in
     record {
       read =
-          row_turn declaration_of c.loop-alloc.found.items c.push.new.list.items c.in_ok-declaration.declaration (length c.args.tokens.now) (declaration_step (inside c.args.depth)) (λ s. any_left) tt tt
-          c.loop-alloc.tokens c.declaration_at.new.tokens (row (length c.args.tokens.now) (declaration_step (inside c.args.depth)) (λ s. any_left) tt c.args.tokens.now)
-          (more_left c.loop-alloc.tokens on) c.loop-alloc.invariant.room on (step_read (inside c.args.depth) c.loop-alloc.tokens c.in_ok-declaration.declaration c.declaration_at.new.tokens c.in_ok-declaration.ensures.value) c.in_ok-push.ensures.items c.loop-alloc.invariant.read;
+          row_turn declaration_of c.loop-alloc.found.items c.push.new.list.items c.in_ok-declaration.declaration (length c.args.tokens.now) (declaration_step (nested c.args.depth)) (λ s. any_left) tt tt
+          c.loop-alloc.tokens c.declaration_at.new.tokens (row (length c.args.tokens.now) (declaration_step (nested c.args.depth)) (λ s. any_left) tt c.args.tokens.now)
+          (more_left c.loop-alloc.tokens on) c.loop-alloc.invariant.room on (step_read (nested c.args.depth) c.loop-alloc.tokens c.in_ok-declaration.declaration c.declaration_at.new.tokens c.in_ok-declaration.ensures.value) c.in_ok-push.ensures.items c.loop-alloc.invariant.read;
       room = omega (arith, more, c.in_ok-declaration.ensures.shorter, c.loop-alloc.invariant.room);
     }
 

@@ -2,11 +2,11 @@ use Rattle.std.proofs.Common.{arith}
 use Rattle.net_tree.proofs.Views.{views}
 use Rattle.net_model.proofs.trees.+is_sum.Goals as goal
 
-pub returns-in-Choice : goal.returns-in-Choice
-returns-in-Choice t c = grind (arith, views)
+pub returns-in-If : goal.returns-in-If
+returns-in-If t c = grind (arith, views)
 
-pub returns-in-Choice-2 : goal.returns-in-Choice-2
-returns-in-Choice-2 t c = grind (arith, views)
+pub returns-in-If-2 : goal.returns-in-If-2
+returns-in-If-2 t c = grind (arith, views)
 
 pub returns-in-Leaf : goal.returns-in-Leaf
 returns-in-Leaf t c = grind (arith, views)

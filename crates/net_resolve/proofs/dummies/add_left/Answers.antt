@@ -10,8 +10,8 @@ returns-in-Signed-2 c = grind (arith, common_steps, views)
 pub returns-in-Signed : goal.returns-in-Signed
 returns-in-Signed c = grind (arith, common_steps, views)
 
-pub returns-in-Choice : goal.returns-in-Choice
-returns-in-Choice c = grind (arith, common_steps, views)
+pub returns-in-If : goal.returns-in-If
+returns-in-If c = grind (arith, common_steps, views)
 
 pub returns-in-Indexed : goal.returns-in-Indexed
 returns-in-Indexed c = grind (arith, common_steps, views)
@@ -28,8 +28,8 @@ returns-in-Indexed-4 c = grind (arith, common_steps, views)
 pub returns-in-Indexed-3 : goal.returns-in-Indexed-3
 returns-in-Indexed-3 c = grind (arith, common_steps, views)
 
-pub returns-in-Choice-2 : goal.returns-in-Choice-2
-returns-in-Choice-2 c = grind (arith, common_steps, views)
+pub returns-in-If-2 : goal.returns-in-If-2
+returns-in-If-2 c = grind (arith, common_steps, views)
 
 pub returns-in-Indexed-2 : goal.returns-in-Indexed-2
 returns-in-Indexed-2 c = grind (arith, common_steps, views)

@@ -30,13 +30,13 @@ pub check-returns-in-Signed-clause-value : goal.check-returns-in-Signed-clause-v
 check-returns-in-Signed-clause-value t c =
     reports_by _ _ _ (ap (tree_fault c.args.need c.args.scope.now) (in_signed c.args.expr.now c.in-Signed.parts c.get-in-Signed.result.now c.in-Signed.is c.get-in-Signed.ensures)) c.check-in-Signed.ensures.value
 
-pub check-returns-in-Reduced-clause-value : goal.check-returns-in-Reduced-clause-value
-check-returns-in-Reduced-clause-value t c =
-    reports_by _ _ _ (ap (tree_fault c.args.need c.args.scope.now) (in_reduced c.args.expr.now c.in-Reduced.parts c.get-in-Reduced.result.now c.in-Reduced.body c.get-in-Reduced-2.result.now c.in-Reduced.is c.get-in-Reduced.ensures c.get-in-Reduced-2.ensures)) c.check_reduced.ensures.value
+pub check-returns-in-Reduction-clause-value : goal.check-returns-in-Reduction-clause-value
+check-returns-in-Reduction-clause-value t c =
+    reports_by _ _ _ (ap (tree_fault c.args.need c.args.scope.now) (in_reduced c.args.expr.now c.in-Reduction.parts c.get-in-Reduction.result.now c.in-Reduction.body c.get-in-Reduction-2.result.now c.in-Reduction.is c.get-in-Reduction.ensures c.get-in-Reduction-2.ensures)) c.check_reduced.ensures.value
 
-pub check-returns-in-Choice-clause-value : goal.check-returns-in-Choice-clause-value
-check-returns-in-Choice-clause-value t c =
-    reports_by _ _ _ (ap (tree_fault c.args.need c.args.scope.now) (in_choice c.args.expr.now c.in-Choice.condition c.in-Choice.branch c.get-in-Choice.result.now c.get-in-Choice-2.result.now c.in-Choice.otherwise c.in-Choice.is c.get-in-Choice.ensures c.get-in-Choice-2.ensures)) c.check_choice.ensures.value
+pub check-returns-in-If-clause-value : goal.check-returns-in-If-clause-value
+check-returns-in-If-clause-value t c =
+    reports_by _ _ _ (ap (tree_fault c.args.need c.args.scope.now) (in_choice c.args.expr.now c.in-If.condition c.in-If.branch c.get-in-If.result.now c.get-in-If-2.result.now c.in-If.otherwise c.in-If.is c.get-in-If.ensures c.get-in-If-2.ensures)) c.check_choice.ensures.value
 
 pub check_braced-returns-clause-kept : goal.check_braced-returns-clause-kept
 check_braced-returns-clause-kept t c = c.forget_after.ensures ∙ forgotten_braces c.args.scope.now c.read_braces.new.scope (braces_of c.args.braces.now) c.len-known.result c.len-known.ensures c.in_ok-read_braces.ensures.grown
@@ -121,8 +121,8 @@ read_components-loop-link-preserved t c = record {
 pub check_part-returns-in-Some-clause-kept : goal.check_part-returns-in-Some-clause-kept
 check_part-returns-in-Some-clause-kept c = grind (arith, common_steps)
 
-pub check-returns-in-Reduced-clause-kept : goal.check-returns-in-Reduced-clause-kept
-check-returns-in-Reduced-clause-kept c = grind (arith, common_steps)
+pub check-returns-in-Reduction-clause-kept : goal.check-returns-in-Reduction-clause-kept
+check-returns-in-Reduction-clause-kept c = grind (arith, common_steps)
 
 pub check_part-returns-in-None-clause-value : goal.check_part-returns-in-None-clause-value
 check_part-returns-in-None-clause-value c = grind (arith, common_steps)

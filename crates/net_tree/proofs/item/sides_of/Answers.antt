@@ -2,8 +2,8 @@ use Rattle.std.proofs.Common.{arith}
 use Rattle.net_tree.proofs.Views.{views}
 use Rattle.net_tree.proofs.item.sides_of.Goals as goal
 
-pub returns-in-Choice : goal.returns-in-Choice
-returns-in-Choice c = grind (arith, views)
+pub returns-in-If : goal.returns-in-If
+returns-in-If c = grind (arith, views)
 
 pub returns-in-Leaf : goal.returns-in-Leaf
 returns-in-Leaf c = grind (arith, views)

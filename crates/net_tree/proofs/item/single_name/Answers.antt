@@ -5,8 +5,8 @@ use Rattle.net_tree.proofs.item.single_name.Goals as goal
 pub returns-in-Braced : goal.returns-in-Braced
 returns-in-Braced c = grind (arith, views)
 
-pub returns-in-Choice : goal.returns-in-Choice
-returns-in-Choice c = grind (arith, views)
+pub returns-in-If : goal.returns-in-If
+returns-in-If c = grind (arith, views)
 
 pub returns-in-Indexed : goal.returns-in-Indexed
 returns-in-Indexed c = grind (arith, views)

@@ -8,11 +8,11 @@ end_of-requires t c = grind (arith, views)
 pub end_of-requires-in-Chain : goal.end_of-requires-in-Chain
 end_of-requires-in-Chain t c = grind (arith, views)
 
-pub end_of-requires-in-Choice : goal.end_of-requires-in-Choice
-end_of-requires-in-Choice t c = grind (arith, views)
+pub end_of-requires-in-If : goal.end_of-requires-in-If
+end_of-requires-in-If t c = grind (arith, views)
 
-pub end_of-requires-in-Reduced : goal.end_of-requires-in-Reduced
-end_of-requires-in-Reduced t c = grind (arith, views)
+pub end_of-requires-in-Reduction : goal.end_of-requires-in-Reduction
+end_of-requires-in-Reduction t c = grind (arith, views)
 
 pub returns-in-Braced : goal.returns-in-Braced
 returns-in-Braced t c = grind (arith, views)
@@ -20,8 +20,8 @@ returns-in-Braced t c = grind (arith, views)
 pub returns-in-Chain : goal.returns-in-Chain
 returns-in-Chain t c = grind (arith, views)
 
-pub returns-in-Choice : goal.returns-in-Choice
-returns-in-Choice t c = grind (arith, views)
+pub returns-in-If : goal.returns-in-If
+returns-in-If t c = grind (arith, views)
 
 pub returns-in-Indexed : goal.returns-in-Indexed
 returns-in-Indexed t c = grind (arith, views)
@@ -38,8 +38,8 @@ returns-in-Net t c = grind (arith, views)
 pub returns-in-Parens : goal.returns-in-Parens
 returns-in-Parens t c = grind (arith, views)
 
-pub returns-in-Reduced : goal.returns-in-Reduced
-returns-in-Reduced t c = grind (arith, views)
+pub returns-in-Reduction : goal.returns-in-Reduction
+returns-in-Reduction t c = grind (arith, views)
 
 pub returns-in-Signed : goal.returns-in-Signed
 returns-in-Signed t c = grind (arith, views)

@@ -8,8 +8,8 @@ returns-in-Braced t c = grind (arith, views)
 pub returns-in-Chain : goal.returns-in-Chain
 returns-in-Chain t c = grind (arith, views)
 
-pub returns-in-Choice : goal.returns-in-Choice
-returns-in-Choice t c = grind (arith, views)
+pub returns-in-If : goal.returns-in-If
+returns-in-If t c = grind (arith, views)
 
 pub returns-in-Indexed : goal.returns-in-Indexed
 returns-in-Indexed t c = grind (arith, views)
@@ -26,8 +26,8 @@ returns-in-Net t c = grind (arith, views)
 pub returns-in-Parens : goal.returns-in-Parens
 returns-in-Parens t c = grind (arith, views)
 
-pub returns-in-Reduced : goal.returns-in-Reduced
-returns-in-Reduced t c = grind (arith, views)
+pub returns-in-Reduction : goal.returns-in-Reduction
+returns-in-Reduction t c = grind (arith, views)
 
 pub returns-in-Signed : goal.returns-in-Signed
 returns-in-Signed t c = grind (arith, views)

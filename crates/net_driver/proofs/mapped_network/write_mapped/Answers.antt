@@ -2,7 +2,7 @@ use Rattle.std.proofs.Common.{arith}
 use Rattle.std.proofs.lemmas.Grind.{common_steps}
 use Rattle.net_dimacs.specs.Written.{problem_text}
 use Rattle.net_driver.proofs.Writing.{first_failed, second_failed}
-use Rattle.net_driver.proofs.linked.write_linked.Goals as goal
+use Rattle.net_driver.proofs.mapped_network.write_mapped.Goals as goal
 
 pub returns-in_err-write_whole-clause-err : goal.returns-in_err-write_whole-clause-err
 returns-in_err-write_whole-clause-err g c =

@@ -2,7 +2,7 @@ use Rattle.std.proofs.Common.{refl}
 use Rattle.net_dimacs.proofs.WriteLaws.{text_is, text_only}
 use Rattle.net_driver.proofs.FaultPlaces.{stop_lies_there}
 use Rattle.net_driver.proofs.NoMemory.{model_may, no_memory}
-use Rattle.net_driver.proofs.unwritten.made_of.Goals as goal
+use Rattle.net_driver.proofs.compiled_network.made_of.Goals as goal
 
 pub reported-requires : goal.reported-requires
 reported-requires c = stop_lies_there _ c.args.model.now c.args.data.now c.in-Err.stop c.in-Err.ensures.rejected

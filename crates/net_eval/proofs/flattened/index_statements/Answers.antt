@@ -1,6 +1,6 @@
 use Rattle.std.proofs.Common.{arith}
 use Rattle.std.proofs.lemmas.Grind.{common_steps}
-use Rattle.net_eval.proofs.flattened.laid_out.Goals as goal
+use Rattle.net_eval.proofs.flattened.index_statements.Goals as goal
 
 pub returns : goal.returns
 returns c = grind (arith, common_steps)

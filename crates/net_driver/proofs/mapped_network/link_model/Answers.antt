@@ -2,10 +2,10 @@ use Rattle.std.proofs.Common.{sym, subst}
 use Rattle.std.specs.Option.{option_copied}
 use Rattle.net_driver.specs.IsBuilt.{IsBuilt}
 use Rattle.net_driver.proofs.NoMemory.{model_may, no_memory}
-use Rattle.net_driver.proofs.linked.link_model.Goals as goal
+use Rattle.net_driver.proofs.mapped_network.link_model.Goals as goal
 
-pub linked_of-requires : goal.linked_of-requires
-linked_of-requires c = c.in_ok-unwritten.ensures.value.sizes
+pub with_name_map-requires : goal.with_name_map-requires
+with_name_map-requires c = c.in_ok-unwritten.ensures.value.sizes
 
 pub returns-clause-value : goal.returns-clause-value
 returns-clause-value c =

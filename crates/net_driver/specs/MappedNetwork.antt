@@ -3,13 +3,13 @@ use Rattle.std.specs.Prelude.{◌++◌}
 use Rattle.net_dimacs.specs.Written.{problem_text}
 use Rattle.net_report.specs.Links.{link_text}
 use Rattle.net_driver.specs.declared.compiled.Compiled.{Compiled}
-use Rattle.net_driver.specs.declared.linked.Linked.{Linked}
-use Rattle.net_driver.specs.declared.unwritten.Unwritten.{Unwritten}
+use Rattle.net_driver.specs.declared.mapped_network.MappedNetwork.{MappedNetwork}
+use Rattle.net_driver.specs.declared.compiled_network.CompiledNetwork.{CompiledNetwork}
 
 -- the compiled model with its text: the name map, then the problem's lines
-abbrev pub written : Unwritten → Compiled
+abbrev pub written : CompiledNetwork → Compiled
 written u = record { text = record { items = link_text u.names u.link ++ problem_text u.problem.supplies.items u.problem.arcs.items }; problem = u.problem; link = u.link; names = u.names }
 
 -- the same, if the name map is in memory
-abbrev pub whole : Linked → Compiled
+abbrev pub whole : MappedNetwork → Compiled
 whole l = record { text = record { items = l.lines.items ++ problem_text l.problem.supplies.items l.problem.arcs.items }; problem = l.problem; link = l.link; names = l.names }

@@ -5,7 +5,7 @@ ghost use Rattle.std.specs.Option.{option_copied};
 ghost use Rattle.net_normal.specs.NormalForm.{IsFormIn};
 ghost use Rattle.net_normal.specs.Correspondence.{CorrespondsOneToOne};
 ghost use Rattle.net_driver.specs.IsBuilt.{IsBuilt};
-ghost use Rattle.net_driver.specs.Linked.{written};
+ghost use Rattle.net_driver.specs.MappedNetwork.{written};
 ghost use Rattle.net_driver.specs.Made.{IsNormalFormOf, profile_of};
 ghost use Rattle.net_driver.specs.Reporting.{IsRejection};
 
@@ -22,7 +22,7 @@ use std::alloc::{AllocError, Global};
 
 /// A compiled model without its text.
 #[derive(Drop)]
-pub(crate) struct Unwritten<'s> {
+pub(crate) struct CompiledNetwork<'s> {
     pub problem: Problem,
     pub link: Link,
     pub names: Names<'s>,
@@ -34,7 +34,7 @@ pub(crate) fn read_model<'s>(
     options: &Options<'_>,
     model: &'s [u8],
     data: &'s [u8],
-) -> Result<Unwritten<'s>, Fault>
+) -> Result<CompiledNetwork<'s>, Fault>
     ensures value { IfOk result (λ u. IsBuilt options.now.lean (option_copied options.now.objective) model.entry.now «data».entry.now (written u)) }
     ensures rejected { IfErr result (IsRejection (option_copied options.now.objective) model.entry.now «data».entry.now) }
 {
@@ -52,7 +52,7 @@ fn made_of<'s>(
     options: &Options<'_>,
     model: &'s [u8],
     data: &'s [u8],
-) -> Result<Unwritten<'s>, Fault>
+) -> Result<CompiledNetwork<'s>, Fault>
     ensures made { IfOk result (λ u. IsNormalFormOf options.now.lean (option_copied options.now.objective) model.entry.now «data».entry.now (written u)) }
     ensures rejected { IfErr result (IsRejection (option_copied options.now.objective) model.entry.now «data».entry.now) }
 {
@@ -61,7 +61,7 @@ fn made_of<'s>(
         Err(stop) => return Err(reported(alloc, model, data, &stop)),
     };
     let (problem, link) = form_of(alloc, options.lean, &named.instance)?;
-    Ok(Unwritten {
+    Ok(CompiledNetwork {
         problem,
         link,
         names: named.names,

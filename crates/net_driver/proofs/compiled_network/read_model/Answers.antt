@@ -1,6 +1,6 @@
-use Rattle.net_driver.specs.Linked.{written}
+use Rattle.net_driver.specs.MappedNetwork.{written}
 use Rattle.net_driver.proofs.Promise.{headline_of}
-use Rattle.net_driver.proofs.unwritten.read_model.Goals as goal
+use Rattle.net_driver.proofs.compiled_network.read_model.Goals as goal
 
 pub returns-clause-value : goal.returns-clause-value
 returns-clause-value c =

@@ -1,6 +1,6 @@
-use Rattle.net_driver.specs.Linked.{written}
+use Rattle.net_driver.specs.MappedNetwork.{written}
 use Rattle.net_driver.proofs.Answered.{answers_of}
-use Rattle.net_driver.proofs.answer.solve_unwritten.Goals as goal
+use Rattle.net_driver.proofs.answer.solve_network.Goals as goal
 
 pub returns : goal.returns
 returns c = λ lean wanted m d promise.
