@@ -57,7 +57,8 @@ fn indexed<'s>(
     ensures { Refines (objectives.linear (trees.span_of (tree whole.now)) (not
         (objectives.first_or_any among.now.arcs.now (tree (out-Operands subscripts.now).first) (links_of (out-Operands subscripts.now).more)))
         (objectives.arc_term among.now.arcs.now (trees.span_of (tree whole.now)) name.now.text (objectives.key_of among.now.env.now
-        among.now.scope.now (trees.span_of (tree whole.now)) (tree (out-Operands subscripts.now).first) (links_of (out-Operands subscripts.now).more)))) result }
+        among.now.scope.now (trees.span_of (tree whole.now)) (tree (out-Operands subscripts.now).first)
+        (links_of (out-Operands subscripts.now).more)))) result }
 {
     let Operands { first, more } = subscripts;
     let more = more.as_slice();

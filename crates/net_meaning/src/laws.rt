@@ -1,6 +1,7 @@
 //! Laws about the definitions of this crate. The functions are empty: their contracts are theorems.
 
-ghost use Rattle.net_meaning.specs.Laws.{EvaluationIsSound, EvaluationIsSoundWith, KeysAreSound, KeysAreUnique, TextsOfKeysPass, TextsOfLabelsPass, TextsOfValuesPass, TextsOfWorldsPass, ValuesAreUnique};
+ghost use Rattle.net_meaning.specs.Laws.{EvaluationIsSound, EvaluationIsSoundWith, KeysAreSound, KeysAreUnique, ValuesAreUnique};
+ghost use Rattle.net_meaning.specs.Laws.{TextsOfKeysPass, TextsOfLabelsPass, TextsOfValuesPass, TextsOfWorldsPass};
 
 /// States that a value that the evaluator computes is the value of the expression.
 pub fn evaluation_is_sound()
