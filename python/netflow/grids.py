@@ -8,6 +8,9 @@ from .page import text
 ROWS, COLUMNS, FILLED = 400, 60, 0.15
 # From so many letters on the headings of columns are upright in a narrow window, and in any.
 WORDY, LONG = 40, 110
+# The most pixels of a grid that a printed page takes when it is made smaller.
+PRINTED = 1100
+NOTE = '<p class="print-note">The grid is on the page for the screen: it is too wide for print.</p>'
 
 
 def grid_html(arcs: list, titles: list, is_open: bool = True) -> str:
@@ -32,7 +35,9 @@ def grid_html(arcs: list, titles: list, is_open: bool = True) -> str:
     letters = sum(len(str(it)) + 2 for it in across)
     kind = "grid long wordy" if letters > LONG else "grid wordy" if letters > WORDY else "grid"
     table = f'<table class="{kind}"><thead><tr>{head}</tr></thead><tbody>\n{chr(10).join(lines)}\n</tbody>{foot}</table>'
-    return f'<details class="as-grid"{" open" if is_open else ""}><summary>{title}</summary><div class="scroll">{table}</div></details>'
+    digits = sum(max([len(str(cells[it].flow)) for cells in rows.values() if it in cells] + [len(grouped(sums[at]))]) for at, it in enumerate(across))
+    kind, note = ("as-grid screen", NOTE) if digits * 5 + len(across) * 4 > PRINTED else ("as-grid", "")
+    return f'<details class="{kind}"{" open" if is_open else ""}><summary>{title}</summary><div class="scroll">{table}</div></details>{note}'
 
 
 def grid_head(titles: list, across: list, kind: str) -> str:

@@ -74,7 +74,7 @@ def short_item(it: Any) -> Hint:
     sizes = [len(part.split()) for part in rest.split(",")]
     usual = max(sizes, key=sizes.count)
     short = [part.split() for part in rest.split(",") if 0 < len(part.split()) == usual - 1]
-    if usual > 1 and len(short) == 1 and sizes.count(usual) == len(sizes) - 1:
+    if usual > 1 and len(short) == 1 and sizes.count(usual) == len(sizes) - 1 > 1 and not re.match(r"[-+.\d]", short[0][-1]):
         yield f"is the value of {' '.join(short[0])} missing?", True
 
 

@@ -58,9 +58,9 @@ p.key{display:flex;flex-wrap:wrap;gap:4px 18px;align-items:center}
 th,.numbers td:not(.number){white-space:normal}th.wrap button{min-width:0}th.end,td.end{display:none}.grid.wordy th.number button{display:inline-block;writing-mode:vertical-rl;transform:rotate(180deg);padding:6px 2px}}
 .grid.long th.number button{display:inline-block;writing-mode:vertical-rl;transform:rotate(180deg);padding:6px 2px}.grid.long th,.grid.wordy th{vertical-align:bottom}.grid.long th.number,.grid.wordy th.number{text-align:right}
 @media print{body{max-width:none;padding:0 1px;font-size:11px}.scroll,.picture{max-height:none;overflow:visible;border-color:#bbb;background:none}
-.picture svg{width:100%!important;height:auto!important;max-height:18cm}.picture.tall svg{max-height:24cm}.picture.screen{display:none}.print-note{display:block}
+.picture svg{width:100%!important;height:auto!important;max-height:18cm}.picture.tall svg{max-height:24cm}.screen{display:none}.print-note{display:block}
 .parts{column-width:calc(var(--widest)*.75)!important}.parts svg{width:calc(var(--wide)*.75)!important}.toggle,.tools,.find,.point,details:not([open]),.more-right,.more-down{display:none!important}summary{list-style:none;font-weight:600}
-th,.grid tr.sum td,.grid td:first-child,.grid td.key{position:static;background:none}thead th{background:var(--soft)}tfoot{display:table-row-group}th button{display:contents}th.number{text-align:right}td,th{padding:1px 6px!important}.scroll{max-width:100%;width:100%}table{width:100%}tr,.picture.whole{break-inside:avoid}
+th,.grid tr.sum td,.grid td:first-child,.grid td.key{position:static;background:none}thead th{background:var(--soft)}.grid.long thead{display:table-row-group}.grid.long{font-size:9px}.grid.long td,.grid.long th{padding:1px 2px!important}.grid.long th.number button{padding:2px 0}.as-grid{break-inside:avoid}.as-grid .scroll{max-height:none}tfoot{display:table-row-group}th button{display:contents}th.number{text-align:right}td,th{padding:1px 6px!important}.scroll{max-width:100%;width:100%}table{width:100%}tr,.picture.whole{break-inside:avoid}
 section{break-inside:auto}h2,h3{break-after:avoid}}
 @page{margin:1.4cm}
 """
