@@ -10,7 +10,10 @@ use Rattle.net_tree.specs.Print.{print}
 use Rattle.net_tree.specs.Erasure.{declarations}
 use Rattle.net_tree.specs.Syntax as forms
 use Rattle.net_tree.specs.Tree.{Declaration, set, param, check, node, arc, objective}
+use Rattle.net_tree.specs.Declarations.{AreDeclarations}
+use Rattle.net_model.specs.GrammarLaws as model_laws
 use Rattle.net_data.specs.declared.tables.Tables.{Tables}
+use Rattle.net_data.specs.GrammarLaws as data_laws
 use Rattle.net_sets.specs.declared.member.Member.TheVariants as member
 use Rattle.net_sets.specs.Sets.{Tuple}
 use Rattle.net_sets.specs.Texts.{text_of}
@@ -30,9 +33,8 @@ use Rattle.net_report.specs.LineNames.{AreWithinLine, HasLineNames}
 use Rattle.net_report.specs.Links.{in_line}
 use Rattle.net_report.specs.References.{names_in}
 use Rattle.net_driver.specs.LineNames.{AreExact, NamesAreExact, BuiltNamesAreExact}
-use Rattle.net_driver.specs.Meaning.{ContainsModel, listed_label, node_declared, arc_declared}
+use Rattle.net_driver.specs.Meaning.{ContainsModel, ContainsData, listed_label, node_declared, arc_declared}
 use Rattle.net_driver.specs.MeaningLaws.{CompilationsAreSound}
-use Rattle.net_driver.specs.Reading.{IsData}
 
 -- ---- tokens
 
@@ -42,14 +44,19 @@ Stays t = HasNoLineEnd t.text
 text_of_token : (t : Token) → Stays t → HasNoLineEnd (text_of t.text)
 text_of_token t h = text_stays t.text h
 
-printed_stay : (m : List ℕ) (ds : List forms.Declaration) → (is : ContainsModel m ds) → AllByRecursion Stays (print is.written)
-printed_stay m ds is = subst (AllByRecursion Stays) (sym is.printed) (tokens_stay languages.Model 0 m is.tokens is.read.read)
+-- the declarations as syntax trees, which have the tokens of the file
+trees : model_laws.IsSound → (m : List ℕ) (ds : List forms.Declaration) → ContainsModel m ds → List Declaration
+trees sound m ds is = (sound ds is.tokens is.derived).0
 
-declarations_stay : (m : List ℕ) (ds : List forms.Declaration) → ContainsModel m ds → DeclarationsHold HasNoLineEnd ds
-declarations_stay m ds is = subst (DeclarationsHold HasNoLineEnd) is.declarations (declarations_hold HasNoLineEnd Stays text_of_token is.written (printed_stay m ds is))
+printed_stay : (sound : model_laws.IsSound) (m : List ℕ) (ds : List forms.Declaration) (is : ContainsModel m ds) → AllByRecursion Stays (print (trees sound m ds is))
+printed_stay sound m ds is = subst (AllByRecursion Stays) (sym (sound ds is.tokens is.derived).2) (tokens_stay languages.Model 0 m is.tokens is.read.read)
 
-statements_stay : (d : List ℕ) (x : Tables) → IsData d x → StatementsHold HasNoLineEnd x.statements
-statements_stay d x is = statements_hold HasNoLineEnd Stays text_of_token is.tokens x is.written (tokens_stay languages.Data 0 d is.tokens is.read.read)
+declarations_stay : model_laws.IsSound → (m : List ℕ) (ds : List forms.Declaration) → ContainsModel m ds → DeclarationsHold HasNoLineEnd ds
+declarations_stay sound m ds is =
+    subst (DeclarationsHold HasNoLineEnd) (sound ds is.tokens is.derived).3 (declarations_hold HasNoLineEnd Stays text_of_token (trees sound m ds is) (printed_stay sound m ds is))
+
+statements_stay : data_laws.IsSound → (d : List ℕ) (x : Tables) → ContainsData d x → StatementsHold HasNoLineEnd x.statements
+statements_stay sound d x is = statements_hold HasNoLineEnd Stays text_of_token is.tokens x (sound is.tokens x is.derived).0 (tokens_stay languages.Data 0 d is.tokens is.read.read)
 
 -- ---- declared names
 
@@ -113,24 +120,27 @@ labels_stay label names (x ∷ xs) h = (h.0.1, labels_stay label names xs h.1)
 
 -- ---- compiled models
 
-pub names_exact : AreUnchanged → NamesAreExact
-names_exact same requested m d c is = record {
-  nodes = exact same (flat_map node_declared is.mean.declarations) (map (λ (v : Node). listed_label v.label) is.nodes) c.names.nodes (subst (λ ds. NamesStay (flat_map node_declared ds)) is.mean.model.declarations (nodes_declared_stay is.mean.model.written printed))
+pub names_exact : model_laws.IsSound → data_laws.IsSound → AreUnchanged → NamesAreExact
+names_exact models data_files same requested m d c is = record {
+  nodes = exact same (flat_map node_declared is.mean.declarations) (map (λ (v : Node). listed_label v.label) is.nodes) c.names.nodes (subst (λ ds. NamesStay (flat_map node_declared ds)) found.3 (nodes_declared_stay found.0 printed))
       (labels_stay (λ (v : Node). v.label) (nodes_in is.mean.declarations) is.nodes here.0) is.names.nodes;
-  arcs = exact same (flat_map arc_declared is.mean.declarations) (map (λ (a : Arc). listed_label a.label) is.arcs) c.names.arcs (subst (λ ds. NamesStay (flat_map arc_declared ds)) is.mean.model.declarations (arcs_declared_stay is.mean.model.written printed))
+  arcs = exact same (flat_map arc_declared is.mean.declarations) (map (λ (a : Arc). listed_label a.label) is.arcs) c.names.arcs (subst (λ ds. NamesStay (flat_map arc_declared ds)) found.3 (arcs_declared_stay found.0 printed))
       (labels_stay (λ (a : Arc). a.label) (arcs_in is.mean.declarations) is.arcs here.1) is.names.arcs;
 }
   where
-    printed : AllByRecursion Stays (print is.mean.model.written)
-    printed = printed_stay m is.mean.declarations is.mean.model
+    found : (ds : List Declaration) × AreDeclarations ds × (print ds ≡ is.mean.model.tokens) × (declarations ds ≡ is.mean.declarations)
+    found = models is.mean.declarations is.mean.model.tokens is.mean.model.derived
+
+    printed : AllByRecursion Stays (print found.0)
+    printed = printed_stay models m is.mean.declarations is.mean.model
 
     own : DeclarationsHold HasNoLineEnd is.mean.declarations
-    own = declarations_stay m is.mean.declarations is.mean.model
+    own = declarations_stay models m is.mean.declarations is.mean.model
 
     here : AllByRecursion (λ (v : Node). LabelHolds HasNoLineEnd (nodes_in is.mean.declarations) v.label) is.nodes × AllByRecursion (λ (a : Arc). LabelHolds HasNoLineEnd (arcs_in is.mean.declarations) a.label) is.arcs
     here =
         network_holds HasNoLineEnd requested is.mean.world is.mean.declarations is.nodes is.arcs is.objective
-        (world_holds HasNoLineEnd is.mean.declarations is.mean.tables.statements is.mean.world own (statements_stay d is.mean.tables is.mean.data_statements) is.mean.is_world) own is.mean.is_network
+        (world_holds HasNoLineEnd is.mean.declarations is.mean.tables.statements is.mean.world own (statements_stay data_files d is.mean.tables is.mean.data_statements) is.mean.is_world) own is.mean.is_network
 
-pub built_exact : AreUnchanged → CompilationsAreSound → BuiltNamesAreExact
-built_exact same sound lean requested m d c is = names_exact same requested m d c (sound lean requested m d c is)
+pub built_exact : model_laws.IsSound → data_laws.IsSound → AreUnchanged → CompilationsAreSound → BuiltNamesAreExact
+built_exact models data_files same sound lean requested m d c is = names_exact models data_files same requested m d c (sound lean requested m d c is)

@@ -3,6 +3,8 @@
 ghost use Rattle.net_driver.specs.LineNames.{BuiltNamesAreExact, NamesAreExact};
 
 use crate::meaning::compilations_are_sound;
+use net_data::grammar_is_sound;
+use net_model::grammar_sound;
 use net_report::names_stay_within_lines;
 
 /// Theorem: in a line of the name map, each name of a node or an arc is the declared name with its
@@ -12,5 +14,7 @@ pub fn line_names_are_exact()
     ensures built { BuiltNamesAreExact }
 {
     compilations_are_sound();
+    grammar_sound();
+    grammar_is_sound();
     names_stay_within_lines();
 }
