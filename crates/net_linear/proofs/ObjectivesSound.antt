@@ -294,7 +294,7 @@ module _ (a : Arcs) (x : ℕ → ℤ) (g : Name → Option (Tuple → ℤ)) (rea
 
   mutual
     form_is : (w : World) (s : Scope) (t : Tree) → IfOk (objective a w s t) (IsTerm w s t)
-    form_is w s (leaf t) = mixed_is w s (leaf t) (is_arc a t.text) _ (λ e. plain (leaf t) e) (λ e. arc_is (span_of (leaf t)) t.text [] (IsLeaf (E w s) t (role_of t)))
+    form_is w s (leaf t) = mixed_is w s (leaf t) (is_arc a t.text) _ (λ e. plain (leaf t) e) (λ e. arc_is (span_of (leaf t)) t.text [] (IsLeaf (E w s) t.kind t.text))
     form_is w s (indexed n o y l c) =
         mixed_is w s (indexed n o y l c) (names_arc a (indexed n o y l c)) _ (λ e. plain (indexed n o y l c) e) (λ e.
         linear_is (IsTerm w s (indexed n o y l c)) (span_of (indexed n o y l c)) (not (names_arc a y || any_arc a l)) _ (λ f.
