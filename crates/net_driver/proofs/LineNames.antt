@@ -44,16 +44,13 @@ Stays t = HasNoLineEnd t.text
 text_of_token : (t : Token) → Stays t → HasNoLineEnd (text_of t.text)
 text_of_token t h = text_stays t.text h
 
--- the declarations as syntax trees, which have the tokens of the file
-trees : model_laws.IsSound → (m : List ℕ) (ds : List forms.Declaration) → ContainsModel m ds → List Declaration
-trees sound m ds is = (sound ds is.tokens is.derived).0
-
-printed_stay : (sound : model_laws.IsSound) (m : List ℕ) (ds : List forms.Declaration) (is : ContainsModel m ds) → AllByRecursion Stays (print (trees sound m ds is))
+-- the tokens of the syntax trees are those of the file
+printed_stay : (sound : model_laws.IsSound) (m : List ℕ) (ds : List forms.Declaration) (is : ContainsModel m ds) → AllByRecursion Stays (print (sound ds is.tokens is.derived).0)
 printed_stay sound m ds is = subst (AllByRecursion Stays) (sym (sound ds is.tokens is.derived).2) (tokens_stay languages.Model 0 m is.tokens is.read.read)
 
 declarations_stay : model_laws.IsSound → (m : List ℕ) (ds : List forms.Declaration) → ContainsModel m ds → DeclarationsHold HasNoLineEnd ds
 declarations_stay sound m ds is =
-    subst (DeclarationsHold HasNoLineEnd) (sound ds is.tokens is.derived).3 (declarations_hold HasNoLineEnd Stays text_of_token (trees sound m ds is) (printed_stay sound m ds is))
+    subst (DeclarationsHold HasNoLineEnd) (sound ds is.tokens is.derived).3 (declarations_hold HasNoLineEnd Stays text_of_token (sound ds is.tokens is.derived).0 (printed_stay sound m ds is))
 
 statements_stay : data_laws.IsSound → (d : List ℕ) (x : Tables) → ContainsData d x → StatementsHold HasNoLineEnd x.statements
 statements_stay sound d x is = statements_hold HasNoLineEnd Stays text_of_token is.tokens x (sound is.tokens x is.derived).0 (tokens_stay languages.Data 0 d is.tokens is.read.read)
