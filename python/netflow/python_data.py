@@ -15,6 +15,17 @@ UNNAMED = "Unnamed: 0"
 FORMS = "give a dict by key, a list of tuples (key, .., value), a list of dicts, or a Series or DataFrame of pandas"
 
 
+class Layers(list):
+    """Several values of one set or parameter: a later one replaces a set as a whole, and a parameter key by key."""
+
+
+def override(values: dict, others: Any) -> None:
+    """Adds sets and parameters to those of a dict, which they override."""
+    for name, value in others.items():
+        before = values.get(name)
+        values[name] = Layers([*(before if isinstance(before, Layers) else [before]), value]) if name in values else value
+
+
 class PythonData:
     """Sets and parameters by name; `sets` are lists of tuples, `params` dicts from keys to a Fraction or a text. `origins` has for each
     line of the text what it says: a name, with the key of its value or the member, or None if the line is a statement's first or last.
@@ -23,13 +34,14 @@ class PythonData:
     of the model and of data texts. With None every text stays one."""
 
     def __init__(self, values: dict, sets: dict, keys: dict, texts: set | None = None) -> None:
-        self.sets: dict = {name: members_of(name, value, sets[name]) for name, value in values.items() if name in sets}
+        layers = {name: value if isinstance(value, Layers) else Layers([value]) for name, value in values.items()}
+        self.sets: dict = {name: members_of(name, value[-1], sets[name]) for name, value in layers.items() if name in sets}
         self.params: dict = {}
         self.origins: list = []
         kept = None if texts is None else texts | {part for rows in self.sets.values() for row in rows for part in row}
-        for name, value in values.items():
+        for name, given in layers.items():
             if name in keys:
-                self.params[name] = rows_of(name, value, keys[name], kept)
+                self.params[name] = {key: it for value in given for key, it in rows_of(name, value, keys[name], kept).items()}
             elif name not in sets:
                 meant = difflib.get_close_matches(name, [*sets, *keys], 1, 0.6)
                 raise DataError(f"{name}: the model declares no such set or parameter{f'; is {meant[0]} meant?' if meant else ''}")

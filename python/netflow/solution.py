@@ -10,6 +10,7 @@ from .hints import Diagnostic
 from .model_text import Unparsed
 from .outputs import arc_rows, dumps, plan_json
 from .program import REJECTED, UNREADABLE_FILE, call
+from .python_data import override
 from .question import Input, Question
 from .reasons import reasons
 from .sensitivity import Marginal
@@ -156,14 +157,14 @@ def solve(model: Text, data: Any = None, *, objective: str | None = None, scale:
     """Solves a model and returns its best plan.
 
     `model` is a path, or the text itself (a text has a line end or a `;`). `data` is a path or text, a dict of sets and parameters, or
-    a list of these, of which later ones override earlier ones; keyword arguments override all of them. A set is a list of members or
+    a list of these, of which later ones override earlier ones value by value; keyword arguments override all of them. A set is a list of members or
     tuples; a parameter is a number, a dict by key, a list of tuples that end with the value, a list of dicts, or a pandas object.
     Decimals are scaled exactly; `scale` gives the factor of a parameter. `bounds=True` lets arcs have no upper or lower bound.
 
     Raises ModelError if the model or its data have an error, Infeasible if no plan exists, DataError if Python data do not fit.
     """
     texts, changes = inputs_of(data)
-    changes.update(sets_and_params)
+    override(changes, sets_and_params)
     first = input_of(model)
     question = Question(first, texts, objective=objective, changes=changes, scale=dict(scale or {}), add_bounds=bounds)
     try:
@@ -195,7 +196,7 @@ def inputs_of(data: Any) -> tuple:
     changes: dict = {}
     for it in data if isinstance(data, (list, tuple)) else [data] if data is not None else []:
         if isinstance(it, Mapping):
-            changes.update(it)
+            override(changes, it)
         else:
             texts.append(input_of(it))
     return texts, changes

@@ -111,6 +111,14 @@ def check_overrides(complaints):
     except netflow.Infeasible as problem:
         complaints.same("a busy day", ["Shop['lake']"], problem.cut)
     complaints.same("overridden twice", 440, netflow.solve(MODEL, [DATA, BUSY, "param bakes := south 50; param wants := lake 45;"]).value)
+    # For each unit that the mill wants less, south has one more for the lake, at 5 in place of 6 from north: 3 + 1 are saved.
+    given = {"BAKERIES": ["north", "south"], "SHOPS": ["hill", "lake", "mill"], "van": 40, "bakes": {"north": 60, "south": 50},
+             "cost": {"north": {"hill": 4, "lake": 6, "mill": 9}, "south": {"hill": 7, "lake": 5, "mill": 3}},
+             "wants": {"hill": 30, "lake": 45, "mill": 25}}
+    complaints.same("dicts", 440, netflow.solve(MODEL, given).value)
+    complaints.same("a dict over a dict", 420, netflow.solve(MODEL, [given, {"wants": {"mill": 20}}]).value)
+    complaints.same("a keyword over a dict", 420, netflow.solve(MODEL, given, wants={"mill": 20}).value)
+    complaints.same("a keyword in another form over a dict", 480, netflow.solve(MODEL, [given, {"wants": {"mill": 20}}], cost={("north", "hill"): 6}).value)
     fewer = netflow.solve(MODEL, [DATA, "set SHOPS := hill mill; param wants := lake .;"][:1], wants={"lake": 0})
     complaints.same("a need of 0", [0, 0], [fewer["Drive"][it, "lake"] for it in ("north", "south")])
     with tempfile.TemporaryDirectory() as folder:
