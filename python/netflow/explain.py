@@ -22,12 +22,11 @@ from . import __version__
 from .command import Words, question_of, run as run_tool
 from .diagnostics import LINE, TEXTS, Diagnostic
 from .errors import ModelError, ProgramError
-from .exact import divided
 from .further import further_errors, further_lines
 from .outputs import dump_lines, error_json
 from .program import USAGE, Session, program
 from .question import Question
-from .texts import shown
+from .texts import divided_cut, shown
 
 WIDTH, AROUND = 100, 60
 
@@ -139,9 +138,7 @@ def divided_text(question: Question) -> str:
     """Returns the answer to a scaled question in netflow's form, its numbers divided again."""
     answer, net = question.network()
     if net.cut is not None:
-        first, second, *nodes = answer.text.split("\n")
-        side, *numbers = second.split(" ")
-        return "\n".join([first, " ".join([side, *(str(divided(int(it), net.factors.flow)) for it in numbers)]), *nodes])
+        return divided_cut(answer.text, net)
     lines, declared = [f"{net.objective} = {net.value}"], net.declared()
     for name, is_table in net.declarations:
         arcs = declared.get(name, [])

@@ -14,7 +14,7 @@ from .program import REJECTED
 from .question import Question
 from .reasons import reasons
 from .spreadsheet import write_xlsx
-from .texts import Network
+from .texts import Network, divided_cut
 from .words import headings
 
 COLUMNS = ("flow", "lower", "upper", "price", "from", "to")
@@ -91,7 +91,7 @@ def plan(words: argparse.Namespace, question: Question) -> int:
             print(dump_lines(plan_json(net) if net.cut is None else no_plan(net)))
             return answer.status
         if answer.status:
-            sys.stderr.write(answer.text)
+            sys.stderr.write(f"{divided_cut(answer.text, net)}netflow-sheet: netflow-why says why there is no plan\n")
             return answer.status
         names = list(net.declared())
         if words.only and words.only not in names:

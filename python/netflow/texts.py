@@ -338,6 +338,13 @@ def valued(line):
     return found[1], int(found[2])
 
 
+def divided_cut(text: str, net: Network) -> str:
+    """Returns a cut in netflow's form, its two numbers divided by the factor of flows."""
+    first, second, *nodes = text.split("\n")
+    side, *numbers = second.split(" ")
+    return "\n".join([first, " ".join([side, *(str(divided(int(it), net.factors.flow)) for it in numbers)]), *nodes])
+
+
 def read_cut(text, net):
     """Returns the side and the node indices of a cut. A set that contains the outside is replaced by its complement, which shows the
     same from the other side."""
