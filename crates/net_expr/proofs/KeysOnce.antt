@@ -62,7 +62,7 @@ listing_once : (at : Span) (s : Scope) (conditioned : Bool) (vs : List Value) (k
 listing_once at s conditioned vs k e =
     then_ok (if conditioned then rejected KindMismatch at else tuples_in at vs []) (λ ts. listed_as at s ts (union [] ts)) k e (λ ts h i. listed_once at s ts (union [] ts) k (union_distinct [] ts none_there) i)
 
--- ---- rows that are filter_rows
+-- ---- rows that are kept
 
 keys_join : (xs ys : List Row) → keys_of (xs ++ ys) ≡ keys_of xs ++ keys_of ys
 keys_join [] ys = refl

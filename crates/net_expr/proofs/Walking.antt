@@ -301,7 +301,7 @@ pub if_some_by : (o : Option ℤ) (k n : ℕ) → k ≤ n → IfSome o (λ a. un
 if_some_by None k n h small = small
 if_some_by (Some a) k n h small = omega arith
 
--- without a condition all rows are filter_rows
+-- without a condition all rows are kept
 all_kept : (rows found : List Row) → filter_rows (λ q. Ok true) rows found ≡ Ok (found ++ rows)
 all_kept [] found = ap Ok (sym (append_nil found))
   where

@@ -222,7 +222,7 @@ keys::keep-loop-row-preserved t c =
     record {
       same =
           sym (goes _ _ _ _
-          (kept-next (λ q. holds c.args.at c.args.env.now q (option_part c.args.condition.now)) (into_iter_items c.loop-row.row-iterator) (into_iter_items c.next.new.self) c.in-Some.row c.loop-row.filter_rows.items _ c.in-Some.ensures.steps.0 c.loop-row.invariant.same)
+          (kept-next (λ q. holds c.args.at c.args.env.now q (option_part c.args.condition.now)) (into_iter_items c.loop-row.row-iterator) (into_iter_items c.next.new.self) c.in-Some.row c.loop-row.kept.items _ c.in-Some.ensures.steps.0 c.loop-row.invariant.same)
           (c.in_ok-keep_if.ensures _ c.holds-holds.ensures));
       counted = omega (arith, left, more, counted);
     }
@@ -236,7 +236,7 @@ keys::keep-returns-in_err-keep_if t c =
     rw y.1 (rw y.2
     (stops _ (λ left. Ok (keys c.args.width left)) _ c.in_err-keep_if.field-0.0 refl
     (stops _ _ _ c.in_err-keep_if.field-0.0
-    (kept-next (λ q. holds c.args.at c.args.env.now q (option_part c.args.condition.now)) (into_iter_items c.loop-row.row-iterator) (into_iter_items c.next.new.self) c.in-Some.row c.loop-row.filter_rows.items _ c.in-Some.ensures.steps.0 c.loop-row.invariant.same)
+    (kept-next (λ q. holds c.args.at c.args.env.now q (option_part c.args.condition.now)) (into_iter_items c.loop-row.row-iterator) (into_iter_items c.next.new.self) c.in-Some.row c.loop-row.kept.items _ c.in-Some.ensures.steps.0 c.loop-row.invariant.same)
     (leaves_answers _ _ c.in_err-keep_if.field-0.0 _ refl (c.in_err-keep_if.ensures _ c.holds-holds.ensures)))))
 
 pub eval::gather-returns-in_err-so_far : goal.eval::gather-returns-in_err-so_far
@@ -346,7 +346,7 @@ keys::keep-loop-row-init t c =
 
 pub keys::keep-returns : goal.keys::keep-returns
 keys::keep-returns t c =
-    let all = kept-all (λ q. holds c.args.at c.args.env.now q (option_part c.args.condition.now)) (into_iter_items c.loop-row.row-iterator) c.loop-row.filter_rows.items _ (sym c.loop-row.invariant.counted ∙ c.in-None.ensures.steps.0) c.loop-row.invariant.same in
+    let all = kept-all (λ q. holds c.args.at c.args.env.now q (option_part c.args.condition.now)) (into_iter_items c.loop-row.row-iterator) c.loop-row.kept.items _ (sym c.loop-row.invariant.counted ∙ c.in-None.ensures.steps.0) c.loop-row.invariant.same in
     search (rules, all)
 
 pub keys::select-returns : goal.keys::select-returns

@@ -143,7 +143,7 @@ decreases-keys::walk-tuples l = steps_still l.fn.at l.fn.env l.top + steps_below
 
 abbrev pub invariant-keys::keep-loop-row : goal.invariant-keys::keep-loop-row
 invariant-keys::keep-loop-row l = record {
-  same : filter_rows (λ q. values.holds l.fn.at l.fn.env q (option_part l.fn.condition)) (into_iter_items l.row-iterator) l.filter_rows.items
+  same : filter_rows (λ q. values.holds l.fn.at l.fn.env q (option_part l.fn.condition)) (into_iter_items l.row-iterator) l.kept.items
       ≡ filter_rows (λ q. values.holds l.fn.at l.fn.env q (option_part l.fn.condition)) l.fn.found [];
   counted : into_iter_len l.row-iterator ≡ length (into_iter_items l.row-iterator);
 }
