@@ -167,10 +167,10 @@ fn members_of<'s>(
 }
 
 /// Returns whether the set already has a value from `:=` or an earlier statement.
-fn is_given(is_assigned: bool, diagnostic_at: &Option<Boxed<TupleSet<'_>>>) -> bool
-    ensures { result ≡ (is_assigned || is_some diagnostic_at.now) }
+fn is_given(is_assigned: bool, found: &Option<Boxed<TupleSet<'_>>>) -> bool
+    ensures { result ≡ (is_assigned || is_some found.now) }
 {
-    is_assigned || diagnostic_at.is_some()
+    is_assigned || found.is_some()
 }
 
 /// Adds a statement with the members of a set, which must not have a value yet.
@@ -180,12 +180,12 @@ fn with_statement<'s>(
     dimension: usize,
     is_assigned: bool,
     named: &NamedData<'_, '_, 's>,
-    diagnostic_at: Option<Boxed<TupleSet<'s>>>,
+    found: Option<Boxed<TupleSet<'s>>>,
 ) -> Result<Option<Boxed<TupleSet<'s>>>, Fault>
-    ensures { Refines (set_data.with_statement widths.now dimension is_assigned named.now diagnostic_at.entry) result }
+    ensures { Refines (set_data.with_statement widths.now dimension is_assigned named.now found.entry) result }
 {
     let rows = given_rows(alloc, widths, dimension, named)?;
-    if is_given(is_assigned, &diagnostic_at) {
+    if is_given(is_assigned, &found) {
         Err(doubled(alloc, &named.word)?)
     } else {
         Ok(Some(members_of(alloc, &named.word, rows.as_slice())?))
@@ -202,18 +202,11 @@ fn given_set<'s>(
 ) -> Result<Option<Boxed<TupleSet<'s>>>, Fault>
     ensures { Refines (set_data.given_set widths.now dimension is_assigned named_data.now) result }
 {
-    let mut diagnostic_at = None;
+    let mut found = None;
     for named in named_data {
-        diagnostic_at = with_statement(
-            alloc,
-            widths,
-            dimension,
-            is_assigned,
-            named,
-            diagnostic_at,
-        )?;
+        found = with_statement(alloc, widths, dimension, is_assigned, named, found)?;
     }
-    Ok(diagnostic_at)
+    Ok(found)
 }
 
 /// Returns the set of `:=`, or else the set from the data.
@@ -221,11 +214,11 @@ fn one_of<'s>(
     alloc: Global,
     name: &Token<'s>,
     assigned: Option<&TupleSet<'s>>,
-    diagnostic_at: Option<Boxed<TupleSet<'s>>>,
+    found: Option<Boxed<TupleSet<'s>>>,
 ) -> Result<Boxed<TupleSet<'s>>, Fault>
-    ensures { Refines (bound.one_of name.now (option_copied assigned.entry) diagnostic_at.entry) result }
+    ensures { Refines (bound.one_of name.now (option_copied assigned.entry) found.entry) result }
 {
-    match (assigned, diagnostic_at) {
+    match (assigned, found) {
         (Some(set), _found) => Ok(boxed(alloc, set.copied(alloc)?)?),
         (None, Some(set)) => Ok(set),
         (None, None) => Err(reject_name(
@@ -299,14 +292,14 @@ fn set_of<'s>(
     let phrases = claims.phrases.as_slice();
     let dimension = claims.dimension.unwrap_or(1);
     let assigned = assigned(phrases);
-    let diagnostic_at = given_set(
+    let found = given_set(
         alloc,
         widths,
         usize::from(dimension),
         assigned.is_some(),
         named_data,
     )?;
-    let set = one_of(alloc, name, assigned, diagnostic_at)?;
+    let set = one_of(alloc, name, assigned, found)?;
     allowed(alloc, name, set.get(), phrases)?;
     Ok(set_entry(alloc, is_iterated, dimension, set)?)
 }
