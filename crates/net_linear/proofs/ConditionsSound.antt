@@ -12,7 +12,7 @@ use Rattle.net_linear.specs.declared.condition.Comparison.{Comparison}
 use Rattle.net_linear.specs.declared.condition.Comparison.TheVariants.{Equal, AtMost, AtLeast}
 use Rattle.net_linear.specs.declared.net_term.NetTerm.{NetTerm}
 use Rattle.net_linear.specs.Amounts.{as_number, number_or_none}
-use Rattle.net_linear.specs.Conditions.{comparison_in, number_of, term_at, with_term, terms_at, side_at, Compares, solved_sides, met, from_to}
+use Rattle.net_linear.specs.Conditions.{comparison_in, number_of, term_at, with_term, terms_at, side_at, sides_in, Compares, solved_sides, met, from_to}
 use Rattle.net_linear.specs.NetTerms as linear
 use Rattle.net_linear.specs.NetTerms.{are_terms, net_side}
 use Rattle.net_linear.specs.Signs.{is_sign}
@@ -29,10 +29,10 @@ use Rattle.net_tree.specs.declared.operator.Words.TheVariants as words
 use Rattle.net_tree.specs.Role.{role_of, role_as, role_in, marks, keys}
 use Rattle.net_expr.specs.Limits.{is_small}
 use Rattle.std.proofs.lemmas.Slice.Eq.{bytes_eq-Decides}
-use Rattle.net_tree.specs.Erasure.{expression, is_outflow}
+use Rattle.net_tree.specs.Erasure.{expression, condition, is_outflow}
 use Rattle.net_tree.specs.Operations.{operation, operation_in, operations, is_range}
 use Rattle.net_tree.specs.Spans.{span_of}
-use Rattle.net_tree.specs.Tree.{Tree, Links, leaf, indexed, parens, tuple, negated, braced, signed, reduced, chain, choice, net, none, link, unsaid, one, between}
+use Rattle.net_tree.specs.Tree.{Tree, Links, leaf, indexed, parens, tuple, negated, braced, signed, reduced, chain, choice, net, none, link, Condition, unsaid, one, between}
 use Rattle.net_expr.specs.declared.value.Value.{Value as Found}
 use Rattle.net_expr.specs.declared.value.Value.TheVariants as found
 use Rattle.net_expr.specs.Items.{begins_range}
@@ -41,10 +41,11 @@ use Rattle.net_expr.specs.Operators.{apply, decided}
 use Rattle.net_expr.specs.Values.{value, values, chained, either}
 use Rattle.net_expr.specs.Worlds.{Name, World, Scope}
 use Rattle.net_expr.proofs.Parting.{then_ok, is_ok}
+use Rattle.net_meaning.specs.Network.{IsNumeric, HasSides}
 use Rattle.net_meaning.specs.OfTrees as meant
 use Rattle.net_meaning.specs.OfTrees.{AreOperandValues, IsValue, AreValues, IsChain, IsSatisfied}
 use Rattle.net_meaning.specs.Laws.{meaning_of, IsArcFree, AreArcFree}
-use Rattle.net_linear.specs.Soundness.{IsTermArcFree, AreTermsArcFree, IsSideArcFree, ConditionsAreSound}
+use Rattle.net_linear.specs.Soundness.{IsTermArcFree, AreTermsArcFree, IsSideArcFree, IsConditionArcFree, ConditionsAreSound}
 use Rattle.net_meaning.specs.Operators.{Value, Truth, number, IsResult, Combines}
 use Rattle.net_meaning.specs.Operators as make
 use Rattle.net_meaning.specs.Values.{env_with, Env, Whether, HasRange}
@@ -297,3 +298,29 @@ conditions_are_sound g w s (between m x o z q u) r y p e =
     let one_pair = pair_is g y w s x z o a b p.0 p.1 h j (compared (from_to x u) (comparison_in (role_of o)) (net_side x) (net_side z) a b f first) in
     let other = pair_is g y w s z u q b c p.1 p.2 j l (compared (from_to x u) (comparison_in (role_of q)) (net_side z) (net_side u) b c t second) in
     ((λ (v, k). (one_pair.0 v, other.0 k)), (λ (v, k). (one_pair.1 v, other.1 k))))))))
+
+-- ---- the numbers of the sides
+
+module _ (g : Name → Option (Tuple → ℤ)) (y : ℤ) (w : World) (s : Scope) where
+  abbrev HasNumber : Tree → Type 0
+  HasNumber x = IsNumeric (env_with g y w s) (expression x)
+
+  two_sides : (x z : Tree) (c : Option Comparison) (a b : Option ℤ) → IsSideArcFree g y x → IsSideArcFree g y z → number_or_none w s x ≡ Ok a → number_or_none w s z ≡ Ok b → AreCompared c a b → HasNumber x × HasNumber z
+  two_sides x z c a b p q e f h = (
+    (side_at w s x y, side_is g y w s x h.left p (value_of (value w s x) h.left (e ∙ ap (λ k. Ok k) h.left_is))),
+    (side_at w s z y, side_is g y w s z h.right q (value_of (value w s z) h.right (f ∙ ap (λ k. Ok k) h.right_is))),
+  )
+
+-- each side of a condition whose range is computed has a number, at each net inflow
+pub sides_have_numbers : (g : Name → Option (Tuple → ℤ)) (w : World) (s : Scope) (c : Condition) (r : Sides) (y : ℤ) → IsConditionArcFree g y c → sides_in w s c ≡ Ok r → HasSides (env_with g y w s) (condition c)
+sides_have_numbers g w s unsaid r y p e = tt
+sides_have_numbers g w s (one m x o z) r y p e =
+    then_ok (number_or_none w s x) _ r e (λ a h i. then_ok (number_or_none w s z) _ r i (λ b j k.
+    two_sides g y w s x z (comparison_in (role_of o)) a b p.0 p.1 h j (compared (from_to x z) (comparison_in (role_of o)) (net_side x) (net_side z) a b r k)))
+sides_have_numbers g w s (between m x o z q u) r y p e =
+    then_ok (number_or_none w s x) _ r e (λ a h i. then_ok (number_or_none w s z) _ r i (λ b j k. then_ok (number_or_none w s u) _ r k (λ c l n.
+    then_ok (solved_sides (from_to x u) (comparison_in (role_of o)) (net_side x) (net_side z) a b) _ r n (λ f first rest.
+    then_ok (solved_sides (from_to x u) (comparison_in (role_of q)) (net_side z) (net_side u) b c) (met (from_to x u) f) r rest (λ t second last.
+    let left = two_sides g y w s x z (comparison_in (role_of o)) a b p.0 p.1 h j (compared (from_to x u) (comparison_in (role_of o)) (net_side x) (net_side z) a b f first) in
+    let right = two_sides g y w s z u (comparison_in (role_of q)) b c p.1 p.2 j l (compared (from_to x u) (comparison_in (role_of q)) (net_side z) (net_side u) b c t second) in
+    (left.0, left.1, right.1))))))

@@ -191,10 +191,18 @@ IsSatisfied e unsaid y = y ≡ pos 0
 IsSatisfied e (one x o z) y = Compares (with_inflow e y) x o z
 IsSatisfied e (between x o z p u) y = Compares (with_inflow e y) x o z × Compares (with_inflow e y) z p u
 
+-- each flow is within its arc's bounds
+abbrev pub AreWithinBounds : List Arc → Assignment → Type 0
+AreWithinBounds all x = AllByRecursion (λ (a : Arc). (a.lower ≤ℤ flow_on x a) × (flow_on x a ≤ℤ a.upper)) all
+
+-- the node's condition is true of its net inflow
+abbrev pub IsSatisfiedBy : List Arc → Assignment → Node → Type 0
+IsSatisfiedBy all x v = IsSatisfied v.env v.condition (net_inflow all x v.label)
+
 -- each flow is within its arc's bounds, and each node's condition is true of its net inflow
 pub record IsFeasible (vs : List Node) (all : List Arc) (x : Assignment) : Type 0 where
-  pub bounds : AllByRecursion (λ (a : Arc). (a.lower ≤ℤ flow_on x a) × (flow_on x a ≤ℤ a.upper)) all
-  pub conditions : AllByRecursion (λ (v : Node). IsSatisfied v.env v.condition (net_inflow all x v.label)) vs
+  pub bounds : AreWithinBounds all x
+  pub conditions : AllByRecursion (IsSatisfiedBy all x) vs
 
 -- the name is in the list
 abbrev pub is_listed : List Name → Name → Bool
@@ -217,3 +225,20 @@ IsExpressionValue e (present x) n = IsValue e x (number n)
 -- the value of an assignment: that of the objective's expression, plus for each arc its coefficient times its flow
 abbrev pub HasValue : Objective → List Arc → Assignment → ℤ → Type 0
 HasValue o all x n = (m : ℤ) × IsExpressionValue (with_arcs (env_of o.env []) o.arcs x) o.expression m × (n ≡ m +ℤ coefficient_terms all x)
+
+-- ---- values
+
+-- the expression has a number as its value
+abbrev pub IsNumeric : Env → Expression → Type 0
+IsNumeric e x = (n : ℤ) × IsValue e x (number n)
+
+-- each side of the condition has a number
+abbrev pub HasSides : Env → Condition → Type 0
+HasSides e unsaid = ⊤
+HasSides e (one x o z) = IsNumeric e x × IsNumeric e z
+HasSides e (between x o z p u) = IsNumeric e x × IsNumeric e z × IsNumeric e u
+
+-- nothing in the network is without a value: at each net inflow the sides of each node's condition have numbers, and each assignment has a value
+pub record IsEvaluated (vs : List Node) (all : List Arc) (o : Objective) : Type 0 where
+  pub conditions : (y : ℤ) → AllByRecursion (λ (v : Node). HasSides (with_inflow v.env y) v.condition) vs
+  pub objective : (x : Assignment) → (n : ℤ) × HasValue o all x n

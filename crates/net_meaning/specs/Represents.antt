@@ -1,15 +1,16 @@
 -- A min-cost flow problem represents a network: which arc of the problem is which arc of the model, and how flows correspond to
 -- assignments.
 use Rattle.std.specs.Prelude.{◌≡◌, ◌+◌, ℕ, suc, List, [], ◌∷◌, map, length, slice_get, Option, None, Some, IsTrue, if◌then◌else◌, ◌&&◌, ℤ, pos, ◌+ℤ◌}
+use Rattle.std.specs.List.{AllZip}
 use Rattle.std.specs.Str.{bytes_eq}
 use Rattle.net_sets.specs.Sets.{Tuple, same_tuple}
 use Rattle.net_expr.specs.Worlds.{Name}
 use Rattle.net_normal.specs.declared.link.Link.{Link}
 use Rattle.net_normal.specs.declared.problem.FlowArc.{FlowArc}
 use Rattle.net_normal.specs.declared.problem.Problem.{Problem}
-use Rattle.net_normal.specs.Flows.{IsFeasibleFlow, cost_of}
+use Rattle.net_normal.specs.Flows.{net_outflow, IsWithinCapacity, IsFeasibleFlow, cost_of}
 use Rattle.net_normal.specs.Links.{mapped_back, value_at}
-use Rattle.net_meaning.specs.Network.{Node, Arc, Objective, Assignment, flow_on, is_at, IsFeasible, HasValue}
+use Rattle.net_meaning.specs.Network.{Node, Arc, Objective, Assignment, flow_on, is_at, AreWithinBounds, IsSatisfiedBy, IsFeasible, HasValue}
 
 -- the number of a node in the problem. The problem has one more node after the model's nodes, which is the missing end of arcs with one end.
 pub data IsNodeNumber (vs : List Node) : Option (Name × Tuple) → ℕ → Type 0 where
@@ -43,14 +44,24 @@ assignment_of all link flows = by_label all (mapped_back link flows)
 abbrev pub Agree : List Arc → Assignment → Assignment → Type 0
 Agree all x y = map (flow_on x) all ≡ map (flow_on y) all
 
+-- node i sends out its supply: its outflow minus its inflow
+abbrev pub IsBalanced : Problem → List ℤ → ℕ → Type 0
+IsBalanced problem flows i = slice_get problem.supplies.items i ≡ Some (net_outflow problem.arcs.items flows i)
+
 -- the problem represents the network: it has the network's nodes and one more, each arc is in it, and its feasible flows correspond one to one
--- to the feasible assignments, with costs and values. If no assignment is feasible, this says nothing of supplies and costs.
+-- to the feasible assignments, with costs and values
 pub record Represents (vs : List Node) (all : List Arc) (o : Objective) (problem : Problem) (link : Link) : Type 0 where
   pub sense : link.sense ≡ o.sense
   pub nodes : length problem.supplies.items ≡ length vs + 1
   pub arcs : AreEncoded vs problem.arcs.items all link.offsets.items link.numbers.items
-  -- feasible flows correspond one to one to feasible assignments, and the cost of a flow gives the value of its assignment
+  -- feasible flows correspond one to one to feasible assignments
   pub forward : (flows : List ℤ) → IsFeasibleFlow problem flows → IsFeasible vs all (assignment_of all link flows)
   pub onto : (x : Assignment) → IsFeasible vs all x → (flows : List ℤ) × IsFeasibleFlow problem flows × Agree all (assignment_of all link flows) x
   pub injective : (flows others : List ℤ) → IsFeasibleFlow problem flows → IsFeasibleFlow problem others → Agree all (assignment_of all link flows) (assignment_of all link others) → flows ≡ others
-  pub value : (flows : List ℤ) → IsFeasibleFlow problem flows → HasValue o all (assignment_of all link flows) (value_at link (cost_of problem flows))
+  -- the cost of a flow, feasible or not, gives the value of its assignment
+  pub value : (flows : List ℤ) → length flows ≡ length problem.arcs.items → HasValue o all (assignment_of all link flows) (value_at link (cost_of problem flows))
+  -- the supply of a node stands for its condition, whether or not the other nodes can be balanced: a flow within the capacities that balances
+  -- the node satisfies its condition, and an assignment within the bounds has a flow that balances each node whose condition it satisfies
+  pub satisfied : (flows : List ℤ) (i : ℕ) (v : Node) → AllZip IsWithinCapacity problem.arcs.items flows → slice_get vs i ≡ Some v → IsBalanced problem flows i → IsSatisfiedBy all (assignment_of all link flows) v
+  pub balanced : (x : Assignment) → AreWithinBounds all x
+      → (flows : List ℤ) × AllZip IsWithinCapacity problem.arcs.items flows × Agree all (assignment_of all link flows) x × ((i : ℕ) (v : Node) → slice_get vs i ≡ Some v → IsSatisfiedBy all x v → IsBalanced problem flows i)
